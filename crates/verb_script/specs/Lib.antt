@@ -1,0 +1,4 @@
+pub mod Grammar
+pub mod Parsed
+pub mod Requests
+pub mod Words
