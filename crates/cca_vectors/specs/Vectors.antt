@@ -4,9 +4,11 @@ use Rattle.std.specs.Prelude.{◌≡◌, ◌≢◌, ◌⊎◌, ℕ, ◌+◌, ◌
 use Rattle.std.specs.List.{All}
 use Rattle.cca_vectors.specs.Bits.{bit}
 
+-- the vector of the left half of the key
 abbrev pub left_of : List ℕ → List ℕ
 left_of vector = slice_range vector 0 8
 
+-- the vector of its right half
 abbrev pub right_of : List ℕ → List ℕ
 right_of vector = slice_range vector 8 16
 
@@ -14,6 +16,7 @@ right_of vector = slice_range vector 8 16
 abbrev pub form_of : List ℕ → ℕ
 form_of half = 4 * bit half 40 + 2 * bit half 41 + bit half 42
 
+-- the form 000, and the forms 010 and 001 of a double-length key's halves
 abbrev pub single_length : ℕ
 single_length = 0
 
@@ -53,6 +56,7 @@ pub record IsRightHalfFor (left right : List ℕ) : Type 0 where
 abbrev pub HasForm : List ℕ → List ℕ → Type 0
 HasForm left right = ((form_of left ≡ single_length) × IsZero right) ⊎ ((form_of left ≡ left_of_double) × IsRightHalfFor left right)
 
+-- 16 bytes of even parity whose halves are anti-variant and have a key form
 pub record IsValid (vector : List ℕ) : Type 0 where
   pub whole : length vector ≡ 16
   pub bytes : All (λ byte. byte < 256) vector

@@ -20,6 +20,7 @@ place first last content = record { first = first; last = last; content = conten
 abbrev pub zeros : ℕ → List ℕ
 zeros n = replicate n 0
 
+-- the table: what stands where in a token with this flag and this validation value
 abbrev pub layout : Token → ℕ → ℕ → List Place
 layout token flag tvv =
     place 0 0 (kind_byte token.kind ∷ [])
@@ -50,6 +51,8 @@ abbrev pub IsPatternFor : Kind → List ℕ → Type 0
 IsPatternFor Internal pattern = ⊤
 IsPatternFor External pattern = IsZero pattern
 
+-- the 64 bytes are this token: the table holds with the sum of the words before it, the vector is valid, and
+-- a single-length key has no right half
 pub record IsToken (bytes : List ℕ) (token : Token) : Type 0 where
   pub whole : length bytes ≡ 64
   pub places : HasPlaces bytes (layout token (slice_index bytes 6) (tvv_of bytes))
