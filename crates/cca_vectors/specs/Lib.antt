@@ -1,0 +1,5 @@
+pub mod Bits
+pub mod Checks
+pub mod Vectors
+pub mod Classes
+pub mod VectorChecks

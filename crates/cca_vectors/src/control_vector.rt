@@ -1,0 +1,185 @@
+ghost use Rattle.std.specs.Prelude.{◌≡◌, ◌↔◌, IsOk, IfOk, OnOk, IfErr, None, Some};
+ghost use Rattle.std.specs.Option.{option_map};
+ghost use Rattle.cca_vectors.specs.Bits.{even_byte};
+ghost use Rattle.cca_vectors.specs.Checks.{first_failing};
+ghost use Rattle.cca_vectors.specs.Vectors.{IsValid, left_of, right_of, length_of, is_part_of, form_of};
+ghost use Rattle.cca_vectors.specs.VectorChecks.{is_zero, is_even, is_anti_variant, has_form, right_half_for, vector_checks, rule_of};
+ghost use Rattle.cca_vectors.specs.Classes.{class_of};
+
+use crate::key_class::Class;
+use std::marker::Model;
+use thiserror::Error;
+
+const SINGLE_LENGTH: u8 = 0;
+
+const LEFT_OF_DOUBLE: u8 = 2;
+
+/// A valid control vector: 16 bytes, the first 8 for the left half of a key and the last 8 for its right
+/// half, which are zero for a key of single length.
+#[derive(Clone, Copy, Debug, PartialEq, Eq)]
+pub struct Vector {
+    bytes: [u8; 16],
+}
+
+impl Model for Vector {
+    ghost use Rattle.std.specs.Prelude.{ℕ, List};
+    ghost use Rattle.cca_vectors.specs.Vectors.{IsValid};
+
+    ghost Value = { List ℕ };
+
+    ghost view = { λ v. v.bytes };
+
+    ghost invariant = { λ v. IsValid v.bytes };
+
+    ghost inverse = { λ bytes. record { bytes = bytes } };
+}
+
+/// Why 16 bytes are no control vector.
+#[derive(Clone, Copy, Debug, PartialEq, Eq, Error)]
+pub enum VectorFault {
+    #[error("a byte has an odd number of ones")]
+    Parity,
+    #[error("a half that isn't all zero has bit 30 on or bit 38 off")]
+    AntiVariant,
+    #[error("the key form isn't known, or the right half doesn't belong to the left one")]
+    Form,
+}
+
+fn is_zero(half: &[u8; 8]) -> bool
+    ensures { result ≡ is_zero half.now }
+{
+    half.iter().all(|byte| *byte == 0)
+}
+
+fn is_even(bytes: &[u8; 16]) -> bool
+    ensures { result ≡ is_even bytes.now }
+{
+    bytes.iter().all(|byte| byte.count_ones() % 2 == 0)
+}
+
+fn is_anti_variant(half: &[u8; 8]) -> bool
+    ensures { result ≡ is_anti_variant half.now }
+{
+    is_zero(half) || (half[3] / 2 % 2 == 0 && half[4] / 2 % 2 == 1)
+}
+
+fn key_form(half: &[u8; 8]) -> u8
+    ensures { result ≡ form_of half.now }
+{
+    half[5] / 32
+}
+
+fn even_byte(byte: u8) -> u8
+    ensures { result ≡ even_byte byte }
+{
+    let seven = byte / 2;
+    seven * 2 + (seven.count_ones() % 2) as u8
+}
+
+fn right_half_for(left: &[u8; 8]) -> [u8; 8]
+    ensures { result ≡ right_half_for left.now }
+{
+    let mut right = *left;
+    right[5] = even_byte(32 + left[5] % 32);
+    right
+}
+
+fn has_form(left: &[u8; 8], right: &[u8; 8]) -> bool
+    ensures { result ≡ has_form left.now right.now }
+{
+    match key_form(left) {
+        SINGLE_LENGTH => is_zero(right),
+        LEFT_OF_DOUBLE => *right == right_half_for(left),
+        _ => false,
+    }
+}
+
+fn left_half(bytes: &[u8; 16]) -> [u8; 8]
+    ensures { result ≡ left_of bytes.now }
+{
+    let mut half = [0; 8];
+    half.copy_from_slice(&bytes[..8]);
+    half
+}
+
+fn right_half(bytes: &[u8; 16]) -> [u8; 8]
+    ensures { result ≡ right_of bytes.now }
+{
+    let mut half = [0; 8];
+    half.copy_from_slice(&bytes[8..]);
+    half
+}
+
+/// The first rule that the bytes break.
+fn first_fault(bytes: &[u8; 16]) -> Option<VectorFault>
+    ensures { option_map rule_of result ≡ first_failing (vector_checks bytes.now) }
+{
+    let left = left_half(bytes);
+    let right = right_half(bytes);
+    if !is_even(bytes) {
+        return Some(VectorFault::Parity);
+    }
+    if !(is_anti_variant(&left) && is_anti_variant(&right)) {
+        return Some(VectorFault::AntiVariant);
+    }
+    if !has_form(&left, &right) {
+        return Some(VectorFault::Form);
+    }
+    None
+}
+
+/// The control vector of these 16 bytes, or the first rule in the order of `VectorFault` that they break.
+pub fn vector_of(bytes: &[u8; 16]) -> Result<Vector, VectorFault>
+    ensures vector { IfOk result (λ vector. vector ≡ bytes.now) }
+    ensures accepted { OnOk result (first_failing (vector_checks bytes.now) ≡ None) }
+    ensures refused { IfErr result (λ fault. first_failing (vector_checks bytes.now) ≡ Some (rule_of fault)) }
+    ensures valid { IsOk result ↔ IsValid bytes.now }
+{
+    if let Some(fault) = first_fault(bytes) {
+        return Err(fault);
+    }
+    Ok(Vector { bytes: *bytes })
+}
+
+impl Vector {
+    /// The vector of the left half of the key.
+    pub fn left(&self) -> [u8; 8]
+        ensures left { result ≡ left_of self.now }
+        ensures valid { IsValid self.now }
+    {
+        left_half(&self.bytes)
+    }
+
+    /// The vector of the right half of the key: zeros for a key of single length.
+    pub fn right(&self) -> [u8; 8]
+        ensures right { result ≡ right_of self.now }
+        ensures valid { IsValid self.now }
+    {
+        right_half(&self.bytes)
+    }
+
+    pub fn class(&self) -> Class
+        ensures { result ≡ class_of self.now }
+    {
+        Class::of_byte(self.bytes[1])
+    }
+
+    /// How many bytes the key has: 8 or 16.
+    pub fn length(&self) -> usize
+        ensures length { result ≡ length_of self.now }
+        ensures valid { IsValid self.now }
+    {
+        if key_form(&left_half(&self.bytes)) == SINGLE_LENGTH {
+            8
+        } else {
+            16
+        }
+    }
+
+    /// Whether the key is a part, to which others are to be added.
+    pub fn is_part(&self) -> bool
+        ensures { result ≡ is_part_of self.now }
+    {
+        self.bytes[5] / 8 % 2 == 1
+    }
+}

@@ -1,0 +1,10 @@
+pub mod Tvv
+pub mod Kinds
+pub mod Parts
+pub mod Layout
+pub mod TokenChecks
+pub use Rattle.cca_vectors.specs.Bits
+pub use Rattle.cca_vectors.specs.Checks
+pub use Rattle.cca_vectors.specs.Classes
+pub use Rattle.cca_vectors.specs.VectorChecks
+pub use Rattle.cca_vectors.specs.Vectors
