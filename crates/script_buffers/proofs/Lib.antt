@@ -1,0 +1,4 @@
+pub mod FirstNewline
+pub mod LineLemmas
+pub mod PartLemmas
+pub mod ReplyLemmas
