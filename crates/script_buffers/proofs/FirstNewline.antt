@@ -1,5 +1,5 @@
 -- Where the first newline of some bytes stands, as a search answers it.
-use Rattle.std.proofs.Common.{◌≡◌, ◌≢◌, ℕ, ◌+◌, ◌<◌, ◌≤◌, List, [], ◌∷◌, ◌++◌, Some, None, length, take, drop, get_or, refl, sym, ap, subst, ◌∙◌, arith, add-one}
+use Rattle.std.proofs.Common.{◌≡◌, ℕ, ◌+◌, ◌<◌, List, ◌∷◌, ◌++◌, Some, None, length, take, drop, get_or, sym, ap, ◌∙◌, arith}
 use Rattle.std.proofs.lemmas.Bool.{eq-eqb, eqb-true}
 use Rattle.std.proofs.lemmas.List.{take-append-drop, get_or-take, get_or_default, drop-drop, drop_more, length-take}
 use Rattle.memchr.specs.Find.{IsFirstByte, is_byte}
@@ -25,7 +25,7 @@ module _ (bs : List ℕ) (at : ℕ) (found : IsFirstByte (is_byte 10) bs (Some a
   pub parted_at : bs ≡ take at bs ++ newline ∷ drop 1 (drop at bs)
   parted_at =
       let head : drop at bs ≡ newline ∷ drop 1 (drop at bs) =
-          drop_more bs at 0 first_within
-          ∙ ap (λ b. b ∷ drop (at + 1) bs) (eqb-true (get_or bs at 0) 10 found.1)
-          ∙ ap (λ rest. newline ∷ rest) (sym (drop-drop 1 at bs)) in
+      drop_more bs at 0 first_within
+      ∙ ap (λ b. b ∷ drop (at + 1) bs) (eqb-true (get_or bs at 0) 10 found.1)
+      ∙ ap (λ rest. newline ∷ rest) (sym (drop-drop 1 at bs)) in
       sym (take-append-drop at bs) ∙ ap (λ rest. take at bs ++ rest) head

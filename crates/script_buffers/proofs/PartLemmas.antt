@@ -1,5 +1,5 @@
 -- A part of a list that moves to the end of another, of which a number of elements is kept.
-use Rattle.std.proofs.Common.{◌≡◌, ℕ, ◌+◌, ◌-◌, ◌<◌, ◌≤◌, min, Bool, List, [], ◌∷◌, ◌++◌, length, take, drop, refl, sym, ap, ◌∙◌, inl, inr, ⊎_elim, arith, length-append, length-drop, append_assoc}
+use Rattle.std.proofs.Common.{◌≡◌, ℕ, ◌+◌, ◌-◌, ◌≤◌, min, Bool, List, ◌++◌, length, take, drop, sym, ap, ◌∙◌, inl, inr, arith}
 use Rattle.std.specs.List.{slice_range}
 use Rattle.std.proofs.lemmas.Bool.{cases_lt}
 use Rattle.std.proofs.lemmas.List.{take-take, drop-drop, drop-take, take_all, length-take}
@@ -14,8 +14,8 @@ same-reading l l' p p' e t same-l same-p = cc
 take-take_min : (j c : ℕ) (xs : List ℕ) → take j (take c xs) ≡ take (min c j) xs
 take-take_min j c xs =
     elim (cases_lt j c) [
-      inl less ↦ let is : min c j ≡ j = omega arith in rw is (take-take j c xs (omega arith))
-    | inr more ↦ let is : min c j ≡ c = omega arith in rw is (take_all j (take c xs) (omega (arith, length-take c xs)))
+      | inl less ↦ let is : min c j ≡ j = omega arith in rw is (take-take j c xs (omega arith))
+      | inr more ↦ let is : min c j ≡ c = omega arith in rw is (take_all j (take c xs) (omega (arith, length-take c xs)))
     ]
 
 -- the front of xs ++ ys, where xs isn't longer

@@ -2,7 +2,7 @@
 use Rattle.std.proofs.Common.{◌≡◌, ℕ, List, [], ◌∷◌, ◌++◌, refl, sym, ap, ◌∙◌, append_assoc}
 use Rattle.std.proofs.lemmas.List.{append-nil}
 use Rattle.script_buffers.specs.Lines.{newline}
-use Rattle.script_buffers.specs.Replies.{Field, Reply, Hex, Text, Number, Refused, Done, field_name, field_text, fields_text, text_field, ok_text, refusal, written, spelled}
+use Rattle.script_buffers.specs.Replies.{Field, Done, field_name, field_text, fields_text, text_field, ok_text, written, spelled}
 
 -- the fields of two lists, one after the other
 pub fields_text-append : (fs gs : List Field) → fields_text (fs ++ gs) ≡ fields_text fs ++ fields_text gs

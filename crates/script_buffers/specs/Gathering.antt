@@ -12,6 +12,11 @@ use Rattle.script_buffers.specs.declared.lines.Taken.TheVariants.{Line, TooLong,
 abbrev pub line_room : ℕ
 line_room = line_limit + 1
 
+-- no more than the limit was taken, and an end that was given came before it
+pub record IsBounded (r : Reading) : Type 0 where
+  pub within : r.taken ≤ input_limit
+  pub early : IsTrue r.ended → r.taken < input_limit
+
 -- the bytes pending moved to the line, up to their first newline, and whether there was one
 abbrev pub Moves : Bool → Reading → Reading → Type 0
 Moves true old now =
@@ -25,10 +30,9 @@ pub record Refills (before after : Option (List ℕ)) (old now : Reading) : Type
   pub line : now.line ≡ old.line
   pub bytes : WhereTold before after (λ x y. x ≡ now.pending ++ y)
   pub taken : now.taken ≡ old.taken + length now.pending
-  pub within : now.taken ≤ input_limit
   pub some : (0 < length now.pending) × (now.ended ≡ old.ended) ⊎ IsTrue now.ended
   pub at_end : IsTrue now.ended → IsAtEnd after
-  pub early : IsTrue now.ended → now.taken < input_limit
+  pub bounded : IsBounded now
 
 -- a part of a line was taken, and its first bytes are kept
 pub record Gathers (ahead kept rest : List ℕ) : Type 0 where
@@ -45,9 +49,8 @@ pub record Gathering (cut : List ℕ) (before after : Option (List ℕ)) (old no
   pub fewer : bytes_ahead now + length now.line + length cut ≤ bytes_ahead old
   pub ended : IsTrue old.ended → IsTrue now.ended
   pub at_end : IsTrue now.ended → IsAtEnd after
-  pub early : IsTrue now.ended → now.taken < input_limit
   pub later : old.taken ≤ now.taken
-  pub within : now.taken ≤ input_limit
+  pub bounded : IsBounded now
 
 -- what ended the line
 abbrev pub cut_of : Result Bool LineFault → List ℕ

@@ -1,5 +1,5 @@
 -- How the fields of a line buffer stand for a reading.
-use Rattle.std.specs.Prelude.{◌≡◌, ℕ, ◌<◌, ◌≤◌, IsTrue, length, slice_range, vec_capacity}
+use Rattle.std.specs.Prelude.{◌≡◌, ◌<◌, ◌≤◌, IsTrue, length, slice_range, vec_capacity}
 use Rattle.script_buffers.specs.Reading.{Reading, input_limit}
 use Rattle.script_buffers.specs.declared.lines.LineBuffer.TheInside.{Inside}
 

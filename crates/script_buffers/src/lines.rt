@@ -7,7 +7,7 @@ ghost use Rattle.slot_disk.specs.Faults.{Rose, HasCause};
 ghost use Rattle.slot_disk.specs.WhereTold.{WhereTold};
 ghost use Rattle.script_buffers.specs.Lines.{NoNewline};
 ghost use Rattle.script_buffers.specs.Reading.{input_limit, blank, IsReady, Answers, Shows, Advances, LosesPart, given};
-ghost use Rattle.script_buffers.specs.Gathering.{line_room, Moves, Refills, Gathering, cut_of, Judges};
+ghost use Rattle.script_buffers.specs.Gathering.{line_room, IsBounded, Moves, Refills, Gathering, cut_of, Judges};
 
 use memchr::memchr;
 use slot_disk::{Failed, NoMemory, Source};
@@ -162,14 +162,17 @@ impl LineBuffer {
         ensures { self.new ≡ record self.old { line = take line_room (self.old.line ++ take count self.old.pending); pending = drop count self.old.pending } }
     {
         let kept = count.min(LINE_ROOM - self.line.len());
-        append(&mut self.line, &self.chunk.as_slice()[self.start..self.start + kept]);
+        append(
+            &mut self.line,
+            &self.chunk.as_slice()[self.start..self.start + kept],
+        );
         self.start += count;
     }
 
     // Reads once from the source. The bytes are pending then.
     fn refill<S: Source>(&mut self, source: &mut S) -> Result<(), Failed>
         requires used { self.old.pending ≡ [] }
-        requires open { self.old.ended ≡ false }
+        requires going { self.old.ended ≡ false }
         requires room { self.old.taken < input_limit }
         ensures ok { OnOk result (Refills (S.left source.old) (S.left source.new) self.old self.new) }
         ensures kept { OnErr result (Keeps (S.left source.old) (S.left source.new)) }
@@ -187,22 +190,21 @@ impl LineBuffer {
     }
 
     fn has_ended(&self) -> bool
-        ensures value { result ≡ self.now.ended }
-        ensures early { IsTrue self.now.ended → self.now.taken < input_limit }
+        ensures { result ≡ self.now.ended }
     {
         self.ended
     }
 
     fn is_full(&self) -> bool
-        ensures full { IsTrue result ↔ (self.now.taken ≡ input_limit) }
-        ensures within { self.now.taken ≤ input_limit }
+        ensures { IsTrue result ↔ (self.now.taken ≡ input_limit) }
     {
         self.taken == INPUT_LIMIT
     }
 
     // Empties the line.
     fn drop_line(&mut self)
-        ensures { self.new ≡ record self.old { line = [] } }
+        ensures dropped { self.new ≡ record self.old { line = [] } }
+        ensures bounded { IsBounded self.new }
     {
         self.line.clear();
     }
@@ -272,10 +274,11 @@ pub fn read_line<S: Source>(source: &mut S, buffer: &mut LineBuffer) -> Result<T
 // Gathers the next line, and answers whether a newline ended it. Where none did, the source gave its end.
 fn gather<S: Source>(source: &mut S, buffer: &mut LineBuffer) -> Result<bool, LineFault>
     requires at_end { IsTrue buffer.old.ended → IsAtEnd (S.left source.old) }
-    requires blank { buffer.old.line ≡ [] }
+    requires empty { buffer.old.line ≡ [] }
+    requires bounded { IsBounded buffer.old }
     ensures gathered { Gathering (cut_of result) (S.left source.old) (S.left source.new) buffer.old buffer.new }
     ensures end { result ≡ Ok false → IsTrue buffer.new.ended × (buffer.new.pending ≡ []) }
-    ensures open { OnErr result ((buffer.new.ended ≡ false) × (buffer.new.pending ≡ [])) }
+    ensures going { OnErr result ((buffer.new.ended ≡ false) × (buffer.new.pending ≡ [])) }
     ensures full { result ≡ Err LineFault.InputLimit → buffer.new.taken ≡ input_limit }
     ensures short { result ≡ Err LineFault.ReadFault → buffer.new.taken < input_limit }
     ensures fault { result ≡ Err LineFault.ReadFault → Rose (S.faults source.old) (S.faults source.new) }
@@ -292,8 +295,9 @@ fn gather<S: Source>(source: &mut S, buffer: &mut LineBuffer) -> Result<bool, Li
         if buffer.is_full() {
             return Err(LineFault::InputLimit);
         }
-        if buffer.refill(source).is_err() {
-            return Err(LineFault::ReadFault);
+        match buffer.refill(source) {
+            Ok(()) => {}
+            Err(_) => return Err(LineFault::ReadFault),
         }
     }
 }

@@ -1,5 +1,5 @@
 -- The part before the first newline moves, or all of the pending bytes where there is none.
-use Rattle.std.proofs.Common.{◌≡◌, ◌++◌, ◌∷◌, length, take, drop, refl, sym, ap, ◌∙◌, arith}
+use Rattle.std.proofs.Common.{◌++◌, ◌∷◌, take, drop, refl, sym, ap, ◌∙◌, arith}
 use Rattle.std.proofs.lemmas.List.{take_all, drop_all}
 use Rattle.script_buffers.specs.Lines.{newline}
 use Rattle.script_buffers.specs.Reading.{Reading}
@@ -28,7 +28,7 @@ returns-in-None c =
     let counted = c.pending_len-count.ensures in (
       clean_at_none old.pending (rw c.in-None.is at c.find_newline.ensures),
       c.keep-in-None.ensures
-      ∙ same-reading _ _ _ _ _ _
-      (ap (λ part. take line_room (old.line ++ part)) (take_all c.pending_len-count.result old.pending (omega arith)))
-      (drop_all c.pending_len-count.result old.pending (omega arith)),
+          ∙ same-reading _ _ _ _ _ _
+          (ap (λ part. take line_room (old.line ++ part)) (take_all c.pending_len-count.result old.pending (omega arith)))
+          (drop_all c.pending_len-count.result old.pending (omega arith)),
     )

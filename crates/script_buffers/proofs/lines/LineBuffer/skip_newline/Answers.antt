@@ -1,5 +1,5 @@
 -- The pending bytes begin one place further on.
-use Rattle.std.proofs.Common.{◌≡◌, ◌+◌, ◌≤◌, length, refl, ap, arith}
+use Rattle.std.proofs.Common.{◌+◌, ◌≤◌, length, refl, ap, arith}
 use Rattle.script_buffers.proofs.PartLemmas.{same-reading, rest_of_range, length-slice_range_le}
 use Rattle.script_buffers.proofs.lines.LineBuffer.skip_newline.Goals as goal
 
