@@ -2,9 +2,20 @@
 #![tactic(auto)]
 
 mod errors;
+mod fault_plan;
+mod faults;
+mod memory_sink;
+mod memory_source;
 mod sink;
 mod source;
+mod streams;
 
 pub use errors::{Failed, NoMemory};
+pub use memory_sink::MemorySink;
+pub use memory_source::MemorySource;
 pub use sink::Sink;
 pub use source::Source;
+pub use streams::{StreamSink, StreamSource};
+
+#[cfg(test)]
+mod tests;
