@@ -98,6 +98,7 @@ impl ReplyBuffer {
         requires { length self.old + length name.now + length (decimal value) + 2 ≤ REPLY_ROOM }
         ensures bytes { self.new ≡ self.old ++ number_field name.now value }
         ensures size { length self.new ≡ length self.old + length name.now + length (decimal value) + 2 }
+        ensures short { length (decimal value) ≤ 10 }
     {
         self.field(name);
         let mut digits = Buffer::new();
