@@ -19,6 +19,7 @@ takes-whole : (ahead kept rest : List ℕ) (ended : Bool) (g : Gathers ahead kep
 takes-whole ahead kept rest ended g = record {
   first = ap lines g.bytes ∙ lines-whole g.part rest g.clean;
   bytes = inl g.bytes;
+  clean = g.clean;
 }
 
 -- a part that stands before the end is the last line
@@ -28,6 +29,7 @@ takes-last ahead kept rest ended g nothing is some =
     record {
       first = ap lines all ∙ lines-last g.part g.clean some ∙ ap (λ ls. g.part ∷ ls) (sym (ap lines nothing ∙ lines-nil));
       bytes = inr (all, nothing, is);
+      clean = g.clean;
     }
 
 -- a kept line that isn't too long is the whole part

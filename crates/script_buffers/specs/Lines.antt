@@ -1,5 +1,5 @@
 -- The lines of some bytes.
-use Rattle.std.specs.Prelude.{ℕ, ◌≢◌, ◌==◌, if◌then◌else◌, List, [], ◌∷◌}
+use Rattle.std.specs.Prelude.{◌≡◌, ◌⊎◌, ◌++◌, ℕ, ◌≢◌, ◌==◌, if◌then◌else◌, List, [], ◌∷◌}
 use Rattle.std.specs.List.{onto_first, All}
 
 -- the byte that ends a line, X'0A'
@@ -15,3 +15,7 @@ lines (b ∷ bs) = if b == newline then [] ∷ lines bs else onto_first b (lines
 -- no byte of these is a newline
 abbrev pub NoNewline : List ℕ → Type 0
 NoNewline bs = All (λ b. b ≢ newline) bs
+
+-- nothing, or bytes that end with a newline
+abbrev pub EndsLine : List ℕ → Type 0
+EndsLine bytes = (bytes ≡ []) ⊎ ((front : List ℕ) × (bytes ≡ front ++ newline ∷ []))

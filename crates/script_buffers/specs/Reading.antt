@@ -39,6 +39,7 @@ IsReady r = Contains r.pending newline ⊎ (IsTrue r.ended ⊎ (r.taken ≡ inpu
 pub record TakesLine (ahead line rest : List ℕ) (ended : Bool) : Type 0 where
   pub first : lines ahead ≡ line ∷ lines rest
   pub bytes : (ahead ≡ line ++ newline ∷ rest) ⊎ ((ahead ≡ line) × (rest ≡ []) × IsTrue ended)
+  pub clean : NoNewline line
 
 -- what an answer says of the bytes ahead before the call, the reading after it and the bytes ahead then
 abbrev pub Answers : Taken → List ℕ → Reading → List ℕ → Type 0

@@ -245,10 +245,12 @@ pub fn read_line<S: Source>(source: &mut S, buffer: &mut LineBuffer) -> Result<T
     // When the source is read, and how many bytes are taken from it.
     ensures ready { IsReady buffer.old → source.new ≡ source.old }
     ensures ended { IsTrue buffer.old.ended → IsTrue buffer.new.ended }
+    ensures ends { result ≡ Ok Taken.End → IsTrue buffer.new.ended }
     ensures at_end { IsTrue buffer.new.ended → IsAtEnd (S.left source.new) }
     ensures counted { WhereTold (S.left source.old) (S.left source.new) (λ before after.
         buffer.new.taken + length after ≡ buffer.old.taken + length before) }
     ensures within { buffer.new.taken ≤ input_limit }
+    ensures early { IsTrue buffer.new.ended → buffer.new.taken < input_limit }
 
     // Why no line was taken, and what an error leaves.
     ensures fault { result ≡ Err LineFault.ReadFault → Rose (S.faults source.old) (S.faults source.new) }
@@ -257,6 +259,7 @@ pub fn read_line<S: Source>(source: &mut S, buffer: &mut LineBuffer) -> Result<T
         (result ≡ Err LineFault.InputLimit) ↔ ((buffer.new.taken ≡ input_limit)
         × NoNewline (buffer.old.pending ++ given before after))) }
     ensures full { result ≡ Err LineFault.InputLimit → buffer.new.taken ≡ input_limit }
+    ensures short { result ≡ Err LineFault.ReadFault → buffer.new.taken < input_limit }
     ensures emptied { OnErr result (buffer.new ≡ record blank { taken = buffer.new.taken }) }
     ensures lost { OnErr result (WhereTold (S.left source.old) (S.left source.new) (λ before after.
         LosesPart (buffer.old.pending ++ before) after)) }
