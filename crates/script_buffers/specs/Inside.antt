@@ -2,6 +2,7 @@
 use Rattle.std.specs.Prelude.{◌≡◌, ◌<◌, ◌≤◌, IsTrue, length, slice_range, vec_capacity}
 use Rattle.script_buffers.specs.Reading.{Reading, input_limit}
 use Rattle.script_buffers.specs.declared.lines.LineBuffer.TheInside.{Inside}
+use Rattle.script_buffers.specs.declared.lines.TheConstants.{CHUNK, LINE_ROOM}
 
 -- the pending bytes are those of the chunk from start to end
 abbrev pub reading_of : Inside → Reading
@@ -14,10 +15,10 @@ reading_of b = record {
 
 -- the chunk is whole, the line has its memory, and the end was given before the limit
 pub record IsSound (b : Inside) : Type 0 where
-  pub chunk : length b.chunk.items ≡ 8192
+  pub chunk : length b.chunk.items ≡ CHUNK
   pub ordered : b.start ≤ b.end
-  pub within : b.end ≤ 8192
-  pub memory : 9217 ≤ vec_capacity b.line
-  pub line : length b.line.items ≤ 9217
+  pub within : b.end ≤ CHUNK
+  pub memory : LINE_ROOM ≤ vec_capacity b.line
+  pub line : length b.line.items ≤ LINE_ROOM
   pub taken : b.taken ≤ input_limit
   pub ended : IsTrue b.ended → b.taken < input_limit

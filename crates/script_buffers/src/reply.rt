@@ -22,11 +22,14 @@ pub struct ReplyBuffer {
 }
 
 impl Model for ReplyBuffer {
+    ghost use Rattle.std.specs.Prelude.{◌≡◌, ◌≤◌, ℕ, List, length, take};
+    ghost use Rattle.script_buffers.specs.declared.reply.TheConstants.{REPLY_ROOM};
+
     ghost Value = { List ℕ };
 
     ghost view = { λ b. take b.used b.room.items };
 
-    ghost invariant = { λ b. (b.used ≤ 69632) × (length b.room.items ≡ 69632) };
+    ghost invariant = { λ b. (b.used ≤ REPLY_ROOM) × (length b.room.items ≡ REPLY_ROOM) };
 }
 
 impl ReplyBuffer {
