@@ -33,17 +33,17 @@ impl Model for Workbench {
     ghost Value = { Bench };
 
     ghost view = { λ b. record {
-        current = b.current;
-        former = b.former;
-        coming = b.coming;
-        part = b.part;
-        first = b.first;
-        second = b.second;
-        key = b.key;
-        fresh = b.fresh;
-        schedules = b.schedules;
-        body = b.body;
-        text = record { bytes = b.text; size = b.text_length };
+      current = b.current;
+      former = b.former;
+      coming = b.coming;
+      part = b.part;
+      first = b.first;
+      second = b.second;
+      key = b.key;
+      fresh = b.fresh;
+      schedules = b.schedules;
+      body = b.body;
+      text = record { bytes = b.text; size = b.text_length };
     } };
 
     ghost invariant = { λ b. b.text_length ≤ 4096 };
