@@ -1,0 +1,92 @@
+-- Lists of the bits of words: joined, cut, read at a place, combined.
+use Rattle.std.proofs.Common.{◌≡◌, ◌≢◌, ℕ, zero, suc, ◌+◌, ◌-◌, ◌*◌, ◌/◌, ◌%◌, ◌^◌, ◌<◌, ◌≤◌, List, [], ◌∷◌, ◌++◌, length, take, drop, get_or, bit_and, bit_or, bit_xor, refl, sym, ap, ◌∙◌, arith, add-one}
+use Rattle.std.specs.Int.{bit_at}
+use Rattle.std.proofs.lemmas.Nat.{xor_shr, xor_mod, or_shifted, shl_whole, pow-add, row_fits, shr-shr, shr_split}
+use Rattle.std.proofs.lemmas.Nat.Bits.{bit_at-lt, bit_at_cat_low, bit_at_cat_high, shr_and_one}
+use Rattle.des_core.specs.Bits.{bits, xor}
+
+-- ---- lengths and places
+
+pub length-bits : (w n : ℕ) → length (bits w n) ≡ w
+unfolding bits
+length-bits zero n = refl
+length-bits (suc w) n = ap suc (length-bits w n)
+
+pub length-xor : (xs ys : List ℕ) → length xs ≡ length ys → length (xor xs ys) ≡ length xs
+unfolding xor
+length-xor [] ys h = refl
+length-xor (x ∷ xs) [] h = sym h
+length-xor (x ∷ xs) (y ∷ ys) h = ap suc (length-xor xs ys (omega arith))
+
+-- bit i from the left
+pub get_or-bits : (w n i d : ℕ) → i < w → get_or (bits w n) i d ≡ bit_at n (w - 1 - i)
+unfolding bits
+get_or-bits zero n i d h = absurd (omega arith)
+get_or-bits (suc w) n zero d h = let e : w ≡ suc w - 1 - 0 = omega arith in ap (bit_at n) e
+get_or-bits (suc w) n (suc i) d h =
+    let e : w - 1 - i ≡ suc w - 1 - suc i = omega arith in
+    get_or-bits w n i d (omega arith) ∙ ap (bit_at n) e
+
+-- ---- joined words
+
+bits-low : (k j a b : ℕ) → j ≤ k → bits j (a * 2 ^ k + b) ≡ bits j b
+unfolding bits
+bits-low k zero a b h = refl
+bits-low k (suc j) a b h = ap {B = List ℕ} (λ x. x ∷ bits j (a * 2 ^ k + b)) (bit_at_cat_low a k b j (omega arith)) ∙ ap {B = List ℕ} (λ xs. bit_at b j ∷ xs) (bits-low k j a b (omega arith))
+
+-- a word whose low k bits are those of b is a's bits and then b's
+pub bits-append : (m k a b : ℕ) → b < 2 ^ k → bits (m + k) (a * 2 ^ k + b) ≡ bits m a ++ bits k b
+unfolding bits
+bits-append zero k a b h = let e : 0 + k ≡ k = omega arith in ap (λ w. bits w (a * 2 ^ k + b)) e ∙ bits-low k k a b (omega arith)
+bits-append (suc m) k a b h =
+    let e : suc m + k ≡ suc (m + k) = omega arith in
+    let same : m + k - k ≡ m = omega arith in
+    ap (λ w. bits w (a * 2 ^ k + b)) e
+    ∙ ap {B = List ℕ} (λ x. x ∷ bits (m + k) (a * 2 ^ k + b)) (bit_at_cat_high a k b (m + k) h (omega arith) ∙ ap (bit_at a) same)
+    ∙ ap {B = List ℕ} (λ xs. bit_at a m ∷ xs) (bits-append m k a b h)
+
+-- the code's `out << k | b` at a u64
+pub bits-shl_or : (m k a b : ℕ) → a < 2 ^ m → b < 2 ^ k → m + k ≤ 64 → bits (m + k) (bit_or (a * 2 ^ k % 2 ^ 64) b) ≡ bits m a ++ bits k b
+bits-shl_or m k a b h g fits =
+    ap (λ x. bits (m + k) (bit_or x b)) (shl_whole a m k 64 h fits) ∙ ap (bits (m + k)) (or_shifted a k b g) ∙ bits-append m k a b g
+
+below_block : (m k a b x p : ℕ) → a < m → b < k → x ≡ a * k + b → p ≡ m * k → x < p
+below_block m k a b x p h g e q = let whole : a * k + k ≤ m * k = row_fits a k m k h (omega arith) in omega arith
+
+pub shl_or-lt : (m k a b : ℕ) → a < 2 ^ m → b < 2 ^ k → m + k ≤ 64 → bit_or (a * 2 ^ k % 2 ^ 64) b < 2 ^ (m + k)
+shl_or-lt m k a b h g fits =
+    let e : bit_or (a * 2 ^ k % 2 ^ 64) b ≡ a * 2 ^ k + b = ap (λ x. bit_or x b) (shl_whole a m k 64 h fits) ∙ or_shifted a k b g in
+    below_block (2 ^ m) (2 ^ k) a b (bit_or (a * 2 ^ k % 2 ^ 64) b) (2 ^ (m + k)) h g e (pow-add 2 m k)
+
+-- ---- xor
+
+bit-xor : (a b i : ℕ) → bit_at (bit_xor a b) i ≡ bit_xor (bit_at a i) (bit_at b i)
+bit-xor a b i = ap (λ x. x % 2) (xor_shr a b i) ∙ xor_mod (a / 2 ^ i) (b / 2 ^ i) 1
+
+pub bits-xor : (w a b : ℕ) → bits w (bit_xor a b) ≡ xor (bits w a) (bits w b)
+unfolding bits xor
+bits-xor zero a b = refl
+bits-xor (suc w) a b =
+    ap {B = List ℕ} (λ x. x ∷ bits w (bit_xor a b)) (bit-xor a b w)
+    ∙ ap {B = List ℕ} (λ xs. bit_xor (bit_at a w) (bit_at b w) ∷ xs) (bits-xor w a b)
+
+-- ---- parts of a word
+
+-- the bits above the lowest k
+pub bits-shr : (m k n : ℕ) → bits m (n / 2 ^ k) ≡ take m (bits (m + k) n)
+unfolding bits
+bits-shr zero k n = refl
+bits-shr (suc m) k n =
+    let e : suc m + k ≡ suc (m + k) = omega arith in
+    let turned : k + m ≡ m + k = omega arith in
+    let head : bit_at (n / 2 ^ k) m ≡ bit_at n (m + k) = ap (λ x. x % 2) (shr-shr n k m) ∙ ap (bit_at n) turned in
+    ap {B = List ℕ} (λ x. x ∷ bits m (n / 2 ^ k)) head ∙ ap {B = List ℕ} (λ xs. bit_at n (m + k) ∷ xs) (bits-shr m k n) ∙ sym (ap (λ w. take (suc m) (bits w n)) e)
+
+pub drop-bits : (m k n : ℕ) → drop m (bits (m + k) n) ≡ bits k n
+unfolding bits
+drop-bits zero k n = let e : 0 + k ≡ k = omega arith in ap (λ w. bits w n) e
+drop-bits (suc m) k n = let e : suc m + k ≡ suc (m + k) = omega arith in ap (λ w. drop (suc m) (bits w n)) e ∙ drop-bits m k n
+
+-- the lowest k bits
+pub bits-mod : (k n : ℕ) → bits k (n % 2 ^ k) ≡ bits k n
+bits-mod k n = sym (ap (bits k) (sym (shr_split n k)) ∙ bits-low k k (n / 2 ^ k) (n % 2 ^ k) (omega arith))

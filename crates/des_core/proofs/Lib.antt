@@ -1,0 +1,4 @@
+pub mod BitLemmas
+pub mod BoxLemmas
+pub mod PlaceLemmas
+pub mod Vectors

@@ -1,0 +1,6 @@
+//! DES and triple DES.
+#![tactic(auto)]
+
+mod cipher;
+mod tables;
+mod words;
