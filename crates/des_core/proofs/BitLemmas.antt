@@ -1,9 +1,10 @@
 -- Lists of the bits of words: joined, cut, read at a place, combined.
 use Rattle.std.proofs.Common.{◌≡◌, ◌≢◌, ℕ, zero, suc, ◌+◌, ◌-◌, ◌*◌, ◌/◌, ◌%◌, ◌^◌, ◌<◌, ◌≤◌, List, [], ◌∷◌, ◌++◌, length, take, drop, get_or, bit_and, bit_or, bit_xor, refl, sym, ap, ◌∙◌, arith, add-one}
 use Rattle.std.specs.Int.{bit_at}
-use Rattle.std.proofs.lemmas.Nat.{xor_shr, xor_mod, or_shifted, shl_whole, pow-add, row_fits, shr-shr, shr_split}
+use Rattle.std.proofs.lemmas.Nat.{xor_shr, xor_mod, or_shifted, shl_whole, pow-add, row_fits, shr-shr, shr_split, mod_below, pow_pos}
 use Rattle.std.proofs.lemmas.Nat.Bits.{bit_at-lt, bit_at_cat_low, bit_at_cat_high, shr_and_one}
-use Rattle.des_core.specs.Bits.{bits, xor}
+use Rattle.std.proofs.lemmas.List.{drop-drop}
+use Rattle.des_core.specs.Bits.{bits, pieces, xor}
 
 -- ---- lengths and places
 
@@ -90,3 +91,44 @@ drop-bits (suc m) k n = let e : suc m + k ≡ suc (m + k) = omega arith in ap (�
 -- the lowest k bits
 pub bits-mod : (k n : ℕ) → bits k (n % 2 ^ k) ≡ bits k n
 bits-mod k n = sym (ap (bits k) (sym (shr_split n k)) ∙ bits-low k k (n / 2 ^ k) (n % 2 ^ k) (omega arith))
+
+-- a word is its upper bits and then its lowest k
+pub bits-split : (m k n : ℕ) → bits (m + k) n ≡ bits m (n / 2 ^ k) ++ bits k n
+bits-split m k n =
+    ap (bits (m + k)) (sym (shr_split n k)) ∙ bits-append m k (n / 2 ^ k) (n % 2 ^ k) (mod_below n (2 ^ k) (pow_pos k)) ∙ ap (λ xs. bits m (n / 2 ^ k) ++ xs) (bits-mod k n)
+
+-- ---- lists that are joined
+
+pub take-nil : {A : Type 0} (n : ℕ) → take {A = A} n [] ≡ []
+take-nil zero = refl
+take-nil (suc n) = refl
+
+pub drop-nil : {A : Type 0} (n : ℕ) → drop {A = A} n [] ≡ []
+drop-nil zero = refl
+drop-nil (suc n) = refl
+
+pub take-add : {A : Type 0} (xs ys : List A) (n k : ℕ) → length xs ≡ n → take (n + k) (xs ++ ys) ≡ xs ++ take k ys
+take-add [] ys n k e = let same : n + k ≡ k = omega arith in ap (λ m. take m ys) same
+take-add {A} (x ∷ xs) ys n k e =
+    let same : n + k ≡ suc (length xs + k) = omega arith in
+    ap (λ m. take m (x ∷ (xs ++ ys))) same ∙ ap {B = List A} (λ zs. x ∷ zs) (take-add xs ys (length xs) k refl)
+
+pub drop-add : {A : Type 0} (xs ys : List A) (n k : ℕ) → length xs ≡ n → drop (n + k) (xs ++ ys) ≡ drop k ys
+drop-add [] ys n k e = let same : n + k ≡ k = omega arith in ap (λ m. drop m ys) same
+drop-add (x ∷ xs) ys n k e =
+    let same : n + k ≡ suc (length xs + k) = omega arith in
+    ap (λ m. drop m (x ∷ (xs ++ ys))) same ∙ drop-add xs ys (length xs) k refl
+
+-- piece i of the pieces of a list
+pub get_or-pieces : {A : Type 0} (count size i : ℕ) (xs : List A) → i < count → get_or (pieces count size xs) i [] ≡ take size (drop (size * i) xs)
+unfolding pieces
+get_or-pieces zero size i xs h = absurd (omega arith)
+get_or-pieces (suc count) size zero xs h = let e : size * 0 ≡ 0 = omega arith in sym (ap (λ n. take size (drop n xs)) e)
+get_or-pieces (suc count) size (suc i) xs h =
+    let e : size * suc i ≡ size + size * i = omega arith in
+    get_or-pieces count size i (drop size xs) (omega arith) ∙ ap (take size) (drop-drop (size * i) size xs ∙ sym (ap (λ n. drop n xs) e))
+
+pub length-pieces : {A : Type 0} (count size : ℕ) (xs : List A) → length (pieces count size xs) ≡ count
+unfolding pieces
+length-pieces zero size xs = refl
+length-pieces (suc count) size xs = ap suc (length-pieces count size (drop size xs))

@@ -1,4 +1,9 @@
 pub mod BitLemmas
 pub mod BoxLemmas
+pub mod ByteLemmas
+pub mod CallLemmas
+pub mod GroupLemmas
+pub mod LawLemmas
 pub mod PlaceLemmas
+pub mod RoundLemmas
 pub mod Vectors

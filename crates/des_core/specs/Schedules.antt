@@ -1,6 +1,5 @@
 -- The round keys that schedules hold.
-use Rattle.std.specs.Prelude.{◌≡◌, ℕ, List, [], ◌∷◌, ◌++◌, slice_index_or}
-use Rattle.key_cells.specs.Schedule.{blank_schedule}
+use Rattle.std.specs.Prelude.{◌≡◌, ℕ, Bool, true, false, List, [], ◌∷◌, ◌++◌, reverse, slice_index_or}
 use Rattle.key_cells.specs.declared.schedules.Schedule.{Schedule}
 use Rattle.des_core.specs.Bits.{bits, byte_bits, pieces}
 use Rattle.des_core.specs.Des.{round_keys, encipher, decipher}
@@ -18,9 +17,9 @@ keys_of schedule = pieces 16 48 (group_bits schedule.groups)
 abbrev pub IsOf : Schedule → List ℕ → Type 0
 IsOf schedule key = keys_of schedule ≡ round_keys (byte_bits key)
 
--- schedule n of a list
+-- schedule n of a list, where it has one
 abbrev pub schedule_at : List Schedule → ℕ → Schedule
-schedule_at schedules n = slice_index_or schedules n blank_schedule
+schedule_at schedules n = slice_index_or schedules n (record { groups = [] })
 
 -- three schedules hold the round keys of these three keys
 pub record AreOf (schedules : List Schedule) (a b c : List ℕ) : Type 0 where
@@ -37,3 +36,8 @@ ede_under schedules block =
 unfoldable pub ded_under : List Schedule → List ℕ → List ℕ
 ded_under schedules block =
     decipher (keys_of (schedule_at schedules 0)) (encipher (keys_of (schedule_at schedules 1)) (decipher (keys_of (schedule_at schedules 2)) block))
+
+-- round keys forward, or in reverse
+unfoldable pub ordered : Bool → List (List ℕ) → List (List ℕ)
+ordered false keys = keys
+ordered true keys = reverse keys

@@ -33,7 +33,7 @@ fn substitute(word: u64) -> u64
 }
 
 /// The cipher function f of a right half of 32 bits and a round key of 48 bits.
-fn mixed(right: u64, key: u64) -> u64
+pub(crate) fn mixed(right: u64, key: u64) -> u64
     ensures value { bits 32 result ≡ f (bits 32 right) (bits 48 key) }
     ensures small { result < 2 ^ 32 }
 {
