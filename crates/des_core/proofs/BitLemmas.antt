@@ -119,6 +119,13 @@ drop-add (x ∷ xs) ys n k e =
     let same : n + k ≡ suc (length xs + k) = omega arith in
     ap (λ m. drop m (x ∷ (xs ++ ys))) same ∙ drop-add xs ys (length xs) k refl
 
+pub take-split : {A : Type 0} (n k : ℕ) (xs : List A) → take (n + k) xs ≡ take n xs ++ take k (drop n xs)
+take-split zero k xs = let same : 0 + k ≡ k = omega arith in ap (λ m. take m xs) same
+take-split (suc n) k [] = take-nil (suc n + k) ∙ sym (take-nil k)
+take-split (suc n) k (x ∷ xs) =
+    let same : suc n + k ≡ suc (n + k) = omega arith in
+    ap (λ m. take m (x ∷ xs)) same ∙ ap {B = List _} (λ ys. x ∷ ys) (take-split n k xs)
+
 -- piece i of the pieces of a list
 pub get_or-pieces : {A : Type 0} (count size i : ℕ) (xs : List A) → i < count → get_or (pieces count size xs) i [] ≡ take size (drop (size * i) xs)
 unfolding pieces

@@ -57,9 +57,12 @@ unfolding ordered
 length-ordered false schedule = length-keys_of schedule
 length-ordered true schedule = length-reverse (keys_of schedule) ∙ length-keys_of schedule
 
-group_bits-one : (g : ℕ) → group_bits (g ∷ []) ≡ bits 6 (bit_and g 63)
+pub group_bits-single : (g : ℕ) → group_bits (g ∷ []) ≡ bits 6 g
 unfolding group_bits
-group_bits-one g = append-nil (bits 6 g) ∙ sym (ap (bits 6) (and_mask g 6) ∙ bits-mod 6 g)
+group_bits-single g = append-nil (bits 6 g)
+
+group_bits-one : (g : ℕ) → group_bits (g ∷ []) ≡ bits 6 (bit_and g 63)
+group_bits-one g = group_bits-single g ∙ sym (ap (bits 6) (and_mask g 6) ∙ bits-mod 6 g)
 
 masked-small : (g : ℕ) → bit_and g 63 < 2 ^ 6
 masked-small g = omega (arith, and_mask g 6)

@@ -3,6 +3,7 @@ pub mod BoxLemmas
 pub mod ByteLemmas
 pub mod CallLemmas
 pub mod GroupLemmas
+pub mod KeyLemmas
 pub mod LawLemmas
 pub mod PlaceLemmas
 pub mod RoundLemmas

@@ -34,7 +34,7 @@ places-one : (n : ℕ) (xs : List ℕ) → places (n ∷ []) xs ≡ slice_index 
 unfolding places
 places-one n xs = refl
 
-one-bit : (b : ℕ) → b < 2 → bits 1 b ≡ b ∷ []
+pub one-bit : (b : ℕ) → b < 2 → bits 1 b ≡ b ∷ []
 unfolding bits
 one-bit zero h = refl
 one-bit (suc zero) h = refl
@@ -82,6 +82,13 @@ places-places (n ∷ ns) t xs h =
     let within : n - 1 < length (map g t) = omega (arith, first.0, first.1, length-map t g) in
     let head : get_or (map g t) (n - 1) 0 ≡ g (get_or t (n - 1) 0) = get_or_default (map g t) (n - 1) 0 (g 0) within ∙ get_or-map g t (n - 1) 0 in
     ap {B = List ℕ} (λ x. x ∷ places ns (places t xs)) head ∙ ap {B = List ℕ} (λ ys. g (get_or t (n - 1) 0) ∷ ys) (places-places ns t xs (second-true _ _ h))
+
+-- bit i of what a table takes
+pub get_or-places : (t xs : List ℕ) (i : ℕ) → i < length t → get_or (places t xs) i 0 ≡ slice_index xs (get_or t i 0 - 1)
+unfolding places
+get_or-places t xs i h =
+    let g : ℕ → ℕ = λ m. slice_index xs (m - 1) in
+    get_or_default (map g t) i 0 (g 0) (omega (arith, length-map t g)) ∙ get_or-map g t i 0
 
 -- the table 1, 2, .. up to the length
 pub places-all : (n : ℕ) (xs : List ℕ) → length xs ≡ n → places (range_with_len 1 n) xs ≡ xs

@@ -3,8 +3,10 @@
 
 mod blocks;
 mod cipher;
+mod key_schedule;
 mod round_keys;
 mod tables;
 mod words;
 
 pub use blocks::{decipher_block, ded, ede, encipher_block};
+pub use key_schedule::schedule;
