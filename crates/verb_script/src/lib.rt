@@ -6,3 +6,6 @@ mod values;
 mod words;
 
 pub use request::{FormFault, Request, parse_request};
+pub use script_buffers::{
+    LINE_LIMIT, LineBuffer, LineFault, REPLY_ROOM, ReplyBuffer, Taken, read_line,
+};

@@ -1,0 +1,8 @@
+-- The vector is its halves.
+use Rattle.std.proofs.Common.{◌∙◌, ap, ◌++◌}
+use Rattle.cca_vectors.specs.Vectors.{left_of, right_of}
+use Rattle.cca_tool.proofs.TokenReply.{halves}
+use Rattle.cca_tool.proofs.perform.csnbktp.vector_bytes.Goals as goal
+
+pub returns : goal.returns
+returns c = rw (c.join.ensures, c.left.ensures.left, c.right.ensures.right) (halves c.args.vector.now c.left.ensures.valid.whole)
