@@ -1,15 +1,14 @@
 -- One step of the machine, by what the line is.
-use Rattle.std.proofs.Common.{◌≡◌, ℕ, ◌<◌, ◌≤◌, ◌&&◌, Bool, true, false, List, [], ◌∷◌, length, Option, None, Some, codes, refl, sym, ap, ◌∙◌, arith, rules}
-use Rattle.std.specs.Prelude.{nat_le, nat_lt, is_none}
+use Rattle.std.proofs.Common.{◌≡◌, ℕ, ◌<◌, ◌≤◌, true, false, List, length, Option, None, Some, codes, refl, arith}
+use Rattle.std.specs.Prelude.{nat_le, nat_lt}
 use Rattle.std.proofs.lemmas.Bool.Decides.{nat_tests}
 use Rattle.cca_vectors.specs.Checks.{first_failing}
 use Rattle.script_buffers.specs.Reading.{line_limit}
-use Rattle.script_buffers.specs.Replies.{Reply, Refused}
 use Rattle.verb_script.specs.Grammar.{Request, RequestName, csnbktp}
 use Rattle.verb_script.specs.Requests.{request_of}
 use Rattle.cca_machine.specs.State.{State}
-use Rattle.cca_machine.specs.Verdict.{Refusal, first_refusal, line_checks, line_questions, request_questions, or_refused, verdict}
-use Rattle.cca_machine.specs.Act.{Outcome, act, refused, or_act, answer, performed, step}
+use Rattle.cca_machine.specs.Verdict.{Refusal, first_refusal, line_checks, line_questions, request_questions, verdict}
+use Rattle.cca_machine.specs.Act.{act, refused, or_act, answer, performed, step}
 
 within : (n : ℕ) → n ≤ 9216 → (nat_le n 9216 ≡ true) × (nat_lt 9216 n ≡ false)
 within n h = (grind (arith, nat_tests), grind (arith, nat_tests))

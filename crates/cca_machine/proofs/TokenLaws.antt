@@ -1,16 +1,15 @@
 -- What the machine does for CSNBKTP, by its role and its token.
-use Rattle.std.proofs.Common.{◌≡◌, ℕ, ◌&&◌, Bool, true, false, not, List, [], ◌∷◌, Option, None, Some, codes, refl, sym, ap, ◌∙◌}
+use Rattle.std.proofs.Common.{◌≡◌, ℕ, true, false, List, [], ◌∷◌, None, Some, codes, refl}
 use Rattle.std.specs.Str.{bytes_eq}
 use Rattle.cca_vectors.specs.Checks.{first_failing}
 use Rattle.key_tokens.specs.Parts.{token_of}
 use Rattle.key_tokens.specs.TokenChecks.{token_checks}
 use Rattle.key_tokens.specs.declared.key_token.Asked.TheVariants.{Either}
-use Rattle.script_buffers.specs.Replies.{Reply, Refused, Done}
+use Rattle.script_buffers.specs.Replies.{Done}
 use Rattle.verb_script.specs.Grammar.{Request, csnbktp}
 use Rattle.verb_script.specs.Values.{hex_value}
-use Rattle.cca_machine.specs.State.{State, blank_state}
-use Rattle.cca_machine.specs.Verdict.{Refusal, first_refusal, questions, or_refused, request_questions}
-use Rattle.cca_machine.specs.Act.{Outcome, act, refused, or_act, performed, token_fields}
+use Rattle.cca_machine.specs.State.{blank_state}
+use Rattle.cca_machine.specs.Act.{refused, performed, token_fields}
 
 abbrev pub csnbktp_request : List ℕ → List ℕ → Request
 csnbktp_request role token = record { name = csnbktp; values = role ∷ token ∷ [] }

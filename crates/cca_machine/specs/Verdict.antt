@@ -1,7 +1,7 @@
 -- The verdict on a request line: the first rule that it breaks, with the operand that breaks it. The
 -- rules stand in a list, and each is asked as the list says. A rule that needs an earlier one doesn't
 -- fail where that one does.
-use Rattle.std.specs.Prelude.{ℕ, Bool, not, ◌&&◌, nat_le, nat_lt, is_none, List, [], ◌∷◌, ◌++◌, length, codes, Option, Some, None}
+use Rattle.std.specs.Prelude.{ℕ, not, ◌&&◌, nat_le, nat_lt, is_none, List, [], ◌∷◌, length, codes, Option, Some, None}
 use Rattle.std.specs.List.{list_any}
 use Rattle.std.specs.Str.{bytes_eq}
 use Rattle.cca_vectors.specs.Checks.{Check, check, first_failing}

@@ -1,5 +1,5 @@
 -- However a session ends, the sink got the first bytes of the replies.
-use Rattle.std.proofs.Common.{◌≡◌, ℕ, List, [], ◌∷◌, ◌++◌, Option, None, Some, Result, Ok, Err, refl, sym, ap, ◌∙◌, inl, inr, append_assoc}
+use Rattle.std.proofs.Common.{◌≡◌, ℕ, List, [], ◌∷◌, ◌++◌, Option, Result, Ok, Err, refl, sym, ap, ◌∙◌, inl, inr, append_assoc}
 use Rattle.std.specs.Prelude.{◌⊎◌, OnOk}
 use Rattle.std.proofs.lemmas.List.{append-nil}
 use Rattle.slot_disk.specs.WhereTold.{WhereTold}

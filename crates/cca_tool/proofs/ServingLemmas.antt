@@ -1,15 +1,13 @@
 -- How a session goes on from line to line.
-use Rattle.std.proofs.Common.{◌≡◌, ℕ, ◌+◌, ◌<◌, ◌≤◌, Bool, true, false, List, [], ◌∷◌, ◌++◌, length, Option, None, Some, refl, sym, ap, ◌∙◌, subst, inl, inr, append_assoc, arith}
-use Rattle.std.specs.Prelude.{◌⊎◌, ◌≢◌, IsTrue, ⊤}
+use Rattle.std.proofs.Common.{◌≡◌, ℕ, ◌+◌, ◌<◌, Bool, false, List, [], ◌∷◌, ◌++◌, length, Option, None, Some, refl, sym, ap, ◌∙◌, subst, inl, inr, append_assoc, arith}
+use Rattle.std.specs.Prelude.{◌⊎◌, ◌≢◌, IsTrue}
 use Rattle.std.proofs.lemmas.List.{append-nil}
-use Rattle.cca_tool.specs.Sending.{GotPart}
 use Rattle.slot_disk.specs.WhereTold.{WhereTold}
-use Rattle.slot_disk.proofs.WhereToldLemmas.{told_weaker, told_then, told_both, told_same}
+use Rattle.slot_disk.proofs.WhereToldLemmas.{told_then, told_same}
 use Rattle.script_buffers.specs.Lines.{newline, lines, NoNewline, EndsLine}
 use Rattle.script_buffers.specs.Reading.{Reading, blank, TakesLine, LosesPart}
-use Rattle.script_buffers.specs.Replies.{spelled}
 use Rattle.script_buffers.proofs.LineLemmas.{lines-nil, lines-whole, lines-append}
-use Rattle.cca_machine.specs.State.{State, blank_state}
+use Rattle.cca_machine.specs.State.{blank_state}
 use Rattle.cca_machine.specs.Act.{step}
 use Rattle.cca_machine.specs.Session.{replies}
 use Rattle.cca_machine.proofs.StepLaws.{step-keeps}

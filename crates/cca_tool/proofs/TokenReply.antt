@@ -1,5 +1,5 @@
 -- The reply to CSNBKTP.
-use Rattle.std.proofs.Common.{◌≡◌, ℕ, ◌+◌, ◌*◌, ◌^◌, ◌<◌, ◌≤◌, ◌++◌, ◌&&◌, ◌-◌, ◌==◌, Result, Ok, Err, List, [], ◌∷◌, length, take, drop, refl, sym, ap, ◌∙◌, append_assoc, arith, lit<}
+use Rattle.std.proofs.Common.{◌≡◌, ℕ, ◌*◌, ◌≤◌, ◌++◌, ◌-◌, ◌==◌, Result, Ok, Err, List, [], length, take, drop, sym, ap, ◌∙◌, append_assoc, arith}
 use Rattle.std.specs.Prelude.{IsTrue, IsOk, MatchResult, decimal}
 use Rattle.std.specs.List.{list_all}
 use Rattle.std.proofs.lemmas.Bool.{and_parts}
@@ -9,7 +9,7 @@ use Rattle.cca_vectors.specs.Vectors.{left_of, right_of}
 use Rattle.std.proofs.lemmas.List.{append-nil, take-append-drop, take_rest}
 use Rattle.std.proofs.lemmas.List.Sums.{AllPass-from_list_all}
 use Rattle.std.proofs.lemmas.Fmt.{length-decimal-le_succ}
-use Rattle.hex.specs.Hex.{is_hex_digit, decode_sized, decode_of}
+use Rattle.hex.specs.Hex.{is_hex_digit, decode_sized}
 use Rattle.hex.proofs.HexLemmas.{IsOk-decode_sized, IsOk-written}
 use Rattle.verb_script.specs.Grammar.{is_hex}
 

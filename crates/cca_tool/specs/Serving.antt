@@ -1,7 +1,7 @@
 -- How far a run has come: what its source gave, and what its sink got.
-use Rattle.std.specs.Prelude.{◌≡◌, ◌⊎◌, ℕ, ◌<◌, List, [], ◌∷◌, ◌++◌, length, Option, Bool}
+use Rattle.std.specs.Prelude.{◌≡◌, ℕ, ◌<◌, List, [], ◌∷◌, ◌++◌, length, Option, Bool}
 use Rattle.slot_disk.specs.WhereTold.{WhereTold}
-use Rattle.script_buffers.specs.Lines.{newline, lines, NoNewline, EndsLine}
+use Rattle.script_buffers.specs.Lines.{lines, NoNewline, EndsLine}
 use Rattle.script_buffers.specs.Replies.{spelled}
 use Rattle.script_buffers.specs.Reading.{TakesLine}
 use Rattle.cca_tool.specs.Sending.{GotPart}

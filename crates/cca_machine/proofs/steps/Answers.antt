@@ -1,5 +1,4 @@
 use Rattle.cca_machine.proofs.StepLaws.{step-no_request, step-too_long, step-request}
-use Rattle.cca_machine.proofs.TokenLaws.{performed-role, performed-refused, performed-shown}
 use Rattle.cca_machine.proofs.steps.Goals as goal
 
 pub returns-clause-no_request : goal.returns-clause-no_request

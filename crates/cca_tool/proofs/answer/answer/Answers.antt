@@ -1,5 +1,5 @@
 -- A line is a request, or breaks rule 01.
-use Rattle.std.proofs.Common.{◌≡◌, ◌∙◌, ap, sym, []}
+use Rattle.std.proofs.Common.{◌∙◌, ap, sym, []}
 use Rattle.script_buffers.specs.Replies.{spelled}
 use Rattle.cca_machine.specs.Act.{Outcome}
 use Rattle.cca_machine.specs.State.{blank_state}

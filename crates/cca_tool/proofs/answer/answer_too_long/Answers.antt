@@ -1,5 +1,5 @@
 -- Every line that is too long breaks rule 02.
-use Rattle.std.proofs.Common.{◌≡◌, ◌∙◌, ap, sym, []}
+use Rattle.std.proofs.Common.{◌∙◌, ap, sym, []}
 use Rattle.script_buffers.specs.Replies.{spelled}
 use Rattle.cca_machine.specs.Act.{Outcome}
 use Rattle.cca_machine.specs.State.{blank_state}

@@ -1,12 +1,12 @@
 -- The verdict is that of the role, then that of the token.
-use Rattle.std.proofs.Common.{◌≡◌, ◌∙◌, ap, sym, [], true, false, codes, Option, None, Some}
+use Rattle.std.proofs.Common.{◌≡◌, ◌∙◌, ap, sym, [], true, false, codes, None, Some}
 use Rattle.std.specs.Str.{bytes_eq}
 use Rattle.cca_vectors.specs.Checks.{first_failing}
 use Rattle.key_tokens.specs.Parts.{token_of}
-use Rattle.key_tokens.specs.TokenChecks.{token_checks, rule_of}
+use Rattle.key_tokens.specs.TokenChecks.{token_checks}
 use Rattle.key_tokens.specs.declared.key_token.Asked.TheVariants.{Either}
 use Rattle.key_tokens.specs.declared.key_token.Token.{Token}
-use Rattle.script_buffers.specs.Replies.{spelled, Reply, Done, Refused}
+use Rattle.script_buffers.specs.Replies.{spelled, Done}
 use Rattle.verb_script.specs.Values.{hex_value}
 use Rattle.cca_machine.specs.Act.{Outcome, token_fields}
 use Rattle.cca_machine.proofs.TokenLaws.{performed-role, performed-refused, performed-shown}

@@ -1,6 +1,4 @@
 -- The vector is its halves.
-use Rattle.std.proofs.Common.{◌∙◌, ap, ◌++◌}
-use Rattle.cca_vectors.specs.Vectors.{left_of, right_of}
 use Rattle.cca_tool.proofs.TokenReply.{halves}
 use Rattle.cca_tool.proofs.perform.csnbktp.vector_bytes.Goals as goal
 

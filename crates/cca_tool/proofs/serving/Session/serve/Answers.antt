@@ -1,11 +1,7 @@
 -- The session goes on from line to line, and each exit follows from how far it has come.
-use Rattle.std.proofs.Common.{◌≡◌, ◌+◌, ◌≤◌, ◌++◌, ℕ, List, [], length, Err, Ok, ap, ◌∙◌, sym, arith, rules}
-use Rattle.std.specs.Prelude.{IsTrue, ◌⊎◌}
-use Rattle.slot_disk.proofs.WhereToldLemmas.{told_same}
-use Rattle.script_buffers.specs.Reading.{Reading}
-use Rattle.cca_tool.specs.declared.serving.Stop.{Stop}
-use Rattle.cca_tool.specs.declared.serving.Stop.TheVariants.{ReadFault, WriteFault, InputLimit}
-use Rattle.cca_tool.proofs.ServingLemmas.{has_served_nothing, has_served_more, has_served_all, has_served_cut, has_served_whole, counted_on, counted_nothing, blank_open}
+use Rattle.std.proofs.Common.{◌≡◌, Err, Ok, ap, ◌∙◌, arith}
+use Rattle.cca_tool.specs.declared.serving.Stop.TheVariants.{WriteFault}
+use Rattle.cca_tool.proofs.ServingLemmas.{has_served_nothing, has_served_more, has_served_cut, counted_on, counted_nothing, blank_open}
 use Rattle.cca_tool.proofs.serving.Session.serve.Goals as goal
 
 pub lines-init : goal.lines-init

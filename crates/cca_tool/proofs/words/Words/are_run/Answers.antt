@@ -1,5 +1,5 @@
 -- The words are the one word where its bytes are `run`.
-use Rattle.std.proofs.Common.{codes, sym, ◌∙◌, ap}
+use Rattle.std.proofs.Common.{codes}
 use Rattle.std.specs.String.{string_bytes}
 use Rattle.cca_tool.proofs.ListLemmas.{one_element, is_the_word}
 use Rattle.cca_tool.proofs.words.Words.are_run.Goals as goal
