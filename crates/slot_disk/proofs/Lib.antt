@@ -1,3 +1,4 @@
 pub mod Lists
+pub mod Media
 pub mod Reading
 pub mod WhereToldLemmas

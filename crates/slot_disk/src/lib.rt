@@ -1,6 +1,7 @@
 //! What the program stands on: byte sources and sinks that may fail, in memory and over std's streams.
 #![tactic(auto)]
 
+mod disk;
 mod errors;
 mod fault_plan;
 mod faults;
@@ -10,6 +11,7 @@ mod sink;
 mod source;
 mod streams;
 
+pub use disk::Disk;
 pub use errors::{Failed, NoMemory};
 pub use memory_sink::MemorySink;
 pub use memory_source::MemorySource;
