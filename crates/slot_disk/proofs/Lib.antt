@@ -1,4 +1,6 @@
+pub mod CellSteps
 pub mod Lists
 pub mod Media
 pub mod Reading
+pub mod Replacing
 pub mod WhereToldLemmas

@@ -1,6 +1,7 @@
 //! What the program stands on: byte sources and sinks that may fail, in memory and over std's streams.
 #![tactic(auto)]
 
+mod cell;
 mod disk;
 mod errors;
 mod fault_plan;
@@ -11,6 +12,7 @@ mod sink;
 mod source;
 mod streams;
 
+pub use cell::{Cell, read_cell, replace_cell, settle};
 pub use disk::Disk;
 pub use errors::{Failed, NoMemory};
 pub use memory_sink::MemorySink;
