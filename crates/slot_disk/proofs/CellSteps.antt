@@ -8,7 +8,7 @@ use Rattle.slot_disk.specs.Ranges.{SameOutside, Holds}
 
 -- ---- ranges of lists
 
-length-range : (xs : List ℕ) (i n : ℕ) → length (slice_range xs i (i + n)) ≡ min n (length xs - i)
+pub length-range : (xs : List ℕ) (i n : ℕ) → length (slice_range xs i (i + n)) ≡ min n (length xs - i)
 length-range xs i n = length-take (i + n - i) (drop i xs) ∙ omega (arith, length-drop i xs)
 
 pub get_or-range : (xs : List ℕ) (i n k : ℕ) → k < n → get_or (slice_range xs i (i + n)) k 0 ≡ get_or xs (i + k) 0

@@ -1,8 +1,13 @@
 pub mod Cells
+pub mod DiskState
 pub mod FaultPlan
 pub mod Faults
+pub mod LogMedium
 pub mod Medium
 pub mod Ranges
 pub mod SinkState
 pub mod SourceState
+pub mod StageLaws
+pub mod Stages
+pub mod TornImage
 pub mod WhereTold
