@@ -1,8 +1,8 @@
 -- What writes to a cell's sectors do to its selected body and to the other cells'.
-use Rattle.std.proofs.Common.{◌≡◌, ◌≢◌, ◌≤◌, ◌<◌, ◌⊎◌, inl, inr, ⊎_elim, ℕ, ◌+◌, ◌-◌, ◌*◌, ◌%◌, min, List, [], ◌∷◌, length, take, drop, get_or, slice_range, refl, sym, ◌∙◌, ap, subst, arith, length-drop}
+use Rattle.std.proofs.Common.{◌≡◌, ◌≢◌, ◌≤◌, ◌<◌, ◌⊎◌, inl, inr, ⊎_elim, ℕ, ◌+◌, ◌-◌, ◌*◌, ◌%◌, min, List, [], ◌∷◌, length, drop, get_or, slice_range, refl, sym, ◌∙◌, ap, subst, arith, length-drop}
 use Rattle.std.proofs.lemmas.List.{length-take, places}
 use Rattle.std.proofs.lemmas.Bool.{cases_lt, cases_eq}
-use Rattle.std.proofs.lemmas.Grind.{same_number_lists, common_steps}
+use Rattle.std.proofs.lemmas.Grind.{same_number_lists}
 use Rattle.slot_disk.specs.Cells.{selected, body_place, body, IsReplaced, IsReplacing}
 use Rattle.slot_disk.specs.Ranges.{SameOutside, Holds}
 
@@ -17,8 +17,8 @@ get_or-range xs i n k within = grind (arith, places)
 -- lists of one length that agree in a range
 range-same : (xs ys : List ℕ) (i n : ℕ) → length ys ≡ length xs → ((k : ℕ) → k < n → get_or ys (i + k) 0 ≡ get_or xs (i + k) 0) → slice_range ys i (i + n) ≡ slice_range xs i (i + n)
 range-same xs ys i n long same = same_number_lists (slice_range ys i (i + n)) (slice_range xs i (i + n))
-  (length-range ys i n ∙ ap (λ (l : ℕ). min n (l - i)) long ∙ sym (length-range xs i n))
-  (λ k within. let below : k < n = omega (arith, length-range ys i n) in get_or-range ys i n k below ∙ same k below ∙ sym (get_or-range xs i n k below))
+    (length-range ys i n ∙ ap (λ (l : ℕ). min n (l - i)) long ∙ sym (length-range xs i n))
+    (λ k within. let below : k < n = omega (arith, length-range ys i n) in get_or-range ys i n k below ∙ same k below ∙ sym (get_or-range xs i n k below))
 
 range-outside : (at n i m : ℕ) (old new : List ℕ) → SameOutside at n old new → (i + m ≤ at) ⊎ (at + n ≤ i) → slice_range new i (i + m) ≡ slice_range old i (i + m)
 range-outside at n i m old new same (inl before) = range-same old new i m same.size (λ k within. same.before (i + k) (omega arith))
@@ -26,8 +26,8 @@ range-outside at n i m old new same (inr behind) = range-same old new i m same.s
 
 range-holds : (at : ℕ) (bytes old new : List ℕ) → Holds at bytes old new → at + length bytes ≤ length old → slice_range new at (at + length bytes) ≡ bytes
 range-holds at bytes old new holds within = same_number_lists (slice_range new at (at + length bytes)) bytes
-  (length-range new at (length bytes) ∙ omega (arith, holds.outside.size))
-  (λ k inside. let below : k < length bytes = omega (arith, length-range new at (length bytes)) in get_or-range new at (length bytes) k below ∙ holds.here k below)
+    (length-range new at (length bytes) ∙ omega (arith, holds.outside.size))
+    (λ k inside. let below : k < length bytes = omega (arith, length-range new at (length bytes)) in get_or-range new at (length bytes) k below ∙ holds.here k below)
 
 -- ---- parts of a cell
 
@@ -87,8 +87,8 @@ body-others n m old new same other =
     let s = selected old m in
     let low : s < 2 = selected_below old m in
     body-stays old new m
-      (selected-at old new m (⊎_elim (λ before. same.before (1536 * m) (omega arith)) (λ behind. same.after (1536 * m) behind) (elsewhere n m other)))
-      (range-outside (1536 * n) 1536 (body_place m s) 192 old new same (placed s low))
+    (selected-at old new m (⊎_elim (λ before. same.before (1536 * m) (omega arith)) (λ behind. same.after (1536 * m) behind) (elsewhere n m other)))
+    (range-outside (1536 * n) 1536 (body_place m s) 192 old new same (placed s low))
   where
     placed : (s : ℕ) → s < 2 → (body_place m s + 192 ≤ 1536 * n) ⊎ (1536 * n + 1536 ≤ body_place m s)
     placed s low = ⊎_elim (λ before. inl (omega arith)) (λ behind. inr (omega arith)) (elsewhere n m other)
@@ -121,8 +121,8 @@ spare_torn n bytes old new same =
       outside = outside;
       others = λ m other. body-others n m old new outside other;
       here = inl (body-stays old new n
-        (selected-at old new n (same.before (1536 * n) (omega arith)))
-        (range-outside (body_place n (1 - s)) 192 (body_place n s) 192 old new same (sides_apart n s low)));
+          (selected-at old new n (same.before (1536 * n) (omega arith)))
+          (range-outside (body_place n (1 - s)) 192 (body_place n s) 192 old new same (sides_apart n s low)));
     }
 
 pub staged : (n : ℕ) (bytes old new : List ℕ) → length bytes ≡ 192 → 1536 * (n + 1) ≤ length old → Holds (body_place n (1 - selected old n)) bytes old new → Staged n bytes old new
@@ -146,10 +146,11 @@ module _ (n : ℕ) (bytes old mid new : List ℕ) (was : Staged n bytes old mid)
     where
       outside : SameOutside (1536 * n) 1536 old new
       outside = outside_then (1536 * n) 1536 old mid new was.outside (outside_wider (1536 * n) 1 (1536 * n) 1536 mid new same (omega arith) (omega arith))
+
       chosen : (selected new n ≡ selected old n) ⊎ (selected new n ≡ selected old n → ⊥) → (body new n ≡ body old n) ⊎ (body new n ≡ bytes)
       chosen (inl as_before) = inl (body-stays old new n as_before (side_stays (selected old n) (selected_below old n) same ∙ was.kept))
       chosen (inr turned) = let side_is : selected new n ≡ 1 - selected old n = omega (arith, selected_below new n, selected_below old n) in
-        inr (body-side new n ∙ ap (λ (s : ℕ). side_bytes new n s) side_is ∙ side_stays (1 - selected old n) (omega arith) same ∙ was.spare)
+          inr (body-side new n ∙ ap (λ (s : ℕ). side_bytes new n s) side_is ∙ side_stays (1 - selected old n) (omega arith) same ∙ was.spare)
 
   -- the selector turned: the new body is selected
   pub selector_turned : 1536 * (n + 1) ≤ length old → Holds (1536 * n) ((1 - selected old n) ∷ []) mid new → IsReplaced n bytes old new
@@ -157,5 +158,6 @@ module _ (n : ℕ) (bytes old mid new : List ℕ) (was : Staged n bytes old mid)
     where
       torn : IsReplacing n bytes old new
       torn = selector_torn holds.outside
+
       side_is : selected new n ≡ 1 - selected old n
       side_is = selected-written n (1 - selected old n) mid new (omega arith) holds

@@ -1,20 +1,22 @@
 -- A disk in memory holds what its noted calls left, and what a stop leaves of it is torn.
-use Rattle.std.proofs.Common.{◌≡◌, ◌≤◌, ◌<◌, ◌⊎◌, inl, inr, ⊎_elim, ℕ, ◌+◌, Bool, true, false, ◌&&◌, ◌||◌, List, [], ◌∷◌, ◌++◌, length, take, get_or, replicate, fold, refl, sym, ◌∙◌, ap, subst, arith, length-append}
+use Rattle.std.proofs.Common.{Some, ◌≡◌, ◌≤◌, ◌<◌, ◌⊎◌, inl, inr, ℕ, ◌+◌, false, ◌&&◌, List, [], ◌∷◌, ◌++◌, length, take, get_or, replicate, fold, refl, sym, ◌∙◌, ap, subst, arith, length-append}
 use Rattle.std.specs.Prelude.{nat_le, nat_lt}
 use Rattle.std.proofs.lemmas.Bool.{and_cases, or_parts}
 use Rattle.std.proofs.lemmas.Bool.Decides.{nat_tests}
-use Rattle.std.proofs.lemmas.List.{length-replicate, take_more, get_or_read}
+use Rattle.std.proofs.lemmas.List.{length-replicate, take_more}
 use Rattle.std.proofs.lemmas.List.Sums.{fold-append}
 use Rattle.slot_disk.specs.Ranges.{overwrite}
 use Rattle.slot_disk.specs.declared.call.Call.{Call}
-use Rattle.slot_disk.specs.declared.call.Call.TheVariants.{Written, Synced}
+use Rattle.slot_disk.specs.declared.call.Call.TheVariants.{Written}
 use Rattle.slot_disk.specs.Stages.{Stage, settled, noting, stage, covers, IsTorn}
 use Rattle.slot_disk.specs.StageLaws.{length-stage, content_torn, length-overwrite, get_or-overwrite_before, get_or-overwrite_after}
 use Rattle.slot_disk.specs.declared.memory_disk.Torn.{Torn}
 use Rattle.slot_disk.specs.declared.memory_disk.Torn.TheVariants.{Old, New, Fill}
 use Rattle.slot_disk.specs.TornImage.{torn_image, torn_over}
-use Rattle.slot_disk.specs.DiskState.{IsDisk, blank_image}
-use Rattle.slot_disk.proofs.Staging.{stage-push}
+use Rattle.slot_disk.specs.DiskState.{DiskState, IsDisk, blank_image, new_disk}
+use Rattle.slot_disk.specs.LogMedium.{log_medium}
+use Rattle.slot_disk.specs.Medium.{IsSettled}
+use Rattle.slot_disk.proofs.Staging.{stage-push, settled_only}
 
 pub stage-nil : (image : List ℕ) → stage image [] ≡ settled image
 unfolding stage
@@ -85,3 +87,22 @@ torn_image-written (Fill byte) s at bytes = sym (fold-append (λ xs (r : ℕ × 
 pub stage-take_more : (first : List ℕ) (calls : List Call) (i : ℕ) (call : Call) → i < length calls → call ≡ get_or calls i call → stage first (take (i + 1) calls) ≡ noting (stage first (take i calls)) call
 stage-take_more first calls i call within is =
     ap (stage first) (take_more calls i call within ∙ ap (λ (c : Call). take i calls ++ c ∷ []) (sym is)) ∙ stage-push first (take i calls) call
+
+-- ---- a disk that is new
+
+-- nothing is unsynced before the first call
+pub new_settled : (image : List ℕ) → IsSettled (log_medium image [])
+new_settled image = record {
+  only = λ c torn.
+      let now : IsTorn (settled image) c = subst (λ (s : Stage). IsTorn s c) (stage-nil image) torn in
+      ap (λ (s : Stage). Some s.content) (stage-nil image) ∙ ap (λ (l : List ℕ). Some l) (sym (settled_only image c now));
+}
+
+pub disk_settled : (d : DiskState) (image : List ℕ) (room : ℕ) → d ≡ new_disk image room → IsSettled (log_medium d.first d.calls)
+disk_settled d image room is = subst (λ (e : DiskState). IsSettled (log_medium e.first e.calls)) (sym is) (new_settled image)
+
+pub length-blank : (size : ℕ) → length (blank_image size) ≡ size
+length-blank size = ap length (sym (blank-replicate size)) ∙ length-replicate size 0
+
+pub length-torn : (torn : Torn) (first : List ℕ) (calls : List Call) → length (torn_image torn (stage first calls)) ≡ length first
+length-torn torn first calls = (torn_is_torn torn first calls).size ∙ sym (content_torn first calls).size ∙ length-stage first calls

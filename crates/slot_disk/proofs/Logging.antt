@@ -1,12 +1,12 @@
 -- A disk in memory meets the clauses on media: what one noted call more does.
-use Rattle.std.proofs.Common.{◌≡◌, ◌≤◌, ◌<◌, ◌⊎◌, inl, inr, ⊎_elim, ℕ, ◌+◌, List, [], ◌∷◌, ◌++◌, length, take, Some, IsSome, refl, sym, ◌∙◌, ap, subst, arith, length-append}
+use Rattle.std.proofs.Common.{◌≡◌, ◌≤◌, ◌⊎◌, inl, inr, ⊎_elim, ℕ, ◌+◌, List, [], ◌∷◌, ◌++◌, length, take, Some, refl, sym, ◌∙◌, ap, subst, arith, length-append}
 use Rattle.std.proofs.lemmas.Bool.{cases_lt}
 use Rattle.std.proofs.lemmas.List.{take-append-le, take_all}
 use Rattle.std.proofs.lemmas.Option.{same_Some}
 use Rattle.slot_disk.specs.Ranges.{SameOutside, Holds, overwrite}
 use Rattle.slot_disk.specs.declared.call.Call.{Call}
 use Rattle.slot_disk.specs.declared.call.Call.TheVariants.{Written, Synced}
-use Rattle.slot_disk.specs.Stages.{Stage, settled, noting, stage, IsTorn}
+use Rattle.slot_disk.specs.Stages.{Stage, noting, stage, IsTorn}
 use Rattle.slot_disk.specs.Medium.{Medium, IsSettled, After, Becomes, EachImage}
 use Rattle.slot_disk.specs.LogMedium.{LeftSince, log_medium}
 use Rattle.slot_disk.specs.StageLaws.{length-stage}
@@ -29,11 +29,11 @@ module _ (first : List ℕ) (calls : List Call) where
           let all : take left.noted (calls ++ call ∷ []) ≡ calls ++ call ∷ [] = take_all left.noted (calls ++ call ∷ []) (omega (arith, longer)) in
           inr (subst (λ (s : Stage). IsTorn s c) (ap (stage first) all ∙ stage-push first calls call) left.torn)
       | inr within ↦ inl (record {
-          noted = left.noted;
-          from = left.from;
-          made = within;
-          torn = subst (λ (l : List Call). IsTorn (stage first l) c) (take-append-le left.noted calls (call ∷ []) within) left.torn;
-        })
+        noted = left.noted;
+        from = left.from;
+        made = within;
+        torn = subst (λ (l : List Call). IsTorn (stage first l) c) (take-append-le left.noted calls (call ∷ []) within) left.torn;
+      })
     ]
 
     still_there : (t : ℕ) (c : List ℕ) → LeftSince first calls t c → LeftSince first (calls ++ call ∷ []) t c
@@ -58,8 +58,8 @@ module _ (first : List ℕ) (calls : List Call) where
   module _ (at : ℕ) (bytes : List ℕ) (within : at + length bytes ≤ length first) where
     pub written_moments : EachImage (log_medium first calls) (log_medium first (calls ++ Written at bytes ∷ [])) (After (SameOutside at (length bytes)) (IsTorn (stage first calls)))
     written_moments = push_moments (Written at bytes) (After (SameOutside at (length bytes)) (IsTorn (stage first calls)))
-      (λ c torn. (c, torn, outside_same at (length bytes) c))
-      (λ c torn. written_torn first calls at bytes c within torn)
+        (λ c torn. (c, torn, outside_same at (length bytes) c))
+        (λ c torn. written_torn first calls at bytes c within torn)
 
     written_content : (c : List ℕ) → Some (stage first (calls ++ Written at bytes ∷ [])).content ≡ Some c → overwrite (stage first calls).content at bytes ≡ c
     written_content c is = ap (λ (s : Stage). s.content) (sym (stage-push first calls (Written at bytes))) ∙ same_Some (stage first (calls ++ Written at bytes ∷ [])).content c is
@@ -97,8 +97,8 @@ module _ (first : List ℕ) (calls : List Call) where
   pub synced_settled : IsSettled (log_medium first (calls ++ Synced ∷ []))
   synced_settled = record {
     only = λ c torn.
-      let now : IsTorn (noting (stage first calls) Synced) c = subst (λ (s : Stage). IsTorn s c) (stage-push first calls Synced) torn in
-      synced_content ∙ ap (λ (l : List ℕ). Some l) (sym (settled_only (stage first calls).content c now));
+        let now : IsTorn (noting (stage first calls) Synced) c = subst (λ (s : Stage). IsTorn s c) (stage-push first calls Synced) torn in
+        synced_content ∙ ap (λ (l : List ℕ). Some l) (sym (settled_only (stage first calls).content c now));
   }
 
 -- the same medium, where its image and its calls are known by other names

@@ -1,5 +1,5 @@
 -- How clauses on media are carried over calls, over loops and over two disks.
-use Rattle.std.proofs.Common.{◌≡◌, ◌≤◌, ◌⊎◌, inl, inr, ⊎_elim, ℕ, List, Option, None, Some, IfSome, IsSome, refl, sym, ◌∙◌, ap, subst, arith}
+use Rattle.std.proofs.Common.{◌≡◌, inl, inr, ⊎_elim, ℕ, List, Option, None, Some, IfSome, IsSome, refl, sym, ◌∙◌, subst, arith}
 use Rattle.slot_disk.specs.Medium.{Medium, Told, IsSettled, After, From, Becomes, EachImage, Keeps, Reached, EachPair}
 
 -- ---- what is told
@@ -16,8 +16,8 @@ module _ (m0 m1 : Medium) where
   -- what is told after a step
   pub becomes_told : (step : List ℕ → List ℕ → Type 0) (P Q : List ℕ → Type 0) → Becomes step m0 m1 → Told m0 P → ((d c : List ℕ) → P d → step d c → Q c) → Told m1 Q
   becomes_told step P Q becomes told weaker = told_from m1.content Q (λ c is.
-    let from = becomes.told c is in
-    weaker from.0 c (told_at m0.content P from.0 from.1 told) from.2)
+      let from = becomes.told c is in
+      weaker from.0 c (told_at m0.content P from.0 from.1 told) from.2)
 
   pub becomes_weaker : (step wider : List ℕ → List ℕ → Type 0) → Becomes step m0 m1 → ((d c : List ℕ) → step d c → wider d c) → Becomes wider m0 m1
   becomes_weaker step wider becomes weaker = record {
@@ -79,9 +79,9 @@ module _ (m0 m1 m2 : Medium) where
     later = omega (arith, one.later, two.later);
     each = λ c at. ⊎_elim (λ was. left c (one.each c was)) (λ q. right c q) (two.before m0.moment c one.later at);
     before = λ t c le at. ⊎_elim
-      (λ was. ⊎_elim (λ old. inl old) (λ p. inr (left c p)) (one.before t c le was))
-      (λ q. inr (right c q))
-      (two.before t c (omega (arith, one.later, le)) at);
+        (λ was. ⊎_elim (λ old. inl old) (λ p. inr (left c p)) (one.before t c le was))
+        (λ q. inr (right c q))
+        (two.before t c (omega (arith, one.later, le)) at);
     keeps = λ t c le at. two.keeps t c (omega (arith, one.later, le)) (one.keeps t c le at);
   }
 

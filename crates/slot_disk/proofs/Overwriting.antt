@@ -52,10 +52,11 @@ overwrite-clipped xs at bytes start count start_is count_is =
         ap (λ (i : ℕ). get_or (overwrite xs at bytes) i 0) split
         ∙ get_or-overwrite_here xs at bytes (k - at) (omega arith) (omega arith)
         ∙ sym (ap (λ (i : ℕ). get_or (overwrite xs start (take count bytes)) i 0) split_start
-          ∙ get_or-overwrite_here xs start (take count bytes) (k - start) (omega arith) (omega arith)
-          ∙ get_or-take count bytes (k - start) 0 (omega arith)
-          ∙ ap (λ (i : ℕ). get_or bytes i 0) same)
+        ∙ get_or-overwrite_here xs start (take count bytes) (k - start) (omega arith) (omega arith)
+        ∙ get_or-take count bytes (k - start) 0 (omega arith)
+        ∙ ap (λ (i : ℕ). get_or bytes i 0) same)
     from_at k inside behind cut_long (inr past) = get_or-overwrite_after xs at bytes k past ∙ sym (get_or-overwrite_after xs start (take count bytes) k (omega arith))
+
     each : (k : ℕ) → k < length xs → length (take count bytes) ≡ count → get_or (overwrite xs at bytes) k 0 ≡ get_or (overwrite xs start (take count bytes)) k 0
     each k inside cut_long = elim (cases_lt k at) [
       | inl before ↦ get_or-overwrite_before xs at bytes k before ∙ sym (get_or-overwrite_before xs start (take count bytes) k (omega arith))

@@ -1,9 +1,9 @@
 -- The calls of a replacement, one behind the other: a read, a write and a sync of the spare body, and of the selector.
-use Rattle.std.proofs.Common.{◌≡◌, ◌≤◌, ◌<◌, ℕ, ◌+◌, ◌-◌, ◌*◌, ◌%◌, List, [], ◌∷◌, length, get_or, slice_range, Some, refl, sym, ◌∙◌, ap, subst, arith}
+use Rattle.std.proofs.Common.{◌≡◌, ◌≤◌, ℕ, ◌+◌, ◌-◌, ◌*◌, ◌%◌, List, [], ◌∷◌, length, get_or, slice_range, Some, sym, ◌∙◌, ap, subst, arith}
 use Rattle.slot_disk.specs.Cells.{selected, body_place, body, IsReplaced, IsReplacing}
 use Rattle.slot_disk.specs.Ranges.{SameOutside, Holds}
-use Rattle.slot_disk.specs.Medium.{Medium, Told, IsSettled, After, From, Becomes, EachImage, Keeps}
-use Rattle.slot_disk.proofs.Media.{told_from, told_at, becomes_weaker, becomes_same, becomes_then, from_then, each_weaker, goes_on}
+use Rattle.slot_disk.specs.Medium.{Medium, Told, IsSettled, From, Becomes, EachImage, Keeps}
+use Rattle.slot_disk.proofs.Media.{told_from, told_at, becomes_same, becomes_then, from_then, each_weaker, goes_on}
 use Rattle.slot_disk.proofs.CellSteps.{Staged, replacing_same, spare_torn, staged, selector_torn, selector_turned, get_or-range}
 
 -- the selector that was read
@@ -18,10 +18,10 @@ selector_read n place out m at one told = told_from m.content (λ c. get_or out 
 pub body_read : (n side place : ℕ) (out : List ℕ) (m0 m1 : Medium) → Keeps m0 m1 → Told m0 (λ c. side ≡ selected c n) → place ≡ body_place n side → length out ≡ 192 → Told m1 (λ c. out ≡ slice_range c place (place + length out)) → Told m0 (λ c. out ≡ body c n)
 unfolding body
 body_read n side place out m0 m1 kept side_is at long told = told_from m0.content (λ c. out ≡ body c n) (λ c is.
-  let here : place ≡ body_place n (selected c n) = at ∙ ap (body_place n) (told_at m0.content (λ d. side ≡ selected d n) c is side_is) in
-  told_at m1.content (λ d. out ≡ slice_range d place (place + length out)) c (kept.content ∙ is) told
-  ∙ ap (λ (l : ℕ). slice_range c place (place + l)) long
-  ∙ ap (λ (p : ℕ). slice_range c p (p + 192)) here)
+    let here : place ≡ body_place n (selected c n) = at ∙ ap (body_place n) (told_at m0.content (λ d. side ≡ selected d n) c is side_is) in
+    told_at m1.content (λ d. out ≡ slice_range d place (place + length out)) c (kept.content ∙ is) told
+    ∙ ap (λ (l : ℕ). slice_range c place (place + l)) long
+    ∙ ap (λ (p : ℕ). slice_range c p (p + 192)) here)
 
 -- the side was read, and nothing was written
 module _ (n side : ℕ) (bytes : List ℕ) (m0 m1 : Medium) (settled : IsSettled m0) (kept : Keeps m0 m1) where
@@ -33,7 +33,7 @@ module _ (n side : ℕ) (bytes : List ℕ) (m0 m1 : Medium) (settled : IsSettled
 
   -- the spare body was written, and may be torn
   module _ (place : ℕ) (at : place ≡ body_place n (1 - side)) (long : length bytes ≡ 192) (side_is : Told m0 (λ c. side ≡ selected c n))
-    (m2 : Medium) (moments : EachImage m1 m2 (From (SameOutside place (length bytes)) m1)) where
+      (m2 : Medium) (moments : EachImage m1 m2 (From (SameOutside place (length bytes)) m1)) where
     is_torn : (d c : List ℕ) → m0.content ≡ Some d → SameOutside place (length bytes) d c → IsReplacing n bytes d c
     is_torn d c is same =
         let spare : place ≡ body_place n (1 - selected d n) = at ∙ ap (λ (s : ℕ). body_place n (1 - s)) (told_at m0.content (λ d. side ≡ selected d n) d is side_is) in
@@ -59,10 +59,10 @@ module _ (n side : ℕ) (bytes : List ℕ) (m0 m1 : Medium) (settled : IsSettled
       spare_staged = record {
         size = holds.size ∙ kept.moments.size;
         told = λ c is.
-          let from = holds.told c is in
-          let was : m0.content ≡ Some from.0 = sym kept.content ∙ from.1 in
-          let spare : place ≡ body_place n (1 - selected from.0 n) = at ∙ ap (λ (s : ℕ). body_place n (1 - s)) (told_at m0.content (λ d. side ≡ selected d n) from.0 was side_is) in
-          (from.0, was, staged n bytes from.0 c long (subst (λ (l : ℕ). 1536 * (n + 1) ≤ l) (sym (m0.sized from.0 was)) fits) (subst (λ (p : ℕ). Holds p bytes from.0 c) spare from.2));
+            let from = holds.told c is in
+            let was : m0.content ≡ Some from.0 = sym kept.content ∙ from.1 in
+            let spare : place ≡ body_place n (1 - selected from.0 n) = at ∙ ap (λ (s : ℕ). body_place n (1 - s)) (told_at m0.content (λ d. side ≡ selected d n) from.0 was side_is) in
+            (from.0, was, staged n bytes from.0 c long (subst (λ (l : ℕ). 1536 * (n + 1) ≤ l) (sym (m0.sized from.0 was)) fits) (subst (λ (p : ℕ). Holds p bytes from.0 c) spare from.2));
         still = λ some. holds.still (read_becomes.still some);
       }
 
@@ -71,8 +71,8 @@ module _ (n side : ℕ) (bytes : List ℕ) (m0 m1 : Medium) (settled : IsSettled
 
       pub selector_moments : EachImage m2 m3 (From (SameOutside top 1) m2) → EachImage m0 m3 (From (IsReplacing n bytes) m0)
       selector_moments selector = goes_on m0 m2 m3 (From (IsReplacing n bytes) m0) (From (SameOutside top 1) m2) (From (IsReplacing n bytes) m0) spare_moments selector
-        (λ c p. p)
-        (from_then m0 m2 (Staged n bytes) (SameOutside top 1) (IsReplacing n bytes) spare_staged turned_torn)
+          (λ c p. p)
+          (from_then m0 m2 (Staged n bytes) (SameOutside top 1) (IsReplacing n bytes) spare_staged turned_torn)
 
       pub selector_becomes : Becomes (SameOutside top 1) m2 m3 → Becomes (IsReplacing n bytes) m0 m3
       selector_becomes selector = becomes_then m0 m2 m3 (Staged n bytes) (SameOutside top 1) (IsReplacing n bytes) spare_staged selector turned_torn
@@ -81,10 +81,10 @@ module _ (n side : ℕ) (bytes : List ℕ) (m0 m1 : Medium) (settled : IsSettled
       replaced selector = record {
         size = selector.size ∙ spare_staged.size;
         told = λ d is.
-          let from = selector.told d is in
-          let was = spare_staged.told from.0 from.1 in
-          let turned : side ≡ selected was.0 n = told_at m0.content (λ d. side ≡ selected d n) was.0 was.1 side_is in
-          let put : Holds (1536 * n) ((1 - side) ∷ []) from.0 d = subst (λ (p : ℕ). Holds p ((1 - side) ∷ []) from.0 d) at_top from.2 in
-          (was.0, was.1, selector_turned n bytes was.0 from.0 d was.2 (subst (λ (l : ℕ). 1536 * (n + 1) ≤ l) (sym (m0.sized was.0 was.1)) fits) (subst (λ (s : ℕ). Holds (1536 * n) ((1 - s) ∷ []) from.0 d) turned put));
+            let from = selector.told d is in
+            let was = spare_staged.told from.0 from.1 in
+            let turned : side ≡ selected was.0 n = told_at m0.content (λ d. side ≡ selected d n) was.0 was.1 side_is in
+            let put : Holds (1536 * n) ((1 - side) ∷ []) from.0 d = subst (λ (p : ℕ). Holds p ((1 - side) ∷ []) from.0 d) at_top from.2 in
+            (was.0, was.1, selector_turned n bytes was.0 from.0 d was.2 (subst (λ (l : ℕ). 1536 * (n + 1) ≤ l) (sym (m0.sized was.0 was.1)) fits) (subst (λ (s : ℕ). Holds (1536 * n) ((1 - s) ∷ []) from.0 d) turned put));
         still = λ some. selector.still (spare_staged.still some);
       }

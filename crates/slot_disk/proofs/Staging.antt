@@ -1,19 +1,17 @@
 -- What one call more does to what a stop may leave.
-use Rattle.std.proofs.Common.{◌≡◌, ◌≤◌, ◌<◌, ◌⊎◌, inl, inr, ⊎_elim, ℕ, zero, suc, ◌+◌, ◌-◌, Bool, true, false, ◌&&◌, ◌||◌, min, List, [], ◌∷◌, ◌++◌, length, take, drop, get_or, slice_range, fold, Option, Some, None, IsSome, refl, sym, ◌∙◌, ap, subst, arith, length-append}
+use Rattle.std.proofs.Common.{◌≡◌, ◌≤◌, ◌<◌, ◌⊎◌, inl, inr, ℕ, ◌+◌, ◌-◌, Bool, false, ◌&&◌, ◌||◌, List, [], ◌∷◌, ◌++◌, length, get_or, slice_range, refl, sym, ◌∙◌, ap, subst, arith}
 use Rattle.std.specs.Prelude.{nat_le, nat_lt}
-use Rattle.std.specs.List.{list_any}
-use Rattle.std.proofs.lemmas.Bool.{cases_lt, cases_Bool, and_cases, and_left, and_right, or_parts, or_from}
+use Rattle.std.proofs.lemmas.Bool.{cases_lt, and_left, and_right, or_from}
 use Rattle.std.proofs.lemmas.Bool.Decides.{nat_tests}
-use Rattle.std.proofs.lemmas.List.{take-append-le, take_all}
 use Rattle.std.proofs.lemmas.List.Sums.{fold-append}
 use Rattle.std.proofs.lemmas.List.Folds.{list_any-append}
 use Rattle.std.proofs.lemmas.Grind.{same_number_lists}
-use Rattle.slot_disk.specs.Ranges.{SameOutside, Holds, overwrite}
+use Rattle.slot_disk.specs.Ranges.{SameOutside, overwrite}
 use Rattle.slot_disk.specs.declared.call.Call.{Call}
 use Rattle.slot_disk.specs.declared.call.Call.TheVariants.{Written, Synced}
-use Rattle.slot_disk.specs.Stages.{Stage, settled, noting, stage, covers, IsTorn}
+use Rattle.slot_disk.specs.Stages.{settled, noting, stage, covers, IsTorn}
 use Rattle.slot_disk.specs.StageLaws.{length-stage, content_torn, length-overwrite, get_or-overwrite_before, get_or-overwrite_after}
-use Rattle.slot_disk.proofs.CellSteps.{get_or-range, length-range, outside_same}
+use Rattle.slot_disk.proofs.CellSteps.{get_or-range, length-range}
 use Rattle.slot_disk.proofs.Overwriting.{get_or-overwrite_here}
 
 -- one call more

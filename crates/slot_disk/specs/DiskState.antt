@@ -3,7 +3,6 @@ use Rattle.std.specs.Prelude.{◌≡◌, ◌≤◌, ℕ, nat_lt, Bool, not, ◌|
 use Rattle.slot_disk.specs.FaultPlan.{unused, fails_now, after_call_in_room}
 use Rattle.slot_disk.specs.Stages.{stage}
 use Rattle.slot_disk.specs.declared.call.Call.{Call}
-use Rattle.slot_disk.specs.declared.call.Call.TheVariants.{Written, Synced}
 use Rattle.slot_disk.specs.declared.fault_plan.FaultPlan.{FaultPlan}
 
 pub record DiskState : Type 0 where

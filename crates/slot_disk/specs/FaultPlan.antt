@@ -1,5 +1,5 @@
 -- Which calls of a device in memory fail, and what is counted.
-use Rattle.std.specs.Prelude.{ℕ, Bool, false, ◌||◌, List, [], ◌∷◌, ◌++◌, drop, replicate, Option, None, Some, ◌==◌, if◌then◌else◌}
+use Rattle.std.specs.Prelude.{ℕ, Bool, false, ◌||◌, [], ◌∷◌, ◌++◌, drop, replicate, Option, None, Some, ◌==◌, if◌then◌else◌}
 use Rattle.std.specs.List.{list_any}
 use Rattle.slot_disk.specs.Faults.{one_more}
 use Rattle.slot_disk.specs.declared.fault_plan.FaultPlan.{FaultPlan}

@@ -1,5 +1,5 @@
 -- What is read of a disk in memory is among what a stop may leave of it, which makes a medium of its calls.
-use Rattle.std.proofs.Common.{◌≡◌, ◌≤◌, ◌<◌, ◌⊎◌, inl, inr, ⊎_elim, ℕ, zero, suc, ◌+◌, Bool, true, false, ◌&&◌, ◌||◌, List, [], ◌∷◌, ◌++◌, length, take, get_or, fold, Some, refl, sym, ◌∙◌, ap, subst, arith}
+use Rattle.std.proofs.Common.{◌≡◌, ◌≤◌, ◌<◌, ◌⊎◌, inl, inr, ⊎_elim, ℕ, zero, suc, ◌+◌, Bool, false, ◌&&◌, ◌||◌, List, [], ◌∷◌, ◌++◌, length, take, get_or, fold, Some, refl, sym, ◌∙◌, ap, subst, arith}
 use Rattle.std.specs.Prelude.{nat_le, nat_lt}
 use Rattle.std.proofs.lemmas.Bool.{and_cases, or_parts}
 use Rattle.std.proofs.lemmas.Bool.Decides.{nat_tests}
@@ -60,7 +60,7 @@ sound_step first s (Written at bytes) sound = record {
   torn = record {
     size = length-overwrite s.content at bytes ∙ sound.torn.size;
     elsewhere = λ k none. let apart = not_covered s.unsynced at (length bytes) k none in
-      ⊎_elim (get_or-overwrite_before s.content at bytes k) (get_or-overwrite_after s.content at bytes k) apart.1 ∙ sound.torn.elsewhere k apart.0;
+        ⊎_elim (get_or-overwrite_before s.content at bytes k) (get_or-overwrite_after s.content at bytes k) apart.1 ∙ sound.torn.elsewhere k apart.0;
   };
 }
 sound_step first s Synced sound = record { size = sound.size; torn = record { size = refl; elsewhere = λ k none. refl } }
@@ -78,7 +78,6 @@ length-stage first calls = (sound first calls).size
 
 pub content_torn : (first : List ℕ) (calls : List Call) → IsTorn (stage first calls) (stage first calls).content
 content_torn first calls = (sound first calls).torn
-
 
 -- ---- the medium
 

@@ -52,7 +52,9 @@ impl Model for MemoryDisk {
 impl MemoryDisk {
     /// A disk of zeros with room to note so many writes and syncs.
     pub fn new(alloc: Global, size: u64, calls: u64) -> Result<MemoryDisk, NoMemory>
-        ensures { IfOk result (λ d. d ≡ new_disk (blank_image size) calls) }
+        ensures disk { IfOk result (λ d. d ≡ new_disk (blank_image size) calls) }
+        ensures size { IfOk result (λ d. length d.first ≡ size) }
+        ensures settled { IfOk result (λ d. IsSettled (log_medium d.first d.calls)) }
     {
         let mut image = Vec::new(alloc);
         image.resize(size as usize, 0)?;
@@ -61,7 +63,8 @@ impl MemoryDisk {
 
     /// A disk that holds this image, with nothing unsynced.
     pub fn from_image(alloc: Global, image: &[u8], calls: u64) -> Result<MemoryDisk, NoMemory>
-        ensures { IfOk result (λ d. d ≡ new_disk image.now calls) }
+        ensures disk { IfOk result (λ d. d ≡ new_disk image.now calls) }
+        ensures settled { IfOk result (λ d. IsSettled (log_medium d.first d.calls)) }
     {
         Ok(MemoryDisk {
             first: Vec::from_slice(alloc, image)?,
@@ -87,17 +90,31 @@ impl MemoryDisk {
     }
 
     /// The disk that a stop leaves after its first `noted` noted calls.
-    pub fn crash(&self, alloc: Global, noted: u64, torn: Torn, calls: u64) -> Result<MemoryDisk, NoMemory>
+    pub fn crash(
+        &self,
+        alloc: Global,
+        noted: u64,
+        torn: Torn,
+        calls: u64,
+    ) -> Result<MemoryDisk, NoMemory>
         requires { noted ≤ length self.now.calls }
         ensures disk { IfOk result (λ d.
             d ≡ new_disk (torn_image torn (stage self.now.first (take noted self.now.calls))) calls) }
+
+        ensures size { IfOk result (λ d. length d.first ≡ length self.now.first) }
+        ensures settled { IfOk result (λ d. IsSettled (log_medium d.first d.calls)) }
 
         // It is one of the images of that moment.
         ensures image { IfOk result (λ d. IsTorn (stage self.now.first (take noted self.now.calls)) d.first) }
     {
         let mut content = Vec::from_slice(alloc, &self.first)?;
         let mut image = Vec::from_slice(alloc, &self.first)?;
-        replay(&self.calls.as_slice()[..noted as usize], torn, &mut content, &mut image);
+        replay(
+            &self.calls.as_slice()[..noted as usize],
+            torn,
+            &mut content,
+            &mut image,
+        );
         MemoryDisk::from_image(alloc, &image, calls)
     }
 }
@@ -188,7 +205,8 @@ impl Disk for MemoryDisk {
             return Err(Failed);
         }
         let at = at as usize;
-        self.calls.push_reserved(Call::Written(at, Piece::new(piece)));
+        self.calls
+            .push_reserved(Call::Written(at, Piece::new(piece)));
         overwrite_vec(&mut self.content, at, piece);
         Ok(())
     }

@@ -1,4 +1,4 @@
-use Rattle.std.proofs.Common.{◌≡◌, ◌<◌, List, ℕ, take, length, sym, ◌∙◌, ap, arith}
+use Rattle.std.proofs.Common.{◌<◌, take, length, sym, ◌∙◌, ap, arith}
 use Rattle.slot_disk.specs.Stages.{Stage, stage}
 use Rattle.slot_disk.specs.TornImage.{torn_image}
 use Rattle.slot_disk.proofs.DiskSteps.{stage-nil, torn_image-settled, stage-take_more}

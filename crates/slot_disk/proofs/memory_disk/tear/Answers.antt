@@ -1,4 +1,4 @@
-use Rattle.std.proofs.Common.{◌≡◌, ℕ, List, take, length, replicate, sym, ◌∙◌, ap}
+use Rattle.std.proofs.Common.{◌≡◌, take, length, replicate, sym, ◌∙◌, ap}
 use Rattle.std.proofs.lemmas.List.{take-replicate}
 use Rattle.slot_disk.specs.Ranges.{overwrite}
 use Rattle.slot_disk.specs.TornImage.{torn_over}

@@ -1,15 +1,13 @@
-use Rattle.std.proofs.Common.{◌≡◌, ◌≤◌, ◌<◌, ◌+◌, ℕ, List, [], ◌∷◌, ◌++◌, length, false, Bool, Some, Option, refl, sym, ◌∙◌, ap, subst, arith, rules}
-use Rattle.std.proofs.lemmas.Bool.{or_parts}
+use Rattle.std.proofs.Common.{◌≡◌, ◌<◌, List, [], ◌∷◌, ◌++◌, length, sym, ◌∙◌, ap, subst, arith}
 use Rattle.std.proofs.lemmas.Bool.Decides.{nat_tests}
 use Rattle.std.proofs.lemmas.Grind.{common_steps}
 use Rattle.std.specs.Vec.{vec_capacity}
 use Rattle.slot_disk.specs.DiskState.{DiskState, IsDisk}
 use Rattle.slot_disk.specs.LogMedium.{log_medium}
-use Rattle.slot_disk.specs.Medium.{Medium, IsSettled, After, Becomes, EachImage}
-use Rattle.slot_disk.specs.Ranges.{SameOutside, Holds, overwrite}
+use Rattle.slot_disk.specs.Medium.{IsSettled, EachImage}
 use Rattle.slot_disk.specs.Stages.{stage, IsTorn}
 use Rattle.slot_disk.specs.declared.call.Call.{Call}
-use Rattle.slot_disk.specs.declared.call.Call.TheVariants.{Written, Synced}
+use Rattle.slot_disk.specs.declared.call.Call.TheVariants.{Synced}
 use Rattle.slot_disk.proofs.DiskSteps.{is_disk_more}
 use Rattle.slot_disk.proofs.Logging.{log_moved, synced_moments, synced_content, synced_settled}
 use Rattle.slot_disk.proofs.memory_disk.MemoryDiskDisk.sync.Goals as goal
@@ -26,7 +24,7 @@ returns-clause-settled c =
     let first : c.self.inside.first.items ≡ c.args.self.now.first = ap (λ (d : DiskState). d.first) c.self.view_is in
     let before : c.self.inside.calls.items ≡ c.args.self.now.calls = ap (λ (d : DiskState). d.calls) c.self.view_is in
     let pushed : c.push_reserved.new.self.items ≡ c.args.self.now.calls ++ Synced ∷ [] =
-      c.push_reserved.ensures.items ∙ ap (λ (l : List Call). l ++ Synced ∷ []) before in
+    c.push_reserved.ensures.items ∙ ap (λ (l : List Call). l ++ Synced ∷ []) before in
     log_moved IsSettled _ _ _ _ first pushed (synced_settled c.args.self.now.first c.args.self.now.calls)
 
 pub returns-clause-content : goal.returns-clause-content
@@ -34,7 +32,7 @@ returns-clause-content c =
     let first : c.self.inside.first.items ≡ c.args.self.now.first = ap (λ (d : DiskState). d.first) c.self.view_is in
     let before : c.self.inside.calls.items ≡ c.args.self.now.calls = ap (λ (d : DiskState). d.calls) c.self.view_is in
     let pushed : c.push_reserved.new.self.items ≡ c.args.self.now.calls ++ Synced ∷ [] =
-      c.push_reserved.ensures.items ∙ ap (λ (l : List Call). l ++ Synced ∷ []) before in
+    c.push_reserved.ensures.items ∙ ap (λ (l : List Call). l ++ Synced ∷ []) before in
     log_moved (λ m. m.content ≡ (log_medium c.args.self.now.first c.args.self.now.calls).content) _ _ _ _ first pushed (synced_content c.args.self.now.first c.args.self.now.calls)
 
 pub returns-clause-moments : goal.returns-clause-moments
@@ -42,6 +40,6 @@ returns-clause-moments c =
     let first : c.self.inside.first.items ≡ c.args.self.now.first = ap (λ (d : DiskState). d.first) c.self.view_is in
     let before : c.self.inside.calls.items ≡ c.args.self.now.calls = ap (λ (d : DiskState). d.calls) c.self.view_is in
     let pushed : c.push_reserved.new.self.items ≡ c.args.self.now.calls ++ Synced ∷ [] =
-      c.push_reserved.ensures.items ∙ ap (λ (l : List Call). l ++ Synced ∷ []) before in
+    c.push_reserved.ensures.items ∙ ap (λ (l : List Call). l ++ Synced ∷ []) before in
     log_moved (λ m. EachImage (log_medium c.args.self.now.first c.args.self.now.calls) m (IsTorn (stage c.args.self.now.first c.args.self.now.calls))) _ _ _ _ first pushed
     (synced_moments c.args.self.now.first c.args.self.now.calls)
