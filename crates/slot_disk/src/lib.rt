@@ -16,6 +16,7 @@ mod memory_sink;
 mod memory_source;
 mod sink;
 mod source;
+mod steps;
 mod streams;
 
 pub use cell::{Cell, read_cell, replace_cell, settle};
@@ -29,6 +30,7 @@ pub use memory_sink::MemorySink;
 pub use memory_source::MemorySource;
 pub use sink::Sink;
 pub use source::Source;
+pub use steps::Steps;
 pub use streams::{StreamEntropy, StreamSink, StreamSource};
 
 #[cfg(test)]
