@@ -1,0 +1,10 @@
+pub mod BitLemmas
+pub mod BoxLemmas
+pub mod ByteLemmas
+pub mod CallLemmas
+pub mod GroupLemmas
+pub mod KeyLemmas
+pub mod LawLemmas
+pub mod PlaceLemmas
+pub mod RoundLemmas
+pub mod Vectors

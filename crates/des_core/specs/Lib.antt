@@ -1,0 +1,11 @@
+pub mod Bits
+pub mod Des
+pub mod Modes
+pub mod Numbers
+pub mod Schedules
+pub mod Tables
+pub mod TripleDes
+pub use Rattle.key_cells.specs.Bench
+pub use Rattle.key_cells.specs.Lease
+pub use Rattle.key_cells.specs.Schedule
+pub use Rattle.key_cells.specs.Secret
