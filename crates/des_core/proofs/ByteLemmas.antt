@@ -1,12 +1,11 @@
 -- The bits of bytes: of a word's big-endian bytes, and back to the bytes.
-use Rattle.std.proofs.Common.{◌≡◌, ℕ, zero, suc, ◌+◌, ◌-◌, ◌*◌, ◌/◌, ◌%◌, ◌^◌, ◌<◌, ◌≤◌, List, [], ◌∷◌, ◌++◌, length, take, drop, map, get_or, refl, sym, ap, ◌∙◌, arith}
+use Rattle.std.proofs.Common.{◌≡◌, ℕ, zero, suc, ◌+◌, ◌*◌, ◌/◌, ◌%◌, ◌^◌, ◌<◌, List, [], ◌∷◌, ◌++◌, length, take, drop, map, get_or, refl, sym, ap, ◌∙◌, arith}
 use Rattle.std.specs.List.{All}
 use Rattle.std.specs.Int.{w64, bit_at, byte_at, bytes_high_first, from_be_bytes, to_be_bytes}
 use Rattle.std.proofs.Math.Nat.{pow-suc}
 use Rattle.std.proofs.lemmas.List.{append-nil, length-append}
 use Rattle.std.proofs.lemmas.Nat.{be_bytes_8, mod-pow-add, pow-add}
-use Rattle.std.proofs.lemmas.Nat.Bits.{bit_at-lt}
-use Rattle.des_core.specs.Bits.{bits, byte_bits, number, pieces, to_bytes, AreBytes, AreBits}
+use Rattle.des_core.specs.Bits.{bits, byte_bits, number, pieces, to_bytes}
 use Rattle.des_core.proofs.BitLemmas.{length-bits, bits-mod, bits-split, take-add, drop-add}
 
 -- ---- words

@@ -3,9 +3,8 @@ use Rattle.std.proofs.Common.{◌≡◌, ℕ, zero, suc, ◌+◌, ◌-◌, ◌*�
 use Rattle.std.specs.Int.{bit_at}
 use Rattle.std.proofs.lemmas.Bool.{cases_lt}
 use Rattle.std.specs.List.{flat_map, range_with_len}
-use Rattle.std.proofs.lemmas.List.{append-nil, append_assoc, length-append, length-map, length-take, length-drop, take-map, take_all, take_more, take_more_set, get_or-drop, get_or_append_left, get_or-append_right}
+use Rattle.std.proofs.lemmas.List.{append-nil, length-append, length-take, length-drop, take-map, take_all, take_more, take_more_set, get_or-drop, get_or_append_left, get_or-append_right}
 use Rattle.std.proofs.lemmas.List.FromFn.{get_or-map-range_with_len}
-use lib.ListN.{get_or-map}
 use Rattle.des_core.specs.Bits.{bits, byte_bits, pieces}
 use Rattle.des_core.specs.Des.{places, shifted, key_schedule, round_keys}
 use Rattle.des_core.specs.Numbers.{are_numbers, key_numbers}
@@ -55,13 +54,13 @@ schedule-places (n ∷ ns) c d key p q =
     let long : length (c' ++ d') ≡ 56 = length-append c' d' ∙ omega (arith, length-shifted n c, length-shifted n d) in
     let numbers : IsTrue (are_numbers (length (c' ++ d')) key_choice_2) = subst (λ w. IsTrue (are_numbers w key_choice_2)) (sym long) refl in
     let halves : shifted n (places c key) ++ shifted n (places d key) ≡ places (c' ++ d') key
-               = ap (λ xs. xs ++ shifted n (places d key)) (shifted-places n c key) ∙ ap (λ xs. places c' key ++ xs) (shifted-places n d key) ∙ sym (places-append c' d' key) in
+    = ap (λ xs. xs ++ shifted n (places d key)) (shifted-places n c key) ∙ ap (λ xs. places c' key ++ xs) (shifted-places n d key) ∙ sym (places-append c' d' key) in
     let first : places key_choice_2 (shifted n (places c key) ++ shifted n (places d key)) ≡ places (places key_choice_2 (c' ++ d')) key
-              = ap (places key_choice_2) halves ∙ places-places key_choice_2 (c' ++ d') key numbers in
+    = ap (places key_choice_2) halves ∙ places-places key_choice_2 (c' ++ d') key numbers in
     let rest : flat_map (λ k. k) (key_schedule ns (shifted n (places c key)) (shifted n (places d key))) ≡ places (flat_map (λ k. k) (key_schedule ns c' d')) key
-             = ap (λ xs. flat_map (λ k. k) (key_schedule ns xs (shifted n (places d key)))) (shifted-places n c key)
-               ∙ ap (λ xs. flat_map (λ k. k) (key_schedule ns (places c' key) xs)) (shifted-places n d key)
-               ∙ schedule-places ns c' d' key (length-shifted n c ∙ p) (length-shifted n d ∙ q) in
+    = ap (λ xs. flat_map (λ k. k) (key_schedule ns xs (shifted n (places d key)))) (shifted-places n c key)
+    ∙ ap (λ xs. flat_map (λ k. k) (key_schedule ns (places c' key) xs)) (shifted-places n d key)
+    ∙ schedule-places ns c' d' key (length-shifted n c ∙ p) (length-shifted n d ∙ q) in
     ap (λ xs. xs ++ flat_map (λ k. k) (key_schedule ns (shifted n (places c key)) (shifted n (places d key)))) first
     ∙ ap (λ xs. places (places key_choice_2 (c' ++ d')) key ++ xs) rest
     ∙ sym (places-append (places key_choice_2 (c' ++ d')) (flat_map (λ k. k) (key_schedule ns c' d')) key)
@@ -99,17 +98,18 @@ pieces-round_keys key = pieces-schedule shifts (take 28 (places key_choice_1 key
 pub get_or-byte_bits : (bs : List ℕ) (i : ℕ) → i < 8 * length bs → slice_index (byte_bits bs) i ≡ bit_at (get_or bs (i / 8) 0) (7 - i % 8)
 unfolding byte_bits
 get_or-byte_bits [] i h = absurd (omega arith)
-get_or-byte_bits (b ∷ bs) i h = elim (cases_lt i 8)
-    [ inl here ↦
+get_or-byte_bits (b ∷ bs) i h = elim (cases_lt i 8) [
+  | inl here ↦
       let first : i / 8 ≡ 0 = omega arith in
       let at : 8 - 1 - i ≡ 7 - i % 8 = omega arith in
       let within : i < length (bits 8 b) = omega (arith, length-bits 8 b) in
       get_or_append_left (bits 8 b) (byte_bits bs) 0 i within ∙ get_or-bits 8 b i 0 here ∙ ap (bit_at b) at ∙ sym (ap (λ n. bit_at (get_or (b ∷ bs) n 0) (7 - i % 8)) first)
-    | inr later ↦
+  | inr later ↦
       let byte : i / 8 ≡ suc ((i - 8) / 8) = omega arith in
       let bit : (i - 8) % 8 ≡ i % 8 = omega arith in
       get_or-append_right (bits 8 b) (byte_bits bs) 8 i 0 (length-bits 8 b) later ∙ get_or-byte_bits bs (i - 8) (omega arith)
-      ∙ ap (λ n. bit_at (get_or bs ((i - 8) / 8) 0) (7 - n)) bit ∙ sym (ap (λ n. bit_at (get_or (b ∷ bs) n 0) (7 - i % 8)) byte) ]
+      ∙ ap (λ n. bit_at (get_or bs ((i - 8) / 8) 0) (7 - n)) bit ∙ sym (ap (λ n. bit_at (get_or (b ∷ bs) n 0) (7 - i % 8)) byte)
+]
 
 -- ---- the code's numbers
 
@@ -186,5 +186,5 @@ schedule-done out key at e long before =
     let row = places key_numbers key in
     let size : length row ≡ 768 = length-places key_numbers key ∙ length-key_numbers in
     let whole : group_bits out.groups ≡ row
-              = sym (ap group_bits (take_all at out.groups (omega arith))) ∙ before ∙ take_all (6 * at) row (omega arith) in
+    = sym (ap group_bits (take_all at out.groups (omega arith))) ∙ before ∙ take_all (6 * at) row (omega arith) in
     ap (pieces 16 48) (whole ∙ sym (round_keys-row key)) ∙ pieces-round_keys key

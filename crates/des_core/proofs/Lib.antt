@@ -7,4 +7,5 @@ pub mod KeyLemmas
 pub mod LawLemmas
 pub mod PlaceLemmas
 pub mod RoundLemmas
+pub mod ValueLemmas
 pub mod Vectors

@@ -1,5 +1,5 @@
 -- The rounds over words: one more, and all sixteen; and the halves of a word.
-use Rattle.std.proofs.Common.{◌≡◌, ℕ, zero, suc, ◌+◌, ◌-◌, ◌*◌, ◌/◌, ◌%◌, ◌^◌, ◌<◌, ◌≤◌, Bool, List, [], ◌∷◌, ◌++◌, length, take, drop, get_or, bit_and, bit_or, bit_xor, refl, sym, ap, ◌∙◌, arith}
+use Rattle.std.proofs.Common.{◌≡◌, ℕ, ◌+◌, ◌*◌, ◌/◌, ◌%◌, ◌^◌, ◌<◌, List, [], length, take, drop, get_or, bit_and, bit_or, bit_xor, sym, ap, ◌∙◌, arith}
 use Rattle.std.proofs.lemmas.List.{drop_all, drop_more}
 use Rattle.std.proofs.lemmas.Nat.{and_mask}
 use Rattle.des_core.specs.Bits.{bits, xor}
@@ -14,7 +14,7 @@ pub rounds-more : (keys : List (List ℕ)) (key mixed left right i : ℕ) (out :
 unfolding rounds
 rounds-more keys key mixed left right i out h k m before =
     let next : bits 32 (bit_xor left mixed) ≡ xor (bits 32 left) (f (bits 32 right) (get_or keys i []))
-             = bits-xor 32 left mixed ∙ ap (xor (bits 32 left)) (m ∙ ap (f (bits 32 right)) k) in
+    = bits-xor 32 left mixed ∙ ap (xor (bits 32 left)) (m ∙ ap (f (bits 32 right)) k) in
     ap (rounds (drop (i + 1) keys) (bits 32 right)) next
     ∙ sym (ap (λ ks. rounds ks (bits 32 left) (bits 32 right)) (drop_more keys i [] h))
     ∙ before

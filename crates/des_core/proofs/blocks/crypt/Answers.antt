@@ -1,4 +1,4 @@
-use Rattle.std.proofs.Common.{◌≡◌, ℕ, ◌<◌, length, get_or, ap, sym, ◌∙◌, rules, take, drop, bit_and}
+use Rattle.std.proofs.Common.{◌≡◌, ℕ, ◌<◌, length, get_or, ap, ◌∙◌, rules, take, drop, bit_and}
 use Rattle.des_core.specs.Bits.{bits, byte_bits}
 use Rattle.des_core.specs.Des.{crypt, places, rounds}
 use Rattle.des_core.specs.Schedules.{keys_of, ordered}
@@ -20,5 +20,5 @@ returns-clause-value c =
     let keys = ordered c.args.reversed (keys_of c.args.keys.now) in
     ap byte_bits c.to_be_bytes.ensures ∙ byte_bits-to_be_bytes c.permute.result ∙ c.permute.ensures.value
     ∙ ap (places final_permutation) (c.rounds-mixed.ensures
-      ∙ ap (λ l. rounds keys l (bits 32 (bit_and c.permute-entered.result 0xFFFF_FFFF))) (left-half c.permute-entered.result ∙ ap (take 32) entered)
-      ∙ ap (rounds keys (take 32 (places initial_permutation (byte_bits c.args.block.now)))) (right-half c.permute-entered.result ∙ ap (drop 32) entered))
+    ∙ ap (λ l. rounds keys l (bits 32 (bit_and c.permute-entered.result 0xFFFF_FFFF))) (left-half c.permute-entered.result ∙ ap (take 32) entered)
+    ∙ ap (rounds keys (take 32 (places initial_permutation (byte_bits c.args.block.now)))) (right-half c.permute-entered.result ∙ ap (drop 32) entered))

@@ -1,4 +1,4 @@
-use Rattle.std.proofs.Common.{◌≡◌, ◌<◌, ◌^◌, ◌∙◌, length, arith, bit_xor}
+use Rattle.std.proofs.Common.{arith}
 use Rattle.std.proofs.lemmas.Nat.{xor_lt}
 use Rattle.des_core.specs.Schedules.{keys_of, ordered}
 use Rattle.des_core.proofs.GroupLemmas.{length-ordered}

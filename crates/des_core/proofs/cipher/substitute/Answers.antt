@@ -1,7 +1,5 @@
-use Rattle.std.proofs.Common.{◌≡◌, ◌+◌, ◌*◌, ◌≤◌, ap, sym, ◌∙◌, refl, arith, lit<}
-use Rattle.std.proofs.lemmas.List.{append-nil}
+use Rattle.std.proofs.Common.{◌≡◌, ◌+◌, ◌*◌, refl, arith, lit<}
 use Rattle.des_core.specs.Bits.{bits}
-use Rattle.des_core.specs.Des.{substitute}
 use Rattle.des_core.proofs.BitLemmas.{shl_or-lt}
 use Rattle.des_core.proofs.BoxLemmas.{substitute-more, substitute-done}
 use Rattle.des_core.proofs.cipher.substitute.Goals as goal
@@ -13,8 +11,8 @@ loop-j-init c = record { small = lit< tt; value = refl }
 pub loop-j-preserved : goal.loop-j-preserved
 loop-j-preserved c = record {
   small =
-    let wider : 4 * c.loop-j.j + 4 ≡ 4 * (c.loop-j.j + 1) = omega arith in
-    rw (← wider) (shl_or-lt (4 * c.loop-j.j) 4 c.loop-j.out c.look_up.result c.loop-j.invariant.small c.look_up.ensures.small (omega arith));
+      let wider : 4 * c.loop-j.j + 4 ≡ 4 * (c.loop-j.j + 1) = omega arith in
+      rw (← wider) (shl_or-lt (4 * c.loop-j.j) 4 c.loop-j.out c.look_up.result c.loop-j.invariant.small c.look_up.ensures.small (omega arith));
   value = substitute-more c.args.word c.loop-j.out c.look_up.result c.loop-j.j (omega arith) c.loop-j.invariant.small c.look_up.ensures.small c.look_up.ensures.value c.loop-j.invariant.value;
 }
 

@@ -1,4 +1,4 @@
-use Rattle.std.proofs.Common.{◌≡◌, ◌-◌, ◌<◌, ap, ◌∙◌, refl, arith, lit<}
+use Rattle.std.proofs.Common.{◌-◌, ap, ◌∙◌, refl, arith, lit<}
 use Rattle.std.specs.Prelude.{slice_index}
 use Rattle.key_cells.specs.Secret.{bytes_of}
 use Rattle.des_core.specs.Bits.{bits, byte_bits}

@@ -1,4 +1,4 @@
-use Rattle.std.proofs.Common.{◌<◌, ◌≤◌, ◌%◌, ap, sym, subst, arith}
+use Rattle.std.proofs.Common.{◌<◌, ◌≤◌, ◌%◌, sym, subst, arith}
 use Rattle.des_core.proofs.KeyLemmas.{choice-within, half-below, key_number-within, number_at-is}
 use Rattle.des_core.proofs.key_schedule.key_number.Goals as goal
 

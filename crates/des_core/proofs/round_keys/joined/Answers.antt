@@ -1,4 +1,4 @@
-use Rattle.std.proofs.Common.{◌<◌, length, arith, sym, refl, lit<}
+use Rattle.std.proofs.Common.{arith, sym, refl, lit<}
 use Rattle.des_core.specs.Bits.{bits}
 use Rattle.des_core.proofs.GroupLemmas.{group_bits-none, joined-more, joined-small}
 use Rattle.des_core.proofs.round_keys.joined.Goals as goal

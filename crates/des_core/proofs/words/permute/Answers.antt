@@ -1,4 +1,4 @@
-use Rattle.std.proofs.Common.{◌<◌, ◌≤◌, get_or, length, arith, sym, refl, lit<}
+use Rattle.std.proofs.Common.{◌<◌, length, arith, sym, refl, lit<}
 use Rattle.des_core.proofs.PlaceLemmas.{number-at, permute-more, permute-small, places-none}
 use Rattle.des_core.specs.Bits.{bits}
 use Rattle.des_core.proofs.words.permute.Goals as goal
