@@ -7,4 +7,7 @@ mod mixing;
 mod sealing;
 
 pub use halves::{Sealed, Under};
-pub use sealing::{seal, seal_is_one_to_one};
+pub use sealing::{seal, seal_is_one_to_one, unseal};
+
+#[cfg(test)]
+mod tests;

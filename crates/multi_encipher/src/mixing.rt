@@ -1,20 +1,21 @@
 //! Schedules of the parts of a key, each XORed with the control vector of a half.
-ghost use Rattle.std.specs.Prelude.{◌≡◌, ◌+◌, ◌*◌, ◌<◌, ℕ, List, slice_index, slice_set};
+ghost use Rattle.std.specs.Prelude.{◌≡◌, ◌+◌, ◌*◌, ◌<◌, ℕ, List, length, slice_index, slice_set};
 ghost use Rattle.key_cells.specs.Bench.{Bench};
 ghost use Rattle.key_cells.specs.Lease.{held, holding};
+ghost use Rattle.key_cells.specs.Secret.{bytes_of};
 ghost use Rattle.des_core.specs.Schedules.{IsOf, AreOf, schedule_at};
 ghost use Rattle.multi_encipher.specs.Parts.{parts_under};
 ghost use Rattle.multi_encipher.specs.Seals.{mixed_part};
 
-use des_core::schedule;
-use key_cells::{KeyPlace, Lease, MasterPlace, Secret};
-
 use crate::halves::Under;
+use des_core::schedule;
+use key_cells::{KeyPlace, Lease, MasterPlace, Schedule, Secret};
 
 /// One byte of the three parts in a row.
 fn part_byte(lease: &Lease, under: Under, at: usize) -> u8
     requires { at < 24 }
-    ensures { result ≡ slice_index (parts_under (held lease.now) under) at }
+    ensures value { result ≡ slice_index (parts_under (held lease.now) under) at }
+    ensures size { length (parts_under (held lease.now) under) ≡ 24 }
 {
     match under {
         Under::Current => lease.master(MasterPlace::Current)[at],
@@ -35,6 +36,15 @@ fn mix(lease: &Lease, under: Under, part: usize, vector: &[u8; 8], out: &mut [u8
     }
 }
 
+/// Puts the round keys of a key into one of three schedules.
+fn put_schedule(key: &Secret<'_, 8>, schedules: &mut [Schedule; 3], part: usize)
+    requires { part < 3 }
+    ensures made { IsOf (schedule_at schedules.new part) (bytes_of key.now) }
+    ensures others { schedules.new ≡ slice_set schedules.old part (schedule_at schedules.new part) }
+{
+    schedule(key, &mut schedules[part]);
+}
+
 /// Makes one of the three schedules.
 fn make_schedule(lease: &mut Lease, under: Under, part: usize, vector: &[u8; 8])
     requires { part < 3 }
@@ -45,7 +55,7 @@ fn make_schedule(lease: &mut Lease, under: Under, part: usize, vector: &[u8; 8])
     let mut mixed = [0; 8];
     mix(lease, under, part, vector, &mut mixed);
     let key = Secret::guard(&mut mixed);
-    schedule(&key, &mut lease.schedules_mut()[part]);
+    put_schedule(&key, lease.schedules_mut(), part);
 }
 
 /// Makes the three schedules under which a half with this vector is enciphered.
