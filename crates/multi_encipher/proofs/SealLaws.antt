@@ -1,13 +1,11 @@
 -- Sealing is one to one from the keys onto the halves.
-use Rattle.std.proofs.Common.{◌≡◌, ◌⊎◌, ℕ, ◌+◌, ◌-◌, ◌<◌, ◌≤◌, Bool, true, false, List, [], ◌∷◌, ◌++◌, length, get_or, take, drop, eqb, refl, sym, ap, ◌∙◌, subst, inl, inr, ⊎_elim, arith}
-use Rattle.std.specs.Prelude.{slice_range, replicate, if◌then◌else◌, ◌==◌}
-use Rattle.std.specs.List.{All}
-use Rattle.std.proofs.lemmas.Bool.{eq-eqb, ne_eqb, cases_eq}
+use Rattle.std.proofs.Common.{◌≡◌, ◌⊎◌, ℕ, ◌+◌, ◌-◌, ◌<◌, ◌≤◌, Bool, true, false, List, [], ◌++◌, length, get_or, take, drop, eqb, refl, sym, ap, ◌∙◌, subst, inl, inr, ⊎_elim, arith}
+use Rattle.std.specs.Prelude.{slice_range, replicate, if◌then◌else◌}
+use Rattle.std.proofs.lemmas.Bool.{eq-eqb, ne_eqb}
 use Rattle.std.proofs.lemmas.List.{append-nil, take-append-drop, take_all, take_at, drop_at, length-take, length-drop, length-append, length-replicate, get_or-replicate, take-take, drop-take, drop_all, ext_get_or, get_or_default}
 use Rattle.std.proofs.lemmas.List.Elements.{All-take, All-drop, All-append}
 use Rattle.cca_vectors.specs.Vectors.{left_of, right_of, form_of, single_length, length_of, IsZero}
 use Rattle.des_core.specs.Bits.{AreBytes}
-use Rattle.des_core.specs.TripleDes.{ede, ded}
 use Rattle.des_core.proofs.ValueLemmas.{bytes-ede, bytes-ded, ded-ede, ede-ded}
 use Rattle.multi_encipher.specs.declared.halves.Sealed.{Sealed}
 use Rattle.multi_encipher.specs.Parts.{key_in, with_zeros}
@@ -77,7 +75,7 @@ module _ (parts vector : List ℕ) where
 
 -- ---- pieces of bytes
 
-all_zeros : (n : ℕ) → AreBytes n (replicate n 0)
+pub all_zeros : (n : ℕ) → AreBytes n (replicate n 0)
 all_zeros n = record {
   size = length-replicate n 0;
   each = λ k d within. let inside : k < n = omega (arith, length-replicate {A = ℕ} n 0) in
@@ -108,13 +106,18 @@ same_halves sealed left right lefts rights =
     let e : halves_of left right ≡ halves_of sealed.left sealed.right = cc in
     e
 
+zeros_from : (bytes : List ℕ) → length bytes ≡ 8 → IsZero bytes → bytes ≡ replicate 8 0
+zeros_from bytes long zero =
+    ext_get_or 0 bytes (replicate 8 0) (long ∙ sym (length-replicate {A = ℕ} 8 0))
+    (λ i within. zero i 0 within ∙ sym (get_or-replicate 8 i 0 0 (omega arith)))
+
 -- ---- the law
 
 module _ (parts vector : List ℕ) where
   one : length_of vector ≡ 8 → SealIsOneToOne parts vector
   one single = record {
     sealed = λ key bytes. subst (IsSealed vector) (sym (seal-single parts vector key single))
-        (record { left = bytes-sealed_half parts (left_of vector) (slice_range key 0 8); right = all_zeros 8; single = λ _. refl });
+        (record { left = bytes-sealed_half parts (left_of vector) (slice_range key 0 8); right = all_zeros 8; single = λ _ k d within. get_or-replicate 8 k 0 d within });
     undone = λ key bytes.
         ap (unseal parts vector) (seal-single parts vector key single)
         ∙ unseal-single parts vector (halves_of (sealed_half parts (left_of vector) (slice_range key 0 8)) (replicate 8 0)) single
@@ -128,7 +131,7 @@ module _ (parts vector : List ℕ) where
         ∙ same_halves sealed (sealed_half parts (left_of vector) (slice_range (opened_half parts (left_of vector) sealed.left) 0 8)) (replicate 8 0)
         (ap (sealed_half parts (left_of vector)) (whole (opened_half parts (left_of vector) sealed.left) (bytes-opened_half parts (left_of vector) sealed.left))
         ∙ sealed_half-opened_half parts (left_of vector) sealed.left halves.left)
-        (sym (halves.single single));
+        (sym (zeros_from sealed.right halves.right.size (halves.single single)));
   }
     where
       eight : (key : List ℕ) → IsKey vector key → AreBytes 8 key
@@ -237,10 +240,7 @@ double_put parts vector old place right sealed double long is right_is =
 pub single_sealed : (vector : List ℕ) (sealed : Sealed) → length_of vector ≡ 8 → AreBytes 8 sealed.left → length sealed.right ≡ 8
     → (length_of vector ≡ 8 → IsZero sealed.right) → IsSealed vector sealed
 single_sealed vector sealed single left right_long zero =
-    let zeros : sealed.right ≡ replicate 8 0 =
-    ext_get_or 0 sealed.right (replicate 8 0) (right_long ∙ sym (length-replicate {A = ℕ} 8 0))
-    (λ i within. zero single i 0 within ∙ sym (get_or-replicate 8 i 0 0 (omega arith))) in
-    record { left = left; right = subst (AreBytes 8) (sym zeros) (all_zeros 8); single = λ _. zeros }
+    record { left = left; right = subst (AreBytes 8) (sym (zeros_from sealed.right right_long (zero single))) (all_zeros 8); single = zero }
 
 pub double_sealed : (vector : List ℕ) (sealed : Sealed) → length_of vector ≡ 16 → AreBytes 8 sealed.left → AreBytes 8 sealed.right → IsSealed vector sealed
 double_sealed vector sealed double left right = record { left = left; right = right; single = λ single. absurd (omega arith) }
@@ -248,3 +248,10 @@ double_sealed vector sealed double left right = record { left = left; right = ri
 -- bytes of an array
 pub bytes_from : (n : ℕ) (bytes : List ℕ) → length bytes ≡ n → ((k : ℕ) → get_or bytes k 0 < 256) → AreBytes n bytes
 bytes_from n bytes long fits = record { size = long; each = λ k d within. subst (λ b. b < 256) (get_or_default bytes k 0 d within) (fits k) }
+
+-- halves as they are made
+pub single_made : (vector left : List ℕ) → AreBytes 8 left → IsSealed vector (halves_of left (replicate 8 0))
+single_made vector left bytes = record { left = bytes; right = all_zeros 8; single = λ _ k d within. get_or-replicate 8 k 0 d within }
+
+pub double_made : (vector left right : List ℕ) → length_of vector ≡ 16 → AreBytes 8 left → AreBytes 8 right → IsSealed vector (halves_of left right)
+double_made vector left right double lefts rights = record { left = lefts; right = rights; single = λ single. absurd (omega arith) }

@@ -1,7 +1,7 @@
 -- Multiple encipherment: each half of a key is enciphered by itself with triple DES, under three parts of 8
 -- bytes that are each XORed with the control vector of that half. Three parts are one list of 24 bytes.
 use Rattle.std.specs.Prelude.{◌≡◌, ℕ, ◌+◌, ◌*◌, List, [], ◌++◌, replicate, slice_range, ◌==◌, if◌then◌else◌}
-use Rattle.cca_vectors.specs.Vectors.{left_of, right_of, length_of}
+use Rattle.cca_vectors.specs.Vectors.{left_of, right_of, length_of, IsZero}
 use Rattle.des_core.specs.Bits.{xor, AreBytes}
 use Rattle.des_core.specs.TripleDes.{ede, ded}
 use Rattle.multi_encipher.specs.declared.halves.Sealed.{Sealed}
@@ -38,7 +38,7 @@ IsKey vector key = AreBytes (length_of vector) key
 pub record IsSealed (vector : List ℕ) (sealed : Sealed) : Type 0 where
   pub left : AreBytes 8 sealed.left
   pub right : AreBytes 8 sealed.right
-  pub single : length_of vector ≡ 8 → sealed.right ≡ replicate 8 0
+  pub single : length_of vector ≡ 8 → IsZero sealed.right
 
 -- under given parts and vector, sealing is one to one from the keys onto the halves
 pub record SealIsOneToOne (parts vector : List ℕ) : Type 0 where

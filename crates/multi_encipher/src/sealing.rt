@@ -6,7 +6,7 @@ ghost use Rattle.key_cells.specs.Secret.{bytes_of};
 ghost use Rattle.cca_vectors.specs.Vectors.{length_of, IsZero};
 ghost use Rattle.des_core.specs.Bits.{AreBytes};
 ghost use Rattle.multi_encipher.specs.Parts.{parts_under, IsElsewhere, key_in, with_zeros};
-ghost use Rattle.multi_encipher.specs.Seals.{SealIsOneToOne, opened_half, sealed_half};
+ghost use Rattle.multi_encipher.specs.Seals.{IsSealed, SealIsOneToOne, opened_half, sealed_half};
 ghost use Rattle.multi_encipher.specs.Seals as seals;
 
 use crate::halves::{Sealed, Under};
@@ -82,13 +82,16 @@ fn put_deciphered_half(
 /// key is zero. Only the schedules of the lease change.
 pub fn seal(lease: &mut Lease, under: Under, vector: &Vector) -> Sealed
     ensures sealed { result ≡ seals.seal (parts_under (held lease.old) under) vector.now (key_in vector.now (held lease.old).key) }
+    ensures halves { IsSealed vector.now result }
     ensures stays { lease.new ≡ holding lease.old (record (held lease.old) { schedules = (held lease.new).schedules }) }
 {
-    let left = enciphered_half(lease, under, &vector.left(), LEFT);
+    let left_vector = vector.left();
+    let right_vector = vector.right();
+    let left = enciphered_half(lease, under, &left_vector, LEFT);
     let right = if vector.length() == 8 {
         [0; 8]
     } else {
-        enciphered_half(lease, under, &vector.right(), RIGHT)
+        enciphered_half(lease, under, &right_vector, RIGHT)
     };
     Sealed { left, right }
 }
@@ -103,11 +106,13 @@ pub fn unseal(lease: &mut Lease, under: Under, vector: &Vector, sealed: &Sealed,
     ensures sealed { seals.seal (parts_under (held lease.old) under) vector.now (key_in vector.now (key_of (held lease.new) into)) ≡ sealed.now }
     ensures stays { lease.new ≡ holding lease.old (record (with_key (held lease.old) into (key_of (held lease.new) into)) { schedules = (held lease.new).schedules }) }
 {
-    put_deciphered_half(lease, under, &vector.left(), &sealed.left, into, LEFT);
+    let left_vector = vector.left();
+    let right_vector = vector.right();
+    put_deciphered_half(lease, under, &left_vector, &sealed.left, into, LEFT);
     if vector.length() == 8 {
         put_zeros(lease.key_mut(into));
     } else {
-        put_deciphered_half(lease, under, &vector.right(), &sealed.right, into, RIGHT);
+        put_deciphered_half(lease, under, &right_vector, &sealed.right, into, RIGHT);
     }
 }
 

@@ -1,3 +1,7 @@
+ghost use Rattle.std.specs.Prelude.{◌≡◌};
+ghost use Rattle.cca_vectors.specs.Vectors.{length_of, IsZero};
+ghost use Rattle.multi_encipher.specs.Parts.{IsElsewhere};
+
 use super::*;
 use cca_vectors::{Vector, vector_of};
 use key_cells::{KeyPlace, Lease, MasterPlace, Workbench};
@@ -29,7 +33,10 @@ fn put_master(lease: &mut Lease, third: &[u8; 8]) {
 }
 
 /// Puts the key back into a place that holds other bytes, and looks at it there.
-fn comes_back(rt: &impl Abort, lease: &mut Lease, under: Under, vector: &Vector, sealed: &Sealed) {
+fn comes_back(rt: &impl Abort, lease: &mut Lease, under: Under, vector: &Vector, sealed: &Sealed)
+    requires elsewhere { IsElsewhere under KeyPlace.Second }
+    requires single { length_of vector.now ≡ 8 → IsZero sealed.now.right }
+{
     *lease.key_mut(KeyPlace::Second) = [0xff; 16];
     unseal(lease, under, vector, sealed, KeyPlace::Second);
     assert_eq!(rt; *lease.key(KeyPlace::Second), [0; 16]);

@@ -1,10 +1,9 @@
-use Rattle.std.proofs.Common.{◌≡◌, ◌+◌, ◌++◌, List, ℕ, length, take, drop, sym, ap, subst, ◌∙◌, arith, rules}
+use Rattle.std.proofs.Common.{◌≡◌, ◌+◌, ◌++◌, List, ℕ, length, take, drop, sym, ap, subst, ◌∙◌, arith}
 use Rattle.std.proofs.lemmas.List.{take_all}
-use Rattle.key_cells.specs.Bench.{key_of, with_key}
+use Rattle.key_cells.specs.Bench.{key_of}
 use Rattle.key_cells.specs.Lease.{held}
 use Rattle.key_cells.specs.Secret.{bytes_of}
 use Rattle.des_core.specs.Schedules.{AreOf}
-use Rattle.des_core.specs.TripleDes.{ded}
 use Rattle.multi_encipher.specs.Parts.{parts_under}
 use Rattle.multi_encipher.specs.Seals.{mixed_part, opened_half}
 use Rattle.multi_encipher.proofs.BenchLemmas.{key_of-with_key, key_of-schedules}

@@ -1,6 +1,6 @@
-use Rattle.std.proofs.Common.{◌≡◌, List, ℕ, [], ◌+◌, ◌++◌, length, take, drop, ap, ◌∙◌, arith}
+use Rattle.std.proofs.Common.{◌≡◌, ◌++◌, length, take, drop, ap, ◌∙◌, arith}
 use Rattle.std.specs.Prelude.{replicate}
-use Rattle.std.proofs.lemmas.List.{append-nil, drop_all, length-take, length-drop}
+use Rattle.std.proofs.lemmas.List.{drop_all, length-take, length-drop}
 use Rattle.multi_encipher.proofs.sealing.put_zeros.Goals as goal
 
 pub returns : goal.returns

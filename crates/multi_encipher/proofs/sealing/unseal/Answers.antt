@@ -1,11 +1,11 @@
 -- The key in the place is the one of the definition, and it is sealed again to the same halves.
-use Rattle.std.proofs.Common.{◌≡◌, ◌+◌, ◌<◌, ◌++◌, List, ℕ, length, get_or, take, drop, sym, ap, ◌∙◌, rules}
+use Rattle.std.proofs.Common.{◌≡◌, ◌+◌, ◌++◌, List, ℕ, length, take, drop, sym, ap, ◌∙◌, rules}
 use Rattle.std.specs.Prelude.{replicate}
-use Rattle.cca_vectors.specs.Vectors.{left_of, right_of, length_of}
+use Rattle.cca_vectors.specs.Vectors.{length_of}
 use Rattle.key_cells.specs.Bench.{key_of, with_key}
 use Rattle.key_cells.specs.Lease.{held}
 use Rattle.multi_encipher.specs.Parts.{parts_under}
-use Rattle.multi_encipher.specs.Seals.{opened_half, IsSealed}
+use Rattle.multi_encipher.specs.Seals.{opened_half}
 use Rattle.multi_encipher.proofs.BenchLemmas.{key_of-with_key, parts-elsewhere}
 use Rattle.multi_encipher.proofs.SealLaws.{double_put, double_unless_single, double_sealed, sealed_again, single_put, single_sealed}
 use Rattle.multi_encipher.proofs.sealing.unseal.Goals as goal
@@ -19,7 +19,7 @@ returns-then-length-eq8-clause-key c =
     ∙ c.put_zeros.ensures
     ∙ ap (λ place. take 8 place ++ replicate 8 0)
     (c.key_mut.ensures.value ∙ c.put_deciphered_half.ensures.key
-    ∙ ap (λ half. take 0 old ++ opened_half parts half c.args.sealed.now.left ++ drop (0 + 8) old) c.left.ensures.left)
+    ∙ ap (λ half. take 0 old ++ opened_half parts half c.args.sealed.now.left ++ drop (0 + 8) old) c.left-left_vector.ensures.left)
     ∙ single_put parts c.args.vector.now old c.args.sealed.now single
 
 pub returns-then-length-eq8-clause-sealed : goal.returns-then-length-eq8-clause-sealed
@@ -42,12 +42,12 @@ returns-else-length-eq8-clause-key c =
     ∙ parts-elsewhere (held c.args.lease.now) c.args.under c.args.into place (held c.put_deciphered_half.new.lease).schedules c.requires.elsewhere in
     c.put_deciphered_half-else-length-eq8.ensures.key
     ∙ double_put parts c.args.vector.now old place
-    (opened_half (parts_under (held c.put_deciphered_half.new.lease) c.args.under) c.right.result c.args.sealed.now.right)
+    (opened_half (parts_under (held c.put_deciphered_half.new.lease) c.args.under) c.right-right_vector.result c.args.sealed.now.right)
     c.args.sealed.now double c.put_deciphered_half.ensures.size
     (c.put_deciphered_half.ensures.key
-    ∙ ap (λ half. take 0 old ++ opened_half parts half c.args.sealed.now.left ++ drop (0 + 8) old) c.left.ensures.left)
-    (ap (λ p. opened_half p c.right.result c.args.sealed.now.right) same_parts
-    ∙ ap (λ half. opened_half parts half c.args.sealed.now.right) c.right.ensures.right)
+    ∙ ap (λ half. take 0 old ++ opened_half parts half c.args.sealed.now.left ++ drop (0 + 8) old) c.left-left_vector.ensures.left)
+    (ap (λ p. opened_half p c.right-right_vector.result c.args.sealed.now.right) same_parts
+    ∙ ap (λ half. opened_half parts half c.args.sealed.now.right) c.right-right_vector.ensures.right)
 
 pub returns-else-length-eq8-clause-sealed : goal.returns-else-length-eq8-clause-sealed
 returns-else-length-eq8-clause-sealed c =
