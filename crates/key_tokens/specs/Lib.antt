@@ -8,3 +8,4 @@ pub use Rattle.cca_vectors.specs.Checks
 pub use Rattle.cca_vectors.specs.Classes
 pub use Rattle.cca_vectors.specs.VectorChecks
 pub use Rattle.cca_vectors.specs.Vectors
+pub use Rattle.multi_encipher.specs.Seals

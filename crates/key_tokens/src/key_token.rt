@@ -1,4 +1,5 @@
-use cca_vectors::{Vector, VectorFault};
+use cca_vectors::Vector;
+use multi_encipher::Sealed;
 use thiserror::Error;
 
 /// Under which key a token's key is enciphered.
@@ -16,13 +17,6 @@ pub enum Asked {
     Internal,
     External,
     Either,
-}
-
-/// The halves of a key, each enciphered by itself. The right half of a single-length key is zero.
-#[derive(Clone, Copy, Debug, PartialEq, Eq)]
-pub struct Sealed {
-    pub left: [u8; 8],
-    pub right: [u8; 8],
 }
 
 /// What a key token says.

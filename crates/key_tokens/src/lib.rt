@@ -4,10 +4,13 @@
 mod key_token;
 mod reading;
 mod validation;
+mod writing;
 
-pub use key_token::{Asked, Kind, Sealed, Token, TokenFault};
+pub use key_token::{Asked, Kind, Token, TokenFault};
+pub use multi_encipher::Sealed;
 pub use reading::read_token;
 pub use validation::tvv;
+pub use writing::write_token;
 
 #[cfg(test)]
 mod tests;
