@@ -1,3 +1,4 @@
+pub mod Denotes
 pub mod Tvv
 pub mod Kinds
 pub mod Parts

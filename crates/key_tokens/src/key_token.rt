@@ -19,6 +19,15 @@ pub enum Asked {
     Either,
 }
 
+/// Which master key an internal token's key is under.
+#[derive(Clone, Copy, Debug, PartialEq, Eq)]
+pub enum Age {
+    /// The one in the current register.
+    Current,
+    /// The one in the old register.
+    Old,
+}
+
 /// What a key token says.
 #[derive(Clone, Copy, Debug, PartialEq, Eq)]
 pub struct Token {
