@@ -1,0 +1,11 @@
+-- A session: the machine's replies to lines, one after another.
+use Rattle.std.specs.Prelude.{ℕ, List, [], ◌∷◌, ◌++◌}
+use Rattle.script_buffers.specs.Replies.{spelled}
+use Rattle.cca_machine.specs.State.{State}
+use Rattle.cca_machine.specs.Act.{step}
+
+-- the reply lines
+abbrev pub replies : State → List ℕ → List (List ℕ) → List ℕ
+replies s random [] = []
+replies s random (line ∷ lines) =
+    spelled (step s random line).reply ++ replies (step s random line).state (step s random line).random lines

@@ -1,0 +1,5 @@
+pub mod ListLemmas
+pub mod SendingLemmas
+pub mod ServingLemmas
+pub mod TokenReply
+pub mod PrefixLemmas

@@ -1,0 +1,168 @@
+//! CSNBKTP: the parts of a key token, or the first rule that it breaks.
+ghost use Rattle.std.specs.Prelude.{◌≡◌, ◌+◌, ◌<◌, ◌≤◌, ◌++◌, ◌==◌, [], length, IsTrue, codes, if◌then◌else◌, Ok};
+ghost use Rattle.std.specs.Str.{bytes_eq};
+ghost use Rattle.cca_machine.specs.Act.{performed, token_fields, kind_name, class_name, shown_vector};
+ghost use Rattle.cca_machine.specs.State.{blank_state};
+ghost use Rattle.cca_machine.proofs.TokenLaws.{csnbktp_request};
+ghost use Rattle.cca_vectors.specs.Vectors.{length_of};
+ghost use Rattle.hex.specs.Hex.{decode_sized};
+ghost use Rattle.key_tokens.specs.TokenChecks.{rule_of};
+ghost use Rattle.script_buffers.specs.Replies.{spelled, Done, hex_field, text_field, number_field};
+ghost use Rattle.verb_script.specs.Grammar.{is_hex};
+ghost use Rattle.verb_script.specs.Values.{hex_value};
+
+use crate::perform::replies::refuse;
+use cca_vectors::{Class, Vector};
+use key_tokens::{Asked, Kind, Token, TokenFault, read_token};
+use verb_script::ReplyBuffer;
+
+/// Writes the reply to CSNBKTP.
+pub(super) fn csnbktp(role: &[u8], token: &[u8], reply: &mut ReplyBuffer)
+    requires { IsTrue (is_hex 128 token.now) }
+    ensures { reply.new ≡ spelled (performed blank_state [] (csnbktp_request role.now token.now)).reply }
+{
+    if !is_held(role) {
+        return refuse(reply, 3, "-");
+    }
+    match read_token(&token_bytes(token), Asked::Either) {
+        Ok(token) => show_token(&token, reply),
+        Err(fault) => refuse(reply, rule_number(fault), "token"),
+    }
+}
+
+// Until roles are kept, DEFAULT alone is held.
+fn is_held(role: &[u8]) -> bool
+    ensures { result ≡ bytes_eq role.now (codes "DEFAULT") }
+{
+    role == b"DEFAULT".as_slice()
+}
+
+// The bytes of a key token that 128 hexadecimal digits spell.
+fn token_bytes(digits: &[u8]) -> [u8; 64]
+    requires { IsTrue (is_hex 128 digits.now) }
+    ensures { result ≡ hex_value digits.now }
+{
+    let mut bytes = [0; 64];
+    decode(digits, &mut bytes);
+    bytes
+}
+
+fn decode(digits: &[u8], bytes: &mut [u8])
+    requires digits { IsTrue (is_hex 128 digits.now) }
+    requires room { length bytes.old ≡ 64 }
+    ensures { bytes.new ≡ hex_value digits.now }
+{
+    hex::decode_to_slice(digits, bytes).unwrap();
+}
+
+fn rule_number(fault: TokenFault) -> u8
+    ensures rule { result ≡ rule_of fault }
+    ensures two_digits { result < 100 }
+{
+    match fault {
+        TokenFault::Kind => 9,
+        TokenFault::Tvv => 10,
+        TokenFault::Version => 11,
+        TokenFault::Flag => 12,
+        TokenFault::Reserved => 13,
+        TokenFault::Parity => 14,
+        TokenFault::AntiVariant => 15,
+        TokenFault::Form => 16,
+    }
+}
+
+fn name_of_kind(kind: Kind) -> &'static str
+    ensures name { result.now ≡ kind_name kind }
+    ensures size { length result.now ≤ 8 }
+{
+    match kind {
+        Kind::Internal => "internal",
+        Kind::External => "external",
+    }
+}
+
+fn name_of_class(class: Class) -> &'static str
+    ensures name { result.now ≡ class_name class }
+    ensures size { length result.now ≤ 8 }
+{
+    match class {
+        Class::Data => "DATA",
+        Class::Cipher => "CIPHER",
+        Class::Mac => "MAC",
+        Class::Exporter => "EXPORTER",
+        Class::Importer => "IMPORTER",
+        Class::Other => "OTHER",
+    }
+}
+
+// The vector of the left half, and that of the right half where the key has one.
+fn vector_bytes(vector: &Vector) -> [u8; 16]
+    ensures { result ≡ vector.now }
+{
+    let mut bytes = [0; 16];
+    join(&vector.left(), &vector.right(), &mut bytes);
+    bytes
+}
+
+fn join(left: &[u8], right: &[u8], bytes: &mut [u8])
+    requires left { length left.now ≡ 8 }
+    requires right { length right.now ≡ 8 }
+    requires room { length bytes.old ≡ 16 }
+    ensures { bytes.new ≡ left.now ++ right.now }
+{
+    let (front, back) = bytes.split_at_mut(8);
+    front.copy_from_slice(left);
+    back.copy_from_slice(right);
+}
+
+fn show_kind(kind: Kind, reply: &mut ReplyBuffer)
+    requires { length reply.old ≤ 1000 }
+    ensures bytes { reply.new ≡ reply.old ++ text_field (codes "kind") (kind_name kind) }
+    ensures size { length reply.new ≤ length reply.old + 14 }
+{
+    reply.text("kind", name_of_kind(kind).as_bytes());
+}
+
+fn show_class(class: Class, reply: &mut ReplyBuffer)
+    requires { length reply.old ≤ 1000 }
+    ensures bytes { reply.new ≡ reply.old ++ text_field (codes "class") (class_name class) }
+    ensures size { length reply.new ≤ length reply.old + 15 }
+{
+    reply.text("class", name_of_class(class).as_bytes());
+}
+
+#[tactic(auto, using(crate::proofs::TokenReply::decimal_size))]
+fn show_length(bytes: usize, reply: &mut ReplyBuffer)
+    requires room { length reply.old ≤ 1000 }
+    requires key { bytes ≤ 16 }
+    ensures bytes { reply.new ≡ reply.old ++ number_field (codes "length") bytes }
+    ensures size { length reply.new ≤ length reply.old + 25 }
+{
+    reply.number("length", bytes as u32);
+}
+
+fn show_vector(vector: &Vector, reply: &mut ReplyBuffer)
+    requires { length reply.old ≤ 1000 }
+    ensures bytes { reply.new ≡ reply.old ++ hex_field (codes "vector") (shown_vector vector.now) }
+    ensures size { length reply.new ≤ length reply.old + 40 }
+{
+    if vector.length() == 8 {
+        reply.hex("vector", &vector.left());
+    } else {
+        reply.hex("vector", &vector_bytes(vector));
+    }
+}
+
+/// The kind, class, length, control vector and pattern of a key token.
+fn show_token(token: &Token, reply: &mut ReplyBuffer)
+    ensures { reply.new ≡ spelled (Done (token_fields token.now)) }
+{
+    reply.clear();
+    reply.ok();
+    show_kind(token.kind, reply);
+    show_class(token.vector.class(), reply);
+    show_length(token.vector.length(), reply);
+    show_vector(&token.vector, reply);
+    reply.hex("pattern", &token.pattern);
+    reply.finish();
+}

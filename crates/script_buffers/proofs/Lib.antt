@@ -1,0 +1,6 @@
+pub mod AnswerLemmas
+pub mod FirstNewline
+pub mod GatheringLemmas
+pub mod LineLemmas
+pub mod PartLemmas
+pub mod ReplyLemmas

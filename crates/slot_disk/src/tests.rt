@@ -1,0 +1,3 @@
+//! What no clause says: that constructors succeed with ample memory, and that the adapters pass bytes.
+mod disks;
+mod streams;

@@ -1,0 +1,5 @@
+pub mod Grammar
+pub mod Parsed
+pub mod Requests
+pub mod Values
+pub mod Words

@@ -1,0 +1,19 @@
+-- A parsed request as the grammar's request.
+use Rattle.std.specs.Prelude.{[], ◌∷◌, Option, Some, None, Result, Ok, Err}
+use Rattle.verb_script.specs.Grammar.{Request, csnbktp}
+use Rattle.verb_script.specs.declared.request.FormFault.{FormFault}
+use Rattle.verb_script.specs.declared.request.Request.{Request as Parsed}
+use Rattle.verb_script.specs.declared.request.Request.TheVariants.{Csnbktp}
+
+abbrev pub seen : Parsed → Request
+seen (Csnbktp role token) = record { name = csnbktp; values = role.now ∷ token.now ∷ [] }
+
+-- what parsing answered
+abbrev pub answered : Result Parsed FormFault → Option Request
+answered (Ok request) = Some (seen request)
+answered (Err fault) = None
+
+-- what the parser of a row answered
+abbrev pub seen_option : Option Parsed → Option Request
+seen_option None = None
+seen_option (Some request) = Some (seen request)
