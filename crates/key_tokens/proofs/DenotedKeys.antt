@@ -19,7 +19,7 @@ use Rattle.key_tokens.specs.declared.key_token.Asked.TheVariants as asked
 use Rattle.key_tokens.specs.declared.key_token.Kind.{Kind}
 use Rattle.key_tokens.specs.declared.key_token.Kind.TheVariants as kind
 use Rattle.key_tokens.specs.declared.key_token.Token.{Token}
-use Rattle.key_tokens.specs.Denotes.{AreApart, ClearKey, Denoted, Denotes, DenotesOne, DenotesUnder, IsTokenOf, Master, Masters, clear_of, denoted, denoted_or, denoted_under, is_token}
+use Rattle.key_tokens.specs.Denotes.{HaveDistinctPatterns, ClearKey, Denoted, Denotes, DenotesOne, DenotesUnder, IsTokenOf, MasterKey, MasterKeys, clear_of, denoted, denoted_or, denoted_under, is_token}
 use Rattle.key_tokens.specs.Kinds.{IsAsked}
 use Rattle.key_tokens.specs.Layout.{IsToken, IsPatternFor}
 use Rattle.key_tokens.specs.Parts.{kind_of, pattern_of_token, sealed_of, token_of, vector_bytes_of}
@@ -109,8 +109,8 @@ module _ (bytes : List ℕ) (are_bytes : AreBytes 64 bytes) where
       token_from_none asks bytes are_bytes.size fits (none_from_test (first_failing (token_checks asks bytes)) test)
 
   -- a register whose pattern isn't the token's
-  passed : (register : Option Master) (age : Age) (other : Option Denoted)
-      → ((master : Master) → register ≡ Some master → pattern_of_token bytes ≢ master.pattern) → denoted_or register age bytes other ≡ other
+  passed : (register : Option MasterKey) (age : Age) (other : Option Denoted)
+      → ((master : MasterKey) → register ≡ Some master → pattern_of_token bytes ≢ master.pattern) → denoted_or register age bytes other ≡ other
   passed None age other apart = refl
   passed (Some master) age other apart =
       ap (λ t. if t then Some (denoted_as (clear_of master.key bytes) age) else other)
@@ -118,7 +118,7 @@ module _ (bytes : List ℕ) (are_bytes : AreBytes 64 bytes) where
       (λ same. apart master refl ((bytes_eq-Decides (pattern_of_token bytes) master.pattern).0 same)))
 
   -- the register whose pattern is the token's
-  found : (register : Option Master) (master : Master) (age : Age) (other : Option Denoted) → register ≡ Some master → pattern_of_token bytes ≡ master.pattern
+  found : (register : Option MasterKey) (master : MasterKey) (age : Age) (other : Option Denoted) → register ≡ Some master → pattern_of_token bytes ≡ master.pattern
       → denoted_or register age bytes other ≡ Some (denoted_as (clear_of master.key bytes) age)
   found register master age other is same =
       ap (λ o. denoted_or o age bytes other) is
@@ -126,8 +126,8 @@ module _ (bytes : List ℕ) (are_bytes : AreBytes 64 bytes) where
       ((bytes_eq-Decides (pattern_of_token bytes) master.pattern).1 same)
 
   -- where an answer comes from
-  from_register : (register : Option Master) (age : Age) (other : Option Denoted) (answer : Denoted) → denoted_or register age bytes other ≡ Some answer
-      → ((master : Master) × ((register ≡ Some master) × ((pattern_of_token bytes ≡ master.pattern) × (denoted_as (clear_of master.key bytes) age ≡ answer))))
+  from_register : (register : Option MasterKey) (age : Age) (other : Option Denoted) (answer : Denoted) → denoted_or register age bytes other ≡ Some answer
+      → ((master : MasterKey) × ((register ≡ Some master) × ((pattern_of_token bytes ≡ master.pattern) × (denoted_as (clear_of master.key bytes) age ≡ answer))))
       ⊎ (other ≡ Some answer)
   from_register None age other answer h = inr h
   from_register (Some master) age other answer h =
@@ -135,45 +135,45 @@ module _ (bytes : List ℕ) (are_bytes : AreBytes 64 bytes) where
     where
       by_test : (t : Bool) → (t ≡ true → pattern_of_token bytes ≡ master.pattern)
           → (if t then Some (denoted_as (clear_of master.key bytes) age) else other) ≡ Some answer
-          → ((m : Master) × ((Some master ≡ Some m) × ((pattern_of_token bytes ≡ m.pattern) × (denoted_as (clear_of m.key bytes) age ≡ answer))))
+          → ((m : MasterKey) × ((Some master ≡ Some m) × ((pattern_of_token bytes ≡ m.pattern) × (denoted_as (clear_of m.key bytes) age ≡ answer))))
           ⊎ (other ≡ Some answer)
       by_test true same e = inl (master, (refl, (same refl, same_some (denoted_as (clear_of master.key bytes) age) answer e)))
       by_test false same e = inr e
 
-module _ (masters : Masters) (transport bytes : List ℕ) (are_bytes : AreBytes 64 bytes) (apart : AreApart masters) where
+module _ (masters : MasterKeys) (transport bytes : List ℕ) (are_bytes : AreBytes 64 bytes) (apart : HaveDistinctPatterns masters) where
   internal : (clear : ClearKey) (age : Age) → Denotes masters bytes clear age → denoted masters bytes ≡ Some (denoted_as clear age)
   unfolding denoted
   internal clear Current h =
       let same : pattern_of_token bytes ≡ h.0.pattern = pattern_is bytes are_bytes h.0.key kind.Internal h.0.pattern clear h.1.1 in
-      ap (λ t. if t then denoted_or masters.current Current bytes (denoted_or masters.old Old bytes None) else None)
+      ap (λ t. if t then denoted_or masters.current Current bytes (denoted_or masters.former Old bytes None) else None)
       (test_of_token bytes are_bytes asked.Internal h.0.key kind.Internal h.0.pattern clear refl h.1.1)
-      ∙ found bytes are_bytes masters.current h.0 Current (denoted_or masters.old Old bytes None) h.1.0 same
+      ∙ found bytes are_bytes masters.current h.0 Current (denoted_or masters.former Old bytes None) h.1.0 same
       ∙ ap (λ c. Some (denoted_as c Current)) (only_key bytes are_bytes h.0.key kind.Internal h.0.pattern clear h.1.1)
   internal clear Old h =
       let same : pattern_of_token bytes ≡ h.0.pattern = pattern_is bytes are_bytes h.0.key kind.Internal h.0.pattern clear h.1.1 in
-      ap (λ t. if t then denoted_or masters.current Current bytes (denoted_or masters.old Old bytes None) else None)
+      ap (λ t. if t then denoted_or masters.current Current bytes (denoted_or masters.former Old bytes None) else None)
       (test_of_token bytes are_bytes asked.Internal h.0.key kind.Internal h.0.pattern clear refl h.1.1)
-      ∙ passed bytes are_bytes masters.current Current (denoted_or masters.old Old bytes None)
+      ∙ passed bytes are_bytes masters.current Current (denoted_or masters.former Old bytes None)
       (λ current is equal. apart current h.0 is h.1.0 (sym equal ∙ same))
-      ∙ found bytes are_bytes masters.old h.0 Old None h.1.0 same
+      ∙ found bytes are_bytes masters.former h.0 Old None h.1.0 same
       ∙ ap (λ c. Some (denoted_as c Old)) (only_key bytes are_bytes h.0.key kind.Internal h.0.pattern clear h.1.1)
 
   internal_back : (clear : ClearKey) (age : Age) → denoted masters bytes ≡ Some (denoted_as clear age) → Denotes masters bytes clear age
   unfolding denoted
   internal_back clear age e =
-      ⊎_elim (λ (h : (master : Master) × ((masters.current ≡ Some master) × ((pattern_of_token bytes ≡ master.pattern) × (denoted_as (clear_of master.key bytes) Current ≡ denoted_as clear age)))).
+      ⊎_elim (λ (h : (master : MasterKey) × ((masters.current ≡ Some master) × ((pattern_of_token bytes ≡ master.pattern) × (denoted_as (clear_of master.key bytes) Current ≡ denoted_as clear age)))).
       subst (λ (d : Denoted). Denotes masters bytes d.clear d.age) h.1.1.1
       (h.0, (h.1.0, key_of_token bytes are_bytes h.0.key kind.Internal h.0.pattern token.0 token.1 h.1.1.0)))
-      (λ (rest : denoted_or masters.old Old bytes None ≡ Some (denoted_as clear age)).
-      ⊎_elim (λ (h : (master : Master) × ((masters.old ≡ Some master) × ((pattern_of_token bytes ≡ master.pattern) × (denoted_as (clear_of master.key bytes) Old ≡ denoted_as clear age)))).
+      (λ (rest : denoted_or masters.former Old bytes None ≡ Some (denoted_as clear age)).
+      ⊎_elim (λ (h : (master : MasterKey) × ((masters.former ≡ Some master) × ((pattern_of_token bytes ≡ master.pattern) × (denoted_as (clear_of master.key bytes) Old ≡ denoted_as clear age)))).
       subst (λ (d : Denoted). Denotes masters bytes d.clear d.age) h.1.1.1
       (h.0, (h.1.0, key_of_token bytes are_bytes h.0.key kind.Internal h.0.pattern token.0 token.1 h.1.1.0)))
       (λ (nothing : None ≡ Some (denoted_as clear age)). cc)
-      (from_register bytes are_bytes masters.old Old None (denoted_as clear age) rest))
-      (from_register bytes are_bytes masters.current Current (denoted_or masters.old Old bytes None) (denoted_as clear age) parts.1)
+      (from_register bytes are_bytes masters.former Old None (denoted_as clear age) rest))
+      (from_register bytes are_bytes masters.current Current (denoted_or masters.former Old bytes None) (denoted_as clear age) parts.1)
     where
-      parts : (is_token asked.Internal bytes ≡ true) × (denoted_or masters.current Current bytes (denoted_or masters.old Old bytes None) ≡ Some (denoted_as clear age))
-      parts = if_then (is_token asked.Internal bytes) (denoted_or masters.current Current bytes (denoted_or masters.old Old bytes None)) (denoted_as clear age) e
+      parts : (is_token asked.Internal bytes ≡ true) × (denoted_or masters.current Current bytes (denoted_or masters.former Old bytes None) ≡ Some (denoted_as clear age))
+      parts = if_then (is_token asked.Internal bytes) (denoted_or masters.current Current bytes (denoted_or masters.former Old bytes None)) (denoted_as clear age) e
 
       token : IsToken bytes (token_of bytes) × (kind_of bytes ≡ kind.Internal)
       token = token_of_test bytes are_bytes asked.Internal parts.0

@@ -20,14 +20,14 @@ pub record ClearKey : Type 0 where
   pub vector : List ℕ
 
 -- a master key of 24 bytes, and its verification pattern
-pub record Master : Type 0 where
+pub record MasterKey : Type 0 where
   pub key : List ℕ
   pub pattern : List ℕ
 
 -- the master keys of the current and the old register; None where a register is empty
-pub record Masters : Type 0 where
-  pub current : Option Master
-  pub old : Option Master
+pub record MasterKeys : Type 0 where
+  pub current : Option MasterKey
+  pub former : Option MasterKey
 
 -- ---- as a relation
 
@@ -37,17 +37,17 @@ pub record IsTokenOf (kind : Kind) (pattern parts bytes : List ℕ) (clear : Cle
   pub token : IsToken bytes (record { kind = kind; pattern = pattern; sealed = seal parts clear.vector clear.key; vector = clear.vector })
 
 -- an internal token stands for a key under the master key of the register that has its pattern
-abbrev pub Denotes : Masters → List ℕ → ClearKey → Age → Type 0
-Denotes masters bytes clear Current = (master : Master) × ((masters.current ≡ Some master) × IsTokenOf Internal master.pattern master.key bytes clear)
-Denotes masters bytes clear Old = (master : Master) × ((masters.old ≡ Some master) × IsTokenOf Internal master.pattern master.key bytes clear)
+abbrev pub Denotes : MasterKeys → List ℕ → ClearKey → Age → Type 0
+Denotes masters bytes clear Current = (master : MasterKey) × ((masters.current ≡ Some master) × IsTokenOf Internal master.pattern master.key bytes clear)
+Denotes masters bytes clear Old = (master : MasterKey) × ((masters.former ≡ Some master) × IsTokenOf Internal master.pattern master.key bytes clear)
 
 -- an external token stands for a key under a transport key
 abbrev pub DenotesUnder : List ℕ → List ℕ → ClearKey → Type 0
 DenotesUnder transport bytes clear = IsTokenOf External (replicate 8 0) (transport_parts transport) bytes clear
 
 -- the patterns of two registers differ
-abbrev pub AreApart : Masters → Type 0
-AreApart masters = (current old : Master) → masters.current ≡ Some current → masters.old ≡ Some old → current.pattern ≢ old.pattern
+abbrev pub HaveDistinctPatterns : MasterKeys → Type 0
+HaveDistinctPatterns masters = (current former : MasterKey) → masters.current ≡ Some current → masters.former ≡ Some former → current.pattern ≢ former.pattern
 
 -- ---- as a function
 
@@ -65,14 +65,14 @@ abbrev pub clear_of : List ℕ → List ℕ → ClearKey
 clear_of parts bytes = record { key = unseal parts (vector_bytes_of bytes) (sealed_of bytes); vector = vector_bytes_of bytes }
 
 -- the token under a register, where it has its pattern, or else another answer
-abbrev pub denoted_or : Option Master → Age → List ℕ → Option Denoted → Option Denoted
+abbrev pub denoted_or : Option MasterKey → Age → List ℕ → Option Denoted → Option Denoted
 denoted_or None age bytes other = other
 denoted_or (Some master) age bytes other =
     if bytes_eq (pattern_of_token bytes) master.pattern then Some (record { clear = clear_of master.key bytes; age = age }) else other
 
-unfoldable pub denoted : Masters → List ℕ → Option Denoted
+unfoldable pub denoted : MasterKeys → List ℕ → Option Denoted
 denoted masters bytes =
-    if is_token asked.Internal bytes then denoted_or masters.current Current bytes (denoted_or masters.old Old bytes None) else None
+    if is_token asked.Internal bytes then denoted_or masters.current Current bytes (denoted_or masters.former Old bytes None) else None
 
 unfoldable pub denoted_under : List ℕ → List ℕ → Option ClearKey
 denoted_under transport bytes =
@@ -80,7 +80,7 @@ denoted_under transport bytes =
 
 -- ---- the relation is the function
 
-pub record DenotesOne (masters : Masters) (transport bytes : List ℕ) : Type 0 where
+pub record DenotesOne (masters : MasterKeys) (transport bytes : List ℕ) : Type 0 where
   pub internal : (clear : ClearKey) (age : Age) → Denotes masters bytes clear age → denoted masters bytes ≡ Some (record { clear = clear; age = age })
   pub internal_back : (clear : ClearKey) (age : Age) → denoted masters bytes ≡ Some (record { clear = clear; age = age }) → Denotes masters bytes clear age
   pub external : (clear : ClearKey) → DenotesUnder transport bytes clear → denoted_under transport bytes ≡ Some clear
