@@ -145,6 +145,19 @@ names_right_half asked bytes header vector single right =
     (or_from (not (eqb (length_of (vector_bytes_of bytes)) 8)) (is_zero (slice_range bytes 24 32))
     (not_from_true (eqb (length_of (vector_bytes_of bytes)) 8) (eq-eqb (length_of (vector_bytes_of bytes)) 8 single)) right)
 
+module _ (bytes : List ℕ) (whole : length bytes ≡ 64) (token : Token) (h : IsToken bytes token) where
+  first_byte : get_or bytes 0 0 ≡ kind_byte token.kind
+  first_byte = byte_of_piece bytes 0 (kind_byte token.kind) (omega arith) h.places.0
+
+  vector_is : vector_bytes_of bytes ≡ token.vector
+  vector_is = h.places.1.1.1.1.1.1.1.1.1.0
+
+  -- the parts of a token are those at its places
+  pub token_is : token_of bytes ≡ token
+  token_is =
+      same_token (token_of bytes) token (ap kind_at first_byte ∙ kind_at_byte token.kind) h.places.1.1.1.1.1.1.0 h.places.1.1.1.1.1.1.1.0
+      h.places.1.1.1.1.1.1.1.1.0 vector_is
+
 module _ (asked : Asked) (bytes : List ℕ) (whole : length bytes ≡ 64) (fits : AreBytes bytes) where
   vector_fits : AreBytes (vector_bytes_of bytes)
   vector_fits = bytes_taken 16 (drop 32 bytes) (bytes_dropped 32 bytes fits)
@@ -258,17 +271,11 @@ module _ (asked : Asked) (bytes : List ℕ) (whole : length bytes ≡ 64) (fits 
       )
 
   module _ (token : Token) (h : IsToken bytes token) where
-    first_byte : get_or bytes 0 0 ≡ kind_byte token.kind
-    first_byte = byte_of_piece bytes 0 (kind_byte token.kind) (omega arith) h.places.0
+    first_byte_is : get_or bytes 0 0 ≡ kind_byte token.kind
+    first_byte_is = first_byte bytes whole token h
 
-    vector_is : vector_bytes_of bytes ≡ token.vector
-    vector_is = h.places.1.1.1.1.1.1.1.1.1.0
-
-    -- the parts of a token are those at its places
-    pub token_is : token_of bytes ≡ token
-    token_is =
-        same_token (token_of bytes) token (ap kind_at first_byte ∙ kind_at_byte token.kind) h.places.1.1.1.1.1.1.0 h.places.1.1.1.1.1.1.1.0
-        h.places.1.1.1.1.1.1.1.1.0 vector_is
+    vector_place : vector_bytes_of bytes ≡ token.vector
+    vector_place = vector_is bytes whole token h
 
     stored : stored_tvv bytes ≡ tvv_of bytes
     stored = ap (from_be_bytes w32) h.places.1.1.1.1.1.1.1.1.1.1.1.0 ∙ from_be_bytes-to_be_bytes_4 (tvv_of bytes) (tvv_fits bytes)
@@ -278,26 +285,26 @@ module _ (asked : Asked) (bytes : List ℕ) (whole : length bytes ≡ 64) (fits 
         five_and (is_zero (slice_range bytes 1 4)) (is_zero (slice_range bytes 5 6)) (is_zero (slice_range bytes 7 8)) (is_zero (slice_range bytes 48 60))
         (not (eqb (get_or bytes 0 0) 0x02) || is_zero (pattern_of_token bytes))
         (ap is_zero h.places.1.0) (ap is_zero h.places.1.1.1.0) (ap is_zero h.places.1.1.1.1.1.0) (ap is_zero h.places.1.1.1.1.1.1.1.1.1.1.0)
-        (ap (λ b. not (eqb b 0x02) || is_zero (pattern_of_token bytes)) first_byte
+        (ap (λ b. not (eqb b 0x02) || is_zero (pattern_of_token bytes)) first_byte_is
         ∙ test_from_pattern token.kind (pattern_of_token bytes) (subst (IsPatternFor token.kind) (sym h.places.1.1.1.1.1.1.0) h.pattern))
 
     header_holds : IsAsked asked token.kind → first_failing (header_checks asked bytes) ≡ None
     header_holds asks =
         five_hold (is_asked asked (get_or bytes 0 0)) (eqb (stored_tvv bytes) (tvv_of bytes)) (eqb (get_or bytes 4 0) 0) (has_flag bytes)
         (reserved_is_zero bytes)
-        (ap (is_asked asked) first_byte ∙ kind_asked asked token.kind asks)
+        (ap (is_asked asked) first_byte_is ∙ kind_asked asked token.kind asks)
         (eq-eqb (stored_tvv bytes) (tvv_of bytes) stored)
         (eq-eqb (get_or bytes 4 0) 0 (byte_of_piece bytes 4 0 (omega arith) h.places.1.1.0))
-        (test_from_flag (subst (IsFlag (get_or bytes 6 0)) (sym vector_is) h.flag))
+        (test_from_flag (subst (IsFlag (get_or bytes 6 0)) (sym vector_place) h.flag))
         reserved_test
 
     vector_holds : first_failing (vector_checks (vector_bytes_of bytes)) ≡ None
-    vector_holds = none_from_valid (vector_bytes_of bytes) vector_whole vector_fits (subst IsValid (sym vector_is) h.vector)
+    vector_holds = none_from_valid (vector_bytes_of bytes) vector_whole vector_fits (subst IsValid (sym vector_place) h.vector)
 
     right_holds : has_right_half bytes ≡ true
     right_holds =
         test_from_right (length_of (vector_bytes_of bytes)) (slice_range bytes 24 32)
-        (λ single. subst IsZero (sym h.places.1.1.1.1.1.1.1.1.0) (h.right (ap length_of (sym vector_is) ∙ single)))
+        (λ single. subst IsZero (sym h.places.1.1.1.1.1.1.1.1.0) (h.right (ap length_of (sym vector_place) ∙ single)))
 
     pub none_from_token : IsAsked asked token.kind → first_failing (token_checks asked bytes) ≡ None
     none_from_token asks =

@@ -1,2 +1,5 @@
 pub mod Words
 pub mod Layouts
+pub mod Written
+pub mod DenotedKeys
+pub mod Examples

@@ -1,5 +1,5 @@
 -- The 64 bytes of a key token, as a table of places.
-use Rattle.std.specs.Prelude.{◌≡◌, ◌⊎◌, ℕ, ◌+◌, List, [], ◌∷◌, length, replicate, slice_index, slice_range, ⊤}
+use Rattle.std.specs.Prelude.{◌≡◌, ◌⊎◌, ℕ, ◌+◌, List, [], ◌∷◌, ◌++◌, length, replicate, slice_index, slice_range, ⊤}
 use Rattle.std.specs.Int.{to_be_bytes, w32}
 use Rattle.cca_vectors.specs.Vectors.{IsValid, IsZero, length_of}
 use Rattle.key_tokens.specs.declared.key_token.Kind.{Kind}
@@ -41,6 +41,15 @@ layout token flag tvv =
 abbrev pub HasPlaces : List ℕ → List Place → Type 0
 HasPlaces bytes [] = ⊤
 HasPlaces bytes (p ∷ places) = (slice_range bytes p.first (p.last + 1) ≡ p.content) × HasPlaces bytes places
+
+-- the contents of the places, one after another
+abbrev pub contents : List Place → List ℕ
+contents [] = []
+contents (p ∷ places) = p.content ++ contents places
+
+-- the bytes of a token as it is written: flag c0, and the sum of the words before the validation value
+unfoldable pub made : Token → List ℕ
+made token = contents (layout token 0xc0 (tvv_of (contents (layout token 0xc0 0))))
 
 -- the flag says that a key is there; where the vector is all zero it may leave out that a vector is
 abbrev pub IsFlag : ℕ → List ℕ → Type 0

@@ -1,3 +1,4 @@
+pub mod Denotes
 pub mod Tvv
 pub mod Kinds
 pub mod Parts
@@ -8,3 +9,4 @@ pub use Rattle.cca_vectors.specs.Checks
 pub use Rattle.cca_vectors.specs.Classes
 pub use Rattle.cca_vectors.specs.VectorChecks
 pub use Rattle.cca_vectors.specs.Vectors
+pub use Rattle.multi_encipher.specs.Seals

@@ -1,7 +1,7 @@
 -- The parts of a key token, by their places in its 64 bytes.
 use Rattle.std.specs.Prelude.{ℕ, List, slice_index, slice_range}
 use Rattle.key_tokens.specs.declared.key_token.Kind.{Kind}
-use Rattle.key_tokens.specs.declared.key_token.Sealed.{Sealed}
+use Rattle.multi_encipher.specs.declared.halves.Sealed.{Sealed}
 use Rattle.key_tokens.specs.declared.key_token.Token.{Token}
 use Rattle.key_tokens.specs.Kinds.{kind_at}
 

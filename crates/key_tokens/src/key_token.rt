@@ -1,4 +1,5 @@
-use cca_vectors::{Vector, VectorFault};
+use cca_vectors::Vector;
+use multi_encipher::Sealed;
 use thiserror::Error;
 
 /// Under which key a token's key is enciphered.
@@ -18,11 +19,13 @@ pub enum Asked {
     Either,
 }
 
-/// The halves of a key, each enciphered by itself. The right half of a single-length key is zero.
+/// Which master key an internal token's key is under.
 #[derive(Clone, Copy, Debug, PartialEq, Eq)]
-pub struct Sealed {
-    pub left: [u8; 8],
-    pub right: [u8; 8],
+pub enum Age {
+    /// The one in the current register.
+    Current,
+    /// The one in the old register.
+    Old,
 }
 
 /// What a key token says.

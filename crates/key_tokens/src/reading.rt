@@ -9,17 +9,18 @@ ghost use Rattle.key_tokens.specs.Parts.{token_of, sealed_of, pattern_of_token, 
 ghost use Rattle.key_tokens.specs.Layout.{IsToken};
 ghost use Rattle.key_tokens.specs.TokenChecks.{stored_tvv, has_flag, reserved_is_zero, header_checks, token_checks, rule_of};
 
-use crate::key_token::{Asked, Kind, Sealed, Token, TokenFault};
+use crate::key_token::{Asked, Kind, Token, TokenFault};
 use crate::validation::{tvv, word_at};
 use cca_vectors::{Vector, VectorFault, vector_of};
+use multi_encipher::Sealed;
 
-const INTERNAL: u8 = 0x01;
+pub(crate) const INTERNAL: u8 = 0x01;
 
-const EXTERNAL: u8 = 0x02;
+pub(crate) const EXTERNAL: u8 = 0x02;
 
-const VERSION: u8 = 0x00;
+pub(crate) const VERSION: u8 = 0x00;
 /// A key is there, and its control vector.
-const KEY_AND_VECTOR: u8 = 0xc0;
+pub(crate) const KEY_AND_VECTOR: u8 = 0xc0;
 /// A key is there, with a control vector that is zero.
 const KEY_ALONE: u8 = 0x80;
 

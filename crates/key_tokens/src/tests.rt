@@ -220,3 +220,22 @@ fn one_bit_of_the_vector_changed(rt: HostRuntime) {
         }
     }
 }
+
+/// The EXPORTER token, and the DATA token with both of its flags, as they are written.
+#[test]
+fn tokens_are_written(rt: HostRuntime) {
+    let mut short = DATA_TOKEN;
+    short[1] = 0x0000_8000;
+    short[15] = 0x5057_f190;
+    for (words, written) in [
+        (EXPORTER_TOKEN, EXPORTER_TOKEN),
+        (DATA_TOKEN, DATA_TOKEN),
+        (short, DATA_TOKEN),
+    ] {
+        let read = read_token(&bytes_of(&words), Asked::Either);
+        assert!(rt; read.is_ok());
+        if let Ok(token) = read {
+            assert_eq!(rt; write_token(&token), bytes_of(&written));
+        }
+    }
+}

@@ -1,0 +1,3 @@
+pub mod MixingLemmas
+pub mod SealLaws
+pub mod BenchLemmas

@@ -1,0 +1,13 @@
+//! Multiple encipherment: the halves of a key, each enciphered by itself under three parts that are XORed
+//! with the control vector of that half.
+#![tactic(auto)]
+
+mod halves;
+mod mixing;
+mod sealing;
+
+pub use halves::{Sealed, Under};
+pub use sealing::{seal, seal_is_one_to_one, unseal};
+
+#[cfg(test)]
+mod tests;
