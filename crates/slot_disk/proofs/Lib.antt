@@ -1,3 +1,10 @@
+pub mod CellSteps
+pub mod DiskSteps
 pub mod Lists
+pub mod Logging
+pub mod Media
+pub mod Overwriting
 pub mod Reading
+pub mod Replacing
+pub mod Staging
 pub mod WhereToldLemmas

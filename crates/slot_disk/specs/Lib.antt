@@ -1,5 +1,15 @@
+pub mod Cells
+pub mod DiskState
+pub mod EntropyState
 pub mod FaultPlan
 pub mod Faults
+pub mod LogMedium
+pub mod Medium
+pub mod Ranges
+pub mod SilentMedium
 pub mod SinkState
 pub mod SourceState
+pub mod StageLaws
+pub mod Stages
+pub mod TornImage
 pub mod WhereTold

@@ -1,8 +1,8 @@
 //! Which calls of a device in memory fail.
-ghost use Rattle.std.specs.Prelude.{◌≡◌, ◌≤◌};
+ghost use Rattle.std.specs.Prelude.{◌≡◌, ◌≤◌, ◌||◌, not};
 ghost use Rattle.std.specs.Bool.{OnTrue};
 ghost use Rattle.slot_disk.specs.Faults.{Rose};
-ghost use Rattle.slot_disk.specs.FaultPlan.{fails_now, after_call, is_call, with_failing, with_fault, unused};
+ghost use Rattle.slot_disk.specs.FaultPlan.{fails_now, after_call, after_call_in_room, is_call, with_failing, with_fault, unused};
 
 use crate::faults::count_one;
 
@@ -62,6 +62,22 @@ impl FaultPlan {
             self.count_fault();
         }
         fails
+    }
+
+    /// Counts a call as `next_call` does. One that there is no room for fails too.
+    pub fn next_call_in_room(&mut self, has_room: bool) -> bool
+        ensures fails { result ≡ (fails_now self.old || not has_room) }
+        ensures plan { self.new ≡ after_call_in_room self.old has_room }
+        ensures later { self.old.faults ≤ self.new.faults }
+        ensures cause { OnTrue result (Rose self.old.faults self.new.faults) }
+    {
+        if self.next_call() {
+            return true;
+        }
+        if !has_room {
+            self.count_fault();
+        }
+        !has_room
     }
 
     /// Counts a fault that wasn't planned.

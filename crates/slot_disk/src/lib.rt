@@ -1,21 +1,34 @@
 //! What the program stands on: byte sources and sinks that may fail, in memory and over std's streams.
 #![tactic(auto)]
 
+mod call;
+mod cell;
+mod disk;
+mod entropy;
 mod errors;
 mod fault_plan;
 mod faults;
+mod file_disk;
+mod memory_disk;
+mod memory_entropy;
 mod memory_sink;
 mod memory_source;
 mod sink;
 mod source;
 mod streams;
 
+pub use cell::{Cell, read_cell, replace_cell, settle};
+pub use disk::Disk;
+pub use entropy::Entropy;
 pub use errors::{Failed, NoMemory};
+pub use file_disk::FileDisk;
+pub use memory_disk::{MemoryDisk, Torn};
+pub use memory_entropy::MemoryEntropy;
 pub use memory_sink::MemorySink;
 pub use memory_source::MemorySource;
 pub use sink::Sink;
 pub use source::Source;
-pub use streams::{StreamSink, StreamSource};
+pub use streams::{StreamEntropy, StreamSink, StreamSource};
 
 #[cfg(test)]
 mod tests;

@@ -3,7 +3,7 @@
 ghost use Rattle.std.specs.Prelude.{◌≡◌, ◌<◌, ◌≤◌, length, None, IfSome};
 
 use crate::faults::count_one;
-use crate::{Failed, Sink, Source};
+use crate::{Entropy, Failed, Sink, Source};
 use std::io::{Read, Write};
 
 /// A source over a reader of std.
@@ -73,6 +73,50 @@ impl<W: Write> Sink for StreamSink<W> {
     fn write(&mut self, piece: &[u8]) -> Result<usize, Failed> {
         match write_through(&mut self.inner, piece) {
             Some(count) => Ok(count),
+            None => {
+                count_one(&mut self.faults);
+                Err(Failed)
+            }
+        }
+    }
+}
+
+/// Random bytes over a reader of std.
+#[derive(Drop)]
+pub struct StreamEntropy<R> {
+    inner: R,
+    faults: u64,
+}
+
+impl<R: Read> StreamEntropy<R> {
+    pub fn new(inner: R) -> StreamEntropy<R>
+        ensures { ⟦<StreamEntropy<R> as Entropy>⟧.faults result ≡ 0 }
+    {
+        StreamEntropy { inner, faults: 0 }
+    }
+}
+
+// Fills the whole of it. None is an error, and the end of the stream.
+fn read_whole<R: Read>(reader: &mut R, out: &mut [u8]) -> Option<()> {
+    let mut filled = 0;
+    while filled < out.len() {
+        let count = reader.read(&mut out[filled..]).ok()?;
+        if count == 0 {
+            return None;
+        }
+        filled += count;
+    }
+    Some(())
+}
+
+impl<R: Read> Entropy for StreamEntropy<R> {
+    ghost left = { λ _. None };
+
+    ghost faults = { λ e. e.faults };
+
+    fn fill(&mut self, out: &mut [u8]) -> Result<(), Failed> {
+        match read_whole(&mut self.inner, out) {
+            Some(()) => Ok(()),
             None => {
                 count_one(&mut self.faults);
                 Err(Failed)

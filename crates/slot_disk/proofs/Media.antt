@@ -1,0 +1,140 @@
+-- How clauses on media are carried over calls, over loops and over two disks.
+use Rattle.std.proofs.Common.{◌≡◌, inl, inr, ⊎_elim, ℕ, List, Option, None, Some, IfSome, IsSome, refl, sym, ◌∙◌, subst, arith}
+use Rattle.slot_disk.specs.Medium.{Medium, Told, IsSettled, After, From, Becomes, EachImage, Keeps, Reached, EachPair}
+
+-- ---- what is told
+
+-- a fact on what is told, from one on each content
+pub told_from : (content : Option (List ℕ)) (P : List ℕ → Type 0) → ((c : List ℕ) → content ≡ Some c → P c) → IfSome content P
+told_from None P each = tt
+told_from (Some c) P each = each c refl
+
+pub told_at : (content : Option (List ℕ)) (P : List ℕ → Type 0) (c : List ℕ) → content ≡ Some c → IfSome content P → P c
+told_at content P c is told = subst (λ (o : Option (List ℕ)). IfSome o P) is told
+
+module _ (m0 m1 : Medium) where
+  -- what is told after a step
+  pub becomes_told : (step : List ℕ → List ℕ → Type 0) (P Q : List ℕ → Type 0) → Becomes step m0 m1 → Told m0 P → ((d c : List ℕ) → P d → step d c → Q c) → Told m1 Q
+  becomes_told step P Q becomes told weaker = told_from m1.content Q (λ c is.
+      let from = becomes.told c is in
+      weaker from.0 c (told_at m0.content P from.0 from.1 told) from.2)
+
+  pub becomes_weaker : (step wider : List ℕ → List ℕ → Type 0) → Becomes step m0 m1 → ((d c : List ℕ) → step d c → wider d c) → Becomes wider m0 m1
+  becomes_weaker step wider becomes weaker = record {
+    size = becomes.size;
+    told = λ c is. let from = becomes.told c is in (from.0, from.1, weaker from.0 c from.2);
+    still = becomes.still;
+  }
+
+  -- a disk that gives the same as before
+  pub becomes_same : (step : List ℕ → List ℕ → Type 0) → m1.size ≡ m0.size → m1.content ≡ m0.content → ((c : List ℕ) → step c c) → Becomes step m0 m1
+  becomes_same step size same reflexive = record {
+    size = size;
+    told = λ c is. (c, sym same ∙ is, reflexive c);
+    still = λ some. subst (λ (o : Option (List ℕ)). IsSome o) (sym same) some;
+  }
+
+  -- what a stop may leave now is among the images since then
+  pub image_now : (P : List ℕ → Type 0) → EachImage m0 m1 P → (c : List ℕ) → m1.images c → P c
+  image_now P moments c image = moments.each c (m1.counts_now m0.moment c moments.later image)
+
+  -- and what a read gives too
+  pub content_now : (P : List ℕ → Type 0) → EachImage m0 m1 P → Told m1 P
+  content_now P moments = told_from m1.content P (λ c is. image_now P moments c (m1.is_image c is))
+
+  pub each_weaker : (P Q : List ℕ → Type 0) → EachImage m0 m1 P → ((c : List ℕ) → P c → Q c) → EachImage m0 m1 Q
+  each_weaker P Q moments weaker = record {
+    size = moments.size;
+    later = moments.later;
+    each = λ c left. weaker c (moments.each c left);
+    before = λ t c le left. ⊎_elim (λ was. inl was) (λ p. inr (weaker c p)) (moments.before t c le left);
+    keeps = moments.keeps;
+  }
+
+-- a call that does nothing
+pub each_still : (m : Medium) → EachImage m m m.images
+each_still m = record { size = refl; later = omega arith; each = m.only_now; before = λ t c le left. inl left; keeps = λ t c le left. left }
+
+pub keeps_still : (m : Medium) → Keeps m m
+keeps_still m = record { content = refl; images = λ c image. image; moments = each_still m }
+
+-- nothing is unsynced, so each image is the content
+pub settled_image : (m : Medium) (P : List ℕ → Type 0) (c : List ℕ) → IsSettled m → Told m P → m.images c → P c
+settled_image m P c settled told image = told_at m.content P c (settled.only c image) told
+
+-- ---- one call after another
+
+module _ (m0 m1 m2 : Medium) where
+  pub becomes_then : (first second both : List ℕ → List ℕ → Type 0) → Becomes first m0 m1 → Becomes second m1 m2 → ((b c d : List ℕ) → first b c → second c d → both b d) → Becomes both m0 m2
+  becomes_then first second both one two joined = record {
+    size = two.size ∙ one.size;
+    told = λ d is. let from = two.told d is in let was = one.told from.0 from.1 in (was.0, was.1, joined was.0 from.0 d was.2 from.2);
+    still = λ some. two.still (one.still some);
+  }
+
+  -- images of two runs, one behind the other
+  pub goes_on : (P Q R : List ℕ → Type 0) → EachImage m0 m1 P → EachImage m1 m2 Q → ((c : List ℕ) → P c → R c) → ((c : List ℕ) → Q c → R c) → EachImage m0 m2 R
+  goes_on P Q R one two left right = record {
+    size = two.size ∙ one.size;
+    later = omega (arith, one.later, two.later);
+    each = λ c at. ⊎_elim (λ was. left c (one.each c was)) (λ q. right c q) (two.before m0.moment c one.later at);
+    before = λ t c le at. ⊎_elim
+        (λ was. ⊎_elim (λ old. inl old) (λ p. inr (left c p)) (one.before t c le was))
+        (λ q. inr (right c q))
+        (two.before t c (omega (arith, one.later, le)) at);
+    keeps = λ t c le at. two.keeps t c (omega (arith, one.later, le)) (one.keeps t c le at);
+  }
+
+  pub keeps_then : Keeps m0 m1 → Keeps m1 m2 → Keeps m0 m2
+  keeps_then one two = record {
+    content = two.content ∙ one.content;
+    images = λ c image. one.images c (two.images c image);
+    moments = goes_on m0.images m1.images m0.images one.moments two.moments (λ c p. p) (λ c q. one.images c q);
+  }
+
+-- a read leaves a disk settled
+pub settled_kept : (m0 m1 : Medium) → Keeps m0 m1 → IsSettled m0 → IsSettled m1
+settled_kept m0 m1 keeps settled = record { only = λ c image. keeps.content ∙ settled.only c (keeps.images c image) }
+
+-- each image of a settled disk at a moment since a call began is a step from its content
+pub from_settled : (m0 m1 : Medium) (step : List ℕ → List ℕ → Type 0) → IsSettled m0 → EachImage m0 m1 (After step m0.images) → EachImage m0 m1 (From step m0)
+from_settled m0 m1 step settled moments = each_weaker m0 m1 (After step m0.images) (From step m0) moments (λ c after. (after.0, settled.only after.0 after.1, after.2))
+
+-- a step from what a step made is one step from the start
+pub from_then : (m0 m1 : Medium) (first second both : List ℕ → List ℕ → Type 0) → Becomes first m0 m1 → ((b c d : List ℕ) → first b c → second c d → both b d) → (d : List ℕ) → From second m1 d → From both m0 d
+from_then m0 m1 first second both becomes joined d from =
+    let was = becomes.told from.0 from.1 in (was.0, was.1, joined was.0 from.0 d was.2 from.2)
+
+-- ---- loops
+
+module _ (P Q : List ℕ → Type 0) where
+  pub reached_start : (m : Medium) → IsSettled m → Told m P → ((c : List ℕ) → P c → Q c) → Reached P Q m m
+  reached_start m settled told weaker = record {
+    settled = settled;
+    told = told;
+    still = λ some. some;
+    moments = each_weaker m m m.images Q (each_still m) (λ c image. weaker c (settled_image m P c settled told image));
+  }
+
+  -- one turn more, from what was reached
+  pub reached_step : (m0 m1 m2 : Medium) (P' R : List ℕ → Type 0) → Reached P Q m0 m1 → IsSettled m2 → Told m2 P' → (IsSome m1.content → IsSome m2.content) → EachImage m1 m2 R → ((c : List ℕ) → R c → Q c) → Reached P' Q m0 m2
+  reached_step m0 m1 m2 P' R reached settled told still moments weaker = record {
+    settled = settled;
+    told = told;
+    still = λ some. still (reached.still some);
+    moments = goes_on m0 m1 m2 Q R Q reached.moments moments (λ c q. q) weaker;
+  }
+
+-- ---- two disks
+
+pub each_pair : (a0 a1 b0 b1 : Medium) (P Q : List ℕ → Type 0) (R : List ℕ → List ℕ → Type 0) → EachImage a0 a1 P → EachImage b0 b1 Q → ((c d : List ℕ) → P c → Q d → R c d) → EachPair a0 a1 b0 b1 R
+each_pair a0 a1 b0 b1 P Q R one two joined = record {
+  later1 = one.later;
+  later2 = two.later;
+  each = λ c d left right. joined c d (one.each c left) (two.each d right);
+}
+
+-- only the first disk was written, and the second was settled
+pub pair_with_settled : (a0 a1 b : Medium) (P Q : List ℕ → Type 0) (R : List ℕ → List ℕ → Type 0) → EachImage a0 a1 P → IsSettled b → Told b Q → ((c d : List ℕ) → P c → Q d → R c d) → EachPair a0 a1 b b R
+pair_with_settled a0 a1 b P Q R one settled told joined =
+    each_pair a0 a1 b b P Q R one (each_weaker b b b.images Q (each_still b) (λ d image. settled_image b Q d settled told image)) joined

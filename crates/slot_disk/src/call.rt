@@ -1,0 +1,69 @@
+//! The calls that a disk in memory notes.
+ghost use Rattle.std.specs.Prelude.{◌≡◌, ◌≤◌, length};
+ghost use Rattle.slot_disk.specs.Ranges.{overwrite};
+
+use std::marker::Model;
+
+/// The most bytes of a write.
+const PIECE: usize = 192;
+
+/// The bytes of a write.
+#[derive(Drop)]
+pub(crate) struct Piece {
+    bytes: [u8; PIECE],
+    length: usize,
+}
+
+impl Model for Piece {
+    ghost use Rattle.std.specs.Prelude.{◌≤◌, ℕ, List, take};
+
+    ghost Value = { List ℕ };
+
+    ghost view = { λ p. take p.length p.bytes };
+
+    ghost invariant = { λ p. p.length ≤ 192 };
+}
+
+impl Piece {
+    pub(crate) fn new(piece: &[u8]) -> Piece
+        requires { length piece.now ≤ 192 }
+        ensures { result ≡ piece.now }
+    {
+        let mut bytes = [0; PIECE];
+        bytes[..piece.len()].copy_from_slice(piece);
+        Piece {
+            bytes,
+            length: piece.len(),
+        }
+    }
+
+    pub(crate) fn bytes(&self) -> &[u8]
+        ensures bytes { result.now ≡ self.now }
+        ensures short { length self.now ≤ 192 }
+    {
+        &self.bytes[..self.length]
+    }
+}
+
+/// A call that a disk in memory notes: a write of these bytes from a place on, or a sync.
+#[derive(Drop)]
+pub(crate) enum Call {
+    Written(usize, Piece),
+    Synced,
+}
+
+/// Puts the bytes in the place from `at` on, as far as the target goes.
+pub(crate) fn overwrite_at(target: &mut [u8], at: usize, bytes: &[u8])
+    ensures { target.new ≡ overwrite target.old at bytes.now }
+{
+    let start = at.min(target.len());
+    let count = bytes.len().min(target.len() - start);
+    target[start..start + count].copy_from_slice(&bytes[..count]);
+}
+
+/// The same for a `Vec`.
+pub(crate) fn overwrite_vec(target: &mut Vec<u8>, at: usize, bytes: &[u8])
+    ensures { target.new.items ≡ overwrite target.old.items at bytes.now }
+{
+    overwrite_at(target, at, bytes);
+}
