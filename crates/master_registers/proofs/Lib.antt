@@ -1,3 +1,4 @@
 pub mod BodyLaws
 pub mod ByteLemmas
 pub mod FormLemmas
+pub mod LoadedLaws

@@ -13,7 +13,7 @@ ghost use Rattle.master_registers.specs.RegisterBody.{registers_body, StandsForM
 
 use crate::faults::RegisterFault;
 use crate::forms::write_form;
-use crate::moves::{clear_master, combine_part, copy_master, put_part};
+use crate::moves::{clear_master, combine_part, move_master, put_part};
 use crate::patterns::pattern_of;
 use crate::registers::{NewState, Registers};
 use key_cells::{Lease, MasterPlace};
@@ -36,6 +36,7 @@ pub fn first<M: Disk>(
     ensures loaded { IfOk result (λ now. Loaded (after_first (bench_of lease.old).part m) now (bench_of lease.new)) }
     ensures module { ChangesModule m (after_first (bench_of lease.old).part m) (M.medium module.old) (M.medium module.new) result }
     ensures places { lease.new ≡ holding lease.old (with_registers (bench_of lease.old) (bench_of lease.new)) }
+    ensures placed { result ≡ Err RegisterFault.DiskFault → ArePlaced (after_first (bench_of lease.old).part m) (bench_of lease.new) }
     ensures cause { HasDiskCause (M.faults module.old) (M.faults module.new) result }
 
     // a refusal by a rule leaves the module and the lease untouched
@@ -68,6 +69,7 @@ pub fn middle<M: Disk>(
     ensures loaded { IfOk result (λ now. Loaded (after_middle (bench_of lease.old).part m) now (bench_of lease.new)) }
     ensures module { ChangesModule m (after_middle (bench_of lease.old).part m) (M.medium module.old) (M.medium module.new) result }
     ensures places { lease.new ≡ holding lease.old (with_registers (bench_of lease.old) (bench_of lease.new)) }
+    ensures placed { result ≡ Err RegisterFault.DiskFault → ArePlaced (after_middle (bench_of lease.old).part m) (bench_of lease.new) }
     ensures cause { HasDiskCause (M.faults module.old) (M.faults module.new) result }
 
     // a refusal by a rule leaves the module and the lease untouched
@@ -100,6 +102,7 @@ pub fn last<M: Disk>(
     ensures loaded { IfOk result (λ now. Loaded (after_last (bench_of lease.old).part m) now (bench_of lease.new)) }
     ensures module { ChangesModule m (after_last (bench_of lease.old).part m) (M.medium module.old) (M.medium module.new) result }
     ensures places { lease.new ≡ holding lease.old (with_registers (bench_of lease.old) (bench_of lease.new)) }
+    ensures placed { result ≡ Err RegisterFault.DiskFault → ArePlaced (after_last (bench_of lease.old).part m) (bench_of lease.new) }
     ensures cause { HasDiskCause (M.faults module.old) (M.faults module.new) result }
 
     // a refusal by a rule leaves the module and the lease untouched
@@ -132,6 +135,7 @@ pub fn clear<M: Disk>(
     ensures loaded { IfOk result (λ now. Loaded (cleared m) now (bench_of lease.new)) }
     ensures module { ChangesModule m (cleared m) (M.medium module.old) (M.medium module.new) result }
     ensures places { lease.new ≡ holding lease.old (with_registers (bench_of lease.old) (bench_of lease.new)) }
+    ensures placed { result ≡ Err RegisterFault.DiskFault → ArePlaced (cleared m) (bench_of lease.new) }
     ensures cause { HasDiskCause (M.faults module.old) (M.faults module.new) result }
 
     // no rule refuses it
@@ -161,6 +165,7 @@ pub fn set<M: Disk>(
     ensures loaded { IfOk result (λ now. Loaded (after_set m) now (bench_of lease.new)) }
     ensures module { ChangesModule m (after_set m) (M.medium module.old) (M.medium module.new) result }
     ensures places { lease.new ≡ holding lease.old (with_registers (bench_of lease.old) (bench_of lease.new)) }
+    ensures placed { result ≡ Err RegisterFault.DiskFault → ArePlaced (after_set m) (bench_of lease.new) }
     ensures cause { HasDiskCause (M.faults module.old) (M.faults module.new) result }
 
     // a refusal by a rule leaves the module and the lease untouched
@@ -176,9 +181,8 @@ pub fn set<M: Disk>(
     if held.current_pattern == Some(pattern) {
         return Err(RegisterFault::SamePattern);
     }
-    copy_master(lease, MasterPlace::Current, MasterPlace::Old);
-    copy_master(lease, MasterPlace::New, MasterPlace::Current);
-    clear_master(lease, MasterPlace::New);
+    move_master(lease, MasterPlace::Current, MasterPlace::Old);
+    move_master(lease, MasterPlace::New, MasterPlace::Current);
     let next = Registers {
         new_state: NewState::Empty,
         current_pattern: Some(pattern),

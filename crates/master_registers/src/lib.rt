@@ -16,6 +16,6 @@ mod registers;
 
 pub use changes::{clear, first, last, middle, set};
 pub use faults::{LoadFault, RegisterFault};
-pub use loading::load;
+pub use loading::{a_body_reads_as_one, load};
 pub use patterns::{Pattern, pattern_of};
 pub use registers::{NewState, Registers};

@@ -1,5 +1,5 @@
 //! The registers taken from the module into the workbench.
-ghost use Rattle.std.specs.Prelude.{◌≡◌, ◌≢◌, ◌≤◌, ◌↔◌, ◌<◌, List, Option, slice_index, IfOk, IfSome, IsNone, IsTrue};
+ghost use Rattle.std.specs.Prelude.{◌≡◌, ◌≢◌, ◌≤◌, ◌↔◌, ◌<◌, ℕ, List, Option, slice_index, IfOk, IfSome, IsNone, IsTrue};
 ghost use Rattle.slot_disk.specs.Faults.{Rose};
 ghost use Rattle.slot_disk.specs.Medium.{Told, Keeps};
 ghost use Rattle.key_cells.specs.Bench.{Bench, blank_bench, master_of};
@@ -115,3 +115,8 @@ fn are_apart(held: &Registers) -> bool
     held.old_pattern.is_none()
         || held.current_pattern.is_some() && held.current_pattern != held.old_pattern
 }
+
+/// A body reads as at most one set of registers.
+pub fn a_body_reads_as_one()
+    ensures { (bytes : List ℕ) → (m : Masters) → (n : Masters) → ReadsMasters bytes m → ReadsMasters bytes n → m ≡ n }
+{}

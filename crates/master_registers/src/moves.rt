@@ -1,11 +1,20 @@
 //! Bytes of master keys moved between the places of the workbench.
-ghost use Rattle.std.specs.Prelude.{◌≡◌, ◌+◌, ◌≤◌, ◌++◌, length, take, drop, replicate, slice_range};
+ghost use Rattle.std.specs.Prelude.{◌≡◌, ◌≢◌, ◌+◌, ◌≤◌, ◌++◌, length, take, drop, replicate, slice_range};
 ghost use Rattle.key_cells.specs.Bench.{Bench, master_of, with_master};
 ghost use Rattle.key_cells.specs.Lease.{held, holding};
 ghost use Rattle.key_cells.specs.Secret.{bytes_of};
 ghost use Rattle.master_registers.specs.Masters.{IsMaster, xor_bytes};
 
 use key_cells::{Lease, MasterPlace, Secret};
+
+/// Moves a master key to another place, and leaves zeros where it was.
+pub(crate) fn move_master(lease: &mut Lease, from: MasterPlace, to: MasterPlace)
+    requires { from ≢ to }
+    ensures { lease.new ≡ holding lease.old (with_master (with_master (held lease.old) to (master_of (held lease.old) from)) from (replicate 24 0)) }
+{
+    copy_master(lease, from, to);
+    clear_master(lease, from);
+}
 
 /// Copies a master key to another place.
 pub(crate) fn copy_master(lease: &mut Lease, from: MasterPlace, to: MasterPlace)
