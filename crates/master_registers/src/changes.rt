@@ -28,21 +28,21 @@ pub fn first<M: Disk>(
     held: &Registers,
 ) -> Result<Registers, RegisterFault>
     ghost m: { Masters }
-    requires within { 1536 ≤ (M.medium module.old).size }
-    requires settled { IsSettled (M.medium module.old) }
+    requires within { 1536 ≤ (M.medium «module».old).size }
+    requires settled { IsSettled (M.medium «module».old) }
     requires loaded { Loaded m held.now (bench_of lease.old) }
-    requires stands { Told (M.medium module.old) (λ image. StandsForMasters image m) }
+    requires stands { Told (M.medium «module».old) (λ image. StandsForMasters image m) }
 
     ensures loaded { IfOk result (λ now. Loaded (after_first (bench_of lease.old).part m) now (bench_of lease.new)) }
-    ensures module { ChangesModule m (after_first (bench_of lease.old).part m) (M.medium module.old) (M.medium module.new) result }
+    ensures changed { ChangesModule m (after_first (bench_of lease.old).part m) (M.medium «module».old) (M.medium «module».new) result }
     ensures places { lease.new ≡ holding lease.old (with_registers (bench_of lease.old) (bench_of lease.new)) }
     ensures placed { result ≡ Err RegisterFault.DiskFault → ArePlaced (after_first (bench_of lease.old).part m) (bench_of lease.new) }
-    ensures cause { HasDiskCause (M.faults module.old) (M.faults module.new) result }
+    ensures cause { HasDiskCause (M.faults «module».old) (M.faults «module».new) result }
 
     // a refusal by a rule leaves the module and the lease untouched
     ensures state { (result ≡ Err RegisterFault.RegisterState) ↔ IsTrue (first_refused m) }
     ensures same { result ≢ Err RegisterFault.SamePattern }
-    ensures module_untouched { WhenRefused result (module.new ≡ module.old) }
+    ensures untouched { WhenRefused result («module».new ≡ «module».old) }
     ensures lease_untouched { WhenRefused result (lease.new ≡ lease.old) }
 {
     if held.new_state != NewState::Empty {
@@ -61,21 +61,21 @@ pub fn middle<M: Disk>(
     held: &Registers,
 ) -> Result<Registers, RegisterFault>
     ghost m: { Masters }
-    requires within { 1536 ≤ (M.medium module.old).size }
-    requires settled { IsSettled (M.medium module.old) }
+    requires within { 1536 ≤ (M.medium «module».old).size }
+    requires settled { IsSettled (M.medium «module».old) }
     requires loaded { Loaded m held.now (bench_of lease.old) }
-    requires stands { Told (M.medium module.old) (λ image. StandsForMasters image m) }
+    requires stands { Told (M.medium «module».old) (λ image. StandsForMasters image m) }
 
     ensures loaded { IfOk result (λ now. Loaded (after_middle (bench_of lease.old).part m) now (bench_of lease.new)) }
-    ensures module { ChangesModule m (after_middle (bench_of lease.old).part m) (M.medium module.old) (M.medium module.new) result }
+    ensures changed { ChangesModule m (after_middle (bench_of lease.old).part m) (M.medium «module».old) (M.medium «module».new) result }
     ensures places { lease.new ≡ holding lease.old (with_registers (bench_of lease.old) (bench_of lease.new)) }
     ensures placed { result ≡ Err RegisterFault.DiskFault → ArePlaced (after_middle (bench_of lease.old).part m) (bench_of lease.new) }
-    ensures cause { HasDiskCause (M.faults module.old) (M.faults module.new) result }
+    ensures cause { HasDiskCause (M.faults «module».old) (M.faults «module».new) result }
 
     // a refusal by a rule leaves the module and the lease untouched
     ensures state { (result ≡ Err RegisterFault.RegisterState) ↔ IsTrue (combine_refused m) }
     ensures same { result ≢ Err RegisterFault.SamePattern }
-    ensures module_untouched { WhenRefused result (module.new ≡ module.old) }
+    ensures untouched { WhenRefused result («module».new ≡ «module».old) }
     ensures lease_untouched { WhenRefused result (lease.new ≡ lease.old) }
 {
     if held.new_state != NewState::Partial {
@@ -94,21 +94,21 @@ pub fn last<M: Disk>(
     held: &Registers,
 ) -> Result<Registers, RegisterFault>
     ghost m: { Masters }
-    requires within { 1536 ≤ (M.medium module.old).size }
-    requires settled { IsSettled (M.medium module.old) }
+    requires within { 1536 ≤ (M.medium «module».old).size }
+    requires settled { IsSettled (M.medium «module».old) }
     requires loaded { Loaded m held.now (bench_of lease.old) }
-    requires stands { Told (M.medium module.old) (λ image. StandsForMasters image m) }
+    requires stands { Told (M.medium «module».old) (λ image. StandsForMasters image m) }
 
     ensures loaded { IfOk result (λ now. Loaded (after_last (bench_of lease.old).part m) now (bench_of lease.new)) }
-    ensures module { ChangesModule m (after_last (bench_of lease.old).part m) (M.medium module.old) (M.medium module.new) result }
+    ensures changed { ChangesModule m (after_last (bench_of lease.old).part m) (M.medium «module».old) (M.medium «module».new) result }
     ensures places { lease.new ≡ holding lease.old (with_registers (bench_of lease.old) (bench_of lease.new)) }
     ensures placed { result ≡ Err RegisterFault.DiskFault → ArePlaced (after_last (bench_of lease.old).part m) (bench_of lease.new) }
-    ensures cause { HasDiskCause (M.faults module.old) (M.faults module.new) result }
+    ensures cause { HasDiskCause (M.faults «module».old) (M.faults «module».new) result }
 
     // a refusal by a rule leaves the module and the lease untouched
     ensures state { (result ≡ Err RegisterFault.RegisterState) ↔ IsTrue (combine_refused m) }
     ensures same { result ≢ Err RegisterFault.SamePattern }
-    ensures module_untouched { WhenRefused result (module.new ≡ module.old) }
+    ensures untouched { WhenRefused result («module».new ≡ «module».old) }
     ensures lease_untouched { WhenRefused result (lease.new ≡ lease.old) }
 {
     if held.new_state != NewState::Partial {
@@ -127,16 +127,16 @@ pub fn clear<M: Disk>(
     held: &Registers,
 ) -> Result<Registers, RegisterFault>
     ghost m: { Masters }
-    requires within { 1536 ≤ (M.medium module.old).size }
-    requires settled { IsSettled (M.medium module.old) }
+    requires within { 1536 ≤ (M.medium «module».old).size }
+    requires settled { IsSettled (M.medium «module».old) }
     requires loaded { Loaded m held.now (bench_of lease.old) }
-    requires stands { Told (M.medium module.old) (λ image. StandsForMasters image m) }
+    requires stands { Told (M.medium «module».old) (λ image. StandsForMasters image m) }
 
     ensures loaded { IfOk result (λ now. Loaded (cleared m) now (bench_of lease.new)) }
-    ensures module { ChangesModule m (cleared m) (M.medium module.old) (M.medium module.new) result }
+    ensures changed { ChangesModule m (cleared m) (M.medium «module».old) (M.medium «module».new) result }
     ensures places { lease.new ≡ holding lease.old (with_registers (bench_of lease.old) (bench_of lease.new)) }
     ensures placed { result ≡ Err RegisterFault.DiskFault → ArePlaced (cleared m) (bench_of lease.new) }
-    ensures cause { HasDiskCause (M.faults module.old) (M.faults module.new) result }
+    ensures cause { HasDiskCause (M.faults «module».old) (M.faults «module».new) result }
 
     // no rule refuses it
     ensures state { result ≢ Err RegisterFault.RegisterState }
@@ -157,21 +157,21 @@ pub fn set<M: Disk>(
     held: &Registers,
 ) -> Result<Registers, RegisterFault>
     ghost m: { Masters }
-    requires within { 1536 ≤ (M.medium module.old).size }
-    requires settled { IsSettled (M.medium module.old) }
+    requires within { 1536 ≤ (M.medium «module».old).size }
+    requires settled { IsSettled (M.medium «module».old) }
     requires loaded { Loaded m held.now (bench_of lease.old) }
-    requires stands { Told (M.medium module.old) (λ image. StandsForMasters image m) }
+    requires stands { Told (M.medium «module».old) (λ image. StandsForMasters image m) }
 
     ensures loaded { IfOk result (λ now. Loaded (after_set m) now (bench_of lease.new)) }
-    ensures module { ChangesModule m (after_set m) (M.medium module.old) (M.medium module.new) result }
+    ensures changed { ChangesModule m (after_set m) (M.medium «module».old) (M.medium «module».new) result }
     ensures places { lease.new ≡ holding lease.old (with_registers (bench_of lease.old) (bench_of lease.new)) }
     ensures placed { result ≡ Err RegisterFault.DiskFault → ArePlaced (after_set m) (bench_of lease.new) }
-    ensures cause { HasDiskCause (M.faults module.old) (M.faults module.new) result }
+    ensures cause { HasDiskCause (M.faults «module».old) (M.faults «module».new) result }
 
     // a refusal by a rule leaves the module and the lease untouched
     ensures state { (result ≡ Err RegisterFault.RegisterState) ↔ IsTrue (set_refused m) }
     ensures same { (result ≡ Err RegisterFault.SamePattern) ↔ IsTrue (same_pattern m) }
-    ensures module_untouched { WhenRefused result (module.new ≡ module.old) }
+    ensures untouched { WhenRefused result («module».new ≡ «module».old) }
     ensures lease_untouched { WhenRefused result (lease.new ≡ lease.old) }
 {
     if held.new_state != NewState::Full {
@@ -198,12 +198,12 @@ fn store<M: Disk>(
     next: Registers,
 ) -> Result<Registers, RegisterFault>
     ghost change: { Change }
-    requires within { 1536 ≤ (M.medium module.old).size }
-    requires settled { IsSettled (M.medium module.old) }
+    requires within { 1536 ≤ (M.medium «module».old).size }
+    requires settled { IsSettled (M.medium «module».old) }
     requires loaded { Loaded change.next next (bench_of lease.old) }
-    requires stands { Told (M.medium module.old) (λ image. StandsForMasters image change.before) }
-    ensures module { ChangesModule change.before change.next (M.medium module.old) (M.medium module.new) result }
-    ensures cause { HasDiskCause (M.faults module.old) (M.faults module.new) result }
+    requires stands { Told (M.medium «module».old) (λ image. StandsForMasters image change.before) }
+    ensures changed { ChangesModule change.before change.next (M.medium «module».old) (M.medium «module».new) result }
+    ensures cause { HasDiskCause (M.faults «module».old) (M.faults «module».new) result }
     ensures loaded { IfOk result (λ now. Loaded change.next now (bench_of lease.new)) }
     ensures fault { WhenRefused result ⊥ }
     ensures body { lease.new ≡ holding lease.old (record (bench_of lease.old) { body = registers_body change.next }) }

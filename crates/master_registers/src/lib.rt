@@ -19,3 +19,6 @@ pub use faults::{LoadFault, RegisterFault};
 pub use loading::{a_body_reads_as_one, load};
 pub use patterns::{Pattern, pattern_of};
 pub use registers::{NewState, Registers};
+
+#[cfg(test)]
+mod tests;

@@ -21,12 +21,12 @@ use slot_disk::{Cell, Disk, read_cell};
 /// Reads cell 0 of the module into the places of the three registers. The disk is as before. Of the lease the places
 /// `Current`, `Old` and `New` and the body change, and after an error they may hold any bytes.
 pub fn load<M: Disk>(module: &mut M, lease: &mut Lease) -> Result<Registers, LoadFault>
-    requires within { 1536 ≤ (M.medium module.old).size }
+    requires within { 1536 ≤ (M.medium «module».old).size }
     ensures loaded { IfOk result (λ held. (m : Masters) × Loaded m held (bench_of lease.new)
-        × Told (M.medium module.old) (λ image. StandsForMasters image m)) }
-    ensures damaged { result ≡ Err LoadFault.Damaged → Told (M.medium module.old) IsDamaged }
-    ensures keeps { Keeps (M.medium module.old) (M.medium module.new) }
-    ensures cause { HasLoadCause (M.faults module.old) (M.faults module.new) result }
+        × Told (M.medium «module».old) (λ image. StandsForMasters image m)) }
+    ensures damaged { result ≡ Err LoadFault.Damaged → Told (M.medium «module».old) IsDamaged }
+    ensures keeps { Keeps (M.medium «module».old) (M.medium «module».new) }
+    ensures cause { HasLoadCause (M.faults «module».old) (M.faults «module».new) result }
     ensures places { lease.new ≡ holding lease.old (with_registers (bench_of lease.old) (bench_of lease.new)) }
 {
     if read_cell(module, Cell::new(0), lease.body_mut()).is_err() {
