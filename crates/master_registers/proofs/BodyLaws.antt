@@ -5,7 +5,8 @@ use Rattle.std.proofs.lemmas.List.{append_assoc, append-nil, drop-drop, drop_at,
 use Rattle.master_registers.specs.Masters.{NewRegister, Empty, Partial, Full, Masters, IsMaster, IsMasters, AreApart, blank_masters, new_bytes, kept_bytes}
 use Rattle.master_registers.specs.RegisterBody.{registers_body, blank_body, new_code, kept_code, ReadsMasters}
 use Rattle.master_registers.specs.BodyForm.{coming_at, kept_at, masters_at, state_at, pattern_at, AreZero, HasStates, IsZeroWhereEmpty, IsBody, HasForm, AreMasterKeys}
-use Rattle.master_registers.specs.Loaded.{state_of, pattern_in, registers_of, ArePlaced}
+use Rattle.master_registers.specs.Loaded.{state_of, pattern_in, registers_of, ArePlaced, Loaded, masters_in}
+use Rattle.master_registers.proofs.LoadedLaws.{loaded_one}
 use Rattle.master_registers.specs.declared.registers.NewState.{NewState}
 use Rattle.master_registers.specs.declared.registers.Registers.{Registers}
 use Rattle.key_cells.specs.Bench.{Bench}
@@ -266,10 +267,10 @@ unread body copy again is_zero is_form same too zero_is blank_zero form_is form 
     reads
 
 -- the registers of a table, of which the patterns are looked at
-pub valid_as : (m : Masters) → AreMasterKeys m → AreApart m.current m.former → IsMasters m
+valid_as : (m : Masters) → AreMasterKeys m → AreApart m.current m.former → IsMasters m
 valid_as m keys apart = record { coming = keys.coming; current = keys.current; former = keys.former; apart = apart }
 
-pub read_as : (body : List ℕ) → IsBody body → HasForm body → AreMasterKeys (masters_at body) → AreApart (masters_at body).current (masters_at body).former
+read_as : (body : List ℕ) → IsBody body → HasForm body → AreMasterKeys (masters_at body) → AreApart (masters_at body).current (masters_at body).former
     → ReadsMasters body (masters_at body)
 read_as body bytes form keys apart = inr (table_of_form body bytes.size form, valid_as (masters_at body) keys apart)
 
@@ -285,3 +286,15 @@ pub too_close : (body copy : List ℕ) (is_zero is_apart : Bool) → copy ≡ bo
 too_close body copy is_zero is_apart same zero_is blank_zero apart_is apart m reads =
     let read : (m ≡ masters_at body) × IsMasters m = reads_table body m (λ blank. not_true is_zero zero_is (blank_zero (subst AreZero (sym same) blank))) reads in
     not_true is_apart apart_is (apart (subst (λ (n : Masters). AreApart n.current n.former) read.0 read.1.apart))
+
+-- the registers that were taken from a body are those that the bench holds
+module _ (body : List ℕ) (held : Registers) (bench : Bench) (keys : AreMasterKeys (masters_at body)) (apart : AreApart (masters_at body).current (masters_at body).former)
+    (placed : ArePlaced (masters_at body) bench) (told : held ≡ registers_of (masters_at body)) where
+  loaded_at : Loaded (masters_at body) held bench
+  loaded_at = record { valid = valid_as (masters_at body) keys apart; placed = placed; told = told }
+
+  pub loaded_taken : Loaded (masters_in held bench) held bench
+  loaded_taken = subst (λ (m : Masters). Loaded m held bench) (sym (loaded_one (masters_at body) held bench loaded_at)) loaded_at
+
+  pub reads_taken : IsBody body → HasForm body → ReadsMasters body (masters_in held bench)
+  reads_taken bytes form = subst (ReadsMasters body) (sym (loaded_one (masters_at body) held bench loaded_at)) (read_as body bytes form keys apart)

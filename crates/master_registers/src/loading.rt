@@ -6,7 +6,7 @@ ghost use Rattle.key_cells.specs.Bench.{Bench, blank_bench, master_of};
 ghost use Rattle.key_cells.specs.Lease.{held as bench_of, holding};
 ghost use Rattle.master_registers.specs.BodyForm.{IsBody, HasForm, AreMasterKeys, masters_at, state_at, pattern_at};
 ghost use Rattle.master_registers.specs.Changes.{HasLoadCause};
-ghost use Rattle.master_registers.specs.Loaded.{Loaded, ArePlaced, registers_of, with_registers};
+ghost use Rattle.master_registers.specs.Loaded.{Loaded, ArePlaced, masters_in, registers_of, with_registers};
 ghost use Rattle.master_registers.specs.Masters.{Masters, AreApart, blank_masters};
 ghost use Rattle.master_registers.specs.RegisterBody.{ReadsMasters, StandsForMasters, IsDamaged};
 
@@ -22,8 +22,9 @@ use slot_disk::{Cell, Disk, read_cell};
 /// `Current`, `Old` and `New` and the body change, and after an error they may hold any bytes.
 pub fn load<M: Disk>(module: &mut M, lease: &mut Lease) -> Result<Registers, LoadFault>
     requires within { 1536 ≤ (M.medium «module».old).size }
-    ensures loaded { IfOk result (λ held. (m : Masters) × Loaded m held (bench_of lease.new)
-        × Told (M.medium «module».old) (λ image. StandsForMasters image m)) }
+    ensures loaded { IfOk result (λ held. Loaded (masters_in held (bench_of lease.new)) held (bench_of lease.new)) }
+    ensures stands { IfOk result (λ held.
+        Told (M.medium «module».new) (λ image. StandsForMasters image (masters_in held (bench_of lease.new)))) }
     ensures damaged { result ≡ Err LoadFault.Damaged → Told (M.medium «module».old) IsDamaged }
     ensures keeps { Keeps (M.medium «module».old) (M.medium «module».new) }
     ensures cause { HasLoadCause (M.faults «module».old) (M.faults «module».new) result }
@@ -37,8 +38,8 @@ pub fn load<M: Disk>(module: &mut M, lease: &mut Lease) -> Result<Registers, Loa
 
 /// Takes the registers from the body of the workbench, where it reads as some.
 fn read_registers(lease: &mut Lease) -> Option<Registers>
-    ensures read { IfSome result (λ held. (m : Masters) × Loaded m held (bench_of lease.new)
-        × ReadsMasters (bench_of lease.old).body m) }
+    ensures loaded { IfSome result (λ held. Loaded (masters_in held (bench_of lease.new)) held (bench_of lease.new)) }
+    ensures reads { IfSome result (λ held. ReadsMasters (bench_of lease.old).body (masters_in held (bench_of lease.new))) }
     ensures damaged { IsNone result → (m : Masters) → ReadsMasters (bench_of lease.old).body m → ⊥ }
     ensures places { lease.new ≡ holding lease.old (with_registers (bench_of lease.old) (bench_of lease.new)) }
 {

@@ -31,7 +31,9 @@ enum Stop {
 fn carry_out<M: Disk>(module: &mut M, bench: &mut Workbench, step: Step) -> Result<Registers, Stop>
     requires { 1536 ≤ (M.medium «module».old).size }
 {
-    settle(module).map_err(|_| Stop::Settle)?;
+    if settle(module).is_err() {
+        return Err(Stop::Settle);
+    }
     let mut lease = Lease::open(bench);
     let held = load(module, &mut lease).map_err(Stop::Load)?;
     change(module, &mut lease, &held, step).map_err(Stop::Change)
