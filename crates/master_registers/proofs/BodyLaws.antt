@@ -1,10 +1,10 @@
 -- The table of the registers written and read back.
-use Rattle.std.proofs.Common.{◌≡◌, ◌≤◌, ◌<◌, ◌-◌, ◌⊎◌, inl, inr, ⊎_elim, ℕ, zero, suc, ◌+◌, Bool, true, false, List, [], ◌∷◌, ◌++◌, length, get_or, take, drop, replicate, Option, None, Some, refl, sym, ap, subst, ◌∙◌, arith}
+use Rattle.std.proofs.Common.{◌≡◌, ◌≤◌, ◌<◌, ◌-◌, inr, ⊎_elim, ℕ, zero, suc, ◌+◌, Bool, true, false, List, [], ◌∷◌, ◌++◌, length, get_or, take, drop, replicate, Option, None, Some, refl, sym, ap, subst, ◌∙◌, arith}
 use Rattle.std.specs.Prelude.{IsTrue, slice_range, slice_index}
-use Rattle.std.proofs.lemmas.List.{append_assoc, append-nil, drop-drop, drop_at, get_or-drop, get_or-take, get_or_default, length-append, length-drop, length-replicate, length-take, take-append-drop, take_all, take_at}
+use Rattle.std.proofs.lemmas.List.{append_assoc, drop-drop, drop_at, get_or-drop, get_or-take, get_or_default, length-append, length-drop, length-replicate, length-take, take-append-drop, take_all, take_at}
 use Rattle.master_registers.specs.Masters.{NewRegister, Empty, Partial, Full, Masters, IsMaster, IsMasters, AreApart, blank_masters, new_bytes, kept_bytes}
 use Rattle.master_registers.specs.RegisterBody.{registers_body, blank_body, new_code, kept_code, ReadsMasters}
-use Rattle.master_registers.specs.BodyForm.{coming_at, kept_at, masters_at, state_at, pattern_at, AreZero, HasStates, IsZeroWhereEmpty, IsBody, HasForm, AreMasterKeys}
+use Rattle.master_registers.specs.BodyForm.{coming_at, kept_at, masters_at, state_at, pattern_at, AreZero, IsBody, HasForm, AreMasterKeys}
 use Rattle.master_registers.specs.Loaded.{state_of, pattern_in, registers_of, ArePlaced, Loaded, masters_in}
 use Rattle.master_registers.proofs.LoadedLaws.{loaded_one}
 use Rattle.master_registers.specs.declared.registers.NewState.{NewState}

@@ -1,4 +1,4 @@
-use Rattle.std.proofs.Common.{◌≡◌, List, ℕ, ap, ◌∙◌}
+use Rattle.std.proofs.Common.{List, ℕ, ap, ◌∙◌}
 use Rattle.key_cells.specs.Bench.{Bench}
 use Rattle.key_cells.specs.Lease.{held, holding}
 use Rattle.key_cells.specs.declared.places.MasterPlace.TheVariants.{Current, Old}

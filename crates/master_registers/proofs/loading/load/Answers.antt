@@ -1,4 +1,4 @@
-use Rattle.std.proofs.Common.{◌≡◌, List, ℕ, Result, Ok, Err, Bool, true, false, None, refl, sym, ap, subst, ◌∙◌}
+use Rattle.std.proofs.Common.{◌≡◌, Result, Ok, Err, true, false, None, refl, sym, ap, subst, ◌∙◌}
 use Rattle.std.specs.Result.{OnOk, is_err, result_ok}
 use Rattle.std.specs.Option.{IsNone}
 use Rattle.slot_disk.specs.Cells.{body}

@@ -1,5 +1,4 @@
 use Rattle.std.proofs.Common.{List, ℕ, subst}
-use Rattle.key_cells.specs.Bench.{Bench}
 use Rattle.key_cells.specs.Lease.{held}
 use Rattle.master_registers.specs.BodyForm.{IsBody, HasForm, masters_at}
 use Rattle.master_registers.specs.Masters.{AreApart}

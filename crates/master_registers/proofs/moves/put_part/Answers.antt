@@ -1,4 +1,4 @@
-use Rattle.std.proofs.Common.{◌≡◌, List, ℕ, ap, subst, sym, ◌∙◌}
+use Rattle.std.proofs.Common.{List, ℕ, ap, subst, ◌∙◌}
 use Rattle.key_cells.specs.Lease.{held, holding}
 use Rattle.master_registers.specs.Masters.{IsMaster, xor_bytes}
 use Rattle.master_registers.proofs.ByteLemmas.{xor_bytes-zeros}
