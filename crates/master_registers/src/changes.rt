@@ -1,10 +1,7 @@
 //! The steps of a key ceremony. Each change writes cell 0 of the module, and nothing more: a stop at any moment leaves
 //! the old registers or the new ones.
-ghost use Rattle.std.specs.Prelude.{◌≡◌, ◌≢◌, ◌≤◌, ◌↔◌, List, Bool, IfOk, OnOk, IsTrue, Result};
-ghost use Rattle.slot_disk.specs.Cells.{IsReplaced, IsReplacing};
-ghost use Rattle.slot_disk.specs.Faults.{HasCause};
-ghost use Rattle.slot_disk.specs.Medium.{Told, IsSettled, From, Becomes, EachImage};
-ghost use Rattle.key_cells.specs.Bench.{Bench, master_of, with_master};
+ghost use Rattle.std.specs.Prelude.{◌≡◌, ◌≢◌, ◌≤◌, ◌↔◌, IfOk, IsTrue, Result};
+ghost use Rattle.slot_disk.specs.Medium.{Told, IsSettled};
 ghost use Rattle.key_cells.specs.Lease.{held as bench_of, holding};
 ghost use Rattle.master_registers.specs.Changes.{ChangesModule, WhenRefused, HasDiskCause, Change};
 ghost use Rattle.master_registers.specs.Loaded.{Loaded, ArePlaced, with_registers};

@@ -1,6 +1,5 @@
 //! The registers as the body of a cell.
 ghost use Rattle.std.specs.Prelude.{◌≡◌, ◌↔◌, ◌+◌, ◌<◌, ◌≤◌, IsTrue};
-ghost use Rattle.key_cells.specs.Bench.{Bench};
 ghost use Rattle.key_cells.specs.Lease.{held as bench_of, holding};
 ghost use Rattle.master_registers.specs.Masters.{Masters};
 ghost use Rattle.master_registers.specs.RegisterBody.{registers_body};

@@ -1,8 +1,7 @@
 //! The registers taken from the module into the workbench.
-ghost use Rattle.std.specs.Prelude.{◌≡◌, ◌≢◌, ◌≤◌, ◌↔◌, ◌<◌, ℕ, List, Option, slice_index, IfOk, IfSome, IsNone, IsTrue};
-ghost use Rattle.slot_disk.specs.Faults.{Rose};
+ghost use Rattle.std.specs.Prelude.{◌≡◌, ◌≤◌, ◌↔◌, ◌<◌, ℕ, List, Option, slice_index, IfOk, IfSome, IsNone, IsTrue};
 ghost use Rattle.slot_disk.specs.Medium.{Told, Keeps};
-ghost use Rattle.key_cells.specs.Bench.{Bench, blank_bench, master_of};
+ghost use Rattle.key_cells.specs.Bench.{master_of};
 ghost use Rattle.key_cells.specs.Lease.{held as bench_of, holding};
 ghost use Rattle.master_registers.specs.BodyForm.{IsBody, HasForm, AreMasterKeys, masters_at, state_at, pattern_at};
 ghost use Rattle.master_registers.specs.Changes.{HasLoadCause};

@@ -1,6 +1,6 @@
 //! Bytes of master keys moved between the places of the workbench.
 ghost use Rattle.std.specs.Prelude.{◌≡◌, ◌≢◌, ◌+◌, ◌≤◌, ◌++◌, length, take, drop, replicate, slice_range};
-ghost use Rattle.key_cells.specs.Bench.{Bench, master_of, with_master};
+ghost use Rattle.key_cells.specs.Bench.{master_of, with_master};
 ghost use Rattle.key_cells.specs.Lease.{held, holding};
 ghost use Rattle.key_cells.specs.Secret.{bytes_of};
 ghost use Rattle.master_registers.specs.Masters.{IsMaster, xor_bytes};
