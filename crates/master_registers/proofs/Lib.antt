@@ -1,0 +1,4 @@
+pub mod BodyLaws
+pub mod ByteLemmas
+pub mod FormLemmas
+pub mod LoadedLaws

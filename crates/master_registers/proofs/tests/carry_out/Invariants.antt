@@ -1,0 +1,7 @@
+-- The registers that were loaded.
+use Rattle.key_cells.specs.Lease.{held}
+use Rattle.master_registers.specs.Loaded.{masters_in}
+use Rattle.master_registers.proofs.tests.carry_out.Given as goal
+
+abbrev pub ghost-change : goal.ghost-change
+ghost-change g a = masters_in a.held.now (held a.lease.now)

@@ -1,0 +1,51 @@
+-- What a change of the registers does to the module, and when each answer comes.
+use Rattle.std.specs.Prelude.{◌≡◌, ◌≢◌, ◌≤◌, ◌⊎◌, ℕ, List, Result, Ok, Err, OnOk, ⊤}
+use Rattle.slot_disk.specs.Cells.{body, IsReplaced}
+use Rattle.slot_disk.specs.Faults.{Rose}
+use Rattle.slot_disk.specs.Medium.{Medium, IsSettled, Told, From, Becomes, EachImage}
+use Rattle.slot_disk.specs.Ranges.{SameOutside}
+use Rattle.master_registers.specs.Masters.{Masters}
+use Rattle.master_registers.specs.RegisterBody.{registers_body, StandsForMasters}
+use Rattle.master_registers.specs.declared.faults.LoadFault.{LoadFault}
+use Rattle.master_registers.specs.declared.faults.LoadFault.TheVariants as load_fault
+use Rattle.master_registers.specs.declared.faults.RegisterFault.{RegisterFault}
+use Rattle.master_registers.specs.declared.faults.RegisterFault.TheVariants as register_fault
+use Rattle.master_registers.specs.declared.registers.Registers.{Registers}
+
+-- cell 0 stands for one of these registers, every other cell selects the body that it did, and no byte outside cell 0
+-- has changed
+pub record HoldsEither (m next : Masters) (old new : List ℕ) : Type 0 where
+  pub outside : SameOutside 0 1536 old new
+  pub others : (n : ℕ) → n ≢ 0 → body new n ≡ body old n
+  pub stands : StandsForMasters new m ⊎ StandsForMasters new next
+
+-- The registers of a module become others.
+pub record ChangesModule (m next : Masters) (old new : Medium) (result : Result Registers RegisterFault) : Type 0 where
+  -- after Ok nothing is unsynced, and cell 0 selects the table of the new registers
+  pub settled : OnOk result (IsSettled new)
+  pub replaced : OnOk result (Becomes (IsReplaced 0 (registers_body next)) old new)
+  pub stands : OnOk result (Told new (λ c. StandsForMasters c next))
+  -- whatever the answer, a read gives the old registers or the new ones, and so does a stop at any moment of the call
+  pub either : Becomes (HoldsEither m next) old new
+  pub moments : EachImage old new (From (HoldsEither m next) old)
+
+-- where a rule refuses the change, P holds
+abbrev pub WhenRefused : Result Registers RegisterFault → Type 0 → Type 0
+WhenRefused (Ok held) P = ⊤
+WhenRefused (Err register_fault.DiskFault) P = ⊤
+WhenRefused (Err register_fault.RegisterState) P = P
+WhenRefused (Err register_fault.SamePattern) P = P
+
+-- a disk's fault is answered only where the disk's count rose
+pub record HasDiskCause (before now : ℕ) (result : Result Registers RegisterFault) : Type 0 where
+  pub later : before ≤ now
+  pub failed : result ≡ Err register_fault.DiskFault → Rose before now
+
+pub record HasLoadCause (before now : ℕ) (result : Result Registers LoadFault) : Type 0 where
+  pub later : before ≤ now
+  pub failed : result ≡ Err load_fault.DiskFault → Rose before now
+
+-- the registers before a change and after it
+pub record Change : Type 0 where
+  pub before : Masters
+  pub next : Masters

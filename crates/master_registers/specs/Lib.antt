@@ -1,0 +1,10 @@
+pub mod BodyForm
+pub mod Changes
+pub mod Loaded
+pub mod Masters
+pub mod RegisterBody
+pub use Rattle.key_cells.specs.Bench
+pub use Rattle.key_cells.specs.Lease
+pub use Rattle.slot_disk.specs.Cells
+pub use Rattle.slot_disk.specs.Faults
+pub use Rattle.slot_disk.specs.Medium

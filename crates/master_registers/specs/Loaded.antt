@@ -1,0 +1,55 @@
+-- The registers in the workbench, and what the code knows of them beside it.
+use Rattle.std.specs.Prelude.{◌≡◌, ℕ, List, Option, None, Some}
+use Rattle.key_cells.specs.Bench.{Bench}
+use Rattle.master_registers.specs.Masters.{NewRegister, Empty, Partial, Full, Masters, IsMasters, new_bytes, kept_bytes, pattern_of_master}
+use Rattle.master_registers.specs.declared.registers.NewState.{NewState}
+use Rattle.master_registers.specs.declared.registers.NewState.TheVariants as state
+use Rattle.master_registers.specs.declared.registers.Registers.{Registers}
+use Rattle.master_registers.specs.declared.patterns.Pattern.{Pattern}
+
+abbrev pub state_of : NewRegister → NewState
+state_of Empty = state.Empty
+state_of (Partial bytes) = state.Partial
+state_of (Full bytes) = state.Full
+
+-- the pattern of a register, where it is full
+abbrev pub pattern_in : Option (List ℕ) → Option Pattern
+pattern_in None = None
+pattern_in (Some bytes) = Some (record { bytes = pattern_of_master bytes })
+
+-- how full the new register is, and the patterns of the others
+abbrev pub registers_of : Masters → Registers
+registers_of m = record { new_state = state_of m.coming; current_pattern = pattern_in m.current; old_pattern = pattern_in m.former }
+
+-- the places of the bench hold the registers, zeros where empty
+pub record ArePlaced (m : Masters) (bench : Bench) : Type 0 where
+  pub coming : bench.coming ≡ new_bytes m.coming
+  pub current : bench.current ≡ kept_bytes m.current
+  pub former : bench.former ≡ kept_bytes m.former
+
+pub record Loaded (m : Masters) (held : Registers) (bench : Bench) : Type 0 where
+  pub valid : IsMasters m
+  pub placed : ArePlaced m bench
+  pub told : held ≡ registers_of m
+
+-- the bench with the registers and the body of another one
+abbrev pub with_registers : Bench → Bench → Bench
+with_registers bench other = record bench { coming = other.coming; current = other.current; former = other.former; body = other.body }
+
+-- ---- the registers that a bench holds, by what the code knows of them
+
+abbrev pub coming_in : NewState → List ℕ → NewRegister
+coming_in state.Empty bytes = Empty
+coming_in state.Partial bytes = Partial bytes
+coming_in state.Full bytes = Full bytes
+
+abbrev pub kept_in : Option Pattern → List ℕ → Option (List ℕ)
+kept_in None bytes = None
+kept_in (Some pattern) bytes = Some bytes
+
+abbrev pub masters_in : Registers → Bench → Masters
+masters_in held bench = record {
+  coming = coming_in held.new_state bench.coming;
+  current = kept_in held.current_pattern bench.current;
+  former = kept_in held.old_pattern bench.former;
+}

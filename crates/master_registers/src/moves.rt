@@ -1,0 +1,94 @@
+//! Bytes of master keys moved between the places of the workbench.
+ghost use Rattle.std.specs.Prelude.{◌≡◌, ◌≢◌, ◌+◌, ◌≤◌, ◌++◌, length, take, drop, replicate, slice_range};
+ghost use Rattle.key_cells.specs.Bench.{master_of, with_master};
+ghost use Rattle.key_cells.specs.Lease.{held, holding};
+ghost use Rattle.key_cells.specs.Secret.{bytes_of};
+ghost use Rattle.master_registers.specs.Masters.{IsMaster, xor_bytes};
+
+use key_cells::{Lease, MasterPlace, Secret};
+
+/// Moves a master key to another place, and leaves zeros where it was.
+pub(crate) fn move_master(lease: &mut Lease, from: MasterPlace, to: MasterPlace)
+    requires { from ≢ to }
+    ensures { lease.new ≡ holding lease.old (with_master (with_master (held lease.old) to (master_of (held lease.old) from)) from (replicate 24 0)) }
+{
+    copy_master(lease, from, to);
+    clear_master(lease, from);
+}
+
+/// Copies a master key to another place.
+pub(crate) fn copy_master(lease: &mut Lease, from: MasterPlace, to: MasterPlace)
+    ensures { lease.new ≡ holding lease.old (with_master (held lease.old) to (master_of (held lease.old) from)) }
+{
+    *lease.master_mut(to) = *lease.master(from);
+}
+
+/// Makes a place zero.
+pub(crate) fn clear_master(lease: &mut Lease, place: MasterPlace)
+    ensures { lease.new ≡ holding lease.old (with_master (held lease.old) place (replicate 24 0)) }
+{
+    *lease.master_mut(place) = [0; 24];
+}
+
+/// Puts the part into the new register, whose place is zero: the XOR with zeros is the part itself.
+pub(crate) fn put_part(lease: &mut Lease)
+    requires { (held lease.old).coming ≡ replicate 24 0 }
+    ensures put { lease.new ≡ holding lease.old (record (held lease.old) { coming = (held lease.old).part }) }
+    ensures bytes { IsMaster (held lease.old).part }
+{
+    combine_part(lease);
+}
+
+/// XORs the part into the new register.
+pub(crate) fn combine_part(lease: &mut Lease)
+    ensures combined { lease.new ≡ holding lease.old (record (held lease.old) { coming = xor_bytes (held lease.old).coming (held lease.old).part }) }
+    ensures bytes { IsMaster (xor_bytes (held lease.old).coming (held lease.old).part) }
+    ensures part { length (held lease.old).part ≡ 24 }
+{
+    let mut bytes = *lease.master(MasterPlace::Part);
+    let part = Secret::guard(&mut bytes);
+    combine(&part, lease.master_mut(MasterPlace::New));
+}
+
+fn combine(part: &Secret<'_, 24>, into: &mut [u8; 24])
+    ensures combined { into.new ≡ xor_bytes into.old (bytes_of part.now) }
+    ensures bytes { IsMaster into.new }
+{
+    for at in 0..24 {
+        into[at] ^= part.byte(at);
+    }
+}
+
+/// Copies a master key into the body of a cell, from a byte on.
+pub(crate) fn put_master(lease: &mut Lease, place: MasterPlace, at: usize)
+    requires { at + 24 ≤ 192 }
+    ensures { lease.new ≡ holding lease.old (record (held lease.old) { body = take at (held lease.old).body ++ master_of (held lease.old) place ++ drop (at + 24) (held lease.old).body }) }
+{
+    let mut bytes = *lease.master(place);
+    let master = Secret::guard(&mut bytes);
+    put(&master, lease.body_mut(), at);
+}
+
+fn put(master: &Secret<'_, 24>, body: &mut [u8; 192], at: usize)
+    requires { at + 24 ≤ 192 }
+    ensures { body.new ≡ take at body.old ++ bytes_of master.now ++ drop (at + 24) body.old }
+{
+    for byte in 0..24 {
+        body[at + byte] = master.byte(byte);
+    }
+}
+
+/// Copies 24 bytes of the body of a cell, from a byte on, into the place of a master key.
+pub(crate) fn take_master(lease: &mut Lease, place: MasterPlace, at: usize)
+    requires { at + 24 ≤ 192 }
+    ensures { lease.new ≡ holding lease.old (with_master (held lease.old) place (slice_range (held lease.old).body at (at + 24))) }
+{
+    *lease.master_mut(place) = *master_at(lease.body(), at);
+}
+
+fn master_at(body: &[u8; 192], at: usize) -> &[u8; 24]
+    requires { at + 24 ≤ 192 }
+    ensures { result.now ≡ slice_range body.now at (at + 24) }
+{
+    body[at..at + 24].first_chunk::<24>().unwrap()
+}
