@@ -4,7 +4,7 @@ use Rattle.std.specs.Prelude.{nat_le, nat_lt}
 use Rattle.std.proofs.lemmas.Bool.Decides.{nat_tests}
 use Rattle.cca_vectors.specs.Checks.{first_failing}
 use Rattle.script_buffers.specs.Reading.{line_limit}
-use Rattle.verb_script.specs.Grammar.{Request, RequestName, csnbktp}
+use Rattle.verb_script.specs.Grammar.{Request, RequestName, csnbktp, csnbmkp_part, csnbmkp_clear, csnbmkp_set}
 use Rattle.verb_script.specs.Requests.{request_of}
 use Rattle.cca_machine.specs.State.{State}
 use Rattle.cca_machine.specs.Verdict.{Refusal, first_refusal, line_checks, line_questions, request_questions, verdict}
@@ -52,17 +52,18 @@ unfolding step performed
 step-request s random line request short spelled =
     rw spelled (rw (line_passes line request short) (answer-or_act (first_refusal (request_questions s request)) s random request))
 
-act-keeps : (s : State) (random : List ℕ) (name : RequestName) (request : Request)
-    → ((act s random name request).state ≡ s) × ((act s random name request).random ≡ random)
-act-keeps s random csnbktp request = (refl, refl)
+act-random : (s : State) (random : List ℕ) (name : RequestName) (request : Request) → (act s random name request).random ≡ random
+act-random s random csnbktp request = refl
+act-random s random csnbmkp_part request = refl
+act-random s random csnbmkp_clear request = refl
+act-random s random csnbmkp_set request = refl
 
-answer-keeps : (o : Option Refusal) (s : State) (random : List ℕ) (r : Option Request)
-    → ((answer o s random r).state ≡ s) × ((answer o s random r).random ≡ random)
-answer-keeps (Some refusal) s random r = (refl, refl)
-answer-keeps None s random (Some request) = act-keeps s random request.name request
-answer-keeps None s random None = (refl, refl)
+answer-random : (o : Option Refusal) (s : State) (random : List ℕ) (r : Option Request) → (answer o s random r).random ≡ random
+answer-random (Some refusal) s random r = refl
+answer-random None s random (Some request) = act-random s random request.name request
+answer-random None s random None = refl
 
--- no request of these changes the state or takes a random byte
-pub step-keeps : (s : State) (random line : List ℕ) → ((step s random line).state ≡ s) × ((step s random line).random ≡ random)
+-- no request of these takes a random byte
+pub step-random : (s : State) (random line : List ℕ) → (step s random line).random ≡ random
 unfolding step
-step-keeps s random line = answer-keeps (verdict s line) s random (request_of line)
+step-random s random line = answer-random (verdict s line) s random (request_of line)

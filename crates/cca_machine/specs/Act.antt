@@ -9,10 +9,12 @@ use Rattle.key_tokens.specs.declared.key_token.Kind.TheVariants.{Internal, Exter
 use Rattle.key_tokens.specs.declared.key_token.Token.{Token}
 use Rattle.key_tokens.specs.Parts.{token_of}
 use Rattle.script_buffers.specs.Replies.{Reply, Refused, Done, Field, Hex, Text, Number}
-use Rattle.verb_script.specs.Grammar.{Request, RequestName, csnbktp}
+use Rattle.master_registers.specs.Masters.{NewRegister, Empty, Partial, Full, Masters, after_first, after_middle, after_last, cleared, after_set}
+use Rattle.verb_script.specs.Grammar.{Request, RequestName, csnbktp, csnbmkp_part, csnbmkp_clear, csnbmkp_set, value_of}
+use Rattle.verb_script.specs.Values.{hex_value}
 use Rattle.verb_script.specs.Requests.{request_of}
 use Rattle.cca_machine.specs.State.{State}
-use Rattle.cca_machine.specs.Verdict.{Refusal, first_refusal, request_questions, verdict, token_bytes}
+use Rattle.cca_machine.specs.Verdict.{Refusal, first_refusal, request_questions, verdict, token_bytes, Step, First, Middle, Last, step_named}
 
 -- the state after a step, the reply, and the random bytes that are left
 pub record Outcome : Type 0 where
@@ -46,9 +48,32 @@ token_fields token =
     ∷ Hex (codes "pattern") token.pattern
     ∷ []
 
+-- how full the new master key register is
+abbrev pub new_name : NewRegister → List ℕ
+new_name Empty = codes "empty"
+new_name (Partial bytes) = codes "partial"
+new_name (Full bytes) = codes "full"
+
+abbrev pub after_part : Step → List ℕ → Masters → Masters
+after_part First part m = after_first part m
+after_part Middle part m = after_middle part m
+after_part Last part m = after_last part m
+
+-- the registers become these, and the reply says how full the new one is
+abbrev pub with_masters : State → List ℕ → Masters → Outcome
+with_masters s random m = record {
+  state = record s { registers = m };
+  reply = Done (Text (codes "new") (new_name m.coming) ∷ []);
+  random = random;
+}
+
 -- what each request does where it is permitted
 abbrev pub act : State → List ℕ → RequestName → Request → Outcome
 act s random csnbktp request = record { state = s; reply = Done (token_fields (token_of (token_bytes request))); random = random }
+act s random csnbmkp_part request =
+    with_masters s random (after_part (step_named (value_of request (codes "action"))) (hex_value (value_of request (codes "part"))) s.registers)
+act s random csnbmkp_clear request = with_masters s random (cleared s.registers)
+act s random csnbmkp_set request = with_masters s random (after_set s.registers)
 
 -- a refusal changes nothing
 abbrev pub refused : State → List ℕ → Refusal → Outcome

@@ -1,4 +1,4 @@
--- A session: the machine's replies to lines, one after another.
+-- A session: the machine's replies to lines, one after another, and the state after them.
 use Rattle.std.specs.Prelude.{ℕ, List, [], ◌∷◌, ◌++◌}
 use Rattle.script_buffers.specs.Replies.{spelled}
 use Rattle.cca_machine.specs.State.{State}
@@ -9,3 +9,8 @@ abbrev pub replies : State → List ℕ → List (List ℕ) → List ℕ
 replies s random [] = []
 replies s random (line ∷ lines) =
     spelled (step s random line).reply ++ replies (step s random line).state (step s random line).random lines
+
+-- the state after the lines
+abbrev pub state_after : State → List ℕ → List (List ℕ) → State
+state_after s random [] = s
+state_after s random (line ∷ lines) = state_after (step s random line).state (step s random line).random lines

@@ -1,16 +1,17 @@
 -- The verdict on a request line: the first rule that it breaks, with the operand that breaks it. The
 -- rules stand in a list, and each is asked as the list says. A rule that needs an earlier one doesn't
 -- fail where that one does.
-use Rattle.std.specs.Prelude.{ℕ, not, ◌&&◌, nat_le, nat_lt, is_none, List, [], ◌∷◌, length, codes, Option, Some, None}
+use Rattle.std.specs.Prelude.{ℕ, not, ◌&&◌, nat_le, nat_lt, is_none, List, [], ◌∷◌, length, codes, Option, Some, None, if◌then◌else◌}
 use Rattle.std.specs.List.{list_any}
 use Rattle.std.specs.Str.{bytes_eq}
 use Rattle.cca_vectors.specs.Checks.{Check, check, first_failing}
 use Rattle.key_tokens.specs.TokenChecks.{token_checks}
 use Rattle.key_tokens.specs.declared.key_token.Asked.TheVariants.{Either}
 use Rattle.script_buffers.specs.Reading.{line_limit}
-use Rattle.verb_script.specs.Grammar.{Request, RequestName, csnbktp, value_of}
+use Rattle.verb_script.specs.Grammar.{Request, RequestName, csnbktp, csnbmkp_part, csnbmkp_clear, csnbmkp_set, value_of}
 use Rattle.verb_script.specs.Requests.{request_of}
 use Rattle.verb_script.specs.Values.{hex_value}
+use Rattle.master_registers.specs.Masters.{Masters, first_refused, combine_refused, set_refused, same_pattern}
 use Rattle.cca_machine.specs.State.{State}
 
 -- rules that are asked of one operand, in their order; where they speak of the line or of the request as
@@ -51,12 +52,34 @@ role_checks s request = check 3 (not (list_any (bytes_eq (value_of request (code
 abbrev pub token_bytes : Request → List ℕ
 token_bytes request = hex_value (value_of request (codes "token"))
 
--- the operands of each request, in the order of its fields
-abbrev pub operands : State → RequestName → Request → List Questions
-operands s csnbktp request = questions (codes "token") (token_checks Either (token_bytes request)) ∷ []
+-- the step of a key ceremony that a request with a part asks for
+pub data Step : Type 0 where
+  First : Step
+  Middle : Step
+  Last : Step
+
+abbrev pub step_named : List ℕ → Step
+step_named action = if bytes_eq action (codes "FIRST") then First else if bytes_eq action (codes "MIDDLE") then Middle else Last
+
+-- rule 25: the new register isn't in the state that the step needs
+abbrev pub part_checks : Step → Masters → List Check
+part_checks First m = check 25 (first_refused m) ∷ []
+part_checks Middle m = check 25 (combine_refused m) ∷ []
+part_checks Last m = check 25 (combine_refused m) ∷ []
+
+-- rule 26: the new register has the pattern of the current one
+abbrev pub set_checks : Masters → List Check
+set_checks m = check 25 (set_refused m) ∷ check 26 (same_pattern m) ∷ []
+
+-- the rules of each request: of its operands, in the order of the fields, and then of its verb
+abbrev pub verb_questions : State → RequestName → Request → List Questions
+verb_questions s csnbktp request = questions (codes "token") (token_checks Either (token_bytes request)) ∷ []
+verb_questions s csnbmkp_part request = questions (codes "-") (part_checks (step_named (value_of request (codes "action"))) s.registers) ∷ []
+verb_questions s csnbmkp_clear request = []
+verb_questions s csnbmkp_set request = questions (codes "-") (set_checks s.registers) ∷ []
 
 abbrev pub request_questions : State → Request → List Questions
-request_questions s request = questions (codes "-") (role_checks s request) ∷ operands s request.name request
+request_questions s request = questions (codes "-") (role_checks s request) ∷ verb_questions s request.name request
 
 -- all rules that are asked of a line, and of the request that it spells
 abbrev pub line_questions : State → List ℕ → Option Request → List Questions

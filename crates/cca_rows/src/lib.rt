@@ -2,4 +2,6 @@
 #![tactic(auto)]
 
 #[cfg(test)]
+mod masters;
+#[cfg(test)]
 mod rows;

@@ -3,7 +3,7 @@ ghost use Rattle.std.specs.Prelude.{◌<◌};
 
 use cca_tool::{Status, Words, run};
 use key_cells::Workbench;
-use slot_disk::{MemorySink, MemorySource};
+use slot_disk::{MemoryDisk, MemorySink, MemorySource};
 use std::alloc::Global;
 use std::process::Abort;
 use std::test::Fail;
@@ -15,9 +15,14 @@ const E1_REPLY: &str =
     "OK kind=external class=DATA length=8 vector=0000000000000000 pattern=0000000000000000\n";
 
 // The room of a sink: more than any reply here needs.
-const ROOM: usize = 4_096;
+pub(crate) const ROOM: usize = 4_096;
 
-fn words_of(alloc: Global, list: &[&str]) -> Result<Words, Fail> {
+// The bytes of a module, and the writes and syncs that its test disk notes.
+pub(crate) const MODULE_SIZE: u64 = 50_688;
+
+pub(crate) const CALLS: u64 = 100;
+
+pub(crate) fn words_of(alloc: Global, list: &[&str]) -> Result<Words, Fail> {
     let mut words = Words::new(alloc);
     for word in list {
         words.push(word)?;
@@ -40,8 +45,16 @@ fn expect_run(
     let mut bench = Workbench::new();
     let mut source = MemorySource::new(alloc, input, piece)?;
     let mut sink = MemorySink::new(alloc, ROOM)?;
+    let mut module = MemoryDisk::new(alloc, MODULE_SIZE, CALLS)?;
     assert_eq!(rt;
-        run(alloc, &words, &mut bench, &mut source, &mut sink),
+        run(
+            alloc,
+            &words,
+            &mut bench,
+            &mut source,
+            &mut sink,
+            &mut module
+        ),
         want.0
     );
     assert_eq!(rt; sink.bytes(), want.1);
@@ -212,7 +225,15 @@ fn run_failing(
     if let Some(call) = sink_call {
         sink.fail_at(call);
     }
-    let status = run(alloc, &words, &mut bench, &mut source, &mut sink);
+    let mut module = MemoryDisk::new(alloc, MODULE_SIZE, CALLS)?;
+    let status = run(
+        alloc,
+        &words,
+        &mut bench,
+        &mut source,
+        &mut sink,
+        &mut module,
+    );
     replies.clear();
     replies.extend_from_slice(sink.bytes())?;
     Ok(status)

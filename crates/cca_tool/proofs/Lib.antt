@@ -1,5 +1,14 @@
+pub mod AnswerLemmas
+pub mod LineServed
 pub mod ListLemmas
 pub mod SendingLemmas
 pub mod ServingLemmas
+pub mod SessionLemmas
+pub mod StopLemmas
+pub mod DigitLemmas
+pub mod ChangeLemmas
+pub mod TokenLaws
 pub mod TokenReply
+pub mod PerformLemmas
 pub mod PrefixLemmas
+pub mod StatusLemmas

@@ -1,156 +1,172 @@
-//! The serving loop: lines in, replies out.
-ghost use Rattle.std.specs.Prelude.{◌≡◌, ◌≢◌, ◌++◌, ◌+◌, ◌⊎◌, ◌<◌, ◌≤◌, ℕ, List, [], IsTrue, Ok, Err, OnOk, OnErr, IfOk, IsOk, length};
+//! One line, from the source to its reply at the sink.
+ghost use Rattle.std.specs.Prelude.{◌≡◌, ◌++◌, ◌+◌, ◌⊎◌, ◌<◌, ◌≤◌, ℕ, List, [], IsTrue, Result, Ok, Err, OnOk, OnErr, IfOk, IfErr, IsSome, length};
 ghost use Rattle.std.specs.Io.KnownBytes.{IsAtEnd};
+ghost use Rattle.key_cells.specs.Bench.{blank_bench};
 ghost use Rattle.slot_disk.specs.Faults.{Rose};
+ghost use Rattle.slot_disk.specs.Medium.{Told, IsSettled, EachImage};
 ghost use Rattle.slot_disk.specs.WhereTold.{WhereTold};
-ghost use Rattle.script_buffers.specs.Reading.{Reading, blank, input_limit, TakesLine, LosesPart, bytes_ahead};
-ghost use Rattle.cca_tool.specs.Serving.{BothTold, reply_to, AllAnswered, WholeLinesAnswered, ReplyCut, AnswersLine, CutsReply};
+ghost use Rattle.script_buffers.specs.Reading.{Reading, input_limit, LosesPart, Shows, Advances, bytes_ahead, Answers as Takes};
+ghost use Rattle.cca_machine.specs.State.{State, StandsFor};
+ghost use Rattle.cca_tool.specs.Serving.{BothTold, Holds, IsSound, IsRequest, after_line};
+ghost use Rattle.cca_tool.specs.Answering.{IsTheLine, Answers, AnswersLine, CutsReply, LosesLine, IsAroundLine};
+ghost use Rattle.cca_tool.specs.Stops.{IsStop};
 
 use crate::answer::{answer, answer_too_long};
 use crate::sending::send;
-use slot_disk::{NoMemory, Sink, Source};
-use std::alloc::Global;
+use crate::stops::{Device, Stop};
+use key_cells::Workbench;
+use slot_disk::{Disk, Sink, Source};
 use verb_script::{LineBuffer, LineFault, ReplyBuffer, Taken, read_line};
-
-/// Why a session ended before the end of its input.
-#[derive(Clone, Copy, Debug, PartialEq, Eq)]
-pub(crate) enum Stop {
-    ReadFault,
-    WriteFault,
-    InputLimit,
-}
 
 /// What serving one line came to.
 #[derive(Clone, Copy, Debug, PartialEq, Eq)]
-pub(crate) enum Served {
+pub enum Served {
+    /// A line was answered.
     Replied,
+    /// The input is at its end.
     Ended,
 }
 
-/// The buffers of a session, with all the memory that it uses.
-#[derive(Drop)]
-pub(crate) struct Session {
-    pub(crate) lines: LineBuffer,
-    pub(crate) reply: ReplyBuffer,
+// Takes the next line.
+fn next_line<S: Source>(lines: &mut LineBuffer, source: &mut S) -> Result<Taken, Stop>
+    requires { IsTrue lines.old.ended → IsAtEnd (S.left source.old) }
+
+    ensures taken { IfOk result (λ taken. WhereTold (S.left source.old) (S.left source.new) (λ input rest.
+        Takes taken (lines.old.pending ++ input) lines.new (lines.new.pending ++ rest))) }
+    ensures shown { IfOk result (λ taken. Shows taken lines.new) }
+    ensures advances { IfOk result (λ taken. Advances taken lines.old lines.new) }
+    ensures lost { OnErr result (WhereTold (S.left source.old) (S.left source.new) (λ input rest. LosesPart (lines.old.pending ++ input) rest)) }
+    ensures over { IsTrue lines.old.ended → WhereTold (S.left source.old) (S.left source.new) (λ input rest.
+        (lines.old.pending ++ input ≡ []) → result ≡ Ok Taken.End) }
+
+    ensures counted { WhereTold (S.left source.old) (S.left source.new) (λ input rest.
+        lines.new.taken + length rest ≡ lines.old.taken + length input) }
+    ensures full { result ≡ Err Stop.InputLimit → lines.new.taken ≡ input_limit }
+    ensures short { result ≡ Err Stop.ReadFault ⊎ (result ≡ Ok Taken.End) → lines.new.taken < input_limit }
+    ensures at_end { IsTrue lines.new.ended → IsAtEnd (S.left source.new) }
+
+    ensures fault { result ≡ Err Stop.ReadFault → Rose (S.faults source.old) (S.faults source.new) }
+    ensures later { S.faults source.old ≤ S.faults source.new }
+    ensures stops { IfErr result (λ stop. (stop ≡ Stop.ReadFault) ⊎ (stop ≡ Stop.InputLimit)) }
+{
+    match read_line(source, lines) {
+        Ok(taken) => Ok(taken),
+        Err(LineFault::ReadFault) => Err(Stop::ReadFault),
+        Err(LineFault::InputLimit) => Err(Stop::InputLimit),
+    }
 }
 
-impl Session {
-    pub(crate) fn new(alloc: Global) -> Result<Session, NoMemory>
-        ensures { IfOk result (λ session. session.lines ≡ blank) }
-    {
-        let lines = LineBuffer::new(alloc)?;
-        let reply = ReplyBuffer::new(alloc)?;
-        Ok(Session { lines, reply })
-    }
+// Writes the reply to the line that was taken into the reply buffer.
+fn answer_taken<M: Disk>(
+    taken: Taken,
+    lines: &LineBuffer,
+    reply: &mut ReplyBuffer,
+    bench: &mut Workbench,
+    module: &mut M,
+) -> Result<(), Stop>
+    requires shown { Shows taken lines.now }
+    requires size { (M.medium «module».old).size ≡ 50688 }
+    requires settled { IsSettled (M.medium «module».old) }
+    requires sound { Told (M.medium «module».old) IsSound }
 
-    /// Takes the next line, and writes the reply to it into the reply buffer.
-    fn take_line<S: Source>(&mut self, source: &mut S) -> Result<Served, Stop>
-        requires { IsTrue self.old.lines.ended → IsAtEnd (S.left source.old) }
+    ensures answers { OnOk result ((s : State) (line : List ℕ) → Holds (M.medium «module».old) s → IsTheLine taken lines.now line
+        → Answers s line (M.medium «module».new) reply.new) }
+    ensures moments { (s : State) (line : List ℕ) → Holds (M.medium «module».old) s → IsTheLine taken lines.now line
+        → EachImage (M.medium «module».old) (M.medium «module».new) (λ image. StandsFor image s ⊎ StandsFor image (after_line s line)) }
+    ensures settled { OnOk result (IsSettled (M.medium «module».new)) }
+    ensures sound { OnOk result (Told (M.medium «module».new) IsSound) }
+    ensures size { (M.medium «module».new).size ≡ (M.medium «module».old).size }
+    ensures still { IsSome (M.medium «module».old).content → IsSome (M.medium «module».new).content }
 
-        ensures replied { result ≡ Ok Served.Replied → WhereTold (S.left source.old) (S.left source.new) (λ input rest.
-            (line : List ℕ) × TakesLine (self.old.lines.pending ++ input) line (self.new.lines.pending ++ rest) self.new.lines.ended
-            × (self.new.reply ≡ reply_to line)) }
-        ensures ended { result ≡ Ok Served.Ended → WhereTold (S.left source.old) (S.left source.new) (λ input rest.
-            (self.old.lines.pending ++ input ≡ []) × (self.new.lines.pending ++ rest ≡ [])) }
-        ensures lost { OnErr result (WhereTold (S.left source.old) (S.left source.new) (λ input rest. LosesPart (self.old.lines.pending ++ input) rest)) }
-        ensures over { IsTrue self.old.lines.ended → WhereTold (S.left source.old) (S.left source.new) (λ input rest.
-            (self.old.lines.pending ++ input ≡ []) → result ≡ Ok Served.Ended) }
-
-        ensures advances { result ≡ Ok Served.Replied → bytes_ahead self.new.lines < bytes_ahead self.old.lines }
-        ensures counted { WhereTold (S.left source.old) (S.left source.new) (λ input rest.
-            self.new.lines.taken + length rest ≡ self.old.lines.taken + length input) }
-        ensures full { result ≡ Err Stop.InputLimit → self.new.lines.taken ≡ input_limit }
-        ensures short { result ≢ Err Stop.InputLimit → result ≢ Ok Served.Replied → self.new.lines.taken < input_limit }
-        ensures at_end { IsTrue self.new.lines.ended → IsAtEnd (S.left source.new) }
-
-        ensures no_write { result ≢ Err Stop.WriteFault }
-        ensures fault { result ≡ Err Stop.ReadFault → Rose (S.faults source.old) (S.faults source.new) }
-        ensures later { S.faults source.old ≤ S.faults source.new }
-    {
-        match read_line(source, &mut self.lines) {
-            Ok(Taken::Line) => {
-                answer(self.lines.line(), &mut self.reply);
-                Ok(Served::Replied)
-            }
-            Ok(Taken::TooLong) => {
-                answer_too_long(&mut self.reply);
-                Ok(Served::Replied)
-            }
-            Ok(Taken::End) => Ok(Served::Ended),
-            Err(LineFault::ReadFault) => Err(Stop::ReadFault),
-            Err(LineFault::InputLimit) => Err(Stop::InputLimit),
+    ensures spelled { result ≡ Err Stop.ModuleFault → (line : List ℕ) → IsTheLine taken lines.now line → IsRequest line }
+    ensures fault { result ≡ Err Stop.ModuleFault → Rose (M.faults «module».old) (M.faults «module».new) }
+    ensures later { M.faults «module».old ≤ M.faults «module».new }
+    ensures damaged { result ≡ Err (Stop.Damaged Device.Module 0) → Told (M.medium «module».old) (λ _. ⊥) }
+    ensures stops { IfErr result (λ stop. (stop ≡ Stop.ModuleFault) ⊎ (stop ≡ Stop.Damaged Device.Module 0)) }
+    ensures bench { bench.new ≡ blank_bench }
+{
+    match taken {
+        Taken::Line => answer(lines.line(), bench, module, reply),
+        Taken::TooLong => {
+            answer_too_long(bench, reply);
+            Ok(())
+        }
+        Taken::End => {
+            bench.wipe();
+            Ok(())
         }
     }
+}
 
-    /// Takes the next line, and sends the reply to it.
-    fn serve_one<S: Source, K: Sink>(
-        &mut self,
-        source: &mut S,
-        sink: &mut K,
-    ) -> Result<Served, Stop>
-        requires { IsTrue self.old.lines.ended → IsAtEnd (S.left source.old) }
+/// Takes the next line, answers it, and sends the reply. The reply goes to the sink only after every image of
+/// the module stands for the state that the line leaves.
+pub(crate) fn serve_line<S: Source, K: Sink, M: Disk>(
+    lines: &mut LineBuffer,
+    reply: &mut ReplyBuffer,
+    bench: &mut Workbench,
+    source: &mut S,
+    sink: &mut K,
+    module: &mut M,
+) -> Result<Served, Stop>
+    requires at_end { IsTrue lines.old.ended → IsAtEnd (S.left source.old) }
+    requires size { (M.medium «module».old).size ≡ 50688 }
+    requires settled { IsSettled (M.medium «module».old) }
+    requires sound { Told (M.medium «module».old) IsSound }
 
-        ensures replied { result ≡ Ok Served.Replied → BothTold (S.left source.old) (S.left source.new) (K.held sink.old) (K.held sink.new)
-            (λ input rest before now. AnswersLine (self.old.lines.pending ++ input) (self.new.lines.pending ++ rest) self.new.lines.ended before now) }
-        ensures ended { result ≡ Ok Served.Ended → BothTold (S.left source.old) (S.left source.new) (K.held sink.old) (K.held sink.new)
-            (λ input rest before now. (self.old.lines.pending ++ input ≡ []) × (self.new.lines.pending ++ rest ≡ []) × (now ≡ before)) }
-        ensures stopped { result ≡ Err Stop.ReadFault ⊎ (result ≡ Err Stop.InputLimit) → BothTold (S.left source.old) (S.left source.new) (K.held sink.old) (K.held sink.new)
-            (λ input rest before now. LosesPart (self.old.lines.pending ++ input) rest × (now ≡ before)) }
-        ensures cut { result ≡ Err Stop.WriteFault → BothTold (S.left source.old) (S.left source.new) (K.held sink.old) (K.held sink.new)
-            (λ input rest before now. CutsReply (self.old.lines.pending ++ input) (self.new.lines.pending ++ rest) self.new.lines.ended before now) }
-        ensures over { IsTrue self.old.lines.ended → WhereTold (S.left source.old) (S.left source.new) (λ input rest.
-            (self.old.lines.pending ++ input ≡ []) → result ≡ Ok Served.Ended) }
+    ensures replied { result ≡ Ok Served.Replied → (s : State) → Holds (M.medium «module».old) s
+        → BothTold (S.left source.old) (S.left source.new) (K.held sink.old) (K.held sink.new) (λ input rest before now.
+        AnswersLine s (M.medium «module».new) (lines.old.pending ++ input) (lines.new.pending ++ rest) lines.new.ended before now) }
+    ensures ended { result ≡ Ok Served.Ended → BothTold (S.left source.old) (S.left source.new) (K.held sink.old) (K.held sink.new)
+        (λ input rest before now. (lines.old.pending ++ input ≡ []) × (lines.new.pending ++ rest ≡ []) × (now ≡ before)) }
+    ensures stopped { result ≡ Err Stop.ReadFault ⊎ (result ≡ Err Stop.InputLimit) → BothTold (S.left source.old) (S.left source.new) (K.held sink.old) (K.held sink.new)
+        (λ input rest before now. LosesPart (lines.old.pending ++ input) rest × (now ≡ before)) }
+    ensures cut { result ≡ Err Stop.WriteFault → (s : State) → Holds (M.medium «module».old) s
+        → BothTold (S.left source.old) (S.left source.new) (K.held sink.old) (K.held sink.new) (λ input rest before now.
+        CutsReply s (M.medium «module».new) (lines.old.pending ++ input) (lines.new.pending ++ rest) lines.new.ended before now) }
+    ensures lost { result ≡ Err Stop.ModuleFault → (s : State) → Holds (M.medium «module».old) s
+        → BothTold (S.left source.old) (S.left source.new) (K.held sink.old) (K.held sink.new) (λ input rest before now.
+        LosesLine s (M.medium «module».new) (lines.old.pending ++ input) before now) }
 
-        ensures advances { result ≡ Ok Served.Replied → bytes_ahead self.new.lines < bytes_ahead self.old.lines }
-        ensures counted { WhereTold (S.left source.old) (S.left source.new) (λ input rest.
-            self.new.lines.taken + length rest ≡ self.old.lines.taken + length input) }
-        ensures full { result ≡ Err Stop.InputLimit → self.new.lines.taken ≡ input_limit }
-        ensures short { result ≡ Err Stop.ReadFault ⊎ (result ≡ Ok Served.Ended) → self.new.lines.taken < input_limit }
-        ensures at_end { IsTrue self.new.lines.ended → IsAtEnd (S.left source.new) }
+    ensures unmoved { result ≡ Ok Served.Ended ⊎ (result ≡ Err Stop.ReadFault) ⊎ (result ≡ Err Stop.InputLimit) → «module».new ≡ «module».old }
+    ensures moments { (s : State) → Holds (M.medium «module».old) s → WhereTold (S.left source.old) (S.left source.new) (λ input rest.
+        EachImage (M.medium «module».old) (M.medium «module».new) (IsAroundLine s (lines.old.pending ++ input))) }
+    ensures settled { OnOk result (IsSettled (M.medium «module».new)) }
+    ensures cut_settled { result ≡ Err Stop.WriteFault → IsSettled (M.medium «module».new) }
+    ensures sound { OnOk result (Told (M.medium «module».new) IsSound) }
+    ensures size { (M.medium «module».new).size ≡ (M.medium «module».old).size }
+    ensures still { IsSome (M.medium «module».old).content → IsSome (M.medium «module».new).content }
 
-        ensures read_fault { result ≡ Err Stop.ReadFault → Rose (S.faults source.old) (S.faults source.new) }
-        ensures write_fault { result ≡ Err Stop.WriteFault → Rose (K.faults sink.old) (K.faults sink.new) }
-        ensures reads_later { S.faults source.old ≤ S.faults source.new }
-        ensures writes_later { K.faults sink.old ≤ K.faults sink.new }
-    {
-        match self.take_line(source) {
-            Ok(Served::Replied) => match send(sink, self.reply.bytes()) {
-                Ok(()) => Ok(Served::Replied),
-                Err(_) => Err(Stop::WriteFault),
+    ensures over { IsTrue lines.old.ended → WhereTold (S.left source.old) (S.left source.new) (λ input rest.
+        (lines.old.pending ++ input ≡ []) → result ≡ Ok Served.Ended) }
+    ensures advances { result ≡ Ok Served.Replied → bytes_ahead lines.new < bytes_ahead lines.old }
+    ensures counted { WhereTold (S.left source.old) (S.left source.new) (λ input rest.
+        lines.new.taken + length rest ≡ lines.old.taken + length input) }
+    ensures full { result ≡ Err Stop.InputLimit → lines.new.taken ≡ input_limit }
+    ensures short { result ≡ Err Stop.ReadFault ⊎ (result ≡ Ok Served.Ended) → lines.new.taken < input_limit }
+    ensures at_end { IsTrue lines.new.ended → IsAtEnd (S.left source.new) }
+
+    ensures read_fault { result ≡ Err Stop.ReadFault → Rose (S.faults source.old) (S.faults source.new) }
+    ensures write_fault { result ≡ Err Stop.WriteFault → Rose (K.faults sink.old) (K.faults sink.new) }
+    ensures module_fault { result ≡ Err Stop.ModuleFault → Rose (M.faults «module».old) (M.faults «module».new) }
+    ensures damaged { result ≡ Err (Stop.Damaged Device.Module 0) → Told (M.medium «module».old) (λ _. ⊥) }
+    ensures stops { IfErr result IsStop }
+    ensures reads_later { S.faults source.old ≤ S.faults source.new }
+    ensures writes_later { K.faults sink.old ≤ K.faults sink.new }
+    ensures module_later { M.faults «module».old ≤ M.faults «module».new }
+    ensures bench { bench.new ≡ blank_bench }
+{
+    bench.wipe();
+    match next_line(lines, source) {
+        Ok(taken) => match taken {
+            Taken::End => Ok(Served::Ended),
+            _ => match answer_taken(taken, lines, reply, bench, module) {
+                Ok(()) => match send(sink, reply.bytes()) {
+                    Ok(()) => Ok(Served::Replied),
+                    Err(_) => Err(Stop::WriteFault),
+                },
+                Err(stop) => Err(stop),
             },
-            Ok(Served::Ended) => Ok(Served::Ended),
-            Err(stop) => Err(stop),
-        }
-    }
-
-    /// Serves line after line, to the end of the input. It reads each byte once, and sends each reply by
-    /// itself.
-    pub(crate) fn serve<S: Source, K: Sink>(
-        &mut self,
-        source: &mut S,
-        sink: &mut K,
-    ) -> Result<(), Stop>
-        requires { self.old.lines ≡ blank }
-
-        ensures done { OnOk result (BothTold (S.left source.old) (S.left source.new) (K.held sink.old) (K.held sink.new) AllAnswered) }
-        ensures stopped { result ≡ Err Stop.ReadFault ⊎ (result ≡ Err Stop.InputLimit)
-            → BothTold (S.left source.old) (S.left source.new) (K.held sink.old) (K.held sink.new) WholeLinesAnswered }
-        ensures cut { result ≡ Err Stop.WriteFault → BothTold (S.left source.old) (S.left source.new) (K.held sink.old) (K.held sink.new)
-            (λ input rest before now. ReplyCut input before now) }
-        ensures limit { WhereTold (S.left source.old) (S.left source.new) (λ input rest.
-            result ≡ Err Stop.InputLimit → length input ≡ length rest + input_limit) }
-        ensures short { WhereTold (S.left source.old) (S.left source.new) (λ input rest.
-            result ≡ Err Stop.ReadFault ⊎ IsOk result → length input < length rest + input_limit) }
-
-        ensures read_fault { result ≡ Err Stop.ReadFault → Rose (S.faults source.old) (S.faults source.new) }
-        ensures write_fault { result ≡ Err Stop.WriteFault → Rose (K.faults sink.old) (K.faults sink.new) }
-    {
-        'lines: loop {
-            match self.serve_one(source, sink) {
-                Ok(Served::Replied) => {}
-                Ok(Served::Ended) => return Ok(()),
-                Err(stop) => return Err(stop),
-            }
-        }
+        },
+        Err(stop) => Err(stop),
     }
 }

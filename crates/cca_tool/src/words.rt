@@ -43,7 +43,7 @@ impl Words {
     }
 
     /// Whether they are the one word `run`.
-    pub(crate) fn are_run(&self) -> bool
+    pub fn are_run(&self) -> bool
         ensures { IsTrue result ↔ (self.now ≡ codes "run" ∷ []) }
     {
         match self.words.as_slice() {

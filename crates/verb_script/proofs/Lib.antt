@@ -1,2 +1,5 @@
+pub mod FieldLaws
 pub mod GrammarLaws
+pub mod PlainRows
+pub mod RowsApart
 pub mod WordLemmas

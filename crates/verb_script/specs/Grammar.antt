@@ -1,7 +1,7 @@
 -- The grammar of request lines: a table of rows. A line is words with one space between them. The first
 -- word is the verb, and each further one is a field's name, an equals sign and the field's value.
 use Rattle.std.specs.Prelude.{◌≡◌, ℕ, ◌==◌, ◌&&◌, nat_le, Bool, false, List, [], ◌∷◌, ◌++◌, length, codes, IsTrue, ⊤, if◌then◌else◌}
-use Rattle.std.specs.List.{list_all}
+use Rattle.std.specs.List.{list_all, list_any}
 use Rattle.std.specs.Str.{bytes_eq}
 use Rattle.hex.specs.Hex.{is_hex_digit}
 
@@ -24,10 +24,24 @@ is_role_name (c ∷ cs) = is_letter c && (nat_le (length cs) 7 && list_all is_le
 abbrev pub is_hex : ℕ → List ℕ → Bool
 is_hex digits text = length text == digits && list_all is_hex_digit text
 
--- a field: its name, and which texts are values of it
+-- which texts are values of a field
+pub data Values : Type 0 where
+  -- the name of a role
+  role_name : Values
+  -- exactly so many hexadecimal digits
+  hex_digits : ℕ → Values
+  -- one of these words
+  one_of : List (List ℕ) → Values
+
+abbrev pub accepts : Values → List ℕ → Bool
+accepts role_name text = is_role_name text
+accepts (hex_digits digits) text = is_hex digits text
+accepts (one_of choices) text = list_any (bytes_eq text) choices
+
+-- a field: its name and its values
 pub record Field : Type 0 where
   pub name : List ℕ
-  pub accepts : List ℕ → Bool
+  pub values : Values
 
 -- a row of the grammar: the verb, and its fields in their order
 pub record Row : Type 0 where
@@ -35,22 +49,45 @@ pub record Row : Type 0 where
   pub fields : List Field
 
 abbrev pub role_field : Field
-role_field = record { name = codes "role"; accepts = is_role_name }
+role_field = record { name = codes "role"; values = role_name }
 
 abbrev pub hex_field : List ℕ → ℕ → Field
-hex_field name digits = record { name = name; accepts = is_hex digits }
+hex_field name digits = record { name = name; values = hex_digits digits }
+
+abbrev pub word_field : List ℕ → List (List ℕ) → Field
+word_field name choices = record { name = name; values = one_of choices }
 
 -- a key token: 64 bytes
 abbrev pub token_field : Field
 token_field = hex_field (codes "token") 128
 
+-- a part of a master key: 24 bytes
+abbrev pub part_field : Field
+part_field = hex_field (codes "part") 48
+
+abbrev pub action_field : List (List ℕ) → Field
+action_field choices = word_field (codes "action") choices
+
 -- the requests, one for each row
 pub data RequestName : Type 0 where
   csnbktp : RequestName
+  csnbmkp_part : RequestName
+  csnbmkp_clear : RequestName
+  csnbmkp_set : RequestName
 
 -- the grammar
 abbrev pub row_of : RequestName → Row
 row_of csnbktp = record { verb = codes "CSNBKTP"; fields = role_field ∷ token_field ∷ [] }
+row_of csnbmkp_part = record {
+  verb = codes "CSNBMKP";
+  fields = role_field ∷ action_field (codes "FIRST" ∷ codes "MIDDLE" ∷ codes "LAST" ∷ []) ∷ part_field ∷ [];
+}
+row_of csnbmkp_clear = record { verb = codes "CSNBMKP"; fields = role_field ∷ action_field (codes "CLEAR" ∷ []) ∷ [] }
+row_of csnbmkp_set = record { verb = codes "CSNBMKP"; fields = role_field ∷ action_field (codes "SET" ∷ []) ∷ [] }
+
+-- the rows in their order; no line spells requests of two rows
+abbrev pub all_requests : List RequestName
+all_requests = csnbktp ∷ csnbmkp_part ∷ csnbmkp_clear ∷ csnbmkp_set ∷ []
 
 -- a request: its row, and the values of the row's fields
 pub record Request : Type 0 where
@@ -63,12 +100,12 @@ fields_text [] values = []
 fields_text (f ∷ fs) [] = []
 fields_text (f ∷ fs) (v ∷ vs) = codes " " ++ (f.name ++ (codes "=" ++ (v ++ fields_text fs vs)))
 
--- one value for each field, which the field accepts
+-- one value for each field, which is a value of that field
 abbrev pub AreAccepted : List Field → List (List ℕ) → Type 0
 AreAccepted [] [] = ⊤
 AreAccepted [] (v ∷ vs) = ⊥
 AreAccepted (f ∷ fs) [] = ⊥
-AreAccepted (f ∷ fs) (v ∷ vs) = IsTrue (f.accepts v) × AreAccepted fs vs
+AreAccepted (f ∷ fs) (v ∷ vs) = IsTrue (accepts f.values v) × AreAccepted fs vs
 
 -- the line is the request's spelling
 pub record Spells (request : Request) (line : List ℕ) : Type 0 where

@@ -1,10 +1,12 @@
 //! Request lines: the grammar of the verbs, and the request that a line spells.
 #![tactic(auto)]
 
+mod laws;
 mod request;
 mod values;
 mod words;
 
+pub use laws::a_line_spells_one_request;
 pub use request::{FormFault, Request, parse_request};
 pub use script_buffers::{
     LINE_LIMIT, LineBuffer, LineFault, REPLY_ROOM, ReplyBuffer, Taken, read_line,

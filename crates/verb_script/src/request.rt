@@ -1,9 +1,10 @@
 //! The requests that a line may spell.
-ghost use Rattle.std.specs.Prelude.{◌≡◌, Some, None, IfOk, option_copied};
-ghost use Rattle.verb_script.specs.Grammar.{Request as Spelled, Spells, row_of, csnbktp as row_csnbktp};
+ghost use Rattle.std.specs.Prelude.{◌≡◌, Some, None, [], ◌∷◌, codes, IfOk};
+ghost use Rattle.verb_script.specs.Grammar.{Request as Spelled, Spells, all_requests};
+ghost use Rattle.verb_script.specs.Grammar.{csnbktp as row_csnbktp, csnbmkp_part as row_csnbmkp_part, csnbmkp_clear as row_csnbmkp_clear, csnbmkp_set as row_csnbmkp_set};
 ghost use Rattle.verb_script.specs.Parsed.{answered, seen, seen_option};
-ghost use Rattle.verb_script.specs.Requests.{request_of, request_with, values_in};
-ghost use Rattle.verb_script.specs.Words.{words_left};
+ghost use Rattle.verb_script.specs.Requests.{request_of, row_request, first_request};
+ghost use Rattle.verb_script.specs.Words.{unread};
 
 use crate::words::Words;
 
@@ -12,21 +13,97 @@ use crate::words::Words;
 pub struct FormFault;
 
 /// A request. A field that is a slice is the part of the line that holds its value.
-#[derive(Debug, Clone, Copy)]
+#[derive(Debug, Clone, Copy, PartialEq, Eq)]
 pub enum Request<'a> {
     /// Key_Token_Parse: a key token, in 128 hexadecimal digits.
-    Csnbktp { role: &'a [u8], token: &'a [u8] },
+    Csnbktp {
+        role: &'a [u8],
+        token: &'a [u8],
+    },
+    /// Master_Key_Process FIRST, MIDDLE or LAST: a part of the new master key, in 48 hexadecimal digits.
+    CsnbmkpPart {
+        role: &'a [u8],
+        action: &'a [u8],
+        part: &'a [u8],
+    },
+    /// Master_Key_Process CLEAR: the new master key register is emptied.
+    CsnbmkpClear {
+        role: &'a [u8],
+        action: &'a [u8],
+    },
+    /// Master_Key_Process SET: the new master key becomes the current one.
+    CsnbmkpSet {
+        role: &'a [u8],
+        action: &'a [u8],
+    },
 }
 
 /// The request of the row CSNBKTP, whose fields the words are.
 fn csnbktp<'a>(mut words: Words<'a>) -> Option<Request<'a>>
-    ensures { seen_option result ≡ request_with row_csnbktp (values_in (row_of row_csnbktp).fields (words_left (option_copied words.entry.rest))) }
+    ensures { seen_option result ≡ row_request row_csnbktp (unread words.entry) }
 {
-    let role = words.role()?;
-    let token = words.token()?;
-    match words.next() {
-        Some(_) => None,
-        None => Some(Request::Csnbktp { role, token }),
+    let role = words.role(b"role=")?;
+    let token = words.hex(b"token=", 128)?;
+    words.end()?;
+    Some(Request::Csnbktp { role, token })
+}
+
+/// The request of the row CSNBMKP with a part, whose fields the words are.
+fn csnbmkp_part<'a>(mut words: Words<'a>) -> Option<Request<'a>>
+    ensures { seen_option result ≡ row_request row_csnbmkp_part (unread words.entry) }
+{
+    let role = words.role(b"role=")?;
+    let action = words.choice(b"action=", &[b"FIRST", b"MIDDLE", b"LAST"])?;
+    let part = words.hex(b"part=", 48)?;
+    words.end()?;
+    Some(Request::CsnbmkpPart { role, action, part })
+}
+
+/// The request of the row CSNBMKP with CLEAR, whose fields the words are.
+fn csnbmkp_clear<'a>(mut words: Words<'a>) -> Option<Request<'a>>
+    ensures { seen_option result ≡ row_request row_csnbmkp_clear (unread words.entry) }
+{
+    let role = words.role(b"role=")?;
+    let action = words.choice(b"action=", &[b"CLEAR"])?;
+    words.end()?;
+    Some(Request::CsnbmkpClear { role, action })
+}
+
+/// The request of the row CSNBMKP with SET, whose fields the words are.
+fn csnbmkp_set<'a>(mut words: Words<'a>) -> Option<Request<'a>>
+    ensures { seen_option result ≡ row_request row_csnbmkp_set (unread words.entry) }
+{
+    let role = words.role(b"role=")?;
+    let action = words.choice(b"action=", &[b"SET"])?;
+    words.end()?;
+    Some(Request::CsnbmkpSet { role, action })
+}
+
+/// The request of the first of CSNBMKP's rows whose fields the words are. A row that the words aren't is
+/// given up at the action, so that a part is read once.
+fn csnbmkp<'a>(words: Words<'a>) -> Option<Request<'a>>
+    ensures { seen_option result ≡ first_request (row_csnbmkp_part ∷ row_csnbmkp_clear ∷ row_csnbmkp_set ∷ []) (codes "CSNBMKP" ∷ unread words.entry) }
+{
+    if let Some(request) = csnbmkp_part(words) {
+        return Some(request);
+    }
+    if let Some(request) = csnbmkp_clear(words) {
+        return Some(request);
+    }
+    csnbmkp_set(words)
+}
+
+/// The request of this verb whose fields the words are. It costs at most a comparison with each
+/// verb of the grammar.
+fn request_of_verb<'a>(verb: &[u8], words: Words<'a>) -> Option<Request<'a>>
+    ensures { seen_option result ≡ first_request all_requests (verb.now ∷ unread words.entry) }
+{
+    if verb == b"CSNBKTP".as_slice() {
+        csnbktp(words)
+    } else if verb == b"CSNBMKP".as_slice() {
+        csnbmkp(words)
+    } else {
+        None
     }
 }
 
@@ -36,10 +113,8 @@ fn request_in_line(line: &[u8]) -> Option<Request<'_>>
     ensures { seen_option result ≡ request_of line.now }
 {
     let mut words = Words::of(line);
-    match words.next()? {
-        b"CSNBKTP" => csnbktp(words),
-        _ => None,
-    }
+    let verb = words.next()?;
+    request_of_verb(verb, words)
 }
 
 fn parsed(line: &[u8]) -> Result<Request<'_>, FormFault>
@@ -61,34 +136,86 @@ pub fn parse_request(line: &[u8]) -> Result<Request<'_>, FormFault>
 mod tests {
     use super::*;
 
-    const E1: &[u8] =
+    const TOKEN: &[u8] =
         b"020000000000c00000000000000000008ca64de9c1b123a700000000000000000000000000000000000000000000000000000000000000000000000050583190";
 
+    const PART: &[u8] = b"0102030405060708090A0b0c0d0e0f101112131415161718";
+
     #[test]
-    fn a_key_token_line_is_parsed(rt: HostRuntime) {
-        let line =
-            b"CSNBKTP role=DEFAULT token=020000000000c00000000000000000008ca64de9c1b123a700000000000000000000000000000000000000000000000000000000000000000000000050583190";
-        match parse_request(line) {
-            Ok(Request::Csnbktp { role, token }) => {
-                assert!(rt; role == b"DEFAULT".as_slice());
-                assert!(rt; token == E1);
-            }
-            Err(_) => assert!(rt; false, "the line is a request"),
+    fn lines_of_each_row_are_parsed(rt: HostRuntime) {
+        let role = b"DEFAULT".as_slice();
+        let lines: [(&[u8], Request); 6] = [
+            (
+                b"CSNBKTP role=DEFAULT token=020000000000c00000000000000000008ca64de9c1b123a700000000000000000000000000000000000000000000000000000000000000000000000050583190",
+                Request::Csnbktp { role, token: TOKEN },
+            ),
+            (
+                b"CSNBMKP role=DEFAULT action=FIRST part=0102030405060708090A0b0c0d0e0f101112131415161718",
+                Request::CsnbmkpPart {
+                    role,
+                    action: b"FIRST",
+                    part: PART,
+                },
+            ),
+            (
+                b"CSNBMKP role=DEFAULT action=MIDDLE part=0102030405060708090A0b0c0d0e0f101112131415161718",
+                Request::CsnbmkpPart {
+                    role,
+                    action: b"MIDDLE",
+                    part: PART,
+                },
+            ),
+            (
+                b"CSNBMKP role=DEFAULT action=LAST part=0102030405060708090A0b0c0d0e0f101112131415161718",
+                Request::CsnbmkpPart {
+                    role,
+                    action: b"LAST",
+                    part: PART,
+                },
+            ),
+            (
+                b"CSNBMKP role=DEFAULT action=CLEAR",
+                Request::CsnbmkpClear {
+                    role,
+                    action: b"CLEAR",
+                },
+            ),
+            (
+                b"CSNBMKP role=DEFAULT action=SET",
+                Request::CsnbmkpSet {
+                    role,
+                    action: b"SET",
+                },
+            ),
+        ];
+        for (line, request) in lines {
+            assert!(rt; parse_request(line) == Ok(request));
         }
     }
 
     #[test]
     fn other_lines_are_no_requests(rt: HostRuntime) {
-        let lines: [&[u8]; 6] = [
+        let lines: [&[u8]; 17] = [
             b"",
             b"CSNBKTP",
             b"CSNBKTP role=DEFAULT token=0200",
             b"CSNBKTP role=DEFAULT  token=0200",
             b"csnbktp role=DEFAULT",
             b"CSNBKYT role=DEFAULT key=L:K",
+            b"CSNBMKP role=DEFAULT",
+            b"CSNBMKP role=DEFAULT action=",
+            b"CSNBMKP role=DEFAULT action=NEXT",
+            b"CSNBMKP role=DEFAULT action=set",
+            b"CSNBMKP role=DEFAULT action=SETS",
+            b"CSNBMKP action=SET role=DEFAULT",
+            b"CSNBMKP role=DEFAULT action=SET\r",
+            b"CSNBMKP role=DEFAULT action=FIRST",
+            b"CSNBMKP role=DEFAULT action=FIRST part=0102030405060708090a0b0c0d0e0f10111213141516171",
+            b"CSNBMKP role=DEFAULT action=FIRST part=0102030405060708090a0b0c0d0e0f1011121314151617180",
+            b"CSNBMKP role=DEFAULT action=CLEAR part=0102030405060708090a0b0c0d0e0f101112131415161718",
         ];
-        for line in lines.iter() {
-            assert!(rt; parse_request(line).is_err());
+        for line in lines {
+            assert!(rt; parse_request(line) == Err(FormFault));
         }
     }
 }

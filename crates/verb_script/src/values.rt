@@ -1,7 +1,9 @@
 //! The values that fields accept.
 ghost use Rattle.std.specs.Prelude.{◌≡◌};
 ghost use Rattle.verb_script.specs.Grammar.{is_role_name, is_hex, is_letter, is_letter_or_digit};
-ghost use Rattle.std.specs.List.{list_all};
+ghost use Rattle.std.specs.List.{list_all, list_any};
+ghost use Rattle.std.specs.Str.{bytes_eq};
+ghost use Rattle.verb_script.specs.Words.{texts};
 ghost use Rattle.hex.specs.Hex.{is_hex_digit};
 
 fn is_letter_byte(byte: u8) -> bool
@@ -51,4 +53,17 @@ pub(crate) fn is_hex_of(text: &[u8], digits: usize) -> bool
     ensures { result ≡ is_hex digits text.now }
 {
     text.len() == digits && are_hex_digits(text)
+}
+
+fn has_same(text: &[u8], choices: &[&[u8]]) -> bool
+    ensures { result ≡ list_any (λ choice. bytes_eq text.now choice.now) choices.now }
+{
+    choices.iter().any(|choice| text == *choice)
+}
+
+/// Whether the text is one of the choices.
+pub(crate) fn is_one_of(text: &[u8], choices: &[&[u8]]) -> bool
+    ensures { result ≡ list_any (bytes_eq text.now) (texts choices.now) }
+{
+    has_same(text, choices)
 }

@@ -1,11 +1,11 @@
 //! The words of a request line, and the fields in them.
-ghost use Rattle.std.specs.Prelude.{◌≡◌, ◌==◌, nat_eq, [], ◌∷◌, List, drop, length, Some, None, option_copied, MatchOption, position, if◌then◌else◌};
+ghost use Rattle.std.specs.Prelude.{◌≡◌, ◌==◌, nat_eq, [], ◌∷◌, drop, length, Some, None, option_copied, MatchOption, position, if◌then◌else◌};
 ghost use Rattle.std.specs.List.{position_or_len, starts_with};
-ghost use Rattle.verb_script.specs.Grammar.{Field, role_field, token_field};
-ghost use Rattle.verb_script.specs.Requests.{words, with_front, values_in, field_value};
-ghost use Rattle.verb_script.specs.Words.{words_left};
+ghost use Rattle.verb_script.specs.Grammar.{role_name, hex_digits, one_of};
+ghost use Rattle.verb_script.specs.Requests.{words, value_after, first_value, at_end};
+ghost use Rattle.verb_script.specs.Words.{words_left, unread, texts};
 
-use crate::values::{is_hex_of, is_role};
+use crate::values::{is_hex_of, is_one_of, is_role};
 
 /// The place of the first space.
 fn space_in(text: &[u8]) -> Option<usize>
@@ -41,28 +41,38 @@ fn after<'a>(word: &'a [u8], prefix: &[u8]) -> Option<&'a [u8]>
     word.strip_prefix(prefix)
 }
 
-/// A role's name in a word `role=NAME`.
-fn role_in(word: &[u8]) -> Option<&[u8]>
-    ensures { option_copied result ≡ field_value role_field word.now }
+/// The role's name in a word that is the prefix and that name.
+fn role_in<'a>(word: &'a [u8], prefix: &[u8]) -> Option<&'a [u8]>
+    ensures { option_copied result ≡ value_after prefix.now role_name word.now }
 {
-    match after(word, b"role=") {
+    match after(word, prefix) {
         Some(value) if is_role(value) => Some(value),
         _ => None,
     }
 }
 
-/// The key token in a word `token=` and 128 hexadecimal digits.
-fn token_in(word: &[u8]) -> Option<&[u8]>
-    ensures { option_copied result ≡ field_value token_field word.now }
+/// The digits in a word that is the prefix and so many hexadecimal digits.
+fn hex_in<'a>(word: &'a [u8], prefix: &[u8], digits: usize) -> Option<&'a [u8]>
+    ensures { option_copied result ≡ value_after prefix.now (hex_digits digits) word.now }
 {
-    match after(word, b"token=") {
-        Some(value) if is_hex_of(value, 128) => Some(value),
+    match after(word, prefix) {
+        Some(value) if is_hex_of(value, digits) => Some(value),
+        _ => None,
+    }
+}
+
+/// The choice in a word that is the prefix and one of the choices.
+fn choice_in<'a>(word: &'a [u8], prefix: &[u8], choices: &[&[u8]]) -> Option<&'a [u8]>
+    ensures { option_copied result ≡ value_after prefix.now (one_of (texts choices.now)) word.now }
+{
+    match after(word, prefix) {
+        Some(value) if is_one_of(value, choices) => Some(value),
         _ => None,
     }
 }
 
 /// The words of a line that aren't read yet.
-#[derive(Drop)]
+#[derive(Clone, Copy)]
 pub(crate) struct Words<'a> {
     rest: Option<&'a [u8]>,
 }
@@ -70,34 +80,54 @@ pub(crate) struct Words<'a> {
 impl<'a> Words<'a> {
     /// All words of the line.
     pub(crate) fn of(line: &'a [u8]) -> Words<'a>
-        ensures { words_left (option_copied result.rest) ≡ words line.now }
+        ensures { unread result ≡ words line.now }
     {
         Words { rest: Some(line) }
     }
 
     /// The next word.
     pub(crate) fn next(&mut self) -> Option<&'a [u8]>
-        ensures { MatchOption result (words_left (option_copied self.old.rest) ≡ [])
-            (λ word. words_left (option_copied self.old.rest) ≡ word.now ∷ words_left (option_copied self.new.rest)) }
+        ensures word { MatchOption result (unread self.old ≡ [])
+            (λ word. unread self.old ≡ word.now ∷ unread self.new) }
+        ensures rest { unread self.new ≡ drop 1 (unread self.old) }
     {
         let (word, rest) = split_word(self.rest?);
         self.rest = rest;
         Some(word)
     }
 
-    /// The value of the field `role`, where the next word is that field.
-    pub(crate) fn role(&mut self) -> Option<&'a [u8]>
-        ensures { (others : List Field) → values_in (role_field ∷ others) (words_left (option_copied self.old.rest))
-            ≡ with_front (option_copied result) (values_in others (words_left (option_copied self.new.rest))) }
+    /// The role's name in the next word, which is the prefix and that name.
+    pub(crate) fn role(&mut self, prefix: &[u8]) -> Option<&'a [u8]>
+        ensures value { option_copied result ≡ first_value prefix.now role_name (unread self.old) }
+        ensures rest { unread self.new ≡ drop 1 (unread self.old) }
     {
-        role_in(self.next()?)
+        role_in(self.next()?, prefix)
     }
 
-    /// The value of the field `token`, where the next word is that field.
-    pub(crate) fn token(&mut self) -> Option<&'a [u8]>
-        ensures { (others : List Field) → values_in (token_field ∷ others) (words_left (option_copied self.old.rest))
-            ≡ with_front (option_copied result) (values_in others (words_left (option_copied self.new.rest))) }
+    /// The digits in the next word, which is the prefix and so many hexadecimal digits.
+    pub(crate) fn hex(&mut self, prefix: &[u8], digits: usize) -> Option<&'a [u8]>
+        ensures value { option_copied result ≡ first_value prefix.now (hex_digits digits) (unread self.old) }
+        ensures rest { unread self.new ≡ drop 1 (unread self.old) }
     {
-        token_in(self.next()?)
+        hex_in(self.next()?, prefix, digits)
+    }
+
+    /// The choice in the next word, which is the prefix and one of the choices.
+    pub(crate) fn choice(&mut self, prefix: &[u8], choices: &[&[u8]]) -> Option<&'a [u8]>
+        ensures value { option_copied result ≡ first_value prefix.now (one_of (texts choices.now)) (unread self.old) }
+        ensures rest { unread self.new ≡ drop 1 (unread self.old) }
+    {
+        choice_in(self.next()?, prefix, choices)
+    }
+
+    /// Some where no word is left.
+    pub(crate) fn end(mut self) -> Option<()>
+        ensures { MatchOption result (at_end (unread self.entry) ≡ None)
+            (λ _. at_end (unread self.entry) ≡ Some []) }
+    {
+        match self.next() {
+            None => Some(()),
+            Some(_) => None,
+        }
     }
 }

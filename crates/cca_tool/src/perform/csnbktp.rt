@@ -1,40 +1,29 @@
 //! CSNBKTP: the parts of a key token, or the first rule that it breaks.
-ghost use Rattle.std.specs.Prelude.{◌≡◌, ◌+◌, ◌<◌, ◌≤◌, ◌++◌, ◌==◌, [], length, IsTrue, codes, if◌then◌else◌, Ok};
-ghost use Rattle.std.specs.Str.{bytes_eq};
-ghost use Rattle.cca_machine.specs.Act.{performed, token_fields, kind_name, class_name, shown_vector};
-ghost use Rattle.cca_machine.specs.State.{blank_state};
-ghost use Rattle.cca_machine.proofs.TokenLaws.{csnbktp_request};
+ghost use Rattle.std.specs.Prelude.{◌≡◌, ◌+◌, ◌<◌, ◌≤◌, ◌++◌, ℕ, List, length, IsTrue, codes};
+ghost use Rattle.cca_machine.specs.Act.{token_fields, kind_name, class_name, shown_vector};
 ghost use Rattle.cca_vectors.specs.Vectors.{length_of};
-ghost use Rattle.hex.specs.Hex.{decode_sized};
+ghost use Rattle.master_registers.specs.Masters.{Masters};
 ghost use Rattle.key_tokens.specs.TokenChecks.{rule_of};
 ghost use Rattle.script_buffers.specs.Replies.{spelled, Done, hex_field, text_field, number_field};
 ghost use Rattle.verb_script.specs.Grammar.{is_hex};
 ghost use Rattle.verb_script.specs.Values.{hex_value};
+ghost use Rattle.cca_tool.specs.Performing.{outcome_of, token_request};
 
+use crate::perform::digits::decode;
 use crate::perform::replies::refuse;
 use cca_vectors::{Class, Vector};
 use key_tokens::{Asked, Kind, Token, TokenFault, read_token};
 use verb_script::ReplyBuffer;
 
-/// Writes the reply to CSNBKTP.
-pub(super) fn csnbktp(role: &[u8], token: &[u8], reply: &mut ReplyBuffer)
+/// Writes the reply to CSNBKTP, for a role that is held.
+pub(super) fn csnbktp(token: &[u8], reply: &mut ReplyBuffer)
     requires { IsTrue (is_hex 128 token.now) }
-    ensures { reply.new ≡ spelled (performed blank_state [] (csnbktp_request role.now token.now)).reply }
+    ensures { (m : Masters) (role : List ℕ) → reply.new ≡ spelled (outcome_of m (token_request role token.now)).reply }
 {
-    if !is_held(role) {
-        return refuse(reply, 3, "-");
-    }
     match read_token(&token_bytes(token), Asked::Either) {
         Ok(token) => show_token(&token, reply),
         Err(fault) => refuse(reply, rule_number(fault), "token"),
     }
-}
-
-// Until roles are kept, DEFAULT alone is held.
-fn is_held(role: &[u8]) -> bool
-    ensures { result ≡ bytes_eq role.now (codes "DEFAULT") }
-{
-    role == b"DEFAULT".as_slice()
 }
 
 // The bytes of a key token that 128 hexadecimal digits spell.
@@ -45,14 +34,6 @@ fn token_bytes(digits: &[u8]) -> [u8; 64]
     let mut bytes = [0; 64];
     decode(digits, &mut bytes);
     bytes
-}
-
-fn decode(digits: &[u8], bytes: &mut [u8])
-    requires digits { IsTrue (is_hex 128 digits.now) }
-    requires room { length bytes.old ≡ 64 }
-    ensures { bytes.new ≡ hex_value digits.now }
-{
-    hex::decode_to_slice(digits, bytes).unwrap();
 }
 
 fn rule_number(fault: TokenFault) -> u8

@@ -1,0 +1,138 @@
+//! Key ceremonies: runs of the top call over one module.
+ghost use Rattle.std.specs.Prelude.{◌≡◌};
+ghost use Rattle.slot_disk.specs.LogMedium.{log_medium};
+
+use crate::rows::{CALLS, MODULE_SIZE, ROOM, words_of};
+use cca_tool::{Device, Status, run};
+use key_cells::Workbench;
+use slot_disk::{Disk, MemoryDisk, MemorySink, MemorySource};
+use std::alloc::Global;
+use std::process::Abort;
+use std::test::Fail;
+
+const S0: &str = "\
+CSNBMKP role=DEFAULT action=FIRST part=0102030405060708090a0b0c0d0e0f101112131415161718
+CSNBMKP role=DEFAULT action=LAST part=000000000000000000000000000000000000000000000000
+CSNBMKP role=DEFAULT action=SET
+";
+
+const S0_REPLIES: &str = "OK new=partial\nOK new=full\nOK new=empty\n";
+
+// Runs an input over the module, and asserts the status and the replies.
+fn run_over(
+    rt: &impl Abort,
+    alloc: Global,
+    module: &mut MemoryDisk,
+    input: &str,
+    want: (Status, &str),
+) -> Result<(), Fail>
+    requires { (⟦<MemoryDisk as Disk>⟧.medium «module».old).size ≡ 50688 }
+    ensures { (⟦<MemoryDisk as Disk>⟧.medium «module».new).size ≡ 50688 }
+{
+    let words = words_of(alloc, &["run"])?;
+    let mut bench = Workbench::new();
+    let mut source = MemorySource::new(alloc, input.as_bytes(), 100)?;
+    let mut sink = MemorySink::new(alloc, ROOM)?;
+    assert_eq!(rt;
+        run(alloc, &words, &mut bench, &mut source, &mut sink, module),
+        want.0
+    );
+    assert_eq!(rt; sink.bytes(), want.1.as_bytes());
+    Ok(())
+}
+
+#[test]
+fn a_ceremony_outlives_its_runs(rt: HostRuntime) -> Result<(), Fail> {
+    let alloc = rt.alloc();
+    let mut module = MemoryDisk::new(alloc, MODULE_SIZE, CALLS)?;
+    run_over(&rt, alloc, &mut module, S0, (Status::Done, S0_REPLIES))?;
+    // The same key once more, its parts in two further runs.
+    run_over(
+        &rt,
+        alloc,
+        &mut module,
+        "CSNBMKP role=DEFAULT action=FIRST part=000000000000000000000000000000000000000000000000\n",
+        (Status::Done, "OK new=partial\n"),
+    )?;
+    run_over(
+        &rt,
+        alloc,
+        &mut module,
+        "CSNBMKP role=DEFAULT action=LAST part=0102030405060708090A0B0C0D0E0F101112131415161718\nCSNBMKP role=DEFAULT action=SET\n",
+        (Status::Done, "OK new=full\nNO 26 -\n"),
+    )?;
+    // Another one is set.
+    run_over(
+        &rt,
+        alloc,
+        &mut module,
+        "CSNBMKP role=DEFAULT action=CLEAR\nCSNBMKP role=DEFAULT action=FIRST part=ffffffffffffffffffffffffffffffffffffffffffffffff
+CSNBMKP role=DEFAULT action=MIDDLE part=000000000000000000000000000000000000000000000000
+CSNBMKP role=DEFAULT action=LAST part=000000000000000000000000000000000000000000000000
+CSNBMKP role=DEFAULT action=SET\n",
+        (
+            Status::Done,
+            "OK new=empty\nOK new=partial\nOK new=partial\nOK new=full\nOK new=empty\n",
+        ),
+    )
+}
+
+#[test]
+fn steps_out_of_their_order_are_refused(rt: HostRuntime) -> Result<(), Fail> {
+    let alloc = rt.alloc();
+    let mut module = MemoryDisk::new(alloc, MODULE_SIZE, CALLS)?;
+    let input = "\
+CSNBMKP role=DEFAULT action=SET
+CSNBMKP role=DEFAULT action=FIRST part=0102030405060708090a0b0c0d0e0f101112131415161718
+CSNBMKP role=DEFAULT action=FIRST part=0102030405060708090a0b0c0d0e0f101112131415161718
+CSNBMKP role=DEFAULT action=CLEAR
+CSNBMKP role=DEFAULT action=MIDDLE part=0102030405060708090a0b0c0d0e0f101112131415161718
+CSNBMKP role=NOBODY action=CLEAR
+CSNBMKP role=DEFAULT action=CLEAR part=00
+";
+    let replies = "NO 25 -\nOK new=partial\nNO 25 -\nOK new=empty\nNO 25 -\nNO 03 -\nNO 01 -\n";
+    run_over(&rt, alloc, &mut module, input, (Status::Done, replies))
+}
+
+#[test]
+fn a_damaged_module_is_told(rt: HostRuntime) -> Result<(), Fail> {
+    let alloc = rt.alloc();
+    let mut module = MemoryDisk::new(alloc, MODULE_SIZE, CALLS)?;
+    // Cell 0 has selector 0, and the body that it selects begins with 07.
+    module.write(512, &[7])?;
+    run_over(
+        &rt,
+        alloc,
+        &mut module,
+        S0,
+        (Status::Damaged(Device::Module, 0), ""),
+    )
+}
+
+// Runs S0 with the module's call of this number failing.
+fn run_failing(
+    rt: &impl Abort,
+    alloc: Global,
+    call: u64,
+    want: (Status, &str),
+) -> Result<(), Fail> {
+    let mut module = MemoryDisk::new(alloc, MODULE_SIZE, CALLS)?;
+    module.fail_at(call);
+    run_over(rt, alloc, &mut module, S0, want)
+}
+
+#[test]
+fn a_fault_of_the_module_ends_the_run(rt: HostRuntime) -> Result<(), Fail> {
+    // Opening is a sync and two reads. Each request is two reads, and its change a read, and twice a write and a sync.
+    for call in 0..24 {
+        let replies = if call < 10 {
+            ""
+        } else if call < 17 {
+            "OK new=partial\n"
+        } else {
+            "OK new=partial\nOK new=full\n"
+        };
+        run_failing(&rt, rt.alloc(), call, (Status::ModuleFault, replies))?;
+    }
+    run_failing(&rt, rt.alloc(), 24, (Status::Done, S0_REPLIES))
+}
