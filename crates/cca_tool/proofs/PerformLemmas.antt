@@ -1,6 +1,6 @@
 -- A request over the registers that were loaded is what the machine makes of it in the state that the module stands for.
 use Rattle.std.proofs.Common.{◌≡◌, ℕ, List, [], Option, None, Some, Result, Ok, Err, refl, sym, ap, ◌∙◌, subst, inl, inr, ⊎_elim}
-use Rattle.std.specs.Prelude.{◌⊎◌, OnOk, IfSome, IsSome}
+use Rattle.std.specs.Prelude.{◌⊎◌, OnOk, IfSome, IsSome, IfErr}
 use Rattle.slot_disk.specs.Medium.{Medium, Told, IsSettled, EachImage, Keeps}
 use Rattle.slot_disk.proofs.Media.{goes_on, settled_image}
 use Rattle.key_cells.specs.Bench.{Bench}
@@ -14,6 +14,9 @@ use Rattle.verb_script.specs.Grammar.{Request, RequestName, csnbktp, csnbmkp_par
 use Rattle.cca_machine.specs.State.{State, StandsFor, default_roles}
 use Rattle.cca_machine.specs.Verdict.{Refusal, first_refusal, request_questions}
 use Rattle.cca_machine.specs.Act.{act, or_act, performed}
+use Rattle.cca_tool.specs.declared.stops.Stop.{Stop}
+use Rattle.cca_tool.specs.declared.stops.Stop.TheVariants.{ModuleFault, Damaged}
+use Rattle.cca_tool.specs.declared.stops.Device.TheVariants.{Module}
 use Rattle.cca_tool.specs.Performing.{state_with, CarriesOut, IsEither, IsRefusal}
 use Rattle.cca_tool.specs.Serving.{Holds, IsSound}
 use Rattle.cca_tool.specs.Answering.{Performs}
@@ -156,3 +159,15 @@ pub refusal_keeps : {E A : Type 0} (medium : A → Medium) (r : Result (Unit {0}
 refusal_keeps medium (Err e) s t request old loaded now same keeps untouched = tt
 refusal_keeps medium (Ok done) s t request old loaded now same keeps untouched =
     λ refusal. ap (λ x. (medium x).content) (untouched (subst (λ x. IsRefusal (performed x [] request).reply) (sym same) refusal)) ∙ keeps.content
+
+told_damaged : (content : Option (List ℕ)) (P : Type 0) → P → IfSome content (λ image. IsDamaged image → P)
+told_damaged None P is = tt
+told_damaged (Some image) P is = λ damaged. is
+
+-- a module that was looked at, and didn't fail, is told where it is damaged
+pub looked_at : (r : Result (Unit {0}) Stop) (old new : Medium) (Fails : Type 0) → OnOk r (Told new IsSound) → new.content ≡ old.content
+    → IfErr r (λ stop. (stop ≡ ModuleFault) ⊎ (stop ≡ Damaged Module 0)) → (r ≡ Err ModuleFault → Fails) → (Fails → ⊥)
+    → Told old (λ image. IsDamaged image → r ≡ Err (Damaged Module 0))
+looked_at (Ok done) old new Fails sound same stops fails calm = sound_undamaged old _ (sound_still old new same sound)
+looked_at (Err stop) old new Fails sound same (inl is) fails calm = absurd (calm (fails (ap Err is)))
+looked_at (Err stop) old new Fails sound same (inr is) fails calm = told_damaged old.content _ (ap Err is)

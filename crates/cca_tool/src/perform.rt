@@ -32,6 +32,8 @@ pub(crate) use replies::refuse;
 /// Judges a request, carries it out where no rule refuses it, and writes the reply into the reply buffer.
 ///
 /// A refusal is `Ok` with its reply. After a stop the session is to be begun again.
+///
+/// Each request reads the module twice. A change reads it once more, and writes and syncs it twice.
 pub fn perform<M: Disk>(
     request: &Request,
     bench: &mut Workbench,

@@ -61,6 +61,8 @@ impl Session {
         ensures size { (M.medium «module».new).size ≡ (M.medium «module».old).size }
 
         ensures damaged { result ≡ Err (Stop.Damaged Device.Module 0) → Told (M.medium «module».old) IsDamaged }
+        ensures told { (Rose (M.faults «module».old) (M.faults «module».new) → ⊥) → Told (M.medium «module».old) (λ image.
+            IsDamaged image → result ≡ Err (Stop.Damaged Device.Module 0)) }
         ensures fault { result ≡ Err Stop.ModuleFault → Rose (M.faults «module».old) (M.faults «module».new) }
         ensures later { M.faults «module».old ≤ M.faults «module».new }
         ensures stops { IfErr result (λ stop. (stop ≡ Stop.ModuleFault) ⊎ (stop ≡ Stop.Damaged Device.Module 0)) }

@@ -115,7 +115,8 @@ pub fn last<M: Disk>(
     store(module, lease, held.with_new(NewState::Full))
 }
 
-/// CLEAR: empties the new register from any state. Its bytes are gone from the selected body too.
+/// CLEAR: empties the new register from any state. The selected body of the cell has zeros in its place then; the
+/// other body isn't erased.
 ///
 /// The lease holds what `load` or the last step gave. Of it the places `Current`, `Old` and `New` and the body change.
 pub fn clear<M: Disk>(
