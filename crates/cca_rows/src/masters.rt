@@ -10,13 +10,13 @@ use std::alloc::Global;
 use std::process::Abort;
 use std::test::Fail;
 
-const S0: &str = "\
+const CEREMONY: &str = "\
 CSNBMKP role=DEFAULT action=FIRST part=0102030405060708090a0b0c0d0e0f101112131415161718
 CSNBMKP role=DEFAULT action=LAST part=000000000000000000000000000000000000000000000000
 CSNBMKP role=DEFAULT action=SET
 ";
 
-const S0_REPLIES: &str = "OK new=partial\nOK new=full\nOK new=empty\n";
+const CEREMONY_REPLIES: &str = "OK new=partial\nOK new=full\nOK new=empty\n";
 
 // Runs an input over the module, and asserts the status and the replies.
 fn run_over(
@@ -45,7 +45,13 @@ fn run_over(
 fn a_ceremony_outlives_its_runs(rt: HostRuntime) -> Result<(), Fail> {
     let alloc = rt.alloc();
     let mut module = MemoryDisk::new(alloc, MODULE_SIZE, CALLS)?;
-    run_over(&rt, alloc, &mut module, S0, (Status::Done, S0_REPLIES))?;
+    run_over(
+        &rt,
+        alloc,
+        &mut module,
+        CEREMONY,
+        (Status::Done, CEREMONY_REPLIES),
+    )?;
     // The same key once more, its parts in two further runs.
     run_over(
         &rt,
@@ -104,12 +110,12 @@ fn a_damaged_module_is_told(rt: HostRuntime) -> Result<(), Fail> {
         &rt,
         alloc,
         &mut module,
-        S0,
+        CEREMONY,
         (Status::Damaged(Device::Module, 0), ""),
     )
 }
 
-// Runs S0 with the module's call of this number failing.
+// Runs the ceremony with the module's call of this number failing.
 fn run_failing(
     rt: &impl Abort,
     alloc: Global,
@@ -118,7 +124,7 @@ fn run_failing(
 ) -> Result<(), Fail> {
     let mut module = MemoryDisk::new(alloc, MODULE_SIZE, CALLS)?;
     module.fail_at(call);
-    run_over(rt, alloc, &mut module, S0, want)
+    run_over(rt, alloc, &mut module, CEREMONY, want)
 }
 
 #[test]
@@ -134,5 +140,5 @@ fn a_fault_of_the_module_ends_the_run(rt: HostRuntime) -> Result<(), Fail> {
         };
         run_failing(&rt, rt.alloc(), call, (Status::ModuleFault, replies))?;
     }
-    run_failing(&rt, rt.alloc(), 24, (Status::Done, S0_REPLIES))
+    run_failing(&rt, rt.alloc(), 24, (Status::Done, CEREMONY_REPLIES))
 }

@@ -8,10 +8,10 @@ use std::alloc::Global;
 use std::process::Abort;
 use std::test::Fail;
 
-const E1: &str =
+const DATA_TOKEN: &str =
     "020000000000c00000000000000000008ca64de9c1b123a700000000000000000000000000000000000000000000000000000000000000000000000050583190";
 
-const E1_REPLY: &str =
+const DATA_REPLY: &str =
     "OK kind=external class=DATA length=8 vector=0000000000000000 pattern=0000000000000000\n";
 
 // The room of a sink: more than any reply here needs.
@@ -156,7 +156,7 @@ fn other_lines_are_refused(rt: HostRuntime) -> Result<(), Fail> {
 
 #[test]
 fn a_role_that_is_not_held_is_refused(rt: HostRuntime) -> Result<(), Fail> {
-    let line = format!(in rt.alloc(); "CSNBKTP role=NOBODY token={E1}\n")?;
+    let line = format!(in rt.alloc(); "CSNBKTP role=NOBODY token={DATA_TOKEN}\n")?;
     expect_run(
         &rt,
         rt.alloc(),
@@ -176,8 +176,8 @@ fn a_line_has_at_most_9216_bytes(rt: HostRuntime) -> Result<(), Fail> {
     input.extend_from_slice(b"\n\n")?;
     // The last line has no newline.
     input.extend_from_slice(b"CSNBKTP role=DEFAULT token=")?;
-    input.extend_from_slice(E1.as_bytes())?;
-    let replies = format!(in rt.alloc(); "NO 02 -\nNO 01 -\nNO 01 -\n{E1_REPLY}")?;
+    input.extend_from_slice(DATA_TOKEN.as_bytes())?;
+    let replies = format!(in rt.alloc(); "NO 02 -\nNO 01 -\nNO 01 -\n{DATA_REPLY}")?;
     for piece in [1, 1_000, 20_000] {
         expect_run(
             &rt,
@@ -241,13 +241,13 @@ fn run_failing(
 
 #[test]
 fn a_fault_at_any_call_ends_the_run(rt: HostRuntime) -> Result<(), Fail> {
-    let input = request(rt.alloc(), E1)?;
+    let input = request(rt.alloc(), DATA_TOKEN)?;
     let mut replies = Vec::new(rt.alloc());
     // Four reads of up to 50 bytes, and one that shows the end.
     for call in 0..5 {
         let status = run_failing(rt.alloc(), input.as_bytes(), Some(call), None, &mut replies)?;
         assert_eq!(rt; status, Status::ReadFault, "source call {call}");
-        let whole = if call < 4 { "" } else { E1_REPLY };
+        let whole = if call < 4 { "" } else { DATA_REPLY };
         assert_eq!(rt; replies.as_slice(), whole.as_bytes(), "source call {call}");
     }
     let status = run_failing(rt.alloc(), input.as_bytes(), Some(5), None, &mut replies)?;
@@ -257,6 +257,6 @@ fn a_fault_at_any_call_ends_the_run(rt: HostRuntime) -> Result<(), Fail> {
     assert_eq!(rt; replies.as_slice(), b"".as_slice());
     let status = run_failing(rt.alloc(), input.as_bytes(), None, Some(1), &mut replies)?;
     assert_eq!(rt; status, Status::Done);
-    assert_eq!(rt; replies.as_slice(), E1_REPLY.as_bytes());
+    assert_eq!(rt; replies.as_slice(), DATA_REPLY.as_bytes());
     Ok(())
 }
