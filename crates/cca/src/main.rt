@@ -4,7 +4,7 @@
 //! master key registers stand in the file `cca.module` of the current folder.
 #![tactic(auto)]
 
-ghost use Rattle.std.specs.Prelude.{◌≡◌, IfOk};
+ghost use Rattle.std.specs.Prelude.{◌≡◌, ◌↔◌, ◌++◌, ◌∷◌, [], Ok, IfOk, OnOk, IsNone};
 
 use cca_tool::{Device, Status, Words, run};
 use key_cells::Workbench;
@@ -20,8 +20,10 @@ const USAGE: &str = "cca: usage: cca run, or cca demo N with N from 1 to 1000";
 /// Why a run didn't begin.
 #[derive(Clone, Copy, Debug, PartialEq, Eq)]
 enum Unopened {
-    /// The words could not be taken.
-    Words(Status),
+    /// A word isn't UTF-8, and so the command line is faulty.
+    Words,
+    /// There was no memory for the words.
+    NoMemory,
     /// A file could not be opened or made.
     File,
     /// A file has another size than it must.
@@ -67,15 +69,17 @@ fn words_of<R: Env + AllocGlobal>(rt: &R) -> Result<Words, Unopened> {
             }
             Ok(words)
         }
-        Err(error) if error.kind() == ErrorKind::InvalidData => Err(Unopened::Words(Status::Usage)),
-        Err(_) => Err(Unopened::Words(Status::NoMemory)),
+        Err(error) if error.kind() == ErrorKind::InvalidData => Err(Unopened::Words),
+        Err(_) => Err(Unopened::NoMemory),
     }
 }
 
-fn push(words: &mut Words, word: &str) -> Result<(), Unopened> {
+fn push(words: &mut Words, word: &str) -> Result<(), Unopened>
+    ensures { OnOk result (words.new ≡ words.old ++ word.now ∷ []) }
+{
     match words.push(word) {
         Ok(()) => Ok(()),
-        Err(NoMemory) => Err(Unopened::Words(Status::NoMemory)),
+        Err(NoMemory) => Err(Unopened::NoMemory),
     }
 }
 
@@ -104,16 +108,22 @@ fn open_module(rt: &HostRuntime) -> Result<FileDisk, Unopened>
     }
 }
 
-/// The line on standard error.
-fn text_of(outcome: Result<Status, Unopened>) -> Option<&'static str> {
+/// The line on standard error. There is one for each end but a good one.
+fn text_of(outcome: Result<Status, Unopened>) -> Option<&'static str>
+    ensures { IsNone result ↔ (outcome ≡ Ok Status.Done) }
+{
     match outcome {
-        Ok(status) | Err(Unopened::Words(status)) => text_of_status(status),
+        Ok(status) => text_of_status(status),
+        Err(Unopened::Words) => text_of_status(Status::Usage),
+        Err(Unopened::NoMemory) => text_of_status(Status::NoMemory),
         Err(Unopened::File) => Some("cca: a file could not be opened"),
         Err(Unopened::Size) => Some("cca: a file has a wrong size"),
     }
 }
 
-fn text_of_status(status: Status) -> Option<&'static str> {
+fn text_of_status(status: Status) -> Option<&'static str>
+    ensures { IsNone result ↔ (status ≡ Status.Done) }
+{
     match status {
         Status::Done => None,
         Status::Usage => Some(USAGE),
@@ -127,15 +137,22 @@ fn text_of_status(status: Status) -> Option<&'static str> {
     }
 }
 
-fn exit_status(outcome: Result<Status, Unopened>) -> u8 {
+/// 0 for a good end alone.
+fn exit_status(outcome: Result<Status, Unopened>) -> u8
+    ensures { (result ≡ 0) ↔ (outcome ≡ Ok Status.Done) }
+{
     match outcome {
-        Ok(status) | Err(Unopened::Words(status)) => exit_of_status(status),
+        Ok(status) => exit_of_status(status),
+        Err(Unopened::Words) => exit_of_status(Status::Usage),
+        Err(Unopened::NoMemory) => exit_of_status(Status::NoMemory),
         Err(Unopened::File) => 11,
         Err(Unopened::Size) => 17,
     }
 }
 
-fn exit_of_status(status: Status) -> u8 {
+fn exit_of_status(status: Status) -> u8
+    ensures { (result ≡ 0) ↔ (status ≡ Status.Done) }
+{
     match status {
         Status::Done => 0,
         Status::Usage => 2,

@@ -1,7 +1,15 @@
-//! Whole runs against replies that are known from outside. It is a crate of tests.
+//! Replies that are known from outside: whole runs of the top call as tests, and key ceremonies that the machine's
+//! definitions compute. It is a crate of tests.
 #![tactic(auto)]
+
+ghost use Rattle.cca_rows.specs.WorkedCeremonies.{AreAnswered};
 
 #[cfg(test)]
 mod masters;
 #[cfg(test)]
 mod rows;
+
+/// The machine gives the replies to two key ceremonies that are known from outside: the definitions compute them.
+pub fn worked_ceremonies()
+    ensures { AreAnswered }
+{}
