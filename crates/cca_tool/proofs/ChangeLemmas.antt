@@ -19,7 +19,8 @@ use Rattle.cca_vectors.specs.Checks.{check}
 use Rattle.cca_machine.specs.State.{State}
 use Rattle.cca_machine.specs.Verdict.{Step, First, Middle, Last, step_named, part_checks, first_refusal, questions}
 use Rattle.cca_machine.specs.Act.{Outcome, new_name, act, after_part, or_act, with_masters}
-use Rattle.cca_tool.specs.Performing.{state_with, outcome_of, change_outcome, state_name, change_reply, change_stop, CarriesOut, IsEither, IsRefusal, part_request, clear_request, set_request}
+use Rattle.cca_tool.specs.Performing.{state_with, outcome_of, change_outcome, state_name, change_reply, change_stop, CarriesOut, IsEither, part_request, clear_request, set_request}
+use Rattle.cca_tool.specs.Answering.{IsRefusal}
 use Rattle.cca_tool.specs.Steps.{refuses_step, spec_step, refuses as refuses_of, after_step}
 use Rattle.cca_tool.specs.declared.perform.csnbmkp.Step.{Step as CodeStep}
 use Rattle.cca_tool.specs.declared.stops.Stop.{Stop}

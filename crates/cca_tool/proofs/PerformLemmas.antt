@@ -17,9 +17,9 @@ use Rattle.cca_machine.specs.Act.{act, or_act, performed}
 use Rattle.cca_tool.specs.declared.stops.Stop.{Stop}
 use Rattle.cca_tool.specs.declared.stops.Stop.TheVariants.{ModuleFault, Damaged}
 use Rattle.cca_tool.specs.declared.stops.Device.TheVariants.{Module}
-use Rattle.cca_tool.specs.Performing.{state_with, CarriesOut, IsEither, IsRefusal}
+use Rattle.cca_tool.specs.Performing.{state_with, CarriesOut, IsEither}
+use Rattle.cca_tool.specs.Answering.{IsRefusal, Performs}
 use Rattle.cca_tool.specs.Serving.{Holds, IsSound}
-use Rattle.cca_tool.specs.Answering.{Performs}
 
 -- no request changes the roles
 act_roles : (s : State) (random : List ℕ) (name : RequestName) (request : Request) → (act s random name request).state.roles ≡ s.roles

@@ -1,6 +1,6 @@
 -- How a session goes on from line to line.
 use Rattle.std.proofs.Common.{◌≡◌, ℕ, ◌+◌, Bool, false, List, [], ◌∷◌, ◌++◌, length, Option, None, Some, refl, sym, ap, ◌∙◌, subst, inl, inr, append_assoc, arith}
-use Rattle.std.specs.Prelude.{◌⊎◌, ◌≢◌, ⊤, IsTrue}
+use Rattle.std.specs.Prelude.{◌⊎◌, ◌≢◌, IsTrue}
 use Rattle.std.proofs.lemmas.List.{append-nil}
 use Rattle.slot_disk.specs.Medium.{Medium, EachImage, IsSettled}
 use Rattle.slot_disk.specs.WhereTold.{WhereTold}
@@ -311,20 +311,6 @@ has_served_lost s m0 m m1 a b c p q t old X first told loses =
     step_on s m0 m a b c p q t old X _ (λ input rest before now. LineLost s m1 input before now)
     (λ input mid rest before now later served x lost. served_lost s m0 m m1 input (old.pending ++ mid) before now later old.ended served lost)
     first told loses
-
--- the images on the way, whatever ended the session
-pub has_served_moments : (s : State) (m0 m m1 : Medium) (a b c p q t : Option (List ℕ)) (old : Reading) (X : List ℕ → List ℕ → List ℕ → List ℕ → Type 0)
-    → HasServed s m0 m a b p q old
-    → ((s' : State) → Holds m s' → WhereTold b c (λ input rest. EachImage m m1 (IsAroundLine s' (old.pending ++ input))))
-    → BothTold b c q t X
-    → WhereTold b c (λ input rest. ⊤)
-    → BothTold a c p t (λ input rest before now. EachImage m0 m1 (IsOnTheWay s input))
-has_served_moments s m0 m m1 a b c p q t old X first moments told source =
-    step_on s m0 m a b c p q t old (λ input rest. ⊤) (λ s' input rest before now. X input rest before now × EachImage m m1 (IsAroundLine s' (old.pending ++ input)))
-    (λ input rest before now. EachImage m0 m1 (IsOnTheWay s input))
-    (λ input mid rest before now later served x next. more_moments s m0 m m1 input (old.pending ++ mid) served.whole served.lines_are served.moments next.1)
-    first source
-    (λ s' holds. both_and_left b c q t X _ told (moments s' holds))
 
 -- ---- how many bytes were taken
 

@@ -1,11 +1,11 @@
 -- One line, from the bytes ahead to its reply.
-use Rattle.std.specs.Prelude.{◌≡◌, ◌⊎◌, ℕ, ◌≤◌, ◌<◌, List, [], ◌∷◌, ◌++◌, length, Bool}
+use Rattle.std.specs.Prelude.{⊤, ◌≡◌, ◌⊎◌, ℕ, ◌≤◌, ◌<◌, List, [], ◌∷◌, ◌++◌, length, Bool}
 use Rattle.slot_disk.specs.Medium.{Medium}
 use Rattle.script_buffers.specs.Lines.{lines}
 use Rattle.script_buffers.specs.Reading.{Reading, TakesLine, line_limit}
 use Rattle.script_buffers.specs.declared.lines.Taken.{Taken}
 use Rattle.script_buffers.specs.declared.lines.Taken.TheVariants.{Line, TooLong, End}
-use Rattle.script_buffers.specs.Replies.{spelled}
+use Rattle.script_buffers.specs.Replies.{Reply, Refused, Done, spelled}
 use Rattle.verb_script.specs.Grammar.{Request, Spells}
 use Rattle.cca_machine.specs.Act.{performed}
 use Rattle.cca_machine.specs.State.{State, StandsFor}
@@ -20,6 +20,11 @@ IsSpelled request = (line : List ℕ) × Spells request line × (length line ≤
 pub record Performs (s : State) (request : Request) (module_ : Medium) (reply : List ℕ) : Type 0 where
   pub reply_is : reply ≡ spelled (performed s [] request).reply
   pub state : Holds module_ (performed s [] request).state
+
+-- the reply names a rule
+abbrev pub IsRefusal : Reply → Type 0
+IsRefusal (Refused rule operand) = ⊤
+IsRefusal (Done fields) = ⊥
 
 -- the line that was taken
 abbrev pub IsTheLine : Taken → Reading → List ℕ → Type 0

@@ -1,5 +1,5 @@
 -- A request over the registers of a module, by the rules of its verb.
-use Rattle.std.specs.Prelude.{◌≡◌, ◌⊎◌, ⊤, ℕ, Bool, List, [], ◌∷◌, codes, Result, Ok, Err, if◌then◌else◌}
+use Rattle.std.specs.Prelude.{◌≡◌, ◌⊎◌, ℕ, Bool, List, [], ◌∷◌, codes, Result, Ok, Err, if◌then◌else◌}
 use Rattle.slot_disk.specs.Medium.{Medium, Told, IsSettled}
 use Rattle.master_registers.specs.Masters.{Masters}
 use Rattle.master_registers.specs.RegisterBody.{StandsForMasters}
@@ -71,8 +71,3 @@ set_request role action = record { name = csnbmkp_set; values = role ∷ action 
 
 abbrev pub token_request : List ℕ → List ℕ → Request
 token_request role token = record { name = csnbktp; values = role ∷ token ∷ [] }
-
--- the reply names a rule
-abbrev pub IsRefusal : Reply → Type 0
-IsRefusal (Refused rule operand) = ⊤
-IsRefusal (Done fields) = ⊥

@@ -12,9 +12,9 @@ ghost use Rattle.master_registers.specs.RegisterBody.{StandsForMasters};
 ghost use Rattle.master_registers.specs.Loaded.{Loaded};
 ghost use Rattle.verb_script.specs.Grammar.{AreAccepted, row_of, value_of};
 ghost use Rattle.verb_script.specs.Parsed.{seen};
-ghost use Rattle.cca_tool.specs.Performing.{state_with, outcome_of, CarriesOut, IsEither, IsRefusal};
+ghost use Rattle.cca_tool.specs.Performing.{state_with, outcome_of, CarriesOut, IsEither};
+ghost use Rattle.cca_tool.specs.Answering.{IsRefusal, IsSpelled, Performs};
 ghost use Rattle.cca_tool.specs.Serving.{Holds, IsSound};
-ghost use Rattle.cca_tool.specs.Answering.{IsSpelled, Performs};
 
 use crate::stops::{Device, Stop};
 use key_cells::{Lease, Workbench};

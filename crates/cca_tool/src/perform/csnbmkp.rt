@@ -11,7 +11,8 @@ ghost use Rattle.master_registers.specs.Changes.{ChangesModule, HasDiskCause, Wh
 ghost use Rattle.script_buffers.specs.Replies.{spelled, Done, Text};
 ghost use Rattle.verb_script.specs.Grammar.{is_hex};
 ghost use Rattle.verb_script.specs.Values.{hex_value};
-ghost use Rattle.cca_tool.specs.Performing.{change_reply, change_stop, state_name, outcome_of, CarriesOut, IsEither, IsRefusal, part_request, clear_request, set_request};
+ghost use Rattle.cca_tool.specs.Performing.{change_reply, change_stop, state_name, outcome_of, CarriesOut, IsEither, part_request, clear_request, set_request};
+ghost use Rattle.cca_tool.specs.Answering.{IsRefusal};
 ghost use Rattle.cca_tool.specs.Steps.{spec_step, refuses, after_step};
 ghost use Rattle.cca_machine.specs.Verdict.{step_named as named};
 

@@ -5,7 +5,8 @@ use Rattle.slot_disk.specs.Medium.{EachImage}
 use Rattle.verb_script.specs.Grammar.{Request}
 use Rattle.verb_script.specs.Parsed.{seen}
 use Rattle.cca_machine.specs.Act.{Outcome}
-use Rattle.cca_tool.specs.Performing.{outcome_of, CarriesOut, IsEither, IsRefusal, token_request, part_request, clear_request, set_request}
+use Rattle.cca_tool.specs.Performing.{outcome_of, CarriesOut, IsEither, token_request, part_request, clear_request, set_request}
+use Rattle.cca_tool.specs.Answering.{IsRefusal}
 use Rattle.cca_tool.proofs.ChangeLemmas.{carried, untouched_moments, for_role, set_outcome}
 use Rattle.cca_tool.proofs.TokenLaws.{token_state}
 use Rattle.cca_tool.proofs.perform.act.Goals as goal

@@ -8,7 +8,8 @@ use Rattle.verb_script.specs.Grammar.{value_of}
 use Rattle.verb_script.specs.Parsed.{seen}
 use Rattle.cca_machine.specs.Act.{Outcome, performed}
 use Rattle.cca_machine.proofs.RoleLaws.{performed-role, performed-held}
-use Rattle.cca_tool.specs.Performing.{state_with, CarriesOut, IsEither, IsRefusal}
+use Rattle.cca_tool.specs.Performing.{state_with, CarriesOut, IsEither}
+use Rattle.cca_tool.specs.Answering.{IsRefusal}
 use Rattle.cca_tool.proofs.ChangeLemmas.{carried}
 use Rattle.cca_tool.proofs.perform.carry_out.Goals as goal
 

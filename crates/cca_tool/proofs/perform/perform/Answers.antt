@@ -6,9 +6,9 @@ use Rattle.master_registers.specs.Loaded.{masters_in}
 use Rattle.verb_script.specs.Parsed.{seen}
 use Rattle.cca_machine.specs.Act.{performed}
 use Rattle.cca_machine.specs.State.{State}
-use Rattle.cca_tool.specs.Performing.{state_with, IsRefusal}
+use Rattle.cca_tool.specs.Performing.{state_with}
+use Rattle.cca_tool.specs.Answering.{IsRefusal, Performs}
 use Rattle.cca_tool.specs.Serving.{Holds}
-use Rattle.cca_tool.specs.Answering.{Performs}
 use Rattle.cca_tool.proofs.PerformLemmas.{refusal_keeps, state_loaded, performs, for_each, images_of, not_damaged}
 use Rattle.cca_tool.proofs.perform.perform.Goals as goal
 
