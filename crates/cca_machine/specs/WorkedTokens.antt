@@ -30,7 +30,7 @@ worked_tokens =
     ∷ []
 
 -- the machine gives these replies
-abbrev pub AreAnswered : List Worked → Type 0
-AreAnswered [] = ⊤
-AreAnswered (w ∷ ws) =
-    (spelled (step blank_state [] (codes "CSNBKTP role=DEFAULT token=" ++ w.token)).reply ≡ w.reply ++ newline ∷ []) × AreAnswered ws
+abbrev pub TokensAnswered : List Worked → Type 0
+TokensAnswered [] = ⊤
+TokensAnswered (w ∷ ws) =
+    (spelled (step blank_state [] (codes "CSNBKTP role=DEFAULT token=" ++ w.token)).reply ≡ w.reply ++ newline ∷ []) × TokensAnswered ws

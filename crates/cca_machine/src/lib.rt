@@ -8,11 +8,11 @@ ghost use Rattle.verb_script.specs.Requests.{request_of};
 ghost use Rattle.verb_script.specs.Grammar.{Request};
 ghost use Rattle.cca_machine.specs.State.{State};
 ghost use Rattle.cca_machine.specs.Act.{step, performed, refused};
-ghost use Rattle.cca_machine.specs.WorkedTokens.{AreAnswered, worked_tokens};
+ghost use Rattle.cca_machine.specs.WorkedTokens.{TokensAnswered, worked_tokens};
 
 /// The machine gives the replies that are known from outside: the definitions compute them.
 pub fn worked_key_tokens()
-    ensures { AreAnswered worked_tokens }
+    ensures { TokensAnswered worked_tokens }
 {}
 
 /// One step of the machine, by what the line is.

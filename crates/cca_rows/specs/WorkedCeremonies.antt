@@ -28,7 +28,7 @@ misplaced_steps =
     ∷ []
 
 -- from a blank module
-pub record AreAnswered : Type 0 where
+pub record CeremoniesAnswered : Type 0 where
   pub in_order : replies blank_state [] ceremony ≡ ended (codes "OK new=partial" ∷ codes "OK new=full" ∷ codes "OK new=empty" ∷ [])
   pub out_of_order : replies blank_state [] misplaced_steps
       ≡ ended (codes "NO 25 -" ∷ codes "OK new=partial" ∷ codes "NO 25 -" ∷ codes "OK new=empty" ∷ codes "NO 25 -" ∷ [])

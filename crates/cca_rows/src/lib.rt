@@ -2,7 +2,7 @@
 //! definitions compute. It is a crate of tests.
 #![tactic(auto)]
 
-ghost use Rattle.cca_rows.specs.WorkedCeremonies.{AreAnswered};
+ghost use Rattle.cca_rows.specs.WorkedCeremonies.{CeremoniesAnswered};
 
 #[cfg(test)]
 mod masters;
@@ -11,5 +11,5 @@ mod rows;
 
 /// The machine gives the replies to two key ceremonies that are known from outside: the definitions compute them.
 pub fn worked_ceremonies()
-    ensures { AreAnswered }
+    ensures { CeremoniesAnswered }
 {}

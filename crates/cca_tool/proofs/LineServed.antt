@@ -6,7 +6,7 @@ use Rattle.slot_disk.specs.WhereTold.{WhereTold}
 use Rattle.slot_disk.proofs.Media.{each_weaker, image_now}
 use Rattle.slot_disk.proofs.WhereToldLemmas.{told_weaker}
 use Rattle.script_buffers.specs.Lines.{lines}
-use Rattle.script_buffers.specs.Reading.{Reading, TakesLine, Answers as Takes}
+use Rattle.script_buffers.specs.Reading.{Reading, TakesLine, Takes}
 use Rattle.script_buffers.specs.declared.lines.Taken.{Taken}
 use Rattle.script_buffers.specs.declared.lines.Taken.TheVariants.{Line, TooLong, End}
 use Rattle.cca_machine.specs.State.{State, StandsFor}

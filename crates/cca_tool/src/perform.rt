@@ -6,7 +6,7 @@ ghost use Rattle.slot_disk.specs.Medium.{Told, IsSettled, EachImage};
 ghost use Rattle.cca_machine.specs.Act.{performed};
 ghost use Rattle.cca_machine.specs.State.{State, StandsFor};
 ghost use Rattle.std.specs.Str.{bytes_eq};
-ghost use Rattle.key_cells.specs.Lease.{held as bench_of, loan_of};
+ghost use Rattle.key_cells.specs.Lease.{bench_of, loan_of};
 ghost use Rattle.master_registers.specs.Masters.{Masters};
 ghost use Rattle.master_registers.specs.RegisterBody.{StandsForMasters};
 ghost use Rattle.master_registers.specs.Loaded.{Loaded};

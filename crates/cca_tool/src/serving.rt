@@ -5,7 +5,7 @@ ghost use Rattle.key_cells.specs.Bench.{blank_bench};
 ghost use Rattle.slot_disk.specs.Faults.{Rose};
 ghost use Rattle.slot_disk.specs.Medium.{Told, IsSettled, EachImage};
 ghost use Rattle.slot_disk.specs.WhereTold.{WhereTold};
-ghost use Rattle.script_buffers.specs.Reading.{Reading, input_limit, LosesPart, Shows, Advances, bytes_ahead, Answers as Takes};
+ghost use Rattle.script_buffers.specs.Reading.{Reading, input_limit, LosesPart, Shows, Advances, bytes_ahead, Takes};
 ghost use Rattle.cca_machine.specs.State.{State, StandsFor};
 ghost use Rattle.cca_tool.specs.Serving.{BothTold, Holds, IsSound, IsRequest, after_line};
 ghost use Rattle.cca_tool.specs.Answering.{IsTheLine, Answers, AnswersLine, CutsReply, LosesLine, IsAroundLine};

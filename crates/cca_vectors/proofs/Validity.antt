@@ -12,7 +12,7 @@ use Rattle.std.proofs.lemmas.Slice.Eq.{bytes_eq-Decides}
 use Rattle.std.proofs.lemmas.List.{get_or-set_same, get_or-set_other, length-set, ext_get_or, length-take, length-drop, get_or-take, get_or-drop, get_or_past, get_or_default}
 use Rattle.cca_vectors.specs.Bits.{bit, even_byte}
 use Rattle.cca_vectors.specs.Checks.{check, first_failing}
-use Rattle.cca_vectors.specs.Vectors.{left_of, right_of, form_of, single_length, left_of_double, IsZero, IsEven, IsAntiVariant, IsRightHalfFor, HasForm, IsValid}
+use Rattle.cca_vectors.specs.Vectors.{left_of, right_of, form_of, single_length, left_of_double, IsZero, IsEven, IsAntiVariant, IsRightHalfFor, HasKeyForm, IsValid}
 use Rattle.cca_vectors.specs.VectorChecks.{is_zero, is_even, is_anti_variant, right_half_for, has_form, vector_checks}
 
 -- ---- one byte
@@ -135,7 +135,7 @@ is_right_half left right long_left left_fits e = record {
         (ap (λ half. get_or half (n / 8) 0) e ∙ get_or-set_other left 5 (n / 8) made 0 ne))
         (cases_eq (n / 8) 5)
 
-pub has_form-Decides : (left right : List ℕ) → length left ≡ 8 → length right ≡ 8 → AreBytes left → AreBytes right → Decides (has_form left right) (HasForm left right)
+pub has_form-Decides : (left right : List ℕ) → length left ≡ 8 → length right ≡ 8 → AreBytes left → AreBytes right → Decides (has_form left right) (HasKeyForm left right)
 has_form-Decides left right long_left long_right left_fits right_fits =
     Decides-or (eqb (form_of left) single_length && is_zero right) (eqb (form_of left) left_of_double && bytes_eq right (right_half_for left))
     (Decides-and (eqb (form_of left) single_length) (is_zero right) (Decides-eqb (form_of left) single_length) (is_zero-Decides right))
@@ -169,13 +169,13 @@ pub bytes_dropped : (n : ℕ) (bytes : List ℕ) → AreBytes bytes → AreBytes
 bytes_dropped n bytes fits k = rw get_or-drop (fits (n + k))
 
 module _ (vector : List ℕ) (whole : length vector ≡ 16) (fits : AreBytes vector) where
-  decides_form : Decides (has_form (left_of vector) (right_of vector)) (HasForm (left_of vector) (right_of vector))
+  decides_form : Decides (has_form (left_of vector) (right_of vector)) (HasKeyForm (left_of vector) (right_of vector))
   decides_form =
       has_form-Decides (left_of vector) (right_of vector) (simp (length-take, length-drop) (omega arith)) (simp (length-take, length-drop) (omega arith))
       (bytes_taken 8 vector fits) (bytes_taken 8 (drop 8 vector) (bytes_dropped 8 vector fits))
 
   decides_all : Decides (is_even vector && (is_anti_variant (left_of vector) && is_anti_variant (right_of vector)) && has_form (left_of vector) (right_of vector))
-      ((All IsEven vector × (IsAntiVariant (left_of vector) × IsAntiVariant (right_of vector))) × HasForm (left_of vector) (right_of vector))
+      ((All IsEven vector × (IsAntiVariant (left_of vector) × IsAntiVariant (right_of vector))) × HasKeyForm (left_of vector) (right_of vector))
   decides_all =
       Decides-and (is_even vector && (is_anti_variant (left_of vector) && is_anti_variant (right_of vector))) (has_form (left_of vector) (right_of vector))
       (Decides-and (is_even vector) (is_anti_variant (left_of vector) && is_anti_variant (right_of vector)) (is_even-Decides vector)
@@ -190,7 +190,7 @@ module _ (vector : List ℕ) (whole : length vector ≡ 16) (fits : AreBytes vec
   -- no rule is broken exactly where the vector is valid
   pub valid_from_none : first_failing (vector_checks vector) ≡ None → IsValid vector
   valid_from_none none =
-      let facts : (All IsEven vector × (IsAntiVariant (left_of vector) × IsAntiVariant (right_of vector))) × HasForm (left_of vector) (right_of vector)
+      let facts : (All IsEven vector × (IsAntiVariant (left_of vector) × IsAntiVariant (right_of vector))) × HasKeyForm (left_of vector) (right_of vector)
       = decides_all.0 (three.0 none) in
       record { whole = whole; bytes = all_bytes vector fits; even = facts.0.0; left = facts.0.1.0; right = facts.0.1.1; form = facts.1 }
 

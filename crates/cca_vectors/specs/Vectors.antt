@@ -53,8 +53,8 @@ pub record IsRightHalfFor (left right : List ℕ) : Type 0 where
   pub others : (n : ℕ) → n < 64 → n ≢ 40 → n ≢ 41 → n ≢ 42 → n ≢ 47 → bit right n ≡ bit left n
 
 -- a single-length key with no right half, or a double-length key
-abbrev pub HasForm : List ℕ → List ℕ → Type 0
-HasForm left right = ((form_of left ≡ single_length) × IsZero right) ⊎ ((form_of left ≡ left_of_double) × IsRightHalfFor left right)
+abbrev pub HasKeyForm : List ℕ → List ℕ → Type 0
+HasKeyForm left right = ((form_of left ≡ single_length) × IsZero right) ⊎ ((form_of left ≡ left_of_double) × IsRightHalfFor left right)
 
 -- 16 bytes of even parity whose halves are anti-variant and have a key form
 pub record IsValid (vector : List ℕ) : Type 0 where
@@ -63,4 +63,4 @@ pub record IsValid (vector : List ℕ) : Type 0 where
   pub even : All IsEven vector
   pub left : IsAntiVariant (left_of vector)
   pub right : IsAntiVariant (right_of vector)
-  pub form : HasForm (left_of vector) (right_of vector)
+  pub form : HasKeyForm (left_of vector) (right_of vector)

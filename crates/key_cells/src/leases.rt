@@ -10,14 +10,14 @@ use crate::schedules::Schedule;
 /// The bench for the time of a request. When it is dropped every byte of the bench is zero and the
 /// text's length is 0.
 ///
-/// Contracts speak of it by two words: `held lease` is the bench, and `holding lease bench` is the lease
+/// Contracts speak of it by two words: `bench_of lease` is the bench, and `holding lease bench` is the lease
 /// with that bench.
 pub struct Lease<'a> {
     bench: &'a mut Workbench,
 }
 
 impl<'a> Lease<'a> {
-    ghost use Rattle.key_cells.specs.Lease.{held, holding, loan_of, LendsMaster, LendsKey, LendsSchedules, LendsBody, LendsText};
+    ghost use Rattle.key_cells.specs.Lease.{bench_of, holding, loan_of, LendsMaster, LendsKey, LendsSchedules, LendsBody, LendsText};
 
     /// A lease of the bench, whose places stay as they are.
     pub fn open(bench: &'a mut Workbench) -> Lease<'a>
@@ -29,7 +29,7 @@ impl<'a> Lease<'a> {
 
     /// The 24 bytes of a master key's place.
     pub fn master(&self, place: MasterPlace) -> &[u8; 24]
-        ensures { result.now ≡ master_of (held self.now) place }
+        ensures { result.now ≡ master_of (bench_of self.now) place }
     {
         self.bench.master(place)
     }
@@ -37,14 +37,14 @@ impl<'a> Lease<'a> {
     /// The 24 bytes of a master key's place, for writing.
     pub fn master_mut(&mut self, place: MasterPlace) -> &mut [u8; 24]
         ensures* writes_back { sem 𝓛 (LendsMaster self.entry place result) }
-        ensures value { result.now ≡ master_of (held self.old) place }
+        ensures value { result.now ≡ master_of (bench_of self.old) place }
     {
         self.bench.master_mut(place)
     }
 
     /// The 16 bytes of a key's place.
     pub fn key(&self, place: KeyPlace) -> &[u8; 16]
-        ensures { result.now ≡ key_of (held self.now) place }
+        ensures { result.now ≡ key_of (bench_of self.now) place }
     {
         self.bench.key(place)
     }
@@ -52,14 +52,14 @@ impl<'a> Lease<'a> {
     /// The 16 bytes of a key's place, for writing.
     pub fn key_mut(&mut self, place: KeyPlace) -> &mut [u8; 16]
         ensures* writes_back { sem 𝓛 (LendsKey self.entry place result) }
-        ensures value { result.now ≡ key_of (held self.old) place }
+        ensures value { result.now ≡ key_of (bench_of self.old) place }
     {
         self.bench.key_mut(place)
     }
 
     /// The three schedules.
     pub fn schedules(&self) -> &[Schedule; 3]
-        ensures { result.now ≡ (held self.now).schedules }
+        ensures { result.now ≡ (bench_of self.now).schedules }
     {
         self.bench.schedules()
     }
@@ -67,14 +67,14 @@ impl<'a> Lease<'a> {
     /// The three schedules, for writing.
     pub fn schedules_mut(&mut self) -> &mut [Schedule; 3]
         ensures* writes_back { sem 𝓛 (LendsSchedules self.entry result) }
-        ensures value { result.now ≡ (held self.old).schedules }
+        ensures value { result.now ≡ (bench_of self.old).schedules }
     {
         self.bench.schedules_mut()
     }
 
     /// The 192 bytes of a cell's body.
     pub fn body(&self) -> &[u8; 192]
-        ensures { result.now ≡ (held self.now).body }
+        ensures { result.now ≡ (bench_of self.now).body }
     {
         self.bench.body()
     }
@@ -82,15 +82,15 @@ impl<'a> Lease<'a> {
     /// The 192 bytes of a cell's body, for writing.
     pub fn body_mut(&mut self) -> &mut [u8; 192]
         ensures* writes_back { sem 𝓛 (LendsBody self.entry result) }
-        ensures value { result.now ≡ (held self.old).body }
+        ensures value { result.now ≡ (bench_of self.old).body }
     {
         self.bench.body_mut()
     }
 
     /// The text, of its length.
     pub fn text(&self) -> &[u8]
-        ensures value { result.now ≡ text_of (held self.now).text }
-        ensures size { length result.now ≡ (held self.now).text.size }
+        ensures value { result.now ≡ text_of (bench_of self.now).text }
+        ensures size { length result.now ≡ (bench_of self.now).text.size }
     {
         self.bench.text()
     }
@@ -98,8 +98,8 @@ impl<'a> Lease<'a> {
     /// The text, of its length, for writing.
     pub fn text_mut(&mut self) -> &mut [u8]
         ensures* writes_back { sem 𝓛 (LendsText self.entry result) }
-        ensures value { result.now ≡ text_of (held self.old).text }
-        ensures size { length result.now ≡ (held self.old).text.size }
+        ensures value { result.now ≡ text_of (bench_of self.old).text }
+        ensures size { length result.now ≡ (bench_of self.old).text.size }
     {
         self.bench.text_mut()
     }
@@ -107,7 +107,7 @@ impl<'a> Lease<'a> {
     /// Makes the text's length another one, and changes no byte.
     pub fn set_text_length(&mut self, length: usize)
         requires { length ≤ 4096 }
-        ensures { self.new ≡ holding self.old (with_size (held self.old) length) }
+        ensures { self.new ≡ holding self.old (with_size (bench_of self.old) length) }
     {
         self.bench.set_text_length(length);
     }

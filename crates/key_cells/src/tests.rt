@@ -2,7 +2,7 @@
 //! ends as zeros.
 ghost use Rattle.std.specs.Prelude.{◌≡◌, replicate};
 ghost use Rattle.key_cells.specs.Bench.{blank_bench, with_key};
-ghost use Rattle.key_cells.specs.Lease.{held, holding};
+ghost use Rattle.key_cells.specs.Lease.{bench_of, holding};
 
 use super::{KeyPlace, Lease, MasterPlace, Secret, Workbench};
 
@@ -25,7 +25,7 @@ struct Refused;
 
 // Writes the place Key alone.
 fn put_key(lease: &mut Lease, bytes: &[u8; 16])
-    ensures { lease.new ≡ holding lease.old (with_key (held lease.old) KeyPlace.Key bytes.now) }
+    ensures { lease.new ≡ holding lease.old (with_key (bench_of lease.old) KeyPlace.Key bytes.now) }
 {
     *lease.key_mut(KeyPlace::Key) = *bytes;
 }

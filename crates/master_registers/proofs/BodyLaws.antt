@@ -4,7 +4,7 @@ use Rattle.std.specs.Prelude.{IsTrue, slice_range, slice_index}
 use Rattle.std.proofs.lemmas.List.{append_assoc, drop-drop, drop_at, get_or-drop, get_or-take, get_or_default, length-append, length-drop, length-replicate, length-take, take-append-drop, take_all, take_at}
 use Rattle.master_registers.specs.Masters.{NewRegister, Empty, Partial, Full, Masters, IsMaster, IsMasters, AreApart, blank_masters, new_bytes, kept_bytes}
 use Rattle.master_registers.specs.RegisterBody.{registers_body, blank_body, new_code, kept_code, ReadsMasters}
-use Rattle.master_registers.specs.BodyForm.{coming_at, kept_at, masters_at, state_at, pattern_at, AreZero, IsBody, HasForm, AreMasterKeys}
+use Rattle.master_registers.specs.BodyForm.{coming_at, kept_at, masters_at, state_at, pattern_at, AreZero, IsBody, HasBodyForm, AreMasterKeys}
 use Rattle.master_registers.specs.Loaded.{state_of, pattern_in, registers_of, ArePlaced, Loaded, masters_in}
 use Rattle.master_registers.proofs.LoadedLaws.{loaded_one}
 use Rattle.master_registers.specs.declared.registers.NewState.{NewState}
@@ -115,7 +115,7 @@ module _ (m : Masters) (valid : IsMasters m) where
           same
 
   -- a table has the form
-  pub form_of_table : HasForm (registers_body m)
+  pub form_of_table : HasBodyForm (registers_body m)
   unfolding registers_body
   form_of_table = record {
     states = record { version = refl; coming = new_low m.coming; current = kept_low m.current; former = kept_low m.former };
@@ -158,7 +158,7 @@ master_piece body at bytes within = record {
 }
 
 -- a body in the form is the table of what stands in it
-pub table_of_form : (body : List ℕ) → length body ≡ 192 → HasForm body → body ≡ registers_body (masters_at body)
+pub table_of_form : (body : List ℕ) → length body ≡ 192 → HasBodyForm body → body ≡ registers_body (masters_at body)
 unfolding registers_body masters_at
 table_of_form [] long form = absurd (omega arith)
 table_of_form (a ∷ []) long form = absurd (omega arith)
@@ -220,7 +220,7 @@ reads_one bytes m n first second =
 
 -- ---- the registers taken from a body in the form
 
-module _ (body : List ℕ) (form : HasForm body) (bytes : IsBody body) where
+module _ (body : List ℕ) (form : HasBodyForm body) (bytes : IsBody body) where
   coming_taken : new_bytes (coming_at (slice_index body 1) (slice_range body 8 32)) ≡ slice_range body 8 32
   coming_taken = new_bytes-at (slice_index body 1) (slice_range body 8 32) (length-piece body 8 bytes.size (omega arith)) form.coming
 
@@ -260,17 +260,17 @@ not_true b is holds = let both : true ≡ false = sym holds ∙ is in cc
 
 -- a body that is neither blank nor in the form reads as nothing
 pub unread : (body copy again : List ℕ) (is_zero is_form : Bool) → copy ≡ body → again ≡ body → is_zero ≡ false → (AreZero copy → IsTrue is_zero)
-    → is_form ≡ false → (HasForm again → IsTrue is_form) → (m : Masters) → ReadsMasters body m → ⊥
+    → is_form ≡ false → (HasBodyForm again → IsTrue is_form) → (m : Masters) → ReadsMasters body m → ⊥
 unread body copy again is_zero is_form same too zero_is blank_zero form_is form m reads =
     ⊎_elim (λ (blank : (body ≡ blank_body) × (m ≡ blank_masters)). not_true is_zero zero_is (blank_zero (same ∙ blank.0 ∙ ap (λ l. replicate (length l) 0) (sym (same ∙ blank.0)))))
-    (λ (table : (body ≡ registers_body m) × IsMasters m). not_true is_form form_is (form (subst HasForm (sym (too ∙ table.0)) (form_of_table m table.1))))
+    (λ (table : (body ≡ registers_body m) × IsMasters m). not_true is_form form_is (form (subst HasBodyForm (sym (too ∙ table.0)) (form_of_table m table.1))))
     reads
 
 -- the registers of a table, of which the patterns are looked at
 valid_as : (m : Masters) → AreMasterKeys m → AreApart m.current m.former → IsMasters m
 valid_as m keys apart = record { coming = keys.coming; current = keys.current; former = keys.former; apart = apart }
 
-read_as : (body : List ℕ) → IsBody body → HasForm body → AreMasterKeys (masters_at body) → AreApart (masters_at body).current (masters_at body).former
+read_as : (body : List ℕ) → IsBody body → HasBodyForm body → AreMasterKeys (masters_at body) → AreApart (masters_at body).current (masters_at body).former
     → ReadsMasters body (masters_at body)
 read_as body bytes form keys apart = inr (table_of_form body bytes.size form, valid_as (masters_at body) keys apart)
 
@@ -296,5 +296,5 @@ module _ (body : List ℕ) (held : Registers) (bench : Bench) (keys : AreMasterK
   pub loaded_taken : Loaded (masters_in held bench) held bench
   loaded_taken = subst (λ (m : Masters). Loaded m held bench) (sym (loaded_one (masters_at body) held bench loaded_at)) loaded_at
 
-  pub reads_taken : IsBody body → HasForm body → ReadsMasters body (masters_in held bench)
+  pub reads_taken : IsBody body → HasBodyForm body → ReadsMasters body (masters_in held bench)
   reads_taken bytes form = subst (ReadsMasters body) (sym (loaded_one (masters_at body) held bench loaded_at)) (read_as body bytes form keys apart)

@@ -3,7 +3,7 @@ use Rattle.std.proofs.Common.{◌≡◌, ℕ, ◌+◌, List, ◌∷◌, ◌++◌
 use Rattle.std.specs.Prelude.{slice_range}
 use Rattle.std.proofs.lemmas.List.{drop-drop, drop_at, length-append, take_at}
 use Rattle.key_cells.specs.Bench.{master_of, with_master}
-use Rattle.key_cells.specs.Lease.{held, holding}
+use Rattle.key_cells.specs.Lease.{bench_of, holding}
 use Rattle.key_cells.specs.declared.leases.Lease.{Lease}
 use Rattle.key_cells.specs.declared.places.MasterPlace.{MasterPlace}
 use Rattle.master_registers.specs.Masters.{NewRegister, Empty, Partial, Full, Masters, IsMasters, new_bytes, kept_bytes}
@@ -60,8 +60,8 @@ three_registers m held valid told =
 
 -- a register copied into the body
 abbrev pub with_put : ℕ → MasterPlace → Lease → Lease
-with_put at place lease = holding lease (record (held lease) { body = take at (held lease).body ++ master_of (held lease) place ++ drop (at + 24) (held lease).body })
+with_put at place lease = holding lease (record (bench_of lease) { body = take at (bench_of lease).body ++ master_of (bench_of lease) place ++ drop (at + 24) (bench_of lease).body })
 
 -- a register taken from the body
 abbrev pub with_taken : ℕ → MasterPlace → Lease → Lease
-with_taken at place lease = holding lease (with_master (held lease) place (slice_range (held lease).body at (at + 24)))
+with_taken at place lease = holding lease (with_master (bench_of lease) place (slice_range (bench_of lease).body at (at + 24)))

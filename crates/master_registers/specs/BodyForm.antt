@@ -71,7 +71,7 @@ pub record IsBody (body : List ℕ) : Type 0 where
   pub each : (k : ℕ) → slice_index body k < 256
 
 -- a body that is the table of the registers that stand in it
-pub record HasForm (body : List ℕ) : Type 0 where
+pub record HasBodyForm (body : List ℕ) : Type 0 where
   pub states : HasStates body
   pub gap : AreZero (slice_range body 4 8)
   pub coming : IsZeroWhereEmpty body 1 8

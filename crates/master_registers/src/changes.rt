@@ -2,7 +2,7 @@
 //! the old registers or the new ones.
 ghost use Rattle.std.specs.Prelude.{◌≡◌, ◌≢◌, ◌≤◌, ◌↔◌, IfOk, IsTrue, Result};
 ghost use Rattle.slot_disk.specs.Medium.{Told, IsSettled};
-ghost use Rattle.key_cells.specs.Lease.{held as bench_of, holding};
+ghost use Rattle.key_cells.specs.Lease.{bench_of, holding};
 ghost use Rattle.master_registers.specs.Changes.{ChangesModule, WhenRefused, HasDiskCause, Change};
 ghost use Rattle.master_registers.specs.Loaded.{Loaded, ArePlaced, with_registers};
 ghost use Rattle.master_registers.specs.Masters.{Masters, after_first, after_middle, after_last, cleared, after_set, first_refused, combine_refused, set_refused, same_pattern};

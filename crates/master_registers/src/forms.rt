@@ -1,10 +1,10 @@
 //! The registers as the body of a cell.
 ghost use Rattle.std.specs.Prelude.{◌≡◌, ◌↔◌, ◌+◌, ◌<◌, ◌≤◌, IsTrue};
-ghost use Rattle.key_cells.specs.Lease.{held as bench_of, holding};
+ghost use Rattle.key_cells.specs.Lease.{bench_of, holding};
 ghost use Rattle.master_registers.specs.Masters.{Masters};
 ghost use Rattle.master_registers.specs.RegisterBody.{registers_body};
 ghost use Rattle.master_registers.specs.Loaded.{Loaded};
-ghost use Rattle.master_registers.specs.BodyForm.{states_body, state_code, pattern_code, AreZero, IsBody, HasForm, HasStates, IsZeroWhereEmpty};
+ghost use Rattle.master_registers.specs.BodyForm.{states_body, state_code, pattern_code, AreZero, IsBody, HasBodyForm, HasStates, IsZeroWhereEmpty};
 
 use crate::moves::put_master;
 use crate::patterns::Pattern;
@@ -75,7 +75,7 @@ fn kept_state_byte(pattern: Option<Pattern>) -> u8
 
 /// Whether the body is the table of some registers, whatever the patterns of current and old are.
 pub(crate) fn is_form(body: &[u8; 192]) -> bool
-    ensures form { IsTrue result ↔ HasForm body.now }
+    ensures form { IsTrue result ↔ HasBodyForm body.now }
     ensures bytes { IsBody body.now }
 {
     has_states(body)

@@ -2,8 +2,8 @@
 ghost use Rattle.std.specs.Prelude.{◌≡◌, ◌≤◌, ◌↔◌, ◌<◌, ℕ, List, Option, slice_index, IfOk, IfSome, IsNone, IsTrue};
 ghost use Rattle.slot_disk.specs.Medium.{Told, Keeps};
 ghost use Rattle.key_cells.specs.Bench.{master_of};
-ghost use Rattle.key_cells.specs.Lease.{held as bench_of, holding};
-ghost use Rattle.master_registers.specs.BodyForm.{IsBody, HasForm, AreMasterKeys, masters_at, state_at, pattern_at};
+ghost use Rattle.key_cells.specs.Lease.{bench_of, holding};
+ghost use Rattle.master_registers.specs.BodyForm.{IsBody, HasBodyForm, AreMasterKeys, masters_at, state_at, pattern_at};
 ghost use Rattle.master_registers.specs.Changes.{HasLoadCause};
 ghost use Rattle.master_registers.specs.Loaded.{Loaded, ArePlaced, masters_in, registers_of, with_registers};
 ghost use Rattle.master_registers.specs.Masters.{Masters, AreApart, blank_masters};
@@ -69,7 +69,7 @@ fn blank_registers(lease: &mut Lease) -> Registers
 
 /// Takes the contents from a body in the form of the table.
 fn take_registers(lease: &mut Lease) -> Registers
-    requires form { HasForm (bench_of lease.old).body }
+    requires form { HasBodyForm (bench_of lease.old).body }
     requires bytes { IsBody (bench_of lease.old).body }
     ensures placed { ArePlaced (masters_at (bench_of lease.old).body) (bench_of lease.new) }
     ensures told { result ≡ registers_of (masters_at (bench_of lease.old).body) }

@@ -1,7 +1,7 @@
 //! Bytes of master keys moved between the places of the workbench.
 ghost use Rattle.std.specs.Prelude.{◌≡◌, ◌≢◌, ◌+◌, ◌≤◌, ◌++◌, length, take, drop, replicate, slice_range};
 ghost use Rattle.key_cells.specs.Bench.{master_of, with_master};
-ghost use Rattle.key_cells.specs.Lease.{held, holding};
+ghost use Rattle.key_cells.specs.Lease.{bench_of, holding};
 ghost use Rattle.key_cells.specs.Secret.{bytes_of};
 ghost use Rattle.master_registers.specs.Masters.{IsMaster, xor_bytes};
 
@@ -10,7 +10,7 @@ use key_cells::{Lease, MasterPlace, Secret};
 /// Moves a master key to another place, and leaves zeros where it was.
 pub(crate) fn move_master(lease: &mut Lease, from: MasterPlace, to: MasterPlace)
     requires { from ≢ to }
-    ensures { lease.new ≡ holding lease.old (with_master (with_master (held lease.old) to (master_of (held lease.old) from)) from (replicate 24 0)) }
+    ensures { lease.new ≡ holding lease.old (with_master (with_master (bench_of lease.old) to (master_of (bench_of lease.old) from)) from (replicate 24 0)) }
 {
     copy_master(lease, from, to);
     clear_master(lease, from);
@@ -18,32 +18,32 @@ pub(crate) fn move_master(lease: &mut Lease, from: MasterPlace, to: MasterPlace)
 
 /// Copies a master key to another place.
 pub(crate) fn copy_master(lease: &mut Lease, from: MasterPlace, to: MasterPlace)
-    ensures { lease.new ≡ holding lease.old (with_master (held lease.old) to (master_of (held lease.old) from)) }
+    ensures { lease.new ≡ holding lease.old (with_master (bench_of lease.old) to (master_of (bench_of lease.old) from)) }
 {
     *lease.master_mut(to) = *lease.master(from);
 }
 
 /// Makes a place zero.
 pub(crate) fn clear_master(lease: &mut Lease, place: MasterPlace)
-    ensures { lease.new ≡ holding lease.old (with_master (held lease.old) place (replicate 24 0)) }
+    ensures { lease.new ≡ holding lease.old (with_master (bench_of lease.old) place (replicate 24 0)) }
 {
     *lease.master_mut(place) = [0; 24];
 }
 
 /// Puts the part into the new register, whose place is zero: the XOR with zeros is the part itself.
 pub(crate) fn put_part(lease: &mut Lease)
-    requires { (held lease.old).coming ≡ replicate 24 0 }
-    ensures put { lease.new ≡ holding lease.old (record (held lease.old) { coming = (held lease.old).part }) }
-    ensures bytes { IsMaster (held lease.old).part }
+    requires { (bench_of lease.old).coming ≡ replicate 24 0 }
+    ensures put { lease.new ≡ holding lease.old (record (bench_of lease.old) { coming = (bench_of lease.old).part }) }
+    ensures bytes { IsMaster (bench_of lease.old).part }
 {
     combine_part(lease);
 }
 
 /// XORs the part into the new register.
 pub(crate) fn combine_part(lease: &mut Lease)
-    ensures combined { lease.new ≡ holding lease.old (record (held lease.old) { coming = xor_bytes (held lease.old).coming (held lease.old).part }) }
-    ensures bytes { IsMaster (xor_bytes (held lease.old).coming (held lease.old).part) }
-    ensures part { length (held lease.old).part ≡ 24 }
+    ensures combined { lease.new ≡ holding lease.old (record (bench_of lease.old) { coming = xor_bytes (bench_of lease.old).coming (bench_of lease.old).part }) }
+    ensures bytes { IsMaster (xor_bytes (bench_of lease.old).coming (bench_of lease.old).part) }
+    ensures part { length (bench_of lease.old).part ≡ 24 }
 {
     let mut bytes = *lease.master(MasterPlace::Part);
     let part = Secret::guard(&mut bytes);
@@ -62,7 +62,7 @@ fn combine(part: &Secret<'_, 24>, into: &mut [u8; 24])
 /// Copies a master key into the body of a cell, from a byte on.
 pub(crate) fn put_master(lease: &mut Lease, place: MasterPlace, at: usize)
     requires { at + 24 ≤ 192 }
-    ensures { lease.new ≡ holding lease.old (record (held lease.old) { body = take at (held lease.old).body ++ master_of (held lease.old) place ++ drop (at + 24) (held lease.old).body }) }
+    ensures { lease.new ≡ holding lease.old (record (bench_of lease.old) { body = take at (bench_of lease.old).body ++ master_of (bench_of lease.old) place ++ drop (at + 24) (bench_of lease.old).body }) }
 {
     let mut bytes = *lease.master(place);
     let master = Secret::guard(&mut bytes);
@@ -81,7 +81,7 @@ fn put(master: &Secret<'_, 24>, body: &mut [u8; 192], at: usize)
 /// Copies 24 bytes of the body of a cell, from a byte on, into the place of a master key.
 pub(crate) fn take_master(lease: &mut Lease, place: MasterPlace, at: usize)
     requires { at + 24 ≤ 192 }
-    ensures { lease.new ≡ holding lease.old (with_master (held lease.old) place (slice_range (held lease.old).body at (at + 24))) }
+    ensures { lease.new ≡ holding lease.old (with_master (bench_of lease.old) place (slice_range (bench_of lease.old).body at (at + 24))) }
 {
     *lease.master_mut(place) = *master_at(lease.body(), at);
 }

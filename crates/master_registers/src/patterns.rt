@@ -1,7 +1,7 @@
 //! Verification patterns of master keys.
 ghost use Rattle.std.specs.Prelude.{◌≡◌};
 ghost use Rattle.key_cells.specs.Bench.{master_of};
-ghost use Rattle.key_cells.specs.Lease.{held};
+ghost use Rattle.key_cells.specs.Lease.{bench_of};
 ghost use Rattle.master_registers.specs.Masters.{pattern_of_master};
 
 use key_cells::{Lease, MasterPlace};
@@ -15,7 +15,7 @@ pub struct Pattern {
 
 /// The pattern of the 24 bytes in a place.
 pub fn pattern_of(lease: &Lease, place: MasterPlace) -> Pattern
-    ensures { result.bytes ≡ pattern_of_master (master_of (held lease.now) place) }
+    ensures { result.bytes ≡ pattern_of_master (master_of (bench_of lease.now) place) }
 {
     let mut hasher = Sha1::new();
     hasher.update(&[1]);

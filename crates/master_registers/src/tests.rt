@@ -1,7 +1,7 @@
 //! Patterns and bodies from outside, the steps of ceremonies, and a fault at each call of the disk.
 ghost use Rattle.std.specs.Prelude.{◌≤◌};
 ghost use Rattle.slot_disk.specs.Medium.{Told, IsSettled};
-ghost use Rattle.key_cells.specs.Lease.{held as bench_of};
+ghost use Rattle.key_cells.specs.Lease.{bench_of};
 ghost use Rattle.master_registers.specs.Loaded.{Loaded};
 ghost use Rattle.master_registers.specs.Masters.{Masters};
 ghost use Rattle.master_registers.specs.RegisterBody.{StandsForMasters};

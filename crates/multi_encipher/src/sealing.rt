@@ -1,7 +1,7 @@
 //! A key in the workbench enciphered, and put back.
 ghost use Rattle.std.specs.Prelude.{◌≡◌, ◌+◌, ◌≤◌, ℕ, List, ◌++◌, length, slice_range, take, drop, replicate};
 ghost use Rattle.key_cells.specs.Bench.{Bench, key_of, with_key};
-ghost use Rattle.key_cells.specs.Lease.{held, holding};
+ghost use Rattle.key_cells.specs.Lease.{bench_of, holding};
 ghost use Rattle.key_cells.specs.Secret.{bytes_of};
 ghost use Rattle.cca_vectors.specs.Vectors.{length_of, IsZero};
 ghost use Rattle.des_core.specs.Bits.{AreBytes};
@@ -49,8 +49,8 @@ fn put_zeros(place: &mut [u8; 16])
 /// Enciphers a half of the key in the place `Key`.
 fn enciphered_half(lease: &mut Lease, under: Under, vector: &[u8; 8], at: usize) -> [u8; 8]
     requires { at + 8 ≤ 16 }
-    ensures value { result ≡ sealed_half (parts_under (held lease.old) under) vector.now (slice_range (held lease.old).key at (at + 8)) }
-    ensures stays { lease.new ≡ holding lease.old (record (held lease.old) { schedules = (held lease.new).schedules }) }
+    ensures value { result ≡ sealed_half (parts_under (bench_of lease.old) under) vector.now (slice_range (bench_of lease.old).key at (at + 8)) }
+    ensures stays { lease.new ≡ holding lease.old (record (bench_of lease.old) { schedules = (bench_of lease.new).schedules }) }
 {
     make_schedules(lease, under, vector);
     ede(lease.schedules(), half_of(lease.key(KeyPlace::Key), at))
@@ -66,10 +66,10 @@ fn put_deciphered_half(
     at: usize,
 )
     requires { at + 8 ≤ 16 }
-    ensures key { key_of (held lease.new) into ≡ take at (key_of (held lease.old) into) ++ opened_half (parts_under (held lease.old) under) vector.now sealed.now ++ drop (at + 8) (key_of (held lease.old) into) }
-    ensures size { length (key_of (held lease.new) into) ≡ 16 }
+    ensures key { key_of (bench_of lease.new) into ≡ take at (key_of (bench_of lease.old) into) ++ opened_half (parts_under (bench_of lease.old) under) vector.now sealed.now ++ drop (at + 8) (key_of (bench_of lease.old) into) }
+    ensures size { length (key_of (bench_of lease.new) into) ≡ 16 }
     ensures bytes { AreBytes 8 sealed.now }
-    ensures stays { lease.new ≡ holding lease.old (record (with_key (held lease.old) into (key_of (held lease.new) into)) { schedules = (held lease.new).schedules }) }
+    ensures stays { lease.new ≡ holding lease.old (record (with_key (bench_of lease.old) into (key_of (bench_of lease.new) into)) { schedules = (bench_of lease.new).schedules }) }
 {
     make_schedules(lease, under, vector);
     let mut clear = ded(lease.schedules(), sealed);
@@ -81,9 +81,9 @@ fn put_deciphered_half(
 /// is enciphered by itself, under three parts that are XORed with its vector; the right half of a single-length
 /// key is zero. Only the schedules of the lease change.
 pub fn seal(lease: &mut Lease, under: Under, vector: &Vector) -> Sealed
-    ensures sealed { result ≡ seals.seal (parts_under (held lease.old) under) vector.now (key_in vector.now (held lease.old).key) }
+    ensures sealed { result ≡ seals.seal (parts_under (bench_of lease.old) under) vector.now (key_in vector.now (bench_of lease.old).key) }
     ensures halves { IsSealed vector.now result }
-    ensures stays { lease.new ≡ holding lease.old (record (held lease.old) { schedules = (held lease.new).schedules }) }
+    ensures stays { lease.new ≡ holding lease.old (record (bench_of lease.old) { schedules = (bench_of lease.new).schedules }) }
 {
     let left_vector = vector.left();
     let right_vector = vector.right();
@@ -102,9 +102,9 @@ pub fn seal(lease: &mut Lease, under: Under, vector: &Vector) -> Sealed
 pub fn unseal(lease: &mut Lease, under: Under, vector: &Vector, sealed: &Sealed, into: KeyPlace)
     requires elsewhere { IsElsewhere under into }
     requires single { length_of vector.now ≡ 8 → IsZero sealed.now.right }
-    ensures key { key_of (held lease.new) into ≡ with_zeros vector.now (seals.unseal (parts_under (held lease.old) under) vector.now sealed.now) }
-    ensures sealed { seals.seal (parts_under (held lease.old) under) vector.now (key_in vector.now (key_of (held lease.new) into)) ≡ sealed.now }
-    ensures stays { lease.new ≡ holding lease.old (record (with_key (held lease.old) into (key_of (held lease.new) into)) { schedules = (held lease.new).schedules }) }
+    ensures key { key_of (bench_of lease.new) into ≡ with_zeros vector.now (seals.unseal (parts_under (bench_of lease.old) under) vector.now sealed.now) }
+    ensures sealed { seals.seal (parts_under (bench_of lease.old) under) vector.now (key_in vector.now (key_of (bench_of lease.new) into)) ≡ sealed.now }
+    ensures stays { lease.new ≡ holding lease.old (record (with_key (bench_of lease.old) into (key_of (bench_of lease.new) into)) { schedules = (bench_of lease.new).schedules }) }
 {
     let left_vector = vector.left();
     let right_vector = vector.right();

@@ -4,7 +4,7 @@ use Rattle.std.proofs.lemmas.List.{append-nil, take-append-drop, take_at, take_a
 use Rattle.slot_disk.specs.WhereTold.{WhereTold}
 use Rattle.slot_disk.proofs.WhereToldLemmas.{told_weaker, told_both, told_at_end}
 use Rattle.script_buffers.specs.Lines.{newline, lines, NoNewline}
-use Rattle.script_buffers.specs.Reading.{Reading, line_limit, input_limit, TakesLine, Answers, given}
+use Rattle.script_buffers.specs.Reading.{Reading, line_limit, input_limit, TakesLine, Takes, given}
 use Rattle.script_buffers.specs.Gathering.{line_room, IsBounded, Gathers, Gathering, cut_of, Judges}
 use Rattle.script_buffers.specs.declared.lines.Taken.{Taken}
 use Rattle.script_buffers.specs.declared.lines.Taken.TheVariants.{Line, TooLong, End}
@@ -42,14 +42,14 @@ kept-long : (ahead kept rest : List ℕ) (g : Gathers ahead kept rest) → line_
 kept-long ahead kept rest g long = omega (arith, ap length g.front, length-take line_room g.part)
 
 -- what was gathered and judged is answered
-answers : (whole : Bool) (taken : Taken) (ahead rest : List ℕ) (mid now : Reading) → Gathers ahead mid.line (cut_of (Ok whole) ++ rest) → (whole ≡ false → IsTrue mid.ended × (rest ≡ [])) → Judges whole taken mid now → Answers taken ahead now rest
+answers : (whole : Bool) (taken : Taken) (ahead rest : List ℕ) (mid now : Reading) → Gathers ahead mid.line (cut_of (Ok whole) ++ rest) → (whole ≡ false → IsTrue mid.ended × (rest ≡ [])) → Judges whole taken mid now → Takes taken ahead now rest
 answers true Line ahead rest mid now g last judged =
-    subst (λ (r : Reading). Answers Line ahead r rest) (sym judged.0) (
+    subst (λ (r : Reading). Takes Line ahead r rest) (sym judged.0) (
       subst (λ l. TakesLine ahead l rest mid.ended) (sym (kept-all ahead mid.line (newline ∷ rest) g judged.1)) (takes-whole ahead mid.line rest mid.ended g),
       judged.1,
     )
 answers true TooLong ahead rest mid now g last judged =
-    subst (λ (r : Reading). Answers TooLong ahead r rest) (sym judged.0) (
+    subst (λ (r : Reading). Takes TooLong ahead r rest) (sym judged.0) (
       g.part,
       takes-whole ahead mid.line rest mid.ended g,
       kept-long ahead mid.line (newline ∷ rest) g judged.1,
@@ -58,7 +58,7 @@ answers true End ahead rest mid now g last judged = absurd (let no : true ≡ fa
 answers false Line ahead rest mid now g last judged =
     let at_end = last refl in
     let whole = kept-all ahead mid.line rest g judged.1 in
-    subst (λ (r : Reading). Answers Line ahead r rest) (sym judged.0) (
+    subst (λ (r : Reading). Takes Line ahead r rest) (sym judged.0) (
       subst (λ l. TakesLine ahead l rest mid.ended) (sym whole)
           (takes-last ahead mid.line rest mid.ended g at_end.1 at_end.0 (omega (arith, judged.2 refl, ap length whole))),
       judged.1,
@@ -66,7 +66,7 @@ answers false Line ahead rest mid now g last judged =
 answers false TooLong ahead rest mid now g last judged =
     let at_end = last refl in
     let long = kept-long ahead mid.line rest g judged.1 in
-    subst (λ (r : Reading). Answers TooLong ahead r rest) (sym judged.0) (
+    subst (λ (r : Reading). Takes TooLong ahead r rest) (sym judged.0) (
       g.part,
       takes-last ahead mid.line rest mid.ended g at_end.1 at_end.0 (omega arith),
       long,
@@ -74,7 +74,7 @@ answers false TooLong ahead rest mid now g last judged =
 answers false End ahead rest mid now g last judged =
     let at_end = last refl in
     let none : g.part ≡ [] = nil_from_length g.part (omega (arith, ap length g.front, ap length judged.2, length-take line_room g.part)) in
-    subst (λ (r : Reading). Answers End ahead r rest) (sym judged.0) (
+    subst (λ (r : Reading). Takes End ahead r rest) (sym judged.0) (
       g.bytes ∙ ap (λ p. p ++ rest) none ∙ at_end.1,
       at_end.1,
       at_end.0,
@@ -93,21 +93,21 @@ judged-pending whole TooLong mid now judged = ap (λ r. r.pending) judged.0
 judged-pending whole End mid now judged = ap (λ r. r.pending) judged.0
 
 -- an answer on equal bytes
-same-answers : (taken : Taken) (now : Reading) (ahead ahead' rest rest' : List ℕ) → ahead ≡ ahead' → rest ≡ rest' → Answers taken ahead' now rest' → Answers taken ahead now rest
+same-answers : (taken : Taken) (now : Reading) (ahead ahead' rest rest' : List ℕ) → ahead ≡ ahead' → rest ≡ rest' → Takes taken ahead' now rest' → Takes taken ahead now rest
 same-answers taken now ahead ahead' rest rest' same-ahead same-rest says =
-    subst (λ bs. Answers taken bs now rest) (sym same-ahead) (subst (Answers taken ahead' now) (sym same-rest) says)
+    subst (λ bs. Takes taken bs now rest) (sym same-ahead) (subst (Takes taken ahead' now) (sym same-rest) says)
 
 -- the clause on the answer
-pub told-answers : (a b : Option (List ℕ)) (old start mid now : Reading) (whole : Bool) (taken : Taken) → old.pending ≡ start.pending → Gathering (cut_of (Ok whole)) a b start mid → (◌≡◌ {A = Result Bool LineFault} (Ok whole) (Ok false) → IsTrue mid.ended × (mid.pending ≡ [])) → Judges whole taken mid now → WhereTold a b (λ x y. Answers taken (old.pending ++ x) now (now.pending ++ y))
+pub told-answers : (a b : Option (List ℕ)) (old start mid now : Reading) (whole : Bool) (taken : Taken) → old.pending ≡ start.pending → Gathering (cut_of (Ok whole)) a b start mid → (◌≡◌ {A = Result Bool LineFault} (Ok whole) (Ok false) → IsTrue mid.ended × (mid.pending ≡ [])) → Judges whole taken mid now → WhereTold a b (λ x y. Takes taken (old.pending ++ x) now (now.pending ++ y))
 told-answers a b old start mid now true taken same gathered last judged =
-    told_weaker a b (λ x y. Gathers (start.pending ++ x) mid.line (newline ∷ mid.pending ++ y)) (λ x y. Answers taken (old.pending ++ x) now (now.pending ++ y))
+    told_weaker a b (λ x y. Gathers (start.pending ++ x) mid.line (newline ∷ mid.pending ++ y)) (λ x y. Takes taken (old.pending ++ x) now (now.pending ++ y))
     (λ x y g. same-answers taken now (old.pending ++ x) (start.pending ++ x) (now.pending ++ y) (mid.pending ++ y)
     (ap (λ p. p ++ x) same) (ap (λ p. p ++ y) (judged-pending true taken mid now judged))
     (answers true taken (start.pending ++ x) (mid.pending ++ y) mid now g (λ no. absurd (let never : true ≡ false = no in cc)) judged))
     gathered.told
 told-answers a b old start mid now false taken same gathered last judged =
     let at_end = last refl in
-    told_weaker a b (λ x y. Gathers (start.pending ++ x) mid.line (mid.pending ++ []) × (y ≡ [])) (λ x y. Answers taken (old.pending ++ x) now (now.pending ++ y))
+    told_weaker a b (λ x y. Gathers (start.pending ++ x) mid.line (mid.pending ++ []) × (y ≡ [])) (λ x y. Takes taken (old.pending ++ x) now (now.pending ++ y))
     (λ x y g. same-answers taken now (old.pending ++ x) (start.pending ++ x) (now.pending ++ y) (mid.pending ++ [])
     (ap (λ p. p ++ x) same) (ap (λ p. p ++ y) (judged-pending false taken mid now judged) ∙ ap (λ w. mid.pending ++ w) g.1)
     (answers false taken (start.pending ++ x) (mid.pending ++ []) mid now g.0 (λ _. (at_end.0, ap (λ p. p ++ []) at_end.1)) judged))

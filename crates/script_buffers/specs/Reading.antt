@@ -42,11 +42,11 @@ pub record TakesLine (ahead line rest : List ℕ) (ended : Bool) : Type 0 where
   pub clean : NoNewline line
 
 -- what an answer says of the bytes ahead before the call, the reading after it and the bytes ahead then
-abbrev pub Answers : Taken → List ℕ → Reading → List ℕ → Type 0
-Answers Line ahead now rest = TakesLine ahead now.line rest now.ended × (length now.line ≤ line_limit)
-Answers TooLong ahead now rest =
+abbrev pub Takes : Taken → List ℕ → Reading → List ℕ → Type 0
+Takes Line ahead now rest = TakesLine ahead now.line rest now.ended × (length now.line ≤ line_limit)
+Takes TooLong ahead now rest =
     (line : List ℕ) × TakesLine ahead line rest now.ended × (line_limit < length line)
-Answers End ahead now rest = (ahead ≡ []) × (rest ≡ []) × IsTrue now.ended
+Takes End ahead now rest = (ahead ≡ []) × (rest ≡ []) × IsTrue now.ended
 
 -- fewer bytes may come after each line
 abbrev pub Advances : Taken → Reading → Reading → Type 0

@@ -6,7 +6,7 @@ ghost use Rattle.memchr.specs.Find.{IsFirstByte, is_byte};
 ghost use Rattle.slot_disk.specs.Faults.{Rose, HasCause};
 ghost use Rattle.slot_disk.specs.WhereTold.{WhereTold};
 ghost use Rattle.script_buffers.specs.Lines.{NoNewline};
-ghost use Rattle.script_buffers.specs.Reading.{input_limit, blank, IsReady, Answers, Shows, Advances, LosesPart, given};
+ghost use Rattle.script_buffers.specs.Reading.{input_limit, blank, IsReady, Takes, Shows, Advances, LosesPart, given};
 ghost use Rattle.script_buffers.specs.Gathering.{line_room, IsBounded, Moves, Refills, Gathering, cut_of, Judges};
 
 use memchr::memchr;
@@ -115,7 +115,7 @@ impl LineBuffer {
         self.taken = 0;
     }
 
-    // Moves pending bytes to the line, up to their first newline, which goes. Answers whether there
+    // Moves pending bytes to the line, up to their first newline, which goes. Takes whether there
     // was one.
     fn move_part(&mut self) -> bool
         ensures { Moves result self.old self.new }
@@ -236,7 +236,7 @@ pub fn read_line<S: Source>(source: &mut S, buffer: &mut LineBuffer) -> Result<T
 
     // The first line of the bytes ahead is taken, and the others are ahead then.
     ensures answer { IfOk result (λ taken. WhereTold (S.left source.old) (S.left source.new) (λ before after.
-        Answers taken (buffer.old.pending ++ before) buffer.new (buffer.new.pending ++ after))) }
+        Takes taken (buffer.old.pending ++ before) buffer.new (buffer.new.pending ++ after))) }
     ensures shown { IfOk result (λ taken. Shows taken buffer.new) }
     ensures advances { IfOk result (λ taken. Advances taken buffer.old buffer.new) }
     ensures end { WhereTold (S.left source.old) (S.left source.new) (λ before after.

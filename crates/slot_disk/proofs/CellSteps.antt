@@ -4,7 +4,7 @@ use Rattle.std.proofs.lemmas.List.{length-take, places}
 use Rattle.std.proofs.lemmas.Bool.{cases_lt, cases_eq}
 use Rattle.std.proofs.lemmas.Grind.{same_number_lists}
 use Rattle.slot_disk.specs.Cells.{selected, body_place, body, IsReplaced, IsReplacing}
-use Rattle.slot_disk.specs.Ranges.{SameOutside, Holds}
+use Rattle.slot_disk.specs.Ranges.{SameOutside, HoldsPiece}
 
 -- ---- ranges of lists
 
@@ -24,7 +24,7 @@ range-outside : (at n i m : ℕ) (old new : List ℕ) → SameOutside at n old n
 range-outside at n i m old new same (inl before) = range-same old new i m same.size (λ k within. same.before (i + k) (omega arith))
 range-outside at n i m old new same (inr behind) = range-same old new i m same.size (λ k within. same.after (i + k) (omega arith))
 
-range-holds : (at : ℕ) (bytes old new : List ℕ) → Holds at bytes old new → at + length bytes ≤ length old → slice_range new at (at + length bytes) ≡ bytes
+range-holds : (at : ℕ) (bytes old new : List ℕ) → HoldsPiece at bytes old new → at + length bytes ≤ length old → slice_range new at (at + length bytes) ≡ bytes
 range-holds at bytes old new holds within = same_number_lists (slice_range new at (at + length bytes)) bytes
     (length-range new at (length bytes) ∙ omega (arith, holds.outside.size))
     (λ k inside. let below : k < length bytes = omega (arith, length-range new at (length bytes)) in get_or-range new at (length bytes) k below ∙ holds.here k below)
@@ -65,7 +65,7 @@ pub selected_below : (image : List ℕ) (n : ℕ) → selected image n < 2
 unfolding selected
 selected_below image n = omega arith
 
-selected-written : (n side : ℕ) (old new : List ℕ) → side < 2 → Holds (1536 * n) (side ∷ []) old new → selected new n ≡ side
+selected-written : (n side : ℕ) (old new : List ℕ) → side < 2 → HoldsPiece (1536 * n) (side ∷ []) old new → selected new n ≡ side
 unfolding selected
 selected-written n side old new low holds =
     let put : get_or new (1536 * n) 0 ≡ side = ap (λ (k : ℕ). get_or new k 0) (at_front (1536 * n)) ∙ holds.here 0 (omega arith) in
@@ -125,7 +125,7 @@ spare_torn n bytes old new same =
           (range-outside (body_place n (1 - s)) 192 (body_place n s) 192 old new same (sides_apart n s low)));
     }
 
-pub staged : (n : ℕ) (bytes old new : List ℕ) → length bytes ≡ 192 → 1536 * (n + 1) ≤ length old → Holds (body_place n (1 - selected old n)) bytes old new → Staged n bytes old new
+pub staged : (n : ℕ) (bytes old new : List ℕ) → length bytes ≡ 192 → 1536 * (n + 1) ≤ length old → HoldsPiece (body_place n (1 - selected old n)) bytes old new → Staged n bytes old new
 staged n bytes old new long fits holds =
     let s = selected old n in
     let low : s < 2 = selected_below old n in
@@ -153,7 +153,7 @@ module _ (n : ℕ) (bytes old mid new : List ℕ) (was : Staged n bytes old mid)
           inr (body-side new n ∙ ap (λ (s : ℕ). side_bytes new n s) side_is ∙ side_stays (1 - selected old n) (omega arith) same ∙ was.spare)
 
   -- the selector turned: the new body is selected
-  pub selector_turned : 1536 * (n + 1) ≤ length old → Holds (1536 * n) ((1 - selected old n) ∷ []) mid new → IsReplaced n bytes old new
+  pub selector_turned : 1536 * (n + 1) ≤ length old → HoldsPiece (1536 * n) ((1 - selected old n) ∷ []) mid new → IsReplaced n bytes old new
   selector_turned fits holds = record { outside = torn.outside; others = torn.others; here = body-side new n ∙ ap (λ (s : ℕ). side_bytes new n s) side_is ∙ side_stays (1 - selected old n) (omega arith) holds.outside ∙ was.spare }
     where
       torn : IsReplacing n bytes old new

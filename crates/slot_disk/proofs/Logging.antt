@@ -3,7 +3,7 @@ use Rattle.std.proofs.Common.{◌≡◌, ◌≤◌, ◌⊎◌, inl, inr, ⊎_eli
 use Rattle.std.proofs.lemmas.Bool.{cases_lt}
 use Rattle.std.proofs.lemmas.List.{take-append-le, take_all}
 use Rattle.std.proofs.lemmas.Option.{same_Some}
-use Rattle.slot_disk.specs.Ranges.{SameOutside, Holds, overwrite}
+use Rattle.slot_disk.specs.Ranges.{SameOutside, HoldsPiece, overwrite}
 use Rattle.slot_disk.specs.declared.call.Call.{Call}
 use Rattle.slot_disk.specs.declared.call.Call.TheVariants.{Written, Synced}
 use Rattle.slot_disk.specs.Stages.{Stage, noting, stage, IsTorn}
@@ -64,10 +64,10 @@ module _ (first : List ℕ) (calls : List Call) where
     written_content : (c : List ℕ) → Some (stage first (calls ++ Written at bytes ∷ [])).content ≡ Some c → overwrite (stage first calls).content at bytes ≡ c
     written_content c is = ap (λ (s : Stage). s.content) (sym (stage-push first calls (Written at bytes))) ∙ same_Some (stage first (calls ++ Written at bytes ∷ [])).content c is
 
-    pub written_holds : Becomes (Holds at bytes) (log_medium first calls) (log_medium first (calls ++ Written at bytes ∷ []))
+    pub written_holds : Becomes (HoldsPiece at bytes) (log_medium first calls) (log_medium first (calls ++ Written at bytes ∷ []))
     written_holds = record {
       size = refl;
-      told = λ c is. ((stage first calls).content, refl, subst (Holds at bytes (stage first calls).content) (written_content c is) (overwrite_holds (stage first calls).content at bytes (omega (arith, length-stage first calls))));
+      told = λ c is. ((stage first calls).content, refl, subst (HoldsPiece at bytes (stage first calls).content) (written_content c is) (overwrite_holds (stage first calls).content at bytes (omega (arith, length-stage first calls))));
       still = λ some. refl;
     }
 

@@ -3,7 +3,7 @@ use Rattle.std.proofs.Common.{◌≡◌, ◌≤◌, ◌<◌, ◌⊎◌, inl, inr
 use Rattle.std.proofs.lemmas.Bool.{cases_lt}
 use Rattle.std.proofs.lemmas.List.{length-take, get_or-take}
 use Rattle.std.proofs.lemmas.Grind.{same_number_lists}
-use Rattle.slot_disk.specs.Ranges.{overwrite, SameOutside, Holds}
+use Rattle.slot_disk.specs.Ranges.{overwrite, SameOutside, HoldsPiece}
 use Rattle.slot_disk.specs.StageLaws.{length-overwrite, get_or-overwrite_before, get_or-overwrite_after}
 
 suc_first : (a b : ℕ) → suc a + b ≡ suc (a + b)
@@ -70,5 +70,5 @@ overwrite_outside xs at bytes = record {
   after = get_or-overwrite_after xs at bytes;
 }
 
-pub overwrite_holds : (xs : List ℕ) (at : ℕ) (bytes : List ℕ) → at + length bytes ≤ length xs → Holds at bytes xs (overwrite xs at bytes)
+pub overwrite_holds : (xs : List ℕ) (at : ℕ) (bytes : List ℕ) → at + length bytes ≤ length xs → HoldsPiece at bytes xs (overwrite xs at bytes)
 overwrite_holds xs at bytes within = record { outside = overwrite_outside xs at bytes; here = λ k inside. get_or-overwrite_here xs at bytes k (omega arith) inside }

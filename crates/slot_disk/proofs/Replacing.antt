@@ -1,7 +1,7 @@
 -- The calls of a replacement, one behind the other: a read, a write and a sync of the spare body, and of the selector.
 use Rattle.std.proofs.Common.{◌≡◌, ◌≤◌, ℕ, ◌+◌, ◌-◌, ◌*◌, ◌%◌, List, [], ◌∷◌, length, get_or, slice_range, Some, sym, ◌∙◌, ap, subst, arith}
 use Rattle.slot_disk.specs.Cells.{selected, body_place, body, IsReplaced, IsReplacing}
-use Rattle.slot_disk.specs.Ranges.{SameOutside, Holds}
+use Rattle.slot_disk.specs.Ranges.{SameOutside, HoldsPiece}
 use Rattle.slot_disk.specs.Medium.{Medium, Told, IsSettled, From, Becomes, EachImage, Keeps}
 use Rattle.slot_disk.proofs.Media.{told_from, told_at, becomes_same, becomes_then, from_then, each_weaker, goes_on}
 use Rattle.slot_disk.proofs.CellSteps.{Staged, replacing_same, spare_torn, staged, selector_torn, selector_turned, get_or-range}
@@ -54,7 +54,7 @@ module _ (n side : ℕ) (bytes : List ℕ) (m0 m1 : Medium) (settled : IsSettled
     }
 
     -- it was written and synced, and then the selector
-    module _ (fits : 1536 * (n + 1) ≤ m0.size) (top : ℕ) (at_top : top ≡ 1536 * n) (holds : Becomes (Holds place bytes) m1 m2) (m3 : Medium) where
+    module _ (fits : 1536 * (n + 1) ≤ m0.size) (top : ℕ) (at_top : top ≡ 1536 * n) (holds : Becomes (HoldsPiece place bytes) m1 m2) (m3 : Medium) where
       spare_staged : Becomes (Staged n bytes) m0 m2
       spare_staged = record {
         size = holds.size ∙ kept.moments.size;
@@ -62,7 +62,7 @@ module _ (n side : ℕ) (bytes : List ℕ) (m0 m1 : Medium) (settled : IsSettled
             let from = holds.told c is in
             let was : m0.content ≡ Some from.0 = sym kept.content ∙ from.1 in
             let spare : place ≡ body_place n (1 - selected from.0 n) = at ∙ ap (λ (s : ℕ). body_place n (1 - s)) (told_at m0.content (λ d. side ≡ selected d n) from.0 was side_is) in
-            (from.0, was, staged n bytes from.0 c long (subst (λ (l : ℕ). 1536 * (n + 1) ≤ l) (sym (m0.sized from.0 was)) fits) (subst (λ (p : ℕ). Holds p bytes from.0 c) spare from.2));
+            (from.0, was, staged n bytes from.0 c long (subst (λ (l : ℕ). 1536 * (n + 1) ≤ l) (sym (m0.sized from.0 was)) fits) (subst (λ (p : ℕ). HoldsPiece p bytes from.0 c) spare from.2));
         still = λ some. holds.still (read_becomes.still some);
       }
 
@@ -77,14 +77,14 @@ module _ (n side : ℕ) (bytes : List ℕ) (m0 m1 : Medium) (settled : IsSettled
       pub selector_becomes : Becomes (SameOutside top 1) m2 m3 → Becomes (IsReplacing n bytes) m0 m3
       selector_becomes selector = becomes_then m0 m2 m3 (Staged n bytes) (SameOutside top 1) (IsReplacing n bytes) spare_staged selector turned_torn
 
-      pub replaced : Becomes (Holds top ((1 - side) ∷ [])) m2 m3 → Becomes (IsReplaced n bytes) m0 m3
+      pub replaced : Becomes (HoldsPiece top ((1 - side) ∷ [])) m2 m3 → Becomes (IsReplaced n bytes) m0 m3
       replaced selector = record {
         size = selector.size ∙ spare_staged.size;
         told = λ d is.
             let from = selector.told d is in
             let was = spare_staged.told from.0 from.1 in
             let turned : side ≡ selected was.0 n = told_at m0.content (λ d. side ≡ selected d n) was.0 was.1 side_is in
-            let put : Holds (1536 * n) ((1 - side) ∷ []) from.0 d = subst (λ (p : ℕ). Holds p ((1 - side) ∷ []) from.0 d) at_top from.2 in
-            (was.0, was.1, selector_turned n bytes was.0 from.0 d was.2 (subst (λ (l : ℕ). 1536 * (n + 1) ≤ l) (sym (m0.sized was.0 was.1)) fits) (subst (λ (s : ℕ). Holds (1536 * n) ((1 - s) ∷ []) from.0 d) turned put));
+            let put : HoldsPiece (1536 * n) ((1 - side) ∷ []) from.0 d = subst (λ (p : ℕ). HoldsPiece p ((1 - side) ∷ []) from.0 d) at_top from.2 in
+            (was.0, was.1, selector_turned n bytes was.0 from.0 d was.2 (subst (λ (l : ℕ). 1536 * (n + 1) ≤ l) (sym (m0.sized was.0 was.1)) fits) (subst (λ (s : ℕ). HoldsPiece (1536 * n) ((1 - s) ∷ []) from.0 d) turned put));
         still = λ some. selector.still (spare_staged.still some);
       }

@@ -8,7 +8,7 @@ pub record SameOutside (at n : ℕ) (old new : List ℕ) : Type 0 where
   pub after : (k : ℕ) → at + n ≤ k → slice_index new k ≡ slice_index old k
 
 -- new is old with these bytes from `at` on
-pub record Holds (at : ℕ) (bytes old new : List ℕ) : Type 0 where
+pub record HoldsPiece (at : ℕ) (bytes old new : List ℕ) : Type 0 where
   pub outside : SameOutside at (length bytes) old new
   pub here : (k : ℕ) → k < length bytes → slice_index new (at + k) ≡ slice_index bytes k
 

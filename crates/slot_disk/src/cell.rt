@@ -3,7 +3,7 @@ ghost use Rattle.std.specs.Prelude.{◌≡◌, ◌+◌, ◌-◌, ◌*◌, ◌<�
 ghost use Rattle.slot_disk.specs.Cells.{selected, body_place as place_of_body, body as selected_body, IsReplaced, IsReplacing};
 ghost use Rattle.slot_disk.specs.Faults.{HasCause};
 ghost use Rattle.slot_disk.specs.Medium.{Told, IsSettled, From, Becomes, EachImage, Keeps};
-ghost use Rattle.slot_disk.specs.Ranges.{SameOutside, Holds};
+ghost use Rattle.slot_disk.specs.Ranges.{SameOutside, HoldsPiece};
 
 use crate::{Disk, Failed};
 use std::marker::Model;
@@ -108,7 +108,7 @@ fn put<D: Disk>(disk: &mut D, at: u64, piece: &[u8]) -> Result<(), Failed>
     requires short { length piece.now ≤ 192 }
     requires settled { IsSettled (D.medium disk.old) }
     ensures settled { OnOk result (IsSettled (D.medium disk.new)) }
-    ensures bytes { OnOk result (Becomes (Holds at piece.now) (D.medium disk.old) (D.medium disk.new)) }
+    ensures bytes { OnOk result (Becomes (HoldsPiece at piece.now) (D.medium disk.old) (D.medium disk.new)) }
     ensures outside { Becomes (SameOutside at (length piece.now)) (D.medium disk.old) (D.medium disk.new) }
     ensures moments { EachImage (D.medium disk.old) (D.medium disk.new)
         (From (SameOutside at (length piece.now)) (D.medium disk.old)) }

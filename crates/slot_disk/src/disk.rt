@@ -2,7 +2,7 @@
 ghost use Rattle.std.specs.Prelude.{◌≡◌, ◌+◌, ◌≤◌, ℕ, length, slice_range, OnOk};
 ghost use Rattle.slot_disk.specs.Faults.{HasCause};
 ghost use Rattle.slot_disk.specs.Medium.{Medium, Told, IsSettled, After, Becomes, EachImage, Keeps};
-ghost use Rattle.slot_disk.specs.Ranges.{SameOutside, Holds};
+ghost use Rattle.slot_disk.specs.Ranges.{SameOutside, HoldsPiece};
 
 use crate::Failed;
 
@@ -30,7 +30,7 @@ pub trait Disk {
     fn write(&mut self, at: u64, piece: &[u8]) -> Result<(), Failed>
         requires within { at + length piece.now ≤ (medium self.old).size }
         requires short { length piece.now ≤ 192 }
-        ensures bytes { OnOk result (Becomes (Holds at piece.now) (medium self.old) (medium self.new)) }
+        ensures bytes { OnOk result (Becomes (HoldsPiece at piece.now) (medium self.old) (medium self.new)) }
         ensures outside { Becomes (SameOutside at (length piece.now)) (medium self.old) (medium self.new) }
 
         // A stop at any moment of the call leaves what it might have left before, but for the range.

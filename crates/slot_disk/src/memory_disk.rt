@@ -5,7 +5,7 @@ ghost use Rattle.slot_disk.specs.FaultPlan.{fails_now, after_call, with_failing}
 ghost use Rattle.slot_disk.specs.Faults.{HasCause};
 ghost use Rattle.slot_disk.specs.LogMedium.{log_medium};
 ghost use Rattle.slot_disk.specs.Medium.{Told, IsSettled, After, Becomes, EachImage, Keeps};
-ghost use Rattle.slot_disk.specs.Ranges.{SameOutside, Holds};
+ghost use Rattle.slot_disk.specs.Ranges.{SameOutside, HoldsPiece};
 ghost use Rattle.slot_disk.specs.Stages.{Stage, noting, stage, IsTorn};
 ghost use Rattle.slot_disk.specs.TornImage.{torn_image, torn_over};
 
@@ -190,7 +190,7 @@ impl Disk for MemoryDisk {
     fn write(&mut self, at: u64, piece: &[u8]) -> Result<(), Failed>
         requires within { at + length piece.now ≤ length self.old.first }
         requires short { length piece.now ≤ 192 }
-        ensures bytes { OnOk result (Becomes (Holds at piece.now) (log_medium self.old.first self.old.calls) (log_medium self.new.first self.new.calls)) }
+        ensures bytes { OnOk result (Becomes (HoldsPiece at piece.now) (log_medium self.old.first self.old.calls) (log_medium self.new.first self.new.calls)) }
         ensures outside { Becomes (SameOutside at (length piece.now)) (log_medium self.old.first self.old.calls) (log_medium self.new.first self.new.calls) }
         ensures moments { EachImage (log_medium self.old.first self.old.calls) (log_medium self.new.first self.new.calls)
             (After (SameOutside at (length piece.now)) (IsTorn (stage self.old.first self.old.calls))) }

@@ -10,12 +10,12 @@ use Rattle.std.proofs.lemmas.List.Splits.{slice_split_at, slice_split_none}
 use Rattle.std.proofs.lemmas.Option.{cond_some}
 use Rattle.std.proofs.lemmas.Slice.Eq.{starts_is}
 use Rattle.std.proofs.Math.Seq.{drop-append_seam}
-use Rattle.verb_script.specs.Grammar.{Values, accepts, Field, RequestName, Request, fields_text, AreAccepted}
+use Rattle.verb_script.specs.Grammar.{Values, accepts, FieldForm, RequestName, Request, fields_text, AreAccepted}
 use Rattle.verb_script.specs.Requests.{words, value_after, field_value, with_front, values_in, request_with}
 use Rattle.verb_script.proofs.PlainRows.{NoSpace, plain_text, ArePlain}
 
 -- the words of the fields
-abbrev pub field_words : List Field → List (List ℕ) → List (List ℕ)
+abbrev pub field_words : List FieldForm → List (List ℕ) → List (List ℕ)
 field_words [] values = []
 field_words (f ∷ fs) [] = []
 field_words (f ∷ fs) (v ∷ vs) = ((f.name ++ codes "=") ++ v) ∷ field_words fs vs
@@ -27,7 +27,7 @@ regrouped : (name v rest : List ℕ) → codes " " ++ (name ++ (codes "=" ++ (v 
 regrouped name v rest = ap (λ xs. 32 ∷ xs) (simp append_assoc)
 
 -- the words of a text that the fields follow
-pub words-fields_text : (w : List ℕ) (fs : List Field) (vs : List (List ℕ)) → NoSpace w → ArePlain fs → AreAccepted fs vs
+pub words-fields_text : (w : List ℕ) (fs : List FieldForm) (vs : List (List ℕ)) → NoSpace w → ArePlain fs → AreAccepted fs vs
     → words (w ++ fields_text fs vs) ≡ w ∷ field_words fs vs
 words-fields_text w [] [] plain fields accepted = ap words (append-nil w) ∙ slice_split_none (λ c. c == 32) w plain
 words-fields_text w [] (v ∷ vs) plain fields accepted = absurd accepted
@@ -42,7 +42,7 @@ words-fields_text w (f ∷ fs) (v ∷ vs) plain fields accepted =
     fields.1 accepted.1))
 
 -- the text of the words
-pub join-field_words : (w : List ℕ) (fs : List Field) (vs : List (List ℕ)) → AreAccepted fs vs
+pub join-field_words : (w : List ℕ) (fs : List FieldForm) (vs : List (List ℕ)) → AreAccepted fs vs
     → join_with_byte 32 (w ∷ field_words fs vs) ≡ w ++ fields_text fs vs
 join-field_words w [] [] accepted = sym (append-nil w)
 join-field_words w [] (v ∷ vs) accepted = absurd accepted
@@ -73,7 +73,7 @@ value_after-append prefix values v b h =
     rw (start, drop-append_seam prefix v, h) refl
 
 -- what the words give is accepted, and they are the words of those fields
-pub values_in-sound : (fs : List Field) (ws vs : List (List ℕ)) → values_in fs ws ≡ Some vs
+pub values_in-sound : (fs : List FieldForm) (ws vs : List (List ℕ)) → values_in fs ws ≡ Some vs
     → AreAccepted fs vs × (ws ≡ field_words fs vs)
 values_in-sound [] [] vs h =
     let none : [] ≡ vs = cc in
@@ -88,7 +88,7 @@ values_in-sound (f ∷ fs) (w ∷ ws) vs h =
     rw parts.4 ((here.0, others.0), cc (here.1, others.1))
 
 -- the words of accepted fields give their values
-pub values_in-field_words : (fs : List Field) (vs : List (List ℕ)) → AreAccepted fs vs → values_in fs (field_words fs vs) ≡ Some vs
+pub values_in-field_words : (fs : List FieldForm) (vs : List (List ℕ)) → AreAccepted fs vs → values_in fs (field_words fs vs) ≡ Some vs
 values_in-field_words [] [] h = refl
 values_in-field_words [] (v ∷ vs) h = absurd h
 values_in-field_words (f ∷ fs) [] h = absurd h

@@ -9,18 +9,18 @@ use Rattle.std.proofs.lemmas.Bool.Decides.{Decides-eqb}
 use Rattle.std.proofs.lemmas.List.Elements.{All-nil, All-cons}
 use Rattle.std.proofs.lemmas.Slice.Eq.{bytes_eq-Decides}
 use Rattle.hex.specs.Hex.{is_hex_digit}
-use Rattle.verb_script.specs.Grammar.{Values, role_name, hex_digits, one_of, accepts, Field, Row, RequestName, csnbktp, row_of, is_role_name, is_letter, is_letter_or_digit}
+use Rattle.verb_script.specs.Grammar.{Values, role_name, hex_digits, one_of, accepts, FieldForm, Row, RequestName, csnbktp, row_of, is_role_name, is_letter, is_letter_or_digit}
 
 -- no space stands in the text
 abbrev pub NoSpace : List ℕ → Type 0
 NoSpace text = All (λ c. (c == 32) ≡ false) text
 
 -- a field with no space in its name or its values
-pub record IsPlain (f : Field) : Type 0 where
+pub record IsPlain (f : FieldForm) : Type 0 where
   pub name : NoSpace f.name
   pub values : (v : List ℕ) → IsTrue (accepts f.values v) → NoSpace v
 
-abbrev pub ArePlain : List Field → Type 0
+abbrev pub ArePlain : List FieldForm → Type 0
 ArePlain [] = ⊤
 ArePlain (f ∷ fs) = IsPlain f × ArePlain fs
 
@@ -55,7 +55,7 @@ are_plain_values role_name = true
 are_plain_values (hex_digits digits) = true
 are_plain_values (one_of choices) = list_all is_plain choices
 
-abbrev pub is_plain_field : Field → Bool
+abbrev pub is_plain_field : FieldForm → Bool
 is_plain_field f = is_plain f.name && are_plain_values f.values
 
 abbrev pub is_plain_row : Row → Bool
@@ -86,7 +86,7 @@ values_plain role_name v plain h = role_values v h
 values_plain (hex_digits digits) v plain h = no_space is_hex_digit refl v (and_parts _ (list_all is_hex_digit v) h).1
 values_plain (one_of choices) v plain h = choices_plain choices v plain h
 
-fields_plain : (fs : List Field) → list_all is_plain_field fs ≡ true → ArePlain fs
+fields_plain : (fs : List FieldForm) → list_all is_plain_field fs ≡ true → ArePlain fs
 fields_plain [] h = tt
 fields_plain (f ∷ fs) h =
     let both = and_parts (is_plain_field f) (list_all is_plain_field fs) h in

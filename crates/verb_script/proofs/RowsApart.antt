@@ -6,7 +6,7 @@ use Rattle.std.specs.List.{list_all, list_any}
 use Rattle.std.specs.Str.{bytes_eq}
 use Rattle.std.proofs.lemmas.Bool.{and_parts, or_cases, or_parts, not-true}
 use Rattle.std.proofs.lemmas.Slice.Eq.{bytes_eq-Decides}
-use Rattle.verb_script.specs.Grammar.{Values, role_name, hex_digits, one_of, accepts, Field, Row, RequestName, csnbktp, row_of, all_requests, Request}
+use Rattle.verb_script.specs.Grammar.{Values, role_name, hex_digits, one_of, accepts, FieldForm, Row, RequestName, csnbktp, row_of, all_requests, Request}
 use Rattle.verb_script.specs.Requests.{field_value, value_after, with_front, values_in, request_with, request_in, first_request}
 use Rattle.verb_script.proofs.FieldLaws.{front_parts, value_after_parts, value_after-append, named_parts, test_parts}
 
@@ -16,7 +16,7 @@ are_disjoint (one_of choices) values = not (list_any (accepts values) choices)
 are_disjoint role_name values = false
 are_disjoint (hex_digits digits) values = false
 
-abbrev pub fields_differ : List Field → List Field → Bool
+abbrev pub fields_differ : List FieldForm → List FieldForm → Bool
 fields_differ [] [] = false
 fields_differ [] (g ∷ gs) = true
 fields_differ (f ∷ fs) [] = true
@@ -49,7 +49,7 @@ disjoint_refused (one_of choices) b v h accepted = choice_refused b choices v (n
 disjoint_refused role_name b v h accepted = cc
 disjoint_refused (hex_digits digits) b v h accepted = cc
 
-field_refused : (f g : Field) (ws : List (List ℕ)) (v : List ℕ) → (bytes_eq f.name g.name && are_disjoint f.values g.values) ≡ true
+field_refused : (f g : FieldForm) (ws : List (List ℕ)) (v : List ℕ) → (bytes_eq f.name g.name && are_disjoint f.values g.values) ≡ true
     → field_value f ws ≡ Some v → field_value g ws ≡ None
 field_refused f g [] v h found = cc
 field_refused f g (w ∷ ws) v h found =
@@ -64,7 +64,7 @@ no_front : (o : Option (List ℕ)) → with_front o None ≡ None
 no_front None = refl
 no_front (Some v) = refl
 
-values_refused : (fs gs : List Field) (ws vs : List (List ℕ)) → fields_differ fs gs ≡ true → values_in fs ws ≡ Some vs → values_in gs ws ≡ None
+values_refused : (fs gs : List FieldForm) (ws vs : List (List ℕ)) → fields_differ fs gs ≡ true → values_in fs ws ≡ Some vs → values_in gs ws ≡ None
 values_refused [] [] ws vs h found = cc
 values_refused [] (g ∷ gs) [] vs h found = refl
 values_refused [] (g ∷ gs) (w ∷ ws) vs h found = cc

@@ -39,33 +39,33 @@ accepts (hex_digits digits) text = is_hex digits text
 accepts (one_of choices) text = list_any (bytes_eq text) choices
 
 -- a field: its name and its values
-pub record Field : Type 0 where
+pub record FieldForm : Type 0 where
   pub name : List ℕ
   pub values : Values
 
 -- a row of the grammar: the verb, and its fields in their order
 pub record Row : Type 0 where
   pub verb : List ℕ
-  pub fields : List Field
+  pub fields : List FieldForm
 
-abbrev pub role_field : Field
+abbrev pub role_field : FieldForm
 role_field = record { name = codes "role"; values = role_name }
 
-abbrev pub hex_field : List ℕ → ℕ → Field
-hex_field name digits = record { name = name; values = hex_digits digits }
+abbrev pub digits_field : List ℕ → ℕ → FieldForm
+digits_field name digits = record { name = name; values = hex_digits digits }
 
-abbrev pub word_field : List ℕ → List (List ℕ) → Field
+abbrev pub word_field : List ℕ → List (List ℕ) → FieldForm
 word_field name choices = record { name = name; values = one_of choices }
 
 -- a key token: 64 bytes
-abbrev pub token_field : Field
-token_field = hex_field (codes "token") 128
+abbrev pub token_field : FieldForm
+token_field = digits_field (codes "token") 128
 
 -- a part of a master key: 24 bytes
-abbrev pub part_field : Field
-part_field = hex_field (codes "part") 48
+abbrev pub part_field : FieldForm
+part_field = digits_field (codes "part") 48
 
-abbrev pub action_field : List (List ℕ) → Field
+abbrev pub action_field : List (List ℕ) → FieldForm
 action_field choices = word_field (codes "action") choices
 
 -- the requests, one for each row
@@ -95,13 +95,13 @@ pub record Request : Type 0 where
   pub values : List (List ℕ)
 
 -- the text of the fields: of each a space, its name, an equals sign and its value
-abbrev pub fields_text : List Field → List (List ℕ) → List ℕ
+abbrev pub fields_text : List FieldForm → List (List ℕ) → List ℕ
 fields_text [] values = []
 fields_text (f ∷ fs) [] = []
 fields_text (f ∷ fs) (v ∷ vs) = codes " " ++ (f.name ++ (codes "=" ++ (v ++ fields_text fs vs)))
 
 -- one value for each field, which is a value of that field
-abbrev pub AreAccepted : List Field → List (List ℕ) → Type 0
+abbrev pub AreAccepted : List FieldForm → List (List ℕ) → Type 0
 AreAccepted [] [] = ⊤
 AreAccepted [] (v ∷ vs) = ⊥
 AreAccepted (f ∷ fs) [] = ⊥
@@ -113,7 +113,7 @@ pub record Spells (request : Request) (line : List ℕ) : Type 0 where
   pub values : AreAccepted (row_of request.name).fields request.values
 
 -- the value of the field of this name
-abbrev pub value_among : List Field → List (List ℕ) → List ℕ → List ℕ
+abbrev pub value_among : List FieldForm → List (List ℕ) → List ℕ → List ℕ
 value_among [] values name = []
 value_among (f ∷ fs) [] name = []
 value_among (f ∷ fs) (v ∷ vs) name = if bytes_eq f.name name then v else value_among fs vs name

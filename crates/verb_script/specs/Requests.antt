@@ -3,7 +3,7 @@ use Rattle.std.specs.Prelude.{ℕ, ◌==◌, ◌&&◌, nat_eq, List, [], ◌∷�
 use Rattle.std.specs.List.{slice_split, starts_with}
 use Rattle.std.specs.Option.{option_or}
 use Rattle.std.specs.Str.{bytes_eq}
-use Rattle.verb_script.specs.Grammar.{Values, accepts, Field, RequestName, row_of, all_requests, Request}
+use Rattle.verb_script.specs.Grammar.{Values, accepts, FieldForm, RequestName, row_of, all_requests, Request}
 
 -- the words of a text, parted by spaces
 abbrev pub words : List ℕ → List (List ℕ)
@@ -20,7 +20,7 @@ first_value prefix values [] = None
 first_value prefix values (w ∷ ws) = value_after prefix values w
 
 -- the value of a field in the first of the words: its name, an equals sign and the value are that word
-abbrev pub field_value : Field → List (List ℕ) → Option (List ℕ)
+abbrev pub field_value : FieldForm → List (List ℕ) → Option (List ℕ)
 field_value f ws = first_value (f.name ++ codes "=") f.values ws
 
 abbrev pub with_front : Option (List ℕ) → Option (List (List ℕ)) → Option (List (List ℕ))
@@ -34,7 +34,7 @@ at_end [] = Some []
 at_end (w ∷ ws) = None
 
 -- the values of the fields, one in each word
-abbrev pub values_in : List Field → List (List ℕ) → Option (List (List ℕ))
+abbrev pub values_in : List FieldForm → List (List ℕ) → Option (List (List ℕ))
 values_in [] ws = at_end ws
 values_in (f ∷ fs) ws = with_front (field_value f ws) (values_in fs (drop 1 ws))
 

@@ -1,7 +1,7 @@
 //! CSNBMKP: the steps of a key ceremony on the master key registers.
 ghost use Rattle.std.specs.Prelude.{◌≡◌, ◌≢◌, ◌⊎◌, ◌↔◌, ◌≤◌, ◌==◌, ◌&&◌, ℕ, List, [], ◌∷◌, Result, Ok, Err, OnOk, IfOk, IfErr, IsSome, IsTrue, codes, length};
 ghost use Rattle.key_cells.specs.Bench.{Bench, with_master};
-ghost use Rattle.key_cells.specs.Lease.{held as bench_of, holding, loan_of};
+ghost use Rattle.key_cells.specs.Lease.{bench_of, holding, loan_of};
 ghost use Rattle.slot_disk.specs.Faults.{Rose};
 ghost use Rattle.slot_disk.specs.Medium.{Told, IsSettled, EachImage};
 ghost use Rattle.master_registers.specs.Masters.{Masters, first_refused, combine_refused};

@@ -1,5 +1,5 @@
 -- Registers that are loaded are those of a state.
-use Rattle.key_cells.specs.Lease.{held as bench_of}
+use Rattle.key_cells.specs.Lease.{bench_of}
 use Rattle.master_registers.specs.Loaded.{masters_in}
 use Rattle.cca_tool.proofs.PerformLemmas.{sound_loaded}
 use Rattle.cca_tool.proofs.opening.open.Goals as goal

@@ -1,7 +1,7 @@
 -- What the machine makes of a request, in the state that the module stands for.
 use Rattle.std.proofs.Common.{◌≡◌, ◌∙◌, [], Err, sym, ap, subst}
 use Rattle.std.specs.Prelude.{IsSome}
-use Rattle.key_cells.specs.Lease.{held as bench_of}
+use Rattle.key_cells.specs.Lease.{bench_of}
 use Rattle.master_registers.specs.Loaded.{masters_in}
 use Rattle.verb_script.specs.Parsed.{seen}
 use Rattle.cca_machine.specs.Act.{performed}

@@ -1,4 +1,4 @@
-use Rattle.key_cells.specs.Lease.{held as bench_of}
+use Rattle.key_cells.specs.Lease.{bench_of}
 use Rattle.master_registers.specs.Loaded.{masters_in}
 use Rattle.cca_tool.proofs.perform.perform.Given as goal
 

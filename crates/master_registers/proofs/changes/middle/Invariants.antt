@@ -1,5 +1,5 @@
 -- The registers before the change and after it.
-use Rattle.key_cells.specs.Lease.{held}
+use Rattle.key_cells.specs.Lease.{bench_of}
 use Rattle.master_registers.specs.Masters.{Partial}
 use Rattle.master_registers.proofs.changes.middle.Given as goal
 

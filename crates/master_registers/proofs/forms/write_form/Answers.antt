@@ -1,6 +1,6 @@
 use Rattle.std.proofs.Common.{List, ℕ, ap, ◌∙◌}
 use Rattle.key_cells.specs.Bench.{Bench}
-use Rattle.key_cells.specs.Lease.{held, holding}
+use Rattle.key_cells.specs.Lease.{bench_of, holding}
 use Rattle.key_cells.specs.declared.places.MasterPlace.TheVariants.{Current, Old}
 use Rattle.master_registers.specs.Masters.{new_bytes, kept_bytes}
 use Rattle.master_registers.specs.BodyForm.{states_body}
@@ -9,7 +9,7 @@ use Rattle.master_registers.proofs.forms.write_form.Goals as goal
 
 pub returns : goal.returns
 returns g c =
-    let start : Bench = held c.args.lease.now in
+    let start : Bench = bench_of c.args.lease.now in
     let with_body = λ (bytes : List ℕ). holding c.args.lease.now (record start { body = bytes }) in
     c.put_master-3.ensures
     ∙ ap (with_put 56 Old) c.put_master-2.ensures

@@ -1,5 +1,5 @@
 -- The registers that were loaded.
-use Rattle.key_cells.specs.Lease.{held}
+use Rattle.key_cells.specs.Lease.{bench_of}
 use Rattle.master_registers.specs.Loaded.{masters_in}
 use Rattle.master_registers.proofs.tests.carry_out.Given as goal
 

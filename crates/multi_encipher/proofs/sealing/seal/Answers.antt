@@ -3,7 +3,7 @@ use Rattle.std.proofs.Common.{◌≡◌, List, ℕ, refl, sym, ap, subst, ◌∙
 use Rattle.std.specs.Prelude.{replicate, slice_range}
 use Rattle.cca_vectors.specs.Vectors.{left_of, right_of, length_of}
 use Rattle.des_core.specs.Bits.{AreBytes}
-use Rattle.key_cells.specs.Lease.{held}
+use Rattle.key_cells.specs.Lease.{bench_of}
 use Rattle.multi_encipher.specs.Parts.{key_in, parts_under}
 use Rattle.multi_encipher.specs.Seals.{sealed_half}
 use Rattle.multi_encipher.proofs.BenchLemmas.{parts-schedules}
@@ -12,8 +12,8 @@ use Rattle.multi_encipher.proofs.sealing.seal.Goals as goal
 
 pub returns-then-length-eq8-clause-sealed : goal.returns-then-length-eq8-clause-sealed
 returns-then-length-eq8-clause-sealed c =
-    let parts : List ℕ = parts_under (held c.args.lease.now) c.args.under in
-    let key : List ℕ = (held c.args.lease.now).key in
+    let parts : List ℕ = parts_under (bench_of c.args.lease.now) c.args.under in
+    let key : List ℕ = (bench_of c.args.lease.now).key in
     let single : length_of c.args.vector.now ≡ 8 = sym c.length.ensures.length ∙ c.if-length-eq8.true in
     sym (seal-single parts c.args.vector.now (key_in c.args.vector.now key) single
     ∙ same_halves (halves_of c.enciphered_half-left.result (replicate 8 0)) (sealed_half parts (left_of c.args.vector.now) (slice_range (key_in c.args.vector.now key) 0 8)) (replicate 8 0)
@@ -24,13 +24,13 @@ returns-then-length-eq8-clause-sealed c =
 
 pub returns-else-length-eq8-clause-sealed : goal.returns-else-length-eq8-clause-sealed
 returns-else-length-eq8-clause-sealed c =
-    let parts : List ℕ = parts_under (held c.args.lease.now) c.args.under in
-    let key : List ℕ = (held c.args.lease.now).key in
+    let parts : List ℕ = parts_under (bench_of c.args.lease.now) c.args.under in
+    let key : List ℕ = (bench_of c.args.lease.now).key in
     let double : length_of c.args.vector.now ≡ 16 = double_unless_single c.args.vector.now c.length.result c.length.ensures.length c.if-length-eq8.false in
-    let same_parts : parts_under (held c.enciphered_half-left.new.lease) c.args.under ≡ parts =
-    ap (λ lease. parts_under (held lease) c.args.under) c.enciphered_half-left.ensures.stays
-    ∙ parts-schedules (held c.args.lease.now) c.args.under (held c.enciphered_half-left.new.lease).schedules in
-    let same_key : (held c.enciphered_half-left.new.lease).key ≡ key = ap (λ lease. (held lease).key) c.enciphered_half-left.ensures.stays in
+    let same_parts : parts_under (bench_of c.enciphered_half-left.new.lease) c.args.under ≡ parts =
+    ap (λ lease. parts_under (bench_of lease) c.args.under) c.enciphered_half-left.ensures.stays
+    ∙ parts-schedules (bench_of c.args.lease.now) c.args.under (bench_of c.enciphered_half-left.new.lease).schedules in
+    let same_key : (bench_of c.enciphered_half-left.new.lease).key ≡ key = ap (λ lease. (bench_of lease).key) c.enciphered_half-left.ensures.stays in
     sym (seal-double parts c.args.vector.now (key_in c.args.vector.now key) double
     ∙ same_halves (halves_of c.enciphered_half-left.result c.enciphered_half-right.result)
     (sealed_half parts (left_of c.args.vector.now) (slice_range (key_in c.args.vector.now key) 0 8))
@@ -41,21 +41,21 @@ returns-else-length-eq8-clause-sealed c =
     (ap (sealed_half parts (right_of c.args.vector.now)) (key_back c.args.vector.now key double)
     ∙ ap (λ half. sealed_half parts half (slice_range key 8 16)) (sym c.right-right_vector.ensures.right)
     ∙ ap (λ p. sealed_half p c.right-right_vector.result (slice_range key 8 16)) (sym same_parts)
-    ∙ ap (λ k. sealed_half (parts_under (held c.enciphered_half-left.new.lease) c.args.under) c.right-right_vector.result (slice_range k 8 16)) (sym same_key)
+    ∙ ap (λ k. sealed_half (parts_under (bench_of c.enciphered_half-left.new.lease) c.args.under) c.right-right_vector.result (slice_range k 8 16)) (sym same_key)
     ∙ sym c.enciphered_half-right.ensures.value))
 
 pub returns-then-length-eq8-clause-halves : goal.returns-then-length-eq8-clause-halves
 returns-then-length-eq8-clause-halves c =
     single_made c.args.vector.now c.enciphered_half-left.result
     (subst (AreBytes 8) (sym c.enciphered_half-left.ensures.value)
-    (bytes-sealed_half (parts_under (held c.args.lease.now) c.args.under) c.left-left_vector.result (slice_range (held c.args.lease.now).key 0 8)))
+    (bytes-sealed_half (parts_under (bench_of c.args.lease.now) c.args.under) c.left-left_vector.result (slice_range (bench_of c.args.lease.now).key 0 8)))
 
 pub returns-else-length-eq8-clause-halves : goal.returns-else-length-eq8-clause-halves
 returns-else-length-eq8-clause-halves c =
     double_made c.args.vector.now c.enciphered_half-left.result c.enciphered_half-right.result
     (double_unless_single c.args.vector.now c.length.result c.length.ensures.length c.if-length-eq8.false)
     (subst (AreBytes 8) (sym c.enciphered_half-left.ensures.value)
-    (bytes-sealed_half (parts_under (held c.args.lease.now) c.args.under) c.left-left_vector.result (slice_range (held c.args.lease.now).key 0 8)))
+    (bytes-sealed_half (parts_under (bench_of c.args.lease.now) c.args.under) c.left-left_vector.result (slice_range (bench_of c.args.lease.now).key 0 8)))
     (subst (AreBytes 8) (sym c.enciphered_half-right.ensures.value)
-    (bytes-sealed_half (parts_under (held c.enciphered_half-left.new.lease) c.args.under) c.right-right_vector.result
-    (slice_range (held c.enciphered_half-left.new.lease).key 8 16)))
+    (bytes-sealed_half (parts_under (bench_of c.enciphered_half-left.new.lease) c.args.under) c.right-right_vector.result
+    (slice_range (bench_of c.enciphered_half-left.new.lease).key 8 16)))

@@ -3,7 +3,7 @@ use Rattle.std.proofs.Common.{◌≡◌, ◌+◌, ◌++◌, List, ℕ, length, t
 use Rattle.std.specs.Prelude.{replicate}
 use Rattle.cca_vectors.specs.Vectors.{length_of}
 use Rattle.key_cells.specs.Bench.{key_of, with_key}
-use Rattle.key_cells.specs.Lease.{held}
+use Rattle.key_cells.specs.Lease.{bench_of}
 use Rattle.multi_encipher.specs.Parts.{parts_under}
 use Rattle.multi_encipher.specs.Seals.{opened_half}
 use Rattle.multi_encipher.proofs.BenchLemmas.{key_of-with_key, parts-elsewhere}
@@ -12,10 +12,10 @@ use Rattle.multi_encipher.proofs.sealing.unseal.Goals as goal
 
 pub returns-then-length-eq8-clause-key : goal.returns-then-length-eq8-clause-key
 returns-then-length-eq8-clause-key c =
-    let parts : List ℕ = parts_under (held c.args.lease.now) c.args.under in
-    let old : List ℕ = key_of (held c.args.lease.now) c.args.into in
+    let parts : List ℕ = parts_under (bench_of c.args.lease.now) c.args.under in
+    let old : List ℕ = key_of (bench_of c.args.lease.now) c.args.into in
     let single : length_of c.args.vector.now ≡ 8 = sym c.length.ensures.length ∙ c.if-length-eq8.true in
-    key_of-with_key (held c.put_deciphered_half.new.lease) c.args.into c.put_zeros.new.place
+    key_of-with_key (bench_of c.put_deciphered_half.new.lease) c.args.into c.put_zeros.new.place
     ∙ c.put_zeros.ensures
     ∙ ap (λ place. take 8 place ++ replicate 8 0)
     (c.key_mut.ensures.value ∙ c.put_deciphered_half.ensures.key
@@ -26,23 +26,23 @@ pub returns-then-length-eq8-clause-sealed : goal.returns-then-length-eq8-clause-
 returns-then-length-eq8-clause-sealed c =
     let right_long : length c.args.sealed.now.right ≡ 8 = search rules in
     let single : length_of c.args.vector.now ≡ 8 = sym c.length.ensures.length ∙ c.if-length-eq8.true in
-    sealed_again (parts_under (held c.args.lease.now) c.args.under) c.args.vector.now
-    (key_of (with_key (held c.put_deciphered_half.new.lease) c.args.into c.put_zeros.new.place) c.args.into) c.args.sealed.now
+    sealed_again (parts_under (bench_of c.args.lease.now) c.args.under) c.args.vector.now
+    (key_of (with_key (bench_of c.put_deciphered_half.new.lease) c.args.into c.put_zeros.new.place) c.args.into) c.args.sealed.now
     (single_sealed c.args.vector.now c.args.sealed.now single c.put_deciphered_half.ensures.bytes right_long c.requires.single)
     (returns-then-length-eq8-clause-key c)
 
 pub returns-else-length-eq8-clause-key : goal.returns-else-length-eq8-clause-key
 returns-else-length-eq8-clause-key c =
-    let parts : List ℕ = parts_under (held c.args.lease.now) c.args.under in
-    let old : List ℕ = key_of (held c.args.lease.now) c.args.into in
+    let parts : List ℕ = parts_under (bench_of c.args.lease.now) c.args.under in
+    let old : List ℕ = key_of (bench_of c.args.lease.now) c.args.into in
     let double : length_of c.args.vector.now ≡ 16 = double_unless_single c.args.vector.now c.length.result c.length.ensures.length c.if-length-eq8.false in
-    let place : List ℕ = key_of (held c.put_deciphered_half.new.lease) c.args.into in
-    let same_parts : parts_under (held c.put_deciphered_half.new.lease) c.args.under ≡ parts =
-    ap (λ lease. parts_under (held lease) c.args.under) c.put_deciphered_half.ensures.stays
-    ∙ parts-elsewhere (held c.args.lease.now) c.args.under c.args.into place (held c.put_deciphered_half.new.lease).schedules c.requires.elsewhere in
+    let place : List ℕ = key_of (bench_of c.put_deciphered_half.new.lease) c.args.into in
+    let same_parts : parts_under (bench_of c.put_deciphered_half.new.lease) c.args.under ≡ parts =
+    ap (λ lease. parts_under (bench_of lease) c.args.under) c.put_deciphered_half.ensures.stays
+    ∙ parts-elsewhere (bench_of c.args.lease.now) c.args.under c.args.into place (bench_of c.put_deciphered_half.new.lease).schedules c.requires.elsewhere in
     c.put_deciphered_half-else-length-eq8.ensures.key
     ∙ double_put parts c.args.vector.now old place
-    (opened_half (parts_under (held c.put_deciphered_half.new.lease) c.args.under) c.right-right_vector.result c.args.sealed.now.right)
+    (opened_half (parts_under (bench_of c.put_deciphered_half.new.lease) c.args.under) c.right-right_vector.result c.args.sealed.now.right)
     c.args.sealed.now double c.put_deciphered_half.ensures.size
     (c.put_deciphered_half.ensures.key
     ∙ ap (λ half. take 0 old ++ opened_half parts half c.args.sealed.now.left ++ drop (0 + 8) old) c.left-left_vector.ensures.left)
@@ -52,7 +52,7 @@ returns-else-length-eq8-clause-key c =
 pub returns-else-length-eq8-clause-sealed : goal.returns-else-length-eq8-clause-sealed
 returns-else-length-eq8-clause-sealed c =
     let double : length_of c.args.vector.now ≡ 16 = double_unless_single c.args.vector.now c.length.result c.length.ensures.length c.if-length-eq8.false in
-    sealed_again (parts_under (held c.args.lease.now) c.args.under) c.args.vector.now
-    (key_of (held c.put_deciphered_half-else-length-eq8.new.lease) c.args.into) c.args.sealed.now
+    sealed_again (parts_under (bench_of c.args.lease.now) c.args.under) c.args.vector.now
+    (key_of (bench_of c.put_deciphered_half-else-length-eq8.new.lease) c.args.into) c.args.sealed.now
     (double_sealed c.args.vector.now c.args.sealed.now double c.put_deciphered_half.ensures.bytes c.put_deciphered_half-else-length-eq8.ensures.bytes)
     (returns-else-length-eq8-clause-key c)

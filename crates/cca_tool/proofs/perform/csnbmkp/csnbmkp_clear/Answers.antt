@@ -1,6 +1,6 @@
 -- The change of the registers is the machine's.
 use Rattle.std.proofs.Common.{◌≡◌, false, codes}
-use Rattle.key_cells.specs.Lease.{held as bench_of}
+use Rattle.key_cells.specs.Lease.{bench_of}
 use Rattle.cca_tool.specs.Performing.{outcome_of, clear_request}
 use Rattle.master_registers.specs.Masters.{cleared}
 use Rattle.cca_tool.proofs.ChangeLemmas.{answers_change, refusal_untouched, images_of_change, no_rules, never_refused, clear_outcome}

@@ -1,6 +1,6 @@
 -- The change of the registers is the machine's.
 use Rattle.std.proofs.Common.{false, ap}
-use Rattle.key_cells.specs.Lease.{held as bench_of}
+use Rattle.key_cells.specs.Lease.{bench_of}
 use Rattle.cca_tool.specs.Performing.{outcome_of, part_request}
 use Rattle.cca_tool.specs.Steps.{refuses, after_step}
 use Rattle.cca_tool.proofs.ChangeLemmas.{answers_change, refusal_untouched, images_of_change, no_pattern, part_outcome_as}

@@ -1,6 +1,6 @@
 -- The change of the registers is the machine's.
 use Rattle.std.proofs.Common.{codes}
-use Rattle.key_cells.specs.Lease.{held as bench_of}
+use Rattle.key_cells.specs.Lease.{bench_of}
 use Rattle.cca_tool.specs.Performing.{outcome_of, set_request}
 use Rattle.master_registers.specs.Masters.{after_set, set_refused, same_pattern}
 use Rattle.cca_tool.proofs.ChangeLemmas.{answers_change, refusal_untouched, images_of_change, set_outcome}

@@ -5,7 +5,7 @@ use Rattle.std.specs.Vec.{vec_capacity}
 use Rattle.slot_disk.specs.DiskState.{DiskState, IsDisk}
 use Rattle.slot_disk.specs.LogMedium.{log_medium}
 use Rattle.slot_disk.specs.Medium.{After, Becomes, EachImage}
-use Rattle.slot_disk.specs.Ranges.{SameOutside, Holds, overwrite}
+use Rattle.slot_disk.specs.Ranges.{SameOutside, HoldsPiece, overwrite}
 use Rattle.slot_disk.specs.Stages.{stage, IsTorn}
 use Rattle.slot_disk.specs.declared.call.Call.{Call}
 use Rattle.slot_disk.specs.declared.call.Call.TheVariants.{Written}
@@ -28,7 +28,7 @@ returns-clause-bytes c =
     let before : c.self.inside.calls.items ≡ c.args.self.now.calls = ap (λ (d : DiskState). d.calls) c.self.view_is in
     let pushed : c.push_reserved.new.self.items ≡ c.args.self.now.calls ++ Written c.args.at c.args.piece.now ∷ [] =
     c.push_reserved.ensures.items ∙ ap (λ (l : List Call). l ++ Written c.args.at c.new.result ∷ []) before ∙ ap (λ (l : List ℕ). c.args.self.now.calls ++ Written c.args.at l ∷ []) c.new.ensures in
-    log_moved (Becomes (Holds c.args.at c.args.piece.now) (log_medium c.args.self.now.first c.args.self.now.calls)) _ _ _ _ first pushed
+    log_moved (Becomes (HoldsPiece c.args.at c.args.piece.now) (log_medium c.args.self.now.first c.args.self.now.calls)) _ _ _ _ first pushed
     (written_holds c.args.self.now.first c.args.self.now.calls c.args.at c.args.piece.now c.requires.within)
 
 pub returns-clause-outside : goal.returns-clause-outside
