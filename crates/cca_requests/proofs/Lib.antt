@@ -1,0 +1,4 @@
+mod Acting
+mod Changing
+mod DigitLemmas
+mod Serving
