@@ -2,3 +2,4 @@ mod Acting
 mod Changing
 mod DigitLemmas
 mod Serving
+mod TokenReply

@@ -82,6 +82,7 @@ fn show_class(class: Class, reply: &mut ReplyBuffer)
     reply.text("class", name_of_class(class).as_bytes());
 }
 
+#[tactic(auto, using(crate::proofs::TokenReply::decimal_size))]
 fn show_length(bytes: usize, reply: &mut ReplyBuffer)
     requires room { length reply.old ≤ 1000 }
     requires key { bytes ≤ 16 }
