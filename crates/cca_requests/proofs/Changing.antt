@@ -1,6 +1,6 @@
 -- An action on the registers is what the machine makes of it.
 use Rattle.std.proofs.Common.{◌≡◌, ℕ, Bool, true, false, List, [], ◌∷◌, Option, None, Some, Result, Ok, Err, codes, refl, sym, ap, ◌∙◌, subst, inl, inr}
-use Rattle.std.specs.Prelude.{◌↔◌, IsTrue, IfOk, OnOk, IsSome}
+use Rattle.std.specs.Prelude.{◌⊎◌, ◌↔◌, IsTrue, IfOk, OnOk, IsSome}
 use Rattle.slot_disk.specs.Medium.{Medium, Told, IsSettled, EachImage, From}
 use Rattle.slot_disk.proofs.Media.{each_weaker, told_at, keeps_still}
 use Rattle.cca_vectors.specs.Checks.{check}

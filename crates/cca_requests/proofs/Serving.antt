@@ -1,6 +1,6 @@
 -- How what is said of the module is carried from call to call.
 use Rattle.std.proofs.Common.{◌≡◌, ℕ, List, [], Option, None, Some, Result, Ok, Err, refl, sym, ap, ◌∙◌, subst, inl, inr}
-use Rattle.std.specs.Prelude.{◌⊎◌, OnOk, IfErr, IfSome, IsSome}
+use Rattle.std.specs.Prelude.{OnOk, IfErr, IfSome, IsSome}
 use Rattle.slot_disk.specs.Medium.{Medium, Told, IsSettled, From, EachImage, Keeps}
 use Rattle.slot_disk.proofs.Media.{goes_on, settled_image, each_weaker, each_still, keeps_still}
 use Rattle.script_buffers.specs.Replies.{spelled, Refused}

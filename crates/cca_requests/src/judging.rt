@@ -93,26 +93,34 @@ pub(crate) fn judge(operands: &Operands) -> Result<Granted, Refusal>
 {
     let first = match judge_one(&operands.first) {
         Ok(grant) => grant,
-        Err(rule) => return Err(refusal_of(rule, operands.first.name)),
+        Err(rule) => {
+            return Err(Refusal {
+                rule,
+                operand: operands.first.name,
+            });
+        }
     };
     let second = match judge_one(&operands.second) {
         Ok(grant) => grant,
-        Err(rule) => return Err(refusal_of(rule, operands.second.name)),
+        Err(rule) => {
+            return Err(Refusal {
+                rule,
+                operand: operands.second.name,
+            });
+        }
     };
     let third = match judge_one(&operands.third) {
         Ok(grant) => grant,
-        Err(rule) => return Err(refusal_of(rule, operands.third.name)),
+        Err(rule) => {
+            return Err(Refusal {
+                rule,
+                operand: operands.third.name,
+            });
+        }
     };
     Ok(Granted {
         first,
         second,
         third,
     })
-}
-
-fn refusal_of(rule: Rule, operand: &'static str) -> Refusal
-    ensures rule { result.rule ≡ rule }
-    ensures operand { result.operand.now ≡ operand.now }
-{
-    Refusal { rule, operand }
 }
