@@ -2,12 +2,12 @@
 #![tactic(auto)]
 
 mod desk;
+mod running;
 mod sending;
 mod serving;
-mod session;
 mod stops;
 
 pub use desk::Desk;
-pub use serving::Served;
-pub use session::Session;
+pub use running::serve;
+pub use serving::{Served, serve_one};
 pub use stops::{Device, Stop};
