@@ -3,7 +3,6 @@ use Rattle.std.proofs.Common.{◌≡◌, ℕ, zero, suc, ◌+◌, ◌<◌, List,
 use Rattle.std.specs.Prelude.{All, bit_xor}
 use Rattle.std.proofs.lemmas.Bool.{cases_eq}
 use Rattle.std.proofs.lemmas.List.{append-nil, append_assoc, drop_all, drop_more, take_all, length-drop, get_or-replicate, get_or-set_other, get_or-set_same, get_or_default, length-append, length-replicate, length-take, set_at, take_more}
-use Rattle.std.proofs.lemmas.Grind.{same_number_lists}
 use Rattle.std.proofs.lemmas.Nat.{xor_of_8}
 use Rattle.byte_lists.specs.Bytes.{AreBytes, IsZero, xor}
 
@@ -55,13 +54,14 @@ length-combined xs ys at hx hy =
 
 -- ---- zeros
 
-pub zeros_of : (xs : List ℕ) → IsZero xs → xs ≡ replicate (length xs) 0
-zeros_of xs blank =
-    same_number_lists xs (replicate (length xs) 0) (sym (length-replicate (length xs) 0))
-    (λ i within. blank i 0 within ∙ sym (get_or-replicate (length xs) i 0 0 within))
+pub zeros_of : (n : ℕ) (xs : List ℕ) → length xs ≡ n → IsZero xs → xs ≡ replicate n 0
+zeros_of n xs long blank = blank ∙ ap (λ (k : ℕ). replicate k 0) long
 
 pub IsZero-replicate : (n : ℕ) → IsZero (replicate n 0)
-IsZero-replicate n = λ i d within. get_or-replicate n i 0 d (subst (λ k. i < k) (length-replicate n 0) within)
+IsZero-replicate n = ap (λ (k : ℕ). replicate k 0) (sym (length-replicate n 0))
+
+pub IsZero-element : (xs : List ℕ) (i d : ℕ) → IsZero xs → i < length xs → get_or xs i d ≡ 0
+IsZero-element xs i d blank within = ap (λ l. get_or l i d) blank ∙ get_or-replicate (length xs) i 0 d within
 
 -- ---- a piece put into a list from a place on
 

@@ -1,5 +1,5 @@
 -- Lists of bytes.
-use Rattle.std.specs.Prelude.{◌≡◌, ℕ, ◌+◌, ◌<◌, Bool, ◌==◌, List, [], ◌∷◌, ◌++◌, length, take, drop, All, bit_xor}
+use Rattle.std.specs.Prelude.{◌≡◌, ℕ, ◌<◌, Bool, ◌==◌, List, [], ◌∷◌, length, replicate, All, bit_xor}
 use Rattle.std.specs.List.{list_all}
 
 -- n bytes
@@ -9,7 +9,7 @@ pub record AreBytes (n : ℕ) (xs : List ℕ) : Type 0 where
 
 -- each byte is zero
 abbrev pub IsZero : List ℕ → Type 0
-IsZero = All (λ byte. byte ≡ 0)
+IsZero bytes = bytes ≡ replicate (length bytes) 0
 
 -- the same as a test
 abbrev pub is_zero : List ℕ → Bool
@@ -21,7 +21,3 @@ unfoldable pub xor : List ℕ → List ℕ → List ℕ
 xor [] ys = []
 xor (x ∷ xs) [] = []
 xor (x ∷ xs) (y ∷ ys) = bit_xor x y ∷ xor xs ys
-
--- the list with a piece put in place of as many elements, from a place on
-abbrev pub with_piece : List ℕ → ℕ → List ℕ → List ℕ
-with_piece list at piece = take at list ++ piece ++ drop (at + length piece) list

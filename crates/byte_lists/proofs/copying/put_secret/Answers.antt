@@ -20,8 +20,8 @@ loop-byte-preserved g c =
 pub returns : goal.returns
 returns g c =
     let whole : length (bytes_of c.args.secret.now) ≡ g.row.N = c.args.secret.now.whole in
-    let all : c.loop-byte.byte ≡ length (bytes_of c.args.secret.now) = omega arith in
+    let all : c.loop-byte.byte ≡ g.row.N = omega arith in
     c.loop-byte.invariant
     ∙ ap (λ n. take c.args.at c.args.into.now ++ take n (bytes_of c.args.secret.now) ++ drop (c.args.at + n) c.args.into.now) all
-    ∙ ap (λ bytes. take c.args.at c.args.into.now ++ bytes ++ drop (c.args.at + length (bytes_of c.args.secret.now)) c.args.into.now)
-    (take_all (length (bytes_of c.args.secret.now)) (bytes_of c.args.secret.now) (omega arith))
+    ∙ ap (λ bytes. take c.args.at c.args.into.now ++ bytes ++ drop (c.args.at + g.row.N) c.args.into.now)
+    (take_all g.row.N (bytes_of c.args.secret.now) (omega arith))
