@@ -4,7 +4,7 @@ ghost use Rattle.slot_disk.specs.Faults.{HasCause};
 ghost use Rattle.slot_disk.specs.Medium.{Medium, Told, IsSettled, After, Becomes, EachImage, Keeps};
 ghost use Rattle.slot_disk.specs.Ranges.{SameOutside, HoldsPiece};
 
-use crate::Failed;
+use crate::{BODY_LEN, Failed};
 
 /// A disk of a fixed size. What was written since the last sync that succeeded may be torn by a stop:
 /// each range that was written may then hold any bytes, and all other bytes stay.
@@ -26,10 +26,10 @@ pub trait Disk {
         ensures keeps { Keeps (medium self.old) (medium self.new) }
         ensures cause { HasCause (faults self.old) (faults self.new) result };
 
-    /// Puts `piece`, at most 192 bytes, in the place from `at` on. After `Failed` that range may hold any bytes.
+    /// Puts `piece`, which is no longer than a body, in the place from `at` on. After `Failed` that range may hold any bytes.
     fn write(&mut self, at: u64, piece: &[u8]) -> Result<(), Failed>
         requires within { at + length piece.now ≤ (medium self.old).size }
-        requires short { length piece.now ≤ 192 }
+        requires short { length piece.now ≤ BODY_LEN }
         ensures bytes { OnOk result (Becomes (HoldsPiece at piece.now) (medium self.old) (medium self.new)) }
         ensures outside { Becomes (SameOutside at (length piece.now)) (medium self.old) (medium self.new) }
 
