@@ -102,9 +102,6 @@ sides_apart n s low = ⊎_elim (λ first. inl (omega arith)) (λ second. inr (om
 pub replacing_same : (n : ℕ) (bytes old : List ℕ) → IsReplacing n bytes old old
 replacing_same n bytes old = record { outside = outside_same (1536 * n) 1536 old; others = λ m other. refl; here = inl refl; elsewhere = λ k away. refl }
 
-pub replacing_from : (n : ℕ) (bytes old new : List ℕ) → IsReplaced n bytes old new → IsReplacing n bytes old new
-replacing_from n bytes old new replaced = record { outside = replaced.outside; others = replaced.others; here = inr replaced.here; elsewhere = replaced.elsewhere }
-
 -- the body that isn't selected holds the new bytes, and all that is looked at is as before
 pub record Staged (n : ℕ) (bytes old new : List ℕ) : Type 0 where
   pub outside : SameOutside (1536 * n) 1536 old new
