@@ -22,7 +22,7 @@ impl<'a> Lease<'a> {
     /// A lease of the bench, whose places stay as they are.
     pub fn open(bench: &'a mut Workbench) -> Lease<'a>
         ensures same_bench { loan_of result ≡ bench.entry.ghost_name }
-        ensures places { held result ≡ bench.old }
+        ensures places { bench_of result ≡ bench.old }
     {
         Lease { bench }
     }
