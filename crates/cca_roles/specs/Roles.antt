@@ -1,5 +1,5 @@
 -- The roles of a module: 32 places, of which the one numbered n is cell n + 1.
-use Rattle.std.specs.Prelude.{◌≡◌, ◌≢◌, ℕ, ◌==◌, Bool, ◌&&◌, List, [], ◌∷◌, length, map, get_or, set, replicate, Option, None, Some, is_none, unwrap_or, bytes_eq, if◌then◌else◌}
+use Rattle.std.specs.Prelude.{◌≡◌, ℕ, ◌==◌, Bool, ◌&&◌, List, [], ◌∷◌, length, map, get_or, set, replicate, Option, None, Some, is_none, unwrap_or, bytes_eq, if◌then◌else◌}
 use Rattle.cca_roles.specs.Points.{every_point}
 use Rattle.cca_roles.specs.RoleNames.{default_name}
 use Rattle.cca_roles.specs.Directory.{name_at, AreApart, place_of, free_place}
@@ -55,6 +55,10 @@ without (Some n) s = set s n None
 -- REMOVE: the name is no longer held
 abbrev pub after_remove : List ℕ → List (Option Role) → List (Option Role)
 after_remove name s = without (place_of name (names s)) s
+
+-- the place that a REMOVE changes
+abbrev pub remove_place : List ℕ → List (Option Role) → ℕ
+remove_place name s = unwrap_or (place_of name (names s)) 32
 
 -- REMOVE is refused where the name isn't held
 abbrev pub remove_refused : List ℕ → List (Option Role) → Bool

@@ -1,13 +1,12 @@
 //! Changes of one role. Each writes one cell: a stop at any moment leaves the roles before or after.
-ghost use Rattle.std.specs.Prelude.{◌≡◌, ◌≢◌, ◌↔◌, ◌⊎◌, ◌+◌, ◌*◌, ◌≤◌, ◌<◌, ℕ, Option, None, Some, Result, Ok, Err, set, get_or, unwrap_or, IfErr, OnOk, OnErr, IfOk, IsSome, IsTrue};
+ghost use Rattle.std.specs.Prelude.{◌≡◌, ◌≢◌, ◌↔◌, ◌⊎◌, ◌+◌, ◌*◌, ◌≤◌, ◌<◌, ℕ, Option, None, Some, Result, Ok, Err, set, IfErr, IfSome, IsNone, IsTrue};
 ghost use Rattle.slot_disk.specs.Medium.{Told, IsSettled};
 ghost use Rattle.key_cells.specs.Lease.{bench_of, holding};
 ghost use Rattle.cca_roles.specs.Changes.{ChangesRoles, Remembers, HasRoleCause};
 ghost use Rattle.cca_roles.specs.Directory.{AreApart};
 ghost use Rattle.cca_roles.specs.RoleBody.{ReadsPlace};
 ghost use Rattle.cca_roles.specs.RoleNames.{default_name};
-ghost use Rattle.cca_roles.specs.Roles.{names, name_of, define_place, after_define, define_refused, after_remove, remove_refused};
-ghost use Rattle.cca_roles.specs.Directory.{place_of};
+ghost use Rattle.cca_roles.specs.Roles.{names, name_of, define_place, after_define, define_refused, remove_place, after_remove, remove_refused};
 ghost use Rattle.cca_roles.specs.RolesStand.{StandsForRoles};
 
 use crate::access_points::AccessPoints;
@@ -68,7 +67,7 @@ impl Roles {
         requires stands { Told (M.medium «module».old) (λ image. StandsForRoles image self.old) }
         requires name { name.now ≢ default_name }
 
-        ensures changed { ChangesRoles (unwrap_or (place_of name.now (names self.old)) 32) self.old (after_remove name.now self.old)
+        ensures changed { ChangesRoles (remove_place name.now self.old) self.old (after_remove name.now self.old)
             (M.medium «module».old) (M.medium «module».new) result }
         ensures memory { Remembers self.old (after_remove name.now self.old) self.new result }
         ensures places { lease.new ≡ holding lease.old (record (bench_of lease.old) { body = (bench_of lease.new).body }) }
