@@ -32,10 +32,16 @@ pub(crate) fn write_blank(body: &mut [u8; 192])
 }
 
 /// Whether every byte is zero.
+fn is_zero(bytes: &[u8]) -> bool
+    ensures { IsTrue result ↔ (bytes.now ≡ replicate (length bytes.now) 0) }
+{
+    bytes.iter().all(|byte| *byte == 0)
+}
+
 fn is_blank(body: &[u8; 192]) -> bool
     ensures { IsTrue result ↔ (body.now ≡ blank_body) }
 {
-    body.iter().all(|byte| *byte == 0)
+    is_zero(body)
 }
 
 /// Whether the body is that of the role.

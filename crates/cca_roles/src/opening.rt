@@ -82,6 +82,7 @@ fn open_place<M: Disk>(
     requires size { (M.medium «module».old).size ≡ 50688 }
     requires within { place < 32 }
     requires not_first { place ≢ 0 }
+    requires roles { AreRoles roles.old }
     ensures opened { OnOk result (Told (M.medium «module».old) (λ image. Opens (body image (place + 1)) place roles.old roles.new)) }
     ensures roles { AreRoles roles.new }
     ensures damaged { (cell : ℕ) → result ≡ Err (RoleFault.Damaged cell)
