@@ -1,2 +1,4 @@
 pub mod SendingLemmas
 pub mod LineLemmas
+pub mod SessionLemmas
+pub mod StopLemmas

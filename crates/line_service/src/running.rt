@@ -69,7 +69,7 @@ fn serve_all<A: Desk, S: Source, K: Sink, M: Disk, D: Disk, E: Entropy>(
         → Told (M.medium «module».old) (λ c. Told (D.medium store.old) (λ d. ⊥)) }
     ensures bench { bench.new ≡ blank_bench }
 {
-    'lines: loop {
+    'each_line: loop {
         match serve_one(
             desk, lines, reply, bench, source, sink, module, store, entropy,
         ) {
