@@ -2,3 +2,5 @@ pub mod SendingLemmas
 pub mod LineLemmas
 pub mod SessionLemmas
 pub mod StopLemmas
+pub mod OpeningLemmas
+pub mod RunLemmas
