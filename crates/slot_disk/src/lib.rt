@@ -2,6 +2,7 @@
 //! and over std's streams and files, and the cells of a disk.
 #![tactic(auto)]
 
+mod blank;
 mod call;
 mod cell;
 mod disk;
@@ -19,6 +20,7 @@ mod source;
 mod steps;
 mod streams;
 
+pub use blank::{BlankDisk, BlankEntropy};
 pub use cell::{Cell, read_cell, replace_cell, settle};
 pub use disk::Disk;
 pub use entropy::Entropy;
