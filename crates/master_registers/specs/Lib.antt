@@ -1,3 +1,4 @@
+pub mod Actions
 pub mod BodyForm
 pub mod Changes
 pub mod Loaded

@@ -1,9 +1,8 @@
 //! The registers as the body of a cell.
 ghost use Rattle.std.specs.Prelude.{◌≡◌, ◌↔◌, ◌+◌, ◌<◌, ◌≤◌, IsTrue};
 ghost use Rattle.key_cells.specs.Lease.{bench_of, holding};
-ghost use Rattle.master_registers.specs.Masters.{Masters};
 ghost use Rattle.master_registers.specs.RegisterBody.{registers_body};
-ghost use Rattle.master_registers.specs.Loaded.{Loaded};
+ghost use Rattle.master_registers.specs.Loaded.{IsLoaded, masters_in};
 ghost use Rattle.master_registers.specs.BodyForm.{states_body, state_code, pattern_code, AreZero, IsBody, HasBodyForm, HasStates, IsZeroWhereEmpty};
 
 use crate::moves::put_master;
@@ -33,9 +32,10 @@ const REST: usize = 80;
 
 /// Writes the registers of the workbench into its body.
 pub(crate) fn write_form(lease: &mut Lease, held: &Registers)
-    ghost m: { Masters }
-    requires { Loaded m held.now (bench_of lease.old) }
-    ensures { lease.new ≡ holding lease.old (record (bench_of lease.old) { body = registers_body m }) }
+    requires { IsLoaded held.now (bench_of lease.old) }
+    ensures { lease.new ≡ holding lease.old (record (bench_of lease.old) {
+      body = registers_body (masters_in held.now (bench_of lease.old));
+    }) }
 {
     write_states(held, lease.body_mut());
     put_master(lease, MasterPlace::New, NEW);
