@@ -3,6 +3,10 @@ use Rattle.std.specs.Prelude.{◌≡◌, ℕ, List, [], ◌∷◌, codes}
 use Rattle.master_registers.specs.Masters.{Masters, blank_masters}
 use Rattle.master_registers.specs.RegisterBody.{StandsForMasters}
 
+-- a module has 33 cells of 1,536 bytes: one for the registers, and 32 for roles
+abbrev pub module_size : ℕ
+module_size = 50688
+
 pub record State : Type 0 where
   -- the master key registers, with clear contents
   pub registers : Masters

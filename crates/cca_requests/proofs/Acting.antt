@@ -1,5 +1,5 @@
 -- From judged operands to what the machine makes of the request.
-use Rattle.std.proofs.Common.{◌≡◌, ℕ, List, [], ◌∷◌, Option, None, Some, Result, Ok, Err, refl, sym, ap, ◌∙◌, subst, codes}
+use Rattle.std.proofs.Common.{◌≡◌, ℕ, List, Option, None, Some, refl, sym, ap, ◌∙◌, codes}
 use Rattle.cca_vectors.specs.Checks.{first_failing}
 use Rattle.slot_disk.specs.Medium.{Medium, Keeps, Told}
 use Rattle.slot_disk.specs.Cells.{body}
@@ -13,8 +13,8 @@ use Rattle.master_registers.proofs.BodyLaws.{reads_one}
 use Rattle.verb_script.specs.Grammar.{Request}
 use Rattle.cca_machine.specs.State.{State, IsModuleOf}
 use Rattle.cca_machine.specs.Verdict.{Refusal, refusal, or_then, or_refused, general_checks, operands_verdict, verb_verdict, verdict}
-use Rattle.cca_machine.specs.Act.{Effect, Outcome, or_act, effect}
-use Rattle.cca_requests.specs.Serving.{Holds}
+use Rattle.cca_machine.specs.Act.{Effect, or_act, effect}
+use Rattle.line_service.specs.Answering.{Holds}
 use Rattle.cca_requests.specs.Deciding.{with_places, or_effected}
 
 -- ---- the registers in the bench

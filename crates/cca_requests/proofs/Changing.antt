@@ -1,22 +1,24 @@
 -- An action on the registers is what the machine makes of it.
-use Rattle.std.proofs.Common.{◌≡◌, ℕ, Bool, true, false, List, [], ◌∷◌, Option, None, Some, Result, Ok, Err, codes, refl, sym, ap, ◌∙◌, subst, inl, inr}
-use Rattle.std.specs.Prelude.{◌⊎◌, ◌↔◌, IsTrue, IfOk, OnOk, IsSome}
-use Rattle.slot_disk.specs.Medium.{Medium, Told, IsSettled, EachImage, From}
-use Rattle.slot_disk.proofs.Media.{each_weaker, told_at, keeps_still}
+use Rattle.std.proofs.Common.{◌≡◌, ℕ, Bool, true, false, List, [], ◌∷◌, Option, None, Some, Result, Ok, Err, codes, refl, sym, ap, ◌∙◌, subst, inl, inr, arith}
+use Rattle.std.specs.Prelude.{◌⊎◌, ◌↔◌, ◌≤◌, IsTrue, IfOk, OnOk, OnErr, IsSome}
+use Rattle.slot_disk.specs.Medium.{Medium, Told, IsSettled, From}
+use Rattle.slot_disk.specs.Faults.{Rose}
+use Rattle.slot_disk.proofs.Media.{each_weaker, told_at, told_from}
 use Rattle.cca_vectors.specs.Checks.{check}
 use Rattle.key_cells.specs.Bench.{Bench}
 use Rattle.master_registers.specs.Masters.{NewRegister, Empty, Partial, Full, Masters}
 use Rattle.master_registers.specs.RegisterBody.{StandsForMasters}
-use Rattle.master_registers.specs.Loaded.{Loaded, registers_of, state_of}
+use Rattle.master_registers.specs.Loaded.{Loaded, state_of}
 use Rattle.master_registers.specs.Changes.{ChangesModule, HoldsEither, WhenRefused}
 use Rattle.master_registers.specs.declared.faults.RegisterFault.{RegisterFault}
 use Rattle.master_registers.specs.declared.faults.RegisterFault.TheVariants.{DiskFault, RegisterState, SamePattern}
 use Rattle.master_registers.specs.declared.registers.Registers.{Registers}
 use Rattle.script_buffers.specs.Replies.{Done, Text, spelled}
-use Rattle.cca_machine.specs.State.{State, IsModuleOf}
+use Rattle.cca_machine.specs.State.{State, default_roles}
 use Rattle.cca_machine.specs.Verdict.{questions, first_refusal}
 use Rattle.cca_machine.specs.Act.{Outcome, Become, effected, new_name}
-use Rattle.cca_requests.specs.Serving.{Holds, Stands, IsEither, SameBut, Carries}
+use Rattle.line_service.specs.Answering.{Holds}
+use Rattle.cca_requests.specs.Serving.{Stands, IsEither, SameBut, Carries, IsSound, Leaves}
 use Rattle.cca_requests.specs.Deciding.{or_effected, state_name, change_stop, change_reply}
 use Rattle.cca_requests.proofs.Serving.{still_carries, told_some}
 
@@ -46,7 +48,7 @@ module _ {A : Type 0} (medium : A → Medium) (old new : A) (s : State) (next : 
       stands = record {
         in_module =
             let holds = holds_at (medium new).content (medium new) (λ c. StandsForMasters c next) refl
-                (changes.either.still (told_some (medium old) stands.in_module.image stands.in_module.told)) changes.stands in
+            (changes.either.still (told_some (medium old) stands.in_module.image stands.in_module.told)) changes.stands in
             record { image = holds.image; told = holds.told; has = record { registers = holds.has; roles = stands.in_module.has.roles } };
       };
     };
@@ -107,3 +109,57 @@ module _ {A : Type 0} (medium : A → Medium) (old new : A) (s : State) (next : 
   still_as true same r state pattern untouched none = subst (λ (x : Result Registers RegisterFault). WhenRefused x (new ≡ old)) (state.1 refl) untouched
   still_as false true r state pattern untouched none = subst (λ (x : Result Registers RegisterFault). WhenRefused x (new ≡ old)) (pattern.1 refl) untouched
   still_as false false r state pattern untouched none = cc none
+
+-- ---- whatever the module holds
+
+pub sound : (m : Medium) (registers : Masters) → Told m (λ image. StandsForMasters image registers) → Told m IsSound
+sound m registers told = told_from m.content IsSound (λ c is. (
+  record { registers = registers; roles = default_roles },
+  record { registers = told_at m.content (λ image. StandsForMasters image registers) c is told; roles = refl },
+))
+
+-- what a call leaves that does nothing
+pub still_left : (m : Medium) (registers : Masters) (count : ℕ) (reply : List ℕ) → IsSettled m → Told m (λ image. StandsForMasters image registers)
+    → Leaves m m count count (Ok tt) reply
+still_left m registers count reply settled stands = record {
+  disk = record { size = refl; still = λ some. some; settled = settled; later = omega arith; fault = λ is. cc is };
+  sound = sound m registers stands;
+  silent = tt;
+  stops = tt;
+}
+
+module _ {A : Type 0} (medium : A → Medium) (faults : A → ℕ) (old new : A) (m next : Masters)
+    (settled : IsSettled (medium old)) (stands : Told (medium old) (λ image. StandsForMasters image m)) (later : faults old ≤ faults new) where
+  refused_left : (reply : List ℕ) → new ≡ old → ChangesModule m next (medium old) (medium new) (Err RegisterState) ⊎ ChangesModule m next (medium old) (medium new) (Err SamePattern)
+      → Leaves (medium old) (medium new) (faults old) (faults new) (Ok tt) reply
+  refused_left reply untouched changes = record {
+    disk = record {
+      size = ap (λ x. (medium x).size) untouched;
+      still = λ some. subst (λ x. IsSome (medium x).content) (sym untouched) some;
+      settled = subst (λ x. IsSettled (medium x)) (sym untouched) settled;
+      later = later;
+      fault = λ is. cc is;
+    };
+    sound = subst (λ x. Told (medium x) IsSound) (sym untouched) (sound (medium old) m stands);
+    silent = tt;
+    stops = tt;
+  }
+
+  -- what an action leaves
+  pub left_as : (r : Result Registers RegisterFault) (reply : List ℕ) → ChangesModule m next (medium old) (medium new) r → WhenRefused r (new ≡ old)
+      → (r ≡ Err DiskFault → Rose (faults old) (faults new)) → OnErr (change_stop r) (reply ≡ [])
+      → Leaves (medium old) (medium new) (faults old) (faults new) (change_stop r) reply
+  left_as (Ok now) reply changes untouched cause silent = record {
+    disk = record { size = changes.either.size; still = changes.either.still; settled = changes.settled; later = later; fault = λ is. cc is };
+    sound = sound (medium new) next changes.stands;
+    silent = tt;
+    stops = tt;
+  }
+  left_as (Err DiskFault) reply changes untouched cause silent = record {
+    disk = record { size = changes.either.size; still = changes.either.still; settled = tt; later = later; fault = λ is. cause refl };
+    sound = tt;
+    silent = silent;
+    stops = refl;
+  }
+  left_as (Err RegisterState) reply changes untouched cause silent = refused_left reply untouched (inl changes)
+  left_as (Err SamePattern) reply changes untouched cause silent = refused_left reply untouched (inr changes)

@@ -2,5 +2,5 @@ mod Acting
 mod Changing
 mod DigitLemmas
 mod Fields
-mod Serving
+pub mod Serving
 mod TokenReply

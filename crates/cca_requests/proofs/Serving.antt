@@ -1,15 +1,16 @@
 -- How what is said of the module is carried from call to call.
-use Rattle.std.proofs.Common.{◌≡◌, ℕ, List, [], Option, None, Some, Result, Ok, Err, refl, sym, ap, ◌∙◌, subst, inl, inr}
+use Rattle.std.proofs.Common.{◌≡◌, ℕ, List, [], Option, None, Some, Result, Ok, Err, refl, sym, ap, ◌∙◌, subst, inl}
 use Rattle.std.specs.Prelude.{OnOk, IfErr, IfSome, IsSome}
 use Rattle.slot_disk.specs.Medium.{Medium, Told, IsSettled, From, EachImage, Keeps}
-use Rattle.slot_disk.proofs.Media.{goes_on, settled_image, each_weaker, each_still, keeps_still}
+use Rattle.slot_disk.proofs.Media.{goes_on, settled_image, each_weaker, keeps_still}
 use Rattle.script_buffers.specs.Replies.{spelled, Refused}
 use Rattle.line_service.specs.declared.stops.Stop.{Stop}
 use Rattle.verb_script.specs.Grammar.{Request}
 use Rattle.cca_machine.specs.State.{State, IsModuleOf}
 use Rattle.cca_machine.specs.Verdict.{Refusal, verdict}
-use Rattle.cca_machine.specs.Act.{Outcome, refused, or_act, performed}
-use Rattle.cca_requests.specs.Serving.{Holds, Stands, IsDone, IsEither, SameButCell, SameBut, IsFault, Carries, Serves}
+use Rattle.cca_machine.specs.Act.{Outcome, or_act, performed}
+use Rattle.line_service.specs.Answering.{Holds}
+use Rattle.cca_requests.specs.Serving.{Stands, IsDone, IsEither, SameButCell, SameBut, IsFault, Carries, Serves}
 
 holds_told : (m : Medium) (P : List ℕ → Type 0) → Holds m P → Told m P
 holds_told m P holds = subst (λ (o : Option (List ℕ)). IfSome o P) (sym holds.told) holds.has
@@ -105,3 +106,11 @@ pub serves_after_read : (s : State) (request : Request) (result : Result (Unit {
     → IsSettled m0 → Stands s m0 → Keeps m0 m1 → Serves s request result reply m1 m2 → Serves s request result reply m0 m2
 serves_after_read s request result reply m0 m1 m2 settled stands keeps serves =
     record { carries = carries_after_read (performed s [] request) s result reply m0 m1 m2 settled stands keeps serves.carries }
+
+-- where no cell is written, nothing is
+pub unwritten : (o : Outcome) (m0 m1 : Medium) → o.module_cell ≡ None → EachImage m0 m1 (From (SameBut o.module_cell) m0) → EachImage m0 m1 m0.images
+unwritten o m0 m1 none outside =
+    each_weaker m0 m1 (From (SameBut o.module_cell) m0) m0.images outside
+    (λ c from.
+    let same : c ≡ from.0 = subst (λ (cell : Option ℕ). SameBut cell from.0 c) none from.2 in
+    subst m0.images (sym same) (m0.is_image from.0 from.1))

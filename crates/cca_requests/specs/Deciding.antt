@@ -2,14 +2,15 @@
 use Rattle.std.specs.Prelude.{◌≡◌, ◌≤◌, ℕ, List, [], ◌∷◌, length, codes, Option, Some, None, Result, Ok, Err}
 use Rattle.key_cells.specs.Bench.{Bench}
 use Rattle.master_registers.specs.Actions.{after_action}
-use Rattle.master_registers.specs.Loaded.{Loaded}
+use Rattle.master_registers.specs.Loaded.{Loaded, IsLoaded, StandsForLoaded}
+use Rattle.master_registers.specs.declared.actions.Action.{Action}
 use Rattle.master_registers.specs.declared.registers.NewState.{NewState}
 use Rattle.master_registers.specs.declared.registers.NewState.TheVariants as new
 use Rattle.master_registers.specs.declared.registers.Registers.{Registers}
 use Rattle.master_registers.specs.declared.faults.RegisterFault.{RegisterFault}
 use Rattle.master_registers.specs.declared.faults.RegisterFault.TheVariants as fault
 use Rattle.script_buffers.specs.Replies.{Field, Reply, Refused, Done, Text, written}
-use Rattle.slot_disk.specs.Medium.{Medium}
+use Rattle.slot_disk.specs.Medium.{Medium, Told, IsSettled}
 use Rattle.verb_script.specs.Grammar.{Request}
 use Rattle.line_service.specs.declared.stops.Stop.{Stop}
 use Rattle.line_service.specs.declared.stops.Stop.TheVariants.{ModuleFault}
@@ -19,6 +20,13 @@ use Rattle.cca_machine.specs.Act.{Effect, Show, Become, Outcome, effect, effecte
 use Rattle.cca_requests.specs.Serving.{Stands}
 use Rattle.cca_requests.specs.declared.effects.Effect.{Effect as CodeEffect}
 use Rattle.cca_requests.specs.declared.effects.Effect.TheVariants as code
+
+-- the bench holds the registers of the module, of which nothing is unsynced
+pub record HasLoaded (held : Registers) (bench : Bench) (module_ : Medium) : Type 0 where
+  pub within : 1536 ≤ module_.size
+  pub settled : IsSettled module_
+  pub loaded : IsLoaded held bench
+  pub stands : Told module_ (StandsForLoaded held bench)
 
 -- the module stands for the state, whose registers are in the bench
 pub record At (s : State) (held : Registers) (bench : Bench) (module_ : Medium) : Type 0 where
@@ -49,6 +57,11 @@ IsReady (code.Change action) reply = reply ≡ []
 abbrev pub or_effected : Option Refusal → State → Effect → Outcome
 or_effected (Some r) s e = refused s r
 or_effected None s e = effected s e
+
+-- what comes of an action with this key part
+abbrev pub action_outcome : State → Action → List ℕ → Outcome
+action_outcome s action part =
+    or_effected (first_refusal (action_questions s action)) s (Become (after_action action part s.registers))
 
 -- the bench with the places that a verb may write as they are in another one
 abbrev pub with_places : Bench → Bench → Bench

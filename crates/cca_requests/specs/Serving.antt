@@ -1,27 +1,21 @@
 -- What a request leaves of the module, in a few records.
-use Rattle.std.specs.Prelude.{◌≡◌, ◌≢◌, ◌⊎◌, ◌≤◌, ◌*◌, ℕ, List, [], Option, Some, None, Result, Ok, Err, OnOk, IfErr, ⊤}
+use Rattle.std.specs.Prelude.{◌≡◌, ◌≢◌, ◌⊎◌, ◌≤◌, ◌*◌, ℕ, List, [], length, Option, Some, None, Result, OnOk, OnErr, IfErr, ⊤}
 use Rattle.slot_disk.specs.Cells.{body}
-use Rattle.slot_disk.specs.Faults.{Rose}
-use Rattle.slot_disk.specs.Medium.{Medium, IsSettled, From, EachImage}
+use Rattle.slot_disk.specs.Medium.{Medium, Told, From, EachImage}
 use Rattle.slot_disk.specs.Ranges.{SameOutside}
 use Rattle.script_buffers.specs.Reading.{line_limit}
-use Rattle.script_buffers.specs.Replies.{Reply, Refused, Done, spelled}
+use Rattle.script_buffers.specs.Replies.{spelled}
+use Rattle.line_service.specs.Answering.{Holds}
+use Rattle.line_service.specs.Devices.{DiskLeft}
 use Rattle.line_service.specs.declared.stops.Stop.{Stop}
 use Rattle.line_service.specs.declared.stops.Stop.TheVariants.{ReadFault, WriteFault, EntropyFault, ModuleFault, StoreFault, Damaged, InputLimit}
 use Rattle.verb_script.specs.Grammar.{Request, Spells}
 use Rattle.cca_machine.specs.State.{State, IsModuleOf}
 use Rattle.cca_machine.specs.Act.{Outcome, performed}
-use Rattle.std.specs.Prelude.{length}
 
 -- some line spells the request
 abbrev pub IsSpelled : Request → Type 0
 IsSpelled request = (line : List ℕ) × Spells request line × (length line ≤ line_limit)
-
--- a disk tells its content, which has P
-pub record Holds (m : Medium) (P : List ℕ → Type 0) : Type 0 where
-  pub image : List ℕ
-  pub told : m.content ≡ Some image
-  pub has : P image
 
 -- the module tells its content, which stands for the state
 pub record Stands (s : State) (module_ : Medium) : Type 0 where
@@ -71,8 +65,13 @@ pub record Serves (s : State) (request : Request) (result : Result (Unit {0}) St
 
 -- ---- what is certain whatever the module holds
 
-pub record DiskLeft {A : Type 0} (old new : Medium) (before now : ℕ) (result : Result A Stop) (stop : Stop) : Type 0 where
-  pub size : new.size ≡ old.size
-  pub settled : OnOk result (IsSettled new)
-  pub later : before ≤ now
-  pub fault : result ≡ Err stop → Rose before now
+-- a content of the module stands for some state
+abbrev pub IsSound : List ℕ → Type 0
+IsSound image = (s : State) × IsModuleOf s image
+
+-- what a call behind the loading of the registers leaves of the module and of the reply
+pub record Leaves (old new : Medium) (before now : ℕ) (result : Result (Unit {0}) Stop) (reply : List ℕ) : Type 0 where
+  pub disk : DiskLeft old new before now result ModuleFault
+  pub sound : OnOk result (Told new IsSound)
+  pub silent : OnErr result (reply ≡ [])
+  pub stops : IfErr result (λ stop. stop ≡ ModuleFault)

@@ -1,17 +1,14 @@
 //! What a verb leaves to be done, and how it is done: the only calls that write a disk.
-ghost use Rattle.std.specs.Prelude.{◌≡◌, ◌≤◌, ◌++◌, [], ◌∷◌, ℕ, List, None, Err, OnOk, OnErr, IfErr, length};
+ghost use Rattle.std.specs.Prelude.{◌≡◌, ◌≤◌, ◌++◌, [], ◌∷◌, ℕ, List, None, Err, OnOk, OnErr, length};
 ghost use Rattle.key_cells.specs.Lease.{bench_of, loan_of};
-ghost use Rattle.master_registers.specs.Loaded.{IsLoaded, StandsForLoaded};
-ghost use Rattle.slot_disk.specs.Medium.{Told, IsSettled};
 ghost use Rattle.script_buffers.specs.Lines.{newline};
 ghost use Rattle.script_buffers.specs.Replies.{Field, Done, spelled, written};
 ghost use Rattle.verb_script.specs.Grammar.{Request};
 ghost use Rattle.cca_machine.specs.State.{State};
-ghost use Rattle.cca_machine.specs.Act.{or_act, Become};
-ghost use Rattle.cca_machine.specs.Verdict.{first_refusal, action_questions, verb_verdict};
-ghost use Rattle.master_registers.specs.Actions.{after_action};
-ghost use Rattle.cca_requests.specs.Serving.{Carries, DiskLeft};
-ghost use Rattle.cca_requests.specs.Deciding.{At, IsDecided, IsReady, or_effected, state_name, change_stop, change_reply};
+ghost use Rattle.cca_machine.specs.Act.{or_act};
+ghost use Rattle.cca_machine.specs.Verdict.{verb_verdict};
+ghost use Rattle.cca_requests.specs.Serving.{Carries, Leaves};
+ghost use Rattle.cca_requests.specs.Deciding.{HasLoaded, At, IsDecided, IsReady, action_outcome, state_name, change_stop, change_reply};
 
 use crate::refusals::refuse;
 use key_cells::Lease;
@@ -86,21 +83,16 @@ fn change_registers<M: Disk>(
     held: &Registers,
     reply: &mut ReplyBuffer,
 ) -> Result<(), Stop>
-    requires within { 1536 ≤ (M.medium «module».old).size }
-    requires settled { IsSettled (M.medium «module».old) }
-    requires loaded { IsLoaded held.now (bench_of lease.old) }
-    requires stands { Told (M.medium «module».old) (StandsForLoaded held.now (bench_of lease.old)) }
+    requires at { HasLoaded held.now (bench_of lease.old) (M.medium «module».old) }
     requires empty { reply.old ≡ [] }
     ensures carries { (s : State) → At s held.now (bench_of lease.old) (M.medium «module».old)
-        → Carries (or_effected (first_refusal (action_questions s action)) s (Become (after_action action (bench_of lease.old).part s.registers)))
-            s result reply.new (M.medium «module».old) (M.medium «module».new) }
+        → Carries (action_outcome s action (bench_of lease.old).part) s result reply.new
+        (M.medium «module».old) (M.medium «module».new) }
     ensures still { (s : State) → At s held.now (bench_of lease.old) (M.medium «module».old)
-        → (or_effected (first_refusal (action_questions s action)) s (Become (after_action action (bench_of lease.old).part s.registers))).module_cell ≡ None
+        → (action_outcome s action (bench_of lease.old).part).module_cell ≡ None
         → «module».new ≡ «module».old }
-    ensures module { DiskLeft (M.medium «module».old) (M.medium «module».new) (M.faults «module».old) (M.faults «module».new)
-        result Stop.ModuleFault }
-    ensures silent { OnErr result (reply.new ≡ []) }
-    ensures stops { IfErr result (λ stop. stop ≡ Stop.ModuleFault) }
+    ensures left { Leaves (M.medium «module».old) (M.medium «module».new)
+        (M.faults «module».old) (M.faults «module».new) result reply.new }
     ensures loan { loan_of lease.new ≡ loan_of lease.old }
 {
     let outcome = change(action, module, lease, held);
@@ -115,21 +107,19 @@ pub(crate) fn carry<M: Disk>(
     held: &Registers,
     reply: &mut ReplyBuffer,
 ) -> Result<(), Stop>
-    requires within { 1536 ≤ (M.medium «module».old).size }
-    requires settled { IsSettled (M.medium «module».old) }
-    requires loaded { IsLoaded held.now (bench_of lease.old) }
-    requires stands { Told (M.medium «module».old) (StandsForLoaded held.now (bench_of lease.old)) }
+    requires at { HasLoaded held.now (bench_of lease.old) (M.medium «module».old) }
     requires ready { IsReady effect reply.old }
-    ensures carries { (s : State) (request : Request) → At s held.now (bench_of lease.old) (M.medium «module».old)
+    ensures carries { (s : State) (request : Request)
+        → At s held.now (bench_of lease.old) (M.medium «module».old)
         → IsDecided s (bench_of lease.old) request effect reply.old
-        → Carries (or_act (verb_verdict s request) s [] request) s result reply.new (M.medium «module».old) (M.medium «module».new) }
-    ensures still { (s : State) (request : Request) → At s held.now (bench_of lease.old) (M.medium «module».old)
+        → Carries (or_act (verb_verdict s request) s [] request) s result reply.new
+        (M.medium «module».old) (M.medium «module».new) }
+    ensures still { (s : State) (request : Request)
+        → At s held.now (bench_of lease.old) (M.medium «module».old)
         → IsDecided s (bench_of lease.old) request effect reply.old
         → (or_act (verb_verdict s request) s [] request).module_cell ≡ None → «module».new ≡ «module».old }
-    ensures module { DiskLeft (M.medium «module».old) (M.medium «module».new) (M.faults «module».old) (M.faults «module».new)
-        result Stop.ModuleFault }
-    ensures silent { OnErr result (reply.new ≡ []) }
-    ensures stops { IfErr result (λ stop. stop ≡ Stop.ModuleFault) }
+    ensures left { Leaves (M.medium «module».old) (M.medium «module».new)
+        (M.faults «module».old) (M.faults «module».new) result reply.new }
     ensures loan { loan_of lease.new ≡ loan_of lease.old }
 {
     match effect {

@@ -62,9 +62,11 @@ fn token_bytes(digits: &[u8]) -> [u8; 64]
 /// Judges a key token of either kind.
 fn judge_any_token(digits: &[u8]) -> Result<Grant, Rule>
     requires { IsTrue (is_hex 128 digits.now) }
-    ensures passes { IfOk result (λ grant. first_failing (token_checks Either (hex_value digits.now)) ≡ None) }
+    ensures passes { IfOk result (λ grant.
+        first_failing (token_checks Either (hex_value digits.now)) ≡ None) }
     ensures granted { IfOk result (λ grant. grant.token ≡ Some (token_of (hex_value digits.now))) }
-    ensures refused { IfErr result (λ rule. first_failing (token_checks Either (hex_value digits.now)) ≡ Some (rule_number rule)) }
+    ensures refused { IfErr result (λ rule.
+        first_failing (token_checks Either (hex_value digits.now)) ≡ Some (rule_number rule)) }
 {
     match read_token(&token_bytes(digits), Asked::Either) {
         Ok(token) => Ok(Grant { token: Some(token) }),

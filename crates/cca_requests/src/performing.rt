@@ -1,23 +1,24 @@
 //! A request, judged and carried out.
-ghost use Rattle.std.specs.Prelude.{◌≡◌, ◌⊎◌, ◌≤◌, ℕ, List, [], None, Err, OnErr, IfErr, IsSome, Some, codes};
+ghost use Rattle.std.specs.Prelude.{◌≡◌, ◌⊎◌, ◌≤◌, ℕ, List, [], None, Err, OnOk, OnErr, IfErr, IsSome, Some, codes};
 ghost use Rattle.std.specs.Option.{option_map};
 ghost use Rattle.std.specs.Str.{bytes_eq};
 ghost use Rattle.cca_vectors.specs.Checks.{first_failing};
 ghost use Rattle.key_cells.specs.Bench.{Bench, blank_bench};
 ghost use Rattle.key_cells.specs.Lease.{bench_of, holding, loan_of};
-ghost use Rattle.master_registers.specs.Loaded.{Loaded, IsLoaded, StandsForLoaded};
+ghost use Rattle.master_registers.specs.Loaded.{Loaded};
 ghost use Rattle.master_registers.specs.RegisterBody.{IsDamaged};
-ghost use Rattle.slot_disk.specs.Medium.{Told, IsSettled};
+ghost use Rattle.slot_disk.specs.Medium.{Told, IsSettled, Keeps};
+ghost use Rattle.line_service.specs.Devices.{DiskLeft};
 ghost use Rattle.verb_rules.specs.Rules.{rule_number};
-ghost use Rattle.verb_script.specs.Grammar.{row_of, AreAccepted, value_of};
+ghost use Rattle.verb_script.specs.Grammar.{value_of};
 ghost use Rattle.verb_script.specs.Parsed.{seen};
-ghost use Rattle.cca_machine.specs.State.{State, default_roles};
+ghost use Rattle.cca_machine.specs.State.{State, default_roles, module_size};
 ghost use Rattle.cca_machine.specs.Operands.{operands};
 ghost use Rattle.cca_machine.specs.Verdict.{needs_master, general_checks, verdict, verb_verdict};
 ghost use Rattle.cca_machine.specs.Act.{performed, or_act};
-ghost use Rattle.cca_requests.specs.Serving.{IsSpelled, Stands, Serves, DiskLeft};
-ghost use Rattle.cca_requests.specs.Judging.{HaveShapes, AreGranted};
-ghost use Rattle.cca_requests.specs.Deciding.{At, IsDecided, IsReady, with_places};
+ghost use Rattle.cca_requests.specs.Serving.{IsSpelled, IsSound, Stands, Serves, Leaves};
+ghost use Rattle.cca_requests.specs.Judging.{IsAccepted, HaveShapes, AreGranted};
+ghost use Rattle.cca_requests.specs.Deciding.{HasLoaded, At, IsDecided, IsReady, with_places};
 
 use crate::effects::{Effect, carry};
 use crate::judging::{Grant, Granted, judge};
@@ -45,16 +46,21 @@ pub fn perform<M: Disk>(
     reply: &mut ReplyBuffer,
 ) -> Result<(), Stop>
     requires spelled { IsSpelled (seen request.now) }
-    requires size { (M.medium «module».old).size ≡ 50688 }
+    requires size { (M.medium «module».old).size ≡ module_size }
     requires settled { IsSettled (M.medium «module».old) }
 
     ensures serves { (s : State) → Stands s (M.medium «module».old)
         → Serves s (seen request.now) result reply.new (M.medium «module».old) (M.medium «module».new) }
-    ensures module { DiskLeft (M.medium «module».old) (M.medium «module».new) (M.faults «module».old) (M.faults «module».new)
-        result Stop.ModuleFault }
+    ensures module { DiskLeft (M.medium «module».old) (M.medium «module».new)
+        (M.faults «module».old) (M.faults «module».new) result Stop.ModuleFault }
+    ensures sound { OnOk result (Told (M.medium «module».new) IsSound) }
     ensures silent { OnErr result (reply.new ≡ []) }
-    ensures damaged { result ≡ Err (Stop.Damaged Device.Module 0) → Told (M.medium «module».old) IsDamaged }
-    ensures stops { IfErr result (λ stop. (stop ≡ Stop.ModuleFault) ⊎ (stop ≡ Stop.Damaged Device.Module 0)) }
+    ensures damaged { result ≡ Err (Stop.Damaged Device.Module 0)
+        → Told (M.medium «module».old) IsDamaged }
+    ensures kept { result ≡ Err (Stop.Damaged Device.Module 0)
+        → Keeps (M.medium «module».old) (M.medium «module».new) }
+    ensures stops { IfErr result (λ stop.
+        (stop ≡ Stop.ModuleFault) ⊎ (stop ≡ Stop.Damaged Device.Module 0)) }
     ensures bench { bench.new ≡ blank_bench }
 {
     reply.clear();
@@ -74,21 +80,16 @@ fn carry_out<M: Disk>(
     held: &Registers,
     reply: &mut ReplyBuffer,
 ) -> Result<(), Stop>
-    requires accepted { AreAccepted (row_of (seen request.now).name).fields (seen request.now).values }
-    requires within { 1536 ≤ (M.medium «module».old).size }
-    requires settled { IsSettled (M.medium «module».old) }
-    requires loaded { IsLoaded held.now (bench_of lease.old) }
-    requires stands { Told (M.medium «module».old) (StandsForLoaded held.now (bench_of lease.old)) }
+    requires accepted { IsAccepted (seen request.now) }
+    requires at { HasLoaded held.now (bench_of lease.old) (M.medium «module».old) }
     requires empty { reply.old ≡ [] }
 
     ensures serves { (s : State) → At s held.now (bench_of lease.old) (M.medium «module».old)
         → Serves s (seen request.now) result reply.new (M.medium «module».old) (M.medium «module».new) }
     ensures still { (s : State) → At s held.now (bench_of lease.old) (M.medium «module».old)
         → (performed s [] (seen request.now)).module_cell ≡ None → «module».new ≡ «module».old }
-    ensures module { DiskLeft (M.medium «module».old) (M.medium «module».new) (M.faults «module».old) (M.faults «module».new)
-        result Stop.ModuleFault }
-    ensures silent { OnErr result (reply.new ≡ []) }
-    ensures stops { IfErr result (λ stop. stop ≡ Stop.ModuleFault) }
+    ensures left { Leaves (M.medium «module».old) (M.medium «module».new)
+        (M.faults «module».old) (M.faults «module».new) result reply.new }
     ensures loan { loan_of lease.new ≡ loan_of lease.old }
 {
     if let Some(rule) = general_rule(request, held) {
@@ -157,12 +158,9 @@ fn act<M: Disk>(
     held: &Registers,
     reply: &mut ReplyBuffer,
 ) -> Result<(), Stop>
-    requires accepted { AreAccepted (row_of (seen request.now).name).fields (seen request.now).values }
+    requires accepted { IsAccepted (seen request.now) }
     requires shaped { HaveShapes (operands (seen request.now)) granted.now }
-    requires within { 1536 ≤ (M.medium «module».old).size }
-    requires settled { IsSettled (M.medium «module».old) }
-    requires loaded { IsLoaded held.now (bench_of lease.old) }
-    requires stands { Told (M.medium «module».old) (StandsForLoaded held.now (bench_of lease.old)) }
+    requires at { HasLoaded held.now (bench_of lease.old) (M.medium «module».old) }
     requires empty { reply.old ≡ [] }
 
     ensures serves { (s : State) → At s held.now (bench_of lease.old) (M.medium «module».old)
@@ -173,10 +171,8 @@ fn act<M: Disk>(
         → AreGranted s (operands (seen request.now)) granted.now
         → verdict s (seen request.now) ≡ verb_verdict s (seen request.now)
         → (performed s [] (seen request.now)).module_cell ≡ None → «module».new ≡ «module».old }
-    ensures module { DiskLeft (M.medium «module».old) (M.medium «module».new) (M.faults «module».old) (M.faults «module».new)
-        result Stop.ModuleFault }
-    ensures silent { OnErr result (reply.new ≡ []) }
-    ensures stops { IfErr result (λ stop. stop ≡ Stop.ModuleFault) }
+    ensures left { Leaves (M.medium «module».old) (M.medium «module».new)
+        (M.faults «module».old) (M.faults «module».new) result reply.new }
     ensures loan { loan_of lease.new ≡ loan_of lease.old }
 {
     let effect = decide(request, granted, lease, reply);
@@ -190,7 +186,7 @@ fn decide(
     lease: &mut Lease,
     reply: &mut ReplyBuffer,
 ) -> Effect
-    requires accepted { AreAccepted (row_of (seen request.now).name).fields (seen request.now).values }
+    requires accepted { IsAccepted (seen request.now) }
     requires shaped { HaveShapes (operands (seen request.now)) granted.now }
     requires empty { reply.old ≡ [] }
     ensures decides { (s : State) → AreGranted s (operands (seen request.now)) granted.now

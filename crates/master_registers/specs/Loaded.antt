@@ -3,17 +3,13 @@ use Rattle.std.specs.Prelude.{◌≡◌, ℕ, List, Option, None, Some}
 use Rattle.key_cells.specs.Bench.{Bench}
 use Rattle.key_cells.specs.Lease.{bench_of, holding}
 use Rattle.key_cells.specs.declared.leases.Lease.{Lease}
-use Rattle.master_registers.specs.Masters.{NewRegister, Empty, Partial, Full, Masters, IsMasters, new_bytes, kept_bytes, pattern_of_master, xor_bytes}
+use Rattle.byte_lists.specs.Bytes.{xor}
+use Rattle.master_registers.specs.Masters.{NewRegister, Empty, Partial, Full, Masters, IsMasters, new_bytes, kept_bytes, pattern_of_master, state_of}
 use Rattle.master_registers.specs.RegisterBody.{StandsForMasters}
 use Rattle.master_registers.specs.declared.registers.NewState.{NewState}
 use Rattle.master_registers.specs.declared.registers.NewState.TheVariants as state
 use Rattle.master_registers.specs.declared.registers.Registers.{Registers}
 use Rattle.master_registers.specs.declared.patterns.Pattern.{Pattern}
-
-abbrev pub state_of : NewRegister → NewState
-state_of Empty = state.Empty
-state_of (Partial bytes) = state.Partial
-state_of (Full bytes) = state.Full
 
 -- the pattern of a register, where it is full
 abbrev pub pattern_in : Option (List ℕ) → Option Pattern
@@ -63,7 +59,7 @@ masters_in held bench = record {
 
 -- the registers whose new one, in another state, holds its bytes XOR a key part
 abbrev pub combined : NewState → List ℕ → Masters → Masters
-combined state part m = record m { coming = coming_in state (xor_bytes (new_bytes m.coming) part) }
+combined state part m = record m { coming = coming_in state (xor (new_bytes m.coming) part) }
 
 -- a bench holds the registers that the code knows of
 abbrev pub IsLoaded : Registers → Bench → Type 0

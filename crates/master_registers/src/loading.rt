@@ -10,10 +10,11 @@ ghost use Rattle.master_registers.specs.Masters.{Masters, AreApart, blank_master
 ghost use Rattle.master_registers.specs.RegisterBody.{ReadsMasters, IsDamaged};
 
 use crate::faults::LoadFault;
-use crate::forms::{CURRENT, CURRENT_STATE, NEW, NEW_STATE, OLD, OLD_STATE, is_form, is_zero};
+use crate::forms::{CURRENT, CURRENT_STATE, NEW, NEW_STATE, OLD, OLD_STATE, is_form};
 use crate::moves::{clear_master, take_master};
 use crate::patterns::{Pattern, pattern_of};
 use crate::registers::{NewState, Registers};
+use byte_lists::is_zero;
 use key_cells::{Lease, MasterPlace};
 use slot_disk::{Cell, Disk, read_cell};
 

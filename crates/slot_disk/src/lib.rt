@@ -21,7 +21,7 @@ mod steps;
 mod streams;
 
 pub use blank::{BlankDisk, BlankEntropy};
-pub use cell::{Cell, read_cell, replace_cell, settle};
+pub use cell::{BODY_LEN, CELL_LEN, Cell, SECTOR_LEN, read_cell, replace_cell, settle};
 pub use disk::Disk;
 pub use entropy::Entropy;
 pub use errors::{Failed, NoMemory};

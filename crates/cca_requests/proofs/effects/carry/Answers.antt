@@ -1,11 +1,13 @@
 use Rattle.std.proofs.Common.{◌≡◌, None, [], Ok, refl, sym, subst}
 use Rattle.key_cells.specs.Lease.{bench_of}
 use Rattle.master_registers.specs.Actions.{after_action}
+use Rattle.master_registers.specs.Loaded.{masters_in}
 use Rattle.cca_machine.specs.Act.{Outcome, Show, Become, effected}
 use Rattle.cca_machine.specs.Verdict.{first_refusal, action_questions, verb_verdict}
 use Rattle.cca_requests.specs.Serving.{Carries}
 use Rattle.cca_requests.specs.Deciding.{IsDecided}
 use Rattle.cca_requests.proofs.Acting.{outcome_is}
+use Rattle.cca_requests.proofs.Changing.{still_left}
 use Rattle.cca_requests.proofs.Serving.{still_carries}
 use Rattle.cca_requests.proofs.effects.carry.Goals as goal
 
@@ -16,7 +18,7 @@ returns-in-Shown-clause-carries g c = λ s request at decided.
     let is = outcome_is (verb_verdict s request) None s [] request (Show fields) left.0 left.1.is in
     let m = g.M.Disk.medium c.args.module.now in
     subst (λ (o : Outcome). Carries o s (Ok tt) c.finish.new.reply m m) (sym is)
-    (still_carries (effected s (Show fields)) s (Ok tt) c.finish.new.reply m refl (c.finish.ensures fields left.1.reply_is) tt c.requires.settled at.stands)
+    (still_carries (effected s (Show fields)) s (Ok tt) c.finish.new.reply m refl (c.finish.ensures fields left.1.reply_is) tt c.requires.at.settled at.stands)
 
 pub returns-in-Change-clause-carries : goal.returns-in-Change-clause-carries
 returns-in-Change-clause-carries g c = λ s request at decided.
@@ -34,3 +36,8 @@ returns-in-Change-clause-still g c = λ s request at decided none.
     let left = subst (λ e. IsDecided s bench request e c.args.reply.now) c.in-Change.is decided in
     let is = outcome_is (verb_verdict s request) (first_refusal (action_questions s action)) s [] request (Become (after_action action bench.part s.registers)) left.0 left.1 in
     c.change_registers.ensures.still s at (subst (λ (o : Outcome). o.module_cell ≡ None) is none)
+
+pub returns-in-Shown-clause-left : goal.returns-in-Shown-clause-left
+returns-in-Shown-clause-left g c =
+    still_left (g.M.Disk.medium c.args.module.now) (masters_in c.args.held.now (bench_of c.args.lease.now)) (g.M.Disk.faults c.args.module.now)
+    c.finish.new.reply c.requires.at.settled c.requires.at.stands
