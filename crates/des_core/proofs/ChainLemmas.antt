@@ -1,8 +1,7 @@
 -- Chaining in place: the blocks that are done and the chain over those that are left.
-use Rattle.std.proofs.Common.{◌≡◌, ℕ, zero, suc, ◌+◌, ◌-◌, ◌*◌, ◌/◌, ◌%◌, ◌^◌, ◌<◌, ◌≤◌, List, [], ◌∷◌, ◌++◌, length, take, drop, get_or, bit_xor, refl, sym, ap, ◌∙◌, arith}
-use Rattle.std.specs.List.{All, flat_map}
+use Rattle.std.proofs.Common.{◌≡◌, ℕ, zero, suc, ◌+◌, ◌-◌, ◌*◌, ◌/◌, ◌<◌, ◌≤◌, List, [], ◌∷◌, ◌++◌, length, take, drop, get_or, bit_xor, refl, sym, ap, ◌∙◌, arith}
 use Rattle.std.specs.Int.{w64, byte_at, bytes_high_first, to_be_bytes, from_be_bytes}
-use Rattle.std.proofs.lemmas.List.{append_assoc, append-nil, drop-append-le, drop_at, drop-drop, length-append, length-drop, length-map, length-take, nil_from_length, take-append-le, take_at, take_all, take-append-drop}
+use Rattle.std.proofs.lemmas.List.{append_assoc, append-nil, drop-append-le, drop_at, drop-drop, length-append, length-drop, length-map, length-take, nil_from_length, take-append-le, take_at, take-append-drop}
 use Rattle.std.proofs.lemmas.Nat.{be_bytes_8}
 use Rattle.key_cells.specs.Bench.{Text, text_of, with_text, with_text_of}
 use Rattle.key_cells.specs.Lease.{bench_of, holding}
@@ -10,10 +9,10 @@ use Rattle.key_cells.specs.declared.leases.Lease.{Lease}
 use Rattle.key_cells.specs.declared.schedules.Schedule.{Schedule}
 use Rattle.des_core.specs.Bits.{bits, byte_bits, number, pieces, to_bytes, xor}
 use Rattle.des_core.specs.Modes.{blocks, cbc, joined, uncbc}
-use Rattle.des_core.specs.Schedules.{AreOf, ded_bytes, ded_under, ede_under, ede_bytes}
+use Rattle.des_core.specs.Schedules.{AreOf, ded_bytes, ded_under, ede_bytes}
 use Rattle.des_core.specs.Texts.{put_at}
 use Rattle.des_core.specs.TripleDes.{ded, ede}
-use Rattle.des_core.proofs.BitLemmas.{drop-add, length-pieces, length-xor, take-add}
+use Rattle.des_core.proofs.BitLemmas.{drop-add, length-pieces, length-xor}
 use Rattle.des_core.proofs.ByteLemmas.{byte_bits-to_be_bytes, small-to_be_bytes, to_bytes-byte_bits}
 use Rattle.des_core.proofs.CallLemmas.{ded-same_bytes, ede-same_bytes}
 use Rattle.des_core.proofs.LawLemmas.{length-crypt}
@@ -226,10 +225,6 @@ length-ded_bytes keys block =
 pub cbc-step-as : (e : List ℕ → List ℕ) (chain p b : List ℕ) → b ≡ e (xor p chain) → (ps : List (List ℕ)) → cbc e chain (p ∷ ps) ≡ b ∷ cbc e b ps
 cbc-step-as e chain p b is ps = cbc-step e chain p ps ∙ sym (ap {B = List (List ℕ)} (λ x. x ∷ cbc e x ps) is)
 
-pub uncbc-step-as : (d : List ℕ → List ℕ) (chain p b next : List ℕ) → b ≡ xor (d p) chain → next ≡ p → (ps : List (List ℕ)) → uncbc d chain (p ∷ ps) ≡ b ∷ uncbc d next ps
-uncbc-step-as d chain p b next is same ps =
-    uncbc-step d chain p ps ∙ sym (ap {B = List (List ℕ)} (λ x. x ∷ uncbc d next ps) is ∙ ap {B = List (List ℕ)} (λ x. xor (d p) chain ∷ uncbc d x ps) same)
-
 -- two blocks more
 pub two-more : (d : List ℕ → List ℕ) (n i : ℕ) (text chain next new : List ℕ) (out : List (List ℕ)) → 2 * i + 1 < n → length text ≡ 8 * n
     → length (xor (d (take 8 (drop (16 * i) text))) chain) ≡ 8 → length (xor (d (take 8 (drop (16 * i + 8) text))) (take 8 (drop (16 * i) text))) ≡ 8
@@ -247,14 +242,14 @@ two-more d n i text chain next new out h long e1 e2 is put before =
     let mid_long : length mid ≡ 8 * n = length-put text b (16 * i) (omega arith) e1 ∙ long in
     let one : pieces (2 * i + 1) 8 (put_at text (8 * (2 * i)) b) ++ uncbc d p (pieces (n - (2 * i + 1)) 8 (drop (8 * (2 * i + 1)) (put_at text (8 * (2 * i)) b))) ≡ out
     = text-more n (2 * i) text b (uncbc d chain) (uncbc d p) out (omega arith) long e1
-        (λ ps. ap (λ k. uncbc d chain (take 8 (drop k text) ∷ ps)) (sym at) ∙ uncbc-step d chain p ps) before in
+    (λ ps. ap (λ k. uncbc d chain (take 8 (drop k text) ∷ ps)) (sym at) ∙ uncbc-step d chain p ps) before in
     let one_mid : pieces (2 * i + 1) 8 mid ++ uncbc d p (pieces (n - (2 * i + 1)) 8 (drop (8 * (2 * i + 1)) mid)) ≡ out
     = ap (λ k. pieces (2 * i + 1) 8 (put_at text k b) ++ uncbc d p (pieces (n - (2 * i + 1)) 8 (drop (8 * (2 * i + 1)) (put_at text k b)))) at ∙ one in
     let second : take 8 (drop (8 * (2 * i + 1)) mid) ≡ q = ap (λ k. take 8 (drop k mid)) (sym then_at) ∙ next-block text b (16 * i) (omega arith) e1 in
     let b2 = xor (d q) p in
     let two : pieces (2 * i + 1 + 1) 8 (put_at mid (8 * (2 * i + 1)) b2) ++ uncbc d q (pieces (n - (2 * i + 1 + 1)) 8 (drop (8 * (2 * i + 1 + 1)) (put_at mid (8 * (2 * i + 1)) b2))) ≡ out
     = text-more n (2 * i + 1) mid b2 (uncbc d p) (uncbc d q) out h mid_long e2
-        (λ ps. ap (λ x. uncbc d p (x ∷ ps)) second ∙ uncbc-step d p q ps) one_mid in
+    (λ ps. ap (λ x. uncbc d p (x ∷ ps)) second ∙ uncbc-step d p q ps) one_mid in
     let wider : 2 * (i + 1) ≡ 2 * i + 1 + 1 = omega arith in
     let new_is : new ≡ put_at mid (8 * (2 * i + 1)) b2 = put ∙ ap (λ k. put_at mid k b2) then_at in
     ap (λ k. pieces k 8 new ++ uncbc d next (pieces (n - k) 8 (drop (8 * k) new))) wider
