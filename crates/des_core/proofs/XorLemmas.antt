@@ -1,5 +1,5 @@
 -- Exclusive or of lists of bits: through tables of places, joined lists and parts, zeros, and the groups of a word.
-use Rattle.std.proofs.Common.{◌≡◌, ℕ, zero, suc, ◌-◌, ◌*◌, ◌/◌, ◌%◌, ◌^◌, List, [], ◌∷◌, ◌++◌, length, take, drop, slice_index, bit_xor, replicate, refl, sym, ap, ◌∙◌, arith}
+use Rattle.std.proofs.Common.{◌≡◌, ℕ, zero, suc, ◌-◌, ◌*◌, ◌/◌, ◌%◌, ◌^◌, List, [], ◌∷◌, ◌++◌, length, slice_index, bit_xor, replicate, refl, sym, ap, ◌∙◌, arith}
 use Rattle.std.specs.Int.{byte_at, bytes_high_first}
 use Rattle.std.specs.Int.Bits.{xor_zero_r}
 use Rattle.std.proofs.lemmas.Nat.{xor_comm, xor_mod, xor_shr}
