@@ -1,20 +1,24 @@
-//! Words of bits, the most significant first.
-ghost use Rattle.std.specs.Prelude.{◌≡◌, ◌^◌, ◌<◌, ◌≤◌, length, IsTrue};
-ghost use Rattle.des_core.specs.Bits.{bits};
-ghost use Rattle.des_core.specs.Des.{places};
-ghost use Rattle.des_core.specs.Numbers.{are_numbers};
+//! Eight bytes of a text as a word.
+ghost use Rattle.std.specs.Prelude.{◌≡◌, ◌+◌, ◌≤◌, drop, length, take};
+ghost use Rattle.std.specs.Int.{to_be_bytes, w64};
+ghost use Rattle.des_core.specs.Texts.{put_at};
 
-/// The bits of a word at the places of a table, as a word. A loop of one turn for each place.
-pub(crate) fn permute(word: u64, width: u32, table: &[u8]) -> u64
-    requires numbers { IsTrue (are_numbers width table.now) }
-    requires width { width ≤ 64 }
-    requires size { length table.now ≤ 64 }
-    ensures value { bits (length table.now) result ≡ places table.now (bits width word) }
-    ensures small { result < 2 ^ length table.now }
+/// The eight bytes of a text at a place, as a word, the first byte highest.
+#[inline]
+pub(crate) fn word_at(text: &[u8], at: usize) -> u64
+    requires { at + 8 ≤ length text.now }
+    ensures { to_be_bytes w64 result ≡ take 8 (drop at text.now) }
 {
-    let mut out: u64 = 0;
-    for number in table {
-        out = out << 1 | word >> (width - *number as u32) & 1;
-    }
-    out
+    let mut bytes = [0; 8];
+    bytes.copy_from_slice(&text[at..at + 8]);
+    u64::from_be_bytes(bytes)
+}
+
+/// Puts the eight bytes of a word at a place of a text.
+#[inline]
+pub(crate) fn put_word(text: &mut [u8], at: usize, word: u64)
+    requires { at + 8 ≤ length text.now }
+    ensures { text.new ≡ put_at text.old at (to_be_bytes w64 word) }
+{
+    text[at..at + 8].copy_from_slice(&word.to_be_bytes());
 }
