@@ -18,7 +18,7 @@ use Rattle.key_tokens.specs.declared.key_token.Asked.TheVariants.{Internal, Exte
 use Rattle.key_tokens.specs.declared.key_token.Token.{Token}
 use Rattle.key_tokens.specs.Kinds.{kind_byte, kind_at, IsAsked, is_asked}
 use Rattle.key_tokens.specs.Layout.{layout, zeros, HasPlaces, IsFlag, IsPatternFor, IsToken}
-use Rattle.key_tokens.specs.Parts.{kind_of, pattern_of_token, vector_bytes_of, token_of}
+use Rattle.key_tokens.specs.Fields.{kind_of, pattern_of_token, vector_bytes_of, token_of}
 use Rattle.key_tokens.specs.TokenChecks.{stored_tvv, has_flag, reserved_is_zero, header_checks, has_right_half, token_checks}
 use Rattle.key_tokens.specs.Tvv.{tvv_of}
 
@@ -124,15 +124,15 @@ tvv_fits bytes = omega arith
 
 -- ---- the whole token
 
-abbrev pub with_parts : Kind → List ℕ → List ℕ → List ℕ → List ℕ → Token
-with_parts k pattern left right vector = record { kind = k; pattern = pattern; sealed = record { left = left; right = right }; vector = vector }
+abbrev pub with_fields : Kind → List ℕ → List ℕ → List ℕ → List ℕ → Token
+with_fields k pattern left right vector = record { kind = k; pattern = pattern; sealed = record { left = left; right = right }; vector = vector }
 
 pub same_token : (first second : Token) → first.kind ≡ second.kind → first.pattern ≡ second.pattern
     → first.sealed.left ≡ second.sealed.left → first.sealed.right ≡ second.sealed.right → first.vector ≡ second.vector
     → first ≡ second
 same_token first second kinds patterns lefts rights vectors =
-    let e : with_parts first.kind first.pattern first.sealed.left first.sealed.right first.vector
-    ≡ with_parts second.kind second.pattern second.sealed.left second.sealed.right second.vector = cc in
+    let e : with_fields first.kind first.pattern first.sealed.left first.sealed.right first.vector
+    ≡ with_fields second.kind second.pattern second.sealed.left second.sealed.right second.vector = cc in
     e
 
 pub names_right_half : (asked : Asked) (bytes : List ℕ) → first_failing (header_checks asked bytes) ≡ None
@@ -152,7 +152,7 @@ module _ (bytes : List ℕ) (whole : length bytes ≡ 64) (token : Token) (h : I
   vector_is : vector_bytes_of bytes ≡ token.vector
   vector_is = h.places.1.1.1.1.1.1.1.1.1.0
 
-  -- the parts of a token are those at its places
+  -- the fields of a token are those at their offsets
   pub token_is : token_of bytes ≡ token
   token_is =
       same_token (token_of bytes) token (ap kind_at first_byte ∙ kind_at_byte token.kind) h.places.1.1.1.1.1.1.0 h.places.1.1.1.1.1.1.1.0

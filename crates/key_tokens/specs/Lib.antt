@@ -1,7 +1,7 @@
 pub mod Denotes
 pub mod Tvv
 pub mod Kinds
-pub mod Parts
+pub mod Fields
 pub mod Layout
 pub mod TokenChecks
 pub use Rattle.cca_vectors.specs.Bits

@@ -7,7 +7,7 @@ use Rattle.key_tokens.specs.declared.key_token.Asked.{Asked}
 use Rattle.key_tokens.specs.declared.key_token.TokenFault.{TokenFault}
 use Rattle.key_tokens.specs.declared.key_token.TokenFault.TheVariants.{Kind, Tvv, Version, Flag, Reserved, Parity, AntiVariant, Form}
 use Rattle.key_tokens.specs.Kinds.{is_asked}
-use Rattle.key_tokens.specs.Parts.{vector_bytes_of}
+use Rattle.key_tokens.specs.Fields.{vector_bytes_of}
 use Rattle.key_tokens.specs.Tvv.{word_at, tvv_of}
 
 -- the value that the token says

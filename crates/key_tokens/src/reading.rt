@@ -5,7 +5,7 @@ ghost use Rattle.cca_vectors.specs.VectorChecks.{is_zero};
 ghost use Rattle.cca_vectors.specs.VectorChecks as vectors;
 ghost use Rattle.key_tokens.specs.declared.key_token.Token.{Token};
 ghost use Rattle.key_tokens.specs.Kinds.{is_asked, kind_at, IsAsked};
-ghost use Rattle.key_tokens.specs.Parts.{token_of, sealed_of, pattern_of_token, vector_bytes_of};
+ghost use Rattle.key_tokens.specs.Fields.{token_of, sealed_of, pattern_of_token, vector_bytes_of};
 ghost use Rattle.key_tokens.specs.Layout.{IsToken};
 ghost use Rattle.key_tokens.specs.TokenChecks.{stored_tvv, has_flag, reserved_is_zero, header_checks, token_checks, rule_of};
 

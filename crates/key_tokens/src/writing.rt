@@ -5,7 +5,7 @@ ghost use Rattle.cca_vectors.specs.Vectors.{length_of, IsValid, IsZero};
 ghost use Rattle.key_tokens.specs.declared.key_token.Asked.{Asked};
 ghost use Rattle.key_tokens.specs.Kinds.{IsAsked, kind_byte};
 ghost use Rattle.key_tokens.specs.Layout.{IsPatternFor, IsToken, contents, layout, made};
-ghost use Rattle.key_tokens.specs.Parts.{token_of};
+ghost use Rattle.key_tokens.specs.Fields.{token_of};
 ghost use Rattle.key_tokens.specs.TokenChecks.{token_checks};
 
 use crate::key_token::{Kind, Token};
@@ -73,7 +73,7 @@ pub fn write_token(token: &Token) -> [u8; 64]
     ensures made { result ≡ made token.now }
     ensures flag { slice_index result 6 ≡ KEY_AND_VECTOR }
     ensures token { IsToken result token.now }
-    ensures parts { token_of result ≡ token.now }
+    ensures fields { token_of result ≡ token.now }
     ensures accepted { (asked : Asked) → IsAsked asked token.now.kind → first_failing (token_checks asked result) ≡ None }
 {
     with_tvv(token, tvv(&with_tvv(token, 0)))

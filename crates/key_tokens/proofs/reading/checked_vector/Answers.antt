@@ -4,7 +4,7 @@ use Rattle.cca_vectors.specs.Checks.{check, first_failing}
 use Rattle.cca_vectors.specs.Vectors.{length_of}
 use Rattle.cca_vectors.specs.VectorChecks.{vector_checks}
 use Rattle.cca_vectors.proofs.Judging.{passed_over, stopped_in}
-use Rattle.key_tokens.specs.Parts.{vector_bytes_of}
+use Rattle.key_tokens.specs.Fields.{vector_bytes_of}
 use Rattle.key_tokens.specs.TokenChecks.{header_checks, has_right_half, rule_of}
 use Rattle.key_tokens.proofs.Layouts.{names_right_half}
 use Rattle.key_tokens.proofs.reading.checked_vector.Goals as goal

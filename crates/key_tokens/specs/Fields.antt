@@ -1,4 +1,4 @@
--- The parts of a key token, by their places in its 64 bytes.
+-- The fields of a key token, by their places in its 64 bytes.
 use Rattle.std.specs.Prelude.{ℕ, List, slice_index, slice_range}
 use Rattle.key_tokens.specs.declared.key_token.Kind.{Kind}
 use Rattle.multi_encipher.specs.declared.halves.Sealed.{Sealed}
