@@ -7,8 +7,8 @@ use Rattle.std.proofs.lemmas.List.Elements.{All-drop, All-take}
 use Rattle.std.proofs.lemmas.Bool.{cases_lt, false_from_ne_true}
 use Rattle.std.proofs.lemmas.Slice.Eq.{bytes_eq-Decides}
 use Rattle.cca_vectors.specs.Checks.{first_failing}
-use Rattle.cca_vectors.specs.Vectors.{IsZero}
-use Rattle.des_core.specs.Bits.{AreBytes}
+use Rattle.byte_lists.specs.Bytes.{AreBytes, IsZero}
+use Rattle.byte_lists.proofs.ByteLemmas.{zeros_of, IsZero-replicate}
 use Rattle.multi_encipher.specs.Bundles.{transport_bundle}
 use Rattle.multi_encipher.specs.Seals.{IsSealed, seal, unseal}
 use Rattle.multi_encipher.proofs.SealLaws.{one_to_one}
@@ -42,11 +42,6 @@ if_then false o y h = cc
 
 same_some : {A : Type 0} (x y : A) → Some x ≡ Some y → x ≡ y
 same_some x y h = cc
-
-zeros_from : (xs : List ℕ) → length xs ≡ 8 → IsZero xs → xs ≡ replicate 8 0
-zeros_from xs long zero =
-    ext_get_or 0 xs (replicate 8 0) (long ∙ sym (length-replicate {A = ℕ} 8 0))
-    (λ i within. zero i 0 within ∙ sym (get_or-replicate 8 i 0 0 (omega arith)))
 
 abbrev clear_key : List ℕ → List ℕ → ClearKey
 clear_key key vector = record { key = key; vector = vector }
@@ -194,7 +189,7 @@ module _ (masters : MasterKeys) (transport bytes : List ℕ) (are_bytes : AreByt
       let zero : IsZero (pattern_of_token bytes) = subst (λ k. IsPatternFor k (pattern_of_token bytes)) token.1 token.0.pattern in
       let long : length (pattern_of_token bytes) ≡ 8 = simp (length-take, length-drop) (omega (arith, are_bytes.size)) in
       subst (DenotesUnder transport bytes) (same_some (clear_of (transport_bundle transport) bytes) clear parts.1)
-      (key_of_token bytes are_bytes (transport_bundle transport) kind.External (replicate 8 0) token.0 token.1 (zeros_from (pattern_of_token bytes) long zero))
+      (key_of_token bytes are_bytes (transport_bundle transport) kind.External (replicate 8 0) token.0 token.1 (zeros_of 8 (pattern_of_token bytes) long zero))
 
   pub denotes_one : DenotesOne masters transport bytes
   denotes_one = record { internal = internal; internal_back = internal_back; external = external; external_back = external_back }

@@ -6,11 +6,13 @@ use Rattle.std.proofs.lemmas.Bool.{eqb-true, eq-eqb, and_from, or_left, or_right
 use Rattle.std.proofs.lemmas.Bool.Decides.{Decides-eqb, Decides-and, Decides-or}
 use Rattle.std.proofs.lemmas.Nat.{be_bytes_4, from_be_bytes-to_be_bytes_4}
 use Rattle.std.proofs.lemmas.List.{ext_get_or, length-take, length-drop, length-replicate, get_or-replicate, drop_more}
+use Rattle.byte_lists.specs.Bytes.{IsZero, is_zero}
+use Rattle.byte_lists.proofs.ByteLemmas.{zeros_of, is_zero-Decides}
 use Rattle.cca_vectors.specs.Checks.{check, first_failing}
-use Rattle.cca_vectors.specs.Vectors.{IsZero, IsValid, length_of}
-use Rattle.cca_vectors.specs.VectorChecks.{is_zero, vector_checks}
+use Rattle.cca_vectors.specs.Vectors.{IsValid, length_of}
+use Rattle.cca_vectors.specs.VectorChecks.{vector_checks}
 use Rattle.cca_vectors.proofs.Judging.{passes, passes_first, passed_over, none_in_first, fails_first}
-use Rattle.cca_vectors.proofs.Validity.{AreBytes, is_zero-Decides, bytes_taken, bytes_dropped, valid_from_none, none_from_valid}
+use Rattle.cca_vectors.proofs.Validity.{AreBytes, bytes_taken, bytes_dropped, valid_from_none, none_from_valid}
 use Rattle.key_tokens.specs.declared.key_token.Kind.{Kind}
 use Rattle.key_tokens.specs.declared.key_token.Kind.TheVariants as kind
 use Rattle.key_tokens.specs.declared.key_token.Asked.{Asked}
@@ -41,8 +43,7 @@ byte_of_piece bytes at value within e = ap (λ piece. get_or piece 0 0) (sym (pi
 -- a piece that is zero
 piece_of_zeros : (bytes : List ℕ) (n : ℕ) → length bytes ≡ n → is_zero bytes ≡ true → bytes ≡ zeros n
 piece_of_zeros bytes n long zero =
-    ext_get_or 0 bytes (zeros n) (long ∙ sym (length-replicate n 0))
-    (λ i within. (is_zero-Decides bytes).0 zero i 0 within ∙ sym (get_or-replicate n i 0 0 (omega arith)))
+    zeros_of n bytes long ((is_zero-Decides bytes).0 zero)
 
 -- ---- the kind
 

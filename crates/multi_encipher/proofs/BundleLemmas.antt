@@ -1,5 +1,5 @@
 -- The keys of a transport key's bundle.
-use Rattle.std.proofs.Common.{◌≡◌, ℕ, zero, suc, ◌+◌, ◌*◌, ◌%◌, ◌<◌, List, ◌++◌, length, take, drop, refl, sym, ap, ◌∙◌, arith}
+use Rattle.std.proofs.Common.{◌≡◌, ℕ, zero, suc, ◌%◌, ◌<◌, List, length, take, drop, ap, ◌∙◌, arith}
 use Rattle.std.proofs.lemmas.List.{drop-append-le, drop_at, length-append, length-take, length-drop, take-append-le, take_all}
 use Rattle.multi_encipher.specs.Bundles.{key_of_bundle, transport_bundle}
 

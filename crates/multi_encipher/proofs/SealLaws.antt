@@ -2,7 +2,7 @@
 use Rattle.std.proofs.Common.{◌≡◌, ◌⊎◌, ℕ, ◌+◌, ◌-◌, ◌<◌, ◌≤◌, Bool, true, false, List, [], ◌++◌, length, get_or, take, drop, eqb, refl, sym, ap, ◌∙◌, subst, inl, inr, ⊎_elim, arith}
 use Rattle.std.specs.Prelude.{slice_range, replicate, if◌then◌else◌}
 use Rattle.std.proofs.lemmas.Bool.{eq-eqb, ne_eqb}
-use Rattle.std.proofs.lemmas.List.{append-nil, take-append-drop, take_all, take_at, drop_at, length-take, length-drop, length-append, length-replicate, get_or-replicate, take-take, drop-take, drop_all, ext_get_or, get_or_default}
+use Rattle.std.proofs.lemmas.List.{append-nil, take-append-drop, take_all, take_at, drop_at, length-take, length-drop, length-append, length-replicate, get_or-replicate, take-take, drop-take, drop_all, get_or_default}
 use Rattle.std.proofs.lemmas.List.Elements.{All-take, All-drop, All-append}
 use Rattle.cca_vectors.specs.Vectors.{left_of, right_of, form_of, single_length, length_of}
 use Rattle.byte_lists.specs.Bytes.{AreBytes, IsZero}

@@ -1,5 +1,4 @@
 use Rattle.std.proofs.Common.{◌≡◌, ◌+◌, ◌++◌, List, ℕ, length, take, drop, sym, ap, subst, ◌∙◌, arith}
-use Rattle.std.proofs.lemmas.List.{take_all}
 use Rattle.key_cells.specs.Bench.{key_of}
 use Rattle.key_cells.specs.Lease.{bench_of}
 use Rattle.key_cells.specs.Secret.{bytes_of}
@@ -7,7 +6,7 @@ use Rattle.des_core.specs.Schedules.{AreOf}
 use Rattle.multi_encipher.specs.Bundles.{bundle_under}
 use Rattle.multi_encipher.specs.Seals.{variant_key, opened_half}
 use Rattle.multi_encipher.proofs.BenchLemmas.{key_of-with_key, key_of-schedules}
-use Rattle.multi_encipher.proofs.SealLaws.{bytes-opened_half, bytes_from}
+use Rattle.multi_encipher.proofs.SealLaws.{bytes_from}
 use Rattle.multi_encipher.proofs.sealing.put_deciphered_half.Goals as goal
 
 pub returns-clause-key : goal.returns-clause-key
