@@ -3,10 +3,11 @@ ghost use Rattle.std.specs.Option.{option_map};
 ghost use Rattle.cca_vectors.specs.Bits.{even_byte};
 ghost use Rattle.cca_vectors.specs.Checks.{first_failing};
 ghost use Rattle.cca_vectors.specs.Vectors.{IsValid, left_of, right_of, length_of, is_part_of, form_of};
-ghost use Rattle.cca_vectors.specs.VectorChecks.{is_zero, is_even, is_anti_variant, has_form, right_half_for, vector_checks, rule_of};
+ghost use Rattle.cca_vectors.specs.VectorChecks.{is_even, is_anti_variant, has_form, right_half_for, vector_checks, rule_of};
 ghost use Rattle.cca_vectors.specs.Classes.{class_of};
 
 use crate::key_class::Class;
+use byte_lists::is_zero;
 use std::marker::Model;
 use thiserror::Error;
 
@@ -43,12 +44,6 @@ pub enum VectorFault {
     AntiVariant,
     #[error("the key form isn't known, or the right half doesn't belong to the left one")]
     Form,
-}
-
-fn is_zero(half: &[u8; 8]) -> bool
-    ensures { result ≡ is_zero half.now }
-{
-    half.iter().all(|byte| *byte == 0)
 }
 
 fn is_even(bytes: &[u8; 16]) -> bool

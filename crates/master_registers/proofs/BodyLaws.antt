@@ -2,10 +2,12 @@
 use Rattle.std.proofs.Common.{◌≡◌, ◌≤◌, ◌<◌, ◌-◌, inr, ⊎_elim, ℕ, zero, suc, ◌+◌, Bool, true, false, List, [], ◌∷◌, ◌++◌, length, get_or, take, drop, replicate, Option, None, Some, refl, sym, ap, subst, ◌∙◌, arith}
 use Rattle.std.specs.Prelude.{IsTrue, slice_range, slice_index}
 use Rattle.std.proofs.lemmas.List.{append_assoc, drop-drop, drop_at, get_or-drop, get_or-take, get_or_default, length-append, length-drop, length-replicate, length-take, take-append-drop, take_all, take_at}
-use Rattle.master_registers.specs.Masters.{NewRegister, Empty, Partial, Full, Masters, IsMaster, IsMasters, AreApart, blank_masters, new_bytes, kept_bytes}
-use Rattle.master_registers.specs.RegisterBody.{registers_body, blank_body, new_code, kept_code, ReadsMasters}
-use Rattle.master_registers.specs.BodyForm.{coming_at, kept_at, masters_at, state_at, pattern_at, AreZero, IsBody, HasBodyForm, AreMasterKeys}
-use Rattle.master_registers.specs.Loaded.{state_of, pattern_in, registers_of, ArePlaced, Loaded, masters_in}
+use Rattle.byte_lists.specs.Bytes.{IsZero}
+use Rattle.byte_lists.proofs.ByteLemmas.{zeros_of, IsZero-replicate}
+use Rattle.master_registers.specs.Masters.{NewRegister, Empty, Partial, Full, Masters, IsMaster, IsMasters, AreApart, blank_masters, new_bytes, kept_bytes, state_of}
+use Rattle.master_registers.specs.RegisterBody.{registers_body, blank_body, state_code, kept_code, ReadsMasters}
+use Rattle.master_registers.specs.BodyForm.{coming_at, kept_at, masters_at, state_at, pattern_at, IsBody, HasBodyForm, AreMasterKeys}
+use Rattle.master_registers.specs.Loaded.{pattern_in, registers_of, ArePlaced, Loaded, masters_in}
 use Rattle.master_registers.proofs.LoadedLaws.{loaded_one}
 use Rattle.master_registers.specs.declared.registers.NewState.{NewState}
 use Rattle.master_registers.specs.declared.registers.Registers.{Registers}
@@ -14,7 +16,7 @@ use Rattle.master_registers.specs.declared.patterns.Pattern.{Pattern}
 
 -- ---- a register's state and contents
 
-pub coming-again : (r : NewRegister) → coming_at (new_code r) (new_bytes r) ≡ r
+pub coming-again : (r : NewRegister) → coming_at (state_code (state_of r)) (new_bytes r) ≡ r
 coming-again Empty = refl
 coming-again (Partial bytes) = refl
 coming-again (Full bytes) = refl
@@ -23,7 +25,7 @@ pub kept-again : (r : Option (List ℕ)) → kept_at (kept_code r) (kept_bytes r
 kept-again None = refl
 kept-again (Some bytes) = refl
 
-pub new_code-at : (n : ℕ) (bytes : List ℕ) → n ≤ 2 → new_code (coming_at n bytes) ≡ n
+pub new_code-at : (n : ℕ) (bytes : List ℕ) → n ≤ 2 → state_code (state_of (coming_at n bytes)) ≡ n
 new_code-at zero bytes low = refl
 new_code-at (suc zero) bytes low = refl
 new_code-at (suc (suc zero)) bytes low = refl
@@ -34,15 +36,15 @@ kept_code-at zero bytes low = refl
 kept_code-at (suc zero) bytes low = refl
 kept_code-at (suc (suc n)) bytes low = absurd (omega arith)
 
-zeros : (bytes : List ℕ) → length bytes ≡ 24 → AreZero bytes → bytes ≡ replicate 24 0
-zeros bytes long blank = blank ∙ ap (λ (n : ℕ). replicate n 0) long
+zeros : (bytes : List ℕ) → length bytes ≡ 24 → IsZero bytes → bytes ≡ replicate 24 0
+zeros bytes long blank = zeros_of 24 bytes long blank
 
-pub new_bytes-at : (n : ℕ) (bytes : List ℕ) → length bytes ≡ 24 → (n ≡ 0 → AreZero bytes) → new_bytes (coming_at n bytes) ≡ bytes
+pub new_bytes-at : (n : ℕ) (bytes : List ℕ) → length bytes ≡ 24 → (n ≡ 0 → IsZero bytes) → new_bytes (coming_at n bytes) ≡ bytes
 new_bytes-at zero bytes long empty = sym (zeros bytes long (empty refl))
 new_bytes-at (suc zero) bytes long empty = refl
 new_bytes-at (suc (suc n)) bytes long empty = refl
 
-pub kept_bytes-at : (n : ℕ) (bytes : List ℕ) → length bytes ≡ 24 → (n ≡ 0 → AreZero bytes) → kept_bytes (kept_at n bytes) ≡ bytes
+pub kept_bytes-at : (n : ℕ) (bytes : List ℕ) → length bytes ≡ 24 → (n ≡ 0 → IsZero bytes) → kept_bytes (kept_at n bytes) ≡ bytes
 kept_bytes-at zero bytes long empty = sym (zeros bytes long (empty refl))
 kept_bytes-at (suc n) bytes long empty = refl
 
@@ -55,7 +57,7 @@ pub pattern_in-at : (n : ℕ) (bytes : List ℕ) → pattern_at n bytes ≡ patt
 pattern_in-at zero bytes = refl
 pattern_in-at (suc n) bytes = refl
 
-new_empty : (r : NewRegister) → new_code r ≡ 0 → new_bytes r ≡ replicate 24 0
+new_empty : (r : NewRegister) → state_code (state_of r) ≡ 0 → new_bytes r ≡ replicate 24 0
 new_empty Empty none = refl
 new_empty (Partial bytes) none = absurd (omega arith)
 new_empty (Full bytes) none = absurd (omega arith)
@@ -104,7 +106,7 @@ module _ (m : Masters) (valid : IsMasters m) where
   pub masters-again : masters_at (registers_body m) ≡ m
   unfolding masters_at registers_body
   masters-again =
-      let coming : coming_at (new_code m.coming) (slice_range (registers_body m) 8 32) ≡ m.coming = ap (coming_at (new_code m.coming)) piece-coming ∙ coming-again m.coming in
+      let coming : coming_at (state_code (state_of m.coming)) (slice_range (registers_body m) 8 32) ≡ m.coming = ap (coming_at (state_code (state_of m.coming))) piece-coming ∙ coming-again m.coming in
       let current : kept_at (kept_code m.current) (slice_range (registers_body m) 32 56) ≡ m.current = ap (kept_at (kept_code m.current)) piece-current ∙ kept-again m.current in
       let former : kept_at (kept_code m.former) (slice_range (registers_body m) 56 80) ≡ m.former = ap (kept_at (kept_code m.former)) piece-former ∙ kept-again m.former in
       same_masters (masters_at (registers_body m)) m coming current former
@@ -119,14 +121,14 @@ module _ (m : Masters) (valid : IsMasters m) where
   unfolding registers_body
   form_of_table = record {
     states = record { version = refl; coming = new_low m.coming; current = kept_low m.current; former = kept_low m.former };
-    gap = refl;
+    gap = IsZero-replicate 4;
     coming = λ none. all_zero (slice_range (registers_body m) 8 32) 24 (piece-coming ∙ new_empty m.coming none);
     current = λ none. all_zero (slice_range (registers_body m) 32 56) 24 (piece-current ∙ kept_empty m.current none);
     former = λ none. all_zero (slice_range (registers_body m) 56 80) 24 (piece-former ∙ kept_empty m.former none);
     rest = all_zero (slice_range (registers_body m) 80 192) 112 piece-rest;
   }
     where
-      new_low : (r : NewRegister) → new_code r ≤ 2
+      new_low : (r : NewRegister) → state_code (state_of r) ≤ 2
       new_low Empty = omega arith
       new_low (Partial bytes) = omega arith
       new_low (Full bytes) = omega arith
@@ -135,8 +137,8 @@ module _ (m : Masters) (valid : IsMasters m) where
       kept_low None = omega arith
       kept_low (Some bytes) = omega arith
 
-      all_zero : (bytes : List ℕ) (n : ℕ) → bytes ≡ replicate n 0 → AreZero bytes
-      all_zero bytes n is = is ∙ ap (λ (k : ℕ). replicate k 0) (sym (ap length is ∙ length-replicate n 0))
+      all_zero : (bytes : List ℕ) (n : ℕ) → bytes ≡ replicate n 0 → IsZero bytes
+      all_zero bytes n is = subst IsZero (sym is) (IsZero-replicate n)
 
 -- one more piece of a list
 more : (l front : List ℕ) (k n : ℕ) → l ≡ front ++ drop k l → l ≡ front ++ take n (drop k l) ++ drop (k + n) l
@@ -170,9 +172,9 @@ table_of_form (a ∷ b ∷ c ∷ d ∷ rest) long form =
     let y : List ℕ = slice_range body 32 56 in
     let z : List ℕ = slice_range body 56 80 in
     let four : length (take 4 rest) ≡ 4 = simp length-take (omega arith) in
-    let gap : take 4 rest ≡ replicate 4 0 = form.gap ∙ ap (λ (n : ℕ). replicate n 0) four in
+    let gap : take 4 rest ≡ replicate 4 0 = zeros_of 4 (take 4 rest) four form.gap in
     let many : length (take 112 (drop 76 rest)) ≡ 112 = simp (length-take, length-drop) (omega arith) in
-    let last : take 112 (drop 76 rest) ≡ replicate 112 0 = form.rest ∙ ap (λ (n : ℕ). replicate n 0) many in
+    let last : take 112 (drop 76 rest) ≡ replicate 112 0 = zeros_of 112 (take 112 (drop 76 rest)) many form.rest in
     let coming : new_bytes (coming_at b x) ≡ x = new_bytes-at b x (length-piece body 8 long (omega arith)) form.coming in
     let current : kept_bytes (kept_at c y) ≡ y = kept_bytes-at c y (length-piece body 32 long (omega arith)) form.current in
     let former : kept_bytes (kept_at d z) ≡ z = kept_bytes-at d z (length-piece body 56 long (omega arith)) form.former in
@@ -185,9 +187,9 @@ table_of_form (a ∷ b ∷ c ∷ d ∷ rest) long form =
     ∙ ap (λ l. replicate 4 0 ++ new_bytes (coming_at b x) ++ kept_bytes (kept_at c y) ++ l ++ replicate 112 0) (sym former) in
     ap (λ n. n ∷ b ∷ c ∷ d ∷ rest) form.states.version
     ∙ ap (λ n. 1 ∷ n ∷ c ∷ d ∷ rest) (sym (new_code-at b x form.states.coming))
-    ∙ ap (λ n. 1 ∷ new_code (coming_at b x) ∷ n ∷ d ∷ rest) (sym (kept_code-at c y form.states.current))
-    ∙ ap (λ n. 1 ∷ new_code (coming_at b x) ∷ kept_code (kept_at c y) ∷ n ∷ rest) (sym (kept_code-at d z form.states.former))
-    ∙ ap (λ l. 1 ∷ new_code (coming_at b x) ∷ kept_code (kept_at c y) ∷ kept_code (kept_at d z) ∷ l) whole
+    ∙ ap (λ n. 1 ∷ state_code (state_of (coming_at b x)) ∷ n ∷ d ∷ rest) (sym (kept_code-at c y form.states.current))
+    ∙ ap (λ n. 1 ∷ state_code (state_of (coming_at b x)) ∷ kept_code (kept_at c y) ∷ n ∷ rest) (sym (kept_code-at d z form.states.former))
+    ∙ ap (λ l. 1 ∷ state_code (state_of (coming_at b x)) ∷ kept_code (kept_at c y) ∷ kept_code (kept_at d z) ∷ l) whole
   where
     pieces : (rest : List ℕ) → length rest ≡ 188
         → rest ≡ take 4 rest ++ take 24 (drop 4 rest) ++ take 24 (drop 28 rest) ++ take 24 (drop 52 rest) ++ take 112 (drop 76 rest)
@@ -259,10 +261,10 @@ not_true : (b : Bool) → b ≡ false → IsTrue b → ⊥
 not_true b is holds = let both : true ≡ false = sym holds ∙ is in cc
 
 -- a body that is neither blank nor in the form reads as nothing
-pub unread : (body copy again : List ℕ) (is_zero is_form : Bool) → copy ≡ body → again ≡ body → is_zero ≡ false → (AreZero copy → IsTrue is_zero)
+pub unread : (body copy again : List ℕ) (is_zero is_form : Bool) → copy ≡ body → again ≡ body → is_zero ≡ false → (IsZero copy → IsTrue is_zero)
     → is_form ≡ false → (HasBodyForm again → IsTrue is_form) → (m : Masters) → ReadsMasters body m → ⊥
 unread body copy again is_zero is_form same too zero_is blank_zero form_is form m reads =
-    ⊎_elim (λ (blank : (body ≡ blank_body) × (m ≡ blank_masters)). not_true is_zero zero_is (blank_zero (same ∙ blank.0 ∙ ap (λ l. replicate (length l) 0) (sym (same ∙ blank.0)))))
+    ⊎_elim (λ (blank : (body ≡ blank_body) × (m ≡ blank_masters)). not_true is_zero zero_is (blank_zero (subst IsZero (sym (same ∙ blank.0)) (IsZero-replicate 192))))
     (λ (table : (body ≡ registers_body m) × IsMasters m). not_true is_form form_is (form (subst HasBodyForm (sym (too ∙ table.0)) (form_of_table m table.1))))
     reads
 
@@ -275,16 +277,16 @@ read_as : (body : List ℕ) → IsBody body → HasBodyForm body → AreMasterKe
 read_as body bytes form keys apart = inr (table_of_form body bytes.size form, valid_as (masters_at body) keys apart)
 
 -- a body that isn't blank reads as what stands in it alone
-pub reads_table : (body : List ℕ) (m : Masters) → (AreZero body → ⊥) → ReadsMasters body m → (m ≡ masters_at body) × IsMasters m
+pub reads_table : (body : List ℕ) (m : Masters) → (IsZero body → ⊥) → ReadsMasters body m → (m ≡ masters_at body) × IsMasters m
 reads_table body m not_zero reads =
-    ⊎_elim (λ (blank : (body ≡ blank_body) × (m ≡ blank_masters)). absurd (not_zero (blank.0 ∙ ap (λ l. replicate (length l) 0) (sym blank.0))))
+    ⊎_elim (λ (blank : (body ≡ blank_body) × (m ≡ blank_masters)). absurd (not_zero (subst IsZero (sym blank.0) (IsZero-replicate 192))))
     (λ (table : (body ≡ registers_body m) × IsMasters m). (sym (masters-again m table.1) ∙ ap masters_at (sym table.0), table.1))
     reads
 
-pub too_close : (body copy : List ℕ) (is_zero is_apart : Bool) → copy ≡ body → is_zero ≡ false → (AreZero copy → IsTrue is_zero) → is_apart ≡ false
+pub too_close : (body copy : List ℕ) (is_zero is_apart : Bool) → copy ≡ body → is_zero ≡ false → (IsZero copy → IsTrue is_zero) → is_apart ≡ false
     → (AreApart (masters_at body).current (masters_at body).former → IsTrue is_apart) → (m : Masters) → ReadsMasters body m → ⊥
 too_close body copy is_zero is_apart same zero_is blank_zero apart_is apart m reads =
-    let read : (m ≡ masters_at body) × IsMasters m = reads_table body m (λ blank. not_true is_zero zero_is (blank_zero (subst AreZero (sym same) blank))) reads in
+    let read : (m ≡ masters_at body) × IsMasters m = reads_table body m (λ blank. not_true is_zero zero_is (blank_zero (subst IsZero (sym same) blank))) reads in
     not_true is_apart apart_is (apart (subst (λ (n : Masters). AreApart n.current n.former) read.0 read.1.apart))
 
 -- the registers that were taken from a body are those that the bench holds

@@ -6,10 +6,10 @@ use Rattle.key_cells.specs.Bench.{master_of, with_master}
 use Rattle.key_cells.specs.Lease.{bench_of, holding}
 use Rattle.key_cells.specs.declared.leases.Lease.{Lease}
 use Rattle.key_cells.specs.declared.places.MasterPlace.{MasterPlace}
-use Rattle.master_registers.specs.Masters.{NewRegister, Empty, Partial, Full, Masters, IsMasters, new_bytes, kept_bytes}
-use Rattle.master_registers.specs.RegisterBody.{registers_body, new_code, kept_code}
-use Rattle.master_registers.specs.BodyForm.{states_body, state_code, pattern_code}
-use Rattle.master_registers.specs.Loaded.{state_of, pattern_in, registers_of}
+use Rattle.master_registers.specs.Masters.{Masters, IsMasters, new_bytes, kept_bytes, state_of}
+use Rattle.master_registers.specs.RegisterBody.{registers_body, state_code, kept_code}
+use Rattle.master_registers.specs.BodyForm.{states_body}
+use Rattle.master_registers.specs.Loaded.{pattern_in, registers_of}
 use Rattle.master_registers.specs.declared.registers.Registers.{Registers}
 
 -- a piece put behind a front
@@ -18,12 +18,7 @@ put_behind front rest piece n long =
     ap (λ l. l ++ piece ++ drop (n + 24) (front ++ rest)) (take_at front rest n long)
     ∙ ap (λ l. front ++ piece ++ l) (sym (drop-drop 24 n (front ++ rest)) ∙ ap (drop 24) (drop_at front rest n long))
 
-codes_new : (r : NewRegister) → state_code (state_of r) ≡ new_code r
-codes_new Empty = refl
-codes_new (Partial bytes) = refl
-codes_new (Full bytes) = refl
-
-codes_kept : (r : Option (List ℕ)) → pattern_code (pattern_in r) ≡ kept_code r
+codes_kept : (r : Option (List ℕ)) → kept_code (pattern_in r) ≡ kept_code r
 codes_kept None = refl
 codes_kept (Some bytes) = refl
 
@@ -49,11 +44,10 @@ pub three_registers : (m : Masters) (held : Registers) → IsMasters m → held 
     → three_put (states_body held) (new_bytes m.coming) (kept_bytes m.current) (kept_bytes m.former) ≡ registers_body m
 unfolding states_body registers_body
 three_registers m held valid told =
-    let front : List ℕ = 1 ∷ new_code m.coming ∷ kept_code m.current ∷ kept_code m.former ∷ replicate 4 0 in
+    let front : List ℕ = 1 ∷ state_code (state_of m.coming) ∷ kept_code m.current ∷ kept_code m.former ∷ replicate 4 0 in
     ap (λ (h : Registers). three_put (states_body h) (new_bytes m.coming) (kept_bytes m.current) (kept_bytes m.former)) told
-    ∙ ap (λ n. three_put (1 ∷ n ∷ pattern_code (pattern_in m.current) ∷ pattern_code (pattern_in m.former) ∷ replicate 188 0) (new_bytes m.coming) (kept_bytes m.current) (kept_bytes m.former)) (codes_new m.coming)
-    ∙ ap (λ n. three_put (1 ∷ new_code m.coming ∷ n ∷ pattern_code (pattern_in m.former) ∷ replicate 188 0) (new_bytes m.coming) (kept_bytes m.current) (kept_bytes m.former)) (codes_kept m.current)
-    ∙ ap (λ n. three_put (1 ∷ new_code m.coming ∷ kept_code m.current ∷ n ∷ replicate 188 0) (new_bytes m.coming) (kept_bytes m.current) (kept_bytes m.former)) (codes_kept m.former)
+    ∙ ap (λ n. three_put (1 ∷ state_code (state_of m.coming) ∷ n ∷ kept_code (pattern_in m.former) ∷ replicate 188 0) (new_bytes m.coming) (kept_bytes m.current) (kept_bytes m.former)) (codes_kept m.current)
+    ∙ ap (λ n. three_put (1 ∷ state_code (state_of m.coming) ∷ kept_code m.current ∷ n ∷ replicate 188 0) (new_bytes m.coming) (kept_bytes m.current) (kept_bytes m.former)) (codes_kept m.former)
     ∙ put_three front (replicate 184 0) (new_bytes m.coming) (kept_bytes m.current) (kept_bytes m.former) refl valid.coming.size valid.current.size valid.former.size
 
 -- ---- the same in a lease

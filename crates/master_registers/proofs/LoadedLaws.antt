@@ -1,8 +1,8 @@
 -- The registers that are loaded are told by what the code knows of them.
 use Rattle.std.proofs.Common.{◌≡◌, ℕ, List, Option, None, Some, refl, ap, ◌∙◌}
 use Rattle.key_cells.specs.Bench.{Bench}
-use Rattle.master_registers.specs.Masters.{NewRegister, Empty, Partial, Full, Masters, new_bytes, kept_bytes}
-use Rattle.master_registers.specs.Loaded.{state_of, pattern_in, Loaded, coming_in, kept_in, masters_in}
+use Rattle.master_registers.specs.Masters.{NewRegister, Empty, Partial, Full, Masters, new_bytes, kept_bytes, state_of}
+use Rattle.master_registers.specs.Loaded.{pattern_in, Loaded, coming_in, kept_in, masters_in}
 use Rattle.master_registers.specs.declared.registers.Registers.{Registers}
 
 coming_told : (r : NewRegister) → coming_in (state_of r) (new_bytes r) ≡ r

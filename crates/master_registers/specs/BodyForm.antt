@@ -1,23 +1,16 @@
 -- Bodies of cell 0, byte by byte, for the functions that write and read them.
 use Rattle.std.specs.Prelude.{◌≡◌, ◌≤◌, ◌<◌, ◌+◌, ℕ, zero, suc, List, ◌∷◌, length, replicate, Option, None, Some, slice_index, slice_range}
+use Rattle.byte_lists.specs.Bytes.{IsZero}
+use Rattle.master_registers.specs.RegisterBody.{state_code, kept_code}
 use Rattle.master_registers.specs.Masters.{NewRegister, Empty, Partial, Full, Masters, IsMaster, new_bytes, kept_bytes, pattern_of_master}
 use Rattle.master_registers.specs.declared.registers.NewState.{NewState}
 use Rattle.master_registers.specs.declared.registers.NewState.TheVariants as state
 use Rattle.master_registers.specs.declared.registers.Registers.{Registers}
 use Rattle.master_registers.specs.declared.patterns.Pattern.{Pattern}
 
-abbrev pub state_code : NewState → ℕ
-state_code state.Empty = 0
-state_code state.Partial = 1
-state_code state.Full = 2
-
-abbrev pub pattern_code : Option Pattern → ℕ
-pattern_code None = 0
-pattern_code (Some pattern) = 1
-
 -- the body of registers whose contents are zero
 unfoldable pub states_body : Registers → List ℕ
-states_body held = 1 ∷ state_code held.new_state ∷ pattern_code held.current_pattern ∷ pattern_code held.old_pattern ∷ replicate 188 0
+states_body held = 1 ∷ state_code held.new_state ∷ kept_code held.current_pattern ∷ kept_code held.old_pattern ∷ replicate 188 0
 
 abbrev pub coming_at : ℕ → List ℕ → NewRegister
 coming_at zero bytes = Empty
@@ -35,9 +28,6 @@ masters_at body = record {
   current = kept_at (slice_index body 2) (slice_range body 32 56);
   former = kept_at (slice_index body 3) (slice_range body 56 80);
 }
-
-abbrev pub AreZero : List ℕ → Type 0
-AreZero bytes = bytes ≡ replicate (length bytes) 0
 
 -- its first four bytes are those of a table
 pub record HasStates (body : List ℕ) : Type 0 where
@@ -63,7 +53,7 @@ pub record AreMasterKeys (m : Masters) : Type 0 where
 
 -- the contents from `at` on are zero, where the state byte says that the register is empty
 abbrev pub IsZeroWhereEmpty : List ℕ → ℕ → ℕ → Type 0
-IsZeroWhereEmpty body state at = slice_index body state ≡ 0 → AreZero (slice_range body at (at + 24))
+IsZeroWhereEmpty body state at = slice_index body state ≡ 0 → IsZero (slice_range body at (at + 24))
 
 -- 192 bytes
 pub record IsBody (body : List ℕ) : Type 0 where
@@ -73,8 +63,8 @@ pub record IsBody (body : List ℕ) : Type 0 where
 -- a body that is the table of the registers that stand in it
 pub record HasBodyForm (body : List ℕ) : Type 0 where
   pub states : HasStates body
-  pub gap : AreZero (slice_range body 4 8)
+  pub gap : IsZero (slice_range body 4 8)
   pub coming : IsZeroWhereEmpty body 1 8
   pub current : IsZeroWhereEmpty body 2 32
   pub former : IsZeroWhereEmpty body 3 56
-  pub rest : AreZero (slice_range body 80 192)
+  pub rest : IsZero (slice_range body 80 192)

@@ -1,11 +1,15 @@
 -- What a change of the registers does to the module, and when each answer comes.
-use Rattle.std.specs.Prelude.{◌≡◌, ◌≢◌, ◌≤◌, ◌⊎◌, ℕ, List, Result, Ok, Err, OnOk, ⊤}
+use Rattle.std.specs.Prelude.{◌≡◌, ◌≢◌, ◌≤◌, ◌⊎◌, ◌↔◌, ℕ, List, Result, Ok, Err, OnOk, IfOk, IsTrue, ⊤}
+use Rattle.key_cells.specs.Bench.{Bench}
 use Rattle.slot_disk.specs.Cells.{body, IsReplaced}
 use Rattle.slot_disk.specs.Faults.{Rose}
 use Rattle.slot_disk.specs.Medium.{Medium, IsSettled, Told, From, Becomes, EachImage}
 use Rattle.slot_disk.specs.Ranges.{SameOutside}
+use Rattle.master_registers.specs.Actions.{after_action, has_wrong_state, repeats_pattern}
+use Rattle.master_registers.specs.Loaded.{Loaded, ArePlaced, masters_in}
 use Rattle.master_registers.specs.Masters.{Masters}
 use Rattle.master_registers.specs.RegisterBody.{registers_body, StandsForMasters}
+use Rattle.master_registers.specs.declared.actions.Action.{Action}
 use Rattle.master_registers.specs.declared.faults.LoadFault.{LoadFault}
 use Rattle.master_registers.specs.declared.faults.LoadFault.TheVariants as load_fault
 use Rattle.master_registers.specs.declared.faults.RegisterFault.{RegisterFault}
@@ -36,6 +40,21 @@ WhenRefused (Err register_fault.DiskFault) P = ⊤
 WhenRefused (Err register_fault.RegisterState) P = P
 WhenRefused (Err register_fault.SamePattern) P = P
 
+-- An action on the registers that a bench holds, whose place `part` has the key part.
+pub record ChangesRegisters (action : Action) (held : Registers) (bench later : Bench) (old new : Medium) (result : Result Registers RegisterFault) : Type 0 where
+  -- after Ok the bench holds the registers that the action makes, after a fault of the disk their bytes
+  pub loaded : IfOk result (λ next. Loaded (after_action action bench.part (masters_in held bench)) next later)
+  pub placed : result ≡ Err register_fault.DiskFault → ArePlaced (after_action action bench.part (masters_in held bench)) later
+  -- the registers of the module become these
+  pub changed : ChangesModule (masters_in held bench) (after_action action bench.part (masters_in held bench)) old new result
+
+-- A disk's fault is answered only where the disk's count rose, and a rule's refusal exactly where the rule is broken.
+pub record HasChangeCause (action : Action) (m : Masters) (before now : ℕ) (result : Result Registers RegisterFault) : Type 0 where
+  pub later : before ≤ now
+  pub failed : result ≡ Err register_fault.DiskFault → Rose before now
+  pub state : (result ≡ Err register_fault.RegisterState) ↔ IsTrue (has_wrong_state action m)
+  pub same : (result ≡ Err register_fault.SamePattern) ↔ IsTrue (repeats_pattern action m)
+
 -- a disk's fault is answered only where the disk's count rose
 pub record HasDiskCause (before now : ℕ) (result : Result Registers RegisterFault) : Type 0 where
   pub later : before ≤ now
@@ -44,8 +63,3 @@ pub record HasDiskCause (before now : ℕ) (result : Result Registers RegisterFa
 pub record HasLoadCause (before now : ℕ) (result : Result Registers LoadFault) : Type 0 where
   pub later : before ≤ now
   pub failed : result ≡ Err load_fault.DiskFault → Rose before now
-
--- the registers before a change and after it
-pub record Change : Type 0 where
-  pub before : Masters
-  pub next : Masters

@@ -1,8 +1,10 @@
+pub mod Actions
 pub mod BodyForm
 pub mod Changes
 pub mod Loaded
 pub mod Masters
 pub mod RegisterBody
+pub use Rattle.byte_lists.specs.Bytes
 pub use Rattle.key_cells.specs.Bench
 pub use Rattle.key_cells.specs.Lease
 pub use Rattle.slot_disk.specs.Cells

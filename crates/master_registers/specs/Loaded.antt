@@ -1,16 +1,15 @@
 -- The registers in the workbench, and what the code knows of them beside it.
 use Rattle.std.specs.Prelude.{◌≡◌, ℕ, List, Option, None, Some}
 use Rattle.key_cells.specs.Bench.{Bench}
-use Rattle.master_registers.specs.Masters.{NewRegister, Empty, Partial, Full, Masters, IsMasters, new_bytes, kept_bytes, pattern_of_master}
+use Rattle.key_cells.specs.Lease.{bench_of, holding}
+use Rattle.key_cells.specs.declared.leases.Lease.{Lease}
+use Rattle.byte_lists.specs.Bytes.{xor}
+use Rattle.master_registers.specs.Masters.{NewRegister, Empty, Partial, Full, Masters, IsMasters, new_bytes, kept_bytes, pattern_of_master, state_of}
+use Rattle.master_registers.specs.RegisterBody.{StandsForMasters}
 use Rattle.master_registers.specs.declared.registers.NewState.{NewState}
 use Rattle.master_registers.specs.declared.registers.NewState.TheVariants as state
 use Rattle.master_registers.specs.declared.registers.Registers.{Registers}
 use Rattle.master_registers.specs.declared.patterns.Pattern.{Pattern}
-
-abbrev pub state_of : NewRegister → NewState
-state_of Empty = state.Empty
-state_of (Partial bytes) = state.Partial
-state_of (Full bytes) = state.Full
 
 -- the pattern of a register, where it is full
 abbrev pub pattern_in : Option (List ℕ) → Option Pattern
@@ -36,6 +35,10 @@ pub record Loaded (m : Masters) (held : Registers) (bench : Bench) : Type 0 wher
 abbrev pub with_registers : Bench → Bench → Bench
 with_registers bench other = record bench { coming = other.coming; current = other.current; former = other.former; body = other.body }
 
+-- of a lease the places of the registers and the body may have changed, and nothing else
+abbrev pub KeepsRest : Lease → Lease → Type 0
+KeepsRest old new = new ≡ holding old (with_registers (bench_of old) (bench_of new))
+
 -- ---- the registers that a bench holds, by what the code knows of them
 
 abbrev pub coming_in : NewState → List ℕ → NewRegister
@@ -53,3 +56,15 @@ masters_in held bench = record {
   current = kept_in held.current_pattern bench.current;
   former = kept_in held.old_pattern bench.former;
 }
+
+-- the registers whose new one, in another state, holds its bytes XOR a key part
+abbrev pub combined : NewState → List ℕ → Masters → Masters
+combined state part m = record m { coming = coming_in state (xor (new_bytes m.coming) part) }
+
+-- a bench holds the registers that the code knows of
+abbrev pub IsLoaded : Registers → Bench → Type 0
+IsLoaded held bench = Loaded (masters_in held bench) held bench
+
+-- the image of a module stands for the registers that a bench holds
+abbrev pub StandsForLoaded : Registers → Bench → List ℕ → Type 0
+StandsForLoaded held bench image = StandsForMasters image (masters_in held bench)

@@ -1,12 +1,21 @@
 -- The three master key registers with their clear contents, and what each step of a key ceremony makes of them.
-use Rattle.std.specs.Prelude.{◌≡◌, ◌≢◌, ◌<◌, ℕ, Bool, true, false, not, List, [], ◌∷◌, length, take, replicate, All, Option, None, Some, bit_xor, bytes_eq, ⊤}
+use Rattle.std.specs.Prelude.{◌≢◌, ℕ, Bool, true, false, not, List, ◌∷◌, take, replicate, Option, None, Some, bytes_eq, ⊤}
 use Rattle.sha1.specs.Sha1.{sha1}
+use Rattle.byte_lists.specs.Bytes.{AreBytes, xor}
+use Rattle.master_registers.specs.declared.registers.NewState.{NewState}
+use Rattle.master_registers.specs.declared.registers.NewState.TheVariants as state
 
 -- the new register: empty, or partly full or full with 24 bytes
 pub data NewRegister : Type 0 where
   Empty : NewRegister
   Partial : List ℕ → NewRegister
   Full : List ℕ → NewRegister
+
+-- how full it is
+abbrev pub state_of : NewRegister → NewState
+state_of Empty = state.Empty
+state_of (Partial bytes) = state.Partial
+state_of (Full bytes) = state.Full
 
 -- the new, the current and the old master key register
 pub record Masters : Type 0 where
@@ -34,9 +43,8 @@ kept_bytes None = replicate 24 0
 kept_bytes (Some bytes) = bytes
 
 -- 24 bytes
-pub record IsMaster (bytes : List ℕ) : Type 0 where
-  pub size : length bytes ≡ 24
-  pub each : All (λ b. b < 256) bytes
+abbrev pub IsMaster : List ℕ → Type 0
+IsMaster bytes = AreBytes 24 bytes
 
 -- old is full only where current is, and then their patterns differ
 abbrev pub AreApart : Option (List ℕ) → Option (List ℕ) → Type 0
@@ -53,23 +61,17 @@ pub record IsMasters (m : Masters) : Type 0 where
 
 -- ---- the steps
 
--- two lists of bytes XORed byte by byte
-unfoldable pub xor_bytes : List ℕ → List ℕ → List ℕ
-xor_bytes [] ys = []
-xor_bytes (x ∷ xs) [] = []
-xor_bytes (x ∷ xs) (y ∷ ys) = bit_xor x y ∷ xor_bytes xs ys
-
 -- FIRST: new is partly full with the part
 abbrev pub after_first : List ℕ → Masters → Masters
 after_first part m = record m { coming = Partial part }
 
 -- MIDDLE: new is partly full with its bytes XOR the part
 abbrev pub after_middle : List ℕ → Masters → Masters
-after_middle part m = record m { coming = Partial (xor_bytes (new_bytes m.coming) part) }
+after_middle part m = record m { coming = Partial (xor (new_bytes m.coming) part) }
 
 -- LAST: new is full with its bytes XOR the part
 abbrev pub after_last : List ℕ → Masters → Masters
-after_last part m = record m { coming = Full (xor_bytes (new_bytes m.coming) part) }
+after_last part m = record m { coming = Full (xor (new_bytes m.coming) part) }
 
 -- CLEAR: new is empty
 abbrev pub cleared : Masters → Masters

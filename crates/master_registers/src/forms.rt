@@ -1,14 +1,14 @@
 //! The registers as the body of a cell.
 ghost use Rattle.std.specs.Prelude.{◌≡◌, ◌↔◌, ◌+◌, ◌<◌, ◌≤◌, IsTrue};
 ghost use Rattle.key_cells.specs.Lease.{bench_of, holding};
-ghost use Rattle.master_registers.specs.Masters.{Masters};
-ghost use Rattle.master_registers.specs.RegisterBody.{registers_body};
-ghost use Rattle.master_registers.specs.Loaded.{Loaded};
-ghost use Rattle.master_registers.specs.BodyForm.{states_body, state_code, pattern_code, AreZero, IsBody, HasBodyForm, HasStates, IsZeroWhereEmpty};
+ghost use Rattle.master_registers.specs.RegisterBody.{registers_body, state_code, kept_code};
+ghost use Rattle.master_registers.specs.Loaded.{IsLoaded, masters_in};
+ghost use Rattle.master_registers.specs.BodyForm.{states_body, IsBody, HasBodyForm, HasStates, IsZeroWhereEmpty};
 
 use crate::moves::put_master;
 use crate::patterns::Pattern;
 use crate::registers::{NewState, Registers};
+use byte_lists::is_zero;
 use key_cells::{Lease, MasterPlace};
 
 /// What byte 0 is.
@@ -33,9 +33,10 @@ const REST: usize = 80;
 
 /// Writes the registers of the workbench into its body.
 pub(crate) fn write_form(lease: &mut Lease, held: &Registers)
-    ghost m: { Masters }
-    requires { Loaded m held.now (bench_of lease.old) }
-    ensures { lease.new ≡ holding lease.old (record (bench_of lease.old) { body = registers_body m }) }
+    requires { IsLoaded held.now (bench_of lease.old) }
+    ensures { lease.new ≡ holding lease.old (record (bench_of lease.old) {
+      body = registers_body (masters_in held.now (bench_of lease.old));
+    }) }
 {
     write_states(held, lease.body_mut());
     put_master(lease, MasterPlace::New, NEW);
@@ -65,7 +66,7 @@ fn new_state_byte(state: NewState) -> u8
 }
 
 fn kept_state_byte(pattern: Option<Pattern>) -> u8
-    ensures { result ≡ pattern_code pattern }
+    ensures { result ≡ kept_code pattern }
 {
     match pattern {
         None => 0,
@@ -99,11 +100,4 @@ fn has_states(body: &[u8; 192]) -> bool
     ensures { IsTrue result ↔ HasStates body.now }
 {
     body[0] == VERSION && body[NEW_STATE] <= 2 && body[CURRENT_STATE] <= 1 && body[OLD_STATE] <= 1
-}
-
-/// Whether every byte is zero.
-pub(crate) fn is_zero(bytes: &[u8]) -> bool
-    ensures { IsTrue result ↔ AreZero bytes.now }
-{
-    bytes.iter().all(|byte| *byte == 0)
 }

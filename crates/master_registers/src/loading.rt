@@ -2,18 +2,19 @@
 ghost use Rattle.std.specs.Prelude.{◌≡◌, ◌≤◌, ◌↔◌, ◌<◌, ℕ, List, Option, slice_index, IfOk, IfSome, IsNone, IsTrue};
 ghost use Rattle.slot_disk.specs.Medium.{Told, Keeps};
 ghost use Rattle.key_cells.specs.Bench.{master_of};
-ghost use Rattle.key_cells.specs.Lease.{bench_of, holding};
+ghost use Rattle.key_cells.specs.Lease.{bench_of};
 ghost use Rattle.master_registers.specs.BodyForm.{IsBody, HasBodyForm, AreMasterKeys, masters_at, state_at, pattern_at};
 ghost use Rattle.master_registers.specs.Changes.{HasLoadCause};
-ghost use Rattle.master_registers.specs.Loaded.{Loaded, ArePlaced, masters_in, registers_of, with_registers};
+ghost use Rattle.master_registers.specs.Loaded.{Loaded, ArePlaced, IsLoaded, KeepsRest, StandsForLoaded, masters_in, registers_of};
 ghost use Rattle.master_registers.specs.Masters.{Masters, AreApart, blank_masters};
-ghost use Rattle.master_registers.specs.RegisterBody.{ReadsMasters, StandsForMasters, IsDamaged};
+ghost use Rattle.master_registers.specs.RegisterBody.{ReadsMasters, IsDamaged};
 
 use crate::faults::LoadFault;
-use crate::forms::{CURRENT, CURRENT_STATE, NEW, NEW_STATE, OLD, OLD_STATE, is_form, is_zero};
+use crate::forms::{CURRENT, CURRENT_STATE, NEW, NEW_STATE, OLD, OLD_STATE, is_form};
 use crate::moves::{clear_master, take_master};
 use crate::patterns::{Pattern, pattern_of};
 use crate::registers::{NewState, Registers};
+use byte_lists::is_zero;
 use key_cells::{Lease, MasterPlace};
 use slot_disk::{Cell, Disk, read_cell};
 
@@ -21,13 +22,12 @@ use slot_disk::{Cell, Disk, read_cell};
 /// `Current`, `Old` and `New` and the body change, and after an error they may hold any bytes.
 pub fn load<M: Disk>(module: &mut M, lease: &mut Lease) -> Result<Registers, LoadFault>
     requires within { 1536 ≤ (M.medium «module».old).size }
-    ensures loaded { IfOk result (λ held. Loaded (masters_in held (bench_of lease.new)) held (bench_of lease.new)) }
-    ensures stands { IfOk result (λ held.
-        Told (M.medium «module».new) (λ image. StandsForMasters image (masters_in held (bench_of lease.new)))) }
+    ensures loaded { IfOk result (λ held. IsLoaded held (bench_of lease.new)) }
+    ensures stands { IfOk result (λ held. Told (M.medium «module».new) (StandsForLoaded held (bench_of lease.new))) }
     ensures damaged { result ≡ Err LoadFault.Damaged → Told (M.medium «module».old) IsDamaged }
     ensures keeps { Keeps (M.medium «module».old) (M.medium «module».new) }
     ensures cause { HasLoadCause (M.faults «module».old) (M.faults «module».new) result }
-    ensures places { lease.new ≡ holding lease.old (with_registers (bench_of lease.old) (bench_of lease.new)) }
+    ensures places { KeepsRest lease.old lease.new }
 {
     if read_cell(module, Cell::new(0), lease.body_mut()).is_err() {
         return Err(LoadFault::DiskFault);
@@ -37,10 +37,10 @@ pub fn load<M: Disk>(module: &mut M, lease: &mut Lease) -> Result<Registers, Loa
 
 /// Takes the registers from the body of the workbench, where it reads as some.
 fn read_registers(lease: &mut Lease) -> Option<Registers>
-    ensures loaded { IfSome result (λ held. Loaded (masters_in held (bench_of lease.new)) held (bench_of lease.new)) }
+    ensures loaded { IfSome result (λ held. IsLoaded held (bench_of lease.new)) }
     ensures reads { IfSome result (λ held. ReadsMasters (bench_of lease.old).body (masters_in held (bench_of lease.new))) }
     ensures damaged { IsNone result → (m : Masters) → ReadsMasters (bench_of lease.old).body m → ⊥ }
-    ensures places { lease.new ≡ holding lease.old (with_registers (bench_of lease.old) (bench_of lease.new)) }
+    ensures places { KeepsRest lease.old lease.new }
 {
     if is_zero(lease.body()) {
         return Some(blank_registers(lease));
@@ -55,7 +55,7 @@ fn read_registers(lease: &mut Lease) -> Option<Registers>
 /// Makes the places zero.
 fn blank_registers(lease: &mut Lease) -> Registers
     ensures loaded { Loaded blank_masters result (bench_of lease.new) }
-    ensures places { lease.new ≡ holding lease.old (with_registers (bench_of lease.old) (bench_of lease.new)) }
+    ensures places { KeepsRest lease.old lease.new }
 {
     clear_master(lease, MasterPlace::New);
     clear_master(lease, MasterPlace::Current);
@@ -74,7 +74,7 @@ fn take_registers(lease: &mut Lease) -> Registers
     ensures placed { ArePlaced (masters_at (bench_of lease.old).body) (bench_of lease.new) }
     ensures told { result ≡ registers_of (masters_at (bench_of lease.old).body) }
     ensures bytes { AreMasterKeys (masters_at (bench_of lease.old).body) }
-    ensures places { lease.new ≡ holding lease.old (with_registers (bench_of lease.old) (bench_of lease.new)) }
+    ensures places { KeepsRest lease.old lease.new }
 {
     take_master(lease, MasterPlace::New, NEW);
     take_master(lease, MasterPlace::Current, CURRENT);

@@ -2,9 +2,10 @@
 ghost use Rattle.std.specs.Prelude.{◌≡◌, ◌≢◌, ◌+◌, ◌≤◌, ◌++◌, length, take, drop, replicate, slice_range};
 ghost use Rattle.key_cells.specs.Bench.{master_of, with_master};
 ghost use Rattle.key_cells.specs.Lease.{bench_of, holding};
-ghost use Rattle.key_cells.specs.Secret.{bytes_of};
-ghost use Rattle.master_registers.specs.Masters.{IsMaster, xor_bytes};
+ghost use Rattle.byte_lists.specs.Bytes.{xor};
+ghost use Rattle.master_registers.specs.Masters.{IsMaster};
 
+use byte_lists::{put_secret, xor_secret};
 use key_cells::{Lease, MasterPlace, Secret};
 
 /// Moves a master key to another place, and leaves zeros where it was.
@@ -41,41 +42,26 @@ pub(crate) fn put_part(lease: &mut Lease)
 
 /// XORs the part into the new register.
 pub(crate) fn combine_part(lease: &mut Lease)
-    ensures combined { lease.new ≡ holding lease.old (record (bench_of lease.old) { coming = xor_bytes (bench_of lease.old).coming (bench_of lease.old).part }) }
-    ensures bytes { IsMaster (xor_bytes (bench_of lease.old).coming (bench_of lease.old).part) }
+    ensures combined { lease.new ≡ holding lease.old (record (bench_of lease.old) { coming = xor (bench_of lease.old).coming (bench_of lease.old).part }) }
+    ensures bytes { IsMaster (xor (bench_of lease.old).coming (bench_of lease.old).part) }
     ensures part { length (bench_of lease.old).part ≡ 24 }
 {
     let mut bytes = *lease.master(MasterPlace::Part);
     let part = Secret::guard(&mut bytes);
-    combine(&part, lease.master_mut(MasterPlace::New));
-}
-
-fn combine(part: &Secret<'_, 24>, into: &mut [u8; 24])
-    ensures combined { into.new ≡ xor_bytes into.old (bytes_of part.now) }
-    ensures bytes { IsMaster into.new }
-{
-    for at in 0..24 {
-        into[at] ^= part.byte(at);
-    }
+    xor_secret(lease.master_mut(MasterPlace::New), &part);
 }
 
 /// Copies a master key into the body of a cell, from a byte on.
 pub(crate) fn put_master(lease: &mut Lease, place: MasterPlace, at: usize)
     requires { at + 24 ≤ 192 }
-    ensures { lease.new ≡ holding lease.old (record (bench_of lease.old) { body = take at (bench_of lease.old).body ++ master_of (bench_of lease.old) place ++ drop (at + 24) (bench_of lease.old).body }) }
+    ensures { lease.new ≡ holding lease.old (record (bench_of lease.old) {
+      body = take at (bench_of lease.old).body ++ master_of (bench_of lease.old) place
+          ++ drop (at + 24) (bench_of lease.old).body;
+    }) }
 {
     let mut bytes = *lease.master(place);
     let master = Secret::guard(&mut bytes);
-    put(&master, lease.body_mut(), at);
-}
-
-fn put(master: &Secret<'_, 24>, body: &mut [u8; 192], at: usize)
-    requires { at + 24 ≤ 192 }
-    ensures { body.new ≡ take at body.old ++ bytes_of master.now ++ drop (at + 24) body.old }
-{
-    for byte in 0..24 {
-        body[at + byte] = master.byte(byte);
-    }
+    put_secret(lease.body_mut(), at, &master);
 }
 
 /// Copies 24 bytes of the body of a cell, from a byte on, into the place of a master key.

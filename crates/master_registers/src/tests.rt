@@ -1,10 +1,9 @@
 //! Patterns and bodies from outside, the steps of ceremonies, and a fault at each call of the disk.
-ghost use Rattle.std.specs.Prelude.{◌≤◌};
+ghost use Rattle.std.specs.Prelude.{◌≡◌, ◌≤◌};
 ghost use Rattle.slot_disk.specs.Medium.{Told, IsSettled};
-ghost use Rattle.key_cells.specs.Lease.{bench_of};
-ghost use Rattle.master_registers.specs.Loaded.{Loaded};
-ghost use Rattle.master_registers.specs.Masters.{Masters};
-ghost use Rattle.master_registers.specs.RegisterBody.{StandsForMasters};
+ghost use Rattle.key_cells.specs.Bench.{master_of, with_master};
+ghost use Rattle.key_cells.specs.Lease.{bench_of, holding};
+ghost use Rattle.master_registers.specs.Loaded.{IsLoaded, StandsForLoaded};
 
 use crate::*;
 use key_cells::{Lease, MasterPlace, Workbench};
@@ -27,6 +26,49 @@ enum Stop {
     Change(RegisterFault),
 }
 
+impl Step {
+    fn action(&self) -> Action {
+        match self {
+            Step::First(_) => Action::First,
+            Step::Middle(_) => Action::Middle,
+            Step::Last(_) => Action::Last,
+            Step::Clear => Action::Clear,
+            Step::Set => Action::Set,
+        }
+    }
+}
+
+/// Puts the key part of a step into its place.
+fn put_key_part(step: Step, lease: &mut Lease)
+    ensures { lease.new ≡ holding lease.old (with_master (bench_of lease.old) MasterPlace.Part
+        (master_of (bench_of lease.new) MasterPlace.Part)) }
+{
+    if let Step::First(part) | Step::Middle(part) | Step::Last(part) = step {
+        *lease.master_mut(MasterPlace::Part) = part;
+    }
+}
+
+/// The call of each action.
+fn act<M: Disk>(
+    action: Action,
+    module: &mut M,
+    lease: &mut Lease,
+    held: &Registers,
+) -> Result<Registers, RegisterFault>
+    requires within { 1536 ≤ (M.medium «module».old).size }
+    requires settled { IsSettled (M.medium «module».old) }
+    requires loaded { IsLoaded held.now (bench_of lease.old) }
+    requires stands { Told (M.medium «module».old) (StandsForLoaded held.now (bench_of lease.old)) }
+{
+    match action {
+        Action::First => first(module, lease, held),
+        Action::Middle => middle(module, lease, held),
+        Action::Last => last(module, lease, held),
+        Action::Clear => clear(module, lease, held),
+        Action::Set => set(module, lease, held),
+    }
+}
+
 /// Settles a module, loads its registers and makes a step.
 fn carry_out<M: Disk>(module: &mut M, bench: &mut Workbench, step: Step) -> Result<Registers, Stop>
     requires { 1536 ≤ (M.medium «module».old).size }
@@ -36,37 +78,8 @@ fn carry_out<M: Disk>(module: &mut M, bench: &mut Workbench, step: Step) -> Resu
     }
     let mut lease = Lease::open(bench);
     let held = load(module, &mut lease).map_err(Stop::Load)?;
-    change(module, &mut lease, &held, step).map_err(Stop::Change)
-}
-
-fn change<M: Disk>(
-    module: &mut M,
-    lease: &mut Lease,
-    held: &Registers,
-    step: Step,
-) -> Result<Registers, RegisterFault>
-    ghost m: { Masters }
-    requires within { 1536 ≤ (M.medium «module».old).size }
-    requires settled { IsSettled (M.medium «module».old) }
-    requires loaded { Loaded m held.now (bench_of lease.old) }
-    requires stands { Told (M.medium «module».old) (λ image. StandsForMasters image m) }
-{
-    match step {
-        Step::First(part) => {
-            *lease.master_mut(MasterPlace::Part) = part;
-            first(module, lease, held)
-        }
-        Step::Middle(part) => {
-            *lease.master_mut(MasterPlace::Part) = part;
-            middle(module, lease, held)
-        }
-        Step::Last(part) => {
-            *lease.master_mut(MasterPlace::Part) = part;
-            last(module, lease, held)
-        }
-        Step::Clear => clear(module, lease, held),
-        Step::Set => set(module, lease, held),
-    }
+    put_key_part(step, &mut lease);
+    act(step.action(), module, &mut lease, &held).map_err(Stop::Change)
 }
 
 /// The registers that a module holds.

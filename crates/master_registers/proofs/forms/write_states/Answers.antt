@@ -1,5 +1,6 @@
 use Rattle.std.proofs.Common.{◌≡◌, ℕ, List, ◌∷◌, replicate, set, ap, ◌∙◌}
-use Rattle.master_registers.specs.BodyForm.{states_body, state_code, pattern_code}
+use Rattle.master_registers.specs.BodyForm.{states_body}
+use Rattle.master_registers.specs.RegisterBody.{state_code, kept_code}
 use Rattle.master_registers.proofs.forms.write_states.Goals as goal
 
 pub returns : goal.returns
@@ -13,4 +14,4 @@ returns c =
     ap (λ body. set (set (set (set body 0 1) 1 state) 2 current) 3 old) zeros
     ∙ ap (λ n. 1 ∷ n ∷ current ∷ old ∷ coded) c.new_state_byte.ensures
     ∙ ap (λ n. 1 ∷ state_code c.args.held.now.new_state ∷ n ∷ old ∷ coded) c.kept_state_byte.ensures
-    ∙ ap (λ n. 1 ∷ state_code c.args.held.now.new_state ∷ pattern_code c.args.held.now.current_pattern ∷ n ∷ coded) c.kept_state_byte-2.ensures
+    ∙ ap (λ n. 1 ∷ state_code c.args.held.now.new_state ∷ kept_code c.args.held.now.current_pattern ∷ n ∷ coded) c.kept_state_byte-2.ensures

@@ -8,7 +8,7 @@ use Rattle.master_registers.proofs.loading.read_registers.Goals as goal
 pub returns-then-not-is_form-clause-damaged : goal.returns-then-not-is_form-clause-damaged
 returns-then-not-is_form-clause-damaged c _ =
     unread (bench_of c.args.lease.now).body c.body.result.now c.body-2.result.now c.is_zero.result c.is_form.result c.body.ensures c.body-2.ensures
-    c.if-is_zero.false c.is_zero.ensures.1 c.if-not-is_form.true c.is_form.ensures.form.1
+    c.if-is_zero.false c.is_zero.ensures.zero.1 c.if-not-is_form.true c.is_form.ensures.form.1
 
 pub returns-then-are_apart-clause-loaded : goal.returns-then-are_apart-clause-loaded
 returns-then-are_apart-clause-loaded c =
@@ -30,5 +30,5 @@ returns-then-are_apart-clause-reads c =
 
 pub returns-else-are_apart-clause-damaged : goal.returns-else-are_apart-clause-damaged
 returns-else-are_apart-clause-damaged c _ =
-    too_close (bench_of c.args.lease.now).body c.body.result.now c.is_zero.result c.are_apart.result c.body.ensures c.if-is_zero.false c.is_zero.ensures.1
+    too_close (bench_of c.args.lease.now).body c.body.result.now c.is_zero.result c.are_apart.result c.body.ensures c.if-is_zero.false c.is_zero.ensures.zero.1
     c.if-are_apart.false (c.are_apart.ensures (masters_at (bench_of c.args.lease.now).body) c.take_registers-held.ensures.told).1

@@ -1,0 +1,2 @@
+pub mod Bytes
+pub use Rattle.key_cells.specs.Secret
