@@ -45,10 +45,10 @@ impl Model for MemoryDisk {
     ghost Value = { DiskState };
 
     ghost view = { λ d. record {
-        first = d.first.items;
-        calls = d.calls.items;
-        room = d.room;
-        plan = d.plan;
+      first = d.first.items;
+      calls = d.calls.items;
+      room = d.room;
+      plan = d.plan;
     } };
 
     ghost invariant = { λ d.

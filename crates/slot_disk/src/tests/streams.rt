@@ -144,7 +144,13 @@ fn a_stream_is_read(rt: HostRuntime) {
 /// Each write to a stream that takes a part, nothing, or fails.
 #[test]
 fn a_stream_is_written(rt: HostRuntime) {
-    const TURNS: &[Turn] = &[Turn::Take(1), Turn::Take(9), Turn::Fail, Turn::End, Turn::Take(2)];
+    const TURNS: &[Turn] = &[
+        Turn::Take(1),
+        Turn::Take(9),
+        Turn::Fail,
+        Turn::End,
+        Turn::Take(2),
+    ];
     let mut stream = Scripted::new(TURNS);
     {
         let mut sink = StreamSink::new(&mut stream);
