@@ -160,8 +160,8 @@ impl LineBuffer {
     fn keep(&mut self, count: usize)
         requires { count ≤ length self.old.pending }
         ensures { self.new ≡ record self.old {
-            line = take line_room (self.old.line ++ take count self.old.pending);
-            pending = drop count self.old.pending;
+          line = take line_room (self.old.line ++ take count self.old.pending);
+          pending = drop count self.old.pending;
         } }
     {
         let kept = count.min(LINE_ROOM - self.line.len());
