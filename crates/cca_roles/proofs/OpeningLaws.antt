@@ -3,7 +3,7 @@ use Rattle.std.proofs.Common.{◌≡◌, ◌≢◌, ◌≤◌, ◌<◌, ◌⊎�
 use Rattle.std.proofs.lemmas.Bool.{cases_eq, cases_lt}
 use Rattle.std.proofs.lemmas.List.{get_or-set_same, get_or-set_other, ext_get_or}
 use Rattle.slot_disk.specs.Cells.{body}
-use Rattle.cca_roles.specs.Directory.{name_at, AreApart}
+use Rattle.cca_roles.specs.Directory.{name_at, AreApart, IsHeld}
 use Rattle.cca_roles.specs.Opening.{Opens, IsRefused, OpenedTo}
 use Rattle.cca_roles.specs.RoleBody.{ReadsPlace, slot_in}
 use Rattle.cca_roles.specs.Roles.{AreRoles, names, name_of, role_at, blank_roles}
@@ -48,7 +48,7 @@ module _ (image : List ℕ) (place : ℕ) (roles : List (Option Role)) (opened :
     place = place;
     cell_is = refl;
     within = within;
-    damaged = ⊎_elim (λ nothing. inl nothing) (λ (held : (r : Role) × ReadsPlace place (body image (place + 1)) (Some r) × (k : ℕ) × (name_at (names roles) k ≡ Some r.name)). inr (repeat held.0 held.1 held.2 held.3)) refused;
+    damaged = ⊎_elim (λ nothing. inl nothing) (λ (held : (r : Role) × ReadsPlace place (body image (place + 1)) (Some r) × IsHeld (Some r.name) (names roles)). inr (repeat held.0 held.1 held.2.0 held.2.1)) refused;
     first = λ k below damaged. not_before are k below damaged;
   }
     where

@@ -45,7 +45,7 @@ module _ (image : List ℕ) where
     where
       by_held : (b : Bool) → is_some (place_of r.name (names c.0)) ≡ b → Come (n + 1) ⊎ Stuck
       by_held true held = let there = held_somewhere r.name (names c.0) held in
-          inr (n + 1, refused_damaged image n c.0 c.1 c.2 below (inr (r, subst (ReadsPlace n (body image (n + 1))) is reads, there.0, there.1)))
+          inr (n + 1, refused_damaged image n c.0 c.1 c.2 below (inr (r, subst (ReadsPlace n (body image (n + 1))) is reads, there)))
       by_held false missing = inl (come_more n (Some r) c below later is reads (apart_set (names c.0) n r.name c.2.apart (held_nowhere r.name (names c.0) missing)))
 
   first : Come 1 ⊎ Stuck

@@ -5,6 +5,6 @@ use Rattle.cca_roles.proofs.bodies.is_blank.Goals as goal
 pub returns : goal.returns
 unfolding blank_body
 returns c = (
-  λ yes. c.is_zero.ensures.0 yes ∙ ap (λ (n : ℕ). replicate n 0) c.told-body,
-  λ is. c.is_zero.ensures.1 (is ∙ ap (λ (n : ℕ). replicate n 0) (sym c.told-body)),
+  λ yes. c.is_zero.ensures.zero.0 yes ∙ ap (λ (n : ℕ). replicate n 0) c.told-body,
+  λ is. c.is_zero.ensures.zero.1 (is ∙ ap (λ (n : ℕ). replicate n 0) (sym c.told-body)),
 )

@@ -20,7 +20,7 @@ some_weaker (Some x) weaker holds = weaker x holds
 pub returns-in-None-clause-first : goal.returns-in-None-clause-first
 returns-in-None-clause-first c =
     some_weaker c.free_place.result
-    (λ place is first. absurd (free_first (names c.args.self.now) default_name (sym is.0 ∙ first) c.free_place.ensures.roles.first))
+    (λ place is first. absurd (free_first (names c.args.self.now) default_name (sym is ∙ first) c.free_place.ensures.roles.first))
     c.free_place.ensures.free
 
 pub returns-in-None-clause-apart : goal.returns-in-None-clause-apart
