@@ -55,8 +55,8 @@ module _ (image : List ℕ) (place : ℕ) (roles : List (Option Role)) (opened :
       repeat : (r : Role) → ReadsPlace place (body image (place + 1)) (Some r) → (k : ℕ) → name_at (names roles) k ≡ Some r.name → Repeats image place
       repeat r reads k held =
           let below : k < place = ⊎_elim (λ (b : k < place). b)
-              (λ (past : place ≤ k). absurd (none_some r.name (sym (name_of_place roles k ∙ ap name_of (opened.rest k past)) ∙ held)))
-              (cases_lt k place) in
+          (λ (past : place ≤ k). absurd (none_some r.name (sym (name_of_place roles k ∙ ap name_of (opened.rest k past)) ∙ held)))
+          (cases_lt k place) in
           let lower = role_named (slot_in k (body image (k + 1))) r.name (sym (name_before k below) ∙ held) in
           record {
             lower = k;

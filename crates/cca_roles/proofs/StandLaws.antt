@@ -62,10 +62,10 @@ module _ (n : ℕ) (bytes : List ℕ) (slot : Option Role) (s : List (Option Rol
     size = length-set s n slot ∙ stands.size;
     reads = λ m below. ⊎_elim
         (λ (is : m ≡ n). subst (λ (k : ℕ). ReadsPlace k (body new (k + 1)) (role_at (set s n slot) k)) (sym is)
-            (subst (λ (r : Option Role). ReadsPlace n (body new (n + 1)) r) (sym (get_or-set_same s n slot None (omega (arith, stands.size))))
-            (subst (λ (b : List ℕ). ReadsPlace n b slot) (sym here) reads)))
+        (subst (λ (r : Option Role). ReadsPlace n (body new (n + 1)) r) (sym (get_or-set_same s n slot None (omega (arith, stands.size))))
+        (subst (λ (b : List ℕ). ReadsPlace n b slot) (sym here) reads)))
         (λ (other : m ≡ n → ⊥). subst (λ (r : Option Role). ReadsPlace m (body new (m + 1)) r) (sym (get_or-set_other s n m slot None other))
-            (subst (λ (b : List ℕ). ReadsPlace m b (role_at s m)) (sym (others (m + 1) (other_cell m other))) (stands.reads m below)))
+        (subst (λ (b : List ℕ). ReadsPlace m b (role_at s m)) (sym (others (m + 1) (other_cell m other))) (stands.reads m below)))
         (cases_eq m n);
     apart = apart;
   }
@@ -129,3 +129,7 @@ told_map m P Q told weaker = told_from m.content Q (λ c is. weaker c (told_at m
 -- what is told of a disk that was read, with what was told before
 pub told_next : (m0 m1 : Medium) (P Q R : List ℕ → Type 0) → Keeps m0 m1 → Told m0 P → Told m1 Q → ((c : List ℕ) → P c → Q c → R c) → Told m0 R
 told_next m0 m1 P Q R keeps before then both = told_from m0.content R (λ c is. both c (told_at m0.content P c is before) (told_at m1.content Q c (keeps.content ∙ is) then))
+
+-- what was told of a disk is told of it after calls that keep it
+pub told_kept : (m0 m1 : Medium) (P : List ℕ → Type 0) → Keeps m0 m1 → Told m0 P → Told m1 P
+told_kept m0 m1 P keeps told = told_from m1.content P (λ c is. told_at m0.content P c (sym keeps.content ∙ is) told)

@@ -62,10 +62,10 @@ module _ (image : List ℕ) where
   scan zero within = first
   scan (suc n) within = ⊎_elim
       (λ (c : Come (1 + n)). ⊎_elim
-          (λ (reads : ReadsPlace (1 + n) (body image (1 + n + 1)) (slot_in (1 + n) (body image (1 + n + 1)))).
-          subst (λ (k : ℕ). Come k ⊎ Stuck) (omega arith) (step (1 + n) (slot_in (1 + n) (body image (1 + n + 1))) (omega (arith, within)) (omega arith) c refl reads))
-          (λ (nothing : ReadsNothing (1 + n) (body image (1 + n + 1))). inr (1 + n + 1, refused_damaged image (1 + n) c.0 c.1 c.2 (omega (arith, within)) (inl nothing)))
-          (decided_place (1 + n) (body image (1 + n + 1))))
+      (λ (reads : ReadsPlace (1 + n) (body image (1 + n + 1)) (slot_in (1 + n) (body image (1 + n + 1)))).
+      subst (λ (k : ℕ). Come k ⊎ Stuck) (omega arith) (step (1 + n) (slot_in (1 + n) (body image (1 + n + 1))) (omega (arith, within)) (omega arith) c refl reads))
+      (λ (nothing : ReadsNothing (1 + n) (body image (1 + n + 1))). inr (1 + n + 1, refused_damaged image (1 + n) c.0 c.1 c.2 (omega (arith, within)) (inl nothing)))
+      (decided_place (1 + n) (body image (1 + n + 1))))
       (λ (stuck : Stuck). inr stuck)
       (scan n (omega (arith, within)))
 

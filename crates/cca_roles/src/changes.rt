@@ -42,8 +42,7 @@ impl Roles {
             (fault ≡ RoleFault.DiskFault) ⊎ (fault ≡ RoleFault.TableFull)) }
 
         // a full table refuses a new name, and nothing is touched
-        ensures full {
-            (result ≡ Err RoleFault.TableFull) ↔ IsTrue (define_refused name.now self.old) }
+        ensures full { (result ≡ Err RoleFault.TableFull) ↔ IsTrue (define_refused name.now self.old) }
         ensures untouched { result ≡ Err RoleFault.TableFull → «module».new ≡ «module».old }
         ensures lease_untouched { result ≡ Err RoleFault.TableFull → lease.new ≡ lease.old }
     {
@@ -81,8 +80,7 @@ impl Roles {
             (fault ≡ RoleFault.DiskFault) ⊎ (fault ≡ RoleFault.Unknown)) }
 
         // a name that isn't held is refused, and nothing is touched
-        ensures unknown {
-            (result ≡ Err RoleFault.Unknown) ↔ IsTrue (remove_refused name.now self.old) }
+        ensures unknown { (result ≡ Err RoleFault.Unknown) ↔ IsTrue (remove_refused name.now self.old) }
         ensures untouched { result ≡ Err RoleFault.Unknown → «module».new ≡ «module».old }
         ensures lease_untouched { result ≡ Err RoleFault.Unknown → lease.new ≡ lease.old }
     {

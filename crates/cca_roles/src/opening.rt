@@ -23,13 +23,13 @@ pub fn open_roles<M: Disk>(
 ) -> Result<(), RoleFault>
     requires size { (M.medium «module».old).size ≡ MODULE_LEN }
     ensures stands { OnOk result
-        (Told (M.medium «module».old) (λ image. StandsForRoles image roles.new)) }
+        (Told (M.medium «module».new) (λ image. StandsForRoles image roles.new)) }
     ensures unopened { OnErr result (roles.new ≡ roles.old) }
     ensures damaged { (cell : ℕ) → result ≡ Err (RoleFault.Damaged cell)
         → Told (M.medium «module».old) (λ image. IsFirstDamaged image cell) }
     ensures exact { (Rose (M.faults «module».old) (M.faults «module».new) → ⊥)
         → Told (M.medium «module».old) (λ image. (cell : ℕ) → IsFirstDamaged image cell
-            → result ≡ Err (RoleFault.Damaged cell)) }
+        → result ≡ Err (RoleFault.Damaged cell)) }
     ensures faults { IfErr result (λ fault.
         (fault ≡ RoleFault.DiskFault) ⊎ ((cell : ℕ) × (fault ≡ RoleFault.Damaged cell))) }
     ensures keeps { Keeps (M.medium «module».old) (M.medium «module».new) }
@@ -92,7 +92,7 @@ fn open_place<M: Disk>(
     ensures roles { AreRoles roles.new }
     ensures damaged { (cell : ℕ) → result ≡ Err (RoleFault.Damaged cell)
         → (cell ≡ place + 1)
-            × Told (M.medium «module».old) (λ image. IsRefused (body image (place + 1)) place roles.old) }
+        × Told (M.medium «module».old) (λ image. IsRefused (body image (place + 1)) place roles.old) }
     ensures faults { IfErr result (λ fault.
         (fault ≡ RoleFault.DiskFault) ⊎ (fault ≡ RoleFault.Damaged (place + 1))) }
     ensures keeps { Keeps (M.medium «module».old) (M.medium «module».new) }

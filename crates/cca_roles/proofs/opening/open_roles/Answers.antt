@@ -6,7 +6,7 @@ use Rattle.cca_roles.specs.declared.faults.RoleFault.TheVariants.{DiskFault, Dam
 use Rattle.cca_roles.specs.Opening.{OpenedTo, IsRefused, Opens}
 use Rattle.cca_roles.specs.RolesStand.{StandsForRoles, IsFirstDamaged}
 use Rattle.cca_roles.proofs.OpeningLaws.{opened_more, opened_all, refused_damaged}
-use Rattle.cca_roles.proofs.StandLaws.{told_map, told_next, handed_on, first_one, stands_undamaged}
+use Rattle.cca_roles.proofs.StandLaws.{told_map, told_next, told_kept, handed_on, first_one, stands_undamaged}
 use Rattle.cca_roles.proofs.opening.open_roles.Goals as goal
 
 pub returns-in_err-open_default-clause-exact : goal.returns-in_err-open_default-clause-exact
@@ -42,6 +42,13 @@ returns-in_err-open_place-clause-exact g c fell =
     told_map (g.M.Disk.medium c.args.«module».now) (λ image. IsFirstDamaged image (c.loop-place.place + 1)) _ (returns-in_err-open_place-clause-damaged g c (c.loop-place.place + 1) (same ∙ ap (λ f. Err f) damaged))
     (λ image first cell other. same ∙ ap (λ f. Err f) (damaged ∙ ap (λ k. Damaged k) (first_one image (c.loop-place.place + 1) cell first other))))
     c.in_err-open_place.ensures.faults
+
+pub returns-clause-stands : goal.returns-clause-stands
+returns-clause-stands g c =
+    let all : c.loop-place.place ≡ 32 = omega (arith, c.loop-place-test.false, c.loop-place.auto.place-end) in
+    told_kept (g.M.Disk.medium c.args.«module».now) (g.M.Disk.medium c.loop-place.«module») (λ image. StandsForRoles image c.loop-place.opened) c.loop-place.invariant.keeps
+    (told_map (g.M.Disk.medium c.args.«module».now) (λ image. OpenedTo image c.loop-place.place c.loop-place.opened) (λ image. StandsForRoles image c.loop-place.opened) c.loop-place.invariant.opened
+    (λ image opened. opened_all image c.loop-place.opened (subst (λ (n : ℕ). OpenedTo image n c.loop-place.opened) all opened) c.loop-place.invariant.roles))
 
 pub returns-clause-exact : goal.returns-clause-exact
 returns-clause-exact g c _ =

@@ -27,5 +27,5 @@ pub returns-in-None-clause-apart : goal.returns-in-None-clause-apart
 returns-in-None-clause-apart c =
     some_weaker c.free_place.result
     (λ place is. apart_set (names c.args.self.now) place c.args.name.now c.free_place.ensures.roles.apart
-        (held_nowhere c.args.name.now (names c.args.self.now) (ap (λ o. is_some o) (sym c.in-None.ensures.found))))
+    (held_nowhere c.args.name.now (names c.args.self.now) (ap (λ o. is_some o) (sym c.in-None.ensures.found))))
     c.free_place.ensures.free
