@@ -2,13 +2,13 @@
 use Rattle.std.proofs.Common.{◌≡◌, ◌≢◌, ℕ, ◌<◌, ◌≤◌, Bool, true, false, List, Option, None, Some, length, get_or, drop, refl, sym, ap, ◌∙◌, ◌⊎◌, subst, inl, inr, ⊎_elim, arith}
 use Rattle.std.specs.Prelude.{if◌then◌else◌, is_none, replicate}
 use Rattle.std.specs.Str.{bytes_eq}
-use Rattle.std.proofs.lemmas.List.{ext_get_or, get_or-replicate, get_or_past, length-drop, length-replicate, length-take}
+use Rattle.std.proofs.lemmas.List.{get_or_past, length-drop, length-take}
 use Rattle.std.proofs.lemmas.List.Elements.{All-drop, All-take}
 use Rattle.std.proofs.lemmas.Bool.{cases_lt, false_from_ne_true}
 use Rattle.std.proofs.lemmas.Slice.Eq.{bytes_eq-Decides}
 use Rattle.cca_vectors.specs.Checks.{first_failing}
 use Rattle.byte_lists.specs.Bytes.{AreBytes, IsZero}
-use Rattle.byte_lists.proofs.ByteLemmas.{zeros_of, IsZero-replicate}
+use Rattle.byte_lists.proofs.ByteLemmas.{zeros_of}
 use Rattle.multi_encipher.specs.Bundles.{transport_bundle}
 use Rattle.multi_encipher.specs.Seals.{IsSealed, seal, unseal}
 use Rattle.multi_encipher.proofs.SealLaws.{one_to_one}

@@ -6,7 +6,7 @@ use Rattle.des_core.specs.Bits.{bits, byte_bits, number, pieces, to_bytes, xor}
 use Rattle.des_core.specs.Des.{crypt, f, key_schedule, look_up, places, round_keys, rounds, substitute}
 use Rattle.des_core.specs.TripleDes.{deciphered, ded, enciphered}
 use Rattle.multi_encipher.specs.Seals.{variant_key, opened_half, unseal}
-use Rattle.key_tokens.specs.Denotes.{ClearKey, denoted_under}
+use Rattle.key_tokens.specs.Denotes.{denoted_under}
 use Rattle.key_tokens.specs.Tvv.{tvv_of}
 
 abbrev data_token : List ℕ

@@ -5,7 +5,7 @@ use Rattle.std.specs.Int.{to_be_bytes, from_be_bytes, w32}
 use Rattle.std.proofs.lemmas.Bool.{eqb-true, eq-eqb, and_from, or_left, or_right, cases_eq, ne_eqb, not_from_false, or_cases, or_from, not_from_true}
 use Rattle.std.proofs.lemmas.Bool.Decides.{Decides-eqb, Decides-and, Decides-or}
 use Rattle.std.proofs.lemmas.Nat.{be_bytes_4, from_be_bytes-to_be_bytes_4}
-use Rattle.std.proofs.lemmas.List.{ext_get_or, length-take, length-drop, length-replicate, get_or-replicate, drop_more}
+use Rattle.std.proofs.lemmas.List.{length-take, length-drop, drop_more}
 use Rattle.byte_lists.specs.Bytes.{IsZero, is_zero}
 use Rattle.byte_lists.proofs.ByteLemmas.{zeros_of, is_zero-Decides}
 use Rattle.cca_vectors.specs.Checks.{check, first_failing}

@@ -8,5 +8,6 @@ ghost use Rattle.key_tokens.specs.Denotes.{HaveDistinctPatterns, DenotesOne, Mas
 /// the definitions compute: none where it breaks a rule, or where it is internal and neither master key has its
 /// pattern.
 pub fn tokens_denote_one_key()
-    ensures { (masters : MasterKeys) (transport bytes : List ℕ) → AreBytes 64 bytes → HaveDistinctPatterns masters → DenotesOne masters transport bytes }
+    ensures { (masters : MasterKeys) (transport bytes : List ℕ) → AreBytes 64 bytes
+        → HaveDistinctPatterns masters → DenotesOne masters transport bytes }
 {}

@@ -122,7 +122,8 @@ fn token_fault(fault: VectorFault) -> TokenFault
 fn checked_vector(bytes: &[u8; 64], asked: Asked) -> Result<Vector, TokenFault>
     ensures vector { IfOk result (λ vector. vector ≡ vector_bytes_of bytes.now) }
     ensures accepted { OnOk result (first_failing (token_checks asked bytes.now) ≡ None) }
-    ensures refused { IfErr result (λ fault. first_failing (token_checks asked bytes.now) ≡ Some (rule_of fault)) }
+    ensures refused { IfErr result (λ fault.
+        first_failing (token_checks asked bytes.now) ≡ Some (rule_of fault)) }
 {
     if let Some(fault) = header_fault(bytes, asked) {
         return Err(fault);
@@ -141,9 +142,11 @@ fn checked_vector(bytes: &[u8; 64], asked: Asked) -> Result<Vector, TokenFault>
 pub fn read_token(bytes: &[u8; 64], asked: Asked) -> Result<Token, TokenFault>
     ensures token { IfOk result (λ token. token ≡ token_of bytes.now) }
     ensures accepted { OnOk result (first_failing (token_checks asked bytes.now) ≡ None) }
-    ensures refused { IfErr result (λ fault. first_failing (token_checks asked bytes.now) ≡ Some (rule_of fault)) }
+    ensures refused { IfErr result (λ fault.
+        first_failing (token_checks asked bytes.now) ≡ Some (rule_of fault)) }
     ensures layout { IfOk result (λ token. IsToken bytes.now token × IsAsked asked token.kind) }
-    ensures only { (token : Token) → IsToken bytes.now token → IsAsked asked token.kind → result ≡ Ok token }
+    ensures only { (token : Token) → IsToken bytes.now token → IsAsked asked token.kind
+        → result ≡ Ok token }
 {
     let vector = checked_vector(bytes, asked)?;
     Ok(Token {

@@ -38,7 +38,8 @@ fn append(bytes: &mut [u8; 64], end: usize, piece: &[u8]) -> usize
 fn with_tvv(token: &Token, tvv: u32) -> [u8; 64]
     ensures made { result ≡ contents (layout token.now KEY_AND_VECTOR tvv) }
     ensures valid { IsValid token.now.vector }
-    ensures sized { (length token.now.pattern ≡ 8) × (length token.now.sealed.left ≡ 8) × (length token.now.sealed.right ≡ 8) }
+    ensures sized { (length token.now.pattern ≡ 8)
+        × (length token.now.sealed.left ≡ 8) × (length token.now.sealed.right ≡ 8) }
 {
     let left_vector = token.vector.left();
     let right_vector = token.vector.right();
@@ -78,7 +79,8 @@ pub fn write_token(token: &Token) -> [u8; 64]
     ensures flag { slice_index result 6 ≡ KEY_AND_VECTOR }
     ensures token { IsToken result token.now }
     ensures fields { token_of result ≡ token.now }
-    ensures accepted { (asked : Asked) → IsAsked asked token.now.kind → first_failing (token_checks asked result) ≡ None }
+    ensures accepted { (asked : Asked) → IsAsked asked token.now.kind
+        → first_failing (token_checks asked result) ≡ None }
 {
     with_tvv(token, tvv(&with_tvv(token, 0)))
 }

@@ -1,7 +1,9 @@
 -- Key bundles: the three keys of 8 bytes under which others are enciphered, in a row.
-use Rattle.std.specs.Prelude.{◌≢◌, ℕ, ◌+◌, ◌-◌, ◌*◌, List, ◌++◌, replicate, slice_range, ⊤}
+use Rattle.std.specs.Prelude.{◌≡◌, ◌≢◌, ℕ, ◌+◌, ◌-◌, ◌*◌, List, ◌++◌, replicate, slice_range, ⊤}
 use Rattle.cca_vectors.specs.Vectors.{length_of}
-use Rattle.key_cells.specs.Bench.{Bench}
+use Rattle.key_cells.specs.Bench.{Bench, key_of, with_key}
+use Rattle.key_cells.specs.Lease.{bench_of, holding}
+use Rattle.key_cells.specs.declared.leases.Lease.{Lease}
 use Rattle.key_cells.specs.declared.places.KeyPlace.{KeyPlace}
 use Rattle.key_cells.specs.declared.places.KeyPlace.TheVariants as place
 use Rattle.multi_encipher.specs.declared.halves.Under.{Under}
@@ -30,6 +32,15 @@ IsElsewhere Old into = ⊤
 IsElsewhere New into = ⊤
 IsElsewhere First into = into ≢ place.First
 IsElsewhere Second into = into ≢ place.Second
+
+-- of a lease the schedules may have changed, and nothing else
+abbrev pub ChangesSchedules : Lease → Lease → Type 0
+ChangesSchedules old new = new ≡ holding old (record (bench_of old) { schedules = (bench_of new).schedules })
+
+-- of a lease the schedules and a key's place may have changed, and nothing else
+abbrev pub ChangesKeyAt : KeyPlace → Lease → Lease → Type 0
+ChangesKeyAt place old new =
+    new ≡ holding old (record (with_key (bench_of old) place (key_of (bench_of new) place)) { schedules = (bench_of new).schedules })
 
 -- the key that stands in 16 bytes, by the length that its vector says
 abbrev pub key_in : List ℕ → List ℕ → List ℕ

@@ -1,10 +1,10 @@
 //! Schedules of the keys of a bundle, each XORed with the control vector of a half.
 ghost use Rattle.std.specs.Prelude.{◌≡◌, ◌+◌, ◌*◌, ◌<◌, ◌≤◌, ℕ, List, length, slice_set};
 ghost use Rattle.key_cells.specs.Bench.{Bench};
-ghost use Rattle.key_cells.specs.Lease.{bench_of, holding};
+ghost use Rattle.key_cells.specs.Lease.{bench_of};
 ghost use Rattle.key_cells.specs.Secret.{bytes_of};
 ghost use Rattle.des_core.specs.Schedules.{IsOf, AreOf, schedule_at};
-ghost use Rattle.multi_encipher.specs.Bundles.{bundle_under, key_of_bundle};
+ghost use Rattle.multi_encipher.specs.Bundles.{ChangesSchedules, bundle_under, key_of_bundle};
 ghost use Rattle.multi_encipher.specs.Seals.{variant_key};
 
 use crate::halves::Under;
@@ -48,7 +48,8 @@ fn put_variant(lease: &Lease, under: Under, number: usize, vector: &[u8; 8], out
 fn put_schedule(key: &Secret<'_, 8>, schedules: &mut [Schedule; 3], number: usize)
     requires { number < 3 }
     ensures made { IsOf (schedule_at schedules.new number) (bytes_of key.now) }
-    ensures others { schedules.new ≡ slice_set schedules.old number (schedule_at schedules.new number) }
+    ensures others { schedules.new
+        ≡ slice_set schedules.old number (schedule_at schedules.new number) }
 {
     schedule(key, &mut schedules[number]);
 }
@@ -56,9 +57,12 @@ fn put_schedule(key: &Secret<'_, 8>, schedules: &mut [Schedule; 3], number: usiz
 /// Makes one of the three schedules.
 fn make_schedule(lease: &mut Lease, under: Under, number: usize, vector: &[u8; 8])
     requires { number < 3 }
-    ensures made { IsOf (schedule_at (bench_of lease.new).schedules number) (variant_key (bundle_under (bench_of lease.old) under) number vector.now) }
-    ensures others { (bench_of lease.new).schedules ≡ slice_set (bench_of lease.old).schedules number (schedule_at (bench_of lease.new).schedules number) }
-    ensures stays { lease.new ≡ holding lease.old (record (bench_of lease.old) { schedules = (bench_of lease.new).schedules }) }
+    ensures made { IsOf (schedule_at (bench_of lease.new).schedules number)
+        (variant_key (bundle_under (bench_of lease.old) under) number vector.now) }
+    ensures others { (bench_of lease.new).schedules
+        ≡ slice_set (bench_of lease.old).schedules number
+        (schedule_at (bench_of lease.new).schedules number) }
+    ensures stays { ChangesSchedules lease.old lease.new }
 {
     let mut variant = [0; 8];
     put_variant(lease, under, number, vector, &mut variant);
@@ -68,8 +72,10 @@ fn make_schedule(lease: &mut Lease, under: Under, number: usize, vector: &[u8; 8
 
 /// Makes the three schedules under which a half with this vector is enciphered.
 pub(crate) fn make_schedules(lease: &mut Lease, under: Under, vector: &[u8; 8])
-    ensures made { AreOf (bench_of lease.new).schedules (variant_key (bundle_under (bench_of lease.old) under) 0 vector.now) (variant_key (bundle_under (bench_of lease.old) under) 1 vector.now) (variant_key (bundle_under (bench_of lease.old) under) 2 vector.now) }
-    ensures stays { lease.new ≡ holding lease.old (record (bench_of lease.old) { schedules = (bench_of lease.new).schedules }) }
+    ensures made { let bundle = bundle_under (bench_of lease.old) under in
+        AreOf (bench_of lease.new).schedules (variant_key bundle 0 vector.now)
+        (variant_key bundle 1 vector.now) (variant_key bundle 2 vector.now) }
+    ensures stays { ChangesSchedules lease.old lease.new }
 {
     make_schedule(lease, under, 0, vector);
     make_schedule(lease, under, 1, vector);

@@ -1,10 +1,10 @@
 //! A key in the workbench enciphered, and put back.
 ghost use Rattle.std.specs.Prelude.{◌≡◌, ◌+◌, ◌≤◌, ℕ, List, ◌++◌, length, slice_range, take, drop, replicate};
-ghost use Rattle.key_cells.specs.Bench.{Bench, key_of, with_key};
-ghost use Rattle.key_cells.specs.Lease.{bench_of, holding};
+ghost use Rattle.key_cells.specs.Bench.{Bench, key_of};
+ghost use Rattle.key_cells.specs.Lease.{bench_of};
 ghost use Rattle.cca_vectors.specs.Vectors.{length_of};
 ghost use Rattle.byte_lists.specs.Bytes.{AreBytes, IsZero};
-ghost use Rattle.multi_encipher.specs.Bundles.{bundle_under, IsElsewhere, key_in, with_zeros};
+ghost use Rattle.multi_encipher.specs.Bundles.{ChangesKeyAt, ChangesSchedules, bundle_under, IsElsewhere, key_in, with_zeros};
 ghost use Rattle.multi_encipher.specs.Seals.{IsSealed, SealIsOneToOne, opened_half, sealed_half};
 ghost use Rattle.multi_encipher.specs.Seals as seals;
 
@@ -38,8 +38,10 @@ fn put_zeros(place: &mut [u8; 16])
 /// Enciphers a half of the key in the place `Key`.
 fn enciphered_half(lease: &mut Lease, under: Under, vector: &[u8; 8], at: usize) -> [u8; 8]
     requires { at + 8 ≤ 16 }
-    ensures value { result ≡ sealed_half (bundle_under (bench_of lease.old) under) vector.now (slice_range (bench_of lease.old).key at (at + 8)) }
-    ensures stays { lease.new ≡ holding lease.old (record (bench_of lease.old) { schedules = (bench_of lease.new).schedules }) }
+    ensures value { let bench = bench_of lease.old in
+        result ≡ sealed_half (bundle_under bench under) vector.now
+        (slice_range bench.key at (at + 8)) }
+    ensures stays { ChangesSchedules lease.old lease.new }
 {
     make_schedules(lease, under, vector);
     ede(lease.schedules(), half_of(lease.key(KeyPlace::Key), at))
@@ -55,10 +57,13 @@ fn put_deciphered_half(
     at: usize,
 )
     requires { at + 8 ≤ 16 }
-    ensures key { key_of (bench_of lease.new) into ≡ take at (key_of (bench_of lease.old) into) ++ opened_half (bundle_under (bench_of lease.old) under) vector.now sealed.now ++ drop (at + 8) (key_of (bench_of lease.old) into) }
+    ensures key { let bench = bench_of lease.old in
+        key_of (bench_of lease.new) into ≡ take at (key_of bench into)
+        ++ opened_half (bundle_under bench under) vector.now sealed.now
+        ++ drop (at + 8) (key_of bench into) }
     ensures size { length (key_of (bench_of lease.new) into) ≡ 16 }
     ensures bytes { AreBytes 8 sealed.now }
-    ensures stays { lease.new ≡ holding lease.old (record (with_key (bench_of lease.old) into (key_of (bench_of lease.new) into)) { schedules = (bench_of lease.new).schedules }) }
+    ensures stays { ChangesKeyAt into lease.old lease.new }
 {
     make_schedules(lease, under, vector);
     let mut clear = ded(lease.schedules(), sealed);
@@ -70,9 +75,10 @@ fn put_deciphered_half(
 /// is enciphered by itself, under the three keys of the bundle, each XORed with its vector; the right half of a single-length
 /// key is zero. Only the schedules of the lease change.
 pub fn seal(lease: &mut Lease, under: Under, vector: &Vector) -> Sealed
-    ensures sealed { result ≡ seals.seal (bundle_under (bench_of lease.old) under) vector.now (key_in vector.now (bench_of lease.old).key) }
+    ensures sealed { let bench = bench_of lease.old in
+        result ≡ seals.seal (bundle_under bench under) vector.now (key_in vector.now bench.key) }
     ensures halves { IsSealed vector.now result }
-    ensures stays { lease.new ≡ holding lease.old (record (bench_of lease.old) { schedules = (bench_of lease.new).schedules }) }
+    ensures stays { ChangesSchedules lease.old lease.new }
 {
     let left_vector = vector.left();
     let right_vector = vector.right();
@@ -91,9 +97,13 @@ pub fn seal(lease: &mut Lease, under: Under, vector: &Vector) -> Sealed
 pub fn unseal(lease: &mut Lease, under: Under, vector: &Vector, sealed: &Sealed, into: KeyPlace)
     requires elsewhere { IsElsewhere under into }
     requires single { length_of vector.now ≡ 8 → IsZero sealed.now.right }
-    ensures key { key_of (bench_of lease.new) into ≡ with_zeros vector.now (seals.unseal (bundle_under (bench_of lease.old) under) vector.now sealed.now) }
-    ensures sealed { seals.seal (bundle_under (bench_of lease.old) under) vector.now (key_in vector.now (key_of (bench_of lease.new) into)) ≡ sealed.now }
-    ensures stays { lease.new ≡ holding lease.old (record (with_key (bench_of lease.old) into (key_of (bench_of lease.new) into)) { schedules = (bench_of lease.new).schedules }) }
+    ensures key { let bundle = bundle_under (bench_of lease.old) under in
+        key_of (bench_of lease.new) into
+        ≡ with_zeros vector.now (seals.unseal bundle vector.now sealed.now) }
+    ensures sealed { let bundle = bundle_under (bench_of lease.old) under in
+        seals.seal bundle vector.now (key_in vector.now (key_of (bench_of lease.new) into))
+        ≡ sealed.now }
+    ensures stays { ChangesKeyAt into lease.old lease.new }
 {
     let left_vector = vector.left();
     let right_vector = vector.right();
