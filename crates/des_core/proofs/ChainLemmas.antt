@@ -2,7 +2,7 @@
 use Rattle.std.proofs.Common.{◌≡◌, ℕ, zero, suc, ◌+◌, ◌-◌, ◌*◌, ◌/◌, ◌%◌, ◌^◌, ◌<◌, ◌≤◌, List, [], ◌∷◌, ◌++◌, length, take, drop, get_or, bit_xor, refl, sym, ap, ◌∙◌, arith}
 use Rattle.std.specs.List.{All, flat_map}
 use Rattle.std.specs.Int.{w64, byte_at, bytes_high_first, to_be_bytes, from_be_bytes}
-use Rattle.std.proofs.lemmas.List.{append_assoc, append-nil, drop_at, drop-drop, length-append, length-drop, length-map, length-take, nil_from_length, take_at, take_all, take-append-drop}
+use Rattle.std.proofs.lemmas.List.{append_assoc, append-nil, drop-append-le, drop_at, drop-drop, length-append, length-drop, length-map, length-take, nil_from_length, take-append-le, take_at, take_all, take-append-drop}
 use Rattle.std.proofs.lemmas.Nat.{be_bytes_8}
 use Rattle.key_cells.specs.Bench.{Text, text_of, with_text, with_text_of}
 use Rattle.key_cells.specs.Lease.{bench_of, holding}
@@ -10,13 +10,14 @@ use Rattle.key_cells.specs.declared.leases.Lease.{Lease}
 use Rattle.key_cells.specs.declared.schedules.Schedule.{Schedule}
 use Rattle.des_core.specs.Bits.{bits, byte_bits, number, pieces, to_bytes, xor}
 use Rattle.des_core.specs.Modes.{blocks, cbc, joined, uncbc}
-use Rattle.des_core.specs.Schedules.{AreOf, deciphers, ded_under, ede_under, enciphers, put_at}
+use Rattle.des_core.specs.Schedules.{AreOf, ded_bytes, ded_under, ede_under, ede_bytes}
+use Rattle.des_core.specs.Texts.{put_at}
 use Rattle.des_core.specs.TripleDes.{ded, ede}
 use Rattle.des_core.proofs.BitLemmas.{drop-add, length-pieces, length-xor, take-add}
 use Rattle.des_core.proofs.ByteLemmas.{byte_bits-to_be_bytes, small-to_be_bytes, to_bytes-byte_bits}
 use Rattle.des_core.proofs.CallLemmas.{ded-same_bytes, ede-same_bytes}
 use Rattle.des_core.proofs.LawLemmas.{length-crypt}
-use Rattle.des_core.proofs.NibbleLemmas.{byte-xor}
+use Rattle.des_core.proofs.XorLemmas.{byte-xor}
 
 -- ---- words and their bytes
 
@@ -33,29 +34,19 @@ bytes-xor a b = bytes-xor_first 8 a b
 bytes-of : (n : ℕ) → to_be_bytes w64 n ≡ to_bytes (bits 64 n)
 bytes-of n = sym (to_bytes-byte_bits (to_be_bytes w64 n) (small-to_be_bytes n)) ∙ ap to_bytes (byte_bits-to_be_bytes n)
 
--- a block combined with the chain and enciphered
-pub enciphers-word : (keys : List Schedule) (block : List ℕ) (word chain out : ℕ) → to_be_bytes w64 word ≡ block → bits 64 out ≡ ede_under keys (bits 64 (bit_xor word chain))
-    → to_be_bytes w64 out ≡ enciphers keys (xor block (to_be_bytes w64 chain))
-enciphers-word keys block word chain out p is =
-    bytes-of out ∙ ap to_bytes (is ∙ ap (ede_under keys) (sym (byte_bits-to_be_bytes (bit_xor word chain)) ∙ ap byte_bits (bytes-xor word chain ∙ ap (λ xs. xor xs (to_be_bytes w64 chain)) p)))
+-- a block combined with the chain and put through a cipher on bits
+pub cipher-word : (cipher : List ℕ → List ℕ) (block : List ℕ) (word chain out : ℕ) → to_be_bytes w64 word ≡ block → bits 64 out ≡ cipher (bits 64 (bit_xor word chain))
+    → to_be_bytes w64 out ≡ to_bytes (cipher (byte_bits (xor block (to_be_bytes w64 chain))))
+cipher-word cipher block word chain out p is =
+    bytes-of out ∙ ap to_bytes (is ∙ ap cipher (sym (byte_bits-to_be_bytes (bit_xor word chain)) ∙ ap byte_bits (bytes-xor word chain ∙ ap (λ xs. xor xs (to_be_bytes w64 chain)) p)))
 
 -- a block deciphered and combined with the chain
-pub deciphers-word : (keys : List Schedule) (block : List ℕ) (word chain out : ℕ) → to_be_bytes w64 word ≡ block → bits 64 out ≡ ded_under keys (bits 64 word)
-    → to_be_bytes w64 (bit_xor out chain) ≡ xor (deciphers keys block) (to_be_bytes w64 chain)
-deciphers-word keys block word chain out p is =
+pub ded_bytes-word : (keys : List Schedule) (block : List ℕ) (word chain out : ℕ) → to_be_bytes w64 word ≡ block → bits 64 out ≡ ded_under keys (bits 64 word)
+    → to_be_bytes w64 (bit_xor out chain) ≡ xor (ded_bytes keys block) (to_be_bytes w64 chain)
+ded_bytes-word keys block word chain out p is =
     bytes-xor out chain ∙ ap (λ xs. xor xs (to_be_bytes w64 chain)) (bytes-of out ∙ ap to_bytes (is ∙ ap (ded_under keys) (sym (byte_bits-to_be_bytes word) ∙ ap byte_bits p)))
 
 -- ---- pieces of a text
-
-take-front : (n : ℕ) (xs ys : List ℕ) → n ≤ length xs → take n (xs ++ ys) ≡ take n xs
-take-front zero xs ys h = refl
-take-front (suc n) [] ys h = absurd (omega arith)
-take-front (suc n) (x ∷ xs) ys h = ap {B = List ℕ} (λ zs. x ∷ zs) (take-front n xs ys (omega arith))
-
-drop-front : (n : ℕ) (xs ys : List ℕ) → n ≤ length xs → drop n (xs ++ ys) ≡ drop n xs ++ ys
-drop-front zero xs ys h = refl
-drop-front (suc n) [] ys h = absurd (omega arith)
-drop-front (suc n) (x ∷ xs) ys h = drop-front n xs ys (omega arith)
 
 pieces-append : (i k : ℕ) (xs ys : List ℕ) → length xs ≡ 8 * i → pieces (i + k) 8 (xs ++ ys) ≡ pieces i 8 xs ++ pieces k 8 ys
 unfolding pieces
@@ -67,8 +58,8 @@ pieces-append (suc i) k xs ys e =
     let more : suc i + k ≡ suc (i + k) = omega arith in
     let rest : length (drop 8 xs) ≡ 8 * i = omega (arith, length-drop 8 xs) in
     ap (λ n. pieces n 8 (xs ++ ys)) more
-    ∙ ap {B = List (List ℕ)} (λ zs. zs ∷ pieces (i + k) 8 (drop 8 (xs ++ ys))) (take-front 8 xs ys (omega arith))
-    ∙ ap {B = List (List ℕ)} (λ zs. take 8 xs ∷ pieces (i + k) 8 zs) (drop-front 8 xs ys (omega arith))
+    ∙ ap {B = List (List ℕ)} (λ zs. zs ∷ pieces (i + k) 8 (drop 8 (xs ++ ys))) (take-append-le 8 xs ys (omega arith))
+    ∙ ap {B = List (List ℕ)} (λ zs. take 8 xs ∷ pieces (i + k) 8 zs) (drop-append-le 8 xs ys (omega arith))
     ∙ ap {B = List (List ℕ)} (λ zs. take 8 xs ∷ zs) (pieces-append i k (drop 8 xs) ys rest)
 
 pieces-one : (xs : List ℕ) → pieces 1 8 xs ≡ take 8 xs ∷ []
@@ -183,11 +174,11 @@ uncbc-same e d h chain [] = refl
 uncbc-same e d h chain (p ∷ ps) =
     ap {B = List (List ℕ)} (λ x. xor x chain ∷ uncbc e p ps) (h p) ∙ ap {B = List (List ℕ)} (λ xs. xor (d p) chain ∷ xs) (uncbc-same e d h p ps)
 
-pub cbc-keys : (keys : List Schedule) (a b c start text : List ℕ) (ps : List (List ℕ)) → AreOf keys a b c → text ≡ joined (cbc (enciphers keys) start ps) → text ≡ joined (cbc (ede a b c) start ps)
-cbc-keys keys a b c start text ps of is = is ∙ ap joined (cbc-same (enciphers keys) (ede a b c) (λ x. ede-same_bytes keys a b c x of) start ps)
+pub cbc-keys : (keys : List Schedule) (a b c start text : List ℕ) (ps : List (List ℕ)) → AreOf keys a b c → text ≡ joined (cbc (ede_bytes keys) start ps) → text ≡ joined (cbc (ede a b c) start ps)
+cbc-keys keys a b c start text ps of is = is ∙ ap joined (cbc-same (ede_bytes keys) (ede a b c) (λ x. ede-same_bytes keys a b c x of) start ps)
 
-pub uncbc-keys : (keys : List Schedule) (a b c start text : List ℕ) (ps : List (List ℕ)) → AreOf keys a b c → text ≡ joined (uncbc (deciphers keys) start ps) → text ≡ joined (uncbc (ded a b c) start ps)
-uncbc-keys keys a b c start text ps of is = is ∙ ap joined (uncbc-same (deciphers keys) (ded a b c) (λ x. ded-same_bytes keys a b c x of) start ps)
+pub uncbc-keys : (keys : List Schedule) (a b c start text : List ℕ) (ps : List (List ℕ)) → AreOf keys a b c → text ≡ joined (uncbc (ded_bytes keys) start ps) → text ≡ joined (uncbc (ded a b c) start ps)
+uncbc-keys keys a b c start text ps of is = is ∙ ap joined (uncbc-same (ded_bytes keys) (ded a b c) (λ x. ded-same_bytes keys a b c x of) start ps)
 
 -- ---- the lease
 
@@ -222,9 +213,9 @@ stepped l old new w before long is size =
       schedules = ap (λ x. (bench_of x).schedules) stays;
     }
 
-length-deciphers : (keys : List Schedule) (block : List ℕ) → length (deciphers keys block) ≡ 8
+length-ded_bytes : (keys : List Schedule) (block : List ℕ) → length (ded_bytes keys block) ≡ 8
 unfolding to_bytes ded_under
-length-deciphers keys block =
+length-ded_bytes keys block =
     let xs = ded_under keys (byte_bits block) in
     let long : length xs ≡ 64 = length-crypt _ _ in
     let e : length xs / 8 ≡ 8 = omega (arith, long) in
@@ -279,10 +270,10 @@ puts-again l v w text e is = lease-again l v w e ∙ ap (λ x. holding l (with_t
 pub start-bytes : (start : List ℕ) (n : ℕ) → length start ≡ 8 → ((i : ℕ) → get_or start i 0 < 256) → n ≡ from_be_bytes w64 start → to_be_bytes w64 n ≡ start
 start-bytes start n long small is = be_bytes_8 start n long small is
 
-pub length-xor_block : (keys : List Schedule) (block : List ℕ) (chain : List ℕ) → length chain ≡ 8 → length (xor (deciphers keys block) chain) ≡ 8
+pub length-xor_block : (keys : List Schedule) (block : List ℕ) (chain : List ℕ) → length chain ≡ 8 → length (xor (ded_bytes keys block) chain) ≡ 8
 length-xor_block keys block chain e =
-    let size : length (deciphers keys block) ≡ 8 = length-deciphers keys block in
-    length-xor (deciphers keys block) chain (size ∙ sym e) ∙ size
+    let size : length (ded_bytes keys block) ≡ 8 = length-ded_bytes keys block in
+    length-xor (ded_bytes keys block) chain (size ∙ sym e) ∙ size
 
 -- the last block, where it stands alone
 pub last-one : (d : List ℕ → List ℕ) (n k at : ℕ) (text chain new : List ℕ) (out : List (List ℕ)) → k + 1 ≡ n → at ≡ 8 * k → length text ≡ 8 * n

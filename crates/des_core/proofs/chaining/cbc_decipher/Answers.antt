@@ -5,7 +5,8 @@ use Rattle.key_cells.specs.Bench.{text_of, with_text_of}
 use Rattle.key_cells.specs.Lease.{bench_of, holding}
 use Rattle.des_core.specs.Bits.{pieces, xor}
 use Rattle.des_core.specs.Modes.{blocks, uncbc}
-use Rattle.des_core.specs.Schedules.{deciphers, put_at}
+use Rattle.des_core.specs.Schedules.{ded_bytes}
+use Rattle.des_core.specs.Texts.{put_at}
 use Rattle.des_core.proofs.ChainLemmas.{last-one, lease-begun, length-put, length-xor_block, start-bytes, stepped, text-begun, text-more, two-more, uncbc-done, uncbc-keys, uncbc-step-as}
 use Rattle.des_core.proofs.chaining.cbc_decipher.Goals as goal
 
@@ -18,8 +19,8 @@ loop-i-init c =
       stays = lease-begun c.args.lease.now;
       size = size;
       count = omega (arith, c.text.ensures.size, c.requires);
-      value = text-begun (length c.text.result.now / 8) text (uncbc (deciphers (bench_of c.args.lease.now).schedules) (to_be_bytes w64 c.from_be_bytes-chain.result)) count
-          ∙ ap (λ chain. uncbc (deciphers (bench_of c.args.lease.now).schedules) chain (blocks text)) (start-bytes c.args.start.now c.from_be_bytes-chain.result c.told-start c.fits-start c.from_be_bytes-chain.ensures);
+      value = text-begun (length c.text.result.now / 8) text (uncbc (ded_bytes (bench_of c.args.lease.now).schedules) (to_be_bytes w64 c.from_be_bytes-chain.result)) count
+          ∙ ap (λ chain. uncbc (ded_bytes (bench_of c.args.lease.now).schedules) chain (blocks text)) (start-bytes c.args.start.now c.from_be_bytes-chain.result c.told-start c.fits-start c.from_be_bytes-chain.ensures);
     }
 
 pub decipher_two-chain-requires : goal.decipher_two-chain-requires
@@ -40,8 +41,8 @@ loop-i-preserved c =
     let keys : (bench_of old).schedules ≡ (bench_of l).schedules = ap (λ x. (bench_of x).schedules) inv.stays in
     let long : length text ≡ 8 * count = inv.size ∙ inv.count in
     let p_long : length p ≡ 8 = omega (arith, long, length-take 8 (drop (16 * i) text), length-drop (16 * i) text) in
-    let b1 = xor (deciphers (bench_of l).schedules p) chain in
-    let b2 = xor (deciphers (bench_of l).schedules q) p in
+    let b1 = xor (ded_bytes (bench_of l).schedules p) chain in
+    let b2 = xor (ded_bytes (bench_of l).schedules q) p in
     let e1 = length-xor_block (bench_of l).schedules p chain refl in
     let e2 = length-xor_block (bench_of l).schedules q p p_long in
     let w = put_at (put_at text (16 * i) b1) (16 * i + 8) b2 in
@@ -49,13 +50,13 @@ loop-i-preserved c =
     let size : length w ≡ length text = length-put (put_at text (16 * i) b1) b2 (16 * i + 8) (omega (arith, long, size1)) e2 ∙ size1 in
     let put : new ≡ holding old (with_text_of (bench_of old) w)
     = c.decipher_two-chain.ensures.lease
-    ∙ ap (λ ks. holding old (with_text_of (bench_of old) (put_at (put_at text (16 * i) (xor (deciphers ks p) chain)) (16 * i + 8) (xor (deciphers ks q) p)))) keys in
+    ∙ ap (λ ks. holding old (with_text_of (bench_of old) (put_at (put_at text (16 * i) (xor (ded_bytes ks p) chain)) (16 * i + 8) (xor (ded_bytes ks q) p)))) keys in
     let s = stepped l old new w inv.stays inv.size put (size ∙ inv.size) in
     record {
       stays = s.stays ∙ sym (ap (λ t. holding l (with_text_of (bench_of l) t)) s.text);
       size = ap length s.text ∙ size ∙ inv.size;
       count = inv.count;
-      value = two-more (deciphers (bench_of l).schedules) count i text chain (to_be_bytes w64 c.decipher_two-chain.result) (text_of (bench_of new).text) _ (omega arith) long e1 e2 c.decipher_two-chain.ensures.block s.text inv.value;
+      value = two-more (ded_bytes (bench_of l).schedules) count i text chain (to_be_bytes w64 c.decipher_two-chain.result) (text_of (bench_of new).text) _ (omega arith) long e1 e2 c.decipher_two-chain.ensures.block s.text inv.value;
     }
 
 pub returns-then-count-eq1-clause-text : goal.returns-then-count-eq1-clause-text
@@ -68,16 +69,16 @@ returns-then-count-eq1-clause-text c =
     let inv = c.loop-i.invariant in
     let at = 8 * (count - 1) in
     let p = take 8 (drop at text) in
-    let b = xor (deciphers (bench_of l).schedules p) chain in
+    let b = xor (ded_bytes (bench_of l).schedules p) chain in
     let odd : 2 * c.loop-i.i + 1 ≡ count = omega (arith, c.if-count-eq1.true, c.loop-i-test.false) in
     let keys : (bench_of old).schedules ≡ (bench_of l).schedules = ap (λ x. (bench_of x).schedules) inv.stays in
     let long : length text ≡ 8 * count = inv.size ∙ inv.count in
     let eight = length-xor_block (bench_of l).schedules p chain refl in
     let size : length (put_at text at b) ≡ length text = length-put text b at (omega (arith, long, odd)) eight in
     let put : c.decipher_one.new.lease ≡ holding old (with_text_of (bench_of old) (put_at text at b))
-    = c.decipher_one.ensures.lease ∙ ap (λ ks. holding old (with_text_of (bench_of old) (put_at text at (xor (deciphers ks p) chain)))) keys in
+    = c.decipher_one.ensures.lease ∙ ap (λ ks. holding old (with_text_of (bench_of old) (put_at text at (xor (ded_bytes ks p) chain)))) keys in
     let s = stepped l old c.decipher_one.new.lease (put_at text at b) inv.stays inv.size put (size ∙ inv.size) in
-    last-one (deciphers (bench_of l).schedules) count (2 * c.loop-i.i) at text chain (text_of (bench_of c.decipher_one.new.lease).text) _ odd (omega (arith, odd)) long eight s.text inv.value
+    last-one (ded_bytes (bench_of l).schedules) count (2 * c.loop-i.i) at text chain (text_of (bench_of c.decipher_one.new.lease).text) _ odd (omega (arith, odd)) long eight s.text inv.value
 
 pub returns-then-count-eq1-clause-keys : goal.returns-then-count-eq1-clause-keys
 returns-then-count-eq1-clause-keys c a b d of =
@@ -92,7 +93,7 @@ returns-then-count-eq1-clause-stays c =
     let chain = to_be_bytes w64 c.loop-i.chain in
     let inv = c.loop-i.invariant in
     let at = 8 * (count - 1) in
-    let b = xor (deciphers (bench_of old).schedules (take 8 (drop at text))) chain in
+    let b = xor (ded_bytes (bench_of old).schedules (take 8 (drop at text))) chain in
     let odd : 2 * c.loop-i.i + 1 ≡ count = omega (arith, c.if-count-eq1.true, c.loop-i-test.false) in
     let long : length text ≡ 8 * count = inv.size ∙ inv.count in
     let size : length (put_at text at b) ≡ length text = length-put text b at (omega (arith, long, odd)) (length-xor_block (bench_of old).schedules (take 8 (drop at text)) chain refl) in
@@ -104,7 +105,7 @@ returns-else-count-eq1-clause-text c =
     let inv = c.loop-i.invariant in
     let count = length c.text.result.now / 8 in
     let even : 2 * c.loop-i.i ≡ count = omega (arith, c.if-count-eq1.false, c.loop-i-test.false) in
-    uncbc-done (deciphers (bench_of c.args.lease.now).schedules) (to_be_bytes w64 c.loop-i.chain) count (2 * c.loop-i.i) (text_of (bench_of c.loop-i.lease).text) _ even (inv.size ∙ inv.count) inv.value
+    uncbc-done (ded_bytes (bench_of c.args.lease.now).schedules) (to_be_bytes w64 c.loop-i.chain) count (2 * c.loop-i.i) (text_of (bench_of c.loop-i.lease).text) _ even (inv.size ∙ inv.count) inv.value
 
 pub returns-else-count-eq1-clause-keys : goal.returns-else-count-eq1-clause-keys
 returns-else-count-eq1-clause-keys c a b d of =

@@ -4,7 +4,8 @@ use Rattle.key_cells.specs.Bench.{text_of, with_text_of}
 use Rattle.key_cells.specs.Lease.{bench_of, holding}
 use Rattle.des_core.specs.Bits.{pieces, xor}
 use Rattle.des_core.specs.Modes.{blocks, cbc}
-use Rattle.des_core.specs.Schedules.{enciphers, put_at}
+use Rattle.des_core.specs.Schedules.{ede_bytes}
+use Rattle.des_core.specs.Texts.{put_at}
 use Rattle.des_core.proofs.ChainLemmas.{cbc-done, cbc-keys, cbc-step-as, lease-begun, length-put, start-bytes, stepped, text-begun, text-more}
 use Rattle.des_core.proofs.chaining.cbc_encipher.Goals as goal
 
@@ -17,8 +18,8 @@ loop-i-init c =
       stays = lease-begun c.args.lease.now;
       size = size;
       count = omega (arith, c.text.ensures.size, c.requires);
-      value = text-begun (length c.text.result.now / 8) text (cbc (enciphers (bench_of c.args.lease.now).schedules) (to_be_bytes w64 c.from_be_bytes-chain.result)) count
-          ∙ ap (λ chain. cbc (enciphers (bench_of c.args.lease.now).schedules) chain (blocks text)) (start-bytes c.args.start.now c.from_be_bytes-chain.result c.told-start c.fits-start c.from_be_bytes-chain.ensures);
+      value = text-begun (length c.text.result.now / 8) text (cbc (ede_bytes (bench_of c.args.lease.now).schedules) (to_be_bytes w64 c.from_be_bytes-chain.result)) count
+          ∙ ap (λ chain. cbc (ede_bytes (bench_of c.args.lease.now).schedules) chain (blocks text)) (start-bytes c.args.start.now c.from_be_bytes-chain.result c.told-start c.fits-start c.from_be_bytes-chain.ensures);
     }
 
 pub encipher_one-chain-requires : goal.encipher_one-chain-requires
@@ -34,12 +35,12 @@ loop-i-preserved c =
     let count = length c.text.result.now / 8 in
     let bytes = to_be_bytes w64 c.encipher_one-chain.result in
     let inv = c.loop-i.invariant in
-    let e = enciphers (bench_of l).schedules in
+    let e = ede_bytes (bench_of l).schedules in
     let long : length text ≡ 8 * count = inv.size ∙ inv.count in
     let size : length (put_at text (8 * i) bytes) ≡ length text = length-put text bytes (8 * i) (omega (arith, long)) refl in
     let s = stepped l old new (put_at text (8 * i) bytes) inv.stays inv.size c.encipher_one-chain.ensures.lease (size ∙ inv.size) in
     let block : bytes ≡ e (xor (take 8 (drop (8 * i) text)) (to_be_bytes w64 c.loop-i.chain))
-    = c.encipher_one-chain.ensures.block ∙ ap (λ x. enciphers (bench_of x).schedules (xor (take 8 (drop (8 * i) text)) (to_be_bytes w64 c.loop-i.chain))) inv.stays in
+    = c.encipher_one-chain.ensures.block ∙ ap (λ x. ede_bytes (bench_of x).schedules (xor (take 8 (drop (8 * i) text)) (to_be_bytes w64 c.loop-i.chain))) inv.stays in
     record {
       stays = s.stays ∙ sym (ap (λ t. holding l (with_text_of (bench_of l) t)) s.text);
       size = ap length s.text ∙ size ∙ inv.size;
@@ -53,7 +54,7 @@ pub returns : goal.returns
 returns c =
     let l = c.args.lease.now in
     let inv = c.loop-i.invariant in
-    let done = cbc-done (enciphers (bench_of l).schedules) (to_be_bytes w64 c.loop-i.chain) (length c.text.result.now / 8) c.loop-i.i (text_of (bench_of c.loop-i.lease).text) _ (omega arith) (inv.size ∙ inv.count) inv.value in
+    let done = cbc-done (ede_bytes (bench_of l).schedules) (to_be_bytes w64 c.loop-i.chain) (length c.text.result.now / 8) c.loop-i.i (text_of (bench_of c.loop-i.lease).text) _ (omega arith) (inv.size ∙ inv.count) inv.value in
     record {
       text = done;
       keys = λ a b d of. cbc-keys (bench_of l).schedules a b d c.args.start.now _ (blocks (text_of (bench_of l).text)) of done;
