@@ -3,3 +3,4 @@ pub mod Checks
 pub mod Vectors
 pub mod Classes
 pub mod VectorChecks
+pub mod Permissions
