@@ -1,8 +1,8 @@
 -- The body of a role, and what it reads as.
-use Rattle.std.proofs.Common.{◌≡◌, ◌≢◌, ◌≤◌, ◌<◌, ◌-◌, ◌^◌, ◌⊎◌, inl, inr, ⊎_elim, ℕ, zero, suc, ◌+◌, Bool, true, false, List, [], ◌∷◌, ◌++◌, length, take, drop, replicate, Option, None, Some, refl, sym, ap, subst, ◌∙◌, arith}
+use Rattle.std.proofs.Common.{◌≡◌, ◌≢◌, ◌≤◌, ◌<◌, ◌-◌, ◌^◌, ◌⊎◌, inl, inr, ⊎_elim, ℕ, zero, suc, Bool, true, false, List, ◌++◌, length, take, drop, replicate, Option, None, Some, refl, sym, ap, subst, ◌∙◌, arith}
 use Rattle.std.specs.Int.{to_be_bytes, from_be_bytes, w32}
 use Rattle.std.specs.List.{list_all}
-use Rattle.std.specs.Prelude.{slice_index, slice_range, bytes_eq, IsTrue, nat_le, ◌&&◌, if◌then◌else◌}
+use Rattle.std.specs.Prelude.{slice_index, bytes_eq, nat_le, ◌&&◌, if◌then◌else◌}
 use Rattle.std.proofs.lemmas.Bool.{false_from_ne_true, and_parts}
 use Rattle.std.proofs.lemmas.Bool.Decides.{nat_tests}
 use Rattle.std.proofs.lemmas.List.{append_assoc, take_at, drop_at, length-append, length-replicate}

@@ -1,10 +1,10 @@
 -- A module stands for a table of roles, or else it has a first damaged cell.
-use Rattle.std.proofs.Common.{◌≡◌, ◌≢◌, ◌≤◌, ◌<◌, ◌+◌, ◌⊎◌, inl, inr, ⊎_elim, ℕ, zero, suc, Bool, true, false, List, length, set, Option, None, Some, refl, sym, ap, subst, ◌∙◌, arith}
+use Rattle.std.proofs.Common.{◌≡◌, ◌≢◌, ◌≤◌, ◌<◌, ◌+◌, ◌⊎◌, inl, inr, ⊎_elim, ℕ, zero, suc, Bool, true, false, List, set, Option, None, Some, refl, sym, ap, subst, arith}
 use Rattle.std.specs.Prelude.{is_some}
 use Rattle.slot_disk.specs.Cells.{body}
 use Rattle.cca_roles.specs.Directory.{AreApart, place_of}
 use Rattle.cca_roles.specs.Opening.{OpenedTo}
-use Rattle.cca_roles.specs.RoleBody.{ReadsPlace, ReadsDefault, slot_in}
+use Rattle.cca_roles.specs.RoleBody.{ReadsPlace, slot_in}
 use Rattle.cca_roles.specs.RoleNames.{default_name}
 use Rattle.cca_roles.specs.Roles.{AreRoles, names, name_of, blank_roles}
 use Rattle.cca_roles.specs.RolesStand.{StandsForRoles, roles_in, IsFirstDamaged}

@@ -6,7 +6,7 @@ ghost use Rattle.slot_disk.specs.Medium.{Told, Keeps};
 ghost use Rattle.cca_roles.specs.Changes.{HasRoleCause, KeepsAllButBody};
 ghost use Rattle.cca_roles.specs.Opening.{Opens, IsRefused, OpenedTo};
 ghost use Rattle.cca_roles.specs.Roles.{AreRoles, blank_roles};
-ghost use Rattle.cca_roles.specs.RolesStand.{StandsForRoles, IsFirstDamaged};
+ghost use Rattle.cca_roles.specs.RolesStand.{StandsForRoles, IsFirstDamaged, IsRoleCell};
 
 use crate::bodies::{read_default, read_slot};
 use crate::faults::RoleFault;
@@ -31,7 +31,7 @@ pub fn open_roles<M: Disk>(
         → Told (M.medium «module».old) (λ image. (cell : ℕ) → IsFirstDamaged image cell
         → result ≡ Err (RoleFault.Damaged cell)) }
     ensures faults { IfErr result (λ fault.
-        (fault ≡ RoleFault.DiskFault) ⊎ ((cell : ℕ) × (fault ≡ RoleFault.Damaged cell))) }
+        (fault ≡ RoleFault.DiskFault) ⊎ ((cell : ℕ) × IsRoleCell cell × (fault ≡ RoleFault.Damaged cell))) }
     ensures keeps { Keeps (M.medium «module».old) (M.medium «module».new) }
     ensures cause { HasRoleCause (M.faults «module».old) (M.faults «module».new) result }
     ensures rest { KeepsAllButBody lease.old lease.new }

@@ -1,4 +1,4 @@
-use Rattle.std.proofs.Common.{◌≡◌, ℕ, length, replicate, sym, ap, ◌∙◌}
+use Rattle.std.proofs.Common.{ℕ, replicate, sym, ap, ◌∙◌}
 use Rattle.cca_roles.specs.RoleBody.{blank_body}
 use Rattle.cca_roles.proofs.bodies.is_blank.Goals as goal
 

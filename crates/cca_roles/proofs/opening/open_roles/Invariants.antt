@@ -1,5 +1,5 @@
 -- The memory knows the roles of the places before, and no others.
-use Rattle.std.proofs.Common.{◌≡◌, ◌≤◌}
+use Rattle.std.proofs.Common.{◌≤◌}
 use Rattle.slot_disk.specs.Medium.{Told, Keeps}
 use Rattle.cca_roles.specs.Changes.{KeepsAllButBody}
 use Rattle.cca_roles.specs.Opening.{OpenedTo}

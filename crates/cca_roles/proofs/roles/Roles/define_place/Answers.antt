@@ -1,6 +1,5 @@
-use Rattle.std.proofs.Common.{◌≡◌, ◌<◌, ℕ, List, Option, None, Some, refl, sym, ap, subst, ◌∙◌}
+use Rattle.std.proofs.Common.{Option, None, Some, sym, ap, ◌∙◌}
 use Rattle.std.specs.Prelude.{is_some, IfSome}
-use Rattle.cca_roles.specs.Directory.{place_of, free_place, AreApart}
 use Rattle.cca_roles.specs.RoleNames.{default_name}
 use Rattle.cca_roles.specs.Roles.{names}
 use Rattle.cca_roles.proofs.DirectoryLaws.{apart_set, apart_same, held_at, held_nowhere, free_first}
