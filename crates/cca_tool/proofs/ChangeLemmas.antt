@@ -5,9 +5,9 @@ use Rattle.slot_disk.specs.Medium.{Medium, Told, IsSettled, EachImage, From}
 use Rattle.slot_disk.proofs.Media.{each_weaker, each_still, settled_image}
 use Rattle.key_cells.specs.Bench.{Bench, with_master}
 use Rattle.key_cells.specs.declared.places.MasterPlace.TheVariants.{Part}
-use Rattle.master_registers.specs.Masters.{NewRegister, Empty, Partial, Full, Masters, first_refused, combine_refused, set_refused, same_pattern, cleared, after_set}
+use Rattle.master_registers.specs.Masters.{NewRegister, Empty, Partial, Full, Masters, state_of, first_refused, combine_refused, set_refused, same_pattern, cleared, after_set}
 use Rattle.master_registers.specs.RegisterBody.{StandsForMasters}
-use Rattle.master_registers.specs.Loaded.{Loaded, registers_of, state_of}
+use Rattle.master_registers.specs.Loaded.{Loaded, registers_of}
 use Rattle.master_registers.specs.Changes.{ChangesModule, HoldsEither, WhenRefused}
 use Rattle.master_registers.specs.declared.faults.RegisterFault.{RegisterFault}
 use Rattle.master_registers.specs.declared.faults.RegisterFault.TheVariants.{DiskFault, RegisterState, SamePattern}
