@@ -1,5 +1,5 @@
 -- The key that a token stands for is the one that the bench opens it to.
-use Rattle.std.proofs.Common.{◌≡◌, ℕ, Bool, true, false, List, Option, None, Some, refl, sym, ap, ◌∙◌, subst}
+use Rattle.std.proofs.Common.{◌≡◌, ℕ, Bool, true, false, List, Option, None, Some, refl, sym, ap, ◌∙◌}
 use Rattle.std.specs.Prelude.{if◌then◌else◌, is_none}
 use Rattle.std.specs.Option.{option_map}
 use Rattle.std.specs.Str.{bytes_eq}
@@ -14,7 +14,7 @@ use Rattle.key_tokens.specs.Denotes.{Denoted, clear_of, denoted, denoted_or, den
 use Rattle.key_tokens.specs.Parts.{token_of, pattern_of_token}
 use Rattle.key_tokens.specs.TokenChecks.{token_checks}
 use Rattle.master_registers.specs.Masters.{Masters, kept_bytes, pattern_of_master}
-use Rattle.master_registers.specs.Loaded.{Loaded, pattern_in, registers_of}
+use Rattle.master_registers.specs.Loaded.{Loaded, pattern_in}
 use Rattle.master_registers.specs.declared.registers.Registers.{Registers}
 use Rattle.multi_encipher.specs.Parts.{transport_parts}
 use Rattle.verb_rules.specs.KeyChecks.{age_in, age_of, has_pattern, register_with}

@@ -1,9 +1,9 @@
 -- What a call that judges answers, where others judged before it.
-use Rattle.std.proofs.Common.{◌≡◌, ◌∙◌, List, ◌++◌, None, Some, Result, Ok, Err}
+use Rattle.std.proofs.Common.{◌≡◌, ◌∙◌, List, ◌++◌, None, Result, Ok, Err}
 use Rattle.std.specs.Prelude.{IfOk}
 use Rattle.cca_vectors.specs.Checks.{Check, first_failing}
-use Rattle.cca_vectors.proofs.Judging.{passed_over, stopped_in}
-use Rattle.verb_rules.specs.Rules.{Judges, rule_number}
+use Rattle.cca_vectors.proofs.Judging.{passed_over}
+use Rattle.verb_rules.specs.Rules.{Judges}
 use Rattle.verb_rules.specs.declared.rules.Rule.{Rule}
 
 -- the first checks pass, and the others are judged

@@ -1,10 +1,8 @@
-use Rattle.std.proofs.Common.{◌≡◌, ◌∙◌, List, ℕ, Option, None, Some, sym, ap, subst}
+use Rattle.std.proofs.Common.{◌≡◌, ◌∙◌, None, Some, sym, ap, subst}
 use Rattle.cca_vectors.specs.Checks.{first_failing}
-use Rattle.cca_vectors.specs.Vectors.{length_of, IsZero}
 use Rattle.cca_vectors.proofs.Judging.{stopped_in}
 use Rattle.key_tokens.specs.declared.key_token.Asked.TheVariants as asked
 use Rattle.key_tokens.specs.declared.key_token.Kind.TheVariants as kind
-use Rattle.key_tokens.specs.declared.key_token.Token.{Token}
 use Rattle.key_tokens.specs.Denotes.{denoted, denoted_under}
 use Rattle.key_tokens.specs.Kinds.{IsAsked}
 use Rattle.key_tokens.specs.Parts.{token_of}
