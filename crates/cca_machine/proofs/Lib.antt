@@ -1,2 +1,1 @@
-pub mod RoleLaws
-pub mod StepLaws
+pub mod LineLaws

@@ -1,4 +1,4 @@
--- What the machine does for a request that no rule refuses, and one step of the machine.
+-- What a request does where no rule refuses it, and what comes of it.
 use Rattle.std.specs.Prelude.{ℕ, ◌==◌, List, [], ◌∷◌, codes, Option, Some, None, if◌then◌else◌}
 use Rattle.cca_vectors.specs.declared.key_class.Class.{Class}
 use Rattle.cca_vectors.specs.declared.key_class.Class.TheVariants.{Data, Cipher, Mac, Exporter, Importer, Other}
@@ -7,20 +7,25 @@ use Rattle.cca_vectors.specs.Classes.{class_of}
 use Rattle.key_tokens.specs.declared.key_token.Kind.{Kind}
 use Rattle.key_tokens.specs.declared.key_token.Kind.TheVariants.{Internal, External}
 use Rattle.key_tokens.specs.declared.key_token.Token.{Token}
-use Rattle.key_tokens.specs.Parts.{token_of}
+use Rattle.key_tokens.specs.Fields.{token_of}
 use Rattle.script_buffers.specs.Replies.{Reply, Refused, Done, Field, Hex, Text, Number}
-use Rattle.master_registers.specs.Masters.{NewRegister, Empty, Partial, Full, Masters, after_first, after_middle, after_last, cleared, after_set}
+use Rattle.master_registers.specs.Masters.{NewRegister, Empty, Partial, Full, Masters}
 use Rattle.verb_script.specs.Grammar.{Request, RequestName, csnbktp, csnbmkp_part, csnbmkp_clear, csnbmkp_set, value_of}
 use Rattle.verb_script.specs.Values.{hex_value}
-use Rattle.verb_script.specs.Requests.{request_of}
 use Rattle.cca_machine.specs.State.{State}
-use Rattle.cca_machine.specs.Verdict.{Refusal, first_refusal, request_questions, verdict, token_bytes, Step, First, Middle, Last, step_named}
+use Rattle.cca_machine.specs.Actions.{part_action}
+use Rattle.master_registers.specs.Actions.{after_action}
+use Rattle.master_registers.specs.declared.actions.Action.TheVariants.{Clear, Set}
+use Rattle.cca_machine.specs.Verdict.{Refusal, verdict}
 
--- the state after a step, the reply, and the random bytes that are left
-pub record Outcome : Type 0 where
-  pub state : State
-  pub reply : Reply
-  pub random : List ℕ
+-- what a permitted request does
+pub data Effect : Type 0 where
+  -- a reply alone
+  Show : List Field → Effect
+  -- the registers become these
+  Become : Masters → Effect
+
+-- ---- the reply to CSNBKTP
 
 abbrev pub kind_name : Kind → List ℕ
 kind_name Internal = codes "internal"
@@ -48,51 +53,71 @@ token_fields token =
     ∷ Hex (codes "pattern") token.pattern
     ∷ []
 
+-- ---- what each request does
+
+-- the bytes of the key token or of the part in a field
+abbrev pub bytes_in : Request → List ℕ → List ℕ
+bytes_in request name = hex_value (value_of request name)
+
+-- with the random bytes that it draws
+abbrev pub effect : State → List ℕ → RequestName → Request → Effect
+effect s drawn csnbktp r = Show (token_fields (token_of (bytes_in r (codes "token"))))
+effect s drawn csnbmkp_part r = Become (after_action (part_action (value_of r (codes "action"))) (bytes_in r (codes "part")) s.registers)
+effect s drawn csnbmkp_clear r = Become (after_action Clear [] s.registers)
+effect s drawn csnbmkp_set r = Become (after_action Set [] s.registers)
+
+-- how many random bytes a permitted request draws
+abbrev pub draws : RequestName → Request → ℕ
+draws csnbktp r = 0
+draws csnbmkp_part r = 0
+draws csnbmkp_clear r = 0
+draws csnbmkp_set r = 0
+
+-- ---- what comes of it
+
+pub record Outcome : Type 0 where
+  pub state : State
+  pub reply : Reply
+  -- the cell of the module that is written
+  pub module_cell : Option ℕ
+  -- what else a stop on the way may leave: of a request that writes many cells, the state after some of them
+  pub between : ℕ → State
+
 -- how full the new master key register is
 abbrev pub new_name : NewRegister → List ℕ
 new_name Empty = codes "empty"
 new_name (Partial bytes) = codes "partial"
 new_name (Full bytes) = codes "full"
 
-abbrev pub after_part : Step → List ℕ → Masters → Masters
-after_part First part m = after_first part m
-after_part Middle part m = after_middle part m
-after_part Last part m = after_last part m
+abbrev pub state_after : State → Effect → State
+state_after s (Show fields) = s
+state_after s (Become m) = record s { registers = m }
 
--- the registers become these, and the reply says how full the new one is
-abbrev pub with_masters : State → List ℕ → Masters → Outcome
-with_masters s random m = record {
-  state = record s { registers = m };
-  reply = Done (Text (codes "new") (new_name m.coming) ∷ []);
-  random = random;
+abbrev pub fields_after : State → Effect → List Field
+fields_after s (Show fields) = fields
+fields_after s (Become m) = Text (codes "new") (new_name m.coming) ∷ []
+
+-- the registers stand in cell 0
+abbrev pub cell_after : State → Effect → Option ℕ
+cell_after s (Show fields) = None
+cell_after s (Become m) = Some 0
+
+abbrev pub effected : State → Effect → Outcome
+effected s e = record {
+  state = state_after s e;
+  reply = Done (fields_after s e);
+  module_cell = cell_after s e;
+  between = λ k. s;
 }
 
--- what each request does where it is permitted
-abbrev pub act : State → List ℕ → RequestName → Request → Outcome
-act s random csnbktp request = record { state = s; reply = Done (token_fields (token_of (token_bytes request))); random = random }
-act s random csnbmkp_part request =
-    with_masters s random (after_part (step_named (value_of request (codes "action"))) (hex_value (value_of request (codes "part"))) s.registers)
-act s random csnbmkp_clear request = with_masters s random (cleared s.registers)
-act s random csnbmkp_set request = with_masters s random (after_set s.registers)
-
 -- a refusal changes nothing
-abbrev pub refused : State → List ℕ → Refusal → Outcome
-refused s random r = record { state = s; reply = Refused r.rule r.operand; random = random }
+abbrev pub refused : State → Refusal → Outcome
+refused s r = record { state = s; reply = Refused r.rule r.operand; module_cell = None; between = λ k. s }
 
 abbrev pub or_act : Option Refusal → State → List ℕ → Request → Outcome
-or_act (Some r) s random request = refused s random r
-or_act None s random request = act s random request.name request
+or_act (Some r) s drawn request = refused s r
+or_act None s drawn request = effected s (effect s drawn request.name request)
 
--- a request of a line that is no longer than a line may be
+-- what comes of a request, with the random bytes that it draws
 unfoldable pub performed : State → List ℕ → Request → Outcome
-performed s random request = or_act (first_refusal (request_questions s request)) s random request
-
--- A line that breaks no rule spells a request, so that the last case doesn't come.
-abbrev pub answer : Option Refusal → State → List ℕ → Option Request → Outcome
-answer (Some r) s random request = refused s random r
-answer None s random (Some request) = act s random request.name request
-answer None s random None = record { state = s; reply = Done []; random = random }
-
--- one step of the machine
-unfoldable pub step : State → List ℕ → List ℕ → Outcome
-step s random line = answer (verdict s line) s random (request_of line)
+performed s drawn request = or_act (verdict s request) s drawn request

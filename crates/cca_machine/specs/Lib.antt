@@ -1,4 +1,7 @@
 pub mod Act
+pub mod Actions
+pub mod Lines
+pub mod Operands
 pub mod Session
 pub mod State
 pub mod Verdict

@@ -18,6 +18,6 @@ abbrev pub blank_state : State
 blank_state = record { registers = blank_masters; roles = default_roles }
 
 -- a module with this content stands for the state
-pub record StandsFor (image : List ℕ) (s : State) : Type 0 where
+pub record IsModuleOf (s : State) (image : List ℕ) : Type 0 where
   pub registers : StandsForMasters image s.registers
   pub roles : s.roles ≡ default_roles

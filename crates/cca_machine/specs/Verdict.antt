@@ -1,18 +1,20 @@
--- The verdict on a request line: the first rule that it breaks, with the operand that breaks it. The
--- rules stand in a list, and each is asked as the list says. A rule that needs an earlier one doesn't
--- fail where that one does.
-use Rattle.std.specs.Prelude.{ℕ, not, ◌&&◌, nat_le, nat_lt, is_none, List, [], ◌∷◌, length, codes, Option, Some, None, if◌then◌else◌}
+-- The verdict on a request: the first rule that it breaks, with the operand that breaks it. The rules stand in tables, and
+-- each is asked as the tables say. A rule that needs an earlier one doesn't fail where that one does.
+use Rattle.std.specs.Prelude.{ℕ, Bool, false, not, ◌&&◌, is_none, List, [], ◌∷◌, codes, Option, Some, None}
 use Rattle.std.specs.List.{list_any}
 use Rattle.std.specs.Str.{bytes_eq}
 use Rattle.cca_vectors.specs.Checks.{Check, check, first_failing}
 use Rattle.key_tokens.specs.TokenChecks.{token_checks}
 use Rattle.key_tokens.specs.declared.key_token.Asked.TheVariants.{Either}
-use Rattle.script_buffers.specs.Reading.{line_limit}
 use Rattle.verb_script.specs.Grammar.{Request, RequestName, csnbktp, csnbmkp_part, csnbmkp_clear, csnbmkp_set, value_of}
-use Rattle.verb_script.specs.Requests.{request_of}
 use Rattle.verb_script.specs.Values.{hex_value}
-use Rattle.master_registers.specs.Masters.{Masters, first_refused, combine_refused, set_refused, same_pattern}
 use Rattle.cca_machine.specs.State.{State}
+use Rattle.cca_machine.specs.Operands.{Operand, operands, listed}
+use Rattle.cca_machine.specs.Actions.{part_action, action_checks}
+use Rattle.master_registers.specs.declared.actions.Action.{Action}
+use Rattle.master_registers.specs.declared.actions.Action.TheVariants.{Clear, Set}
+use Rattle.cca_machine.specs.declared.asking.Ask.{Ask}
+use Rattle.cca_machine.specs.declared.asking.Ask.TheVariants.{AnyToken, Nothing}
 
 -- rules that are asked of one operand, in their order; where they speak of the line or of the request as
 -- a whole, the operand is `-`
@@ -28,63 +30,69 @@ pub record Refusal : Type 0 where
   pub rule : ℕ
   pub operand : List ℕ
 
+abbrev pub refusal : ℕ → List ℕ → Refusal
+refusal rule operand = record { rule = rule; operand = operand }
+
 abbrev pub or_refused : Option ℕ → List ℕ → Option Refusal → Option Refusal
 or_refused None operand others = others
-or_refused (Some rule) operand others = Some record { rule = rule; operand = operand }
+or_refused (Some rule) operand others = Some (refusal rule operand)
 
 -- the first rule that is broken
 abbrev pub first_refusal : List Questions → Option Refusal
 first_refusal [] = None
 first_refusal (q ∷ qs) = or_refused (first_failing q.checks) q.operand (first_refusal qs)
 
--- rule 01: the line is no request, and not too long; rule 02: it is too long
-abbrev pub line_checks : List ℕ → Option Request → List Check
-line_checks line request =
-    check 1 (nat_le (length line) line_limit && is_none request)
-    ∷ check 2 (nat_lt line_limit (length line))
+abbrev pub or_then : Option Refusal → Option Refusal → Option Refusal
+or_then None others = others
+or_then (Some r) others = Some r
+
+-- ---- the request as a whole
+
+-- rule 05 is asked
+abbrev pub needs_master : RequestName → Bool
+needs_master csnbktp = false
+needs_master csnbmkp_part = false
+needs_master csnbmkp_clear = false
+needs_master csnbmkp_set = false
+
+-- rule 03: the role isn't held; rule 05: the current register is empty
+abbrev pub general_checks : State → Request → List Check
+general_checks s request =
+    check 3 (not (list_any (bytes_eq (value_of request (codes "role"))) s.roles))
+    ∷ check 5 (needs_master request.name && is_none s.registers.current)
     ∷ []
 
--- rule 03: the role isn't held
-abbrev pub role_checks : State → Request → List Check
-role_checks s request = check 3 (not (list_any (bytes_eq (value_of request (codes "role"))) s.roles)) ∷ []
+-- ---- its operands
 
--- the bytes in a request's field `token`
-abbrev pub token_bytes : Request → List ℕ
-token_bytes request = hex_value (value_of request (codes "token"))
+-- what is asked of an operand: of a key token rules 09 to 16
+abbrev pub operand_checks : State → List ℕ → Ask → List Check
+operand_checks s text AnyToken = token_checks Either (hex_value text)
+operand_checks s text Nothing = []
 
--- the step of a key ceremony that a request with a part asks for
-pub data Step : Type 0 where
-  First : Step
-  Middle : Step
-  Last : Step
+abbrev pub operand_questions : State → List Operand → List Questions
+operand_questions s [] = []
+operand_questions s (o ∷ os) = questions o.name (operand_checks s o.text o.ask) ∷ operand_questions s os
 
-abbrev pub step_named : List ℕ → Step
-step_named action = if bytes_eq action (codes "FIRST") then First else if bytes_eq action (codes "MIDDLE") then Middle else Last
+abbrev pub operands_verdict : State → Request → Option Refusal
+operands_verdict s request = first_refusal (operand_questions s (listed (operands request)))
 
--- rule 25: the new register isn't in the state that the step needs
-abbrev pub part_checks : Step → Masters → List Check
-part_checks First m = check 25 (first_refused m) ∷ []
-part_checks Middle m = check 25 (combine_refused m) ∷ []
-part_checks Last m = check 25 (combine_refused m) ∷ []
+-- ---- its verb
 
--- rule 26: the new register has the pattern of the current one
-abbrev pub set_checks : Masters → List Check
-set_checks m = check 25 (set_refused m) ∷ check 26 (same_pattern m) ∷ []
+abbrev pub action_questions : State → Action → List Questions
+action_questions s action = questions (codes "-") (action_checks action s.registers) ∷ []
 
--- the rules of each request: of its operands, in the order of the fields, and then of its verb
 abbrev pub verb_questions : State → RequestName → Request → List Questions
-verb_questions s csnbktp request = questions (codes "token") (token_checks Either (token_bytes request)) ∷ []
-verb_questions s csnbmkp_part request = questions (codes "-") (part_checks (step_named (value_of request (codes "action"))) s.registers) ∷ []
-verb_questions s csnbmkp_clear request = []
-verb_questions s csnbmkp_set request = questions (codes "-") (set_checks s.registers) ∷ []
+verb_questions s csnbktp r = []
+verb_questions s csnbmkp_part r = action_questions s (part_action (value_of r (codes "action")))
+verb_questions s csnbmkp_clear r = action_questions s Clear
+verb_questions s csnbmkp_set r = action_questions s Set
 
-abbrev pub request_questions : State → Request → List Questions
-request_questions s request = questions (codes "-") (role_checks s request) ∷ verb_questions s request.name request
+abbrev pub verb_verdict : State → Request → Option Refusal
+verb_verdict s request = first_refusal (verb_questions s request.name request)
 
--- all rules that are asked of a line, and of the request that it spells
-abbrev pub line_questions : State → List ℕ → Option Request → List Questions
-line_questions s line None = questions (codes "-") (line_checks line None) ∷ []
-line_questions s line (Some request) = questions (codes "-") (line_checks line (Some request)) ∷ request_questions s request
+-- ---- the verdict
 
-abbrev pub verdict : State → List ℕ → Option Refusal
-verdict s line = first_refusal (line_questions s line (request_of line))
+-- the rules of the request as a whole, then those of its operands in their order, then those of its verb
+abbrev pub verdict : State → Request → Option Refusal
+verdict s request =
+    or_refused (first_failing (general_checks s request)) (codes "-") (or_then (operands_verdict s request) (verb_verdict s request))

@@ -3,7 +3,7 @@ use Rattle.std.specs.Prelude.{◌≡◌, ℕ, List, [], ◌∷◌, ◌++◌, cod
 use Rattle.script_buffers.specs.Lines.{newline}
 use Rattle.script_buffers.specs.Replies.{spelled}
 use Rattle.cca_machine.specs.State.{blank_state}
-use Rattle.cca_machine.specs.Act.{step}
+use Rattle.cca_machine.specs.Lines.{line_outcome}
 
 -- a key token in hexadecimal digits, and the reply to CSNBKTP
 pub record Worked : Type 0 where
@@ -33,4 +33,4 @@ worked_tokens =
 abbrev pub TokensAnswered : List Worked → Type 0
 TokensAnswered [] = ⊤
 TokensAnswered (w ∷ ws) =
-    (spelled (step blank_state [] (codes "CSNBKTP role=DEFAULT token=" ++ w.token)).reply ≡ w.reply ++ newline ∷ []) × TokensAnswered ws
+    (spelled (line_outcome blank_state [] (codes "CSNBKTP role=DEFAULT token=" ++ w.token)).reply ≡ w.reply ++ newline ∷ []) × TokensAnswered ws

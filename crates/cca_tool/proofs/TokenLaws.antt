@@ -1,7 +1,7 @@
 -- What the machine makes of CSNBKTP, by its token.
 use Rattle.std.proofs.Common.{◌≡◌, ℕ, List, [], Option, None, Some, codes, refl}
 use Rattle.cca_vectors.specs.Checks.{first_failing}
-use Rattle.key_tokens.specs.Parts.{token_of}
+use Rattle.key_tokens.specs.Fields.{token_of}
 use Rattle.key_tokens.specs.TokenChecks.{token_checks}
 use Rattle.key_tokens.specs.declared.key_token.Asked.TheVariants.{Either}
 use Rattle.master_registers.specs.Masters.{Masters}

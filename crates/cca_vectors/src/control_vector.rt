@@ -3,12 +3,13 @@ ghost use Rattle.std.specs.Option.{option_map};
 ghost use Rattle.cca_vectors.specs.Bits.{bit as bit_of, even_byte};
 ghost use Rattle.cca_vectors.specs.Checks.{first_failing};
 ghost use Rattle.cca_vectors.specs.Vectors.{IsValid, left_of, right_of, length_of, is_part_of, form_of};
-ghost use Rattle.cca_vectors.specs.VectorChecks.{is_zero, is_even, is_anti_variant, has_form, right_half_for, vector_checks, rule_of};
+ghost use Rattle.cca_vectors.specs.VectorChecks.{is_even, is_anti_variant, has_form, right_half_for, vector_checks, rule_of};
 ghost use Rattle.cca_vectors.specs.Classes.{class_of};
 ghost use Rattle.cca_vectors.specs.Permissions.{permits, is_exportable};
 
 use crate::key_class::Class;
 use crate::key_usage::{Usage, is_data_bit};
+use byte_lists::is_zero;
 use std::marker::Model;
 use thiserror::Error;
 
@@ -48,12 +49,6 @@ pub enum VectorFault {
     AntiVariant,
     #[error("the key form isn't known, or the right half doesn't belong to the left one")]
     Form,
-}
-
-fn is_zero(bytes: &[u8]) -> bool
-    ensures { result ≡ is_zero bytes.now }
-{
-    bytes.iter().all(|byte| *byte == 0)
 }
 
 /// Whether a bit of a half is on. Bit 0 is the most significant bit of byte 0.

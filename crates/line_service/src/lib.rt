@@ -1,8 +1,13 @@
 //! Lines served one after another, for any machine that answers lines.
 #![tactic(auto)]
 
+mod desk;
+mod running;
+mod sending;
 mod serving;
 mod stops;
 
-pub use serving::Served;
+pub use desk::Desk;
+pub use running::serve;
+pub use serving::{Served, serve_one};
 pub use stops::{Device, Stop};

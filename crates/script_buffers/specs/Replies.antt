@@ -4,6 +4,10 @@ use Rattle.std.specs.List.{flat_map}
 use Rattle.hex.specs.Hex.{encode_lower}
 use Rattle.script_buffers.specs.Lines.{newline}
 
+-- the most bytes that a reply line may have, its newline among them
+abbrev pub reply_limit : ℕ
+reply_limit = 69632
+
 -- ` name=`, which begins a field
 unfoldable pub field_name : List ℕ → List ℕ
 field_name name = codes " " ++ name ++ codes "="

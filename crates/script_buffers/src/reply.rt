@@ -2,14 +2,15 @@
 ghost use Rattle.std.specs.Prelude.{◌≡◌, ℕ, ◌+◌, ◌*◌, ◌<◌, ◌≤◌, List, [], ◌∷◌, ◌++◌, length, take, decimal, IfOk};
 ghost use Rattle.hex.specs.Hex.{encode_lower};
 ghost use Rattle.script_buffers.specs.Lines.{newline};
-ghost use Rattle.script_buffers.specs.Replies.{field_name, hex_field, text_field, number_field, ok_text, refusal};
+ghost use Rattle.script_buffers.specs.Replies.{reply_limit, field_name, hex_field, text_field};
+ghost use Rattle.script_buffers.specs.Replies.{number_field, ok_text, refusal};
 
 use itoa::Buffer;
 use slot_disk::NoMemory;
 use std::alloc::Global;
 use std::marker::Model;
 
-/// The bytes that a reply line may have.
+/// The most bytes that a reply line may have, its newline among them.
 pub const REPLY_ROOM: usize = 69_632;
 
 /// A reply line while it is written: `OK` and fields, or `NO`, a rule and its operand.
@@ -51,7 +52,7 @@ impl ReplyBuffer {
     /// Writes `OK`.
     #[tactic(auto, unfolding(crate::specs::Replies::ok_text))]
     pub fn ok(&mut self)
-        requires { length self.old + 2 ≤ REPLY_ROOM }
+        requires { length self.old + 2 ≤ reply_limit }
         ensures bytes { self.new ≡ self.old ++ ok_text }
         ensures size { length self.new ≡ length self.old + 2 }
     {
@@ -62,7 +63,7 @@ impl ReplyBuffer {
     #[tactic(auto, unfolding(crate::specs::Replies::refusal))]
     pub fn refuse(&mut self, rule: u8, operand: &str)
         requires two_digits { rule < 100 }
-        requires room { length self.old + length operand.now + 6 ≤ REPLY_ROOM }
+        requires room { length self.old + length operand.now + 6 ≤ reply_limit }
         ensures bytes { self.new ≡ self.old ++ refusal rule operand.now }
         ensures size { length self.new ≡ length self.old + length operand.now + 6 }
     {
@@ -75,9 +76,10 @@ impl ReplyBuffer {
     /// Writes a field whose value is bytes, in lower-case hex.
     #[tactic(auto, unfolding(crate::specs::Replies::hex_field))]
     pub fn hex(&mut self, name: &str, bytes: &[u8])
-        requires { length self.old + length name.now + 2 * length bytes.now + 2 ≤ REPLY_ROOM }
+        requires { length self.old + length name.now + 2 * length bytes.now + 2 ≤ reply_limit }
         ensures bytes { self.new ≡ self.old ++ hex_field name.now bytes.now }
-        ensures size { length self.new ≡ length self.old + length name.now + 2 * length bytes.now + 2 }
+        ensures size { length self.new
+            ≡ length self.old + length name.now + 2 * length bytes.now + 2 }
     {
         self.field(name);
         put_hex(self.room.as_mut_slice(), self.used, bytes);
@@ -87,7 +89,7 @@ impl ReplyBuffer {
     /// Writes a field whose value is text.
     #[tactic(auto, unfolding(crate::specs::Replies::text_field))]
     pub fn text(&mut self, name: &str, bytes: &[u8])
-        requires { length self.old + length name.now + length bytes.now + 2 ≤ REPLY_ROOM }
+        requires { length self.old + length name.now + length bytes.now + 2 ≤ reply_limit }
         ensures bytes { self.new ≡ self.old ++ text_field name.now bytes.now }
         ensures size { length self.new ≡ length self.old + length name.now + length bytes.now + 2 }
     {
@@ -98,9 +100,10 @@ impl ReplyBuffer {
     /// Writes a field whose value is a number, in decimal digits.
     #[tactic(auto, unfolding(crate::specs::Replies::number_field))]
     pub fn number(&mut self, name: &str, value: u32)
-        requires { length self.old + length name.now + length (decimal value) + 2 ≤ REPLY_ROOM }
+        requires { length self.old + length name.now + length (decimal value) + 2 ≤ reply_limit }
         ensures bytes { self.new ≡ self.old ++ number_field name.now value }
-        ensures size { length self.new ≡ length self.old + length name.now + length (decimal value) + 2 }
+        ensures size { length self.new
+            ≡ length self.old + length name.now + length (decimal value) + 2 }
         ensures short { length (decimal value) ≤ 10 }
     {
         self.field(name);
@@ -110,7 +113,7 @@ impl ReplyBuffer {
 
     /// Writes the bytes alone, as the end of the field before.
     pub fn more(&mut self, bytes: &[u8])
-        requires { length self.old + length bytes.now ≤ REPLY_ROOM }
+        requires { length self.old + length bytes.now ≤ reply_limit }
         ensures bytes { self.new ≡ self.old ++ bytes.now }
         ensures size { length self.new ≡ length self.old + length bytes.now }
     {
@@ -120,7 +123,7 @@ impl ReplyBuffer {
 
     /// Ends the line.
     pub fn finish(&mut self)
-        requires { length self.old + 1 ≤ REPLY_ROOM }
+        requires { length self.old + 1 ≤ reply_limit }
         ensures bytes { self.new ≡ self.old ++ newline ∷ [] }
         ensures size { length self.new ≡ length self.old + 1 }
     {
@@ -130,7 +133,7 @@ impl ReplyBuffer {
     /// The bytes written so far.
     pub fn bytes(&self) -> &[u8]
         ensures bytes { result.now ≡ self.now }
-        ensures size { length self.now ≤ REPLY_ROOM }
+        ensures size { length self.now ≤ reply_limit }
     {
         &self.room[..self.used]
     }
@@ -138,7 +141,7 @@ impl ReplyBuffer {
     // Writes ` name=`.
     #[tactic(auto, unfolding(crate::specs::Replies::field_name))]
     fn field(&mut self, name: &str)
-        requires { length self.old + length name.now + 2 ≤ REPLY_ROOM }
+        requires { length self.old + length name.now + 2 ≤ reply_limit }
         ensures bytes { self.new ≡ self.old ++ field_name name.now }
         ensures size { length self.new ≡ length self.old + length name.now + 2 }
     {
@@ -160,7 +163,8 @@ fn put(room: &mut [u8], at: usize, bytes: &[u8])
 // Writes the bytes in lower-case hex behind the first `at` bytes of the room.
 fn put_hex(room: &mut [u8], at: usize, bytes: &[u8])
     requires { at + 2 * length bytes.now ≤ length room.old }
-    ensures front { take (at + 2 * length bytes.now) room.new ≡ take at room.old ++ encode_lower bytes.now }
+    ensures front { take (at + 2 * length bytes.now) room.new
+        ≡ take at room.old ++ encode_lower bytes.now }
     ensures size { length room.new ≡ length room.old }
 {
     hex::encode_to_slice(bytes, &mut room[at..at + 2 * bytes.len()]).unwrap();

@@ -3,7 +3,7 @@ use Rattle.std.proofs.Common.{◌≡◌, ◌≢◌, ◌≤◌, ◌<◌, ◌⊎�
 use Rattle.std.proofs.lemmas.List.{length-take, places}
 use Rattle.std.proofs.lemmas.Bool.{cases_lt, cases_eq}
 use Rattle.std.proofs.lemmas.Grind.{same_number_lists}
-use Rattle.slot_disk.specs.Cells.{selected, body_place, body, IsReplaced, IsReplacing}
+use Rattle.slot_disk.specs.Cells.{selected, body_place, body_at, body, other_body, IsUntouched, IsReplaced, IsReplacing}
 use Rattle.slot_disk.specs.Ranges.{SameOutside, HoldsPiece}
 
 -- ---- ranges of lists
@@ -49,13 +49,13 @@ outside_then at n a b c one two = record {
 pub outside_same : (at n : ℕ) (a : List ℕ) → SameOutside at n a a
 outside_same at n a = record { size = refl; before = λ k below. refl; after = λ k above. refl }
 
--- the range of a body, by its side
-abbrev side_bytes : List ℕ → ℕ → ℕ → List ℕ
-side_bytes image n side = slice_range image (body_place n side) (body_place n side + 192)
-
-body-side : (image : List ℕ) (n : ℕ) → body image n ≡ side_bytes image n (selected image n)
+body-side : (image : List ℕ) (n : ℕ) → body image n ≡ body_at image n (selected image n)
 unfolding body
 body-side image n = refl
+
+other-side : (image : List ℕ) (n : ℕ) → other_body image n ≡ body_at image n (1 - selected image n)
+unfolding other_body
+other-side image n = refl
 
 selected-at : (old new : List ℕ) (n : ℕ) → get_or new (1536 * n) 0 ≡ get_or old (1536 * n) 0 → selected new n ≡ selected old n
 unfolding selected
@@ -75,8 +75,8 @@ selected-written n side old new low holds =
     at_front k = omega arith
 
 -- a cell whose selector and whose selected body stay
-body-stays : (old new : List ℕ) (n : ℕ) → selected new n ≡ selected old n → side_bytes new n (selected old n) ≡ side_bytes old n (selected old n) → body new n ≡ body old n
-body-stays old new n turned same = body-side new n ∙ ap (λ (s : ℕ). side_bytes new n s) turned ∙ same ∙ sym (body-side old n)
+body-stays : (old new : List ℕ) (n : ℕ) → selected new n ≡ selected old n → body_at new n (selected old n) ≡ body_at old n (selected old n) → body new n ≡ body old n
+body-stays old new n turned same = body-side new n ∙ ap (λ (s : ℕ). body_at new n s) turned ∙ same ∙ sym (body-side old n)
 
 elsewhere : (n m : ℕ) → m ≢ n → (1536 * m + 1536 ≤ 1536 * n) ⊎ (1536 * n + 1536 ≤ 1536 * m)
 elsewhere n m other = ⊎_elim (λ below. inl (omega arith)) (λ above. inr (omega arith)) (cases_lt m n)
@@ -100,16 +100,18 @@ sides_apart n s low = ⊎_elim (λ first. inl (omega arith)) (λ second. inr (om
 -- ---- the steps of a replacement
 
 pub replacing_same : (n : ℕ) (bytes old : List ℕ) → IsReplacing n bytes old old
-replacing_same n bytes old = record { outside = outside_same (1536 * n) 1536 old; others = λ m other. refl; here = inl refl }
-
-pub replacing_from : (n : ℕ) (bytes old new : List ℕ) → IsReplaced n bytes old new → IsReplacing n bytes old new
-replacing_from n bytes old new replaced = record { outside = replaced.outside; others = replaced.others; here = inr replaced.here }
+replacing_same n bytes old = record { outside = outside_same (1536 * n) 1536 old; others = λ m other. refl; here = inl refl; untouched = λ k away. refl }
 
 -- the body that isn't selected holds the new bytes, and all that is looked at is as before
 pub record Staged (n : ℕ) (bytes old new : List ℕ) : Type 0 where
   pub outside : SameOutside (1536 * n) 1536 old new
-  pub spare : side_bytes new n (1 - selected old n) ≡ bytes
-  pub kept : side_bytes new n (selected old n) ≡ side_bytes old n (selected old n)
+  pub untouched : (k : ℕ) → IsUntouched old n k → get_or new k 0 ≡ get_or old k 0
+  pub spare : body_at new n (1 - selected old n) ≡ bytes
+  pub kept : body_at new n (selected old n) ≡ body_at old n (selected old n)
+
+-- what stays outside the body that isn't selected
+spare_untouched : (n : ℕ) (old new : List ℕ) → SameOutside (body_place n (1 - selected old n)) 192 old new → (k : ℕ) → IsUntouched old n k → get_or new k 0 ≡ get_or old k 0
+spare_untouched n old new same k away = ⊎_elim (same.before k) (same.after k) away.1
 
 -- a write to the body that isn't selected leaves the selected one
 pub spare_torn : (n : ℕ) (bytes old new : List ℕ) → SameOutside (body_place n (1 - selected old n)) 192 old new → IsReplacing n bytes old new
@@ -123,6 +125,7 @@ spare_torn n bytes old new same =
       here = inl (body-stays old new n
           (selected-at old new n (same.before (1536 * n) (omega arith)))
           (range-outside (body_place n (1 - s)) 192 (body_place n s) 192 old new same (sides_apart n s low)));
+      untouched = spare_untouched n old new same;
     }
 
 pub staged : (n : ℕ) (bytes old new : List ℕ) → length bytes ≡ 192 → 1536 * (n + 1) ≤ length old → HoldsPiece (body_place n (1 - selected old n)) bytes old new → Staged n bytes old new
@@ -132,32 +135,50 @@ staged n bytes old new long fits holds =
     let same : SameOutside (body_place n (1 - s)) 192 old new = subst (λ (l : ℕ). SameOutside (body_place n (1 - s)) l old new) long holds.outside in
     record {
       outside = outside_wider (body_place n (1 - s)) 192 (1536 * n) 1536 old new same (omega arith) (omega arith);
+      untouched = spare_untouched n old new same;
       spare = subst (λ (l : ℕ). slice_range new (body_place n (1 - s)) (body_place n (1 - s) + l) ≡ bytes) long (range-holds (body_place n (1 - s)) bytes old new holds (omega arith));
       kept = range-outside (body_place n (1 - s)) 192 (body_place n s) 192 old new same (sides_apart n s low);
     }
 
 module _ (n : ℕ) (bytes old mid new : List ℕ) (was : Staged n bytes old mid) where
-  side_stays : (s : ℕ) → s < 2 → SameOutside (1536 * n) 1 mid new → side_bytes new n s ≡ side_bytes mid n s
+  side_stays : (s : ℕ) → s < 2 → SameOutside (1536 * n) 1 mid new → body_at new n s ≡ body_at mid n s
   side_stays s low same = range-outside (1536 * n) 1 (body_place n s) 192 mid new same (inr (omega arith))
 
   -- whatever the selector holds, one of the two bodies is selected
   pub selector_torn : SameOutside (1536 * n) 1 mid new → IsReplacing n bytes old new
-  selector_torn same = record { outside = outside; others = λ m other. body-others n m old new outside other; here = chosen (cases_eq (selected new n) (selected old n)) }
+  selector_torn same = record {
+    outside = outside;
+    others = λ m other. body-others n m old new outside other;
+    here = chosen (cases_eq (selected new n) (selected old n));
+    untouched = λ k away. beside k away.0 ∙ was.untouched k away;
+  }
     where
+      beside : (k : ℕ) → k ≢ 1536 * n → get_or new k 0 ≡ get_or mid k 0
+      beside k apart = ⊎_elim (λ below. same.before k below) (λ above. same.after k (omega (arith, apart))) (cases_lt k (1536 * n))
+
       outside : SameOutside (1536 * n) 1536 old new
       outside = outside_then (1536 * n) 1536 old mid new was.outside (outside_wider (1536 * n) 1 (1536 * n) 1536 mid new same (omega arith) (omega arith))
 
       chosen : (selected new n ≡ selected old n) ⊎ (selected new n ≡ selected old n → ⊥) → (body new n ≡ body old n) ⊎ (body new n ≡ bytes)
       chosen (inl as_before) = inl (body-stays old new n as_before (side_stays (selected old n) (selected_below old n) same ∙ was.kept))
       chosen (inr turned) = let side_is : selected new n ≡ 1 - selected old n = omega (arith, selected_below new n, selected_below old n) in
-          inr (body-side new n ∙ ap (λ (s : ℕ). side_bytes new n s) side_is ∙ side_stays (1 - selected old n) (omega arith) same ∙ was.spare)
+          inr (body-side new n ∙ ap (λ (s : ℕ). body_at new n s) side_is ∙ side_stays (1 - selected old n) (omega arith) same ∙ was.spare)
 
   -- the selector turned: the new body is selected
   pub selector_turned : 1536 * (n + 1) ≤ length old → HoldsPiece (1536 * n) ((1 - selected old n) ∷ []) mid new → IsReplaced n bytes old new
-  selector_turned fits holds = record { outside = torn.outside; others = torn.others; here = body-side new n ∙ ap (λ (s : ℕ). side_bytes new n s) side_is ∙ side_stays (1 - selected old n) (omega arith) holds.outside ∙ was.spare }
+  selector_turned fits holds = record {
+    outside = torn.outside;
+    others = torn.others;
+    here = body-side new n ∙ ap (λ (s : ℕ). body_at new n s) side_is ∙ side_stays (1 - selected old n) (omega arith) holds.outside ∙ was.spare;
+    other = other-side new n ∙ ap (λ (s : ℕ). body_at new n s) other_is ∙ side_stays (selected old n) (selected_below old n) holds.outside ∙ was.kept ∙ sym (body-side old n);
+    untouched = torn.untouched;
+  }
     where
       torn : IsReplacing n bytes old new
       torn = selector_torn holds.outside
 
       side_is : selected new n ≡ 1 - selected old n
       side_is = selected-written n (1 - selected old n) mid new (omega arith) holds
+
+      other_is : 1 - selected new n ≡ selected old n
+      other_is = omega (arith, side_is, selected_below old n)

@@ -98,9 +98,6 @@ new_settled image = record {
       ap (λ (s : Stage). Some s.content) (stage-nil image) ∙ ap (λ (l : List ℕ). Some l) (sym (settled_only image c now));
 }
 
-pub disk_settled : (d : DiskState) (image : List ℕ) (room : ℕ) → d ≡ new_disk image room → IsSettled (log_medium d.first d.calls)
-disk_settled d image room is = subst (λ (e : DiskState). IsSettled (log_medium e.first e.calls)) (sym is) (new_settled image)
-
 pub length-blank : (size : ℕ) → length (blank_image size) ≡ size
 length-blank size = ap length (sym (blank-replicate size)) ∙ length-replicate size 0
 

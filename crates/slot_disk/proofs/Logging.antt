@@ -78,14 +78,6 @@ module _ (first : List ℕ) (calls : List Call) where
       still = λ some. refl;
     }
 
-  -- a write that did nothing
-  module _ (at n : ℕ) where
-    pub unwritten_moments : EachImage (log_medium first calls) (log_medium first calls) (After (SameOutside at n) (IsTorn (stage first calls)))
-    unwritten_moments = each_weaker (log_medium first calls) (log_medium first calls) (IsTorn (stage first calls)) (After (SameOutside at n) (IsTorn (stage first calls))) (each_still (log_medium first calls)) (λ c torn. (c, torn, outside_same at n c))
-
-    pub unwritten_outside : Becomes (SameOutside at n) (log_medium first calls) (log_medium first calls)
-    unwritten_outside = becomes_same (log_medium first calls) (log_medium first calls) (SameOutside at n) refl refl (outside_same at n)
-
   -- ---- a sync
 
   pub synced_moments : EachImage (log_medium first calls) (log_medium first (calls ++ Synced ∷ [])) (IsTorn (stage first calls))

@@ -19,13 +19,6 @@ module _ (m0 m1 : Medium) where
       let from = becomes.told c is in
       weaker from.0 c (told_at m0.content P from.0 from.1 told) from.2)
 
-  pub becomes_weaker : (step wider : List ℕ → List ℕ → Type 0) → Becomes step m0 m1 → ((d c : List ℕ) → step d c → wider d c) → Becomes wider m0 m1
-  becomes_weaker step wider becomes weaker = record {
-    size = becomes.size;
-    told = λ c is. let from = becomes.told c is in (from.0, from.1, weaker from.0 c from.2);
-    still = becomes.still;
-  }
-
   -- a disk that gives the same as before
   pub becomes_same : (step : List ℕ → List ℕ → Type 0) → m1.size ≡ m0.size → m1.content ≡ m0.content → ((c : List ℕ) → step c c) → Becomes step m0 m1
   becomes_same step size same reflexive = record {
@@ -37,10 +30,6 @@ module _ (m0 m1 : Medium) where
   -- what a stop may leave now is among the images since then
   pub image_now : (P : List ℕ → Type 0) → EachImage m0 m1 P → (c : List ℕ) → m1.images c → P c
   image_now P moments c image = moments.each c (m1.counts_now m0.moment c moments.later image)
-
-  -- and what a read gives too
-  pub content_now : (P : List ℕ → Type 0) → EachImage m0 m1 P → Told m1 P
-  content_now P moments = told_from m1.content P (λ c is. image_now P moments c (m1.is_image c is))
 
   pub each_weaker : (P Q : List ℕ → Type 0) → EachImage m0 m1 P → ((c : List ℕ) → P c → Q c) → EachImage m0 m1 Q
   each_weaker P Q moments weaker = record {
@@ -96,10 +85,6 @@ module _ (m0 m1 m2 : Medium) where
 pub settled_kept : (m0 m1 : Medium) → Keeps m0 m1 → IsSettled m0 → IsSettled m1
 settled_kept m0 m1 keeps settled = record { only = λ c image. keeps.content ∙ settled.only c (keeps.images c image) }
 
--- each image of a settled disk at a moment since a call began is a step from its content
-pub from_settled : (m0 m1 : Medium) (step : List ℕ → List ℕ → Type 0) → IsSettled m0 → EachImage m0 m1 (After step m0.images) → EachImage m0 m1 (From step m0)
-from_settled m0 m1 step settled moments = each_weaker m0 m1 (After step m0.images) (From step m0) moments (λ c after. (after.0, settled.only after.0 after.1, after.2))
-
 -- a step from what a step made is one step from the start
 pub from_then : (m0 m1 : Medium) (first second both : List ℕ → List ℕ → Type 0) → Becomes first m0 m1 → ((b c d : List ℕ) → first b c → second c d → both b d) → (d : List ℕ) → From second m1 d → From both m0 d
 from_then m0 m1 first second both becomes joined d from =
@@ -133,8 +118,3 @@ each_pair a0 a1 b0 b1 P Q R one two joined = record {
   later2 = two.later;
   each = λ c d left right. joined c d (one.each c left) (two.each d right);
 }
-
--- only the first disk was written, and the second was settled
-pub pair_with_settled : (a0 a1 b : Medium) (P Q : List ℕ → Type 0) (R : List ℕ → List ℕ → Type 0) → EachImage a0 a1 P → IsSettled b → Told b Q → ((c d : List ℕ) → P c → Q d → R c d) → EachPair a0 a1 b b R
-pair_with_settled a0 a1 b P Q R one settled told joined =
-    each_pair a0 a1 b b P Q R one (each_weaker b b b.images Q (each_still b) (λ d image. settled_image b Q d settled told image)) joined

@@ -1,3 +1,4 @@
+pub mod BlankMedium
 pub mod Cells
 pub mod DiskState
 pub mod EntropyState

@@ -2,6 +2,7 @@
 use Rattle.std.specs.Prelude.{ℕ, ◌≤◌, List, length, take, Some}
 use Rattle.slot_disk.specs.Medium.{Medium}
 use Rattle.slot_disk.specs.declared.call.Call.{Call}
+use Rattle.slot_disk.specs.DiskState.{DiskState}
 use Rattle.slot_disk.specs.Stages.{stage, IsTorn}
 use Rattle.slot_disk.specs.StageLaws.{all_made, sized_log, torn_log, now_log, only_log}
 
@@ -21,6 +22,14 @@ log_medium first calls = record {
   since = LeftSince first calls;
   sized = sized_log first calls;
   is_image = torn_log first calls;
-  counts_now = λ t c le torn. record { noted = length calls; from = le; made = all_made (length calls); torn = now_log first calls c torn };
+  counts_now = λ t c le torn. record {
+    noted = length calls;
+    from = le;
+    made = all_made (length calls);
+    torn = now_log first calls c torn;
+  };
   only_now = λ c left. only_log first calls left.noted c left.from left.made left.torn;
 }
+
+abbrev pub medium_of : DiskState → Medium
+medium_of d = log_medium d.first d.calls

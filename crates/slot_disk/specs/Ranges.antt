@@ -12,10 +12,6 @@ pub record HoldsPiece (at : ℕ) (bytes old new : List ℕ) : Type 0 where
   pub outside : SameOutside at (length bytes) old new
   pub here : (k : ℕ) → k < length bytes → slice_index new (at + k) ≡ slice_index bytes k
 
--- the same bytes
-abbrev pub Same : List ℕ → List ℕ → Type 0
-Same old new = new ≡ old
-
 -- the list with these bytes from `at` on, as far as it goes
 unfoldable pub overwrite : List ℕ → ℕ → List ℕ → List ℕ
 overwrite [] at bytes = []

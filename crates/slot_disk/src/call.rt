@@ -2,34 +2,33 @@
 ghost use Rattle.std.specs.Prelude.{◌≡◌, ◌≤◌, length};
 ghost use Rattle.slot_disk.specs.Ranges.{overwrite};
 
+use crate::BODY_LEN;
 use std::marker::Model;
-
-/// The most bytes of a write.
-const PIECE: usize = 192;
 
 /// The bytes of a write.
 #[derive(Drop)]
 pub(crate) struct Piece {
-    bytes: [u8; PIECE],
+    bytes: [u8; BODY_LEN],
     length: usize,
 }
 
 impl Model for Piece {
     ghost use Rattle.std.specs.Prelude.{◌≤◌, ℕ, List, take};
+    ghost use Rattle.slot_disk.specs.declared.cell.TheConstants.{BODY_LEN};
 
     ghost Value = { List ℕ };
 
     ghost view = { λ p. take p.length p.bytes };
 
-    ghost invariant = { λ p. p.length ≤ 192 };
+    ghost invariant = { λ p. p.length ≤ BODY_LEN };
 }
 
 impl Piece {
     pub(crate) fn new(piece: &[u8]) -> Piece
-        requires { length piece.now ≤ 192 }
+        requires { length piece.now ≤ BODY_LEN }
         ensures { result ≡ piece.now }
     {
-        let mut bytes = [0; PIECE];
+        let mut bytes = [0; BODY_LEN];
         bytes[..piece.len()].copy_from_slice(piece);
         Piece {
             bytes,
@@ -39,7 +38,7 @@ impl Piece {
 
     pub(crate) fn bytes(&self) -> &[u8]
         ensures bytes { result.now ≡ self.now }
-        ensures short { length self.now ≤ 192 }
+        ensures short { length self.now ≤ BODY_LEN }
     {
         &self.bytes[..self.length]
     }

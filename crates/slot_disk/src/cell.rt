@@ -1,6 +1,8 @@
-//! Cells: the selected one of two bodies, and how a body is replaced so that a stop leaves the old or the new one.
+//! Cells: the selected one of two bodies, and how a body is replaced so that a stop leaves the old or
+//! the new one.
 ghost use Rattle.std.specs.Prelude.{◌≡◌, ◌+◌, ◌-◌, ◌*◌, ◌<◌, ◌≤◌, [], ◌∷◌, length, IfOk, OnOk};
-ghost use Rattle.slot_disk.specs.Cells.{selected, body_place as place_of_body, body as selected_body, IsReplaced, IsReplacing};
+ghost use Rattle.slot_disk.specs.Cells.{selected, body_place as place_of_body};
+ghost use Rattle.slot_disk.specs.Cells.{body as selected_body, IsReplaced, IsReplacing};
 ghost use Rattle.slot_disk.specs.Faults.{HasCause};
 ghost use Rattle.slot_disk.specs.Medium.{Told, IsSettled, From, Becomes, EachImage, Keeps};
 ghost use Rattle.slot_disk.specs.Ranges.{SameOutside, HoldsPiece};
@@ -8,10 +10,17 @@ ghost use Rattle.slot_disk.specs.Ranges.{SameOutside, HoldsPiece};
 use crate::{Disk, Failed};
 use std::marker::Model;
 
-const SECTOR: u64 = 512;
+/// The bytes of a sector.
+pub const SECTOR_LEN: u64 = 512;
 
-/// The number of a cell of three sectors: a selector and two bodies. An even selector byte selects the
-/// first body, an odd one the second. A body is the first 192 bytes of its sector.
+/// The bytes of a cell: the sector of its selector, and one for each body.
+pub const CELL_LEN: u64 = 1_536;
+
+/// The bytes of a body.
+pub const BODY_LEN: usize = 192;
+
+/// The number of a cell of three sectors: a selector and two bodies. An even selector byte selects
+/// the first body, an odd one the second. A body is the first 192 bytes of its sector.
 #[derive(Clone, Copy, Debug, PartialEq, Eq)]
 pub struct Cell {
     number: u16,
@@ -36,16 +45,16 @@ impl Cell {
     }
 
     fn selector_place(self) -> u64
-        ensures { result ≡ 1536 * self }
+        ensures { result ≡ CELL_LEN * self }
     {
-        3 * SECTOR * u64::from(self.number)
+        CELL_LEN * u64::from(self.number)
     }
 
     fn body_place(self, side: u8) -> u64
         requires { side < 2 }
         ensures { result ≡ place_of_body self side }
     {
-        self.selector_place() + SECTOR * (1 + u64::from(side))
+        self.selector_place() + SECTOR_LEN * (1 + u64::from(side))
     }
 }
 
@@ -60,8 +69,8 @@ pub fn settle<D: Disk>(disk: &mut D) -> Result<(), Failed>
 }
 
 /// Reads the selected body. After `Failed`, `out` may hold any bytes.
-pub fn read_cell<D: Disk>(disk: &mut D, cell: Cell, out: &mut [u8; 192]) -> Result<(), Failed>
-    requires { 1536 * (cell + 1) ≤ (D.medium disk.old).size }
+pub fn read_cell<D: Disk>(disk: &mut D, cell: Cell, out: &mut [u8; BODY_LEN]) -> Result<(), Failed>
+    requires { CELL_LEN * (cell + 1) ≤ (D.medium disk.old).size }
     ensures bytes { OnOk result (Told (D.medium disk.old) (λ c. out.new ≡ selected_body c cell)) }
     ensures keeps { Keeps (D.medium disk.old) (D.medium disk.new) }
     ensures cause { HasCause (D.faults disk.old) (D.faults disk.new) result }
@@ -70,16 +79,20 @@ pub fn read_cell<D: Disk>(disk: &mut D, cell: Cell, out: &mut [u8; 192]) -> Resu
     disk.read(cell.body_place(side), out)
 }
 
-/// Replaces the selected body: the other body is written and synced, and then the one byte that selects it.
-pub fn replace_cell<D: Disk>(disk: &mut D, cell: Cell, body: &[u8; 192]) -> Result<(), Failed>
-    requires within { 1536 * (cell + 1) ≤ (D.medium disk.old).size }
+/// Replaces the selected body: the other body is written and synced, and then the one byte that
+/// selects it. It costs two writes and two syncs.
+pub fn replace_cell<D: Disk>(disk: &mut D, cell: Cell, body: &[u8; BODY_LEN]) -> Result<(), Failed>
+    requires within { CELL_LEN * (cell + 1) ≤ (D.medium disk.old).size }
     requires settled { IsSettled (D.medium disk.old) }
 
     ensures settled { OnOk result (IsSettled (D.medium disk.new)) }
-    ensures replaced { OnOk result (Becomes (IsReplaced cell body.now) (D.medium disk.old) (D.medium disk.new)) }
-    ensures replacing { Becomes (IsReplacing cell body.now) (D.medium disk.old) (D.medium disk.new) }
+    ensures replaced { OnOk result
+        (Becomes (IsReplaced cell body.now) (D.medium disk.old) (D.medium disk.new)) }
+    ensures replacing { Becomes (IsReplacing cell body.now)
+        (D.medium disk.old) (D.medium disk.new) }
 
-    // A stop at any moment of the call leaves the old body of this cell or the new one, and all else as it was.
+    // A stop at any moment of the call leaves the old body of this cell or the new one, and all else
+    // as it was.
     ensures moments { EachImage (D.medium disk.old) (D.medium disk.new)
         (From (IsReplacing cell body.now) (D.medium disk.old)) }
     ensures cause { HasCause (D.faults disk.old) (D.faults disk.new) result }
@@ -91,7 +104,7 @@ pub fn replace_cell<D: Disk>(disk: &mut D, cell: Cell, body: &[u8; 192]) -> Resu
 
 // Which body is selected: 0 is the first.
 fn selected_side<D: Disk>(disk: &mut D, cell: Cell) -> Result<u8, Failed>
-    requires { 1536 * (cell + 1) ≤ (D.medium disk.old).size }
+    requires { CELL_LEN * (cell + 1) ≤ (D.medium disk.old).size }
     ensures side { IfOk result (λ side. Told (D.medium disk.old) (λ c. side ≡ selected c cell)) }
     ensures two { IfOk result (λ side. side < 2) }
     ensures keeps { Keeps (D.medium disk.old) (D.medium disk.new) }
@@ -105,11 +118,13 @@ fn selected_side<D: Disk>(disk: &mut D, cell: Cell) -> Result<u8, Failed>
 // A write and a sync.
 fn put<D: Disk>(disk: &mut D, at: u64, piece: &[u8]) -> Result<(), Failed>
     requires within { at + length piece.now ≤ (D.medium disk.old).size }
-    requires short { length piece.now ≤ 192 }
+    requires short { length piece.now ≤ BODY_LEN }
     requires settled { IsSettled (D.medium disk.old) }
     ensures settled { OnOk result (IsSettled (D.medium disk.new)) }
-    ensures bytes { OnOk result (Becomes (HoldsPiece at piece.now) (D.medium disk.old) (D.medium disk.new)) }
-    ensures outside { Becomes (SameOutside at (length piece.now)) (D.medium disk.old) (D.medium disk.new) }
+    ensures bytes { OnOk result
+        (Becomes (HoldsPiece at piece.now) (D.medium disk.old) (D.medium disk.new)) }
+    ensures outside { Becomes (SameOutside at (length piece.now))
+        (D.medium disk.old) (D.medium disk.new) }
     ensures moments { EachImage (D.medium disk.old) (D.medium disk.new)
         (From (SameOutside at (length piece.now)) (D.medium disk.old)) }
     ensures cause { HasCause (D.faults disk.old) (D.faults disk.new) result }

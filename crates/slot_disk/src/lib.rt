@@ -1,7 +1,8 @@
-//! What the program stands on: byte sources and sinks, random bytes and disks that may fail, in memory
-//! and over std's streams and files, and the cells of a disk.
+//! What the program stands on: byte sources and sinks, random bytes and disks that may fail, in
+//! memory and over std's streams and files, and the cells of a disk.
 #![tactic(auto)]
 
+mod blank;
 mod call;
 mod cell;
 mod disk;
@@ -19,7 +20,8 @@ mod source;
 mod steps;
 mod streams;
 
-pub use cell::{Cell, read_cell, replace_cell, settle};
+pub use blank::{BlankDisk, BlankEntropy};
+pub use cell::{BODY_LEN, CELL_LEN, Cell, SECTOR_LEN, read_cell, replace_cell, settle};
 pub use disk::Disk;
 pub use entropy::Entropy;
 pub use errors::{Failed, NoMemory};

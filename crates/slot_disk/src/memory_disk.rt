@@ -3,7 +3,7 @@ ghost use Rattle.std.specs.Prelude.{◌≡◌, ◌+◌, ◌≤◌, ◌↔◌, le
 ghost use Rattle.slot_disk.specs.DiskState.{blank_image, new_disk, refuses_call, after_noted};
 ghost use Rattle.slot_disk.specs.FaultPlan.{fails_now, after_call, with_failing};
 ghost use Rattle.slot_disk.specs.Faults.{HasCause};
-ghost use Rattle.slot_disk.specs.LogMedium.{log_medium};
+ghost use Rattle.slot_disk.specs.LogMedium.{medium_of};
 ghost use Rattle.slot_disk.specs.Medium.{Told, IsSettled, After, Becomes, EachImage, Keeps};
 ghost use Rattle.slot_disk.specs.Ranges.{SameOutside, HoldsPiece};
 ghost use Rattle.slot_disk.specs.Stages.{Stage, noting, stage, IsTorn};
@@ -11,7 +11,7 @@ ghost use Rattle.slot_disk.specs.TornImage.{torn_image, torn_over};
 
 use crate::call::{Call, Piece, overwrite_at, overwrite_vec};
 use crate::fault_plan::FaultPlan;
-use crate::{Disk, Failed, NoMemory};
+use crate::{BODY_LEN, Disk, Failed, NoMemory};
 use std::alloc::Global;
 use std::marker::Model;
 
@@ -36,7 +36,8 @@ pub struct MemoryDisk {
     plan: FaultPlan,
 }
 
-// Clauses see the image that it began with, the calls that it noted, its room for them, and the plan of faults.
+// Clauses see the image that it began with, the calls that it noted, its room for them, and the plan
+// of faults.
 impl Model for MemoryDisk {
     ghost use Rattle.std.specs.Prelude.{◌≡◌};
     ghost use Rattle.std.specs.Vec.{vec_len, vec_capacity};
@@ -44,9 +45,15 @@ impl Model for MemoryDisk {
 
     ghost Value = { DiskState };
 
-    ghost view = { λ d. record { first = d.first.items; calls = d.calls.items; room = d.room; plan = d.plan } };
+    ghost view = { λ d. record {
+      first = d.first.items;
+      calls = d.calls.items;
+      room = d.room;
+      plan = d.plan;
+    } };
 
-    ghost invariant = { λ d. IsDisk d.first.items d.content.items d.calls.items d.room (vec_capacity d.calls) };
+    ghost invariant = { λ d.
+        IsDisk d.first.items d.content.items d.calls.items d.room (vec_capacity d.calls) };
 }
 
 impl MemoryDisk {
@@ -54,7 +61,7 @@ impl MemoryDisk {
     pub fn new(alloc: Global, size: u64, calls: u64) -> Result<MemoryDisk, NoMemory>
         ensures disk { IfOk result (λ d. d ≡ new_disk (blank_image size) calls) }
         ensures size { IfOk result (λ d. length d.first ≡ size) }
-        ensures settled { IfOk result (λ d. IsSettled (log_medium d.first d.calls)) }
+        ensures settled { IfOk result (λ d. IsSettled (medium_of d)) }
     {
         let mut image = Vec::new(alloc);
         image.resize(size as usize, 0)?;
@@ -64,7 +71,7 @@ impl MemoryDisk {
     /// A disk that holds this image, with nothing unsynced.
     pub fn from_image(alloc: Global, image: &[u8], calls: u64) -> Result<MemoryDisk, NoMemory>
         ensures disk { IfOk result (λ d. d ≡ new_disk image.now calls) }
-        ensures settled { IfOk result (λ d. IsSettled (log_medium d.first d.calls)) }
+        ensures settled { IfOk result (λ d. IsSettled (medium_of d)) }
     {
         Ok(MemoryDisk {
             first: Vec::from_slice(alloc, image)?,
@@ -82,7 +89,8 @@ impl MemoryDisk {
         self.calls.len() as u64
     }
 
-    /// Makes the read, write or sync of this number fail, counted from 0. It keeps the last eight numbers.
+    /// Makes the read, write or sync of this number fail, counted from 0. It keeps the last eight
+    /// numbers.
     pub fn fail_at(&mut self, call: u64)
         ensures { self.new ≡ record self.old { plan = with_failing self.old.plan call } }
     {
@@ -98,14 +106,15 @@ impl MemoryDisk {
         calls: u64,
     ) -> Result<MemoryDisk, NoMemory>
         requires { noted ≤ length self.now.calls }
-        ensures disk { IfOk result (λ d.
-            d ≡ new_disk (torn_image torn (stage self.now.first (take noted self.now.calls))) calls) }
+        ensures disk { IfOk result (λ d. d ≡ new_disk
+            (torn_image torn (stage self.now.first (take noted self.now.calls))) calls) }
 
         ensures size { IfOk result (λ d. length d.first ≡ length self.now.first) }
-        ensures settled { IfOk result (λ d. IsSettled (log_medium d.first d.calls)) }
+        ensures settled { IfOk result (λ d. IsSettled (medium_of d)) }
 
         // It is one of the images of that moment.
-        ensures image { IfOk result (λ d. IsTorn (stage self.now.first (take noted self.now.calls)) d.first) }
+        ensures image { IfOk result (λ d.
+            IsTorn (stage self.now.first (take noted self.now.calls)) d.first) }
     {
         let mut content = Vec::from_slice(alloc, &self.first)?;
         let mut image = Vec::from_slice(alloc, &self.first)?;
@@ -119,7 +128,8 @@ impl MemoryDisk {
     }
 }
 
-// Makes the calls over again. `content` becomes what a read gives after them, and `image` what a stop leaves.
+// Makes the calls over again. `content` becomes what a read gives after them, and `image` what a
+// stop leaves.
 fn replay(calls: &[Call], torn: Torn, content: &mut [u8], image: &mut [u8])
     requires { image.old ≡ content.old }
     ensures { image.new ≡ torn_image torn (stage content.old calls.now) }
@@ -131,7 +141,8 @@ fn replay(calls: &[Call], torn: Torn, content: &mut [u8], image: &mut [u8])
 
 fn replay_call(call: &Call, torn: Torn, content: &mut [u8], image: &mut [u8])
     requires { length image.old ≡ length content.old }
-    ensures content { (s : Stage) → content.old ≡ s.content → content.new ≡ (noting s call.now).content }
+    ensures content { (s : Stage) → content.old ≡ s.content
+        → content.new ≡ (noting s call.now).content }
     ensures image { (s : Stage) → content.old ≡ s.content → image.old ≡ torn_image torn s
         → image.new ≡ torn_image torn (noting s call.now) }
 {
@@ -146,21 +157,21 @@ fn replay_call(call: &Call, torn: Torn, content: &mut [u8], image: &mut [u8])
 }
 
 fn tear(image: &mut [u8], at: usize, bytes: &[u8], torn: Torn)
-    requires { length bytes.now ≤ 192 }
+    requires { length bytes.now ≤ BODY_LEN }
     ensures { image.new ≡ torn_over torn image.old at bytes.now }
 {
     match torn {
         Torn::Old => {}
         Torn::New => overwrite_at(image, at, bytes),
         Torn::Fill(byte) => {
-            let filled = [byte; 192];
+            let filled = [byte; BODY_LEN];
             overwrite_at(image, at, &filled[..bytes.len()]);
         }
     }
 }
 
 impl Disk for MemoryDisk {
-    ghost medium = { λ d. log_medium d.first d.calls };
+    ghost medium = { λ d. medium_of d };
 
     ghost faults = { λ d. d.plan.faults };
 
@@ -170,9 +181,11 @@ impl Disk for MemoryDisk {
 
     fn read(&mut self, at: u64, out: &mut [u8]) -> Result<(), Failed>
         requires { at + length out.old ≤ length self.old.first }
-        ensures bytes { OnOk result (Told (log_medium self.old.first self.old.calls) (λ c. out.new ≡ slice_range c at (at + length out.new))) }
-        ensures keeps { Keeps (log_medium self.old.first self.old.calls) (log_medium self.new.first self.new.calls) }
+        ensures bytes { OnOk result (Told (medium_of self.old) (λ c.
+            out.new ≡ slice_range c at (at + length out.new))) }
+        ensures keeps { Keeps (medium_of self.old) (medium_of self.new) }
         ensures cause { HasCause self.old.plan.faults self.new.plan.faults result }
+        ensures quiet { OnOk result (self.new.plan.faults ≡ self.old.plan.faults) }
 
         // exactly which reads fail, and what they leave
         ensures fails { IsErr result ↔ IsTrue (fails_now self.old.plan) }
@@ -189,12 +202,16 @@ impl Disk for MemoryDisk {
 
     fn write(&mut self, at: u64, piece: &[u8]) -> Result<(), Failed>
         requires within { at + length piece.now ≤ length self.old.first }
-        requires short { length piece.now ≤ 192 }
-        ensures bytes { OnOk result (Becomes (HoldsPiece at piece.now) (log_medium self.old.first self.old.calls) (log_medium self.new.first self.new.calls)) }
-        ensures outside { Becomes (SameOutside at (length piece.now)) (log_medium self.old.first self.old.calls) (log_medium self.new.first self.new.calls) }
-        ensures moments { EachImage (log_medium self.old.first self.old.calls) (log_medium self.new.first self.new.calls)
-            (After (SameOutside at (length piece.now)) (IsTorn (stage self.old.first self.old.calls))) }
+        requires short { length piece.now ≤ BODY_LEN }
+        ensures bytes { OnOk result
+            (Becomes (HoldsPiece at piece.now) (medium_of self.old) (medium_of self.new)) }
+        ensures outside { Becomes (SameOutside at (length piece.now))
+            (medium_of self.old) (medium_of self.new) }
+        ensures moments { EachImage (medium_of self.old) (medium_of self.new)
+            (After (SameOutside at (length piece.now))
+            (IsTorn (stage self.old.first self.old.calls))) }
         ensures cause { HasCause self.old.plan.faults self.new.plan.faults result }
+        ensures quiet { OnOk result (self.new.plan.faults ≡ self.old.plan.faults) }
 
         // exactly which writes fail, and what each leaves
         ensures fails { IsErr result ↔ IsTrue (refuses_call self.old) }
@@ -212,11 +229,12 @@ impl Disk for MemoryDisk {
     }
 
     fn sync(&mut self) -> Result<(), Failed>
-        ensures settled { OnOk result (IsSettled (log_medium self.new.first self.new.calls)) }
-        ensures content { (log_medium self.new.first self.new.calls).content ≡ (log_medium self.old.first self.old.calls).content }
-        ensures moments { EachImage (log_medium self.old.first self.old.calls) (log_medium self.new.first self.new.calls)
+        ensures settled { OnOk result (IsSettled (medium_of self.new)) }
+        ensures content { (medium_of self.new).content ≡ (medium_of self.old).content }
+        ensures moments { EachImage (medium_of self.old) (medium_of self.new)
             (IsTorn (stage self.old.first self.old.calls)) }
         ensures cause { HasCause self.old.plan.faults self.new.plan.faults result }
+        ensures quiet { OnOk result (self.new.plan.faults ≡ self.old.plan.faults) }
 
         // exactly which syncs fail, and what each leaves
         ensures fails { IsErr result ↔ IsTrue (refuses_call self.old) }

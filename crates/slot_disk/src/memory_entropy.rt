@@ -59,6 +59,7 @@ impl Entropy for MemoryEntropy {
     fn fill(&mut self, out: &mut [u8]) -> Result<(), Failed>
         ensures bytes { OnOk result (Consumes (Some self.old.left) (Some self.new.left) out.new) }
         ensures cause { HasCause self.old.plan.faults self.new.plan.faults result }
+        ensures quiet { OnOk result (self.new.plan.faults ≡ self.old.plan.faults) }
 
         // exactly which fills fail, and what each takes
         ensures fails { IsErr result ↔ IsTrue (refuses_fill self.old (length out.old)) }

@@ -1,5 +1,5 @@
 //! A sink in memory.
-ghost use Rattle.std.specs.Prelude.{◌≡◌, ◌<◌, ◌↔◌, [], length, min, Some, IfOk, IsErr, IsTrue};
+ghost use Rattle.std.specs.Prelude.{◌≡◌, ◌<◌, ◌↔◌, [], length, min, Some, IfOk, OnOk, IsErr, IsTrue};
 ghost use Rattle.std.specs.Io.{WritesAtMost};
 ghost use Rattle.std.specs.Io.KnownBytes.{WriteAppends};
 ghost use Rattle.slot_disk.specs.Faults.{HasCause};
@@ -69,6 +69,7 @@ impl Sink for MemorySink {
         ensures bytes { WriteAppends (Some self.old.held) (Some self.new.held) result piece.now }
         ensures some { IfOk result (λ n. 0 < length piece.now → 0 < n) }
         ensures cause { HasCause self.old.plan.faults self.new.plan.faults result }
+        ensures quiet { OnOk result (self.new.plan.faults ≡ self.old.plan.faults) }
 
         // exactly which writes fail, and how many bytes the others take
         ensures fails { IsErr result ↔ IsTrue (refuses self.old piece.now) }

@@ -1,5 +1,5 @@
 //! A source in memory.
-ghost use Rattle.std.specs.Prelude.{◌≡◌, ◌<◌, ◌≤◌, ◌↔◌, ◌++◌, ℕ, List, length, take, drop, Option, Some, IfOk, IsErr, IsTrue, OnErr};
+ghost use Rattle.std.specs.Prelude.{◌≡◌, ◌<◌, ◌≤◌, ◌↔◌, ◌++◌, ℕ, List, length, take, drop, Option, Some, IfOk, OnOk, IsErr, IsTrue, OnErr};
 ghost use Rattle.std.specs.Io.{ReadsAtMost};
 ghost use Rattle.std.specs.Io.KnownBytes.{ReadConsumes};
 ghost use Rattle.slot_disk.specs.Faults.{HasCause};
@@ -64,6 +64,7 @@ impl Source for MemorySource {
         ensures bound { ReadsAtMost result out.new }
         ensures bytes { ReadConsumes (Some self.old.left) (Some self.new.left) result out.new }
         ensures cause { HasCause self.old.plan.faults self.new.plan.faults result }
+        ensures quiet { OnOk result (self.new.plan.faults ≡ self.old.plan.faults) }
 
         // exactly which reads fail, and how many bytes the others give
         ensures fails { IsErr result ↔ IsTrue (fails_now self.old.plan) }

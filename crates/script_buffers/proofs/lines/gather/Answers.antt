@@ -7,7 +7,7 @@ use Rattle.script_buffers.proofs.lines.gather.Goals as goal
 pub parts-init : goal.parts-init
 parts-init g c = (
   gathering-none _ c.args.buffer.now c.requires.empty c.requires.at_end c.requires.bounded,
-  omega arith,
+  refl,
   inl (refl, refl),
 )
 
@@ -31,7 +31,7 @@ parts-preserved g c =
     let going = sym c.has_ended.ensures ∙ c.if-has_ended.false in
     let short = iff_false c.is_full.ensures c.if-is_full.false in (
       gathering-refilled _ _ _ _ _ (gathering-moved _ _ _ _ _ c.parts.invariant.0 moves) _ (ap (λ r. r.pending) moves.1) c.in-Ok.ensures.ok,
-      omega (arith, c.parts.invariant.1, c.refill.ensures.cause.later),
+      c.in-Ok.ensures.quiet ∙ c.parts.invariant.1,
       inr (elim c.parts.invariant.2 [
         | inl unread ↦ not-ready c.args.buffer.now _ _ unread.1 moves going short
         | inr read ↦ read

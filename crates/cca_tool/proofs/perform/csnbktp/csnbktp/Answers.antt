@@ -1,7 +1,7 @@
 -- The verdict is that of the token.
 use Rattle.std.proofs.Common.{◌≡◌, ◌∙◌, ap, sym, None, Some}
 use Rattle.cca_vectors.specs.Checks.{first_failing}
-use Rattle.key_tokens.specs.Parts.{token_of}
+use Rattle.key_tokens.specs.Fields.{token_of}
 use Rattle.key_tokens.specs.TokenChecks.{token_checks}
 use Rattle.key_tokens.specs.declared.key_token.Asked.TheVariants.{Either}
 use Rattle.key_tokens.specs.declared.key_token.Token.{Token}

@@ -1,0 +1,48 @@
+-- What comes of a line.
+use Rattle.std.specs.Prelude.{ℕ, ◌&&◌, nat_le, nat_lt, is_none, List, [], ◌∷◌, length, take, drop, codes, Option, Some, None}
+use Rattle.cca_vectors.specs.Checks.{Check, check, first_failing}
+use Rattle.script_buffers.specs.Reading.{line_limit}
+use Rattle.script_buffers.specs.Replies.{Reply, Refused}
+use Rattle.verb_script.specs.Grammar.{Request}
+use Rattle.verb_script.specs.Requests.{request_of}
+use Rattle.cca_machine.specs.State.{State}
+use Rattle.cca_machine.specs.Verdict.{Refusal, verdict}
+use Rattle.cca_machine.specs.Act.{draws, performed}
+
+-- the state after a line, the reply to it, and the random bytes that are left
+pub record LineOutcome : Type 0 where
+  pub state : State
+  pub reply : Reply
+  pub random : List ℕ
+
+-- rule 01: the line is no request, and not too long; rule 02: it is too long
+abbrev pub line_checks : List ℕ → Option Request → List Check
+line_checks line request =
+    check 1 (nat_le (length line) line_limit && is_none request)
+    ∷ check 2 (nat_lt line_limit (length line))
+    ∷ []
+
+-- a refusal takes no random byte
+abbrev pub drawn_where : Option Refusal → ℕ → ℕ
+drawn_where (Some r) count = 0
+drawn_where None count = count
+
+-- how many random bytes a request takes
+abbrev pub taken_by : State → Request → ℕ
+taken_by s request = drawn_where (verdict s request) (draws request.name request)
+
+abbrev pub request_outcome : State → List ℕ → Request → LineOutcome
+request_outcome s random request =
+    let count = taken_by s request in
+    let o = performed s (take count random) request in
+    record { state = o.state; reply = o.reply; random = drop count random }
+
+-- A line that breaks neither rule spells a request, so that the last case doesn't come.
+abbrev pub outcome_by : Option ℕ → State → List ℕ → Option Request → LineOutcome
+outcome_by (Some rule) s random request = record { state = s; reply = Refused rule (codes "-"); random = random }
+outcome_by None s random (Some request) = request_outcome s random request
+outcome_by None s random None = record { state = s; reply = Refused 1 (codes "-"); random = random }
+
+-- what comes of a line, with the random bytes that are ahead
+unfoldable pub line_outcome : State → List ℕ → List ℕ → LineOutcome
+line_outcome s random line = outcome_by (first_failing (line_checks line (request_of line))) s random (request_of line)

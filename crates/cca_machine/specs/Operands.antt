@@ -1,0 +1,42 @@
+-- The operands of a request that name a key or a label, as a table.
+use Rattle.std.specs.Prelude.{ℕ, List, [], ◌∷◌, codes}
+use Rattle.verb_script.specs.Grammar.{Request, RequestName, csnbktp, csnbmkp_part, csnbmkp_clear, csnbmkp_set, value_of}
+use Rattle.cca_machine.specs.declared.asking.Ask.{Ask}
+use Rattle.cca_machine.specs.declared.asking.Ask.TheVariants.{AnyToken, Nothing}
+
+-- the name of a field, its text, and what is asked of it
+pub record Operand : Type 0 where
+  pub name : List ℕ
+  pub text : List ℕ
+  pub ask : Ask
+
+-- the operands in the order of the fields; at most three, and nothing is asked of the others
+pub record Operands : Type 0 where
+  pub first : Operand
+  pub second : Operand
+  pub third : Operand
+
+abbrev pub operand : Request → List ℕ → Ask → Operand
+operand request name ask = record { name = name; text = value_of request name; ask = ask }
+
+abbrev pub no_operand : Operand
+no_operand = record { name = codes "-"; text = []; ask = Nothing }
+
+abbrev pub no_operands : Operands
+no_operands = record { first = no_operand; second = no_operand; third = no_operand }
+
+abbrev pub one_operand : Operand → Operands
+one_operand o = record { first = o; second = no_operand; third = no_operand }
+
+-- the table
+abbrev pub operands_of : RequestName → Request → Operands
+operands_of csnbktp r = one_operand (operand r (codes "token") AnyToken)
+operands_of csnbmkp_part r = no_operands
+operands_of csnbmkp_clear r = no_operands
+operands_of csnbmkp_set r = no_operands
+
+abbrev pub operands : Request → Operands
+operands request = operands_of request.name request
+
+abbrev pub listed : Operands → List Operand
+listed os = os.first ∷ os.second ∷ os.third ∷ []

@@ -1,0 +1,109 @@
+-- An action on the registers is what the machine makes of it.
+use Rattle.std.proofs.Common.{◌≡◌, ℕ, Bool, true, false, List, [], ◌∷◌, Option, None, Some, Result, Ok, Err, codes, refl, sym, ap, ◌∙◌, subst, inl, inr}
+use Rattle.std.specs.Prelude.{◌⊎◌, ◌↔◌, IsTrue, IfOk, OnOk, IsSome}
+use Rattle.slot_disk.specs.Medium.{Medium, Told, IsSettled, EachImage, From}
+use Rattle.slot_disk.proofs.Media.{each_weaker, told_at, keeps_still}
+use Rattle.cca_vectors.specs.Checks.{check}
+use Rattle.key_cells.specs.Bench.{Bench}
+use Rattle.master_registers.specs.Masters.{NewRegister, Empty, Partial, Full, Masters}
+use Rattle.master_registers.specs.RegisterBody.{StandsForMasters}
+use Rattle.master_registers.specs.Loaded.{Loaded, registers_of, state_of}
+use Rattle.master_registers.specs.Changes.{ChangesModule, HoldsEither, WhenRefused}
+use Rattle.master_registers.specs.declared.faults.RegisterFault.{RegisterFault}
+use Rattle.master_registers.specs.declared.faults.RegisterFault.TheVariants.{DiskFault, RegisterState, SamePattern}
+use Rattle.master_registers.specs.declared.registers.Registers.{Registers}
+use Rattle.script_buffers.specs.Replies.{Done, Text, spelled}
+use Rattle.cca_machine.specs.State.{State, IsModuleOf}
+use Rattle.cca_machine.specs.Verdict.{questions, first_refusal}
+use Rattle.cca_machine.specs.Act.{Outcome, Become, effected, new_name}
+use Rattle.cca_requests.specs.Serving.{Holds, Stands, IsEither, SameBut, Carries}
+use Rattle.cca_requests.specs.Deciding.{or_effected, state_name, change_stop, change_reply}
+use Rattle.cca_requests.proofs.Serving.{still_carries, told_some}
+
+named_alike : (r : NewRegister) → state_name (state_of r) ≡ new_name r
+named_alike Empty = refl
+named_alike (Partial bytes) = refl
+named_alike (Full bytes) = refl
+
+-- what comes of it, by whether rule 25 or 26 is broken
+abbrev outcome_by : Bool → Bool → State → Masters → Outcome
+outcome_by wrong same s next = or_effected (first_refusal (questions (codes "-") (check 25 wrong ∷ check 26 same ∷ []) ∷ [])) s (Become next)
+
+holds_at : (content : Option (List ℕ)) (m : Medium) (P : List ℕ → Type 0) → m.content ≡ content → IsSome content → Told m P → Holds m P
+holds_at None m P is some told = cc some
+holds_at (Some c) m P is some told = record { image = c; told = is; has = told_at m.content P c is told }
+
+module _ {A : Type 0} (medium : A → Medium) (old new : A) (s : State) (next : Masters) (bench : Bench)
+    (settled : IsSettled (medium old)) (stands : Stands s (medium old)) where
+  carried : (r : Result Registers RegisterFault) (reply : List ℕ) → ChangesModule s.registers next (medium old) (medium new) r → IfOk r (λ now. Loaded next now bench)
+      → OnOk (change_stop r) (reply ≡ spelled (change_reply r)) → (r ≡ Err RegisterState → ⊥) → (r ≡ Err SamePattern → ⊥)
+      → Carries (effected s (Become next)) s (change_stop r) reply (medium old) (medium new)
+  carried (Ok now) reply changes loaded text state same = record {
+    done = record {
+      reply_is = text
+          ∙ (ap (λ (h : Registers). spelled (Done (Text (codes "new") (state_name h.new_state) ∷ []))) loaded.told
+          ∙ ap (λ name. spelled (Done (Text (codes "new") name ∷ []))) (named_alike next.coming));
+      stands = record {
+        in_module =
+            let holds = holds_at (medium new).content (medium new) (λ c. StandsForMasters c next) refl
+                (changes.either.still (told_some (medium old) stands.in_module.image stands.in_module.told)) changes.stands in
+            record { image = holds.image; told = holds.told; has = record { registers = holds.has; roles = stands.in_module.has.roles } };
+      };
+    };
+    on_module = each_weaker (medium old) (medium new) (From (HoldsEither s.registers next) (medium old)) (IsEither s (effected s (Become next))) changes.moments
+        (λ image from. either image from.2.stands);
+    outside = each_weaker (medium old) (medium new) (From (HoldsEither s.registers next) (medium old)) (From (SameBut (Some 0)) (medium old)) changes.moments
+        (λ image from. (from.0, from.1, record { outside = from.2.outside; others = from.2.others }));
+    stops = tt;
+  }
+    where
+      either : (image : List ℕ) → StandsForMasters image s.registers ⊎ StandsForMasters image next → IsEither s (effected s (Become next)) image
+      either image (inl before) = inl (record { registers = before; roles = stands.in_module.has.roles })
+      either image (inr after) = inr (record { registers = after; roles = stands.in_module.has.roles })
+  carried (Err DiskFault) reply changes loaded text state same = record {
+    done = tt;
+    on_module = each_weaker (medium old) (medium new) (From (HoldsEither s.registers next) (medium old)) (IsEither s (effected s (Become next))) changes.moments
+        (λ image from. either image from.2.stands);
+    outside = each_weaker (medium old) (medium new) (From (HoldsEither s.registers next) (medium old)) (From (SameBut (Some 0)) (medium old)) changes.moments
+        (λ image from. (from.0, from.1, record { outside = from.2.outside; others = from.2.others }));
+    stops = tt;
+  }
+    where
+      either : (image : List ℕ) → StandsForMasters image s.registers ⊎ StandsForMasters image next → IsEither s (effected s (Become next)) image
+      either image (inl before) = inl (record { registers = before; roles = stands.in_module.has.roles })
+      either image (inr after) = inr (record { registers = after; roles = stands.in_module.has.roles })
+  carried (Err RegisterState) reply changes loaded text state same = absurd (state refl)
+  carried (Err SamePattern) reply changes loaded text state same = absurd (same refl)
+
+  refused_by_state : (same : Bool) (r : Result Registers RegisterFault) (reply : List ℕ) → r ≡ Err RegisterState → WhenRefused r (new ≡ old)
+      → OnOk (change_stop r) (reply ≡ spelled (change_reply r)) → Carries (outcome_by true same s next) s (change_stop r) reply (medium old) (medium new)
+  refused_by_state same (Ok now) reply is untouched text = cc is
+  refused_by_state same (Err DiskFault) reply is untouched text = cc is
+  refused_by_state same (Err RegisterState) reply is untouched text =
+      subst (λ x. Carries (outcome_by true same s next) s (Ok tt) reply (medium old) (medium x)) (sym untouched)
+      (still_carries (outcome_by true same s next) s (Ok tt) reply (medium old) refl text tt settled stands)
+  refused_by_state same (Err SamePattern) reply is untouched text = cc is
+
+  refused_by_pattern : (r : Result Registers RegisterFault) (reply : List ℕ) → r ≡ Err SamePattern → WhenRefused r (new ≡ old)
+      → OnOk (change_stop r) (reply ≡ spelled (change_reply r)) → Carries (outcome_by false true s next) s (change_stop r) reply (medium old) (medium new)
+  refused_by_pattern (Ok now) reply is untouched text = cc is
+  refused_by_pattern (Err DiskFault) reply is untouched text = cc is
+  refused_by_pattern (Err RegisterState) reply is untouched text = cc is
+  refused_by_pattern (Err SamePattern) reply is untouched text =
+      subst (λ x. Carries (outcome_by false true s next) s (Ok tt) reply (medium old) (medium x)) (sym untouched)
+      (still_carries (outcome_by false true s next) s (Ok tt) reply (medium old) refl text tt settled stands)
+
+  pub changes_as : (wrong same : Bool) (r : Result Registers RegisterFault) (reply : List ℕ) → ((r ≡ Err RegisterState) ↔ IsTrue wrong) → ((r ≡ Err SamePattern) ↔ IsTrue same)
+      → ChangesModule s.registers next (medium old) (medium new) r → WhenRefused r (new ≡ old) → IfOk r (λ now. Loaded next now bench)
+      → OnOk (change_stop r) (reply ≡ spelled (change_reply r)) → Carries (outcome_by wrong same s next) s (change_stop r) reply (medium old) (medium new)
+  changes_as true same r reply state pattern changes untouched loaded text = refused_by_state same r reply (state.1 refl) untouched text
+  changes_as false true r reply state pattern changes untouched loaded text = refused_by_pattern r reply (pattern.1 refl) untouched text
+  changes_as false false r reply state pattern changes untouched loaded text =
+      carried r reply changes loaded text (λ is. let no : false ≡ true = state.0 is in cc no) (λ is. let no : false ≡ true = pattern.0 is in cc no)
+
+  -- where no cell is written, no device is called
+  pub still_as : (wrong same : Bool) (r : Result Registers RegisterFault) → ((r ≡ Err RegisterState) ↔ IsTrue wrong) → ((r ≡ Err SamePattern) ↔ IsTrue same)
+      → WhenRefused r (new ≡ old) → (outcome_by wrong same s next).module_cell ≡ None → new ≡ old
+  still_as true same r state pattern untouched none = subst (λ (x : Result Registers RegisterFault). WhenRefused x (new ≡ old)) (state.1 refl) untouched
+  still_as false true r state pattern untouched none = subst (λ (x : Result Registers RegisterFault). WhenRefused x (new ≡ old)) (pattern.1 refl) untouched
+  still_as false false r state pattern untouched none = cc none

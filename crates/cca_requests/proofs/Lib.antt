@@ -1,0 +1,6 @@
+mod Acting
+mod Changing
+mod DigitLemmas
+mod Fields
+mod Serving
+mod TokenReply

@@ -1,0 +1,107 @@
+-- How what is said of the module is carried from call to call.
+use Rattle.std.proofs.Common.{◌≡◌, ℕ, List, [], Option, None, Some, Result, Ok, Err, refl, sym, ap, ◌∙◌, subst, inl, inr}
+use Rattle.std.specs.Prelude.{OnOk, IfErr, IfSome, IsSome}
+use Rattle.slot_disk.specs.Medium.{Medium, Told, IsSettled, From, EachImage, Keeps}
+use Rattle.slot_disk.proofs.Media.{goes_on, settled_image, each_weaker, each_still, keeps_still}
+use Rattle.script_buffers.specs.Replies.{spelled, Refused}
+use Rattle.line_service.specs.declared.stops.Stop.{Stop}
+use Rattle.verb_script.specs.Grammar.{Request}
+use Rattle.cca_machine.specs.State.{State, IsModuleOf}
+use Rattle.cca_machine.specs.Verdict.{Refusal, verdict}
+use Rattle.cca_machine.specs.Act.{Outcome, refused, or_act, performed}
+use Rattle.cca_requests.specs.Serving.{Holds, Stands, IsDone, IsEither, SameButCell, SameBut, IsFault, Carries, Serves}
+
+holds_told : (m : Medium) (P : List ℕ → Type 0) → Holds m P → Told m P
+holds_told m P holds = subst (λ (o : Option (List ℕ)). IfSome o P) (sym holds.told) holds.has
+
+pub told_some : (m : Medium) (image : List ℕ) → m.content ≡ Some image → IsSome m.content
+told_some m image told = subst IsSome (sym told) refl
+
+same_but_cell : (cell : ℕ) (c : List ℕ) → SameButCell cell c c
+same_but_cell cell c = record {
+  outside = record { size = refl; before = λ k h. refl; after = λ k h. refl };
+  others = λ n h. refl;
+}
+
+same_but : (cell : Option ℕ) (c : List ℕ) → SameBut cell c c
+same_but None c = refl
+same_but (Some cell) c = same_but_cell cell c
+
+-- a call that only reads a settled disk which holds P
+pub read_images : (m0 m1 : Medium) (P Q : List ℕ → Type 0) → IsSettled m0 → Holds m0 P → Keeps m0 m1 → ((c : List ℕ) → P c → Q c) → EachImage m0 m1 Q
+read_images m0 m1 P Q settled holds keeps weaker =
+    each_weaker m0 m1 m0.images Q keeps.moments (λ c image. weaker c (settled_image m0 P c settled (holds_told m0 P holds) image))
+
+pub read_outside : (cell : Option ℕ) (m0 m1 : Medium) → IsSettled m0 → Keeps m0 m1 → EachImage m0 m1 (From (SameBut cell) m0)
+read_outside cell m0 m1 settled keeps =
+    each_weaker m0 m1 m0.images (From (SameBut cell) m0) keeps.moments (λ c image. (c, settled.only c image, same_but cell c))
+
+pub holds_kept : (m0 m1 : Medium) (P : List ℕ → Type 0) → Keeps m0 m1 → Holds m0 P → Holds m1 P
+holds_kept m0 m1 P keeps holds = record { image = holds.image; told = keeps.content ∙ holds.told; has = holds.has }
+
+pub stands_kept : (s : State) (m0 m1 : Medium) → Keeps m0 m1 → Stands s m0 → Stands s m1
+stands_kept s m0 m1 keeps stands = record { in_module = holds_kept m0 m1 (IsModuleOf s) keeps stands.in_module }
+
+module _ (o : Outcome) (s : State) (result : Result (Unit {0}) Stop) (reply : List ℕ) where
+  -- nothing was written: the state stays
+  pub still_carries : (m : Medium) → o.state ≡ s → OnOk result (reply ≡ spelled o.reply) → IfErr result IsFault → IsSettled m → Stands s m
+      → Carries o s result reply m m
+  still_carries m same text stops settled stands = record {
+    done = done_at result text;
+    on_module = read_images m m (IsModuleOf s) (IsEither s o) settled stands.in_module (keeps_still m) (λ c p. inl p);
+    outside = read_outside o.module_cell m m settled (keeps_still m);
+    stops = stops;
+  }
+    where
+      done_at : (r : Result (Unit {0}) Stop) → OnOk r (reply ≡ spelled o.reply) → OnOk r (IsDone o reply m)
+      done_at (Ok u) says = record { reply_is = says; stands = rw same stands }
+      done_at (Err stop) says = tt
+
+  -- the module was read before
+  pub carries_after_read : (m0 m1 m2 : Medium) → IsSettled m0 → Stands s m0 → Keeps m0 m1 → Carries o s result reply m1 m2 → Carries o s result reply m0 m2
+  carries_after_read m0 m1 m2 settled stands keeps carries = record {
+    done = carries.done;
+    on_module = goes_on m0 m1 m2 (IsEither s o) (IsEither s o) (IsEither s o)
+        (read_images m0 m1 (IsModuleOf s) (IsEither s o) settled stands.in_module keeps (λ c p. inl p)) carries.on_module (λ c p. p) (λ c p. p);
+    outside = goes_on m0 m1 m2 (From (SameBut o.module_cell) m0) (From (SameBut o.module_cell) m1) (From (SameBut o.module_cell) m0)
+        (read_outside o.module_cell m0 m1 settled keeps) carries.outside (λ c p. p) (λ c from. (from.0, sym keeps.content ∙ from.1, from.2));
+    stops = carries.stops;
+  }
+
+-- ---- a request
+
+-- by the verdict that is known
+pub performed_by : (s : State) (drawn : List ℕ) (request : Request) (v : Option Refusal) → verdict s request ≡ v
+    → performed s drawn request ≡ or_act v s drawn request
+unfolding performed
+performed_by s drawn request v is = ap (λ (x : Option Refusal). or_act x s drawn request) is
+
+-- a refusal
+pub refused_serves : (s : State) (request : Request) (r : Refusal) (reply : List ℕ) (m : Medium) → verdict s request ≡ Some r
+    → reply ≡ spelled (Refused r.rule r.operand) → IsSettled m → Stands s m → Serves s request (Ok tt) reply m m
+refused_serves s request r reply m is text settled stands =
+    let by = performed_by s [] request (Some r) is in
+    record {
+      carries = still_carries (performed s [] request) s (Ok tt) reply m (ap (λ (o : Outcome). o.state) by)
+          (text ∙ ap (λ (o : Outcome). spelled o.reply) (sym by)) tt settled stands;
+    }
+
+-- a fault while the module was read
+pub stopped_serves : (s : State) (request : Request) (stop : Stop) (reply : List ℕ) (m0 m1 : Medium) → IsFault stop
+    → IsSettled m0 → Keeps m0 m1 → Stands s m0 → Serves s request (Err stop) reply m0 m1
+stopped_serves s request stop reply m0 m1 fault settled keeps stands =
+    let o : Outcome = performed s [] request in
+    record {
+      carries = record {
+        done = tt;
+        on_module = read_images m0 m1 (IsModuleOf s) (IsEither s o) settled stands.in_module keeps (λ c p. inl p);
+        outside = read_outside o.module_cell m0 m1 settled keeps;
+        stops = fault;
+      };
+    }
+
+-- the module was read before
+pub serves_after_read : (s : State) (request : Request) (result : Result (Unit {0}) Stop) (reply : List ℕ) (m0 m1 m2 : Medium)
+    → IsSettled m0 → Stands s m0 → Keeps m0 m1 → Serves s request result reply m1 m2 → Serves s request result reply m0 m2
+serves_after_read s request result reply m0 m1 m2 settled stands keeps serves =
+    record { carries = carries_after_read (performed s [] request) s result reply m0 m1 m2 settled stands keeps serves.carries }

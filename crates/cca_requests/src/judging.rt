@@ -1,0 +1,126 @@
+//! The operands of a request, judged in their order.
+ghost use Rattle.std.specs.Prelude.{◌≡◌, ◌<◌, Some, None, IfOk, IfErr, IsTrue, length};
+ghost use Rattle.cca_vectors.specs.Checks.{first_failing};
+ghost use Rattle.key_tokens.specs.TokenChecks.{rule_of, token_checks};
+ghost use Rattle.key_tokens.specs.Parts.{token_of};
+ghost use Rattle.key_tokens.specs.declared.key_token.Asked.TheVariants.{Either};
+ghost use Rattle.verb_rules.specs.Rules.{rule_number};
+ghost use Rattle.verb_script.specs.Grammar.{is_hex};
+ghost use Rattle.verb_script.specs.Values.{hex_value};
+ghost use Rattle.cca_machine.specs.State.{State};
+ghost use Rattle.cca_machine.specs.Verdict.{operand_checks};
+ghost use Rattle.cca_requests.specs.Judging.{IsText, IsAsked, HasShape, HaveShapes, AreFit, IsJudged, seen_operands};
+
+use crate::digits::decode;
+use crate::operands::{Operand, Operands};
+use crate::refusals::Refusal;
+use cca_machine::Ask;
+use key_tokens::{Asked, Token, TokenFault, read_token};
+use verb_rules::Rule;
+
+/// What an operand stands for, where it breaks no rule.
+#[derive(Clone, Copy)]
+pub(crate) struct Grant {
+    /// The key token, where one is asked for.
+    pub(crate) token: Option<Token>,
+}
+
+/// What the operands stand for.
+#[derive(Clone, Copy)]
+pub(crate) struct Granted {
+    pub(crate) first: Grant,
+    pub(crate) second: Grant,
+    pub(crate) third: Grant,
+}
+
+/// The rule that a fault of a token says is broken.
+fn token_rule(fault: TokenFault) -> Rule
+    ensures { rule_number result ≡ rule_of fault }
+{
+    match fault {
+        TokenFault::Kind => Rule::Kind,
+        TokenFault::Tvv => Rule::Tvv,
+        TokenFault::Version => Rule::Version,
+        TokenFault::Flag => Rule::Flag,
+        TokenFault::Reserved => Rule::Reserved,
+        TokenFault::Parity => Rule::Parity,
+        TokenFault::AntiVariant => Rule::AntiVariant,
+        TokenFault::Form => Rule::KeyForm,
+    }
+}
+
+/// The bytes of a key token that 128 hexadecimal digits spell.
+fn token_bytes(digits: &[u8]) -> [u8; 64]
+    requires { IsTrue (is_hex 128 digits.now) }
+    ensures { result ≡ hex_value digits.now }
+{
+    let mut bytes = [0; 64];
+    decode(digits, &mut bytes);
+    bytes
+}
+
+/// Judges a key token of either kind.
+fn judge_any_token(digits: &[u8]) -> Result<Grant, Rule>
+    requires { IsTrue (is_hex 128 digits.now) }
+    ensures passes { IfOk result (λ grant. first_failing (token_checks Either (hex_value digits.now)) ≡ None) }
+    ensures granted { IfOk result (λ grant. grant.token ≡ Some (token_of (hex_value digits.now))) }
+    ensures refused { IfErr result (λ rule. first_failing (token_checks Either (hex_value digits.now)) ≡ Some (rule_number rule)) }
+{
+    match read_token(&token_bytes(digits), Asked::Either) {
+        Ok(token) => Ok(Grant { token: Some(token) }),
+        Err(fault) => Err(token_rule(fault)),
+    }
+}
+
+/// Judges one operand.
+fn judge_one(operand: &Operand) -> Result<Grant, Rule>
+    requires { IsText operand.now.text.now operand.now.ask }
+    ensures asked { (s : State) → IsAsked s operand.now.text.now operand.now.ask result }
+    ensures shaped { IfOk result (HasShape operand.now.ask) }
+{
+    match operand.ask {
+        Ask::AnyToken => judge_any_token(operand.text),
+        Ask::Nothing => Ok(Grant { token: None }),
+    }
+}
+
+/// Judges the operands, and names the first rule that one of them breaks.
+pub(crate) fn judge(operands: &Operands) -> Result<Granted, Refusal>
+    requires { AreFit (seen_operands operands.now) }
+    ensures judged { (s : State) → IsJudged s (seen_operands operands.now) result }
+    ensures shaped { IfOk result (HaveShapes (seen_operands operands.now)) }
+    ensures short { IfErr result (λ refusal. length refusal.operand.now < 100) }
+{
+    let first = match judge_one(&operands.first) {
+        Ok(grant) => grant,
+        Err(rule) => {
+            return Err(Refusal {
+                rule,
+                operand: operands.first.name,
+            });
+        }
+    };
+    let second = match judge_one(&operands.second) {
+        Ok(grant) => grant,
+        Err(rule) => {
+            return Err(Refusal {
+                rule,
+                operand: operands.second.name,
+            });
+        }
+    };
+    let third = match judge_one(&operands.third) {
+        Ok(grant) => grant,
+        Err(rule) => {
+            return Err(Refusal {
+                rule,
+                operand: operands.third.name,
+            });
+        }
+    };
+    Ok(Granted {
+        first,
+        second,
+        third,
+    })
+}

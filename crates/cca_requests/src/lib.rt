@@ -1,0 +1,17 @@
+//! Requests, each judged and carried out: a file for each verb.
+//!
+//! A request goes through [`perform`]: the registers are loaded, the rules of the request as a whole and of its operands
+//! are judged, its verb decides over what the operands stand for, and what the verb decided is carried out. Only the last
+//! of these writes a disk.
+#![tactic(auto)]
+
+mod digits;
+mod effects;
+mod judging;
+mod operands;
+mod performing;
+mod refusals;
+mod verbs;
+
+pub use line_service::{Device, Stop};
+pub use performing::perform;

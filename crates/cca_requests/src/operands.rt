@@ -1,0 +1,96 @@
+//! The table of operands: of each request, what is asked of which field.
+ghost use Rattle.std.specs.Prelude.{◌≡◌, [], codes};
+ghost use Rattle.verb_script.specs.Grammar.{row_of, AreAccepted};
+ghost use Rattle.verb_script.specs.Parsed.{seen};
+ghost use Rattle.cca_machine.specs.Operands.{operands, no_operands, one_operand};
+ghost use Rattle.cca_requests.specs.Judging.{seen_operand, seen_operands, AreFit};
+
+use cca_machine::Ask;
+use verb_script::Request;
+
+/// The name of a field, its text, and what is asked of it.
+#[derive(Clone, Copy)]
+pub(crate) struct Operand<'a> {
+    pub(crate) name: &'static str,
+    pub(crate) text: &'a [u8],
+    pub(crate) ask: Ask,
+}
+
+impl<'a> Operand<'a> {
+    fn new(name: &'static str, text: &'a [u8], ask: Ask) -> Operand<'a>
+        ensures name { result.name.now ≡ name.now }
+        ensures text { result.text.now ≡ text.now }
+        ensures ask { result.ask ≡ ask }
+    {
+        Operand { name, text, ask }
+    }
+
+    fn none() -> Operand<'a>
+        ensures name { result.name.now ≡ codes "-" }
+        ensures text { result.text.now ≡ [] }
+        ensures ask { result.ask ≡ Ask.Nothing }
+    {
+        Operand {
+            name: "-",
+            text: b"",
+            ask: Ask::Nothing,
+        }
+    }
+}
+
+/// The operands of a request, in the order of its fields.
+#[derive(Clone, Copy)]
+pub(crate) struct Operands<'a> {
+    pub(crate) first: Operand<'a>,
+    pub(crate) second: Operand<'a>,
+    pub(crate) third: Operand<'a>,
+}
+
+impl<'a> Operands<'a> {
+    fn none() -> Operands<'a>
+        ensures { seen_operands result ≡ no_operands }
+    {
+        Operands {
+            first: Operand::none(),
+            second: Operand::none(),
+            third: Operand::none(),
+        }
+    }
+
+    fn one(first: Operand<'a>) -> Operands<'a>
+        ensures { seen_operands result ≡ one_operand (seen_operand first.entry) }
+    {
+        Operands {
+            first,
+            second: Operand::none(),
+            third: Operand::none(),
+        }
+    }
+}
+
+/// The table.
+pub(crate) fn operands_of<'a>(request: &Request<'a>) -> Operands<'a>
+    requires accepted { AreAccepted (row_of (seen request.now).name).fields (seen request.now).values }
+    ensures table { seen_operands result ≡ operands (seen request.now) }
+    ensures fit { AreFit (operands (seen request.now)) }
+{
+    match request {
+        Request::Csnbktp { token, .. } => csnbktp(token),
+        Request::CsnbmkpPart { role, .. } => no_operands(role),
+        Request::CsnbmkpClear { role, .. } => no_operands(role),
+        Request::CsnbmkpSet { role, .. } => no_operands(role),
+    }
+}
+
+// The arms of a match are to hold references alike, so this one takes one too.
+fn no_operands<'a>(_role: &'a [u8]) -> Operands<'a>
+    ensures { seen_operands result ≡ no_operands }
+{
+    Operands::none()
+}
+
+fn csnbktp<'a>(token: &'a [u8]) -> Operands<'a>
+    ensures { seen_operands result ≡ one_operand (record { name = codes "token"; text = token.now; ask = Ask.AnyToken }) }
+{
+    Operands::one(Operand::new("token", token, Ask::AnyToken))
+}

@@ -1,0 +1,4 @@
+//! What each verb decides, over what its operands stand for. No verb sees a disk.
+
+pub(crate) mod csnbktp;
+pub(crate) mod csnbmkp;

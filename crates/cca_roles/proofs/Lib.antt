@@ -1,0 +1,7 @@
+pub mod PointLaws
+pub mod DirectoryLaws
+pub mod BodyLaws
+pub mod TableLaws
+pub mod StandLaws
+pub mod OpeningLaws
+pub mod TotalLaws

@@ -1,0 +1,134 @@
+-- What a module stands for, and what a change of one cell makes of it.
+use Rattle.std.proofs.Common.{◌≡◌, ◌≢◌, ◌≤◌, ◌<◌, ◌+◌, ◌*◌, inl, inr, ⊎_elim, ℕ, List, length, set, Option, None, Some, Result, Ok, Err, true, false, refl, sym, ap, subst, ◌∙◌, arith}
+use Rattle.std.specs.Prelude.{OnOk, is_err, IsErrAnd}
+use Rattle.std.proofs.lemmas.Bool.{cases_eq, cases_lt}
+use Rattle.std.proofs.lemmas.List.{get_or-set_same, get_or-set_other, length-set, ext_get_or}
+use Rattle.std.proofs.lemmas.List.FromFn.{length-map-range_with_len, get_or-map-range_with_len}
+use Rattle.slot_disk.specs.Cells.{body, IsReplaced, IsReplacing}
+use Rattle.slot_disk.specs.Medium.{Medium, Told, From, Becomes, EachImage, Keeps, IsSettled}
+use Rattle.slot_disk.proofs.Media.{told_from, told_at, becomes_told, each_weaker, each_still}
+use Rattle.slot_disk.proofs.CellSteps.{outside_same}
+use Rattle.cca_roles.specs.Changes.{HoldsEither}
+use Rattle.cca_roles.specs.Directory.{name_at, AreApart}
+use Rattle.cca_roles.specs.RoleBody.{ReadsPlace, slot_in}
+use Rattle.cca_roles.specs.Roles.{names, name_of, role_at}
+use Rattle.cca_roles.specs.RolesStand.{StandsForRoles, roles_in, IsDamagedPlace, IsFirstDamaged}
+use Rattle.cca_roles.specs.declared.roles.Role.{Role}
+use Rattle.cca_roles.proofs.BodyLaws.{reads_one}
+use Rattle.cca_roles.proofs.TableLaws.{name_of_place}
+
+-- ---- the one table of a module
+
+module _ (image : List ℕ) where
+  pub length-roles_in : length (roles_in image) ≡ 32
+  unfolding roles_in
+  length-roles_in = length-map-range_with_len (λ n. slot_in n (body image (n + 1))) 0 32
+
+  pub role_at_in : (n : ℕ) → n < 32 → role_at (roles_in image) n ≡ slot_in n (body image (n + 1))
+  unfolding roles_in
+  role_at_in n below = get_or-map-range_with_len (λ k. slot_in k (body image (k + 1))) 0 32 n n None below (omega arith)
+
+  pub stands_one : (s : List (Option Role)) → StandsForRoles image s → s ≡ roles_in image
+  stands_one s stands = ext_get_or None s (roles_in image) (stands.size ∙ sym length-roles_in)
+      (λ n within. let below : n < 32 = omega (arith, stands.size) in sym (reads_one n (body image (n + 1)) (role_at s n) (stands.reads n below)) ∙ sym (role_at_in n below))
+
+  -- a damaged module stands for none
+  pub stands_undamaged : (s : List (Option Role)) (n : ℕ) → StandsForRoles image s → n < 32 → IsDamagedPlace image n → ⊥
+  stands_undamaged s n stands within (inl nothing) = nothing (role_at s n) (stands.reads n within)
+  stands_undamaged s n stands within (inr repeats) =
+      let first : name_at (names s) repeats.lower ≡ Some repeats.again.name =
+      held repeats.lower repeats.first (omega (arith, repeats.below)) repeats.reads_first ∙ ap (λ l. Some l) repeats.same in
+      omega (arith, stands.apart repeats.lower n repeats.again.name first (held n repeats.again within repeats.reads_again), repeats.below)
+    where
+      held : (k : ℕ) (r : Role) → k < 32 → ReadsPlace k (body image (k + 1)) (Some r) → name_at (names s) k ≡ Some r.name
+      held k r below reads = name_of_place s k ∙ ap name_of (sym (reads_one k (body image (k + 1)) (role_at s k) (stands.reads k below)) ∙ reads_one k (body image (k + 1)) (Some r) reads)
+
+  pub first_one : (a b : ℕ) → IsFirstDamaged image a → IsFirstDamaged image b → a ≡ b
+  first_one a b first second =
+      ⊎_elim (λ (below : first.place < second.place). absurd (second.first first.place below first.damaged))
+      (λ (above : second.place ≤ first.place). ⊎_elim (λ (same : second.place ≡ first.place). omega (arith, first.cell_is, second.cell_is, same)) (λ (other : second.place ≡ first.place → ⊥). absurd (first.first second.place (omega arith) second.damaged)) (cases_eq second.place first.place))
+      (cases_lt first.place second.place)
+
+-- ---- one cell changes
+
+module _ (n : ℕ) (bytes : List ℕ) (slot : Option Role) (s : List (Option Role)) (within : n < 32) (reads : ReadsPlace n bytes slot) (apart : AreApart (names (set s n slot))) where
+  other_cell : (m : ℕ) → (m ≡ n → ⊥) → m + 1 ≢ n + 1
+  other_cell m other same = other (omega (arith, same))
+
+  -- one cell was replaced
+  pub stands_set : (old new : List ℕ) → StandsForRoles old s → body new (n + 1) ≡ bytes → ((m : ℕ) → m ≢ n + 1 → body new m ≡ body old m) → StandsForRoles new (set s n slot)
+  stands_set old new stands here others = record {
+    size = length-set s n slot ∙ stands.size;
+    reads = λ m below. ⊎_elim
+        (λ (is : m ≡ n). subst (λ (k : ℕ). ReadsPlace k (body new (k + 1)) (role_at (set s n slot) k)) (sym is)
+        (subst (λ (r : Option Role). ReadsPlace n (body new (n + 1)) r) (sym (get_or-set_same s n slot None (omega (arith, stands.size))))
+        (subst (λ (b : List ℕ). ReadsPlace n b slot) (sym here) reads)))
+        (λ (other : m ≡ n → ⊥). subst (λ (r : Option Role). ReadsPlace m (body new (m + 1)) r) (sym (get_or-set_other s n m slot None other))
+        (subst (λ (b : List ℕ). ReadsPlace m b (role_at s m)) (sym (others (m + 1) (other_cell m other))) (stands.reads m below)))
+        (cases_eq m n);
+    apart = apart;
+  }
+
+  -- the cell still selects what it did
+  stands_still : (old new : List ℕ) → StandsForRoles old s → body new (n + 1) ≡ body old (n + 1) → ((m : ℕ) → m ≢ n + 1 → body new m ≡ body old m) → StandsForRoles new s
+  stands_still old new stands here others = record {
+    size = stands.size;
+    reads = λ m below. subst (λ (b : List ℕ). ReadsPlace m b (role_at s m))
+        (sym (⊎_elim (λ (is : m ≡ n). ap (λ (k : ℕ). body new (k + 1)) is ∙ here ∙ ap (λ (k : ℕ). body old (k + 1)) (sym is)) (λ (other : m ≡ n → ⊥). others (m + 1) (other_cell m other)) (cases_eq m n))) (stands.reads m below);
+    apart = stands.apart;
+  }
+
+  pub holds_either : (old new : List ℕ) → StandsForRoles old s → IsReplacing (n + 1) bytes old new → HoldsEither (n + 1) s (set s n slot) old new
+  holds_either old new stands replacing = record {
+    outside = replacing.outside;
+    others = replacing.others;
+    elsewhere = replacing.elsewhere;
+    stands = ⊎_elim (λ was. inl (stands_still old new stands was replacing.others)) (λ here. inr (stands_set old new stands here replacing.others)) replacing.here;
+  }
+
+  -- over a disk
+  module _ (m0 m1 : Medium) (start : Told m0 (λ image. StandsForRoles image s)) where
+    pub told_set : Becomes (IsReplaced (n + 1) bytes) m0 m1 → Told m1 (λ image. StandsForRoles image (set s n slot))
+    told_set becomes = becomes_told m0 m1 (IsReplaced (n + 1) bytes) (λ image. StandsForRoles image s) (λ image. StandsForRoles image (set s n slot)) becomes start (λ old new stands replaced. stands_set old new stands replaced.here replaced.others)
+
+    either_from : (c : List ℕ) → From (IsReplacing (n + 1) bytes) m0 c → From (HoldsEither (n + 1) s (set s n slot)) m0 c
+    either_from c from = (from.0, from.1, holds_either from.0 c (told_at m0.content (λ image. StandsForRoles image s) from.0 from.1 start) from.2)
+
+    pub either_becomes : Becomes (IsReplacing (n + 1) bytes) m0 m1 → Becomes (HoldsEither (n + 1) s (set s n slot)) m0 m1
+    either_becomes becomes = record { size = becomes.size; told = λ c is. either_from c (becomes.told c is); still = becomes.still }
+
+    pub either_moments : EachImage m0 m1 (From (IsReplacing (n + 1) bytes) m0) → EachImage m0 m1 (From (HoldsEither (n + 1) s (set s n slot)) m0)
+    either_moments moments = each_weaker m0 m1 (From (IsReplacing (n + 1) bytes) m0) (From (HoldsEither (n + 1) s (set s n slot)) m0) moments either_from
+
+-- a module that a refusal leaves as it was
+module _ (cell : ℕ) (s next : List (Option Role)) (m : Medium) (settled : IsSettled m) (start : Told m (λ image. StandsForRoles image s)) where
+  still_either : (c : List ℕ) → m.content ≡ Some c → HoldsEither cell s next c c
+  still_either c is = record { outside = outside_same (1536 * cell) 1536 c; others = λ n other. refl; elsewhere = λ k at. refl; stands = inl (told_at m.content (λ image. StandsForRoles image s) c is start) }
+
+  pub refused_becomes : Becomes (HoldsEither cell s next) m m
+  refused_becomes = record { size = refl; told = λ c is. (c, is, still_either c is); still = λ some. some }
+
+  pub refused_moments : EachImage m m (From (HoldsEither cell s next) m)
+  refused_moments = each_weaker m m m.images (From (HoldsEither cell s next) m) (each_still m) (λ c image. let is = settled.only c image in (c, is, still_either c is))
+
+-- ---- what a disk tells
+
+pub unless_err : {T E P : Type 0} (r : Result T E) → is_err r ≡ false → OnOk r P → P
+unless_err (Ok x) is holds = holds
+unless_err (Err e) is holds = let wrong : true ≡ false = is in absurd (cc)
+
+-- an error that is handed on
+pub handed_on : {T E : Type 0} (r : Result T E) (fault : E) → IsErrAnd r (λ e. e ≡ fault) → r ≡ Err fault
+handed_on (Ok x) fault is = absurd is
+handed_on (Err e) fault is = ap (λ f. Err f) is
+
+pub told_map : (m : Medium) (P Q : List ℕ → Type 0) → Told m P → ((c : List ℕ) → P c → Q c) → Told m Q
+told_map m P Q told weaker = told_from m.content Q (λ c is. weaker c (told_at m.content P c is told))
+
+-- what is told of a disk that was read, with what was told before
+pub told_next : (m0 m1 : Medium) (P Q R : List ℕ → Type 0) → Keeps m0 m1 → Told m0 P → Told m1 Q → ((c : List ℕ) → P c → Q c → R c) → Told m0 R
+told_next m0 m1 P Q R keeps before then both = told_from m0.content R (λ c is. both c (told_at m0.content P c is before) (told_at m1.content Q c (keeps.content ∙ is) then))
+
+-- what was told of a disk is told of it after calls that keep it
+pub told_kept : (m0 m1 : Medium) (P : List ℕ → Type 0) → Keeps m0 m1 → Told m0 P → Told m1 P
+told_kept m0 m1 P keeps told = told_from m1.content P (λ c is. told_at m0.content P c (sym keeps.content ∙ is) told)

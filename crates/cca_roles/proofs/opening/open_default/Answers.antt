@@ -1,0 +1,38 @@
+use Rattle.std.proofs.Common.{◌≡◌, List, ℕ, Option, Some, sym, ap, subst, ◌∙◌}
+use Rattle.std.specs.Prelude.{set}
+use Rattle.slot_disk.specs.Cells.{body}
+use Rattle.cca_roles.specs.Directory.{AreApart}
+use Rattle.cca_roles.specs.Opening.{OpenedTo}
+use Rattle.cca_roles.specs.RoleBody.{ReadsPlace, slot_in}
+use Rattle.cca_roles.specs.Roles.{AreRoles, names, name_of, blank_roles}
+use Rattle.cca_roles.specs.declared.roles.Role.{Role}
+use Rattle.cca_roles.proofs.OpeningLaws.{opened_first}
+use Rattle.cca_roles.proofs.StandLaws.{told_map, unless_err}
+use Rattle.cca_roles.proofs.TableLaws.{blank_table}
+use Rattle.cca_roles.proofs.TotalLaws.{default_read, default_apart}
+use Rattle.cca_roles.proofs.opening.open_default.Goals as goal
+
+pub returns-then-is_err-clause-roles : goal.returns-then-is_err-clause-roles
+returns-then-is_err-clause-roles g c = subst AreRoles (sym c.requires.blank) blank_table
+
+pub returns-in-None-clause-roles : goal.returns-in-None-clause-roles
+returns-in-None-clause-roles g c = subst AreRoles (sym c.requires.blank) blank_table
+
+pub set_place-requires-clause-apart : goal.set_place-requires-clause-apart
+set_place-requires-clause-apart g c =
+    subst (λ (s : List (Option Role)). AreApart (set (names s) 0 (name_of (Some c.in-Some.role)))) (sym c.requires.blank)
+    (default_apart (Some c.in-Some.role) (default_read c.body.result.now (Some c.in-Some.role) c.in-Some.ensures.reads))
+
+pub returns-in-Some-clause-opened : goal.returns-in-Some-clause-opened
+returns-in-Some-clause-opened g c =
+    let bytes : List ℕ = c.body.result.now in
+    let slot : Option Role = Some c.in-Some.role in
+    let found : slot ≡ slot_in 0 bytes = c.in-Some.ensures.found in
+    let reads : ReadsPlace 0 bytes (slot_in 0 bytes) = subst (λ (o : Option Role). ReadsPlace 0 bytes o) found c.in-Some.ensures.reads in
+    told_map (g.M.Disk.medium c.args.«module».now) (λ image. c.read_cell.new.out ≡ body image c.new.result) (λ image. OpenedTo image 1 c.set_place.new.self)
+    (unless_err c.read_cell.result (sym c.is_err.ensures.value ∙ c.if-is_err.false) c.read_cell.ensures.bytes)
+    (λ image read.
+    let here : bytes ≡ body image 1 = c.body.ensures ∙ read ∙ ap (body image) c.new.ensures in
+    opened_first image c.set_place.new.self
+    (subst (λ (b : List ℕ). ReadsPlace 0 b (slot_in 0 b)) here reads)
+    (c.set_place.ensures.set ∙ ap (λ s. set s 0 slot) c.requires.blank ∙ ap (set blank_roles 0) (found ∙ ap (slot_in 0) here)))

@@ -1,0 +1,48 @@
+-- What a change of one role does to the module, and when each answer comes.
+use Rattle.std.specs.Prelude.{◌≡◌, ◌≢◌, ◌≤◌, ◌⊎◌, ◌+◌, ◌*◌, ℕ, List, slice_index, Option}
+use Rattle.std.specs.Prelude.{Result, Err, OnOk, OnErr}
+use Rattle.key_cells.specs.Lease.{bench_of, holding}
+use Rattle.key_cells.specs.declared.leases.Lease.{Lease}
+use Rattle.slot_disk.specs.Cells.{body, IsElsewhere}
+use Rattle.slot_disk.specs.declared.cell.TheConstants.{CELL_LEN}
+use Rattle.slot_disk.specs.Faults.{Rose}
+use Rattle.slot_disk.specs.Medium.{Medium, IsSettled, Told, From, Becomes, EachImage}
+use Rattle.slot_disk.specs.Ranges.{SameOutside}
+use Rattle.cca_roles.specs.RolesStand.{StandsForRoles}
+use Rattle.cca_roles.specs.declared.faults.RoleFault.{RoleFault}
+use Rattle.cca_roles.specs.declared.faults.RoleFault.TheVariants.{DiskFault}
+use Rattle.cca_roles.specs.declared.roles.Role.{Role}
+
+-- The module stands for the roles before or after. Every other cell selects the body that it did, no
+-- byte outside the cell has changed, and none of the cell but its selector and the bytes of the body
+-- that wasn't selected.
+pub record HoldsEither (cell : ℕ) (s next : List (Option Role)) (old new : List ℕ) : Type 0 where
+  pub outside : SameOutside (CELL_LEN * cell) CELL_LEN old new
+  pub others : (n : ℕ) → n ≢ cell → body new n ≡ body old n
+  pub elsewhere : (k : ℕ) → IsElsewhere old cell k → slice_index new k ≡ slice_index old k
+  pub stands : StandsForRoles new s ⊎ StandsForRoles new next
+
+-- the roles of a module become others, by a change of one place
+pub record ChangesRoles (place : ℕ) (s next : List (Option Role)) (old new : Medium)
+    (result : Result (Unit {0}) RoleFault) : Type 0 where
+  -- after Ok nothing is unsynced, and a read gives the roles after
+  pub settled : OnOk result (IsSettled new)
+  pub stands : OnOk result (Told new (λ image. StandsForRoles image next))
+  -- whatever the answer, a read gives the roles before or after, and so does a stop at any moment of the call
+  pub either : Becomes (HoldsEither (place + 1) s next) old new
+  pub moments : EachImage old new (From (HoldsEither (place + 1) s next) old)
+
+-- the memory has the roles after, where the call answers Ok, and else those before
+pub record Remembers (s next now : List (Option Role)) (result : Result (Unit {0}) RoleFault)
+    : Type 0 where
+  pub done : OnOk result (now ≡ next)
+  pub kept : OnErr result (now ≡ s)
+
+-- a disk's fault is answered only where the disk's count rose
+pub record HasRoleCause (before now : ℕ) (result : Result (Unit {0}) RoleFault) : Type 0 where
+  pub later : before ≤ now
+  pub failed : result ≡ Err DiskFault → Rose before now
+
+-- of what a lease holds the body alone has changed
+abbrev pub KeepsAllButBody : Lease → Lease → Type 0
+KeepsAllButBody old new = new ≡ holding old (record (bench_of old) { body = (bench_of new).body })

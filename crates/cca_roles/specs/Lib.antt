@@ -1,0 +1,14 @@
+pub mod Points
+pub mod RoleNames
+pub mod RoleInside
+pub mod Directory
+pub mod Roles
+pub mod RoleBody
+pub mod RolesStand
+pub mod Changes
+pub mod Opening
+pub use Rattle.key_cells.specs.Bench
+pub use Rattle.key_cells.specs.Lease
+pub use Rattle.slot_disk.specs.Cells
+pub use Rattle.slot_disk.specs.Faults
+pub use Rattle.slot_disk.specs.Medium

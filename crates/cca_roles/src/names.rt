@@ -1,0 +1,140 @@
+//! Names of roles.
+ghost use Rattle.std.specs.Prelude.{◌≡◌, ◌+◌, ◌≤◌, ◌<◌, ◌++◌, ◌-◌, ◌↔◌, length, replicate, drop, nat_le, IfSome, IsSome};
+ghost use Rattle.std.specs.List.{list_all};
+ghost use Rattle.std.specs.Str.{bytes_eq};
+ghost use Rattle.cca_roles.specs.RoleNames.{is_letter, is_digit, is_name_byte, starts_name};
+ghost use Rattle.cca_roles.specs.RoleNames.{is_role_name, IsRoleName, default_name};
+
+use std::marker::Model;
+
+/// A role's name: 1 to 8 characters of A to Z and 0 to 9, of which the first is a letter.
+#[derive(Clone, Copy, Debug, PartialEq, Eq)]
+pub struct RoleName {
+    length: u8,
+    bytes: [u8; 8],
+}
+
+// Clauses see its text.
+impl Model for RoleName {
+    ghost use Rattle.std.specs.Prelude.{ℕ, List};
+    ghost use Rattle.cca_roles.specs.RoleInside.{text_of, IsText, inside_of, inside_again};
+
+    ghost Value = { List ℕ };
+
+    ghost view = { text_of };
+
+    ghost invariant = { IsText };
+
+    ghost inverse = { inside_of };
+
+    ghost inverse_ok = { inside_again };
+}
+
+fn is_letter(c: u8) -> bool
+    ensures { result ≡ is_letter c }
+{
+    0x41 <= c && c <= 0x5a
+}
+
+fn is_digit(c: u8) -> bool
+    ensures { result ≡ is_digit c }
+{
+    0x30 <= c && c <= 0x39
+}
+
+fn is_name_byte(c: u8) -> bool
+    ensures { result ≡ is_name_byte c }
+{
+    is_letter(c) || is_digit(c)
+}
+
+fn starts_name(text: &[u8]) -> bool
+    ensures { result ≡ starts_name text.now }
+{
+    !text.is_empty() && is_letter(text[0])
+}
+
+fn is_short(text: &[u8]) -> bool
+    ensures { result ≡ nat_le (length text.now) 8 }
+{
+    text.len() <= 8
+}
+
+fn are_name_bytes(text: &[u8]) -> bool
+    ensures { result ≡ list_all is_name_byte text.now }
+{
+    text.iter().all(|c| is_name_byte(*c))
+}
+
+#[tactic(auto, unfolding(crate::specs::RoleNames::is_role_name))]
+fn is_role_name(text: &[u8]) -> bool
+    ensures { result ≡ is_role_name text.now }
+{
+    starts_name(text) && is_short(text) && are_name_bytes(text)
+}
+
+fn put_front(room: &mut [u8], text: &[u8])
+    requires { length text.now ≤ length room.old }
+    ensures { room.new ≡ text.now ++ drop (length text.now) room.old }
+{
+    room[..text.len()].copy_from_slice(text);
+}
+
+impl RoleName {
+    /// The name that a text is, where it is one.
+    pub fn read(text: &[u8]) -> Option<RoleName>
+        ensures found { IfSome result (λ name. name ≡ text.now) }
+        ensures name { IsSome result ↔ IsRoleName text.now }
+    {
+        if !is_role_name(text) {
+            return None;
+        }
+        let mut bytes = [0; 8];
+        put_front(&mut bytes, text);
+        Some(RoleName {
+            length: text.len() as u8,
+            bytes,
+        })
+    }
+
+    /// DEFAULT, the role that each module has.
+    pub fn default_role() -> RoleName
+        ensures { result ≡ default_name }
+    {
+        RoleName {
+            length: 7,
+            bytes: *b"DEFAULT\0",
+        }
+    }
+
+    /// Its text.
+    pub fn text(&self) -> &[u8]
+        ensures text { result.now ≡ self.now }
+        ensures name { IsRoleName self.now }
+    {
+        &self.bytes[..self.length as usize]
+    }
+
+    /// Its text, filled with zeros.
+    pub(crate) fn filled(&self) -> &[u8; 8]
+        ensures { result.now ≡ self.now ++ replicate (8 - length self.now) 0 }
+    {
+        &self.bytes
+    }
+
+    /// How long it is.
+    pub(crate) fn length(&self) -> u8
+        ensures length { result ≡ length self.now }
+        ensures short { length self.now ≤ 8 }
+        ensures name { IsRoleName self.now }
+    {
+        self.length
+    }
+
+    /// Whether the other is the same name.
+    pub(crate) fn is(&self, other: &RoleName) -> bool
+        ensures { result ≡ bytes_eq self.now other.now }
+    {
+        self.text() == other.text()
+    }
+}

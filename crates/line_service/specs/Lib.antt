@@ -1,0 +1,6 @@
+pub mod Machine
+pub mod Sending
+pub mod Stops
+pub mod Devices
+pub mod Answering
+pub mod Serving

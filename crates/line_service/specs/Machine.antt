@@ -1,0 +1,46 @@
+-- A machine that answers lines, over two disks and a list of random bytes.
+use Rattle.std.specs.Prelude.{ℕ, List, Option}
+use Rattle.slot_disk.specs.Medium.{Medium}
+use Rattle.line_service.specs.declared.stops.Stop.{Stop}
+
+-- what a line comes to: the state after it, the bytes of the reply line, and the random bytes that are left
+pub record Outcome (S : Type 0) : Type 0 where
+  pub state : S
+  pub reply : List ℕ
+  pub random : List ℕ
+
+pub record Machine : Type 1 where
+  pub State : Type 0
+  -- what a line comes to, in a state and with some random bytes
+  pub step : State → List ℕ → List ℕ → Outcome State
+  -- the line is refused from the state
+  pub Refuses : State → List ℕ → Type 0
+  -- the content of a disk stands for the state
+  pub InModule : State → List ℕ → Type 0
+  pub InStore : State → List ℕ → Type 0
+  -- a state that a stop may leave on the way through a line
+  pub Between : State → List ℕ → State → Type 0
+  -- a line at which a device may fail
+  pub MayStop : Stop → State → List ℕ → Type 0
+  -- some line takes random bytes
+  pub Draws : Type 0
+  -- this cell is the first that reads as nothing, of a module with this content
+  pub IsBrokenModule : ℕ → List ℕ → Type 0
+  -- this cell is the first that reads as nothing, of a store beside a module with these contents
+  pub IsBrokenStore : ℕ → List ℕ → List ℕ → Type 0
+  -- what is broken stands for no state
+  pub module_apart : (cell : ℕ) (c : List ℕ) (s : State) → IsBrokenModule cell c → InModule s c → ⊥
+  pub store_apart : (cell : ℕ) (c d : List ℕ) (s : State) → IsBrokenStore cell c d → InModule s c → InStore s d → ⊥
+  -- in bytes
+  pub module_size : ℕ
+  pub store_size : ℕ
+
+-- the devices behind a machine at a moment
+pub record World : Type 1 where
+  pub module_ : Medium
+  pub store : Medium
+  -- the random bytes still to come, where they are told
+  pub random : Option (List ℕ)
+
+abbrev pub world : Medium → Medium → Option (List ℕ) → World
+world m d e = record { module_ = m; store = d; random = e }
