@@ -5,9 +5,9 @@ use Rattle.slot_disk.specs.Medium.{Medium, Keeps, Told}
 use Rattle.slot_disk.specs.Cells.{body}
 use Rattle.slot_disk.proofs.Media.{told_at}
 use Rattle.key_cells.specs.Bench.{Bench}
-use Rattle.master_registers.specs.Masters.{NewRegister, Empty, Partial, Full, Masters, new_bytes, kept_bytes}
+use Rattle.master_registers.specs.Masters.{NewRegister, Empty, Partial, Full, Masters, new_bytes, kept_bytes, state_of}
 use Rattle.master_registers.specs.RegisterBody.{StandsForMasters, IsDamaged}
-use Rattle.master_registers.specs.Loaded.{Loaded, masters_in, coming_in, kept_in, state_of, pattern_in, registers_of}
+use Rattle.master_registers.specs.Loaded.{Loaded, masters_in, coming_in, kept_in, pattern_in, registers_of}
 use Rattle.master_registers.specs.declared.registers.Registers.{Registers}
 use Rattle.master_registers.proofs.BodyLaws.{reads_one}
 use Rattle.verb_script.specs.Grammar.{Request}

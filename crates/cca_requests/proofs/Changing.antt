@@ -6,9 +6,9 @@ use Rattle.slot_disk.specs.Faults.{Rose}
 use Rattle.slot_disk.proofs.Media.{each_weaker, told_at, told_from}
 use Rattle.cca_vectors.specs.Checks.{check}
 use Rattle.key_cells.specs.Bench.{Bench}
-use Rattle.master_registers.specs.Masters.{NewRegister, Empty, Partial, Full, Masters}
+use Rattle.master_registers.specs.Masters.{NewRegister, Empty, Partial, Full, Masters, state_of}
 use Rattle.master_registers.specs.RegisterBody.{StandsForMasters}
-use Rattle.master_registers.specs.Loaded.{Loaded, state_of}
+use Rattle.master_registers.specs.Loaded.{Loaded}
 use Rattle.master_registers.specs.Changes.{ChangesModule, HoldsEither, WhenRefused}
 use Rattle.master_registers.specs.declared.faults.RegisterFault.{RegisterFault}
 use Rattle.master_registers.specs.declared.faults.RegisterFault.TheVariants.{DiskFault, RegisterState, SamePattern}
