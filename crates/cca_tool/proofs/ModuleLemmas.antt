@@ -21,9 +21,10 @@ settled_keeps m0 m1 same moments =
 -- registers that were loaded are those of a state
 pub sound_loaded : (m : Medium) (registers : Masters) → Told m (λ image. StandsForMasters image registers) → Told m IsModuleSound
 sound_loaded m registers told =
-    told_from m.content IsModuleSound (λ c is.
-    (record { registers = registers; roles = default_roles },
-    record { registers = told_at m.content (λ image. StandsForMasters image registers) c is told; roles = refl }))
+    told_from m.content IsModuleSound (λ c is. (
+      record { registers = registers; roles = default_roles },
+      record { registers = told_at m.content (λ image. StandsForMasters image registers) c is told; roles = refl },
+    ))
 
 -- what is told now was told before
 pub told_before : (m0 m1 : Medium) (P Q : List ℕ → Type 0) → m1.content ≡ m0.content → ((c : List ℕ) → P c → Q c) → Told m1 P → Told m0 Q

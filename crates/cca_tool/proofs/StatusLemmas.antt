@@ -46,6 +46,10 @@ module _ (r : Result (Unit {0}) Stop) (outcome : Status) (is : outcome ≡ statu
   pub as_told : (told : Status) → outcome ≡ told → r ≡ outcome_of told
   as_told told h = sym (outcome_is r) ∙ (ap outcome_of (sym is) ∙ ap outcome_of h)
 
+  pub stopped_as : (outcome ≡ status.ReadFault) ⊎ (outcome ≡ status.InputLimit) → (r ≡ Err ReadFault) ⊎ (r ≡ Err InputLimit)
+  stopped_as (inl h) = inl (as_told status.ReadFault h)
+  stopped_as (inr h) = inr (as_told status.InputLimit h)
+
   pub serves_lines : ServesLines outcome → AnswersLines r
   serves_lines (inl h) = inl (subst IsOk (sym (as_told status.Done h)) refl)
   serves_lines (inr (inl h)) = inr (inl (as_told status.ReadFault h))

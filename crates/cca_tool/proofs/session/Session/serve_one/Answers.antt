@@ -1,21 +1,14 @@
-use Rattle.std.proofs.Common.{rules, ◌≡◌, ◌++◌, ◌+◌, ◌⊎◌, ◌↔◌, ◌<◌, ℕ, [], IsTrue, Ok, Err, OnOk, IfOk, IfErr, IsOk, length, ◌-◌, ◌*◌, ◌≤◌, ◌/◌, ◌%◌, Bool, true, false, nat_eq, nat_lt, List, ◌∷◌, slice_index_or, slice_set, bit_and, bit_or, Fits, w8, w32, w64, Bor, MutBor}
-use Rattle.std.specs.Io.KnownBytes.{IsAtEnd}
-use Rattle.key_cells.specs.Bench.{blank_bench}
-use Rattle.slot_disk.specs.Faults.{Rose}
-use Rattle.slot_disk.specs.Medium.{Told, IsSettled, Keeps}
-use Rattle.slot_disk.specs.WhereTold.{WhereTold}
-use Rattle.script_buffers.specs.Lines.{NoNewline}
-use Rattle.script_buffers.specs.Reading.{blank, given, input_limit, LosesPart, bytes_ahead}
-use Rattle.line_service.specs.Answering.{Holds}
-use Rattle.line_service.specs.Devices.{DiskLeft, TellsFault}
-use Rattle.line_service.specs.Sending.{Grows}
-use Rattle.line_service.specs.Serving.{LineServed, RunServed, PrefixSent}
-use Rattle.line_service.specs.Stops.{IsUnanswered, AnswersLines, IsFaultless}
-use Rattle.cca_machine.specs.State.{State, IsModuleOf, module_size}
-use Rattle.cca_requests.specs.Serving.{IsSound}
-use Rattle.cca_tool.specs.Coprocessor.{cca, over, anything, no_random, IsBroken, IsStop, IsOpeningStop}
+-- A line served over the module alone.
+use Rattle.std.proofs.Common.{◌≡◌, sym, subst}
+use Rattle.script_buffers.specs.Reading.{Reading}
+use Rattle.line_service.specs.Serving.{LineServed}
+use Rattle.cca_tool.specs.Coprocessor.{cca, over, anything}
+use Rattle.cca_tool.proofs.ModuleLemmas.{stands_on}
 use Rattle.cca_tool.proofs.session.Session.serve_one.Goals as goal
 
--- src/session.rt:85:5
 pub returns-clause-serves : goal.returns-clause-serves
-returns-clause-serves g c = ?
+returns-clause-serves g c = λ s holds.
+    let served = c.serve_one.ensures.serves s (stands_on (g.M.Disk.medium c.args.module.now) s holds) in
+    let as_seen = λ (r : Reading). LineServed cca s anything c.serve_one.result (over (g.M.Disk.medium c.args.module.now)) (over (g.M.Disk.medium c.serve_one.new.module))
+    (g.S.Source.left c.args.source.now) (g.S.Source.left c.serve_one.new.source) (g.K.Sink.held c.args.sink.now) (g.K.Sink.held c.serve_one.new.sink) r c.serve_one.new.lines in
+    subst as_seen c.self.view_is served
