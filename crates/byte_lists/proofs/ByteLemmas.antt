@@ -1,10 +1,13 @@
 -- The exclusive or of lists, lists that are zero, and pieces of lists.
-use Rattle.std.proofs.Common.{◌≡◌, ℕ, zero, suc, ◌+◌, ◌<◌, List, [], ◌∷◌, ◌++◌, length, get_or, take, drop, set, replicate, refl, sym, ap, subst, ⊎_elim, ◌∙◌, arith}
+use Rattle.std.proofs.Common.{◌≡◌, ℕ, zero, suc, ◌+◌, ◌<◌, List, [], ◌∷◌, ◌++◌, length, get_or, take, drop, set, replicate, eqb, refl, sym, ap, subst, ⊎_elim, ◌∙◌, arith}
 use Rattle.std.specs.Prelude.{All, bit_xor}
 use Rattle.std.proofs.lemmas.Bool.{cases_eq}
 use Rattle.std.proofs.lemmas.List.{append-nil, append_assoc, drop_all, drop_more, take_all, length-drop, get_or-replicate, get_or-set_other, get_or-set_same, get_or_default, length-append, length-replicate, length-take, set_at, take_more}
+use Rattle.std.proofs.lemmas.Grind.{same_number_lists}
 use Rattle.std.proofs.lemmas.Nat.{xor_of_8}
-use Rattle.byte_lists.specs.Bytes.{AreBytes, IsZero, xor}
+use Rattle.std.specs.Bool.{Decides}
+use Rattle.std.proofs.lemmas.Bool.Decides.{Decides-eqb, Decides-by_and, Decides-like}
+use Rattle.byte_lists.specs.Bytes.{AreBytes, IsZero, is_zero, xor}
 
 -- ---- xor
 
@@ -62,6 +65,18 @@ IsZero-replicate n = ap (λ (k : ℕ). replicate k 0) (sym (length-replicate n 0
 
 pub IsZero-element : (xs : List ℕ) (i d : ℕ) → IsZero xs → i < length xs → get_or xs i d ≡ 0
 IsZero-element xs i d blank within = ap (λ l. get_or l i d) blank ∙ get_or-replicate (length xs) i 0 d within
+
+-- the test and the fact
+pub is_zero-Decides : (xs : List ℕ) → Decides (is_zero xs) (IsZero xs)
+is_zero-Decides xs = Decides-like (is_zero xs) together apart (Decides-by_and (λ b. eqb b 0) (λ b. b ≡ 0) is_zero (λ b. Decides-eqb b 0) refl (λ _ _. refl) xs)
+  where
+    together : All (λ b. b ≡ 0) xs → IsZero xs
+    together each =
+        same_number_lists xs (replicate (length xs) 0) (sym (length-replicate (length xs) 0))
+        (λ i within. each i 0 within ∙ sym (get_or-replicate (length xs) i 0 0 within))
+
+    apart : IsZero xs → All (λ b. b ≡ 0) xs
+    apart blank = λ i d within. IsZero-element xs i d blank within
 
 -- ---- a piece put into a list from a place on
 

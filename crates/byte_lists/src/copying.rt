@@ -7,7 +7,8 @@ use key_cells::Secret;
 /// Copies a guarded array into bytes, from a place on.
 pub fn put_secret<const N: usize>(into: &mut [u8], at: usize, secret: &Secret<'_, N>)
     requires { at + N ≤ length into.old }
-    ensures { into.new ≡ take at into.old ++ bytes_of secret.now ++ drop (at + N) into.old }
+    ensures size { length into.new ≡ length into.old }
+    ensures put { into.new ≡ take at into.old ++ bytes_of secret.now ++ drop (at + N) into.old }
 {
     for byte in 0..N {
         into[at + byte] = secret.byte(byte);

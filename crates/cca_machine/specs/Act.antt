@@ -7,7 +7,7 @@ use Rattle.cca_vectors.specs.Classes.{class_of}
 use Rattle.key_tokens.specs.declared.key_token.Kind.{Kind}
 use Rattle.key_tokens.specs.declared.key_token.Kind.TheVariants.{Internal, External}
 use Rattle.key_tokens.specs.declared.key_token.Token.{Token}
-use Rattle.key_tokens.specs.Parts.{token_of}
+use Rattle.key_tokens.specs.Fields.{token_of}
 use Rattle.script_buffers.specs.Replies.{Reply, Refused, Done, Field, Hex, Text, Number}
 use Rattle.master_registers.specs.Masters.{NewRegister, Empty, Partial, Full, Masters}
 use Rattle.verb_script.specs.Grammar.{Request, RequestName, csnbktp, csnbmkp_part, csnbmkp_clear, csnbmkp_set, value_of}

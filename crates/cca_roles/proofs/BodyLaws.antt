@@ -1,8 +1,8 @@
 -- The body of a role, and what it reads as.
-use Rattle.std.proofs.Common.{◌≡◌, ◌≢◌, ◌≤◌, ◌<◌, ◌-◌, ◌^◌, ◌⊎◌, inl, inr, ⊎_elim, ℕ, zero, suc, ◌+◌, Bool, true, false, List, [], ◌∷◌, ◌++◌, length, take, drop, replicate, Option, None, Some, refl, sym, ap, subst, ◌∙◌, arith}
+use Rattle.std.proofs.Common.{◌≡◌, ◌≢◌, ◌≤◌, ◌<◌, ◌-◌, ◌^◌, ◌⊎◌, inl, inr, ⊎_elim, ℕ, zero, suc, Bool, true, false, List, ◌++◌, length, take, drop, replicate, Option, None, Some, refl, sym, ap, subst, ◌∙◌, arith}
 use Rattle.std.specs.Int.{to_be_bytes, from_be_bytes, w32}
 use Rattle.std.specs.List.{list_all}
-use Rattle.std.specs.Prelude.{slice_index, slice_range, bytes_eq, IsTrue, nat_le, ◌&&◌, if◌then◌else◌}
+use Rattle.std.specs.Prelude.{slice_index, bytes_eq, nat_le, ◌&&◌, if◌then◌else◌}
 use Rattle.std.proofs.lemmas.Bool.{false_from_ne_true, and_parts}
 use Rattle.std.proofs.lemmas.Bool.Decides.{nat_tests}
 use Rattle.std.proofs.lemmas.List.{append_assoc, take_at, drop_at, length-append, length-replicate}
@@ -113,12 +113,12 @@ ReadsNoRole bytes = (r : Role) → ReadsRole bytes r → ⊥
 decided_role : (bytes : List ℕ) → ReadsRole bytes (role_in bytes) ⊎ ReadsNoRole bytes
 decided_role bytes = ⊎_elim
     (λ (name : IsRoleName (name_in bytes)). ⊎_elim
-        (λ (points : ArePoints (points_in bytes)). ⊎_elim
-            (λ (is : bytes ≡ role_body (name_in bytes) (points_in bytes)). inl (record { name = name; points = points; body = is }))
-            (λ (isnt : bytes ≡ role_body (name_in bytes) (points_in bytes) → ⊥). inr (λ r reads. isnt (reads_again bytes r reads).body))
-            (same_bytes bytes (role_body (name_in bytes) (points_in bytes))))
-        (λ (isnt : ArePoints (points_in bytes) → ⊥). inr (λ r reads. isnt (reads_again bytes r reads).points))
-        (by_bool (are_points (points_in bytes))))
+    (λ (points : ArePoints (points_in bytes)). ⊎_elim
+    (λ (is : bytes ≡ role_body (name_in bytes) (points_in bytes)). inl (record { name = name; points = points; body = is }))
+    (λ (isnt : bytes ≡ role_body (name_in bytes) (points_in bytes) → ⊥). inr (λ r reads. isnt (reads_again bytes r reads).body))
+    (same_bytes bytes (role_body (name_in bytes) (points_in bytes))))
+    (λ (isnt : ArePoints (points_in bytes) → ⊥). inr (λ r reads. isnt (reads_again bytes r reads).points))
+    (by_bool (are_points (points_in bytes))))
     (λ (isnt : IsRoleName (name_in bytes) → ⊥). inr (λ r reads. isnt (reads_again bytes r reads).name))
     (by_bool (is_role_name (name_in bytes)))
 
@@ -160,9 +160,9 @@ pub decided_place : (n : ℕ) (bytes : List ℕ) → ReadsPlace n bytes (slot_in
 decided_place n bytes = ⊎_elim
     (λ (blank : bytes ≡ blank_body). inl (reads_blank n bytes blank))
     (λ (some : bytes ≡ blank_body → ⊥). ⊎_elim
-        (λ (there : ReadsRole bytes (role_in bytes)). by_place n some there)
-        (λ (none : ReadsNoRole bytes). inr (reads_nothing n bytes some none))
-        (decided_role bytes))
+    (λ (there : ReadsRole bytes (role_in bytes)). by_place n some there)
+    (λ (none : ReadsNoRole bytes). inr (reads_nothing n bytes some none))
+    (decided_role bytes))
     (same_bytes bytes blank_body)
   where
     by_place : (n : ℕ) → bytes ≢ blank_body → ReadsRole bytes (role_in bytes) → ReadsPlace n bytes (slot_in n bytes) ⊎ ReadsNothing n bytes

@@ -1,9 +1,9 @@
 -- Opening a module: the first cell, one cell more, the end, and a cell that is refused.
-use Rattle.std.proofs.Common.{◌≡◌, ◌≢◌, ◌≤◌, ◌<◌, ◌⊎◌, inl, inr, ⊎_elim, ℕ, zero, suc, ◌+◌, List, length, get_or, set, replicate, Option, None, Some, refl, sym, ap, subst, ◌∙◌, arith}
+use Rattle.std.proofs.Common.{◌≡◌, ◌≤◌, ◌<◌, inl, inr, ⊎_elim, ℕ, zero, suc, ◌+◌, List, length, get_or, set, replicate, Option, None, Some, refl, sym, ap, subst, ◌∙◌, arith}
 use Rattle.std.proofs.lemmas.Bool.{cases_eq, cases_lt}
-use Rattle.std.proofs.lemmas.List.{get_or-set_same, get_or-set_other, ext_get_or}
+use Rattle.std.proofs.lemmas.List.{get_or-set_same, get_or-set_other}
 use Rattle.slot_disk.specs.Cells.{body}
-use Rattle.cca_roles.specs.Directory.{name_at, AreApart}
+use Rattle.cca_roles.specs.Directory.{name_at, IsHeld}
 use Rattle.cca_roles.specs.Opening.{Opens, IsRefused, OpenedTo}
 use Rattle.cca_roles.specs.RoleBody.{ReadsPlace, slot_in}
 use Rattle.cca_roles.specs.Roles.{AreRoles, names, name_of, role_at, blank_roles}
@@ -48,15 +48,15 @@ module _ (image : List ℕ) (place : ℕ) (roles : List (Option Role)) (opened :
     place = place;
     cell_is = refl;
     within = within;
-    damaged = ⊎_elim (λ nothing. inl nothing) (λ (held : (r : Role) × ReadsPlace place (body image (place + 1)) (Some r) × (k : ℕ) × (name_at (names roles) k ≡ Some r.name)). inr (repeat held.0 held.1 held.2 held.3)) refused;
+    damaged = ⊎_elim (λ nothing. inl nothing) (λ (held : (r : Role) × ReadsPlace place (body image (place + 1)) (Some r) × IsHeld (Some r.name) (names roles)). inr (repeat held.0 held.1 held.2.0 held.2.1)) refused;
     first = λ k below damaged. not_before are k below damaged;
   }
     where
       repeat : (r : Role) → ReadsPlace place (body image (place + 1)) (Some r) → (k : ℕ) → name_at (names roles) k ≡ Some r.name → Repeats image place
       repeat r reads k held =
           let below : k < place = ⊎_elim (λ (b : k < place). b)
-              (λ (past : place ≤ k). absurd (none_some r.name (sym (name_of_place roles k ∙ ap name_of (opened.rest k past)) ∙ held)))
-              (cases_lt k place) in
+          (λ (past : place ≤ k). absurd (none_some r.name (sym (name_of_place roles k ∙ ap name_of (opened.rest k past)) ∙ held)))
+          (cases_lt k place) in
           let lower = role_named (slot_in k (body image (k + 1))) r.name (sym (name_before k below) ∙ held) in
           record {
             lower = k;

@@ -1,12 +1,11 @@
 -- Numbers of access control points.
 use Rattle.std.proofs.Common.{◌≡◌, ◌≤◌, ◌<◌, ◌^◌, ℕ, refl, sym, ap, ◌∙◌, arith}
-use Rattle.std.specs.Prelude.{◌==◌}
 use Rattle.std.specs.Int.RustNames.{bit_and, bit_or}
 use Rattle.std.proofs.lemmas.Bool.{eqb-true, eq-eqb}
 use Rattle.std.proofs.lemmas.Nat.{and_le_r}
 use Rattle.std.proofs.lemmas.Nat.Bits.{same_from_bits, bit_at_or, bit_at_and}
 use Rattle.std.specs.Int.{bit_at}
-use Rattle.std.specs.Prelude.{min, max}
+use Rattle.std.specs.Prelude.{min}
 use Rattle.bitflags.specs.Sets.{known_bits}
 use Rattle.bitflags.proofs.OnLiterals.{bitflags_on_literals}
 use Rattle.cca_roles.specs.Points.{ArePoints, access_points, every_point}

@@ -1,7 +1,6 @@
 -- What a module stands for, and what a change of one cell makes of it.
-use Rattle.std.proofs.Common.{◌≡◌, ◌≢◌, ◌≤◌, ◌<◌, ◌+◌, ◌*◌, ◌⊎◌, inl, inr, ⊎_elim, ℕ, List, length, get_or, set, map, Option, None, Some, Result, Ok, Err, true, false, refl, sym, ap, subst, ◌∙◌, arith}
+use Rattle.std.proofs.Common.{◌≡◌, ◌≢◌, ◌≤◌, ◌<◌, ◌+◌, ◌*◌, inl, inr, ⊎_elim, ℕ, List, length, set, Option, None, Some, Result, Ok, Err, true, false, refl, sym, ap, subst, ◌∙◌, arith}
 use Rattle.std.specs.Prelude.{OnOk, is_err, IsErrAnd}
-use Rattle.std.specs.List.{range_with_len}
 use Rattle.std.proofs.lemmas.Bool.{cases_eq, cases_lt}
 use Rattle.std.proofs.lemmas.List.{get_or-set_same, get_or-set_other, length-set, ext_get_or}
 use Rattle.std.proofs.lemmas.List.FromFn.{length-map-range_with_len, get_or-map-range_with_len}
@@ -13,7 +12,7 @@ use Rattle.cca_roles.specs.Changes.{HoldsEither}
 use Rattle.cca_roles.specs.Directory.{name_at, AreApart}
 use Rattle.cca_roles.specs.RoleBody.{ReadsPlace, slot_in}
 use Rattle.cca_roles.specs.Roles.{names, name_of, role_at}
-use Rattle.cca_roles.specs.RolesStand.{StandsForRoles, roles_in, IsDamagedPlace, IsFirstDamaged, Repeats}
+use Rattle.cca_roles.specs.RolesStand.{StandsForRoles, roles_in, IsDamagedPlace, IsFirstDamaged}
 use Rattle.cca_roles.specs.declared.roles.Role.{Role}
 use Rattle.cca_roles.proofs.BodyLaws.{reads_one}
 use Rattle.cca_roles.proofs.TableLaws.{name_of_place}
@@ -62,10 +61,10 @@ module _ (n : ℕ) (bytes : List ℕ) (slot : Option Role) (s : List (Option Rol
     size = length-set s n slot ∙ stands.size;
     reads = λ m below. ⊎_elim
         (λ (is : m ≡ n). subst (λ (k : ℕ). ReadsPlace k (body new (k + 1)) (role_at (set s n slot) k)) (sym is)
-            (subst (λ (r : Option Role). ReadsPlace n (body new (n + 1)) r) (sym (get_or-set_same s n slot None (omega (arith, stands.size))))
-            (subst (λ (b : List ℕ). ReadsPlace n b slot) (sym here) reads)))
+        (subst (λ (r : Option Role). ReadsPlace n (body new (n + 1)) r) (sym (get_or-set_same s n slot None (omega (arith, stands.size))))
+        (subst (λ (b : List ℕ). ReadsPlace n b slot) (sym here) reads)))
         (λ (other : m ≡ n → ⊥). subst (λ (r : Option Role). ReadsPlace m (body new (m + 1)) r) (sym (get_or-set_other s n m slot None other))
-            (subst (λ (b : List ℕ). ReadsPlace m b (role_at s m)) (sym (others (m + 1) (other_cell m other))) (stands.reads m below)))
+        (subst (λ (b : List ℕ). ReadsPlace m b (role_at s m)) (sym (others (m + 1) (other_cell m other))) (stands.reads m below)))
         (cases_eq m n);
     apart = apart;
   }
@@ -83,6 +82,7 @@ module _ (n : ℕ) (bytes : List ℕ) (slot : Option Role) (s : List (Option Rol
   holds_either old new stands replacing = record {
     outside = replacing.outside;
     others = replacing.others;
+    elsewhere = replacing.elsewhere;
     stands = ⊎_elim (λ was. inl (stands_still old new stands was replacing.others)) (λ here. inr (stands_set old new stands here replacing.others)) replacing.here;
   }
 
@@ -103,7 +103,7 @@ module _ (n : ℕ) (bytes : List ℕ) (slot : Option Role) (s : List (Option Rol
 -- a module that a refusal leaves as it was
 module _ (cell : ℕ) (s next : List (Option Role)) (m : Medium) (settled : IsSettled m) (start : Told m (λ image. StandsForRoles image s)) where
   still_either : (c : List ℕ) → m.content ≡ Some c → HoldsEither cell s next c c
-  still_either c is = record { outside = outside_same (1536 * cell) 1536 c; others = λ n other. refl; stands = inl (told_at m.content (λ image. StandsForRoles image s) c is start) }
+  still_either c is = record { outside = outside_same (1536 * cell) 1536 c; others = λ n other. refl; elsewhere = λ k at. refl; stands = inl (told_at m.content (λ image. StandsForRoles image s) c is start) }
 
   pub refused_becomes : Becomes (HoldsEither cell s next) m m
   refused_becomes = record { size = refl; told = λ c is. (c, is, still_either c is); still = λ some. some }
@@ -128,3 +128,7 @@ told_map m P Q told weaker = told_from m.content Q (λ c is. weaker c (told_at m
 -- what is told of a disk that was read, with what was told before
 pub told_next : (m0 m1 : Medium) (P Q R : List ℕ → Type 0) → Keeps m0 m1 → Told m0 P → Told m1 Q → ((c : List ℕ) → P c → Q c → R c) → Told m0 R
 told_next m0 m1 P Q R keeps before then both = told_from m0.content R (λ c is. both c (told_at m0.content P c is before) (told_at m1.content Q c (keeps.content ∙ is) then))
+
+-- what was told of a disk is told of it after calls that keep it
+pub told_kept : (m0 m1 : Medium) (P : List ℕ → Type 0) → Keeps m0 m1 → Told m0 P → Told m1 P
+told_kept m0 m1 P keeps told = told_from m1.content P (λ c is. told_at m0.content P c (sym keeps.content ∙ is) told)

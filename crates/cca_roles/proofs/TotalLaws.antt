@@ -1,10 +1,10 @@
 -- A module stands for a table of roles, or else it has a first damaged cell.
-use Rattle.std.proofs.Common.{◌≡◌, ◌≢◌, ◌≤◌, ◌<◌, ◌+◌, ◌⊎◌, inl, inr, ⊎_elim, ℕ, zero, suc, Bool, true, false, List, length, set, Option, None, Some, refl, sym, ap, subst, ◌∙◌, arith}
+use Rattle.std.proofs.Common.{◌≡◌, ◌≢◌, ◌≤◌, ◌<◌, ◌+◌, ◌⊎◌, inl, inr, ⊎_elim, ℕ, zero, suc, Bool, true, false, List, set, Option, None, Some, refl, sym, ap, subst, arith}
 use Rattle.std.specs.Prelude.{is_some}
 use Rattle.slot_disk.specs.Cells.{body}
 use Rattle.cca_roles.specs.Directory.{AreApart, place_of}
 use Rattle.cca_roles.specs.Opening.{OpenedTo}
-use Rattle.cca_roles.specs.RoleBody.{ReadsPlace, ReadsDefault, slot_in}
+use Rattle.cca_roles.specs.RoleBody.{ReadsPlace, slot_in}
 use Rattle.cca_roles.specs.RoleNames.{default_name}
 use Rattle.cca_roles.specs.Roles.{AreRoles, names, name_of, blank_roles}
 use Rattle.cca_roles.specs.RolesStand.{StandsForRoles, roles_in, IsFirstDamaged}
@@ -45,7 +45,7 @@ module _ (image : List ℕ) where
     where
       by_held : (b : Bool) → is_some (place_of r.name (names c.0)) ≡ b → Come (n + 1) ⊎ Stuck
       by_held true held = let there = held_somewhere r.name (names c.0) held in
-          inr (n + 1, refused_damaged image n c.0 c.1 c.2 below (inr (r, subst (ReadsPlace n (body image (n + 1))) is reads, there.0, there.1)))
+          inr (n + 1, refused_damaged image n c.0 c.1 c.2 below (inr (r, subst (ReadsPlace n (body image (n + 1))) is reads, there)))
       by_held false missing = inl (come_more n (Some r) c below later is reads (apart_set (names c.0) n r.name c.2.apart (held_nowhere r.name (names c.0) missing)))
 
   first : Come 1 ⊎ Stuck
@@ -62,10 +62,10 @@ module _ (image : List ℕ) where
   scan zero within = first
   scan (suc n) within = ⊎_elim
       (λ (c : Come (1 + n)). ⊎_elim
-          (λ (reads : ReadsPlace (1 + n) (body image (1 + n + 1)) (slot_in (1 + n) (body image (1 + n + 1)))).
-          subst (λ (k : ℕ). Come k ⊎ Stuck) (omega arith) (step (1 + n) (slot_in (1 + n) (body image (1 + n + 1))) (omega (arith, within)) (omega arith) c refl reads))
-          (λ (nothing : ReadsNothing (1 + n) (body image (1 + n + 1))). inr (1 + n + 1, refused_damaged image (1 + n) c.0 c.1 c.2 (omega (arith, within)) (inl nothing)))
-          (decided_place (1 + n) (body image (1 + n + 1))))
+      (λ (reads : ReadsPlace (1 + n) (body image (1 + n + 1)) (slot_in (1 + n) (body image (1 + n + 1)))).
+      subst (λ (k : ℕ). Come k ⊎ Stuck) (omega arith) (step (1 + n) (slot_in (1 + n) (body image (1 + n + 1))) (omega (arith, within)) (omega arith) c refl reads))
+      (λ (nothing : ReadsNothing (1 + n) (body image (1 + n + 1))). inr (1 + n + 1, refused_damaged image (1 + n) c.0 c.1 c.2 (omega (arith, within)) (inl nothing)))
+      (decided_place (1 + n) (body image (1 + n + 1))))
       (λ (stuck : Stuck). inr stuck)
       (scan n (omega (arith, within)))
 

@@ -1,6 +1,10 @@
 -- What a change of one role does to the module, and when each answer comes.
-use Rattle.std.specs.Prelude.{◌≡◌, ◌≢◌, ◌≤◌, ◌⊎◌, ◌+◌, ◌*◌, ℕ, List, Option, Result, Err, OnOk, OnErr}
-use Rattle.slot_disk.specs.Cells.{body}
+use Rattle.std.specs.Prelude.{◌≡◌, ◌≢◌, ◌≤◌, ◌⊎◌, ◌+◌, ◌*◌, ℕ, List, slice_index, Option}
+use Rattle.std.specs.Prelude.{Result, Err, OnOk, OnErr}
+use Rattle.key_cells.specs.Lease.{bench_of, holding}
+use Rattle.key_cells.specs.declared.leases.Lease.{Lease}
+use Rattle.slot_disk.specs.Cells.{body, IsElsewhere}
+use Rattle.slot_disk.specs.declared.cell.TheConstants.{CELL_LEN}
 use Rattle.slot_disk.specs.Faults.{Rose}
 use Rattle.slot_disk.specs.Medium.{Medium, IsSettled, Told, From, Becomes, EachImage}
 use Rattle.slot_disk.specs.Ranges.{SameOutside}
@@ -9,15 +13,18 @@ use Rattle.cca_roles.specs.declared.faults.RoleFault.{RoleFault}
 use Rattle.cca_roles.specs.declared.faults.RoleFault.TheVariants.{DiskFault}
 use Rattle.cca_roles.specs.declared.roles.Role.{Role}
 
--- the module stands for the roles before or after, every other cell selects the body that it did, and no byte outside the
--- cell has changed
+-- The module stands for the roles before or after. Every other cell selects the body that it did, no
+-- byte outside the cell has changed, and none of the cell but its selector and the bytes of the body
+-- that wasn't selected.
 pub record HoldsEither (cell : ℕ) (s next : List (Option Role)) (old new : List ℕ) : Type 0 where
-  pub outside : SameOutside (1536 * cell) 1536 old new
+  pub outside : SameOutside (CELL_LEN * cell) CELL_LEN old new
   pub others : (n : ℕ) → n ≢ cell → body new n ≡ body old n
+  pub elsewhere : (k : ℕ) → IsElsewhere old cell k → slice_index new k ≡ slice_index old k
   pub stands : StandsForRoles new s ⊎ StandsForRoles new next
 
 -- the roles of a module become others, by a change of one place
-pub record ChangesRoles (place : ℕ) (s next : List (Option Role)) (old new : Medium) (result : Result (Unit {0}) RoleFault) : Type 0 where
+pub record ChangesRoles (place : ℕ) (s next : List (Option Role)) (old new : Medium)
+    (result : Result (Unit {0}) RoleFault) : Type 0 where
   -- after Ok nothing is unsynced, and a read gives the roles after
   pub settled : OnOk result (IsSettled new)
   pub stands : OnOk result (Told new (λ image. StandsForRoles image next))
@@ -26,7 +33,8 @@ pub record ChangesRoles (place : ℕ) (s next : List (Option Role)) (old new : M
   pub moments : EachImage old new (From (HoldsEither (place + 1) s next) old)
 
 -- the memory has the roles after, where the call answers Ok, and else those before
-pub record Remembers (s next now : List (Option Role)) (result : Result (Unit {0}) RoleFault) : Type 0 where
+pub record Remembers (s next now : List (Option Role)) (result : Result (Unit {0}) RoleFault)
+    : Type 0 where
   pub done : OnOk result (now ≡ next)
   pub kept : OnErr result (now ≡ s)
 
@@ -34,3 +42,7 @@ pub record Remembers (s next now : List (Option Role)) (result : Result (Unit {0
 pub record HasRoleCause (before now : ℕ) (result : Result (Unit {0}) RoleFault) : Type 0 where
   pub later : before ≤ now
   pub failed : result ≡ Err DiskFault → Rose before now
+
+-- of what a lease holds the body alone has changed
+abbrev pub KeepsAllButBody : Lease → Lease → Type 0
+KeepsAllButBody old new = new ≡ holding old (record (bench_of old) { body = (bench_of new).body })

@@ -1,5 +1,6 @@
 -- Which name stands in which place.
-use Rattle.std.specs.Prelude.{◌≡◌, ◌≢◌, ⊤, ℕ, ◌+◌, Bool, false, List, [], ◌∷◌, Option, None, Some, get_or, bytes_eq, if◌then◌else◌}
+use Rattle.std.specs.Prelude.{◌≡◌, ◌≢◌, ⊤, ℕ, ◌+◌, Bool, false, List, [], ◌∷◌, get_or, bytes_eq}
+use Rattle.std.specs.Prelude.{Option, None, Some, if◌then◌else◌}
 
 -- the name of a place, where it holds one
 abbrev pub name_at : List (Option (List ℕ)) → ℕ → Option (List ℕ)
@@ -7,7 +8,8 @@ name_at d n = get_or d n None
 
 -- a name stands in one place alone
 abbrev pub AreApart : List (Option (List ℕ)) → Type 0
-AreApart d = (m n : ℕ) (name : List ℕ) → name_at d m ≡ Some name → name_at d n ≡ Some name → m ≡ n
+AreApart d =
+    (m n : ℕ) (name : List ℕ) → name_at d m ≡ Some name → name_at d n ≡ Some name → m ≡ n
 
 abbrev pub has_name : List ℕ → Option (List ℕ) → Bool
 has_name name None = false
@@ -36,3 +38,8 @@ free_place d = free_from 0 d
 abbrev pub IsFresh : Option (List ℕ) → List (Option (List ℕ)) → Type 0
 IsFresh None d = ⊤
 IsFresh (Some name) d = (k : ℕ) → name_at d k ≢ Some name
+
+-- some place holds the name, where there is one
+abbrev pub IsHeld : Option (List ℕ) → List (Option (List ℕ)) → Type 0
+IsHeld None d = ⊥
+IsHeld (Some name) d = (k : ℕ) × (name_at d k ≡ Some name)

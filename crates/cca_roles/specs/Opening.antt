@@ -1,7 +1,7 @@
 -- Opening a module, cell by cell.
-use Rattle.std.specs.Prelude.{◌≡◌, ◌≤◌, ◌<◌, ◌⊎◌, ◌+◌, ℕ, List, Option, None, Some, set}
+use Rattle.std.specs.Prelude.{◌≡◌, ◌≤◌, ◌<◌, ◌⊎◌, ◌+◌, ℕ, List, set, Option, None, Some}
 use Rattle.slot_disk.specs.Cells.{body}
-use Rattle.cca_roles.specs.Directory.{name_at}
+use Rattle.cca_roles.specs.Directory.{IsHeld}
 use Rattle.cca_roles.specs.RoleBody.{ReadsPlace, slot_in}
 use Rattle.cca_roles.specs.Roles.{names, role_at}
 use Rattle.cca_roles.specs.declared.roles.Role.{Role}
@@ -15,10 +15,11 @@ pub record Opens (bytes : List ℕ) (place : ℕ) (old new : List (Option Role))
 abbrev pub IsRefused : List ℕ → ℕ → List (Option Role) → Type 0
 IsRefused bytes place roles =
     ((slot : Option Role) → ReadsPlace place bytes slot → ⊥)
-    ⊎ ((r : Role) × ReadsPlace place bytes (Some r) × (k : ℕ) × (name_at (names roles) k ≡ Some r.name))
+    ⊎ ((r : Role) × ReadsPlace place bytes (Some r) × IsHeld (Some r.name) (names roles))
 
 -- the memory knows the first places, and no others
 pub record OpenedTo (image : List ℕ) (place : ℕ) (roles : List (Option Role)) : Type 0 where
-  pub reads : (n : ℕ) → n < place → ReadsPlace n (body image (n + 1)) (slot_in n (body image (n + 1)))
+  pub reads : (n : ℕ) → n < place
+      → ReadsPlace n (body image (n + 1)) (slot_in n (body image (n + 1)))
   pub known : (n : ℕ) → n < place → role_at roles n ≡ slot_in n (body image (n + 1))
   pub rest : (n : ℕ) → place ≤ n → role_at roles n ≡ None

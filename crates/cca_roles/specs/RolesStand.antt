@@ -1,5 +1,5 @@
 -- What a module stands for: the roles, each in its cell.
-use Rattle.std.specs.Prelude.{◌≡◌, ◌≤◌, ◌<◌, ◌⊎◌, ◌+◌, ◌-◌, ℕ, List, length, map, Option, Some}
+use Rattle.std.specs.Prelude.{◌≡◌, ◌≤◌, ◌<◌, ◌⊎◌, ◌+◌, ℕ, List, length, map, Option, Some}
 use Rattle.std.specs.List.{range_with_len}
 use Rattle.slot_disk.specs.Cells.{body}
 use Rattle.cca_roles.specs.Directory.{AreApart}
@@ -16,6 +16,10 @@ pub record StandsForRoles (image : List ℕ) (s : List (Option Role)) : Type 0 w
 -- the roles that a module stands for, if it stands for any
 unfoldable pub roles_in : List ℕ → List (Option Role)
 roles_in image = map (λ n. slot_in n (body image (n + 1))) (range_with_len 0 32)
+
+-- cells 1 to 32
+abbrev pub IsRoleCell : ℕ → Type 0
+IsRoleCell cell = (1 ≤ cell) × (cell ≤ 32)
 
 -- ---- damage
 

@@ -1,13 +1,15 @@
 //! A role as the body of a cell.
-ghost use Rattle.std.specs.Prelude.{◌≡◌, ◌≢◌, ◌↔◌, ◌≤◌, ◌<◌, Option, None, Some, IfSome, IsSome, IsNone, IsTrue, replicate, length};
+ghost use Rattle.std.specs.Prelude.{◌≡◌, ◌≢◌, ◌↔◌, ◌≤◌, ◌<◌, Option, None, Some, IfSome, IsNone, IsTrue};
 ghost use Rattle.cca_roles.specs.Points.{ArePoints};
-ghost use Rattle.cca_roles.specs.RoleBody.{role_body, blank_body, name_in, points_in, role_in, slot_in, ReadsRole, ReadsSlot, ReadsPlace};
+ghost use Rattle.cca_roles.specs.RoleBody.{blank_body, name_in, points_in, role_in, slot_in};
+ghost use Rattle.cca_roles.specs.RoleBody.{ReadsRole, ReadsPlace};
 ghost use Rattle.cca_roles.specs.RoleNames.{IsRoleName};
 ghost use Rattle.cca_roles.specs.declared.roles.Role.{Role};
 
 use crate::access_points::AccessPoints;
 use crate::names::RoleName;
 use crate::roles::Role;
+use byte_lists::is_zero;
 
 /// What byte 0 is.
 const VERSION: u8 = 1;
@@ -29,13 +31,6 @@ pub(crate) fn write_blank(body: &mut [u8; 192])
     ensures { body.new ≡ blank_body }
 {
     body.fill(0);
-}
-
-/// Whether every byte is zero.
-fn is_zero(bytes: &[u8]) -> bool
-    ensures { IsTrue result ↔ (bytes.now ≡ replicate (length bytes.now) 0) }
-{
-    bytes.iter().all(|byte| *byte == 0)
 }
 
 fn is_blank(body: &[u8; 192]) -> bool
@@ -91,8 +86,8 @@ fn read_role(body: &[u8; 192]) -> Option<Role>
     }
 }
 
-/// What the body of a place after the first reads as: a role, or none where it is blank. The outer answer is none where
-/// it reads as nothing.
+/// What the body of a place after the first reads as: a role, or none where it is blank. The outer
+/// answer is none where it reads as nothing.
 pub(crate) fn read_slot(body: &[u8; 192], place: usize) -> Option<Option<Role>>
     requires { place ≢ 0 }
     ensures found { IfSome result (λ slot. slot ≡ slot_in place body.now) }

@@ -1,25 +1,25 @@
 //! Changes of one role. Each writes one cell: a stop at any moment leaves the roles before or after.
 ghost use Rattle.std.specs.Prelude.{◌≡◌, ◌≢◌, ◌↔◌, ◌⊎◌, ◌+◌, ◌*◌, ◌≤◌, ◌<◌, ℕ, Option, None, Some, Result, Ok, Err, set, IfErr, IfSome, IsNone, IsTrue};
 ghost use Rattle.slot_disk.specs.Medium.{Told, IsSettled};
-ghost use Rattle.key_cells.specs.Lease.{bench_of, holding};
-ghost use Rattle.cca_roles.specs.Changes.{ChangesRoles, Remembers, HasRoleCause};
+ghost use Rattle.cca_roles.specs.Changes.{ChangesRoles, Remembers, HasRoleCause, KeepsAllButBody};
 ghost use Rattle.cca_roles.specs.Directory.{AreApart};
 ghost use Rattle.cca_roles.specs.RoleBody.{ReadsPlace};
 ghost use Rattle.cca_roles.specs.RoleNames.{default_name};
-ghost use Rattle.cca_roles.specs.Roles.{names, name_of, define_place, after_define, define_refused, remove_place, after_remove, remove_refused};
+ghost use Rattle.cca_roles.specs.Roles.{names, name_of, define_place, after_define, define_refused};
+ghost use Rattle.cca_roles.specs.Roles.{remove_place, after_remove, remove_refused};
 ghost use Rattle.cca_roles.specs.RolesStand.{StandsForRoles};
 
 use crate::access_points::AccessPoints;
 use crate::bodies::{write_blank, write_role};
 use crate::faults::RoleFault;
 use crate::names::RoleName;
-use crate::roles::{Role, Roles};
+use crate::roles::{MODULE_LEN, Role, Roles};
 use key_cells::Lease;
 use slot_disk::{Cell, Disk, replace_cell};
 
 impl Roles {
-    /// DEFINE: gives a role these points. A held name keeps its cell, and a new one goes into the lowest cell without a
-    /// role. Of the lease the body alone changes.
+    /// DEFINE: gives a role these points. A held name keeps its cell, and a new one goes into the lowest
+    /// cell without a role. After `DiskFault` the roles are to be opened again.
     pub fn define<M: Disk>(
         &mut self,
         module: &mut M,
@@ -27,16 +27,19 @@ impl Roles {
         name: &RoleName,
         points: AccessPoints,
     ) -> Result<(), RoleFault>
-        requires size { (M.medium «module».old).size ≡ 50688 }
+        requires size { (M.medium «module».old).size ≡ MODULE_LEN }
         requires settled { IsSettled (M.medium «module».old) }
         requires stands { Told (M.medium «module».old) (λ image. StandsForRoles image self.old) }
 
-        ensures changed { ChangesRoles (define_place name.now self.old) self.old (after_define name.now points self.old)
+        ensures changed { ChangesRoles (define_place name.now self.old)
+            self.old (after_define name.now points self.old)
             (M.medium «module».old) (M.medium «module».new) result }
-        ensures memory { Remembers self.old (after_define name.now points self.old) self.new result }
-        ensures places { lease.new ≡ holding lease.old (record (bench_of lease.old) { body = (bench_of lease.new).body }) }
+        ensures memory { Remembers
+            self.old (after_define name.now points self.old) self.new result }
+        ensures rest { KeepsAllButBody lease.old lease.new }
         ensures cause { HasRoleCause (M.faults «module».old) (M.faults «module».new) result }
-        ensures faults { IfErr result (λ fault. (fault ≡ RoleFault.DiskFault) ⊎ (fault ≡ RoleFault.TableFull)) }
+        ensures faults { IfErr result (λ fault.
+            (fault ≡ RoleFault.DiskFault) ⊎ (fault ≡ RoleFault.TableFull)) }
 
         // a full table refuses a new name, and nothing is touched
         ensures full { (result ≡ Err RoleFault.TableFull) ↔ IsTrue (define_refused name.now self.old) }
@@ -55,24 +58,26 @@ impl Roles {
         self.change(module, place, lease.body(), Some(role))
     }
 
-    /// REMOVE: the role is no longer held. Of the lease the body alone changes.
+    /// REMOVE: the role is no longer held. After `DiskFault` the roles are to be opened again.
     pub fn remove<M: Disk>(
         &mut self,
         module: &mut M,
         lease: &mut Lease,
         name: &RoleName,
     ) -> Result<(), RoleFault>
-        requires size { (M.medium «module».old).size ≡ 50688 }
+        requires size { (M.medium «module».old).size ≡ MODULE_LEN }
         requires settled { IsSettled (M.medium «module».old) }
         requires stands { Told (M.medium «module».old) (λ image. StandsForRoles image self.old) }
         requires name { name.now ≢ default_name }
 
-        ensures changed { ChangesRoles (remove_place name.now self.old) self.old (after_remove name.now self.old)
+        ensures changed { ChangesRoles (remove_place name.now self.old)
+            self.old (after_remove name.now self.old)
             (M.medium «module».old) (M.medium «module».new) result }
         ensures memory { Remembers self.old (after_remove name.now self.old) self.new result }
-        ensures places { lease.new ≡ holding lease.old (record (bench_of lease.old) { body = (bench_of lease.new).body }) }
+        ensures rest { KeepsAllButBody lease.old lease.new }
         ensures cause { HasRoleCause (M.faults «module».old) (M.faults «module».new) result }
-        ensures faults { IfErr result (λ fault. (fault ≡ RoleFault.DiskFault) ⊎ (fault ≡ RoleFault.Unknown)) }
+        ensures faults { IfErr result (λ fault.
+            (fault ≡ RoleFault.DiskFault) ⊎ (fault ≡ RoleFault.Unknown)) }
 
         // a name that isn't held is refused, and nothing is touched
         ensures unknown { (result ≡ Err RoleFault.Unknown) ↔ IsTrue (remove_refused name.now self.old) }
@@ -89,7 +94,8 @@ impl Roles {
 
     /// Where a role of this name is defined: in its place, or else in the lowest one that is free.
     fn define_place(&self, name: &RoleName) -> Option<usize>
-        ensures place { IfSome result (λ place. (place ≡ define_place name.now self.now) × (place < 32)) }
+        ensures place { IfSome result (λ place. place ≡ define_place name.now self.now) }
+        ensures within { IfSome result (λ place. place < 32) }
         ensures none { IsNone result ↔ IsTrue (define_refused name.now self.now) }
         ensures first { IfSome result (λ place. place ≡ 0 → name.now ≡ default_name) }
         ensures apart { IfSome result (λ place. AreApart (set (names self.now) place (Some name.now))) }
@@ -109,13 +115,14 @@ impl Roles {
         slot: Option<Role>,
     ) -> Result<(), RoleFault>
         requires within { place < 32 }
-        requires size { (M.medium «module».old).size ≡ 50688 }
+        requires size { (M.medium «module».old).size ≡ MODULE_LEN }
         requires settled { IsSettled (M.medium «module».old) }
         requires reads { ReadsPlace place body.now slot }
         requires first { place ≡ 0 → name_of slot ≡ Some default_name }
         requires apart { AreApart (set (names self.old) place (name_of slot)) }
         requires stands { Told (M.medium «module».old) (λ image. StandsForRoles image self.old) }
-        ensures changed { ChangesRoles place self.old (set self.old place slot) (M.medium «module».old) (M.medium «module».new) result }
+        ensures changed { ChangesRoles place self.old (set self.old place slot)
+            (M.medium «module».old) (M.medium «module».new) result }
         ensures memory { Remembers self.old (set self.old place slot) self.new result }
         ensures faults { IfErr result (λ fault. fault ≡ RoleFault.DiskFault) }
         ensures cause { HasRoleCause (M.faults «module».old) (M.faults «module».new) result }

@@ -16,4 +16,7 @@ pub use faults::RoleFault;
 pub use laws::a_module_stands_for_one_table_of_roles;
 pub use names::RoleName;
 pub use opening::open_roles;
-pub use roles::{Role, Roles};
+pub use roles::{MODULE_LEN, Role, Roles};
+
+#[cfg(test)]
+mod tests;

@@ -1,8 +1,9 @@
 //! Names of roles.
-ghost use Rattle.std.specs.Prelude.{◌≡◌, ◌+◌, ◌≤◌, ◌<◌, ◌++◌, ◌-◌, length, replicate, drop, nat_le, IfSome, IsSome, IsNone, IsTrue};
+ghost use Rattle.std.specs.Prelude.{◌≡◌, ◌+◌, ◌≤◌, ◌<◌, ◌++◌, ◌-◌, ◌↔◌, length, replicate, drop, nat_le, IfSome, IsSome};
 ghost use Rattle.std.specs.List.{list_all};
 ghost use Rattle.std.specs.Str.{bytes_eq};
-ghost use Rattle.cca_roles.specs.RoleNames.{is_letter, is_digit, is_name_byte, starts_name, is_role_name, IsRoleName, default_name};
+ghost use Rattle.cca_roles.specs.RoleNames.{is_letter, is_digit, is_name_byte, starts_name};
+ghost use Rattle.cca_roles.specs.RoleNames.{is_role_name, IsRoleName, default_name};
 
 use std::marker::Model;
 
@@ -83,8 +84,7 @@ impl RoleName {
     /// The name that a text is, where it is one.
     pub fn read(text: &[u8]) -> Option<RoleName>
         ensures found { IfSome result (λ name. name ≡ text.now) }
-        ensures name { IsSome result → IsRoleName text.now }
-        ensures none { IsNone result → IsRoleName text.now → ⊥ }
+        ensures name { IsSome result ↔ IsRoleName text.now }
     {
         if !is_role_name(text) {
             return None;

@@ -1,6 +1,7 @@
 //! The roles that are held, as the memory knows them.
-ghost use Rattle.std.specs.Prelude.{◌≡◌, ◌≢◌, ◌+◌, ◌≤◌, ◌<◌, List, Option, None, Some, length, set, get_or, IfSome, IsSome, IsNone, IsTrue, IsFalse, ℕ, option_map};
-ghost use Rattle.cca_roles.specs.Directory.{place_of, free_place, AreApart, name_at, IsFresh};
+ghost use Rattle.std.specs.Prelude.{◌≡◌, ◌≢◌, ◌+◌, ◌≤◌, ◌<◌, None, Some, length, set};
+ghost use Rattle.std.specs.Prelude.{IfSome, IsNone, IsTrue, IsFalse, option_map};
+ghost use Rattle.cca_roles.specs.Directory.{place_of, free_place, AreApart, IsFresh, IsHeld};
 ghost use Rattle.cca_roles.specs.Points.{includes};
 ghost use Rattle.cca_roles.specs.Roles.{AreRoles, blank_roles, names, name_of, points_of};
 ghost use Rattle.cca_roles.specs.RoleNames.{default_name};
@@ -9,8 +10,8 @@ use crate::access_points::AccessPoints;
 use crate::names::RoleName;
 use std::marker::Model;
 
-/// How many roles a module can hold.
-pub(crate) const PLACES: usize = 32;
+/// The bytes of a module: a cell for the master key registers, and one for each of 32 roles.
+pub const MODULE_LEN: u64 = 50_688;
 
 /// A role.
 #[derive(Clone, Copy, Debug, PartialEq, Eq)]
@@ -55,7 +56,8 @@ impl Roles {
 
     /// Whether the role has these points; none where no role has the name.
     pub fn permits(&self, name: &RoleName, points: AccessPoints) -> Option<bool>
-        ensures { result ≡ option_map (λ held. includes held points) (points_of name.now self.now) }
+        ensures { result
+            ≡ option_map (λ held. includes held points) (points_of name.now self.now) }
     {
         match points_in(&self.places, name) {
             Some(held) => Some(held.contains(points)),
@@ -75,7 +77,8 @@ impl Roles {
     /// The lowest place without a role.
     pub(crate) fn free_place(&self) -> Option<usize>
         ensures none { IsNone result → free_place (names self.now) ≡ 32 }
-        ensures free { IfSome result (λ place. (place ≡ free_place (names self.now)) × (place < 32)) }
+        ensures free { IfSome result (λ place. place ≡ free_place (names self.now)) }
+        ensures within { IfSome result (λ place. place < 32) }
         ensures roles { AreRoles self.now }
     {
         free_in(&self.places)
@@ -86,7 +89,7 @@ impl Roles {
         requires within { place < 32 }
         requires not_first { place ≢ 0 }
         ensures put { IsTrue result → self.new ≡ set self.old place slot }
-        ensures held { IsFalse result → (name : List ℕ) × (name_of slot ≡ Some name) × (k : ℕ) × (name_at (names self.old) k ≡ Some name) }
+        ensures held { IsFalse result → IsHeld (name_of slot) (names self.old) }
         ensures roles { AreRoles self.new }
     {
         let _places = &self.places;
@@ -99,7 +102,7 @@ impl Roles {
 
     /// Whether a place holds the name of a role.
     fn holds_name_of(&self, slot: &Option<Role>) -> bool
-        ensures found { IsTrue result → (name : List ℕ) × (name_of slot.now ≡ Some name) × (k : ℕ) × (name_at (names self.now) k ≡ Some name) }
+        ensures held { IsTrue result → IsHeld (name_of slot.now) (names self.now) }
         ensures fresh { IsFalse result → IsFresh (name_of slot.now) (names self.now) }
     {
         match slot {
@@ -151,7 +154,8 @@ fn find_in(places: &[Option<Role>], name: &RoleName) -> Option<usize>
 
 /// The first place without a role.
 fn free_in(places: &[Option<Role>]) -> Option<usize>
-    ensures free { IfSome result (λ place. (place ≡ free_place (names places.now)) × (place < length places.now)) }
+    ensures free { IfSome result (λ place. place ≡ free_place (names places.now)) }
+    ensures within { IfSome result (λ place. place < length places.now) }
     ensures none { IsNone result → free_place (names places.now) ≡ length places.now }
 {
     for place in 0..places.len() {

@@ -10,10 +10,12 @@ use Rattle.std.proofs.lemmas.Bool.Decides.{Decides-eqb, Decides-by_and, Decides-
 use Rattle.std.proofs.lemmas.Nat.Bits.{same_from_bits_below}
 use Rattle.std.proofs.lemmas.Slice.Eq.{bytes_eq-Decides}
 use Rattle.std.proofs.lemmas.List.{get_or-set_same, get_or-set_other, length-set, ext_get_or, length-take, length-drop, get_or-take, get_or-drop, get_or_past, get_or_default}
+use Rattle.byte_lists.specs.Bytes.{is_zero}
+use Rattle.byte_lists.proofs.ByteLemmas.{is_zero-Decides}
 use Rattle.cca_vectors.specs.Bits.{bit, even_byte}
 use Rattle.cca_vectors.specs.Checks.{check, first_failing}
-use Rattle.cca_vectors.specs.Vectors.{left_of, right_of, form_of, single_length, left_of_double, IsZero, IsEven, IsAntiVariant, IsRightHalfFor, HasKeyForm, IsValid}
-use Rattle.cca_vectors.specs.VectorChecks.{is_zero, is_even, is_anti_variant, right_half_for, has_form, vector_checks}
+use Rattle.cca_vectors.specs.Vectors.{left_of, right_of, form_of, single_length, left_of_double, IsEven, IsAntiVariant, IsRightHalfFor, HasKeyForm, IsValid}
+use Rattle.cca_vectors.specs.VectorChecks.{is_even, is_anti_variant, right_half_for, has_form, vector_checks}
 
 -- ---- one byte
 
@@ -32,9 +34,6 @@ even_byte_even byte fits =
     (agree_below_at (λ b. eqb (count_ones (even_byte b) % 2) 0) (λ b. true) 256 byte refl fits)
 
 -- ---- the tests and the facts
-
-pub is_zero-Decides : (half : List ℕ) → Decides (is_zero half) (IsZero half)
-is_zero-Decides = Decides-by_and (λ b. eqb b 0) (λ b. b ≡ 0) is_zero (λ b. Decides-eqb b 0) refl (λ _ _. refl)
 
 pub is_even-Decides : (bytes : List ℕ) → Decides (is_even bytes) (All IsEven bytes)
 is_even-Decides =

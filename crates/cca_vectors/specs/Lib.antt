@@ -3,3 +3,5 @@ pub mod Checks
 pub mod Vectors
 pub mod Classes
 pub mod VectorChecks
+pub mod Permissions
+pub use Rattle.byte_lists.specs.Bytes

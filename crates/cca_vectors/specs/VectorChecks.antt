@@ -3,14 +3,12 @@
 use Rattle.std.specs.Prelude.{ℕ, ◌+◌, ◌%◌, Bool, not, ◌&&◌, ◌||◌, List, [], ◌∷◌, slice_index, slice_set, count_ones, ◌==◌}
 use Rattle.std.specs.List.{list_all}
 use Rattle.std.specs.Str.{bytes_eq}
+use Rattle.byte_lists.specs.Bytes.{is_zero}
 use Rattle.cca_vectors.specs.declared.control_vector.VectorFault.{VectorFault}
 use Rattle.cca_vectors.specs.declared.control_vector.VectorFault.TheVariants.{Parity, AntiVariant, Form}
 use Rattle.cca_vectors.specs.Bits.{bit, even_byte}
 use Rattle.cca_vectors.specs.Checks.{Check, check}
 use Rattle.cca_vectors.specs.Vectors.{left_of, right_of, form_of, single_length, left_of_double}
-
-abbrev pub is_zero : List ℕ → Bool
-is_zero = list_all (λ byte. byte == 0)
 
 abbrev pub is_even : List ℕ → Bool
 is_even = list_all (λ byte. count_ones byte % 2 == 0)

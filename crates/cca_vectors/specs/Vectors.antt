@@ -2,6 +2,7 @@
 -- its right half. The bits of each half are counted from 0.
 use Rattle.std.specs.Prelude.{◌≡◌, ◌≢◌, ◌⊎◌, ℕ, ◌+◌, ◌*◌, ◌%◌, ◌<◌, Bool, List, length, slice_index, slice_range, count_ones, ◌==◌, if◌then◌else◌}
 use Rattle.std.specs.List.{All}
+use Rattle.byte_lists.specs.Bytes.{IsZero}
 use Rattle.cca_vectors.specs.Bits.{bit}
 
 -- the vector of the left half of the key
@@ -33,9 +34,6 @@ length_of vector = if form_of (left_of vector) == single_length then 8 else 16
 -- the key-part bit
 abbrev pub is_part_of : List ℕ → Bool
 is_part_of vector = bit (left_of vector) 44 == 1
-
-abbrev pub IsZero : List ℕ → Type 0
-IsZero = All (λ byte. byte ≡ 0)
 
 -- a byte has an even number of ones
 abbrev pub IsEven : ℕ → Type 0

@@ -1,18 +1,24 @@
-ghost use Rattle.std.specs.Prelude.{◌≡◌, ◌↔◌, IsOk, IfOk, OnOk, IfErr, None, Some};
+ghost use Rattle.std.specs.Prelude.{◌≡◌, ◌↔◌, ◌<◌, ◌==◌, IsOk, IfOk, OnOk, IfErr, None, Some};
 ghost use Rattle.std.specs.Option.{option_map};
-ghost use Rattle.cca_vectors.specs.Bits.{even_byte};
+ghost use Rattle.cca_vectors.specs.Bits.{bit as bit_of, even_byte};
 ghost use Rattle.cca_vectors.specs.Checks.{first_failing};
 ghost use Rattle.cca_vectors.specs.Vectors.{IsValid, left_of, right_of, length_of, is_part_of, form_of};
-ghost use Rattle.cca_vectors.specs.VectorChecks.{is_zero, is_even, is_anti_variant, has_form, right_half_for, vector_checks, rule_of};
+ghost use Rattle.cca_vectors.specs.VectorChecks.{is_even, is_anti_variant, has_form, right_half_for, vector_checks, rule_of};
 ghost use Rattle.cca_vectors.specs.Classes.{class_of};
+ghost use Rattle.cca_vectors.specs.Permissions.{permits, is_exportable};
 
 use crate::key_class::Class;
+use crate::key_usage::{Usage, is_data_bit};
+use byte_lists::is_zero;
 use std::marker::Model;
 use thiserror::Error;
 
 const SINGLE_LENGTH: u8 = 0;
 
 const LEFT_OF_DOUBLE: u8 = 2;
+
+/// The bit that permits export.
+const EXPORT: usize = 17;
 
 /// A valid control vector: 16 bytes, the first 8 for the left half of a key and the last 8 for its right
 /// half, which are zero for a key of single length.
@@ -45,10 +51,12 @@ pub enum VectorFault {
     Form,
 }
 
-fn is_zero(half: &[u8; 8]) -> bool
-    ensures { result ≡ is_zero half.now }
+/// Whether a bit of a half is on. Bit 0 is the most significant bit of byte 0.
+fn has_bit(half: &[u8; 8], bit: usize) -> bool
+    requires { bit < 64 }
+    ensures { result ≡ (bit_of half.now bit == 1) }
 {
-    half.iter().all(|byte| *byte == 0)
+    (half[bit / 8] >> (7 - bit % 8)) % 2 == 1
 }
 
 fn is_even(bytes: &[u8; 16]) -> bool
@@ -181,5 +189,21 @@ impl Vector {
         ensures { result ≡ is_part_of self.now }
     {
         self.bytes[5] / 8 % 2 == 1
+    }
+
+    /// Whether the left vector's bit for this use is on. The all-zero vector, that of a single-length DATA key,
+    /// permits every use of a DATA key.
+    pub fn permits(&self, usage: Usage) -> bool
+        ensures { result ≡ permits self.now usage }
+    {
+        let bit = usage.bit();
+        has_bit(&left_half(&self.bytes), bit) || (is_zero(&self.bytes) && is_data_bit(bit))
+    }
+
+    /// Whether the key may be exported: the export bit is on, or the vector is all zero.
+    pub fn exportable(&self) -> bool
+        ensures { result ≡ is_exportable self.now }
+    {
+        is_zero(&self.bytes) || has_bit(&left_half(&self.bytes), EXPORT)
     }
 }

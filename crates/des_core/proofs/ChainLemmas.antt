@@ -1,23 +1,23 @@
 -- Chaining in place: the blocks that are done and the chain over those that are left.
-use Rattle.std.proofs.Common.{◌≡◌, ℕ, zero, suc, ◌+◌, ◌-◌, ◌*◌, ◌/◌, ◌%◌, ◌^◌, ◌<◌, ◌≤◌, List, [], ◌∷◌, ◌++◌, length, take, drop, get_or, bit_xor, refl, sym, ap, ◌∙◌, arith}
-use Rattle.std.specs.List.{All, flat_map}
+use Rattle.std.proofs.Common.{◌==◌, if◌then◌else◌, ◌≡◌, ℕ, zero, suc, ◌+◌, ◌-◌, ◌*◌, ◌/◌, ◌<◌, ◌≤◌, List, [], ◌∷◌, ◌++◌, length, take, drop, get_or, bit_xor, refl, sym, ap, ◌∙◌, arith}
 use Rattle.std.specs.Int.{w64, byte_at, bytes_high_first, to_be_bytes, from_be_bytes}
-use Rattle.std.proofs.lemmas.List.{append_assoc, append-nil, drop-append-le, drop_at, drop-drop, length-append, length-drop, length-map, length-take, nil_from_length, take-append-le, take_at, take_all, take-append-drop}
+use Rattle.std.proofs.lemmas.List.{append_assoc, append-nil, drop-append-le, drop_at, drop-drop, length-append, length-drop, length-map, length-take, nil_from_length, take-append-le, take_at, take-append-drop}
 use Rattle.std.proofs.lemmas.Nat.{be_bytes_8}
 use Rattle.key_cells.specs.Bench.{Text, text_of, with_text, with_text_of}
 use Rattle.key_cells.specs.Lease.{bench_of, holding}
 use Rattle.key_cells.specs.declared.leases.Lease.{Lease}
 use Rattle.key_cells.specs.declared.schedules.Schedule.{Schedule}
 use Rattle.des_core.specs.Bits.{bits, byte_bits, number, pieces, to_bytes, xor}
-use Rattle.des_core.specs.Modes.{blocks, cbc, joined, uncbc}
-use Rattle.des_core.specs.Schedules.{AreOf, ded_bytes, ded_under, ede_under, ede_bytes}
-use Rattle.des_core.specs.Texts.{put_at}
-use Rattle.des_core.specs.TripleDes.{ded, ede}
-use Rattle.des_core.proofs.BitLemmas.{drop-add, length-pieces, length-xor, take-add}
+use Rattle.des_core.specs.Modes.{blocks, cbc, e, joined, uncbc, une}
+use Rattle.des_core.specs.Schedules.{AreOf, ded_bytes, ded_under, ede_bytes}
+use Rattle.des_core.specs.Texts.{cbc_text, put_at, uncbc_text}
+use Rattle.des_core.specs.TripleDes.{ded, deciphered, ede, enciphered}
+use Rattle.des_core.proofs.BitLemmas.{drop-add, length-pieces, length-xor}
 use Rattle.des_core.proofs.ByteLemmas.{byte_bits-to_be_bytes, small-to_be_bytes, to_bytes-byte_bits}
 use Rattle.des_core.proofs.CallLemmas.{ded-same_bytes, ede-same_bytes}
 use Rattle.des_core.proofs.LawLemmas.{length-crypt}
 use Rattle.des_core.proofs.XorLemmas.{byte-xor}
+use Rattle.des_core.proofs.ValueLemmas.{bytes-deciphered, bytes-enciphered, deciphered-enciphered, enciphered-deciphered}
 
 -- ---- words and their bytes
 
@@ -180,6 +180,40 @@ cbc-keys keys a b c start text ps of is = is ∙ ap joined (cbc-same (ede_bytes 
 pub uncbc-keys : (keys : List Schedule) (a b c start text : List ℕ) (ps : List (List ℕ)) → AreOf keys a b c → text ≡ joined (uncbc (ded_bytes keys) start ps) → text ≡ joined (uncbc (ded a b c) start ps)
 uncbc-keys keys a b c start text ps of is = is ∙ ap joined (uncbc-same (ded_bytes keys) (ded a b c) (λ x. ded-same_bytes keys a b c x of) start ps)
 
+-- ---- under a clear key
+
+e-single : (key block : List ℕ) → length key ≡ 8 → ede key key key block ≡ e key block
+unfolding ede e
+e-single key block h =
+    enciphered-deciphered key (enciphered key block) (bytes-enciphered key block)
+    ∙ sym (ap (λ n. if n == 8 then enciphered key block else ede (take 8 key) (drop 8 key) (take 8 key) block) h)
+
+e-double : (key block : List ℕ) → length key ≡ 16 → ede (take 8 key) (drop 8 key) (take 8 key) block ≡ e key block
+unfolding e
+e-double key block h = sym (ap (λ n. if n == 8 then enciphered key block else ede (take 8 key) (drop 8 key) (take 8 key) block) h)
+
+une-single : (key block : List ℕ) → length key ≡ 8 → ded key key key block ≡ une key block
+unfolding ded une
+une-single key block h =
+    deciphered-enciphered key (deciphered key block) (bytes-deciphered key block)
+    ∙ sym (ap (λ n. if n == 8 then deciphered key block else ded (take 8 key) (drop 8 key) (take 8 key) block) h)
+
+une-double : (key block : List ℕ) → length key ≡ 16 → ded (take 8 key) (drop 8 key) (take 8 key) block ≡ une key block
+unfolding une
+une-double key block h = sym (ap (λ n. if n == 8 then deciphered key block else ded (take 8 key) (drop 8 key) (take 8 key) block) h)
+
+pub cbc-single : (key start text : List ℕ) → length key ≡ 8 → cbc_text (ede key key key) start text ≡ cbc_text (e key) start text
+cbc-single key start text h = ap joined (cbc-same (ede key key key) (e key) (λ x. e-single key x h) start (blocks text))
+
+pub cbc-double : (key start text : List ℕ) → length key ≡ 16 → cbc_text (ede (take 8 key) (drop 8 key) (take 8 key)) start text ≡ cbc_text (e key) start text
+cbc-double key start text h = ap joined (cbc-same (ede (take 8 key) (drop 8 key) (take 8 key)) (e key) (λ x. e-double key x h) start (blocks text))
+
+pub uncbc-single : (key start text : List ℕ) → length key ≡ 8 → uncbc_text (ded key key key) start text ≡ uncbc_text (une key) start text
+uncbc-single key start text h = ap joined (uncbc-same (ded key key key) (une key) (λ x. une-single key x h) start (blocks text))
+
+pub uncbc-double : (key start text : List ℕ) → length key ≡ 16 → uncbc_text (ded (take 8 key) (drop 8 key) (take 8 key)) start text ≡ uncbc_text (une key) start text
+uncbc-double key start text h = ap joined (uncbc-same (ded (take 8 key) (drop 8 key) (take 8 key)) (une key) (λ x. une-double key x h) start (blocks text))
+
 -- ---- the lease
 
 pub text-kept : (t : Text) (w : List ℕ) → length w ≡ t.size → text_of (with_text t w) ≡ w
@@ -226,10 +260,6 @@ length-ded_bytes keys block =
 pub cbc-step-as : (e : List ℕ → List ℕ) (chain p b : List ℕ) → b ≡ e (xor p chain) → (ps : List (List ℕ)) → cbc e chain (p ∷ ps) ≡ b ∷ cbc e b ps
 cbc-step-as e chain p b is ps = cbc-step e chain p ps ∙ sym (ap {B = List (List ℕ)} (λ x. x ∷ cbc e x ps) is)
 
-pub uncbc-step-as : (d : List ℕ → List ℕ) (chain p b next : List ℕ) → b ≡ xor (d p) chain → next ≡ p → (ps : List (List ℕ)) → uncbc d chain (p ∷ ps) ≡ b ∷ uncbc d next ps
-uncbc-step-as d chain p b next is same ps =
-    uncbc-step d chain p ps ∙ sym (ap {B = List (List ℕ)} (λ x. x ∷ uncbc d next ps) is ∙ ap {B = List (List ℕ)} (λ x. xor (d p) chain ∷ uncbc d x ps) same)
-
 -- two blocks more
 pub two-more : (d : List ℕ → List ℕ) (n i : ℕ) (text chain next new : List ℕ) (out : List (List ℕ)) → 2 * i + 1 < n → length text ≡ 8 * n
     → length (xor (d (take 8 (drop (16 * i) text))) chain) ≡ 8 → length (xor (d (take 8 (drop (16 * i + 8) text))) (take 8 (drop (16 * i) text))) ≡ 8
@@ -247,14 +277,14 @@ two-more d n i text chain next new out h long e1 e2 is put before =
     let mid_long : length mid ≡ 8 * n = length-put text b (16 * i) (omega arith) e1 ∙ long in
     let one : pieces (2 * i + 1) 8 (put_at text (8 * (2 * i)) b) ++ uncbc d p (pieces (n - (2 * i + 1)) 8 (drop (8 * (2 * i + 1)) (put_at text (8 * (2 * i)) b))) ≡ out
     = text-more n (2 * i) text b (uncbc d chain) (uncbc d p) out (omega arith) long e1
-        (λ ps. ap (λ k. uncbc d chain (take 8 (drop k text) ∷ ps)) (sym at) ∙ uncbc-step d chain p ps) before in
+    (λ ps. ap (λ k. uncbc d chain (take 8 (drop k text) ∷ ps)) (sym at) ∙ uncbc-step d chain p ps) before in
     let one_mid : pieces (2 * i + 1) 8 mid ++ uncbc d p (pieces (n - (2 * i + 1)) 8 (drop (8 * (2 * i + 1)) mid)) ≡ out
     = ap (λ k. pieces (2 * i + 1) 8 (put_at text k b) ++ uncbc d p (pieces (n - (2 * i + 1)) 8 (drop (8 * (2 * i + 1)) (put_at text k b)))) at ∙ one in
     let second : take 8 (drop (8 * (2 * i + 1)) mid) ≡ q = ap (λ k. take 8 (drop k mid)) (sym then_at) ∙ next-block text b (16 * i) (omega arith) e1 in
     let b2 = xor (d q) p in
     let two : pieces (2 * i + 1 + 1) 8 (put_at mid (8 * (2 * i + 1)) b2) ++ uncbc d q (pieces (n - (2 * i + 1 + 1)) 8 (drop (8 * (2 * i + 1 + 1)) (put_at mid (8 * (2 * i + 1)) b2))) ≡ out
     = text-more n (2 * i + 1) mid b2 (uncbc d p) (uncbc d q) out h mid_long e2
-        (λ ps. ap (λ x. uncbc d p (x ∷ ps)) second ∙ uncbc-step d p q ps) one_mid in
+    (λ ps. ap (λ x. uncbc d p (x ∷ ps)) second ∙ uncbc-step d p q ps) one_mid in
     let wider : 2 * (i + 1) ≡ 2 * i + 1 + 1 = omega arith in
     let new_is : new ≡ put_at mid (8 * (2 * i + 1)) b2 = put ∙ ap (λ k. put_at mid k b2) then_at in
     ap (λ k. pieces k 8 new ++ uncbc d next (pieces (n - k) 8 (drop (8 * k) new))) wider

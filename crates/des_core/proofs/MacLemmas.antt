@@ -1,5 +1,5 @@
 -- The code over a filled text: one block more of the chain, and the last one; under a key.
-use Rattle.std.proofs.Common.{◌≡◌, ℕ, zero, suc, ◌+◌, ◌-◌, ◌*◌, ◌/◌, ◌%◌, ◌<◌, ◌≤◌, List, [], ◌∷◌, ◌++◌, length, take, drop, get_or, replicate, refl, sym, ap, ◌∙◌, arith, inl, inr, lit<}
+use Rattle.std.proofs.Common.{◌≡◌, ℕ, zero, suc, ◌+◌, ◌-◌, ◌*◌, ◌/◌, ◌%◌, ◌<◌, ◌≤◌, List, [], ◌∷◌, ◌++◌, length, take, drop, get_or, replicate, sym, ap, ◌∙◌, arith, inl, inr, lit<}
 use Rattle.std.specs.Int.{div_ceil}
 use Rattle.std.specs.List.{All}
 use Rattle.std.proofs.lemmas.Bool.{cases_lt}
@@ -8,7 +8,7 @@ use Rattle.key_cells.specs.declared.schedules.Schedule.{Schedule}
 use Rattle.des_core.specs.Bits.{byte_bits, pieces, to_bytes, xor}
 use Rattle.des_core.specs.Des.{decipher, encipher}
 use Rattle.des_core.specs.Modes.{blocks, cbc, cbc_mac, fill, last_block, mac_x919, mac_x99, zero_block}
-use Rattle.des_core.specs.Schedules.{IsOf, deciphered_under, enciphered_under, keys_of}
+use Rattle.des_core.specs.Schedules.{IsOf, deciphered_under, enciphered_under}
 use Rattle.des_core.specs.Texts.{fill_block}
 use Rattle.des_core.specs.TripleDes.{deciphered, enciphered}
 use Rattle.des_core.proofs.ByteLemmas.{to_bytes-byte_bits}
@@ -55,12 +55,12 @@ fill-at text i h =
     let moved : drop (8 * i) (fill text) ≡ rest ++ replicate added 0 = drop-append-le (8 * i) text (replicate added 0) (omega arith) in
     ap (take 8) moved ∙ elim (cases_lt (length rest) 8) [
       | inl short ↦
-        let all : take 8 rest ≡ rest = take_all 8 rest (omega arith) in
-        let missing : added ≡ 8 - length rest = omega (arith, long) in
-        let size : length (rest ++ replicate added 0) ≤ 8 = omega (arith, length-append rest (replicate added 0), length-replicate {A = ℕ} added 0, missing) in
-        take_all 8 (rest ++ replicate added 0) size ∙ ap (λ n. rest ++ replicate n 0) missing ∙ sym (ap fill_block all)
+          let all : take 8 rest ≡ rest = take_all 8 rest (omega arith) in
+          let missing : added ≡ 8 - length rest = omega (arith, long) in
+          let size : length (rest ++ replicate added 0) ≤ 8 = omega (arith, length-append rest (replicate added 0), length-replicate {A = ℕ} added 0, missing) in
+          take_all 8 (rest ++ replicate added 0) size ∙ ap (λ n. rest ++ replicate n 0) missing ∙ sym (ap fill_block all)
       | inr whole ↦
-        take-append-le 8 rest (replicate added 0) whole ∙ sym (fill-whole (take 8 rest) (length-take 8 rest ∙ omega arith))
+          take-append-le 8 rest (replicate added 0) whole ∙ sym (fill-whole (take 8 rest) (length-take 8 rest ∙ omega arith))
     ]
 
 -- ---- the chain

@@ -1,5 +1,5 @@
 -- Exclusive or of lists of bits: through tables of places, joined lists and parts, zeros, and the groups of a word.
-use Rattle.std.proofs.Common.{◌≡◌, ℕ, zero, suc, ◌+◌, ◌-◌, ◌*◌, ◌/◌, ◌%◌, ◌^◌, List, [], ◌∷◌, ◌++◌, length, take, drop, slice_index, bit_xor, replicate, refl, sym, ap, ◌∙◌, arith}
+use Rattle.std.proofs.Common.{◌≡◌, ℕ, zero, suc, ◌-◌, ◌*◌, ◌/◌, ◌%◌, ◌^◌, List, [], ◌∷◌, ◌++◌, length, slice_index, bit_xor, replicate, refl, sym, ap, ◌∙◌, arith}
 use Rattle.std.specs.Int.{byte_at, bytes_high_first}
 use Rattle.std.specs.Int.Bits.{xor_zero_r}
 use Rattle.std.proofs.lemmas.Nat.{xor_comm, xor_mod, xor_shr}
@@ -33,25 +33,6 @@ xor-append [] qs [] ss e = refl
 xor-append [] qs (r ∷ rs) ss e = absurd (omega arith)
 xor-append (p ∷ ps) qs [] ss e = absurd (omega arith)
 xor-append (p ∷ ps) qs (r ∷ rs) ss e = ap {B = List ℕ} (λ zs. bit_xor p r ∷ zs) (xor-append ps qs rs ss (omega arith))
-
-pub take-xor : (n : ℕ) (xs ys : List ℕ) → take n (xor xs ys) ≡ xor (take n xs) (take n ys)
-unfolding xor
-take-xor zero xs ys = refl
-take-xor (suc n) [] ys = refl
-take-xor (suc n) (x ∷ xs) [] = refl
-take-xor (suc n) (x ∷ xs) (y ∷ ys) = ap {B = List ℕ} (λ zs. bit_xor x y ∷ zs) (take-xor n xs ys)
-
-xor-none : (xs : List ℕ) → xor xs [] ≡ []
-unfolding xor
-xor-none [] = refl
-xor-none (x ∷ xs) = refl
-
-pub drop-xor : (n : ℕ) (xs ys : List ℕ) → drop n (xor xs ys) ≡ xor (drop n xs) (drop n ys)
-unfolding xor
-drop-xor zero xs ys = refl
-drop-xor (suc n) [] ys = refl
-drop-xor (suc n) (x ∷ xs) [] = sym (xor-none (drop n xs))
-drop-xor (suc n) (x ∷ xs) (y ∷ ys) = drop-xor n xs ys
 
 -- ---- zeros
 

@@ -15,10 +15,8 @@ use key_cells::Lease;
 #[inline]
 fn encipher_one(lease: &mut Lease, at: usize, chain: u64) -> u64
     requires { at + 8 ≤ (bench_of lease.now).text.size }
-    ensures block {
-        to_be_bytes w64 result
-            ≡ ede_bytes (schedules_in lease.old) (xor (take 8 (drop at (text_in lease.old))) (to_be_bytes w64 chain))
-    }
+    ensures block { to_be_bytes w64 result
+        ≡ ede_bytes (schedules_in lease.old) (xor (take 8 (drop at (text_in lease.old))) (to_be_bytes w64 chain)) }
     ensures lease { lease.new ≡ with_text_in lease.old (put_at (text_in lease.old) at (to_be_bytes w64 result)) }
 {
     let word = ede_word(lease.schedules(), word_at(lease.text(), at) ^ chain);
@@ -30,11 +28,10 @@ fn encipher_one(lease: &mut Lease, at: usize, chain: u64) -> u64
 /// Under three equal schedules that is DES. All other places and the text's length stay.
 pub fn cbc_encipher(lease: &mut Lease, start: &[u8; 8])
     requires { (bench_of lease.now).text.size % 8 ≡ 0 }
-    ensures text { text_in lease.new ≡ cbc_text (ede_bytes (schedules_in lease.old)) start.now (text_in lease.old) }
-    ensures keys {
-        (a b c : List ℕ) → AreOf (schedules_in lease.old) a b c
-            → text_in lease.new ≡ cbc_text (triple.ede a b c) start.now (text_in lease.old)
-    }
+    ensures text { text_in lease.new
+        ≡ cbc_text (ede_bytes (schedules_in lease.old)) start.now (text_in lease.old) }
+    ensures keys { (a b c : List ℕ) → AreOf (schedules_in lease.old) a b c
+        → text_in lease.new ≡ cbc_text (triple.ede a b c) start.now (text_in lease.old) }
     ensures stays { lease.new ≡ with_text_in lease.old (text_in lease.new) }
 {
     let count = lease.text().len() / 8;
@@ -49,11 +46,9 @@ pub fn cbc_encipher(lease: &mut Lease, start: &[u8; 8])
 fn decipher_one(lease: &mut Lease, at: usize, chain: u64) -> u64
     requires { at + 8 ≤ (bench_of lease.now).text.size }
     ensures block { to_be_bytes w64 result ≡ take 8 (drop at (text_in lease.old)) }
-    ensures lease {
-        lease.new
-            ≡ with_text_in lease.old (put_at (text_in lease.old) at
-                (xor (ded_bytes (schedules_in lease.old) (take 8 (drop at (text_in lease.old)))) (to_be_bytes w64 chain)))
-    }
+    ensures lease { lease.new
+        ≡ with_text_in lease.old (put_at (text_in lease.old) at
+        (xor (ded_bytes (schedules_in lease.old) (take 8 (drop at (text_in lease.old)))) (to_be_bytes w64 chain))) }
 {
     let sealed = word_at(lease.text(), at);
     let word = ded_word(lease.schedules(), sealed) ^ chain;
@@ -66,14 +61,12 @@ fn decipher_one(lease: &mut Lease, at: usize, chain: u64) -> u64
 fn decipher_two(lease: &mut Lease, at: usize, chain: u64) -> u64
     requires { at + 16 ≤ (bench_of lease.now).text.size }
     ensures block { to_be_bytes w64 result ≡ take 8 (drop (at + 8) (text_in lease.old)) }
-    ensures lease {
-        lease.new
-            ≡ with_text_in lease.old (put_at
-                (put_at (text_in lease.old) at
-                    (xor (ded_bytes (schedules_in lease.old) (take 8 (drop at (text_in lease.old)))) (to_be_bytes w64 chain)))
-                (at + 8)
-                (xor (ded_bytes (schedules_in lease.old) (take 8 (drop (at + 8) (text_in lease.old)))) (take 8 (drop at (text_in lease.old)))))
-    }
+    ensures lease { lease.new
+        ≡ with_text_in lease.old (put_at
+        (put_at (text_in lease.old) at
+        (xor (ded_bytes (schedules_in lease.old) (take 8 (drop at (text_in lease.old)))) (to_be_bytes w64 chain)))
+        (at + 8)
+        (xor (ded_bytes (schedules_in lease.old) (take 8 (drop (at + 8) (text_in lease.old)))) (take 8 (drop at (text_in lease.old))))) }
 {
     let first = word_at(lease.text(), at);
     let second = word_at(lease.text(), at + 8);
@@ -87,11 +80,10 @@ fn decipher_two(lease: &mut Lease, at: usize, chain: u64) -> u64
 /// the inverse of [`cbc_encipher`]. All other places and the text's length stay.
 pub fn cbc_decipher(lease: &mut Lease, start: &[u8; 8])
     requires { (bench_of lease.now).text.size % 8 ≡ 0 }
-    ensures text { text_in lease.new ≡ uncbc_text (ded_bytes (schedules_in lease.old)) start.now (text_in lease.old) }
-    ensures keys {
-        (a b c : List ℕ) → AreOf (schedules_in lease.old) a b c
-            → text_in lease.new ≡ uncbc_text (triple.ded a b c) start.now (text_in lease.old)
-    }
+    ensures text { text_in lease.new
+        ≡ uncbc_text (ded_bytes (schedules_in lease.old)) start.now (text_in lease.old) }
+    ensures keys { (a b c : List ℕ) → AreOf (schedules_in lease.old) a b c
+        → text_in lease.new ≡ uncbc_text (triple.ded a b c) start.now (text_in lease.old) }
     ensures stays { lease.new ≡ with_text_in lease.old (text_in lease.new) }
 {
     let count = lease.text().len() / 8;

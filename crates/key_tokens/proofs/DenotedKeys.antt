@@ -2,14 +2,14 @@
 use Rattle.std.proofs.Common.{◌≡◌, ◌≢◌, ℕ, ◌<◌, ◌≤◌, Bool, true, false, List, Option, None, Some, length, get_or, drop, refl, sym, ap, ◌∙◌, ◌⊎◌, subst, inl, inr, ⊎_elim, arith}
 use Rattle.std.specs.Prelude.{if◌then◌else◌, is_none, replicate}
 use Rattle.std.specs.Str.{bytes_eq}
-use Rattle.std.proofs.lemmas.List.{ext_get_or, get_or-replicate, get_or_past, length-drop, length-replicate, length-take}
+use Rattle.std.proofs.lemmas.List.{get_or_past, length-drop, length-take}
 use Rattle.std.proofs.lemmas.List.Elements.{All-drop, All-take}
 use Rattle.std.proofs.lemmas.Bool.{cases_lt, false_from_ne_true}
 use Rattle.std.proofs.lemmas.Slice.Eq.{bytes_eq-Decides}
 use Rattle.cca_vectors.specs.Checks.{first_failing}
-use Rattle.cca_vectors.specs.Vectors.{IsZero}
-use Rattle.des_core.specs.Bits.{AreBytes}
-use Rattle.multi_encipher.specs.Parts.{transport_parts}
+use Rattle.byte_lists.specs.Bytes.{AreBytes, IsZero}
+use Rattle.byte_lists.proofs.ByteLemmas.{zeros_of}
+use Rattle.multi_encipher.specs.Bundles.{transport_bundle}
 use Rattle.multi_encipher.specs.Seals.{IsSealed, seal, unseal}
 use Rattle.multi_encipher.proofs.SealLaws.{one_to_one}
 use Rattle.key_tokens.specs.declared.key_token.Age.{Age}
@@ -22,9 +22,9 @@ use Rattle.key_tokens.specs.declared.key_token.Token.{Token}
 use Rattle.key_tokens.specs.Denotes.{HaveDistinctPatterns, ClearKey, Denoted, Denotes, DenotesOne, DenotesUnder, IsTokenOf, MasterKey, MasterKeys, clear_of, denoted, denoted_or, denoted_under, is_token}
 use Rattle.key_tokens.specs.Kinds.{IsAsked}
 use Rattle.key_tokens.specs.Layout.{IsToken, IsPatternFor}
-use Rattle.key_tokens.specs.Parts.{kind_of, pattern_of_token, sealed_of, token_of, vector_bytes_of}
+use Rattle.key_tokens.specs.Fields.{kind_of, pattern_of_token, sealed_of, token_of, vector_bytes_of}
 use Rattle.key_tokens.specs.TokenChecks.{token_checks}
-use Rattle.key_tokens.proofs.Layouts.{none_from_token, same_token, token_from_none, token_is, with_parts}
+use Rattle.key_tokens.proofs.Layouts.{none_from_token, same_token, token_from_none, token_is, with_fields}
 
 -- ---- tests
 
@@ -42,11 +42,6 @@ if_then false o y h = cc
 
 same_some : {A : Type 0} (x y : A) → Some x ≡ Some y → x ≡ y
 same_some x y h = cc
-
-zeros_from : (xs : List ℕ) → length xs ≡ 8 → IsZero xs → xs ≡ replicate 8 0
-zeros_from xs long zero =
-    ext_get_or 0 xs (replicate 8 0) (long ∙ sym (length-replicate {A = ℕ} 8 0))
-    (λ i within. zero i 0 within ∙ sym (get_or-replicate 8 i 0 0 (omega arith)))
 
 abbrev clear_key : List ℕ → List ℕ → ClearKey
 clear_key key vector = record { key = key; vector = vector }
@@ -69,39 +64,39 @@ module _ (bytes : List ℕ) (are_bytes : AreBytes 64 bytes) where
     single = is_token.right;
   }
 
-  -- the key under three parts, where the bytes are a token of this kind and pattern
-  key_of_token : (parts : List ℕ) (k : Kind) (pattern : List ℕ) → IsToken bytes (token_of bytes) → kind_of bytes ≡ k → pattern_of_token bytes ≡ pattern
-      → IsTokenOf k pattern parts bytes (clear_of parts bytes)
-  key_of_token parts k pattern is_token kinds patterns =
-      let again : seal parts (vector_bytes_of bytes) (unseal parts (vector_bytes_of bytes) (sealed_of bytes)) ≡ sealed_of bytes =
-      (one_to_one parts (vector_bytes_of bytes)).redone (sealed_of bytes) (halves is_token) in
+  -- the key under three bundle, where the bytes are a token of this kind and pattern
+  key_of_token : (bundle : List ℕ) (k : Kind) (pattern : List ℕ) → IsToken bytes (token_of bytes) → kind_of bytes ≡ k → pattern_of_token bytes ≡ pattern
+      → IsTokenOf k pattern bundle bytes (clear_of bundle bytes)
+  key_of_token bundle k pattern is_token kinds patterns =
+      let again : seal bundle (vector_bytes_of bytes) (unseal bundle (vector_bytes_of bytes) (sealed_of bytes)) ≡ sealed_of bytes =
+      (one_to_one bundle (vector_bytes_of bytes)).redone (sealed_of bytes) (halves is_token) in
       record {
-        key = (one_to_one parts (vector_bytes_of bytes)).opened (sealed_of bytes) (halves is_token);
+        key = (one_to_one bundle (vector_bytes_of bytes)).opened (sealed_of bytes) (halves is_token);
         token = subst (IsToken bytes)
             (same_token (token_of bytes)
-            (with_parts k pattern (seal parts (vector_bytes_of bytes) (unseal parts (vector_bytes_of bytes) (sealed_of bytes))).left
-            (seal parts (vector_bytes_of bytes) (unseal parts (vector_bytes_of bytes) (sealed_of bytes))).right (vector_bytes_of bytes))
+            (with_fields k pattern (seal bundle (vector_bytes_of bytes) (unseal bundle (vector_bytes_of bytes) (sealed_of bytes))).left
+            (seal bundle (vector_bytes_of bytes) (unseal bundle (vector_bytes_of bytes) (sealed_of bytes))).right (vector_bytes_of bytes))
             kinds patterns (ap (λ s. s.left) (sym again)) (ap (λ s. s.right) (sym again)) refl)
             is_token;
       }
 
-  -- the parts of a token of a key
-  only_key : (parts : List ℕ) (k : Kind) (pattern : List ℕ) (clear : ClearKey) → IsTokenOf k pattern parts bytes clear → clear_of parts bytes ≡ clear
-  only_key parts k pattern clear h =
-      ap (λ (token : Token). clear_key (unseal parts token.vector token.sealed) token.vector)
-      (token_is bytes h.token.whole (record { kind = k; pattern = pattern; sealed = seal parts clear.vector clear.key; vector = clear.vector }) h.token)
-      ∙ ap (λ key. clear_key key clear.vector) ((one_to_one parts clear.vector).undone clear.key h.key)
+  -- the bundle of a token of a key
+  only_key : (bundle : List ℕ) (k : Kind) (pattern : List ℕ) (clear : ClearKey) → IsTokenOf k pattern bundle bytes clear → clear_of bundle bytes ≡ clear
+  only_key bundle k pattern clear h =
+      ap (λ (token : Token). clear_key (unseal bundle token.vector token.sealed) token.vector)
+      (token_is bytes h.token.whole (record { kind = k; pattern = pattern; sealed = seal bundle clear.vector clear.key; vector = clear.vector }) h.token)
+      ∙ ap (λ key. clear_key key clear.vector) ((one_to_one bundle clear.vector).undone clear.key h.key)
 
-  pattern_is : (parts : List ℕ) (k : Kind) (pattern : List ℕ) (clear : ClearKey) → IsTokenOf k pattern parts bytes clear → pattern_of_token bytes ≡ pattern
-  pattern_is parts k pattern clear h =
+  pattern_is : (bundle : List ℕ) (k : Kind) (pattern : List ℕ) (clear : ClearKey) → IsTokenOf k pattern bundle bytes clear → pattern_of_token bytes ≡ pattern
+  pattern_is bundle k pattern clear h =
       ap (λ (token : Token). token.pattern)
-      (token_is bytes h.token.whole (record { kind = k; pattern = pattern; sealed = seal parts clear.vector clear.key; vector = clear.vector }) h.token)
+      (token_is bytes h.token.whole (record { kind = k; pattern = pattern; sealed = seal bundle clear.vector clear.key; vector = clear.vector }) h.token)
 
-  test_of_token : (asks : Asked) (parts : List ℕ) (k : Kind) (pattern : List ℕ) (clear : ClearKey) → IsAsked asks k → IsTokenOf k pattern parts bytes clear
+  test_of_token : (asks : Asked) (bundle : List ℕ) (k : Kind) (pattern : List ℕ) (clear : ClearKey) → IsAsked asks k → IsTokenOf k pattern bundle bytes clear
       → is_token asks bytes ≡ true
-  test_of_token asks parts k pattern clear is_asked h =
+  test_of_token asks bundle k pattern clear is_asked h =
       test_from_none (first_failing (token_checks asks bytes))
-      (none_from_token asks bytes h.token.whole fits (record { kind = k; pattern = pattern; sealed = seal parts clear.vector clear.key; vector = clear.vector })
+      (none_from_token asks bytes h.token.whole fits (record { kind = k; pattern = pattern; sealed = seal bundle clear.vector clear.key; vector = clear.vector })
       h.token is_asked)
 
   token_of_test : (asks : Asked) → is_token asks bytes ≡ true → IsToken bytes (token_of bytes) × IsAsked asks (kind_of bytes)
@@ -181,20 +176,20 @@ module _ (masters : MasterKeys) (transport bytes : List ℕ) (are_bytes : AreByt
   external : (clear : ClearKey) → DenotesUnder transport bytes clear → denoted_under transport bytes ≡ Some clear
   unfolding denoted_under
   external clear h =
-      ap (λ t. if t then Some (clear_of (transport_parts transport) bytes) else None)
-      (test_of_token bytes are_bytes asked.External (transport_parts transport) kind.External (replicate 8 0) clear refl h)
-      ∙ ap (λ c. Some c) (only_key bytes are_bytes (transport_parts transport) kind.External (replicate 8 0) clear h)
+      ap (λ t. if t then Some (clear_of (transport_bundle transport) bytes) else None)
+      (test_of_token bytes are_bytes asked.External (transport_bundle transport) kind.External (replicate 8 0) clear refl h)
+      ∙ ap (λ c. Some c) (only_key bytes are_bytes (transport_bundle transport) kind.External (replicate 8 0) clear h)
 
   external_back : (clear : ClearKey) → denoted_under transport bytes ≡ Some clear → DenotesUnder transport bytes clear
   unfolding denoted_under
   external_back clear e =
-      let parts : (is_token asked.External bytes ≡ true) × (Some (clear_of (transport_parts transport) bytes) ≡ Some clear) =
-      if_then (is_token asked.External bytes) (Some (clear_of (transport_parts transport) bytes)) clear e in
+      let parts : (is_token asked.External bytes ≡ true) × (Some (clear_of (transport_bundle transport) bytes) ≡ Some clear) =
+      if_then (is_token asked.External bytes) (Some (clear_of (transport_bundle transport) bytes)) clear e in
       let token : IsToken bytes (token_of bytes) × (kind_of bytes ≡ kind.External) = token_of_test bytes are_bytes asked.External parts.0 in
       let zero : IsZero (pattern_of_token bytes) = subst (λ k. IsPatternFor k (pattern_of_token bytes)) token.1 token.0.pattern in
       let long : length (pattern_of_token bytes) ≡ 8 = simp (length-take, length-drop) (omega (arith, are_bytes.size)) in
-      subst (DenotesUnder transport bytes) (same_some (clear_of (transport_parts transport) bytes) clear parts.1)
-      (key_of_token bytes are_bytes (transport_parts transport) kind.External (replicate 8 0) token.0 token.1 (zeros_from (pattern_of_token bytes) long zero))
+      subst (DenotesUnder transport bytes) (same_some (clear_of (transport_bundle transport) bytes) clear parts.1)
+      (key_of_token bytes are_bytes (transport_bundle transport) kind.External (replicate 8 0) token.0 token.1 (zeros_of 8 (pattern_of_token bytes) long zero))
 
   pub denotes_one : DenotesOne masters transport bytes
   denotes_one = record { internal = internal; internal_back = internal_back; external = external; external_back = external_back }

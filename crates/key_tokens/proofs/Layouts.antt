@@ -5,12 +5,14 @@ use Rattle.std.specs.Int.{to_be_bytes, from_be_bytes, w32}
 use Rattle.std.proofs.lemmas.Bool.{eqb-true, eq-eqb, and_from, or_left, or_right, cases_eq, ne_eqb, not_from_false, or_cases, or_from, not_from_true}
 use Rattle.std.proofs.lemmas.Bool.Decides.{Decides-eqb, Decides-and, Decides-or}
 use Rattle.std.proofs.lemmas.Nat.{be_bytes_4, from_be_bytes-to_be_bytes_4}
-use Rattle.std.proofs.lemmas.List.{ext_get_or, length-take, length-drop, length-replicate, get_or-replicate, drop_more}
+use Rattle.std.proofs.lemmas.List.{length-take, length-drop, drop_more}
+use Rattle.byte_lists.specs.Bytes.{IsZero, is_zero}
+use Rattle.byte_lists.proofs.ByteLemmas.{zeros_of, is_zero-Decides}
 use Rattle.cca_vectors.specs.Checks.{check, first_failing}
-use Rattle.cca_vectors.specs.Vectors.{IsZero, IsValid, length_of}
-use Rattle.cca_vectors.specs.VectorChecks.{is_zero, vector_checks}
+use Rattle.cca_vectors.specs.Vectors.{IsValid, length_of}
+use Rattle.cca_vectors.specs.VectorChecks.{vector_checks}
 use Rattle.cca_vectors.proofs.Judging.{passes, passes_first, passed_over, none_in_first, fails_first}
-use Rattle.cca_vectors.proofs.Validity.{AreBytes, is_zero-Decides, bytes_taken, bytes_dropped, valid_from_none, none_from_valid}
+use Rattle.cca_vectors.proofs.Validity.{AreBytes, bytes_taken, bytes_dropped, valid_from_none, none_from_valid}
 use Rattle.key_tokens.specs.declared.key_token.Kind.{Kind}
 use Rattle.key_tokens.specs.declared.key_token.Kind.TheVariants as kind
 use Rattle.key_tokens.specs.declared.key_token.Asked.{Asked}
@@ -18,7 +20,7 @@ use Rattle.key_tokens.specs.declared.key_token.Asked.TheVariants.{Internal, Exte
 use Rattle.key_tokens.specs.declared.key_token.Token.{Token}
 use Rattle.key_tokens.specs.Kinds.{kind_byte, kind_at, IsAsked, is_asked}
 use Rattle.key_tokens.specs.Layout.{layout, zeros, HasPlaces, IsFlag, IsPatternFor, IsToken}
-use Rattle.key_tokens.specs.Parts.{kind_of, pattern_of_token, vector_bytes_of, token_of}
+use Rattle.key_tokens.specs.Fields.{kind_of, pattern_of_token, vector_bytes_of, token_of}
 use Rattle.key_tokens.specs.TokenChecks.{stored_tvv, has_flag, reserved_is_zero, header_checks, has_right_half, token_checks}
 use Rattle.key_tokens.specs.Tvv.{tvv_of}
 
@@ -41,8 +43,7 @@ byte_of_piece bytes at value within e = ap (λ piece. get_or piece 0 0) (sym (pi
 -- a piece that is zero
 piece_of_zeros : (bytes : List ℕ) (n : ℕ) → length bytes ≡ n → is_zero bytes ≡ true → bytes ≡ zeros n
 piece_of_zeros bytes n long zero =
-    ext_get_or 0 bytes (zeros n) (long ∙ sym (length-replicate n 0))
-    (λ i within. (is_zero-Decides bytes).0 zero i 0 within ∙ sym (get_or-replicate n i 0 0 (omega arith)))
+    zeros_of n bytes long ((is_zero-Decides bytes).0 zero)
 
 -- ---- the kind
 
@@ -124,15 +125,15 @@ tvv_fits bytes = omega arith
 
 -- ---- the whole token
 
-abbrev pub with_parts : Kind → List ℕ → List ℕ → List ℕ → List ℕ → Token
-with_parts k pattern left right vector = record { kind = k; pattern = pattern; sealed = record { left = left; right = right }; vector = vector }
+abbrev pub with_fields : Kind → List ℕ → List ℕ → List ℕ → List ℕ → Token
+with_fields k pattern left right vector = record { kind = k; pattern = pattern; sealed = record { left = left; right = right }; vector = vector }
 
 pub same_token : (first second : Token) → first.kind ≡ second.kind → first.pattern ≡ second.pattern
     → first.sealed.left ≡ second.sealed.left → first.sealed.right ≡ second.sealed.right → first.vector ≡ second.vector
     → first ≡ second
 same_token first second kinds patterns lefts rights vectors =
-    let e : with_parts first.kind first.pattern first.sealed.left first.sealed.right first.vector
-    ≡ with_parts second.kind second.pattern second.sealed.left second.sealed.right second.vector = cc in
+    let e : with_fields first.kind first.pattern first.sealed.left first.sealed.right first.vector
+    ≡ with_fields second.kind second.pattern second.sealed.left second.sealed.right second.vector = cc in
     e
 
 pub names_right_half : (asked : Asked) (bytes : List ℕ) → first_failing (header_checks asked bytes) ≡ None
@@ -152,7 +153,7 @@ module _ (bytes : List ℕ) (whole : length bytes ≡ 64) (token : Token) (h : I
   vector_is : vector_bytes_of bytes ≡ token.vector
   vector_is = h.places.1.1.1.1.1.1.1.1.1.0
 
-  -- the parts of a token are those at its places
+  -- the fields of a token are those at their offsets
   pub token_is : token_of bytes ≡ token
   token_is =
       same_token (token_of bytes) token (ap kind_at first_byte ∙ kind_at_byte token.kind) h.places.1.1.1.1.1.1.0 h.places.1.1.1.1.1.1.1.0

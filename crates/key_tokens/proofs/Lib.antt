@@ -1,3 +1,4 @@
+pub mod BigEndianWords
 pub mod Words
 pub mod Layouts
 pub mod Written

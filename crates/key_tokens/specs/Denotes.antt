@@ -2,7 +2,7 @@
 use Rattle.std.specs.Prelude.{◌≡◌, ◌≢◌, ℕ, Bool, List, Option, None, Some, replicate, is_none, if◌then◌else◌}
 use Rattle.std.specs.Str.{bytes_eq}
 use Rattle.cca_vectors.specs.Checks.{first_failing}
-use Rattle.multi_encipher.specs.Parts.{transport_parts}
+use Rattle.multi_encipher.specs.Bundles.{transport_bundle}
 use Rattle.multi_encipher.specs.Seals.{IsKey, seal, unseal}
 use Rattle.key_tokens.specs.declared.key_token.Age.{Age}
 use Rattle.key_tokens.specs.declared.key_token.Age.TheVariants.{Current, Old}
@@ -11,7 +11,7 @@ use Rattle.key_tokens.specs.declared.key_token.Asked.TheVariants as asked
 use Rattle.key_tokens.specs.declared.key_token.Kind.{Kind}
 use Rattle.key_tokens.specs.declared.key_token.Kind.TheVariants.{Internal, External}
 use Rattle.key_tokens.specs.Layout.{IsToken}
-use Rattle.key_tokens.specs.Parts.{pattern_of_token, sealed_of, vector_bytes_of}
+use Rattle.key_tokens.specs.Fields.{pattern_of_token, sealed_of, vector_bytes_of}
 use Rattle.key_tokens.specs.TokenChecks.{token_checks}
 
 -- a key in clear, of the length that its vector says
@@ -31,10 +31,10 @@ pub record MasterKeys : Type 0 where
 
 -- ---- as a relation
 
--- the bytes are a token of this kind and pattern whose halves are the key enciphered under three parts
-pub record IsTokenOf (kind : Kind) (pattern parts bytes : List ℕ) (clear : ClearKey) : Type 0 where
+-- the bytes are a token of this kind and pattern whose halves are the key enciphered under three bundle
+pub record IsTokenOf (kind : Kind) (pattern bundle bytes : List ℕ) (clear : ClearKey) : Type 0 where
   pub key : IsKey clear.vector clear.key
-  pub token : IsToken bytes (record { kind = kind; pattern = pattern; sealed = seal parts clear.vector clear.key; vector = clear.vector })
+  pub token : IsToken bytes (record { kind = kind; pattern = pattern; sealed = seal bundle clear.vector clear.key; vector = clear.vector })
 
 -- an internal token stands for a key under the master key of the register that has its pattern
 abbrev pub Denotes : MasterKeys → List ℕ → ClearKey → Age → Type 0
@@ -43,7 +43,7 @@ Denotes masters bytes clear Old = (master : MasterKey) × ((masters.former ≡ S
 
 -- an external token stands for a key under a transport key
 abbrev pub DenotesUnder : List ℕ → List ℕ → ClearKey → Type 0
-DenotesUnder transport bytes clear = IsTokenOf External (replicate 8 0) (transport_parts transport) bytes clear
+DenotesUnder transport bytes clear = IsTokenOf External (replicate 8 0) (transport_bundle transport) bytes clear
 
 -- the patterns of two registers differ
 abbrev pub HaveDistinctPatterns : MasterKeys → Type 0
@@ -60,9 +60,9 @@ pub record Denoted : Type 0 where
 abbrev pub is_token : Asked → List ℕ → Bool
 is_token asked bytes = is_none (first_failing (token_checks asked bytes))
 
--- the key whose halves the token holds, enciphered under three parts
+-- the key whose halves the token holds, enciphered under three bundle
 abbrev pub clear_of : List ℕ → List ℕ → ClearKey
-clear_of parts bytes = record { key = unseal parts (vector_bytes_of bytes) (sealed_of bytes); vector = vector_bytes_of bytes }
+clear_of bundle bytes = record { key = unseal bundle (vector_bytes_of bytes) (sealed_of bytes); vector = vector_bytes_of bytes }
 
 -- the token under a register, where it has its pattern, or else another answer
 abbrev pub denoted_or : Option MasterKey → Age → List ℕ → Option Denoted → Option Denoted
@@ -76,7 +76,7 @@ denoted masters bytes =
 
 unfoldable pub denoted_under : List ℕ → List ℕ → Option ClearKey
 denoted_under transport bytes =
-    if is_token asked.External bytes then Some (clear_of (transport_parts transport) bytes) else None
+    if is_token asked.External bytes then Some (clear_of (transport_bundle transport) bytes) else None
 
 -- ---- the relation is the function
 

@@ -1,9 +1,10 @@
 pub mod Denotes
 pub mod Tvv
 pub mod Kinds
-pub mod Parts
+pub mod Fields
 pub mod Layout
 pub mod TokenChecks
+pub use Rattle.byte_lists.specs.Bytes
 pub use Rattle.cca_vectors.specs.Bits
 pub use Rattle.cca_vectors.specs.Checks
 pub use Rattle.cca_vectors.specs.Classes

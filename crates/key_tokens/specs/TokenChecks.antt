@@ -1,13 +1,14 @@
 -- The rules that the 64 bytes of a key token can break, in their order, as tests.
 use Rattle.std.specs.Prelude.{ℕ, Bool, not, ◌&&◌, ◌||◌, List, [], ◌∷◌, ◌++◌, slice_index, slice_range, ◌==◌}
+use Rattle.byte_lists.specs.Bytes.{is_zero}
 use Rattle.cca_vectors.specs.Checks.{Check, check}
 use Rattle.cca_vectors.specs.Vectors.{length_of}
-use Rattle.cca_vectors.specs.VectorChecks.{is_zero, vector_checks}
+use Rattle.cca_vectors.specs.VectorChecks.{vector_checks}
 use Rattle.key_tokens.specs.declared.key_token.Asked.{Asked}
 use Rattle.key_tokens.specs.declared.key_token.TokenFault.{TokenFault}
 use Rattle.key_tokens.specs.declared.key_token.TokenFault.TheVariants.{Kind, Tvv, Version, Flag, Reserved, Parity, AntiVariant, Form}
 use Rattle.key_tokens.specs.Kinds.{is_asked}
-use Rattle.key_tokens.specs.Parts.{vector_bytes_of}
+use Rattle.key_tokens.specs.Fields.{vector_bytes_of}
 use Rattle.key_tokens.specs.Tvv.{word_at, tvv_of}
 
 -- the value that the token says

@@ -1,16 +1,16 @@
 ghost use Rattle.std.specs.Prelude.{◌≡◌, ◌<◌, ◌≤◌, ◌+◌, IfOk, OnOk, IfErr, None, Some, Ok, length, slice_range};
 ghost use Rattle.std.specs.Option.{option_map};
 ghost use Rattle.cca_vectors.specs.Checks.{first_failing};
-ghost use Rattle.cca_vectors.specs.VectorChecks.{is_zero};
 ghost use Rattle.cca_vectors.specs.VectorChecks as vectors;
 ghost use Rattle.key_tokens.specs.declared.key_token.Token.{Token};
 ghost use Rattle.key_tokens.specs.Kinds.{is_asked, kind_at, IsAsked};
-ghost use Rattle.key_tokens.specs.Parts.{token_of, sealed_of, pattern_of_token, vector_bytes_of};
+ghost use Rattle.key_tokens.specs.Fields.{token_of, sealed_of, pattern_of_token, vector_bytes_of};
 ghost use Rattle.key_tokens.specs.Layout.{IsToken};
 ghost use Rattle.key_tokens.specs.TokenChecks.{stored_tvv, has_flag, reserved_is_zero, header_checks, token_checks, rule_of};
 
 use crate::key_token::{Asked, Kind, Token, TokenFault};
 use crate::validation::{tvv, word_at};
+use byte_lists::is_zero;
 use cca_vectors::{Vector, VectorFault, vector_of};
 use multi_encipher::Sealed;
 
@@ -42,12 +42,6 @@ fn kind_at(byte: u8) -> Kind
     } else {
         Kind::External
     }
-}
-
-fn is_zero(bytes: &[u8]) -> bool
-    ensures { result ≡ is_zero bytes.now }
-{
-    bytes.iter().all(|byte| *byte == 0)
 }
 
 fn has_flag(bytes: &[u8; 64]) -> bool
@@ -128,7 +122,8 @@ fn token_fault(fault: VectorFault) -> TokenFault
 fn checked_vector(bytes: &[u8; 64], asked: Asked) -> Result<Vector, TokenFault>
     ensures vector { IfOk result (λ vector. vector ≡ vector_bytes_of bytes.now) }
     ensures accepted { OnOk result (first_failing (token_checks asked bytes.now) ≡ None) }
-    ensures refused { IfErr result (λ fault. first_failing (token_checks asked bytes.now) ≡ Some (rule_of fault)) }
+    ensures refused { IfErr result (λ fault.
+        first_failing (token_checks asked bytes.now) ≡ Some (rule_of fault)) }
 {
     if let Some(fault) = header_fault(bytes, asked) {
         return Err(fault);
@@ -147,9 +142,11 @@ fn checked_vector(bytes: &[u8; 64], asked: Asked) -> Result<Vector, TokenFault>
 pub fn read_token(bytes: &[u8; 64], asked: Asked) -> Result<Token, TokenFault>
     ensures token { IfOk result (λ token. token ≡ token_of bytes.now) }
     ensures accepted { OnOk result (first_failing (token_checks asked bytes.now) ≡ None) }
-    ensures refused { IfErr result (λ fault. first_failing (token_checks asked bytes.now) ≡ Some (rule_of fault)) }
+    ensures refused { IfErr result (λ fault.
+        first_failing (token_checks asked bytes.now) ≡ Some (rule_of fault)) }
     ensures layout { IfOk result (λ token. IsToken bytes.now token × IsAsked asked token.kind) }
-    ensures only { (token : Token) → IsToken bytes.now token → IsAsked asked token.kind → result ≡ Ok token }
+    ensures only { (token : Token) → IsToken bytes.now token → IsAsked asked token.kind
+        → result ≡ Ok token }
 {
     let vector = checked_vector(bytes, asked)?;
     Ok(Token {

@@ -1,17 +1,15 @@
 ghost use Rattle.std.specs.Prelude.{◌≡◌, ◌+◌, ◌≤◌};
 ghost use Rattle.key_tokens.specs.Tvv.{word_at, tvv_of};
 
+use byteorder::{BigEndian, ByteOrder};
+
 /// The word of four bytes from a place on, most significant byte first.
+#[tactic(auto, using(crate::proofs::BigEndianWords::word_is))]
 pub(crate) fn word_at(bytes: &[u8; 64], place: usize) -> u32
     requires { place + 4 ≤ 64 }
     ensures { result ≡ word_at bytes.now place }
 {
-    u32::from_be_bytes([
-        bytes[place],
-        bytes[place + 1],
-        bytes[place + 2],
-        bytes[place + 3],
-    ])
+    BigEndian::read_u32(&bytes[place..place + 4])
 }
 
 /// The token validation value of bytes 0 to 59: the sum of their fifteen big-endian words modulo 2^32.

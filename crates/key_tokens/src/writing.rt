@@ -1,16 +1,18 @@
 //! Tokens as they are written.
 ghost use Rattle.std.specs.Prelude.{◌≡◌, ◌+◌, ◌≤◌, ◌++◌, None, length, take, slice_index};
+ghost use Rattle.byte_lists.specs.Bytes.{IsZero};
 ghost use Rattle.cca_vectors.specs.Checks.{first_failing};
-ghost use Rattle.cca_vectors.specs.Vectors.{length_of, IsValid, IsZero};
+ghost use Rattle.cca_vectors.specs.Vectors.{length_of, IsValid};
 ghost use Rattle.key_tokens.specs.declared.key_token.Asked.{Asked};
 ghost use Rattle.key_tokens.specs.Kinds.{IsAsked, kind_byte};
 ghost use Rattle.key_tokens.specs.Layout.{IsPatternFor, IsToken, contents, layout, made};
-ghost use Rattle.key_tokens.specs.Parts.{token_of};
+ghost use Rattle.key_tokens.specs.Fields.{token_of};
 ghost use Rattle.key_tokens.specs.TokenChecks.{token_checks};
 
 use crate::key_token::{Kind, Token};
 use crate::reading::{EXTERNAL, INTERNAL, KEY_AND_VECTOR, VERSION};
 use crate::validation::tvv;
+use byteorder::{BigEndian, ByteOrder};
 
 fn kind_byte(kind: Kind) -> u8
     ensures { result ≡ kind_byte kind }
@@ -36,7 +38,8 @@ fn append(bytes: &mut [u8; 64], end: usize, piece: &[u8]) -> usize
 fn with_tvv(token: &Token, tvv: u32) -> [u8; 64]
     ensures made { result ≡ contents (layout token.now KEY_AND_VECTOR tvv) }
     ensures valid { IsValid token.now.vector }
-    ensures sized { (length token.now.pattern ≡ 8) × (length token.now.sealed.left ≡ 8) × (length token.now.sealed.right ≡ 8) }
+    ensures sized { (length token.now.pattern ≡ 8)
+        × (length token.now.sealed.left ≡ 8) × (length token.now.sealed.right ≡ 8) }
 {
     let left_vector = token.vector.left();
     let right_vector = token.vector.right();
@@ -61,7 +64,9 @@ fn with_tvv(token: &Token, tvv: u32) -> [u8; 64]
     let end = append(&mut bytes, end, &left_vector);
     let end = append(&mut bytes, end, &right_vector);
     let end = append(&mut bytes, end, &[0; 12]);
-    append(&mut bytes, end, &tvv.to_be_bytes());
+    let mut value = [0; 4];
+    BigEndian::write_u32(&mut value, tvv);
+    append(&mut bytes, end, &value);
     bytes
 }
 
@@ -73,8 +78,9 @@ pub fn write_token(token: &Token) -> [u8; 64]
     ensures made { result ≡ made token.now }
     ensures flag { slice_index result 6 ≡ KEY_AND_VECTOR }
     ensures token { IsToken result token.now }
-    ensures parts { token_of result ≡ token.now }
-    ensures accepted { (asked : Asked) → IsAsked asked token.now.kind → first_failing (token_checks asked result) ≡ None }
+    ensures fields { token_of result ≡ token.now }
+    ensures accepted { (asked : Asked) → IsAsked asked token.now.kind
+        → first_failing (token_checks asked result) ≡ None }
 {
     with_tvv(token, tvv(&with_tvv(token, 0)))
 }

@@ -28,8 +28,8 @@ pub fn first<M: Disk>(
     requires settled { IsSettled (M.medium «module».old) }
     requires loaded { IsLoaded held.now (bench_of lease.old) }
     requires stands { Told (M.medium «module».old) (StandsForLoaded held.now (bench_of lease.old)) }
-    ensures change { ChangesRegisters Action.First held.now (bench_of lease.old) (bench_of lease.new)
-        (M.medium «module».old) (M.medium «module».new) result }
+    ensures change { ChangesRegisters Action.First held.now (bench_of lease.old)
+        (bench_of lease.new) (M.medium «module».old) (M.medium «module».new) result }
     ensures rest { KeepsRest lease.old lease.new }
     ensures cause { HasChangeCause Action.First (masters_in held.now (bench_of lease.old))
         (M.faults «module».old) (M.faults «module».new) result }
@@ -51,8 +51,8 @@ pub fn middle<M: Disk>(
     requires settled { IsSettled (M.medium «module».old) }
     requires loaded { IsLoaded held.now (bench_of lease.old) }
     requires stands { Told (M.medium «module».old) (StandsForLoaded held.now (bench_of lease.old)) }
-    ensures change { ChangesRegisters Action.Middle held.now (bench_of lease.old) (bench_of lease.new)
-        (M.medium «module».old) (M.medium «module».new) result }
+    ensures change { ChangesRegisters Action.Middle held.now (bench_of lease.old)
+        (bench_of lease.new) (M.medium «module».old) (M.medium «module».new) result }
     ensures rest { KeepsRest lease.old lease.new }
     ensures cause { HasChangeCause Action.Middle (masters_in held.now (bench_of lease.old))
         (M.faults «module».old) (M.faults «module».new) result }
@@ -74,8 +74,8 @@ pub fn last<M: Disk>(
     requires settled { IsSettled (M.medium «module».old) }
     requires loaded { IsLoaded held.now (bench_of lease.old) }
     requires stands { Told (M.medium «module».old) (StandsForLoaded held.now (bench_of lease.old)) }
-    ensures change { ChangesRegisters Action.Last held.now (bench_of lease.old) (bench_of lease.new)
-        (M.medium «module».old) (M.medium «module».new) result }
+    ensures change { ChangesRegisters Action.Last held.now (bench_of lease.old)
+        (bench_of lease.new) (M.medium «module».old) (M.medium «module».new) result }
     ensures rest { KeepsRest lease.old lease.new }
     ensures cause { HasChangeCause Action.Last (masters_in held.now (bench_of lease.old))
         (M.faults «module».old) (M.faults «module».new) result }
@@ -98,8 +98,8 @@ pub fn clear<M: Disk>(
     requires settled { IsSettled (M.medium «module».old) }
     requires loaded { IsLoaded held.now (bench_of lease.old) }
     requires stands { Told (M.medium «module».old) (StandsForLoaded held.now (bench_of lease.old)) }
-    ensures change { ChangesRegisters Action.Clear held.now (bench_of lease.old) (bench_of lease.new)
-        (M.medium «module».old) (M.medium «module».new) result }
+    ensures change { ChangesRegisters Action.Clear held.now (bench_of lease.old)
+        (bench_of lease.new) (M.medium «module».old) (M.medium «module».new) result }
     ensures rest { KeepsRest lease.old lease.new }
     ensures cause { HasChangeCause Action.Clear (masters_in held.now (bench_of lease.old))
         (M.faults «module».old) (M.faults «module».new) result }
@@ -123,8 +123,8 @@ pub fn set<M: Disk>(
     requires settled { IsSettled (M.medium «module».old) }
     requires loaded { IsLoaded held.now (bench_of lease.old) }
     requires stands { Told (M.medium «module».old) (StandsForLoaded held.now (bench_of lease.old)) }
-    ensures change { ChangesRegisters Action.Set held.now (bench_of lease.old) (bench_of lease.new)
-        (M.medium «module».old) (M.medium «module».new) result }
+    ensures change { ChangesRegisters Action.Set held.now (bench_of lease.old)
+        (bench_of lease.new) (M.medium «module».old) (M.medium «module».new) result }
     ensures rest { KeepsRest lease.old lease.new }
     ensures cause { HasChangeCause Action.Set (masters_in held.now (bench_of lease.old))
         (M.faults «module».old) (M.faults «module».new) result }
@@ -148,8 +148,8 @@ pub fn change<M: Disk>(
     requires settled { IsSettled (M.medium «module».old) }
     requires loaded { IsLoaded held.now (bench_of lease.old) }
     requires stands { Told (M.medium «module».old) (StandsForLoaded held.now (bench_of lease.old)) }
-    ensures change { ChangesRegisters action held.now (bench_of lease.old) (bench_of lease.new)
-        (M.medium «module».old) (M.medium «module».new) result }
+    ensures change { ChangesRegisters action held.now (bench_of lease.old)
+        (bench_of lease.new) (M.medium «module».old) (M.medium «module».new) result }
     ensures rest { KeepsRest lease.old lease.new }
     ensures cause { HasChangeCause action (masters_in held.now (bench_of lease.old))
         (M.faults «module».old) (M.faults «module».new) result }
@@ -169,8 +169,10 @@ fn store<M: Disk>(
     requires within { 1536 ≤ (M.medium «module».old).size }
     requires settled { IsSettled (M.medium «module».old) }
     requires loaded { IsLoaded next (bench_of lease.old) }
-    ensures changed { (m : Masters) → Told (M.medium «module».old) (λ image. StandsForMasters image m)
-        → ChangesModule m (masters_in next (bench_of lease.old)) (M.medium «module».old) (M.medium «module».new) result }
+    ensures changed { (m : Masters)
+        → Told (M.medium «module».old) (λ image. StandsForMasters image m)
+        → ChangesModule m (masters_in next (bench_of lease.old))
+        (M.medium «module».old) (M.medium «module».new) result }
     ensures cause { HasDiskCause (M.faults «module».old) (M.faults «module».new) result }
     ensures same { IfOk result (λ now. now ≡ next) }
     ensures fault { WhenRefused result ⊥ }

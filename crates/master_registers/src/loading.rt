@@ -23,7 +23,8 @@ use slot_disk::{Cell, Disk, read_cell};
 pub fn load<M: Disk>(module: &mut M, lease: &mut Lease) -> Result<Registers, LoadFault>
     requires within { 1536 ≤ (M.medium «module».old).size }
     ensures loaded { IfOk result (λ held. IsLoaded held (bench_of lease.new)) }
-    ensures stands { IfOk result (λ held. Told (M.medium «module».new) (StandsForLoaded held (bench_of lease.new))) }
+    ensures stands { IfOk result (λ held.
+        Told (M.medium «module».new) (StandsForLoaded held (bench_of lease.new))) }
     ensures damaged { result ≡ Err LoadFault.Damaged → Told (M.medium «module».old) IsDamaged }
     ensures keeps { Keeps (M.medium «module».old) (M.medium «module».new) }
     ensures cause { HasLoadCause (M.faults «module».old) (M.faults «module».new) result }
@@ -38,7 +39,8 @@ pub fn load<M: Disk>(module: &mut M, lease: &mut Lease) -> Result<Registers, Loa
 /// Takes the registers from the body of the workbench, where it reads as some.
 fn read_registers(lease: &mut Lease) -> Option<Registers>
     ensures loaded { IfSome result (λ held. IsLoaded held (bench_of lease.new)) }
-    ensures reads { IfSome result (λ held. ReadsMasters (bench_of lease.old).body (masters_in held (bench_of lease.new))) }
+    ensures reads { IfSome result (λ held.
+        ReadsMasters (bench_of lease.old).body (masters_in held (bench_of lease.new))) }
     ensures damaged { IsNone result → (m : Masters) → ReadsMasters (bench_of lease.old).body m → ⊥ }
     ensures places { KeepsRest lease.old lease.new }
 {
@@ -99,7 +101,8 @@ fn new_state(code: u8) -> NewState
 /// The pattern of a place, where the state byte says that it is full.
 fn pattern_where(lease: &Lease, state: usize, place: MasterPlace) -> Option<Pattern>
     requires { state < 192 }
-    ensures { result ≡ pattern_at (slice_index (bench_of lease.now).body state) (master_of (bench_of lease.now) place) }
+    ensures { let bench = bench_of lease.now in
+        result ≡ pattern_at (slice_index bench.body state) (master_of bench place) }
 {
     if lease.body()[state] == 0 {
         None
@@ -110,7 +113,8 @@ fn pattern_where(lease: &Lease, state: usize, place: MasterPlace) -> Option<Patt
 
 /// Whether old is full only where current is, and then has another pattern.
 fn are_apart(held: &Registers) -> bool
-    ensures { (m : Masters) → held.now ≡ registers_of m → IsTrue result ↔ AreApart m.current m.former }
+    ensures { (m : Masters) → held.now ≡ registers_of m
+        → IsTrue result ↔ AreApart m.current m.former }
 {
     held.old_pattern.is_none()
         || held.current_pattern.is_some() && held.current_pattern != held.old_pattern
@@ -118,5 +122,6 @@ fn are_apart(held: &Registers) -> bool
 
 /// A body reads as at most one set of registers.
 pub fn a_body_reads_as_one()
-    ensures { (bytes : List ℕ) → (m : Masters) → (n : Masters) → ReadsMasters bytes m → ReadsMasters bytes n → m ≡ n }
+    ensures { (bytes : List ℕ) (m n : Masters) → ReadsMasters bytes m → ReadsMasters bytes n
+        → m ≡ n }
 {}

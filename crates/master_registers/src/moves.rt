@@ -11,7 +11,8 @@ use key_cells::{Lease, MasterPlace, Secret};
 /// Moves a master key to another place, and leaves zeros where it was.
 pub(crate) fn move_master(lease: &mut Lease, from: MasterPlace, to: MasterPlace)
     requires { from ≢ to }
-    ensures { lease.new ≡ holding lease.old (with_master (with_master (bench_of lease.old) to (master_of (bench_of lease.old) from)) from (replicate 24 0)) }
+    ensures { let bench = bench_of lease.old in lease.new ≡ holding lease.old
+        (with_master (with_master bench to (master_of bench from)) from (replicate 24 0)) }
 {
     copy_master(lease, from, to);
     clear_master(lease, from);
@@ -19,14 +20,16 @@ pub(crate) fn move_master(lease: &mut Lease, from: MasterPlace, to: MasterPlace)
 
 /// Copies a master key to another place.
 pub(crate) fn copy_master(lease: &mut Lease, from: MasterPlace, to: MasterPlace)
-    ensures { lease.new ≡ holding lease.old (with_master (bench_of lease.old) to (master_of (bench_of lease.old) from)) }
+    ensures { let bench = bench_of lease.old in
+        lease.new ≡ holding lease.old (with_master bench to (master_of bench from)) }
 {
     *lease.master_mut(to) = *lease.master(from);
 }
 
 /// Makes a place zero.
 pub(crate) fn clear_master(lease: &mut Lease, place: MasterPlace)
-    ensures { lease.new ≡ holding lease.old (with_master (bench_of lease.old) place (replicate 24 0)) }
+    ensures { lease.new ≡ holding lease.old
+        (with_master (bench_of lease.old) place (replicate 24 0)) }
 {
     *lease.master_mut(place) = [0; 24];
 }
@@ -34,7 +37,8 @@ pub(crate) fn clear_master(lease: &mut Lease, place: MasterPlace)
 /// Puts the part into the new register, whose place is zero: the XOR with zeros is the part itself.
 pub(crate) fn put_part(lease: &mut Lease)
     requires { (bench_of lease.old).coming ≡ replicate 24 0 }
-    ensures put { lease.new ≡ holding lease.old (record (bench_of lease.old) { coming = (bench_of lease.old).part }) }
+    ensures put { let bench = bench_of lease.old in
+        lease.new ≡ holding lease.old (record bench { coming = bench.part }) }
     ensures bytes { IsMaster (bench_of lease.old).part }
 {
     combine_part(lease);
@@ -42,7 +46,8 @@ pub(crate) fn put_part(lease: &mut Lease)
 
 /// XORs the part into the new register.
 pub(crate) fn combine_part(lease: &mut Lease)
-    ensures combined { lease.new ≡ holding lease.old (record (bench_of lease.old) { coming = xor (bench_of lease.old).coming (bench_of lease.old).part }) }
+    ensures combined { let bench = bench_of lease.old in
+        lease.new ≡ holding lease.old (record bench { coming = xor bench.coming bench.part }) }
     ensures bytes { IsMaster (xor (bench_of lease.old).coming (bench_of lease.old).part) }
     ensures part { length (bench_of lease.old).part ≡ 24 }
 {
@@ -67,7 +72,9 @@ pub(crate) fn put_master(lease: &mut Lease, place: MasterPlace, at: usize)
 /// Copies 24 bytes of the body of a cell, from a byte on, into the place of a master key.
 pub(crate) fn take_master(lease: &mut Lease, place: MasterPlace, at: usize)
     requires { at + 24 ≤ 192 }
-    ensures { lease.new ≡ holding lease.old (with_master (bench_of lease.old) place (slice_range (bench_of lease.old).body at (at + 24))) }
+    ensures { let bench = bench_of lease.old in
+        lease.new ≡ holding lease.old
+        (with_master bench place (slice_range bench.body at (at + 24))) }
 {
     *lease.master_mut(place) = *master_at(lease.body(), at);
 }

@@ -20,7 +20,8 @@ pub(crate) fn prepare(
 ) -> Result<Registers, RegisterFault>
     requires { IsLoaded held.now (bench_of lease.old) }
     ensures loaded { let bench = bench_of lease.old in
-        IfOk result (λ next. Loaded (after_action action bench.part (masters_in held.now bench)) next (bench_of lease.new)) }
+        let next = after_action action bench.part (masters_in held.now bench) in
+        IfOk result (λ told. Loaded next told (bench_of lease.new)) }
     ensures places { KeepsRest lease.old lease.new }
     ensures state { (result ≡ Err RegisterFault.RegisterState)
         ↔ IsTrue (has_wrong_state action (masters_in held.now (bench_of lease.old))) }
@@ -41,7 +42,8 @@ pub(crate) fn prepare(
 fn put_first(lease: &mut Lease, held: &Registers) -> Result<Registers, RegisterFault>
     requires { IsLoaded held.now (bench_of lease.old) }
     ensures loaded { let bench = bench_of lease.old in
-        IfOk result (λ next. Loaded (after_first bench.part (masters_in held.now bench)) next (bench_of lease.new)) }
+        let next = after_first bench.part (masters_in held.now bench) in
+        IfOk result (λ told. Loaded next told (bench_of lease.new)) }
     ensures places { KeepsRest lease.old lease.new }
     ensures state { (result ≡ Err RegisterFault.RegisterState)
         ↔ IsTrue (first_refused (masters_in held.now (bench_of lease.old))) }
@@ -61,7 +63,8 @@ fn combine(lease: &mut Lease, held: &Registers, after: NewState) -> Result<Regis
     requires loaded { IsLoaded held.now (bench_of lease.old) }
     requires state { after ≢ NewState.Empty }
     ensures loaded { let bench = bench_of lease.old in
-        IfOk result (λ next. Loaded (combined after bench.part (masters_in held.now bench)) next (bench_of lease.new)) }
+        let next = combined after bench.part (masters_in held.now bench) in
+        IfOk result (λ told. Loaded next told (bench_of lease.new)) }
     ensures places { KeepsRest lease.old lease.new }
     ensures state { (result ≡ Err RegisterFault.RegisterState)
         ↔ IsTrue (combine_refused (masters_in held.now (bench_of lease.old))) }
@@ -78,7 +81,8 @@ fn combine(lease: &mut Lease, held: &Registers, after: NewState) -> Result<Regis
 
 fn empty_new(lease: &mut Lease, held: &Registers) -> Registers
     requires { IsLoaded held.now (bench_of lease.old) }
-    ensures loaded { Loaded (cleared (masters_in held.now (bench_of lease.old))) result (bench_of lease.new) }
+    ensures loaded { Loaded (cleared (masters_in held.now (bench_of lease.old)))
+        result (bench_of lease.new) }
     ensures places { KeepsRest lease.old lease.new }
 {
     clear_master(lease, MasterPlace::New);

@@ -6,7 +6,7 @@ use Rattle.key_cells.specs.declared.places.KeyPlace.TheVariants as place
 use Rattle.key_cells.specs.declared.schedules.Schedule.{Schedule}
 use Rattle.multi_encipher.specs.declared.halves.Under.{Under}
 use Rattle.multi_encipher.specs.declared.halves.Under.TheVariants.{Current, Old, New, First, Second}
-use Rattle.multi_encipher.specs.Parts.{parts_under, IsElsewhere}
+use Rattle.multi_encipher.specs.Bundles.{bundle_under, IsElsewhere}
 
 pub key_of-with_key : (bench : Bench) (into : KeyPlace) (bytes : List ℕ) → key_of (with_key bench into bytes) into ≡ bytes
 key_of-with_key bench place.First bytes = refl
@@ -14,29 +14,29 @@ key_of-with_key bench place.Second bytes = refl
 key_of-with_key bench place.Key bytes = refl
 key_of-with_key bench place.Fresh bytes = refl
 
--- a key is put elsewhere, and schedules are made: the parts stay
-pub parts-elsewhere : (bench : Bench) (under : Under) (into : KeyPlace) (bytes : List ℕ) (schedules : List Schedule) → IsElsewhere under into
-    → parts_under (record (with_key bench into bytes) { schedules = schedules }) under ≡ parts_under bench under
-parts-elsewhere bench Current place.First bytes schedules h = refl
-parts-elsewhere bench Current place.Second bytes schedules h = refl
-parts-elsewhere bench Current place.Key bytes schedules h = refl
-parts-elsewhere bench Current place.Fresh bytes schedules h = refl
-parts-elsewhere bench Old place.First bytes schedules h = refl
-parts-elsewhere bench Old place.Second bytes schedules h = refl
-parts-elsewhere bench Old place.Key bytes schedules h = refl
-parts-elsewhere bench Old place.Fresh bytes schedules h = refl
-parts-elsewhere bench New place.First bytes schedules h = refl
-parts-elsewhere bench New place.Second bytes schedules h = refl
-parts-elsewhere bench New place.Key bytes schedules h = refl
-parts-elsewhere bench New place.Fresh bytes schedules h = refl
-parts-elsewhere bench First place.First bytes schedules h = absurd (h refl)
-parts-elsewhere bench First place.Second bytes schedules h = refl
-parts-elsewhere bench First place.Key bytes schedules h = refl
-parts-elsewhere bench First place.Fresh bytes schedules h = refl
-parts-elsewhere bench Second place.First bytes schedules h = refl
-parts-elsewhere bench Second place.Second bytes schedules h = absurd (h refl)
-parts-elsewhere bench Second place.Key bytes schedules h = refl
-parts-elsewhere bench Second place.Fresh bytes schedules h = refl
+-- a key is put elsewhere, and schedules are made: the bundle stay
+pub bundle-elsewhere : (bench : Bench) (under : Under) (into : KeyPlace) (bytes : List ℕ) (schedules : List Schedule) → IsElsewhere under into
+    → bundle_under (record (with_key bench into bytes) { schedules = schedules }) under ≡ bundle_under bench under
+bundle-elsewhere bench Current place.First bytes schedules h = refl
+bundle-elsewhere bench Current place.Second bytes schedules h = refl
+bundle-elsewhere bench Current place.Key bytes schedules h = refl
+bundle-elsewhere bench Current place.Fresh bytes schedules h = refl
+bundle-elsewhere bench Old place.First bytes schedules h = refl
+bundle-elsewhere bench Old place.Second bytes schedules h = refl
+bundle-elsewhere bench Old place.Key bytes schedules h = refl
+bundle-elsewhere bench Old place.Fresh bytes schedules h = refl
+bundle-elsewhere bench New place.First bytes schedules h = refl
+bundle-elsewhere bench New place.Second bytes schedules h = refl
+bundle-elsewhere bench New place.Key bytes schedules h = refl
+bundle-elsewhere bench New place.Fresh bytes schedules h = refl
+bundle-elsewhere bench First place.First bytes schedules h = absurd (h refl)
+bundle-elsewhere bench First place.Second bytes schedules h = refl
+bundle-elsewhere bench First place.Key bytes schedules h = refl
+bundle-elsewhere bench First place.Fresh bytes schedules h = refl
+bundle-elsewhere bench Second place.First bytes schedules h = refl
+bundle-elsewhere bench Second place.Second bytes schedules h = absurd (h refl)
+bundle-elsewhere bench Second place.Key bytes schedules h = refl
+bundle-elsewhere bench Second place.Fresh bytes schedules h = refl
 
 pub key_of-schedules : (bench : Bench) (into : KeyPlace) (schedules : List Schedule) → key_of (record bench { schedules = schedules }) into ≡ key_of bench into
 key_of-schedules bench place.First schedules = refl
@@ -44,9 +44,9 @@ key_of-schedules bench place.Second schedules = refl
 key_of-schedules bench place.Key schedules = refl
 key_of-schedules bench place.Fresh schedules = refl
 
-pub parts-schedules : (bench : Bench) (under : Under) (schedules : List Schedule) → parts_under (record bench { schedules = schedules }) under ≡ parts_under bench under
-parts-schedules bench Current schedules = refl
-parts-schedules bench Old schedules = refl
-parts-schedules bench New schedules = refl
-parts-schedules bench First schedules = refl
-parts-schedules bench Second schedules = refl
+pub bundle-schedules : (bench : Bench) (under : Under) (schedules : List Schedule) → bundle_under (record bench { schedules = schedules }) under ≡ bundle_under bench under
+bundle-schedules bench Current schedules = refl
+bundle-schedules bench Old schedules = refl
+bundle-schedules bench New schedules = refl
+bundle-schedules bench First schedules = refl
+bundle-schedules bench Second schedules = refl

@@ -1,3 +1,3 @@
-pub mod MixingLemmas
+pub mod BundleLemmas
 pub mod SealLaws
 pub mod BenchLemmas

@@ -2,33 +2,34 @@
 use Rattle.std.proofs.Common.{◌≡◌, ◌⊎◌, ℕ, ◌+◌, ◌-◌, ◌<◌, ◌≤◌, Bool, true, false, List, [], ◌++◌, length, get_or, take, drop, eqb, refl, sym, ap, ◌∙◌, subst, inl, inr, ⊎_elim, arith}
 use Rattle.std.specs.Prelude.{slice_range, replicate, if◌then◌else◌}
 use Rattle.std.proofs.lemmas.Bool.{eq-eqb, ne_eqb}
-use Rattle.std.proofs.lemmas.List.{append-nil, take-append-drop, take_all, take_at, drop_at, length-take, length-drop, length-append, length-replicate, get_or-replicate, take-take, drop-take, drop_all, ext_get_or, get_or_default}
+use Rattle.std.proofs.lemmas.List.{append-nil, take-append-drop, take_all, take_at, drop_at, length-take, length-drop, length-append, length-replicate, get_or-replicate, take-take, drop-take, drop_all, get_or_default}
 use Rattle.std.proofs.lemmas.List.Elements.{All-take, All-drop, All-append}
-use Rattle.cca_vectors.specs.Vectors.{left_of, right_of, form_of, single_length, length_of, IsZero}
-use Rattle.des_core.specs.Bits.{AreBytes}
+use Rattle.cca_vectors.specs.Vectors.{left_of, right_of, form_of, single_length, length_of}
+use Rattle.byte_lists.specs.Bytes.{AreBytes, IsZero}
+use Rattle.byte_lists.proofs.ByteLemmas.{zeros_of, IsZero-replicate}
 use Rattle.des_core.proofs.ValueLemmas.{bytes-ede, bytes-ded, ded-ede, ede-ded}
 use Rattle.multi_encipher.specs.declared.halves.Sealed.{Sealed}
-use Rattle.multi_encipher.specs.Parts.{key_in, with_zeros}
-use Rattle.multi_encipher.specs.Seals.{mixed_part, sealed_half, opened_half, seal, unseal, IsKey, IsSealed, SealIsOneToOne}
+use Rattle.multi_encipher.specs.Bundles.{key_in, with_zeros}
+use Rattle.multi_encipher.specs.Seals.{variant_key, sealed_half, opened_half, seal, unseal, IsKey, IsSealed, SealIsOneToOne}
 
 -- ---- one half
 
-module _ (parts vector : List ℕ) where
-  pub bytes-sealed_half : (half : List ℕ) → AreBytes 8 (sealed_half parts vector half)
+module _ (bundle vector : List ℕ) where
+  pub bytes-sealed_half : (half : List ℕ) → AreBytes 8 (sealed_half bundle vector half)
   unfolding sealed_half
-  bytes-sealed_half half = bytes-ede (mixed_part parts 0 vector) (mixed_part parts 1 vector) (mixed_part parts 2 vector) half
+  bytes-sealed_half half = bytes-ede (variant_key bundle 0 vector) (variant_key bundle 1 vector) (variant_key bundle 2 vector) half
 
-  pub bytes-opened_half : (sealed : List ℕ) → AreBytes 8 (opened_half parts vector sealed)
+  pub bytes-opened_half : (sealed : List ℕ) → AreBytes 8 (opened_half bundle vector sealed)
   unfolding opened_half
-  bytes-opened_half sealed = bytes-ded (mixed_part parts 0 vector) (mixed_part parts 1 vector) (mixed_part parts 2 vector) sealed
+  bytes-opened_half sealed = bytes-ded (variant_key bundle 0 vector) (variant_key bundle 1 vector) (variant_key bundle 2 vector) sealed
 
-  pub opened_half-sealed_half : (half : List ℕ) → AreBytes 8 half → opened_half parts vector (sealed_half parts vector half) ≡ half
+  pub opened_half-sealed_half : (half : List ℕ) → AreBytes 8 half → opened_half bundle vector (sealed_half bundle vector half) ≡ half
   unfolding sealed_half opened_half
-  opened_half-sealed_half half bytes = ded-ede (mixed_part parts 0 vector) (mixed_part parts 1 vector) (mixed_part parts 2 vector) half bytes
+  opened_half-sealed_half half bytes = ded-ede (variant_key bundle 0 vector) (variant_key bundle 1 vector) (variant_key bundle 2 vector) half bytes
 
-  pub sealed_half-opened_half : (sealed : List ℕ) → AreBytes 8 sealed → sealed_half parts vector (opened_half parts vector sealed) ≡ sealed
+  pub sealed_half-opened_half : (sealed : List ℕ) → AreBytes 8 sealed → sealed_half bundle vector (opened_half bundle vector sealed) ≡ sealed
   unfolding sealed_half opened_half
-  sealed_half-opened_half sealed bytes = ede-ded (mixed_part parts 0 vector) (mixed_part parts 1 vector) (mixed_part parts 2 vector) sealed bytes
+  sealed_half-opened_half sealed bytes = ede-ded (variant_key bundle 0 vector) (variant_key bundle 1 vector) (variant_key bundle 2 vector) sealed bytes
 
 abbrev pub halves_of : List ℕ → List ℕ → Sealed
 halves_of left right = record { left = left; right = right }
@@ -45,32 +46,32 @@ by_test false = inr refl
 pub length_of-cases : (vector : List ℕ) → (length_of vector ≡ 8) ⊎ (length_of vector ≡ 16)
 length_of-cases vector = by_test (eqb (form_of (left_of vector)) single_length)
 
-module _ (parts vector : List ℕ) where
+module _ (bundle vector : List ℕ) where
   pub seal-single : (key : List ℕ) → length_of vector ≡ 8
-      → seal parts vector key ≡ halves_of (sealed_half parts (left_of vector) (slice_range key 0 8)) (replicate 8 0)
+      → seal bundle vector key ≡ halves_of (sealed_half bundle (left_of vector) (slice_range key 0 8)) (replicate 8 0)
   unfolding seal
   seal-single key single =
-      ap {B = Sealed} (λ t. record { left = sealed_half parts (left_of vector) (slice_range key 0 8); right = if t then replicate 8 0 else sealed_half parts (right_of vector) (slice_range key 8 16) })
+      ap {B = Sealed} (λ t. record { left = sealed_half bundle (left_of vector) (slice_range key 0 8); right = if t then replicate 8 0 else sealed_half bundle (right_of vector) (slice_range key 8 16) })
       (eq-eqb (length_of vector) 8 single)
 
   pub seal-double : (key : List ℕ) → length_of vector ≡ 16
-      → seal parts vector key ≡ halves_of (sealed_half parts (left_of vector) (slice_range key 0 8)) (sealed_half parts (right_of vector) (slice_range key 8 16))
+      → seal bundle vector key ≡ halves_of (sealed_half bundle (left_of vector) (slice_range key 0 8)) (sealed_half bundle (right_of vector) (slice_range key 8 16))
   unfolding seal
   seal-double key double =
-      ap {B = Sealed} (λ t. record { left = sealed_half parts (left_of vector) (slice_range key 0 8); right = if t then replicate 8 0 else sealed_half parts (right_of vector) (slice_range key 8 16) })
+      ap {B = Sealed} (λ t. record { left = sealed_half bundle (left_of vector) (slice_range key 0 8); right = if t then replicate 8 0 else sealed_half bundle (right_of vector) (slice_range key 8 16) })
       (ne_eqb (length_of vector) 8 (λ single. omega arith))
 
-  pub unseal-single : (sealed : Sealed) → length_of vector ≡ 8 → unseal parts vector sealed ≡ opened_half parts (left_of vector) sealed.left
+  pub unseal-single : (sealed : Sealed) → length_of vector ≡ 8 → unseal bundle vector sealed ≡ opened_half bundle (left_of vector) sealed.left
   unfolding unseal
   unseal-single sealed single =
-      ap (λ t. opened_half parts (left_of vector) sealed.left ++ (if t then [] else opened_half parts (right_of vector) sealed.right)) (eq-eqb (length_of vector) 8 single)
-      ∙ append-nil (opened_half parts (left_of vector) sealed.left)
+      ap (λ t. opened_half bundle (left_of vector) sealed.left ++ (if t then [] else opened_half bundle (right_of vector) sealed.right)) (eq-eqb (length_of vector) 8 single)
+      ∙ append-nil (opened_half bundle (left_of vector) sealed.left)
 
   pub unseal-double : (sealed : Sealed) → length_of vector ≡ 16
-      → unseal parts vector sealed ≡ opened_half parts (left_of vector) sealed.left ++ opened_half parts (right_of vector) sealed.right
+      → unseal bundle vector sealed ≡ opened_half bundle (left_of vector) sealed.left ++ opened_half bundle (right_of vector) sealed.right
   unfolding unseal
   unseal-double sealed double =
-      ap (λ t. opened_half parts (left_of vector) sealed.left ++ (if t then [] else opened_half parts (right_of vector) sealed.right))
+      ap (λ t. opened_half bundle (left_of vector) sealed.left ++ (if t then [] else opened_half bundle (right_of vector) sealed.right))
       (ne_eqb (length_of vector) 8 (λ single. omega arith))
 
 -- ---- pieces of bytes
@@ -106,32 +107,27 @@ same_halves sealed left right lefts rights =
     let e : halves_of left right ≡ halves_of sealed.left sealed.right = cc in
     e
 
-zeros_from : (bytes : List ℕ) → length bytes ≡ 8 → IsZero bytes → bytes ≡ replicate 8 0
-zeros_from bytes long zero =
-    ext_get_or 0 bytes (replicate 8 0) (long ∙ sym (length-replicate {A = ℕ} 8 0))
-    (λ i within. zero i 0 within ∙ sym (get_or-replicate 8 i 0 0 (omega arith)))
-
 -- ---- the law
 
-module _ (parts vector : List ℕ) where
-  one : length_of vector ≡ 8 → SealIsOneToOne parts vector
+module _ (bundle vector : List ℕ) where
+  one : length_of vector ≡ 8 → SealIsOneToOne bundle vector
   one single = record {
-    sealed = λ key bytes. subst (IsSealed vector) (sym (seal-single parts vector key single))
-        (record { left = bytes-sealed_half parts (left_of vector) (slice_range key 0 8); right = all_zeros 8; single = λ _ k d within. get_or-replicate 8 k 0 d within });
+    sealed = λ key bytes. subst (IsSealed vector) (sym (seal-single bundle vector key single))
+        (record { left = bytes-sealed_half bundle (left_of vector) (slice_range key 0 8); right = all_zeros 8; single = λ _. IsZero-replicate 8 });
     undone = λ key bytes.
-        ap (unseal parts vector) (seal-single parts vector key single)
-        ∙ unseal-single parts vector (halves_of (sealed_half parts (left_of vector) (slice_range key 0 8)) (replicate 8 0)) single
-        ∙ opened_half-sealed_half parts (left_of vector) (slice_range key 0 8) (subst (AreBytes 8) (sym (whole key (eight key bytes))) (eight key bytes))
+        ap (unseal bundle vector) (seal-single bundle vector key single)
+        ∙ unseal-single bundle vector (halves_of (sealed_half bundle (left_of vector) (slice_range key 0 8)) (replicate 8 0)) single
+        ∙ opened_half-sealed_half bundle (left_of vector) (slice_range key 0 8) (subst (AreBytes 8) (sym (whole key (eight key bytes))) (eight key bytes))
         ∙ whole key (eight key bytes);
-    opened = λ sealed halves. subst (λ n. AreBytes n (unseal parts vector sealed)) (sym single)
-        (subst (AreBytes 8) (sym (unseal-single parts vector sealed single)) (bytes-opened_half parts (left_of vector) sealed.left));
+    opened = λ sealed halves. subst (λ n. AreBytes n (unseal bundle vector sealed)) (sym single)
+        (subst (AreBytes 8) (sym (unseal-single bundle vector sealed single)) (bytes-opened_half bundle (left_of vector) sealed.left));
     redone = λ sealed halves.
-        ap (seal parts vector) (unseal-single parts vector sealed single)
-        ∙ seal-single parts vector (opened_half parts (left_of vector) sealed.left) single
-        ∙ same_halves sealed (sealed_half parts (left_of vector) (slice_range (opened_half parts (left_of vector) sealed.left) 0 8)) (replicate 8 0)
-        (ap (sealed_half parts (left_of vector)) (whole (opened_half parts (left_of vector) sealed.left) (bytes-opened_half parts (left_of vector) sealed.left))
-        ∙ sealed_half-opened_half parts (left_of vector) sealed.left halves.left)
-        (sym (zeros_from sealed.right halves.right.size (halves.single single)));
+        ap (seal bundle vector) (unseal-single bundle vector sealed single)
+        ∙ seal-single bundle vector (opened_half bundle (left_of vector) sealed.left) single
+        ∙ same_halves sealed (sealed_half bundle (left_of vector) (slice_range (opened_half bundle (left_of vector) sealed.left) 0 8)) (replicate 8 0)
+        (ap (sealed_half bundle (left_of vector)) (whole (opened_half bundle (left_of vector) sealed.left) (bytes-opened_half bundle (left_of vector) sealed.left))
+        ∙ sealed_half-opened_half bundle (left_of vector) sealed.left halves.left)
+        (sym (zeros_of 8 sealed.right halves.right.size (halves.single single)));
   }
     where
       eight : (key : List ℕ) → IsKey vector key → AreBytes 8 key
@@ -140,47 +136,47 @@ module _ (parts vector : List ℕ) where
       whole : (key : List ℕ) → AreBytes 8 key → slice_range key 0 8 ≡ key
       whole key bytes = take_all 8 key (omega arith)
 
-  two : length_of vector ≡ 16 → SealIsOneToOne parts vector
+  two : length_of vector ≡ 16 → SealIsOneToOne bundle vector
   two double = record {
-    sealed = λ key bytes. subst (IsSealed vector) (sym (seal-double parts vector key double))
+    sealed = λ key bytes. subst (IsSealed vector) (sym (seal-double bundle vector key double))
         (record {
-          left = bytes-sealed_half parts (left_of vector) (slice_range key 0 8);
-          right = bytes-sealed_half parts (right_of vector) (slice_range key 8 16);
+          left = bytes-sealed_half bundle (left_of vector) (slice_range key 0 8);
+          right = bytes-sealed_half bundle (right_of vector) (slice_range key 8 16);
           single = λ single. absurd (omega arith);
         });
     undone = λ key bytes.
-        ap (unseal parts vector) (seal-double parts vector key double)
-        ∙ unseal-double parts vector (halves_of (sealed_half parts (left_of vector) (slice_range key 0 8)) (sealed_half parts (right_of vector) (slice_range key 8 16))) double
-        ∙ ap (λ left. left ++ opened_half parts (right_of vector) (sealed_half parts (right_of vector) (slice_range key 8 16)))
-        (opened_half-sealed_half parts (left_of vector) (slice_range key 0 8) (bytes_front key (sixteen key bytes)))
+        ap (unseal bundle vector) (seal-double bundle vector key double)
+        ∙ unseal-double bundle vector (halves_of (sealed_half bundle (left_of vector) (slice_range key 0 8)) (sealed_half bundle (right_of vector) (slice_range key 8 16))) double
+        ∙ ap (λ left. left ++ opened_half bundle (right_of vector) (sealed_half bundle (right_of vector) (slice_range key 8 16)))
+        (opened_half-sealed_half bundle (left_of vector) (slice_range key 0 8) (bytes_front key (sixteen key bytes)))
         ∙ ap (λ right. slice_range key 0 8 ++ right)
-        (opened_half-sealed_half parts (right_of vector) (slice_range key 8 16) (bytes_back key (sixteen key bytes)))
+        (opened_half-sealed_half bundle (right_of vector) (slice_range key 8 16) (bytes_back key (sixteen key bytes)))
         ∙ halves_joined key (sixteen key bytes).size;
-    opened = λ sealed halves. subst (λ n. AreBytes n (unseal parts vector sealed)) (sym double)
-        (subst (AreBytes 16) (sym (unseal-double parts vector sealed double))
-        (bytes_joined (opened_half parts (left_of vector) sealed.left) (opened_half parts (right_of vector) sealed.right)
-        (bytes-opened_half parts (left_of vector) sealed.left) (bytes-opened_half parts (right_of vector) sealed.right)));
+    opened = λ sealed halves. subst (λ n. AreBytes n (unseal bundle vector sealed)) (sym double)
+        (subst (AreBytes 16) (sym (unseal-double bundle vector sealed double))
+        (bytes_joined (opened_half bundle (left_of vector) sealed.left) (opened_half bundle (right_of vector) sealed.right)
+        (bytes-opened_half bundle (left_of vector) sealed.left) (bytes-opened_half bundle (right_of vector) sealed.right)));
     redone = λ sealed halves.
-        ap (seal parts vector) (unseal-double parts vector sealed double)
-        ∙ seal-double parts vector (opened_half parts (left_of vector) sealed.left ++ opened_half parts (right_of vector) sealed.right) double
+        ap (seal bundle vector) (unseal-double bundle vector sealed double)
+        ∙ seal-double bundle vector (opened_half bundle (left_of vector) sealed.left ++ opened_half bundle (right_of vector) sealed.right) double
         ∙ same_halves sealed
-        (sealed_half parts (left_of vector) (slice_range (opened_half parts (left_of vector) sealed.left ++ opened_half parts (right_of vector) sealed.right) 0 8))
-        (sealed_half parts (right_of vector) (slice_range (opened_half parts (left_of vector) sealed.left ++ opened_half parts (right_of vector) sealed.right) 8 16))
-        (ap (sealed_half parts (left_of vector))
-        (take_at (opened_half parts (left_of vector) sealed.left) (opened_half parts (right_of vector) sealed.right) 8
-        (bytes-opened_half parts (left_of vector) sealed.left).size)
-        ∙ sealed_half-opened_half parts (left_of vector) sealed.left halves.left)
-        (ap (sealed_half parts (right_of vector))
-        (ap (take 8) (drop_at (opened_half parts (left_of vector) sealed.left) (opened_half parts (right_of vector) sealed.right) 8
-        (bytes-opened_half parts (left_of vector) sealed.left).size)
-        ∙ take_all 8 (opened_half parts (right_of vector) sealed.right) (omega (arith, (bytes-opened_half parts (right_of vector) sealed.right).size)))
-        ∙ sealed_half-opened_half parts (right_of vector) sealed.right halves.right);
+        (sealed_half bundle (left_of vector) (slice_range (opened_half bundle (left_of vector) sealed.left ++ opened_half bundle (right_of vector) sealed.right) 0 8))
+        (sealed_half bundle (right_of vector) (slice_range (opened_half bundle (left_of vector) sealed.left ++ opened_half bundle (right_of vector) sealed.right) 8 16))
+        (ap (sealed_half bundle (left_of vector))
+        (take_at (opened_half bundle (left_of vector) sealed.left) (opened_half bundle (right_of vector) sealed.right) 8
+        (bytes-opened_half bundle (left_of vector) sealed.left).size)
+        ∙ sealed_half-opened_half bundle (left_of vector) sealed.left halves.left)
+        (ap (sealed_half bundle (right_of vector))
+        (ap (take 8) (drop_at (opened_half bundle (left_of vector) sealed.left) (opened_half bundle (right_of vector) sealed.right) 8
+        (bytes-opened_half bundle (left_of vector) sealed.left).size)
+        ∙ take_all 8 (opened_half bundle (right_of vector) sealed.right) (omega (arith, (bytes-opened_half bundle (right_of vector) sealed.right).size)))
+        ∙ sealed_half-opened_half bundle (right_of vector) sealed.right halves.right);
   }
     where
       sixteen : (key : List ℕ) → IsKey vector key → AreBytes 16 key
       sixteen key bytes = subst (λ n. AreBytes n key) double bytes
 
-  pub one_to_one : SealIsOneToOne parts vector
+  pub one_to_one : SealIsOneToOne bundle vector
   one_to_one = ⊎_elim one two (length_of-cases vector)
 
 -- ---- a key in 16 bytes
@@ -204,43 +200,43 @@ key_in-with_zeros : (vector key : List ℕ) → IsKey vector key → key_in vect
 key_in-with_zeros vector key bytes = take_at key (replicate (16 - length_of vector) 0) (length_of vector - 0) (omega (arith, bytes.size))
 
 -- what was put in a place is sealed again to the halves that it came from
-pub sealed_again : (parts vector place : List ℕ) (sealed : Sealed) → IsSealed vector sealed → place ≡ with_zeros vector (unseal parts vector sealed)
-    → seal parts vector (key_in vector place) ≡ sealed
-sealed_again parts vector place sealed halves is =
-    ap (λ bytes. seal parts vector (key_in vector bytes)) is
-    ∙ ap (seal parts vector) (key_in-with_zeros vector (unseal parts vector sealed) ((one_to_one parts vector).opened sealed halves))
-    ∙ (one_to_one parts vector).redone sealed halves
+pub sealed_again : (bundle vector place : List ℕ) (sealed : Sealed) → IsSealed vector sealed → place ≡ with_zeros vector (unseal bundle vector sealed)
+    → seal bundle vector (key_in vector place) ≡ sealed
+sealed_again bundle vector place sealed halves is =
+    ap (λ bytes. seal bundle vector (key_in vector bytes)) is
+    ∙ ap (seal bundle vector) (key_in-with_zeros vector (unseal bundle vector sealed) ((one_to_one bundle vector).opened sealed halves))
+    ∙ (one_to_one bundle vector).redone sealed halves
 
 -- the place of a single-length key, and of a double-length one
-pub single_put : (parts vector old : List ℕ) (sealed : Sealed) → length_of vector ≡ 8
-    → take 8 (take 0 old ++ opened_half parts (left_of vector) sealed.left ++ drop (0 + 8) old) ++ replicate 8 0 ≡ with_zeros vector (unseal parts vector sealed)
-single_put parts vector old sealed single =
+pub single_put : (bundle vector old : List ℕ) (sealed : Sealed) → length_of vector ≡ 8
+    → take 8 (take 0 old ++ opened_half bundle (left_of vector) sealed.left ++ drop (0 + 8) old) ++ replicate 8 0 ≡ with_zeros vector (unseal bundle vector sealed)
+single_put bundle vector old sealed single =
     let rest : 8 ≡ 16 - length_of vector = omega arith in
     ap (λ front. front ++ replicate 8 0)
-    (take_at (opened_half parts (left_of vector) sealed.left) (drop 8 old) 8 (bytes-opened_half parts (left_of vector) sealed.left).size)
-    ∙ ap (λ front. front ++ replicate 8 0) (sym (unseal-single parts vector sealed single))
-    ∙ ap (λ n. unseal parts vector sealed ++ replicate n 0) rest
+    (take_at (opened_half bundle (left_of vector) sealed.left) (drop 8 old) 8 (bytes-opened_half bundle (left_of vector) sealed.left).size)
+    ∙ ap (λ front. front ++ replicate 8 0) (sym (unseal-single bundle vector sealed single))
+    ∙ ap (λ n. unseal bundle vector sealed ++ replicate n 0) rest
 
-pub double_put : (parts vector old place right : List ℕ) (sealed : Sealed) → length_of vector ≡ 16 → length place ≡ 16
-    → place ≡ take 0 old ++ opened_half parts (left_of vector) sealed.left ++ drop (0 + 8) old
-    → right ≡ opened_half parts (right_of vector) sealed.right
-    → take 8 place ++ right ++ drop (8 + 8) place ≡ with_zeros vector (unseal parts vector sealed)
-double_put parts vector old place right sealed double long is right_is =
+pub double_put : (bundle vector old place right : List ℕ) (sealed : Sealed) → length_of vector ≡ 16 → length place ≡ 16
+    → place ≡ take 0 old ++ opened_half bundle (left_of vector) sealed.left ++ drop (0 + 8) old
+    → right ≡ opened_half bundle (right_of vector) sealed.right
+    → take 8 place ++ right ++ drop (8 + 8) place ≡ with_zeros vector (unseal bundle vector sealed)
+double_put bundle vector old place right sealed double long is right_is =
     let none : 16 - length_of vector ≡ 0 = omega arith in
-    let left : List ℕ = opened_half parts (left_of vector) sealed.left in
+    let left : List ℕ = opened_half bundle (left_of vector) sealed.left in
     let front : take 8 place ≡ left =
-    ap (take 8) is ∙ take_at left (drop 8 old) 8 (bytes-opened_half parts (left_of vector) sealed.left).size in
+    ap (take 8) is ∙ take_at left (drop 8 old) 8 (bytes-opened_half bundle (left_of vector) sealed.left).size in
     ap (λ rest. take 8 place ++ right ++ rest) (drop_all 16 place (omega arith))
     ∙ ap (λ begin. begin ++ right ++ []) front
     ∙ ap (λ back. left ++ back ++ []) right_is
-    ∙ ap (λ key. key ++ []) (sym (unseal-double parts vector sealed double))
-    ∙ ap (λ n. unseal parts vector sealed ++ replicate n 0) (sym none)
+    ∙ ap (λ key. key ++ []) (sym (unseal-double bundle vector sealed double))
+    ∙ ap (λ n. unseal bundle vector sealed ++ replicate n 0) (sym none)
 
 -- a right half that is zero, and halves of a double-length key
 pub single_sealed : (vector : List ℕ) (sealed : Sealed) → length_of vector ≡ 8 → AreBytes 8 sealed.left → length sealed.right ≡ 8
     → (length_of vector ≡ 8 → IsZero sealed.right) → IsSealed vector sealed
 single_sealed vector sealed single left right_long zero =
-    record { left = left; right = subst (AreBytes 8) (sym (zeros_from sealed.right right_long (zero single))) (all_zeros 8); single = zero }
+    record { left = left; right = subst (AreBytes 8) (sym (zeros_of 8 sealed.right right_long (zero single))) (all_zeros 8); single = zero }
 
 pub double_sealed : (vector : List ℕ) (sealed : Sealed) → length_of vector ≡ 16 → AreBytes 8 sealed.left → AreBytes 8 sealed.right → IsSealed vector sealed
 double_sealed vector sealed double left right = record { left = left; right = right; single = λ single. absurd (omega arith) }
@@ -251,7 +247,7 @@ bytes_from n bytes long fits = record { size = long; each = λ k d within. subst
 
 -- halves as they are made
 pub single_made : (vector left : List ℕ) → AreBytes 8 left → IsSealed vector (halves_of left (replicate 8 0))
-single_made vector left bytes = record { left = bytes; right = all_zeros 8; single = λ _ k d within. get_or-replicate 8 k 0 d within }
+single_made vector left bytes = record { left = bytes; right = all_zeros 8; single = λ _. IsZero-replicate 8 }
 
 pub double_made : (vector left right : List ℕ) → length_of vector ≡ 16 → AreBytes 8 left → AreBytes 8 right → IsSealed vector (halves_of left right)
 double_made vector left right double lefts rights = record { left = lefts; right = rights; single = λ single. absurd (omega arith) }

@@ -1,4 +1,4 @@
-//! Multiple encipherment: the halves of a key, each enciphered by itself under three parts that are XORed
+//! Multiple encipherment: the halves of a key, each enciphered by itself under the three keys of a bundle, each XORed
 //! with the control vector of that half.
 #![tactic(auto)]
 

@@ -1,16 +1,16 @@
 //! A key in the workbench enciphered, and put back.
 ghost use Rattle.std.specs.Prelude.{◌≡◌, ◌+◌, ◌≤◌, ℕ, List, ◌++◌, length, slice_range, take, drop, replicate};
-ghost use Rattle.key_cells.specs.Bench.{Bench, key_of, with_key};
-ghost use Rattle.key_cells.specs.Lease.{bench_of, holding};
-ghost use Rattle.key_cells.specs.Secret.{bytes_of};
-ghost use Rattle.cca_vectors.specs.Vectors.{length_of, IsZero};
-ghost use Rattle.des_core.specs.Bits.{AreBytes};
-ghost use Rattle.multi_encipher.specs.Parts.{parts_under, IsElsewhere, key_in, with_zeros};
+ghost use Rattle.key_cells.specs.Bench.{Bench, key_of};
+ghost use Rattle.key_cells.specs.Lease.{bench_of};
+ghost use Rattle.cca_vectors.specs.Vectors.{length_of};
+ghost use Rattle.byte_lists.specs.Bytes.{AreBytes, IsZero};
+ghost use Rattle.multi_encipher.specs.Bundles.{ChangesKeyAt, ChangesSchedules, bundle_under, IsElsewhere, key_in, with_zeros};
 ghost use Rattle.multi_encipher.specs.Seals.{IsSealed, SealIsOneToOne, opened_half, sealed_half};
 ghost use Rattle.multi_encipher.specs.Seals as seals;
 
 use crate::halves::{Sealed, Under};
 use crate::mixing::make_schedules;
+use byte_lists::put_secret;
 use cca_vectors::Vector;
 use des_core::{ded, ede};
 use key_cells::{KeyPlace, Lease, Secret};
@@ -28,17 +28,6 @@ fn half_of(key: &[u8; 16], at: usize) -> &[u8; 8]
     key[at..at + 8].first_chunk::<8>().unwrap()
 }
 
-/// Copies a half of a key into 16 bytes.
-fn put_half(half: &Secret<'_, 8>, place: &mut [u8; 16], at: usize)
-    requires { at + 8 ≤ 16 }
-    ensures put { place.new ≡ take at place.old ++ take 8 (bytes_of half.now) ++ drop (at + 8) place.old }
-    ensures size { length place.new ≡ 16 }
-{
-    for byte in 0..8 {
-        place[at + byte] = half.byte(byte);
-    }
-}
-
 /// Makes the last 8 of 16 bytes zero.
 fn put_zeros(place: &mut [u8; 16])
     ensures { place.new ≡ take 8 place.old ++ replicate 8 0 }
@@ -49,8 +38,10 @@ fn put_zeros(place: &mut [u8; 16])
 /// Enciphers a half of the key in the place `Key`.
 fn enciphered_half(lease: &mut Lease, under: Under, vector: &[u8; 8], at: usize) -> [u8; 8]
     requires { at + 8 ≤ 16 }
-    ensures value { result ≡ sealed_half (parts_under (bench_of lease.old) under) vector.now (slice_range (bench_of lease.old).key at (at + 8)) }
-    ensures stays { lease.new ≡ holding lease.old (record (bench_of lease.old) { schedules = (bench_of lease.new).schedules }) }
+    ensures value { let bench = bench_of lease.old in
+        result ≡ sealed_half (bundle_under bench under) vector.now
+        (slice_range bench.key at (at + 8)) }
+    ensures stays { ChangesSchedules lease.old lease.new }
 {
     make_schedules(lease, under, vector);
     ede(lease.schedules(), half_of(lease.key(KeyPlace::Key), at))
@@ -66,24 +57,28 @@ fn put_deciphered_half(
     at: usize,
 )
     requires { at + 8 ≤ 16 }
-    ensures key { key_of (bench_of lease.new) into ≡ take at (key_of (bench_of lease.old) into) ++ opened_half (parts_under (bench_of lease.old) under) vector.now sealed.now ++ drop (at + 8) (key_of (bench_of lease.old) into) }
+    ensures key { let bench = bench_of lease.old in
+        key_of (bench_of lease.new) into ≡ take at (key_of bench into)
+        ++ opened_half (bundle_under bench under) vector.now sealed.now
+        ++ drop (at + 8) (key_of bench into) }
     ensures size { length (key_of (bench_of lease.new) into) ≡ 16 }
     ensures bytes { AreBytes 8 sealed.now }
-    ensures stays { lease.new ≡ holding lease.old (record (with_key (bench_of lease.old) into (key_of (bench_of lease.new) into)) { schedules = (bench_of lease.new).schedules }) }
+    ensures stays { ChangesKeyAt into lease.old lease.new }
 {
     make_schedules(lease, under, vector);
     let mut clear = ded(lease.schedules(), sealed);
     let half = Secret::guard(&mut clear);
-    put_half(&half, lease.key_mut(into), at);
+    put_secret(lease.key_mut(into), at, &half);
 }
 
 /// Enciphers the key in the place `Key`, of the length that the vector says, under the key in a place. Each half
-/// is enciphered by itself, under three parts that are XORed with its vector; the right half of a single-length
+/// is enciphered by itself, under the three keys of the bundle, each XORed with its vector; the right half of a single-length
 /// key is zero. Only the schedules of the lease change.
 pub fn seal(lease: &mut Lease, under: Under, vector: &Vector) -> Sealed
-    ensures sealed { result ≡ seals.seal (parts_under (bench_of lease.old) under) vector.now (key_in vector.now (bench_of lease.old).key) }
+    ensures sealed { let bench = bench_of lease.old in
+        result ≡ seals.seal (bundle_under bench under) vector.now (key_in vector.now bench.key) }
     ensures halves { IsSealed vector.now result }
-    ensures stays { lease.new ≡ holding lease.old (record (bench_of lease.old) { schedules = (bench_of lease.new).schedules }) }
+    ensures stays { ChangesSchedules lease.old lease.new }
 {
     let left_vector = vector.left();
     let right_vector = vector.right();
@@ -102,9 +97,13 @@ pub fn seal(lease: &mut Lease, under: Under, vector: &Vector) -> Sealed
 pub fn unseal(lease: &mut Lease, under: Under, vector: &Vector, sealed: &Sealed, into: KeyPlace)
     requires elsewhere { IsElsewhere under into }
     requires single { length_of vector.now ≡ 8 → IsZero sealed.now.right }
-    ensures key { key_of (bench_of lease.new) into ≡ with_zeros vector.now (seals.unseal (parts_under (bench_of lease.old) under) vector.now sealed.now) }
-    ensures sealed { seals.seal (parts_under (bench_of lease.old) under) vector.now (key_in vector.now (key_of (bench_of lease.new) into)) ≡ sealed.now }
-    ensures stays { lease.new ≡ holding lease.old (record (with_key (bench_of lease.old) into (key_of (bench_of lease.new) into)) { schedules = (bench_of lease.new).schedules }) }
+    ensures key { let bundle = bundle_under (bench_of lease.old) under in
+        key_of (bench_of lease.new) into
+        ≡ with_zeros vector.now (seals.unseal bundle vector.now sealed.now) }
+    ensures sealed { let bundle = bundle_under (bench_of lease.old) under in
+        seals.seal bundle vector.now (key_in vector.now (key_of (bench_of lease.new) into))
+        ≡ sealed.now }
+    ensures stays { ChangesKeyAt into lease.old lease.new }
 {
     let left_vector = vector.left();
     let right_vector = vector.right();
@@ -116,7 +115,7 @@ pub fn unseal(lease: &mut Lease, under: Under, vector: &Vector, sealed: &Sealed,
     }
 }
 
-/// Under given parts and vector, sealing is one to one from the keys of the vector's length onto the halves.
+/// Under a given bundle and vector, sealing is one to one from the keys of the vector's length onto the halves.
 pub fn seal_is_one_to_one()
-    ensures { (parts vector : List ℕ) → SealIsOneToOne parts vector }
+    ensures { (bundle vector : List ℕ) → SealIsOneToOne bundle vector }
 {}

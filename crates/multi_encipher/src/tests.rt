@@ -1,6 +1,7 @@
 ghost use Rattle.std.specs.Prelude.{◌≡◌};
-ghost use Rattle.cca_vectors.specs.Vectors.{length_of, IsZero};
-ghost use Rattle.multi_encipher.specs.Parts.{IsElsewhere};
+ghost use Rattle.cca_vectors.specs.Vectors.{length_of};
+ghost use Rattle.byte_lists.specs.Bytes.{IsZero};
+ghost use Rattle.multi_encipher.specs.Bundles.{IsElsewhere};
 
 use super::*;
 use cca_vectors::{Vector, vector_of};
@@ -23,7 +24,7 @@ fn vector(rt: &impl Abort, left: &[u8; 8], right: &[u8; 8]) -> Vector {
     vector_of(&bytes).expect(rt, "a control vector")
 }
 
-/// Puts a master key of which the first two parts are the same.
+/// Puts a master key of which the first two bundle are the same.
 fn put_master(lease: &mut Lease, third: &[u8; 8]) {
     let master = lease.master_mut(MasterPlace::Current);
     for at in 0..16 {
@@ -54,7 +55,7 @@ fn a_zero_key_under_a_transport_key(rt: HostRuntime) {
     comes_back(&rt, &mut lease, Under::First, &vector, &sealed);
 }
 
-/// The first two parts undo each other, and the vector makes the third part zero.
+/// The first two bundle undo each other, and the vector makes the third part zero.
 #[test]
 fn a_zero_key_under_a_master_key(rt: HostRuntime) {
     let mut bench = Workbench::new();

@@ -23,7 +23,8 @@ Moves true old now =
     (part : List ℕ) × NoNewline part × (old.pending ≡ part ++ newline ∷ now.pending)
     × (now ≡ record old { line = take line_room (old.line ++ part); pending = now.pending })
 Moves false old now =
-    NoNewline old.pending × (now ≡ record old { line = take line_room (old.line ++ old.pending); pending = [] })
+    NoNewline old.pending
+    × (now ≡ record old { line = take line_room (old.line ++ old.pending); pending = [] })
 
 -- a read of the source, whose bytes are pending
 pub record Refills (before after : Option (List ℕ)) (old now : Reading) : Type 0 where
@@ -43,7 +44,8 @@ pub record Gathers (ahead kept rest : List ℕ) : Type 0 where
 
 -- what was gathered since the reading `old`; `cut` is the newline that ended the line, or nothing
 pub record Gathering (cut : List ℕ) (before after : Option (List ℕ)) (old now : Reading) : Type 0 where
-  pub told : WhereTold before after (λ x y. Gathers (old.pending ++ x) now.line (cut ++ now.pending ++ y))
+  pub told : WhereTold before after (λ x y.
+      Gathers (old.pending ++ x) now.line (cut ++ now.pending ++ y))
   pub counted : WhereTold before after (λ x y. now.taken + length y ≡ old.taken + length x)
   pub clean : NoNewline now.line
   pub fewer : bytes_ahead now + length now.line + length cut ≤ bytes_ahead old
@@ -60,6 +62,7 @@ cut_of (Err fault) = []
 
 -- the answer for what was gathered, and the line that stays
 abbrev pub Judges : Bool → Taken → Reading → Reading → Type 0
-Judges whole Line old now = (now ≡ old) × (length old.line ≤ line_limit) × (whole ≡ false → 0 < length old.line)
+Judges whole Line old now =
+    (now ≡ old) × (length old.line ≤ line_limit) × (whole ≡ false → 0 < length old.line)
 Judges whole TooLong old now = (now ≡ record old { line = [] }) × (line_limit < length old.line)
 Judges whole End old now = (now ≡ old) × (whole ≡ false) × (old.line ≡ [])

@@ -41,7 +41,8 @@ pub record TakesLine (ahead line rest : List ℕ) (ended : Bool) : Type 0 where
   pub bytes : (ahead ≡ line ++ newline ∷ rest) ⊎ ((ahead ≡ line) × (rest ≡ []) × IsTrue ended)
   pub clean : NoNewline line
 
--- what an answer says of the bytes ahead before the call, the reading after it and the bytes ahead then
+-- what an answer says of the bytes ahead before the call, the reading after it and the bytes ahead
+-- then
 abbrev pub Takes : Taken → List ℕ → Reading → List ℕ → Type 0
 Takes Line ahead now rest = TakesLine ahead now.line rest now.ended × (length now.line ≤ line_limit)
 Takes TooLong ahead now rest =

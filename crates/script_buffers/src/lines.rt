@@ -159,7 +159,10 @@ impl LineBuffer {
     // Moves the first pending bytes to the line, of which `LINE_ROOM` bytes are kept.
     fn keep(&mut self, count: usize)
         requires { count ≤ length self.old.pending }
-        ensures { self.new ≡ record self.old { line = take line_room (self.old.line ++ take count self.old.pending); pending = drop count self.old.pending } }
+        ensures { self.new ≡ record self.old {
+          line = take line_room (self.old.line ++ take count self.old.pending);
+          pending = drop count self.old.pending;
+        } }
     {
         let kept = count.min(LINE_ROOM - self.line.len());
         append(
@@ -174,7 +177,8 @@ impl LineBuffer {
         requires used { self.old.pending ≡ [] }
         requires going { self.old.ended ≡ false }
         requires room { self.old.taken < input_limit }
-        ensures ok { OnOk result (Refills (S.left source.old) (S.left source.new) self.old self.new) }
+        ensures ok { OnOk result
+            (Refills (S.left source.old) (S.left source.new) self.old self.new) }
         ensures kept { OnErr result (Keeps (S.left source.old) (S.left source.new)) }
         ensures same { OnErr result (self.new ≡ self.old) }
         ensures cause { HasCause (S.faults source.old) (S.faults source.new) result }
@@ -229,14 +233,15 @@ impl LineBuffer {
 /// that the source has left.
 ///
 /// A read is made only when no whole line is pending, and none is made once the source gave its end
-/// or `INPUT_LIMIT` bytes were taken, until `clear`. After an error the part of a line that was taken
-/// is lost. A call reads the source once for 8,192 bytes, and moves each byte once.
+/// or `INPUT_LIMIT` bytes were taken, until `clear`. After an error the part of a line that was
+/// taken is lost. A call reads the source once for 8,192 bytes, and moves each byte once.
 pub fn read_line<S: Source>(source: &mut S, buffer: &mut LineBuffer) -> Result<Taken, LineFault>
     // Where a source gave its end since the last `clear`, the source handed in has no byte left.
     requires { IsTrue buffer.old.ended → IsAtEnd (S.left source.old) }
 
     // The first line of the bytes ahead is taken, and the others are ahead then.
-    ensures answer { IfOk result (λ taken. WhereTold (S.left source.old) (S.left source.new) (λ before after.
+    ensures answer { IfOk result (λ taken.
+        WhereTold (S.left source.old) (S.left source.new) (λ before after.
         Takes taken (buffer.old.pending ++ before) buffer.new (buffer.new.pending ++ after))) }
     ensures shown { IfOk result (λ taken. Shows taken buffer.new) }
     ensures advances { IfOk result (λ taken. Advances taken buffer.old buffer.new) }
@@ -254,7 +259,8 @@ pub fn read_line<S: Source>(source: &mut S, buffer: &mut LineBuffer) -> Result<T
     ensures early { IsTrue buffer.new.ended → buffer.new.taken < input_limit }
 
     // Why no line was taken, and what an error leaves.
-    ensures fault { result ≡ Err LineFault.ReadFault → Rose (S.faults source.old) (S.faults source.new) }
+    ensures fault { result ≡ Err LineFault.ReadFault
+        → Rose (S.faults source.old) (S.faults source.new) }
     ensures later { S.faults source.old ≤ S.faults source.new }
 
     // A fault is answered, and so the source isn't read ahead while a whole line is pending.
@@ -278,17 +284,20 @@ pub fn read_line<S: Source>(source: &mut S, buffer: &mut LineBuffer) -> Result<T
     }
 }
 
-// Gathers the next line, and answers whether a newline ended it. Where none did, the source gave its end.
+// Gathers the next line, and answers whether a newline ended it. Where none did, the source gave its
+// end.
 fn gather<S: Source>(source: &mut S, buffer: &mut LineBuffer) -> Result<bool, LineFault>
     requires at_end { IsTrue buffer.old.ended → IsAtEnd (S.left source.old) }
     requires empty { buffer.old.line ≡ [] }
     requires bounded { IsBounded buffer.old }
-    ensures gathered { Gathering (cut_of result) (S.left source.old) (S.left source.new) buffer.old buffer.new }
+    ensures gathered { Gathering (cut_of result)
+        (S.left source.old) (S.left source.new) buffer.old buffer.new }
     ensures end { result ≡ Ok false → IsTrue buffer.new.ended × (buffer.new.pending ≡ []) }
     ensures going { OnErr result ((buffer.new.ended ≡ false) × (buffer.new.pending ≡ [])) }
     ensures full { result ≡ Err LineFault.InputLimit → buffer.new.taken ≡ input_limit }
     ensures short { result ≡ Err LineFault.ReadFault → buffer.new.taken < input_limit }
-    ensures fault { result ≡ Err LineFault.ReadFault → Rose (S.faults source.old) (S.faults source.new) }
+    ensures fault { result ≡ Err LineFault.ReadFault
+        → Rose (S.faults source.old) (S.faults source.new) }
     ensures later { S.faults source.old ≤ S.faults source.new }
     ensures quiet { OnOk result (S.faults source.new ≡ S.faults source.old) }
     ensures ready { IsReady buffer.old → source.new ≡ source.old }

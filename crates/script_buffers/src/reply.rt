@@ -78,7 +78,8 @@ impl ReplyBuffer {
     pub fn hex(&mut self, name: &str, bytes: &[u8])
         requires { length self.old + length name.now + 2 * length bytes.now + 2 ≤ reply_limit }
         ensures bytes { self.new ≡ self.old ++ hex_field name.now bytes.now }
-        ensures size { length self.new ≡ length self.old + length name.now + 2 * length bytes.now + 2 }
+        ensures size { length self.new
+            ≡ length self.old + length name.now + 2 * length bytes.now + 2 }
     {
         self.field(name);
         put_hex(self.room.as_mut_slice(), self.used, bytes);
@@ -101,7 +102,8 @@ impl ReplyBuffer {
     pub fn number(&mut self, name: &str, value: u32)
         requires { length self.old + length name.now + length (decimal value) + 2 ≤ reply_limit }
         ensures bytes { self.new ≡ self.old ++ number_field name.now value }
-        ensures size { length self.new ≡ length self.old + length name.now + length (decimal value) + 2 }
+        ensures size { length self.new
+            ≡ length self.old + length name.now + length (decimal value) + 2 }
         ensures short { length (decimal value) ≤ 10 }
     {
         self.field(name);
@@ -161,7 +163,8 @@ fn put(room: &mut [u8], at: usize, bytes: &[u8])
 // Writes the bytes in lower-case hex behind the first `at` bytes of the room.
 fn put_hex(room: &mut [u8], at: usize, bytes: &[u8])
     requires { at + 2 * length bytes.now ≤ length room.old }
-    ensures front { take (at + 2 * length bytes.now) room.new ≡ take at room.old ++ encode_lower bytes.now }
+    ensures front { take (at + 2 * length bytes.now) room.new
+        ≡ take at room.old ++ encode_lower bytes.now }
     ensures size { length room.new ≡ length room.old }
 {
     hex::encode_to_slice(bytes, &mut room[at..at + 2 * bytes.len()]).unwrap();

@@ -3,7 +3,7 @@ use Rattle.std.proofs.Common.{◌≡◌, ◌≢◌, ◌≤◌, ◌<◌, ◌⊎�
 use Rattle.std.proofs.lemmas.List.{length-take, places}
 use Rattle.std.proofs.lemmas.Bool.{cases_lt, cases_eq}
 use Rattle.std.proofs.lemmas.Grind.{same_number_lists}
-use Rattle.slot_disk.specs.Cells.{selected, body_place, body_at, body, other_body, IsElsewhere, IsReplaced, IsReplacing}
+use Rattle.slot_disk.specs.Cells.{selected, body_place, body_at, body, other_body, IsUntouched, IsReplaced, IsReplacing}
 use Rattle.slot_disk.specs.Ranges.{SameOutside, HoldsPiece}
 
 -- ---- ranges of lists
@@ -100,18 +100,18 @@ sides_apart n s low = ⊎_elim (λ first. inl (omega arith)) (λ second. inr (om
 -- ---- the steps of a replacement
 
 pub replacing_same : (n : ℕ) (bytes old : List ℕ) → IsReplacing n bytes old old
-replacing_same n bytes old = record { outside = outside_same (1536 * n) 1536 old; others = λ m other. refl; here = inl refl; elsewhere = λ k away. refl }
+replacing_same n bytes old = record { outside = outside_same (1536 * n) 1536 old; others = λ m other. refl; here = inl refl; untouched = λ k away. refl }
 
 -- the body that isn't selected holds the new bytes, and all that is looked at is as before
 pub record Staged (n : ℕ) (bytes old new : List ℕ) : Type 0 where
   pub outside : SameOutside (1536 * n) 1536 old new
-  pub elsewhere : (k : ℕ) → IsElsewhere old n k → get_or new k 0 ≡ get_or old k 0
+  pub untouched : (k : ℕ) → IsUntouched old n k → get_or new k 0 ≡ get_or old k 0
   pub spare : body_at new n (1 - selected old n) ≡ bytes
   pub kept : body_at new n (selected old n) ≡ body_at old n (selected old n)
 
 -- what stays outside the body that isn't selected
-spare_elsewhere : (n : ℕ) (old new : List ℕ) → SameOutside (body_place n (1 - selected old n)) 192 old new → (k : ℕ) → IsElsewhere old n k → get_or new k 0 ≡ get_or old k 0
-spare_elsewhere n old new same k away = ⊎_elim (same.before k) (same.after k) away.1
+spare_untouched : (n : ℕ) (old new : List ℕ) → SameOutside (body_place n (1 - selected old n)) 192 old new → (k : ℕ) → IsUntouched old n k → get_or new k 0 ≡ get_or old k 0
+spare_untouched n old new same k away = ⊎_elim (same.before k) (same.after k) away.1
 
 -- a write to the body that isn't selected leaves the selected one
 pub spare_torn : (n : ℕ) (bytes old new : List ℕ) → SameOutside (body_place n (1 - selected old n)) 192 old new → IsReplacing n bytes old new
@@ -125,7 +125,7 @@ spare_torn n bytes old new same =
       here = inl (body-stays old new n
           (selected-at old new n (same.before (1536 * n) (omega arith)))
           (range-outside (body_place n (1 - s)) 192 (body_place n s) 192 old new same (sides_apart n s low)));
-      elsewhere = spare_elsewhere n old new same;
+      untouched = spare_untouched n old new same;
     }
 
 pub staged : (n : ℕ) (bytes old new : List ℕ) → length bytes ≡ 192 → 1536 * (n + 1) ≤ length old → HoldsPiece (body_place n (1 - selected old n)) bytes old new → Staged n bytes old new
@@ -135,7 +135,7 @@ staged n bytes old new long fits holds =
     let same : SameOutside (body_place n (1 - s)) 192 old new = subst (λ (l : ℕ). SameOutside (body_place n (1 - s)) l old new) long holds.outside in
     record {
       outside = outside_wider (body_place n (1 - s)) 192 (1536 * n) 1536 old new same (omega arith) (omega arith);
-      elsewhere = spare_elsewhere n old new same;
+      untouched = spare_untouched n old new same;
       spare = subst (λ (l : ℕ). slice_range new (body_place n (1 - s)) (body_place n (1 - s) + l) ≡ bytes) long (range-holds (body_place n (1 - s)) bytes old new holds (omega arith));
       kept = range-outside (body_place n (1 - s)) 192 (body_place n s) 192 old new same (sides_apart n s low);
     }
@@ -150,7 +150,7 @@ module _ (n : ℕ) (bytes old mid new : List ℕ) (was : Staged n bytes old mid)
     outside = outside;
     others = λ m other. body-others n m old new outside other;
     here = chosen (cases_eq (selected new n) (selected old n));
-    elsewhere = λ k away. beside k away.0 ∙ was.elsewhere k away;
+    untouched = λ k away. beside k away.0 ∙ was.untouched k away;
   }
     where
       beside : (k : ℕ) → k ≢ 1536 * n → get_or new k 0 ≡ get_or mid k 0
@@ -171,7 +171,7 @@ module _ (n : ℕ) (bytes old mid new : List ℕ) (was : Staged n bytes old mid)
     others = torn.others;
     here = body-side new n ∙ ap (λ (s : ℕ). body_at new n s) side_is ∙ side_stays (1 - selected old n) (omega arith) holds.outside ∙ was.spare;
     other = other-side new n ∙ ap (λ (s : ℕ). body_at new n s) other_is ∙ side_stays (selected old n) (selected_below old n) holds.outside ∙ was.kept ∙ sym (body-side old n);
-    elsewhere = torn.elsewhere;
+    untouched = torn.untouched;
   }
     where
       torn : IsReplacing n bytes old new

@@ -25,8 +25,8 @@ unfoldable pub other_body : List ℕ → ℕ → List ℕ
 other_body image n = body_at image n (1 - selected image n)
 
 -- byte k is neither the selector of cell n nor one of the body that isn't selected
-abbrev pub IsElsewhere : List ℕ → ℕ → ℕ → Type 0
-IsElsewhere image n k =
+abbrev pub IsUntouched : List ℕ → ℕ → ℕ → Type 0
+IsUntouched image n k =
     let place = body_place n (1 - selected image n) in
     (k ≢ CELL_LEN * n) × ((k < place) ⊎ (place + BODY_LEN ≤ k))
 
@@ -39,11 +39,11 @@ pub record IsReplaced (n : ℕ) (bytes old new : List ℕ) : Type 0 where
   -- the body that was selected is still there, and no byte of the cell has changed but the selector
   -- and those of the body that wasn't selected
   pub other : other_body new n ≡ body old n
-  pub elsewhere : (k : ℕ) → IsElsewhere old n k → slice_index new k ≡ slice_index old k
+  pub untouched : (k : ℕ) → IsUntouched old n k → slice_index new k ≡ slice_index old k
 
 -- the same, but cell n may still select what it did
 pub record IsReplacing (n : ℕ) (bytes old new : List ℕ) : Type 0 where
   pub outside : SameOutside (CELL_LEN * n) CELL_LEN old new
   pub others : (m : ℕ) → m ≢ n → body new m ≡ body old m
   pub here : (body new n ≡ body old n) ⊎ (body new n ≡ bytes)
-  pub elsewhere : (k : ℕ) → IsElsewhere old n k → slice_index new k ≡ slice_index old k
+  pub untouched : (k : ℕ) → IsUntouched old n k → slice_index new k ≡ slice_index old k

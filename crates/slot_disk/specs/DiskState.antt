@@ -34,7 +34,9 @@ refuses_call d = fails_now d.plan || not (has_room d)
 abbrev pub after_noted : DiskState → Call → DiskState
 after_noted d call =
     let plan = after_call_in_room d.plan (has_room d) in
-    if refuses_call d then record d { plan = plan } else record d { calls = d.calls ++ call ∷ []; plan = plan }
+    if refuses_call d
+    then record d { plan = plan }
+    else record d { calls = d.calls ++ call ∷ []; plan = plan }
 
 -- the bytes in memory are those that the noted calls left, and a note takes no memory
 pub record IsDisk (first content : List ℕ) (calls : List Call) (room capacity : ℕ) : Type 0 where

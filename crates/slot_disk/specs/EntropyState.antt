@@ -20,4 +20,6 @@ refuses_fill e count = fails_now e.plan || not (has_left e count)
 abbrev pub after_fill : EntropyState → ℕ → EntropyState
 after_fill e count =
     let plan = after_call_in_room e.plan (has_left e count) in
-    if refuses_fill e count then record e { plan = plan } else record { left = drop count e.left; plan = plan }
+    if refuses_fill e count
+    then record e { plan = plan }
+    else record { left = drop count e.left; plan = plan }

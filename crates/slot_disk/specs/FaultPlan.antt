@@ -25,8 +25,12 @@ with_fault plan = record plan { faults = one_more plan.faults }
 
 -- a call was made, and failed if it was to fail
 abbrev pub after_call : FaultPlan → FaultPlan
-after_call plan = let counted = record plan { calls = one_more plan.calls } in if fails_now plan then with_fault counted else counted
+after_call plan =
+    let counted = record plan { calls = one_more plan.calls } in
+    if fails_now plan then with_fault counted else counted
 
 -- a call was made that also fails where there is no room for it
 abbrev pub after_call_in_room : FaultPlan → Bool → FaultPlan
-after_call_in_room plan has_room = let called = after_call plan in if fails_now plan || has_room then called else with_fault called
+after_call_in_room plan has_room =
+    let called = after_call plan in
+    if fails_now plan || has_room then called else with_fault called

@@ -14,4 +14,8 @@ given s room = min (min room s.piece) (length s.left)
 
 -- a read that fails takes no byte
 abbrev pub after_read : SourceState → ℕ → SourceState
-after_read s room = if fails_now s.plan then record s { plan = after_call s.plan } else record s { left = drop (given s room) s.left; plan = after_call s.plan }
+after_read s room =
+    let called = after_call s.plan in
+    if fails_now s.plan
+    then record s { plan = called }
+    else record s { left = drop (given s room) s.left; plan = called }

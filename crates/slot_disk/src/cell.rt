@@ -1,6 +1,8 @@
-//! Cells: the selected one of two bodies, and how a body is replaced so that a stop leaves the old or the new one.
+//! Cells: the selected one of two bodies, and how a body is replaced so that a stop leaves the old or
+//! the new one.
 ghost use Rattle.std.specs.Prelude.{◌≡◌, ◌+◌, ◌-◌, ◌*◌, ◌<◌, ◌≤◌, [], ◌∷◌, length, IfOk, OnOk};
-ghost use Rattle.slot_disk.specs.Cells.{selected, body_place as place_of_body, body as selected_body, IsReplaced, IsReplacing};
+ghost use Rattle.slot_disk.specs.Cells.{selected, body_place as place_of_body};
+ghost use Rattle.slot_disk.specs.Cells.{body as selected_body, IsReplaced, IsReplacing};
 ghost use Rattle.slot_disk.specs.Faults.{HasCause};
 ghost use Rattle.slot_disk.specs.Medium.{Told, IsSettled, From, Becomes, EachImage, Keeps};
 ghost use Rattle.slot_disk.specs.Ranges.{SameOutside, HoldsPiece};
@@ -17,8 +19,8 @@ pub const CELL_LEN: u64 = 1_536;
 /// The bytes of a body.
 pub const BODY_LEN: usize = 192;
 
-/// The number of a cell of three sectors: a selector and two bodies. An even selector byte selects the
-/// first body, an odd one the second. A body is the first 192 bytes of its sector.
+/// The number of a cell of three sectors: a selector and two bodies. An even selector byte selects
+/// the first body, an odd one the second. A body is the first 192 bytes of its sector.
 #[derive(Clone, Copy, Debug, PartialEq, Eq)]
 pub struct Cell {
     number: u16,
@@ -77,16 +79,20 @@ pub fn read_cell<D: Disk>(disk: &mut D, cell: Cell, out: &mut [u8; BODY_LEN]) ->
     disk.read(cell.body_place(side), out)
 }
 
-/// Replaces the selected body: the other body is written and synced, and then the one byte that selects it.
+/// Replaces the selected body: the other body is written and synced, and then the one byte that
+/// selects it. It costs two writes and two syncs.
 pub fn replace_cell<D: Disk>(disk: &mut D, cell: Cell, body: &[u8; BODY_LEN]) -> Result<(), Failed>
     requires within { CELL_LEN * (cell + 1) ≤ (D.medium disk.old).size }
     requires settled { IsSettled (D.medium disk.old) }
 
     ensures settled { OnOk result (IsSettled (D.medium disk.new)) }
-    ensures replaced { OnOk result (Becomes (IsReplaced cell body.now) (D.medium disk.old) (D.medium disk.new)) }
-    ensures replacing { Becomes (IsReplacing cell body.now) (D.medium disk.old) (D.medium disk.new) }
+    ensures replaced { OnOk result
+        (Becomes (IsReplaced cell body.now) (D.medium disk.old) (D.medium disk.new)) }
+    ensures replacing { Becomes (IsReplacing cell body.now)
+        (D.medium disk.old) (D.medium disk.new) }
 
-    // A stop at any moment of the call leaves the old body of this cell or the new one, and all else as it was.
+    // A stop at any moment of the call leaves the old body of this cell or the new one, and all else
+    // as it was.
     ensures moments { EachImage (D.medium disk.old) (D.medium disk.new)
         (From (IsReplacing cell body.now) (D.medium disk.old)) }
     ensures cause { HasCause (D.faults disk.old) (D.faults disk.new) result }
@@ -115,8 +121,10 @@ fn put<D: Disk>(disk: &mut D, at: u64, piece: &[u8]) -> Result<(), Failed>
     requires short { length piece.now ≤ BODY_LEN }
     requires settled { IsSettled (D.medium disk.old) }
     ensures settled { OnOk result (IsSettled (D.medium disk.new)) }
-    ensures bytes { OnOk result (Becomes (HoldsPiece at piece.now) (D.medium disk.old) (D.medium disk.new)) }
-    ensures outside { Becomes (SameOutside at (length piece.now)) (D.medium disk.old) (D.medium disk.new) }
+    ensures bytes { OnOk result
+        (Becomes (HoldsPiece at piece.now) (D.medium disk.old) (D.medium disk.new)) }
+    ensures outside { Becomes (SameOutside at (length piece.now))
+        (D.medium disk.old) (D.medium disk.new) }
     ensures moments { EachImage (D.medium disk.old) (D.medium disk.new)
         (From (SameOutside at (length piece.now)) (D.medium disk.old)) }
     ensures cause { HasCause (D.faults disk.old) (D.faults disk.new) result }

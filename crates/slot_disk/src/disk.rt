@@ -6,8 +6,8 @@ ghost use Rattle.slot_disk.specs.Ranges.{SameOutside, HoldsPiece};
 
 use crate::{BODY_LEN, Failed};
 
-/// A disk of a fixed size. What was written since the last sync that succeeded may be torn by a stop:
-/// each range that was written may then hold any bytes, and all other bytes stay.
+/// A disk of a fixed size. What was written since the last sync that succeeded may be torn by a
+/// stop: each range that was written may then hold any bytes, and all other bytes stay.
 pub trait Disk {
     /// What the disk holds, and what a stop may leave of it.
     ghost medium: { Self → Medium };
@@ -29,7 +29,8 @@ pub trait Disk {
         ensures cause { HasCause (faults self.old) (faults self.new) result }
         ensures quiet { OnOk result (faults self.new ≡ faults self.old) };
 
-    /// Puts `piece`, which is no longer than a body, in the place from `at` on. After `Failed` that range may hold any bytes.
+    /// Puts `piece`, which is no longer than a body, in the place from `at` on. After `Failed` that
+    /// range may hold any bytes.
     fn write(&mut self, at: u64, piece: &[u8]) -> Result<(), Failed>
         requires within { at + length piece.now ≤ (medium self.old).size }
         requires short { length piece.now ≤ BODY_LEN }
@@ -38,7 +39,8 @@ pub trait Disk {
         ensures outside { Becomes (SameOutside at (length piece.now))
             (medium self.old) (medium self.new) }
 
-        // A stop at any moment of the call leaves what it might have left before, but for the range.
+        // A stop at any moment of the call leaves what it might have left before, but for the
+        // range.
         ensures moments { EachImage (medium self.old) (medium self.new)
             (After (SameOutside at (length piece.now)) (medium self.old).images) }
         ensures cause { HasCause (faults self.old) (faults self.new) result }

@@ -14,8 +14,8 @@ pub trait Entropy {
     /// `u64::MAX`: one that stands there counts as risen at each failure.
     ghost faults: { Self → ℕ };
 
-    /// Fills the whole of `out` with the next bytes. After `Failed` nothing is known of `out`, nor of
-    /// the bytes still to come.
+    /// Fills the whole of `out` with the next bytes. After `Failed` nothing is known of `out`, nor
+    /// of the bytes still to come.
     fn fill(&mut self, out: &mut [u8]) -> Result<(), Failed>
         ensures bytes { OnOk result (Consumes (left self.old) (left self.new) out.new) }
         ensures cause { HasCause (faults self.old) (faults self.new) result }

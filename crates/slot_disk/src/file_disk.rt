@@ -1,5 +1,5 @@
-//! A disk over a file. What a real file holds after a stop isn't told, so it says nothing of bytes: it
-//! counts each error, and this is where the proofs end.
+//! A disk over a file. What a real file holds after a stop isn't told, so it says nothing of bytes:
+//! it counts each error, and this is where the proofs end.
 ghost use Rattle.std.specs.Prelude.{◌≡◌};
 ghost use Rattle.slot_disk.specs.Medium.{IsSettled};
 ghost use Rattle.slot_disk.specs.SilentMedium.{silent};

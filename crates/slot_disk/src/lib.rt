@@ -1,5 +1,5 @@
-//! What the program stands on: byte sources and sinks, random bytes and disks that may fail, in memory
-//! and over std's streams and files, and the cells of a disk.
+//! What the program stands on: byte sources and sinks, random bytes and disks that may fail, in
+//! memory and over std's streams and files, and the cells of a disk.
 #![tactic(auto)]
 
 mod blank;

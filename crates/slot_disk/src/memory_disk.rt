@@ -36,7 +36,8 @@ pub struct MemoryDisk {
     plan: FaultPlan,
 }
 
-// Clauses see the image that it began with, the calls that it noted, its room for them, and the plan of faults.
+// Clauses see the image that it began with, the calls that it noted, its room for them, and the plan
+// of faults.
 impl Model for MemoryDisk {
     ghost use Rattle.std.specs.Prelude.{◌≡◌};
     ghost use Rattle.std.specs.Vec.{vec_len, vec_capacity};
@@ -45,10 +46,10 @@ impl Model for MemoryDisk {
     ghost Value = { DiskState };
 
     ghost view = { λ d. record {
-        first = d.first.items;
-        calls = d.calls.items;
-        room = d.room;
-        plan = d.plan;
+      first = d.first.items;
+      calls = d.calls.items;
+      room = d.room;
+      plan = d.plan;
     } };
 
     ghost invariant = { λ d.
@@ -88,7 +89,8 @@ impl MemoryDisk {
         self.calls.len() as u64
     }
 
-    /// Makes the read, write or sync of this number fail, counted from 0. It keeps the last eight numbers.
+    /// Makes the read, write or sync of this number fail, counted from 0. It keeps the last eight
+    /// numbers.
     pub fn fail_at(&mut self, call: u64)
         ensures { self.new ≡ record self.old { plan = with_failing self.old.plan call } }
     {
@@ -104,8 +106,8 @@ impl MemoryDisk {
         calls: u64,
     ) -> Result<MemoryDisk, NoMemory>
         requires { noted ≤ length self.now.calls }
-        ensures disk { IfOk result (λ d.
-            d ≡ new_disk (torn_image torn (stage self.now.first (take noted self.now.calls))) calls) }
+        ensures disk { IfOk result (λ d. d ≡ new_disk
+            (torn_image torn (stage self.now.first (take noted self.now.calls))) calls) }
 
         ensures size { IfOk result (λ d. length d.first ≡ length self.now.first) }
         ensures settled { IfOk result (λ d. IsSettled (medium_of d)) }
@@ -126,7 +128,8 @@ impl MemoryDisk {
     }
 }
 
-// Makes the calls over again. `content` becomes what a read gives after them, and `image` what a stop leaves.
+// Makes the calls over again. `content` becomes what a read gives after them, and `image` what a
+// stop leaves.
 fn replay(calls: &[Call], torn: Torn, content: &mut [u8], image: &mut [u8])
     requires { image.old ≡ content.old }
     ensures { image.new ≡ torn_image torn (stage content.old calls.now) }
@@ -205,7 +208,8 @@ impl Disk for MemoryDisk {
         ensures outside { Becomes (SameOutside at (length piece.now))
             (medium_of self.old) (medium_of self.new) }
         ensures moments { EachImage (medium_of self.old) (medium_of self.new)
-            (After (SameOutside at (length piece.now)) (IsTorn (stage self.old.first self.old.calls))) }
+            (After (SameOutside at (length piece.now))
+            (IsTorn (stage self.old.first self.old.calls))) }
         ensures cause { HasCause self.old.plan.faults self.new.plan.faults result }
         ensures quiet { OnOk result (self.new.plan.faults ≡ self.old.plan.faults) }
 

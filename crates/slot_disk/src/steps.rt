@@ -5,8 +5,9 @@ use std::marker::{Model, PhantomData};
 use std::mem;
 use std::snapshot::Snapshot;
 
-/// The number of steps that were counted, as clauses see it. It takes no bytes at run time, and only
-/// `tick` changes it. `L` names the ledger that the steps are of, so that two counts aren't mixed up.
+/// The number of steps that were counted, as clauses see it. It takes no bytes at run time, and
+/// only `tick` changes it. `L` names the ledger that the steps are of, so that two counts aren't
+/// mixed up.
 #[derive(Drop)]
 pub struct Steps<L> {
     ledger: PhantomData<L>,

@@ -1,1 +1,5 @@
 pub mod Rules
+pub mod Classes
+pub mod KeyChecks
+pub mod Keys
+pub mod LengthChecks

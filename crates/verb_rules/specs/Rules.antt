@@ -1,5 +1,6 @@
 -- The rules by their numbers, in the order in which they are judged.
-use Rattle.std.specs.Prelude.{ℕ}
+use Rattle.std.specs.Prelude.{◌≡◌, ℕ, List, None, Some, Result, MatchResult}
+use Rattle.cca_vectors.specs.Checks.{Check, first_failing}
 use Rattle.verb_rules.specs.declared.rules.Rule.{Rule}
 use Rattle.verb_rules.specs.declared.rules.Rule.TheVariants as rule
 
@@ -36,3 +37,7 @@ rule_number rule.LabelExists = 29
 rule_number rule.RoleTable = 30
 rule_number rule.PadCount = 31
 rule_number rule.KeyLength = 32
+
+-- Ok where none of the rules is broken, and else the first that is
+abbrev pub Judges : {A : Type 0} → List Check → Result A Rule → Type 0
+Judges checks result = MatchResult result (λ _. first_failing checks ≡ None) (λ r. first_failing checks ≡ Some (rule_number r))

@@ -1,6 +1,16 @@
 //! The rules that a request is judged by, and the calls that name the first one that an operand breaks.
 #![tactic(auto)]
 
+mod classes;
+mod judging;
+mod lengths;
+mod needs;
 mod rules;
 
+pub use cca_vectors::Usage;
+pub use classes::Classes;
+pub use judging::{Judged, judge_key, judge_use};
+pub use key_tokens::{Age, Asked};
+pub use lengths::{MacRule, TextUse, judge_mac, judge_text};
+pub use needs::Need;
 pub use rules::Rule;

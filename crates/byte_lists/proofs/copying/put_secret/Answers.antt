@@ -17,8 +17,8 @@ loop-byte-preserved g c =
     ∙ ap (λ b. set (take c.args.at c.args.into.now ++ take c.loop-byte.byte (bytes_of c.args.secret.now) ++ drop (c.args.at + c.loop-byte.byte) c.args.into.now) (c.args.at + c.loop-byte.byte) b) c.byte.ensures.value
     ∙ put-more c.args.into.now (bytes_of c.args.secret.now) c.args.at c.loop-byte.byte (omega arith) (omega (arith, c.byte.ensures.size))
 
-pub returns : goal.returns
-returns g c =
+pub returns-clause-put : goal.returns-clause-put
+returns-clause-put g c =
     let whole : length (bytes_of c.args.secret.now) ≡ g.row.N = c.args.secret.now.whole in
     let all : c.loop-byte.byte ≡ g.row.N = omega arith in
     c.loop-byte.invariant

@@ -1,10 +1,10 @@
-use Rattle.std.proofs.Common.{◌≡◌, ℕ, length, replicate, sym, ap, ◌∙◌}
+use Rattle.std.proofs.Common.{ℕ, replicate, sym, ap, ◌∙◌}
 use Rattle.cca_roles.specs.RoleBody.{blank_body}
 use Rattle.cca_roles.proofs.bodies.is_blank.Goals as goal
 
 pub returns : goal.returns
 unfolding blank_body
 returns c = (
-  λ yes. c.is_zero.ensures.0 yes ∙ ap (λ (n : ℕ). replicate n 0) c.told-body,
-  λ is. c.is_zero.ensures.1 (is ∙ ap (λ (n : ℕ). replicate n 0) (sym c.told-body)),
+  λ yes. c.is_zero.ensures.zero.0 yes ∙ ap (λ (n : ℕ). replicate n 0) c.told-body,
+  λ is. c.is_zero.ensures.zero.1 (is ∙ ap (λ (n : ℕ). replicate n 0) (sym c.told-body)),
 )

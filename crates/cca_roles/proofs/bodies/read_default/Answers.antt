@@ -1,7 +1,5 @@
-use Rattle.std.proofs.Common.{◌≡◌, ◌≢◌, List, ℕ, Some, false, refl, sym, ap, ◌∙◌}
-use Rattle.std.specs.Prelude.{bytes_eq}
+use Rattle.std.proofs.Common.{List, ℕ, Some, sym, ap, ◌∙◌}
 use Rattle.std.proofs.lemmas.Slice.Eq.{bytes_eq-Decides}
-use Rattle.cca_roles.specs.RoleBody.{blank_body}
 use Rattle.cca_roles.specs.RoleNames.{default_name}
 use Rattle.cca_roles.specs.Roles.{role}
 use Rattle.cca_roles.proofs.BodyLaws.{slot_blank, slot_of_role, reads_no_default, role_not_blank, not_true}

@@ -1,7 +1,6 @@
-use Rattle.std.proofs.Common.{◌≡◌, List, ℕ, false, true, refl, sym, ap, subst, ◌∙◌}
+use Rattle.std.proofs.Common.{◌≡◌, List, ℕ, refl, sym, ap, subst, ◌∙◌}
 use Rattle.cca_roles.specs.RoleBody.{ReadsRole, role_in, points_in}
 use Rattle.cca_roles.specs.Roles.{role}
-use Rattle.cca_roles.specs.declared.roles.Role.{Role}
 use Rattle.cca_roles.proofs.BodyLaws.{reads_again, not_true}
 use Rattle.cca_roles.proofs.bodies.read_role.Goals as goal
 

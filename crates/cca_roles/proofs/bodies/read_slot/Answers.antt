@@ -1,4 +1,4 @@
-use Rattle.std.proofs.Common.{◌≡◌, ◌≢◌, ℕ, None, zero, suc, refl, sym, ap, ◌∙◌}
+use Rattle.std.proofs.Common.{sym, ◌∙◌}
 use Rattle.cca_roles.proofs.BodyLaws.{slot_blank, slot_of_role, blank_later}
 use Rattle.cca_roles.proofs.bodies.read_slot.Goals as goal
 

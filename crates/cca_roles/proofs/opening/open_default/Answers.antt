@@ -1,5 +1,5 @@
-use Rattle.std.proofs.Common.{◌≡◌, List, ℕ, Option, Result, Ok, Err, Some, true, false, Bool, refl, sym, ap, subst, ◌∙◌}
-use Rattle.std.specs.Prelude.{OnOk, is_err, set}
+use Rattle.std.proofs.Common.{◌≡◌, List, ℕ, Option, Some, sym, ap, subst, ◌∙◌}
+use Rattle.std.specs.Prelude.{set}
 use Rattle.slot_disk.specs.Cells.{body}
 use Rattle.cca_roles.specs.Directory.{AreApart}
 use Rattle.cca_roles.specs.Opening.{OpenedTo}

@@ -1,13 +1,22 @@
-use Rattle.std.proofs.Common.{◌≡◌, ◌<◌, ◌≤◌, ◌+◌, ℕ, List, Option, Result, Ok, Err, ◌⊎◌, ⊎_elim, refl, sym, ap, subst, ◌∙◌, arith}
+use Rattle.std.proofs.Common.{◌≡◌, ◌+◌, ℕ, Result, Err, ◌⊎◌, inl, inr, ⊎_elim, sym, ap, subst, ◌∙◌, arith}
+use Rattle.std.specs.Prelude.{IfErr}
 use Rattle.slot_disk.specs.Cells.{body}
 use Rattle.slot_disk.specs.Medium.{Told}
 use Rattle.slot_disk.proofs.WhereToldLemmas.{rose_wider}
+use Rattle.cca_roles.specs.declared.faults.RoleFault.{RoleFault}
 use Rattle.cca_roles.specs.declared.faults.RoleFault.TheVariants.{DiskFault, Damaged}
-use Rattle.cca_roles.specs.Opening.{OpenedTo, IsRefused, Opens}
-use Rattle.cca_roles.specs.RolesStand.{StandsForRoles, IsFirstDamaged}
-use Rattle.cca_roles.proofs.OpeningLaws.{opened_more, opened_all, refused_damaged}
-use Rattle.cca_roles.proofs.StandLaws.{told_map, told_next, handed_on, first_one, stands_undamaged}
+use Rattle.cca_roles.specs.Opening.{OpenedTo, IsRefused}
+use Rattle.cca_roles.specs.RolesStand.{StandsForRoles, IsFirstDamaged, IsRoleCell}
+use Rattle.cca_roles.proofs.OpeningLaws.{opened_all, refused_damaged}
+use Rattle.cca_roles.proofs.StandLaws.{told_map, told_next, told_kept, handed_on, first_one, stands_undamaged}
 use Rattle.cca_roles.proofs.opening.open_roles.Goals as goal
+
+-- a fault of one cell that is handed on
+role_faults : (r : Result (Unit {0}) RoleFault) (fault : RoleFault) (cell : ℕ) → IsRoleCell cell → r ≡ Err fault → (fault ≡ DiskFault) ⊎ (fault ≡ Damaged cell)
+    → IfErr r (λ e. (e ≡ DiskFault) ⊎ ((n : ℕ) × IsRoleCell n × (e ≡ Damaged n)))
+role_faults r fault cell is_role same faults =
+    subst (λ (o : Result (Unit {0}) RoleFault). IfErr o (λ e. (e ≡ DiskFault) ⊎ ((n : ℕ) × IsRoleCell n × (e ≡ Damaged n)))) (sym same)
+    (⊎_elim (λ (failed : fault ≡ DiskFault). inl failed) (λ (damaged : fault ≡ Damaged cell). inr (cell, is_role, damaged)) faults)
 
 pub returns-in_err-open_default-clause-exact : goal.returns-in_err-open_default-clause-exact
 returns-in_err-open_default-clause-exact g c fell =
@@ -43,6 +52,13 @@ returns-in_err-open_place-clause-exact g c fell =
     (λ image first cell other. same ∙ ap (λ f. Err f) (damaged ∙ ap (λ k. Damaged k) (first_one image (c.loop-place.place + 1) cell first other))))
     c.in_err-open_place.ensures.faults
 
+pub returns-clause-stands : goal.returns-clause-stands
+returns-clause-stands g c =
+    let all : c.loop-place.place ≡ 32 = omega (arith, c.loop-place-test.false, c.loop-place.auto.place-end) in
+    told_kept (g.M.Disk.medium c.args.«module».now) (g.M.Disk.medium c.loop-place.«module») (λ image. StandsForRoles image c.loop-place.opened) c.loop-place.invariant.keeps
+    (told_map (g.M.Disk.medium c.args.«module».now) (λ image. OpenedTo image c.loop-place.place c.loop-place.opened) (λ image. StandsForRoles image c.loop-place.opened) c.loop-place.invariant.opened
+    (λ image opened. opened_all image c.loop-place.opened (subst (λ (n : ℕ). OpenedTo image n c.loop-place.opened) all opened) c.loop-place.invariant.roles))
+
 pub returns-clause-exact : goal.returns-clause-exact
 returns-clause-exact g c _ =
     told_map (g.M.Disk.medium c.args.«module».now) (λ image. OpenedTo image c.loop-place.place c.loop-place.opened) _ c.loop-place.invariant.opened
@@ -50,3 +66,15 @@ returns-clause-exact g c _ =
     let all : c.loop-place.place ≡ 32 = omega (arith, c.loop-place-test.false, c.loop-place.auto.place-end) in
     let stands : StandsForRoles image c.loop-place.opened = opened_all image c.loop-place.opened (subst (λ (n : ℕ). OpenedTo image n c.loop-place.opened) all opened) c.loop-place.invariant.roles in
     absurd (stands_undamaged image c.loop-place.opened first.place stands first.within first.damaged))
+
+pub returns-in_err-open_default-clause-faults : goal.returns-in_err-open_default-clause-faults
+returns-in_err-open_default-clause-faults g c =
+    let fault = c.in_err-open_default.field-0.0 in
+    let same : c.from_residual.result ≡ Err fault = handed_on c.from_residual.result fault c.from_residual.ensures.1 in
+    role_faults c.from_residual.result fault 1 (omega arith, omega arith) same c.in_err-open_default.ensures.faults
+
+pub returns-in_err-open_place-clause-faults : goal.returns-in_err-open_place-clause-faults
+returns-in_err-open_place-clause-faults g c =
+    let fault = c.in_err-open_place.field-0.0 in
+    let same : c.from_residual-in_err-open_place.result ≡ Err fault = handed_on c.from_residual-in_err-open_place.result fault c.from_residual-in_err-open_place.ensures.1 in
+    role_faults c.from_residual-in_err-open_place.result fault (c.loop-place.place + 1) (omega arith, omega (arith, c.loop-place-test.true)) same c.in_err-open_place.ensures.faults

@@ -1,7 +1,7 @@
 -- The memory knows the roles of the places before, and no others.
-use Rattle.std.proofs.Common.{◌≡◌, ◌≤◌}
-use Rattle.key_cells.specs.Lease.{bench_of, holding}
+use Rattle.std.proofs.Common.{◌≤◌}
 use Rattle.slot_disk.specs.Medium.{Told, Keeps}
+use Rattle.cca_roles.specs.Changes.{KeepsAllButBody}
 use Rattle.cca_roles.specs.Opening.{OpenedTo}
 use Rattle.cca_roles.specs.Roles.{AreRoles}
 use Rattle.cca_roles.proofs.opening.open_roles.Given as goal
@@ -12,5 +12,5 @@ invariant-loop-place g l = record {
   roles : AreRoles l.opened;
   keeps : Keeps (g.M.Disk.medium l.fn.«module») (g.M.Disk.medium l.«module»);
   later : g.M.Disk.faults l.fn.«module» ≤ g.M.Disk.faults l.«module»;
-  places : l.lease ≡ holding l.fn.lease (record (bench_of l.fn.lease) { body = (bench_of l.lease).body });
+  rest : KeepsAllButBody l.fn.lease l.lease;
 }

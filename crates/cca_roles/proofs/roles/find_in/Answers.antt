@@ -25,14 +25,14 @@ loop-place-preserved c =
     let within : c.loop-place.place < length (names places) = omega (arith, length-map places name_of, c.loop-place-test.true) in
     elim c.match-places-place.branch [
       | in-Some+else-is w ↦
-        let here : name_at (names places) c.loop-place.place ≡ Some w.in-Some.role.name = name_read places c.loop-place.place c.index-places-place.result c.loop-place-test.true c.index-places-place.is ∙ ap name_of w.in-Some.is in
-        let miss : bytes_eq w.in-Some.role.name c.args.name.now ≡ false = sym w.is.ensures ∙ w.if-is.false in
-        sym (place_step c.args.name.now (names places) c.loop-place.place (Some w.in-Some.role.name) within (sym here)
-            ∙ ap (λ t. if t then Some c.loop-place.place else place_from (c.loop-place.place + 1) c.args.name.now (drop (c.loop-place.place + 1) (names places))) miss) ∙ c.loop-place.invariant
+          let here : name_at (names places) c.loop-place.place ≡ Some w.in-Some.role.name = name_read places c.loop-place.place c.index-places-place.result c.loop-place-test.true c.index-places-place.is ∙ ap name_of w.in-Some.is in
+          let miss : bytes_eq w.in-Some.role.name c.args.name.now ≡ false = sym w.is.ensures ∙ w.if-is.false in
+          sym (place_step c.args.name.now (names places) c.loop-place.place (Some w.in-Some.role.name) within (sym here)
+          ∙ ap (λ t. if t then Some c.loop-place.place else place_from (c.loop-place.place + 1) c.args.name.now (drop (c.loop-place.place + 1) (names places))) miss) ∙ c.loop-place.invariant
       | in_default w ↦
-        let blank : c.index-places-place.result ≡ None = none_from c.index-places-place.result w.in_default.not-Some in
-        let here : name_at (names places) c.loop-place.place ≡ None = name_read places c.loop-place.place c.index-places-place.result c.loop-place-test.true c.index-places-place.is ∙ ap name_of blank in
-        sym (place_step c.args.name.now (names places) c.loop-place.place None within (sym here)) ∙ c.loop-place.invariant
+          let blank : c.index-places-place.result ≡ None = none_from c.index-places-place.result w.in_default.not-Some in
+          let here : name_at (names places) c.loop-place.place ≡ None = name_read places c.loop-place.place c.index-places-place.result c.loop-place-test.true c.index-places-place.is ∙ ap name_of blank in
+          sym (place_step c.args.name.now (names places) c.loop-place.place None within (sym here)) ∙ c.loop-place.invariant
     ]
 
 pub returns-clause-found : goal.returns-clause-found

@@ -1,7 +1,7 @@
-use Rattle.std.proofs.Common.{◌≡◌, ◌<◌, ◌≤◌, ◌+◌, ℕ, List, Option, None, Some, Bool, true, false, length, get_or, drop, refl, sym, ap, ◌∙◌, arith}
-use Rattle.std.specs.Prelude.{is_some, not}
-use Rattle.std.proofs.lemmas.List.{length-map, get_or_read}
-use Rattle.cca_roles.specs.Directory.{name_at, free_from, free_place}
+use Rattle.std.proofs.Common.{◌≡◌, List, Option, None, Some, sym, ap, ◌∙◌, arith}
+use Rattle.std.specs.Prelude.{not}
+use Rattle.std.proofs.lemmas.List.{length-map}
+use Rattle.cca_roles.specs.Directory.{name_at, free_place}
 use Rattle.cca_roles.specs.Roles.{names, name_of}
 use Rattle.cca_roles.specs.declared.roles.Role.{Role}
 use Rattle.cca_roles.proofs.DirectoryLaws.{none_of, some_of, free_here, free_step, free_end}
@@ -14,7 +14,7 @@ returns-then-is_none-clause-free c =
     let places : List (Option Role) = c.args.places.now in
     let blank : c.index-places-place.result ≡ None = none_of c.index-places-place.result (c.is_none.ensures ∙ ap not c.if-is_none.true) in
     let here : name_at (names places) c.loop-place.place ≡ None = name_read places c.loop-place.place c.index-places-place.result c.loop-place-test.true c.index-places-place.is ∙ ap name_of blank in
-    (sym (free_here (names places) c.loop-place.place (omega (arith, length-map places name_of, c.loop-place-test.true)) here) ∙ c.loop-place.invariant, c.loop-place-test.true)
+    sym (free_here (names places) c.loop-place.place (omega (arith, length-map places name_of, c.loop-place-test.true)) here) ∙ c.loop-place.invariant
 
 pub loop-place-preserved : goal.loop-place-preserved
 loop-place-preserved c =

@@ -1,4 +1,4 @@
-use Rattle.std.proofs.Common.{◌≡◌, ◌<◌, ◌+◌, List, Option, None, Some, true, false, length, drop, sym, ap, ◌∙◌}
+use Rattle.std.proofs.Common.{◌≡◌, ◌+◌, List, Option, None, Some, true, false, drop, sym, ap, ◌∙◌}
 use Rattle.std.specs.Prelude.{if◌then◌else◌, bytes_eq}
 use Rattle.std.proofs.lemmas.List.{get_or_read}
 use Rattle.cca_roles.specs.Roles.{points_of, role_at}
@@ -22,14 +22,14 @@ loop-place-preserved c =
     let places : List (Option Role) = c.args.places.now in
     elim c.match-places-place.branch [
       | in-Some+else-is w ↦
-        let here : role_at places c.loop-place.place ≡ Some w.in-Some.role = sym (get_or_read places c.loop-place.place c.index-places-place.result c.loop-place-test.true c.index-places-place.is None) ∙ w.in-Some.is in
-        let miss : bytes_eq w.in-Some.role.name c.args.name.now ≡ false = sym w.is.ensures ∙ w.if-is.false in
-        sym (points_step c.args.name.now places c.loop-place.place (Some w.in-Some.role) c.loop-place-test.true (sym here)
-            ∙ ap (λ t. if t then Some w.in-Some.role.points else points_of c.args.name.now (drop (c.loop-place.place + 1) places)) miss) ∙ c.loop-place.invariant
+          let here : role_at places c.loop-place.place ≡ Some w.in-Some.role = sym (get_or_read places c.loop-place.place c.index-places-place.result c.loop-place-test.true c.index-places-place.is None) ∙ w.in-Some.is in
+          let miss : bytes_eq w.in-Some.role.name c.args.name.now ≡ false = sym w.is.ensures ∙ w.if-is.false in
+          sym (points_step c.args.name.now places c.loop-place.place (Some w.in-Some.role) c.loop-place-test.true (sym here)
+          ∙ ap (λ t. if t then Some w.in-Some.role.points else points_of c.args.name.now (drop (c.loop-place.place + 1) places)) miss) ∙ c.loop-place.invariant
       | in_default w ↦
-        let blank : c.index-places-place.result ≡ None = none_from c.index-places-place.result w.in_default.not-Some in
-        let here : role_at places c.loop-place.place ≡ None = sym (get_or_read places c.loop-place.place c.index-places-place.result c.loop-place-test.true c.index-places-place.is None) ∙ blank in
-        sym (points_step c.args.name.now places c.loop-place.place None c.loop-place-test.true (sym here)) ∙ c.loop-place.invariant
+          let blank : c.index-places-place.result ≡ None = none_from c.index-places-place.result w.in_default.not-Some in
+          let here : role_at places c.loop-place.place ≡ None = sym (get_or_read places c.loop-place.place c.index-places-place.result c.loop-place-test.true c.index-places-place.is None) ∙ blank in
+          sym (points_step c.args.name.now places c.loop-place.place None c.loop-place-test.true (sym here)) ∙ c.loop-place.invariant
     ]
 
 pub returns : goal.returns

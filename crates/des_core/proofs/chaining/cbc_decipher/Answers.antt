@@ -1,13 +1,13 @@
-use Rattle.std.proofs.Common.{◌≡◌, ℕ, ◌<◌, ◌-◌, ◌+◌, ◌/◌, ◌*◌, ◌++◌, length, take, drop, get_or, sym, ap, ◌∙◌, refl, arith, rules, subst}
+use Rattle.std.proofs.Common.{◌≡◌, ◌-◌, ◌+◌, ◌/◌, ◌*◌, length, take, drop, sym, ap, ◌∙◌, refl, arith}
 use Rattle.std.specs.Int.{to_be_bytes, w64}
 use Rattle.std.proofs.lemmas.List.{length-drop, length-take}
 use Rattle.key_cells.specs.Bench.{text_of, with_text_of}
 use Rattle.key_cells.specs.Lease.{bench_of, holding}
-use Rattle.des_core.specs.Bits.{pieces, xor}
+use Rattle.des_core.specs.Bits.{xor}
 use Rattle.des_core.specs.Modes.{blocks, uncbc}
 use Rattle.des_core.specs.Schedules.{ded_bytes}
 use Rattle.des_core.specs.Texts.{put_at}
-use Rattle.des_core.proofs.ChainLemmas.{last-one, lease-begun, length-put, length-xor_block, start-bytes, stepped, text-begun, text-more, two-more, uncbc-done, uncbc-keys, uncbc-step-as}
+use Rattle.des_core.proofs.ChainLemmas.{last-one, lease-begun, length-put, length-xor_block, start-bytes, stepped, text-begun, two-more, uncbc-done, uncbc-keys}
 use Rattle.des_core.proofs.chaining.cbc_decipher.Goals as goal
 
 pub loop-i-init : goal.loop-i-init

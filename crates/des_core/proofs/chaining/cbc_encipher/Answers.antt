@@ -1,4 +1,4 @@
-use Rattle.std.proofs.Common.{◌≡◌, ℕ, ◌<◌, ◌-◌, ◌+◌, ◌/◌, ◌*◌, ◌++◌, length, take, drop, get_or, sym, ap, ◌∙◌, refl, arith, rules, subst}
+use Rattle.std.proofs.Common.{◌≡◌, ◌-◌, ◌+◌, ◌/◌, ◌*◌, ◌++◌, length, take, drop, sym, ap, ◌∙◌, refl, arith, subst}
 use Rattle.std.specs.Int.{to_be_bytes, w64}
 use Rattle.key_cells.specs.Bench.{text_of, with_text_of}
 use Rattle.key_cells.specs.Lease.{bench_of, holding}

@@ -1,7 +1,7 @@
 use Rattle.std.proofs.Common.{◌≡◌, ◌+◌, length, ◌∙◌, sym, ap, take, drop, bit_xor, refl, arith}
 use Rattle.std.specs.Int.{to_be_bytes, w64}
-use Rattle.key_cells.specs.Bench.{text_of, with_text_of}
-use Rattle.key_cells.specs.Lease.{bench_of, holding}
+use Rattle.key_cells.specs.Bench.{text_of}
+use Rattle.key_cells.specs.Lease.{bench_of}
 use Rattle.des_core.specs.Bits.{bits, xor}
 use Rattle.des_core.specs.Schedules.{ded_under, ded_bytes}
 use Rattle.des_core.specs.Texts.{put_at}

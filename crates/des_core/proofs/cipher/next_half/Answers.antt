@@ -1,5 +1,4 @@
-use Rattle.std.proofs.Common.{ap, subst}
-use Rattle.des_core.specs.Bits.{xor}
+use Rattle.std.proofs.Common.{subst}
 use Rattle.des_core.specs.Des.{f}
 use Rattle.des_core.specs.Halves.{IsHalf}
 use Rattle.des_core.proofs.HalfLemmas.{half-xor}

@@ -1,11 +1,9 @@
-use Rattle.std.proofs.Common.{◌≡◌, ◌+◌, ◌*◌, ◌/◌, ◌<◌, length, take, drop, ap, ◌∙◌, refl, arith}
+use Rattle.std.proofs.Common.{◌∙◌, refl, arith}
 use Rattle.std.specs.Int.{to_be_bytes, w64}
 use Rattle.des_core.specs.Des.{encipher}
-use Rattle.des_core.specs.Modes.{cbc_mac, fill}
 use Rattle.des_core.specs.Schedules.{enciphered_under, keys_of}
-use Rattle.des_core.specs.Texts.{fill_block}
 use Rattle.des_core.proofs.ChainLemmas.{cipher-word}
-use Rattle.des_core.proofs.MacLemmas.{blocks-count, blocks-within, mac-begun, mac-done, mac-key, mac-more}
+use Rattle.des_core.proofs.MacLemmas.{blocks-count, mac-begun, mac-done, mac-key, mac-more}
 use Rattle.des_core.proofs.macs.cbc_mac.Goals as goal
 
 pub loop-i-init : goal.loop-i-init

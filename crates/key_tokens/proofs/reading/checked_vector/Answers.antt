@@ -4,7 +4,7 @@ use Rattle.cca_vectors.specs.Checks.{check, first_failing}
 use Rattle.cca_vectors.specs.Vectors.{length_of}
 use Rattle.cca_vectors.specs.VectorChecks.{vector_checks}
 use Rattle.cca_vectors.proofs.Judging.{passed_over, stopped_in}
-use Rattle.key_tokens.specs.Parts.{vector_bytes_of}
+use Rattle.key_tokens.specs.Fields.{vector_bytes_of}
 use Rattle.key_tokens.specs.TokenChecks.{header_checks, has_right_half, rule_of}
 use Rattle.key_tokens.proofs.Layouts.{names_right_half}
 use Rattle.key_tokens.proofs.reading.checked_vector.Goals as goal
@@ -32,4 +32,4 @@ returns-then-not-is_zero-clause-refused c =
     ap (λ v. first_failing (vector_checks v)) (sym c.vector_bytes.ensures) ∙ c.in-Ok.ensures.accepted in
     let single : length_of (vector_bytes_of c.args.bytes.now) ≡ 8 =
     ap length_of (sym (c.in-Ok.ensures.vector ∙ c.vector_bytes.ensures)) ∙ sym c.length.ensures.length ∙ c.if-length-eq8.true in
-    names_right_half c.args.asked c.args.bytes.now (sym c.in_default.ensures) accepted single (sym c.is_zero.ensures ∙ c.if-not-is_zero.true)
+    names_right_half c.args.asked c.args.bytes.now (sym c.in_default.ensures) accepted single (sym c.is_zero.ensures.value ∙ c.if-not-is_zero.true)

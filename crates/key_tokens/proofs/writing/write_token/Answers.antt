@@ -19,8 +19,8 @@ returns-clause-token c =
     subst (λ bytes. IsToken bytes c.args.token.now) (sym (returns-clause-made c))
     (made-token c.args.token.now c.with_tvv.ensures.sized.0 c.with_tvv.ensures.sized.1 c.with_tvv.ensures.sized.2 c.with_tvv.ensures.valid c.requires.pattern c.requires.right)
 
-pub returns-clause-parts : goal.returns-clause-parts
-returns-clause-parts c = token_is c.with_tvv-2.result (returns-clause-token c).whole c.args.token.now (returns-clause-token c)
+pub returns-clause-fields : goal.returns-clause-fields
+returns-clause-fields c = token_is c.with_tvv-2.result (returns-clause-token c).whole c.args.token.now (returns-clause-token c)
 
 pub returns-clause-accepted : goal.returns-clause-accepted
 returns-clause-accepted c = λ asked asks.

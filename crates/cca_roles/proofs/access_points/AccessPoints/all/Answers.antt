@@ -1,6 +1,5 @@
-use Rattle.std.proofs.Common.{◌≡◌, refl, sym, subst, ◌∙◌}
-use Rattle.bitflags.specs.Sets.{known_bits}
-use Rattle.cca_roles.specs.Points.{ArePoints, access_points, every_point}
+use Rattle.std.proofs.Common.{refl, sym, subst, ◌∙◌}
+use Rattle.cca_roles.specs.Points.{ArePoints}
 use Rattle.cca_roles.proofs.PointLaws.{known_points}
 use Rattle.cca_roles.proofs.access_points.AccessPoints.all.Goals as goal
 

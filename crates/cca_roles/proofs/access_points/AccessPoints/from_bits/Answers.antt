@@ -1,7 +1,6 @@
-use Rattle.std.proofs.Common.{◌≡◌, refl, sym, ap, subst, ◌∙◌}
+use Rattle.std.proofs.Common.{refl, sym, ap, subst, ◌∙◌}
 use Rattle.std.specs.Int.RustNames.{bit_and}
-use Rattle.bitflags.specs.Sets.{known_bits}
-use Rattle.cca_roles.specs.Points.{ArePoints, access_points, every_point}
+use Rattle.cca_roles.specs.Points.{ArePoints}
 use Rattle.cca_roles.proofs.PointLaws.{known_points, points_kept, are_kept}
 use Rattle.cca_roles.proofs.access_points.AccessPoints.from_bits.Goals as goal
 

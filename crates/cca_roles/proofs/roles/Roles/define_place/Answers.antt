@@ -1,6 +1,5 @@
-use Rattle.std.proofs.Common.{◌≡◌, ◌<◌, ℕ, List, Option, None, Some, refl, sym, ap, subst, ◌∙◌}
+use Rattle.std.proofs.Common.{Option, None, Some, sym, ap, ◌∙◌}
 use Rattle.std.specs.Prelude.{is_some, IfSome}
-use Rattle.cca_roles.specs.Directory.{place_of, free_place, AreApart}
 use Rattle.cca_roles.specs.RoleNames.{default_name}
 use Rattle.cca_roles.specs.Roles.{names}
 use Rattle.cca_roles.proofs.DirectoryLaws.{apart_set, apart_same, held_at, held_nowhere, free_first}
@@ -20,12 +19,12 @@ some_weaker (Some x) weaker holds = weaker x holds
 pub returns-in-None-clause-first : goal.returns-in-None-clause-first
 returns-in-None-clause-first c =
     some_weaker c.free_place.result
-    (λ place is first. absurd (free_first (names c.args.self.now) default_name (sym is.0 ∙ first) c.free_place.ensures.roles.first))
+    (λ place is first. absurd (free_first (names c.args.self.now) default_name (sym is ∙ first) c.free_place.ensures.roles.first))
     c.free_place.ensures.free
 
 pub returns-in-None-clause-apart : goal.returns-in-None-clause-apart
 returns-in-None-clause-apart c =
     some_weaker c.free_place.result
     (λ place is. apart_set (names c.args.self.now) place c.args.name.now c.free_place.ensures.roles.apart
-        (held_nowhere c.args.name.now (names c.args.self.now) (ap (λ o. is_some o) (sym c.in-None.ensures.found))))
+    (held_nowhere c.args.name.now (names c.args.self.now) (ap (λ o. is_some o) (sym c.in-None.ensures.found))))
     c.free_place.ensures.free

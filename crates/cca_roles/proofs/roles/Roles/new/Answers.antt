@@ -1,7 +1,6 @@
-use Rattle.std.proofs.Common.{◌≡◌, ◌∷◌, ℕ, List, Option, None, Some, replicate, sym, ap, subst, ◌∙◌}
-use Rattle.cca_roles.specs.Points.{every_point}
+use Rattle.std.proofs.Common.{◌∷◌, ℕ, List, Option, None, Some, replicate, sym, ap, subst, ◌∙◌}
 use Rattle.cca_roles.specs.RoleNames.{default_name}
-use Rattle.cca_roles.specs.Roles.{AreRoles, role, blank_roles}
+use Rattle.cca_roles.specs.Roles.{AreRoles, role}
 use Rattle.cca_roles.proofs.TableLaws.{blank_table}
 use Rattle.cca_roles.proofs.roles.Roles.new.Goals as goal
 

@@ -1,0 +1,145 @@
+//! Measures des_core. With no word it only prints a block of the example of NIST SP 800-67, enciphered and
+//! deciphered again. With a word it also measures, and prints a line for each operation: its name, how many
+//! are in a round, and the nanoseconds of the fastest of many rounds.
+#![tactic(auto)]
+
+use des_core::{cbc_decipher, cbc_encipher, cbc_mac, ded, ede, schedule};
+use key_cells::{Lease, Schedule, Secret, Workbench};
+use std::time::{Duration, Instant};
+use std::{env, io};
+
+/// How many rounds each operation is measured in.
+const ROUNDS: u32 = 400;
+
+/// How many operations a round has.
+const COUNT: u64 = 64;
+
+/// The keys of the example of NIST SP 800-67.
+const KEYS: [u64; 3] = [
+    0x0123_4567_89ab_cdef,
+    0x2345_6789_abcd_ef01,
+    0x4567_89ab_cdef_0123,
+];
+
+fn main(rt: HostRuntime) -> io::Result<()> {
+    let schedules = example_schedules();
+    let enciphered = ede(&schedules, b"The qufc");
+    let deciphered = u64::from_be_bytes(ded(&schedules, &enciphered));
+    let sealed = u64::from_be_bytes(enciphered);
+    println!(rt; "triple DES {sealed:016x}, and back {deciphered:016x}")?;
+    if env::args(&rt)?.count() > 1 {
+        report(&rt, "schedule", Operation::KeySchedule)?;
+        report(&rt, "block", Operation::Block)?;
+        report(&rt, "request", Operation::Request)?;
+        measure_text(&rt)?;
+    }
+    Ok(())
+}
+
+/// An operation of which a round is measured.
+#[derive(Clone, Copy)]
+enum Operation {
+    KeySchedule,
+    Block,
+    Request,
+}
+
+/// A round of an operation.
+fn round(operation: Operation, start: u64) -> u64 {
+    match operation {
+        Operation::KeySchedule => key_schedules(start),
+        Operation::Block => blocks(start),
+        Operation::Request => requests(start),
+    }
+}
+
+/// Prints the time of the fastest round of an operation.
+fn report(rt: &HostRuntime, name: &str, operation: Operation) -> io::Result<()> {
+    let mut fastest = Duration::MAX;
+    let mut sum: u64 = 0;
+    for _ in 0..ROUNDS {
+        let start = Instant::now(rt)?;
+        sum ^= round(operation, sum);
+        fastest = fastest.min(start.elapsed(rt)?);
+    }
+    let nanoseconds = fastest.as_nanos();
+    println!(rt; "{name} {COUNT} {nanoseconds} {sum}")
+}
+
+fn put_schedule(key: u64, out: &mut Schedule) {
+    let mut bytes = key.to_be_bytes();
+    schedule(&Secret::guard(&mut bytes), out);
+}
+
+fn example_schedules() -> [Schedule; 3] {
+    let mut schedules = [Schedule::new(), Schedule::new(), Schedule::new()];
+    for i in 0..3 {
+        put_schedule(KEYS[i], &mut schedules[i]);
+    }
+    schedules
+}
+
+/// Key schedules, each of a key that hangs on the one before.
+fn key_schedules(start: u64) -> u64 {
+    let mut out = Schedule::new();
+    let mut sum = start;
+    for i in 0..COUNT {
+        put_schedule(sum ^ i, &mut out);
+        sum ^= (out.groups[5] as u64) << 8 ^ out.groups[77] as u64;
+    }
+    sum
+}
+
+/// Blocks by triple DES, each of what the one before gave.
+fn blocks(start: u64) -> u64 {
+    let schedules = example_schedules();
+    let mut sum = start;
+    for _ in 0..COUNT {
+        sum = u64::from_be_bytes(ede(&schedules, &sum.to_be_bytes()));
+    }
+    sum
+}
+
+/// What a short request costs: eight key schedules and three blocks by triple DES.
+fn requests(start: u64) -> u64 {
+    let mut schedules = example_schedules();
+    let mut sum = start;
+    for _ in 0..COUNT {
+        for j in 0..8 {
+            put_schedule(sum ^ (j as u64) << 40, &mut schedules[j % 3]);
+            sum ^= schedules[j % 3].groups[5] as u64;
+        }
+        for _ in 0..3 {
+            sum = u64::from_be_bytes(ede(&schedules, &sum.to_be_bytes()));
+        }
+    }
+    sum
+}
+
+/// Measures cipher block chaining and the message authentication code over texts of 4,096 bytes.
+fn measure_text(rt: &HostRuntime) -> io::Result<()> {
+    let mut bench = Workbench::new();
+    let mut lease = Lease::open(&mut bench);
+    *lease.schedules_mut() = example_schedules();
+    let mut fastest = [Duration::MAX, Duration::MAX, Duration::MAX];
+    let mut sum: u64 = 0;
+    for _ in 0..ROUNDS {
+        lease.set_text_length(4096);
+        let start = Instant::now(rt)?;
+        cbc_encipher(&mut lease, &[7; 8]);
+        fastest[0] = fastest[0].min(start.elapsed(rt)?);
+        lease.set_text_length(4096);
+        let start = Instant::now(rt)?;
+        cbc_decipher(&mut lease, &[9; 8]);
+        fastest[1] = fastest[1].min(start.elapsed(rt)?);
+        let start = Instant::now(rt)?;
+        sum ^= u64::from_be_bytes(cbc_mac(&lease.schedules()[0], lease.text()));
+        fastest[2] = fastest[2].min(start.elapsed(rt)?);
+    }
+    let encipher = fastest[0].as_nanos();
+    let decipher = fastest[1].as_nanos();
+    let mac = fastest[2].as_nanos();
+    println!(rt; "encipher 4096 {encipher} {sum}")?;
+    println!(rt; "decipher 4096 {decipher} {sum}")?;
+    println!(rt; "mac 4096 {mac} {sum}")
+}

@@ -1,0 +1,73 @@
+//! How the program ends otherwise than well: by a text on standard error, and an exit status.
+ghost use Rattle.std.specs.Prelude.{◌≡◌, None};
+ghost use Rattle.cca.specs.Exits.{exit_of, fault_of_lem};
+
+use cca_tool::{Device, Status};
+use thiserror::Error;
+
+/// Why the program didn't end well, with its text.
+#[derive(Clone, Copy, Debug, PartialEq, Eq, Error)]
+pub enum Fault {
+    /// The words are no command, or one of them isn't UTF-8.
+    #[error("cca: usage: cca run, or cca demo N with N from 1 to 1000")]
+    Usage,
+    /// The module holds in this cell what no module may hold.
+    #[error("cca: module cell {0} is damaged")]
+    ModuleCell(u16),
+    /// The input could not be read.
+    #[error("cca: the input could not be read")]
+    Input,
+    /// The output could not be written.
+    #[error("cca: the output could not be written")]
+    Output,
+    /// A call of the module's file failed.
+    #[error("cca: the module file failed")]
+    Module,
+    /// More bytes came than a run takes.
+    #[error("cca: the input is too long")]
+    InputLimit,
+    /// There was no memory.
+    #[error("cca: out of memory")]
+    NoMemory,
+    /// A file could not be opened or made, or another run uses it.
+    #[error("cca: a file could not be opened")]
+    File,
+    /// A file has another size than it must.
+    #[error("cca: a file has a wrong size")]
+    Size,
+}
+
+impl Fault {
+    /// The exit status. That of a good end is 0.
+    pub fn exit_status(self) -> u8
+        ensures { result ≡ exit_of self }
+    {
+        match self {
+            Fault::Usage => 2,
+            Fault::ModuleCell(_) => 3,
+            Fault::Input => 4,
+            Fault::Output => 5,
+            Fault::Module => 6,
+            Fault::InputLimit => 9,
+            Fault::NoMemory => 10,
+            Fault::File => 11,
+            Fault::Size => 17,
+        }
+    }
+}
+
+/// What a run's end is told as: nothing where it ended well.
+pub fn fault_of(status: Status) -> Option<Fault>
+    ensures { result ≡ fault_of_lem status }
+{
+    match status {
+        Status::Done => None,
+        Status::Usage => Some(Fault::Usage),
+        Status::Damaged(Device::Module, cell) => Some(Fault::ModuleCell(cell)),
+        Status::ReadFault => Some(Fault::Input),
+        Status::WriteFault => Some(Fault::Output),
+        Status::ModuleFault => Some(Fault::Module),
+        Status::InputLimit => Some(Fault::InputLimit),
+        Status::NoMemory => Some(Fault::NoMemory),
+    }
+}

@@ -1,0 +1,54 @@
+//! The files of the program.
+ghost use Rattle.std.specs.Prelude.{◌≡◌, IfOk};
+
+use crate::fault::Fault;
+use slot_disk::{Disk, FileDisk};
+use std::fs::{File, OpenOptions};
+use std::os::unix::fs::OpenOptionsExt;
+
+/// The module: the cell of the registers, and 32 cells of roles.
+pub const MODULE_LEN: u64 = 50_688;
+
+/// Read and written by the file's owner alone.
+const OWNER_ALONE: u32 = 0o600;
+
+/// The file of this name in the current folder, of this many bytes, locked until the program ends.
+///
+/// Where it is missing or empty it is made, all zero. A file that is made is its owner's alone, and
+/// one that is there keeps its mode. A file that another run has locked isn't opened, and no byte of
+/// it is read.
+pub fn open_disk(rt: &HostRuntime, name: &str, size: u64) -> Result<FileDisk, Fault>
+    ensures { IfOk result (λ disk. (⟦<FileDisk as Disk>⟧.medium disk).size ≡ size) }
+{
+    let opened = OpenOptions::new()
+        .read(true)
+        .write(true)
+        .create(true)
+        .mode(OWNER_ALONE)
+        .open(rt, name);
+    let Ok(file) = opened else {
+        return Err(Fault::File);
+    };
+    if file.try_lock().is_err() {
+        return Err(Fault::File);
+    }
+    made_whole(&file, size)?;
+    Ok(FileDisk::new(file, size))
+}
+
+/// Makes an empty file all zero. Another one has this many bytes already, or is refused.
+fn made_whole(file: &File, size: u64) -> Result<(), Fault> {
+    let Ok(metadata) = file.metadata() else {
+        return Err(Fault::File);
+    };
+    if metadata.len() == size {
+        return Ok(());
+    }
+    if metadata.len() != 0 {
+        return Err(Fault::Size);
+    }
+    match file.set_len(size) {
+        Ok(()) => Ok(()),
+        Err(_) => Err(Fault::File),
+    }
+}

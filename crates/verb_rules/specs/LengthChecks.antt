@@ -1,0 +1,35 @@
+-- The rules on lengths: of a text, by its use, and of the key of a message authentication code.
+use Rattle.std.specs.Prelude.{ℕ, ◌%◌, Bool, not, nat_le, ◌&&◌, List, [], ◌∷◌, ◌==◌}
+use Rattle.cca_vectors.specs.Checks.{Check, check}
+use Rattle.verb_rules.specs.declared.lengths.MacRule.{MacRule}
+use Rattle.verb_rules.specs.declared.lengths.MacRule.TheVariants.{X99, X919}
+use Rattle.verb_rules.specs.declared.lengths.TextUse.{TextUse}
+use Rattle.verb_rules.specs.declared.lengths.TextUse.TheVariants.{EncipherPlain, EncipherPadded, Decipher, Mac}
+
+-- the greatest length of a text
+abbrev pub text_room : ℕ
+text_room = 4096
+
+-- whole blocks of 8 bytes, one at least
+abbrev pub is_whole : ℕ → Bool
+is_whole length = length % 8 == 0 && nat_le 8 length && nat_le length text_room
+
+-- the lengths of texts, in bytes
+abbrev pub has_length : TextUse → ℕ → Bool
+has_length EncipherPlain length = is_whole length
+has_length EncipherPadded length = nat_le length 4095
+has_length Decipher length = is_whole length
+has_length Mac length = nat_le 1 length && nat_le length text_room
+
+-- rule 23
+abbrev pub text_checks : TextUse → ℕ → List Check
+text_checks use_of length = check 23 (not (has_length use_of length)) ∷ []
+
+-- how many bytes the key of a code has: X9.9-1 is DES's, X9.19OPT has a double-length key
+abbrev pub mac_key_length : MacRule → ℕ
+mac_key_length X99 = 8
+mac_key_length X919 = 16
+
+-- rule 32 of a code
+abbrev pub mac_checks : MacRule → ℕ → List Check
+mac_checks rule length = check 32 (not (length == mac_key_length rule)) ∷ []

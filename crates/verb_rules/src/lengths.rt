@@ -1,0 +1,82 @@
+//! The rules on lengths: of a text, by its use, and of the key of a message authentication code.
+ghost use Rattle.verb_rules.specs.LengthChecks.{has_length, mac_key_length, mac_checks, text_checks};
+ghost use Rattle.verb_rules.specs.Rules.{Judges};
+ghost use Rattle.std.specs.Prelude.{◌≡◌};
+
+use crate::rules::Rule;
+
+/// The greatest length of a text in bytes.
+const TEXT_ROOM: usize = 4096;
+
+const BLOCK: usize = 8;
+
+/// What a text is given for.
+#[derive(Clone, Copy, Debug, PartialEq, Eq)]
+pub enum TextUse {
+    /// To be enciphered as it is.
+    EncipherPlain,
+    /// To be enciphered with padding of ANSI X9.23.
+    EncipherPadded,
+    /// To be deciphered.
+    Decipher,
+    /// To have its message authentication code made or verified.
+    Mac,
+}
+
+/// How a message authentication code is made.
+#[derive(Clone, Copy, Debug, PartialEq, Eq)]
+pub enum MacRule {
+    /// X9.9-1: by DES, under a single-length key.
+    X99,
+    /// X9.19OPT: under a double-length key.
+    X919,
+}
+
+impl TextUse {
+    /// Whether a text of so many bytes may be given.
+    fn has_length(self, length: usize) -> bool
+        ensures { result ≡ has_length self length }
+    {
+        match self {
+            TextUse::EncipherPlain | TextUse::Decipher => {
+                length % BLOCK == 0 && BLOCK <= length && length <= TEXT_ROOM
+            }
+            TextUse::EncipherPadded => length < TEXT_ROOM,
+            TextUse::Mac => 1 <= length && length <= TEXT_ROOM,
+        }
+    }
+}
+
+impl MacRule {
+    /// How many bytes the key has.
+    fn key_length(self) -> usize
+        ensures { result ≡ mac_key_length self }
+    {
+        match self {
+            MacRule::X99 => 8,
+            MacRule::X919 => 16,
+        }
+    }
+}
+
+/// Rule 23: whether a text of this length in bytes may be given for this use.
+pub fn judge_text(use_of: TextUse, length: usize) -> Result<(), Rule>
+    ensures { Judges (text_checks use_of length) result }
+{
+    if use_of.has_length(length) {
+        Ok(())
+    } else {
+        Err(Rule::TextLength)
+    }
+}
+
+/// Rule 32: whether a key of this length in bytes makes codes by this rule.
+pub fn judge_mac(rule: MacRule, length: usize) -> Result<(), Rule>
+    ensures { Judges (mac_checks rule length) result }
+{
+    if length == rule.key_length() {
+        Ok(())
+    } else {
+        Err(Rule::KeyLength)
+    }
+}
