@@ -1,6 +1,8 @@
 mod Acting
 mod Changing
-mod DigitLemmas
+mod Contents
 mod Fields
+mod Points
+mod RoleChanging
 pub mod Serving
 mod TokenReply

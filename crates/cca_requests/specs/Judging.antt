@@ -4,7 +4,7 @@ use Rattle.cca_vectors.specs.Checks.{first_failing}
 use Rattle.key_tokens.specs.Parts.{token_of}
 use Rattle.verb_rules.specs.Rules.{rule_number}
 use Rattle.verb_rules.specs.declared.rules.Rule.{Rule}
-use Rattle.verb_script.specs.Grammar.{Request, row_of, AreAccepted, is_hex}
+use Rattle.verb_script.specs.Grammar.{Request, row_of, AreValues, is_hex}
 use Rattle.verb_script.specs.Values.{hex_value}
 use Rattle.cca_machine.specs.State.{State}
 use Rattle.cca_machine.specs.Operands.{Operand, Operands, listed}
@@ -17,9 +17,9 @@ use Rattle.cca_requests.specs.declared.judging.Grant.{Grant}
 use Rattle.cca_requests.specs.declared.judging.Granted.{Granted}
 use Rattle.cca_requests.specs.declared.refusals.Refusal.{Refusal as CodeRefusal}
 
--- the values are those that the grammar accepts
+-- the fields say what they may
 abbrev pub IsAccepted : Request → Type 0
-IsAccepted request = AreAccepted (row_of request.name).fields request.values
+IsAccepted request = AreValues (row_of request.name).fields request.values
 
 abbrev pub seen_operand : CodeOperand → Operand
 seen_operand o = record { name = o.name.now; text = o.text.now; ask = o.ask }

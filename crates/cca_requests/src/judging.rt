@@ -11,12 +11,12 @@ ghost use Rattle.cca_machine.specs.State.{State};
 ghost use Rattle.cca_machine.specs.Verdict.{operand_checks};
 ghost use Rattle.cca_requests.specs.Judging.{IsText, IsAsked, HasShape, HaveShapes, AreFit, IsJudged, seen_operands};
 
-use crate::digits::decode;
 use crate::operands::{Operand, Operands};
 use crate::refusals::Refusal;
 use cca_machine::Ask;
 use key_tokens::{Asked, Token, TokenFault, read_token};
 use verb_rules::Rule;
+use verb_script::decode;
 
 /// What an operand stands for, where it breaks no rule.
 #[derive(Clone, Copy)]

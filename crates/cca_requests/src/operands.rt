@@ -75,14 +75,16 @@ pub(crate) fn operands_of<'a>(request: &Request<'a>) -> Operands<'a>
 {
     match request {
         Request::Csnbktp { token, .. } => csnbktp(token),
-        Request::CsnbmkpPart { role, .. } => no_operands(role),
-        Request::CsnbmkpClear { role, .. } => no_operands(role),
-        Request::CsnbmkpSet { role, .. } => no_operands(role),
+        Request::CsnbmkpPart { action, .. } => no_operands(action),
+        Request::CsnbmkpClear { action, .. } => no_operands(action),
+        Request::CsnbmkpSet { action, .. } => no_operands(action),
+        Request::CsuaaciDefine { action, .. } => no_operands(action),
+        Request::CsuaaciRemove { action, .. } => no_operands(action),
     }
 }
 
 // The arms of a match are to hold references alike, so this one takes one too.
-fn no_operands<'a>(_role: &'a [u8]) -> Operands<'a>
+fn no_operands<'a>(_text: &'a [u8]) -> Operands<'a>
     ensures { seen_operands result ≡ no_operands }
 {
     Operands::none()

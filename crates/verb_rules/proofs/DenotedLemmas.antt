@@ -1,5 +1,5 @@
 -- The key that a token stands for is the one that the bench opens it to.
-use Rattle.std.proofs.Common.{◌≡◌, ℕ, Bool, true, false, List, Option, None, Some, refl, sym, ap, ◌∙◌, subst}
+use Rattle.std.proofs.Common.{◌≡◌, ℕ, Bool, true, false, List, Option, None, Some, refl, sym, ap, ◌∙◌}
 use Rattle.std.specs.Prelude.{if◌then◌else◌, is_none}
 use Rattle.std.specs.Option.{option_map}
 use Rattle.std.specs.Str.{bytes_eq}
@@ -8,19 +8,24 @@ use Rattle.key_cells.specs.Bench.{Bench}
 use Rattle.key_tokens.specs.declared.key_token.Age.{Age}
 use Rattle.key_tokens.specs.declared.key_token.Age.TheVariants.{Current, Old}
 use Rattle.key_tokens.specs.declared.key_token.Asked.TheVariants as asked
+use Rattle.key_tokens.specs.declared.key_token.Kind.TheVariants as kind
+use Rattle.key_tokens.specs.declared.key_token.Token.{Token}
 use Rattle.key_tokens.specs.Denotes.{Denoted, clear_of, denoted, denoted_or, denoted_under}
 use Rattle.key_tokens.specs.Parts.{token_of, pattern_of_token}
 use Rattle.key_tokens.specs.TokenChecks.{token_checks}
 use Rattle.master_registers.specs.Masters.{Masters, kept_bytes, pattern_of_master}
-use Rattle.master_registers.specs.Loaded.{Loaded, pattern_in, registers_of}
+use Rattle.master_registers.specs.Loaded.{Loaded, pattern_in}
 use Rattle.master_registers.specs.declared.registers.Registers.{Registers}
 use Rattle.multi_encipher.specs.Parts.{transport_parts}
-use Rattle.verb_rules.specs.KeyChecks.{has_pattern, register_with}
+use Rattle.verb_rules.specs.KeyChecks.{age_in, age_of, has_pattern, register_with}
 use Rattle.verb_rules.specs.Keys.{keys_of, master_key, opened, opened_key, opened_under}
 use Rattle.verb_rules.specs.declared.judging.Judged.{Judged}
 
-abbrev judged_as : List ℕ → Option Age → Judged
-judged_as bytes age = record { token = token_of bytes; age = age }
+abbrev pub judged_with : Token → Option Age → Judged
+judged_with token age = record { token = token; age = age }
+
+abbrev pub judged_as : List ℕ → Option Age → Judged
+judged_as bytes age = judged_with (token_of bytes) age
 
 abbrev key_by : Bench → List ℕ → Age → Denoted
 key_by bench bytes age = record { clear = opened bench (judged_as bytes (Some age)); age = age }
@@ -86,3 +91,10 @@ unfolding denoted_under
 denoted_under_opened transport bytes judged passes is =
     ap (λ (v : Option ℕ). if is_none v then Some (clear_of (transport_parts transport) bytes) else None) passes
     ∙ ap (λ token. Some (opened_under transport (record { token = token; age = judged.age }))) (sym is)
+
+-- a token that was read as internal, with the register that has its pattern
+pub judged_is : (held : Registers) (bytes : List ℕ) (token : Token) → token ≡ token_of bytes → token.kind ≡ kind.Internal
+    → judged_with token (age_of held token) ≡ judged_as bytes (register_with held (pattern_of_token bytes))
+judged_is held bytes token is internal =
+    ap (λ (t : Token). judged_with t (age_of held t)) is
+    ∙ ap (λ k. judged_as bytes (age_in held k (pattern_of_token bytes))) (sym (ap (λ (t : Token). t.kind) is) ∙ internal)

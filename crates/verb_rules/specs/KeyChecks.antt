@@ -1,6 +1,6 @@
 -- The rules that a key operand can break, in their order, as tests: of the bytes of its token, of the registers'
 -- patterns, and of its control vector.
-use Rattle.std.specs.Prelude.{ℕ, Bool, true, false, not, ◌&&◌, List, [], ◌∷◌, ◌++◌, Option, None, Some, is_none, ◌==◌, if◌then◌else◌}
+use Rattle.std.specs.Prelude.{ℕ, Bool, false, not, ◌&&◌, List, [], ◌∷◌, ◌++◌, Option, None, Some, is_none, ◌==◌, if◌then◌else◌}
 use Rattle.std.specs.Str.{bytes_eq}
 use Rattle.cca_vectors.specs.declared.key_usage.Usage.{Usage}
 use Rattle.cca_vectors.specs.Checks.{Check, check}

@@ -16,6 +16,13 @@ pub struct Classes {
     others: bool,
 }
 
+/// Whether a list has the class.
+fn is_listed(list: &[Class], wanted: Class) -> bool
+    ensures { result ≡ is_listed list.now wanted }
+{
+    list.iter().any(|class| *class == wanted)
+}
+
 impl Classes {
     /// The set of the classes of a list.
     pub fn of(list: &[Class]) -> Classes
@@ -23,12 +30,12 @@ impl Classes {
         ensures members { (class : Class) → has result class ≡ is_listed list.now class }
     {
         Classes {
-            data_keys: list.contains(&Class::Data),
-            cipher_keys: list.contains(&Class::Cipher),
-            mac_keys: list.contains(&Class::Mac),
-            exporters: list.contains(&Class::Exporter),
-            importers: list.contains(&Class::Importer),
-            others: list.contains(&Class::Other),
+            data_keys: is_listed(list, Class::Data),
+            cipher_keys: is_listed(list, Class::Cipher),
+            mac_keys: is_listed(list, Class::Mac),
+            exporters: is_listed(list, Class::Exporter),
+            importers: is_listed(list, Class::Importer),
+            others: is_listed(list, Class::Other),
         }
     }
 

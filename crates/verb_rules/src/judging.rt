@@ -9,7 +9,7 @@ ghost use Rattle.key_tokens.specs.Parts.{token_of};
 ghost use Rattle.key_tokens.specs.TokenChecks.{rule_of};
 ghost use Rattle.master_registers.specs.Loaded.{Loaded};
 ghost use Rattle.master_registers.specs.Masters.{Masters};
-ghost use Rattle.verb_rules.specs.KeyChecks.{age_of, has_pattern, is_forbidden, key_checks, read_checks, register_with, use_checks, vector_use_checks};
+ghost use Rattle.verb_rules.specs.KeyChecks.{age_of, has_pattern, is_forbidden, key_checks, part_check, read_checks, register_with, use_checks, vector_use_checks};
 ghost use Rattle.verb_rules.specs.Keys.{HasHalves, keys_of, opened_key, opened_under};
 ghost use Rattle.verb_rules.specs.Rules.{Judges, rule_number};
 
@@ -65,6 +65,13 @@ fn register_with(held: &Registers, pattern: &[u8; 8]) -> Option<Age>
     None
 }
 
+/// Whether the key is a part, and parts aren't taken.
+fn is_refused_part(need: &Need, vector: &Vector) -> bool
+    ensures { result ≡ (part_check need.now vector.now).fails }
+{
+    !need.parts && vector.is_part()
+}
+
 fn is_forbidden(usage: Option<Usage>, vector: &Vector) -> bool
     ensures { result ≡ is_forbidden usage vector.now }
 {
@@ -99,7 +106,7 @@ pub fn judge_use(token: &Token, age: Option<Age>, need: &Need) -> Result<Judged,
     ensures judges { Judges (use_checks need.now token.now.vector) result }
     ensures judged { IfOk result (λ judged. judged ≡ record { token = token.now; age = age }) }
 {
-    if !need.parts && token.vector.is_part() {
+    if is_refused_part(need, &token.vector) {
         return Err(Rule::KeyPart);
     }
     match vector_fault(need, &token.vector) {
@@ -114,7 +121,7 @@ fn judge_read(token: &Token, need: &Need, held: &Registers) -> Result<Judged, Ru
     ensures judged { IfOk result (λ judged. judged ≡ record { token = token.now; age = age_of held.now token.now }) }
     ensures internal { token.now.kind ≡ Kind.Internal → IfOk result (λ judged. IsSome judged.age) }
 {
-    if !need.parts && token.vector.is_part() {
+    if is_refused_part(need, &token.vector) {
         return Err(Rule::KeyPart);
     }
     let age = match token.kind {

@@ -14,3 +14,6 @@ pub use key_tokens::{Age, Asked};
 pub use lengths::{MacRule, TextUse, judge_mac, judge_text};
 pub use needs::Need;
 pub use rules::Rule;
+
+#[cfg(test)]
+mod tests;

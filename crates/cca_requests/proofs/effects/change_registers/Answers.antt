@@ -23,8 +23,8 @@ returns-clause-carries g c = λ s at.
     let new = g.M.Disk.medium c.change-outcome.new.module in
     let is = sym (masters_are s.registers c.args.held.now bench at.loaded) in
     subst (λ r. Carries (action_outcome s action bench.part) s r
-    c.answer_change.new.reply old new) (sym c.answer_change.ensures.stop)
-    (changes_as g.M.Disk.medium c.args.module.now c.change-outcome.new.module s (after_action action bench.part s.registers) later
+    c.answer_change.new.reply c.args.roles.now old new) (sym c.answer_change.ensures.stop)
+    (changes_as g.M.Disk.medium c.args.module.now c.change-outcome.new.module s c.args.roles.now (after_action action bench.part s.registers) later
     c.requires.at.settled at.stands (has_wrong_state action s.registers) (repeats_pattern action s.registers) result c.answer_change.new.reply
     (subst (λ (m : Masters). (result ≡ Err RegisterState) ↔ IsTrue (has_wrong_state action m)) is c.change-outcome.ensures.cause.state)
     (subst (λ (m : Masters). (result ≡ Err SamePattern) ↔ IsTrue (repeats_pattern action m)) is c.change-outcome.ensures.cause.same)
@@ -39,7 +39,7 @@ returns-clause-still g c = λ s at none.
     let action = c.args.action in
     let result = c.change-outcome.result in
     let is = sym (masters_are s.registers c.args.held.now bench at.loaded) in
-    still_as g.M.Disk.medium c.args.module.now c.change-outcome.new.module s (after_action action bench.part s.registers) bench
+    still_as g.M.Disk.medium c.args.module.now c.change-outcome.new.module s c.args.roles.now (after_action action bench.part s.registers) bench
     c.requires.at.settled at.stands (has_wrong_state action s.registers) (repeats_pattern action s.registers) result
     (subst (λ (m : Masters). (result ≡ Err RegisterState) ↔ IsTrue (has_wrong_state action m)) is c.change-outcome.ensures.cause.state)
     (subst (λ (m : Masters). (result ≡ Err SamePattern) ↔ IsTrue (repeats_pattern action m)) is c.change-outcome.ensures.cause.same)
@@ -51,9 +51,9 @@ returns-clause-left g c =
     let m = masters_in c.args.held.now bench in
     let result = c.change-outcome.result in
     let faults = g.M.Disk.faults in
-    let left = left_as g.M.Disk.medium faults c.args.module.now c.change-outcome.new.module m (after_action c.args.action bench.part m)
-    c.requires.at.settled c.requires.at.stands c.change-outcome.ensures.cause.later result c.answer_change.new.reply
+    let left = left_as g.M.Disk.medium faults c.args.module.now c.change-outcome.new.module m (after_action c.args.action bench.part m) c.args.roles.now
+    c.requires.at.settled c.requires.at.stands c.requires.at.remembered c.change-outcome.ensures.cause.later result c.answer_change.new.reply
     c.change-outcome.ensures.change.changed c.change-outcome.ensures.untouched c.change-outcome.ensures.cause.failed
     (subst (λ r. OnErr r (c.answer_change.new.reply ≡ [])) c.answer_change.ensures.stop c.answer_change.ensures.silent) in
     subst (λ r. Leaves (g.M.Disk.medium c.args.module.now) (g.M.Disk.medium c.change-outcome.new.module) (faults c.args.module.now) (faults c.change-outcome.new.module)
-    r c.answer_change.new.reply) (sym c.answer_change.ensures.stop) left
+    r c.answer_change.new.reply c.args.roles.now c.args.roles.now) (sym c.answer_change.ensures.stop) left

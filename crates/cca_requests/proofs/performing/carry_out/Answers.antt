@@ -17,8 +17,8 @@ pub returns-in-Some-clause-serves : goal.returns-in-Some-clause-serves
 returns-in-Some-clause-serves g c = λ s at.
     let request = seen c.args.request.now in
     let fails : first_failing (general_checks s request) ≡ Some (rule_number c.in-Some.rule) =
-    sym (c.general_rule.ensures s (bench_of c.args.lease.now) at.stands.in_module.has.roles at.loaded) ∙ ap (option_map rule_number) c.in-Some.is in
-    refused_serves s request (refusal (rule_number c.in-Some.rule) (codes "-")) c.refuse.new.reply (g.M.Disk.medium c.args.module.now)
+    sym (c.general_rule.ensures s (bench_of c.args.lease.now) at.stands.memory at.loaded) ∙ ap (option_map rule_number) c.in-Some.is in
+    refused_serves s request (refusal (rule_number c.in-Some.rule) (codes "-")) c.refuse.new.reply c.args.roles.now (g.M.Disk.medium c.args.module.now)
     (verdict_general s request (rule_number c.in-Some.rule) fails) c.refuse.ensures c.requires.at.settled at.stands
 
 pub returns-in-Err-clause-serves : goal.returns-in-Err-clause-serves
@@ -26,17 +26,17 @@ returns-in-Err-clause-serves g c = λ s at.
     let request = seen c.args.request.now in
     let r = refusal (rule_number c.in-Err.refusal.rule) c.in-Err.refusal.operand.now in
     let passes : first_failing (general_checks s request) ≡ None =
-    sym (c.general_rule.ensures s (bench_of c.args.lease.now) at.stands.in_module.has.roles at.loaded) ∙ ap (option_map rule_number) c.in_default.is in
+    sym (c.general_rule.ensures s (bench_of c.args.lease.now) at.stands.memory at.loaded) ∙ ap (option_map rule_number) c.in_default.is in
     let fails : operands_verdict s request ≡ Some r =
     subst (λ os. first_refusal (operand_questions s (listed os)) ≡ Some r) c.operands_of.ensures.table (c.in-Err.ensures.judged s) in
-    refused_serves s request r c.refuse-in-Err.new.reply (g.M.Disk.medium c.args.module.now)
+    refused_serves s request r c.refuse-in-Err.new.reply c.args.roles.now (g.M.Disk.medium c.args.module.now)
     (verdict_operands s request (Some r) passes fails) c.refuse-in-Err.ensures c.requires.at.settled at.stands
 
 pub returns-in-Ok-clause-serves : goal.returns-in-Ok-clause-serves
 returns-in-Ok-clause-serves g c = λ s at.
     let request = seen c.args.request.now in
     let passes : first_failing (general_checks s request) ≡ None =
-    sym (c.general_rule.ensures s (bench_of c.args.lease.now) at.stands.in_module.has.roles at.loaded) ∙ ap (option_map rule_number) c.in_default.is in
+    sym (c.general_rule.ensures s (bench_of c.args.lease.now) at.stands.memory at.loaded) ∙ ap (option_map rule_number) c.in_default.is in
     let judged = c.in-Ok.ensures.judged s in
     let none : operands_verdict s request ≡ None = subst (λ os. first_refusal (operand_questions s (listed os)) ≡ None) c.operands_of.ensures.table judged.0 in
     let granted : AreGranted s (operands request) c.in-Ok.granted = subst (λ os. AreGranted s os c.in-Ok.granted) c.operands_of.ensures.table judged.1 in
@@ -46,7 +46,7 @@ pub returns-in-Ok-clause-still : goal.returns-in-Ok-clause-still
 returns-in-Ok-clause-still g c = λ s at none_written.
     let request = seen c.args.request.now in
     let passes : first_failing (general_checks s request) ≡ None =
-    sym (c.general_rule.ensures s (bench_of c.args.lease.now) at.stands.in_module.has.roles at.loaded) ∙ ap (option_map rule_number) c.in_default.is in
+    sym (c.general_rule.ensures s (bench_of c.args.lease.now) at.stands.memory at.loaded) ∙ ap (option_map rule_number) c.in_default.is in
     let judged = c.in-Ok.ensures.judged s in
     let none : operands_verdict s request ≡ None = subst (λ os. first_refusal (operand_questions s (listed os)) ≡ None) c.operands_of.ensures.table judged.0 in
     let granted : AreGranted s (operands request) c.in-Ok.granted = subst (λ os. AreGranted s os c.in-Ok.granted) c.operands_of.ensures.table judged.1 in
@@ -54,10 +54,10 @@ returns-in-Ok-clause-still g c = λ s at none_written.
 
 pub returns-in-Some-clause-left : goal.returns-in-Some-clause-left
 returns-in-Some-clause-left g c =
-    still_left (g.M.Disk.medium c.args.module.now) (masters_in c.args.held.now (bench_of c.args.lease.now)) (g.M.Disk.faults c.args.module.now)
-    c.refuse.new.reply c.requires.at.settled c.requires.at.stands
+    still_left (g.M.Disk.medium c.args.module.now) (masters_in c.args.held.now (bench_of c.args.lease.now)) c.args.roles.now (g.M.Disk.faults c.args.module.now)
+    c.refuse.new.reply c.requires.at.settled c.requires.at.stands c.requires.at.remembered
 
 pub returns-in-Err-clause-left : goal.returns-in-Err-clause-left
 returns-in-Err-clause-left g c =
-    still_left (g.M.Disk.medium c.args.module.now) (masters_in c.args.held.now (bench_of c.args.lease.now)) (g.M.Disk.faults c.args.module.now)
-    c.refuse-in-Err.new.reply c.requires.at.settled c.requires.at.stands
+    still_left (g.M.Disk.medium c.args.module.now) (masters_in c.args.held.now (bench_of c.args.lease.now)) c.args.roles.now (g.M.Disk.faults c.args.module.now)
+    c.refuse-in-Err.new.reply c.requires.at.settled c.requires.at.stands c.requires.at.remembered
