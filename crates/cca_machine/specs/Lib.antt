@@ -2,6 +2,7 @@ pub mod Act
 pub mod Actions
 pub mod Lines
 pub mod Operands
+pub mod Points
 pub mod Session
 pub mod State
 pub mod Verdict
