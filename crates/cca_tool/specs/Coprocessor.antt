@@ -1,19 +1,17 @@
 -- The coprocessor as a machine that answers lines. It has a module, and so far neither a store nor random bytes.
-use Rattle.std.specs.Prelude.{⊤, ◌≡◌, ℕ, ◌×◌, List, [], Option, Some, IsSome}
-use Rattle.slot_disk.specs.Medium.{Medium, Told}
+use Rattle.std.specs.Prelude.{⊤, ◌≡◌, ℕ, List, [], Option, Some}
+use Rattle.slot_disk.specs.Medium.{Medium}
 use Rattle.slot_disk.specs.BlankMedium.{blank_medium}
 use Rattle.master_registers.specs.RegisterBody.{IsDamaged}
 use Rattle.script_buffers.specs.Replies.{Reply, Refused, Done, spelled}
 use Rattle.verb_script.specs.Grammar.{Request, Spells}
-use Rattle.cca_machine.specs.State.{State, IsModuleOf}
+use Rattle.cca_machine.specs.State.{State, IsModuleOf, module_size}
 use Rattle.cca_machine.specs.Lines.{LineOutcome, line_outcome}
 use Rattle.line_service.specs.Machine.{Machine, Outcome, World, world}
+use Rattle.line_service.specs.declared.stops.Device.{Device}
+use Rattle.line_service.specs.declared.stops.Device.TheVariants.{Module}
 use Rattle.line_service.specs.declared.stops.Stop.{Stop}
 use Rattle.line_service.specs.declared.stops.Stop.TheVariants.{ReadFault, WriteFault, EntropyFault, ModuleFault, StoreFault, Damaged, InputLimit}
-
--- the size of the module: 33 cells of 1,536 bytes
-abbrev pub module_size : ℕ
-module_size = 50688
 
 -- the reply names a rule
 abbrev pub IsRefusal : Reply → Type 0
@@ -45,7 +43,12 @@ pub record IsBroken (cell : ℕ) (image : List ℕ) : Type 0 where
   pub cell_is : cell ≡ 0
   pub damaged : IsDamaged image
 
-broken_apart : (cell : ℕ) (c : List ℕ) (s : State) → IsBroken cell c → IsModuleOf s c → ⊥
+-- the disk has this cell: so far cell 0 of the module alone
+pub record IsCell (device : Device) (cell : ℕ) : Type 0 where
+  pub device_is : device ≡ Module
+  pub cell_is : cell ≡ 0
+
+pub broken_apart : (cell : ℕ) (c : List ℕ) (s : State) → IsBroken cell c → IsModuleOf s c → ⊥
 broken_apart cell c s broken is = broken.damaged s.registers is.registers
 
 abbrev pub cca : Machine
@@ -58,6 +61,7 @@ cca = record {
   Between = λ s line t. ⊥;
   MayStop = MayFail;
   Draws = ⊥;
+  HasCell = IsCell;
   IsBrokenModule = IsBroken;
   IsBrokenStore = λ cell c d. ⊥;
   module_apart = broken_apart;
@@ -74,6 +78,26 @@ no_random = Some []
 abbrev pub over : Medium → World
 over m = world m blank_medium no_random
 
--- what the module tells stands for some state
-abbrev pub IsModuleSound : Medium → Type 0
-IsModuleSound m = Told m (λ image. (s : State) × IsModuleOf s image)
+-- whatever the state: memory holds nothing of it
+abbrev pub anything : State → Type 0
+anything s = ⊤
+
+-- a session stops for these alone
+abbrev pub IsStop : Stop → Type 0
+IsStop ReadFault = ⊤
+IsStop WriteFault = ⊤
+IsStop InputLimit = ⊤
+IsStop ModuleFault = ⊤
+IsStop (Damaged device cell) = IsCell device cell
+IsStop EntropyFault = ⊥
+IsStop StoreFault = ⊥
+
+-- and before its first line for these
+abbrev pub IsOpeningStop : Stop → Type 0
+IsOpeningStop ModuleFault = ⊤
+IsOpeningStop (Damaged device cell) = IsCell device cell
+IsOpeningStop ReadFault = ⊥
+IsOpeningStop WriteFault = ⊥
+IsOpeningStop InputLimit = ⊥
+IsOpeningStop EntropyFault = ⊥
+IsOpeningStop StoreFault = ⊥

@@ -5,7 +5,9 @@ ghost use Rattle.slot_disk.specs.Faults.{Rose};
 ghost use Rattle.slot_disk.specs.Medium.{Told, Keeps};
 ghost use Rattle.script_buffers.specs.Replies.{Refused, spelled};
 ghost use Rattle.line_service.specs.Devices.{DiskLeft};
-ghost use Rattle.cca_tool.specs.Coprocessor.{cca, module_size, IsBroken, IsModuleSound};
+ghost use Rattle.cca_machine.specs.State.{module_size};
+ghost use Rattle.cca_requests.specs.Serving.{IsSound};
+ghost use Rattle.cca_tool.specs.Coprocessor.{cca, IsBroken, IsOpeningStop};
 
 use cca_requests::perform;
 use key_cells::{Lease, Workbench};
@@ -23,7 +25,7 @@ impl Desk for Coprocessor {
 
     ghost knows = { λ desk s. ⊤ };
 
-    ghost ready = { λ desk m d. IsModuleSound m };
+    ghost ready = { λ desk m d. Told m IsSound };
 
     fn open<M: Disk, D: Disk>(
         &mut self,
@@ -65,17 +67,19 @@ impl Desk for Coprocessor {
 }
 
 /// Makes every image of the module its content, and sees that it stands for a state.
-fn open_module<M: Disk>(bench: &mut Workbench, module: &mut M) -> Result<(), Stop>
+pub(crate) fn open_module<M: Disk>(bench: &mut Workbench, module: &mut M) -> Result<(), Stop>
     requires { (M.medium «module».old).size ≡ module_size }
 
-    ensures sound { OnOk result (IsModuleSound (M.medium «module».new)) }
+    ensures sound { OnOk result (Told (M.medium «module».new) IsSound) }
     ensures damaged { (cell : ℕ) → result ≡ Err (Stop.Damaged Device.Module cell)
         → Told (M.medium «module».old) (IsBroken cell) }
+    ensures judged { (Rose (M.faults «module».old) (M.faults «module».new) → ⊥)
+        → Told (M.medium «module».old) (λ image. (cell : ℕ) → IsBroken cell image
+        → result ≡ Err (Stop.Damaged Device.Module cell)) }
     ensures kept { Keeps (M.medium «module».old) (M.medium «module».new) }
     ensures left { DiskLeft (M.medium «module».old) (M.medium «module».new)
         (M.faults «module».old) (M.faults «module».new) result Stop.ModuleFault }
-    ensures stops { IfErr result (λ stop.
-        (stop ≡ Stop.ModuleFault) ⊎ (stop ≡ Stop.Damaged Device.Module 0)) }
+    ensures stops { IfErr result IsOpeningStop }
     ensures bench { bench.new ≡ blank_bench }
 {
     let mut lease = Lease::open(bench);

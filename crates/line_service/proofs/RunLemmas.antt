@@ -77,7 +77,7 @@ module _ (A : Machine) (s : A.State) (random : Option (List ℕ)) where
     held = got_all p q l.sent l.held;
   }
 
-  prefix_none : (i : List ℕ) (p q : Option (List ℕ)) → WhereTold p q (λ x y. y ≡ x) → PrefixSent A s random i p q
+  pub prefix_none : (i : List ℕ) (p q : Option (List ℕ)) → WhereTold p q (λ x y. y ≡ x) → PrefixSent A s random i p q
   prefix_none i p q held = record {
     first = lines [];
     others = lines i;

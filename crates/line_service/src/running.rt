@@ -118,7 +118,7 @@ pub fn serve<A: Desk, S: Source, K: Sink, M: Disk, D: Disk, E: Entropy>(
         → (Rose (K.faults sink.old) (K.faults sink.new) → ⊥)
         → (Rose (M.faults «module».old) (M.faults «module».new) → ⊥)
         → (Rose (D.faults store.old) (D.faults store.new) → ⊥)
-        → (Rose (E.faults entropy.old) (E.faults entropy.new) → ⊥)
+        → (A.machine.Draws → Rose (E.faults entropy.old) (E.faults entropy.new) → ⊥)
         → WhereTold (S.left source.old) (S.left source.new) (λ input rest.
         length input < input_limit → result ≡ Ok tt) }
 

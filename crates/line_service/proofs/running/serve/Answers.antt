@@ -62,7 +62,7 @@ returns-in-Ok-clause-complete g c = λ s disks reads writes changes stores draws
     (λ h. reads (c.serve_all.ensures.source_left.fault h)) (λ h. writes (c.serve_all.ensures.sink_left.fault h))
     (λ h. changes (rose_wider _ _ _ _ c.open.ensures.module_left.later (c.serve_all.ensures.module_left.fault h) (omega arith)))
     (λ h. stores (rose_wider _ _ _ _ c.open.ensures.store_left.later (c.serve_all.ensures.store_left.fault h) (omega arith)))
-    (λ h. draws (c.serve_all.ensures.entropy_left.fault h)) (returns-in-Ok-clause-limit g c)
+    (λ h. draws (c.serve_all.ensures.draws h) (c.serve_all.ensures.entropy_left.fault h)) (returns-in-Ok-clause-limit g c)
 
 pub returns-in-Err-clause-complete : goal.returns-in-Err-clause-complete
 returns-in-Err-clause-complete g c = λ s disks reads writes changes stores draws.

@@ -1,0 +1,5 @@
+mod ListLemmas
+mod LineLemmas
+mod ModuleLemmas
+mod StopLemmas
+mod StatusLemmas

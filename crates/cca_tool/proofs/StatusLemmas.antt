@@ -1,0 +1,105 @@
+-- The status of a run tells how its lines ended.
+use Rattle.std.proofs.Common.{◌≡◌, ℕ, ◌+◌, List, length, Option, Result, Ok, Err, refl, sym, ap, ◌∙◌, subst, inl, inr}
+use Rattle.std.specs.Prelude.{⊤, ◌⊎◌, ◌↔◌, ◌<◌, IsOk}
+use Rattle.slot_disk.specs.Medium.{Medium, Told, EachImage}
+use Rattle.slot_disk.specs.WhereTold.{WhereTold}
+use Rattle.slot_disk.proofs.Media.{each_weaker, each_still, told_from, told_at}
+use Rattle.slot_disk.proofs.WhereToldLemmas.{told_weaker, told_same}
+use Rattle.script_buffers.specs.Reading.{input_limit}
+use Rattle.line_service.specs.Stops.{AnswersLines, IsFaultless as IsFaultlessOutcome}
+use Rattle.line_service.specs.Serving.{PrefixSent, IsOnTheWay}
+use Rattle.line_service.proofs.RunLemmas.{prefix_none}
+use Rattle.line_service.specs.declared.stops.Device.{Device}
+use Rattle.line_service.specs.declared.stops.Device.TheVariants.{Module}
+use Rattle.line_service.specs.declared.stops.Stop.{Stop}
+use Rattle.line_service.specs.declared.stops.Stop.TheVariants.{ReadFault, WriteFault, EntropyFault, ModuleFault, StoreFault, Damaged, InputLimit}
+use Rattle.cca_machine.specs.State.{State, IsModuleOf}
+use Rattle.cca_tool.specs.Coprocessor.{cca, no_random, IsBroken}
+use Rattle.cca_tool.specs.Statuses.{status_of_lem, ServesLines, IsFaultless}
+use Rattle.cca_tool.specs.declared.command.Status.{Status}
+use Rattle.cca_tool.specs.declared.command.Status.TheVariants as status
+
+-- the outcome of which a status tells
+abbrev pub outcome_of : Status → Result (Unit {0}) Stop
+outcome_of status.Done = Ok tt
+outcome_of status.ReadFault = Err ReadFault
+outcome_of status.WriteFault = Err WriteFault
+outcome_of status.EntropyFault = Err EntropyFault
+outcome_of status.ModuleFault = Err ModuleFault
+outcome_of status.StoreFault = Err StoreFault
+outcome_of (status.Damaged device cell) = Err (Damaged device cell)
+outcome_of status.InputLimit = Err InputLimit
+outcome_of status.Usage = Ok tt
+outcome_of status.NoMemory = Ok tt
+
+outcome_is : (r : Result (Unit {0}) Stop) → outcome_of (status_of_lem r) ≡ r
+outcome_is (Ok done) = refl
+outcome_is (Err ReadFault) = refl
+outcome_is (Err WriteFault) = refl
+outcome_is (Err EntropyFault) = refl
+outcome_is (Err ModuleFault) = refl
+outcome_is (Err StoreFault) = refl
+outcome_is (Err (Damaged device cell)) = refl
+outcome_is (Err InputLimit) = refl
+
+module _ (r : Result (Unit {0}) Stop) (outcome : Status) (is : outcome ≡ status_of_lem r) where
+  pub as_told : (told : Status) → outcome ≡ told → r ≡ outcome_of told
+  as_told told h = sym (outcome_is r) ∙ (ap outcome_of (sym is) ∙ ap outcome_of h)
+
+  pub stopped_as : (outcome ≡ status.ReadFault) ⊎ (outcome ≡ status.InputLimit) → (r ≡ Err ReadFault) ⊎ (r ≡ Err InputLimit)
+  stopped_as (inl h) = inl (as_told status.ReadFault h)
+  stopped_as (inr h) = inr (as_told status.InputLimit h)
+
+  pub serves_lines : ServesLines outcome → AnswersLines r
+  serves_lines (inl h) = inl (subst IsOk (sym (as_told status.Done h)) refl)
+  serves_lines (inr (inl h)) = inr (inl (as_told status.ReadFault h))
+  serves_lines (inr (inr (inl h))) = inr (inr (inl (as_told status.InputLimit h)))
+  serves_lines (inr (inr (inr h))) = inr (inr (inr (as_told status.WriteFault h)))
+
+  faultless : (r : Result (Unit {0}) Stop) → IsFaultlessOutcome r → IsFaultless (status_of_lem r)
+  faultless (Ok done) h = tt
+  faultless (Err InputLimit) h = tt
+  faultless (Err ReadFault) h = h
+  faultless (Err WriteFault) h = h
+  faultless (Err EntropyFault) h = h
+  faultless (Err ModuleFault) h = h
+  faultless (Err StoreFault) h = h
+  faultless (Err (Damaged device cell)) h = h
+
+  faultless_outcome : (r : Result (Unit {0}) Stop) → IsFaultless (status_of_lem r) → IsFaultlessOutcome r
+  faultless_outcome (Ok done) h = tt
+  faultless_outcome (Err InputLimit) h = tt
+  faultless_outcome (Err ReadFault) h = h
+  faultless_outcome (Err WriteFault) h = h
+  faultless_outcome (Err EntropyFault) h = h
+  faultless_outcome (Err ModuleFault) h = h
+  faultless_outcome (Err StoreFault) h = h
+  faultless_outcome (Err (Damaged device cell)) h = h
+
+  pub limit_as : (a b : Option (List ℕ)) → WhereTold a b (λ i s. (r ≡ Err InputLimit) ↔ ((length i ≡ length s + input_limit) × IsFaultlessOutcome r))
+      → WhereTold a b (λ i s. (outcome ≡ status.InputLimit) ↔ ((length i ≡ length s + input_limit) × IsFaultless outcome))
+  limit_as a b limit =
+      told_weaker a b _ _
+      (λ i s both. (
+        λ h. let here = both.0 (as_told status.InputLimit h) in (here.0, subst IsFaultless (sym is) (faultless r here.1)),
+        λ all. is ∙ ap status_of_lem (both.1 (all.0, faultless_outcome r (subst IsFaultless is all.1))),
+      )) limit
+
+  pub judged_as : (m : Medium) → Told m (λ image. (cell : ℕ) → IsBroken cell image → r ≡ Err (Damaged Module cell))
+      → Told m (λ image. (cell : ℕ) → IsBroken cell image → (outcome ≡ status.Damaged Module cell) ⊎ (outcome ≡ status.NoMemory))
+  judged_as m judged =
+      told_from m.content _ (λ c told cell broken.
+      inl (is ∙ ap status_of_lem (told_at m.content (λ image. (n : ℕ) → IsBroken n image → r ≡ Err (Damaged Module n)) c told judged cell broken)))
+
+  pub complete_as : (a b : Option (List ℕ)) → WhereTold a b (λ i s. length i < input_limit → r ≡ Ok tt)
+      → WhereTold a b (λ i s. length i < input_limit → (outcome ≡ status.Done) ⊎ (outcome ≡ status.NoMemory))
+  complete_as a b complete = told_weaker a b _ _ (λ i s h short. inl (is ∙ ap status_of_lem (h short))) complete
+
+-- ---- where no device was called
+
+pub prefix_still : (s : State) (a p : Option (List ℕ)) → WhereTold a a (λ i r. PrefixSent cca s no_random i p p)
+prefix_still s a p = told_same a _ (λ x. prefix_none cca s no_random x p p (told_same p (λ y z. z ≡ y) (λ y. refl)))
+
+pub moments_still : (s : State) (m : Medium) (a : Option (List ℕ))
+    → WhereTold a a (λ i r. EachImage m m (λ image. m.images image ⊎ IsOnTheWay cca s no_random i (λ t. IsModuleOf t image)))
+moments_still s m a = told_same a _ (λ x. each_weaker m m _ _ (each_still m) (λ c h. inl h))

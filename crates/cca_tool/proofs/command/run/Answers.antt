@@ -1,0 +1,41 @@
+-- The status tells how the lines ended; and where no device was called, nothing has changed.
+use Rattle.cca_tool.specs.declared.command.Status.TheVariants as status
+use Rattle.line_service.specs.declared.stops.Stop.TheVariants.{ModuleFault}
+use Rattle.std.proofs.Common.{inl, inr}
+use Rattle.std.specs.Prelude.{◌⊎◌}
+use Rattle.cca_tool.proofs.StatusLemmas.{as_told, stopped_as, judged_as, complete_as, prefix_still}
+use Rattle.cca_tool.proofs.command.run.Goals as goal
+
+pub returns-then-not-are_run-clause-prefix : goal.returns-then-not-are_run-clause-prefix
+returns-then-not-are_run-clause-prefix g c = λ s holds. prefix_still s (g.S.Source.left c.args.source.now) (g.K.Sink.held c.args.sink.now)
+
+pub returns-in-Err-clause-prefix : goal.returns-in-Err-clause-prefix
+returns-in-Err-clause-prefix g c = λ s holds. prefix_still s (g.S.Source.left c.args.source.now) (g.K.Sink.held c.args.sink.now)
+
+pub returns-in-Ok-clause-done : goal.returns-in-Ok-clause-done
+returns-in-Ok-clause-done g c = λ h s holds.
+    (c.serve.ensures.serves s holds).done (as_told c.serve.result c.status_of.result c.status_of.ensures status.Done h)
+
+pub returns-in-Ok-clause-stopped : goal.returns-in-Ok-clause-stopped
+returns-in-Ok-clause-stopped g c = λ h s holds.
+    (c.serve.ensures.serves s holds).stopped (stopped_as c.serve.result c.status_of.result c.status_of.ensures h)
+
+pub returns-in-Ok-clause-cut : goal.returns-in-Ok-clause-cut
+returns-in-Ok-clause-cut g c = λ h s holds.
+    (c.serve.ensures.serves s holds).cut (as_told c.serve.result c.status_of.result c.status_of.ensures status.WriteFault h)
+
+pub returns-in-Ok-clause-lost : goal.returns-in-Ok-clause-lost
+returns-in-Ok-clause-lost g c = λ h s holds.
+    (c.serve.ensures.serves s holds).lost ModuleFault tt (as_told c.serve.result c.status_of.result c.status_of.ensures status.ModuleFault h)
+
+pub returns-in-Ok-clause-moments : goal.returns-in-Ok-clause-moments
+returns-in-Ok-clause-moments g c = λ s holds. (c.serve.ensures.serves s holds).on_module
+
+pub returns-in-Ok-clause-judged : goal.returns-in-Ok-clause-judged
+returns-in-Ok-clause-judged g c = λ words still.
+    judged_as c.serve.result c.status_of.result c.status_of.ensures (g.M.Disk.medium c.args.module.now) (c.serve.ensures.judged still)
+
+pub returns-in-Ok-clause-complete : goal.returns-in-Ok-clause-complete
+returns-in-Ok-clause-complete g c = λ words s holds reads writes changes.
+    complete_as c.serve.result c.status_of.result c.status_of.ensures (g.S.Source.left c.args.source.now) (g.S.Source.left c.serve.new.source)
+    (c.serve.ensures.complete s holds reads writes changes)
