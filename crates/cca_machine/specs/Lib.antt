@@ -6,4 +6,5 @@ pub mod Points
 pub mod Session
 pub mod State
 pub mod Verdict
+pub mod WorkedRoles
 pub mod WorkedTokens
