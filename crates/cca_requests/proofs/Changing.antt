@@ -60,7 +60,7 @@ module _ {A : Type 0} (medium : A → Medium) (old new : A) (s : State) (roles :
       → EachImage (medium old) (medium new) (From (SameBut (Some 0)) (medium old))
   outside r changes =
       each_weaker (medium old) (medium new) (From (HoldsEither s.registers next) (medium old)) (From (SameBut (Some 0)) (medium old)) changes.moments
-      (λ image from. (from.0, from.1, record { outside = from.2.outside; others = from.2.others }))
+      (λ image from. (from.0, from.1, record { outside = from.2.outside; others = from.2.others; untouched = from.2.untouched }))
 
   carried : (r : Result Registers RegisterFault) (reply : List ℕ) → ChangesModule s.registers next (medium old) (medium new) r → IfOk r (λ now. Loaded next now bench)
       → OnOk (change_stop r) (reply ≡ spelled (change_reply r)) → (r ≡ Err RegisterState → ⊥) → (r ≡ Err SamePattern → ⊥)

@@ -68,7 +68,7 @@ module _ {A : Type 0} (medium : A → Medium) (old new : A) (s : State) (before 
       → EachImage (medium old) (medium new) (From (SameBut (Some (place + 1))) (medium old))
   outside r changes =
       each_weaker (medium old) (medium new) (From (HoldsEither (place + 1) s.roles next) (medium old)) (From (SameBut (Some (place + 1))) (medium old))
-      changes.moments (λ image from. (from.0, from.1, record { outside = from.2.outside; others = from.2.others }))
+      changes.moments (λ image from. (from.0, from.1, record { outside = from.2.outside; others = from.2.others; untouched = from.2.untouched }))
 
   done : (u : Unit {0}) (reply : List ℕ) → ChangesRoles place s.roles next (medium old) (medium new) (Ok u) → now ≡ next → reply ≡ spelled (Done [])
       → Carries after s (Ok tt) reply now (medium old) (medium new)

@@ -23,6 +23,7 @@ same_but_cell : (cell : ℕ) (c : List ℕ) → SameButCell cell c c
 same_but_cell cell c = record {
   outside = record { size = refl; before = λ k h. refl; after = λ k h. refl };
   others = λ n h. refl;
+  untouched = λ k h. refl;
 }
 
 same_but : (cell : Option ℕ) (c : List ℕ) → SameBut cell c c

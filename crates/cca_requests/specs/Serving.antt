@@ -1,6 +1,7 @@
 -- What a request leaves of the module, in a few records.
-use Rattle.std.specs.Prelude.{◌≡◌, ◌≢◌, ◌⊎◌, ◌≤◌, ◌*◌, ℕ, List, [], length, Option, Some, None, Result, OnOk, OnErr, IfErr, ⊤}
-use Rattle.slot_disk.specs.Cells.{body}
+use Rattle.std.specs.Prelude.{◌≡◌, ◌≢◌, ◌⊎◌, ◌≤◌, ◌*◌, ℕ, List, [], length, slice_index, Option, Some, None, Result, OnOk, OnErr, IfErr, ⊤}
+use Rattle.slot_disk.specs.Cells.{body, IsUntouched}
+use Rattle.slot_disk.specs.declared.cell.TheConstants.{CELL_LEN}
 use Rattle.slot_disk.specs.Medium.{Medium, Told, From, EachImage}
 use Rattle.slot_disk.specs.Ranges.{SameOutside}
 use Rattle.script_buffers.specs.Reading.{line_limit}
@@ -35,10 +36,12 @@ pub record IsDone (o : Outcome) (reply : List ℕ) (roles : List (Option Role)) 
 abbrev pub IsEither : State → Outcome → List ℕ → Type 0
 IsEither s o image = IsModuleOf s image ⊎ IsModuleOf o.state image
 
--- new is old outside this cell, and every other cell selects the body that it did
+-- new is old outside this cell, and in it but for the selector and the body that wasn't selected; every other cell selects
+-- the body that it did
 pub record SameButCell (cell : ℕ) (old new : List ℕ) : Type 0 where
-  pub outside : SameOutside (1536 * cell) 1536 old new
+  pub outside : SameOutside (CELL_LEN * cell) CELL_LEN old new
   pub others : (n : ℕ) → n ≢ cell → body new n ≡ body old n
+  pub untouched : (k : ℕ) → IsUntouched old cell k → slice_index new k ≡ slice_index old k
 
 -- where no cell is written, new is old
 abbrev pub SameBut : Option ℕ → List ℕ → List ℕ → Type 0
