@@ -31,8 +31,8 @@ pub fn outcomes_of_lines()
     ensures request { (s : State) (drawn rest line : List ℕ) (request : Request) → length line ≤ line_limit
         → request_of line ≡ Some request → length drawn ≡ taken_by s request
         → line_outcome s (drawn ++ rest) line ≡ record {
-            state = (performed s drawn request).state;
-            reply = (performed s drawn request).reply;
-            random = rest;
+          state = (performed s drawn request).state;
+          reply = (performed s drawn request).reply;
+          random = rest;
         } }
 {}
