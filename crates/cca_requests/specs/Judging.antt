@@ -1,7 +1,7 @@
 -- What the operands of a request stand for, and the first rule that one of them breaks.
 use Rattle.std.specs.Prelude.{◌≡◌, ◌<◌, ℕ, List, length, Some, None, Result, Ok, Err, IsTrue, IsSome, ⊤}
 use Rattle.cca_vectors.specs.Checks.{first_failing}
-use Rattle.key_tokens.specs.Parts.{token_of}
+use Rattle.key_tokens.specs.Fields.{token_of}
 use Rattle.verb_rules.specs.Rules.{rule_number}
 use Rattle.verb_rules.specs.declared.rules.Rule.{Rule}
 use Rattle.verb_script.specs.Grammar.{Request, row_of, AreValues, is_hex}

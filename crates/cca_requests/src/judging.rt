@@ -2,7 +2,7 @@
 ghost use Rattle.std.specs.Prelude.{◌≡◌, ◌<◌, Some, None, IfOk, IfErr, IsTrue, length};
 ghost use Rattle.cca_vectors.specs.Checks.{first_failing};
 ghost use Rattle.key_tokens.specs.TokenChecks.{rule_of, token_checks};
-ghost use Rattle.key_tokens.specs.Parts.{token_of};
+ghost use Rattle.key_tokens.specs.Fields.{token_of};
 ghost use Rattle.key_tokens.specs.declared.key_token.Asked.TheVariants.{Either};
 ghost use Rattle.verb_rules.specs.Rules.{rule_number};
 ghost use Rattle.verb_script.specs.Grammar.{is_hex};
