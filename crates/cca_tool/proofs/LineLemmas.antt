@@ -8,8 +8,9 @@ use Rattle.slot_disk.proofs.Media.{each_weaker, each_still, each_pair, told_from
 use Rattle.script_buffers.specs.Reading.{line_limit}
 use Rattle.script_buffers.specs.Replies.{Reply, Refused, Done, spelled}
 use Rattle.master_registers.specs.RegisterBody.{IsDamaged}
-use Rattle.verb_script.specs.Grammar.{Request, RequestName, csnbktp, csnbmkp_part, csnbmkp_clear, csnbmkp_set, Spells}
+use Rattle.verb_script.specs.Grammar.{Request, RequestName, csnbktp, csnbmkp_part, csnbmkp_clear, csnbmkp_set, csuaaci_define, csuaaci_remove, Spells}
 use Rattle.verb_script.specs.Requests.{request_of}
+use Rattle.cca_roles.specs.declared.roles.Role.{Role}
 use Rattle.cca_machine.specs.State.{State, IsModuleOf}
 use Rattle.cca_machine.specs.Verdict.{Refusal, verdict}
 use Rattle.cca_machine.specs.Act.{Outcome, draws, or_act, performed}
@@ -24,7 +25,7 @@ use Rattle.line_service.specs.declared.stops.Stop.{Stop}
 use Rattle.line_service.specs.declared.stops.Stop.TheVariants.{EntropyFault, ModuleFault, Damaged}
 use Rattle.line_service.specs.declared.stops.Device.TheVariants.{Module}
 use Rattle.line_service.proofs.LineLemmas.{refused_serves}
-use Rattle.cca_tool.specs.Coprocessor.{cca, anything, IsRefusal, IsRequest, MayFail}
+use Rattle.cca_tool.specs.Coprocessor.{cca, IsRefusal, IsRequest, MayFail, remembers}
 
 -- ---- lines that are refused without a look at the module
 
@@ -38,11 +39,11 @@ refused_steps s line reply rule comes is = λ rest.
 pub long_steps : (s : State) (line reply : List ℕ) → line_limit < length line → reply ≡ spelled (Refused 2 (codes "-")) → Steps cca s line [] s reply
 long_steps s line reply long is = refused_steps s line reply 2 (λ random. line-too_long s random line long) is
 
-pub unspelled_serves : (s : State) (line reply : List ℕ) (m d : Medium) (e : Option (List ℕ)) → length line ≤ line_limit → request_of line ≡ None
-    → reply ≡ spelled (Refused 1 (codes "-")) → Stands cca s anything m d → IsSettled m → IsSettled d
-    → Serves cca s anything line (Ok tt) reply (world m d e) (world m d e)
-unspelled_serves s line reply m d e short none is stands settled_m settled_d =
-    refused_serves cca s anything line reply (world m d e) (refused_steps s line reply 1 (λ random. line-no_request s random line short none) is)
+pub unspelled_serves : (s : State) (K : State → Type 0) (line reply : List ℕ) (m d : Medium) (e : Option (List ℕ)) → length line ≤ line_limit → request_of line ≡ None
+    → reply ≡ spelled (Refused 1 (codes "-")) → Stands cca s K m d → IsSettled m → IsSettled d
+    → Serves cca s K line (Ok tt) reply (world m d e) (world m d e)
+unspelled_serves s K line reply m d e short none is stands settled_m settled_d =
+    refused_serves cca s K line reply (world m d e) (refused_steps s line reply 1 (λ random. line-no_request s random line short none) is)
     stands settled_m settled_d
 
 -- ---- requests
@@ -53,6 +54,8 @@ none_drawn csnbktp r = refl
 none_drawn csnbmkp_part r = refl
 none_drawn csnbmkp_clear r = refl
 none_drawn csnbmkp_set r = refl
+none_drawn csuaaci_define r = refl
+none_drawn csuaaci_remove r = refl
 
 none_taken_by : (o : Option Refusal) (count : ℕ) → count ≡ 0 → drawn_where o count ≡ 0
 none_taken_by (Some r) count none = refl
@@ -77,22 +80,22 @@ module _ (s : State) (line : List ℕ) (r : Request) (short : length line ≤ li
   steps : Steps cca s line [] (performed s [] r).state (spelled (performed s [] r).reply)
   steps = λ rest. ap (λ (o : LineOutcome). record { state = o.state; reply = spelled o.reply; random = o.random }) (comes rest)
 
-  module _ (result : Result (Unit {0}) Stop) (reply : List ℕ) (m0 m1 d : Medium) (e : Option (List ℕ)) where
+  module _ (result : Result (Unit {0}) Stop) (reply : List ℕ) (before after : List (Option Role)) (m0 m1 d : Medium) (e : Option (List ℕ)) where
     around : (c : List ℕ) → IsEither s (performed s [] r) c → Around cca s line (performed s [] r).state (λ t. IsModuleOf t c)
-    around c (inl before) = inl before
-    around c (inr after) = inr (inl after)
+    around c (inl same) = inl same
+    around c (inr next) = inr (inl next)
 
     both : (c b : List ℕ) → IsEither s (performed s [] r) c → Around cca s line (performed s [] r).state (Both cca c b)
-    both c b (inl before) = inl (before, tt)
-    both c b (inr after) = inr (inl (after, tt))
+    both c b (inl same) = inl (same, tt)
+    both c b (inr next) = inr (inl (next, tt))
 
-    stands_after : (u : Result (Unit {0}) Stop) → OnOk u (Holds m1 (IsModuleOf (performed s [] r).state)) → Holds d (λ b. ⊤)
-        → OnOk u (Stands cca (performed s [] r).state anything m1 d)
-    stands_after (Ok done) holds in_store = record { disks = record { in_module = holds; in_store = in_store }; agrees = tt }
-    stands_after (Err stop) holds in_store = tt
+    stands_after : (u : Result (Unit {0}) Stop) → OnOk u (IsDone (performed s [] r) reply after m1) → Holds d (λ b. ⊤)
+        → OnOk u (Stands cca (performed s [] r).state (remembers after) m1 d)
+    stands_after (Ok done) is in_store = record { disks = record { in_module = is.stands.in_module; in_store = in_store }; agrees = is.stands.memory }
+    stands_after (Err stop) is in_store = tt
 
-    pub request_serves : IsRequest line → IfErr result (λ stop. (stop ≡ ModuleFault) ⊎ (stop ≡ Damaged Module 0)) → Stands cca s anything m0 d
-        → Performs s r result reply m0 m1 → Serves cca s anything line result reply (world m0 d e) (world m1 d e)
+    pub request_serves : IsRequest line → IfErr result (λ stop. (stop ≡ ModuleFault) ⊎ (stop ≡ Damaged Module 0)) → Stands cca s (remembers before) m0 d
+        → Performs s r result reply after m0 m1 → Serves cca s (remembers after) line result reply (world m0 d e) (world m1 d e)
     request_serves found stops stands performs =
         let store = each_weaker d d d.images (λ b. ⊤) (each_still d) (λ b h. tt) in
         record {
@@ -103,7 +106,7 @@ module _ (s : State) (line : List ℕ) (r : Request) (short : length line ≤ li
             steps = steps;
             consumed = Consumes-nil e;
             reply_is = reply_at result performs.carries.done;
-            stands = stands_after result (holds_at result performs.carries.done) stands.disks.in_store;
+            stands = stands_after result performs.carries.done stands.disks.in_store;
             on_module = each_weaker m0 m1 _ _ performs.carries.on_module around;
             on_store = each_weaker d d d.images _ (each_still d) (λ b h. inl tt);
             pairs = each_pair m0 m1 d d _ (λ b. ⊤) _ performs.carries.on_module store (λ c b h k. both c b h);
@@ -117,13 +120,9 @@ module _ (s : State) (line : List ℕ) (r : Request) (short : length line ≤ li
           };
         }
       where
-        reply_at : (u : Result (Unit {0}) Stop) → OnOk u (IsDone (performed s [] r) reply m1) → OnOk u (reply ≡ spelled (performed s [] r).reply)
+        reply_at : (u : Result (Unit {0}) Stop) → OnOk u (IsDone (performed s [] r) reply after m1) → OnOk u (reply ≡ spelled (performed s [] r).reply)
         reply_at (Ok done) is = is.reply_is
         reply_at (Err stop) is = tt
-
-        holds_at : (u : Result (Unit {0}) Stop) → OnOk u (IsDone (performed s [] r) reply m1) → OnOk u (Holds m1 (IsModuleOf (performed s [] r).state))
-        holds_at (Ok done) is = is.stands.in_module
-        holds_at (Err stop) is = tt
 
         of_stop : (stop : Stop) → (stop ≡ ModuleFault) ⊎ (stop ≡ Damaged Module 0) → IsFault stop → IsLineStop stop × MayFail stop s line
         of_stop stop (inl is) fault = subst (λ (x : Stop). IsLineStop x × MayFail x s line) (sym is) (tt, found)

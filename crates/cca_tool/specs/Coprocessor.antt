@@ -1,10 +1,14 @@
 -- The coprocessor as a machine that answers lines. It has a module, and so far neither a store nor random bytes.
-use Rattle.std.specs.Prelude.{⊤, ◌≡◌, ℕ, List, [], Option, Some}
-use Rattle.slot_disk.specs.Medium.{Medium}
+use Rattle.std.specs.Prelude.{⊤, ◌≡◌, ◌⊎◌, ◌≤◌, ℕ, List, [], Option, Some}
+use Rattle.std.proofs.Common.{inl, inr}
+use Rattle.slot_disk.specs.Medium.{Medium, Told}
 use Rattle.slot_disk.specs.BlankMedium.{blank_medium}
 use Rattle.master_registers.specs.RegisterBody.{IsDamaged}
 use Rattle.script_buffers.specs.Replies.{Reply, Refused, Done, spelled}
 use Rattle.verb_script.specs.Grammar.{Request, Spells}
+use Rattle.cca_roles.specs.RolesStand.{IsFirstDamaged}
+use Rattle.cca_roles.specs.declared.roles.Role.{Role}
+use Rattle.cca_roles.proofs.StandLaws.{stands_undamaged}
 use Rattle.cca_machine.specs.State.{State, IsModuleOf, module_size}
 use Rattle.cca_machine.specs.Lines.{LineOutcome, line_outcome}
 use Rattle.line_service.specs.Machine.{Machine, Outcome, World, world}
@@ -38,18 +42,19 @@ MayFail WriteFault s line = ⊥
 MayFail InputLimit s line = ⊥
 MayFail (Damaged device cell) s line = ⊥
 
--- cell 0 reads as no registers
-pub record IsBroken (cell : ℕ) (image : List ℕ) : Type 0 where
-  pub cell_is : cell ≡ 0
-  pub damaged : IsDamaged image
+-- Cell 0 reads as no registers; or it reads as some, and this is the first cell behind it that reads as no role, or as
+-- one whose name a lower cell holds.
+abbrev pub IsBroken : ℕ → List ℕ → Type 0
+IsBroken cell image = ((cell ≡ 0) × IsDamaged image) ⊎ ((IsDamaged image → ⊥) × IsFirstDamaged image cell)
 
--- the disk has this cell: so far cell 0 of the module alone
+-- the disk has this cell: so far the module alone has some, from 0 to 32
 pub record IsCell (device : Device) (cell : ℕ) : Type 0 where
   pub device_is : device ≡ Module
-  pub cell_is : cell ≡ 0
+  pub within : cell ≤ 32
 
 pub broken_apart : (cell : ℕ) (c : List ℕ) (s : State) → IsBroken cell c → IsModuleOf s c → ⊥
-broken_apart cell c s broken is = broken.damaged s.registers is.registers
+broken_apart cell c s (inl damaged) is = damaged.1 s.registers is.registers
+broken_apart cell c s (inr first) is = stands_undamaged c s.roles first.1.place is.roles first.1.within first.1.damaged
 
 abbrev pub cca : Machine
 cca = record {
@@ -78,9 +83,9 @@ no_random = Some []
 abbrev pub over : Medium → World
 over m = world m blank_medium no_random
 
--- whatever the state: memory holds nothing of it
-abbrev pub anything : State → Type 0
-anything s = ⊤
+-- these are the roles of the state
+abbrev pub remembers : List (Option Role) → State → Type 0
+remembers roles s = roles ≡ s.roles
 
 -- a session stops for these alone
 abbrev pub IsStop : Stop → Type 0
@@ -101,3 +106,7 @@ IsOpeningStop WriteFault = ⊥
 IsOpeningStop InputLimit = ⊥
 IsOpeningStop EntropyFault = ⊥
 IsOpeningStop StoreFault = ⊥
+
+-- what the module tells stands for some state
+abbrev pub IsModuleSound : Medium → Type 0
+IsModuleSound m = Told m (λ image. (s : State) × IsModuleOf s image)

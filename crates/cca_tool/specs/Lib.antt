@@ -1,2 +1,3 @@
 pub mod Coprocessor
+pub mod Sessions
 pub mod Statuses

@@ -10,8 +10,7 @@ ghost use Rattle.line_service.specs.Answering.{Holds};
 ghost use Rattle.line_service.specs.Sending.{Grows};
 ghost use Rattle.line_service.specs.Serving.{PrefixSent, AllAnswered, WholeLinesAnswered, ReplyCut, LineLost, Unopened, IsOnTheWay};
 ghost use Rattle.cca_machine.specs.State.{State, IsModuleOf, module_size};
-ghost use Rattle.cca_requests.specs.Serving.{IsSound};
-ghost use Rattle.cca_tool.specs.Coprocessor.{cca, over, no_random, IsBroken, IsCell};
+ghost use Rattle.cca_tool.specs.Coprocessor.{cca, over, no_random, IsBroken, IsCell, IsModuleSound};
 ghost use Rattle.cca_tool.specs.Statuses.{status_of_lem, CallsNone, ServesLines, IsFaultless};
 ghost use Rattle.line_service.specs.declared.stops.Device.{Device as AnyDevice};
 
@@ -101,14 +100,15 @@ pub fn run<S: Source, K: Sink, M: Disk>(
     ensures sink_grows { WhereTold (K.held sink.old) (K.held sink.new) Grows }
 
     // Lines are served only where the module stands for a state. Where it doesn't, all is as before.
-    ensures sound { ServesLines result → Told (M.medium «module».old) IsSound }
+    ensures sound { ServesLines result → IsModuleSound (M.medium «module».old) }
     ensures settled { ServesLines result → IsSettled (M.medium «module».new) }
-    ensures unsound_source { (Told (M.medium «module».old) IsSound → ⊥) → source.new ≡ source.old }
-    ensures unsound_sink { (Told (M.medium «module».old) IsSound → ⊥) → sink.new ≡ sink.old }
-    ensures unsound_module { (Told (M.medium «module».old) IsSound → ⊥)
+    ensures unsound_source { (IsModuleSound (M.medium «module».old) → ⊥) → source.new ≡ source.old }
+    ensures unsound_sink { (IsModuleSound (M.medium «module».old) → ⊥) → sink.new ≡ sink.old }
+    ensures unsound_module { (IsModuleSound (M.medium «module».old) → ⊥)
         → Keeps (M.medium «module».old) (M.medium «module».new) }
 
-    // Damage is told where a cell is broken, and then always, unless the module failed. Cell 0 alone may be.
+    // Damage is told where a cell is broken, and then always, unless the module failed. Only cells 0 to 32 of the
+    // module are named.
     ensures damaged { (cell : ℕ) → result ≡ Status.Damaged Device.Module cell
         → Told (M.medium «module».old) (IsBroken cell) }
     ensures judged { words.now ≡ codes "run" ∷ [] → (Rose (M.faults «module».old) (M.faults «module».new) → ⊥)

@@ -14,9 +14,11 @@ ghost use Rattle.line_service.specs.Serving.{LineServed, RunServed, PrefixSent};
 ghost use Rattle.line_service.specs.Stops.{IsUnanswered, AnswersLines, IsFaultless};
 ghost use Rattle.cca_machine.specs.State.{State, IsModuleOf, module_size};
 ghost use Rattle.cca_requests.specs.Serving.{IsSound};
-ghost use Rattle.cca_tool.specs.Coprocessor.{cca, over, anything, no_random, IsBroken, IsStop, IsOpeningStop};
+ghost use Rattle.cca_tool.specs.Sessions.{blank_memory};
+ghost use Rattle.cca_tool.specs.Coprocessor.{cca, over, no_random, remembers, IsBroken, IsModuleSound, IsStop, IsOpeningStop};
 
 use crate::coprocessor::{Coprocessor, open_module};
+use cca_roles::Roles;
 use key_cells::Workbench;
 use line_service::{Device, Served, Stop, serve, serve_one};
 use slot_disk::{BlankDisk, BlankEntropy, Disk, NoMemory, Sink, Source};
@@ -24,7 +26,8 @@ use std::alloc::Global;
 use std::marker::Model;
 use verb_script::{LineBuffer, ReplyBuffer};
 
-/// The buffers of a session, with all the memory that it uses. Clauses see the reading of its lines.
+/// The buffers of a session and the roles of its module, with all the memory that it uses. Clauses see the reading of
+/// its lines and the roles.
 #[derive(Drop)]
 pub struct Session {
     lines: LineBuffer,
@@ -33,35 +36,37 @@ pub struct Session {
 }
 
 impl Model for Session {
-    ghost use Rattle.script_buffers.specs.Reading.{Reading};
+    ghost use Rattle.cca_tool.specs.Sessions.{Memory};
 
-    ghost Value = { Reading };
+    ghost Value = { Memory };
 
-    ghost view = { λ s. s.lines };
+    ghost view = { λ s. record { reading = s.lines; roles = s.desk.roles } };
 }
 
 impl Session {
     /// A session that has taken nothing. It is to be begun.
     pub fn new(alloc: Global) -> Result<Session, NoMemory>
-        ensures { IfOk result (λ session. session ≡ blank) }
+        ensures { IfOk result (λ session. session ≡ blank_memory) }
     {
         let lines = LineBuffer::new(alloc)?;
         let reply = ReplyBuffer::new(alloc)?;
         Ok(Session {
             lines,
             reply,
-            desk: Coprocessor {},
+            desk: Coprocessor {
+                roles: Roles::new(),
+            },
         })
     }
 
     /// Begins the session: bytes that were taken before and not answered are lost, every image of the module
-    /// becomes its content, and its registers are looked at.
+    /// becomes its content, its registers are looked at, and its roles are read.
     pub fn begin<M: Disk>(&mut self, bench: &mut Workbench, module: &mut M) -> Result<(), Stop>
         requires { (M.medium «module».old).size ≡ module_size }
 
-        ensures fresh { self.new ≡ blank }
-        // It succeeds only where the module stands for a state. Nothing is written.
-        ensures sound { OnOk result (Told (M.medium «module».new) IsSound) }
+        ensures fresh { self.new.reading ≡ blank }
+        // It succeeds only where the module stands for a state, whose roles are then known. Nothing is written.
+        ensures sound { OnOk result (Told (M.medium «module».new) (IsSound self.new.roles)) }
         ensures kept { Keeps (M.medium «module».old) (M.medium «module».new) }
         ensures left { DiskLeft (M.medium «module».old) (M.medium «module».new)
             (M.faults «module».old) (M.faults «module».new) result Stop.ModuleFault }
@@ -76,7 +81,7 @@ impl Session {
         ensures bench { bench.new ≡ blank_bench }
     {
         self.lines.clear();
-        open_module(bench, module)
+        open_module(bench, module, &mut self.desk.roles)
     }
 
     /// Serves one line: it is taken from the source, judged and carried out, and the reply is sent.
@@ -89,40 +94,41 @@ impl Session {
         sink: &mut K,
         module: &mut M,
     ) -> Result<Served, Stop>
-        requires at_end { IsTrue self.old.ended → IsAtEnd (S.left source.old) }
+        requires at_end { IsTrue self.old.reading.ended → IsAtEnd (S.left source.old) }
         requires size { (M.medium «module».old).size ≡ module_size }
         requires settled { IsSettled (M.medium «module».old) }
-        requires sound { Told (M.medium «module».old) IsSound }
+        requires sound { Told (M.medium «module».old) (IsSound self.old.roles) }
 
         // What the line comes to, from the state for which the module stands.
         ensures serves { (s : State) → Holds (M.medium «module».old) (IsModuleOf s)
-            → LineServed cca s anything result (over (M.medium «module».old)) (over (M.medium «module».new))
-            (S.left source.old) (S.left source.new) (K.held sink.old) (K.held sink.new) self.old self.new }
-        ensures sound { OnOk result (Told (M.medium «module».new) IsSound) }
+            → LineServed cca s (remembers self.new.roles) result (over (M.medium «module».old)) (over (M.medium «module».new))
+            (S.left source.old) (S.left source.new) (K.held sink.old) (K.held sink.new) self.old.reading self.new.reading }
+        ensures sound { OnOk result (Told (M.medium «module».new) (IsSound self.new.roles)) }
 
         // How far the input was taken.
         ensures ended { WhereTold (S.left source.old) (S.left source.new) (λ input rest.
-            (result ≡ Ok Served.Ended) ↔ (IsTrue self.new.ended × (self.old.pending ++ input ≡ []))) }
-        ensures ends { result ≡ Ok Served.Ended → IsTrue self.new.ended }
+            (result ≡ Ok Served.Ended) ↔ (IsTrue self.new.reading.ended × (self.old.reading.pending ++ input ≡ []))) }
+        ensures ends { result ≡ Ok Served.Ended → IsTrue self.new.reading.ended }
         ensures limit { WhereTold (S.left source.old) (S.left source.new) (λ input rest.
-            (result ≡ Err Stop.InputLimit) ↔ ((self.new.taken ≡ input_limit)
-            × NoNewline (self.old.pending ++ given input rest))) }
+            (result ≡ Err Stop.InputLimit) ↔ ((self.new.reading.taken ≡ input_limit)
+            × NoNewline (self.old.reading.pending ++ given input rest))) }
         ensures part_lost { (result ≡ Err Stop.ReadFault) ⊎ (result ≡ Err Stop.InputLimit)
             → WhereTold (S.left source.old) (S.left source.new) (λ input rest.
-            LosesPart (self.old.pending ++ input) rest) }
-        ensures still_ended { IsTrue self.old.ended → IsTrue self.new.ended }
-        ensures at_end { IsTrue self.new.ended → IsAtEnd (S.left source.new) }
-        ensures advances { result ≡ Ok Served.Replied → bytes_ahead self.new < bytes_ahead self.old }
+            LosesPart (self.old.reading.pending ++ input) rest) }
+        ensures still_ended { IsTrue self.old.reading.ended → IsTrue self.new.reading.ended }
+        ensures at_end { IsTrue self.new.reading.ended → IsAtEnd (S.left source.new) }
+        ensures advances { result ≡ Ok Served.Replied → bytes_ahead self.new.reading < bytes_ahead self.old.reading }
         ensures counted { WhereTold (S.left source.old) (S.left source.new) (λ input rest.
-            self.new.taken + length rest ≡ self.old.taken + length input) }
-        ensures full { result ≡ Err Stop.InputLimit → self.new.taken ≡ input_limit }
+            self.new.reading.taken + length rest ≡ self.old.reading.taken + length input) }
+        ensures full { result ≡ Err Stop.InputLimit → self.new.reading.taken ≡ input_limit }
         ensures short { (result ≡ Err Stop.ReadFault) ⊎ (result ≡ Ok Served.Ended)
-            → self.new.taken < input_limit }
+            → self.new.reading.taken < input_limit }
 
         // Where no reply is sent, the sink is as before; and where no line was answered, so is the module.
         ensures sink_unmoved { (result ≡ Ok Served.Replied → ⊥) → (result ≡ Err Stop.WriteFault → ⊥)
             → sink.new ≡ sink.old }
         ensures sink_grows { WhereTold (K.held sink.old) (K.held sink.new) Grows }
+        ensures roles_unmoved { IsUnanswered result → self.new.roles ≡ self.old.roles }
         ensures module_unmoved { IsUnanswered result → «module».new ≡ «module».old }
 
         // What is left of each device, and why it stopped.
@@ -174,10 +180,10 @@ impl Session {
             → WhereTold (S.left source.old) (S.left source.new) (λ input rest.
             length input < input_limit → result ≡ Ok tt) }
 
-        ensures sound { AnswersLines result → Told (M.medium «module».old) IsSound }
-        ensures unsound_source { (Told (M.medium «module».old) IsSound → ⊥) → source.new ≡ source.old }
-        ensures unsound_sink { (Told (M.medium «module».old) IsSound → ⊥) → sink.new ≡ sink.old }
-        ensures unsound_module { (Told (M.medium «module».old) IsSound → ⊥)
+        ensures sound { AnswersLines result → IsModuleSound (M.medium «module».old) }
+        ensures unsound_source { (IsModuleSound (M.medium «module».old) → ⊥) → source.new ≡ source.old }
+        ensures unsound_sink { (IsModuleSound (M.medium «module».old) → ⊥) → sink.new ≡ sink.old }
+        ensures unsound_module { (IsModuleSound (M.medium «module».old) → ⊥)
             → Keeps (M.medium «module».old) (M.medium «module».new) }
         ensures damaged { (cell : ℕ) → result ≡ Err (Stop.Damaged Device.Module cell)
             → Told (M.medium «module».old) (IsBroken cell) }
