@@ -1,6 +1,6 @@
 -- The status of a run tells how its lines ended.
 use Rattle.std.proofs.Common.{◌≡◌, ℕ, ◌+◌, List, length, Option, Result, Ok, Err, refl, sym, ap, ◌∙◌, subst, inl, inr}
-use Rattle.std.specs.Prelude.{⊤, ◌⊎◌, ◌↔◌, ◌<◌, IsOk}
+use Rattle.std.specs.Prelude.{◌⊎◌, ◌↔◌, ◌<◌, IsOk}
 use Rattle.slot_disk.specs.Medium.{Medium, Told, EachImage}
 use Rattle.slot_disk.specs.WhereTold.{WhereTold}
 use Rattle.slot_disk.proofs.Media.{each_weaker, each_still, told_from, told_at}
@@ -9,7 +9,6 @@ use Rattle.script_buffers.specs.Reading.{input_limit}
 use Rattle.line_service.specs.Stops.{AnswersLines, IsFaultless as IsFaultlessOutcome}
 use Rattle.line_service.specs.Serving.{PrefixSent, IsOnTheWay}
 use Rattle.line_service.proofs.RunLemmas.{prefix_none}
-use Rattle.line_service.specs.declared.stops.Device.{Device}
 use Rattle.line_service.specs.declared.stops.Device.TheVariants.{Module}
 use Rattle.line_service.specs.declared.stops.Stop.{Stop}
 use Rattle.line_service.specs.declared.stops.Stop.TheVariants.{ReadFault, WriteFault, EntropyFault, ModuleFault, StoreFault, Damaged, InputLimit}

@@ -1,8 +1,6 @@
 -- The status tells how the lines ended; and where no device was called, nothing has changed.
 use Rattle.cca_tool.specs.declared.command.Status.TheVariants as status
 use Rattle.line_service.specs.declared.stops.Stop.TheVariants.{EntropyFault, ModuleFault}
-use Rattle.std.proofs.Common.{inl, inr}
-use Rattle.std.specs.Prelude.{◌⊎◌}
 use Rattle.cca_tool.proofs.StatusLemmas.{as_told, stopped_as, judged_as, complete_as, prefix_still}
 use Rattle.cca_tool.proofs.command.run.Goals as goal
 

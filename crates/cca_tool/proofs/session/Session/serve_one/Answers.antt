@@ -1,5 +1,5 @@
 -- A line served over the module alone.
-use Rattle.std.proofs.Common.{◌≡◌, List, Option, ap, sym, subst}
+use Rattle.std.proofs.Common.{List, Option, ap, sym, subst}
 use Rattle.slot_disk.specs.Medium.{Told}
 use Rattle.script_buffers.specs.Reading.{Reading}
 use Rattle.cca_roles.specs.declared.roles.Role.{Role}
