@@ -102,13 +102,11 @@ roles_known m0 m1 roles s same sound holds =
 
 pub module_sound : (m0 m1 d0 : Medium) (roles : List (Option Role)) → m1.content ≡ m0.content → Told m1 (Remembers roles) → IsSound cca m0 d0
 module_sound m0 m1 d0 roles same told = record {
-  in_module = told_before m0 m1 (Remembers roles) _ same (λ c sound. (state_of sound.registers roles, sound.stands)) told;
+  in_module = told_before m0 m1 (Remembers roles) _ same
+      (λ c sound. let s : State = record { registers = sound.registers; roles = roles } in (s, sound.stands)) told;
   in_both = told_before m0 m1 (Remembers roles) _ same
-      (λ c sound. told_from d0.content _ (λ e is. (state_of sound.registers roles, sound.stands, tt))) told;
+      (λ c sound. let s : State = record { registers = sound.registers; roles = roles } in told_from d0.content _ (λ e is. (s, sound.stands, tt))) told;
 }
-  where
-    abbrev state_of : Masters → List (Option Role) → State
-    state_of registers roles = record { registers = registers; roles = roles }
 
 pub on_disks : (m : Medium) (s : State) → Holds m (IsModuleOf s) → OnDisks cca s m blank_medium
 on_disks m s holds = record { in_module = holds; in_store = record { image = []; told = refl; has = tt } }
