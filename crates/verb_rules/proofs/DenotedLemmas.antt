@@ -11,12 +11,12 @@ use Rattle.key_tokens.specs.declared.key_token.Asked.TheVariants as asked
 use Rattle.key_tokens.specs.declared.key_token.Kind.TheVariants as kind
 use Rattle.key_tokens.specs.declared.key_token.Token.{Token}
 use Rattle.key_tokens.specs.Denotes.{Denoted, clear_of, denoted, denoted_or, denoted_under}
-use Rattle.key_tokens.specs.Parts.{token_of, pattern_of_token}
+use Rattle.key_tokens.specs.Fields.{token_of, pattern_of_token}
 use Rattle.key_tokens.specs.TokenChecks.{token_checks}
 use Rattle.master_registers.specs.Masters.{Masters, kept_bytes, pattern_of_master}
 use Rattle.master_registers.specs.Loaded.{Loaded, pattern_in}
 use Rattle.master_registers.specs.declared.registers.Registers.{Registers}
-use Rattle.multi_encipher.specs.Parts.{transport_parts}
+use Rattle.multi_encipher.specs.Bundles.{transport_bundle}
 use Rattle.verb_rules.specs.KeyChecks.{age_in, age_of, has_pattern, register_with}
 use Rattle.verb_rules.specs.Keys.{keys_of, master_key, opened, opened_key, opened_under}
 use Rattle.verb_rules.specs.declared.judging.Judged.{Judged}
@@ -89,7 +89,7 @@ pub denoted_under_opened : (transport bytes : List ℕ) (judged : Judged) → fi
     → denoted_under transport bytes ≡ Some (opened_under transport judged)
 unfolding denoted_under
 denoted_under_opened transport bytes judged passes is =
-    ap (λ (v : Option ℕ). if is_none v then Some (clear_of (transport_parts transport) bytes) else None) passes
+    ap (λ (v : Option ℕ). if is_none v then Some (clear_of (transport_bundle transport) bytes) else None) passes
     ∙ ap (λ token. Some (opened_under transport (record { token = token; age = judged.age }))) (sym is)
 
 -- a token that was read as internal, with the register that has its pattern

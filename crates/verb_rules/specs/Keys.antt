@@ -1,13 +1,16 @@
 -- The clear key that a judged token stands for.
-use Rattle.std.specs.Prelude.{◌≡◌, List, ℕ, Option, None, Some, option_map}
-use Rattle.cca_vectors.specs.Vectors.{length_of, IsZero}
+use Rattle.std.specs.Prelude.{◌≡◌, List, ℕ, Option, None, Some, option_map, replicate}
+use Rattle.byte_lists.specs.Bytes.{IsZero}
+use Rattle.cca_vectors.specs.Vectors.{length_of}
 use Rattle.key_cells.specs.Bench.{Bench}
 use Rattle.key_tokens.specs.declared.key_token.Age.{Age}
 use Rattle.key_tokens.specs.declared.key_token.Age.TheVariants.{Current, Old}
+use Rattle.key_tokens.specs.declared.key_token.Kind.TheVariants.{Internal}
+use Rattle.key_tokens.specs.Layout.{made}
 use Rattle.key_tokens.specs.Denotes.{ClearKey, Denoted, MasterKey, MasterKeys}
 use Rattle.master_registers.specs.Masters.{Masters, pattern_of_master}
-use Rattle.multi_encipher.specs.Parts.{transport_parts}
-use Rattle.multi_encipher.specs.Seals.{unseal}
+use Rattle.multi_encipher.specs.Bundles.{transport_bundle}
+use Rattle.multi_encipher.specs.Seals.{seal, unseal}
 use Rattle.verb_rules.specs.declared.judging.Judged.{Judged}
 
 -- the master key of a register with its pattern, where the register is full
@@ -19,23 +22,23 @@ master_key (Some bytes) = Some (record { key = bytes; pattern = pattern_of_maste
 abbrev pub keys_of : Masters → MasterKeys
 keys_of m = record { current = master_key m.current; former = master_key m.former }
 
--- the master key of the bench that a token is under: the old one, where it is under that, and else the current one
-abbrev pub master_for : Bench → Option Age → List ℕ
-master_for bench None = bench.current
-master_for bench (Some Current) = bench.current
-master_for bench (Some Old) = bench.former
+-- of the current and the old master key the one that a token is under: the old one, where it is under that
+abbrev pub master_for : List ℕ → List ℕ → Option Age → List ℕ
+master_for current former None = current
+master_for current former (Some Current) = current
+master_for current former (Some Old) = former
 
--- the key of a judged token whose halves are enciphered under three parts
+-- the key of a judged token whose halves are enciphered under a key bundle
 abbrev pub opened_by : List ℕ → Judged → ClearKey
-opened_by parts judged = record { key = unseal parts judged.token.vector judged.token.sealed; vector = judged.token.vector }
+opened_by bundle judged = record { key = unseal bundle judged.token.vector judged.token.sealed; vector = judged.token.vector }
 
 -- the clear key of a judged internal token, under the master keys of the bench
 abbrev pub opened : Bench → Judged → ClearKey
-opened bench judged = opened_by (master_for bench judged.age) judged
+opened bench judged = opened_by (master_for bench.current bench.former judged.age) judged
 
 -- the clear key of a judged external token, under a transport key of 16 bytes
 abbrev pub opened_under : List ℕ → Judged → ClearKey
-opened_under transport judged = opened_by (transport_parts transport) judged
+opened_under transport judged = opened_by (transport_bundle transport) judged
 
 -- the clear key of a judged internal token, with the register that it is under
 abbrev pub opened_key : Bench → Judged → Option Denoted
@@ -44,3 +47,18 @@ opened_key bench judged = option_map (λ age. record { clear = opened bench judg
 -- the right half of a single-length key is zero
 abbrev pub HasHalves : Judged → Type 0
 HasHalves judged = length_of judged.token.vector ≡ 8 → IsZero judged.token.sealed.right
+
+-- the master key of the register that a key is under
+abbrev pub master_under : MasterKeys → Age → Option MasterKey
+master_under masters Current = masters.current
+master_under masters Old = masters.former
+
+-- the internal token of a key under a master key
+abbrev pub sealed_token : Option MasterKey → ClearKey → List ℕ
+sealed_token None clear = replicate 64 0
+sealed_token (Some master) clear =
+    made (record { kind = Internal; pattern = master.pattern; sealed = seal master.key clear.vector clear.key; vector = clear.vector })
+
+-- the one internal token that is written for a key, under the master key of its register
+unfoldable pub token_for : MasterKeys → Denoted → List ℕ
+token_for masters d = sealed_token (master_under masters d.age) d.clear

@@ -2,10 +2,9 @@
 ghost use Rattle.std.specs.Prelude.{◌≡◌, ◌≢◌, ℕ, List, None, Some, IfOk, IsSome};
 ghost use Rattle.std.specs.Option.{option_map};
 ghost use Rattle.cca_vectors.specs.Checks.{first_failing};
-ghost use Rattle.cca_vectors.specs.Vectors.{length_of, IsZero};
 ghost use Rattle.key_cells.specs.Bench.{Bench};
 ghost use Rattle.key_tokens.specs.Denotes.{denoted, denoted_under};
-ghost use Rattle.key_tokens.specs.Parts.{token_of};
+ghost use Rattle.key_tokens.specs.Fields.{token_of};
 ghost use Rattle.key_tokens.specs.TokenChecks.{rule_of};
 ghost use Rattle.master_registers.specs.Loaded.{Loaded};
 ghost use Rattle.master_registers.specs.Masters.{Masters};

@@ -5,7 +5,7 @@ use Rattle.key_tokens.specs.declared.key_token.Asked.TheVariants as asked
 use Rattle.key_tokens.specs.declared.key_token.Kind.TheVariants as kind
 use Rattle.key_tokens.specs.Denotes.{denoted, denoted_under}
 use Rattle.key_tokens.specs.Kinds.{IsAsked}
-use Rattle.key_tokens.specs.Parts.{token_of}
+use Rattle.key_tokens.specs.Fields.{token_of}
 use Rattle.key_tokens.specs.TokenChecks.{token_checks}
 use Rattle.verb_rules.specs.KeyChecks.{age_of, read_checks}
 use Rattle.verb_rules.specs.Keys.{HasHalves, keys_of, opened_key, opened_under}
