@@ -2,14 +2,14 @@
 use Rattle.std.proofs.Common.{◌≡◌, ◌⊎◌, ℕ, ◌+◌, ◌-◌, ◌<◌, ◌≤◌, Bool, true, false, List, [], ◌++◌, length, take, drop, eqb, replicate, refl, sym, ap, ◌∙◌, subst, ⊎_elim, arith}
 use Rattle.std.specs.Prelude.{slice_range, if◌then◌else◌}
 use Rattle.std.proofs.lemmas.Bool.{eq-eqb, ne_eqb}
-use Rattle.std.proofs.lemmas.List.{append-nil, take_all, take-append-le, length-append, length-drop, length-take}
-use Rattle.std.proofs.lemmas.List.Elements.{All-append}
+use Rattle.std.proofs.lemmas.List.{append-nil, take_all, take-append-le, length-append, length-drop, length-take-le}
+use Rattle.std.proofs.lemmas.List.Elements.{All-append, All-take}
 use Rattle.byte_lists.specs.Bytes.{AreBytes}
 use Rattle.cca_vectors.specs.Vectors.{left_of, right_of, length_of}
 use Rattle.des_core.specs.Schedules.{AreOf}
 use Rattle.key_cells.specs.declared.schedules.Schedule.{Schedule}
 use Rattle.multi_encipher.specs.declared.halves.Sealed.{Sealed}
-use Rattle.multi_encipher.specs.Bundles.{with_zeros}
+use Rattle.multi_encipher.specs.Bundles.{key_in, with_zeros}
 use Rattle.multi_encipher.specs.Seals.{IsKey, opened_half, unseal}
 use Rattle.multi_encipher.proofs.SealLaws.{bytes-opened_half, length_of-cases, unseal-single, unseal-double}
 use Rattle.clear_keys.specs.Scheduled.{HoldKey, left_key, right_key}
@@ -67,3 +67,19 @@ hold_key schedules vector key place single is is_key placed made =
   where
     held : slice_range place 0 8 ≡ take 8 key → (if single then slice_range place 0 8 else slice_range place 8 16) ≡ right_key key → HoldKey schedules key
     held left right = subst (λ l. AreOf schedules l (right_key key) l) left (subst (λ r. AreOf schedules (slice_range place 0 8) r (slice_range place 0 8)) right made)
+
+-- the key that stands in 16 bytes
+pub key_in_place : (vector place : List ℕ) → AreBytes 16 place → IsKey vector (key_in vector place)
+key_in_place vector place bytes =
+    ⊎_elim (λ (single : length_of vector ≡ 8). front single (omega (arith, single)))
+    (λ (double : length_of vector ≡ 16). front double (omega (arith, double)))
+    (length_of-cases vector)
+  where
+    front : {n : ℕ} → length_of vector ≡ n → length_of vector ≤ 16 → IsKey vector (key_in vector place)
+    front is small =
+        let whole : length_of vector ≡ length_of vector - 0 = omega arith in
+        subst (λ k. AreBytes (length_of vector) (take k place)) whole
+        (record {
+          size = length-take-le (length_of vector) place (omega (arith, small, bytes.size));
+          each = All-take (λ b. b < 256) (length_of vector) place bytes.each;
+        })

@@ -32,7 +32,8 @@ fn put_schedule(key: &Secret<'_, 8>, schedules: &mut [Schedule; 3], number: usiz
 fn copy_schedule(schedules: &mut [Schedule; 3], from: usize, to: usize)
     requires from { from < 3 }
     requires to { to < 3 }
-    ensures { schedules.new ≡ slice_set schedules.old to (schedule_at schedules.old from) }
+    ensures copy { schedule_at schedules.new to ≡ schedule_at schedules.old from }
+    ensures others { schedules.new ≡ slice_set schedules.old to (schedule_at schedules.new to) }
 {
     schedules[to].groups = schedules[from].groups;
 }
@@ -61,6 +62,25 @@ fn schedule_half(lease: &mut Lease, at: usize, number: usize)
     put_schedule(&key, lease.schedules_mut(), number);
 }
 
+/// Makes the second schedule that of the right half of the key in the place `Key`, or the same as the first one for a
+/// single-length key.
+fn schedule_right(lease: &mut Lease, single: bool)
+    requires left { let bench = bench_of lease.old in
+        IsOf (schedule_at bench.schedules 0) (slice_range bench.key 0 8) }
+    ensures made { let key = (bench_of lease.old).key in
+        IsOf (schedule_at (bench_of lease.new).schedules 1)
+            (if single then slice_range key 0 8 else slice_range key 8 16) }
+    ensures others { let schedules = (bench_of lease.new).schedules in
+        schedules ≡ slice_set (bench_of lease.old).schedules 1 (schedule_at schedules 1) }
+    ensures stays { ChangesSchedules lease.old lease.new }
+{
+    if single {
+        copy_schedule(lease.schedules_mut(), 0, 1);
+    } else {
+        schedule_half(lease, RIGHT, 1);
+    }
+}
+
 /// Makes the three schedules those of the key in the place `Key`.
 fn schedule_halves(lease: &mut Lease, single: bool)
     ensures made { let key = (bench_of lease.old).key in
@@ -69,11 +89,7 @@ fn schedule_halves(lease: &mut Lease, single: bool)
     ensures stays { ChangesSchedules lease.old lease.new }
 {
     schedule_half(lease, LEFT, 0);
-    if single {
-        copy_schedule(lease.schedules_mut(), 0, 1);
-    } else {
-        schedule_half(lease, RIGHT, 1);
-    }
+    schedule_right(lease, single);
     copy_schedule(lease.schedules_mut(), 0, 2);
 }
 

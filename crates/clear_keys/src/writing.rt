@@ -1,5 +1,6 @@
 //! The token that is written for a key in the workbench.
 ghost use Rattle.std.specs.Prelude.{◌≡◌, IsSome, Some, slice_index};
+ghost use Rattle.byte_lists.specs.Bytes.{AreBytes};
 ghost use Rattle.key_cells.specs.Bench.{Bench};
 ghost use Rattle.key_cells.specs.Lease.{bench_of};
 ghost use Rattle.key_tokens.specs.Denotes.{denoted};
@@ -10,10 +11,17 @@ ghost use Rattle.verb_rules.specs.Keys.{keys_of, token_for};
 ghost use Rattle.clear_keys.specs.Written.{current_key};
 
 use cca_vectors::Vector;
-use key_cells::Lease;
+use key_cells::{KeyPlace, Lease};
 use key_tokens::{Kind, Token, write_token};
 use master_registers::Registers;
 use multi_encipher::{Under, seal};
+
+/// Sixteen bytes are below 256: a fact that contracts use.
+fn are_bytes(bytes: &[u8; 16])
+    ensures { AreBytes 16 bytes.now }
+{
+    let _first = bytes[0];
+}
 
 /// Writes the internal token of the key in the place `Key`, of the length that the vector says, under the current
 /// master key. Only the schedules of the lease change.
@@ -26,10 +34,12 @@ pub fn write_current(lease: &mut Lease, held: &Registers, vector: &Vector) -> [u
     ensures flag { slice_index result 6 ≡ 0xc0 }
     ensures stays { ChangesSchedules lease.old lease.new }
 {
+    are_bytes(lease.key(KeyPlace::Key));
     let sealed = seal(lease, Under::Current, vector);
+    let pattern = held.current_pattern.unwrap().bytes;
     write_token(&Token {
         kind: Kind::Internal,
-        pattern: held.current_pattern.unwrap().bytes,
+        pattern,
         sealed,
         vector: *vector,
     })
