@@ -1,8 +1,9 @@
 //! A text enciphered and deciphered under a key, in the place of the text.
 ghost use Rattle.std.specs.Prelude.{◌≡◌, ◌%◌, [], None, Some, OnOk, OnErr, length};
+ghost use Rattle.byte_lists.specs.Bytes.{AreBytes};
 ghost use Rattle.cca_vectors.specs.Checks.{first_failing};
 ghost use Rattle.des_core.specs.Modes.{blocks, cbc, e, joined, uncbc, une};
-ghost use Rattle.key_cells.specs.Bench.{text_of};
+ghost use Rattle.key_cells.specs.Bench.{text_of, with_text};
 ghost use Rattle.key_cells.specs.Lease.{bench_of};
 ghost use Rattle.verb_rules.specs.declared.lengths.TextUse.{TextUse};
 ghost use Rattle.verb_rules.specs.Keys.{HasHalves, opened};
@@ -16,6 +17,20 @@ use des_core::{cbc_decipher, cbc_encipher};
 use key_cells::Lease;
 use verb_rules::{Judged, Rule, TextUse};
 
+/// The elements of a text are bytes: a fact that contracts use.
+fn are_bytes(bytes: &[u8])
+    ensures { AreBytes (length bytes.now) bytes.now }
+{
+    let _count = bytes.len();
+}
+
+/// The text of a lease has its length and is of bytes: a fact that contracts use.
+fn text_is_bytes(lease: &Lease)
+    ensures { AreBytes (bench_of lease.now).text.size (text_of (bench_of lease.now).text) }
+{
+    are_bytes(lease.text());
+}
+
 /// Enciphers a text of whole blocks under a key in a chain from a start.
 fn encipher_whole(lease: &mut Lease, key: &Judged, start: &[u8; 8])
     requires halves { HasHalves key.now }
@@ -25,6 +40,7 @@ fn encipher_whole(lease: &mut Lease, key: &Judged, start: &[u8; 8])
         ≡ joined (cbc (e clear.key) start.now (blocks (text_of (bench_of lease.old).text))) }
     ensures stays { ChangesText lease.old lease.new }
 {
+    text_is_bytes(lease);
     schedule_key(lease, key);
     cbc_encipher(lease, start);
 }
@@ -51,11 +67,15 @@ fn decipher_whole(lease: &mut Lease, key: &Judged, start: &[u8; 8])
     ensures text { let clear = opened (bench_of lease.old) key.now in
         text_of (bench_of lease.new).text
         ≡ joined (uncbc (une clear.key) start.now (blocks (text_of (bench_of lease.old).text))) }
-    ensures size { (bench_of lease.new).text.size ≡ (bench_of lease.old).text.size }
+    ensures place { let text = text_of (bench_of lease.new).text in
+        (bench_of lease.new).text ≡ with_text (bench_of lease.old).text text
+        × length text ≡ (bench_of lease.old).text.size }
     ensures stays { ChangesText lease.old lease.new }
 {
+    text_is_bytes(lease);
     schedule_key(lease, key);
     cbc_decipher(lease, start);
+    text_is_bytes(lease);
 }
 
 /// Deciphers the text under the clear key of a judged internal token, in a chain from a start, in place, and takes

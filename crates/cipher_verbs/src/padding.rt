@@ -1,9 +1,11 @@
 //! The padding of ANSI X9.23, in the place of the text.
 ghost use Rattle.std.specs.Prelude.{◌≡◌, ◌≤◌, ◌<◌, ◌+◌, ◌-◌, ◌%◌, ◌++◌, ◌∷◌, [], None, Some, OnOk, OnErr, IfErr, length, replicate, take};
+ghost use Rattle.cca_vectors.specs.Checks.{first_failing};
+ghost use Rattle.verb_rules.specs.LengthChecks.{text_checks};
 ghost use Rattle.key_cells.specs.Bench.{text_of};
 ghost use Rattle.key_cells.specs.Lease.{bench_of, holding};
 ghost use Rattle.des_core.specs.Modes.{pad, unpad};
-ghost use Rattle.cipher_verbs.specs.CipherTexts.{cleared, padded};
+ghost use Rattle.cipher_verbs.specs.CipherTexts.{cleared, enciphering, padded};
 
 use key_cells::Lease;
 use verb_rules::Rule;
@@ -27,15 +29,17 @@ fn put_padding(text: &mut [u8], at: usize)
     ensures { let count = length text.old - at in
         text.new ≡ take at text.old ++ (replicate (count - 1) 0 ++ count ∷ []) }
 {
+    let count = (text.len() - at) as u8;
     let last = text.len() - 1;
     text[at..last].fill(0);
-    text[last] = (text.len() - at) as u8;
+    text[last] = count;
 }
 
 /// Pads the text to whole blocks.
 #[tactic(auto, unfolding(des_core::specs::Modes::pad))]
 fn add_padding(lease: &mut Lease)
     requires { (bench_of lease.old).text.size < 4096 }
+    ensures whole { (bench_of lease.new).text.size % 8 ≡ 0 }
     ensures text { text_of (bench_of lease.new).text ≡ pad (text_of (bench_of lease.old).text) }
     ensures stays { lease.new
         ≡ holding lease.old (record (bench_of lease.old) { text = (bench_of lease.new).text }) }
@@ -47,13 +51,15 @@ fn add_padding(lease: &mut Lease)
 
 /// Pads the text to whole blocks, where that is asked.
 pub(crate) fn pad_text(lease: &mut Lease, padding: Pad)
-    requires { padding ≡ Pad.X923 → (bench_of lease.old).text.size < 4096 }
+    requires { first_failing (text_checks (enciphering padding) (bench_of lease.old).text.size) ≡ None }
+    ensures whole { (bench_of lease.new).text.size % 8 ≡ 0 }
     ensures text { text_of (bench_of lease.new).text ≡ padded padding (text_of (bench_of lease.old).text) }
     ensures stays { lease.new
         ≡ holding lease.old (record (bench_of lease.old) { text = (bench_of lease.new).text }) }
 {
-    if padding == Pad::X923 {
-        add_padding(lease);
+    match padding {
+        Pad::None => {}
+        Pad::X923 => add_padding(lease),
     }
 }
 

@@ -1,5 +1,5 @@
 -- The cipher of a clear key is triple DES by its halves, and so are its chains.
-use Rattle.std.proofs.Common.{◌≡◌, ◌⊎◌, ℕ, zero, suc, ◌+◌, ◌-◌, ◌*◌, ◌/◌, ◌%◌, ◌<◌, ◌≤◌, List, [], ◌∷◌, ◌++◌, length, get_or, take, drop, refl, sym, ap, ◌∙◌, subst, ⊎_elim, arith}
+use Rattle.std.proofs.Common.{◌≡◌, ◌⊎◌, ℕ, zero, suc, ◌+◌, ◌-◌, ◌*◌, ◌/◌, ◌%◌, ◌<◌, ◌≤◌, List, [], ◌∷◌, ◌++◌, length, get_or, take, drop, refl, sym, ap, ◌∙◌, subst, ⊎_elim, inl, inr, arith}
 use Rattle.std.specs.Prelude.{if◌then◌else◌}
 use Rattle.std.specs.List.{All}
 use Rattle.std.proofs.lemmas.Bool.{cases_lt, eq-eqb, ne_eqb}
@@ -12,7 +12,9 @@ use Rattle.des_core.specs.Modes.{blocks, cbc, e, joined, une, uncbc}
 use Rattle.des_core.specs.TripleDes.{deciphered, ded, ede, enciphered}
 use Rattle.des_core.proofs.ValueLemmas.{bytes-ede, bytes-ded, ede-same, ded-same}
 use Rattle.byte_lists.proofs.ByteLemmas.{length-xor, get_or-xor}
-use Rattle.multi_encipher.proofs.SealLaws.{bytes_from}
+use Rattle.cca_vectors.specs.Vectors.{length_of}
+use Rattle.multi_encipher.specs.Seals.{IsKey}
+use Rattle.multi_encipher.proofs.SealLaws.{bytes_from, length_of-cases}
 use Rattle.clear_keys.specs.Scheduled.{left_key, right_key}
 
 -- ---- one block
@@ -116,3 +118,7 @@ pub deciphered_chain : (key start text : List ℕ) → HasKeyLength key → leng
     → joined (uncbc (ded_of key) start (blocks text)) ≡ joined (uncbc (une key) start (blocks text))
 deciphered_chain key start text size whole small =
     ap joined (uncbc-agree (ded_of key) (une key) (λ x bytes. ded-key key x size bytes) start (blocks text) (blocks-of text whole small))
+
+-- the length of a clear key
+pub key_length : (vector key : List ℕ) → IsKey vector key → HasKeyLength key
+key_length vector key is = ⊎_elim (λ (single : length_of vector ≡ 8). inl (is.size ∙ single)) (λ (double : length_of vector ≡ 16). inr (is.size ∙ double)) (length_of-cases vector)
