@@ -38,10 +38,10 @@ front_of key zeros long = take-append-le 8 key zeros long
 back_of : (key : List ℕ) → length key ≡ 16 → slice_range (key ++ []) 8 16 ≡ drop 8 key
 back_of key long = ap (λ k. slice_range k 8 16) (append-nil key) ∙ take_all 8 (drop 8 key) (omega (arith, length-drop 8 key))
 
-single_right : (key : List ℕ) → length key ≡ 8 → take 8 key ≡ right_key key
+pub single_right : (key : List ℕ) → length key ≡ 8 → take 8 key ≡ right_key key
 single_right key long = take_all 8 key (omega (arith, long)) ∙ sym (ap (λ t. if t then key else drop 8 key) (eq-eqb (length key) 8 long))
 
-double_right : (key : List ℕ) → length key ≡ 16 → drop 8 key ≡ right_key key
+pub double_right : (key : List ℕ) → length key ≡ 16 → drop 8 key ≡ right_key key
 double_right key long = sym (ap (λ t. if t then key else drop 8 key) (ne_eqb (length key) 8 (λ single. omega (arith, long, single))))
 
 -- the schedules of the halves of 16 bytes are those of the key that stands there

@@ -47,7 +47,8 @@ pub fn mac_verify(lease: &mut Lease, key: &Judged, rule: MacRule, mac: &[u8]) ->
     requires halves { HasHalves key.now }
     requires text { first_failing (text_checks TextUse.Mac (bench_of lease.old).text.size) ≡ None }
     requires key { first_failing (mac_checks rule (length_of key.now.token.vector)) ≡ None }
-    requires mac { length mac.now ≤ 8 }
+    requires shortest { 4 ≤ length mac.now }
+    requires longest { length mac.now ≤ 8 }
     ensures same { let bench = bench_of lease.old in
         result ≡ is_code rule (opened bench key.now) (text_of bench.text) mac.now }
     ensures stays { ChangesKeyAt KeyPlace.Key lease.old lease.new }
