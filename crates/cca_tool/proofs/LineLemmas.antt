@@ -1,25 +1,23 @@
 -- What `perform` makes of a request is what the desk answers to the line that spells it.
-use Rattle.std.proofs.Common.{◌≡◌, ℕ, ◌<◌, ◌≤◌, List, [], ◌∷◌, ◌++◌, length, Option, None, Some, Result, Ok, Err, codes, refl, sym, ap, ◌∙◌, subst, inl, inr}
+use Rattle.std.proofs.Common.{◌≡◌, ℕ, ◌<◌, ◌≤◌, List, [], length, Option, None, Some, Result, Ok, Err, codes, refl, sym, ap, ◌∙◌, subst, inl, inr}
 use Rattle.std.specs.Prelude.{⊤, ◌⊎◌, OnOk, IfErr}
 use Rattle.std.proofs.KnownBytes.{Consumes-nil}
-use Rattle.slot_disk.specs.Medium.{Medium, Told, EachImage, IsSettled}
-use Rattle.slot_disk.specs.BlankMedium.{blank_medium}
-use Rattle.slot_disk.proofs.Media.{each_weaker, each_still, each_pair, told_from, told_at}
+use Rattle.slot_disk.specs.Medium.{Medium, IsSettled}
+use Rattle.slot_disk.proofs.Media.{each_weaker, each_still, each_pair}
 use Rattle.script_buffers.specs.Reading.{line_limit}
-use Rattle.script_buffers.specs.Replies.{Reply, Refused, Done, spelled}
-use Rattle.master_registers.specs.RegisterBody.{IsDamaged}
-use Rattle.verb_script.specs.Grammar.{Request, RequestName, csnbktp, csnbmkp_part, csnbmkp_clear, csnbmkp_set, csuaaci_define, csuaaci_remove, Spells}
+use Rattle.script_buffers.specs.Replies.{Refused, spelled}
+use Rattle.verb_script.specs.Grammar.{Request, RequestName, csnbktp, csnbmkp_part, csnbmkp_clear, csnbmkp_set, csuaaci_define, csuaaci_remove}
 use Rattle.verb_script.specs.Requests.{request_of}
 use Rattle.cca_roles.specs.declared.roles.Role.{Role}
 use Rattle.cca_machine.specs.State.{State, IsModuleOf}
 use Rattle.cca_machine.specs.Verdict.{Refusal, verdict}
-use Rattle.cca_machine.specs.Act.{Outcome, draws, or_act, performed}
+use Rattle.cca_machine.specs.Act.{draws, or_act, performed}
 use Rattle.cca_machine.specs.Lines.{LineOutcome, drawn_where, taken_by, line_outcome}
 use Rattle.cca_machine.proofs.LineLaws.{line-no_request, line-too_long, line-drawn}
 use Rattle.cca_requests.specs.Serving.{Serves as Performs, IsDone, IsEither, IsFault}
 use Rattle.cca_requests.proofs.Serving.{unwritten}
-use Rattle.line_service.specs.Answering.{Holds, Stands, Steps, Around, Both, Moves, Unwritten, Serves}
-use Rattle.line_service.specs.Machine.{World, world}
+use Rattle.line_service.specs.Answering.{Holds, Stands, Steps, Around, Both, Serves}
+use Rattle.line_service.specs.Machine.{world}
 use Rattle.line_service.specs.Stops.{IsLineStop}
 use Rattle.line_service.specs.declared.stops.Stop.{Stop}
 use Rattle.line_service.specs.declared.stops.Stop.TheVariants.{EntropyFault, ModuleFault, Damaged}

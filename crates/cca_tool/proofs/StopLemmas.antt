@@ -1,5 +1,5 @@
 -- The stops of a session over a module.
-use Rattle.std.proofs.Common.{◌≡◌, ℕ, List, Result, Ok, Err, refl, ap, inl, inr}
+use Rattle.std.proofs.Common.{◌≡◌, ℕ, Result, Ok, Err, refl, ap, inl, inr}
 use Rattle.std.specs.Prelude.{◌⊎◌, IfErr}
 use Rattle.line_service.specs.declared.stops.Device.{Device}
 use Rattle.line_service.specs.declared.stops.Device.TheVariants.{Module}

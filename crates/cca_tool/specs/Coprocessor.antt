@@ -1,5 +1,5 @@
--- The coprocessor as a machine that answers lines. It has a module, and so far neither a store nor random bytes.
-use Rattle.std.specs.Prelude.{⊤, ◌≡◌, ◌⊎◌, ◌≤◌, ℕ, List, [], Option, Some}
+-- The coprocessor as a machine that answers lines. It has a module and random bytes, and so far no store.
+use Rattle.std.specs.Prelude.{⊤, ◌≡◌, ◌⊎◌, ◌≤◌, ℕ, List, [], Option}
 use Rattle.std.proofs.Common.{inl, inr}
 use Rattle.slot_disk.specs.Medium.{Medium, Told}
 use Rattle.slot_disk.specs.BlankMedium.{blank_medium}
@@ -10,7 +10,7 @@ use Rattle.cca_roles.specs.RolesStand.{IsFirstDamaged}
 use Rattle.cca_roles.specs.declared.roles.Role.{Role}
 use Rattle.cca_roles.proofs.StandLaws.{stands_undamaged}
 use Rattle.cca_machine.specs.State.{State, IsModuleOf, module_size}
-use Rattle.cca_machine.specs.Lines.{LineOutcome, line_outcome}
+use Rattle.cca_machine.specs.Lines.{line_outcome}
 use Rattle.line_service.specs.Machine.{Machine, Outcome, World, world}
 use Rattle.line_service.specs.declared.stops.Device.{Device}
 use Rattle.line_service.specs.declared.stops.Device.TheVariants.{Module}
@@ -75,13 +75,9 @@ cca = record {
   store_size = 0;
 }
 
--- no random bytes
-abbrev pub no_random : Option (List ℕ)
-no_random = Some []
-
--- the devices where only the module holds something
-abbrev pub over : Medium → World
-over m = world m blank_medium no_random
+-- the devices: the module, the random bytes still to come where they are told, and no store
+abbrev pub over : Medium → Option (List ℕ) → World
+over m random = world m blank_medium random
 
 -- these are the roles of the state
 abbrev pub remembers : List (Option Role) → State → Type 0

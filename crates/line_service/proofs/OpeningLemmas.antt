@@ -1,14 +1,13 @@
 -- A run from the disks as they were before they were opened.
-use Rattle.std.proofs.Common.{◌≡◌, ℕ, List, [], Option, None, Some, IfSome, Result, Ok, Err, refl, sym, ◌∙◌, subst, inl, inr}
-use Rattle.std.specs.Prelude.{⊤, ◌⊎◌}
-use Rattle.slot_disk.specs.Medium.{Medium, Told, EachImage, Keeps}
-use Rattle.slot_disk.specs.WhereTold.{WhereTold}
+use Rattle.std.proofs.Common.{◌≡◌, ℕ, List, Option, Result, Err, refl, ◌∙◌, subst, inl, inr}
+use Rattle.std.specs.Prelude.{◌⊎◌}
+use Rattle.slot_disk.specs.Medium.{Medium, Told, Keeps}
 use Rattle.slot_disk.proofs.Media.{goes_on, each_weaker, keeps_then, told_from, told_at}
 use Rattle.slot_disk.proofs.WhereToldLemmas.{told_same, told_weaker}
 use Rattle.line_service.specs.Machine.{Machine, World, world}
-use Rattle.line_service.specs.Stops.{IsLineStop, IsOpeningStop}
+use Rattle.line_service.specs.Stops.{IsOpeningStop}
 use Rattle.line_service.specs.Answering.{Holds, OnDisks, Stands, IsSound}
-use Rattle.line_service.specs.Serving.{IsOnTheWay, LineLost, Unopened, RunServed}
+use Rattle.line_service.specs.Serving.{LineLost, Unopened, RunServed}
 use Rattle.line_service.specs.declared.stops.Device.{Device}
 use Rattle.line_service.specs.declared.stops.Device.TheVariants.{Module, Store}
 use Rattle.line_service.specs.declared.stops.Stop.{Stop}

@@ -15,7 +15,7 @@ use Rattle.line_service.specs.declared.stops.Device.{Device}
 use Rattle.line_service.specs.declared.stops.Stop.{Stop}
 use Rattle.line_service.specs.declared.stops.Stop.TheVariants.{ReadFault, WriteFault, InputLimit, EntropyFault, Damaged}
 use Rattle.line_service.specs.declared.serving.Served.{Served}
-use Rattle.line_service.specs.declared.serving.Served.TheVariants.{Replied, Ended}
+use Rattle.line_service.specs.declared.serving.Served.TheVariants.{Replied}
 
 -- the machine's replies to lines, one after another, the state after them, and the random bytes that are left
 abbrev pub session : (A : Machine) → A.State → List ℕ → List (List ℕ) → Outcome A.State

@@ -1,14 +1,12 @@
 -- The run goes on from line to line, and each exit follows from how far it has come.
-use Rattle.std.proofs.Common.{◌≡◌, ◌+◌, length, Ok, Err, List, ℕ, Option, ap, ◌∙◌, refl, inl, inr, arith}
-use Rattle.std.specs.Prelude.{◌⊎◌}
+use Rattle.std.proofs.Common.{Ok, List, ℕ, Option, ap, ◌∙◌, refl, inl, inr, arith}
 use Rattle.slot_disk.specs.WhereTold.{WhereTold}
 use Rattle.slot_disk.proofs.WhereToldLemmas.{told_weaker}
 use Rattle.line_service.specs.Machine.{World, world}
 use Rattle.line_service.specs.Serving.{AllAnswered, WholeLinesAnswered, LineLost}
-use Rattle.line_service.specs.declared.serving.Served.TheVariants.{Ended}
-use Rattle.line_service.specs.declared.stops.Stop.TheVariants.{WriteFault, ReadFault, InputLimit, Damaged}
+use Rattle.line_service.specs.declared.stops.Stop.TheVariants.{WriteFault, Damaged}
 use Rattle.line_service.proofs.SessionLemmas.{has_served_nothing, has_served_more, has_served_all, has_served_whole, has_served_cut, has_served_lost, module_moments, store_moments, counted_on, counted_nothing, blank_open}
-use Rattle.line_service.proofs.StopLemmas.{same_stop, stopped_as, no_stop, not_ended, same_world, same_held, told_back, both_told_back, grows_on, grows_none, not_replied, not_cut, line_not_cut, ended_unsent, ended_uncut}
+use Rattle.line_service.proofs.StopLemmas.{same_stop, stopped_as, no_stop, not_ended, same_world, same_held, grows_on, grows_none, not_replied, not_cut, line_not_cut, ended_unsent, ended_uncut}
 use Rattle.line_service.proofs.running.serve_all.Goals as goal
 
 pub each_line-init : goal.each_line-init
