@@ -9,6 +9,10 @@ use std::alloc::Global;
 use std::process::Abort;
 use std::test::Fail;
 
+// The line that enciphers, up to its text.
+const ZEROS_UNDER_ZERO: &str =
+    "CSNBENC role=DEFAULT key=T:010000000000c000083bf1025be34c44639aac267ee1137e000000000000000000007d000300000000000000000000000000000000000000000000004a9c39ea iv=0000000000000000 pad=NONE text=";
+
 // The room of a sink: more than the replies of a table need.
 const ROOM: usize = 40_000;
 
@@ -325,14 +329,14 @@ fn lines_of(alloc: Global, tables: &[&[(&str, &str)]]) -> Result<(String, String
     Ok((requests, replies))
 }
 
-// Runs the requests of some tables over a blank module and these random bytes, and asserts the replies.
-fn expect(
+// Runs requests over a blank module and these random bytes, and asserts the replies.
+fn expect_replies(
     rt: &impl Abort,
     alloc: Global,
-    tables: &[&[(&str, &str)]],
+    requests: &String,
+    replies: &String,
     random: &[u8],
 ) -> Result<(), Fail> {
-    let (requests, replies) = lines_of(alloc, tables)?;
     let words = words_of(alloc, &["run"])?;
     let mut bench = Workbench::new();
     let mut source = MemorySource::new(alloc, requests.as_bytes(), 1_000)?;
@@ -353,6 +357,17 @@ fn expect(
     );
     assert_eq!(rt; sink.bytes(), replies.as_bytes());
     Ok(())
+}
+
+// The same for the requests of some tables.
+fn expect(
+    rt: &impl Abort,
+    alloc: Global,
+    tables: &[&[(&str, &str)]],
+    random: &[u8],
+) -> Result<(), Fail> {
+    let (requests, replies) = lines_of(alloc, tables)?;
+    expect_replies(rt, alloc, &requests, &replies, random)
 }
 
 #[test]
@@ -419,4 +434,39 @@ fn a_fault_of_the_random_source_ends_the_run(rt: HostRuntime) -> Result<(), Fail
     );
     assert!(rt; sink.bytes().is_empty());
     Ok(())
+}
+
+// The request to encipher so many zero bytes under the key of zeros, whose token stands in the table of padding.
+fn encipher_zeros(alloc: Global, bytes: usize) -> Result<String, Fail> {
+    let mut line = String::new(alloc);
+    line.push_str(ZEROS_UNDER_ZERO)?;
+    for _ in 0..bytes {
+        line.push_str("00")?;
+    }
+    line.push_str("\n")?;
+    Ok(line)
+}
+
+// The reply to 4,096 bytes: the key of zeros enciphers a block to the first value here, and that one back to zeros.
+fn chain_of_zeros(alloc: Global) -> Result<String, Fail> {
+    let mut reply = String::new(alloc);
+    reply.push_str("OK text=")?;
+    for _ in 0..256 {
+        reply.push_str("8ca64de9c1b123a70000000000000000")?;
+    }
+    reply.push_str("\n")?;
+    Ok(reply)
+}
+
+#[test]
+fn a_text_has_at_most_4096_bytes(rt: HostRuntime) -> Result<(), Fail> {
+    let alloc = rt.alloc();
+    let (mut requests, mut replies) = lines_of(alloc, &[MASTER_KEY])?;
+    requests.push_str(encipher_zeros(alloc, 4_096)?.as_str())?;
+    replies.push_str(chain_of_zeros(alloc)?.as_str())?;
+    requests.push_str(encipher_zeros(alloc, 4_104)?.as_str())?;
+    replies.push_str("NO 23 text\n")?;
+    requests.push_str(encipher_zeros(alloc, 4_600)?.as_str())?;
+    replies.push_str("NO 02 -\n")?;
+    expect_replies(&rt, alloc, &requests, &replies, &[])
 }
