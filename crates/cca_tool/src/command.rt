@@ -94,13 +94,10 @@ pub fn run<S: Source, K: Sink, M: Disk, E: Entropy>(
         ⊎ Unopened (over (M.medium «module».old) (E.left entropy.old))
         (over (M.medium «module».new) (E.left entropy.new)) input rest
         (K.held sink.old) (K.held sink.new)) }
-    // The random source failed at a line: nothing was written.
+    // The random source failed, at a line that draws random bytes: nothing was written for it.
     ensures undrawn { result ≡ Status.EntropyFault → (s : State) → Holds (M.medium «module».old) (IsModuleOf s)
         → WhereTold (S.left source.old) (S.left source.new) (λ input rest.
         LineLost cca Stop.EntropyFault s (E.left entropy.old) (over (M.medium «module».new) (E.left entropy.new)) input
-        (K.held sink.old) (K.held sink.new)
-        ⊎ Unopened (over (M.medium «module».old) (E.left entropy.old))
-        (over (M.medium «module».new) (E.left entropy.new)) input rest
         (K.held sink.old) (K.held sink.new)) }
     // The module at every moment.
     ensures moments { (s : State) → Holds (M.medium «module».old) (IsModuleOf s)

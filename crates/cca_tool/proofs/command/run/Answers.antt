@@ -1,6 +1,6 @@
 -- The status tells how the lines ended; and where no device was called, nothing has changed.
 use Rattle.cca_tool.specs.declared.command.Status.TheVariants as status
-use Rattle.line_service.specs.declared.stops.Stop.TheVariants.{EntropyFault, ModuleFault}
+use Rattle.line_service.specs.declared.stops.Stop.TheVariants.{ModuleFault}
 use Rattle.cca_tool.proofs.StatusLemmas.{as_told, stopped_as, judged_as, complete_as, prefix_still}
 use Rattle.cca_tool.proofs.command.run.Goals as goal
 
@@ -40,4 +40,4 @@ returns-in-Ok-clause-complete g c = λ words s holds reads writes changes draws.
 
 pub returns-in-Ok-clause-undrawn : goal.returns-in-Ok-clause-undrawn
 returns-in-Ok-clause-undrawn g c = λ h s holds.
-    (c.serve.ensures.serves s holds).lost EntropyFault tt (as_told c.serve.result c.status_of.result c.status_of.ensures status.EntropyFault h)
+    (c.serve.ensures.serves s holds).undrawn (as_told c.serve.result c.status_of.result c.status_of.ensures status.EntropyFault h)
