@@ -1,6 +1,6 @@
 -- The verdict on a request: the first rule that it breaks, with the operand that breaks it. The rules stand in tables, and
 -- each is asked as the tables say. A rule that needs an earlier one doesn't fail where that one does.
-use Rattle.std.specs.Prelude.{ℕ, Bool, true, false, not, ◌&&◌, is_none, List, [], ◌∷◌, length, codes, Option, Some, None}
+use Rattle.std.specs.Prelude.{ℕ, ◌/◌, Bool, true, false, not, ◌&&◌, is_none, List, [], ◌∷◌, length, codes, Option, Some, None}
 use Rattle.cca_vectors.specs.Checks.{Check, check, first_failing}
 use Rattle.cca_roles.specs.Points.{includes}
 use Rattle.cca_roles.specs.Roles.{points_of, define_refused, remove_refused}
@@ -122,6 +122,10 @@ general_checks s request =
 abbrev pub bytes_in : Request → List ℕ → List ℕ
 bytes_in request name = hex_value (value_of request name)
 
+-- how many bytes the digits of the text spell
+abbrev pub text_size : Request → ℕ
+text_size request = length (value_of request (codes "text")) / 2
+
 -- what is asked of an operand: of a key token rules 09 to 16, of a key rules 09 to 22
 abbrev pub operand_checks : State → List ℕ → Ask → List Check
 operand_checks s text AnyToken = token_checks Either (hex_value text)
@@ -153,9 +157,9 @@ abbrev pub encipher_questions : Pad → ℕ → List Questions
 encipher_questions padding size = questions (codes "text") (text_checks (enciphering padding) size) ∷ []
 
 -- rule 23 of a text that is deciphered, and rule 31 of the deciphered text
-abbrev pub decipher_questions : ClearKey → List ℕ → Pad → List ℕ → List Questions
-decipher_questions key start padding text =
-    questions (codes "text") (text_checks Decipher (length text))
+abbrev pub decipher_questions : ℕ → ClearKey → List ℕ → Pad → List ℕ → List Questions
+decipher_questions size key start padding text =
+    questions (codes "text") (text_checks Decipher size)
     ∷ questions (codes "text") (pad_checks key start padding text)
     ∷ []
 
@@ -168,13 +172,13 @@ mac_questions rule size key =
 
 abbrev pub code_questions : State → Request → List Questions
 code_questions s r =
-    mac_questions (mac_rule_named (value_of r (codes "rule"))) (length (bytes_in r (codes "text"))) (key_of_request s r)
+    mac_questions (mac_rule_named (value_of r (codes "rule"))) (text_size r) (key_of_request s r)
 
 abbrev pub verb_questions : State → RequestName → Request → List Questions
 verb_questions s csnbktp r = []
-verb_questions s csnbenc r = encipher_questions (pad_named (value_of r (codes "pad"))) (length (bytes_in r (codes "text")))
+verb_questions s csnbenc r = encipher_questions (pad_named (value_of r (codes "pad"))) (text_size r)
 verb_questions s csnbdec r =
-    decipher_questions (key_of_request s r) (bytes_in r (codes "iv")) (pad_named (value_of r (codes "pad"))) (bytes_in r (codes "text"))
+    decipher_questions (text_size r) (key_of_request s r) (bytes_in r (codes "iv")) (pad_named (value_of r (codes "pad"))) (bytes_in r (codes "text"))
 verb_questions s csnbmgn r = code_questions s r
 verb_questions s csnbmvr r = code_questions s r
 verb_questions s csnbkyt r = []

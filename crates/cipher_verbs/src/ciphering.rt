@@ -1,5 +1,5 @@
 //! A text enciphered and deciphered under a key, in the place of the text.
-ghost use Rattle.std.specs.Prelude.{◌≡◌, ◌%◌, [], None, Some, OnOk, OnErr, length};
+ghost use Rattle.std.specs.Prelude.{◌≡◌, ◌≤◌, ◌%◌, [], None, Some, OnOk, OnErr, length};
 ghost use Rattle.byte_lists.specs.Bytes.{AreBytes};
 ghost use Rattle.cca_vectors.specs.Checks.{first_failing};
 ghost use Rattle.des_core.specs.Modes.{blocks, cbc, e, joined, uncbc, une};
@@ -38,6 +38,7 @@ fn encipher_whole(lease: &mut Lease, key: &Judged, start: &[u8; 8])
     ensures text { let clear = opened (bench_of lease.old) key.now in
         text_of (bench_of lease.new).text
         ≡ joined (cbc (e clear.key) start.now (blocks (text_of (bench_of lease.old).text))) }
+    ensures size { (bench_of lease.new).text.size ≡ (bench_of lease.old).text.size }
     ensures stays { ChangesText lease.old lease.new }
 {
     text_is_bytes(lease);
@@ -54,6 +55,7 @@ pub fn encipher(lease: &mut Lease, key: &Judged, start: &[u8; 8], padding: Pad)
     ensures text { let clear = opened (bench_of lease.old) key.now in
         text_of (bench_of lease.new).text
         ≡ enciphered_text clear start.now padding (text_of (bench_of lease.old).text) }
+    ensures room { (bench_of lease.new).text.size ≤ 4096 }
     ensures stays { ChangesText lease.old lease.new }
 {
     pad_text(lease, padding);
@@ -90,6 +92,7 @@ pub fn decipher(lease: &mut Lease, key: &Judged, start: &[u8; 8], padding: Pad) 
         OnOk result (deciphered_text clear start.now padding (text_of (bench_of lease.old).text)
         ≡ Some (text_of (bench_of lease.new).text)) }
     ensures refused { OnErr result ((bench_of lease.new).text ≡ cleared (bench_of lease.old).text) }
+    ensures room { (bench_of lease.new).text.size ≤ 4096 }
     ensures stays { ChangesText lease.old lease.new }
 {
     decipher_whole(lease, key, start);

@@ -40,6 +40,7 @@ fn put_padding(text: &mut [u8], at: usize)
 fn add_padding(lease: &mut Lease)
     requires { (bench_of lease.old).text.size < 4096 }
     ensures whole { (bench_of lease.new).text.size % 8 ≡ 0 }
+    ensures room { (bench_of lease.new).text.size ≤ 4096 }
     ensures text { text_of (bench_of lease.new).text ≡ pad (text_of (bench_of lease.old).text) }
     ensures stays { lease.new
         ≡ holding lease.old (record (bench_of lease.old) { text = (bench_of lease.new).text }) }
@@ -53,6 +54,7 @@ fn add_padding(lease: &mut Lease)
 pub(crate) fn pad_text(lease: &mut Lease, padding: Pad)
     requires { first_failing (text_checks (enciphering padding) (bench_of lease.old).text.size) ≡ None }
     ensures whole { (bench_of lease.new).text.size % 8 ≡ 0 }
+    ensures room { (bench_of lease.new).text.size ≤ 4096 }
     ensures text { text_of (bench_of lease.new).text ≡ padded padding (text_of (bench_of lease.old).text) }
     ensures stays { lease.new
         ≡ holding lease.old (record (bench_of lease.old) { text = (bench_of lease.new).text }) }
@@ -81,6 +83,7 @@ pub(crate) fn remove_padding(lease: &mut Lease) -> Result<(), Rule>
     ensures refused { OnErr result (unpad (text_of (bench_of lease.old).text) ≡ None) }
     ensures rule { IfErr result (λ rule. rule ≡ Rule.PadCount) }
     ensures cleared { OnErr result ((bench_of lease.new).text ≡ cleared (bench_of lease.old).text) }
+    ensures room { (bench_of lease.new).text.size ≤ 4096 }
     ensures stays { lease.new
         ≡ holding lease.old (record (bench_of lease.old) { text = (bench_of lease.new).text }) }
 {
