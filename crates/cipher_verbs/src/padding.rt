@@ -8,7 +8,7 @@ ghost use Rattle.des_core.specs.Modes.{pad, unpad};
 ghost use Rattle.cipher_verbs.specs.CipherTexts.{cleared, enciphering, padded};
 
 use key_cells::Lease;
-use verb_rules::Rule;
+use verb_rules::{Rule, TextUse};
 
 /// How many bytes a block has.
 const BLOCK: usize = 8;
@@ -20,6 +20,21 @@ pub enum Pad {
     None,
     /// By the padding of ANSI X9.23: 1 to 8 bytes more, zeros and last their number.
     X923,
+}
+
+impl Pad {
+    ghost use Rattle.std.specs.Prelude.{◌≡◌};
+    ghost use Rattle.cipher_verbs.specs.CipherTexts.{enciphering};
+
+    /// What a text is given for that is enciphered with this padding.
+    pub fn use_of(self) -> TextUse
+        ensures { result ≡ enciphering self }
+    {
+        match self {
+            Pad::None => TextUse::EncipherPlain,
+            Pad::X923 => TextUse::EncipherPadded,
+        }
+    }
 }
 
 /// Writes zeros over the end of a text from a place on, and last how many bytes are written.
