@@ -14,6 +14,9 @@ pub enum Fault {
     /// The module holds in this cell what no module may hold.
     #[error("cca: module cell {0} is damaged")]
     ModuleCell(u16),
+    /// The store holds in this cell what no store may hold.
+    #[error("cca: store cell {0} is damaged")]
+    StoreCell(u16),
     /// The input could not be read.
     #[error("cca: the input could not be read")]
     Input,
@@ -23,6 +26,12 @@ pub enum Fault {
     /// A call of the module's file failed.
     #[error("cca: the module file failed")]
     Module,
+    /// A call of the store's file failed.
+    #[error("cca: the store file failed")]
+    Store,
+    /// The random source failed.
+    #[error("cca: the random source failed")]
+    Entropy,
     /// More bytes came than a run takes.
     #[error("cca: the input is too long")]
     InputLimit,
@@ -44,10 +53,12 @@ impl Fault {
     {
         match self {
             Fault::Usage => 2,
-            Fault::ModuleCell(_) => 3,
+            Fault::ModuleCell(_) | Fault::StoreCell(_) => 3,
             Fault::Input => 4,
             Fault::Output => 5,
             Fault::Module => 6,
+            Fault::Store => 7,
+            Fault::Entropy => 8,
             Fault::InputLimit => 9,
             Fault::NoMemory => 10,
             Fault::File => 11,
@@ -64,9 +75,12 @@ pub fn fault_of(status: Status) -> Option<Fault>
         Status::Done => None,
         Status::Usage => Some(Fault::Usage),
         Status::Damaged(Device::Module, cell) => Some(Fault::ModuleCell(cell)),
+        Status::Damaged(Device::Store, cell) => Some(Fault::StoreCell(cell)),
         Status::ReadFault => Some(Fault::Input),
         Status::WriteFault => Some(Fault::Output),
+        Status::EntropyFault => Some(Fault::Entropy),
         Status::ModuleFault => Some(Fault::Module),
+        Status::StoreFault => Some(Fault::Store),
         Status::InputLimit => Some(Fault::InputLimit),
         Status::NoMemory => Some(Fault::NoMemory),
     }

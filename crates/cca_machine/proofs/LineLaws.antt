@@ -69,7 +69,7 @@ with_rest o rest = record { state = o.state; reply = o.reply; random = rest }
 pub line-drawn : (s : State) (drawn rest line : List ℕ) (request : Request) → length line ≤ line_limit → request_of line ≡ Some request
     → length drawn ≡ taken_by s request
     → line_outcome s (drawn ++ rest) line
-        ≡ record { state = (performed s drawn request).state; reply = (performed s drawn request).reply; random = rest }
+    ≡ record { state = (performed s drawn request).state; reply = (performed s drawn request).reply; random = rest }
 line-drawn s drawn rest line request short spelled size =
     line-request s (drawn ++ rest) line request short spelled
     ∙ (ap (λ (n : ℕ). with_bytes s request n (drawn ++ rest)) (sym size)

@@ -1,5 +1,6 @@
 -- What a request does where no rule refuses it, and what comes of it.
-use Rattle.std.specs.Prelude.{ℕ, ◌==◌, List, [], ◌∷◌, codes, Option, Some, None, if◌then◌else◌}
+use Rattle.std.specs.Int.{from_be_bytes, w32}
+use Rattle.std.specs.Prelude.{ℕ, ◌+◌, ◌==◌, List, [], ◌∷◌, codes, Option, Some, None, if◌then◌else◌}
 use Rattle.cca_vectors.specs.declared.key_class.Class.{Class}
 use Rattle.cca_vectors.specs.declared.key_class.Class.TheVariants.{Data, Cipher, Mac, Exporter, Importer, Other}
 use Rattle.cca_vectors.specs.Vectors.{length_of, left_of}
@@ -10,8 +11,9 @@ use Rattle.key_tokens.specs.declared.key_token.Token.{Token}
 use Rattle.key_tokens.specs.Fields.{token_of}
 use Rattle.script_buffers.specs.Replies.{Reply, Refused, Done, Field, Hex, Text, Number}
 use Rattle.master_registers.specs.Masters.{NewRegister, Empty, Partial, Full, Masters}
-use Rattle.verb_script.specs.Grammar.{Request, RequestName, csnbktp, csnbmkp_part, csnbmkp_clear, csnbmkp_set, value_of}
+use Rattle.verb_script.specs.Grammar.{Request, RequestName, csnbktp, csnbmkp_part, csnbmkp_clear, csnbmkp_set, csuaaci_define, csuaaci_remove, value_of}
 use Rattle.verb_script.specs.Values.{hex_value}
+use Rattle.cca_roles.specs.Roles.{define_place, after_define, remove_place, after_remove}
 use Rattle.cca_machine.specs.State.{State}
 use Rattle.cca_machine.specs.Actions.{part_action}
 use Rattle.master_registers.specs.Actions.{after_action}
@@ -24,6 +26,10 @@ pub data Effect : Type 0 where
   Show : List Field → Effect
   -- the registers become these
   Become : Masters → Effect
+  -- the role of this name has these access control points
+  DefineRole : List ℕ → ℕ → Effect
+  -- the role of this name is no longer held
+  RemoveRole : List ℕ → Effect
 
 -- ---- the reply to CSNBKTP
 
@@ -59,12 +65,18 @@ token_fields token =
 abbrev pub bytes_in : Request → List ℕ → List ℕ
 bytes_in request name = hex_value (value_of request name)
 
+-- the access control points in a request's field `points`
+abbrev pub points_in : Request → ℕ
+points_in request = from_be_bytes w32 (value_of request (codes "points"))
+
 -- with the random bytes that it draws
 abbrev pub effect : State → List ℕ → RequestName → Request → Effect
 effect s drawn csnbktp r = Show (token_fields (token_of (bytes_in r (codes "token"))))
 effect s drawn csnbmkp_part r = Become (after_action (part_action (value_of r (codes "action"))) (bytes_in r (codes "part")) s.registers)
 effect s drawn csnbmkp_clear r = Become (after_action Clear [] s.registers)
 effect s drawn csnbmkp_set r = Become (after_action Set [] s.registers)
+effect s drawn csuaaci_define r = DefineRole (value_of r (codes "name")) (points_in r)
+effect s drawn csuaaci_remove r = RemoveRole (value_of r (codes "name"))
 
 -- how many random bytes a permitted request draws
 abbrev pub draws : RequestName → Request → ℕ
@@ -72,6 +84,8 @@ draws csnbktp r = 0
 draws csnbmkp_part r = 0
 draws csnbmkp_clear r = 0
 draws csnbmkp_set r = 0
+draws csuaaci_define r = 0
+draws csuaaci_remove r = 0
 
 -- ---- what comes of it
 
@@ -92,15 +106,21 @@ new_name (Full bytes) = codes "full"
 abbrev pub state_after : State → Effect → State
 state_after s (Show fields) = s
 state_after s (Become m) = record s { registers = m }
+state_after s (DefineRole name points) = record s { roles = after_define name points s.roles }
+state_after s (RemoveRole name) = record s { roles = after_remove name s.roles }
 
 abbrev pub fields_after : State → Effect → List Field
 fields_after s (Show fields) = fields
 fields_after s (Become m) = Text (codes "new") (new_name m.coming) ∷ []
+fields_after s (DefineRole name points) = []
+fields_after s (RemoveRole name) = []
 
--- the registers stand in cell 0
+-- the registers stand in cell 0, the roles in the cells behind it
 abbrev pub cell_after : State → Effect → Option ℕ
 cell_after s (Show fields) = None
 cell_after s (Become m) = Some 0
+cell_after s (DefineRole name points) = Some (define_place name s.roles + 1)
+cell_after s (RemoveRole name) = Some (remove_place name s.roles + 1)
 
 abbrev pub effected : State → Effect → Outcome
 effected s e = record {

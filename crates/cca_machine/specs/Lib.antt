@@ -2,7 +2,9 @@ pub mod Act
 pub mod Actions
 pub mod Lines
 pub mod Operands
+pub mod Points
 pub mod Session
 pub mod State
 pub mod Verdict
+pub mod WorkedRoles
 pub mod WorkedTokens

@@ -1,6 +1,6 @@
 -- The operands of a request that name a key or a label, as a table.
 use Rattle.std.specs.Prelude.{ℕ, List, [], ◌∷◌, codes}
-use Rattle.verb_script.specs.Grammar.{Request, RequestName, csnbktp, csnbmkp_part, csnbmkp_clear, csnbmkp_set, value_of}
+use Rattle.verb_script.specs.Grammar.{Request, RequestName, csnbktp, csnbmkp_part, csnbmkp_clear, csnbmkp_set, csuaaci_define, csuaaci_remove, value_of}
 use Rattle.cca_machine.specs.declared.asking.Ask.{Ask}
 use Rattle.cca_machine.specs.declared.asking.Ask.TheVariants.{AnyToken, Nothing}
 
@@ -34,6 +34,8 @@ operands_of csnbktp r = one_operand (operand r (codes "token") AnyToken)
 operands_of csnbmkp_part r = no_operands
 operands_of csnbmkp_clear r = no_operands
 operands_of csnbmkp_set r = no_operands
+operands_of csuaaci_define r = no_operands
+operands_of csuaaci_remove r = no_operands
 
 abbrev pub operands : Request → Operands
 operands request = operands_of request.name request

@@ -1,23 +1,26 @@
 -- The state of the machine, and what of it stands on the module.
-use Rattle.std.specs.Prelude.{◌≡◌, ℕ, List, [], ◌∷◌, codes}
+use Rattle.std.specs.Prelude.{ℕ, List, Option}
+use Rattle.cca_roles.specs.Roles.{blank_roles}
+use Rattle.cca_roles.specs.RolesStand.{StandsForRoles}
+use Rattle.cca_roles.specs.declared.roles.Role.{Role}
 use Rattle.master_registers.specs.Masters.{Masters, blank_masters}
 use Rattle.master_registers.specs.RegisterBody.{StandsForMasters}
+
+-- a module has 33 cells of 1,536 bytes: one for the registers, and 32 for roles
+abbrev pub module_size : ℕ
+module_size = 50688
 
 pub record State : Type 0 where
   -- the master key registers, with clear contents
   pub registers : Masters
-  -- the names of the roles that are held
-  pub roles : List (List ℕ)
-
--- until roles are kept, DEFAULT alone is held
-abbrev pub default_roles : List (List ℕ)
-default_roles = codes "DEFAULT" ∷ []
+  -- the roles with their access control points: 32 places, of which the one numbered n is cell n + 1
+  pub roles : List (Option Role)
 
 -- the state of a blank module
 abbrev pub blank_state : State
-blank_state = record { registers = blank_masters; roles = default_roles }
+blank_state = record { registers = blank_masters; roles = blank_roles }
 
 -- a module with this content stands for the state
 pub record IsModuleOf (s : State) (image : List ℕ) : Type 0 where
   pub registers : StandsForMasters image s.registers
-  pub roles : s.roles ≡ default_roles
+  pub roles : StandsForRoles image s.roles

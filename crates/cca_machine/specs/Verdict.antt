@@ -1,18 +1,19 @@
 -- The verdict on a request: the first rule that it breaks, with the operand that breaks it. The rules stand in tables, and
 -- each is asked as the tables say. A rule that needs an earlier one doesn't fail where that one does.
 use Rattle.std.specs.Prelude.{ℕ, Bool, false, not, ◌&&◌, is_none, List, [], ◌∷◌, codes, Option, Some, None}
-use Rattle.std.specs.List.{list_any}
-use Rattle.std.specs.Str.{bytes_eq}
 use Rattle.cca_vectors.specs.Checks.{Check, check, first_failing}
+use Rattle.cca_roles.specs.Points.{includes}
+use Rattle.cca_roles.specs.Roles.{points_of, define_refused, remove_refused}
+use Rattle.cca_machine.specs.Points.{point}
 use Rattle.key_tokens.specs.TokenChecks.{token_checks}
 use Rattle.key_tokens.specs.declared.key_token.Asked.TheVariants.{Either}
-use Rattle.verb_script.specs.Grammar.{Request, RequestName, csnbktp, csnbmkp_part, csnbmkp_clear, csnbmkp_set, value_of}
+use Rattle.verb_script.specs.Grammar.{Request, RequestName, csnbktp, csnbmkp_part, csnbmkp_clear, csnbmkp_set, csuaaci_define, csuaaci_remove, value_of}
 use Rattle.verb_script.specs.Values.{hex_value}
 use Rattle.cca_machine.specs.State.{State}
 use Rattle.cca_machine.specs.Operands.{Operand, operands, listed}
 use Rattle.cca_machine.specs.Actions.{part_action, action_checks}
 use Rattle.master_registers.specs.declared.actions.Action.{Action}
-use Rattle.master_registers.specs.declared.actions.Action.TheVariants.{Clear, Set}
+use Rattle.master_registers.specs.declared.actions.Action.TheVariants.{First, Middle, Last, Clear, Set}
 use Rattle.cca_machine.specs.declared.asking.Ask.{Ask}
 use Rattle.cca_machine.specs.declared.asking.Ask.TheVariants.{AnyToken, Nothing}
 
@@ -54,11 +55,39 @@ needs_master csnbktp = false
 needs_master csnbmkp_part = false
 needs_master csnbmkp_clear = false
 needs_master csnbmkp_set = false
+needs_master csuaaci_define = false
+needs_master csuaaci_remove = false
 
--- rule 03: the role isn't held; rule 05: the current register is empty
+-- the access control points that a request needs
+abbrev pub action_points : Action → ℕ
+action_points First = point (codes "MK_FIRST")
+action_points Middle = point (codes "MK_COMBINE")
+action_points Last = point (codes "MK_COMBINE")
+action_points Clear = point (codes "MK_CLEAR")
+action_points Set = point (codes "MK_SET")
+
+abbrev pub needed_points : RequestName → Request → ℕ
+needed_points csnbktp r = 0
+needed_points csnbmkp_part r = action_points (part_action (value_of r (codes "action")))
+needed_points csnbmkp_clear r = action_points Clear
+needed_points csnbmkp_set r = action_points Set
+needed_points csuaaci_define r = point (codes "ROLES")
+needed_points csuaaci_remove r = point (codes "ROLES")
+
+-- a role that is held lacks a point
+abbrev pub lacks : Option ℕ → ℕ → Bool
+lacks None needed = false
+lacks (Some held) needed = not (includes held needed)
+
+-- the points of the request's role, where it is held
+abbrev pub held_points : State → Request → Option ℕ
+held_points s request = points_of (value_of request (codes "role")) s.roles
+
+-- rule 03: the role isn't held; rule 04: it lacks a point; rule 05: the current register is empty
 abbrev pub general_checks : State → Request → List Check
 general_checks s request =
-    check 3 (not (list_any (bytes_eq (value_of request (codes "role"))) s.roles))
+    check 3 (is_none (held_points s request))
+    ∷ check 4 (lacks (held_points s request) (needed_points request.name request))
     ∷ check 5 (needs_master request.name && is_none s.registers.current)
     ∷ []
 
@@ -81,11 +110,21 @@ operands_verdict s request = first_refusal (operand_questions s (listed (operand
 abbrev pub action_questions : State → Action → List Questions
 action_questions s action = questions (codes "-") (action_checks action s.registers) ∷ []
 
+-- rule 30: the role table is full
+abbrev pub define_questions : State → List ℕ → List Questions
+define_questions s name = questions (codes "name") (check 30 (define_refused name s.roles) ∷ []) ∷ []
+
+-- rule 30: the role isn't held
+abbrev pub remove_questions : State → List ℕ → List Questions
+remove_questions s name = questions (codes "name") (check 30 (remove_refused name s.roles) ∷ []) ∷ []
+
 abbrev pub verb_questions : State → RequestName → Request → List Questions
 verb_questions s csnbktp r = []
 verb_questions s csnbmkp_part r = action_questions s (part_action (value_of r (codes "action")))
 verb_questions s csnbmkp_clear r = action_questions s Clear
 verb_questions s csnbmkp_set r = action_questions s Set
+verb_questions s csuaaci_define r = define_questions s (value_of r (codes "name"))
+verb_questions s csuaaci_remove r = remove_questions s (value_of r (codes "name"))
 
 abbrev pub verb_verdict : State → Request → Option Refusal
 verb_verdict s request = first_refusal (verb_questions s request.name request)

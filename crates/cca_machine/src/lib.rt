@@ -2,14 +2,16 @@
 //! crate of definitions, in `specs/`, and of laws over them.
 #![tactic(auto)]
 
-ghost use Rattle.std.specs.Prelude.{◌≡◌, ℕ, List, ◌++◌, ◌<◌, ◌≤◌, length, codes, Option, None, Some};
+ghost use Rattle.std.specs.Prelude.{◌≡◌, ℕ, List, [], ◌++◌, ◌<◌, ◌≤◌, length, codes, Option, None, Some};
 ghost use Rattle.script_buffers.specs.Reading.{line_limit};
 ghost use Rattle.script_buffers.specs.Replies.{Refused};
 ghost use Rattle.verb_script.specs.Requests.{request_of};
 ghost use Rattle.verb_script.specs.Grammar.{Request};
-ghost use Rattle.cca_machine.specs.State.{State};
+ghost use Rattle.cca_machine.specs.State.{State, blank_state};
 ghost use Rattle.cca_machine.specs.Act.{performed};
 ghost use Rattle.cca_machine.specs.Lines.{line_outcome, taken_by};
+ghost use Rattle.cca_machine.specs.Session.{replies};
+ghost use Rattle.cca_machine.specs.WorkedRoles.{worked_roles, worked_role_table, lines_of, replies_of};
 ghost use Rattle.cca_machine.specs.WorkedTokens.{TokensAnswered, worked_tokens};
 
 mod asking;
@@ -19,6 +21,12 @@ pub use asking::Ask;
 /// The machine gives the replies that are known from outside: the definitions compute them.
 pub fn worked_key_tokens()
     ensures { TokensAnswered worked_tokens }
+{}
+
+/// The same of requests on roles, one after another from a blank module.
+pub fn worked_requests_on_roles()
+    ensures roles { replies blank_state [] (lines_of worked_roles) ≡ replies_of worked_roles }
+    ensures full_table { replies blank_state [] (lines_of worked_role_table) ≡ replies_of worked_role_table }
 {}
 
 /// What comes of a line, by what the line is. A request takes its random bytes whatever follows them.
@@ -31,8 +39,8 @@ pub fn outcomes_of_lines()
     ensures request { (s : State) (drawn rest line : List ℕ) (request : Request) → length line ≤ line_limit
         → request_of line ≡ Some request → length drawn ≡ taken_by s request
         → line_outcome s (drawn ++ rest) line ≡ record {
-            state = (performed s drawn request).state;
-            reply = (performed s drawn request).reply;
-            random = rest;
+          state = (performed s drawn request).state;
+          reply = (performed s drawn request).reply;
+          random = rest;
         } }
 {}

@@ -1,20 +1,20 @@
 -- From judged operands to what the machine makes of the request.
-use Rattle.std.proofs.Common.{◌≡◌, ℕ, List, [], ◌∷◌, Option, None, Some, Result, Ok, Err, refl, sym, ap, ◌∙◌, subst, codes}
+use Rattle.std.proofs.Common.{◌≡◌, ℕ, List, Option, None, Some, refl, sym, ap, ◌∙◌, codes}
 use Rattle.cca_vectors.specs.Checks.{first_failing}
 use Rattle.slot_disk.specs.Medium.{Medium, Keeps, Told}
 use Rattle.slot_disk.specs.Cells.{body}
 use Rattle.slot_disk.proofs.Media.{told_at}
 use Rattle.key_cells.specs.Bench.{Bench}
-use Rattle.master_registers.specs.Masters.{NewRegister, Empty, Partial, Full, Masters, new_bytes, kept_bytes}
+use Rattle.master_registers.specs.Masters.{NewRegister, Empty, Partial, Full, Masters, new_bytes, kept_bytes, state_of}
 use Rattle.master_registers.specs.RegisterBody.{StandsForMasters, IsDamaged}
-use Rattle.master_registers.specs.Loaded.{Loaded, masters_in, coming_in, kept_in, state_of, pattern_in, registers_of}
+use Rattle.master_registers.specs.Loaded.{Loaded, masters_in, coming_in, kept_in, pattern_in, registers_of}
 use Rattle.master_registers.specs.declared.registers.Registers.{Registers}
 use Rattle.master_registers.proofs.BodyLaws.{reads_one}
 use Rattle.verb_script.specs.Grammar.{Request}
 use Rattle.cca_machine.specs.State.{State, IsModuleOf}
 use Rattle.cca_machine.specs.Verdict.{Refusal, refusal, or_then, or_refused, general_checks, operands_verdict, verb_verdict, verdict}
-use Rattle.cca_machine.specs.Act.{Effect, Outcome, or_act, effect}
-use Rattle.cca_requests.specs.Serving.{Holds}
+use Rattle.cca_machine.specs.Act.{Effect, or_act, effect}
+use Rattle.line_service.specs.Answering.{Holds}
 use Rattle.cca_requests.specs.Deciding.{with_places, or_effected}
 
 -- ---- the registers in the bench

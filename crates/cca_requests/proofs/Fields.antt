@@ -1,5 +1,5 @@
--- A reply of one field, as it is written.
-use Rattle.std.proofs.Common.{◌≡◌, ℕ, List, [], ◌∷◌, ◌++◌, ap, ◌∙◌}
+-- Replies of no field and of one, as they are written.
+use Rattle.std.proofs.Common.{◌≡◌, ℕ, List, [], ◌∷◌, ◌++◌, sym, ap, ◌∙◌}
 use Rattle.std.proofs.lemmas.List.{append-nil}
 use Rattle.script_buffers.specs.Replies.{Text, written, ok_text, text_field}
 
@@ -9,3 +9,6 @@ append_nothing ok field = simp append-nil
 pub one_text : (name bytes a b d : List ℕ) → a ≡ [] → b ≡ a ++ ok_text → d ≡ b ++ text_field name bytes → d ≡ written (Text name bytes ∷ [])
 one_text name bytes a b d start ok field =
     field ∙ ap (λ xs. xs ++ text_field name bytes) (ok ∙ ap (λ xs. xs ++ ok_text) start) ∙ append_nothing ok_text (text_field name bytes)
+
+pub no_fields : (a b : List ℕ) → a ≡ [] → b ≡ a ++ ok_text → b ≡ written []
+no_fields a b start ok = ok ∙ (ap (λ xs. xs ++ ok_text) start ∙ sym (append-nil ok_text))

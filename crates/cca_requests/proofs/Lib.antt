@@ -1,6 +1,8 @@
 mod Acting
 mod Changing
-mod DigitLemmas
+mod Contents
 mod Fields
-mod Serving
+mod Points
+mod RoleChanging
+pub mod Serving
 mod TokenReply

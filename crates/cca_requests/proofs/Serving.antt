@@ -1,15 +1,17 @@
 -- How what is said of the module is carried from call to call.
-use Rattle.std.proofs.Common.{◌≡◌, ℕ, List, [], Option, None, Some, Result, Ok, Err, refl, sym, ap, ◌∙◌, subst, inl, inr}
+use Rattle.std.proofs.Common.{◌≡◌, ℕ, List, [], Option, None, Some, Result, Ok, Err, refl, sym, ap, ◌∙◌, subst, inl}
 use Rattle.std.specs.Prelude.{OnOk, IfErr, IfSome, IsSome}
 use Rattle.slot_disk.specs.Medium.{Medium, Told, IsSettled, From, EachImage, Keeps}
-use Rattle.slot_disk.proofs.Media.{goes_on, settled_image, each_weaker, each_still, keeps_still}
+use Rattle.slot_disk.proofs.Media.{goes_on, settled_image, each_weaker, keeps_still}
 use Rattle.script_buffers.specs.Replies.{spelled, Refused}
+use Rattle.cca_roles.specs.declared.roles.Role.{Role}
 use Rattle.line_service.specs.declared.stops.Stop.{Stop}
 use Rattle.verb_script.specs.Grammar.{Request}
 use Rattle.cca_machine.specs.State.{State, IsModuleOf}
 use Rattle.cca_machine.specs.Verdict.{Refusal, verdict}
-use Rattle.cca_machine.specs.Act.{Outcome, refused, or_act, performed}
-use Rattle.cca_requests.specs.Serving.{Holds, Stands, IsDone, IsEither, SameButCell, SameBut, IsFault, Carries, Serves}
+use Rattle.cca_machine.specs.Act.{Outcome, or_act, performed}
+use Rattle.line_service.specs.Answering.{Holds}
+use Rattle.cca_requests.specs.Serving.{Stands, IsDone, IsEither, SameButCell, SameBut, IsFault, Carries, Serves}
 
 holds_told : (m : Medium) (P : List ℕ → Type 0) → Holds m P → Told m P
 holds_told m P holds = subst (λ (o : Option (List ℕ)). IfSome o P) (sym holds.told) holds.has
@@ -21,6 +23,7 @@ same_but_cell : (cell : ℕ) (c : List ℕ) → SameButCell cell c c
 same_but_cell cell c = record {
   outside = record { size = refl; before = λ k h. refl; after = λ k h. refl };
   others = λ n h. refl;
+  untouched = λ k h. refl;
 }
 
 same_but : (cell : Option ℕ) (c : List ℕ) → SameBut cell c c
@@ -39,13 +42,16 @@ read_outside cell m0 m1 settled keeps =
 pub holds_kept : (m0 m1 : Medium) (P : List ℕ → Type 0) → Keeps m0 m1 → Holds m0 P → Holds m1 P
 holds_kept m0 m1 P keeps holds = record { image = holds.image; told = keeps.content ∙ holds.told; has = holds.has }
 
-pub stands_kept : (s : State) (m0 m1 : Medium) → Keeps m0 m1 → Stands s m0 → Stands s m1
-stands_kept s m0 m1 keeps stands = record { in_module = holds_kept m0 m1 (IsModuleOf s) keeps stands.in_module }
+pub stands_kept : (s : State) (roles : List (Option Role)) (m0 m1 : Medium) → Keeps m0 m1 → Stands s roles m0 → Stands s roles m1
+stands_kept s roles m0 m1 keeps stands = record {
+  in_module = holds_kept m0 m1 (IsModuleOf s) keeps stands.in_module;
+  memory = stands.memory;
+}
 
-module _ (o : Outcome) (s : State) (result : Result (Unit {0}) Stop) (reply : List ℕ) where
+module _ (o : Outcome) (s : State) (result : Result (Unit {0}) Stop) (reply : List ℕ) (roles : List (Option Role)) where
   -- nothing was written: the state stays
-  pub still_carries : (m : Medium) → o.state ≡ s → OnOk result (reply ≡ spelled o.reply) → IfErr result IsFault → IsSettled m → Stands s m
-      → Carries o s result reply m m
+  pub still_carries : (m : Medium) → o.state ≡ s → OnOk result (reply ≡ spelled o.reply) → IfErr result IsFault → IsSettled m → Stands s roles m
+      → Carries o s result reply roles m m
   still_carries m same text stops settled stands = record {
     done = done_at result text;
     on_module = read_images m m (IsModuleOf s) (IsEither s o) settled stands.in_module (keeps_still m) (λ c p. inl p);
@@ -53,13 +59,14 @@ module _ (o : Outcome) (s : State) (result : Result (Unit {0}) Stop) (reply : Li
     stops = stops;
   }
     where
-      done_at : (r : Result (Unit {0}) Stop) → OnOk r (reply ≡ spelled o.reply) → OnOk r (IsDone o reply m)
+      done_at : (r : Result (Unit {0}) Stop) → OnOk r (reply ≡ spelled o.reply) → OnOk r (IsDone o reply roles m)
       done_at (Ok u) says = record { reply_is = says; stands = rw same stands }
       done_at (Err stop) says = tt
 
   -- the module was read before
-  pub carries_after_read : (m0 m1 m2 : Medium) → IsSettled m0 → Stands s m0 → Keeps m0 m1 → Carries o s result reply m1 m2 → Carries o s result reply m0 m2
-  carries_after_read m0 m1 m2 settled stands keeps carries = record {
+  pub carries_after_read : (before : List (Option Role)) (m0 m1 m2 : Medium) → IsSettled m0 → Stands s before m0 → Keeps m0 m1
+      → Carries o s result reply roles m1 m2 → Carries o s result reply roles m0 m2
+  carries_after_read before m0 m1 m2 settled stands keeps carries = record {
     done = carries.done;
     on_module = goes_on m0 m1 m2 (IsEither s o) (IsEither s o) (IsEither s o)
         (read_images m0 m1 (IsModuleOf s) (IsEither s o) settled stands.in_module keeps (λ c p. inl p)) carries.on_module (λ c p. p) (λ c p. p);
@@ -77,19 +84,19 @@ unfolding performed
 performed_by s drawn request v is = ap (λ (x : Option Refusal). or_act x s drawn request) is
 
 -- a refusal
-pub refused_serves : (s : State) (request : Request) (r : Refusal) (reply : List ℕ) (m : Medium) → verdict s request ≡ Some r
-    → reply ≡ spelled (Refused r.rule r.operand) → IsSettled m → Stands s m → Serves s request (Ok tt) reply m m
-refused_serves s request r reply m is text settled stands =
+pub refused_serves : (s : State) (request : Request) (r : Refusal) (reply : List ℕ) (roles : List (Option Role)) (m : Medium) → verdict s request ≡ Some r
+    → reply ≡ spelled (Refused r.rule r.operand) → IsSettled m → Stands s roles m → Serves s request (Ok tt) reply roles m m
+refused_serves s request r reply roles m is text settled stands =
     let by = performed_by s [] request (Some r) is in
     record {
-      carries = still_carries (performed s [] request) s (Ok tt) reply m (ap (λ (o : Outcome). o.state) by)
+      carries = still_carries (performed s [] request) s (Ok tt) reply roles m (ap (λ (o : Outcome). o.state) by)
           (text ∙ ap (λ (o : Outcome). spelled o.reply) (sym by)) tt settled stands;
     }
 
 -- a fault while the module was read
-pub stopped_serves : (s : State) (request : Request) (stop : Stop) (reply : List ℕ) (m0 m1 : Medium) → IsFault stop
-    → IsSettled m0 → Keeps m0 m1 → Stands s m0 → Serves s request (Err stop) reply m0 m1
-stopped_serves s request stop reply m0 m1 fault settled keeps stands =
+pub stopped_serves : (s : State) (request : Request) (stop : Stop) (reply : List ℕ) (roles : List (Option Role)) (m0 m1 : Medium) → IsFault stop
+    → IsSettled m0 → Keeps m0 m1 → Stands s roles m0 → Serves s request (Err stop) reply roles m0 m1
+stopped_serves s request stop reply roles m0 m1 fault settled keeps stands =
     let o : Outcome = performed s [] request in
     record {
       carries = record {
@@ -101,7 +108,19 @@ stopped_serves s request stop reply m0 m1 fault settled keeps stands =
     }
 
 -- the module was read before
-pub serves_after_read : (s : State) (request : Request) (result : Result (Unit {0}) Stop) (reply : List ℕ) (m0 m1 m2 : Medium)
-    → IsSettled m0 → Stands s m0 → Keeps m0 m1 → Serves s request result reply m1 m2 → Serves s request result reply m0 m2
-serves_after_read s request result reply m0 m1 m2 settled stands keeps serves =
-    record { carries = carries_after_read (performed s [] request) s result reply m0 m1 m2 settled stands keeps serves.carries }
+pub serves_after_read : (s : State) (request : Request) (result : Result (Unit {0}) Stop) (reply : List ℕ) (before roles : List (Option Role)) (m0 m1 m2 : Medium)
+    → IsSettled m0 → Stands s before m0 → Keeps m0 m1 → Serves s request result reply roles m1 m2 → Serves s request result reply roles m0 m2
+serves_after_read s request result reply before roles m0 m1 m2 settled stands keeps serves =
+    record { carries = carries_after_read (performed s [] request) s result reply roles before m0 m1 m2 settled stands keeps serves.carries }
+
+-- a refusal writes no cell
+pub refused_cell : (s : State) (drawn : List ℕ) (request : Request) (r : Refusal) → verdict s request ≡ Some r → (performed s drawn request).module_cell ≡ None
+refused_cell s drawn request r is = ap (λ (o : Outcome). o.module_cell) (performed_by s drawn request (Some r) is)
+
+-- where no cell is written, nothing is
+pub unwritten : (o : Outcome) (m0 m1 : Medium) → o.module_cell ≡ None → EachImage m0 m1 (From (SameBut o.module_cell) m0) → EachImage m0 m1 m0.images
+unwritten o m0 m1 none outside =
+    each_weaker m0 m1 (From (SameBut o.module_cell) m0) m0.images outside
+    (λ c from.
+    let same : c ≡ from.0 = subst (λ (cell : Option ℕ). SameBut cell from.0 c) none from.2 in
+    subst m0.images (sym same) (m0.is_image from.0 from.1))

@@ -1,29 +1,43 @@
 -- What a verb decided: what is still to be carried out.
-use Rattle.std.specs.Prelude.{◌≡◌, ◌≤◌, ℕ, List, [], ◌∷◌, length, codes, Option, Some, None, Result, Ok, Err}
+use Rattle.std.specs.Prelude.{◌≡◌, ◌≢◌, ◌≤◌, ℕ, List, [], ◌∷◌, length, codes, Option, Some, None, Result, Ok, Err}
+use Rattle.cca_roles.specs.RoleNames.{default_name}
+use Rattle.cca_roles.specs.RolesStand.{StandsForRoles}
+use Rattle.cca_roles.specs.declared.faults.RoleFault.{RoleFault}
+use Rattle.cca_roles.specs.declared.faults.RoleFault.TheVariants as role
+use Rattle.cca_roles.specs.declared.roles.Role.{Role}
 use Rattle.key_cells.specs.Bench.{Bench}
 use Rattle.master_registers.specs.Actions.{after_action}
-use Rattle.master_registers.specs.Loaded.{Loaded}
+use Rattle.master_registers.specs.Loaded.{Loaded, IsLoaded, StandsForLoaded}
+use Rattle.master_registers.specs.declared.actions.Action.{Action}
 use Rattle.master_registers.specs.declared.registers.NewState.{NewState}
 use Rattle.master_registers.specs.declared.registers.NewState.TheVariants as new
 use Rattle.master_registers.specs.declared.registers.Registers.{Registers}
 use Rattle.master_registers.specs.declared.faults.RegisterFault.{RegisterFault}
 use Rattle.master_registers.specs.declared.faults.RegisterFault.TheVariants as fault
 use Rattle.script_buffers.specs.Replies.{Field, Reply, Refused, Done, Text, written}
-use Rattle.slot_disk.specs.Medium.{Medium}
+use Rattle.slot_disk.specs.Medium.{Medium, Told, IsSettled}
 use Rattle.verb_script.specs.Grammar.{Request}
 use Rattle.line_service.specs.declared.stops.Stop.{Stop}
 use Rattle.line_service.specs.declared.stops.Stop.TheVariants.{ModuleFault}
-use Rattle.cca_machine.specs.State.{State}
-use Rattle.cca_machine.specs.Verdict.{Refusal, first_refusal, action_questions, verb_verdict}
-use Rattle.cca_machine.specs.Act.{Effect, Show, Become, Outcome, effect, effected, refused}
+use Rattle.cca_machine.specs.State.{State, module_size}
+use Rattle.cca_machine.specs.Verdict.{Questions, Refusal, first_refusal, action_questions, define_questions, remove_questions, verb_verdict}
+use Rattle.cca_machine.specs.Act.{Effect, Show, Become, DefineRole, RemoveRole, Outcome, effect, effected, refused}
 use Rattle.cca_requests.specs.Serving.{Stands}
 use Rattle.cca_requests.specs.declared.effects.Effect.{Effect as CodeEffect}
 use Rattle.cca_requests.specs.declared.effects.Effect.TheVariants as code
 
--- the module stands for the state, whose registers are in the bench
-pub record At (s : State) (held : Registers) (bench : Bench) (module_ : Medium) : Type 0 where
+-- the bench holds the registers of the module, of which nothing is unsynced, and the memory has its roles
+pub record HasLoaded (held : Registers) (bench : Bench) (roles : List (Option Role)) (module_ : Medium) : Type 0 where
+  pub size : module_.size ≡ module_size
+  pub settled : IsSettled module_
+  pub loaded : IsLoaded held bench
+  pub stands : Told module_ (StandsForLoaded held bench)
+  pub remembered : Told module_ (λ image. StandsForRoles image roles)
+
+-- the module stands for the state, whose registers are in the bench and whose roles the memory has
+pub record At (s : State) (held : Registers) (bench : Bench) (roles : List (Option Role)) (module_ : Medium) : Type 0 where
   pub loaded : Loaded s.registers held bench
-  pub stands : Stands s module_
+  pub stands : Stands s roles module_
 
 -- the reply has the fields that the effect shows
 pub record IsShown (e : Effect) (reply : List ℕ) : Type 0 where
@@ -36,6 +50,8 @@ abbrev pub IsLeft : State → Bench → Option Refusal → Effect → CodeEffect
 IsLeft s bench v e code.Shown reply = (v ≡ None) × IsShown e reply
 IsLeft s bench v e (code.Change action) reply =
     (v ≡ first_refusal (action_questions s action)) × (e ≡ Become (after_action action bench.part s.registers))
+IsLeft s bench v e (code.DefineRole name points) reply = (v ≡ first_refusal (define_questions s name)) × (e ≡ DefineRole name points)
+IsLeft s bench v e (code.RemoveRole name) reply = (v ≡ first_refusal (remove_questions s name)) × (e ≡ RemoveRole name)
 
 -- it gives the verdict and the effect of the verb
 abbrev pub IsDecided : State → Bench → Request → CodeEffect → List ℕ → Type 0
@@ -45,10 +61,17 @@ IsDecided s bench request e reply = IsLeft s bench (verb_verdict s request) (eff
 abbrev pub IsReady : CodeEffect → List ℕ → Type 0
 IsReady code.Shown reply = length reply ≤ 69000
 IsReady (code.Change action) reply = reply ≡ []
+IsReady (code.DefineRole name points) reply = reply ≡ []
+IsReady (code.RemoveRole name) reply = (reply ≡ []) × (name ≢ default_name)
 
 abbrev pub or_effected : Option Refusal → State → Effect → Outcome
 or_effected (Some r) s e = refused s r
 or_effected None s e = effected s e
+
+-- what comes of an action with this key part
+abbrev pub action_outcome : State → Action → List ℕ → Outcome
+action_outcome s action part =
+    or_effected (first_refusal (action_questions s action)) s (Become (after_action action part s.registers))
 
 -- the bench with the places that a verb may write as they are in another one
 abbrev pub with_places : Bench → Bench → Bench
@@ -74,3 +97,24 @@ change_reply (Ok held) = Done (Text (codes "new") (state_name held.new_state) �
 change_reply (Err fault.DiskFault) = Done []
 change_reply (Err fault.RegisterState) = Refused 25 (codes "-")
 change_reply (Err fault.SamePattern) = Refused 26 (codes "-")
+
+-- ---- a change of the roles
+
+-- what comes of it, by the verdict and the effect
+abbrev pub role_outcome : List Questions → State → Effect → Outcome
+role_outcome questions s e = or_effected (first_refusal questions) s e
+
+abbrev pub role_stop : Result (Unit {0}) RoleFault → Result (Unit {0}) Stop
+role_stop (Ok done) = Ok tt
+role_stop (Err role.DiskFault) = Err ModuleFault
+role_stop (Err (role.Damaged cell)) = Err ModuleFault
+role_stop (Err role.TableFull) = Ok tt
+role_stop (Err role.Unknown) = Ok tt
+
+-- the reply to a change; a fault of the module has none
+abbrev pub role_reply : Result (Unit {0}) RoleFault → Reply
+role_reply (Ok done) = Done []
+role_reply (Err role.DiskFault) = Done []
+role_reply (Err (role.Damaged cell)) = Done []
+role_reply (Err role.TableFull) = Refused 30 (codes "name")
+role_reply (Err role.Unknown) = Refused 30 (codes "name")

@@ -1,10 +1,10 @@
 -- What the operands of a request stand for, and the first rule that one of them breaks.
-use Rattle.std.specs.Prelude.{◌≡◌, ◌<◌, ℕ, List, length, Option, Some, None, Result, Ok, Err, IsTrue, IsSome, ⊤}
+use Rattle.std.specs.Prelude.{◌≡◌, ◌<◌, ℕ, List, length, Some, None, Result, Ok, Err, IsTrue, IsSome, ⊤}
 use Rattle.cca_vectors.specs.Checks.{first_failing}
-use Rattle.key_tokens.specs.Parts.{token_of}
+use Rattle.key_tokens.specs.Fields.{token_of}
 use Rattle.verb_rules.specs.Rules.{rule_number}
 use Rattle.verb_rules.specs.declared.rules.Rule.{Rule}
-use Rattle.verb_script.specs.Grammar.{is_hex}
+use Rattle.verb_script.specs.Grammar.{Request, row_of, AreValues, is_hex}
 use Rattle.verb_script.specs.Values.{hex_value}
 use Rattle.cca_machine.specs.State.{State}
 use Rattle.cca_machine.specs.Operands.{Operand, Operands, listed}
@@ -16,6 +16,10 @@ use Rattle.cca_requests.specs.declared.operands.Operands.{Operands as CodeOperan
 use Rattle.cca_requests.specs.declared.judging.Grant.{Grant}
 use Rattle.cca_requests.specs.declared.judging.Granted.{Granted}
 use Rattle.cca_requests.specs.declared.refusals.Refusal.{Refusal as CodeRefusal}
+
+-- the fields say what they may
+abbrev pub IsAccepted : Request → Type 0
+IsAccepted request = AreValues (row_of request.name).fields request.values
 
 abbrev pub seen_operand : CodeOperand → Operand
 seen_operand o = record { name = o.name.now; text = o.text.now; ask = o.ask }

@@ -2,7 +2,7 @@
 ghost use Rattle.std.specs.Prelude.{◌≡◌, ◌<◌, Some, None, IfOk, IfErr, IsTrue, length};
 ghost use Rattle.cca_vectors.specs.Checks.{first_failing};
 ghost use Rattle.key_tokens.specs.TokenChecks.{rule_of, token_checks};
-ghost use Rattle.key_tokens.specs.Parts.{token_of};
+ghost use Rattle.key_tokens.specs.Fields.{token_of};
 ghost use Rattle.key_tokens.specs.declared.key_token.Asked.TheVariants.{Either};
 ghost use Rattle.verb_rules.specs.Rules.{rule_number};
 ghost use Rattle.verb_script.specs.Grammar.{is_hex};
@@ -11,12 +11,12 @@ ghost use Rattle.cca_machine.specs.State.{State};
 ghost use Rattle.cca_machine.specs.Verdict.{operand_checks};
 ghost use Rattle.cca_requests.specs.Judging.{IsText, IsAsked, HasShape, HaveShapes, AreFit, IsJudged, seen_operands};
 
-use crate::digits::decode;
 use crate::operands::{Operand, Operands};
 use crate::refusals::Refusal;
 use cca_machine::Ask;
 use key_tokens::{Asked, Token, TokenFault, read_token};
 use verb_rules::Rule;
+use verb_script::decode;
 
 /// What an operand stands for, where it breaks no rule.
 #[derive(Clone, Copy)]
@@ -62,9 +62,11 @@ fn token_bytes(digits: &[u8]) -> [u8; 64]
 /// Judges a key token of either kind.
 fn judge_any_token(digits: &[u8]) -> Result<Grant, Rule>
     requires { IsTrue (is_hex 128 digits.now) }
-    ensures passes { IfOk result (λ grant. first_failing (token_checks Either (hex_value digits.now)) ≡ None) }
+    ensures passes { IfOk result (λ grant.
+        first_failing (token_checks Either (hex_value digits.now)) ≡ None) }
     ensures granted { IfOk result (λ grant. grant.token ≡ Some (token_of (hex_value digits.now))) }
-    ensures refused { IfErr result (λ rule. first_failing (token_checks Either (hex_value digits.now)) ≡ Some (rule_number rule)) }
+    ensures refused { IfErr result (λ rule.
+        first_failing (token_checks Either (hex_value digits.now)) ≡ Some (rule_number rule)) }
 {
     match read_token(&token_bytes(digits), Asked::Either) {
         Ok(token) => Ok(Grant { token: Some(token) }),

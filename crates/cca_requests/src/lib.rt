@@ -5,7 +5,6 @@
 //! of these writes a disk.
 #![tactic(auto)]
 
-mod digits;
 mod effects;
 mod judging;
 mod operands;

@@ -1,9 +1,8 @@
 //! The table of operands: of each request, what is asked of which field.
 ghost use Rattle.std.specs.Prelude.{◌≡◌, [], codes};
-ghost use Rattle.verb_script.specs.Grammar.{row_of, AreAccepted};
 ghost use Rattle.verb_script.specs.Parsed.{seen};
 ghost use Rattle.cca_machine.specs.Operands.{operands, no_operands, one_operand};
-ghost use Rattle.cca_requests.specs.Judging.{seen_operand, seen_operands, AreFit};
+ghost use Rattle.cca_requests.specs.Judging.{IsAccepted, seen_operand, seen_operands, AreFit};
 
 use cca_machine::Ask;
 use verb_script::Request;
@@ -70,27 +69,30 @@ impl<'a> Operands<'a> {
 
 /// The table.
 pub(crate) fn operands_of<'a>(request: &Request<'a>) -> Operands<'a>
-    requires accepted { AreAccepted (row_of (seen request.now).name).fields (seen request.now).values }
+    requires accepted { IsAccepted (seen request.now) }
     ensures table { seen_operands result ≡ operands (seen request.now) }
     ensures fit { AreFit (operands (seen request.now)) }
 {
     match request {
         Request::Csnbktp { token, .. } => csnbktp(token),
-        Request::CsnbmkpPart { role, .. } => no_operands(role),
-        Request::CsnbmkpClear { role, .. } => no_operands(role),
-        Request::CsnbmkpSet { role, .. } => no_operands(role),
+        Request::CsnbmkpPart { action, .. } => no_operands(action),
+        Request::CsnbmkpClear { action, .. } => no_operands(action),
+        Request::CsnbmkpSet { action, .. } => no_operands(action),
+        Request::CsuaaciDefine { action, .. } => no_operands(action),
+        Request::CsuaaciRemove { action, .. } => no_operands(action),
     }
 }
 
 // The arms of a match are to hold references alike, so this one takes one too.
-fn no_operands<'a>(_role: &'a [u8]) -> Operands<'a>
+fn no_operands<'a>(_text: &'a [u8]) -> Operands<'a>
     ensures { seen_operands result ≡ no_operands }
 {
     Operands::none()
 }
 
 fn csnbktp<'a>(token: &'a [u8]) -> Operands<'a>
-    ensures { seen_operands result ≡ one_operand (record { name = codes "token"; text = token.now; ask = Ask.AnyToken }) }
+    ensures { seen_operands result
+        ≡ one_operand (record { name = codes "token"; text = token.now; ask = Ask.AnyToken }) }
 {
     Operands::one(Operand::new("token", token, Ask::AnyToken))
 }

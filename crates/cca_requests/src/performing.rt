@@ -1,23 +1,24 @@
 //! A request, judged and carried out.
-ghost use Rattle.std.specs.Prelude.{◌≡◌, ◌⊎◌, ◌≤◌, ℕ, List, [], None, Err, OnErr, IfErr, IsSome, Some, codes};
+ghost use Rattle.std.specs.Prelude.{◌≡◌, ◌⊎◌, ◌≤◌, ℕ, List, [], None, Err, OnOk, OnErr, IfErr, IsSome, Some, codes};
 ghost use Rattle.std.specs.Option.{option_map};
-ghost use Rattle.std.specs.Str.{bytes_eq};
+ghost use Rattle.cca_roles.specs.RolesStand.{StandsForRoles};
 ghost use Rattle.cca_vectors.specs.Checks.{first_failing};
 ghost use Rattle.key_cells.specs.Bench.{Bench, blank_bench};
 ghost use Rattle.key_cells.specs.Lease.{bench_of, holding, loan_of};
-ghost use Rattle.master_registers.specs.Loaded.{Loaded, IsLoaded, StandsForLoaded};
+ghost use Rattle.master_registers.specs.Loaded.{Loaded};
 ghost use Rattle.master_registers.specs.RegisterBody.{IsDamaged};
-ghost use Rattle.slot_disk.specs.Medium.{Told, IsSettled};
+ghost use Rattle.slot_disk.specs.Medium.{Told, IsSettled, Keeps};
+ghost use Rattle.line_service.specs.Devices.{DiskLeft};
 ghost use Rattle.verb_rules.specs.Rules.{rule_number};
-ghost use Rattle.verb_script.specs.Grammar.{row_of, AreAccepted, value_of};
+ghost use Rattle.verb_script.specs.Grammar.{value_of};
 ghost use Rattle.verb_script.specs.Parsed.{seen};
-ghost use Rattle.cca_machine.specs.State.{State, default_roles};
+ghost use Rattle.cca_machine.specs.State.{State, module_size};
 ghost use Rattle.cca_machine.specs.Operands.{operands};
-ghost use Rattle.cca_machine.specs.Verdict.{needs_master, general_checks, verdict, verb_verdict};
+ghost use Rattle.cca_machine.specs.Verdict.{action_points, needed_points, needs_master, general_checks, verdict, verb_verdict};
 ghost use Rattle.cca_machine.specs.Act.{performed, or_act};
-ghost use Rattle.cca_requests.specs.Serving.{IsSpelled, Stands, Serves, DiskLeft};
-ghost use Rattle.cca_requests.specs.Judging.{HaveShapes, AreGranted};
-ghost use Rattle.cca_requests.specs.Deciding.{At, IsDecided, IsReady, with_places};
+ghost use Rattle.cca_requests.specs.Serving.{IsSpelled, IsSound, Stands, Serves, Leaves};
+ghost use Rattle.cca_requests.specs.Judging.{IsAccepted, HaveShapes, AreGranted};
+ghost use Rattle.cca_requests.specs.Deciding.{HasLoaded, At, IsDecided, IsReady, with_places};
 
 use crate::effects::{Effect, carry};
 use crate::judging::{Grant, Granted, judge};
@@ -25,6 +26,8 @@ use crate::operands::operands_of;
 use crate::refusals::refuse;
 use crate::verbs::csnbktp::csnbktp;
 use crate::verbs::csnbmkp::{part_action, put_part};
+use crate::verbs::csuaaci;
+use cca_roles::{AccessPoints, RoleName, Roles};
 use key_cells::{Lease, Workbench};
 use key_tokens::Token;
 use line_service::{Device, Stop};
@@ -42,25 +45,34 @@ pub fn perform<M: Disk>(
     request: &Request,
     bench: &mut Workbench,
     module: &mut M,
+    roles: &mut Roles,
     reply: &mut ReplyBuffer,
 ) -> Result<(), Stop>
     requires spelled { IsSpelled (seen request.now) }
-    requires size { (M.medium «module».old).size ≡ 50688 }
+    requires size { (M.medium «module».old).size ≡ module_size }
     requires settled { IsSettled (M.medium «module».old) }
+    requires remembered { Told (M.medium «module».old) (λ image. StandsForRoles image roles.old) }
 
-    ensures serves { (s : State) → Stands s (M.medium «module».old)
-        → Serves s (seen request.now) result reply.new (M.medium «module».old) (M.medium «module».new) }
-    ensures module { DiskLeft (M.medium «module».old) (M.medium «module».new) (M.faults «module».old) (M.faults «module».new)
-        result Stop.ModuleFault }
+    ensures serves { (s : State) → Stands s roles.old (M.medium «module».old)
+        → Serves s (seen request.now) result reply.new roles.new
+        (M.medium «module».old) (M.medium «module».new) }
+    ensures module { DiskLeft (M.medium «module».old) (M.medium «module».new)
+        (M.faults «module».old) (M.faults «module».new) result Stop.ModuleFault }
+    ensures sound { OnOk result (Told (M.medium «module».new) (IsSound roles.new)) }
     ensures silent { OnErr result (reply.new ≡ []) }
-    ensures damaged { result ≡ Err (Stop.Damaged Device.Module 0) → Told (M.medium «module».old) IsDamaged }
-    ensures stops { IfErr result (λ stop. (stop ≡ Stop.ModuleFault) ⊎ (stop ≡ Stop.Damaged Device.Module 0)) }
+    ensures memory { OnErr result (roles.new ≡ roles.old) }
+    ensures damaged { result ≡ Err (Stop.Damaged Device.Module 0)
+        → Told (M.medium «module».old) IsDamaged }
+    ensures kept { result ≡ Err (Stop.Damaged Device.Module 0)
+        → Keeps (M.medium «module».old) (M.medium «module».new) }
+    ensures stops { IfErr result (λ stop.
+        (stop ≡ Stop.ModuleFault) ⊎ (stop ≡ Stop.Damaged Device.Module 0)) }
     ensures bench { bench.new ≡ blank_bench }
 {
     reply.clear();
     let mut lease = Lease::open(bench);
     match load(module, &mut lease) {
-        Ok(held) => carry_out(request, module, &mut lease, &held, reply),
+        Ok(held) => carry_out(request, module, &mut lease, &held, roles, reply),
         Err(LoadFault::DiskFault) => Err(Stop::ModuleFault),
         Err(LoadFault::Damaged) => Err(Stop::Damaged(Device::Module, 0)),
     }
@@ -72,26 +84,23 @@ fn carry_out<M: Disk>(
     module: &mut M,
     lease: &mut Lease,
     held: &Registers,
+    roles: &mut Roles,
     reply: &mut ReplyBuffer,
 ) -> Result<(), Stop>
-    requires accepted { AreAccepted (row_of (seen request.now).name).fields (seen request.now).values }
-    requires within { 1536 ≤ (M.medium «module».old).size }
-    requires settled { IsSettled (M.medium «module».old) }
-    requires loaded { IsLoaded held.now (bench_of lease.old) }
-    requires stands { Told (M.medium «module».old) (StandsForLoaded held.now (bench_of lease.old)) }
+    requires accepted { IsAccepted (seen request.now) }
+    requires at { HasLoaded held.now (bench_of lease.old) roles.old (M.medium «module».old) }
     requires empty { reply.old ≡ [] }
 
-    ensures serves { (s : State) → At s held.now (bench_of lease.old) (M.medium «module».old)
-        → Serves s (seen request.now) result reply.new (M.medium «module».old) (M.medium «module».new) }
-    ensures still { (s : State) → At s held.now (bench_of lease.old) (M.medium «module».old)
+    ensures serves { (s : State) → At s held.now (bench_of lease.old) roles.old (M.medium «module».old)
+        → Serves s (seen request.now) result reply.new roles.new
+        (M.medium «module».old) (M.medium «module».new) }
+    ensures still { (s : State) → At s held.now (bench_of lease.old) roles.old (M.medium «module».old)
         → (performed s [] (seen request.now)).module_cell ≡ None → «module».new ≡ «module».old }
-    ensures module { DiskLeft (M.medium «module».old) (M.medium «module».new) (M.faults «module».old) (M.faults «module».new)
-        result Stop.ModuleFault }
-    ensures silent { OnErr result (reply.new ≡ []) }
-    ensures stops { IfErr result (λ stop. stop ≡ Stop.ModuleFault) }
+    ensures left { Leaves (M.medium «module».old) (M.medium «module».new)
+        (M.faults «module».old) (M.faults «module».new) result reply.new roles.old roles.new }
     ensures loan { loan_of lease.new ≡ loan_of lease.old }
 {
-    if let Some(rule) = general_rule(request, held) {
+    if let Some(rule) = general_rule(request, held, roles) {
         refuse(reply, rule, "-");
         return Ok(());
     }
@@ -100,25 +109,26 @@ fn carry_out<M: Disk>(
             refuse(reply, refusal.rule, refusal.operand);
             Ok(())
         }
-        Ok(granted) => act(request, &granted, module, lease, held, reply),
+        Ok(granted) => act(request, &granted, module, lease, held, roles, reply),
     }
 }
 
-/// Rules 03 and 05.
-fn general_rule(request: &Request, held: &Registers) -> Option<Rule>
-    ensures { (s : State) (bench : Bench) → s.roles ≡ default_roles → Loaded s.registers held.now bench
+/// Rules 03, 04 and 05.
+fn general_rule(request: &Request, held: &Registers, roles: &Roles) -> Option<Rule>
+    ensures { (s : State) (bench : Bench) → roles.now ≡ s.roles → Loaded s.registers held.now bench
         → option_map rule_number result ≡ first_failing (general_checks s (seen request.now)) }
 {
-    if !is_held(role_of(request)) {
-        return Some(Rule::Role);
+    match roles.permits(role_of(request), needed_points(request)) {
+        None => Some(Rule::Role),
+        Some(false) => Some(Rule::Point),
+        Some(true) if needs_master(request) && held.current_pattern.is_none() => {
+            Some(Rule::MasterKey)
+        }
+        Some(true) => None,
     }
-    if needs_master(request) && held.current_pattern.is_none() {
-        return Some(Rule::MasterKey);
-    }
-    None
 }
 
-fn role_of<'a>(request: &Request<'a>) -> &'a [u8]
+fn role_of<'a, 'b>(request: &'b Request<'a>) -> &'b RoleName
     ensures { result.now ≡ value_of (seen request.now) (codes "role") }
 {
     match request {
@@ -126,14 +136,36 @@ fn role_of<'a>(request: &Request<'a>) -> &'a [u8]
         Request::CsnbmkpPart { role, .. } => role,
         Request::CsnbmkpClear { role, .. } => role,
         Request::CsnbmkpSet { role, .. } => role,
+        Request::CsuaaciDefine { role, .. } => role,
+        Request::CsuaaciRemove { role, .. } => role,
     }
 }
 
-// Until roles are kept, DEFAULT alone is held.
-fn is_held(role: &[u8]) -> bool
-    ensures { result ≡ bytes_eq role.now (codes "DEFAULT") }
+/// The access control points that an action needs.
+fn action_points(action: Action) -> AccessPoints
+    ensures { result ≡ action_points action }
 {
-    role == b"DEFAULT".as_slice()
+    match action {
+        Action::First => AccessPoints::MK_FIRST,
+        Action::Middle => AccessPoints::MK_COMBINE,
+        Action::Last => AccessPoints::MK_COMBINE,
+        Action::Clear => AccessPoints::MK_CLEAR,
+        Action::Set => AccessPoints::MK_SET,
+    }
+}
+
+/// The access control points that a request needs.
+fn needed_points(request: &Request) -> AccessPoints
+    ensures { result ≡ needed_points (seen request.now).name (seen request.now) }
+{
+    match request {
+        Request::Csnbktp { .. } => AccessPoints::empty(),
+        Request::CsnbmkpPart { action, .. } => action_points(part_action(action)),
+        Request::CsnbmkpClear { .. } => action_points(Action::Clear),
+        Request::CsnbmkpSet { .. } => action_points(Action::Set),
+        Request::CsuaaciDefine { .. } => AccessPoints::ROLES,
+        Request::CsuaaciRemove { .. } => AccessPoints::ROLES,
+    }
 }
 
 /// Whether rule 05 is asked.
@@ -145,6 +177,8 @@ fn needs_master(request: &Request) -> bool
         Request::CsnbmkpPart { .. } => false,
         Request::CsnbmkpClear { .. } => false,
         Request::CsnbmkpSet { .. } => false,
+        Request::CsuaaciDefine { .. } => false,
+        Request::CsuaaciRemove { .. } => false,
     }
 }
 
@@ -155,32 +189,29 @@ fn act<M: Disk>(
     module: &mut M,
     lease: &mut Lease,
     held: &Registers,
+    roles: &mut Roles,
     reply: &mut ReplyBuffer,
 ) -> Result<(), Stop>
-    requires accepted { AreAccepted (row_of (seen request.now).name).fields (seen request.now).values }
+    requires accepted { IsAccepted (seen request.now) }
     requires shaped { HaveShapes (operands (seen request.now)) granted.now }
-    requires within { 1536 ≤ (M.medium «module».old).size }
-    requires settled { IsSettled (M.medium «module».old) }
-    requires loaded { IsLoaded held.now (bench_of lease.old) }
-    requires stands { Told (M.medium «module».old) (StandsForLoaded held.now (bench_of lease.old)) }
+    requires at { HasLoaded held.now (bench_of lease.old) roles.old (M.medium «module».old) }
     requires empty { reply.old ≡ [] }
 
-    ensures serves { (s : State) → At s held.now (bench_of lease.old) (M.medium «module».old)
+    ensures serves { (s : State) → At s held.now (bench_of lease.old) roles.old (M.medium «module».old)
         → AreGranted s (operands (seen request.now)) granted.now
         → verdict s (seen request.now) ≡ verb_verdict s (seen request.now)
-        → Serves s (seen request.now) result reply.new (M.medium «module».old) (M.medium «module».new) }
-    ensures still { (s : State) → At s held.now (bench_of lease.old) (M.medium «module».old)
+        → Serves s (seen request.now) result reply.new roles.new
+        (M.medium «module».old) (M.medium «module».new) }
+    ensures still { (s : State) → At s held.now (bench_of lease.old) roles.old (M.medium «module».old)
         → AreGranted s (operands (seen request.now)) granted.now
         → verdict s (seen request.now) ≡ verb_verdict s (seen request.now)
         → (performed s [] (seen request.now)).module_cell ≡ None → «module».new ≡ «module».old }
-    ensures module { DiskLeft (M.medium «module».old) (M.medium «module».new) (M.faults «module».old) (M.faults «module».new)
-        result Stop.ModuleFault }
-    ensures silent { OnErr result (reply.new ≡ []) }
-    ensures stops { IfErr result (λ stop. stop ≡ Stop.ModuleFault) }
+    ensures left { Leaves (M.medium «module».old) (M.medium «module».new)
+        (M.faults «module».old) (M.faults «module».new) result reply.new roles.old roles.new }
     ensures loan { loan_of lease.new ≡ loan_of lease.old }
 {
     let effect = decide(request, granted, lease, reply);
-    carry(effect, module, lease, held, reply)
+    carry(&effect, module, lease, held, roles, reply)
 }
 
 /// What the verb decides, over what its operands stand for.
@@ -190,7 +221,7 @@ fn decide(
     lease: &mut Lease,
     reply: &mut ReplyBuffer,
 ) -> Effect
-    requires accepted { AreAccepted (row_of (seen request.now).name).fields (seen request.now).values }
+    requires accepted { IsAccepted (seen request.now) }
     requires shaped { HaveShapes (operands (seen request.now)) granted.now }
     requires empty { reply.old ≡ [] }
     ensures decides { (s : State) → AreGranted s (operands (seen request.now)) granted.now
@@ -209,6 +240,8 @@ fn decide(
         }
         Request::CsnbmkpClear { .. } => Effect::Change(Action::Clear),
         Request::CsnbmkpSet { .. } => Effect::Change(Action::Set),
+        Request::CsuaaciDefine { name, points, .. } => csuaaci::define(name, points),
+        Request::CsuaaciRemove { name, .. } => Effect::RemoveRole(*name),
     }
 }
 

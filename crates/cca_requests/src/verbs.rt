@@ -2,3 +2,4 @@
 
 pub(crate) mod csnbktp;
 pub(crate) mod csnbmkp;
+pub(crate) mod csuaaci;

@@ -82,7 +82,7 @@ module _ (n : ℕ) (bytes : List ℕ) (slot : Option Role) (s : List (Option Rol
   holds_either old new stands replacing = record {
     outside = replacing.outside;
     others = replacing.others;
-    elsewhere = replacing.elsewhere;
+    untouched = replacing.untouched;
     stands = ⊎_elim (λ was. inl (stands_still old new stands was replacing.others)) (λ here. inr (stands_set old new stands here replacing.others)) replacing.here;
   }
 
@@ -103,7 +103,7 @@ module _ (n : ℕ) (bytes : List ℕ) (slot : Option Role) (s : List (Option Rol
 -- a module that a refusal leaves as it was
 module _ (cell : ℕ) (s next : List (Option Role)) (m : Medium) (settled : IsSettled m) (start : Told m (λ image. StandsForRoles image s)) where
   still_either : (c : List ℕ) → m.content ≡ Some c → HoldsEither cell s next c c
-  still_either c is = record { outside = outside_same (1536 * cell) 1536 c; others = λ n other. refl; elsewhere = λ k at. refl; stands = inl (told_at m.content (λ image. StandsForRoles image s) c is start) }
+  still_either c is = record { outside = outside_same (1536 * cell) 1536 c; others = λ n other. refl; untouched = λ k at. refl; stands = inl (told_at m.content (λ image. StandsForRoles image s) c is start) }
 
   pub refused_becomes : Becomes (HoldsEither cell s next) m m
   refused_becomes = record { size = refl; told = λ c is. (c, is, still_either c is); still = λ some. some }

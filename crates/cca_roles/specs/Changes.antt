@@ -3,7 +3,7 @@ use Rattle.std.specs.Prelude.{◌≡◌, ◌≢◌, ◌≤◌, ◌⊎◌, ◌+�
 use Rattle.std.specs.Prelude.{Result, Err, OnOk, OnErr}
 use Rattle.key_cells.specs.Lease.{bench_of, holding}
 use Rattle.key_cells.specs.declared.leases.Lease.{Lease}
-use Rattle.slot_disk.specs.Cells.{body, IsElsewhere}
+use Rattle.slot_disk.specs.Cells.{body, IsUntouched}
 use Rattle.slot_disk.specs.declared.cell.TheConstants.{CELL_LEN}
 use Rattle.slot_disk.specs.Faults.{Rose}
 use Rattle.slot_disk.specs.Medium.{Medium, IsSettled, Told, From, Becomes, EachImage}
@@ -19,7 +19,7 @@ use Rattle.cca_roles.specs.declared.roles.Role.{Role}
 pub record HoldsEither (cell : ℕ) (s next : List (Option Role)) (old new : List ℕ) : Type 0 where
   pub outside : SameOutside (CELL_LEN * cell) CELL_LEN old new
   pub others : (n : ℕ) → n ≢ cell → body new n ≡ body old n
-  pub elsewhere : (k : ℕ) → IsElsewhere old cell k → slice_index new k ≡ slice_index old k
+  pub untouched : (k : ℕ) → IsUntouched old cell k → slice_index new k ≡ slice_index old k
   pub stands : StandsForRoles new s ⊎ StandsForRoles new next
 
 -- the roles of a module become others, by a change of one place

@@ -7,6 +7,8 @@ ghost use Rattle.cca_rows.specs.WorkedCeremonies.{CeremoniesAnswered};
 #[cfg(test)]
 mod masters;
 #[cfg(test)]
+mod roles;
+#[cfg(test)]
 mod rows;
 
 /// The machine gives the replies to two key ceremonies that are known from outside: the definitions compute them.

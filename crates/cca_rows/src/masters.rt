@@ -19,7 +19,7 @@ CSNBMKP role=DEFAULT action=SET
 const CEREMONY_REPLIES: &str = "OK new=partial\nOK new=full\nOK new=empty\n";
 
 // Runs an input over the module, and asserts the status and the replies.
-fn run_over(
+pub(crate) fn run_over(
     rt: &impl Abort,
     alloc: Global,
     module: &mut MemoryDisk,
@@ -129,16 +129,17 @@ fn run_failing(
 
 #[test]
 fn a_fault_of_the_module_ends_the_run(rt: HostRuntime) -> Result<(), Fail> {
-    // Opening is a sync and two reads. Each request is two reads, and its change a read, and twice a write and a sync.
-    for call in 0..24 {
-        let replies = if call < 10 {
+    // Opening is a sync and two reads of each cell. Each request is two reads, and its change a read, and twice a write and a
+    // sync.
+    for call in 0..88 {
+        let replies = if call < 74 {
             ""
-        } else if call < 17 {
+        } else if call < 81 {
             "OK new=partial\n"
         } else {
             "OK new=partial\nOK new=full\n"
         };
         run_failing(&rt, rt.alloc(), call, (Status::ModuleFault, replies))?;
     }
-    run_failing(&rt, rt.alloc(), 24, (Status::Done, CEREMONY_REPLIES))
+    run_failing(&rt, rt.alloc(), 88, (Status::Done, CEREMONY_REPLIES))
 }

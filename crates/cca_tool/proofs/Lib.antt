@@ -1,14 +1,5 @@
-pub mod AnswerLemmas
-pub mod LineServed
-pub mod ListLemmas
-pub mod SendingLemmas
-pub mod ServingLemmas
-pub mod SessionLemmas
-pub mod StopLemmas
-pub mod DigitLemmas
-pub mod ChangeLemmas
-pub mod TokenLaws
-pub mod TokenReply
-pub mod PerformLemmas
-pub mod PrefixLemmas
-pub mod StatusLemmas
+mod ListLemmas
+mod LineLemmas
+mod ModuleLemmas
+mod StopLemmas
+mod StatusLemmas

@@ -1,38 +1,105 @@
--- Where nothing fails, and the input is short enough, a run is done.
-use Rattle.std.proofs.Common.{◌≡◌, ◌+◌, ◌<◌, ℕ, List, length, Option, Result, Ok, Err, refl, ap, inl, inr, arith}
-use Rattle.std.specs.Prelude.{◌⊎◌, IfErr}
+-- The status of a run tells how its lines ended.
+use Rattle.std.proofs.Common.{◌≡◌, ℕ, ◌+◌, List, length, Option, Result, Ok, Err, refl, sym, ap, ◌∙◌, subst, inl, inr}
+use Rattle.std.specs.Prelude.{⊤, ◌⊎◌, ◌↔◌, ◌<◌, IsOk}
+use Rattle.slot_disk.specs.Medium.{Medium, Told, EachImage}
 use Rattle.slot_disk.specs.WhereTold.{WhereTold}
-use Rattle.slot_disk.proofs.WhereToldLemmas.{told_weaker}
+use Rattle.slot_disk.proofs.Media.{each_weaker, each_still, told_from, told_at}
+use Rattle.slot_disk.proofs.WhereToldLemmas.{told_weaker, told_same}
 use Rattle.script_buffers.specs.Reading.{input_limit}
-use Rattle.cca_tool.specs.Stops.{IsStop}
-use Rattle.cca_tool.specs.Statuses.{status_of_lem}
+use Rattle.line_service.specs.Stops.{AnswersLines, IsFaultless as IsFaultlessOutcome}
+use Rattle.line_service.specs.Serving.{PrefixSent, IsOnTheWay}
+use Rattle.line_service.proofs.RunLemmas.{prefix_none}
+use Rattle.line_service.specs.declared.stops.Device.{Device}
+use Rattle.line_service.specs.declared.stops.Device.TheVariants.{Module}
+use Rattle.line_service.specs.declared.stops.Stop.{Stop}
+use Rattle.line_service.specs.declared.stops.Stop.TheVariants.{ReadFault, WriteFault, EntropyFault, ModuleFault, StoreFault, Damaged, InputLimit}
+use Rattle.cca_machine.specs.State.{State, IsModuleOf}
+use Rattle.cca_tool.specs.Coprocessor.{cca, no_random, IsBroken}
+use Rattle.cca_tool.specs.Statuses.{status_of_lem, ServesLines, IsFaultless}
 use Rattle.cca_tool.specs.declared.command.Status.{Status}
-use Rattle.cca_tool.specs.declared.command.Status.TheVariants.{Done, NoMemory}
-use Rattle.cca_tool.specs.declared.stops.Stop.{Stop}
-use Rattle.cca_tool.specs.declared.stops.Stop.TheVariants.{ReadFault, WriteFault, ModuleFault, Damaged, InputLimit}
-use Rattle.cca_tool.specs.declared.stops.Device.{Device}
-use Rattle.cca_tool.specs.declared.stops.Device.TheVariants.{Module}
+use Rattle.cca_tool.specs.declared.command.Status.TheVariants as status
 
-too_long : (n m limit : ℕ) → n ≡ m + limit → n < limit → ⊥
-too_long n m limit is short = omega (arith, is, short)
+-- the outcome of which a status tells
+abbrev pub outcome_of : Status → Result (Unit {0}) Stop
+outcome_of status.Done = Ok tt
+outcome_of status.ReadFault = Err ReadFault
+outcome_of status.WriteFault = Err WriteFault
+outcome_of status.EntropyFault = Err EntropyFault
+outcome_of status.ModuleFault = Err ModuleFault
+outcome_of status.StoreFault = Err StoreFault
+outcome_of (status.Damaged device cell) = Err (Damaged device cell)
+outcome_of status.InputLimit = Err InputLimit
+outcome_of status.Usage = Ok tt
+outcome_of status.NoMemory = Ok tt
 
-module _ (a b : Option (List ℕ)) (status : Status) where
-  pub completes : (r : Result (Unit {0}) Stop) → status ≡ status_of_lem r → IfErr r IsStop
-      → (r ≡ Err ReadFault → ⊥) → (r ≡ Err WriteFault → ⊥) → (r ≡ Err ModuleFault → ⊥) → (r ≡ Err (Damaged Module 0) → ⊥)
-      → WhereTold a b (λ input rest. r ≡ Err InputLimit → length input ≡ length rest + input_limit)
-      → WhereTold a b (λ input rest. length input < input_limit → (status ≡ Done) ⊎ (status ≡ NoMemory))
-  completes (Ok done) is stops read write module_ damaged limit = told_weaker a b _ _ (λ i r told short. inl is) limit
-  completes (Err ReadFault) is stops read write module_ damaged limit = absurd (read refl)
-  completes (Err WriteFault) is stops read write module_ damaged limit = absurd (write refl)
-  completes (Err ModuleFault) is stops read write module_ damaged limit = absurd (module_ refl)
-  completes (Err InputLimit) is stops read write module_ damaged limit =
-      told_weaker a b _ _ (λ i r told short. absurd (too_long (length i) (length r) input_limit (told refl) short)) limit
-  completes (Err (Damaged device cell)) is stops read write module_ damaged limit = absurd (other device cell stops damaged)
-    where
-      other : (device : Device) (cell : ℕ) → IsStop (Damaged device cell)
-          → (◌≡◌ {A = Result (Unit {0}) Stop} (Err (Damaged device cell)) (Err (Damaged Module 0)) → ⊥) → ⊥
-      other device cell (inl h) never = cc h
-      other device cell (inr (inl h)) never = cc h
-      other device cell (inr (inr (inl h))) never = cc h
-      other device cell (inr (inr (inr (inl h)))) never = never (ap Err h)
-      other device cell (inr (inr (inr (inr h)))) never = cc h
+outcome_is : (r : Result (Unit {0}) Stop) → outcome_of (status_of_lem r) ≡ r
+outcome_is (Ok done) = refl
+outcome_is (Err ReadFault) = refl
+outcome_is (Err WriteFault) = refl
+outcome_is (Err EntropyFault) = refl
+outcome_is (Err ModuleFault) = refl
+outcome_is (Err StoreFault) = refl
+outcome_is (Err (Damaged device cell)) = refl
+outcome_is (Err InputLimit) = refl
+
+module _ (r : Result (Unit {0}) Stop) (outcome : Status) (is : outcome ≡ status_of_lem r) where
+  pub as_told : (told : Status) → outcome ≡ told → r ≡ outcome_of told
+  as_told told h = sym (outcome_is r) ∙ (ap outcome_of (sym is) ∙ ap outcome_of h)
+
+  pub stopped_as : (outcome ≡ status.ReadFault) ⊎ (outcome ≡ status.InputLimit) → (r ≡ Err ReadFault) ⊎ (r ≡ Err InputLimit)
+  stopped_as (inl h) = inl (as_told status.ReadFault h)
+  stopped_as (inr h) = inr (as_told status.InputLimit h)
+
+  pub serves_lines : ServesLines outcome → AnswersLines r
+  serves_lines (inl h) = inl (subst IsOk (sym (as_told status.Done h)) refl)
+  serves_lines (inr (inl h)) = inr (inl (as_told status.ReadFault h))
+  serves_lines (inr (inr (inl h))) = inr (inr (inl (as_told status.InputLimit h)))
+  serves_lines (inr (inr (inr h))) = inr (inr (inr (as_told status.WriteFault h)))
+
+  faultless : (r : Result (Unit {0}) Stop) → IsFaultlessOutcome r → IsFaultless (status_of_lem r)
+  faultless (Ok done) h = tt
+  faultless (Err InputLimit) h = tt
+  faultless (Err ReadFault) h = h
+  faultless (Err WriteFault) h = h
+  faultless (Err EntropyFault) h = h
+  faultless (Err ModuleFault) h = h
+  faultless (Err StoreFault) h = h
+  faultless (Err (Damaged device cell)) h = h
+
+  faultless_outcome : (r : Result (Unit {0}) Stop) → IsFaultless (status_of_lem r) → IsFaultlessOutcome r
+  faultless_outcome (Ok done) h = tt
+  faultless_outcome (Err InputLimit) h = tt
+  faultless_outcome (Err ReadFault) h = h
+  faultless_outcome (Err WriteFault) h = h
+  faultless_outcome (Err EntropyFault) h = h
+  faultless_outcome (Err ModuleFault) h = h
+  faultless_outcome (Err StoreFault) h = h
+  faultless_outcome (Err (Damaged device cell)) h = h
+
+  pub limit_as : (a b : Option (List ℕ)) → WhereTold a b (λ i s. (r ≡ Err InputLimit) ↔ ((length i ≡ length s + input_limit) × IsFaultlessOutcome r))
+      → WhereTold a b (λ i s. (outcome ≡ status.InputLimit) ↔ ((length i ≡ length s + input_limit) × IsFaultless outcome))
+  limit_as a b limit =
+      told_weaker a b _ _
+      (λ i s both. (
+        λ h. let here = both.0 (as_told status.InputLimit h) in (here.0, subst IsFaultless (sym is) (faultless r here.1)),
+        λ all. is ∙ ap status_of_lem (both.1 (all.0, faultless_outcome r (subst IsFaultless is all.1))),
+      )) limit
+
+  pub judged_as : (m : Medium) → Told m (λ image. (cell : ℕ) → IsBroken cell image → r ≡ Err (Damaged Module cell))
+      → Told m (λ image. (cell : ℕ) → IsBroken cell image → (outcome ≡ status.Damaged Module cell) ⊎ (outcome ≡ status.NoMemory))
+  judged_as m judged =
+      told_from m.content _ (λ c told cell broken.
+      inl (is ∙ ap status_of_lem (told_at m.content (λ image. (n : ℕ) → IsBroken n image → r ≡ Err (Damaged Module n)) c told judged cell broken)))
+
+  pub complete_as : (a b : Option (List ℕ)) → WhereTold a b (λ i s. length i < input_limit → r ≡ Ok tt)
+      → WhereTold a b (λ i s. length i < input_limit → (outcome ≡ status.Done) ⊎ (outcome ≡ status.NoMemory))
+  complete_as a b complete = told_weaker a b _ _ (λ i s h short. inl (is ∙ ap status_of_lem (h short))) complete
+
+-- ---- where no device was called
+
+pub prefix_still : (s : State) (a p : Option (List ℕ)) → WhereTold a a (λ i r. PrefixSent cca s no_random i p p)
+prefix_still s a p = told_same a _ (λ x. prefix_none cca s no_random x p p (told_same p (λ y z. z ≡ y) (λ y. refl)))
+
+pub moments_still : (s : State) (m : Medium) (a : Option (List ℕ))
+    → WhereTold a a (λ i r. EachImage m m (λ image. m.images image ⊎ IsOnTheWay cca s no_random i (λ t. IsModuleOf t image)))
+moments_still s m a = told_same a _ (λ x. each_weaker m m _ _ (each_still m) (λ c h. inl h))

@@ -1,34 +1,49 @@
--- A stop of one line is the stop of the session.
-use Rattle.std.proofs.Common.{◌≡◌, List, ℕ, Option, None, Some, Result, Ok, Err, ap, refl, ◌∙◌, inl, inr}
-use Rattle.std.specs.Prelude.{◌⊎◌, ◌≢◌, IfSome, IsSome}
-use Rattle.cca_tool.specs.declared.serving.Served.{Served}
-use Rattle.cca_tool.specs.declared.serving.Served.TheVariants.{Ended}
-use Rattle.cca_tool.specs.declared.stops.Stop.{Stop}
-use Rattle.cca_tool.specs.declared.stops.Stop.TheVariants.{ReadFault, InputLimit}
+-- The stops of a session over a module.
+use Rattle.std.proofs.Common.{◌≡◌, ℕ, List, Result, Ok, Err, refl, ap, inl, inr}
+use Rattle.std.specs.Prelude.{◌⊎◌, IfErr}
+use Rattle.line_service.specs.declared.stops.Device.{Device}
+use Rattle.line_service.specs.declared.stops.Device.TheVariants.{Module}
+use Rattle.line_service.specs.declared.stops.Stop.{Stop}
+use Rattle.line_service.specs.declared.stops.Stop.TheVariants.{ReadFault, WriteFault, EntropyFault, ModuleFault, StoreFault, Damaged, InputLimit}
+use Rattle.slot_disk.specs.Medium.{Medium, Told}
+use Rattle.slot_disk.proofs.Media.{told_from, told_at}
+use Rattle.cca_roles.specs.RolesStand.{IsFirstDamaged}
+use Rattle.cca_roles.specs.declared.faults.RoleFault.{RoleFault}
+use Rattle.cca_roles.specs.declared.faults.RoleFault.TheVariants as role
+use Rattle.cca_tool.specs.Coprocessor.{IsCell, IsStop}
 
-stop_of : (a b : Stop) → ◌≡◌ {A = Result (Unit {0}) Stop} (Err a) (Err b) → a ≡ b
-stop_of a b h = cc
+of_stop : (stop : Stop) → (stop ≡ EntropyFault → ⊥) → (stop ≡ StoreFault → ⊥) → ((device : Device) (cell : ℕ) → stop ≡ Damaged device cell → IsCell device cell) → IsStop stop
+of_stop ReadFault draws stores cells = tt
+of_stop WriteFault draws stores cells = tt
+of_stop InputLimit draws stores cells = tt
+of_stop ModuleFault draws stores cells = tt
+of_stop (Damaged device cell) draws stores cells = cells device cell refl
+of_stop EntropyFault draws stores cells = draws refl
+of_stop StoreFault draws stores cells = stores refl
 
-pub same_stop : (r : Result Served Stop) (stop other : Stop) → r ≡ Err stop → ◌≡◌ {A = Result (Unit {0}) Stop} (Err stop) (Err other) → r ≡ Err other
-same_stop r stop other is h = is ∙ ap Err (stop_of stop other h)
+pub stops_are : {T : Type 0} (result : Result T Stop) → (result ≡ Err EntropyFault → ⊥) → (result ≡ Err StoreFault → ⊥)
+    → ((device : Device) (cell : ℕ) → result ≡ Err (Damaged device cell) → IsCell device cell) → IfErr result IsStop
+stops_are (Ok done) draws stores cells = tt
+stops_are (Err stop) draws stores cells = of_stop stop (λ h. draws (ap Err h)) (λ h. stores (ap Err h)) (λ device cell h. cells device cell (ap Err h))
 
-stop_of_line : (a b : Stop) → ◌≡◌ {A = Result Served Stop} (Err a) (Err b) → a ≡ b
-stop_of_line a b h = cc
+-- of the module's cells, cell 0 alone is found damaged
+pub cell_zero : (r : Result (Unit {0}) Stop) (cell : ℕ) → IfErr r (λ stop. (stop ≡ ModuleFault) ⊎ (stop ≡ Damaged Module 0))
+    → r ≡ Err (Damaged Module cell) → r ≡ Err (Damaged Module 0)
+cell_zero (Ok done) cell stops h = cc h
+cell_zero (Err stop) cell (inl is) h = cc (is, h)
+cell_zero (Err stop) cell (inr is) h = ap Err is
 
-pub line_stop : (r : Result (Unit {0}) Stop) (stop other : Stop) → r ≡ Err stop → ◌≡◌ {A = Result Served Stop} (Err stop) (Err other) → r ≡ Err other
-line_stop r stop other is h = is ∙ ap Err (stop_of_line stop other h)
+pub same_cell : (x cell : ℕ) → ◌≡◌ {A = Result (Unit {0}) Stop} (Err (Damaged Module x)) (Err (Damaged Module cell)) → x ≡ cell
+same_cell x cell h = cc h
 
-pub stopped_as : (r : Result Served Stop) (stop : Stop) → r ≡ Err stop
-    → ◌≡◌ {A = Result (Unit {0}) Stop} (Err stop) (Err ReadFault) ⊎ ◌≡◌ {A = Result (Unit {0}) Stop} (Err stop) (Err InputLimit)
-    → (r ≡ Err ReadFault) ⊎ (r ≡ Err InputLimit)
-stopped_as r stop is (inl h) = inl (same_stop r stop ReadFault is h)
-stopped_as r stop is (inr h) = inr (same_stop r stop InputLimit is h)
+same_role : (r : Result (Unit {0}) RoleFault) (x cell : ℕ) → r ≡ Err (role.Damaged x) → r ≡ Err (role.Damaged cell) → x ≡ cell
+same_role r x cell first second = cc (first, second)
 
-pub not_ended : {A : Type 0} {x y : A} (r : Result Served Stop) (stop : Stop) → r ≡ Err stop → (x ≡ y → r ≡ Ok Ended) → x ≢ y
-not_ended r stop is over same = let both : r ≡ Ok Ended = over same in cc (both, is)
-
--- a disk that tells now isn't one of which nothing is told; so it didn't tell before
-pub told_earlier : (before now : Option (List ℕ)) → (IsSome before → IsSome now) → IfSome now (λ _. ⊥) → IfSome before (λ _. ⊥)
-told_earlier None now still none = tt
-told_earlier (Some x) None still none = cc (still refl)
-told_earlier (Some x) (Some y) still none = none
+-- the cell of a damaged role, as a stop names it
+pub named_cell : (r : Result (Unit {0}) RoleFault) (x : ℕ) → r ≡ Err (role.Damaged x) → (m : Medium)
+    → Told m (λ image. (cell : ℕ) → IsFirstDamaged image cell → r ≡ Err (role.Damaged cell))
+    → Told m (λ image. (cell : ℕ) → IsFirstDamaged image cell → ◌≡◌ {A = Result (Unit {0}) Stop} (Err (Damaged Module x)) (Err (Damaged Module cell)))
+named_cell r x is m exact =
+    told_from m.content _ (λ c told cell first.
+    ap (λ (n : ℕ). Err (Damaged Module n))
+    (same_role r x cell is (told_at m.content (λ image. (n : ℕ) → IsFirstDamaged image n → r ≡ Err (role.Damaged n)) c told exact cell first)))

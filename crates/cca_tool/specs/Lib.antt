@@ -1,7 +1,3 @@
-pub mod Answering
-pub mod Sending
-pub mod Serving
-pub mod Stops
-pub mod Performing
-pub mod Steps
+pub mod Coprocessor
+pub mod Sessions
 pub mod Statuses

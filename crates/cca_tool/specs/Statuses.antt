@@ -1,25 +1,38 @@
--- How the status of a run tells of its session.
-use Rattle.std.specs.Prelude.{⊤, Result, Ok, Err}
+-- How the status of a run tells of its lines.
+use Rattle.std.specs.Prelude.{⊤, ◌≡◌, ◌⊎◌, Result, Ok, Err}
 use Rattle.cca_tool.specs.declared.command.Status.{Status}
 use Rattle.cca_tool.specs.declared.command.Status.TheVariants as status
-use Rattle.cca_tool.specs.declared.stops.Stop.{Stop}
-use Rattle.cca_tool.specs.declared.stops.Stop.TheVariants.{ReadFault, WriteFault, ModuleFault, Damaged, InputLimit}
+use Rattle.line_service.specs.declared.stops.Stop.{Stop}
+use Rattle.line_service.specs.declared.stops.Stop.TheVariants.{ReadFault, WriteFault, EntropyFault, ModuleFault, StoreFault, Damaged, InputLimit}
 
 abbrev pub status_of_lem : Result (Unit {0}) Stop → Status
 status_of_lem (Ok done) = status.Done
 status_of_lem (Err ReadFault) = status.ReadFault
 status_of_lem (Err WriteFault) = status.WriteFault
+status_of_lem (Err EntropyFault) = status.EntropyFault
 status_of_lem (Err ModuleFault) = status.ModuleFault
+status_of_lem (Err StoreFault) = status.StoreFault
 status_of_lem (Err (Damaged device cell)) = status.Damaged device cell
 status_of_lem (Err InputLimit) = status.InputLimit
 
--- lines were served, and the module didn't fail
-abbrev pub AnswersLines : Status → Type 0
-AnswersLines status.Done = ⊤
-AnswersLines status.ReadFault = ⊤
-AnswersLines status.WriteFault = ⊤
-AnswersLines status.InputLimit = ⊤
-AnswersLines status.ModuleFault = ⊥
-AnswersLines (status.Damaged device cell) = ⊥
-AnswersLines status.Usage = ⊥
-AnswersLines status.NoMemory = ⊥
+-- no device was called
+abbrev pub CallsNone : Status → Type 0
+CallsNone outcome = (outcome ≡ status.Usage) ⊎ (outcome ≡ status.NoMemory)
+
+-- lines were served, and neither a disk nor the random bytes ended that
+abbrev pub ServesLines : Status → Type 0
+ServesLines outcome =
+    (outcome ≡ status.Done) ⊎ ((outcome ≡ status.ReadFault) ⊎ ((outcome ≡ status.InputLimit) ⊎ (outcome ≡ status.WriteFault)))
+
+-- no device failed and no disk is damaged
+abbrev pub IsFaultless : Status → Type 0
+IsFaultless status.Done = ⊤
+IsFaultless status.InputLimit = ⊤
+IsFaultless status.Usage = ⊤
+IsFaultless status.NoMemory = ⊤
+IsFaultless status.ReadFault = ⊥
+IsFaultless status.WriteFault = ⊥
+IsFaultless status.EntropyFault = ⊥
+IsFaultless status.ModuleFault = ⊥
+IsFaultless status.StoreFault = ⊥
+IsFaultless (status.Damaged device cell) = ⊥

@@ -1,19 +1,23 @@
 //! The top call.
-ghost use Rattle.std.specs.Prelude.{◌≡◌, ◌≢◌, ◌⊎◌, ◌↔◌, ◌+◌, ◌<◌, ◌^◌, ◌∷◌, [], ℕ, List, length, codes, IsSome, Result};
+ghost use Rattle.std.specs.Prelude.{◌≡◌, ◌≢◌, ◌⊎◌, ◌↔◌, ◌+◌, ◌<◌, ◌∷◌, [], ℕ, length, codes, IsSome, Result};
+ghost use Rattle.std.specs.Io.KnownBytes.{IsAtEnd};
 ghost use Rattle.key_cells.specs.Bench.{blank_bench};
 ghost use Rattle.slot_disk.specs.Faults.{Rose};
-ghost use Rattle.slot_disk.specs.Medium.{Told, IsSettled};
+ghost use Rattle.slot_disk.specs.Medium.{Told, IsSettled, EachImage, Keeps};
 ghost use Rattle.slot_disk.specs.WhereTold.{WhereTold};
-ghost use Rattle.master_registers.specs.RegisterBody.{IsDamaged};
 ghost use Rattle.script_buffers.specs.Reading.{input_limit};
-ghost use Rattle.cca_machine.specs.State.{State};
-ghost use Rattle.cca_tool.specs.Statuses.{status_of_lem, AnswersLines};
-ghost use Rattle.cca_tool.specs.Serving.{BothTold, Holds, PrefixSent, AllAnswered, WholeLinesAnswered, ReplyCut, ModuleLost};
+ghost use Rattle.line_service.specs.Answering.{Holds};
+ghost use Rattle.line_service.specs.Sending.{Grows};
+ghost use Rattle.line_service.specs.Serving.{PrefixSent, AllAnswered, WholeLinesAnswered, ReplyCut, LineLost, Unopened, IsOnTheWay};
+ghost use Rattle.cca_machine.specs.State.{State, IsModuleOf, module_size};
+ghost use Rattle.cca_tool.specs.Coprocessor.{cca, over, no_random, IsBroken, IsCell, IsModuleSound};
+ghost use Rattle.cca_tool.specs.Statuses.{status_of_lem, CallsNone, ServesLines, IsFaultless};
+ghost use Rattle.line_service.specs.declared.stops.Device.{Device as AnyDevice};
 
 use crate::session::Session;
-use crate::stops::{Device, Stop};
 use crate::words::Words;
 use key_cells::Workbench;
+use line_service::{Device, Stop};
 use slot_disk::{Disk, Sink, Source};
 use std::alloc::Global;
 
@@ -24,14 +28,18 @@ pub enum Status {
     Done,
     /// The words aren't those of a command.
     Usage,
-    /// A cell of a disk reads as nothing that the disk may hold.
-    Damaged(Device, u16),
     /// The input could not be read.
     ReadFault,
     /// The output could not be written.
     WriteFault,
+    /// The random source failed.
+    EntropyFault,
     /// The module failed.
     ModuleFault,
+    /// The store failed.
+    StoreFault,
+    /// A cell of a disk reads as nothing that the disk may hold.
+    Damaged(Device, u16),
     /// More bytes came than a run takes.
     InputLimit,
     /// There was no memory.
@@ -51,60 +59,82 @@ pub fn run<S: Source, K: Sink, M: Disk>(
     sink: &mut K,
     module: &mut M,
 ) -> Status
-    requires size { (M.medium «module».old).size ≡ 50688 }
+    requires { (M.medium «module».old).size ≡ module_size }
 
     ensures usage { (result ≡ Status.Usage) ↔ (words.now ≢ codes "run" ∷ []) }
 
     // Where no device was called.
-    ensures no_source { result ≡ Status.Usage ⊎ (result ≡ Status.NoMemory) → source.new ≡ source.old }
-    ensures no_sink { result ≡ Status.Usage ⊎ (result ≡ Status.NoMemory) → sink.new ≡ sink.old }
-    ensures no_module { result ≡ Status.Usage ⊎ (result ≡ Status.NoMemory) → «module».new ≡ «module».old }
+    ensures no_source { CallsNone result → source.new ≡ source.old }
+    ensures no_sink { CallsNone result → sink.new ≡ sink.old }
+    ensures no_module { CallsNone result → «module».new ≡ «module».old }
 
-    // What the sink got, and the state that the module stands for, from the state for which it stood: the first
+    // What the sink got, and the state for which the module stands, from the state for which it stood: the first
     // bytes of the replies, and at `Done` all of them.
-    ensures prefix { (s : State) → Holds (M.medium «module».old) s
-        → BothTold (S.left source.old) (S.left source.new) (K.held sink.old) (K.held sink.new) (λ input rest before now. PrefixSent s input before now) }
-    ensures done { result ≡ Status.Done → (s : State) → Holds (M.medium «module».old) s
-        → BothTold (S.left source.old) (S.left source.new) (K.held sink.old) (K.held sink.new) (AllAnswered s (M.medium «module».new)) }
-    ensures stopped { result ≡ Status.ReadFault ⊎ (result ≡ Status.InputLimit) → (s : State) → Holds (M.medium «module».old) s
-        → BothTold (S.left source.old) (S.left source.new) (K.held sink.old) (K.held sink.new) (WholeLinesAnswered s (M.medium «module».new)) }
-    ensures cut { result ≡ Status.WriteFault → (s : State) → Holds (M.medium «module».old) s
-        → BothTold (S.left source.old) (S.left source.new) (K.held sink.old) (K.held sink.new) (λ input rest before now. ReplyCut s (M.medium «module».new) input before now) }
-    ensures lost { result ≡ Status.ModuleFault → (s : State) → Holds (M.medium «module».old) s
-        → BothTold (S.left source.old) (S.left source.new) (K.held sink.old) (K.held sink.new) (λ input rest before now.
-        ModuleLost s (M.medium «module».old) (M.medium «module».new) input before now) }
+    ensures prefix { (s : State) → Holds (M.medium «module».old) (IsModuleOf s)
+        → WhereTold (S.left source.old) (S.left source.new) (λ input rest.
+        PrefixSent cca s no_random input (K.held sink.old) (K.held sink.new)) }
+    ensures done { result ≡ Status.Done → (s : State) → Holds (M.medium «module».old) (IsModuleOf s)
+        → WhereTold (S.left source.old) (S.left source.new) (λ input rest.
+        AllAnswered cca s no_random (over (M.medium «module».new)) input (K.held sink.old) (K.held sink.new)) }
+    ensures stopped { (result ≡ Status.ReadFault) ⊎ (result ≡ Status.InputLimit)
+        → (s : State) → Holds (M.medium «module».old) (IsModuleOf s)
+        → WhereTold (S.left source.old) (S.left source.new) (λ input rest.
+        WholeLinesAnswered cca s no_random (over (M.medium «module».new)) input rest
+        (K.held sink.old) (K.held sink.new)) }
+    ensures cut { result ≡ Status.WriteFault → (s : State) → Holds (M.medium «module».old) (IsModuleOf s)
+        → WhereTold (S.left source.old) (S.left source.new) (λ input rest.
+        ReplyCut cca s no_random (over (M.medium «module».new)) input (K.held sink.old) (K.held sink.new)) }
+    // The module failed at a line; or before the first line, and then nothing has changed.
+    ensures lost { result ≡ Status.ModuleFault → (s : State) → Holds (M.medium «module».old) (IsModuleOf s)
+        → WhereTold (S.left source.old) (S.left source.new) (λ input rest.
+        LineLost cca Stop.ModuleFault s no_random (over (M.medium «module».new)) input
+        (K.held sink.old) (K.held sink.new)
+        ⊎ Unopened (over (M.medium «module».old)) (over (M.medium «module».new)) input rest
+        (K.held sink.old) (K.held sink.new)) }
+    // The module at every moment.
+    ensures moments { (s : State) → Holds (M.medium «module».old) (IsModuleOf s)
+        → WhereTold (S.left source.old) (S.left source.new) (λ input rest.
+        EachImage (M.medium «module».old) (M.medium «module».new) (λ image. (M.medium «module».old).images image
+        ⊎ IsOnTheWay cca s no_random input (λ t. IsModuleOf t image))) }
+    ensures at_end { result ≡ Status.Done → IsAtEnd (S.left source.new) }
+    ensures sink_grows { WhereTold (K.held sink.old) (K.held sink.new) Grows }
 
-    // Where lines were served, and the module didn't fail, a stop leaves what the module reads as.
-    ensures settled { AnswersLines result → IsSettled (M.medium «module».new) }
-    ensures size { (M.medium «module».new).size ≡ (M.medium «module».old).size }
-    ensures still { IsSome (M.medium «module».old).content → IsSome (M.medium «module».new).content }
+    // Lines are served only where the module stands for a state. Where it doesn't, all is as before.
+    ensures sound { ServesLines result → IsModuleSound (M.medium «module».old) }
+    ensures settled { ServesLines result → IsSettled (M.medium «module».new) }
+    ensures unsound_source { (IsModuleSound (M.medium «module».old) → ⊥) → source.new ≡ source.old }
+    ensures unsound_sink { (IsModuleSound (M.medium «module».old) → ⊥) → sink.new ≡ sink.old }
+    ensures unsound_module { (IsModuleSound (M.medium «module».old) → ⊥)
+        → Keeps (M.medium «module».old) (M.medium «module».new) }
 
-    // A damaged module is told before the first line is taken.
-    ensures damaged { result ≡ Status.Damaged Device.Module 0 → Told (M.medium «module».old) IsDamaged }
-    ensures damaged_source { result ≡ Status.Damaged Device.Module 0 → IsSome (M.medium «module».old).content → source.new ≡ source.old }
-    ensures damaged_sink { result ≡ Status.Damaged Device.Module 0 → IsSome (M.medium «module».old).content → sink.new ≡ sink.old }
-    ensures damaged_module { result ≡ Status.Damaged Device.Module 0 → IsSome (M.medium «module».old).content
-        → (M.medium «module».new).content ≡ (M.medium «module».old).content }
-    ensures told { words.now ≡ codes "run" ∷ [] → (Rose (M.faults «module».old) (M.faults «module».new) → ⊥) → Told (M.medium «module».old) (λ image.
-        IsDamaged image → (result ≡ Status.Damaged Device.Module 0) ⊎ (result ≡ Status.NoMemory)) }
+    // Damage is told where a cell is broken, and then always, unless the module failed. Only cells 0 to 32 of the
+    // module are named.
+    ensures damaged { (cell : ℕ) → result ≡ Status.Damaged Device.Module cell
+        → Told (M.medium «module».old) (IsBroken cell) }
+    ensures judged { words.now ≡ codes "run" ∷ [] → (Rose (M.faults «module».old) (M.faults «module».new) → ⊥)
+        → Told (M.medium «module».old) (λ image. (cell : ℕ) → IsBroken cell image
+        → (result ≡ Status.Damaged Device.Module cell) ⊎ (result ≡ Status.NoMemory)) }
+    ensures cell { (device : AnyDevice) (cell : ℕ) → result ≡ Status.Damaged device cell → IsCell device cell }
 
     // Why it ended.
     ensures read_fault { result ≡ Status.ReadFault → Rose (S.faults source.old) (S.faults source.new) }
     ensures write_fault { result ≡ Status.WriteFault → Rose (K.faults sink.old) (K.faults sink.new) }
     ensures module_fault { result ≡ Status.ModuleFault → Rose (M.faults «module».old) (M.faults «module».new) }
+    ensures no_store { result ≡ Status.StoreFault → ⊥ }
+    ensures no_entropy { result ≡ Status.EntropyFault → ⊥ }
     ensures limit { WhereTold (S.left source.old) (S.left source.new) (λ input rest.
-        (result ≡ Status.InputLimit) ↔ ((length input ≡ length rest + input_limit)
-        × (result ≢ Status.WriteFault) × (result ≢ Status.ModuleFault) × (result ≢ Status.Damaged Device.Module 0))) }
-    // Of the damaged cells only cell 0 of the module is named.
-    ensures cell { (device : Device) (cell : ℕ) → result ≡ Status.Damaged device cell → (device ≡ Device.Module) × (cell ≡ 0) }
+        (result ≡ Status.InputLimit) ↔ ((length input ≡ length rest + input_limit) × IsFaultless result)) }
+    ensures size { (M.medium «module».new).size ≡ (M.medium «module».old).size }
+    ensures still { IsSome (M.medium «module».old).content → IsSome (M.medium «module».new).content }
 
     // Where the word is `run`, the module stands for a state, the input is short enough and no device fails, it
     // answers every line.
-    ensures complete { words.now ≡ codes "run" ∷ [] → (s : State) → Holds (M.medium «module».old) s
-        → (Rose (S.faults source.old) (S.faults source.new) → ⊥) → (Rose (K.faults sink.old) (K.faults sink.new) → ⊥)
+    ensures complete { words.now ≡ codes "run" ∷ [] → (s : State) → Holds (M.medium «module».old) (IsModuleOf s)
+        → (Rose (S.faults source.old) (S.faults source.new) → ⊥)
+        → (Rose (K.faults sink.old) (K.faults sink.new) → ⊥)
         → (Rose (M.faults «module».old) (M.faults «module».new) → ⊥)
         → WhereTold (S.left source.old) (S.left source.new) (λ input rest. length input < input_limit
-        → result ≡ Status.Done ⊎ (result ≡ Status.NoMemory)) }
+        → (result ≡ Status.Done) ⊎ (result ≡ Status.NoMemory)) }
 
     // No key is left in the bench.
     ensures bench { bench.new ≡ blank_bench }
@@ -126,7 +156,9 @@ fn status_of(outcome: Result<(), Stop>) -> Status
         Ok(()) => Status::Done,
         Err(Stop::ReadFault) => Status::ReadFault,
         Err(Stop::WriteFault) => Status::WriteFault,
+        Err(Stop::EntropyFault) => Status::EntropyFault,
         Err(Stop::ModuleFault) => Status::ModuleFault,
+        Err(Stop::StoreFault) => Status::StoreFault,
         Err(Stop::Damaged(device, cell)) => Status::Damaged(device, cell),
         Err(Stop::InputLimit) => Status::InputLimit,
     }

@@ -1,18 +1,13 @@
 //! `cca`: requests in, replies out.
 #![tactic(auto)]
 
-mod answer;
 mod command;
-mod opening;
-pub mod perform;
-mod sending;
-mod serving;
+mod coprocessor;
 mod session;
-mod stops;
 mod words;
 
+pub use cca_requests::perform;
 pub use command::{Status, run};
-pub use serving::Served;
+pub use line_service::{Device, Served, Stop};
 pub use session::Session;
-pub use stops::{Device, Stop};
 pub use words::Words;

@@ -59,8 +59,8 @@ pub fn cbc_mac(keys: &Schedule, text: &[u8]) -> [u8; 8]
 /// enciphered under the left one.
 pub fn x919_mac(left: &Schedule, right: &Schedule, text: &[u8]) -> [u8; 8]
     requires { 0 < length text.now }
-    ensures schedules { result
-        ≡ enciphered_under left.now (deciphered_under right.now (cbc_mac (enciphered_under left.now) text.now)) }
+    ensures schedules { result ≡ enciphered_under left.now
+        (deciphered_under right.now (cbc_mac (enciphered_under left.now) text.now)) }
     ensures key { (key : List ℕ) → IsOf left.now (take 8 key) → IsOf right.now (drop 8 key)
         → result ≡ mac_x919 key text.now }
 {

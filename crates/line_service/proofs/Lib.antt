@@ -1,2 +1,6 @@
 pub mod SendingLemmas
 pub mod LineLemmas
+pub mod SessionLemmas
+pub mod StopLemmas
+pub mod OpeningLemmas
+pub mod RunLemmas

@@ -1,6 +1,7 @@
 -- A machine that answers lines, over two disks and a list of random bytes.
 use Rattle.std.specs.Prelude.{ℕ, List, Option}
 use Rattle.slot_disk.specs.Medium.{Medium}
+use Rattle.line_service.specs.declared.stops.Device.{Device}
 use Rattle.line_service.specs.declared.stops.Stop.{Stop}
 
 -- what a line comes to: the state after it, the bytes of the reply line, and the random bytes that are left
@@ -24,6 +25,8 @@ pub record Machine : Type 1 where
   pub MayStop : Stop → State → List ℕ → Type 0
   -- some line takes random bytes
   pub Draws : Type 0
+  -- the disk has a cell with this number
+  pub HasCell : Device → ℕ → Type 0
   -- this cell is the first that reads as nothing, of a module with this content
   pub IsBrokenModule : ℕ → List ℕ → Type 0
   -- this cell is the first that reads as nothing, of a store beside a module with these contents

@@ -8,6 +8,7 @@ ghost use Rattle.line_service.specs.Machine.{Machine, world};
 ghost use Rattle.line_service.specs.Answering.{OnDisks, IsSound, Stands, Steps, Serves};
 ghost use Rattle.line_service.specs.Devices.{DiskLeft, TellsFault};
 ghost use Rattle.line_service.specs.Stops.{IsDeskStop, IsOpeningStop};
+ghost use Rattle.line_service.specs.declared.stops.Device.{Device as AnyDevice};
 
 use crate::stops::{Device, Stop};
 use key_cells::Workbench;
@@ -63,6 +64,8 @@ pub trait Desk {
         ensures store_left { DiskLeft (D.medium store.old) (D.medium store.new)
             (D.faults store.old) (D.faults store.new) result Stop.StoreFault }
 
+        ensures cells { (device : AnyDevice) (cell : ℕ) → result ≡ Err (Stop.Damaged device cell)
+            → machine.HasCell device cell }
         ensures stops { IfErr result IsOpeningStop }
         ensures bench { bench.new ≡ blank_bench };
 
@@ -109,6 +112,8 @@ pub trait Desk {
             result Stop.EntropyFault }
         ensures draws { result ≡ Err Stop.EntropyFault → machine.Draws }
 
+        ensures cells { (device : AnyDevice) (cell : ℕ) → result ≡ Err (Stop.Damaged device cell)
+            → machine.HasCell device cell }
         ensures stops { IfErr result IsDeskStop }
         ensures bench { bench.new ≡ blank_bench };
 }

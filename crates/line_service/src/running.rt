@@ -12,6 +12,7 @@ ghost use Rattle.line_service.specs.Devices.{DiskLeft, TellsFault};
 ghost use Rattle.line_service.specs.Sending.{Grows};
 ghost use Rattle.line_service.specs.Serving.{RunServed, PrefixSent};
 ghost use Rattle.line_service.specs.Stops.{AnswersLines, IsFaultless};
+ghost use Rattle.line_service.specs.declared.stops.Device.{Device as AnyDevice};
 
 use crate::desk::Desk;
 use crate::serving::{Served, serve_one};
@@ -63,13 +64,15 @@ fn serve_all<A: Desk, S: Source, K: Sink, M: Disk, D: Disk, E: Entropy>(
     ensures entropy_left { TellsFault (E.faults entropy.old) (E.faults entropy.new)
         result Stop.EntropyFault }
     ensures draws { result ≡ Err Stop.EntropyFault → A.machine.Draws }
+    ensures cells { (device : AnyDevice) (cell : ℕ) → result ≡ Err (Stop.Damaged device cell)
+        → A.machine.HasCell device cell }
     ensures module_sound { (cell : ℕ) → result ≡ Err (Stop.Damaged Device.Module cell)
         → Told (M.medium «module».old) (λ c. ⊥) }
     ensures store_sound { (cell : ℕ) → result ≡ Err (Stop.Damaged Device.Store cell)
         → Told (M.medium «module».old) (λ c. Told (D.medium store.old) (λ d. ⊥)) }
     ensures bench { bench.new ≡ blank_bench }
 {
-    'lines: loop {
+    'each_line: loop {
         match serve_one(
             desk, lines, reply, bench, source, sink, module, store, entropy,
         ) {
@@ -115,7 +118,7 @@ pub fn serve<A: Desk, S: Source, K: Sink, M: Disk, D: Disk, E: Entropy>(
         → (Rose (K.faults sink.old) (K.faults sink.new) → ⊥)
         → (Rose (M.faults «module».old) (M.faults «module».new) → ⊥)
         → (Rose (D.faults store.old) (D.faults store.new) → ⊥)
-        → (Rose (E.faults entropy.old) (E.faults entropy.new) → ⊥)
+        → (A.machine.Draws → Rose (E.faults entropy.old) (E.faults entropy.new) → ⊥)
         → WhereTold (S.left source.old) (S.left source.new) (λ input rest.
         length input < input_limit → result ≡ Ok tt) }
 
@@ -165,6 +168,8 @@ pub fn serve<A: Desk, S: Source, K: Sink, M: Disk, D: Disk, E: Entropy>(
     ensures entropy_left { TellsFault (E.faults entropy.old) (E.faults entropy.new)
         result Stop.EntropyFault }
     ensures draws { result ≡ Err Stop.EntropyFault → A.machine.Draws }
+    ensures cells { (device : AnyDevice) (cell : ℕ) → result ≡ Err (Stop.Damaged device cell)
+        → A.machine.HasCell device cell }
     ensures bench { bench.new ≡ blank_bench }
 {
     lines.clear();

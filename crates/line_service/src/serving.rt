@@ -12,6 +12,7 @@ ghost use Rattle.line_service.specs.Devices.{DiskLeft, TellsFault};
 ghost use Rattle.line_service.specs.Sending.{Grows};
 ghost use Rattle.line_service.specs.Serving.{IsTheLine, LineServed};
 ghost use Rattle.line_service.specs.Stops.{IsDeskStop, IsUnanswered};
+ghost use Rattle.line_service.specs.declared.stops.Device.{Device as AnyDevice};
 
 use crate::desk::Desk;
 use crate::sending::send;
@@ -65,6 +66,8 @@ fn answer_taken<A: Desk, M: Disk, D: Disk, E: Entropy>(
     ensures entropy_left { TellsFault (E.faults entropy.old) (E.faults entropy.new)
         result Stop.EntropyFault }
     ensures draws { result ≡ Err Stop.EntropyFault → A.machine.Draws }
+    ensures cells { (device : AnyDevice) (cell : ℕ) → result ≡ Err (Stop.Damaged device cell)
+        → A.machine.HasCell device cell }
     ensures stops { IfErr result IsDeskStop }
     ensures bench { bench.new ≡ blank_bench }
 {
@@ -155,6 +158,8 @@ pub fn serve_one<A: Desk, S: Source, K: Sink, M: Disk, D: Disk, E: Entropy>(
     ensures entropy_left { TellsFault (E.faults entropy.old) (E.faults entropy.new)
         result Stop.EntropyFault }
     ensures draws { result ≡ Err Stop.EntropyFault → A.machine.Draws }
+    ensures cells { (device : AnyDevice) (cell : ℕ) → result ≡ Err (Stop.Damaged device cell)
+        → A.machine.HasCell device cell }
     ensures module_sound { (cell : ℕ) → result ≡ Err (Stop.Damaged Device.Module cell)
         → Told (M.medium «module».old) (λ c. ⊥) }
     ensures store_sound { (cell : ℕ) → result ≡ Err (Stop.Damaged Device.Store cell)

@@ -1,7 +1,7 @@
 -- The table of the registers written and read back.
 use Rattle.std.proofs.Common.{◌≡◌, ◌≤◌, ◌<◌, ◌-◌, inr, ⊎_elim, ℕ, zero, suc, ◌+◌, Bool, true, false, List, [], ◌∷◌, ◌++◌, length, get_or, take, drop, replicate, Option, None, Some, refl, sym, ap, subst, ◌∙◌, arith}
 use Rattle.std.specs.Prelude.{IsTrue, slice_range, slice_index}
-use Rattle.std.proofs.lemmas.List.{append_assoc, drop-drop, drop_at, get_or-drop, get_or-take, get_or_default, length-append, length-drop, length-replicate, length-take, take-append-drop, take_all, take_at}
+use Rattle.std.proofs.lemmas.List.{append_assoc, drop-drop, drop_at, get_or-drop, get_or-take, get_or_default, length-append, length-drop, length-take, take-append-drop, take_all, take_at}
 use Rattle.byte_lists.specs.Bytes.{IsZero}
 use Rattle.byte_lists.proofs.ByteLemmas.{zeros_of, IsZero-replicate}
 use Rattle.master_registers.specs.Masters.{NewRegister, Empty, Partial, Full, Masters, IsMaster, IsMasters, AreApart, blank_masters, new_bytes, kept_bytes, state_of}
@@ -25,11 +25,11 @@ pub kept-again : (r : Option (List ℕ)) → kept_at (kept_code r) (kept_bytes r
 kept-again None = refl
 kept-again (Some bytes) = refl
 
-pub new_code-at : (n : ℕ) (bytes : List ℕ) → n ≤ 2 → state_code (state_of (coming_at n bytes)) ≡ n
-new_code-at zero bytes low = refl
-new_code-at (suc zero) bytes low = refl
-new_code-at (suc (suc zero)) bytes low = refl
-new_code-at (suc (suc (suc n))) bytes low = absurd (omega arith)
+pub state_code-at : (n : ℕ) (bytes : List ℕ) → n ≤ 2 → state_code (state_of (coming_at n bytes)) ≡ n
+state_code-at zero bytes low = refl
+state_code-at (suc zero) bytes low = refl
+state_code-at (suc (suc zero)) bytes low = refl
+state_code-at (suc (suc (suc n))) bytes low = absurd (omega arith)
 
 pub kept_code-at : (n : ℕ) (bytes : List ℕ) → n ≤ 1 → kept_code (kept_at n bytes) ≡ n
 kept_code-at zero bytes low = refl
@@ -186,7 +186,7 @@ table_of_form (a ∷ b ∷ c ∷ d ∷ rest) long form =
     ∙ ap (λ l. replicate 4 0 ++ new_bytes (coming_at b x) ++ l ++ z ++ replicate 112 0) (sym current)
     ∙ ap (λ l. replicate 4 0 ++ new_bytes (coming_at b x) ++ kept_bytes (kept_at c y) ++ l ++ replicate 112 0) (sym former) in
     ap (λ n. n ∷ b ∷ c ∷ d ∷ rest) form.states.version
-    ∙ ap (λ n. 1 ∷ n ∷ c ∷ d ∷ rest) (sym (new_code-at b x form.states.coming))
+    ∙ ap (λ n. 1 ∷ n ∷ c ∷ d ∷ rest) (sym (state_code-at b x form.states.coming))
     ∙ ap (λ n. 1 ∷ state_code (state_of (coming_at b x)) ∷ n ∷ d ∷ rest) (sym (kept_code-at c y form.states.current))
     ∙ ap (λ n. 1 ∷ state_code (state_of (coming_at b x)) ∷ kept_code (kept_at c y) ∷ n ∷ rest) (sym (kept_code-at d z form.states.former))
     ∙ ap (λ l. 1 ∷ state_code (state_of (coming_at b x)) ∷ kept_code (kept_at c y) ∷ kept_code (kept_at d z) ∷ l) whole

@@ -1,7 +1,7 @@
 -- What a change of the registers does to the module, and when each answer comes.
-use Rattle.std.specs.Prelude.{◌≡◌, ◌≢◌, ◌≤◌, ◌⊎◌, ◌↔◌, ℕ, List, Result, Ok, Err, OnOk, IfOk, IsTrue, ⊤}
+use Rattle.std.specs.Prelude.{◌≡◌, ◌≢◌, ◌≤◌, ◌⊎◌, ◌↔◌, ℕ, List, slice_index, Result, Ok, Err, OnOk, IfOk, IsTrue, ⊤}
 use Rattle.key_cells.specs.Bench.{Bench}
-use Rattle.slot_disk.specs.Cells.{body, IsReplaced}
+use Rattle.slot_disk.specs.Cells.{body, IsReplaced, IsUntouched}
 use Rattle.slot_disk.specs.Faults.{Rose}
 use Rattle.slot_disk.specs.Medium.{Medium, IsSettled, Told, From, Becomes, EachImage}
 use Rattle.slot_disk.specs.Ranges.{SameOutside}
@@ -16,11 +16,12 @@ use Rattle.master_registers.specs.declared.faults.RegisterFault.{RegisterFault}
 use Rattle.master_registers.specs.declared.faults.RegisterFault.TheVariants as register_fault
 use Rattle.master_registers.specs.declared.registers.Registers.{Registers}
 
--- cell 0 stands for one of these registers, every other cell selects the body that it did, and no byte outside cell 0
--- has changed
+-- Cell 0 stands for one of these registers, and every other cell selects the body that it did. No byte outside cell 0 has
+-- changed, and of cell 0 at most the selector and the body that wasn't selected.
 pub record HoldsEither (m next : Masters) (old new : List ℕ) : Type 0 where
   pub outside : SameOutside 0 1536 old new
   pub others : (n : ℕ) → n ≢ 0 → body new n ≡ body old n
+  pub untouched : (k : ℕ) → IsUntouched old 0 k → slice_index new k ≡ slice_index old k
   pub stands : StandsForMasters new m ⊎ StandsForMasters new next
 
 -- The registers of a module become others.

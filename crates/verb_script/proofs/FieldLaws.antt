@@ -10,7 +10,7 @@ use Rattle.std.proofs.lemmas.List.Splits.{slice_split_at, slice_split_none}
 use Rattle.std.proofs.lemmas.Option.{cond_some}
 use Rattle.std.proofs.lemmas.Slice.Eq.{starts_is}
 use Rattle.std.proofs.Math.Seq.{drop-append_seam}
-use Rattle.verb_script.specs.Grammar.{Values, accepts, FieldForm, RequestName, Request, fields_text, AreAccepted}
+use Rattle.verb_script.specs.Grammar.{Values, role_name, other_role, points, hex_digits, one_of, accepts, meaning, meanings, FieldForm, RequestName, Request, fields_text, AreAccepted, IsValue, AreValues}
 use Rattle.verb_script.specs.Requests.{words, value_after, field_value, with_front, values_in, request_with}
 use Rattle.verb_script.proofs.PlainRows.{NoSpace, plain_text, ArePlain}
 
@@ -58,42 +58,67 @@ front_parts (Some v) None vs h = cc
 front_parts (Some v) (Some rest) vs h = (v, rest, refl, refl, cc)
 
 pub value_after_parts : (prefix : List ℕ) (values : Values) (w v : List ℕ) → value_after prefix values w ≡ Some v
-    → IsTrue (accepts values v) × (w ≡ prefix ++ v)
+    → (text : List ℕ) × IsTrue (accepts values text) × (v ≡ meaning values text) × (w ≡ prefix ++ text)
 value_after_parts prefix values w v h =
-    let parts = cond_some (starts_with nat_eq w prefix && accepts values (drop (length prefix) w)) (drop (length prefix) w) v h in
-    let both = and_parts (starts_with nat_eq w prefix) (accepts values (drop (length prefix) w)) parts.0 in
+    let rest = drop (length prefix) w in
+    let parts = cond_some (starts_with nat_eq w prefix && accepts values rest) (meaning values rest) v h in
+    let both = and_parts (starts_with nat_eq w prefix) (accepts values rest) parts.0 in
     let front = (starts_is Decides-eqb w prefix (starts_with nat_eq w prefix) refl).0 both.0 in
-    (ap (λ text. accepts values text) (sym parts.1) ∙ both.1, front ∙ ap (λ xs. prefix ++ xs) parts.1)
+    (rest, both.1, sym parts.1, front)
 
--- a word of the prefix and a text has that text as its value where it is accepted
+-- a word of the prefix and a text says what the text does, where it is accepted
 pub value_after-append : (prefix : List ℕ) (values : Values) (v : List ℕ) (b : Bool) → accepts values v ≡ b
-    → value_after prefix values (prefix ++ v) ≡ cond b (Some v) None
+    → value_after prefix values (prefix ++ v) ≡ cond b (Some (meaning values v)) None
 value_after-append prefix values v b h =
     let start : starts_with nat_eq (prefix ++ v) prefix ≡ true = (starts_is Decides-eqb (prefix ++ v) prefix _ refl).1 v refl in
     rw (start, drop-append_seam prefix v, h) refl
 
--- what the words give is accepted, and they are the words of those fields
-pub values_in-sound : (fs : List FieldForm) (ws vs : List (List ℕ)) → values_in fs ws ≡ Some vs
-    → AreAccepted fs vs × (ws ≡ field_words fs vs)
+-- the texts that the words give
+pub record AreSaid (fs : List FieldForm) (ws vs : List (List ℕ)) : Type 0 where
+  pub texts : List (List ℕ)
+  pub accepted : AreAccepted fs texts
+  pub said : vs ≡ meanings fs texts
+  pub are_words : ws ≡ field_words fs texts
+
+-- what the words say is what accepted texts do, and they are the words of those
+pub values_in-sound : (fs : List FieldForm) (ws vs : List (List ℕ)) → values_in fs ws ≡ Some vs → AreSaid fs ws vs
 values_in-sound [] [] vs h =
     let none : [] ≡ vs = cc in
-    let P : List (List ℕ) → Type 0 = λ xs. AreAccepted [] xs × ([] ≡ field_words [] xs) in
-    subst P none (tt, refl)
+    subst (λ xs. AreSaid [] [] xs) none (record { texts = []; accepted = tt; said = refl; are_words = refl })
 values_in-sound [] (w ∷ ws) vs h = cc
 values_in-sound (f ∷ fs) [] vs h = cc
 values_in-sound (f ∷ fs) (w ∷ ws) vs h =
     let parts = front_parts (field_value f (w ∷ ws)) (values_in fs ws) vs h in
     let here = value_after_parts (f.name ++ codes "=") f.values w parts.0 parts.2 in
     let others = values_in-sound fs ws parts.1 parts.3 in
-    rw parts.4 ((here.0, others.0), cc (here.1, others.1))
+    record {
+      texts = here.0 ∷ others.texts;
+      accepted = (here.1, others.accepted);
+      said = parts.4 ∙ cc (here.2, others.said);
+      are_words = cc (here.3, others.are_words);
+    }
 
--- the words of accepted fields give their values
-pub values_in-field_words : (fs : List FieldForm) (vs : List (List ℕ)) → AreAccepted fs vs → values_in fs (field_words fs vs) ≡ Some vs
+-- the words of accepted texts say what these do
+pub values_in-field_words : (fs : List FieldForm) (vs : List (List ℕ)) → AreAccepted fs vs → values_in fs (field_words fs vs) ≡ Some (meanings fs vs)
 values_in-field_words [] [] h = refl
 values_in-field_words [] (v ∷ vs) h = absurd h
 values_in-field_words (f ∷ fs) [] h = absurd h
 values_in-field_words (f ∷ fs) (v ∷ vs) h =
     rw (value_after-append (f.name ++ codes "=") f.values v true h.0, values_in-field_words fs vs h.1) refl
+
+-- what accepted texts say
+one_value : (values : Values) (v : List ℕ) → IsTrue (accepts values v) → IsValue values (meaning values v)
+one_value role_name v h = h
+one_value other_role v h = h
+one_value points v h = tt
+one_value (hex_digits digits) v h = h
+one_value (one_of choices) v h = h
+
+pub accepted_values : (fs : List FieldForm) (vs : List (List ℕ)) → AreAccepted fs vs → AreValues fs (meanings fs vs)
+accepted_values [] [] h = tt
+accepted_values [] (v ∷ vs) h = absurd h
+accepted_values (f ∷ fs) [] h = absurd h
+accepted_values (f ∷ fs) (v ∷ vs) h = (one_value f.values v h.0, accepted_values fs vs h.1)
 
 pub named_parts : (name : RequestName) (o : Option (List (List ℕ))) (r : Request) → request_with name o ≡ Some r
     → (vs : List (List ℕ)) × (o ≡ Some vs) × (record { name = name; values = vs } ≡ r)

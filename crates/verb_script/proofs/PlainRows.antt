@@ -9,7 +9,8 @@ use Rattle.std.proofs.lemmas.Bool.Decides.{Decides-eqb}
 use Rattle.std.proofs.lemmas.List.Elements.{All-nil, All-cons}
 use Rattle.std.proofs.lemmas.Slice.Eq.{bytes_eq-Decides}
 use Rattle.hex.specs.Hex.{is_hex_digit}
-use Rattle.verb_script.specs.Grammar.{Values, role_name, hex_digits, one_of, accepts, FieldForm, Row, RequestName, csnbktp, row_of, is_role_name, is_letter, is_letter_or_digit}
+use Rattle.cca_roles.specs.RoleNames.{is_role_name, is_name_byte}
+use Rattle.verb_script.specs.Grammar.{Values, role_name, other_role, points, hex_digits, one_of, accepts, is_hex, FieldForm, Row, RequestName, csnbktp, row_of}
 
 -- no space stands in the text
 abbrev pub NoSpace : List ℕ → Type 0
@@ -52,6 +53,8 @@ is_plain text = list_all is_not_space text
 -- what is computed of a row
 abbrev pub are_plain_values : Values → Bool
 are_plain_values role_name = true
+are_plain_values other_role = true
+are_plain_values points = true
 are_plain_values (hex_digits digits) = true
 are_plain_values (one_of choices) = list_all is_plain choices
 
@@ -65,11 +68,8 @@ pub plain_text : (text : List ℕ) → is_plain text ≡ true → NoSpace text
 plain_text text h = no_space is_not_space refl text h
 
 role_values : (v : List ℕ) → IsTrue (is_role_name v) → NoSpace v
-role_values [] h = cc
-role_values (c ∷ cs) h =
-    let first = and_parts (is_letter c) _ h in
-    let others = and_parts _ (list_all is_letter_or_digit cs) first.1 in
-    All-cons (λ b. (b == 32) ≡ false) c cs (other_than is_letter refl c first.0) (no_space is_letter_or_digit refl cs others.1)
+unfolding is_role_name
+role_values v h = no_space is_name_byte refl v (and_parts _ (list_all is_name_byte v) h).1
 
 choices_plain : (choices : List (List ℕ)) (v : List ℕ) → list_all is_plain choices ≡ true → list_any (bytes_eq v) choices ≡ true → NoSpace v
 choices_plain [] v plain h = cc
@@ -83,6 +83,8 @@ choices_plain (c ∷ cs) v plain h =
 
 values_plain : (values : Values) (v : List ℕ) → are_plain_values values ≡ true → IsTrue (accepts values v) → NoSpace v
 values_plain role_name v plain h = role_values v h
+values_plain other_role v plain h = role_values v (and_parts (is_role_name v) _ h).0
+values_plain points v plain h = no_space is_hex_digit refl v (and_parts _ (list_all is_hex_digit v) (and_parts (is_hex 8 v) _ h).0).1
 values_plain (hex_digits digits) v plain h = no_space is_hex_digit refl v (and_parts _ (list_all is_hex_digit v) h).1
 values_plain (one_of choices) v plain h = choices_plain choices v plain h
 

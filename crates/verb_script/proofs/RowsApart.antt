@@ -6,7 +6,7 @@ use Rattle.std.specs.List.{list_all, list_any}
 use Rattle.std.specs.Str.{bytes_eq}
 use Rattle.std.proofs.lemmas.Bool.{and_parts, or_cases, or_parts, not-true}
 use Rattle.std.proofs.lemmas.Slice.Eq.{bytes_eq-Decides}
-use Rattle.verb_script.specs.Grammar.{Values, role_name, hex_digits, one_of, accepts, FieldForm, Row, RequestName, csnbktp, row_of, all_requests, Request}
+use Rattle.verb_script.specs.Grammar.{Values, role_name, other_role, points, hex_digits, one_of, accepts, FieldForm, Row, RequestName, csnbktp, row_of, all_requests, Request}
 use Rattle.verb_script.specs.Requests.{field_value, value_after, with_front, values_in, request_with, request_in, first_request}
 use Rattle.verb_script.proofs.FieldLaws.{front_parts, value_after_parts, value_after-append, named_parts, test_parts}
 
@@ -14,6 +14,8 @@ use Rattle.verb_script.proofs.FieldLaws.{front_parts, value_after_parts, value_a
 abbrev pub are_disjoint : Values → Values → Bool
 are_disjoint (one_of choices) values = not (list_any (accepts values) choices)
 are_disjoint role_name values = false
+are_disjoint other_role values = false
+are_disjoint points values = false
 are_disjoint (hex_digits digits) values = false
 
 abbrev pub fields_differ : List FieldForm → List FieldForm → Bool
@@ -47,6 +49,8 @@ choice_refused values (c ∷ cs) v none h =
 disjoint_refused : (a b : Values) (v : List ℕ) → are_disjoint a b ≡ true → accepts a v ≡ true → accepts b v ≡ false
 disjoint_refused (one_of choices) b v h accepted = choice_refused b choices v (not-true (list_any (accepts b) choices) h) accepted
 disjoint_refused role_name b v h accepted = cc
+disjoint_refused other_role b v h accepted = cc
+disjoint_refused points b v h accepted = cc
 disjoint_refused (hex_digits digits) b v h accepted = cc
 
 field_refused : (f g : FieldForm) (ws : List (List ℕ)) (v : List ℕ) → (bytes_eq f.name g.name && are_disjoint f.values g.values) ≡ true
@@ -56,9 +60,9 @@ field_refused f g (w ∷ ws) v h found =
     let both = and_parts (bytes_eq f.name g.name) (are_disjoint f.values g.values) h in
     let same = (bytes_eq-Decides f.name g.name).0 both.0 in
     let parts = value_after_parts (f.name ++ codes "=") f.values w v found in
-    let word : w ≡ (g.name ++ codes "=") ++ v = parts.1 ∙ ap (λ name. (name ++ codes "=") ++ v) same in
+    let word : w ≡ (g.name ++ codes "=") ++ parts.0 = parts.3 ∙ ap (λ name. (name ++ codes "=") ++ parts.0) same in
     let P : List ℕ → Type 0 = λ text. value_after (g.name ++ codes "=") g.values text ≡ None in
-    subst P (sym word) (value_after-append (g.name ++ codes "=") g.values v false (disjoint_refused f.values g.values v both.1 parts.0))
+    subst P (sym word) (value_after-append (g.name ++ codes "=") g.values parts.0 false (disjoint_refused f.values g.values parts.0 both.1 parts.1))
 
 no_front : (o : Option (List ℕ)) → with_front o None ≡ None
 no_front None = refl

@@ -1,24 +1,13 @@
 -- The grammar of request lines: a table of rows. A line is words with one space between them. The first
 -- word is the verb, and each further one is a field's name, an equals sign and the field's value.
-use Rattle.std.specs.Prelude.{◌≡◌, ℕ, ◌==◌, ◌&&◌, nat_le, Bool, false, List, [], ◌∷◌, ◌++◌, length, codes, IsTrue, ⊤, if◌then◌else◌}
+use Rattle.std.specs.Prelude.{◌≡◌, ℕ, ◌==◌, ◌&&◌, not, Bool, List, [], ◌∷◌, ◌++◌, length, codes, IsTrue, ⊤, if◌then◌else◌}
+use Rattle.std.specs.Int.{from_be_bytes, w32}
 use Rattle.std.specs.List.{list_all, list_any}
 use Rattle.std.specs.Str.{bytes_eq}
 use Rattle.hex.specs.Hex.{is_hex_digit}
-
--- a letter or a digit of a role's name
-abbrev pub is_letter : ℕ → Bool
-is_letter c = nat_le 65 c && nat_le c 90
-
-abbrev pub is_digit : ℕ → Bool
-is_digit c = nat_le 48 c && nat_le c 57
-
-abbrev pub is_letter_or_digit : ℕ → Bool
-is_letter_or_digit c = if is_letter c then is_letter c else is_digit c
-
--- 1 to 8 upper-case letters and digits, of which the first is a letter
-abbrev pub is_role_name : List ℕ → Bool
-is_role_name [] = false
-is_role_name (c ∷ cs) = is_letter c && (nat_le (length cs) 7 && list_all is_letter_or_digit cs)
+use Rattle.cca_roles.specs.Points.{are_points}
+use Rattle.cca_roles.specs.RoleNames.{is_role_name, default_name}
+use Rattle.verb_script.specs.Values.{hex_value}
 
 -- exactly so many hexadecimal digits, of either case
 abbrev pub is_hex : ℕ → List ℕ → Bool
@@ -28,6 +17,10 @@ is_hex digits text = length text == digits && list_all is_hex_digit text
 pub data Values : Type 0 where
   -- the name of a role
   role_name : Values
+  -- the name of a role other than DEFAULT
+  other_role : Values
+  -- access control points: eight hexadecimal digits, in which no bit is on that isn't a point
+  points : Values
   -- exactly so many hexadecimal digits
   hex_digits : ℕ → Values
   -- one of these words
@@ -35,8 +28,18 @@ pub data Values : Type 0 where
 
 abbrev pub accepts : Values → List ℕ → Bool
 accepts role_name text = is_role_name text
+accepts other_role text = is_role_name text && not (bytes_eq text default_name)
+accepts points text = is_hex 8 text && are_points (from_be_bytes w32 (hex_value text))
 accepts (hex_digits digits) text = is_hex digits text
 accepts (one_of choices) text = list_any (bytes_eq text) choices
+
+-- what a text says: of access control points the four bytes that the digits spell, and else itself
+abbrev pub meaning : Values → List ℕ → List ℕ
+meaning role_name text = text
+meaning other_role text = text
+meaning points text = hex_value text
+meaning (hex_digits digits) text = text
+meaning (one_of choices) text = text
 
 -- a field: its name and its values
 pub record FieldForm : Type 0 where
@@ -68,12 +71,21 @@ part_field = digits_field (codes "part") 48
 abbrev pub action_field : List (List ℕ) → FieldForm
 action_field choices = word_field (codes "action") choices
 
+-- the name of the role that a request defines or removes
+abbrev pub name_field : Values → FieldForm
+name_field values = record { name = codes "name"; values = values }
+
+abbrev pub points_field : FieldForm
+points_field = record { name = codes "points"; values = points }
+
 -- the requests, one for each row
 pub data RequestName : Type 0 where
   csnbktp : RequestName
   csnbmkp_part : RequestName
   csnbmkp_clear : RequestName
   csnbmkp_set : RequestName
+  csuaaci_define : RequestName
+  csuaaci_remove : RequestName
 
 -- the grammar
 abbrev pub row_of : RequestName → Row
@@ -84,12 +96,20 @@ row_of csnbmkp_part = record {
 }
 row_of csnbmkp_clear = record { verb = codes "CSNBMKP"; fields = role_field ∷ action_field (codes "CLEAR" ∷ []) ∷ [] }
 row_of csnbmkp_set = record { verb = codes "CSNBMKP"; fields = role_field ∷ action_field (codes "SET" ∷ []) ∷ [] }
+row_of csuaaci_define = record {
+  verb = codes "CSUAACI";
+  fields = role_field ∷ action_field (codes "DEFINE" ∷ []) ∷ name_field role_name ∷ points_field ∷ [];
+}
+row_of csuaaci_remove = record {
+  verb = codes "CSUAACI";
+  fields = role_field ∷ action_field (codes "REMOVE" ∷ []) ∷ name_field other_role ∷ [];
+}
 
 -- the rows in their order; no line spells requests of two rows
 abbrev pub all_requests : List RequestName
-all_requests = csnbktp ∷ csnbmkp_part ∷ csnbmkp_clear ∷ csnbmkp_set ∷ []
+all_requests = csnbktp ∷ csnbmkp_part ∷ csnbmkp_clear ∷ csnbmkp_set ∷ csuaaci_define ∷ csuaaci_remove ∷ []
 
--- a request: its row, and the values of the row's fields
+-- a request: its row, and what the row's fields say
 pub record Request : Type 0 where
   pub name : RequestName
   pub values : List (List ℕ)
@@ -100,17 +120,39 @@ fields_text [] values = []
 fields_text (f ∷ fs) [] = []
 fields_text (f ∷ fs) (v ∷ vs) = codes " " ++ (f.name ++ (codes "=" ++ (v ++ fields_text fs vs)))
 
--- one value for each field, which is a value of that field
+-- one text for each field, which is a value of that field
 abbrev pub AreAccepted : List FieldForm → List (List ℕ) → Type 0
 AreAccepted [] [] = ⊤
 AreAccepted [] (v ∷ vs) = ⊥
 AreAccepted (f ∷ fs) [] = ⊥
 AreAccepted (f ∷ fs) (v ∷ vs) = IsTrue (accepts f.values v) × AreAccepted fs vs
 
--- the line is the request's spelling
+-- what the texts say
+abbrev pub meanings : List FieldForm → List (List ℕ) → List (List ℕ)
+meanings [] texts = []
+meanings (f ∷ fs) [] = []
+meanings (f ∷ fs) (v ∷ vs) = meaning f.values v ∷ meanings fs vs
+
+-- the line spells the request
 pub record Spells (request : Request) (line : List ℕ) : Type 0 where
-  pub text : line ≡ (row_of request.name).verb ++ fields_text (row_of request.name).fields request.values
-  pub values : AreAccepted (row_of request.name).fields request.values
+  pub texts : List (List ℕ)
+  pub text : line ≡ (row_of request.name).verb ++ fields_text (row_of request.name).fields texts
+  pub accepted : AreAccepted (row_of request.name).fields texts
+  pub values : request.values ≡ meanings (row_of request.name).fields texts
+
+-- what a field may say
+abbrev pub IsValue : Values → List ℕ → Type 0
+IsValue role_name value = IsTrue (accepts role_name value)
+IsValue other_role value = IsTrue (accepts other_role value)
+IsValue points value = ⊤
+IsValue (hex_digits digits) value = IsTrue (accepts (hex_digits digits) value)
+IsValue (one_of choices) value = IsTrue (accepts (one_of choices) value)
+
+abbrev pub AreValues : List FieldForm → List (List ℕ) → Type 0
+AreValues [] [] = ⊤
+AreValues [] (v ∷ vs) = ⊥
+AreValues (f ∷ fs) [] = ⊥
+AreValues (f ∷ fs) (v ∷ vs) = IsValue f.values v × AreValues fs vs
 
 -- the value of the field of this name
 abbrev pub value_among : List FieldForm → List (List ℕ) → List ℕ → List ℕ

@@ -1,15 +1,19 @@
 -- A parsed request as the grammar's request.
+use Rattle.std.specs.Int.{to_be_bytes, w32}
 use Rattle.std.specs.Prelude.{[], ◌∷◌, Option, Some, None, Result, Ok, Err}
-use Rattle.verb_script.specs.Grammar.{Request, csnbktp, csnbmkp_part, csnbmkp_clear, csnbmkp_set}
+use Rattle.verb_script.specs.Grammar.{Request, csnbktp, csnbmkp_part, csnbmkp_clear, csnbmkp_set, csuaaci_define, csuaaci_remove}
 use Rattle.verb_script.specs.declared.request.FormFault.{FormFault}
 use Rattle.verb_script.specs.declared.request.Request.{Request as Parsed}
-use Rattle.verb_script.specs.declared.request.Request.TheVariants.{Csnbktp, CsnbmkpPart, CsnbmkpClear, CsnbmkpSet}
+use Rattle.verb_script.specs.declared.request.Request.TheVariants.{Csnbktp, CsnbmkpPart, CsnbmkpClear, CsnbmkpSet, CsuaaciDefine, CsuaaciRemove}
 
 abbrev pub seen : Parsed → Request
-seen (Csnbktp role token) = record { name = csnbktp; values = role.now ∷ token.now ∷ [] }
-seen (CsnbmkpPart role action part) = record { name = csnbmkp_part; values = role.now ∷ action.now ∷ part.now ∷ [] }
-seen (CsnbmkpClear role action) = record { name = csnbmkp_clear; values = role.now ∷ action.now ∷ [] }
-seen (CsnbmkpSet role action) = record { name = csnbmkp_set; values = role.now ∷ action.now ∷ [] }
+seen (Csnbktp role token) = record { name = csnbktp; values = role ∷ token.now ∷ [] }
+seen (CsnbmkpPart role action part) = record { name = csnbmkp_part; values = role ∷ action.now ∷ part.now ∷ [] }
+seen (CsnbmkpClear role action) = record { name = csnbmkp_clear; values = role ∷ action.now ∷ [] }
+seen (CsnbmkpSet role action) = record { name = csnbmkp_set; values = role ∷ action.now ∷ [] }
+seen (CsuaaciDefine role action name points) =
+    record { name = csuaaci_define; values = role ∷ action.now ∷ name ∷ to_be_bytes w32 points ∷ [] }
+seen (CsuaaciRemove role action name) = record { name = csuaaci_remove; values = role ∷ action.now ∷ name ∷ [] }
 
 -- what parsing answered
 abbrev pub answered : Result Parsed FormFault → Option Request

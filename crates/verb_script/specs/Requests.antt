@@ -3,23 +3,23 @@ use Rattle.std.specs.Prelude.{ℕ, ◌==◌, ◌&&◌, nat_eq, List, [], ◌∷�
 use Rattle.std.specs.List.{slice_split, starts_with}
 use Rattle.std.specs.Option.{option_or}
 use Rattle.std.specs.Str.{bytes_eq}
-use Rattle.verb_script.specs.Grammar.{Values, accepts, FieldForm, RequestName, row_of, all_requests, Request}
+use Rattle.verb_script.specs.Grammar.{Values, accepts, meaning, FieldForm, RequestName, row_of, all_requests, Request}
 
 -- the words of a text, parted by spaces
 abbrev pub words : List ℕ → List (List ℕ)
 words text = slice_split (λ c. c == 32) text
 
--- the value in a word that is the prefix and a value
+-- what a word says that is the prefix and a value
 abbrev pub value_after : List ℕ → Values → List ℕ → Option (List ℕ)
 value_after prefix values word =
-    if starts_with nat_eq word prefix && accepts values (drop (length prefix) word) then Some (drop (length prefix) word) else None
+    if starts_with nat_eq word prefix && accepts values (drop (length prefix) word) then Some (meaning values (drop (length prefix) word)) else None
 
--- the value in the first of the words
+-- what the first of the words says
 abbrev pub first_value : List ℕ → Values → List (List ℕ) → Option (List ℕ)
 first_value prefix values [] = None
 first_value prefix values (w ∷ ws) = value_after prefix values w
 
--- the value of a field in the first of the words: its name, an equals sign and the value are that word
+-- what a field says in the first of the words: its name, an equals sign and the value are that word
 abbrev pub field_value : FieldForm → List (List ℕ) → Option (List ℕ)
 field_value f ws = first_value (f.name ++ codes "=") f.values ws
 
@@ -33,7 +33,7 @@ abbrev pub at_end : List (List ℕ) → Option (List (List ℕ))
 at_end [] = Some []
 at_end (w ∷ ws) = None
 
--- the values of the fields, one in each word
+-- what the fields say, one in each word
 abbrev pub values_in : List FieldForm → List (List ℕ) → Option (List (List ℕ))
 values_in [] ws = at_end ws
 values_in (f ∷ fs) ws = with_front (field_value f ws) (values_in fs (drop 1 ws))

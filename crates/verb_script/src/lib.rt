@@ -1,11 +1,13 @@
 //! Request lines: the grammar of the verbs, and the request that a line spells.
 #![tactic(auto)]
 
+mod digits;
 mod laws;
 mod request;
 mod values;
 mod words;
 
+pub use digits::decode;
 pub use laws::a_line_spells_one_request;
 pub use request::{FormFault, Request, parse_request};
 pub use script_buffers::{

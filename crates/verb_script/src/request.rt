@@ -1,12 +1,13 @@
 //! The requests that a line may spell.
 ghost use Rattle.std.specs.Prelude.{◌≡◌, Some, None, [], ◌∷◌, codes, IfOk};
 ghost use Rattle.verb_script.specs.Grammar.{Request as Spelled, Spells, all_requests};
-ghost use Rattle.verb_script.specs.Grammar.{csnbktp as row_csnbktp, csnbmkp_part as row_csnbmkp_part, csnbmkp_clear as row_csnbmkp_clear, csnbmkp_set as row_csnbmkp_set};
+ghost use Rattle.verb_script.specs.Grammar.{csnbktp as row_csnbktp, csnbmkp_part as row_csnbmkp_part, csnbmkp_clear as row_csnbmkp_clear, csnbmkp_set as row_csnbmkp_set, csuaaci_define as row_csuaaci_define, csuaaci_remove as row_csuaaci_remove};
 ghost use Rattle.verb_script.specs.Parsed.{answered, seen, seen_option};
 ghost use Rattle.verb_script.specs.Requests.{request_of, row_request, first_request};
 ghost use Rattle.verb_script.specs.Words.{unread};
 
 use crate::words::Words;
+use cca_roles::{AccessPoints, RoleName};
 
 /// The line spells no request.
 #[derive(Debug, Clone, Copy, PartialEq, Eq)]
@@ -17,24 +18,37 @@ pub struct FormFault;
 pub enum Request<'a> {
     /// Key_Token_Parse: a key token, in 128 hexadecimal digits.
     Csnbktp {
-        role: &'a [u8],
+        role: RoleName,
         token: &'a [u8],
     },
     /// Master_Key_Process FIRST, MIDDLE or LAST: a part of the new master key, in 48 hexadecimal digits.
     CsnbmkpPart {
-        role: &'a [u8],
+        role: RoleName,
         action: &'a [u8],
         part: &'a [u8],
     },
     /// Master_Key_Process CLEAR: the new master key register is emptied.
     CsnbmkpClear {
-        role: &'a [u8],
+        role: RoleName,
         action: &'a [u8],
     },
     /// Master_Key_Process SET: the new master key becomes the current one.
     CsnbmkpSet {
-        role: &'a [u8],
+        role: RoleName,
         action: &'a [u8],
+    },
+    /// Access_Control_Initialization DEFINE: a role gets these access control points.
+    CsuaaciDefine {
+        role: RoleName,
+        action: &'a [u8],
+        name: RoleName,
+        points: AccessPoints,
+    },
+    /// Access_Control_Initialization REMOVE: the role is no longer held.
+    CsuaaciRemove {
+        role: RoleName,
+        action: &'a [u8],
+        name: RoleName,
     },
 }
 
@@ -79,6 +93,45 @@ fn csnbmkp_set<'a>(mut words: Words<'a>) -> Option<Request<'a>>
     Some(Request::CsnbmkpSet { role, action })
 }
 
+/// The request of the row CSUAACI with DEFINE, whose fields the words are.
+fn csuaaci_define<'a>(mut words: Words<'a>) -> Option<Request<'a>>
+    ensures { seen_option result ≡ row_request row_csuaaci_define (unread words.entry) }
+{
+    let role = words.role(b"role=")?;
+    let action = words.choice(b"action=", &[b"DEFINE"])?;
+    let name = words.role(b"name=")?;
+    let points = words.points(b"points=")?;
+    words.end()?;
+    Some(Request::CsuaaciDefine {
+        role,
+        action,
+        name,
+        points,
+    })
+}
+
+/// The request of the row CSUAACI with REMOVE, whose fields the words are.
+fn csuaaci_remove<'a>(mut words: Words<'a>) -> Option<Request<'a>>
+    ensures { seen_option result ≡ row_request row_csuaaci_remove (unread words.entry) }
+{
+    let role = words.role(b"role=")?;
+    let action = words.choice(b"action=", &[b"REMOVE"])?;
+    let name = words.other_role(b"name=")?;
+    words.end()?;
+    Some(Request::CsuaaciRemove { role, action, name })
+}
+
+/// The request of the first of CSUAACI's rows whose fields the words are.
+fn csuaaci<'a>(words: Words<'a>) -> Option<Request<'a>>
+    ensures { seen_option result
+        ≡ first_request (row_csuaaci_define ∷ row_csuaaci_remove ∷ []) (codes "CSUAACI" ∷ unread words.entry) }
+{
+    if let Some(request) = csuaaci_define(words) {
+        return Some(request);
+    }
+    csuaaci_remove(words)
+}
+
 /// The request of the first of CSNBMKP's rows whose fields the words are. A row that the words aren't is
 /// given up at the action, so that a part is read once.
 fn csnbmkp<'a>(words: Words<'a>) -> Option<Request<'a>>
@@ -102,6 +155,8 @@ fn request_of_verb<'a>(verb: &[u8], words: Words<'a>) -> Option<Request<'a>>
         csnbktp(words)
     } else if verb == b"CSNBMKP".as_slice() {
         csnbmkp(words)
+    } else if verb == b"CSUAACI".as_slice() {
+        csuaaci(words)
     } else {
         None
     }
@@ -120,7 +175,10 @@ fn request_in_line(line: &[u8]) -> Option<Request<'_>>
 fn parsed(line: &[u8]) -> Result<Request<'_>, FormFault>
     ensures { answered result ≡ request_of line.now }
 {
-    request_in_line(line).ok_or(FormFault)
+    match request_in_line(line) {
+        Some(request) => Ok(request),
+        None => Err(FormFault),
+    }
 }
 
 /// Parses a request line, of which the newline is not a part.
@@ -143,8 +201,9 @@ mod tests {
 
     #[test]
     fn lines_of_each_row_are_parsed(rt: HostRuntime) {
-        let role = b"DEFAULT".as_slice();
-        let lines: [(&[u8], Request); 6] = [
+        let role = RoleName::default_role();
+        let teller = RoleName::read(b"TELLER").unwrap();
+        let lines: [(&[u8], Request); 9] = [
             (
                 b"CSNBKTP role=DEFAULT token=020000000000c00000000000000000008ca64de9c1b123a700000000000000000000000000000000000000000000000000000000000000000000000050583190",
                 Request::Csnbktp { role, token: TOKEN },
@@ -187,6 +246,32 @@ mod tests {
                     action: b"SET",
                 },
             ),
+            (
+                b"CSUAACI role=DEFAULT action=DEFINE name=TELLER points=03Ff000F",
+                Request::CsuaaciDefine {
+                    role,
+                    action: b"DEFINE",
+                    name: teller,
+                    points: AccessPoints::from_bits(0x03ff_000f).unwrap(),
+                },
+            ),
+            (
+                b"CSUAACI role=TELLER action=DEFINE name=DEFAULT points=00000000",
+                Request::CsuaaciDefine {
+                    role: teller,
+                    action: b"DEFINE",
+                    name: role,
+                    points: AccessPoints::empty(),
+                },
+            ),
+            (
+                b"CSUAACI role=DEFAULT action=REMOVE name=TELLER",
+                Request::CsuaaciRemove {
+                    role,
+                    action: b"REMOVE",
+                    name: teller,
+                },
+            ),
         ];
         for (line, request) in lines {
             assert!(rt; parse_request(line) == Ok(request));
@@ -195,7 +280,7 @@ mod tests {
 
     #[test]
     fn other_lines_are_no_requests(rt: HostRuntime) {
-        let lines: [&[u8]; 17] = [
+        let lines: [&[u8]; 22] = [
             b"",
             b"CSNBKTP",
             b"CSNBKTP role=DEFAULT token=0200",
@@ -212,6 +297,11 @@ mod tests {
             b"CSNBMKP role=DEFAULT action=FIRST",
             b"CSNBMKP role=DEFAULT action=FIRST part=0102030405060708090a0b0c0d0e0f10111213141516171",
             b"CSNBMKP role=DEFAULT action=FIRST part=0102030405060708090a0b0c0d0e0f1011121314151617180",
+            b"CSUAACI role=DEFAULT action=REMOVE name=DEFAULT",
+            b"CSUAACI role=DEFAULT action=REMOVE name=teller",
+            b"CSUAACI role=DEFAULT action=DEFINE name=TELLER points=04000000",
+            b"CSUAACI role=DEFAULT action=DEFINE name=TELLER points=f",
+            b"CSUAACI role=DEFAULT action=DEFINE name=TELLER",
             b"CSNBMKP role=DEFAULT action=CLEAR part=0102030405060708090a0b0c0d0e0f101112131415161718",
         ];
         for line in lines {

@@ -1,22 +1,10 @@
 //! The values that fields accept.
 ghost use Rattle.std.specs.Prelude.{◌≡◌};
-ghost use Rattle.verb_script.specs.Grammar.{is_role_name, is_hex, is_letter, is_letter_or_digit};
+ghost use Rattle.verb_script.specs.Grammar.{is_hex};
 ghost use Rattle.std.specs.List.{list_all, list_any};
 ghost use Rattle.std.specs.Str.{bytes_eq};
 ghost use Rattle.verb_script.specs.Words.{texts};
 ghost use Rattle.hex.specs.Hex.{is_hex_digit};
-
-fn is_letter_byte(byte: u8) -> bool
-    ensures { result ≡ is_letter byte }
-{
-    byte.is_ascii_uppercase()
-}
-
-fn is_letter_or_digit_byte(byte: u8) -> bool
-    ensures { result ≡ is_letter_or_digit byte }
-{
-    byte.is_ascii_uppercase() || byte.is_ascii_digit()
-}
 
 fn is_hex_byte(byte: u8) -> bool
     ensures { result ≡ is_hex_digit byte }
@@ -24,28 +12,10 @@ fn is_hex_byte(byte: u8) -> bool
     matches!(byte, b'0'..=b'9' | b'a'..=b'f' | b'A'..=b'F')
 }
 
-fn are_letters_or_digits(text: &[u8]) -> bool
-    ensures { result ≡ list_all is_letter_or_digit text.now }
-{
-    text.iter().all(|byte| is_letter_or_digit_byte(*byte))
-}
-
 fn are_hex_digits(text: &[u8]) -> bool
     ensures { result ≡ list_all is_hex_digit text.now }
 {
     text.iter().all(|byte| is_hex_byte(*byte))
-}
-
-/// Whether the text is a role's name.
-pub(crate) fn is_role(text: &[u8]) -> bool
-    ensures { result ≡ is_role_name text.now }
-{
-    match text {
-        [] => false,
-        [first, others @ ..] => {
-            is_letter_byte(*first) && others.len() <= 7 && are_letters_or_digits(others)
-        }
-    }
 }
 
 /// Whether the text is exactly so many hexadecimal digits.

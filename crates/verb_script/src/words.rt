@@ -1,11 +1,19 @@
 //! The words of a request line, and the fields in them.
-ghost use Rattle.std.specs.Prelude.{◌≡◌, ◌==◌, nat_eq, [], ◌∷◌, drop, length, Some, None, option_copied, MatchOption, position, if◌then◌else◌};
+ghost use Rattle.std.specs.Prelude.{◌≡◌, ◌<◌, ℕ, get_or, IsTrue, ◌==◌, nat_eq, [], ◌∷◌, drop, length, Some, None, option_copied, MatchOption, position, if◌then◌else◌};
 ghost use Rattle.std.specs.List.{position_or_len, starts_with};
-ghost use Rattle.verb_script.specs.Grammar.{role_name, hex_digits, one_of};
+ghost use Rattle.std.specs.Int.{to_be_bytes, from_be_bytes, w32};
+ghost use Rattle.std.specs.Option.{option_map};
+ghost use Rattle.std.specs.Str.{bytes_eq};
+ghost use Rattle.cca_roles.specs.Points.{are_points};
+ghost use Rattle.cca_roles.specs.RoleNames.{default_name};
+ghost use Rattle.verb_script.specs.Grammar.{role_name, other_role, points, hex_digits, one_of, is_hex};
+ghost use Rattle.verb_script.specs.Values.{hex_value};
 ghost use Rattle.verb_script.specs.Requests.{words, value_after, first_value, at_end};
 ghost use Rattle.verb_script.specs.Words.{words_left, unread, texts};
 
-use crate::values::{is_hex_of, is_one_of, is_role};
+use crate::digits::decode;
+use crate::values::{is_hex_of, is_one_of};
+use cca_roles::{AccessPoints, RoleName};
 
 /// The place of the first space.
 fn space_in(text: &[u8]) -> Option<usize>
@@ -42,11 +50,52 @@ fn after<'a>(word: &'a [u8], prefix: &[u8]) -> Option<&'a [u8]>
 }
 
 /// The role's name in a word that is the prefix and that name.
-fn role_in<'a>(word: &'a [u8], prefix: &[u8]) -> Option<&'a [u8]>
-    ensures { option_copied result ≡ value_after prefix.now role_name word.now }
+fn role_in(word: &[u8], prefix: &[u8]) -> Option<RoleName>
+    ensures { result ≡ value_after prefix.now role_name word.now }
+{
+    RoleName::read(after(word, prefix)?)
+}
+
+fn is_default(name: &RoleName) -> bool
+    ensures { result ≡ bytes_eq name.now default_name }
+{
+    name.text() == b"DEFAULT".as_slice()
+}
+
+/// The name in a word that is the prefix and the name of a role other than DEFAULT.
+fn other_role_in(word: &[u8], prefix: &[u8]) -> Option<RoleName>
+    ensures { result ≡ value_after prefix.now other_role word.now }
+{
+    match role_in(word, prefix) {
+        Some(name) if !is_default(&name) => Some(name),
+        _ => None,
+    }
+}
+
+fn number_of(bytes: &[u8; 4]) -> u32
+    ensures number { result ≡ from_be_bytes w32 bytes.now }
+    ensures bytes { (i : ℕ) → get_or bytes.now i 0 < 256 }
+{
+    u32::from_be_bytes(*bytes)
+}
+
+/// The points that eight digits spell.
+fn points_of(digits: &[u8]) -> Option<AccessPoints>
+    requires { IsTrue (is_hex 8 digits.now) }
+    ensures { option_map (to_be_bytes w32) result
+        ≡ (if are_points (from_be_bytes w32 (hex_value digits.now)) then Some (hex_value digits.now) else None) }
+{
+    let mut bytes = [0; 4];
+    decode(digits, &mut bytes);
+    AccessPoints::from_bits(number_of(&bytes))
+}
+
+/// The access control points in a word that is the prefix and the digits of their number.
+fn points_in(word: &[u8], prefix: &[u8]) -> Option<AccessPoints>
+    ensures { option_map (to_be_bytes w32) result ≡ value_after prefix.now points word.now }
 {
     match after(word, prefix) {
-        Some(value) if is_role(value) => Some(value),
+        Some(digits) if is_hex_of(digits, 8) => points_of(digits),
         _ => None,
     }
 }
@@ -97,11 +146,28 @@ impl<'a> Words<'a> {
     }
 
     /// The role's name in the next word, which is the prefix and that name.
-    pub(crate) fn role(&mut self, prefix: &[u8]) -> Option<&'a [u8]>
-        ensures value { option_copied result ≡ first_value prefix.now role_name (unread self.old) }
+    pub(crate) fn role(&mut self, prefix: &[u8]) -> Option<RoleName>
+        ensures value { result ≡ first_value prefix.now role_name (unread self.old) }
         ensures rest { unread self.new ≡ drop 1 (unread self.old) }
     {
         role_in(self.next()?, prefix)
+    }
+
+    /// The name in the next word, which is the prefix and the name of a role other than DEFAULT.
+    pub(crate) fn other_role(&mut self, prefix: &[u8]) -> Option<RoleName>
+        ensures value { result ≡ first_value prefix.now other_role (unread self.old) }
+        ensures rest { unread self.new ≡ drop 1 (unread self.old) }
+    {
+        other_role_in(self.next()?, prefix)
+    }
+
+    /// The access control points in the next word, which is the prefix and the digits of their number.
+    pub(crate) fn points(&mut self, prefix: &[u8]) -> Option<AccessPoints>
+        ensures value { option_map (to_be_bytes w32) result
+            ≡ first_value prefix.now points (unread self.old) }
+        ensures rest { unread self.new ≡ drop 1 (unread self.old) }
+    {
+        points_in(self.next()?, prefix)
     }
 
     /// The digits in the next word, which is the prefix and so many hexadecimal digits.

@@ -5,11 +5,12 @@ use lib.Count.{ones}
 use Rattle.hex.specs.Hex.{encode_with, decode_pairs}
 use Rattle.key_tokens.specs.Tvv.{tvv_of}
 use Rattle.script_buffers.specs.Replies.{hex_field, text_field, number_field, field_name, ok_text, refusal}
+use Rattle.cca_roles.specs.RoleNames.{is_role_name}
 use Rattle.verb_script.specs.Requests.{request_of}
 use Rattle.cca_machine.specs.Act.{performed}
 use Rattle.cca_machine.specs.Lines.{line_outcome}
 use Rattle.cca_machine.proofs.worked_key_tokens.Goals as goal
 
 pub returns : goal.returns
-unfolding line_outcome performed tvv_of request_of decode_pairs encode_with hex_field text_field number_field field_name ok_text refusal digits ones
+unfolding line_outcome performed tvv_of request_of decode_pairs encode_with hex_field text_field number_field field_name ok_text refusal digits ones is_role_name
 returns c = (refl, (refl, (refl, (refl, (refl, (refl, (refl, (refl, (refl, (refl, (refl, (refl, (tt)))))))))))))

@@ -6,9 +6,9 @@ ghost use Rattle.verb_script.specs.Grammar.{is_hex};
 ghost use Rattle.verb_script.specs.Values.{hex_value};
 ghost use Rattle.cca_machine.specs.Actions.{part_action as named};
 
-use crate::digits::decode;
 use key_cells::{Lease, MasterPlace};
 use master_registers::Action;
+use verb_script::decode;
 
 /// The action that the field names, of those that take a key part.
 pub(crate) fn part_action(action: &[u8]) -> Action
@@ -26,7 +26,8 @@ pub(crate) fn part_action(action: &[u8]) -> Action
 /// Puts the key part that the digits spell into the workbench.
 pub(crate) fn put_part(digits: &[u8], lease: &mut Lease)
     requires { IsTrue (is_hex 48 digits.now) }
-    ensures { lease.new ≡ holding lease.old (with_master (bench_of lease.old) MasterPlace.Part (hex_value digits.now)) }
+    ensures { lease.new ≡ holding lease.old
+        (with_master (bench_of lease.old) MasterPlace.Part (hex_value digits.now)) }
 {
     decode(digits, lease.master_mut(MasterPlace::Part));
 }

@@ -17,7 +17,7 @@ returns-clause-serves g c = λ s at granted is.
     let loaded : Loaded s.registers c.args.held.now other =
     subst (λ b. Loaded s.registers c.args.held.now b) (sym (ap bench_of c.decide-effect.ensures.places)) (loaded_places s.registers c.args.held.now bench other at.loaded) in
     record {
-      carries = subst (λ (o : Outcome). Carries o s c.carry.result c.carry.new.reply (g.M.Disk.medium c.args.module.now) (g.M.Disk.medium c.carry.new.module))
+      carries = subst (λ (o : Outcome). Carries o s c.carry.result c.carry.new.reply c.carry.new.roles (g.M.Disk.medium c.args.module.now) (g.M.Disk.medium c.carry.new.module))
           (sym (performed_by s [] request (verb_verdict s request) is))
           (c.carry.ensures.carries s request (record { loaded = loaded; stands = at.stands }) (c.decide-effect.ensures.decides s granted));
     }

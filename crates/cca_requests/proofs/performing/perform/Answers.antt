@@ -1,4 +1,4 @@
-use Rattle.std.proofs.Common.{◌≡◌, ◌∙◌, Err, sym, ap, subst}
+use Rattle.std.proofs.Common.{◌∙◌, Err, sym, ap, subst}
 use Rattle.key_cells.specs.Lease.{bench_of}
 use Rattle.master_registers.specs.Loaded.{Loaded, masters_in}
 use Rattle.line_service.specs.declared.stops.Stop.TheVariants.{ModuleFault}
@@ -13,16 +13,16 @@ returns-in-Ok-clause-serves g c = λ s stands.
     let m1 = g.M.Disk.medium c.load.new.module in
     let bench = bench_of c.load.new.lease in
     let found = registers_found m0 m1 s (masters_in c.in-Ok.held bench) stands.in_module c.load.ensures.keeps c.in-Ok.ensures.stands in
-    serves_after_read s (seen c.args.request.now) c.carry_out.result c.carry_out.new.reply m0 m1 (g.M.Disk.medium c.carry_out.new.module)
+    serves_after_read s (seen c.args.request.now) c.carry_out.result c.carry_out.new.reply c.args.roles.now c.carry_out.new.roles m0 m1 (g.M.Disk.medium c.carry_out.new.module)
     c.requires.settled stands c.load.ensures.keeps
     (c.carry_out.ensures.serves s (record {
       loaded = subst (λ m. Loaded m c.in-Ok.held bench) (sym found) c.in-Ok.ensures.loaded;
-      stands = stands_kept s m0 m1 c.load.ensures.keeps stands;
+      stands = stands_kept s c.args.roles.now m0 m1 c.load.ensures.keeps stands;
     }))
 
 pub returns-in-Err-DiskFault-clause-serves : goal.returns-in-Err-DiskFault-clause-serves
 returns-in-Err-DiskFault-clause-serves g c = λ s stands.
-    stopped_serves s (seen c.args.request.now) ModuleFault c.clear.new.self (g.M.Disk.medium c.args.module.now) (g.M.Disk.medium c.load.new.module) tt
+    stopped_serves s (seen c.args.request.now) ModuleFault c.clear.new.self c.args.roles.now (g.M.Disk.medium c.args.module.now) (g.M.Disk.medium c.load.new.module) tt
     c.requires.settled c.load.ensures.keeps stands
 
 pub returns-clause-serves : goal.returns-clause-serves

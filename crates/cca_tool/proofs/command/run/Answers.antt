@@ -1,22 +1,41 @@
--- However the session ended, the sink got the first bytes of the replies.
-use Rattle.cca_tool.proofs.PerformLemmas.{told_some, held_undamaged}
-use Rattle.cca_tool.proofs.PrefixLemmas.{prefix_sent, quiet}
-use Rattle.cca_tool.proofs.StatusLemmas.{completes}
+-- The status tells how the lines ended; and where no device was called, nothing has changed.
+use Rattle.cca_tool.specs.declared.command.Status.TheVariants as status
+use Rattle.line_service.specs.declared.stops.Stop.TheVariants.{ModuleFault}
+use Rattle.std.proofs.Common.{inl, inr}
+use Rattle.std.specs.Prelude.{◌⊎◌}
+use Rattle.cca_tool.proofs.StatusLemmas.{as_told, stopped_as, judged_as, complete_as, prefix_still}
 use Rattle.cca_tool.proofs.command.run.Goals as goal
 
-pub returns-in-Ok-clause-prefix : goal.returns-in-Ok-clause-prefix
-returns-in-Ok-clause-prefix g c = λ s holds.
-    prefix_sent s (g.M.Disk.medium c.args.module.now) (g.M.Disk.medium c.serve.new.module)
-    (g.S.Source.left c.args.source.now) (g.S.Source.left c.serve.new.source) (g.K.Sink.held c.args.sink.now) (g.K.Sink.held c.serve.new.sink)
-    c.serve.result c.serve.ensures.stops (λ ok. c.serve.ensures.done ok s holds) (λ h. c.serve.ensures.stopped h s holds)
-    (λ h. c.serve.ensures.cut h s holds) (λ h. c.serve.ensures.lost h s holds)
-    (λ h. let some = told_some (g.M.Disk.medium c.args.module.now) s holds in
-    quiet g.S.Source.left g.K.Sink.held c.args.source.now c.serve.new.source c.args.sink.now c.serve.new.sink
-    (c.serve.ensures.damaged_source h some) (c.serve.ensures.damaged_sink h some))
+pub returns-then-not-are_run-clause-prefix : goal.returns-then-not-are_run-clause-prefix
+returns-then-not-are_run-clause-prefix g c = λ s holds. prefix_still s (g.S.Source.left c.args.source.now) (g.K.Sink.held c.args.sink.now)
+
+pub returns-in-Err-clause-prefix : goal.returns-in-Err-clause-prefix
+returns-in-Err-clause-prefix g c = λ s holds. prefix_still s (g.S.Source.left c.args.source.now) (g.K.Sink.held c.args.sink.now)
+
+pub returns-in-Ok-clause-done : goal.returns-in-Ok-clause-done
+returns-in-Ok-clause-done g c = λ h s holds.
+    (c.serve.ensures.serves s holds).done (as_told c.serve.result c.status_of.result c.status_of.ensures status.Done h)
+
+pub returns-in-Ok-clause-stopped : goal.returns-in-Ok-clause-stopped
+returns-in-Ok-clause-stopped g c = λ h s holds.
+    (c.serve.ensures.serves s holds).stopped (stopped_as c.serve.result c.status_of.result c.status_of.ensures h)
+
+pub returns-in-Ok-clause-cut : goal.returns-in-Ok-clause-cut
+returns-in-Ok-clause-cut g c = λ h s holds.
+    (c.serve.ensures.serves s holds).cut (as_told c.serve.result c.status_of.result c.status_of.ensures status.WriteFault h)
+
+pub returns-in-Ok-clause-lost : goal.returns-in-Ok-clause-lost
+returns-in-Ok-clause-lost g c = λ h s holds.
+    (c.serve.ensures.serves s holds).lost ModuleFault tt (as_told c.serve.result c.status_of.result c.status_of.ensures status.ModuleFault h)
+
+pub returns-in-Ok-clause-moments : goal.returns-in-Ok-clause-moments
+returns-in-Ok-clause-moments g c = λ s holds. (c.serve.ensures.serves s holds).on_module
+
+pub returns-in-Ok-clause-judged : goal.returns-in-Ok-clause-judged
+returns-in-Ok-clause-judged g c = λ words still.
+    judged_as c.serve.result c.status_of.result c.status_of.ensures (g.M.Disk.medium c.args.module.now) (c.serve.ensures.judged still)
 
 pub returns-in-Ok-clause-complete : goal.returns-in-Ok-clause-complete
 returns-in-Ok-clause-complete g c = λ words s holds reads writes changes.
-    completes (g.S.Source.left c.args.source.now) (g.S.Source.left c.serve.new.source) c.status_of.result c.serve.result
-    c.status_of.ensures c.serve.ensures.stops (λ h. reads (c.serve.ensures.read_fault h)) (λ h. writes (c.serve.ensures.write_fault h))
-    (λ h. changes (c.serve.ensures.module_fault h)) (λ h. held_undamaged (g.M.Disk.medium c.args.module.now) s holds (c.serve.ensures.damaged h))
-    c.serve.ensures.limit
+    complete_as c.serve.result c.status_of.result c.status_of.ensures (g.S.Source.left c.args.source.now) (g.S.Source.left c.serve.new.source)
+    (c.serve.ensures.complete s holds reads writes changes)

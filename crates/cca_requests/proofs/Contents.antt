@@ -1,0 +1,48 @@
+-- What stands in the cells that a change leaves alone.
+use Rattle.std.proofs.Common.{◌≡◌, ◌≢◌, ◌+◌, ℕ, List, Option, Some, sym, subst, arith}
+use Rattle.slot_disk.specs.Cells.{body}
+use Rattle.slot_disk.specs.Medium.{Medium, Told}
+use Rattle.slot_disk.proofs.Media.{told_at, told_from}
+use Rattle.cca_roles.specs.RoleBody.{ReadsPlace}
+use Rattle.cca_roles.specs.Roles.{role_at}
+use Rattle.cca_roles.specs.RolesStand.{StandsForRoles}
+use Rattle.cca_roles.specs.declared.roles.Role.{Role}
+use Rattle.master_registers.specs.Masters.{Masters}
+use Rattle.master_registers.specs.RegisterBody.{ReadsMasters, StandsForMasters}
+use Rattle.line_service.specs.Answering.{Holds}
+use Rattle.cca_requests.specs.Serving.{IsSound}
+
+-- a fact on the content of a disk
+pub at_content : (m : Medium) (P : List ℕ → Type 0) → Holds m P → (d : List ℕ) → m.content ≡ Some d → P d
+at_content m P holds d is = let same : holds.image ≡ d = cc (holds.told, is) in subst P same holds.has
+
+pub not_first : (n : ℕ) → n + 1 ≢ 0
+not_first n h = omega arith
+
+pub not_next : (n : ℕ) → 0 ≢ n + 1
+not_next n h = omega arith
+
+-- a change of cell 0 leaves the roles
+pub roles_alike : (old new : List ℕ) (roles : List (Option Role)) → ((n : ℕ) → n ≢ 0 → body new n ≡ body old n)
+    → StandsForRoles old roles → StandsForRoles new roles
+roles_alike old new roles same stands = record {
+  size = stands.size;
+  reads = λ n within. subst (λ b. ReadsPlace n b (role_at roles n)) (sym (same (n + 1) (not_first n))) (stands.reads n within);
+  apart = stands.apart;
+}
+
+-- a change of another cell leaves the registers
+pub registers_alike : (old new : List ℕ) (m : Masters) (place : ℕ) → ((n : ℕ) → n ≢ place + 1 → body new n ≡ body old n)
+    → StandsForMasters old m → StandsForMasters new m
+registers_alike old new m place same stands = subst (λ b. ReadsMasters b m) (sym (same 0 (not_next place))) stands
+
+-- a module that stands for registers and for roles
+pub sound : (m : Medium) (registers : Masters) (roles : List (Option Role)) → Told m (λ image. StandsForMasters image registers)
+    → Told m (λ image. StandsForRoles image roles) → Told m (IsSound roles)
+sound m registers roles told also = told_from m.content (IsSound roles) (λ c is. record {
+  registers = registers;
+  stands = record {
+    registers = told_at m.content (λ image. StandsForMasters image registers) c is told;
+    roles = told_at m.content (λ image. StandsForRoles image roles) c is also;
+  };
+})

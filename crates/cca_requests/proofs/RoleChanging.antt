@@ -1,0 +1,201 @@
+-- A change of the roles is what the machine makes of it.
+use Rattle.std.proofs.Common.{◌≡◌, ◌+◌, ℕ, Bool, true, false, List, [], ◌∷◌, Option, None, Some, Result, Ok, Err, codes, refl, sym, ap, ◌∙◌, subst, inl, inr, ⊎_elim}
+use Rattle.std.specs.Prelude.{◌⊎◌, ◌↔◌, ◌≤◌, IsTrue, OnOk, OnErr, IfErr}
+use Rattle.slot_disk.specs.Faults.{Rose}
+use Rattle.slot_disk.specs.Medium.{Medium, Told, IsSettled, EachImage, From}
+use Rattle.slot_disk.proofs.Media.{each_weaker, becomes_told}
+use Rattle.cca_vectors.specs.Checks.{check}
+use Rattle.cca_roles.specs.Changes.{HoldsEither, ChangesRoles, Remembers}
+use Rattle.cca_roles.specs.RolesStand.{StandsForRoles}
+use Rattle.cca_roles.specs.declared.faults.RoleFault.{RoleFault}
+use Rattle.cca_roles.specs.declared.faults.RoleFault.TheVariants.{DiskFault}
+use Rattle.cca_roles.specs.declared.roles.Role.{Role}
+use Rattle.master_registers.specs.Masters.{Masters}
+use Rattle.master_registers.specs.RegisterBody.{StandsForMasters}
+use Rattle.script_buffers.specs.Replies.{Reply, Refused, Done, spelled}
+use Rattle.line_service.specs.declared.stops.Stop.{Stop}
+use Rattle.line_service.specs.declared.stops.Stop.TheVariants.{ModuleFault}
+use Rattle.cca_machine.specs.State.{State, IsModuleOf}
+use Rattle.cca_machine.specs.Verdict.{questions}
+use Rattle.cca_machine.specs.Act.{Effect, Outcome, effected}
+use Rattle.cca_requests.specs.Serving.{Stands, IsEither, SameBut, Carries, IsSound, Leaves}
+use Rattle.cca_requests.specs.Deciding.{role_outcome, role_stop, role_reply}
+use Rattle.cca_requests.proofs.Contents.{at_content, registers_alike, sound}
+use Rattle.cca_requests.proofs.Changing.{holds_at}
+use Rattle.cca_requests.proofs.Serving.{still_carries, told_some}
+
+-- what comes of a change of one place that no rule refuses
+abbrev pub changed_outcome : State → ℕ → List (Option Role) → Outcome
+changed_outcome s place next = record { state = record s { roles = next }; reply = Done []; module_cell = Some (place + 1); between = λ k. s }
+
+-- what comes of it, by whether rule 30 is broken
+abbrev outcome_by : Bool → State → Effect → Outcome
+outcome_by refuses s e = role_outcome (questions (codes "name") (check 30 refuses ∷ []) ∷ []) s e
+
+-- a fault that says that rule 30 is broken
+pub record IsRefusing (fault : RoleFault) : Type 0 where
+  pub stop : role_stop (Err fault) ≡ Ok tt
+  pub reply : role_reply (Err fault) ≡ Refused 30 (codes "name")
+
+not_disk : (fault : RoleFault) → IsRefusing fault → fault ≡ DiskFault → ⊥
+not_disk fault refusing is = let bad = sym (ap (λ f. role_stop (Err f)) is) ∙ refusing.stop in cc bad
+
+abbrev error : RoleFault → Result (Unit {0}) RoleFault
+error fault = Err fault
+
+same_fault : (a b : RoleFault) → error a ≡ error b → a ≡ b
+same_fault a b is = cc is
+
+module _ {A : Type 0} (medium : A → Medium) (old new : A) (s : State) (before now : List (Option Role)) (place : ℕ) (next : List (Option Role))
+    (e : Effect) (e_is : effected s e ≡ changed_outcome s place next) (full : RoleFault) (refusing : IsRefusing full)
+    (settled : IsSettled (medium old)) (stands : Stands s before (medium old)) where
+  abbrev after : Outcome
+  after = changed_outcome s place next
+
+  either : (image : List ℕ) → From (HoldsEither (place + 1) s.roles next) (medium old) image → IsEither s after image
+  either image from = ⊎_elim
+      (λ unchanged. inl (record { registers = kept; roles = unchanged }))
+      (λ changed. inr (record { registers = kept; roles = changed }))
+      from.2.stands
+    where
+      kept : StandsForMasters image s.registers
+      kept = registers_alike from.0 image s.registers place from.2.others (at_content (medium old) (IsModuleOf s) stands.in_module from.0 from.1).registers
+
+  on_module : (r : Result (Unit {0}) RoleFault) → ChangesRoles place s.roles next (medium old) (medium new) r → EachImage (medium old) (medium new) (IsEither s after)
+  on_module r changes = each_weaker (medium old) (medium new) (From (HoldsEither (place + 1) s.roles next) (medium old)) (IsEither s after) changes.moments either
+
+  outside : (r : Result (Unit {0}) RoleFault) → ChangesRoles place s.roles next (medium old) (medium new) r
+      → EachImage (medium old) (medium new) (From (SameBut (Some (place + 1))) (medium old))
+  outside r changes =
+      each_weaker (medium old) (medium new) (From (HoldsEither (place + 1) s.roles next) (medium old)) (From (SameBut (Some (place + 1))) (medium old))
+      changes.moments (λ image from. (from.0, from.1, record { outside = from.2.outside; others = from.2.others; untouched = from.2.untouched }))
+
+  done : (u : Unit {0}) (reply : List ℕ) → ChangesRoles place s.roles next (medium old) (medium new) (Ok u) → now ≡ next → reply ≡ spelled (Done [])
+      → Carries after s (Ok tt) reply now (medium old) (medium new)
+  done u reply changes memory text = record {
+    done = record {
+      reply_is = text;
+      stands = record {
+        in_module =
+            let holds = holds_at (medium new).content (medium new) (λ c. StandsForRoles c next) refl
+            (changes.either.still (told_some (medium old) stands.in_module.image stands.in_module.told)) changes.stands in
+            let from = changes.either.told holds.image holds.told in
+            record {
+              image = holds.image;
+              told = holds.told;
+              has = record {
+                registers = registers_alike from.0 holds.image s.registers place from.2.others
+                    (at_content (medium old) (IsModuleOf s) stands.in_module from.0 from.1).registers;
+                roles = holds.has;
+              };
+            };
+        memory = memory;
+      };
+    };
+    on_module = on_module (Ok u) changes;
+    outside = outside (Ok u) changes;
+    stops = tt;
+  }
+
+  failed : (reply : List ℕ) → ChangesRoles place s.roles next (medium old) (medium new) (Err DiskFault)
+      → Carries after s (Err ModuleFault) reply now (medium old) (medium new)
+  failed reply changes = record { done = tt; on_module = on_module (Err DiskFault) changes; outside = outside (Err DiskFault) changes; stops = tt }
+
+  refused : (reply : List ℕ) → new ≡ old → now ≡ before → reply ≡ spelled (Refused 30 (codes "name"))
+      → Carries (outcome_by true s e) s (Ok tt) reply now (medium old) (medium new)
+  refused reply untouched memory text =
+      subst (λ x. Carries (outcome_by true s e) s (Ok tt) reply now (medium old) (medium x)) (sym untouched)
+      (subst (λ rs. Carries (outcome_by true s e) s (Ok tt) reply rs (medium old) (medium old)) (sym memory)
+      (still_carries (outcome_by true s e) s (Ok tt) reply before (medium old) refl text tt settled stands))
+
+  abbrev Answers : Bool → Result (Unit {0}) RoleFault → List ℕ → Type 0
+  Answers refuses r reply = Carries (outcome_by refuses s e) s (role_stop r) reply now (medium old) (medium new)
+
+  module _ (reply : List ℕ) where
+    by_fault : (refuses : Bool) (fault : RoleFault) → ((error fault ≡ Err full) ↔ IsTrue refuses) → (fault ≡ DiskFault) ⊎ (fault ≡ full)
+        → ChangesRoles place s.roles next (medium old) (medium new) (Err fault) → (error fault ≡ Err full → new ≡ old) → now ≡ before
+        → OnOk (role_stop (Err fault)) (reply ≡ spelled (role_reply (Err fault))) → Answers refuses (Err fault) reply
+    by_fault true fault rule (inl disk) changes untouched memory text =
+        absurd (not_disk full refusing (sym (same_fault fault full (rule.1 refl)) ∙ disk))
+    by_fault false fault rule (inl disk) changes untouched memory text =
+        subst (λ f. Answers false (Err f) reply) (sym disk)
+        (subst (λ (o : Outcome). Carries o s (Err ModuleFault) reply now (medium old) (medium new)) (sym e_is)
+        (failed reply (subst (λ f. ChangesRoles place s.roles next (medium old) (medium new) (Err f)) disk changes)))
+    by_fault false fault rule (inr is) changes untouched memory text = let no : false ≡ true = rule.0 (ap error is) in cc no
+    by_fault true fault rule (inr is) changes untouched memory text =
+        subst (λ f. Answers true (Err f) reply) (sym is)
+        (subst (λ x. Carries (outcome_by true s e) s x reply now (medium old) (medium new)) (sym refusing.stop)
+        (refused reply (untouched (ap error is)) memory (told ∙ ap spelled refusing.reply)))
+      where
+        told_of : (r : Result (Unit {0}) Stop) (x : Reply) → r ≡ Ok tt → OnOk r (reply ≡ spelled x) → reply ≡ spelled x
+        told_of (Ok u) x ok says = says
+        told_of (Err stop) x ok says = cc ok
+
+        told : reply ≡ spelled (role_reply (Err full))
+        told = told_of (role_stop (Err full)) (role_reply (Err full)) refusing.stop (subst (λ f. OnOk (role_stop (Err f)) (reply ≡ spelled (role_reply (Err f)))) is text)
+
+    pub role_changes_as : (refuses : Bool) (r : Result (Unit {0}) RoleFault) → ((r ≡ Err full) ↔ IsTrue refuses)
+        → IfErr r (λ fault. (fault ≡ DiskFault) ⊎ (fault ≡ full)) → ChangesRoles place s.roles next (medium old) (medium new) r
+        → (r ≡ Err full → new ≡ old) → Remembers before next now r → OnOk (role_stop r) (reply ≡ spelled (role_reply r)) → Answers refuses r reply
+    role_changes_as true (Ok u) rule faults changes untouched memory text = let no = rule.1 refl in cc no
+    role_changes_as false (Ok u) rule faults changes untouched memory text =
+        subst (λ (o : Outcome). Carries o s (Ok tt) reply now (medium old) (medium new)) (sym e_is) (done u reply changes memory.done text)
+    role_changes_as refuses (Err fault) rule faults changes untouched memory text = by_fault refuses fault rule faults changes untouched memory.kept text
+
+  -- where no cell is written, no device is called
+  pub role_still_as : (refuses : Bool) (r : Result (Unit {0}) RoleFault) → ((r ≡ Err full) ↔ IsTrue refuses) → (r ≡ Err full → new ≡ old)
+      → (outcome_by refuses s e).module_cell ≡ None → new ≡ old
+  role_still_as true r rule untouched none = untouched (rule.1 refl)
+  role_still_as false r rule untouched none =
+      let no : Some (place + 1) ≡ None = sym (ap (λ (o : Outcome). o.module_cell) e_is) ∙ none in cc no
+
+-- ---- whatever the module holds
+
+module _ {A : Type 0} (medium : A → Medium) (faults : A → ℕ) (old new : A) (m : Masters) (before now : List (Option Role)) (place : ℕ) (next : List (Option Role))
+    (full : RoleFault) (refusing : IsRefusing full)
+    (settled : IsSettled (medium old)) (stands : Told (medium old) (λ image. StandsForMasters image m))
+    (also : Told (medium old) (λ image. StandsForRoles image before)) (later : faults old ≤ faults new) (reply : List ℕ) where
+  abbrev Left : Result (Unit {0}) Stop → Type 0
+  Left result = Leaves (medium old) (medium new) (faults old) (faults new) result reply before now
+
+  left_by : (fault : RoleFault) → (fault ≡ DiskFault) ⊎ (fault ≡ full) → ChangesRoles place before next (medium old) (medium new) (Err fault)
+      → (error fault ≡ Err full → new ≡ old) → now ≡ before → (error fault ≡ Err DiskFault → Rose (faults old) (faults new)) → OnErr (role_stop (Err fault)) (reply ≡ [])
+      → Left (role_stop (Err fault))
+  left_by fault (inl disk) changes untouched memory cause silent = subst (λ f. Left (role_stop (Err f))) (sym disk) (record {
+    disk = record { size = changes.either.size; still = changes.either.still; settled = tt; later = later; fault = λ is. cause (ap error disk) };
+    sound = tt;
+    silent = subst (λ f. OnErr (role_stop (Err f)) (reply ≡ [])) disk silent;
+    memory = memory;
+    stops = refl;
+  })
+  left_by fault (inr is) changes untouched memory cause silent =
+      let same = untouched (ap error is) in
+      subst (λ f. Left (role_stop (Err f))) (sym is) (subst (λ x. Left x) (sym refusing.stop) (record {
+        disk = record {
+          size = changes.either.size;
+          still = changes.either.still;
+          settled = subst (λ x. IsSettled (medium x)) (sym same) settled;
+          later = later;
+          fault = λ no. cc no;
+        };
+        sound = subst (λ x. Told (medium x) (IsSound now)) (sym same) (subst (λ rs. Told (medium old) (IsSound rs)) (sym memory) (sound (medium old) m before stands also));
+        silent = tt;
+        memory = tt;
+        stops = tt;
+      }))
+
+  -- what a change leaves
+  pub role_left_as : (r : Result (Unit {0}) RoleFault) → IfErr r (λ fault. (fault ≡ DiskFault) ⊎ (fault ≡ full))
+      → ChangesRoles place before next (medium old) (medium new) r → (r ≡ Err full → new ≡ old) → Remembers before next now r
+      → (r ≡ Err DiskFault → Rose (faults old) (faults new)) → OnErr (role_stop r) (reply ≡ []) → Left (role_stop r)
+  role_left_as (Ok u) each changes untouched memory cause silent = record {
+    disk = record { size = changes.either.size; still = changes.either.still; settled = changes.settled; later = later; fault = λ is. cc is };
+    sound = subst (λ rs. Told (medium new) (IsSound rs)) (sym memory.done) (sound (medium new) m next
+        (becomes_told (medium old) (medium new) (HoldsEither (place + 1) before next) (λ image. StandsForMasters image m) (λ image. StandsForMasters image m)
+        changes.either stands (λ d c p h. registers_alike d c m place h.others p))
+        changes.stands);
+    silent = tt;
+    memory = tt;
+    stops = tt;
+  }
+  role_left_as (Err fault) each changes untouched memory cause silent = left_by fault each changes untouched memory.kept cause silent

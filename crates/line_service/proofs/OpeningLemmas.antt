@@ -1,0 +1,111 @@
+-- A run from the disks as they were before they were opened.
+use Rattle.std.proofs.Common.{◌≡◌, ℕ, List, [], Option, None, Some, IfSome, Result, Ok, Err, refl, sym, ◌∙◌, subst, inl, inr}
+use Rattle.std.specs.Prelude.{⊤, ◌⊎◌}
+use Rattle.slot_disk.specs.Medium.{Medium, Told, EachImage, Keeps}
+use Rattle.slot_disk.specs.WhereTold.{WhereTold}
+use Rattle.slot_disk.proofs.Media.{goes_on, each_weaker, keeps_then, told_from, told_at}
+use Rattle.slot_disk.proofs.WhereToldLemmas.{told_same, told_weaker}
+use Rattle.line_service.specs.Machine.{Machine, World, world}
+use Rattle.line_service.specs.Stops.{IsLineStop, IsOpeningStop}
+use Rattle.line_service.specs.Answering.{Holds, OnDisks, Stands, IsSound}
+use Rattle.line_service.specs.Serving.{IsOnTheWay, LineLost, Unopened, RunServed}
+use Rattle.line_service.specs.declared.stops.Device.{Device}
+use Rattle.line_service.specs.declared.stops.Device.TheVariants.{Module, Store}
+use Rattle.line_service.specs.declared.stops.Stop.{Stop}
+use Rattle.line_service.specs.declared.stops.Stop.TheVariants.{ReadFault, WriteFault, InputLimit, Damaged}
+
+holds_still : (m0 m : Medium) (P : List ℕ → Type 0) → Keeps m0 m → Holds m0 P → Holds m P
+holds_still m0 m P kept holds = record { image = holds.image; told = kept.content ∙ holds.told; has = holds.has }
+
+-- what holds of nothing that is told holds of what was told before
+pub never_told : (m0 m : Medium) (P : List ℕ → Type 0) → Keeps m0 m → Told m (λ c. ⊥) → Told m0 P
+never_told m0 m P kept never = told_from m0.content P (λ c is. absurd (told_at m.content (λ c. ⊥) c (kept.content ∙ is) never))
+
+pub never_both : (m0 m d0 d : Medium) (P : List ℕ → List ℕ → Type 0) → Keeps m0 m → Keeps d0 d → Told m (λ c. Told d (λ e. ⊥)) → Told m0 (λ c. Told d0 (P c))
+never_both m0 m d0 d P kept_m kept_d never =
+    told_from m0.content _ (λ c is. never_told d0 d (P c) kept_d (told_at m.content (λ c. Told d (λ e. ⊥)) c (kept_m.content ∙ is) never))
+
+module _ (A : Machine) (m0 d0 : Medium) where
+  -- what is broken stands for no state
+  pub module_unbroken : (X : ℕ → Type 0) → IsSound A m0 d0 → Told m0 (λ c. (cell : ℕ) → A.IsBrokenModule cell c → X cell)
+  module_unbroken X sound =
+      told_from m0.content _ (λ c is cell broken.
+      let here = told_at m0.content (λ x. (s : A.State) × A.InModule s x) c is sound.in_module in
+      absurd (A.module_apart cell c here.0 broken here.1))
+
+  pub store_unbroken : (X : ℕ → Type 0) → IsSound A m0 d0 → Told m0 (λ c. Told d0 (λ e. (cell : ℕ) → A.IsBrokenStore cell c e → X cell))
+  store_unbroken X sound =
+      told_from m0.content _ (λ c is. told_from d0.content _ (λ e is' cell broken.
+      let both = told_at m0.content (λ x. Told d0 (λ y. (s : A.State) × A.InModule s x × A.InStore s y)) c is sound.in_both in
+      let here = told_at d0.content (λ y. (s : A.State) × A.InModule s c × A.InStore s y) e is' both in
+      absurd (A.store_apart cell c e here.0 broken here.1 here.2)))
+
+  pub unbroken : (s : A.State) (stop : Stop) → OnDisks A s m0 d0 → ((cell : ℕ) → stop ≡ Damaged Module cell → Told m0 (A.IsBrokenModule cell))
+      → ((cell : ℕ) → stop ≡ Damaged Store cell → Told m0 (λ c. Told d0 (A.IsBrokenStore cell c))) → (device : Device) (cell : ℕ) → stop ≡ Damaged device cell → ⊥
+  unbroken s stop disks in_module in_store Module cell is =
+      A.module_apart cell disks.in_module.image s
+      (told_at m0.content (A.IsBrokenModule cell) disks.in_module.image disks.in_module.told (in_module cell is)) disks.in_module.has
+  unbroken s stop disks in_module in_store Store cell is =
+      let both = told_at m0.content (λ c. Told d0 (A.IsBrokenStore cell c)) disks.in_module.image disks.in_module.told (in_store cell is) in
+      A.store_apart cell disks.in_module.image disks.in_store.image s
+      (told_at d0.content (A.IsBrokenStore cell disks.in_module.image) disks.in_store.image disks.in_store.told both) disks.in_module.has disks.in_store.has
+
+module _ (A : Machine) (m0 m d0 d : Medium) (random : Option (List ℕ)) (kept_m : Keeps m0 m) (kept_d : Keeps d0 d) where
+  pub stands_opened : (s : A.State) (K : A.State → Type 0) → OnDisks A s m0 d0 → K s → Stands A s K m d
+  stands_opened s K disks agrees = record {
+    disks = record { in_module = holds_still m0 m (A.InModule s) kept_m disks.in_module; in_store = holds_still d0 d (A.InStore s) kept_d disks.in_store };
+    agrees = agrees;
+  }
+
+  pub opened : (s : A.State) (result : Result (Unit {0}) Stop) (w1 : World) (a b p q : Option (List ℕ))
+      → RunServed A s result (world m d random) w1 a b p q → RunServed A s result (world m0 d0 random) w1 a b p q
+  opened s result w1 a b p q run = record {
+    done = run.done;
+    stopped = run.stopped;
+    cut = run.cut;
+    lost = λ stop kind is. told_weaker a b _ _ (λ i r x. by_case stop i r x) (run.lost stop kind is);
+    undamaged = run.undamaged;
+    on_module = told_weaker a b _ _ (λ i r each. goes_on m0 m w1.module_ _ _ _ kept_m.moments each (λ c h. inl h) (λ c h. first m0 m kept_m c _ h)) run.on_module;
+    on_store = told_weaker a b _ _ (λ i r each. goes_on d0 d w1.store _ _ _ kept_d.moments each (λ c h. inl h) (λ c h. first d0 d kept_d c _ h)) run.on_store;
+  }
+    where
+      first : (x y : Medium) → Keeps x y → (c : List ℕ) (P : Type 0) → y.images c ⊎ P → x.images c ⊎ P
+      first x y kept c P (inl h) = inl (kept.images c h)
+      first x y kept c P (inr h) = inr h
+
+      by_case : (stop : Stop) (i r : List ℕ) → LineLost A stop s random w1 i p q ⊎ Unopened (world m d random) w1 i r p q
+          → LineLost A stop s random w1 i p q ⊎ Unopened (world m0 d0 random) w1 i r p q
+      by_case stop i r (inl lost) = inl lost
+      by_case stop i r (inr early) = inr (record {
+        untaken = early.untaken;
+        held = early.held;
+        undrawn = early.undrawn;
+        on_module = keeps_then m0 m w1.module_ kept_m early.on_module;
+        on_store = keeps_then d0 d w1.store kept_d early.on_store;
+      })
+
+  -- it stopped before the first line
+  pub unopened : (s : A.State) (stop : Stop) (a p : Option (List ℕ)) → IsOpeningStop stop → ((device : Device) (cell : ℕ) → stop ≡ Damaged device cell → ⊥)
+      → RunServed A s (Err stop) (world m0 d0 random) (world m d random) a a p p
+  unopened s stop a p kind undamaged = record {
+    done = λ h. absurd (cc h);
+    stopped = λ h. absurd (no_input stop kind h);
+    cut = λ h. absurd (no_cut stop kind h);
+    lost = λ other is h. told_same a _ (λ x. inr (record {
+      untaken = refl;
+      held = told_same p (λ x y. y ≡ x) (λ x. refl);
+      undrawn = refl;
+      on_module = kept_m;
+      on_store = kept_d;
+    }));
+    undamaged = λ device cell h. undamaged device cell (cc h);
+    on_module = told_same a _ (λ x. each_weaker m0 m _ _ kept_m.moments (λ c h. inl h));
+    on_store = told_same a _ (λ x. each_weaker d0 d _ _ kept_d.moments (λ c h. inl h));
+  }
+    where
+      no_input : (stop : Stop) → IsOpeningStop stop → ◌≡◌ {A = Result (Unit {0}) Stop} (Err stop) (Err ReadFault) ⊎ ◌≡◌ {A = Result (Unit {0}) Stop} (Err stop) (Err InputLimit) → ⊥
+      no_input stop kind (inl h) = let same : stop ≡ ReadFault = cc h in subst IsOpeningStop same kind
+      no_input stop kind (inr h) = let same : stop ≡ InputLimit = cc h in subst IsOpeningStop same kind
+
+      no_cut : (stop : Stop) → IsOpeningStop stop → ◌≡◌ {A = Result (Unit {0}) Stop} (Err stop) (Err WriteFault) → ⊥
+      no_cut stop kind h = let same : stop ≡ WriteFault = cc h in subst IsOpeningStop same kind

@@ -1,0 +1,164 @@
+-- The run goes on from line to line, and each exit follows from how far it has come.
+use Rattle.std.proofs.Common.{◌≡◌, ◌+◌, length, Ok, Err, List, ℕ, Option, ap, ◌∙◌, refl, inl, inr, arith}
+use Rattle.std.specs.Prelude.{◌⊎◌}
+use Rattle.slot_disk.specs.WhereTold.{WhereTold}
+use Rattle.slot_disk.proofs.WhereToldLemmas.{told_weaker}
+use Rattle.line_service.specs.Machine.{World, world}
+use Rattle.line_service.specs.Serving.{AllAnswered, WholeLinesAnswered, LineLost}
+use Rattle.line_service.specs.declared.serving.Served.TheVariants.{Ended}
+use Rattle.line_service.specs.declared.stops.Stop.TheVariants.{WriteFault, ReadFault, InputLimit, Damaged}
+use Rattle.line_service.proofs.SessionLemmas.{has_served_nothing, has_served_more, has_served_all, has_served_whole, has_served_cut, has_served_lost, module_moments, store_moments, counted_on, counted_nothing, blank_open}
+use Rattle.line_service.proofs.StopLemmas.{same_stop, stopped_as, no_stop, not_ended, same_world, same_held, told_back, both_told_back, grows_on, grows_none, not_replied, not_cut, line_not_cut, ended_unsent, ended_uncut}
+use Rattle.line_service.proofs.running.serve_all.Goals as goal
+
+pub each_line-init : goal.each_line-init
+each_line-init g c =
+    let m = g.M.Disk.medium c.args.module.now in
+    let d = g.D.Disk.medium c.args.store.now in
+    record {
+      served = λ s stands. has_served_nothing g.A.Desk.machine s (g.A.Desk.knows c.args.desk.now) (world m d (g.E.Entropy.left c.args.entropy.now)) (g.S.Source.left c.args.source.now) (g.K.Sink.held c.args.sink.now)
+          c.args.lines.now c.requires.fresh stands c.requires.module_settled c.requires.store_settled;
+      stands = λ s stands. (s, stands);
+      ready = c.requires.ready;
+      module_settled = c.requires.module_settled;
+      store_settled = c.requires.store_settled;
+      module_size = refl;
+      store_size = refl;
+      module_still = λ h. h;
+      store_still = λ h. h;
+      counted = counted_nothing (g.S.Source.left c.args.source.now) c.args.lines.now c.requires.fresh;
+      at_end = λ ended. absurd (blank_open c.args.lines.now c.requires.fresh ended);
+      sink_grows = grows_none (g.K.Sink.held c.args.sink.now);
+      reads_later = omega arith;
+      writes_later = omega arith;
+      module_later = omega arith;
+      store_later = omega arith;
+      entropy_later = omega arith;
+    }
+
+pub each_line-preserved : goal.each_line-preserved
+each_line-preserved g c =
+    let m0 = g.M.Disk.medium c.args.module.now in
+    let m1 = g.M.Disk.medium c.each_line.module in
+    let m2 = g.M.Disk.medium c.serve_one.new.module in
+    let d0 = g.D.Disk.medium c.args.store.now in
+    let d1 = g.D.Disk.medium c.each_line.store in
+    let d2 = g.D.Disk.medium c.serve_one.new.store in
+    let now = c.each_line.invariant in
+    let after = c.serve_one.ensures in
+    let replied = c.in-Ok-Replied.is ∙ ap Ok c.in-Ok-Replied.field-0-is in
+    record {
+      served = λ s stands.
+          has_served_more g.A.Desk.machine s (g.A.Desk.knows c.each_line.desk) (g.A.Desk.knows c.serve_one.new.desk)
+          (world m0 d0 (g.E.Entropy.left c.args.entropy.now)) (world m1 d1 (g.E.Entropy.left c.each_line.entropy)) (world m2 d2 (g.E.Entropy.left c.serve_one.new.entropy))
+          (g.S.Source.left c.args.source.now) (g.S.Source.left c.each_line.source) (g.S.Source.left c.serve_one.new.source)
+          (g.K.Sink.held c.args.sink.now) (g.K.Sink.held c.each_line.sink) (g.K.Sink.held c.serve_one.new.sink)
+          c.each_line.lines c.serve_one.new.lines _ c.serve_one.result (now.served s stands) after.counted after.serves replied;
+      stands = λ s stands. let here = now.stands s stands in (c.in-Ok-Replied.ensures.serves here.0 here.1).goes_on;
+      ready = c.in-Ok-Replied.ensures.ready;
+      module_settled = c.in-Ok-Replied.ensures.module_left.settled;
+      store_settled = c.in-Ok-Replied.ensures.store_left.settled;
+      module_size = after.module_left.size ∙ now.module_size;
+      store_size = after.store_left.size ∙ now.store_size;
+      module_still = λ h. after.module_left.still (now.module_still h);
+      store_still = λ h. after.store_left.still (now.store_still h);
+      counted = counted_on (g.S.Source.left c.args.source.now) (g.S.Source.left c.each_line.source) (g.S.Source.left c.serve_one.new.source)
+          c.each_line.lines.taken c.serve_one.new.lines.taken now.counted after.counted;
+      at_end = after.at_end;
+      sink_grows = grows_on (g.K.Sink.held c.args.sink.now) (g.K.Sink.held c.each_line.sink) (g.K.Sink.held c.serve_one.new.sink) now.sink_grows after.sink_grows;
+      reads_later = omega (arith, after.source_left.later, now.reads_later);
+      writes_later = omega (arith, after.sink_left.later, now.writes_later);
+      module_later = omega (arith, after.module_left.later, now.module_later);
+      store_later = omega (arith, after.store_left.later, now.store_later);
+      entropy_later = omega (arith, after.entropy_left.later, now.entropy_later);
+    }
+
+pub returns-in-Err-clause-serves : goal.returns-in-Err-clause-serves
+returns-in-Err-clause-serves g c = λ s stands.
+    let A = g.A.Desk.machine in
+    let m0 = g.M.Disk.medium c.args.module.now in
+    let m1 = g.M.Disk.medium c.each_line.module in
+    let m2 = g.M.Disk.medium c.serve_one.new.module in
+    let d0 = g.D.Disk.medium c.args.store.now in
+    let d1 = g.D.Disk.medium c.each_line.store in
+    let d2 = g.D.Disk.medium c.serve_one.new.store in
+    let first = world m0 d0 (g.E.Entropy.left c.args.entropy.now) in
+    let now = world m1 d1 (g.E.Entropy.left c.each_line.entropy) in
+    let last = world m2 d2 (g.E.Entropy.left c.serve_one.new.entropy) in
+    let i0 = g.S.Source.left c.args.source.now in
+    let i1 = g.S.Source.left c.each_line.source in
+    let i2 = g.S.Source.left c.serve_one.new.source in
+    let o0 = g.K.Sink.held c.args.sink.now in
+    let o1 = g.K.Sink.held c.each_line.sink in
+    let o2 = g.K.Sink.held c.serve_one.new.sink in
+    let k1 = g.A.Desk.knows c.each_line.desk in
+    let k2 = g.A.Desk.knows c.serve_one.new.desk in
+    let stop = c.in-Err.stop in
+    let after = c.serve_one.ensures in
+    let served = c.each_line.invariant.served s stands in
+    record {
+      done = λ h. absurd (cc h);
+      stopped = λ h.
+          let as_line = stopped_as c.serve_one.result stop c.in-Err.is h in
+          same_held g.K.Sink.held (λ (o : Option (List ℕ)). WhereTold i0 i2 (λ i r. WholeLinesAnswered A s first.random last i r o0 o)) c.each_line.sink c.serve_one.new.sink
+          (after.sink_unmoved (not_replied c.serve_one.result stop c.in-Err.is) (not_cut c.serve_one.result as_line))
+          (same_world g.M.Disk.medium g.D.Disk.medium g.E.Entropy.left (λ (w : World). WhereTold i0 i2 (λ i r. WholeLinesAnswered A s first.random w i r o0 o1))
+          c.each_line.module c.serve_one.new.module c.each_line.store c.serve_one.new.store c.each_line.entropy c.serve_one.new.entropy
+          (after.module_unmoved (inr as_line)) (after.store_unmoved (inr as_line)) (after.entropy_unmoved (inr as_line))
+          (has_served_whole A s k1 first now i0 i1 i2 o0 o1 c.each_line.lines served
+          (not_ended i1 i2 c.each_line.lines.ended c.serve_one.new.lines.ended c.each_line.lines.pending c.serve_one.result stop c.in-Err.is after.still_ended after.ended)
+          (after.part_lost as_line)));
+      cut = λ h. has_served_cut A s k1 k2 first now last i0 i1 i2 o0 o1 o2 c.each_line.lines c.serve_one.new.lines _ c.serve_one.result
+          served after.counted after.serves (same_stop c.serve_one.result stop WriteFault c.in-Err.is h);
+      lost = λ other kind h.
+          let is = same_stop c.serve_one.result stop other c.in-Err.is h in
+          told_weaker i0 i2 _ _ (λ i r x. inl x)
+          (same_held g.K.Sink.held (λ (o : Option (List ℕ)). WhereTold i0 i2 (λ i r. LineLost A other s first.random last i o0 o)) c.each_line.sink c.serve_one.new.sink
+          (after.sink_unmoved (not_replied c.serve_one.result stop c.in-Err.is) (line_not_cut c.serve_one.result other kind is))
+          (has_served_lost A s k1 k2 first now last i0 i1 i2 o0 o1 o2 c.each_line.lines c.serve_one.new.lines _ c.serve_one.result
+          served after.counted after.serves other kind is));
+      undamaged = λ device cell h.
+          let here = c.each_line.invariant.stands s stands in
+          (after.serves here.0 here.1).undamaged device cell (same_stop c.serve_one.result stop (Damaged device cell) c.in-Err.is h);
+      on_module = module_moments A s k1 k2 first now last i0 i1 i2 o0 o1 o2 c.each_line.lines c.serve_one.new.lines _ c.serve_one.result served after.counted after.serves;
+      on_store = store_moments A s k1 k2 first now last i0 i1 i2 o0 o1 o2 c.each_line.lines c.serve_one.new.lines _ c.serve_one.result served after.counted after.serves;
+    }
+
+pub returns-in-Ok-Ended-clause-serves : goal.returns-in-Ok-Ended-clause-serves
+returns-in-Ok-Ended-clause-serves g c = λ s stands.
+    let A = g.A.Desk.machine in
+    let m0 = g.M.Disk.medium c.args.module.now in
+    let m1 = g.M.Disk.medium c.each_line.module in
+    let m2 = g.M.Disk.medium c.serve_one.new.module in
+    let d0 = g.D.Disk.medium c.args.store.now in
+    let d1 = g.D.Disk.medium c.each_line.store in
+    let d2 = g.D.Disk.medium c.serve_one.new.store in
+    let first = world m0 d0 (g.E.Entropy.left c.args.entropy.now) in
+    let now = world m1 d1 (g.E.Entropy.left c.each_line.entropy) in
+    let last = world m2 d2 (g.E.Entropy.left c.serve_one.new.entropy) in
+    let i0 = g.S.Source.left c.args.source.now in
+    let i1 = g.S.Source.left c.each_line.source in
+    let i2 = g.S.Source.left c.serve_one.new.source in
+    let o0 = g.K.Sink.held c.args.sink.now in
+    let o1 = g.K.Sink.held c.each_line.sink in
+    let o2 = g.K.Sink.held c.serve_one.new.sink in
+    let k1 = g.A.Desk.knows c.each_line.desk in
+    let k2 = g.A.Desk.knows c.serve_one.new.desk in
+    let after = c.serve_one.ensures in
+    let served = c.each_line.invariant.served s stands in
+    let ended = c.in-Ok-Ended.is ∙ ap Ok c.in-Ok-Ended.field-0-is in
+    record {
+      done = λ h.
+          same_held g.K.Sink.held (λ (o : Option (List ℕ)). WhereTold i0 i2 (λ i r. AllAnswered A s first.random last i o0 o)) c.each_line.sink c.serve_one.new.sink
+          (after.sink_unmoved (ended_unsent c.serve_one.result ended) (ended_uncut c.serve_one.result ended))
+          (same_world g.M.Disk.medium g.D.Disk.medium g.E.Entropy.left (λ (w : World). WhereTold i0 i2 (λ i r. AllAnswered A s first.random w i o0 o1))
+          c.each_line.module c.serve_one.new.module c.each_line.store c.serve_one.new.store c.each_line.entropy c.serve_one.new.entropy
+          (after.module_unmoved (inl ended)) (after.store_unmoved (inl ended)) (after.entropy_unmoved (inl ended))
+          (has_served_all A s k1 first now i0 i1 i2 o0 o1 c.each_line.lines c.serve_one.new.lines served (after.all_taken ended)));
+      stopped = λ h. absurd (no_stop h);
+      cut = λ h. absurd (cc h);
+      lost = λ stop kind h. absurd (cc h);
+      undamaged = λ device cell h. cc h;
+      on_module = module_moments A s k1 k2 first now last i0 i1 i2 o0 o1 o2 c.each_line.lines c.serve_one.new.lines _ c.serve_one.result served after.counted after.serves;
+      on_store = store_moments A s k1 k2 first now last i0 i1 i2 o0 o1 o2 c.each_line.lines c.serve_one.new.lines _ c.serve_one.result served after.counted after.serves;
+    }
