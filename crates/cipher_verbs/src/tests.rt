@@ -3,14 +3,15 @@ ghost use Rattle.std.specs.Prelude.{◌≡◌, IsSome};
 ghost use Rattle.verb_rules.specs.Keys.{HasHalves};
 
 use super::*;
-use cca_vectors::{Class, vector_of};
-use clear_keys::write_current;
+use cca_vectors::{Vector, vector_of};
 use key_cells::{KeyPlace, Lease, MasterPlace, Workbench};
+use key_tokens::{Kind, Token, read_token};
 use master_registers::{NewState, Registers, pattern_of};
+use multi_encipher::{Under, seal};
 use slot_disk::MemoryEntropy;
 use std::process::Abort;
 use std::test::Fail;
-use verb_rules::{Age, Asked, Classes, Judged, Need, Rule, TextUse, judge_key, judge_text};
+use verb_rules::{Age, Asked, Judged, Rule, TextUse, judge_text};
 
 /// A DES key, and a text of three blocks.
 const KEY: u64 = 0x0123_4567_89ab_cdef;
@@ -44,45 +45,28 @@ fn put_key(lease: &mut Lease, left: u64, right: u64) {
     key[8..].copy_from_slice(&right.to_be_bytes());
 }
 
-/// The token, judged as a DATA key.
-fn judged(rt: &impl Abort, token: &[u8; 64], held: &Registers) -> Judged
-    ensures { HasHalves result }
-{
-    let need = Need {
-        asked: Asked::Internal,
-        classes: Classes::of(&[Class::Data]),
-        usage: None,
-        export: false,
-        double: false,
-        parts: false,
-    };
-    judge_key(token, &need, held).expect(rt, "a key token")
-}
-
-/// A single-length DATA key.
-fn single_key(rt: &impl Abort, lease: &mut Lease, key: u64) -> Judged
-    ensures { HasHalves result }
-{
-    put_master(lease);
-    put_key(lease, key, 0);
-    let held = registers(lease);
-    let token = clear_key_import(lease, &held);
-    judged(rt, &token, &held)
-}
-
-/// A double-length DATA key.
-fn double_key(rt: &impl Abort, lease: &mut Lease, left: u64, right: u64) -> Judged
-    ensures { HasHalves result }
-{
-    put_master(lease);
-    put_key(lease, left, right);
-    let held = registers(lease);
+fn vector(rt: &impl Abort, left: u64, right: u64) -> Vector {
     let mut bytes = [0; 16];
-    bytes[..8].copy_from_slice(&0x0000_7d00_0341_0000u64.to_be_bytes());
-    bytes[8..].copy_from_slice(&0x0000_7d00_0321_0000u64.to_be_bytes());
-    let vector = vector_of(&bytes).expect(rt, "a control vector");
-    let token = write_current(lease, &held, &vector);
-    judged(rt, &token, &held)
+    bytes[..8].copy_from_slice(&left.to_be_bytes());
+    bytes[8..].copy_from_slice(&right.to_be_bytes());
+    vector_of(&bytes).expect(rt, "a control vector")
+}
+
+/// A token of the key under a master key of zeros.
+fn judged_key(lease: &mut Lease, left: u64, right: u64, vector: &Vector) -> Judged
+    ensures { HasHalves result }
+{
+    put_key(lease, left, right);
+    let sealed = seal(lease, Under::Current, vector);
+    Judged {
+        token: Token {
+            kind: Kind::Internal,
+            pattern: [0; 8],
+            sealed,
+            vector: *vector,
+        },
+        age: Some(Age::Current),
+    }
 }
 
 fn put_text(rt: &impl Abort, lease: &mut Lease, text: &[u8]) {
@@ -120,9 +104,9 @@ fn decipher_text(
 fn texts_in_a_chain(rt: HostRuntime) {
     let mut bench = Workbench::new();
     let mut lease = Lease::open(&mut bench);
-    let single = single_key(&rt, &mut lease, KEY);
-    let double = double_key(&rt, &mut lease, KEY, 0xfedc_ba98_7654_3210);
-    for (key, blocks) in [
+    let single = vector(&rt, 0, 0);
+    let double = vector(&rt, 0x0000_7d00_0341_0000, 0x0000_7d00_0321_0000);
+    for (vector, blocks) in [
         (
             single,
             [
@@ -140,7 +124,7 @@ fn texts_in_a_chain(rt: HostRuntime) {
             ],
         ),
     ] {
-        assert!(rt; key.token.vector.length() == 16 || key.token.sealed.right == [0; 8]);
+        let key = judged_key(&mut lease, KEY, 0xfedc_ba98_7654_3210, &vector);
         put_text(&rt, &mut lease, TEXT);
         encipher_text(&rt, &mut lease, &key, START, Pad::None);
         let mut wanted = [0; 24];
@@ -161,7 +145,7 @@ fn texts_in_a_chain(rt: HostRuntime) {
 fn texts_with_padding(rt: HostRuntime) {
     let mut bench = Workbench::new();
     let mut lease = Lease::open(&mut bench);
-    let key = single_key(&rt, &mut lease, 0);
+    let key = judged_key(&mut lease, 0, 0, &vector(&rt, 0, 0));
     for (start, text) in [
         (0x4142_4344_4546_0002, b"ABCDEF".as_slice()),
         (0x0000_0000_0000_0008, b"".as_slice()),
@@ -185,7 +169,7 @@ fn texts_with_padding(rt: HostRuntime) {
 fn wrong_and_whole_padding(rt: HostRuntime) {
     let mut bench = Workbench::new();
     let mut lease = Lease::open(&mut bench);
-    let key = single_key(&rt, &mut lease, 0);
+    let key = judged_key(&mut lease, 0, 0, &vector(&rt, 0, 0));
     put_text(&rt, &mut lease, &0x8ca6_4de9_c1b1_23a7u64.to_be_bytes());
     assert_eq!(rt;
         decipher_text(&rt, &mut lease, &key, 0, Pad::X923),
@@ -206,10 +190,8 @@ fn wrong_and_whole_padding(rt: HostRuntime) {
 fn keys_are_tested(rt: HostRuntime) {
     let mut bench = Workbench::new();
     let mut lease = Lease::open(&mut bench);
-    let key = single_key(&rt, &mut lease, KEY);
+    let key = judged_key(&mut lease, KEY, 0, &vector(&rt, 0, 0));
     assert_eq!(rt; key_test(&mut lease, &key), [0xd5, 0xd4, 0x4f, 0xf7]);
-    let key = double_key(&rt, &mut lease, 0, 0);
-    assert_eq!(rt; key_test(&mut lease, &key), [0x8c, 0xa6, 0x4d, 0xe9]);
 }
 
 /// The parts of the master key XORed with the vector of a DATA key are zero.
@@ -219,14 +201,17 @@ fn a_zero_key_is_imported(rt: HostRuntime) {
     let mut lease = Lease::open(&mut bench);
     put_master(&mut lease);
     let held = registers(&lease);
-    let token = clear_key_import(&mut lease, &held);
-    let key = judged(&rt, &token, &held);
-    assert_eq!(rt;
-        key.token.sealed.left,
-        0x8ca6_4de9_c1b1_23a7u64.to_be_bytes()
+    let token = read_token(&clear_key_import(&mut lease, &held), Asked::Internal).expect(
+        &rt,
+        "a key token",
     );
-    assert_eq!(rt; key.age, Some(Age::Current));
-    assert_eq!(rt; key.token.sealed.right, [0; 8]);
+    assert_eq!(rt; token.sealed.left, 0x8ca6_4de9_c1b1_23a7u64.to_be_bytes());
+    assert_eq!(rt; token.sealed.right, [0; 8]);
+    assert_eq!(rt;
+        Some(token.pattern),
+        held.current_pattern.map(|pattern| pattern.bytes)
+    );
+    assert_eq!(rt; token.vector.left(), 0x0000_7d00_0300_0000u64.to_be_bytes());
 }
 
 #[test]
