@@ -1,6 +1,6 @@
 -- Texts enciphered and deciphered under a clear key, by cipher block chaining (FIPS 81), with or without the padding of
 -- ANSI X9.23.
-use Rattle.std.specs.Prelude.{◌≡◌, ℕ, List, [], ◌∷◌, ◌++◌, drop, replicate, take, Option, None, Some, is_none}
+use Rattle.std.specs.Prelude.{◌≡◌, ℕ, List, [], ◌∷◌, ◌++◌, drop, replicate, take, Option, Some, is_none}
 use Rattle.cca_vectors.specs.Checks.{Check, check}
 use Rattle.des_core.specs.Modes.{e, pad, unpad, une, zero_block}
 use Rattle.des_core.specs.Texts.{cbc_text, uncbc_text}
