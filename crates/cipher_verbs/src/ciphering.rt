@@ -1,5 +1,5 @@
 //! A text enciphered and deciphered under a key, in the place of the text.
-ghost use Rattle.std.specs.Prelude.{◌≡◌, ◌%◌, [], None, Some, OnOk, OnErr, length};
+ghost use Rattle.std.specs.Prelude.{◌≡◌, ◌≤◌, ◌%◌, [], None, Some, OnOk, OnErr, length};
 ghost use Rattle.cca_vectors.specs.Checks.{first_failing};
 ghost use Rattle.des_core.specs.Modes.{e, une};
 ghost use Rattle.des_core.specs.Texts.{cbc_text, text_in, uncbc_text};
@@ -31,6 +31,7 @@ fn encipher_whole(lease: &mut Lease, key: &Judged, start: &[u8; 8])
     ensures text { let clear = opened (bench_of lease.old) key.now in
         text_in lease.new
         ≡ cbc_text (e clear.key) start.now (text_in lease.old) }
+    ensures size { (bench_of lease.new).text.size ≡ (bench_of lease.old).text.size }
     ensures stays { ChangesText lease.old lease.new }
 {
     schedule_key(lease, key);
@@ -46,6 +47,7 @@ pub fn encipher(lease: &mut Lease, key: &Judged, start: &[u8; 8], padding: Pad)
     ensures text { let clear = opened (bench_of lease.old) key.now in
         text_in lease.new
         ≡ enciphered_text clear start.now padding (text_in lease.old) }
+    ensures room { (bench_of lease.new).text.size ≤ 4096 }
     ensures stays { ChangesText lease.old lease.new }
 {
     pad_text(lease, padding);
@@ -81,6 +83,7 @@ pub fn decipher(lease: &mut Lease, key: &Judged, start: &[u8; 8], padding: Pad) 
         OnOk result (deciphered_text clear start.now padding (text_in lease.old)
         ≡ Some (text_in lease.new)) }
     ensures refused { OnErr result ((bench_of lease.new).text ≡ cleared (bench_of lease.old).text) }
+    ensures room { (bench_of lease.new).text.size ≤ 4096 }
     ensures stays { ChangesText lease.old lease.new }
 {
     decipher_whole(lease, key, start);

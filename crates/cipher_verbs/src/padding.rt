@@ -56,6 +56,7 @@ fn add_padding(lease: &mut Lease)
     requires { (bench_of lease.old).text.size < 4096 }
     ensures whole { (bench_of lease.new).text.size % 8 ≡ 0 }
     ensures text { text_in lease.new ≡ pad (text_in lease.old) }
+    ensures room { (bench_of lease.new).text.size ≤ 4096 }
     ensures stays { lease.new
         ≡ holding lease.old (record (bench_of lease.old) { text = (bench_of lease.new).text }) }
 {
@@ -69,6 +70,7 @@ pub(crate) fn pad_text(lease: &mut Lease, padding: Pad)
     requires { first_failing (text_checks (enciphering padding) (bench_of lease.old).text.size) ≡ None }
     ensures whole { (bench_of lease.new).text.size % 8 ≡ 0 }
     ensures text { text_in lease.new ≡ padded padding (text_in lease.old) }
+    ensures room { (bench_of lease.new).text.size ≤ 4096 }
     ensures stays { lease.new
         ≡ holding lease.old (record (bench_of lease.old) { text = (bench_of lease.new).text }) }
 {
@@ -96,6 +98,7 @@ pub(crate) fn remove_padding(lease: &mut Lease) -> Result<(), Rule>
     ensures refused { OnErr result (unpad (text_in lease.old) ≡ None) }
     ensures rule { IfErr result (λ rule. rule ≡ Rule.PadCount) }
     ensures cleared { OnErr result ((bench_of lease.new).text ≡ cleared (bench_of lease.old).text) }
+    ensures room { (bench_of lease.new).text.size ≤ 4096 }
     ensures stays { lease.new
         ≡ holding lease.old (record (bench_of lease.old) { text = (bench_of lease.new).text }) }
 {
