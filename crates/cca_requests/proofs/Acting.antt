@@ -1,5 +1,5 @@
 -- From judged operands to what the machine makes of the request.
-use Rattle.std.proofs.Common.{◌≡◌, ℕ, Bool, true, false, ◌++◌, List, Option, None, Some, refl, sym, ap, ◌∙◌, codes}
+use Rattle.std.proofs.Common.{◌≡◌, ℕ, Bool, true, false, ◌++◌, List, Option, None, Some, refl, sym, ap, ◌∙◌, codes, [], subst}
 use Rattle.cca_vectors.specs.Checks.{first_failing}
 use Rattle.slot_disk.specs.Medium.{Medium, Keeps, Told}
 use Rattle.slot_disk.specs.Cells.{body}
@@ -91,13 +91,13 @@ verdict_operands s request v none is =
 
 -- ---- the act
 
+abbrev with_fields : State → Effect → List Field → Outcome
+with_fields s e fields = record { state = state_after s e; reply = Done fields; module_cell = cell_after s e; between = λ k. s }
+
 effected_plainly : (s : State) (request : Request) (e : Effect) → WarnsNot s request → effected s request e ≡ plainly s e
 effected_plainly s request e none =
     ap (λ (fields : List Field). with_fields s e fields)
     (ap (λ (b : Bool). fields_after s e ++ warning b) none ∙ append-nil (fields_after s e))
-  where
-    abbrev with_fields : State → Effect → List Field → Outcome
-    with_fields s e fields = record { state = state_after s e; reply = Done fields; module_cell = cell_after s e; between = λ k. s }
 
 by_verdict : (v : Option Refusal) (s : State) (drawn : List ℕ) (request : Request) → WarnsNot s request
     → or_act v s drawn request ≡ or_effected v s (effect s drawn request.name request)
@@ -165,7 +165,7 @@ any_old_are s bench os g granted =
 
 -- ---- what a verb decided
 
-drawn_zero : (v : Option Refusal) (n : ℕ) → n ≡ 0 → 0 ≡ drawn_where v n
+pub drawn_zero : (v : Option Refusal) (n : ℕ) → n ≡ 0 → 0 ≡ drawn_where v n
 drawn_zero (Some r) n zero = refl
 drawn_zero None n zero = sym zero
 

@@ -147,11 +147,10 @@ fn internal_key(classes: &[Class], usage: Option<Usage>) -> Need
 
 fn key_operand<'a>(key: &'a [u8], classes: &[Class], usage: Option<Usage>) -> Operands<'a>
     ensures { seen_operands result ≡ one_operand (record {
-        name = codes "key"; text = key.now; ask = Ask.Key (internal_key classes.now usage) }) }
+      name = codes "key";
+      text = key.now;
+      ask = Ask.Key (internal_key classes.now usage);
+    }) }
 {
-    Operands::one(Operand::new(
-        "key",
-        key,
-        Ask::Key(internal_key(classes, usage)),
-    ))
+    Operands::one(Operand::new("key", key, Ask::Key(internal_key(classes, usage))))
 }

@@ -129,7 +129,9 @@ fn carry_out<M: Disk, E: Entropy>(
             refuse(reply, refusal.rule, refusal.operand);
             Ok(())
         }
-        Ok(granted) => act(request, &granted, module, entropy, lease, held, roles, reply),
+        Ok(granted) => act(
+            request, &granted, module, entropy, lease, held, roles, reply,
+        ),
     }
 }
 
@@ -263,15 +265,7 @@ fn act<M: Disk, E: Entropy>(
     ensures loan { loan_of lease.new ≡ loan_of lease.old }
 {
     match decide(request, granted, entropy, lease, held, reply) {
-        Ok(effect) => carry(
-            &effect,
-            is_old(granted),
-            module,
-            lease,
-            held,
-            roles,
-            reply,
-        ),
+        Ok(effect) => carry(&effect, is_old(granted), module, lease, held, roles, reply),
         Err(stop) => Err(stop),
     }
 }
@@ -305,9 +299,7 @@ fn decide<E: Entropy>(
             csnbktp(token_in(&granted.first), reply);
             Ok(Effect::Shown)
         }
-        Request::Csnbenc {
-            iv, pad, text, ..
-        } => Ok(csnbenc(
+        Request::Csnbenc { iv, pad, text, .. } => Ok(csnbenc(
             key_in(&granted.first),
             iv,
             pad,
@@ -315,9 +307,7 @@ fn decide<E: Entropy>(
             lease,
             reply,
         )),
-        Request::Csnbdec {
-            iv, pad, text, ..
-        } => Ok(csnbdec(
+        Request::Csnbdec { iv, pad, text, .. } => Ok(csnbdec(
             key_in(&granted.first),
             iv,
             pad,
@@ -326,25 +316,17 @@ fn decide<E: Entropy>(
             reply,
         )),
         Request::Csnbmgn {
-            rule, length, text, ..
-        } => Ok(csnbmgn(
-            key_in(&granted.first),
             rule,
             length,
             text,
-            lease,
-            reply,
-        )),
+            ..
+        } => Ok(csnbmgn(key_in(&granted.first), rule, length, text, lease, reply)),
         Request::Csnbmvr {
-            rule, mac, text, ..
-        } => Ok(csnbmvr(
-            key_in(&granted.first),
             rule,
             mac,
             text,
-            lease,
-            reply,
-        )),
+            ..
+        } => Ok(csnbmvr(key_in(&granted.first), rule, mac, text, lease, reply)),
         Request::Csnbkyt { .. } => {
             csnbkyt(key_in(&granted.first), lease, reply);
             Ok(Effect::Shown)

@@ -1,8 +1,9 @@
 -- Texts enciphered and deciphered under a clear key, by cipher block chaining (FIPS 81), with or without the padding of
 -- ANSI X9.23.
-use Rattle.std.specs.Prelude.{◌≡◌, ℕ, List, [], ◌∷◌, ◌++◌, drop, replicate, take, Option, None, Some, is_none}
+use Rattle.std.specs.Prelude.{◌≡◌, ℕ, List, [], ◌∷◌, ◌++◌, drop, replicate, take, Option, Some, is_none}
 use Rattle.cca_vectors.specs.Checks.{Check, check}
-use Rattle.des_core.specs.Modes.{blocks, cbc, e, joined, pad, unpad, uncbc, une, zero_block}
+use Rattle.des_core.specs.Modes.{e, pad, unpad, une, zero_block}
+use Rattle.des_core.specs.Texts.{cbc_text, uncbc_text}
 use Rattle.key_cells.specs.Bench.{Text}
 use Rattle.key_cells.specs.Lease.{bench_of, holding}
 use Rattle.key_cells.specs.declared.leases.Lease.{Lease}
@@ -29,11 +30,11 @@ unpadded padding.X923 text = unpad text
 
 -- the text enciphered under a key in a chain from a start
 abbrev pub enciphered_text : ClearKey → List ℕ → Pad → List ℕ → List ℕ
-enciphered_text clear start padding text = joined (cbc (e clear.key) start (blocks (padded padding text)))
+enciphered_text clear start padding text = cbc_text (e clear.key) start (padded padding text)
 
 -- the text deciphered under a key in a chain from a start
 abbrev pub deciphered_text : ClearKey → List ℕ → Pad → List ℕ → Option (List ℕ)
-deciphered_text clear start padding text = unpadded padding (joined (uncbc (une clear.key) start (blocks text)))
+deciphered_text clear start padding text = unpadded padding (uncbc_text (une clear.key) start text)
 
 -- rule 31: the last byte of the deciphered text is no count of padding
 abbrev pub pad_checks : ClearKey → List ℕ → Pad → List ℕ → List Check

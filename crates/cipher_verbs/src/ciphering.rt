@@ -1,9 +1,9 @@
 //! A text enciphered and deciphered under a key, in the place of the text.
 ghost use Rattle.std.specs.Prelude.{◌≡◌, ◌≤◌, ◌%◌, [], None, Some, OnOk, OnErr, length};
-ghost use Rattle.byte_lists.specs.Bytes.{AreBytes};
 ghost use Rattle.cca_vectors.specs.Checks.{first_failing};
-ghost use Rattle.des_core.specs.Modes.{blocks, cbc, e, joined, uncbc, une};
-ghost use Rattle.key_cells.specs.Bench.{text_of, with_text};
+ghost use Rattle.des_core.specs.Modes.{e, une};
+ghost use Rattle.des_core.specs.Texts.{cbc_text, text_in, uncbc_text};
+ghost use Rattle.key_cells.specs.Bench.{with_text};
 ghost use Rattle.key_cells.specs.Lease.{bench_of};
 ghost use Rattle.verb_rules.specs.declared.lengths.TextUse.{TextUse};
 ghost use Rattle.verb_rules.specs.Keys.{HasHalves, opened};
@@ -17,18 +17,11 @@ use des_core::{cbc_decipher, cbc_encipher};
 use key_cells::Lease;
 use verb_rules::{Judged, Rule, TextUse};
 
-/// The elements of a text are bytes: a fact that contracts use.
-fn are_bytes(bytes: &[u8])
-    ensures { AreBytes (length bytes.now) bytes.now }
+/// The text of a lease has its length: a fact that contracts use.
+fn text_has_length(lease: &Lease)
+    ensures { length (text_in lease.now) ≡ (bench_of lease.now).text.size }
 {
-    let _count = bytes.len();
-}
-
-/// The text of a lease has its length and is of bytes: a fact that contracts use.
-fn text_is_bytes(lease: &Lease)
-    ensures { AreBytes (bench_of lease.now).text.size (text_of (bench_of lease.now).text) }
-{
-    are_bytes(lease.text());
+    let _text = lease.text();
 }
 
 /// Enciphers a text of whole blocks under a key in a chain from a start.
@@ -36,12 +29,11 @@ fn encipher_whole(lease: &mut Lease, key: &Judged, start: &[u8; 8])
     requires halves { HasHalves key.now }
     requires whole { (bench_of lease.old).text.size % 8 ≡ 0 }
     ensures text { let clear = opened (bench_of lease.old) key.now in
-        text_of (bench_of lease.new).text
-        ≡ joined (cbc (e clear.key) start.now (blocks (text_of (bench_of lease.old).text))) }
+        text_in lease.new
+        ≡ cbc_text (e clear.key) start.now (text_in lease.old) }
     ensures size { (bench_of lease.new).text.size ≡ (bench_of lease.old).text.size }
     ensures stays { ChangesText lease.old lease.new }
 {
-    text_is_bytes(lease);
     schedule_key(lease, key);
     cbc_encipher(lease, start);
 }
@@ -53,8 +45,8 @@ pub fn encipher(lease: &mut Lease, key: &Judged, start: &[u8; 8], padding: Pad)
     requires halves { HasHalves key.now }
     requires length { first_failing (text_checks (enciphering padding) (bench_of lease.old).text.size) ≡ None }
     ensures text { let clear = opened (bench_of lease.old) key.now in
-        text_of (bench_of lease.new).text
-        ≡ enciphered_text clear start.now padding (text_of (bench_of lease.old).text) }
+        text_in lease.new
+        ≡ enciphered_text clear start.now padding (text_in lease.old) }
     ensures room { (bench_of lease.new).text.size ≤ 4096 }
     ensures stays { ChangesText lease.old lease.new }
 {
@@ -67,17 +59,16 @@ fn decipher_whole(lease: &mut Lease, key: &Judged, start: &[u8; 8])
     requires halves { HasHalves key.now }
     requires whole { (bench_of lease.old).text.size % 8 ≡ 0 }
     ensures text { let clear = opened (bench_of lease.old) key.now in
-        text_of (bench_of lease.new).text
-        ≡ joined (uncbc (une clear.key) start.now (blocks (text_of (bench_of lease.old).text))) }
-    ensures place { let text = text_of (bench_of lease.new).text in
+        text_in lease.new
+        ≡ uncbc_text (une clear.key) start.now (text_in lease.old) }
+    ensures place { let text = text_in lease.new in
         (bench_of lease.new).text ≡ with_text (bench_of lease.old).text text
         × length text ≡ (bench_of lease.old).text.size }
     ensures stays { ChangesText lease.old lease.new }
 {
-    text_is_bytes(lease);
     schedule_key(lease, key);
     cbc_decipher(lease, start);
-    text_is_bytes(lease);
+    text_has_length(lease);
 }
 
 /// Deciphers the text under the clear key of a judged internal token, in a chain from a start, in place, and takes
@@ -87,10 +78,10 @@ pub fn decipher(lease: &mut Lease, key: &Judged, start: &[u8; 8], padding: Pad) 
     requires halves { HasHalves key.now }
     requires length { first_failing (text_checks TextUse.Decipher (bench_of lease.old).text.size) ≡ None }
     ensures judges { let clear = opened (bench_of lease.old) key.now in
-        Judges (pad_checks clear start.now padding (text_of (bench_of lease.old).text)) result }
+        Judges (pad_checks clear start.now padding (text_in lease.old)) result }
     ensures text { let clear = opened (bench_of lease.old) key.now in
-        OnOk result (deciphered_text clear start.now padding (text_of (bench_of lease.old).text)
-        ≡ Some (text_of (bench_of lease.new).text)) }
+        OnOk result (deciphered_text clear start.now padding (text_in lease.old)
+        ≡ Some (text_in lease.new)) }
     ensures refused { OnErr result ((bench_of lease.new).text ≡ cleared (bench_of lease.old).text) }
     ensures room { (bench_of lease.new).text.size ≤ 4096 }
     ensures stays { ChangesText lease.old lease.new }

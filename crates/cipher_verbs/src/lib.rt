@@ -13,3 +13,6 @@ pub use importing::clear_key_import;
 pub use padding::Pad;
 pub use random::{RandomForm, random_number};
 pub use testing::key_test;
+
+#[cfg(test)]
+mod tests;

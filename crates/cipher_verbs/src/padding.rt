@@ -2,13 +2,13 @@
 ghost use Rattle.std.specs.Prelude.{◌≡◌, ◌≤◌, ◌<◌, ◌+◌, ◌-◌, ◌%◌, ◌++◌, ◌∷◌, [], None, Some, OnOk, OnErr, IfErr, length, replicate, take};
 ghost use Rattle.cca_vectors.specs.Checks.{first_failing};
 ghost use Rattle.verb_rules.specs.LengthChecks.{text_checks};
-ghost use Rattle.key_cells.specs.Bench.{text_of};
 ghost use Rattle.key_cells.specs.Lease.{bench_of, holding};
 ghost use Rattle.des_core.specs.Modes.{pad, unpad};
+ghost use Rattle.des_core.specs.Texts.{text_in};
 ghost use Rattle.cipher_verbs.specs.CipherTexts.{cleared, enciphering, padded};
 
 use key_cells::Lease;
-use verb_rules::Rule;
+use verb_rules::{Rule, TextUse};
 
 /// How many bytes a block has.
 const BLOCK: usize = 8;
@@ -20,6 +20,21 @@ pub enum Pad {
     None,
     /// By the padding of ANSI X9.23: 1 to 8 bytes more, zeros and last their number.
     X923,
+}
+
+impl Pad {
+    ghost use Rattle.std.specs.Prelude.{◌≡◌};
+    ghost use Rattle.cipher_verbs.specs.CipherTexts.{enciphering};
+
+    /// What a text is given for that is enciphered with this padding.
+    pub fn use_of(self) -> TextUse
+        ensures { result ≡ enciphering self }
+    {
+        match self {
+            Pad::None => TextUse::EncipherPlain,
+            Pad::X923 => TextUse::EncipherPadded,
+        }
+    }
 }
 
 /// Writes zeros over the end of a text from a place on, and last how many bytes are written.
@@ -40,8 +55,8 @@ fn put_padding(text: &mut [u8], at: usize)
 fn add_padding(lease: &mut Lease)
     requires { (bench_of lease.old).text.size < 4096 }
     ensures whole { (bench_of lease.new).text.size % 8 ≡ 0 }
+    ensures text { text_in lease.new ≡ pad (text_in lease.old) }
     ensures room { (bench_of lease.new).text.size ≤ 4096 }
-    ensures text { text_of (bench_of lease.new).text ≡ pad (text_of (bench_of lease.old).text) }
     ensures stays { lease.new
         ≡ holding lease.old (record (bench_of lease.old) { text = (bench_of lease.new).text }) }
 {
@@ -54,8 +69,8 @@ fn add_padding(lease: &mut Lease)
 pub(crate) fn pad_text(lease: &mut Lease, padding: Pad)
     requires { first_failing (text_checks (enciphering padding) (bench_of lease.old).text.size) ≡ None }
     ensures whole { (bench_of lease.new).text.size % 8 ≡ 0 }
+    ensures text { text_in lease.new ≡ padded padding (text_in lease.old) }
     ensures room { (bench_of lease.new).text.size ≤ 4096 }
-    ensures text { text_of (bench_of lease.new).text ≡ padded padding (text_of (bench_of lease.old).text) }
     ensures stays { lease.new
         ≡ holding lease.old (record (bench_of lease.old) { text = (bench_of lease.new).text }) }
 {
@@ -79,8 +94,8 @@ fn clear_text(lease: &mut Lease)
 pub(crate) fn remove_padding(lease: &mut Lease) -> Result<(), Rule>
     requires blocks { BLOCK ≤ (bench_of lease.old).text.size }
     requires room { (bench_of lease.old).text.size ≤ 4096 }
-    ensures text { OnOk result (unpad (text_of (bench_of lease.old).text) ≡ Some (text_of (bench_of lease.new).text)) }
-    ensures refused { OnErr result (unpad (text_of (bench_of lease.old).text) ≡ None) }
+    ensures text { OnOk result (unpad (text_in lease.old) ≡ Some (text_in lease.new)) }
+    ensures refused { OnErr result (unpad (text_in lease.old) ≡ None) }
     ensures rule { IfErr result (λ rule. rule ≡ Rule.PadCount) }
     ensures cleared { OnErr result ((bench_of lease.new).text ≡ cleared (bench_of lease.old).text) }
     ensures room { (bench_of lease.new).text.size ≤ 4096 }

@@ -1,5 +1,5 @@
 -- A clear key in 16 bytes, and its schedules.
-use Rattle.std.proofs.Common.{◌≡◌, ◌⊎◌, ℕ, ◌+◌, ◌-◌, ◌<◌, ◌≤◌, Bool, true, false, List, [], ◌++◌, length, take, drop, eqb, replicate, refl, sym, ap, ◌∙◌, subst, ⊎_elim, arith}
+use Rattle.std.proofs.Common.{◌≡◌, ℕ, ◌-◌, ◌<◌, ◌≤◌, Bool, true, false, List, [], ◌++◌, length, take, drop, eqb, replicate, sym, ap, ◌∙◌, subst, ⊎_elim, arith}
 use Rattle.std.specs.Prelude.{slice_range, if◌then◌else◌}
 use Rattle.std.proofs.lemmas.Bool.{eq-eqb, ne_eqb}
 use Rattle.std.proofs.lemmas.List.{append-nil, take_all, take-append-le, length-append, length-drop, length-take-le}
@@ -12,7 +12,7 @@ use Rattle.multi_encipher.specs.declared.halves.Sealed.{Sealed}
 use Rattle.multi_encipher.specs.Bundles.{key_in, with_zeros}
 use Rattle.multi_encipher.specs.Seals.{IsKey, opened_half, unseal}
 use Rattle.multi_encipher.proofs.SealLaws.{bytes-opened_half, length_of-cases, unseal-single, unseal-double}
-use Rattle.clear_keys.specs.Scheduled.{HoldKey, left_key, right_key}
+use Rattle.clear_keys.specs.Scheduled.{HoldKey, right_key}
 
 bytes_joined : (left right : List ℕ) → AreBytes 8 left → AreBytes 8 right → AreBytes 16 (left ++ right)
 bytes_joined left right lefts rights = record {

@@ -2,8 +2,6 @@
 use Rattle.std.proofs.Common.{◌≡◌, ℕ, zero, suc, ◌+◌, ◌%◌, ◌<◌, true, List, [], ◌∷◌, ◌++◌, length, get_or, set, map, take, drop, eqb, refl, sym, ap, ◌∙◌, arith, add-one}
 use Rattle.std.specs.Prelude.{count_ones}
 use Rattle.std.proofs.lemmas.Bool.{agree_below_at, eqb-true}
-use Rattle.cca_vectors.specs.Vectors.{IsEven}
-use Rattle.cca_vectors.specs.Bits.{even_byte}
 use Rattle.clear_keys.specs.Parity.{odd_byte, IsOdd}
 
 pub odd_byte_odd : (byte : ℕ) → byte < 256 → IsOdd (odd_byte byte)

@@ -1,16 +1,16 @@
 -- The token of a clear key under the current master key.
-use Rattle.std.proofs.Common.{◌≡◌, ◌≢◌, ℕ, List, [], Option, None, Some, refl, sym, ap, ◌∙◌, subst}
+use Rattle.std.proofs.Common.{◌≡◌, ℕ, List, [], Option, None, Some, sym, ap, ◌∙◌}
 use Rattle.byte_lists.specs.Bytes.{AreBytes}
 use Rattle.key_cells.specs.Bench.{Bench}
 use Rattle.key_tokens.specs.declared.key_token.Age.TheVariants.{Current}
 use Rattle.key_tokens.specs.declared.key_token.Kind.TheVariants.{Internal}
 use Rattle.key_tokens.specs.declared.key_token.Token.{Token}
-use Rattle.key_tokens.specs.Denotes.{ClearKey, MasterKey, MasterKeys, Denoted, HaveDistinctPatterns, denoted}
+use Rattle.key_tokens.specs.Denotes.{ClearKey, MasterKey, Denoted, HaveDistinctPatterns, denoted}
 use Rattle.key_tokens.specs.Layout.{IsToken, made}
 use Rattle.key_tokens.proofs.DenotedKeys.{denotes_one}
 use Rattle.multi_encipher.specs.Seals.{IsKey, seal}
 use Rattle.master_registers.specs.Masters.{Masters, IsMasters, AreApart, pattern_of_master, kept_bytes}
-use Rattle.master_registers.specs.Loaded.{Loaded, pattern_in, registers_of}
+use Rattle.master_registers.specs.Loaded.{Loaded, pattern_in}
 use Rattle.master_registers.specs.declared.registers.Registers.{Registers}
 use Rattle.master_registers.specs.declared.patterns.Pattern.{Pattern}
 use Rattle.verb_rules.specs.Keys.{keys_of, master_key, sealed_token, token_for}

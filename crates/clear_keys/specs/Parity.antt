@@ -1,6 +1,5 @@
 -- Odd and even parity of key bytes, set by the low-order bit of each byte.
 use Rattle.std.specs.Prelude.{◌≡◌, ℕ, ◌+◌, ◌*◌, ◌/◌, ◌%◌, count_ones}
-use Rattle.cca_vectors.specs.Bits.{even_byte}
 
 -- a byte with its last bit chosen so that its number of ones is odd
 abbrev pub odd_byte : ℕ → ℕ

@@ -12,3 +12,5 @@ pub use parity::{set_even_parity, set_odd_parity};
 pub use scheduling::schedule_key;
 pub use writing::write_current;
 
+#[cfg(test)]
+mod tests;

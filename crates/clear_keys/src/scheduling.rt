@@ -69,7 +69,7 @@ fn schedule_right(lease: &mut Lease, single: bool)
         IsOf (schedule_at bench.schedules 0) (slice_range bench.key 0 8) }
     ensures made { let key = (bench_of lease.old).key in
         IsOf (schedule_at (bench_of lease.new).schedules 1)
-            (if single then slice_range key 0 8 else slice_range key 8 16) }
+        (if single then slice_range key 0 8 else slice_range key 8 16) }
     ensures others { let schedules = (bench_of lease.new).schedules in
         schedules ≡ slice_set (bench_of lease.old).schedules 1 (schedule_at schedules 1) }
     ensures stays { ChangesSchedules lease.old lease.new }

@@ -1,5 +1,5 @@
 -- The length of the key of a code, and the schedules that hold it.
-use Rattle.std.proofs.Common.{◌≡◌, ◌∙◌, ℕ, ◌≤◌, List, [], length, take, drop, eqb, None, sym, ap, subst, arith}
+use Rattle.std.proofs.Common.{◌≡◌, ℕ, List, [], length, take, drop, eqb, None, sym, subst, arith}
 use Rattle.std.proofs.lemmas.Bool.{eqb-true}
 use Rattle.std.proofs.lemmas.List.{take_all}
 use Rattle.cca_vectors.specs.Checks.{first_failing}
@@ -8,7 +8,7 @@ use Rattle.des_core.specs.Schedules.{IsOf, schedule_at}
 use Rattle.key_cells.specs.declared.schedules.Schedule.{Schedule}
 use Rattle.verb_rules.specs.declared.lengths.MacRule.{MacRule}
 use Rattle.verb_rules.specs.LengthChecks.{mac_checks, mac_key_length}
-use Rattle.clear_keys.specs.Scheduled.{HoldKey, right_key}
+use Rattle.clear_keys.specs.Scheduled.{HoldKey}
 use Rattle.clear_keys.proofs.KeyLemmas.{double_right}
 
 pub mac_length : (rule : MacRule) (size : ℕ) → first_failing (mac_checks rule size) ≡ None → size ≡ mac_key_length rule

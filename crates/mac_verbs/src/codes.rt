@@ -2,7 +2,7 @@
 ghost use Rattle.std.specs.Prelude.{◌≡◌, ◌≤◌, ◌<◌, None, length, take};
 ghost use Rattle.cca_vectors.specs.Checks.{first_failing};
 ghost use Rattle.cca_vectors.specs.Vectors.{length_of};
-ghost use Rattle.key_cells.specs.Bench.{text_of};
+ghost use Rattle.des_core.specs.Texts.{text_in};
 ghost use Rattle.key_cells.specs.Lease.{bench_of};
 ghost use Rattle.multi_encipher.specs.Bundles.{ChangesKeyAt};
 ghost use Rattle.verb_rules.specs.declared.lengths.TextUse.{TextUse};
@@ -21,8 +21,8 @@ pub fn mac_generate(lease: &mut Lease, key: &Judged, rule: MacRule) -> [u8; 8]
     requires halves { HasHalves key.now }
     requires text { first_failing (text_checks TextUse.Mac (bench_of lease.old).text.size) ≡ None }
     requires key { first_failing (mac_checks rule (length_of key.now.token.vector)) ≡ None }
-    ensures code { let bench = bench_of lease.old in
-        result ≡ code_of rule (opened bench key.now) (text_of bench.text) }
+    ensures code { let clear = opened (bench_of lease.old) key.now in
+        result ≡ code_of rule clear (text_in lease.old) }
     ensures stays { ChangesKeyAt KeyPlace.Key lease.old lease.new }
 {
     schedule_key(lease, key);
@@ -49,8 +49,8 @@ pub fn mac_verify(lease: &mut Lease, key: &Judged, rule: MacRule, mac: &[u8]) ->
     requires key { first_failing (mac_checks rule (length_of key.now.token.vector)) ≡ None }
     requires shortest { 4 ≤ length mac.now }
     requires longest { length mac.now ≤ 8 }
-    ensures same { let bench = bench_of lease.old in
-        result ≡ is_code rule (opened bench key.now) (text_of bench.text) mac.now }
+    ensures same { let clear = opened (bench_of lease.old) key.now in
+        result ≡ is_code rule clear (text_in lease.old) mac.now }
     ensures stays { ChangesKeyAt KeyPlace.Key lease.old lease.new }
 {
     let code = mac_generate(lease, key, rule);

@@ -4,3 +4,6 @@
 mod codes;
 
 pub use codes::{mac_generate, mac_verify};
+
+#[cfg(test)]
+mod tests;

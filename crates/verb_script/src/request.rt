@@ -369,6 +369,77 @@ mod tests {
     const PART: &[u8] = b"0102030405060708090A0b0c0d0e0f101112131415161718";
 
     #[test]
+    fn lines_over_keys_are_parsed(rt: HostRuntime) {
+        let role = RoleName::default_role();
+        let key: &[u8] =
+            b"T:020000000000c00000000000000000008ca64de9c1b123a700000000000000000000000000000000000000000000000000000000000000000000000050583190";
+        let lines: [(&[u8], Request); 7] = [
+            (
+                b"CSNBENC role=DEFAULT key=T:020000000000c00000000000000000008ca64de9c1b123a700000000000000000000000000000000000000000000000000000000000000000000000050583190 iv=0000000000000000 pad=NONE text=0123456789abcdef",
+                Request::Csnbenc {
+                    role,
+                    key,
+                    iv: b"0000000000000000",
+                    pad: b"NONE",
+                    text: b"0123456789abcdef",
+                },
+            ),
+            (
+                b"CSNBDEC role=DEFAULT key=T:020000000000c00000000000000000008ca64de9c1b123a700000000000000000000000000000000000000000000000000000000000000000000000050583190 iv=fedcba9876543210 pad=X9.23 text=",
+                Request::Csnbdec {
+                    role,
+                    key,
+                    iv: b"fedcba9876543210",
+                    pad: b"X9.23",
+                    text: b"",
+                },
+            ),
+            (
+                b"CSNBMGN role=DEFAULT key=T:020000000000c00000000000000000008ca64de9c1b123a700000000000000000000000000000000000000000000000000000000000000000000000050583190 rule=X9.9-1 length=4 text=00",
+                Request::Csnbmgn {
+                    role,
+                    key,
+                    rule: b"X9.9-1",
+                    length: b"4",
+                    text: b"00",
+                },
+            ),
+            (
+                b"CSNBMVR role=DEFAULT key=T:020000000000c00000000000000000008ca64de9c1b123a700000000000000000000000000000000000000000000000000000000000000000000000050583190 rule=X9.19OPT mac=0123456789AB text=00",
+                Request::Csnbmvr {
+                    role,
+                    key,
+                    rule: b"X9.19OPT",
+                    mac: b"0123456789AB",
+                    text: b"00",
+                },
+            ),
+            (
+                b"CSNBKYT role=DEFAULT key=T:020000000000c00000000000000000008ca64de9c1b123a700000000000000000000000000000000000000000000000000000000000000000000000050583190",
+                Request::Csnbkyt { role, key },
+            ),
+            (
+                b"CSNBCKI role=DEFAULT clear=0123456789abcdef to=-",
+                Request::Csnbcki {
+                    role,
+                    clear: b"0123456789abcdef",
+                    to: b"-",
+                },
+            ),
+            (
+                b"CSNBRNG role=DEFAULT form=EVEN",
+                Request::Csnbrng {
+                    role,
+                    form: b"EVEN",
+                },
+            ),
+        ];
+        for (line, request) in lines {
+            assert!(rt; parse_request(line) == Ok(request));
+        }
+    }
+
+    #[test]
     fn lines_of_each_row_are_parsed(rt: HostRuntime) {
         let role = RoleName::default_role();
         let teller = RoleName::read(b"TELLER").unwrap();
@@ -449,7 +520,7 @@ mod tests {
 
     #[test]
     fn other_lines_are_no_requests(rt: HostRuntime) {
-        let lines: [&[u8]; 22] = [
+        let lines: [&[u8]; 26] = [
             b"",
             b"CSNBKTP",
             b"CSNBKTP role=DEFAULT token=0200",
@@ -466,6 +537,10 @@ mod tests {
             b"CSNBMKP role=DEFAULT action=FIRST",
             b"CSNBMKP role=DEFAULT action=FIRST part=0102030405060708090a0b0c0d0e0f10111213141516171",
             b"CSNBMKP role=DEFAULT action=FIRST part=0102030405060708090a0b0c0d0e0f1011121314151617180",
+            b"CSNBKYT role=DEFAULT key=T:00",
+            b"CSNBRNG role=DEFAULT form=NONE",
+            b"CSNBCKI role=DEFAULT clear=0123456789abcdef to=",
+            b"CSNBENC role=DEFAULT key=T:020000000000c00000000000000000008ca64de9c1b123a700000000000000000000000000000000000000000000000000000000000000000000000050583190 iv=0000000000000000 pad=NONE text=0",
             b"CSUAACI role=DEFAULT action=REMOVE name=DEFAULT",
             b"CSUAACI role=DEFAULT action=REMOVE name=teller",
             b"CSUAACI role=DEFAULT action=DEFINE name=TELLER points=04000000",

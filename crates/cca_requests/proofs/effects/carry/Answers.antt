@@ -1,4 +1,4 @@
-use Rattle.std.proofs.Common.{◌≡◌, ◌∙◌, ◌++◌, None, Some, List, ℕ, Bool, [], Result, Ok, refl, sym, subst, ap}
+use Rattle.std.proofs.Common.{◌≡◌, ◌∙◌, ◌++◌, None, Bool, Ok, refl, sym, subst, ap}
 use Rattle.key_cells.specs.Lease.{bench_of}
 use Rattle.master_registers.specs.Actions.{after_action}
 use Rattle.master_registers.specs.Loaded.{masters_in}
@@ -17,7 +17,7 @@ use Rattle.cca_requests.proofs.effects.carry.Goals as goal
 pub returns-in-Refused-clause-carries : goal.returns-in-Refused-clause-carries
 returns-in-Refused-clause-carries g c = λ s request drawn at old decided.
     let left = subst (λ e. IsDecided s (bench_of c.args.lease.now) drawn request e c.args.reply.now) c.in-Refused.is decided in
-    let r = refusal (rule_number c.in-Refused.field-0) c.in-Refused.field-1.now in
+    let r = refusal (rule_number c.in-Refused.rule) c.in-Refused.operand.now in
     let m = g.M.Disk.medium c.args.module.now in
     subst (λ (o : Outcome). Carries o s (Ok tt) c.refuse.new.reply c.args.roles.now m m) (sym (refused_is (verb_verdict s request) r s drawn request left))
     (still_carries (refused s r) s (Ok tt) c.refuse.new.reply c.args.roles.now m refl c.refuse.ensures tt c.requires.at.settled at.stands)

@@ -1,16 +1,14 @@
-use Rattle.std.proofs.Common.{◌≡◌, ◌∙◌, ◌<◌, List, ℕ, [], Option, None, Some, refl, sym, ap, subst, inl}
+use Rattle.std.proofs.Common.{◌≡◌, ◌∙◌, ◌<◌, Option, None, refl, sym, ap, subst, inl}
 use Rattle.key_cells.specs.Lease.{bench_of}
 use Rattle.master_registers.specs.Loaded.{Loaded}
 use Rattle.slot_disk.proofs.Media.{keeps_still}
-use Rattle.line_service.specs.declared.stops.Stop.TheVariants.{EntropyFault}
 use Rattle.verb_script.specs.Parsed.{seen}
 use Rattle.cca_machine.specs.Act.{Outcome, draws}
-use Rattle.cca_machine.specs.Lines.{drawn_where, taken_by}
+use Rattle.cca_machine.specs.Lines.{drawn_where}
 use Rattle.cca_machine.specs.Operands.{operands}
 use Rattle.cca_machine.specs.Verdict.{Refusal, verb_verdict}
 use Rattle.cca_requests.specs.Serving.{Carries, IsFault}
 use Rattle.cca_requests.proofs.Acting.{loaded_places, any_old_are, draws_none}
-use Rattle.cca_requests.proofs.Changing.{failed_left}
 use Rattle.cca_requests.proofs.Serving.{performed_by, stopped_serves}
 use Rattle.cca_requests.proofs.performing.act.Goals as goal
 

@@ -1,8 +1,6 @@
-use Rattle.std.proofs.Common.{◌≡◌, ◌∙◌, ◌%◌, length, ap, sym}
-use Rattle.des_core.specs.Modes.{blocks, cbc, joined}
-use Rattle.key_cells.specs.Bench.{text_of}
+use Rattle.std.proofs.Common.{◌∙◌, ap}
+use Rattle.des_core.specs.Texts.{cbc_text, text_in}
 use Rattle.key_cells.specs.Lease.{bench_of}
-use Rattle.multi_encipher.proofs.SealLaws.{bytes_from}
 use Rattle.verb_rules.specs.Keys.{opened}
 use Rattle.clear_keys.specs.Scheduled.{left_key, right_key}
 use Rattle.clear_keys.proofs.ModeLemmas.{ede_of, enciphered_chain, key_length}
@@ -11,9 +9,6 @@ use Rattle.cipher_verbs.proofs.ciphering.encipher_whole.Goals as goal
 pub returns-clause-text : goal.returns-clause-text
 returns-clause-text c =
     let key = (opened (bench_of c.args.lease.now) c.args.key.now).key in
-    let text = text_of (bench_of c.args.lease.now).text in
-    let whole : length text % 8 ≡ 0 = ap (λ n. n % 8) c.text_is_bytes.ensures.size ∙ c.requires.whole in
     c.cbc_encipher.ensures.keys (left_key key) (right_key key) (left_key key) c.schedule_key.ensures.schedules
-    ∙ (ap (λ l. joined (cbc (ede_of key) c.args.start.now (blocks (text_of (bench_of l).text)))) c.schedule_key.ensures.stays
-    ∙ enciphered_chain key c.args.start.now text (key_length c.args.key.now.token.vector key c.schedule_key.ensures.length)
-    (bytes_from 8 c.args.start.now c.told-start c.fits-start) whole c.text_is_bytes.ensures.each)
+    ∙ (ap (λ l. cbc_text (ede_of key) c.args.start.now (text_in l)) c.schedule_key.ensures.stays
+    ∙ enciphered_chain key c.args.start.now (text_in c.args.lease.now) (key_length c.args.key.now.token.vector key c.schedule_key.ensures.length))

@@ -1,4 +1,4 @@
-use Rattle.std.proofs.Common.{◌≡◌, Option, None, Some, Result, Ok, Err, refl}
+use Rattle.std.proofs.Common.{◌≡◌, None, Some, Result, Ok, Err, refl}
 use Rattle.std.specs.Prelude.{IsOk, IfErr}
 use lib.Count.{ones}
 use Rattle.cca_vectors.specs.Checks.{first_failing}

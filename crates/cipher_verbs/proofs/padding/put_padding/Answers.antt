@@ -1,5 +1,5 @@
-use Rattle.std.proofs.Common.{◌≡◌, ◌∙◌, ℕ, ◌-◌, List, [], ◌∷◌, ◌++◌, length, replicate, take, drop, set, refl, sym, ap, arith}
-use Rattle.std.proofs.lemmas.List.{length-append, length-take, length-drop, length-replicate}
+use Rattle.std.proofs.Common.{◌≡◌, ◌∙◌, ℕ, ◌-◌, [], ◌∷◌, ◌++◌, length, replicate, take, drop, refl, ap, arith}
+use Rattle.std.proofs.lemmas.List.{length-take, length-drop}
 use Rattle.cipher_verbs.proofs.PaddingLemmas.{padded_end}
 use Rattle.cipher_verbs.proofs.padding.put_padding.Goals as goal
 

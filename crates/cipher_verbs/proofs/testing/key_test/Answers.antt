@@ -1,4 +1,4 @@
-use Rattle.std.proofs.Common.{◌≡◌, ◌∙◌, take, ap, subst, sym}
+use Rattle.std.proofs.Common.{◌∙◌, take, ap, subst, sym}
 use Rattle.des_core.specs.Modes.{zero_block}
 use Rattle.key_cells.specs.Lease.{bench_of}
 use Rattle.multi_encipher.proofs.SealLaws.{all_zeros}

@@ -1,4 +1,4 @@
-use Rattle.std.proofs.Common.{◌≡◌, ◌∙◌, ap}
+use Rattle.std.proofs.Common.{◌∙◌, ap}
 use Rattle.key_cells.specs.Lease.{bench_of}
 use Rattle.multi_encipher.specs.Bundles.{with_zeros}
 use Rattle.multi_encipher.specs.Seals.{unseal}

@@ -1,4 +1,3 @@
-use Rattle.std.proofs.Common.{◌<◌, arith}
 use Rattle.cca_vectors.proofs.Validity.{even_byte_even}
 use Rattle.clear_keys.proofs.parity.even.Goals as goal
 

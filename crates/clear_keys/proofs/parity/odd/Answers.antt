@@ -1,4 +1,3 @@
-use Rattle.std.proofs.Common.{◌<◌, arith}
 use Rattle.clear_keys.proofs.ParityLemmas.{odd_byte_odd}
 use Rattle.clear_keys.proofs.parity.odd.Goals as goal
 

@@ -1,6 +1,4 @@
-use Rattle.std.proofs.Common.{◌≡◌, ◌∙◌, ap, arith}
 use Rattle.cca_vectors.specs.Bits.{even_byte}
-use Rattle.clear_keys.specs.Parity.{odd_byte}
 use Rattle.clear_keys.proofs.ParityLemmas.{mapped_more}
 use Rattle.clear_keys.proofs.parity.set_even_parity.Goals as goal
 

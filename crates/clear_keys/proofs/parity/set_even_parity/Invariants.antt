@@ -1,5 +1,4 @@
 use Rattle.std.proofs.Common.{◌≡◌, ◌++◌, take, drop, map}
-use Rattle.clear_keys.specs.Parity.{odd_byte}
 use Rattle.cca_vectors.specs.Bits.{even_byte}
 use Rattle.clear_keys.proofs.parity.set_even_parity.Given as goal
 

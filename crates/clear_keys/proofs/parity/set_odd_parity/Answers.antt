@@ -1,5 +1,3 @@
-use Rattle.std.proofs.Common.{◌≡◌, ◌∙◌, ap, arith}
-use Rattle.cca_vectors.specs.Bits.{even_byte}
 use Rattle.clear_keys.specs.Parity.{odd_byte}
 use Rattle.clear_keys.proofs.ParityLemmas.{mapped_more}
 use Rattle.clear_keys.proofs.parity.set_odd_parity.Goals as goal

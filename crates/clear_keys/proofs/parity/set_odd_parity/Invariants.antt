@@ -1,6 +1,5 @@
 use Rattle.std.proofs.Common.{◌≡◌, ◌++◌, take, drop, map}
 use Rattle.clear_keys.specs.Parity.{odd_byte}
-use Rattle.cca_vectors.specs.Bits.{even_byte}
 use Rattle.clear_keys.proofs.parity.set_odd_parity.Given as goal
 
 abbrev pub invariant-loop-byte : goal.invariant-loop-byte

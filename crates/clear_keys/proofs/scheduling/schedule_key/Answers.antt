@@ -1,4 +1,4 @@
-use Rattle.std.proofs.Common.{◌≡◌, ◌∙◌, ap, sym, eqb}
+use Rattle.std.proofs.Common.{ap, eqb}
 use Rattle.key_cells.specs.Lease.{bench_of}
 use Rattle.verb_rules.specs.Keys.{opened}
 use Rattle.clear_keys.proofs.KeyLemmas.{hold_key}

@@ -1,4 +1,4 @@
-use Rattle.std.proofs.Common.{◌≡◌, ◌<◌, ℕ, length, get_or, rules}
+use Rattle.std.proofs.Common.{◌<◌, ℕ, get_or, rules}
 use Rattle.multi_encipher.proofs.SealLaws.{bytes_from}
 use Rattle.clear_keys.proofs.writing.are_bytes.Goals as goal
 

@@ -1,14 +1,12 @@
-use Rattle.std.proofs.Common.{◌≡◌, ◌∙◌, ◌<◌, List, ℕ, Some, get_or, length, sym, ap, subst, rules}
+use Rattle.std.proofs.Common.{◌≡◌, ◌∙◌, ◌<◌, ℕ, get_or, length, sym, ap, subst, rules}
 use Rattle.byte_lists.specs.Bytes.{AreBytes}
 use Rattle.key_cells.specs.Lease.{bench_of}
 use Rattle.key_tokens.specs.Layout.{IsToken, made}
 use Rattle.key_tokens.specs.declared.key_token.Kind.TheVariants.{Internal}
-use Rattle.multi_encipher.specs.Bundles.{key_in}
-use Rattle.multi_encipher.specs.Seals.{IsKey}
 use Rattle.multi_encipher.proofs.SealLaws.{bytes_from}
 use Rattle.clear_keys.specs.Written.{current_key}
 use Rattle.clear_keys.proofs.KeyLemmas.{key_in_place}
-use Rattle.clear_keys.proofs.TokenLemmas.{token_is, token_of_key, denotes_key}
+use Rattle.clear_keys.proofs.TokenLemmas.{token_is, denotes_key}
 use Rattle.clear_keys.proofs.writing.write_current.Goals as goal
 
 pub returns-clause-token : goal.returns-clause-token
