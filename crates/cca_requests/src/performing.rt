@@ -80,6 +80,7 @@ pub fn perform<M: Disk, E: Entropy>(
     ensures entropy { TellsFault (E.faults entropy.old) (E.faults entropy.new) result Stop.EntropyFault }
     ensures untouched { (s : State) → Stands s roles.old (M.medium «module».old)
         → taken_by s (seen request.now) ≡ 0 → entropy.new ≡ entropy.old }
+    ensures undrawn { draws (seen request.now).name (seen request.now) ≡ 0 → entropy.new ≡ entropy.old }
     ensures stops { IfErr result (λ stop. (stop ≡ Stop.ModuleFault)
         ⊎ ((stop ≡ Stop.EntropyFault) ⊎ (stop ≡ Stop.Damaged Device.Module 0))) }
     ensures bench { bench.new ≡ blank_bench }
@@ -116,6 +117,7 @@ fn carry_out<M: Disk, E: Entropy>(
     ensures entropy { TellsFault (E.faults entropy.old) (E.faults entropy.new) result Stop.EntropyFault }
     ensures untouched { (s : State) → At s held.now (bench_of lease.old) roles.old (M.medium «module».old)
         → taken_by s (seen request.now) ≡ 0 → entropy.new ≡ entropy.old }
+    ensures undrawn { draws (seen request.now).name (seen request.now) ≡ 0 → entropy.new ≡ entropy.old }
     ensures left { Leaves (M.medium «module».old) (M.medium «module».new)
         (M.faults «module».old) (M.faults «module».new) result reply.new roles.old roles.new }
     ensures loan { loan_of lease.new ≡ loan_of lease.old }
@@ -260,6 +262,7 @@ fn act<M: Disk, E: Entropy>(
         → AreGranted s (bench_of lease.old) (operands (seen request.now)) granted.now
         → Loaded s.registers held.now (bench_of lease.old)
         → taken_by s (seen request.now) ≡ 0 → entropy.new ≡ entropy.old }
+    ensures undrawn { draws (seen request.now).name (seen request.now) ≡ 0 → entropy.new ≡ entropy.old }
     ensures left { Leaves (M.medium «module».old) (M.medium «module».new)
         (M.faults «module».old) (M.faults «module».new) result reply.new roles.old roles.new }
     ensures loan { loan_of lease.new ≡ loan_of lease.old }
