@@ -97,12 +97,12 @@ returns-in-Err-clause-serves g c = λ s stands.
     let after = c.serve_one.ensures in
     let served = c.each_line.invariant.served s stands in
     let line_lost : (other : Stop) → IsLineStop other → ◌≡◌ {A = Result (Unit {0}) Stop} (Err stop) (Err other) → WhereTold i0 i2 (λ i r. LineLost A other s first.random last i o0 o2)
-        = λ other kind h.
-          let is = same_stop c.serve_one.result stop other c.in-Err.is h in
-          same_held g.K.Sink.held (λ (o : Option (List ℕ)). WhereTold i0 i2 (λ i r. LineLost A other s first.random last i o0 o)) c.each_line.sink c.serve_one.new.sink
-          (after.sink_unmoved (not_replied c.serve_one.result stop c.in-Err.is) (line_not_cut c.serve_one.result other kind is))
-          (has_served_lost A s k1 k2 first now last i0 i1 i2 o0 o1 o2 c.each_line.lines c.serve_one.new.lines _ c.serve_one.result
-          served after.counted after.serves other kind is) in
+    = λ other kind h.
+    let is = same_stop c.serve_one.result stop other c.in-Err.is h in
+    same_held g.K.Sink.held (λ (o : Option (List ℕ)). WhereTold i0 i2 (λ i r. LineLost A other s first.random last i o0 o)) c.each_line.sink c.serve_one.new.sink
+    (after.sink_unmoved (not_replied c.serve_one.result stop c.in-Err.is) (line_not_cut c.serve_one.result other kind is))
+    (has_served_lost A s k1 k2 first now last i0 i1 i2 o0 o1 o2 c.each_line.lines c.serve_one.new.lines _ c.serve_one.result
+    served after.counted after.serves other kind is) in
     record {
       done = λ h. absurd (cc h);
       stopped = λ h.
