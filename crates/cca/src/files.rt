@@ -36,6 +36,14 @@ pub fn open_disk(rt: &HostRuntime, name: &str, size: u64) -> Result<FileDisk, Fa
     Ok(FileDisk::new(file, size))
 }
 
+/// The random bytes of the system.
+pub fn open_random(rt: &HostRuntime) -> Result<File, Fault> {
+    match File::open(rt, "/dev/urandom") {
+        Ok(file) => Ok(file),
+        Err(_) => Err(Fault::File),
+    }
+}
+
 /// Makes an empty file all zero. Another one has this many bytes already, or is refused.
 fn made_whole(file: &File, size: u64) -> Result<(), Fault> {
     let Ok(metadata) = file.metadata() else {

@@ -11,9 +11,9 @@ mod files;
 
 use cca_tool::{Status, Words, run};
 use fault::{Fault, fault_of};
-use files::{MODULE_LEN, open_disk};
+use files::{MODULE_LEN, open_disk, open_random};
 use key_cells::Workbench;
-use slot_disk::{NoMemory, StreamSink, StreamSource};
+use slot_disk::{NoMemory, StreamEntropy, StreamSink, StreamSource};
 use std::env;
 use std::io::ErrorKind;
 use std::process::ExitCode;
@@ -50,6 +50,7 @@ fn run_in(rt: &HostRuntime) -> Result<Status, Fault> {
     let mut bench = Workbench::new();
     let mut source = StreamSource::new(rt.stdin());
     let mut sink = StreamSink::new(rt.stdout());
+    let mut entropy = StreamEntropy::new(open_random(rt)?);
     Ok(run(
         rt.alloc(),
         &words,
@@ -57,6 +58,7 @@ fn run_in(rt: &HostRuntime) -> Result<Status, Fault> {
         &mut source,
         &mut sink,
         &mut module,
+        &mut entropy,
     ))
 }
 

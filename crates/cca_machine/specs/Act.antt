@@ -1,6 +1,6 @@
 -- What a request does where no rule refuses it, and what comes of it.
 use Rattle.std.specs.Int.{from_be_bytes, w32}
-use Rattle.std.specs.Prelude.{ℕ, ◌+◌, ◌==◌, List, [], ◌∷◌, codes, Option, Some, None, if◌then◌else◌}
+use Rattle.std.specs.Prelude.{ℕ, Bool, true, false, ◌+◌, ◌==◌, ◌++◌, take, List, [], ◌∷◌, codes, Option, Some, None, if◌then◌else◌}
 use Rattle.cca_vectors.specs.declared.key_class.Class.{Class}
 use Rattle.cca_vectors.specs.declared.key_class.Class.TheVariants.{Data, Cipher, Mac, Exporter, Importer, Other}
 use Rattle.cca_vectors.specs.Vectors.{length_of, left_of}
@@ -11,14 +11,21 @@ use Rattle.key_tokens.specs.declared.key_token.Token.{Token}
 use Rattle.key_tokens.specs.Fields.{token_of}
 use Rattle.script_buffers.specs.Replies.{Reply, Refused, Done, Field, Hex, Text, Number}
 use Rattle.master_registers.specs.Masters.{NewRegister, Empty, Partial, Full, Masters}
-use Rattle.verb_script.specs.Grammar.{Request, RequestName, csnbktp, csnbmkp_part, csnbmkp_clear, csnbmkp_set, csuaaci_define, csuaaci_remove, value_of}
-use Rattle.verb_script.specs.Values.{hex_value}
+use Rattle.verb_script.specs.Grammar.{Request, RequestName, csnbktp, csnbenc, csnbdec, csnbmgn, csnbmvr, csnbkyt, csnbcki, csnbrng, csnbmkp_part, csnbmkp_clear, csnbmkp_set, csuaaci_define, csuaaci_remove, value_of}
 use Rattle.cca_roles.specs.Roles.{define_place, after_define, remove_place, after_remove}
 use Rattle.cca_machine.specs.State.{State}
 use Rattle.cca_machine.specs.Actions.{part_action}
 use Rattle.master_registers.specs.Actions.{after_action}
 use Rattle.master_registers.specs.declared.actions.Action.TheVariants.{Clear, Set}
-use Rattle.cca_machine.specs.Verdict.{Refusal, verdict}
+use Rattle.cca_machine.specs.Choices.{pad_named, mac_rule_named, mac_length_named, form_named}
+use Rattle.cca_machine.specs.Keys.{key_of_request, any_old, warning}
+use Rattle.cca_machine.specs.Operands.{operands, listed}
+use Rattle.cca_machine.specs.Verdict.{Refusal, bytes_in, verdict}
+use Rattle.cipher_verbs.specs.CipherTexts.{enciphered_text, deciphered_text, test_value}
+use Rattle.cipher_verbs.specs.Imported.{imported_key}
+use Rattle.cipher_verbs.specs.RandomBytes.{in_form}
+use Rattle.mac_verbs.specs.Codes.{code_of, is_code}
+use Rattle.verb_rules.specs.Keys.{keys_of, token_for}
 
 -- what a permitted request does
 pub data Effect : Type 0 where
@@ -61,9 +68,15 @@ token_fields token =
 
 -- ---- what each request does
 
--- the bytes of the key token or of the part in a field
-abbrev pub bytes_in : Request → List ℕ → List ℕ
-bytes_in request name = hex_value (value_of request name)
+-- ---- replies over clear keys
+
+abbrev pub or_empty : Option (List ℕ) → List ℕ
+or_empty None = []
+or_empty (Some bytes) = bytes
+
+abbrev pub yes_or_no : Bool → List ℕ
+yes_or_no true = codes "yes"
+yes_or_no false = codes "no"
 
 -- the access control points in a request's field `points`
 abbrev pub points_in : Request → ℕ
@@ -72,6 +85,19 @@ points_in request = from_be_bytes w32 (value_of request (codes "points"))
 -- with the random bytes that it draws
 abbrev pub effect : State → List ℕ → RequestName → Request → Effect
 effect s drawn csnbktp r = Show (token_fields (token_of (bytes_in r (codes "token"))))
+effect s drawn csnbenc r =
+    Show (Hex (codes "text") (enciphered_text (key_of_request s r) (bytes_in r (codes "iv")) (pad_named (value_of r (codes "pad"))) (bytes_in r (codes "text"))) ∷ [])
+effect s drawn csnbdec r =
+    Show (Hex (codes "text") (or_empty (deciphered_text (key_of_request s r) (bytes_in r (codes "iv")) (pad_named (value_of r (codes "pad"))) (bytes_in r (codes "text")))) ∷ [])
+effect s drawn csnbmgn r =
+    Show (Hex (codes "mac") (take (mac_length_named (value_of r (codes "length")))
+    (code_of (mac_rule_named (value_of r (codes "rule"))) (key_of_request s r) (bytes_in r (codes "text")))) ∷ [])
+effect s drawn csnbmvr r =
+    Show (Text (codes "match") (yes_or_no
+    (is_code (mac_rule_named (value_of r (codes "rule"))) (key_of_request s r) (bytes_in r (codes "text")) (bytes_in r (codes "mac")))) ∷ [])
+effect s drawn csnbkyt r = Show (Hex (codes "value") (test_value (key_of_request s r)) ∷ [])
+effect s drawn csnbcki r = Show (Hex (codes "token") (token_for (keys_of s.registers) (imported_key (bytes_in r (codes "clear")))) ∷ [])
+effect s drawn csnbrng r = Show (Hex (codes "random") (in_form (form_named (value_of r (codes "form"))) drawn) ∷ [])
 effect s drawn csnbmkp_part r = Become (after_action (part_action (value_of r (codes "action"))) (bytes_in r (codes "part")) s.registers)
 effect s drawn csnbmkp_clear r = Become (after_action Clear [] s.registers)
 effect s drawn csnbmkp_set r = Become (after_action Set [] s.registers)
@@ -81,6 +107,13 @@ effect s drawn csuaaci_remove r = RemoveRole (value_of r (codes "name"))
 -- how many random bytes a permitted request draws
 abbrev pub draws : RequestName → Request → ℕ
 draws csnbktp r = 0
+draws csnbenc r = 0
+draws csnbdec r = 0
+draws csnbmgn r = 0
+draws csnbmvr r = 0
+draws csnbkyt r = 0
+draws csnbcki r = 0
+draws csnbrng r = 8
 draws csnbmkp_part r = 0
 draws csnbmkp_clear r = 0
 draws csnbmkp_set r = 0
@@ -122,10 +155,11 @@ cell_after s (Become m) = Some 0
 cell_after s (DefineRole name points) = Some (define_place name s.roles + 1)
 cell_after s (RemoveRole name) = Some (remove_place name s.roles + 1)
 
-abbrev pub effected : State → Effect → Outcome
-effected s e = record {
+-- the reply ends with the warning
+abbrev pub effected : State → Request → Effect → Outcome
+effected s request e = record {
   state = state_after s e;
-  reply = Done (fields_after s e);
+  reply = Done (fields_after s e ++ warning (any_old s (listed (operands request))));
   module_cell = cell_after s e;
   between = λ k. s;
 }
@@ -136,7 +170,7 @@ refused s r = record { state = s; reply = Refused r.rule r.operand; module_cell 
 
 abbrev pub or_act : Option Refusal → State → List ℕ → Request → Outcome
 or_act (Some r) s drawn request = refused s r
-or_act None s drawn request = effected s (effect s drawn request.name request)
+or_act None s drawn request = effected s request (effect s drawn request.name request)
 
 -- what comes of a request, with the random bytes that it draws
 unfoldable pub performed : State → List ℕ → Request → Outcome

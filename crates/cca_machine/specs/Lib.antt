@@ -1,5 +1,7 @@
 pub mod Act
 pub mod Actions
+pub mod Choices
+pub mod Keys
 pub mod Lines
 pub mod Operands
 pub mod Points

@@ -18,10 +18,11 @@ use Rattle.master_registers.specs.declared.registers.Registers.{Registers}
 use Rattle.script_buffers.specs.Replies.{Done, Text, spelled}
 use Rattle.cca_machine.specs.State.{State, IsModuleOf}
 use Rattle.cca_machine.specs.Verdict.{questions, first_refusal}
-use Rattle.cca_machine.specs.Act.{Outcome, Become, effected, new_name}
+use Rattle.cca_machine.specs.Act.{Outcome, Become, new_name}
+use Rattle.line_service.specs.declared.stops.Stop.TheVariants.{EntropyFault}
 use Rattle.line_service.specs.Answering.{Holds}
 use Rattle.cca_requests.specs.Serving.{Stands, IsEither, SameBut, Carries, IsSound, Leaves}
-use Rattle.cca_requests.specs.Deciding.{or_effected, state_name, change_stop, change_reply}
+use Rattle.cca_requests.specs.Deciding.{plainly, or_effected, state_name, change_stop, change_reply}
 use Rattle.cca_requests.proofs.Contents.{at_content, roles_alike, sound}
 use Rattle.cca_requests.proofs.Serving.{still_carries, told_some}
 
@@ -41,7 +42,7 @@ holds_at (Some c) m P is some told = record { image = c; told = is; has = told_a
 module _ {A : Type 0} (medium : A → Medium) (old new : A) (s : State) (roles : List (Option Role)) (next : Masters) (bench : Bench)
     (settled : IsSettled (medium old)) (stands : Stands s roles (medium old)) where
   abbrev after : Outcome
-  after = effected s (Become next)
+  after = plainly s (Become next)
 
   either : (image : List ℕ) → From (HoldsEither s.registers next) (medium old) image → IsEither s after image
   either image from = ⊎_elim
@@ -183,7 +184,18 @@ module _ {A : Type 0} (medium : A → Medium) (faults : A → ℕ) (old new : A)
     sound = tt;
     silent = silent;
     memory = refl;
-    stops = refl;
+    stops = inl refl;
   }
   left_as (Err RegisterState) reply changes untouched cause silent = refused_left reply untouched (inl changes)
   left_as (Err SamePattern) reply changes untouched cause silent = refused_left reply untouched (inr changes)
+
+-- what a call leaves where the random source failed
+pub failed_left : (m : Medium) (roles : List (Option Role)) (count : ℕ) (reply : List ℕ) → reply ≡ []
+    → Leaves m m count count (Err EntropyFault) reply roles roles
+failed_left m roles count reply silent = record {
+  disk = record { size = refl; still = λ some. some; settled = tt; later = omega arith; fault = λ is. cc is };
+  sound = tt;
+  silent = silent;
+  memory = refl;
+  stops = inr refl;
+}

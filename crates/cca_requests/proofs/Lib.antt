@@ -5,4 +5,5 @@ mod Fields
 mod Points
 mod RoleChanging
 pub mod Serving
+mod Texts
 mod TokenReply

@@ -17,9 +17,9 @@ use Rattle.line_service.specs.declared.stops.Stop.{Stop}
 use Rattle.line_service.specs.declared.stops.Stop.TheVariants.{ModuleFault}
 use Rattle.cca_machine.specs.State.{State, IsModuleOf}
 use Rattle.cca_machine.specs.Verdict.{questions}
-use Rattle.cca_machine.specs.Act.{Effect, Outcome, effected}
+use Rattle.cca_machine.specs.Act.{Effect, Outcome}
 use Rattle.cca_requests.specs.Serving.{Stands, IsEither, SameBut, Carries, IsSound, Leaves}
-use Rattle.cca_requests.specs.Deciding.{role_outcome, role_stop, role_reply}
+use Rattle.cca_requests.specs.Deciding.{plainly, role_outcome, role_stop, role_reply}
 use Rattle.cca_requests.proofs.Contents.{at_content, registers_alike, sound}
 use Rattle.cca_requests.proofs.Changing.{holds_at}
 use Rattle.cca_requests.proofs.Serving.{still_carries, told_some}
@@ -47,7 +47,7 @@ same_fault : (a b : RoleFault) → error a ≡ error b → a ≡ b
 same_fault a b is = cc is
 
 module _ {A : Type 0} (medium : A → Medium) (old new : A) (s : State) (before now : List (Option Role)) (place : ℕ) (next : List (Option Role))
-    (e : Effect) (e_is : effected s e ≡ changed_outcome s place next) (full : RoleFault) (refusing : IsRefusing full)
+    (e : Effect) (e_is : plainly s e ≡ changed_outcome s place next) (full : RoleFault) (refusing : IsRefusing full)
     (settled : IsSettled (medium old)) (stands : Stands s before (medium old)) where
   abbrev after : Outcome
   after = changed_outcome s place next
@@ -166,7 +166,7 @@ module _ {A : Type 0} (medium : A → Medium) (faults : A → ℕ) (old new : A)
     sound = tt;
     silent = subst (λ f. OnErr (role_stop (Err f)) (reply ≡ [])) disk silent;
     memory = memory;
-    stops = refl;
+    stops = inl refl;
   })
   left_by fault (inr is) changes untouched memory cause silent =
       let same = untouched (ap error is) in

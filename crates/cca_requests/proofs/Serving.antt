@@ -1,6 +1,6 @@
 -- How what is said of the module is carried from call to call.
-use Rattle.std.proofs.Common.{◌≡◌, ℕ, List, [], Option, None, Some, Result, Ok, Err, refl, sym, ap, ◌∙◌, subst, inl}
-use Rattle.std.specs.Prelude.{OnOk, IfErr, IfSome, IsSome}
+use Rattle.std.proofs.Common.{◌≡◌, ℕ, List, [], Option, None, Some, Result, Ok, Err, refl, sym, ap, ◌∙◌, subst, inl, inr, ⊎_elim}
+use Rattle.std.specs.Prelude.{◌<◌, OnOk, IfErr, IfSome, IsSome}
 use Rattle.slot_disk.specs.Medium.{Medium, Told, IsSettled, From, EachImage, Keeps}
 use Rattle.slot_disk.proofs.Media.{goes_on, settled_image, each_weaker, keeps_still}
 use Rattle.script_buffers.specs.Replies.{spelled, Refused}
@@ -9,9 +9,12 @@ use Rattle.line_service.specs.declared.stops.Stop.{Stop}
 use Rattle.verb_script.specs.Grammar.{Request}
 use Rattle.cca_machine.specs.State.{State, IsModuleOf}
 use Rattle.cca_machine.specs.Verdict.{Refusal, verdict}
-use Rattle.cca_machine.specs.Act.{Outcome, or_act, performed}
+use Rattle.cca_machine.specs.Act.{Outcome, draws, or_act, performed}
+use Rattle.cca_machine.specs.Lines.{drawn_where, taken_by}
+use Rattle.line_service.specs.declared.stops.Stop.TheVariants.{EntropyFault}
+use Rattle.std.proofs.KnownBytes.{Consumes-nil}
 use Rattle.line_service.specs.Answering.{Holds}
-use Rattle.cca_requests.specs.Serving.{Stands, IsDone, IsEither, SameButCell, SameBut, IsFault, Carries, Serves}
+use Rattle.cca_requests.specs.Serving.{Stands, IsDone, IsEither, SameButCell, SameBut, IsFault, Carries, IsUnwritten, Serves}
 
 holds_told : (m : Medium) (P : List ℕ → Type 0) → Holds m P → Told m P
 holds_told m P holds = subst (λ (o : Option (List ℕ)). IfSome o P) (sym holds.told) holds.has
@@ -83,35 +86,65 @@ pub performed_by : (s : State) (drawn : List ℕ) (request : Request) (v : Optio
 unfolding performed
 performed_by s drawn request v is = ap (λ (x : Option Refusal). or_act x s drawn request) is
 
--- a refusal
-pub refused_serves : (s : State) (request : Request) (r : Refusal) (reply : List ℕ) (roles : List (Option Role)) (m : Medium) → verdict s request ≡ Some r
-    → reply ≡ spelled (Refused r.rule r.operand) → IsSettled m → Stands s roles m → Serves s request (Ok tt) reply roles m m
-refused_serves s request r reply roles m is text settled stands =
+taken_for : (s : State) (request : Request) (v : Option Refusal) → verdict s request ≡ v → taken_by s request ≡ drawn_where v (draws request.name request)
+taken_for s request v is = ap (λ (x : Option Refusal). drawn_where x (draws request.name request)) is
+
+read_unwritten : (m0 m1 : Medium) → Keeps m0 m1 → IsUnwritten m0 m1
+read_unwritten m0 m1 keeps = keeps.moments
+
+-- a refusal: no random byte is drawn
+pub refused_serves : (s : State) (request : Request) (r : Refusal) (reply : List ℕ) (roles : List (Option Role)) (m : Medium) (left : Option (List ℕ))
+    → verdict s request ≡ Some r → reply ≡ spelled (Refused r.rule r.operand) → IsSettled m → Stands s roles m → Serves s request (Ok tt) reply roles m m left left
+refused_serves s request r reply roles m left is text settled stands =
     let by = performed_by s [] request (Some r) is in
     record {
+      drawn = [];
       carries = still_carries (performed s [] request) s (Ok tt) reply roles m (ap (λ (o : Outcome). o.state) by)
           (text ∙ ap (λ (o : Outcome). spelled o.reply) (sym by)) tt settled stands;
+      random = inl (record { consumed = Consumes-nil left; size = sym (taken_for s request (Some r) is) });
+      permitted = λ fault. cc fault;
+      undrawn = λ fault. cc fault;
     }
 
--- a fault while the module was read
-pub stopped_serves : (s : State) (request : Request) (stop : Stop) (reply : List ℕ) (roles : List (Option Role)) (m0 m1 : Medium) → IsFault stop
-    → IsSettled m0 → Keeps m0 m1 → Stands s roles m0 → Serves s request (Err stop) reply roles m0 m1
-stopped_serves s request stop reply roles m0 m1 fault settled keeps stands =
+abbrev error : Stop → Result (Unit {0}) Stop
+error stop = Err stop
+
+same_stop : (a b : Stop) → error a ≡ error b → a ≡ b
+same_stop a b is = cc is
+
+-- a fault of a device, before anything was written
+pub stopped_serves : (s : State) (request : Request) (stop : Stop) (reply : List ℕ) (roles : List (Option Role)) (m0 m1 : Medium) (before now : Option (List ℕ))
+    → IsFault stop → (stop ≡ EntropyFault → 0 < taken_by s request) → IsSettled m0 → Keeps m0 m1 → Stands s roles m0
+    → Serves s request (Err stop) reply roles m0 m1 before now
+stopped_serves s request stop reply roles m0 m1 before now fault permitted settled keeps stands =
     let o : Outcome = performed s [] request in
     record {
+      drawn = [];
       carries = record {
         done = tt;
         on_module = read_images m0 m1 (IsModuleOf s) (IsEither s o) settled stands.in_module keeps (λ c p. inl p);
         outside = read_outside o.module_cell m0 m1 settled keeps;
         stops = fault;
       };
+      random = inr (tt, read_unwritten m0 m1 keeps);
+      permitted = λ is. permitted (same_stop stop EntropyFault is);
+      undrawn = λ is. read_unwritten m0 m1 keeps;
     }
+
+unwritten_after_read : (m0 m1 m2 : Medium) → Keeps m0 m1 → IsUnwritten m1 m2 → IsUnwritten m0 m2
+unwritten_after_read m0 m1 m2 keeps later = goes_on m0 m1 m2 m0.images m1.images m0.images keeps.moments later (λ c p. p) (λ c p. keeps.images c p)
 
 -- the module was read before
 pub serves_after_read : (s : State) (request : Request) (result : Result (Unit {0}) Stop) (reply : List ℕ) (before roles : List (Option Role)) (m0 m1 m2 : Medium)
-    → IsSettled m0 → Stands s before m0 → Keeps m0 m1 → Serves s request result reply roles m1 m2 → Serves s request result reply roles m0 m2
-serves_after_read s request result reply before roles m0 m1 m2 settled stands keeps serves =
-    record { carries = carries_after_read (performed s [] request) s result reply roles before m0 m1 m2 settled stands keeps serves.carries }
+    (left now : Option (List ℕ))
+    → IsSettled m0 → Stands s before m0 → Keeps m0 m1 → Serves s request result reply roles m1 m2 left now → Serves s request result reply roles m0 m2 left now
+serves_after_read s request result reply before roles m0 m1 m2 left now settled stands keeps serves = record {
+  drawn = serves.drawn;
+  carries = carries_after_read (performed s serves.drawn request) s result reply roles before m0 m1 m2 settled stands keeps serves.carries;
+  random = ⊎_elim (λ drawn. inl drawn) (λ stopped. inr (stopped.0, unwritten_after_read m0 m1 m2 keeps stopped.1)) serves.random;
+  permitted = serves.permitted;
+  undrawn = λ is. unwritten_after_read m0 m1 m2 keeps (serves.undrawn is);
+}
 
 -- a refusal writes no cell
 pub refused_cell : (s : State) (drawn : List ℕ) (request : Request) (r : Refusal) → verdict s request ≡ Some r → (performed s drawn request).module_cell ≡ None

@@ -1,3 +1,4 @@
 pub mod Deciding
+pub mod Drawing
 pub mod Judging
 pub mod Serving

@@ -1,5 +1,5 @@
 -- What a request leaves of the module, in a few records.
-use Rattle.std.specs.Prelude.{◌≡◌, ◌≢◌, ◌⊎◌, ◌≤◌, ◌*◌, ℕ, List, [], length, slice_index, Option, Some, None, Result, OnOk, OnErr, IfErr, ⊤}
+use Rattle.std.specs.Prelude.{◌≡◌, ◌≢◌, ◌⊎◌, ◌≤◌, ◌<◌, ◌*◌, ℕ, List, [], length, slice_index, Option, Some, None, Result, Err, OnOk, OnErr, IfErr, ⊤}
 use Rattle.slot_disk.specs.Cells.{body, IsUntouched}
 use Rattle.slot_disk.specs.declared.cell.TheConstants.{CELL_LEN}
 use Rattle.slot_disk.specs.Medium.{Medium, Told, From, EachImage}
@@ -15,6 +15,8 @@ use Rattle.line_service.specs.declared.stops.Stop.TheVariants.{ReadFault, WriteF
 use Rattle.verb_script.specs.Grammar.{Request, Spells}
 use Rattle.cca_machine.specs.State.{State, IsModuleOf}
 use Rattle.cca_machine.specs.Act.{Outcome, performed}
+use Rattle.cca_machine.specs.Lines.{taken_by}
+use Rattle.std.specs.Io.KnownBytes.{Consumes}
 
 -- some line spells the request
 abbrev pub IsSpelled : Request → Type 0
@@ -65,9 +67,25 @@ pub record Carries (o : Outcome) (s : State) (result : Result (Unit {0}) Stop) (
   pub outside : EachImage m0 m1 (From (SameBut o.module_cell) m0)
   pub stops : IfErr result IsFault
 
--- what the machine makes of the request is carried out
-pub record Serves (s : State) (request : Request) (result : Result (Unit {0}) Stop) (reply : List ℕ) (roles : List (Option Role)) (m0 m1 : Medium) : Type 0 where
-  pub carries : Carries (performed s [] request) s result reply roles m0 m1
+-- the random bytes that were drawn are the next ones, and as many as the machine takes
+pub record HasDrawn (drawn : List ℕ) (count : ℕ) (before now : Option (List ℕ)) : Type 0 where
+  pub consumed : Consumes before now drawn
+  pub size : length drawn ≡ count
+
+-- nothing was written: a stop at any moment leaves what it could leave before
+abbrev pub IsUnwritten : Medium → Medium → Type 0
+IsUnwritten m0 m1 = EachImage m0 m1 m0.images
+
+-- what the machine makes of the request, with some random bytes, is carried out
+pub record Serves (s : State) (request : Request) (result : Result (Unit {0}) Stop) (reply : List ℕ) (roles : List (Option Role)) (m0 m1 : Medium)
+    (before now : Option (List ℕ)) : Type 0 where
+  pub drawn : List ℕ
+  pub carries : Carries (performed s drawn request) s result reply roles m0 m1
+  -- they were drawn; or it stopped before, and nothing was written
+  pub random : HasDrawn drawn (taken_by s request) before now ⊎ (OnOk result ⊥ × IsUnwritten m0 m1)
+  -- the random source fails only where the machine takes random bytes, and nothing is written then
+  pub permitted : result ≡ Err EntropyFault → 0 < taken_by s request
+  pub undrawn : result ≡ Err EntropyFault → IsUnwritten m0 m1
 
 -- ---- what is certain whatever the module holds
 
@@ -82,4 +100,4 @@ pub record Leaves (old new : Medium) (before now : ℕ) (result : Result (Unit {
   pub sound : OnOk result (Told new (IsSound later))
   pub silent : OnErr result (reply ≡ [])
   pub memory : OnErr result (later ≡ roles)
-  pub stops : IfErr result (λ stop. stop ≡ ModuleFault)
+  pub stops : IfErr result (λ stop. (stop ≡ ModuleFault) ⊎ (stop ≡ EntropyFault))

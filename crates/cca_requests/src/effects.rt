@@ -1,11 +1,13 @@
 //! What a verb leaves to be done, and how it is done: the only calls that write a disk.
 ghost use Rattle.cca_roles.specs.RoleNames.{default_name};
-ghost use Rattle.std.specs.Prelude.{◌≡◌, ◌≢◌, ◌≤◌, ◌++◌, [], ◌∷◌, ℕ, List, None, Err, OnOk, OnErr, length};
+ghost use Rattle.std.specs.Prelude.{◌≡◌, ◌≢◌, ◌≤◌, ◌<◌, ◌++◌, [], ◌∷◌, ℕ, List, None, Err, OnOk, OnErr, length};
 ghost use Rattle.key_cells.specs.Lease.{bench_of, loan_of};
 ghost use Rattle.script_buffers.specs.Lines.{newline};
 ghost use Rattle.script_buffers.specs.Replies.{Field, Done, spelled, written};
 ghost use Rattle.verb_script.specs.Grammar.{Request};
 ghost use Rattle.cca_machine.specs.State.{State};
+ghost use Rattle.cca_machine.specs.Keys.{any_old, warning};
+ghost use Rattle.cca_machine.specs.Operands.{operands, listed};
 ghost use Rattle.cca_machine.specs.Act.{or_act, DefineRole, RemoveRole};
 ghost use Rattle.cca_machine.specs.Verdict.{define_questions, remove_questions, verb_verdict};
 ghost use Rattle.cca_requests.specs.Serving.{Carries, Leaves};
@@ -23,6 +25,8 @@ use verb_script::ReplyBuffer;
 /// What a verb leaves to be done.
 #[derive(Clone, Copy)]
 pub(crate) enum Effect {
+    /// A rule of the verb is broken, by this operand.
+    Refused(Rule, &'static str),
     /// The reply has its fields.
     Shown,
     /// An action on the registers, with the key part in the workbench.
@@ -33,8 +37,19 @@ pub(crate) enum Effect {
     RemoveRole(RoleName),
 }
 
-/// Ends the reply to a request that was carried out.
-fn finish(reply: &mut ReplyBuffer)
+/// Ends the reply to a request that was carried out, with the warning where a key is under the old master key.
+fn finish(warns: bool, reply: &mut ReplyBuffer)
+    requires { length reply.old ≤ 69000 }
+    ensures { (fields : List Field) → reply.old ≡ written fields → reply.new ≡ spelled (Done (fields ++ warning warns)) }
+{
+    if warns {
+        reply.text("warn", b"old");
+    }
+    reply.finish();
+}
+
+/// Ends the reply to a request that was carried out and warns of nothing.
+fn end(reply: &mut ReplyBuffer)
     requires { length reply.old ≤ 69000 }
     ensures { (fields : List Field) → reply.old ≡ written fields → reply.new ≡ spelled (Done fields) }
 {
@@ -66,7 +81,7 @@ fn answer_change(
         Ok(held) => {
             reply.ok();
             reply.text("new", name_of(held.new_state).as_bytes());
-            finish(reply);
+            end(reply);
             Ok(())
         }
         Err(RegisterFault::DiskFault) => Err(Stop::ModuleFault),
@@ -100,6 +115,7 @@ fn change_registers<M: Disk>(
         → «module».new ≡ «module».old }
     ensures left { Leaves (M.medium «module».old) (M.medium «module».new)
         (M.faults «module».old) (M.faults «module».new) result reply.new roles.now roles.now }
+    ensures entropy { result ≢ Err Stop.EntropyFault }
     ensures loan { loan_of lease.new ≡ loan_of lease.old }
 {
     let outcome = change(action, module, lease, held);
@@ -116,7 +132,7 @@ fn answer_roles(outcome: Result<(), RoleFault>, reply: &mut ReplyBuffer) -> Resu
     match outcome {
         Ok(()) => {
             reply.ok();
-            finish(reply);
+            end(reply);
             Ok(())
         }
         Err(RoleFault::DiskFault) => Err(Stop::ModuleFault),
@@ -152,6 +168,7 @@ fn define_role<M: Disk>(
         → «module».new ≡ «module».old }
     ensures left { Leaves (M.medium «module».old) (M.medium «module».new)
         (M.faults «module».old) (M.faults «module».new) result reply.new roles.old roles.new }
+    ensures entropy { result ≢ Err Stop.EntropyFault }
     ensures loan { loan_of lease.new ≡ loan_of lease.old }
 {
     let outcome = roles.define(module, lease, name, points);
@@ -178,6 +195,7 @@ fn remove_role<M: Disk>(
         → «module».new ≡ «module».old }
     ensures left { Leaves (M.medium «module».old) (M.medium «module».new)
         (M.faults «module».old) (M.faults «module».new) result reply.new roles.old roles.new }
+    ensures entropy { result ≢ Err Stop.EntropyFault }
     ensures loan { loan_of lease.new ≡ loan_of lease.old }
 {
     let outcome = roles.remove(module, lease, name);
@@ -187,6 +205,7 @@ fn remove_role<M: Disk>(
 /// Does what a verb left to be done. A change reads the module once, and writes and syncs it twice.
 pub(crate) fn carry<M: Disk>(
     effect: &Effect,
+    warns: bool,
     module: &mut M,
     lease: &mut Lease,
     held: &Registers,
@@ -195,22 +214,28 @@ pub(crate) fn carry<M: Disk>(
 ) -> Result<(), Stop>
     requires at { HasLoaded held.now (bench_of lease.old) roles.old (M.medium «module».old) }
     requires ready { IsReady effect.now reply.old }
-    ensures carries { (s : State) (request : Request)
+    ensures carries { (s : State) (request : Request) (drawn : List ℕ)
         → At s held.now (bench_of lease.old) roles.old (M.medium «module».old)
-        → IsDecided s (bench_of lease.old) request effect.now reply.old
-        → Carries (or_act (verb_verdict s request) s [] request) s result reply.new roles.new
+        → any_old s (listed (operands request)) ≡ warns
+        → IsDecided s (bench_of lease.old) drawn request effect.now reply.old
+        → Carries (or_act (verb_verdict s request) s drawn request) s result reply.new roles.new
         (M.medium «module».old) (M.medium «module».new) }
-    ensures still { (s : State) (request : Request)
+    ensures still { (s : State) (request : Request) (drawn : List ℕ)
         → At s held.now (bench_of lease.old) roles.old (M.medium «module».old)
-        → IsDecided s (bench_of lease.old) request effect.now reply.old
-        → (or_act (verb_verdict s request) s [] request).module_cell ≡ None → «module».new ≡ «module».old }
+        → IsDecided s (bench_of lease.old) drawn request effect.now reply.old
+        → (or_act (verb_verdict s request) s drawn request).module_cell ≡ None → «module».new ≡ «module».old }
     ensures left { Leaves (M.medium «module».old) (M.medium «module».new)
         (M.faults «module».old) (M.faults «module».new) result reply.new roles.old roles.new }
+    ensures entropy { result ≢ Err Stop.EntropyFault }
     ensures loan { loan_of lease.new ≡ loan_of lease.old }
 {
     match effect {
+        Effect::Refused(rule, operand) => {
+            refuse(reply, *rule, operand);
+            Ok(())
+        }
         Effect::Shown => {
-            finish(reply);
+            finish(warns, reply);
             Ok(())
         }
         Effect::Change(action) => change_registers(*action, module, lease, held, roles, reply),

@@ -5,6 +5,8 @@
 ghost use Rattle.cca_rows.specs.WorkedCeremonies.{CeremoniesAnswered};
 
 #[cfg(test)]
+mod keys;
+#[cfg(test)]
 mod masters;
 #[cfg(test)]
 mod roles;

@@ -5,7 +5,7 @@ ghost use Rattle.slot_disk.specs.LogMedium.{log_medium};
 use crate::rows::{CALLS, MODULE_SIZE, ROOM, words_of};
 use cca_tool::{Device, Status, run};
 use key_cells::Workbench;
-use slot_disk::{Disk, MemoryDisk, MemorySink, MemorySource};
+use slot_disk::{BlankEntropy, Disk, MemoryDisk, MemorySink, MemorySource};
 use std::alloc::Global;
 use std::process::Abort;
 use std::test::Fail;
@@ -34,7 +34,15 @@ pub(crate) fn run_over(
     let mut source = MemorySource::new(alloc, input.as_bytes(), 100)?;
     let mut sink = MemorySink::new(alloc, ROOM)?;
     assert_eq!(rt;
-        run(alloc, &words, &mut bench, &mut source, &mut sink, module),
+        run(
+            alloc,
+            &words,
+            &mut bench,
+            &mut source,
+            &mut sink,
+            module,
+            &mut BlankEntropy::new()
+        ),
         want.0
     );
     assert_eq!(rt; sink.bytes(), want.1.as_bytes());

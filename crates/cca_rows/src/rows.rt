@@ -3,7 +3,7 @@ ghost use Rattle.std.specs.Prelude.{◌<◌};
 
 use cca_tool::{Status, Words, run};
 use key_cells::Workbench;
-use slot_disk::{MemoryDisk, MemorySink, MemorySource};
+use slot_disk::{BlankEntropy, MemoryDisk, MemorySink, MemorySource};
 use std::alloc::Global;
 use std::process::Abort;
 use std::test::Fail;
@@ -53,7 +53,8 @@ fn expect_run(
             &mut bench,
             &mut source,
             &mut sink,
-            &mut module
+            &mut module,
+            &mut BlankEntropy::new()
         ),
         want.0
     );
@@ -233,6 +234,7 @@ fn run_failing(
         &mut source,
         &mut sink,
         &mut module,
+        &mut BlankEntropy::new(),
     );
     replies.clear();
     replies.extend_from_slice(sink.bytes())?;

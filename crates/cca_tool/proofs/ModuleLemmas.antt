@@ -1,10 +1,9 @@
 -- The module as it is opened, and the words in which the sessions of any machine speak of it.
-use Rattle.std.proofs.Common.{◌≡◌, ℕ, List, [], Option, Result, Ok, Err, refl, sym, subst, ◌∙◌, inl, inr, arith}
-use Rattle.std.specs.Prelude.{⊤}
+use Rattle.std.proofs.Common.{◌≡◌, ℕ, List, [], Option, refl, sym, subst, ◌∙◌, inl, inr, arith}
 use Rattle.slot_disk.specs.Faults.{Rose}
-use Rattle.slot_disk.specs.Medium.{Medium, Told, EachImage, Keeps, IsSettled}
+use Rattle.slot_disk.specs.Medium.{Medium, Told, EachImage, Keeps}
 use Rattle.slot_disk.specs.BlankMedium.{blank_medium}
-use Rattle.slot_disk.proofs.Media.{image_now, told_from, told_at, keeps_then}
+use Rattle.slot_disk.proofs.Media.{image_now, told_from, told_at}
 use Rattle.master_registers.specs.Masters.{Masters}
 use Rattle.master_registers.specs.RegisterBody.{StandsForMasters, IsDamaged}
 use Rattle.cca_roles.specs.RolesStand.{StandsForRoles, IsFirstDamaged}
@@ -13,7 +12,7 @@ use Rattle.cca_roles.proofs.StandLaws.{stands_one, stands_undamaged}
 use Rattle.cca_machine.specs.State.{State, IsModuleOf}
 use Rattle.cca_requests.specs.Serving.{IsSound as Remembers}
 use Rattle.line_service.specs.Answering.{Holds, OnDisks, Stands, IsSound}
-use Rattle.cca_tool.specs.Coprocessor.{cca, remembers, IsBroken, IsModuleSound}
+use Rattle.cca_tool.specs.Coprocessor.{cca, remembers, IsBroken}
 
 -- ---- opening
 

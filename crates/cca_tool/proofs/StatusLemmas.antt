@@ -1,6 +1,6 @@
 -- The status of a run tells how its lines ended.
 use Rattle.std.proofs.Common.{◌≡◌, ℕ, ◌+◌, List, length, Option, Result, Ok, Err, refl, sym, ap, ◌∙◌, subst, inl, inr}
-use Rattle.std.specs.Prelude.{⊤, ◌⊎◌, ◌↔◌, ◌<◌, IsOk}
+use Rattle.std.specs.Prelude.{◌⊎◌, ◌↔◌, ◌<◌, IsOk}
 use Rattle.slot_disk.specs.Medium.{Medium, Told, EachImage}
 use Rattle.slot_disk.specs.WhereTold.{WhereTold}
 use Rattle.slot_disk.proofs.Media.{each_weaker, each_still, told_from, told_at}
@@ -9,12 +9,11 @@ use Rattle.script_buffers.specs.Reading.{input_limit}
 use Rattle.line_service.specs.Stops.{AnswersLines, IsFaultless as IsFaultlessOutcome}
 use Rattle.line_service.specs.Serving.{PrefixSent, IsOnTheWay}
 use Rattle.line_service.proofs.RunLemmas.{prefix_none}
-use Rattle.line_service.specs.declared.stops.Device.{Device}
 use Rattle.line_service.specs.declared.stops.Device.TheVariants.{Module}
 use Rattle.line_service.specs.declared.stops.Stop.{Stop}
 use Rattle.line_service.specs.declared.stops.Stop.TheVariants.{ReadFault, WriteFault, EntropyFault, ModuleFault, StoreFault, Damaged, InputLimit}
 use Rattle.cca_machine.specs.State.{State, IsModuleOf}
-use Rattle.cca_tool.specs.Coprocessor.{cca, no_random, IsBroken}
+use Rattle.cca_tool.specs.Coprocessor.{cca, IsBroken}
 use Rattle.cca_tool.specs.Statuses.{status_of_lem, ServesLines, IsFaultless}
 use Rattle.cca_tool.specs.declared.command.Status.{Status}
 use Rattle.cca_tool.specs.declared.command.Status.TheVariants as status
@@ -97,9 +96,9 @@ module _ (r : Result (Unit {0}) Stop) (outcome : Status) (is : outcome ≡ statu
 
 -- ---- where no device was called
 
-pub prefix_still : (s : State) (a p : Option (List ℕ)) → WhereTold a a (λ i r. PrefixSent cca s no_random i p p)
-prefix_still s a p = told_same a _ (λ x. prefix_none cca s no_random x p p (told_same p (λ y z. z ≡ y) (λ y. refl)))
+pub prefix_still : (s : State) (random a p : Option (List ℕ)) → WhereTold a a (λ i r. PrefixSent cca s random i p p)
+prefix_still s random a p = told_same a _ (λ x. prefix_none cca s random x p p (told_same p (λ y z. z ≡ y) (λ y. refl)))
 
-pub moments_still : (s : State) (m : Medium) (a : Option (List ℕ))
-    → WhereTold a a (λ i r. EachImage m m (λ image. m.images image ⊎ IsOnTheWay cca s no_random i (λ t. IsModuleOf t image)))
-moments_still s m a = told_same a _ (λ x. each_weaker m m _ _ (each_still m) (λ c h. inl h))
+pub moments_still : (s : State) (random : Option (List ℕ)) (m : Medium) (a : Option (List ℕ))
+    → WhereTold a a (λ i r. EachImage m m (λ image. m.images image ⊎ IsOnTheWay cca s random i (λ t. IsModuleOf t image)))
+moments_still s random m a = told_same a _ (λ x. each_weaker m m _ _ (each_still m) (λ c h. inl h))

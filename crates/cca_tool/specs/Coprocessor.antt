@@ -1,5 +1,5 @@
--- The coprocessor as a machine that answers lines. It has a module, and so far neither a store nor random bytes.
-use Rattle.std.specs.Prelude.{⊤, ◌≡◌, ◌⊎◌, ◌≤◌, ℕ, List, [], Option, Some}
+-- The coprocessor as a machine that answers lines. It has a module and random bytes, and so far no store.
+use Rattle.std.specs.Prelude.{⊤, ◌≡◌, ◌⊎◌, ◌≤◌, ◌<◌, ℕ, List, [], Option, None}
 use Rattle.std.proofs.Common.{inl, inr}
 use Rattle.slot_disk.specs.Medium.{Medium, Told}
 use Rattle.slot_disk.specs.BlankMedium.{blank_medium}
@@ -10,7 +10,9 @@ use Rattle.cca_roles.specs.RolesStand.{IsFirstDamaged}
 use Rattle.cca_roles.specs.declared.roles.Role.{Role}
 use Rattle.cca_roles.proofs.StandLaws.{stands_undamaged}
 use Rattle.cca_machine.specs.State.{State, IsModuleOf, module_size}
-use Rattle.cca_machine.specs.Lines.{LineOutcome, line_outcome}
+use Rattle.cca_machine.specs.Verdict.{verdict}
+use Rattle.cca_machine.specs.Act.{draws}
+use Rattle.cca_machine.specs.Lines.{line_outcome}
 use Rattle.line_service.specs.Machine.{Machine, Outcome, World, world}
 use Rattle.line_service.specs.declared.stops.Device.{Device}
 use Rattle.line_service.specs.declared.stops.Device.TheVariants.{Module}
@@ -26,16 +28,23 @@ IsRefusal (Done fields) = ⊥
 abbrev pub IsRequest : List ℕ → Type 0
 IsRequest line = (request : Request) × Spells request line
 
+-- the line spells a request that draws random bytes, and that no rule refuses from this state
+pub record DrawsRandom (s : State) (line : List ℕ) : Type 0 where
+  pub request : Request
+  pub spelled : Spells request line
+  pub draws : 0 < draws request.name request
+  pub permitted : verdict s request ≡ None
+
 -- what comes of a line, with its reply in bytes
 abbrev pub line_step : State → List ℕ → List ℕ → Outcome State
 line_step s random line =
     let o = line_outcome s random line in
     record { state = o.state; reply = spelled o.reply; random = o.random }
 
--- the module may fail at a request, and no other device at any line
+-- the module may fail at a request, the random source where random bytes are drawn, and no other device at any line
 abbrev pub MayFail : Stop → State → List ℕ → Type 0
 MayFail ModuleFault s line = IsRequest line
-MayFail EntropyFault s line = ⊥
+MayFail EntropyFault s line = DrawsRandom s line
 MayFail StoreFault s line = ⊥
 MayFail ReadFault s line = ⊥
 MayFail WriteFault s line = ⊥
@@ -65,7 +74,7 @@ cca = record {
   InStore = λ s d. ⊤;
   Between = λ s line t. ⊥;
   MayStop = MayFail;
-  Draws = ⊥;
+  Draws = ⊤;
   HasCell = IsCell;
   IsBrokenModule = IsBroken;
   IsBrokenStore = λ cell c d. ⊥;
@@ -75,13 +84,9 @@ cca = record {
   store_size = 0;
 }
 
--- no random bytes
-abbrev pub no_random : Option (List ℕ)
-no_random = Some []
-
--- the devices where only the module holds something
-abbrev pub over : Medium → World
-over m = world m blank_medium no_random
+-- the devices: the module, the random bytes still to come where they are told, and no store
+abbrev pub over : Medium → Option (List ℕ) → World
+over m random = world m blank_medium random
 
 -- these are the roles of the state
 abbrev pub remembers : List (Option Role) → State → Type 0
@@ -92,9 +97,9 @@ abbrev pub IsStop : Stop → Type 0
 IsStop ReadFault = ⊤
 IsStop WriteFault = ⊤
 IsStop InputLimit = ⊤
+IsStop EntropyFault = ⊤
 IsStop ModuleFault = ⊤
 IsStop (Damaged device cell) = IsCell device cell
-IsStop EntropyFault = ⊥
 IsStop StoreFault = ⊥
 
 -- and before its first line for these

@@ -10,7 +10,7 @@ ghost use Rattle.line_service.specs.Answering.{Holds};
 ghost use Rattle.line_service.specs.Sending.{Grows};
 ghost use Rattle.line_service.specs.Serving.{PrefixSent, AllAnswered, WholeLinesAnswered, ReplyCut, LineLost, Unopened, IsOnTheWay};
 ghost use Rattle.cca_machine.specs.State.{State, IsModuleOf, module_size};
-ghost use Rattle.cca_tool.specs.Coprocessor.{cca, over, no_random, IsBroken, IsCell, IsModuleSound};
+ghost use Rattle.cca_tool.specs.Coprocessor.{cca, over, IsBroken, IsCell, IsModuleSound};
 ghost use Rattle.cca_tool.specs.Statuses.{status_of_lem, CallsNone, ServesLines, IsFaultless};
 ghost use Rattle.line_service.specs.declared.stops.Device.{Device as AnyDevice};
 
@@ -18,7 +18,7 @@ use crate::session::Session;
 use crate::words::Words;
 use key_cells::Workbench;
 use line_service::{Device, Stop};
-use slot_disk::{Disk, Sink, Source};
+use slot_disk::{Disk, Entropy, Sink, Source};
 use std::alloc::Global;
 
 /// How a run ended.
@@ -51,13 +51,14 @@ pub enum Status {
 ///
 /// The words are the one word `run`. All memory is taken before a device is called, and none after. The
 /// bench is wiped first, since it may hold anything.
-pub fn run<S: Source, K: Sink, M: Disk>(
+pub fn run<S: Source, K: Sink, M: Disk, E: Entropy>(
     alloc: Global,
     words: &Words,
     bench: &mut Workbench,
     source: &mut S,
     sink: &mut K,
     module: &mut M,
+    entropy: &mut E,
 ) -> Status
     requires { (M.medium «module».old).size ≡ module_size }
 
@@ -67,35 +68,42 @@ pub fn run<S: Source, K: Sink, M: Disk>(
     ensures no_source { CallsNone result → source.new ≡ source.old }
     ensures no_sink { CallsNone result → sink.new ≡ sink.old }
     ensures no_module { CallsNone result → «module».new ≡ «module».old }
+    ensures no_entropy { CallsNone result → entropy.new ≡ entropy.old }
 
     // What the sink got, and the state for which the module stands, from the state for which it stood: the first
     // bytes of the replies, and at `Done` all of them.
     ensures prefix { (s : State) → Holds (M.medium «module».old) (IsModuleOf s)
         → WhereTold (S.left source.old) (S.left source.new) (λ input rest.
-        PrefixSent cca s no_random input (K.held sink.old) (K.held sink.new)) }
+        PrefixSent cca s (E.left entropy.old) input (K.held sink.old) (K.held sink.new)) }
     ensures done { result ≡ Status.Done → (s : State) → Holds (M.medium «module».old) (IsModuleOf s)
         → WhereTold (S.left source.old) (S.left source.new) (λ input rest.
-        AllAnswered cca s no_random (over (M.medium «module».new)) input (K.held sink.old) (K.held sink.new)) }
+        AllAnswered cca s (E.left entropy.old) (over (M.medium «module».new) (E.left entropy.new)) input (K.held sink.old) (K.held sink.new)) }
     ensures stopped { (result ≡ Status.ReadFault) ⊎ (result ≡ Status.InputLimit)
         → (s : State) → Holds (M.medium «module».old) (IsModuleOf s)
         → WhereTold (S.left source.old) (S.left source.new) (λ input rest.
-        WholeLinesAnswered cca s no_random (over (M.medium «module».new)) input rest
+        WholeLinesAnswered cca s (E.left entropy.old) (over (M.medium «module».new) (E.left entropy.new)) input rest
         (K.held sink.old) (K.held sink.new)) }
     ensures cut { result ≡ Status.WriteFault → (s : State) → Holds (M.medium «module».old) (IsModuleOf s)
         → WhereTold (S.left source.old) (S.left source.new) (λ input rest.
-        ReplyCut cca s no_random (over (M.medium «module».new)) input (K.held sink.old) (K.held sink.new)) }
+        ReplyCut cca s (E.left entropy.old) (over (M.medium «module».new) (E.left entropy.new)) input (K.held sink.old) (K.held sink.new)) }
     // The module failed at a line; or before the first line, and then nothing has changed.
     ensures lost { result ≡ Status.ModuleFault → (s : State) → Holds (M.medium «module».old) (IsModuleOf s)
         → WhereTold (S.left source.old) (S.left source.new) (λ input rest.
-        LineLost cca Stop.ModuleFault s no_random (over (M.medium «module».new)) input
+        LineLost cca Stop.ModuleFault s (E.left entropy.old) (over (M.medium «module».new) (E.left entropy.new)) input
         (K.held sink.old) (K.held sink.new)
-        ⊎ Unopened (over (M.medium «module».old)) (over (M.medium «module».new)) input rest
+        ⊎ Unopened (over (M.medium «module».old) (E.left entropy.old))
+        (over (M.medium «module».new) (E.left entropy.new)) input rest
+        (K.held sink.old) (K.held sink.new)) }
+    // The random source failed, at a line that draws random bytes: nothing was written for it.
+    ensures undrawn { result ≡ Status.EntropyFault → (s : State) → Holds (M.medium «module».old) (IsModuleOf s)
+        → WhereTold (S.left source.old) (S.left source.new) (λ input rest.
+        LineLost cca Stop.EntropyFault s (E.left entropy.old) (over (M.medium «module».new) (E.left entropy.new)) input
         (K.held sink.old) (K.held sink.new)) }
     // The module at every moment.
     ensures moments { (s : State) → Holds (M.medium «module».old) (IsModuleOf s)
         → WhereTold (S.left source.old) (S.left source.new) (λ input rest.
         EachImage (M.medium «module».old) (M.medium «module».new) (λ image. (M.medium «module».old).images image
-        ⊎ IsOnTheWay cca s no_random input (λ t. IsModuleOf t image))) }
+        ⊎ IsOnTheWay cca s (E.left entropy.old) input (λ t. IsModuleOf t image))) }
     ensures at_end { result ≡ Status.Done → IsAtEnd (S.left source.new) }
     ensures sink_grows { WhereTold (K.held sink.old) (K.held sink.new) Grows }
 
@@ -104,6 +112,7 @@ pub fn run<S: Source, K: Sink, M: Disk>(
     ensures settled { ServesLines result → IsSettled (M.medium «module».new) }
     ensures unsound_source { (IsModuleSound (M.medium «module».old) → ⊥) → source.new ≡ source.old }
     ensures unsound_sink { (IsModuleSound (M.medium «module».old) → ⊥) → sink.new ≡ sink.old }
+    ensures unsound_entropy { (IsModuleSound (M.medium «module».old) → ⊥) → entropy.new ≡ entropy.old }
     ensures unsound_module { (IsModuleSound (M.medium «module».old) → ⊥)
         → Keeps (M.medium «module».old) (M.medium «module».new) }
 
@@ -120,8 +129,9 @@ pub fn run<S: Source, K: Sink, M: Disk>(
     ensures read_fault { result ≡ Status.ReadFault → Rose (S.faults source.old) (S.faults source.new) }
     ensures write_fault { result ≡ Status.WriteFault → Rose (K.faults sink.old) (K.faults sink.new) }
     ensures module_fault { result ≡ Status.ModuleFault → Rose (M.faults «module».old) (M.faults «module».new) }
+    ensures entropy_fault { result ≡ Status.EntropyFault
+        → Rose (E.faults entropy.old) (E.faults entropy.new) }
     ensures no_store { result ≡ Status.StoreFault → ⊥ }
-    ensures no_entropy { result ≡ Status.EntropyFault → ⊥ }
     ensures limit { WhereTold (S.left source.old) (S.left source.new) (λ input rest.
         (result ≡ Status.InputLimit) ↔ ((length input ≡ length rest + input_limit) × IsFaultless result)) }
     ensures size { (M.medium «module».new).size ≡ (M.medium «module».old).size }
@@ -133,6 +143,7 @@ pub fn run<S: Source, K: Sink, M: Disk>(
         → (Rose (S.faults source.old) (S.faults source.new) → ⊥)
         → (Rose (K.faults sink.old) (K.faults sink.new) → ⊥)
         → (Rose (M.faults «module».old) (M.faults «module».new) → ⊥)
+        → (Rose (E.faults entropy.old) (E.faults entropy.new) → ⊥)
         → WhereTold (S.left source.old) (S.left source.new) (λ input rest. length input < input_limit
         → (result ≡ Status.Done) ⊎ (result ≡ Status.NoMemory)) }
 
@@ -144,7 +155,7 @@ pub fn run<S: Source, K: Sink, M: Disk>(
         return Status::Usage;
     }
     match Session::new(alloc) {
-        Ok(mut session) => status_of(session.serve(bench, source, sink, module)),
+        Ok(mut session) => status_of(session.serve(bench, source, sink, module, entropy)),
         Err(_) => Status::NoMemory,
     }
 }

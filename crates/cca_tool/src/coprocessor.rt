@@ -56,10 +56,10 @@ impl Desk for Coprocessor {
         bench: &mut Workbench,
         module: &mut M,
         _store: &mut D,
-        _entropy: &mut E,
+        entropy: &mut E,
     ) -> Result<(), Stop> {
         match parse_request(line) {
-            Ok(request) => perform(&request, bench, module, &mut self.roles, reply),
+            Ok(request) => perform(&request, bench, module, entropy, &mut self.roles, reply),
             Err(_) => {
                 bench.wipe();
                 refuse_line(reply, 1);

@@ -15,13 +15,13 @@ ghost use Rattle.line_service.specs.Stops.{IsUnanswered, AnswersLines, IsFaultle
 ghost use Rattle.cca_machine.specs.State.{State, IsModuleOf, module_size};
 ghost use Rattle.cca_requests.specs.Serving.{IsSound};
 ghost use Rattle.cca_tool.specs.Sessions.{blank_memory};
-ghost use Rattle.cca_tool.specs.Coprocessor.{cca, over, no_random, remembers, IsBroken, IsModuleSound, IsStop, IsOpeningStop};
+ghost use Rattle.cca_tool.specs.Coprocessor.{cca, over, remembers, IsBroken, IsModuleSound, IsStop, IsOpeningStop};
 
 use crate::coprocessor::{Coprocessor, open_module};
 use cca_roles::Roles;
 use key_cells::Workbench;
 use line_service::{Device, Served, Stop, serve, serve_one};
-use slot_disk::{BlankDisk, BlankEntropy, Disk, NoMemory, Sink, Source};
+use slot_disk::{BlankDisk, Disk, Entropy, NoMemory, Sink, Source};
 use std::alloc::Global;
 use std::marker::Model;
 use verb_script::{LineBuffer, ReplyBuffer};
@@ -87,12 +87,13 @@ impl Session {
     /// Serves one line: it is taken from the source, judged and carried out, and the reply is sent.
     ///
     /// The session was begun, and no call of it has answered a stop since.
-    pub fn serve_one<S: Source, K: Sink, M: Disk>(
+    pub fn serve_one<S: Source, K: Sink, M: Disk, E: Entropy>(
         &mut self,
         bench: &mut Workbench,
         source: &mut S,
         sink: &mut K,
         module: &mut M,
+        entropy: &mut E,
     ) -> Result<Served, Stop>
         requires at_end { IsTrue self.old.reading.ended → IsAtEnd (S.left source.old) }
         requires size { (M.medium «module».old).size ≡ module_size }
@@ -101,7 +102,7 @@ impl Session {
 
         // What the line comes to, from the state for which the module stands.
         ensures serves { (s : State) → Holds (M.medium «module».old) (IsModuleOf s)
-            → LineServed cca s (remembers self.new.roles) result (over (M.medium «module».old)) (over (M.medium «module».new))
+            → LineServed cca s (remembers self.new.roles) result (over (M.medium «module».old) (E.left entropy.old)) (over (M.medium «module».new) (E.left entropy.new))
             (S.left source.old) (S.left source.new) (K.held sink.old) (K.held sink.new) self.old.reading self.new.reading }
         ensures sound { OnOk result (Told (M.medium «module».new) (IsSound self.new.roles)) }
 
@@ -130,6 +131,7 @@ impl Session {
         ensures sink_grows { WhereTold (K.held sink.old) (K.held sink.new) Grows }
         ensures roles_unmoved { IsUnanswered result → self.new.roles ≡ self.old.roles }
         ensures module_unmoved { IsUnanswered result → «module».new ≡ «module».old }
+        ensures entropy_unmoved { IsUnanswered result → entropy.new ≡ entropy.old }
 
         // What is left of each device, and why it stopped.
         ensures module_left { DiskLeft (M.medium «module».old) (M.medium «module».new)
@@ -137,13 +139,14 @@ impl Session {
         ensures module_cut { result ≡ Err Stop.WriteFault → IsSettled (M.medium «module».new) }
         ensures source_left { TellsFault (S.faults source.old) (S.faults source.new) result Stop.ReadFault }
         ensures sink_left { TellsFault (K.faults sink.old) (K.faults sink.new) result Stop.WriteFault }
+        ensures entropy_left { TellsFault (E.faults entropy.old) (E.faults entropy.new)
+            result Stop.EntropyFault }
         ensures undamaged { (cell : ℕ) → result ≡ Err (Stop.Damaged Device.Module cell)
             → Told (M.medium «module».old) (λ image. ⊥) }
         ensures stops { IfErr result IsStop }
         ensures bench { bench.new ≡ blank_bench }
     {
         let mut store = BlankDisk::new();
-        let mut entropy = BlankEntropy::new();
         serve_one(
             &mut self.desk,
             &mut self.lines,
@@ -153,36 +156,39 @@ impl Session {
             sink,
             module,
             &mut store,
-            &mut entropy,
+            entropy,
         )
     }
 
     /// Begins the session, and serves line after line to the end of the input. It takes no memory.
-    pub(crate) fn serve<S: Source, K: Sink, M: Disk>(
+    pub(crate) fn serve<S: Source, K: Sink, M: Disk, E: Entropy>(
         &mut self,
         bench: &mut Workbench,
         source: &mut S,
         sink: &mut K,
         module: &mut M,
+        entropy: &mut E,
     ) -> Result<(), Stop>
         requires { (M.medium «module».old).size ≡ module_size }
 
         ensures serves { (s : State) → Holds (M.medium «module».old) (IsModuleOf s)
-            → RunServed cca s result (over (M.medium «module».old)) (over (M.medium «module».new))
+            → RunServed cca s result (over (M.medium «module».old) (E.left entropy.old)) (over (M.medium «module».new) (E.left entropy.new))
             (S.left source.old) (S.left source.new) (K.held sink.old) (K.held sink.new) }
         ensures prefix { (s : State) → Holds (M.medium «module».old) (IsModuleOf s)
             → WhereTold (S.left source.old) (S.left source.new) (λ input rest.
-            PrefixSent cca s no_random input (K.held sink.old) (K.held sink.new)) }
+            PrefixSent cca s (E.left entropy.old) input (K.held sink.old) (K.held sink.new)) }
         ensures complete { (s : State) → Holds (M.medium «module».old) (IsModuleOf s)
             → (Rose (S.faults source.old) (S.faults source.new) → ⊥)
             → (Rose (K.faults sink.old) (K.faults sink.new) → ⊥)
             → (Rose (M.faults «module».old) (M.faults «module».new) → ⊥)
+            → (Rose (E.faults entropy.old) (E.faults entropy.new) → ⊥)
             → WhereTold (S.left source.old) (S.left source.new) (λ input rest.
             length input < input_limit → result ≡ Ok tt) }
 
         ensures sound { AnswersLines result → IsModuleSound (M.medium «module».old) }
         ensures unsound_source { (IsModuleSound (M.medium «module».old) → ⊥) → source.new ≡ source.old }
         ensures unsound_sink { (IsModuleSound (M.medium «module».old) → ⊥) → sink.new ≡ sink.old }
+        ensures unsound_entropy { (IsModuleSound (M.medium «module».old) → ⊥) → entropy.new ≡ entropy.old }
         ensures unsound_module { (IsModuleSound (M.medium «module».old) → ⊥)
             → Keeps (M.medium «module».old) (M.medium «module».new) }
         ensures damaged { (cell : ℕ) → result ≡ Err (Stop.Damaged Device.Module cell)
@@ -201,11 +207,12 @@ impl Session {
             (M.faults «module».old) (M.faults «module».new) result Stop.ModuleFault }
         ensures source_left { TellsFault (S.faults source.old) (S.faults source.new) result Stop.ReadFault }
         ensures sink_left { TellsFault (K.faults sink.old) (K.faults sink.new) result Stop.WriteFault }
+        ensures entropy_left { TellsFault (E.faults entropy.old) (E.faults entropy.new)
+            result Stop.EntropyFault }
         ensures stops { IfErr result IsStop }
         ensures bench { bench.new ≡ blank_bench }
     {
         let mut store = BlankDisk::new();
-        let mut entropy = BlankEntropy::new();
         serve(
             &mut self.desk,
             &mut self.lines,
@@ -215,7 +222,7 @@ impl Session {
             sink,
             module,
             &mut store,
-            &mut entropy,
+            entropy,
         )
     }
 }

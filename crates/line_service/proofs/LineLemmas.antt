@@ -1,6 +1,6 @@
 -- One line, as it is taken, answered and sent.
-use Rattle.std.proofs.Common.{◌≡◌, ℕ, zero, suc, ◌+◌, Bool, List, [], ◌∷◌, ◌++◌, length, Option, None, Some, IfSome, Result, Ok, Err, refl, ap, sym, ◌∙◌, subst, inl, inr, arith}
-use Rattle.std.specs.Prelude.{⊤, ◌⊎◌, ◌<◌, OnOk, replicate}
+use Rattle.std.proofs.Common.{◌≡◌, ℕ, zero, suc, ◌+◌, Bool, List, [], ◌∷◌, ◌++◌, length, Option, None, Some, Result, Ok, Err, refl, ap, sym, subst, inl, inr, arith}
+use Rattle.std.specs.Prelude.{⊤, ◌⊎◌, OnOk, replicate}
 use Rattle.std.specs.Io.KnownBytes.{Consumes}
 use Rattle.std.proofs.KnownBytes.{Consumes-nil}
 use Rattle.slot_disk.specs.Medium.{Medium, EachImage, EachPair, IsSettled}
@@ -15,11 +15,11 @@ use Rattle.line_service.specs.Machine.{Machine, World}
 use Rattle.line_service.specs.Sending.{GotPart}
 use Rattle.line_service.specs.Stops.{IsLineStop, IsDeskStop}
 use Rattle.line_service.specs.Answering.{Holds, Stands, Steps, Around, Both, Stays, Unwritten, Moves, Serves}
-use Rattle.line_service.specs.Serving.{IsTheLine, IsFrontOf, EachPairStands, StandsAround, LeadsOne, AnswersLine, CutsReply, LosesLine, IsAroundLine, LineServed}
+use Rattle.line_service.specs.Serving.{IsTheLine, IsFrontOf, EachPairStands, StandsAround, LeadsOne, LosesLine, IsAroundLine, LineServed}
 use Rattle.line_service.specs.declared.serving.Served.{Served}
 use Rattle.line_service.specs.declared.serving.Served.TheVariants.{Replied, Ended}
 use Rattle.line_service.specs.declared.stops.Stop.{Stop}
-use Rattle.line_service.specs.declared.stops.Stop.TheVariants.{EntropyFault, WriteFault, ReadFault, InputLimit, Damaged}
+use Rattle.line_service.specs.declared.stops.Stop.TheVariants.{WriteFault, ReadFault, InputLimit, Damaged}
 use Rattle.line_service.specs.declared.stops.Device.{Device}
 
 -- ---- disks

@@ -1,18 +1,18 @@
 -- A run from the disks as they were before they were opened.
-use Rattle.std.proofs.Common.{◌≡◌, ℕ, List, [], Option, None, Some, IfSome, Result, Ok, Err, refl, sym, ◌∙◌, subst, inl, inr}
-use Rattle.std.specs.Prelude.{⊤, ◌⊎◌}
-use Rattle.slot_disk.specs.Medium.{Medium, Told, EachImage, Keeps}
-use Rattle.slot_disk.specs.WhereTold.{WhereTold}
+use Rattle.std.proofs.Common.{◌≡◌, ℕ, List, Option, Result, Err, refl, ◌∙◌, subst, inl, inr}
+use Rattle.std.specs.Prelude.{◌⊎◌}
+use Rattle.slot_disk.specs.Medium.{Medium, Told, Keeps}
 use Rattle.slot_disk.proofs.Media.{goes_on, each_weaker, keeps_then, told_from, told_at}
 use Rattle.slot_disk.proofs.WhereToldLemmas.{told_same, told_weaker}
 use Rattle.line_service.specs.Machine.{Machine, World, world}
-use Rattle.line_service.specs.Stops.{IsLineStop, IsOpeningStop}
+use Rattle.line_service.specs.Stops.{IsOpeningStop}
 use Rattle.line_service.specs.Answering.{Holds, OnDisks, Stands, IsSound}
-use Rattle.line_service.specs.Serving.{IsOnTheWay, LineLost, Unopened, RunServed}
+use Rattle.line_service.specs.Serving.{LineLost, Unopened, RunServed}
 use Rattle.line_service.specs.declared.stops.Device.{Device}
 use Rattle.line_service.specs.declared.stops.Device.TheVariants.{Module, Store}
 use Rattle.line_service.specs.declared.stops.Stop.{Stop}
 use Rattle.line_service.specs.declared.stops.Stop.TheVariants.{ReadFault, WriteFault, InputLimit, Damaged}
+use Rattle.line_service.proofs.RunLemmas.{no_opening_draw}
 
 holds_still : (m0 m : Medium) (P : List ℕ → Type 0) → Keeps m0 m → Holds m0 P → Holds m P
 holds_still m0 m P kept holds = record { image = holds.image; told = kept.content ∙ holds.told; has = holds.has }
@@ -64,6 +64,7 @@ module _ (A : Machine) (m0 m d0 d : Medium) (random : Option (List ℕ)) (kept_m
     stopped = run.stopped;
     cut = run.cut;
     lost = λ stop kind is. told_weaker a b _ _ (λ i r x. by_case stop i r x) (run.lost stop kind is);
+    undrawn = run.undrawn;
     undamaged = run.undamaged;
     on_module = told_weaker a b _ _ (λ i r each. goes_on m0 m w1.module_ _ _ _ kept_m.moments each (λ c h. inl h) (λ c h. first m0 m kept_m c _ h)) run.on_module;
     on_store = told_weaker a b _ _ (λ i r each. goes_on d0 d w1.store _ _ _ kept_d.moments each (λ c h. inl h) (λ c h. first d0 d kept_d c _ h)) run.on_store;
@@ -98,6 +99,7 @@ module _ (A : Machine) (m0 m d0 d : Medium) (random : Option (List ℕ)) (kept_m
       on_module = kept_m;
       on_store = kept_d;
     }));
+    undrawn = λ h. absurd (no_opening_draw stop kind h);
     undamaged = λ device cell h. undamaged device cell (cc h);
     on_module = told_same a _ (λ x. each_weaker m0 m _ _ kept_m.moments (λ c h. inl h));
     on_store = told_same a _ (λ x. each_weaker d0 d _ _ kept_d.moments (λ c h. inl h));

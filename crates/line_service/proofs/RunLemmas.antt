@@ -1,15 +1,14 @@
 -- What holds however a run ended.
-use Rattle.std.proofs.Common.{◌≡◌, ℕ, ◌+◌, ◌<◌, List, [], ◌∷◌, ◌++◌, length, Option, None, Some, Result, Ok, Err, refl, ap, sym, ◌∙◌, subst, inl, inr, append_assoc, arith}
-use Rattle.std.specs.Prelude.{⊤, ◌⊎◌, ◌↔◌, IsOk}
+use Rattle.std.proofs.Common.{◌≡◌, ℕ, ◌+◌, ◌<◌, List, [], ◌∷◌, ◌++◌, length, Option, Result, Ok, Err, refl, ap, sym, ◌∙◌, subst, inl, inr, append_assoc, arith}
+use Rattle.std.specs.Prelude.{◌⊎◌, ◌↔◌, IsOk}
 use Rattle.std.proofs.lemmas.List.{append-nil}
 use Rattle.slot_disk.specs.WhereTold.{WhereTold}
 use Rattle.slot_disk.proofs.WhereToldLemmas.{told_weaker, told_same, told_both}
 use Rattle.script_buffers.specs.Lines.{lines}
 use Rattle.script_buffers.specs.Reading.{input_limit}
 use Rattle.script_buffers.proofs.LineLemmas.{lines-nil, lines-append}
-use Rattle.line_service.specs.Machine.{Machine, World, world}
-use Rattle.line_service.specs.Sending.{GotPart}
-use Rattle.line_service.specs.Serving.{Runs, Leads, Led, IsFrontOf, AllAnswered, WholeLinesAnswered, ReplyCut, LineLost, Unopened, PrefixSent, RunServed}
+use Rattle.line_service.specs.Machine.{Machine, World}
+use Rattle.line_service.specs.Serving.{Leads, Led, AllAnswered, WholeLinesAnswered, ReplyCut, LineLost, Unopened, PrefixSent, RunServed}
 use Rattle.line_service.specs.declared.stops.Stop.{Stop}
 use Rattle.line_service.specs.declared.stops.Stop.TheVariants.{ReadFault, WriteFault, ModuleFault, StoreFault, EntropyFault, Damaged, InputLimit}
 use Rattle.line_service.proofs.LineLemmas.{front_of}

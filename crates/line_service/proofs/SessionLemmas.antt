@@ -4,22 +4,22 @@ use Rattle.std.specs.Prelude.{◌⊎◌, ◌≢◌, IsTrue}
 use Rattle.std.specs.Io.KnownBytes.{Consumes}
 use Rattle.std.proofs.KnownBytes.{Consumes-nil, Consumes-trans}
 use Rattle.std.proofs.lemmas.List.{append-nil}
-use Rattle.slot_disk.specs.Medium.{Medium, EachImage, IsSettled}
+use Rattle.slot_disk.specs.Medium.{EachImage, IsSettled}
 use Rattle.slot_disk.specs.WhereTold.{WhereTold}
 use Rattle.slot_disk.proofs.Media.{goes_on, each_weaker}
-use Rattle.slot_disk.proofs.WhereToldLemmas.{told_then, told_same, told_weaker, told_both}
+use Rattle.slot_disk.proofs.WhereToldLemmas.{told_then, told_same, told_both}
 use Rattle.script_buffers.specs.Lines.{newline, lines, NoNewline, EndsLine}
 use Rattle.script_buffers.specs.Reading.{Reading, blank, LosesPart}
 use Rattle.script_buffers.proofs.LineLemmas.{lines-nil, lines-whole, lines-append}
 use Rattle.line_service.specs.Machine.{Machine, Outcome, World}
 use Rattle.line_service.specs.Sending.{GotPart}
 use Rattle.line_service.specs.Stops.{IsLineStop}
-use Rattle.line_service.specs.Answering.{OnDisks, Stands, Steps, Around, Both}
-use Rattle.line_service.specs.Serving.{session, Runs, IsFrontOf, Leads, Led, LeadsOne, IsOnTheWay, IsAroundLine, EachPairStands, StandsAround, AnswersLine, CutsReply, LosesLine, LineServed, AllAnswered, WholeLinesAnswered, ReplyCut, LineLost, Unopened}
+use Rattle.line_service.specs.Answering.{Stands, Steps, Around}
+use Rattle.line_service.specs.Serving.{session, Runs, IsFrontOf, Leads, Led, LeadsOne, IsOnTheWay, IsAroundLine, EachPairStands, StandsAround, AnswersLine, CutsReply, LosesLine, LineServed, AllAnswered, WholeLinesAnswered, ReplyCut, LineLost}
 use Rattle.line_service.specs.declared.serving.Served.{Served}
-use Rattle.line_service.specs.declared.serving.Served.TheVariants.{Replied, Ended}
+use Rattle.line_service.specs.declared.serving.Served.TheVariants.{Replied}
 use Rattle.line_service.specs.declared.stops.Stop.{Stop}
-use Rattle.line_service.specs.declared.stops.Stop.TheVariants.{WriteFault, EntropyFault}
+use Rattle.line_service.specs.declared.stops.Stop.TheVariants.{WriteFault}
 use Rattle.line_service.proofs.LineLemmas.{front_of, stays_still}
 
 -- ---- bytes

@@ -1,8 +1,8 @@
 -- What answering one line leaves.
-use Rattle.std.specs.Prelude.{◌≡◌, ◌⊎◌, ℕ, List, ◌++◌, Option, Some, Result, Ok, Err, OnOk, IfErr}
+use Rattle.std.specs.Prelude.{◌≡◌, ◌⊎◌, ℕ, List, ◌++◌, Some, Result, Err, OnOk, IfErr}
 use Rattle.std.specs.Io.KnownBytes.{Consumes}
 use Rattle.slot_disk.specs.Medium.{Medium, Told, EachImage, EachPair}
-use Rattle.line_service.specs.Machine.{Machine, Outcome, World}
+use Rattle.line_service.specs.Machine.{Machine, World}
 use Rattle.line_service.specs.Stops.{IsLineStop}
 use Rattle.line_service.specs.declared.stops.Stop.{Stop}
 use Rattle.line_service.specs.declared.stops.Stop.TheVariants.{EntropyFault}

@@ -15,7 +15,7 @@ use Rattle.line_service.specs.declared.stops.Device.{Device}
 use Rattle.line_service.specs.declared.stops.Stop.{Stop}
 use Rattle.line_service.specs.declared.stops.Stop.TheVariants.{ReadFault, WriteFault, InputLimit, EntropyFault, Damaged}
 use Rattle.line_service.specs.declared.serving.Served.{Served}
-use Rattle.line_service.specs.declared.serving.Served.TheVariants.{Replied, Ended}
+use Rattle.line_service.specs.declared.serving.Served.TheVariants.{Replied}
 
 -- the machine's replies to lines, one after another, the state after them, and the random bytes that are left
 abbrev pub session : (A : Machine) → A.State → List ℕ → List (List ℕ) → Outcome A.State
@@ -226,6 +226,8 @@ pub record RunServed (A : Machine) (s : A.State) (result : Result (Unit {0}) Sto
   pub cut : result ≡ Err WriteFault → WhereTold input rest (λ i r. ReplyCut A s old.random new i before now)
   pub lost : (stop : Stop) → IsLineStop stop → result ≡ Err stop
       → WhereTold input rest (λ i r. LineLost A stop s old.random new i before now ⊎ Unopened old new i r before now)
+  -- random bytes are taken at a line alone
+  pub undrawn : result ≡ Err EntropyFault → WhereTold input rest (λ i r. LineLost A EntropyFault s old.random new i before now)
   pub undamaged : (device : Device) (cell : ℕ) → result ≡ Err (Damaged device cell) → ⊥
   pub on_module : WhereTold input rest (λ i r. EachImage old.module_ new.module_
       (λ c. old.module_.images c ⊎ IsOnTheWay A s old.random i (λ t. A.InModule t c)))

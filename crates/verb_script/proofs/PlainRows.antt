@@ -1,16 +1,17 @@
 -- No row of the grammar has a space in its verb, in a field's name or in a field's values. Of verbs, names and
 -- words this is computed; each further kind of value has a fact.
-use Rattle.std.proofs.Common.{◌≡◌, ℕ, ◌==◌, ◌&&◌, Bool, true, false, not, List, [], ◌∷◌, refl, sym, ap, subst, inl, inr}
+use Rattle.std.proofs.Common.{◌≡◌, ℕ, ◌==◌, ◌&&◌, Bool, true, false, not, List, [], ◌∷◌, ◌++◌, take, drop, codes, refl, sym, ap, subst, inl, inr}
 use Rattle.std.specs.Prelude.{IsTrue, ⊤}
 use Rattle.std.specs.List.{All, list_all, list_any}
 use Rattle.std.specs.Str.{bytes_eq}
 use Rattle.std.proofs.lemmas.Bool.{and_parts, or_cases}
 use Rattle.std.proofs.lemmas.Bool.Decides.{Decides-eqb}
-use Rattle.std.proofs.lemmas.List.Elements.{All-nil, All-cons}
+use Rattle.std.proofs.lemmas.List.Elements.{All-nil, All-cons, All-append}
+use Rattle.std.proofs.lemmas.List.{take-append-drop}
 use Rattle.std.proofs.lemmas.Slice.Eq.{bytes_eq-Decides}
 use Rattle.hex.specs.Hex.{is_hex_digit}
 use Rattle.cca_roles.specs.RoleNames.{is_role_name, is_name_byte}
-use Rattle.verb_script.specs.Grammar.{Values, role_name, other_role, points, hex_digits, one_of, accepts, is_hex, FieldForm, Row, RequestName, csnbktp, row_of}
+use Rattle.verb_script.specs.Grammar.{Values, role_name, other_role, points, hex_digits, one_of, key_text, hex_text, mac_text, accepts, is_hex, FieldForm, Row, RequestName, csnbktp, row_of}
 
 -- no space stands in the text
 abbrev pub NoSpace : List ℕ → Type 0
@@ -57,6 +58,9 @@ are_plain_values other_role = true
 are_plain_values points = true
 are_plain_values (hex_digits digits) = true
 are_plain_values (one_of choices) = list_all is_plain choices
+are_plain_values key_text = true
+are_plain_values hex_text = true
+are_plain_values mac_text = true
 
 abbrev pub is_plain_field : FieldForm → Bool
 is_plain_field f = is_plain f.name && are_plain_values f.values
@@ -81,12 +85,31 @@ choices_plain (c ∷ cs) v plain h =
       | inr other ↦ choices_plain cs v both.1 other
     ]
 
+hex_values : (digits : ℕ) (v : List ℕ) → is_hex digits v ≡ true → NoSpace v
+hex_values digits v h = no_space is_hex_digit refl v (and_parts _ (list_all is_hex_digit v) h).1
+
+key_values : (v : List ℕ) → IsTrue (accepts key_text v) → NoSpace v
+key_values v h =
+    let both = and_parts (bytes_eq (take 2 v) (codes "T:")) (is_hex 128 (drop 2 v)) h in
+    let front : NoSpace (take 2 v) = subst NoSpace (sym ((bytes_eq-Decides (take 2 v) (codes "T:")).0 both.0)) (plain_text (codes "T:") refl) in
+    subst NoSpace (take-append-drop 2 v) (All-append (λ c. (c == 32) ≡ false) (take 2 v) (drop 2 v) front (hex_values 128 (drop 2 v) both.1))
+
+mac_values : (lengths : List ℕ) (v : List ℕ) → list_any (λ digits. is_hex digits v) lengths ≡ true → NoSpace v
+mac_values [] v h = cc
+mac_values (digits ∷ others) v h = elim (or_cases (is_hex digits v) (list_any (λ k. is_hex k v) others) h) [
+  | inl here ↦ hex_values digits v here
+  | inr later ↦ mac_values others v later
+]
+
 values_plain : (values : Values) (v : List ℕ) → are_plain_values values ≡ true → IsTrue (accepts values v) → NoSpace v
 values_plain role_name v plain h = role_values v h
 values_plain other_role v plain h = role_values v (and_parts (is_role_name v) _ h).0
 values_plain points v plain h = no_space is_hex_digit refl v (and_parts _ (list_all is_hex_digit v) (and_parts (is_hex 8 v) _ h).0).1
 values_plain (hex_digits digits) v plain h = no_space is_hex_digit refl v (and_parts _ (list_all is_hex_digit v) h).1
 values_plain (one_of choices) v plain h = choices_plain choices v plain h
+values_plain key_text v plain h = key_values v h
+values_plain hex_text v plain h = no_space is_hex_digit refl v (and_parts _ (list_all is_hex_digit v) h).1
+values_plain mac_text v plain h = mac_values (8 ∷ 12 ∷ 16 ∷ []) v h
 
 fields_plain : (fs : List FieldForm) → list_all is_plain_field fs ≡ true → ArePlain fs
 fields_plain [] h = tt

@@ -1,6 +1,6 @@
 -- The grammar of request lines: a table of rows. A line is words with one space between them. The first
 -- word is the verb, and each further one is a field's name, an equals sign and the field's value.
-use Rattle.std.specs.Prelude.{◌≡◌, ℕ, ◌==◌, ◌&&◌, not, Bool, List, [], ◌∷◌, ◌++◌, length, codes, IsTrue, ⊤, if◌then◌else◌}
+use Rattle.std.specs.Prelude.{◌≡◌, ℕ, ◌==◌, ◌%◌, ◌&&◌, not, Bool, List, [], ◌∷◌, ◌++◌, length, take, drop, codes, IsTrue, ⊤, if◌then◌else◌}
 use Rattle.std.specs.Int.{from_be_bytes, w32}
 use Rattle.std.specs.List.{list_all, list_any}
 use Rattle.std.specs.Str.{bytes_eq}
@@ -12,6 +12,9 @@ use Rattle.verb_script.specs.Values.{hex_value}
 -- exactly so many hexadecimal digits, of either case
 abbrev pub is_hex : ℕ → List ℕ → Bool
 is_hex digits text = length text == digits && list_all is_hex_digit text
+
+abbrev pub is_even : ℕ → Bool
+is_even n = n % 2 == 0
 
 -- which texts are values of a field
 pub data Values : Type 0 where
@@ -25,6 +28,12 @@ pub data Values : Type 0 where
   hex_digits : ℕ → Values
   -- one of these words
   one_of : List (List ℕ) → Values
+  -- a key token: `T:` and 128 hexadecimal digits
+  key_text : Values
+  -- an even number of hexadecimal digits
+  hex_text : Values
+  -- a message authentication code: 8, 12 or 16 hexadecimal digits
+  mac_text : Values
 
 abbrev pub accepts : Values → List ℕ → Bool
 accepts role_name text = is_role_name text
@@ -32,6 +41,9 @@ accepts other_role text = is_role_name text && not (bytes_eq text default_name)
 accepts points text = is_hex 8 text && are_points (from_be_bytes w32 (hex_value text))
 accepts (hex_digits digits) text = is_hex digits text
 accepts (one_of choices) text = list_any (bytes_eq text) choices
+accepts key_text text = bytes_eq (take 2 text) (codes "T:") && is_hex 128 (drop 2 text)
+accepts hex_text text = is_even (length text) && list_all is_hex_digit text
+accepts mac_text text = list_any (λ digits. is_hex digits text) (8 ∷ 12 ∷ 16 ∷ [])
 
 -- what a text says: of access control points the four bytes that the digits spell, and else itself
 abbrev pub meaning : Values → List ℕ → List ℕ
@@ -40,6 +52,9 @@ meaning other_role text = text
 meaning points text = hex_value text
 meaning (hex_digits digits) text = text
 meaning (one_of choices) text = text
+meaning key_text text = text
+meaning hex_text text = text
+meaning mac_text text = text
 
 -- a field: its name and its values
 pub record FieldForm : Type 0 where
@@ -71,6 +86,23 @@ part_field = digits_field (codes "part") 48
 abbrev pub action_field : List (List ℕ) → FieldForm
 action_field choices = word_field (codes "action") choices
 
+-- the token of a key
+abbrev pub key_field : FieldForm
+key_field = record { name = codes "key"; values = key_text }
+
+-- the first vector of a chain of blocks
+abbrev pub iv_field : FieldForm
+iv_field = digits_field (codes "iv") 16
+
+abbrev pub pad_field : FieldForm
+pad_field = word_field (codes "pad") (codes "NONE" ∷ codes "X9.23" ∷ [])
+
+abbrev pub text_field : FieldForm
+text_field = record { name = codes "text"; values = hex_text }
+
+abbrev pub rule_field : FieldForm
+rule_field = word_field (codes "rule") (codes "X9.9-1" ∷ codes "X9.19OPT" ∷ [])
+
 -- the name of the role that a request defines or removes
 abbrev pub name_field : Values → FieldForm
 name_field values = record { name = codes "name"; values = values }
@@ -81,6 +113,13 @@ points_field = record { name = codes "points"; values = points }
 -- the requests, one for each row
 pub data RequestName : Type 0 where
   csnbktp : RequestName
+  csnbenc : RequestName
+  csnbdec : RequestName
+  csnbmgn : RequestName
+  csnbmvr : RequestName
+  csnbkyt : RequestName
+  csnbcki : RequestName
+  csnbrng : RequestName
   csnbmkp_part : RequestName
   csnbmkp_clear : RequestName
   csnbmkp_set : RequestName
@@ -90,6 +129,25 @@ pub data RequestName : Type 0 where
 -- the grammar
 abbrev pub row_of : RequestName → Row
 row_of csnbktp = record { verb = codes "CSNBKTP"; fields = role_field ∷ token_field ∷ [] }
+row_of csnbenc = record { verb = codes "CSNBENC"; fields = role_field ∷ key_field ∷ iv_field ∷ pad_field ∷ text_field ∷ [] }
+row_of csnbdec = record { verb = codes "CSNBDEC"; fields = role_field ∷ key_field ∷ iv_field ∷ pad_field ∷ text_field ∷ [] }
+row_of csnbmgn = record {
+  verb = codes "CSNBMGN";
+  fields = role_field ∷ key_field ∷ rule_field ∷ word_field (codes "length") (codes "4" ∷ codes "6" ∷ codes "8" ∷ []) ∷ text_field ∷ [];
+}
+row_of csnbmvr = record {
+  verb = codes "CSNBMVR";
+  fields = role_field ∷ key_field ∷ rule_field ∷ record { name = codes "mac"; values = mac_text } ∷ text_field ∷ [];
+}
+row_of csnbkyt = record { verb = codes "CSNBKYT"; fields = role_field ∷ key_field ∷ [] }
+row_of csnbcki = record {
+  verb = codes "CSNBCKI";
+  fields = role_field ∷ digits_field (codes "clear") 16 ∷ word_field (codes "to") (codes "-" ∷ []) ∷ [];
+}
+row_of csnbrng = record {
+  verb = codes "CSNBRNG";
+  fields = role_field ∷ word_field (codes "form") (codes "RANDOM" ∷ codes "ODD" ∷ codes "EVEN" ∷ []) ∷ [];
+}
 row_of csnbmkp_part = record {
   verb = codes "CSNBMKP";
   fields = role_field ∷ action_field (codes "FIRST" ∷ codes "MIDDLE" ∷ codes "LAST" ∷ []) ∷ part_field ∷ [];
@@ -107,7 +165,8 @@ row_of csuaaci_remove = record {
 
 -- the rows in their order; no line spells requests of two rows
 abbrev pub all_requests : List RequestName
-all_requests = csnbktp ∷ csnbmkp_part ∷ csnbmkp_clear ∷ csnbmkp_set ∷ csuaaci_define ∷ csuaaci_remove ∷ []
+all_requests =
+    csnbktp ∷ csnbenc ∷ csnbdec ∷ csnbmgn ∷ csnbmvr ∷ csnbkyt ∷ csnbcki ∷ csnbrng ∷ csnbmkp_part ∷ csnbmkp_clear ∷ csnbmkp_set ∷ csuaaci_define ∷ csuaaci_remove ∷ []
 
 -- a request: its row, and what the row's fields say
 pub record Request : Type 0 where
@@ -147,6 +206,9 @@ IsValue other_role value = IsTrue (accepts other_role value)
 IsValue points value = ⊤
 IsValue (hex_digits digits) value = IsTrue (accepts (hex_digits digits) value)
 IsValue (one_of choices) value = IsTrue (accepts (one_of choices) value)
+IsValue key_text value = IsTrue (accepts key_text value)
+IsValue hex_text value = IsTrue (accepts hex_text value)
+IsValue mac_text value = IsTrue (accepts mac_text value)
 
 abbrev pub AreValues : List FieldForm → List (List ℕ) → Type 0
 AreValues [] [] = ⊤

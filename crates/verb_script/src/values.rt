@@ -1,6 +1,6 @@
 //! The values that fields accept.
 ghost use Rattle.std.specs.Prelude.{◌≡◌};
-ghost use Rattle.verb_script.specs.Grammar.{is_hex};
+ghost use Rattle.verb_script.specs.Grammar.{is_hex, accepts, key_text, hex_text, mac_text};
 ghost use Rattle.std.specs.List.{list_all, list_any};
 ghost use Rattle.std.specs.Str.{bytes_eq};
 ghost use Rattle.verb_script.specs.Words.{texts};
@@ -23,6 +23,30 @@ pub(crate) fn is_hex_of(text: &[u8], digits: usize) -> bool
     ensures { result ≡ is_hex digits text.now }
 {
     text.len() == digits && are_hex_digits(text)
+}
+
+/// Whether the text is an even number of hexadecimal digits.
+pub(crate) fn is_hex_text(text: &[u8]) -> bool
+    ensures { result ≡ accepts hex_text text.now }
+{
+    text.len() % 2 == 0 && are_hex_digits(text)
+}
+
+/// Whether the text is a message authentication code.
+pub(crate) fn is_mac(text: &[u8]) -> bool
+    ensures { result ≡ accepts mac_text text.now }
+{
+    is_hex_of(text, 8) || is_hex_of(text, 12) || is_hex_of(text, 16)
+}
+
+/// Whether the text is a key token.
+pub(crate) fn is_key(text: &[u8]) -> bool
+    ensures { result ≡ accepts key_text text.now }
+{
+    match text {
+        [b'T', b':', digits @ ..] => is_hex_of(digits, 128),
+        _ => false,
+    }
 }
 
 fn has_same(text: &[u8], choices: &[&[u8]]) -> bool

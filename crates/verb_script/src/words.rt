@@ -6,13 +6,13 @@ ghost use Rattle.std.specs.Option.{option_map};
 ghost use Rattle.std.specs.Str.{bytes_eq};
 ghost use Rattle.cca_roles.specs.Points.{are_points};
 ghost use Rattle.cca_roles.specs.RoleNames.{default_name};
-ghost use Rattle.verb_script.specs.Grammar.{role_name, other_role, points, hex_digits, one_of, is_hex};
+ghost use Rattle.verb_script.specs.Grammar.{role_name, other_role, points, hex_digits, one_of, key_text, hex_text, mac_text, is_hex};
 ghost use Rattle.verb_script.specs.Values.{hex_value};
 ghost use Rattle.verb_script.specs.Requests.{words, value_after, first_value, at_end};
 ghost use Rattle.verb_script.specs.Words.{words_left, unread, texts};
 
 use crate::digits::decode;
-use crate::values::{is_hex_of, is_one_of};
+use crate::values::{is_hex_of, is_hex_text, is_key, is_mac, is_one_of};
 use cca_roles::{AccessPoints, RoleName};
 
 /// The place of the first space.
@@ -120,6 +120,36 @@ fn choice_in<'a>(word: &'a [u8], prefix: &[u8], choices: &[&[u8]]) -> Option<&'a
     }
 }
 
+/// The key token in a word that is the prefix and that token.
+fn key_in<'a>(word: &'a [u8], prefix: &[u8]) -> Option<&'a [u8]>
+    ensures { option_copied result ≡ value_after prefix.now key_text word.now }
+{
+    match after(word, prefix) {
+        Some(value) if is_key(value) => Some(value),
+        _ => None,
+    }
+}
+
+/// The digits in a word that is the prefix and an even number of hexadecimal digits.
+fn text_in<'a>(word: &'a [u8], prefix: &[u8]) -> Option<&'a [u8]>
+    ensures { option_copied result ≡ value_after prefix.now hex_text word.now }
+{
+    match after(word, prefix) {
+        Some(value) if is_hex_text(value) => Some(value),
+        _ => None,
+    }
+}
+
+/// The digits in a word that is the prefix and a message authentication code.
+fn mac_in<'a>(word: &'a [u8], prefix: &[u8]) -> Option<&'a [u8]>
+    ensures { option_copied result ≡ value_after prefix.now mac_text word.now }
+{
+    match after(word, prefix) {
+        Some(value) if is_mac(value) => Some(value),
+        _ => None,
+    }
+}
+
 /// The words of a line that aren't read yet.
 #[derive(Clone, Copy)]
 pub(crate) struct Words<'a> {
@@ -176,6 +206,30 @@ impl<'a> Words<'a> {
         ensures rest { unread self.new ≡ drop 1 (unread self.old) }
     {
         hex_in(self.next()?, prefix, digits)
+    }
+
+    /// The key token in the next word, which is the prefix and that token.
+    pub(crate) fn key(&mut self, prefix: &[u8]) -> Option<&'a [u8]>
+        ensures value { option_copied result ≡ first_value prefix.now key_text (unread self.old) }
+        ensures rest { unread self.new ≡ drop 1 (unread self.old) }
+    {
+        key_in(self.next()?, prefix)
+    }
+
+    /// The digits in the next word, which is the prefix and an even number of hexadecimal digits.
+    pub(crate) fn text(&mut self, prefix: &[u8]) -> Option<&'a [u8]>
+        ensures value { option_copied result ≡ first_value prefix.now hex_text (unread self.old) }
+        ensures rest { unread self.new ≡ drop 1 (unread self.old) }
+    {
+        text_in(self.next()?, prefix)
+    }
+
+    /// The digits in the next word, which is the prefix and a message authentication code.
+    pub(crate) fn mac(&mut self, prefix: &[u8]) -> Option<&'a [u8]>
+        ensures value { option_copied result ≡ first_value prefix.now mac_text (unread self.old) }
+        ensures rest { unread self.new ≡ drop 1 (unread self.old) }
+    {
+        mac_in(self.next()?, prefix)
     }
 
     /// The choice in the next word, which is the prefix and one of the choices.

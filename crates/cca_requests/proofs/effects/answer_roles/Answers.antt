@@ -6,5 +6,5 @@ use Rattle.cca_requests.proofs.effects.answer_roles.Goals as goal
 
 pub returns-in-Ok-clause-reply : goal.returns-in-Ok-clause-reply
 returns-in-Ok-clause-reply c =
-    c.finish.ensures [] (no_fields c.args.reply.now c.ok.new.self c.requires c.ok.ensures.bytes)
+    c.end.ensures [] (no_fields c.args.reply.now c.ok.new.self c.requires c.ok.ensures.bytes)
     ∙ ap (λ o. spelled (role_reply o)) (sym c.in-Ok.is)

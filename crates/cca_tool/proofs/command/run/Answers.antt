@@ -1,16 +1,14 @@
 -- The status tells how the lines ended; and where no device was called, nothing has changed.
 use Rattle.cca_tool.specs.declared.command.Status.TheVariants as status
 use Rattle.line_service.specs.declared.stops.Stop.TheVariants.{ModuleFault}
-use Rattle.std.proofs.Common.{inl, inr}
-use Rattle.std.specs.Prelude.{◌⊎◌}
 use Rattle.cca_tool.proofs.StatusLemmas.{as_told, stopped_as, judged_as, complete_as, prefix_still}
 use Rattle.cca_tool.proofs.command.run.Goals as goal
 
 pub returns-then-not-are_run-clause-prefix : goal.returns-then-not-are_run-clause-prefix
-returns-then-not-are_run-clause-prefix g c = λ s holds. prefix_still s (g.S.Source.left c.args.source.now) (g.K.Sink.held c.args.sink.now)
+returns-then-not-are_run-clause-prefix g c = λ s holds. prefix_still s (g.E.Entropy.left c.args.entropy.now) (g.S.Source.left c.args.source.now) (g.K.Sink.held c.args.sink.now)
 
 pub returns-in-Err-clause-prefix : goal.returns-in-Err-clause-prefix
-returns-in-Err-clause-prefix g c = λ s holds. prefix_still s (g.S.Source.left c.args.source.now) (g.K.Sink.held c.args.sink.now)
+returns-in-Err-clause-prefix g c = λ s holds. prefix_still s (g.E.Entropy.left c.args.entropy.now) (g.S.Source.left c.args.source.now) (g.K.Sink.held c.args.sink.now)
 
 pub returns-in-Ok-clause-done : goal.returns-in-Ok-clause-done
 returns-in-Ok-clause-done g c = λ h s holds.
@@ -36,6 +34,10 @@ returns-in-Ok-clause-judged g c = λ words still.
     judged_as c.serve.result c.status_of.result c.status_of.ensures (g.M.Disk.medium c.args.module.now) (c.serve.ensures.judged still)
 
 pub returns-in-Ok-clause-complete : goal.returns-in-Ok-clause-complete
-returns-in-Ok-clause-complete g c = λ words s holds reads writes changes.
+returns-in-Ok-clause-complete g c = λ words s holds reads writes changes draws.
     complete_as c.serve.result c.status_of.result c.status_of.ensures (g.S.Source.left c.args.source.now) (g.S.Source.left c.serve.new.source)
-    (c.serve.ensures.complete s holds reads writes changes)
+    (c.serve.ensures.complete s holds reads writes changes draws)
+
+pub returns-in-Ok-clause-undrawn : goal.returns-in-Ok-clause-undrawn
+returns-in-Ok-clause-undrawn g c = λ h s holds.
+    (c.serve.ensures.serves s holds).undrawn (as_told c.serve.result c.status_of.result c.status_of.ensures status.EntropyFault h)

@@ -1,5 +1,5 @@
 -- Registers that are loaded and roles that are opened are those of a state; and a broken cell is the one that is named.
-use Rattle.std.proofs.Common.{◌≡◌, ◌∙◌, ℕ, List, Err, refl, ap, subst, arith}
+use Rattle.std.proofs.Common.{◌∙◌, ℕ, Err, ap, subst, arith}
 use Rattle.slot_disk.specs.Medium.{Told}
 use Rattle.slot_disk.proofs.WhereToldLemmas.{rose_wider}
 use Rattle.key_cells.specs.Lease.{bench_of}

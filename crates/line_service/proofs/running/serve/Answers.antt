@@ -1,8 +1,6 @@
 -- A run serves from the state of its disks.
-use Rattle.std.proofs.Common.{◌≡◌, Err, Option, List, ℕ, ap, ◌∙◌, arith}
-use Rattle.slot_disk.specs.Medium.{Medium}
+use Rattle.std.proofs.Common.{Err, ap, ◌∙◌, arith}
 use Rattle.line_service.specs.Machine.{world}
-use Rattle.line_service.specs.declared.stops.Stop.{Stop}
 use Rattle.line_service.proofs.OpeningLemmas.{stands_opened, opened, unopened, unbroken, never_told, never_both, module_unbroken, store_unbroken}
 use Rattle.line_service.proofs.RunLemmas.{prefix_sent, completes, limit_is, no_limit, no_opening_read, no_opening_write, no_opening_draw}
 use Rattle.slot_disk.proofs.WhereToldLemmas.{rose_wider}

@@ -1,14 +1,14 @@
 -- The run goes on from line to line, and each exit follows from how far it has come.
-use Rattle.std.proofs.Common.{◌≡◌, ◌+◌, length, Ok, Err, List, ℕ, Option, ap, ◌∙◌, refl, inl, inr, arith}
-use Rattle.std.specs.Prelude.{◌⊎◌}
+use Rattle.std.proofs.Common.{◌≡◌, Ok, Err, Result, List, ℕ, Option, ap, ◌∙◌, refl, inl, inr, arith}
 use Rattle.slot_disk.specs.WhereTold.{WhereTold}
 use Rattle.slot_disk.proofs.WhereToldLemmas.{told_weaker}
 use Rattle.line_service.specs.Machine.{World, world}
 use Rattle.line_service.specs.Serving.{AllAnswered, WholeLinesAnswered, LineLost}
-use Rattle.line_service.specs.declared.serving.Served.TheVariants.{Ended}
-use Rattle.line_service.specs.declared.stops.Stop.TheVariants.{WriteFault, ReadFault, InputLimit, Damaged}
+use Rattle.line_service.specs.Stops.{IsLineStop}
+use Rattle.line_service.specs.declared.stops.Stop.{Stop}
+use Rattle.line_service.specs.declared.stops.Stop.TheVariants.{WriteFault, EntropyFault, Damaged}
 use Rattle.line_service.proofs.SessionLemmas.{has_served_nothing, has_served_more, has_served_all, has_served_whole, has_served_cut, has_served_lost, module_moments, store_moments, counted_on, counted_nothing, blank_open}
-use Rattle.line_service.proofs.StopLemmas.{same_stop, stopped_as, no_stop, not_ended, same_world, same_held, told_back, both_told_back, grows_on, grows_none, not_replied, not_cut, line_not_cut, ended_unsent, ended_uncut}
+use Rattle.line_service.proofs.StopLemmas.{same_stop, stopped_as, no_stop, not_ended, same_world, same_held, grows_on, grows_none, not_replied, not_cut, line_not_cut, ended_unsent, ended_uncut}
 use Rattle.line_service.proofs.running.serve_all.Goals as goal
 
 pub each_line-init : goal.each_line-init
@@ -96,6 +96,13 @@ returns-in-Err-clause-serves g c = λ s stands.
     let stop = c.in-Err.stop in
     let after = c.serve_one.ensures in
     let served = c.each_line.invariant.served s stands in
+    let line_lost : (other : Stop) → IsLineStop other → ◌≡◌ {A = Result (Unit {0}) Stop} (Err stop) (Err other) → WhereTold i0 i2 (λ i r. LineLost A other s first.random last i o0 o2)
+    = λ other kind h.
+    let is = same_stop c.serve_one.result stop other c.in-Err.is h in
+    same_held g.K.Sink.held (λ (o : Option (List ℕ)). WhereTold i0 i2 (λ i r. LineLost A other s first.random last i o0 o)) c.each_line.sink c.serve_one.new.sink
+    (after.sink_unmoved (not_replied c.serve_one.result stop c.in-Err.is) (line_not_cut c.serve_one.result other kind is))
+    (has_served_lost A s k1 k2 first now last i0 i1 i2 o0 o1 o2 c.each_line.lines c.serve_one.new.lines _ c.serve_one.result
+    served after.counted after.serves other kind is) in
     record {
       done = λ h. absurd (cc h);
       stopped = λ h.
@@ -110,13 +117,8 @@ returns-in-Err-clause-serves g c = λ s stands.
           (after.part_lost as_line)));
       cut = λ h. has_served_cut A s k1 k2 first now last i0 i1 i2 o0 o1 o2 c.each_line.lines c.serve_one.new.lines _ c.serve_one.result
           served after.counted after.serves (same_stop c.serve_one.result stop WriteFault c.in-Err.is h);
-      lost = λ other kind h.
-          let is = same_stop c.serve_one.result stop other c.in-Err.is h in
-          told_weaker i0 i2 _ _ (λ i r x. inl x)
-          (same_held g.K.Sink.held (λ (o : Option (List ℕ)). WhereTold i0 i2 (λ i r. LineLost A other s first.random last i o0 o)) c.each_line.sink c.serve_one.new.sink
-          (after.sink_unmoved (not_replied c.serve_one.result stop c.in-Err.is) (line_not_cut c.serve_one.result other kind is))
-          (has_served_lost A s k1 k2 first now last i0 i1 i2 o0 o1 o2 c.each_line.lines c.serve_one.new.lines _ c.serve_one.result
-          served after.counted after.serves other kind is));
+      lost = λ other kind h. told_weaker i0 i2 _ _ (λ i r x. inl x) (line_lost other kind h);
+      undrawn = λ h. line_lost EntropyFault tt h;
       undamaged = λ device cell h.
           let here = c.each_line.invariant.stands s stands in
           (after.serves here.0 here.1).undamaged device cell (same_stop c.serve_one.result stop (Damaged device cell) c.in-Err.is h);
@@ -158,6 +160,7 @@ returns-in-Ok-Ended-clause-serves g c = λ s stands.
       stopped = λ h. absurd (no_stop h);
       cut = λ h. absurd (cc h);
       lost = λ stop kind h. absurd (cc h);
+      undrawn = λ h. absurd (cc h);
       undamaged = λ device cell h. cc h;
       on_module = module_moments A s k1 k2 first now last i0 i1 i2 o0 o1 o2 c.each_line.lines c.serve_one.new.lines _ c.serve_one.result served after.counted after.serves;
       on_store = store_moments A s k1 k2 first now last i0 i1 i2 o0 o1 o2 c.each_line.lines c.serve_one.new.lines _ c.serve_one.result served after.counted after.serves;

@@ -1,10 +1,9 @@
 -- What a line leaves, by how far it came.
-use Rattle.std.proofs.Common.{◌≡◌, ◌++◌, ℕ, List, refl, subst}
+use Rattle.std.proofs.Common.{◌≡◌, ◌++◌, ℕ, List, subst}
 use Rattle.slot_disk.specs.WhereTold.{WhereTold}
-use Rattle.slot_disk.proofs.WhereToldLemmas.{told_same}
 use Rattle.line_service.specs.Machine.{world}
 use Rattle.line_service.specs.Sending.{GotPart}
-use Rattle.line_service.proofs.LineLemmas.{line_replied, line_cut, line_lost, line_ended, line_unread, line_over}
+use Rattle.line_service.proofs.LineLemmas.{line_replied, line_cut, line_lost}
 use Rattle.line_service.proofs.serving.serve_one.Goals as goal
 
 pub returns-in-Ok-send-clause-serves : goal.returns-in-Ok-send-clause-serves

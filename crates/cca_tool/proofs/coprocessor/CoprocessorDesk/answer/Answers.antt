@@ -14,14 +14,15 @@ pub returns-in-Ok-clause-serves : goal.returns-in-Ok-clause-serves
 returns-in-Ok-clause-serves g c = λ s stands.
     request_serves s c.args.line.now (seen c.in-Ok.request) c.requires.short (sym c.in-Ok.ensures.exact) c.perform.result c.perform.new.reply
     c.args.self.now.roles c.perform.new.roles
-    (g.M.Disk.medium c.args.module.now) (g.M.Disk.medium c.perform.new.module) (g.D.Disk.medium c.args._store.now) (g.E.Entropy.left c.args._entropy.now)
-    (seen c.in-Ok.request, c.in-Ok.ensures.found) c.perform.ensures.stops stands
+    (g.M.Disk.medium c.args.module.now) (g.M.Disk.medium c.perform.new.module) (g.D.Disk.medium c.args._store.now)
+    (g.E.Entropy.left c.args.entropy.now) (g.E.Entropy.left c.perform.new.entropy)
+    c.requires.module_settled stands c.in-Ok.ensures.found c.perform.ensures.stops
     (c.perform.ensures.serves s (record { in_module = stands.disks.in_module; memory = stands.agrees }))
 
 pub returns-in-Err-clause-serves : goal.returns-in-Err-clause-serves
 returns-in-Err-clause-serves g c = λ s stands.
     unspelled_serves s (remembers c.args.self.now.roles) c.args.line.now c.refuse_line.new.reply
-    (g.M.Disk.medium c.args.module.now) (g.D.Disk.medium c.args._store.now) (g.E.Entropy.left c.args._entropy.now)
+    (g.M.Disk.medium c.args.module.now) (g.D.Disk.medium c.args._store.now) (g.E.Entropy.left c.args.entropy.now)
     c.requires.short (sym c.in-Err.ensures.exact) c.refuse_line.ensures stands c.requires.module_settled c.requires.store_settled
 
 pub returns-in-Ok-clause-module_sound : goal.returns-in-Ok-clause-module_sound

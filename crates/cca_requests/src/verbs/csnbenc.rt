@@ -1,0 +1,48 @@
+//! CSNBENC: a text enciphered under a key.
+ghost use Rattle.std.specs.Prelude.{◌≡◌, ◌/◌, ◌∷◌, [], IsTrue, codes, length};
+ghost use Rattle.key_cells.specs.Lease.{bench_of, holding};
+ghost use Rattle.script_buffers.specs.Replies.{Hex};
+ghost use Rattle.verb_rules.specs.Keys.{HasHalves, opened};
+ghost use Rattle.verb_script.specs.Grammar.{accepts, hex_text, is_hex};
+ghost use Rattle.verb_script.specs.Values.{hex_value};
+ghost use Rattle.cca_machine.specs.Choices.{pad_named};
+ghost use Rattle.cca_machine.specs.Verdict.{first_refusal, encipher_questions};
+ghost use Rattle.cca_requests.specs.Deciding.{ShowsOr, IsReady, with_places};
+ghost use Rattle.cipher_verbs.specs.CipherTexts.{enciphered_text};
+
+use crate::effects::Effect;
+use crate::verbs::texts::{block_of, enciphering, judge_digits, pad_of, put_text, show_text};
+use cipher_verbs::encipher;
+use key_cells::Lease;
+use verb_rules::Judged;
+use verb_script::ReplyBuffer;
+
+/// Shows the text enciphered under the key in a chain from `iv`. A text of a wrong length is refused.
+pub(crate) fn csnbenc(
+    key: &Judged,
+    iv: &[u8],
+    pad: &[u8],
+    text: &[u8],
+    lease: &mut Lease,
+    reply: &mut ReplyBuffer,
+) -> Effect
+    requires halves { HasHalves key.now }
+    requires iv { IsTrue (is_hex 16 iv.now) }
+    requires text { IsTrue (accepts hex_text text.now) }
+    requires empty { reply.old ≡ [] }
+    ensures shows { let clear = opened (bench_of lease.old) key.now in
+        ShowsOr (first_refusal (encipher_questions (pad_named pad.now) (length text.now / 2)))
+        (Hex (codes "text") (enciphered_text clear (hex_value iv.now) (pad_named pad.now) (hex_value text.now)) ∷ [])
+        result reply.new }
+    ensures ready { IsReady result reply.new }
+    ensures places { lease.new ≡ holding lease.old (with_places (bench_of lease.old) (bench_of lease.new)) }
+{
+    let padding = pad_of(pad);
+    if let Err(rule) = judge_digits(enciphering(padding), text) {
+        return Effect::Refused(rule, "text");
+    }
+    put_text(text, lease);
+    encipher(lease, key, &block_of(iv), padding);
+    show_text(lease, reply);
+    Effect::Shown
+}

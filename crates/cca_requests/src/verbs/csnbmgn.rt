@@ -1,0 +1,74 @@
+//! CSNBMGN: the message authentication code of a text.
+ghost use Rattle.std.specs.Prelude.{◌≡◌, ◌≤◌, ◌/◌, ◌∷◌, [], IsTrue, codes, length, take};
+ghost use Rattle.key_cells.specs.Lease.{bench_of, holding};
+ghost use Rattle.script_buffers.specs.Replies.{Hex, written};
+ghost use Rattle.verb_rules.specs.Keys.{HasHalves, opened};
+ghost use Rattle.verb_script.specs.Grammar.{accepts, hex_text};
+ghost use Rattle.verb_script.specs.Values.{hex_value};
+ghost use Rattle.cca_machine.specs.Choices.{mac_rule_named, mac_length_named};
+ghost use Rattle.cca_machine.specs.Verdict.{first_refusal, mac_questions};
+ghost use Rattle.cca_requests.specs.Deciding.{ShowsOr, IsReady, with_places};
+ghost use Rattle.mac_verbs.specs.Codes.{code_of};
+
+use crate::effects::Effect;
+use crate::verbs::texts::{judge_digits, mac_rule_of, put_text};
+use key_cells::Lease;
+use mac_verbs::mac_generate;
+use verb_rules::{Judged, TextUse, judge_mac};
+use verb_script::ReplyBuffer;
+
+/// How many bytes of a code are shown.
+fn count_of(word: &[u8]) -> usize
+    ensures count { result ≡ mac_length_named word.now }
+    ensures most { result ≤ 8 }
+{
+    if word == b"4".as_slice() {
+        4
+    } else if word == b"6".as_slice() {
+        6
+    } else {
+        8
+    }
+}
+
+fn show_code(code: &[u8; 8], count: usize, reply: &mut ReplyBuffer)
+    requires most { count ≤ 8 }
+    requires empty { reply.old ≡ [] }
+    ensures fields { reply.new ≡ written (Hex (codes "mac") (take count code.now) ∷ []) }
+    ensures size { length reply.new ≤ 69000 }
+{
+    reply.ok();
+    reply.hex("mac", &code[..count]);
+}
+
+/// Shows the leftmost bytes of the code of the text under the key, as many as `count` says. A text of a wrong length is
+/// refused, and a key that the rule doesn't take.
+pub(crate) fn csnbmgn(
+    key: &Judged,
+    rule: &[u8],
+    count: &[u8],
+    text: &[u8],
+    lease: &mut Lease,
+    reply: &mut ReplyBuffer,
+) -> Effect
+    requires halves { HasHalves key.now }
+    requires text { IsTrue (accepts hex_text text.now) }
+    requires empty { reply.old ≡ [] }
+    ensures shows { let clear = opened (bench_of lease.old) key.now in let method = mac_rule_named rule.now in
+        ShowsOr (first_refusal (mac_questions method (length text.now / 2) clear))
+        (Hex (codes "mac") (take (mac_length_named count.now) (code_of method clear (hex_value text.now))) ∷ [])
+        result reply.new }
+    ensures ready { IsReady result reply.new }
+    ensures places { lease.new ≡ holding lease.old (with_places (bench_of lease.old) (bench_of lease.new)) }
+{
+    let method = mac_rule_of(rule);
+    if let Err(broken) = judge_digits(TextUse::Mac, text) {
+        return Effect::Refused(broken, "text");
+    }
+    if let Err(broken) = judge_mac(method, key.token.vector.length()) {
+        return Effect::Refused(broken, "key");
+    }
+    put_text(text, lease);
+    show_code(&mac_generate(lease, key, method), count_of(count), reply);
+    Effect::Shown
+}

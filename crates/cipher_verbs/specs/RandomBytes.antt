@@ -1,0 +1,20 @@
+-- Random bytes, as they are drawn or with a parity.
+use Rattle.std.specs.Prelude.{◌≡◌, ℕ, List, length, map, Option}
+use Rattle.std.specs.Io.KnownBytes.{Consumes}
+use Rattle.cca_vectors.specs.Bits.{even_byte}
+use Rattle.clear_keys.specs.Parity.{odd_byte}
+use Rattle.cipher_verbs.specs.declared.random.RandomForm.{RandomForm}
+use Rattle.cipher_verbs.specs.declared.random.RandomForm.TheVariants.{Random, Odd, Even}
+
+-- as they are drawn, or with odd or even parity in each byte by its low-order bit
+abbrev pub in_form : RandomForm → List ℕ → List ℕ
+in_form Random drawn = drawn
+in_form Odd drawn = map odd_byte drawn
+in_form Even drawn = map even_byte drawn
+
+-- the bytes are the next eight of a source of random bytes, in this form
+pub record Draws (form : RandomForm) (before after : Option (List ℕ)) (bytes : List ℕ) : Type 0 where
+  pub drawn : List ℕ
+  pub size : length drawn ≡ 8
+  pub consumed : Consumes before after drawn
+  pub formed : bytes ≡ in_form form drawn

@@ -1,0 +1,94 @@
+//! A text enciphered and deciphered under a key, in the place of the text.
+ghost use Rattle.std.specs.Prelude.{◌≡◌, ◌≤◌, ◌%◌, [], None, Some, OnOk, OnErr, length};
+ghost use Rattle.cca_vectors.specs.Checks.{first_failing};
+ghost use Rattle.des_core.specs.Modes.{e, une};
+ghost use Rattle.des_core.specs.Texts.{cbc_text, text_in, uncbc_text};
+ghost use Rattle.key_cells.specs.Bench.{with_text};
+ghost use Rattle.key_cells.specs.Lease.{bench_of};
+ghost use Rattle.verb_rules.specs.declared.lengths.TextUse.{TextUse};
+ghost use Rattle.verb_rules.specs.Keys.{HasHalves, opened};
+ghost use Rattle.verb_rules.specs.LengthChecks.{text_checks};
+ghost use Rattle.verb_rules.specs.Rules.{Judges};
+ghost use Rattle.cipher_verbs.specs.CipherTexts.{ChangesText, cleared, deciphered_text, enciphered_text, enciphering, pad_checks};
+
+use crate::padding::{Pad, pad_text, remove_padding};
+use clear_keys::schedule_key;
+use des_core::{cbc_decipher, cbc_encipher};
+use key_cells::Lease;
+use verb_rules::{Judged, Rule, TextUse};
+
+/// The text of a lease has its length: a fact that contracts use.
+fn text_has_length(lease: &Lease)
+    ensures { length (text_in lease.now) ≡ (bench_of lease.now).text.size }
+{
+    let _text = lease.text();
+}
+
+/// Enciphers a text of whole blocks under a key in a chain from a start.
+fn encipher_whole(lease: &mut Lease, key: &Judged, start: &[u8; 8])
+    requires halves { HasHalves key.now }
+    requires whole { (bench_of lease.old).text.size % 8 ≡ 0 }
+    ensures text { let clear = opened (bench_of lease.old) key.now in
+        text_in lease.new
+        ≡ cbc_text (e clear.key) start.now (text_in lease.old) }
+    ensures size { (bench_of lease.new).text.size ≡ (bench_of lease.old).text.size }
+    ensures stays { ChangesText lease.old lease.new }
+{
+    schedule_key(lease, key);
+    cbc_encipher(lease, start);
+}
+
+/// Enciphers the text under the clear key of a judged internal token, in a chain from a start, in place. The text is
+/// padded to whole blocks first, where that is asked. Only the place `Key`, the schedules and the text of the lease
+/// change.
+pub fn encipher(lease: &mut Lease, key: &Judged, start: &[u8; 8], padding: Pad)
+    requires halves { HasHalves key.now }
+    requires length { first_failing (text_checks (enciphering padding) (bench_of lease.old).text.size) ≡ None }
+    ensures text { let clear = opened (bench_of lease.old) key.now in
+        text_in lease.new
+        ≡ enciphered_text clear start.now padding (text_in lease.old) }
+    ensures room { (bench_of lease.new).text.size ≤ 4096 }
+    ensures stays { ChangesText lease.old lease.new }
+{
+    pad_text(lease, padding);
+    encipher_whole(lease, key, start);
+}
+
+/// Deciphers a text of whole blocks under a key in a chain from a start.
+fn decipher_whole(lease: &mut Lease, key: &Judged, start: &[u8; 8])
+    requires halves { HasHalves key.now }
+    requires whole { (bench_of lease.old).text.size % 8 ≡ 0 }
+    ensures text { let clear = opened (bench_of lease.old) key.now in
+        text_in lease.new
+        ≡ uncbc_text (une clear.key) start.now (text_in lease.old) }
+    ensures place { let text = text_in lease.new in
+        (bench_of lease.new).text ≡ with_text (bench_of lease.old).text text
+        × length text ≡ (bench_of lease.old).text.size }
+    ensures stays { ChangesText lease.old lease.new }
+{
+    schedule_key(lease, key);
+    cbc_decipher(lease, start);
+    text_has_length(lease);
+}
+
+/// Deciphers the text under the clear key of a judged internal token, in a chain from a start, in place, and takes
+/// off its padding, where that is asked. Rule 31 refuses a last clear byte that is no count of padding: the text is
+/// then empty, and its clear bytes are zero. Only the place `Key`, the schedules and the text of the lease change.
+pub fn decipher(lease: &mut Lease, key: &Judged, start: &[u8; 8], padding: Pad) -> Result<(), Rule>
+    requires halves { HasHalves key.now }
+    requires length { first_failing (text_checks TextUse.Decipher (bench_of lease.old).text.size) ≡ None }
+    ensures judges { let clear = opened (bench_of lease.old) key.now in
+        Judges (pad_checks clear start.now padding (text_in lease.old)) result }
+    ensures text { let clear = opened (bench_of lease.old) key.now in
+        OnOk result (deciphered_text clear start.now padding (text_in lease.old)
+        ≡ Some (text_in lease.new)) }
+    ensures refused { OnErr result ((bench_of lease.new).text ≡ cleared (bench_of lease.old).text) }
+    ensures room { (bench_of lease.new).text.size ≤ 4096 }
+    ensures stays { ChangesText lease.old lease.new }
+{
+    decipher_whole(lease, key, start);
+    match padding {
+        Pad::None => Ok(()),
+        Pad::X923 => remove_padding(lease),
+    }
+}

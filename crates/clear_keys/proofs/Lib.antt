@@ -1,0 +1,4 @@
+pub mod KeyLemmas
+pub mod ModeLemmas
+pub mod ParityLemmas
+pub mod TokenLemmas
