@@ -126,8 +126,8 @@ module _ (masters : MasterKeys) (bytes : List ℕ) (s : Spelled masters bytes) w
   spelled_what = subst (λ (k : ℕ). IsWhat masters k (token_in bytes)) (sym spelled_kind) (subst (IsWhat masters s.kind) (sym spelled_token) s.what)
 
 pub some_kind : (masters : MasterKeys) (kind : ℕ) (token : List ℕ) → IsWhat masters kind token → kind ≢ 0
-some_kind masters kind token (inl is) none = let no_kind : 1 ≡ 0 = sym is.0 ∙ none in cc
-some_kind masters kind token (inr is) none = let no_kind : 2 ≡ 0 = sym is.0 ∙ none in cc
+some_kind masters kind token (inl is) none = omega (arith, is.0, none)
+some_kind masters kind token (inr is) none = omega (arith, is.0, none)
 
 module _ (masters : MasterKeys) (bytes : List ℕ) (kind : ℕ) (label token : List ℕ) (is : bytes ≡ record_body kind label token) (is_label : IsLabel label) (are : AreBytes 64 token) (what : IsWhat masters kind token) where
   pub entry_is : entry_in masters bytes ≡ Some (entry label (what_of masters kind token))

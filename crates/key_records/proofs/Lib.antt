@@ -13,3 +13,4 @@ pub mod PlacedLaws
 pub mod SortedLaws
 pub mod RankLaws
 pub mod EveryDirectory
+pub mod AgeLaws

@@ -24,8 +24,8 @@ row_entry masters None row is = cc is
 row_entry masters (Some e) row is = (e, refl, cc is, cc is)
 
 pub some_mapped : {A B : Type 0} (f : A → B) (o : Option A) → is_some (option_map f o) ≡ is_some o
-pub some_mapped f None = refl
-pub some_mapped f (Some x) = refl
+some_mapped f None = refl
+some_mapped f (Some x) = refl
 
 module _ (masters : MasterKeys) (rows : List (Option Row)) (s : List (Option Entry)) (image : List ℕ) (place : ℕ) (row : Row) (keeps : KeepsLabels masters rows s image)
     (held : get_or rows place None ≡ Some row) (within : place < 1024) where

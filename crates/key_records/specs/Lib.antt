@@ -9,6 +9,7 @@ pub mod Rank
 pub mod RecordBody
 pub mod StoreStands
 pub mod Changes
+pub mod Ages
 pub mod Opening
 pub mod Written
 pub use Rattle.key_cells.specs.Bench

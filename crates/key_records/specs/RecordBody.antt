@@ -18,8 +18,8 @@ null_kind = 1
 abbrev pub key_kind : ℕ
 key_kind = 2
 
--- Byte 0 says what the record is, byte 1 how long the label is. The label stands at 2, the token at 66. Every other byte
--- is zero.
+-- Byte 0 says what the record is, byte 1 how long the label is. The label stands at 2, the token at 66. Every
+-- other byte is zero.
 unfoldable pub record_body : ℕ → List ℕ → List ℕ → List ℕ
 record_body kind label token =
     kind ∷ length label ∷ (label ++ (replicate (64 - length label) 0 ++ (token ++ replicate 62 0)))
@@ -41,7 +41,9 @@ kept masters token = if slice_index token 6 == 0xc0 then denoted masters token e
 -- the body is that of the label with nothing, or with a token that stands for a key
 abbrev pub ReadsWhat : MasterKeys → List ℕ → List ℕ → Option Denoted → Type 0
 ReadsWhat masters bytes label None = bytes ≡ record_body null_kind label no_token
-ReadsWhat masters bytes label (Some key) = (token : List ℕ) × AreBytes 64 token × (bytes ≡ record_body key_kind label token) × (kept masters token ≡ Some key)
+ReadsWhat masters bytes label (Some key) =
+    (token : List ℕ) × AreBytes 64 token × (bytes ≡ record_body key_kind label token)
+    × (kept masters token ≡ Some key)
 
 -- the body reads as a record, or as none where it is blank
 abbrev pub ReadsEntry : MasterKeys → List ℕ → Option Entry → Type 0
@@ -81,8 +83,11 @@ what_of masters kind token = if kind == null_kind then None else kept masters to
 
 -- a record of this kind has this token: a null record none, and a key one that is kept for a key
 abbrev pub IsWhat : MasterKeys → ℕ → List ℕ → Type 0
-IsWhat masters kind token = ((kind ≡ null_kind) × (token ≡ no_token)) ⊎ ((kind ≡ key_kind) × IsSome (kept masters token))
+IsWhat masters kind token =
+    ((kind ≡ null_kind) × (token ≡ no_token)) ⊎ ((kind ≡ key_kind) × IsSome (kept masters token))
 
 -- what a body reads as, if it reads as anything
 unfoldable pub entry_in : MasterKeys → List ℕ → Option Entry
-entry_in masters bytes = if bytes_eq bytes blank_body then None else Some (record { label = label_in bytes; what = what_of masters (slice_index bytes 0) (token_in bytes) })
+entry_in masters bytes =
+    if bytes_eq bytes blank_body then None else
+    Some (record { label = label_in bytes; what = what_of masters (slice_index bytes 0) (token_in bytes) })

@@ -22,7 +22,8 @@ abbrev pub Agrees : MasterKeys → List (Option Row) → List (Option Entry) →
 Agrees masters rows s = rows ≡ map (remembered masters) s
 
 -- the store stands for the labels of a state, which the memory knows
-pub record KeepsLabels (masters : MasterKeys) (rows : List (Option Row)) (s : List (Option Entry)) (image : List ℕ) : Type 0 where
+pub record KeepsLabels (masters : MasterKeys) (rows : List (Option Row)) (s : List (Option Entry))
+    (image : List ℕ) : Type 0 where
   pub stands : StandsForLabels masters image s
   pub agrees : Agrees masters rows s
 
@@ -36,7 +37,7 @@ labels_in masters image = map (λ n. entry_in masters (body image n)) (range_wit
 
 -- ---- damage
 
--- the cell reads as nothing, or a lower cell holds its label
+-- a lower cell holds the label of this one
 pub record Repeats (masters : MasterKeys) (image : List ℕ) (n : ℕ) : Type 0 where
   pub lower : ℕ
   pub below : lower < n
@@ -46,9 +47,12 @@ pub record Repeats (masters : MasterKeys) (image : List ℕ) (n : ℕ) : Type 0 
   pub reads_again : ReadsEntry masters (body image n) (Some again)
   pub same : first.label ≡ again.label
 
+-- the cell reads as nothing, or repeats the label of a lower one
 abbrev pub IsDamagedCell : MasterKeys → List ℕ → ℕ → Type 0
-IsDamagedCell masters image n = ((slot : Option Entry) → ReadsEntry masters (body image n) slot → ⊥) ⊎ Repeats masters image n
+IsDamagedCell masters image n =
+    ((slot : Option Entry) → ReadsEntry masters (body image n) slot → ⊥) ⊎ Repeats masters image n
 
+-- the lowest damaged cell
 pub record IsFirstDamaged (masters : MasterKeys) (image : List ℕ) (n : ℕ) : Type 0 where
   pub within : n < 1024
   pub damaged : IsDamagedCell masters image n

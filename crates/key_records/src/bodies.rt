@@ -142,8 +142,10 @@ fn label_in(body: &[u8; 192]) -> Option<Label>
 pub(crate) fn read_row(body: &[u8; 192], held: &Registers) -> Option<Option<Row>>
     ghost m: { Masters }
     requires { held.now ≡ registers_of m }
-    ensures reads { IsSome result → ReadsEntry (keys_of m) body.now (entry_in (keys_of m) body.now) }
-    ensures row { IfSome result (λ row. row ≡ remembered (keys_of m) (entry_in (keys_of m) body.now)) }
+    ensures reads { IsSome result
+        → ReadsEntry (keys_of m) body.now (entry_in (keys_of m) body.now) }
+    ensures row { IfSome result (λ row. row
+        ≡ remembered (keys_of m) (entry_in (keys_of m) body.now)) }
     ensures none { IsNone result → (e : Option Entry) → ReadsEntry (keys_of m) body.now e → ⊥ }
 {
     if is_blank(body) {
@@ -157,8 +159,10 @@ fn read_record(body: &[u8; 192], held: &Registers) -> Option<Option<Row>>
     ghost m: { Masters }
     requires told { held.now ≡ registers_of m }
     requires some { body.now ≢ blank_body }
-    ensures reads { IsSome result → ReadsEntry (keys_of m) body.now (entry_in (keys_of m) body.now) }
-    ensures row { IfSome result (λ row. row ≡ remembered (keys_of m) (entry_in (keys_of m) body.now)) }
+    ensures reads { IsSome result
+        → ReadsEntry (keys_of m) body.now (entry_in (keys_of m) body.now) }
+    ensures row { IfSome result (λ row. row
+        ≡ remembered (keys_of m) (entry_in (keys_of m) body.now)) }
     ensures none { IsNone result → (e : Option Entry) → ReadsEntry (keys_of m) body.now e → ⊥ }
 {
     let label = match label_in(body) {

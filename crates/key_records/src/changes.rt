@@ -51,7 +51,8 @@ impl Records {
         ensures cause { HasRecordCause (D.faults store.old) (D.faults store.new) result }
 
         // a full store refuses each label, and another one each label that is held
-        ensures full { (result ≡ Err RecordFault.Full) ↔ (free_cell (row_directory self.old) ≡ 1024) }
+        ensures full { (result ≡ Err RecordFault.Full)
+            ↔ (free_cell (row_directory self.old) ≡ 1024) }
         ensures exists { (result ≡ Err RecordFault.Exists)
             ↔ ((free_cell (row_directory self.old) ≢ 1024)
             × (cell_of label.now (row_directory self.old) ≢ None)) }
@@ -88,7 +89,8 @@ impl Records {
         requires settled { IsSettled (D.medium store.old) }
         requires holds { Told (D.medium store.old) (HoldsRows self.old) }
 
-        ensures cell { ReplacesBody place blank_body (D.medium store.old) (D.medium store.new) result }
+        ensures cell { ReplacesBody place blank_body
+            (D.medium store.old) (D.medium store.new) result }
         ensures labels { (masters : MasterKeys) (s : List (Option Entry))
             → Told (D.medium store.old) (KeepsLabels masters self.old s)
             → ChangesLabels masters place s (deleted place s)
@@ -119,7 +121,8 @@ impl Records {
         requires settled { IsSettled (D.medium store.old) }
         requires holds { Told (D.medium store.old) (HoldsRows self.old) }
         requires loaded { IsLoaded held.now (bench_of lease.old) }
-        requires key { IsSome (denoted (keys_of (masters_in held.now (bench_of lease.old))) token.now) }
+        requires key { IsSome
+            (denoted (keys_of (masters_in held.now (bench_of lease.old))) token.now) }
 
         ensures cell { ReplacesBody place
             (record_body key_kind (label_or (get_or self.old place None)) (renewed token.now))

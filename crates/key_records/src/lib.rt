@@ -15,7 +15,10 @@ mod rows;
 
 pub use faults::RecordFault;
 pub use labels::Label;
-pub use laws::{a_state_has_one_store, a_store_stands_for_one_state, each_index_has_a_label};
+pub use laws::{
+    a_state_has_one_store, a_store_stands_for_one_state, each_index_has_a_label,
+    labels_under_the_old_master_key,
+};
 pub use opening::open_records;
 pub use records::{Place, Records, STORE_LEN};
 pub use rows::Row;

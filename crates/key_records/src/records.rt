@@ -80,7 +80,8 @@ impl Records {
     /// Where the label is held, in at most 11 steps for 1,024 labels.
     pub fn find<L>(&self, label: &Label, steps: &mut Steps<L>) -> Option<Place>
         ensures found { result ≡ cell_of label.now (row_directory self.now) }
-        ensures held { IfSome result (λ place. label_at (row_directory self.now) place ≡ Some label.now) }
+        ensures held { IfSome result (λ place.
+            label_at (row_directory self.now) place ≡ Some label.now) }
         ensures few { 2 ^ (steps.new - steps.old) ≤ 2 * held_count (row_directory self.now) + 1 }
         ensures later { steps.old ≤ steps.new }
     {
@@ -115,7 +116,8 @@ impl Records {
     /// The lowest cell that holds no label.
     pub(crate) fn free_cell(&self) -> Option<u16>
         ensures none { IsNone result → free_cell (row_directory self.now) ≡ 1024 }
-        ensures free { IfSome result (λ cell. (cell ≡ free_cell (row_directory self.now)) × (cell < 1024)) }
+        ensures free { IfSome result (λ cell.
+            (cell ≡ free_cell (row_directory self.now)) × (cell < 1024)) }
         ensures rows { AreRows self.now }
     {
         match free_in(&self.rows) {
