@@ -1,7 +1,7 @@
 -- The body of a record, and what it reads as.
-use Rattle.std.proofs.Common.{◌≡◌, ◌≢◌, ◌≤◌, ◌<◌, ◌-◌, ◌⊎◌, inl, inr, ⊎_elim, ℕ, zero, suc, ◌+◌, Bool, true, false, List, [], ◌∷◌, ◌++◌, length, get_or, take, drop, replicate, Option, None, Some, refl, sym, ap, subst, ◌∙◌, arith}
+use Rattle.std.proofs.Common.{◌≡◌, ◌≢◌, ◌≤◌, ◌-◌, inl, inr, ⊎_elim, ℕ, true, false, List, ◌++◌, length, take, drop, replicate, Option, None, Some, refl, sym, ap, subst, ◌∙◌, arith}
 use Rattle.std.specs.List.{list_all}
-use Rattle.std.specs.Prelude.{slice_index, slice_range, bytes_eq, IsTrue, IsSome, nat_le, ◌&&◌, if◌then◌else◌, option_map, cond}
+use Rattle.std.specs.Prelude.{slice_index, bytes_eq, IsSome, nat_le, ◌&&◌, if◌then◌else◌}
 use Rattle.std.proofs.lemmas.Bool.{false_from_ne_true, and_parts}
 use Rattle.std.proofs.lemmas.Bool.Decides.{nat_tests}
 use Rattle.std.proofs.lemmas.List.{append_assoc, take_at, drop_at, length-append, length-replicate}
@@ -136,9 +136,9 @@ module _ (masters : MasterKeys) (bytes : List ℕ) (kind : ℕ) (label token : L
   reads_what : ReadsWhat masters bytes label (what_of masters kind token)
   reads_what = ⊎_elim
       (λ (null : (kind ≡ null_kind) × (token ≡ no_token)). subst (λ (k : ℕ). ReadsWhat masters bytes label (what_of masters k token)) (sym null.0)
-          (is ∙ ap (λ k. record_body k label token) null.0 ∙ ap (record_body null_kind label) null.1))
+      (is ∙ ap (λ k. record_body k label token) null.0 ∙ ap (record_body null_kind label) null.1))
       (λ (key : (kind ≡ key_kind) × IsSome (kept masters token)). subst (λ (k : ℕ). ReadsWhat masters bytes label (what_of masters k token)) (sym key.0)
-          (by_kept (kept masters token) refl key.1 (is ∙ ap (λ k. record_body k label token) key.0)))
+      (by_kept (kept masters token) refl key.1 (is ∙ ap (λ k. record_body k label token) key.0)))
       what
     where
       by_kept : (o : Option Denoted) → kept masters token ≡ o → IsSome o → bytes ≡ record_body key_kind label token → ReadsWhat masters bytes label (kept masters token)

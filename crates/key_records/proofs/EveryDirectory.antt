@@ -1,6 +1,6 @@
 -- Every directory whose labels are apart has them in ascending order too: so for each index below the count there is a label.
-use Rattle.std.proofs.Common.{◌≡◌, ◌≢◌, ◌≤◌, ◌<◌, ◌+◌, ◌⊎◌, ⊎_elim, ℕ, zero, suc, Less, Equal, Greater, Ordering, List, [], length, get_or, map, Option, None, Some, refl, sym, ap, subst, ◌∙◌, arith}
-use Rattle.std.specs.Prelude.{◌==◌, if◌then◌else◌}
+use Rattle.std.proofs.Common.{◌≡◌, ◌≢◌, ◌≤◌, ◌<◌, ⊎_elim, ℕ, zero, suc, Less, Equal, Greater, Ordering, List, [], length, get_or, map, Option, None, Some, refl, sym, ap, subst, ◌∙◌, arith}
+use Rattle.std.specs.Prelude.{if◌then◌else◌}
 use Rattle.std.specs.Cmp.Lexicographic.{slice_cmp}
 use Rattle.std.specs.List.{insert}
 use Rattle.std.specs.Ordering.{nat_cmp}
@@ -68,9 +68,9 @@ module _ (rows : List (Option Row)) (are_rows : AreRows rows) where
           let label : other.row.label ≡ r.label = sym (text_is s.slots k blank_slot inside) ∙ same in
           ⊎_elim
           (λ (before : other.cell < n).
-              let first : label_at (row_directory rows) other.cell ≡ Some r.label = label_of_row rows other.cell ∙ ap row_label (sym (s.low other.cell before) ∙ held) ∙ ap (λ (l : List ℕ). Some l) label in
-              let second : label_at (row_directory rows) n ≡ Some r.label = label_of_row rows n ∙ ap row_label is in
-              omega (arith, are_rows.apart other.cell n r.label first second, before))
+          let first : label_at (row_directory rows) other.cell ≡ Some r.label = label_of_row rows other.cell ∙ ap row_label (sym (s.low other.cell before) ∙ held) ∙ ap (λ (l : List ℕ). Some l) label in
+          let second : label_at (row_directory rows) n ≡ Some r.label = label_of_row rows n ∙ ap row_label is in
+          omega (arith, are_rows.apart other.cell n r.label first second, before))
           (λ (past : n ≤ other.cell). none_some other.row (sym (s.high other.cell past) ∙ held))
           (cases_lt other.cell n)
 

@@ -1,5 +1,5 @@
 -- The pattern of a token that is kept for a key is that of the register that it is under.
-use Rattle.std.proofs.Common.{◌≡◌, ◌≢◌, ◌⊎◌, inl, inr, ⊎_elim, ℕ, Bool, true, false, List, [], Option, None, Some, refl, sym, ap, subst, ◌∙◌}
+use Rattle.std.proofs.Common.{◌≡◌, ◌≢◌, ◌⊎◌, inl, inr, ⊎_elim, ℕ, Bool, true, false, List, [], Option, None, Some, refl, sym, ap, ◌∙◌}
 use Rattle.std.specs.Prelude.{slice_index, bytes_eq, option_map, is_none, ◌==◌, if◌then◌else◌}
 use Rattle.std.proofs.lemmas.Bool.{cases_eq, false_from_ne_true}
 use Rattle.std.proofs.lemmas.Bool.Decides.{Decides-eqb}
@@ -138,8 +138,8 @@ denoted_sound masters token key is = by_rule (first_failing (token_checks asked.
 pub kept_known : (masters : MasterKeys) (token : List ℕ) (key : Denoted) → AreBytes 64 token → kept masters token ≡ Some key → IsKept token (pattern_for masters key)
 kept_known masters token key are is = ⊎_elim
     (λ (flag : slice_index token 6 ≡ 0xc0).
-        let denotes : denoted masters token ≡ Some key = sym (kept_with_flag masters token flag) ∙ is in
-        record { bytes = are; sound = denoted_sound masters token key denotes; flag = flag; under = ap (λ (p : Pattern). p.bytes) (sym (denoted_pattern masters token key denotes)) })
+    let denotes : denoted masters token ≡ Some key = sym (kept_with_flag masters token flag) ∙ is in
+    record { bytes = are; sound = denoted_sound masters token key denotes; flag = flag; under = ap (λ (p : Pattern). p.bytes) (sym (denoted_pattern masters token key denotes)) })
     (λ (other : slice_index token 6 ≡ 0xc0 → ⊥). absurd (none_some key (sym (kept_flag masters token other) ∙ is)))
     (cases_eq (slice_index token 6) 0xc0)
 

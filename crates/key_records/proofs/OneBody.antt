@@ -1,11 +1,11 @@
 -- An entry has one body.
-use Rattle.std.proofs.Common.{◌≡◌, ◌<◌, ◌+◌, ◌⊎◌, ⊎_elim, ℕ, List, [], length, Option, None, Some, refl, sym, ap, subst, ◌∙◌, arith}
+use Rattle.std.proofs.Common.{◌≡◌, ◌<◌, ◌+◌, ⊎_elim, ℕ, List, [], length, Option, None, Some, sym, ap, ◌∙◌, arith}
 use Rattle.std.specs.Prelude.{slice_index, slice_range}
 use Rattle.std.proofs.lemmas.Bool.{cases_eq}
 use Rattle.byte_lists.specs.Bytes.{AreBytes}
 use Rattle.slot_disk.specs.Cells.{body}
 use Rattle.slot_disk.proofs.CellSteps.{length-range}
-use Rattle.key_tokens.specs.Denotes.{ClearKey, Denoted, MasterKey, MasterKeys, IsTokenOf, Denotes, HaveDistinctPatterns, denoted}
+use Rattle.key_tokens.specs.Denotes.{ClearKey, Denoted, MasterKey, MasterKeys, IsTokenOf, Denotes, HaveDistinctPatterns}
 use Rattle.key_tokens.specs.Layout.{IsToken, made}
 use Rattle.key_tokens.specs.declared.key_token.Age.{Age}
 use Rattle.key_tokens.specs.declared.key_token.Age.TheVariants.{Current, Old}
@@ -13,7 +13,6 @@ use Rattle.key_tokens.specs.declared.key_token.Kind.TheVariants.{Internal}
 use Rattle.key_tokens.proofs.DenotedKeys.{denotes_one}
 use Rattle.key_tokens.proofs.Written.{made-token}
 use Rattle.key_records.proofs.TokenLaws.{made_only}
-use Rattle.key_records.specs.Labels.{IsLabel}
 use Rattle.key_records.specs.Entries.{Entry}
 use Rattle.key_records.specs.RecordBody.{ReadsEntry, ReadsWhat, kept, record_body, key_kind}
 use Rattle.key_records.specs.StoreStands.{StandsForLabels}
@@ -45,7 +44,7 @@ module _ (masters : MasterKeys) (apart : HaveDistinctPatterns masters) where
   kept_one : (token : List ℕ) (key : Denoted) → AreBytes 64 token → kept masters token ≡ Some key → token ≡ token_bytes (register_of masters key.age) key.clear
   kept_one token key are is = ⊎_elim
       (λ (flag : slice_index token 6 ≡ 0xc0).
-          by_age token key.clear key.age flag ((denotes_one masters [] token are apart).internal_back key.clear key.age (sym (kept_with_flag masters token flag) ∙ is)))
+      by_age token key.clear key.age flag ((denotes_one masters [] token are apart).internal_back key.clear key.age (sym (kept_with_flag masters token flag) ∙ is)))
       (λ (other : slice_index token 6 ≡ 0xc0 → ⊥). absurd (none_some key (sym (kept_flag masters token other) ∙ is)))
       (cases_eq (slice_index token 6) 0xc0)
 

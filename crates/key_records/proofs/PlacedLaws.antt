@@ -1,18 +1,14 @@
 -- The places of a sorted directory.
-use Rattle.std.proofs.Common.{◌≡◌, ◌≢◌, ◌≤◌, ◌<◌, ◌+◌, ◌⊎◌, inl, inr, ⊎_elim, ℕ, zero, suc, Bool, true, false, cond, List, [], ◌∷◌, ◌++◌, length, get_or, take, drop, set, map, Option, None, Some, refl, sym, ap, subst, ◌∙◌, arith}
-use Rattle.std.specs.Prelude.{◌==◌, is_some, if◌then◌else◌}
-use Rattle.std.specs.List.{range_with_len, insert, remove}
-use Rattle.std.proofs.lemmas.Bool.{cases_eq, cases_lt, false_from_ne_true}
+use Rattle.std.proofs.Common.{◌≡◌, ◌≢◌, ◌<◌, ⊎_elim, ℕ, zero, suc, Bool, true, false, List, [], ◌∷◌, length, get_or, set, Option, None, Some, refl, sym, ap, ◌∙◌, arith}
+use Rattle.std.specs.Prelude.{◌==◌, if◌then◌else◌}
+use Rattle.std.specs.List.{insert, remove}
+use Rattle.std.proofs.lemmas.Bool.{cases_eq, false_from_ne_true}
 use Rattle.std.proofs.lemmas.Bool.Decides.{Decides-eqb}
-use Rattle.std.proofs.lemmas.List.{ext_get_or, get_or-set_same, get_or-set_other, length-set, map-set}
+use Rattle.std.proofs.lemmas.List.{ext_get_or, get_or-set_same, get_or-set_other, length-set}
 use Rattle.std.proofs.lemmas.List.FromFn.{length-map-range_with_len, get_or-map-range_with_len}
-use Rattle.std.proofs.lemmas.List.Sums.{sum_by-set}
-use Rattle.key_records.specs.Directory.{label_at, AreApart, held_count, cell_of, cell_from}
-use Rattle.key_records.specs.Entries.{row_directory, row_label}
 use Rattle.key_records.specs.declared.rows.Row.{Row}
-use Rattle.key_records.proofs.DirectoryLaws.{none_some, cell_found, cell_is}
-use Rattle.key_records.proofs.OpeningLaws.{label_of_row}
-use Rattle.key_records.specs.Placed.{placed, row_in, AreCells, AreSlots}
+use Rattle.key_records.proofs.DirectoryLaws.{none_some}
+use Rattle.key_records.specs.Placed.{placed, row_in, AreCells}
 use Rattle.key_records.specs.declared.rows.Slot.{Slot}
 
 pub same_true : (n m : ℕ) → n ≡ m → (n == m) ≡ true
@@ -48,13 +44,13 @@ row_insert [] (suc at) s free n = refl
 row_insert (x ∷ slots) (suc at) s free n =
     ⊎_elim
     (λ (is : n ≡ x.cell).
-        let other : n ≢ s.cell = λ same. none_some x.row (sym free ∙ ap (λ t. if t then Some x.row else row_in slots s.cell) (same_true s.cell x.cell (sym same ∙ is))) in
-        ap (λ t. if t then Some x.row else row_in (insert slots at s) n) (same_true n x.cell is)
-        ∙ sym (ap (λ t. if t then Some s.row else row_in (x ∷ slots) n) (same_false n s.cell other) ∙ ap (λ t. if t then Some x.row else row_in slots n) (same_true n x.cell is)))
+    let other : n ≢ s.cell = λ same. none_some x.row (sym free ∙ ap (λ t. if t then Some x.row else row_in slots s.cell) (same_true s.cell x.cell (sym same ∙ is))) in
+    ap (λ t. if t then Some x.row else row_in (insert slots at s) n) (same_true n x.cell is)
+    ∙ sym (ap (λ t. if t then Some s.row else row_in (x ∷ slots) n) (same_false n s.cell other) ∙ ap (λ t. if t then Some x.row else row_in slots n) (same_true n x.cell is)))
     (λ (isnt : n ≡ x.cell → ⊥).
-        ap (λ t. if t then Some x.row else row_in (insert slots at s) n) (same_false n x.cell isnt)
-        ∙ row_insert slots at s (rest_free free) n
-        ∙ ap (λ o. if n == s.cell then Some s.row else o) (sym (ap (λ t. if t then Some x.row else row_in slots n) (same_false n x.cell isnt))))
+    ap (λ t. if t then Some x.row else row_in (insert slots at s) n) (same_false n x.cell isnt)
+    ∙ row_insert slots at s (rest_free free) n
+    ∙ ap (λ o. if n == s.cell then Some s.row else o) (sym (ap (λ t. if t then Some x.row else row_in slots n) (same_false n x.cell isnt))))
     (cases_eq n x.cell)
   where
     rest_free : (if s.cell == x.cell then Some x.row else row_in slots s.cell) ≡ None → row_in slots s.cell ≡ None
@@ -83,10 +79,11 @@ pub cells_insert : (slots : List Slot) (at : ℕ) (s : Slot) → AreCells slots 
 cells_insert slots zero s cells within free = (within, free, cells)
 cells_insert [] (suc at) s cells within free = (within, free, cells)
 cells_insert (x ∷ slots) (suc at) s cells within free =
-    let parts = no_row s.cell x.cell x.row (row_in slots s.cell) free in
-    (cells.0,
-    row_insert slots at s parts.1 x.cell ∙ ap (λ t. if t then Some s.row else row_in slots x.cell) (same_false x.cell s.cell (λ same. parts.0 (sym same))) ∙ cells.1,
-    cells_insert slots at s cells.2 within parts.1)
+    let parts = no_row s.cell x.cell x.row (row_in slots s.cell) free in (
+      cells.0,
+      row_insert slots at s parts.1 x.cell ∙ ap (λ t. if t then Some s.row else row_in slots x.cell) (same_false x.cell s.cell (λ same. parts.0 (sym same))) ∙ cells.1,
+      cells_insert slots at s cells.2 within parts.1,
+    )
 
 pub row_remove : (slots : List Slot) (at : ℕ) (d : Slot) → AreCells slots → at < length slots → (n : ℕ) → row_in (remove slots at) n ≡ (if n == (get_or slots at d).cell then None else row_in slots n)
 row_remove [] at d cells within n = absurd (omega arith)
@@ -99,19 +96,20 @@ row_remove (s ∷ slots) (suc at) d cells within n =
     let apart : c ≢ s.cell = λ same. none_some (get_or slots at d).row (sym cells.1 ∙ sym (ap (row_in slots) same) ∙ held) in
     ⊎_elim
     (λ (is : n ≡ s.cell). ap (λ t. if t then Some s.row else row_in (remove slots at) n) (same_true n s.cell is)
-        ∙ sym (ap (λ t. if t then None else row_in (s ∷ slots) n) (same_false n c (λ same. apart (sym same ∙ is))) ∙ ap (λ t. if t then Some s.row else row_in slots n) (same_true n s.cell is)))
+    ∙ sym (ap (λ t. if t then None else row_in (s ∷ slots) n) (same_false n c (λ same. apart (sym same ∙ is))) ∙ ap (λ t. if t then Some s.row else row_in slots n) (same_true n s.cell is)))
     (λ (other : n ≡ s.cell → ⊥). ap (λ t. if t then Some s.row else row_in (remove slots at) n) (same_false n s.cell other)
-        ∙ row_remove slots at d cells.2 (omega arith) n
-        ∙ ap (λ o. if n == c then None else o) (sym (ap (λ t. if t then Some s.row else row_in slots n) (same_false n s.cell other))))
+    ∙ row_remove slots at d cells.2 (omega arith) n
+    ∙ ap (λ o. if n == c then None else o) (sym (ap (λ t. if t then Some s.row else row_in slots n) (same_false n s.cell other))))
     (cases_eq n s.cell)
 
 pub cells_remove : (slots : List Slot) (at : ℕ) (d : Slot) → AreCells slots → at < length slots → AreCells (remove slots at)
 cells_remove [] at d cells within = absurd (omega arith)
 cells_remove (s ∷ slots) zero d cells within = cells.2
-cells_remove (s ∷ slots) (suc at) d cells within =
-    (cells.0,
-    row_remove slots at d cells.2 (omega arith) s.cell ∙ gone (s.cell == (get_or slots at d).cell),
-    cells_remove slots at d cells.2 (omega arith))
+cells_remove (s ∷ slots) (suc at) d cells within = (
+  cells.0,
+  row_remove slots at d cells.2 (omega arith) s.cell ∙ gone (s.cell == (get_or slots at d).cell),
+  cells_remove slots at d cells.2 (omega arith),
+)
   where
     gone : (t : Bool) → (if t then None else row_in slots s.cell) ≡ None
     gone true = refl

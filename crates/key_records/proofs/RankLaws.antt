@@ -1,5 +1,5 @@
 -- The slot at an index has the label with as many smaller ones.
-use Rattle.std.proofs.Common.{◌≡◌, ◌≤◌, ◌<◌, ◌+◌, ◌⊎◌, ⊎_elim, ℕ, zero, suc, Bool, true, false, cond, Less, Equal, Greater, List, [], ◌∷◌, length, get_or, set, map, Option, None, Some, refl, sym, ap, subst, ◌∙◌, arith}
+use Rattle.std.proofs.Common.{◌≡◌, ◌≤◌, ◌<◌, ⊎_elim, ℕ, zero, suc, cond, List, [], ◌∷◌, length, get_or, set, map, Option, None, Some, refl, sym, ap, ◌∙◌, arith}
 use Rattle.std.specs.Cmp.Lexicographic.{slice_cmp}
 use Rattle.std.specs.List.{sum_by}
 use Rattle.std.specs.Ordering.{nat_cmp, is_lt, ordering_reverse}
@@ -10,7 +10,7 @@ use Rattle.std.proofs.lemmas.List.Sums.{sum_by-cons, sum_by-set}
 use Rattle.key_records.specs.Directory.{label_at}
 use Rattle.key_records.specs.Entries.{row_directory, row_label}
 use Rattle.key_records.proofs.OpeningLaws.{label_of_row}
-use Rattle.key_records.specs.Ascending.{IsBefore, text_at, slot_label}
+use Rattle.key_records.specs.Ascending.{text_at, slot_label}
 use Rattle.key_records.specs.Placed.{placed, AreCells, AreSlots}
 use Rattle.key_records.specs.Rank.{is_smaller, smaller_count, IsNth}
 use Rattle.key_records.specs.declared.rows.Slot.{Slot}
@@ -56,9 +56,9 @@ module _ (slots : List Slot) (are : AreSlots slots) (k : ℕ) (within : k < leng
       ∙ count_split (λ s. cond (is_smaller (text k) (Some (slot_label s))) 1 0) slots k (omega (arith, within))
       (λ i low. test i (omega (arith, within, low)) ∙ ap (λ o. cond (is_lt o) 1 0) (are.ascending.each i k low (inside k within)))
       (λ i above below. test i below ∙ ⊎_elim
-          (λ (is : i ≡ k). ap (λ n. cond (is_lt (slice_cmp nat_cmp (text n) (text k))) 1 0) is ∙ ap (λ o. cond (is_lt o) 1 0) (tied_itself nat_list_cmp_total (text k)))
-          (λ (other : i ≡ k → ⊥). ap (λ o. cond (is_lt o) 1 0) (nat_list_cmp_total.antisymm (text i) (text k) ∙ ap ordering_reverse (are.ascending.each k i (omega (arith, above, other)) (inside i below))))
-          (cases_eq i k))
+      (λ (is : i ≡ k). ap (λ n. cond (is_lt (slice_cmp nat_cmp (text n) (text k))) 1 0) is ∙ ap (λ o. cond (is_lt o) 1 0) (tied_itself nat_list_cmp_total (text k)))
+      (λ (other : i ≡ k → ⊥). ap (λ o. cond (is_lt o) 1 0) (nat_list_cmp_total.antisymm (text i) (text k) ∙ ap ordering_reverse (are.ascending.each k i (omega (arith, above, other)) (inside i below))))
+      (cases_eq i k))
 
   pub nth_placed : (d : Slot) → IsNth k (row_directory (placed slots)) (get_or slots k d).row.label
   nth_placed d =

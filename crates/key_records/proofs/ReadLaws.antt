@@ -1,5 +1,5 @@
 -- Reading a record that is held.
-use Rattle.std.proofs.Common.{◌≡◌, ◌<◌, ℕ, zero, suc, Bool, true, false, List, [], ◌∷◌, get_or, map, Option, None, Some, refl, sym, ap, subst, ◌∙◌}
+use Rattle.std.proofs.Common.{◌≡◌, ◌<◌, ℕ, zero, suc, List, [], ◌∷◌, get_or, map, Option, None, Some, refl, sym, ap, subst, ◌∙◌}
 use Rattle.std.specs.Prelude.{is_some, option_map}
 use Rattle.slot_disk.specs.Cells.{body}
 use Rattle.key_tokens.specs.Denotes.{MasterKeys, Denoted}
@@ -37,9 +37,10 @@ module _ (masters : MasterKeys) (rows : List (Option Row)) (s : List (Option Ent
 
   pub read_token : ReadsToken masters (entry_at s place) (is_some row.pattern) (token_in (body image place))
   read_token =
-      subst (λ (o : Option Entry). ReadsToken masters o (is_some row.pattern) (token_in (body image place))) (sym the_entry.1)
-      (ap (λ p. is_some p) the_entry.3 ∙ some_mapped (pattern_for masters) the_entry.0.what,
-      λ key is. of_key (body image place) the_entry.0.label key reads_entry.0 (subst (ReadsWhat masters (body image place) the_entry.0.label) is reads_entry.1))
+      subst (λ (o : Option Entry). ReadsToken masters o (is_some row.pattern) (token_in (body image place))) (sym the_entry.1) (
+        ap (λ p. is_some p) the_entry.3 ∙ some_mapped (pattern_for masters) the_entry.0.what,
+        λ key is. of_key (body image place) the_entry.0.label key reads_entry.0 (subst (ReadsWhat masters (body image place) the_entry.0.label) is reads_entry.1),
+      )
     where
       of_key : (bytes label : List ℕ) (key : Denoted) → IsLabel label → ReadsWhat masters bytes label (Some key) → kept masters (token_in bytes) ≡ Some key
       of_key bytes label key is reads = ap (kept masters) (ap token_in reads.2 ∙ token_again key_kind label reads.0 (label_short label is) reads.1.size) ∙ reads.3

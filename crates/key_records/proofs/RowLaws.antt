@@ -1,5 +1,5 @@
 -- Rows of the memory.
-use Rattle.std.proofs.Common.{◌≡◌, ◌<◌, ℕ, zero, suc, List, [], ◌∷◌, ◌++◌, length, take, drop, set, replicate, Option, None, Some, refl, sym, ap, subst, ◌∙◌, arith}
+use Rattle.std.proofs.Common.{◌≡◌, ℕ, zero, suc, List, [], ◌∷◌, ◌++◌, length, take, drop, set, replicate, Option, None, refl, sym, ap, subst, ◌∙◌}
 use Rattle.std.proofs.lemmas.List.{take_at, length-set, length-replicate, map-set}
 use Rattle.key_records.specs.Directory.{AreApart}
 use Rattle.key_records.specs.Entries.{row_directory, row_label}

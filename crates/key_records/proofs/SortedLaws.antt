@@ -1,5 +1,5 @@
 -- A sorted directory: its labels are apart, a look-up finds the cell, and its order stays.
-use Rattle.std.proofs.Common.{◌≡◌, ◌≢◌, ◌≤◌, ◌<◌, ◌+◌, ◌-◌, ◌⊎◌, inl, inr, ⊎_elim, ℕ, zero, suc, Bool, true, false, cond, Less, Equal, List, [], ◌∷◌, length, get_or, set, map, Option, None, Some, refl, sym, ap, subst, ◌∙◌, arith}
+use Rattle.std.proofs.Common.{◌≡◌, ◌≢◌, ◌≤◌, ◌<◌, ◌+◌, ◌-◌, ◌⊎◌, inl, inr, ⊎_elim, ℕ, zero, suc, cond, Less, Equal, List, [], ◌∷◌, length, get_or, set, map, Option, None, Some, refl, sym, ap, subst, ◌∙◌, arith}
 use Rattle.std.specs.Prelude.{◌==◌, if◌then◌else◌, is_some}
 use Rattle.std.specs.Cmp.Lexicographic.{slice_cmp}
 use Rattle.std.specs.List.{insert, remove}
@@ -43,9 +43,9 @@ module _ (slots : List Slot) (are : AreSlots slots) where
   slot_of : (n : ℕ) (label : List ℕ) → label_at (row_directory (placed slots)) n ≡ Some label → (at : ℕ) × (at < length slots) × ((get_or slots at blank_slot).cell ≡ n) × (text_at (map slot_label slots) at ≡ label)
   slot_of n label held = ⊎_elim
       (λ (below : n < 1024).
-          let row = row_with (row_in slots n) label (sym (label_of_row (placed slots) n ∙ ap row_label (placed_at slots n below)) ∙ held) in
-          let slot = row_slot slots n row.0 blank_slot row.1 in
-          (slot.0, slot.1, slot.2, text_is slots slot.0 blank_slot slot.1 ∙ ap (λ (r : Row). r.label) slot.3 ∙ row.2))
+      let row = row_with (row_in slots n) label (sym (label_of_row (placed slots) n ∙ ap row_label (placed_at slots n below)) ∙ held) in
+      let slot = row_slot slots n row.0 blank_slot row.1 in
+      (slot.0, slot.1, slot.2, text_is slots slot.0 blank_slot slot.1 ∙ ap (λ (r : Row). r.label) slot.3 ∙ row.2))
       (λ (past : 1024 ≤ n). absurd (none_some label (sym (label_of_row (placed slots) n ∙ ap row_label (get_or_past (placed slots) n None (omega (arith, length-placed slots)))) ∙ held)))
       (cases_lt n 1024)
 
@@ -59,9 +59,9 @@ module _ (slots : List Slot) (are : AreSlots slots) where
       ⊎_elim
       (λ (is : one.0 ≡ two.0). sym one.2 ∙ ap (λ k. (get_or slots k blank_slot).cell) is ∙ two.2)
       (λ (other : one.0 ≡ two.0 → ⊥). ⊎_elim
-          (λ (below : one.0 < two.0). absurd (not_itself _ _ same (are.ascending.each one.0 two.0 below inside)))
-          (λ (above : two.0 ≤ one.0). absurd (not_itself _ _ (sym same) (are.ascending.each two.0 one.0 (omega arith) inside_too)))
-          (cases_lt one.0 two.0))
+      (λ (below : one.0 < two.0). absurd (not_itself _ _ same (are.ascending.each one.0 two.0 below inside)))
+      (λ (above : two.0 ≤ one.0). absurd (not_itself _ _ (sym same) (are.ascending.each two.0 one.0 (omega arith) inside_too)))
+      (cases_lt one.0 two.0))
       (cases_eq one.0 two.0)
 
   pub find_found : (at : ℕ) (d : Slot) (label : List ℕ) → at < length slots → text_at (map slot_label slots) at ≡ label → cell_of label (row_directory (placed slots)) ≡ Some (get_or slots at d).cell
@@ -222,6 +222,6 @@ fresh_after old new cell label within are rows apart =
     let long : cell < length d = omega (arith, within, length-map (placed old) row_label, length-placed old) in
     let gone : placed new ≡ set (placed old) cell None = placed_set old new cell None within rows in
     let others : (n : ℕ) → n ≢ cell → label_at (set d cell (Some label)) n ≡ label_at (row_directory (placed new)) n =
-        λ n other. get_or-set_other d cell n (Some label) None other
-        ∙ sym (ap (λ r. label_at (row_directory r) n) gone ∙ ap (λ l. label_at l n) (map-set row_label (placed old) cell None) ∙ get_or-set_other d cell n None None other) in
+    λ n other. get_or-set_other d cell n (Some label) None other
+    ∙ sym (ap (λ r. label_at (row_directory r) n) gone ∙ ap (λ l. label_at l n) (map-set row_label (placed old) cell None) ∙ get_or-set_other d cell n None None other) in
     fresh_placed new (set d cell (Some label)) cell label are apart (get_or-set_same d cell (Some label) None long) others (rows cell ∙ ap (λ t. if t then None else row_in old cell) (same_true cell cell refl))

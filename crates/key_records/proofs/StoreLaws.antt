@@ -1,8 +1,8 @@
 -- What a change of one cell makes of the labels that a store stands for.
-use Rattle.std.proofs.Common.{◌≡◌, ◌≢◌, ◌≤◌, ◌<◌, ◌⊎◌, ◌*◌, inl, inr, ⊎_elim, ℕ, List, length, get_or, set, map, Option, None, Some, Result, Ok, Err, true, false, refl, sym, ap, subst, ◌∙◌, arith}
+use Rattle.std.proofs.Common.{◌≡◌, ◌≢◌, ◌<◌, ◌*◌, inl, inr, ⊎_elim, ℕ, List, length, get_or, set, map, Option, None, Some, Result, Ok, Err, true, false, refl, sym, ap, subst, ◌∙◌, arith}
 use Rattle.std.specs.Prelude.{OnOk, is_err}
 use Rattle.std.proofs.lemmas.Bool.{cases_eq}
-use Rattle.std.proofs.lemmas.List.{get_or-set_same, get_or-set_other, length-set, set-get_or, map-set}
+use Rattle.std.proofs.lemmas.List.{get_or-set_same, get_or-set_other, length-set, map-set}
 use Rattle.slot_disk.specs.Cells.{body, IsReplaced, IsReplacing}
 use Rattle.slot_disk.specs.Medium.{Medium, Told, From, Becomes, EachImage, Keeps, IsSettled}
 use Rattle.slot_disk.proofs.Media.{told_from, told_at, becomes_told, each_weaker, each_still}
@@ -26,10 +26,10 @@ module _ (masters : MasterKeys) (n : ℕ) (bytes : List ℕ) (slot : Option Entr
     size = length-set s n slot ∙ stands.size;
     reads = λ m below. ⊎_elim
         (λ (is : m ≡ n). subst (λ (k : ℕ). ReadsEntry masters (body new k) (entry_at (set s n slot) k)) (sym is)
-            (subst (λ (e : Option Entry). ReadsEntry masters (body new n) e) (sym (get_or-set_same s n slot None (omega (arith, stands.size))))
-            (subst (λ (b : List ℕ). ReadsEntry masters b slot) (sym here) reads)))
+        (subst (λ (e : Option Entry). ReadsEntry masters (body new n) e) (sym (get_or-set_same s n slot None (omega (arith, stands.size))))
+        (subst (λ (b : List ℕ). ReadsEntry masters b slot) (sym here) reads)))
         (λ (other : m ≡ n → ⊥). subst (λ (e : Option Entry). ReadsEntry masters (body new m) e) (sym (get_or-set_other s n m slot None other))
-            (subst (λ (b : List ℕ). ReadsEntry masters b (entry_at s m)) (sym (others m other)) (stands.reads m below)))
+        (subst (λ (b : List ℕ). ReadsEntry masters b (entry_at s m)) (sym (others m other)) (stands.reads m below)))
         (cases_eq m n);
     apart = apart;
   }
@@ -114,10 +114,10 @@ module _ (n : ℕ) (bytes : List ℕ) (row : Option Row) (rows : List (Option Ro
   rows_put old new holds replaced = record {
     reads = λ m below. ⊎_elim
         (λ (is : m ≡ n). subst (λ (k : ℕ). ReadsRow (body new k) (get_or (set rows n row) k None)) (sym is)
-            (subst (λ (r : Option Row). ReadsRow (body new n) r) (sym (get_or-set_same rows n row None (omega (arith, size, within))))
-            (subst (λ (b : List ℕ). ReadsRow b row) (sym replaced.here) reads)))
+        (subst (λ (r : Option Row). ReadsRow (body new n) r) (sym (get_or-set_same rows n row None (omega (arith, size, within))))
+        (subst (λ (b : List ℕ). ReadsRow b row) (sym replaced.here) reads)))
         (λ (other : m ≡ n → ⊥). subst (λ (r : Option Row). ReadsRow (body new m) r) (sym (get_or-set_other rows n m row None other))
-            (subst (λ (b : List ℕ). ReadsRow b (get_or rows m None)) (sym (replaced.others m other)) (holds.reads m below)))
+        (subst (λ (b : List ℕ). ReadsRow b (get_or rows m None)) (sym (replaced.others m other)) (holds.reads m below)))
         (cases_eq m n);
   }
 

@@ -1,5 +1,5 @@
 -- A token with flag c0 is the one that is written with its fields.
-use Rattle.std.proofs.Common.{◌≡◌, ◌≤◌, ◌+◌, ◌-◌, ℕ, List, [], ◌∷◌, ◌++◌, length, take, drop, refl, sym, ap, subst, ◌∙◌, arith}
+use Rattle.std.proofs.Common.{◌≡◌, ◌≤◌, ◌+◌, ◌-◌, ℕ, List, [], ◌∷◌, ◌++◌, take, drop, refl, sym, ap, subst, ◌∙◌, arith}
 use Rattle.std.specs.Prelude.{slice_index, slice_range, ⊤}
 use Rattle.std.specs.Int.{to_be_bytes, w32}
 use Rattle.std.proofs.lemmas.List.{take-append-drop, take-take, drop-take, take_all}
@@ -59,11 +59,11 @@ module _ (token : Token) where
       let has_a : HasPlaces a (layout token 0xc0 (tvv_of a)) = subst (λ (f : ℕ). HasPlaces a (layout token f (tvv_of a))) flag_a is_a.places in
       let has_b : HasPlaces b (layout token 0xc0 (tvv_of b)) = subst (λ (f : ℕ). HasPlaces b (layout token f (tvv_of b))) flag_b is_b.places in
       let front : take 60 a ≡ take 60 b = same_front a b 0 (rows token) front_follows
-          (has_front a (rows token) (place 60 63 (to_be_bytes w32 (tvv_of a))) has_a)
-          (has_front b (rows token) (place 60 63 (to_be_bytes w32 (tvv_of b))) has_b) refl in
+      (has_front a (rows token) (place 60 63 (to_be_bytes w32 (tvv_of a))) has_a)
+      (has_front b (rows token) (place 60 63 (to_be_bytes w32 (tvv_of b))) has_b) refl in
       let tvv : tvv_of a ≡ tvv_of b = sym (tvv_of-front a) ∙ ap tvv_of front ∙ tvv_of-front b in
       let whole : take 64 a ≡ take 64 b = same_front a b 0 (layout token 0xc0 (tvv_of a)) (layout_follows (tvv_of a)) has_a
-          (subst (λ (v : ℕ). HasPlaces b (layout token 0xc0 v)) (sym tvv) has_b) refl in
+      (subst (λ (v : ℕ). HasPlaces b (layout token 0xc0 v)) (sym tvv) has_b) refl in
       sym (take_all 64 a (omega (arith, is_a.whole))) ∙ whole ∙ take_all 64 b (omega (arith, is_b.whole))
 
   pub made_only : (bytes : List ℕ) → IsToken (made token) token → IsToken bytes token → slice_index bytes 6 ≡ 0xc0 → bytes ≡ made token

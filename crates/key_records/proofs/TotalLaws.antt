@@ -1,5 +1,5 @@
 -- A store of bytes stands for a state, or else it has a first damaged cell.
-use Rattle.std.proofs.Common.{◌≡◌, ◌≢◌, ◌≤◌, ◌<◌, ◌+◌, ◌-◌, ◌*◌, ◌%◌, ◌⊎◌, inl, inr, ⊎_elim, ℕ, zero, suc, Bool, true, false, List, length, drop, set, replicate, Option, None, Some, refl, sym, ap, subst, ◌∙◌, arith}
+use Rattle.std.proofs.Common.{◌≡◌, ◌≤◌, ◌<◌, ◌+◌, ◌-◌, ◌⊎◌, inl, inr, ⊎_elim, ℕ, zero, suc, Bool, true, false, List, drop, set, replicate, Option, None, Some, refl, sym, ap, subst, ◌∙◌, arith}
 use Rattle.std.specs.Prelude.{slice_index, slice_range, bytes_eq, is_some, IsSome}
 use Rattle.std.proofs.lemmas.Bool.{cases_eq}
 use Rattle.std.proofs.lemmas.Slice.Eq.{bytes_eq-Decides}
@@ -9,14 +9,14 @@ use Rattle.byte_lists.specs.Bytes.{AreBytes}
 use Rattle.slot_disk.specs.Cells.{body, body_place, selected}
 use Rattle.key_tokens.specs.Denotes.{MasterKeys}
 use Rattle.key_records.specs.Labels.{IsLabel, is_label}
-use Rattle.key_records.specs.Directory.{label_at, AreApart, cell_of}
+use Rattle.key_records.specs.Directory.{AreApart, cell_of}
 use Rattle.key_records.specs.Entries.{Entry, remembered, row_directory, row_label, entry_label}
-use Rattle.key_records.specs.Opening.{Opens, IsRefused, OpenedTo}
+use Rattle.key_records.specs.Opening.{OpenedTo}
 use Rattle.key_records.specs.RecordBody.{ReadsEntry, IsWhat, entry_in, record_body, blank_body, no_token, kept, label_in, token_in, null_kind, key_kind}
 use Rattle.key_records.specs.Rows.{AreRows}
 use Rattle.key_records.specs.StoreStands.{StandsForLabels, labels_in, IsFirstDamaged}
 use Rattle.key_records.specs.declared.rows.Row.{Row}
-use Rattle.key_records.proofs.BodyLaws.{Spelled, spelled, spelled_label, spelled_again, spelled_what, entry_blank, entry_reads}
+use Rattle.key_records.proofs.BodyLaws.{spelled, spelled_label, spelled_again, spelled_what, entry_blank, entry_reads}
 use Rattle.key_records.proofs.DirectoryLaws.{apart_set, apart_none, held_somewhere, held_nowhere}
 use Rattle.key_records.proofs.OpeningLaws.{label_remembered, opened_none, opened_more, opened_all, refused_damaged}
 use Rattle.key_records.proofs.RowLaws.{blank_rows, rows_set}
@@ -55,15 +55,15 @@ pub decided_body : (masters : MasterKeys) (bytes : List ℕ) → AreBytes 64 (to
 decided_body masters bytes are = ⊎_elim
     (λ (blank : bytes ≡ blank_body). inl (subst (ReadsEntry masters bytes) (sym (entry_blank masters bytes blank)) blank))
     (λ (some : bytes ≡ blank_body → ⊥). ⊎_elim
-        (λ (is_label : IsLabel (label_in bytes)). ⊎_elim
-            (λ (is : bytes ≡ record_body (slice_index bytes 0) (label_in bytes) (token_in bytes)). ⊎_elim
-                (λ (what : IsWhat masters (slice_index bytes 0) (token_in bytes)). inl (entry_reads masters bytes (slice_index bytes 0) (label_in bytes) (token_in bytes) is is_label are what))
-                (λ (no_what : IsWhat masters (slice_index bytes 0) (token_in bytes) → ⊥). inr (λ e reads. no_what (spelled_what masters bytes (spelled masters bytes e some reads))))
-                (decided_what masters (slice_index bytes 0) (token_in bytes)))
-            (λ (isnt : bytes ≡ record_body (slice_index bytes 0) (label_in bytes) (token_in bytes) → ⊥). inr (λ e reads. isnt (spelled_again masters bytes (spelled masters bytes e some reads))))
-            (same_bytes bytes (record_body (slice_index bytes 0) (label_in bytes) (token_in bytes))))
-        (λ (no_label : IsLabel (label_in bytes) → ⊥). inr (λ e reads. let s = spelled masters bytes e some reads in no_label (subst IsLabel (sym (spelled_label masters bytes s)) s.is_label)))
-        (by_bool (is_label (label_in bytes))))
+    (λ (is_label : IsLabel (label_in bytes)). ⊎_elim
+    (λ (is : bytes ≡ record_body (slice_index bytes 0) (label_in bytes) (token_in bytes)). ⊎_elim
+    (λ (what : IsWhat masters (slice_index bytes 0) (token_in bytes)). inl (entry_reads masters bytes (slice_index bytes 0) (label_in bytes) (token_in bytes) is is_label are what))
+    (λ (no_what : IsWhat masters (slice_index bytes 0) (token_in bytes) → ⊥). inr (λ e reads. no_what (spelled_what masters bytes (spelled masters bytes e some reads))))
+    (decided_what masters (slice_index bytes 0) (token_in bytes)))
+    (λ (isnt : bytes ≡ record_body (slice_index bytes 0) (label_in bytes) (token_in bytes) → ⊥). inr (λ e reads. isnt (spelled_again masters bytes (spelled masters bytes e some reads))))
+    (same_bytes bytes (record_body (slice_index bytes 0) (label_in bytes) (token_in bytes))))
+    (λ (no_label : IsLabel (label_in bytes) → ⊥). inr (λ e reads. let s = spelled masters bytes e some reads in no_label (subst IsLabel (sym (spelled_label masters bytes s)) s.is_label)))
+    (by_bool (is_label (label_in bytes))))
     (same_bytes bytes blank_body)
 
 -- ---- the bytes of a store
@@ -93,10 +93,11 @@ module _ (masters : MasterKeys) (image : List ℕ) (are : AreBytes 1572864 image
   come_more : (n : ℕ) (e : Option Entry) (c : Come n) → n < 1024 → entry_in masters (body image n) ≡ e → ReadsEntry masters (body image n) (entry_in masters (body image n)) → AreApart (set (row_directory c.0) n (entry_label e)) → Come (n + 1)
   come_more n e c below is reads apart =
       let row : Option Row = remembered masters (entry_in masters (body image n)) in
-      let label : row_label row ≡ entry_label e = label_remembered masters (entry_in masters (body image n)) ∙ ap entry_label is in
-      (set c.0 n row,
-      opened_more masters image n c.0 c.1 (set c.0 n row) (omega (arith, c.2.size, below)) (record { reads = reads; rows = refl }),
-      rows_set c.0 c.0 n row c.2 refl (subst (λ (l : Option (List ℕ)). AreApart (set (row_directory c.0) n l)) (sym label) apart))
+      let label : row_label row ≡ entry_label e = label_remembered masters (entry_in masters (body image n)) ∙ ap entry_label is in (
+        set c.0 n row,
+        opened_more masters image n c.0 c.1 (set c.0 n row) (omega (arith, c.2.size, below)) (record { reads = reads; rows = refl }),
+        rows_set c.0 c.0 n row c.2 refl (subst (λ (l : Option (List ℕ)). AreApart (set (row_directory c.0) n l)) (sym label) apart),
+      )
 
   step : (n : ℕ) (e : Option Entry) → n < 1024 → Come n → entry_in masters (body image n) ≡ e → ReadsEntry masters (body image n) (entry_in masters (body image n)) → Come (n + 1) ⊎ Stuck
   step n None below c is reads = inl (come_more n None c below is reads (apart_none (row_directory c.0) n c.2.apart))
@@ -111,9 +112,9 @@ module _ (masters : MasterKeys) (image : List ℕ) (are : AreBytes 1572864 image
   scan zero within = inl (replicate 1024 None, opened_none masters image (replicate 1024 None) refl, blank_rows (replicate 1024 None) 1024 refl refl)
   scan (suc n) within = ⊎_elim
       (λ (c : Come n). ⊎_elim
-          (λ (reads : ReadsEntry masters (body image n) (entry_in masters (body image n))). subst (λ (k : ℕ). Come k ⊎ Stuck) (omega arith) (step n (entry_in masters (body image n)) (omega (arith, within)) c refl reads))
-          (λ (nothing : ReadsNothing masters (body image n)). inr (n, refused_damaged masters image n c.0 c.1 c.2 (omega (arith, within)) (inl nothing)))
-          (decided_body masters (body image n) (token_bytes image n are (omega (arith, within)))))
+      (λ (reads : ReadsEntry masters (body image n) (entry_in masters (body image n))). subst (λ (k : ℕ). Come k ⊎ Stuck) (omega arith) (step n (entry_in masters (body image n)) (omega (arith, within)) c refl reads))
+      (λ (nothing : ReadsNothing masters (body image n)). inr (n, refused_damaged masters image n c.0 c.1 c.2 (omega (arith, within)) (inl nothing)))
+      (decided_body masters (body image n) (token_bytes image n are (omega (arith, within)))))
       (λ (stuck : Stuck). inr stuck)
       (scan n (omega (arith, within)))
 

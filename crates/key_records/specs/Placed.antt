@@ -1,5 +1,5 @@
 -- A sorted directory as 1,024 places, one for each cell.
-use Rattle.std.specs.Prelude.{◌≡◌, ◌≤◌, ◌<◌, ℕ, ◌==◌, List, [], ◌∷◌, length, map, Option, None, Some, ⊤, if◌then◌else◌}
+use Rattle.std.specs.Prelude.{◌≡◌, ◌≤◌, ◌<◌, ℕ, ◌==◌, List, [], ◌∷◌, map, Option, None, Some, ⊤, if◌then◌else◌}
 use Rattle.std.specs.List.{range_with_len}
 use Rattle.key_records.specs.declared.rows.Row.{Row}
 use Rattle.key_records.specs.Ascending.{AreAscending, slot_label}

@@ -1,10 +1,10 @@
 -- What a store stands for: the labels of a state, each in its cell.
-use Rattle.std.specs.Prelude.{◌≡◌, ◌≤◌, ◌<◌, ◌⊎◌, ℕ, List, length, map, get_or, Option, None, Some}
+use Rattle.std.specs.Prelude.{◌≡◌, ◌<◌, ◌⊎◌, ℕ, List, length, map, get_or, Option, None, Some}
 use Rattle.std.specs.List.{range_with_len}
 use Rattle.slot_disk.specs.Cells.{body}
 use Rattle.key_tokens.specs.Denotes.{MasterKeys}
-use Rattle.key_records.specs.Directory.{label_at, AreApart}
-use Rattle.key_records.specs.Entries.{Entry, directory, entry_label, remembered}
+use Rattle.key_records.specs.Directory.{AreApart}
+use Rattle.key_records.specs.Entries.{Entry, directory, remembered}
 use Rattle.key_records.specs.RecordBody.{ReadsEntry, ReadsRow, entry_in}
 use Rattle.key_records.specs.declared.rows.Row.{Row}
 

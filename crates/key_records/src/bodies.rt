@@ -191,7 +191,11 @@ fn what_in(kind: u8, token: &[u8; 64], held: &Registers) -> Option<Option<Patter
         ≡ option_map (pattern_for (keys_of m)) (what_of (keys_of m) kind token.now)) }
 {
     if kind == NULL {
-        return if has_no_token(token) { Some(None) } else { None };
+        return if has_no_token(token) {
+            Some(None)
+        } else {
+            None
+        };
     }
     if kind != KEY {
         return None;

@@ -42,7 +42,7 @@ impl Records {
         ensures labels { (masters : MasterKeys) (s : List (Option Entry))
             → Told (D.medium store.old) (KeepsLabels masters self.old s)
             → ChangesLabels masters (free_cell (row_directory self.old)) s (created label.now s)
-                self.new (D.medium store.old) (D.medium store.new) result }
+            self.new (D.medium store.old) (D.medium store.new) result }
         ensures memory { Remembers self.old
             (set self.old (free_cell (row_directory self.old)) (Some (null_row label.now)))
             self.new result }
@@ -94,7 +94,7 @@ impl Records {
         ensures labels { (masters : MasterKeys) (s : List (Option Entry))
             → Told (D.medium store.old) (KeepsLabels masters self.old s)
             → ChangesLabels masters place s (deleted place s)
-                self.new (D.medium store.old) (D.medium store.new) result }
+            self.new (D.medium store.old) (D.medium store.new) result }
         ensures memory { Remembers self.old (set self.old place None) self.new result }
         ensures holds { OnOk result (Told (D.medium store.new) (HoldsRows self.new)) }
         ensures rest { KeepsAllButBody lease.old lease.new }
@@ -131,7 +131,7 @@ impl Records {
             → Told (D.medium store.old) (KeepsLabels masters self.old s)
             → denoted masters token.now ≡ Some key
             → ChangesLabels masters place s (written place key s)
-                self.new (D.medium store.old) (D.medium store.new) result }
+            self.new (D.medium store.old) (D.medium store.new) result }
         ensures memory { Remembers self.old
             (set self.old place (Some (key_row (label_or (get_or self.old place None)) token.now)))
             self.new result }

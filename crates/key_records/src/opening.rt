@@ -32,16 +32,16 @@ pub fn open_records<D: Disk>(
 
     ensures stands { OnOk result (Told (D.medium store.new) (λ image.
         KeepsLabels (keys_of (masters_in held.now (bench_of lease.old))) records.new
-            (labels_in (keys_of (masters_in held.now (bench_of lease.old))) image) image)) }
+        (labels_in (keys_of (masters_in held.now (bench_of lease.old))) image) image)) }
     ensures holds { OnOk result (Told (D.medium store.new) (HoldsRows records.new)) }
     ensures unopened { OnErr result (records.new ≡ replicate CELLS None) }
     ensures damaged { (cell : ℕ) → result ≡ Err (RecordFault.Damaged cell)
         → Told (D.medium store.old) (λ image.
-            IsFirstDamaged (keys_of (masters_in held.now (bench_of lease.old))) image cell) }
+        IsFirstDamaged (keys_of (masters_in held.now (bench_of lease.old))) image cell) }
     ensures exact { (Rose (D.faults store.old) (D.faults store.new) → ⊥)
         → Told (D.medium store.old) (λ image. (cell : ℕ)
-            → IsFirstDamaged (keys_of (masters_in held.now (bench_of lease.old))) image cell
-            → result ≡ Err (RecordFault.Damaged cell)) }
+        → IsFirstDamaged (keys_of (masters_in held.now (bench_of lease.old))) image cell
+        → result ≡ Err (RecordFault.Damaged cell)) }
     ensures faults { IfErr result (λ fault. (fault ≡ RecordFault.DiskFault)
         ⊎ ((cell : ℕ) × (cell < 1024) × (fault ≡ RecordFault.Damaged cell))) }
     ensures keeps { Keeps (D.medium store.old) (D.medium store.new) }
@@ -108,7 +108,7 @@ fn open_cell<D: Disk>(
     ensures rows { AreRows records.new }
     ensures damaged { (n : ℕ) → result ≡ Err (RecordFault.Damaged n)
         → (n ≡ cell) × Told (D.medium store.old)
-            (λ image. IsRefused (keys_of m) (body image cell) records.old) }
+        (λ image. IsRefused (keys_of m) (body image cell) records.old) }
     ensures faults { IfErr result (λ fault.
         (fault ≡ RecordFault.DiskFault) ⊎ (fault ≡ RecordFault.Damaged cell)) }
     ensures keeps { Keeps (D.medium store.old) (D.medium store.new) }

@@ -35,7 +35,7 @@ impl Records {
         ensures token { (masters : MasterKeys) (s : List (Option Entry))
             → Told (D.medium store.old) (KeepsLabels masters self.now s)
             → IfOk result (λ found. Told (D.medium store.old)
-                (λ _. ReadsToken masters (entry_at s place) found out.new)) }
+            (λ _. ReadsToken masters (entry_at s place) found out.new)) }
         ensures bytes { result ≡ Ok true → Told (D.medium store.old) (λ image. body image place
             ≡ record_body key_kind (label_or (get_or self.now place None)) out.new) }
         ensures untouched { result ≢ Ok true → out.new ≡ out.old }

@@ -339,7 +339,10 @@ fn changes(rt: HostRuntime) -> Result<(), Fail> {
         assert!(rt; done.is_ok(), "{change:?}");
         assert!(rt; cell_body(&mut store, cell)? == body, "{change:?}");
         assert!(rt; store.size() == STORE_LEN);
-        assert!(rt; shown(alloc, &mut store, &shows.0) == Ok(Ok(shows.1)), "{change:?}");
+        assert!(rt;
+            shown(alloc, &mut store, &shows.0) == Ok(Ok(shows.1)),
+            "{change:?}"
+        );
     }
     assert!(rt; store.size() == STORE_LEN);
     assert!(rt; shown(alloc, &mut store, &a) == Err(Stop::Unknown));
@@ -499,7 +502,11 @@ fn damaged_cells(rt: HostRuntime) -> Result<(), Fail> {
         // a label twice, and two damaged cells
         ((5, key), (3, key), fifth),
         ((5, body_of(1, b"KEY", &[0; 64])), (3, key), fifth),
-        ((5, with_byte(key, 0, 7)), (1000, with_byte(null, 0, 7)), fifth),
+        (
+            (5, with_byte(key, 0, 7)),
+            (1000, with_byte(null, 0, 7)),
+            fifth,
+        ),
     ] {
         let mut store = MemoryDisk::new(alloc, STORE_LEN, 10)?;
         put(&mut store, first.0, &first.1)?;
@@ -522,7 +529,11 @@ fn a_fault_at_each_call(rt: HostRuntime) -> Result<(), Fail> {
     // A sync to settle, two reads for each of 1,024 cells, and for the change a read, two writes and a sync after each.
     for (call, wanted, left) in [
         (0, Err(Stop::Settle), Err(Stop::Unknown)),
-        (1, Err(Stop::Open(RecordFault::DiskFault)), Err(Stop::Unknown)),
+        (
+            1,
+            Err(Stop::Open(RecordFault::DiskFault)),
+            Err(Stop::Unknown),
+        ),
         (
             2048,
             Err(Stop::Open(RecordFault::DiskFault)),

@@ -1,4 +1,4 @@
-use Rattle.std.proofs.Common.{◌≡◌, ℕ, length, replicate, sym, ap, ◌∙◌}
+use Rattle.std.proofs.Common.{ℕ, replicate, sym, ap, ◌∙◌}
 use Rattle.key_records.specs.RecordBody.{no_token}
 use Rattle.key_records.proofs.bodies.has_no_token.Goals as goal
 

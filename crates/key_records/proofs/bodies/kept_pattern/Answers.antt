@@ -1,11 +1,8 @@
-use Rattle.std.proofs.Common.{◌≡◌, ◌≢◌, inl, inr, ℕ, Bool, true, false, Result, Ok, Err, Option, None, Some, refl, sym, ap, subst, ◌∙◌}
-use Rattle.std.specs.Prelude.{option_map, slice_index, is_err, IfErr, OnOk}
+use Rattle.std.proofs.Common.{◌≡◌, inl, inr, ℕ, Bool, true, false, Result, Ok, Err, Option, Some, refl, sym, ap, ◌∙◌}
+use Rattle.std.specs.Prelude.{option_map, is_err, IfErr, OnOk}
 use Rattle.verb_rules.specs.Keys.{keys_of}
 use Rattle.key_records.specs.Entries.{pattern_for}
-use Rattle.key_records.specs.RecordBody.{kept}
 use Rattle.key_records.proofs.KeptLaws.{kept_flag, kept_with_flag, denoted_refused, pattern_found, pattern_missing, pattern}
-use Rattle.master_registers.specs.Loaded.{pattern_in}
-use Rattle.master_registers.specs.declared.patterns.Pattern.{Pattern}
 use Rattle.master_registers.specs.declared.registers.Registers.{Registers}
 use Rattle.key_tokens.specs.declared.key_token.TokenFault.{TokenFault}
 use Rattle.key_tokens.specs.TokenChecks.{token_checks, rule_of}
@@ -43,8 +40,10 @@ pub returns-then-is_pattern-2 : goal.returns-then-is_pattern-2
 returns-then-is_pattern-2 g c =
     sym (pattern_found g.m c.args.token.now c.pattern_in-pattern.result (ap pattern c.pattern_in-pattern.ensures) c.if-token-ne-KEY_AND_VECTOR.false
     (from_ok c.read_token.result (sym c.is_err.ensures.value ∙ c.if-is_err.false) c.read_token.ensures.accepted)
-    (inr (λ has. not_true c.is_pattern.result c.if-is_pattern.false (c.is_pattern.ensures.1 (ap (λ (r : Registers). r.current_pattern) c.requires ∙ has)),
-    sym (ap (λ (r : Registers). r.old_pattern) c.requires) ∙ c.is_pattern-2.ensures.0 c.if-is_pattern-2.true)))
+    (inr (
+      λ has. not_true c.is_pattern.result c.if-is_pattern.false (c.is_pattern.ensures.1 (ap (λ (r : Registers). r.current_pattern) c.requires ∙ has)),
+      sym (ap (λ (r : Registers). r.old_pattern) c.requires) ∙ c.is_pattern-2.ensures.0 c.if-is_pattern-2.true,
+    )))
 
 pub returns : goal.returns
 returns g c =

@@ -1,13 +1,12 @@
-use Rattle.std.proofs.Common.{◌≡◌, ℕ, List, Option, None, Some, Bool, true, false, refl, sym, ap, subst, ◌∙◌}
-use Rattle.std.specs.Prelude.{slice_index, option_map}
-use Rattle.byte_lists.specs.Bytes.{AreBytes}
+use Rattle.std.proofs.Common.{◌≡◌, ℕ, List, Option, Some, Bool, true, false, refl, sym, ap, subst, ◌∙◌}
+use Rattle.std.specs.Prelude.{slice_index}
 use Rattle.verb_rules.specs.Keys.{keys_of}
-use Rattle.key_records.specs.Entries.{Entry, pattern_for, remembered}
+use Rattle.key_records.specs.Entries.{remembered}
 use Rattle.key_records.specs.Labels.{IsLabel}
-use Rattle.key_records.specs.RecordBody.{record_body, label_in, token_in, IsWhat, what_of, entry_in}
+use Rattle.key_records.specs.RecordBody.{record_body, token_in, IsWhat}
 use Rattle.key_records.specs.declared.rows.Row.{Row}
 use Rattle.master_registers.specs.declared.patterns.Pattern.{Pattern}
-use Rattle.key_records.proofs.BodyLaws.{Spelled, spelled, spelled_label, spelled_again, spelled_what, entry_is, entry_reads, entry}
+use Rattle.key_records.proofs.BodyLaws.{spelled, spelled_label, spelled_again, spelled_what, entry_is, entry_reads}
 use Rattle.key_records.proofs.bodies.read_record.Goals as goal
 
 not_true : (b : Bool) → b ≡ false → b ≡ true → ⊥

@@ -1,7 +1,7 @@
-use Rattle.std.proofs.Common.{◌≡◌, sym, ap, subst, ◌∙◌}
+use Rattle.std.proofs.Common.{◌≡◌, sym, ap, subst}
 use Rattle.verb_rules.specs.Keys.{keys_of}
 use Rattle.key_records.specs.Entries.{remembered}
-use Rattle.key_records.specs.RecordBody.{ReadsEntry, entry_in, blank_body}
+use Rattle.key_records.specs.RecordBody.{ReadsEntry, blank_body}
 use Rattle.key_records.proofs.BodyLaws.{entry_blank}
 use Rattle.key_records.proofs.bodies.read_row.Goals as goal
 

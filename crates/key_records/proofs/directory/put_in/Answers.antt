@@ -1,8 +1,8 @@
-use Rattle.std.proofs.Common.{◌≡◌, ◌<◌, ℕ, List, Option, None, Some, length, map, sym, ap, subst, ◌∙◌, arith}
+use Rattle.std.proofs.Common.{◌≡◌, List, map, sym, ap, subst, ◌∙◌}
 use Rattle.std.specs.Prelude.{if◌then◌else◌, is_ok}
 use Rattle.std.specs.List.{insert}
 use Rattle.key_records.specs.Placed.{row_in, AreSlots}
-use Rattle.key_records.specs.Ascending.{IsPlace, text_at, slot_label}
+use Rattle.key_records.specs.Ascending.{IsPlace, slot_label}
 use Rattle.key_records.specs.declared.rows.Slot.{Slot}
 use Rattle.key_records.proofs.PlacedLaws.{row_insert}
 use Rattle.key_records.proofs.SortedLaws.{slots_insert}

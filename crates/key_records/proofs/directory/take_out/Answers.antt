@@ -1,7 +1,6 @@
-use Rattle.std.proofs.Common.{◌≡◌, ◌≢◌, ◌<◌, ◌+◌, ℕ, List, Option, None, Some, length, get_or, sym, ap, subst, ◌∙◌, arith}
+use Rattle.std.proofs.Common.{◌≡◌, ◌<◌, ℕ, List, None, length, get_or, sym, ap, subst, ◌∙◌, arith}
 use Rattle.std.specs.Prelude.{◌==◌, if◌then◌else◌}
 use Rattle.std.specs.List.{remove}
-use Rattle.key_records.specs.declared.rows.Row.{Row}
 use Rattle.key_records.specs.Placed.{row_in, AreSlots}
 use Rattle.key_records.specs.declared.rows.Slot.{Slot}
 use Rattle.key_records.proofs.PlacedLaws.{row_remove, gone_same}

@@ -1,5 +1,5 @@
 -- No slot before has the cell.
-use Rattle.std.proofs.Common.{◌≡◌, ◌≢◌, ◌<◌, ℕ, List, length, get_or}
+use Rattle.std.proofs.Common.{◌≡◌, ◌≢◌, ◌<◌, ℕ, get_or}
 use Rattle.key_records.proofs.directory.take_out.Given as goal
 use Rattle.key_records.specs.declared.rows.Slot.{Slot}
 

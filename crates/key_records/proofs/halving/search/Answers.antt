@@ -1,6 +1,6 @@
-use Rattle.std.proofs.Common.{◌≡◌, ◌≤◌, ◌<◌, ◌+◌, ◌-◌, ◌*◌, ◌^◌, ◌/◌, ℕ, List, length, get_or, map, sym, ap, subst, ◌∙◌, arith}
+use Rattle.std.proofs.Common.{◌≡◌, ◌≤◌, ◌<◌, ◌+◌, ◌-◌, ◌*◌, ◌^◌, ◌/◌, ℕ, List, length, get_or, map, sym, subst, ◌∙◌, arith}
 use Rattle.std.proofs.lemmas.List.{length-map}
-use Rattle.key_records.specs.Ascending.{AreAscending, IsBefore, text_at, slot_label}
+use Rattle.key_records.specs.Ascending.{IsBefore, text_at, slot_label}
 use Rattle.key_records.specs.declared.rows.Slot.{Slot}
 use Rattle.key_records.proofs.HalvingLaws.{text_there, greater_before, equal_same, before_middle, after_middle, halved}
 use Rattle.key_records.proofs.halving.search.Goals as goal

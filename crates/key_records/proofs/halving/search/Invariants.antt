@@ -1,5 +1,5 @@
 -- The labels below `low` are less, and those from `high` on are greater. Each step halves what is between.
-use Rattle.std.proofs.Common.{◌≡◌, ◌≤◌, ◌<◌, ◌+◌, ◌-◌, ◌*◌, ◌^◌, ℕ, length, map}
+use Rattle.std.proofs.Common.{◌≤◌, ◌<◌, ◌+◌, ◌-◌, ◌*◌, ◌^◌, ℕ, length, map}
 use Rattle.key_records.specs.Ascending.{IsBefore, text_at, slot_label}
 use Rattle.key_records.proofs.halving.search.Given as goal
 

@@ -1,12 +1,11 @@
-use Rattle.std.proofs.Common.{◌≡◌, ◌<◌, ◌≤◌, ◌+◌, ℕ, List, Option, Result, Ok, Err, ◌⊎◌, ⊎_elim, length, refl, sym, ap, subst, ◌∙◌, arith}
-use Rattle.std.specs.Prelude.{OnOk}
+use Rattle.std.proofs.Common.{◌≡◌, ◌+◌, ℕ, Err, ⊎_elim, refl, sym, ap, subst, ◌∙◌, arith}
 use Rattle.key_cells.specs.Lease.{bench_of, holding}
 use Rattle.slot_disk.specs.Cells.{body}
-use Rattle.slot_disk.specs.Medium.{Told, Keeps}
+use Rattle.slot_disk.specs.Medium.{Told}
 use Rattle.slot_disk.proofs.WhereToldLemmas.{rose_wider}
 use Rattle.verb_rules.specs.Keys.{keys_of}
 use Rattle.key_records.specs.declared.faults.RecordFault.TheVariants.{DiskFault, Damaged}
-use Rattle.slot_disk.proofs.Media.{keeps_still, keeps_then, told_from, told_at}
+use Rattle.slot_disk.proofs.Media.{keeps_still, keeps_then}
 use Rattle.key_records.specs.Opening.{OpenedTo, IsRefused, Opens}
 use Rattle.key_records.specs.StoreStands.{KeepsLabels, labels_in, IsFirstDamaged}
 use Rattle.key_records.proofs.OpeningLaws.{opened_none, opened_more, opened_all, refused_damaged, stands_undamaged, first_one}

@@ -1,8 +1,7 @@
 use Rattle.std.proofs.Common.{◌∙◌, sym}
 use Rattle.key_cells.specs.Lease.{bench_of}
 use Rattle.master_registers.specs.Loaded.{masters_in}
-use Rattle.key_records.specs.StoreStands.{KeepsLabels, HoldsRows, IsFirstDamaged, labels_in}
-use Rattle.key_records.specs.declared.faults.RecordFault.TheVariants.{Damaged}
+use Rattle.key_records.specs.StoreStands.{KeepsLabels, HoldsRows, labels_in}
 use Rattle.verb_rules.specs.Keys.{keys_of}
 use Rattle.key_records.proofs.ReadLaws.{keeps_holds}
 use Rattle.key_records.proofs.StoreLaws.{told_map, told_still}

@@ -1,4 +1,4 @@
-use Rattle.std.proofs.Common.{◌≡◌, ℕ, sym, ap, ◌∙◌, length, arith, rules}
+use Rattle.std.proofs.Common.{◌≡◌, sym, ap, ◌∙◌, length, rules}
 use Rattle.key_records.specs.Directory.{held_count}
 use Rattle.key_records.specs.Entries.{row_directory}
 use Rattle.key_records.specs.Placed.{placed}

@@ -1,4 +1,4 @@
-use Rattle.std.proofs.Common.{◌≡◌, ◌≤◌, ◌<◌, ◌+◌, ◌-◌, ◌*◌, ◌^◌, ℕ, List, Option, None, Some, length, map, get_or, sym, ap, subst, ◌∙◌, arith}
+use Rattle.std.proofs.Common.{◌≡◌, ◌≤◌, ◌<◌, ◌+◌, ◌-◌, ◌*◌, ◌^◌, ℕ, List, Some, length, map, get_or, sym, ap, subst, ◌∙◌, arith}
 use Rattle.key_records.specs.Directory.{cell_of, held_count}
 use Rattle.key_records.specs.Entries.{row_directory}
 use Rattle.key_records.specs.Placed.{placed}

@@ -1,10 +1,8 @@
-use Rattle.std.proofs.Common.{◌≡◌, ◌≢◌, ◌≤◌, ◌<◌, ℕ, List, Option, None, Some, length, map, get_or, set, refl, sym, ap, subst, ◌∙◌, arith}
+use Rattle.std.proofs.Common.{◌≡◌, List, None, Some, set, refl, sym, ap, subst, ◌∙◌, arith}
 use Rattle.std.specs.Prelude.{◌==◌, if◌then◌else◌}
-use Rattle.std.specs.Vec.{vec_capacity}
-use Rattle.key_records.specs.Directory.{AreApart, label_at}
+use Rattle.key_records.specs.Directory.{AreApart}
 use Rattle.key_records.specs.Entries.{row_directory, row_label}
-use Rattle.key_records.specs.declared.rows.Row.{Row}
-use Rattle.key_records.specs.Placed.{placed, row_in, AreSlots}
+use Rattle.key_records.specs.Placed.{placed, row_in}
 use Rattle.key_records.specs.declared.rows.Slot.{Slot}
 use Rattle.key_records.proofs.PlacedLaws.{placed_set, same_true, twice}
 use Rattle.key_records.proofs.SortedLaws.{room_placed, fresh_after}

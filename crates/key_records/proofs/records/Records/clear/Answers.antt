@@ -1,4 +1,4 @@
-use Rattle.std.proofs.Common.{◌≡◌, List, Option, None, length, replicate, ap, ◌∙◌, refl}
+use Rattle.std.proofs.Common.{List, Option, None, length, replicate, ap, ◌∙◌, refl}
 use Rattle.key_records.specs.declared.rows.Row.{Row}
 use Rattle.key_records.proofs.RowLaws.{blank_rows, cleared, none_listed}
 use Rattle.key_records.proofs.records.Records.clear.Goals as goal

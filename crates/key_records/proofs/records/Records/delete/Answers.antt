@@ -1,4 +1,4 @@
-use Rattle.std.proofs.Common.{◌≡◌, ℕ, List, Option, None, refl, subst, ◌∙◌}
+use Rattle.std.proofs.Common.{ℕ, List, Option, None, refl, subst, ◌∙◌}
 use Rattle.key_records.specs.Changes.{ChangesLabels, deleted}
 use Rattle.key_records.specs.Entries.{row_directory}
 use Rattle.key_records.specs.declared.rows.Row.{Row}

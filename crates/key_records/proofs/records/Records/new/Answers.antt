@@ -1,4 +1,4 @@
-use Rattle.std.proofs.Common.{◌≡◌, List, Option, None, length, replicate, sym, ap, ◌∙◌}
+use Rattle.std.proofs.Common.{List, Option, None, length, replicate, sym, ap, ◌∙◌}
 use Rattle.key_records.specs.declared.rows.Row.{Row}
 use Rattle.key_records.proofs.RowLaws.{cleared, none_listed}
 use Rattle.key_records.proofs.records.Records.new.Goals as goal
