@@ -43,10 +43,6 @@ label_short label is =
     let low : nat_le (length label) 64 ≡ true = (and_parts (starts_label label) (nat_le (length label) 64) parts.0).1 in
     grind (arith, nat_tests)
 
--- a body whose first byte isn't zero isn't blank
-pub not_blank : (bytes : List ℕ) → slice_index bytes 0 ≢ 0 → bytes_eq bytes blank_body ≡ false
-not_blank bytes some = false_from_ne_true (bytes_eq bytes blank_body) (λ same. some (ap (λ l. slice_index l 0) ((bytes_eq-Decides bytes blank_body).0 same) ∙ blank_first))
-
 abbrev pub entry : List ℕ → Option Denoted → Entry
 entry label what = record { label = label; what = what }
 

@@ -1,11 +1,10 @@
 -- Labels in their cells.
-use Rattle.std.proofs.Common.{◌≡◌, ◌≢◌, ◌≤◌, ◌<◌, ℕ, zero, suc, ◌+◌, Bool, true, false, List, [], ◌∷◌, length, take, drop, set, replicate, Option, None, Some, refl, sym, ap, subst, ◌∙◌, ⊎_elim, ◌⊎◌, inl, inr, arith}
-use Rattle.std.specs.Prelude.{is_some, cond, if◌then◌else◌}
-use Rattle.std.proofs.lemmas.List.Sums.{count_by_more_yes, count_by_more_no, sum_by-append}
+use Rattle.std.proofs.Common.{◌≡◌, ◌≢◌, ◌≤◌, ◌<◌, ℕ, zero, suc, ◌+◌, Bool, true, false, List, [], ◌∷◌, length, drop, set, replicate, Option, None, Some, refl, sym, ap, subst, ◌∙◌, ⊎_elim, ◌⊎◌, inl, inr, arith}
+use Rattle.std.specs.Prelude.{is_some, if◌then◌else◌}
 use Rattle.std.proofs.lemmas.Slice.Eq.{bytes_eq-Decides}
 use Rattle.std.proofs.lemmas.Bool.{cases_eq, cases_lt}
-use Rattle.std.proofs.lemmas.List.{get_or-set_same, get_or-set_other, get_or_past, length-set, drop_more, drop_all, set-get_or, take-append-drop}
-use Rattle.key_records.specs.Directory.{label_at, AreApart, has_label, cell_from, cell_of, free_from, held_count, IsFresh}
+use Rattle.std.proofs.lemmas.List.{get_or-set_same, get_or-set_other, get_or_past, length-set, drop_more, drop_all, set-get_or}
+use Rattle.key_records.specs.Directory.{label_at, AreApart, has_label, cell_from, cell_of, free_from, IsFresh}
 
 pub none_some : {X : Type 0} (x : X) → None ≡ Some x → ⊥
 none_some x is = cc
@@ -93,14 +92,6 @@ cell_missing label [] at is k held = none_some label held
 cell_missing label (l ∷ ls) at is zero held = has_label_not label l (no_none at (has_label label l) (cell_from (at + 1) label ls) is).0 held
 cell_missing label (l ∷ ls) at is (suc k) held = cell_missing label ls (at + 1) (no_none at (has_label label l) (cell_from (at + 1) label ls) is).1 k held
 
--- one cell more
-pub cell_step : (label : List ℕ) (d : List (Option (List ℕ))) (at : ℕ) (l : Option (List ℕ)) → at < length d → l ≡ label_at d at
-    → cell_from at label (drop at d) ≡ (if has_label label l then Some at else cell_from (at + 1) label (drop (at + 1) d))
-cell_step label d at l within is = ap (cell_from at label) (drop_more d at None within) ∙ ap (λ x. if has_label label x then Some at else cell_from (at + 1) label (drop (at + 1) d)) (sym is)
-
-pub cell_end : (label : List ℕ) (d : List (Option (List ℕ))) (at : ℕ) → length d ≤ at → cell_from at label (drop at d) ≡ None
-cell_end label d at past = ap (cell_from at label) (drop_all at d past)
-
 -- ---- the free cell
 
 pub free_step : (d : List (Option (List ℕ))) (at : ℕ) (label : List ℕ) → at < length d → label_at d at ≡ Some label → free_from at (drop at d) ≡ free_from (at + 1) (drop (at + 1) d)
@@ -113,9 +104,6 @@ pub free_end : (d : List (Option (List ℕ))) (at : ℕ) → length d ≤ at →
 free_end d at past = ap (free_from at) (drop_all at d past)
 
 -- ---- how many are held
-
-pub count_step : (d : List (Option (List ℕ))) (at : ℕ) (label : List ℕ) → at < length d → label_at d at ≡ Some label → held_count (take (at + 1) d) ≡ held_count (take at d) + 1
-count_step d at label within is = count_by_more_yes (λ l. is_some l) d at None within (ap (λ l. is_some l) is)
 
 -- ---- whether a label is held
 
@@ -145,16 +133,6 @@ fresh_apart (Some label) d n apart fresh = apart_set d n label apart fresh
 -- the same label again
 pub apart_same : (d : List (Option (List ℕ))) (n : ℕ) (label : List ℕ) → AreApart d → label_at d n ≡ Some label → AreApart (set d n (Some label))
 apart_same d n label apart held = subst AreApart (sym (set-get_or d n None) ∙ ap (set d n) held) apart
-
-pub count_none : (d : List (Option (List ℕ))) (at : ℕ) → at < length d → label_at d at ≡ None → held_count (take (at + 1) d) ≡ held_count (take at d)
-count_none d at within is = count_by_more_no (λ l. is_some l) d at None within (ap (λ l. is_some l) is)
-
-pub count_front : (d : List (Option (List ℕ))) (n : ℕ) → held_count (take n d) ≤ held_count d
-count_front d n = omega (arith, sum_by-append (λ l. cond (is_some l) 1 0) (take n d) (drop n d), ap held_count (take-append-drop n d))
-
-pub none_from : {X : Type 0} (o : Option X) → ((x : X) → o ≡ Some x → ⊥) → o ≡ None
-none_from None other = refl
-none_from (Some x) other = absurd (other x refl)
 
 -- the cell of a label that is held
 pub cell_is : (d : List (Option (List ℕ))) (n : ℕ) (label : List ℕ) → AreApart d → label_at d n ≡ Some label → cell_of label d ≡ Some n

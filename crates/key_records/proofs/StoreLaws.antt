@@ -1,12 +1,11 @@
 -- What a change of one cell makes of the labels that a store stands for.
-use Rattle.std.proofs.Common.{◌≡◌, ◌≢◌, ◌<◌, ◌*◌, inl, inr, ⊎_elim, ℕ, List, length, get_or, set, map, Option, None, Some, Result, Ok, Err, true, false, refl, sym, ap, subst, ◌∙◌, arith}
+use Rattle.std.proofs.Common.{◌≡◌, ◌≢◌, ◌<◌, inl, inr, ⊎_elim, ℕ, List, length, get_or, set, map, Option, None, Some, Result, Ok, Err, true, false, sym, ap, subst, ◌∙◌, arith}
 use Rattle.std.specs.Prelude.{OnOk, is_err}
 use Rattle.std.proofs.lemmas.Bool.{cases_eq}
 use Rattle.std.proofs.lemmas.List.{get_or-set_same, get_or-set_other, length-set, map-set}
 use Rattle.slot_disk.specs.Cells.{body, IsReplaced, IsReplacing}
-use Rattle.slot_disk.specs.Medium.{Medium, Told, From, Becomes, EachImage, Keeps, IsSettled}
-use Rattle.slot_disk.proofs.Media.{told_from, told_at, becomes_told, each_weaker, each_still}
-use Rattle.slot_disk.proofs.CellSteps.{outside_same}
+use Rattle.slot_disk.specs.Medium.{Medium, Told, From, Becomes, Keeps}
+use Rattle.slot_disk.proofs.Media.{told_from, told_at, becomes_told, each_weaker}
 use Rattle.key_tokens.specs.Denotes.{MasterKeys, Denoted}
 use Rattle.key_records.specs.Changes.{HoldsEither, ReplacesBody, ChangesLabels, null_entry, created, written, with_what}
 use Rattle.key_records.specs.Directory.{AreApart, label_at, free_cell}
@@ -123,25 +122,6 @@ module _ (n : ℕ) (bytes : List ℕ) (row : Option Row) (rows : List (Option Ro
 
   pub rows_changed : (m0 m1 : Medium) → Told m0 (HoldsRows rows) → Becomes (IsReplaced n bytes) m0 m1 → Told m1 (HoldsRows (set rows n row))
   rows_changed m0 m1 start becomes = becomes_told m0 m1 (IsReplaced n bytes) (HoldsRows rows) (HoldsRows (set rows n row)) becomes start rows_put
-
--- ---- a store that a refusal leaves as it was
-
-module _ (cell : ℕ) (m : Medium) (settled : IsSettled m) (fault : RecordFault) where
-  still_from : (P : List ℕ → List ℕ → Type 0) → ((c : List ℕ) → m.content ≡ Some c → P c c) → Becomes P m m × EachImage m m (From P m)
-  still_from P same = (
-    record { size = refl; told = λ c is. (c, is, same c is); still = λ some. some },
-    each_weaker m m m.images (From P m) (each_still m) (λ c image. let is = settled.only c image in (c, is, same c is)),
-  )
-
-  pub refused_body : (bytes : List ℕ) → ReplacesBody cell bytes m m (Err fault)
-  refused_body bytes =
-      let still = still_from (IsReplacing cell bytes) (λ c is. record { outside = outside_same (1536 * cell) 1536 c; others = λ k other. refl; here = inl refl; untouched = λ k at. refl }) in
-      record { settled = tt; replaced = tt; replacing = still.0; moments = still.1 }
-
-  pub refused_labels : (masters : MasterKeys) (rows now : List (Option Row)) (s next : List (Option Entry)) → Told m (KeepsLabels masters rows s) → ChangesLabels masters cell s next now m m (Err fault)
-  refused_labels masters rows now s next start =
-      let still = still_from (HoldsEither masters cell s next) (λ c is. record { outside = outside_same (1536 * cell) 1536 c; others = λ k other. refl; untouched = λ k at. refl; stands = inl (told_at m.content (KeepsLabels masters rows s) c is start).stands }) in
-      record { keeps = tt; either = still.0; moments = still.1 }
 
 -- ---- the three changes
 
