@@ -91,6 +91,19 @@ impl Records {
         }
     }
 
+    /// The place of a cell, where the cell holds a label. It takes no comparison.
+    pub fn place_in(&self, cell: u16) -> Option<Place>
+        requires { cell < 1024 }
+        ensures found { IfSome result (λ place.
+            (place ≡ cell) × IsSome (label_at (row_directory self.now) cell)) }
+        ensures none { IsNone result → label_at (row_directory self.now) cell ≡ None }
+    {
+        match &self.rows[cell as usize] {
+            Some(_) => Some(Place { cell }),
+            None => None,
+        }
+    }
+
     /// How many labels are held.
     pub fn count(&self) -> usize
         ensures { result ≡ held_count (row_directory self.now) }
