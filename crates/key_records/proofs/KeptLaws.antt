@@ -1,0 +1,152 @@
+-- The pattern of a token that is kept for a key is that of the register that it is under.
+use Rattle.std.proofs.Common.{◌≡◌, ◌≢◌, ◌⊎◌, inl, inr, ⊎_elim, ℕ, Bool, true, false, List, [], Option, None, Some, refl, sym, ap, ◌∙◌}
+use Rattle.std.specs.Prelude.{slice_index, bytes_eq, option_map, is_none, ◌==◌, if◌then◌else◌}
+use Rattle.std.proofs.lemmas.Bool.{cases_eq, false_from_ne_true}
+use Rattle.std.proofs.lemmas.Bool.Decides.{Decides-eqb}
+use Rattle.std.proofs.lemmas.Slice.Eq.{bytes_eq-Decides}
+use Rattle.cca_vectors.specs.Checks.{first_failing}
+use Rattle.key_tokens.specs.Denotes.{MasterKey, MasterKeys, Denoted, denoted, denoted_or, is_token, clear_of}
+use Rattle.key_tokens.specs.Fields.{pattern_of_token, token_of}
+use Rattle.key_tokens.specs.declared.key_token.Token.{Token}
+use Rattle.multi_encipher.specs.Seals.{unseal}
+use Rattle.key_tokens.specs.TokenChecks.{token_checks}
+use Rattle.key_tokens.specs.declared.key_token.Age.{Age}
+use Rattle.key_tokens.specs.declared.key_token.Age.TheVariants.{Current, Old}
+use Rattle.key_tokens.specs.declared.key_token.Asked.TheVariants as asked
+use Rattle.master_registers.specs.Loaded.{pattern_in}
+use Rattle.master_registers.specs.Masters.{Masters, pattern_of_master}
+use Rattle.master_registers.specs.declared.patterns.Pattern.{Pattern}
+use Rattle.verb_rules.specs.Keys.{keys_of, master_key}
+use Rattle.key_records.specs.Entries.{Entry, remembered, pattern_for, pattern_under, pattern_or}
+use Rattle.byte_lists.specs.Bytes.{AreBytes}
+use Rattle.key_records.specs.RecordBody.{kept, IsKept, ReadsEntry, ReadsWhat, ReadsRow, ReadsPattern}
+use Rattle.key_records.proofs.DirectoryLaws.{none_some}
+
+pub kept_flag : (masters : MasterKeys) (token : List ℕ) → slice_index token 6 ≢ 0xc0 → kept masters token ≡ None
+unfolding kept
+kept_flag masters token other = ap (λ t. if t then denoted masters token else None) (false_from_ne_true (slice_index token 6 == 0xc0) (λ is. other ((Decides-eqb (slice_index token 6) 0xc0).0 is)))
+
+pub kept_with_flag : (masters : MasterKeys) (token : List ℕ) → slice_index token 6 ≡ 0xc0 → kept masters token ≡ denoted masters token
+unfolding kept
+kept_with_flag masters token is = ap (λ t. if t then denoted masters token else None) ((Decides-eqb (slice_index token 6) 0xc0).1 is)
+
+pub denoted_refused : (masters : MasterKeys) (token : List ℕ) (rule : ℕ) → first_failing (token_checks asked.Internal token) ≡ Some rule → denoted masters token ≡ None
+unfolding denoted
+denoted_refused masters token rule is = ap (λ o. if is_none o then denoted_or masters.current Current token (denoted_or masters.former Old token None) else None) is
+
+pub denoted_token : (masters : MasterKeys) (token : List ℕ) → first_failing (token_checks asked.Internal token) ≡ None → denoted masters token ≡ denoted_or masters.current Current token (denoted_or masters.former Old token None)
+unfolding denoted
+denoted_token masters token is = ap (λ o. if is_none o then denoted_or masters.current Current token (denoted_or masters.former Old token None) else None) is
+
+abbrev pub pattern : List ℕ → Pattern
+pattern bytes = record { bytes = bytes }
+
+abbrev kept_or : Option (List ℕ) → List ℕ
+kept_or None = []
+kept_or (Some bytes) = bytes
+
+-- the test of one register
+module _ (masters : MasterKeys) (token : List ℕ) (p : Pattern) (is : p ≡ pattern (pattern_of_token token)) where
+  register_has : (register : Option (List ℕ)) (age : Age) (other : Option Denoted) → pattern_for masters (record { clear = clear_of (kept_or register) token; age = age }) ≡ pattern_or (master_key register) → pattern_in register ≡ Some p
+      → option_map (pattern_for masters) (denoted_or (master_key register) age token other) ≡ Some p
+  register_has None age other under has = let no : None ≡ Some p = has in cc
+  register_has (Some bytes) age other under has =
+      let same : pattern (pattern_of_master bytes) ≡ p = cc has in
+      ap (λ t. option_map (pattern_for masters) (if t then Some (record { clear = clear_of bytes token; age = age }) else other))
+      ((bytes_eq-Decides (pattern_of_token token) (pattern_of_master bytes)).1 (sym (ap (λ (q : Pattern). q.bytes) (same ∙ is))))
+      ∙ ap (λ q. Some q) (under ∙ same)
+
+  register_hasnt : (register : Option (List ℕ)) (age : Age) (other : Option Denoted) → pattern_in register ≢ Some p → denoted_or (master_key register) age token other ≡ other
+  register_hasnt None age other hasnt = refl
+  register_hasnt (Some bytes) age other hasnt =
+      ap (λ t. if t then Some (record { clear = clear_of bytes token; age = age }) else other)
+      (false_from_ne_true (bytes_eq (pattern_of_token token) (pattern_of_master bytes))
+      (λ test. hasnt (ap (λ b. Some (pattern b)) (sym ((bytes_eq-Decides (pattern_of_token token) (pattern_of_master bytes)).0 test)) ∙ ap (λ q. Some q) (sym is))))
+
+-- the pattern of the token is that of the register, as the code tests it
+pub pattern_found : (m : Masters) (token : List ℕ) (p : Pattern) → p ≡ pattern (pattern_of_token token) → slice_index token 6 ≡ 0xc0 → first_failing (token_checks asked.Internal token) ≡ None
+    → (pattern_in m.current ≡ Some p) ⊎ ((pattern_in m.current ≢ Some p) × (pattern_in m.former ≡ Some p)) → option_map (pattern_for (keys_of m)) (kept (keys_of m) token) ≡ Some p
+pattern_found m token p is flag sound (inl has) =
+    ap (option_map (pattern_for (keys_of m))) (kept_with_flag (keys_of m) token flag ∙ denoted_token (keys_of m) token sound)
+    ∙ register_has (keys_of m) token p is m.current Current (denoted_or (master_key m.former) Old token None) refl has
+pattern_found m token p is flag sound (inr has) =
+    ap (option_map (pattern_for (keys_of m))) (kept_with_flag (keys_of m) token flag ∙ denoted_token (keys_of m) token sound
+    ∙ register_hasnt (keys_of m) token p is m.current Current (denoted_or (master_key m.former) Old token None) has.0)
+    ∙ register_has (keys_of m) token p is m.former Old None refl has.1
+
+pub pattern_missing : (m : Masters) (token : List ℕ) (p : Pattern) → p ≡ pattern (pattern_of_token token) → slice_index token 6 ≡ 0xc0 → first_failing (token_checks asked.Internal token) ≡ None
+    → pattern_in m.current ≢ Some p → pattern_in m.former ≢ Some p → option_map (pattern_for (keys_of m)) (kept (keys_of m) token) ≡ None
+pattern_missing m token p is flag sound not_current not_former =
+    ap (option_map (pattern_for (keys_of m))) (kept_with_flag (keys_of m) token flag ∙ denoted_token (keys_of m) token sound
+    ∙ register_hasnt (keys_of m) token p is m.current Current (denoted_or (master_key m.former) Old token None) not_current
+    ∙ register_hasnt (keys_of m) token p is m.former Old None not_former)
+
+-- ---- a token that stands for a key
+
+abbrev same_pattern : MasterKeys → List ℕ → Denoted → Type 0
+same_pattern masters token key = pattern_for masters key ≡ pattern (pattern_of_token token)
+
+or_pattern : (masters : MasterKeys) (token : List ℕ) (register : Option MasterKey) (age : Age) (other : Option Denoted) (key : Denoted) → pattern_under masters age ≡ pattern_or register → (other ≡ Some key → same_pattern masters token key)
+    → denoted_or register age token other ≡ Some key → same_pattern masters token key
+or_pattern masters token None age other key under rest is = rest is
+or_pattern masters token (Some master) age other key under rest is = by_test (bytes_eq (pattern_of_token token) master.pattern) (bytes_eq-Decides (pattern_of_token token) master.pattern).0 is
+  where
+    by_test : (t : Bool) → (t ≡ true → pattern_of_token token ≡ master.pattern) → (if t then Some (record { clear = clear_of master.key token; age = age }) else other) ≡ Some key → same_pattern masters token key
+    by_test true same is =
+        let key_age : age ≡ key.age = cc is in
+        ap (pattern_under masters) (sym key_age) ∙ under ∙ ap pattern (sym (same refl))
+    by_test false same is = rest is
+
+pub denoted_pattern : (masters : MasterKeys) (token : List ℕ) (key : Denoted) → denoted masters token ≡ Some key → same_pattern masters token key
+unfolding denoted
+denoted_pattern masters token key is = by_test (is_token asked.Internal token) is
+  where
+    none_key : None ≡ Some key → same_pattern masters token key
+    none_key none = cc none
+
+    by_test : (t : Bool) → (if t then denoted_or masters.current Current token (denoted_or masters.former Old token None) else None) ≡ Some key → same_pattern masters token key
+    by_test true is = or_pattern masters token masters.current Current (denoted_or masters.former Old token None) key refl (λ rest. or_pattern masters token masters.former Old None key refl none_key rest) is
+    by_test false is = none_key is
+
+-- ---- a token written anew
+
+abbrev or_of : Option MasterKey → Age → Token → Option Denoted → Option Denoted
+or_of None age t other = other
+or_of (Some master) age t other = if bytes_eq t.pattern master.pattern then Some (record { clear = record { key = unseal master.key t.vector t.sealed; vector = t.vector }; age = age }) else other
+
+or_token : (register : Option MasterKey) (age : Age) (token : List ℕ) (other : Option Denoted) → denoted_or register age token other ≡ or_of register age (token_of token) other
+or_token None age token other = refl
+or_token (Some master) age token other = refl
+
+pub denoted_same : (masters : MasterKeys) (a b : List ℕ) → first_failing (token_checks asked.Internal a) ≡ None → first_failing (token_checks asked.Internal b) ≡ None → token_of a ≡ token_of b → denoted masters a ≡ denoted masters b
+denoted_same masters a b sound_a sound_b same =
+    denoted_token masters a sound_a ∙ both a ∙ ap (λ (t : Token). or_of masters.current Current t (or_of masters.former Old t None)) same ∙ sym (both b) ∙ sym (denoted_token masters b sound_b)
+  where
+    both : (x : List ℕ) → denoted_or masters.current Current x (denoted_or masters.former Old x None) ≡ or_of masters.current Current (token_of x) (or_of masters.former Old (token_of x) None)
+    both x = or_token masters.current Current x (denoted_or masters.former Old x None) ∙ ap (or_of masters.current Current (token_of x)) (or_token masters.former Old x None)
+
+pub denoted_sound : (masters : MasterKeys) (token : List ℕ) (key : Denoted) → denoted masters token ≡ Some key → first_failing (token_checks asked.Internal token) ≡ None
+unfolding denoted
+denoted_sound masters token key is = by_rule (first_failing (token_checks asked.Internal token)) (denoted_or masters.current Current token (denoted_or masters.former Old token None)) is
+  where
+    by_rule : (o : Option ℕ) (there : Option Denoted) → (if is_none o then there else None) ≡ Some key → o ≡ None
+    by_rule None there is = refl
+    by_rule (Some rule) there is = cc is
+
+-- ---- what the memory knows of an entry
+
+pub kept_known : (masters : MasterKeys) (token : List ℕ) (key : Denoted) → AreBytes 64 token → kept masters token ≡ Some key → IsKept token (pattern_for masters key)
+kept_known masters token key are is = ⊎_elim
+    (λ (flag : slice_index token 6 ≡ 0xc0).
+    let denotes : denoted masters token ≡ Some key = sym (kept_with_flag masters token flag) ∙ is in
+    record { bytes = are; sound = denoted_sound masters token key denotes; flag = flag; under = ap (λ (p : Pattern). p.bytes) (sym (denoted_pattern masters token key denotes)) })
+    (λ (other : slice_index token 6 ≡ 0xc0 → ⊥). absurd (none_some key (sym (kept_flag masters token other) ∙ is)))
+    (cases_eq (slice_index token 6) 0xc0)
+
+pub row_reads : (masters : MasterKeys) (bytes : List ℕ) (e : Option Entry) → ReadsEntry masters bytes e → ReadsRow bytes (remembered masters e)
+row_reads masters bytes None reads = reads
+row_reads masters bytes (Some e) reads = (reads.0, by_what e.what reads.1)
+  where
+    by_what : (what : Option Denoted) → ReadsWhat masters bytes e.label what → ReadsPattern bytes e.label (option_map (pattern_for masters) what)
+    by_what None is = is
+    by_what (Some key) is = (is.0, kept_known masters is.0 key is.1 is.3, is.2)

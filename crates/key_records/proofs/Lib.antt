@@ -1,0 +1,16 @@
+pub mod BodyLaws
+pub mod DirectoryLaws
+pub mod KeptLaws
+pub mod TokenLaws
+pub mod OneBody
+pub mod OpeningLaws
+pub mod ReadLaws
+pub mod RowLaws
+pub mod StoreLaws
+pub mod TotalLaws
+pub mod HalvingLaws
+pub mod PlacedLaws
+pub mod SortedLaws
+pub mod RankLaws
+pub mod EveryDirectory
+pub mod AgeLaws

@@ -1,0 +1,39 @@
+-- Rows of the memory.
+use Rattle.std.proofs.Common.{◌≡◌, ℕ, zero, suc, List, [], ◌∷◌, ◌++◌, length, take, drop, set, replicate, Option, None, refl, sym, ap, subst, ◌∙◌}
+use Rattle.std.proofs.lemmas.List.{take_at, length-set, length-replicate, map-set}
+use Rattle.key_records.specs.Directory.{AreApart}
+use Rattle.key_records.specs.Entries.{row_directory, row_label}
+use Rattle.key_records.specs.Placed.{placed}
+use Rattle.key_records.specs.Rows.{AreRows, AreListed}
+use Rattle.key_records.specs.declared.rows.Row.{Row}
+use Rattle.key_records.proofs.DirectoryLaws.{apart_blank}
+
+blank_directory : (n : ℕ) → row_directory (replicate n None) ≡ replicate n None
+blank_directory zero = refl
+blank_directory (suc n) = ap (λ d. None ∷ d) (blank_directory n)
+
+pub blank_rows : (rows : List (Option Row)) (n : ℕ) → n ≡ 1024 → rows ≡ replicate n None → AreRows rows
+blank_rows rows n all is = record {
+  size = ap length is ∙ length-replicate n None ∙ all;
+  apart = subst AreApart (sym (ap row_directory is ∙ blank_directory n)) (apart_blank n);
+}
+
+pub rows_set : (rows now : List (Option Row)) (cell : ℕ) (row : Option Row) → AreRows rows → rows ≡ now → AreApart (set (row_directory now) cell (row_label row)) → AreRows (set rows cell row)
+rows_set rows now cell row are is apart = record {
+  size = length-set rows cell row ∙ are.size;
+  apart = subst AreApart (sym (map-set row_label rows cell row ∙ ap (λ r. set (row_directory r) cell (row_label row)) is)) apart;
+}
+
+-- a vector whose slice became blank
+pub cleared : (items new : List (Option Row)) (len : ℕ) → new ≡ replicate (length items) None → length items ≡ 1024 → len ≡ length items → take len (new ++ drop (length new) items) ≡ replicate 1024 None
+cleared items new len is all long =
+    take_at new (drop (length new) items) len (ap length is ∙ length-replicate (length items) None ∙ sym long) ∙ is ∙ ap (λ (n : ℕ). replicate n None) all
+
+-- a directory of no labels
+pub none_placed : placed [] ≡ replicate 1024 None
+unfolding placed
+none_placed = refl
+
+-- the rows and the directory of no labels
+pub none_listed : (rows directory : List (Option Row)) → rows ≡ replicate 1024 None → directory ≡ placed [] → AreListed rows directory
+none_listed rows directory is none = record { are = blank_rows rows 1024 refl is; same = none ∙ none_placed ∙ sym is }

@@ -1,0 +1,159 @@
+-- What a change of one cell makes of the labels that a store stands for.
+use Rattle.std.proofs.Common.{◌≡◌, ◌≢◌, ◌<◌, inl, inr, ⊎_elim, ℕ, List, length, get_or, set, map, Option, None, Some, Result, Ok, Err, true, false, sym, ap, subst, ◌∙◌, arith}
+use Rattle.std.specs.Prelude.{OnOk, is_err}
+use Rattle.std.proofs.lemmas.Bool.{cases_eq}
+use Rattle.std.proofs.lemmas.List.{get_or-set_same, get_or-set_other, length-set, map-set}
+use Rattle.slot_disk.specs.Cells.{body, IsReplaced, IsReplacing}
+use Rattle.slot_disk.specs.Medium.{Medium, Told, From, Becomes, Keeps}
+use Rattle.slot_disk.proofs.Media.{told_from, told_at, becomes_told, each_weaker}
+use Rattle.key_tokens.specs.Denotes.{MasterKeys, Denoted}
+use Rattle.key_records.specs.Changes.{HoldsEither, ReplacesBody, ChangesLabels, null_entry, created, written, with_what}
+use Rattle.key_records.specs.Directory.{AreApart, label_at, free_cell}
+use Rattle.key_records.specs.Entries.{Entry, directory, entry_label, row_directory, row_label, remembered}
+use Rattle.key_records.specs.RecordBody.{ReadsEntry, ReadsRow}
+use Rattle.key_records.specs.StoreStands.{StandsForLabels, KeepsLabels, HoldsRows, Agrees, entry_at}
+use Rattle.key_records.specs.declared.faults.RecordFault.{RecordFault}
+use Rattle.key_records.specs.declared.rows.Row.{Row}
+use Rattle.key_records.proofs.DirectoryLaws.{none_some}
+use Rattle.key_records.proofs.OpeningLaws.{directory_remembered, label_remembered, label_of_entry}
+
+module _ (masters : MasterKeys) (n : ℕ) (bytes : List ℕ) (slot : Option Entry) (s : List (Option Entry)) (within : n < 1024) (reads : ReadsEntry masters bytes slot) where
+  -- one cell was replaced
+  pub stands_set : (old new : List ℕ) → StandsForLabels masters old s → AreApart (directory (set s n slot)) → body new n ≡ bytes → ((m : ℕ) → m ≢ n → body new m ≡ body old m)
+      → StandsForLabels masters new (set s n slot)
+  stands_set old new stands apart here others = record {
+    size = length-set s n slot ∙ stands.size;
+    reads = λ m below. ⊎_elim
+        (λ (is : m ≡ n). subst (λ (k : ℕ). ReadsEntry masters (body new k) (entry_at (set s n slot) k)) (sym is)
+        (subst (λ (e : Option Entry). ReadsEntry masters (body new n) e) (sym (get_or-set_same s n slot None (omega (arith, stands.size))))
+        (subst (λ (b : List ℕ). ReadsEntry masters b slot) (sym here) reads)))
+        (λ (other : m ≡ n → ⊥). subst (λ (e : Option Entry). ReadsEntry masters (body new m) e) (sym (get_or-set_other s n m slot None other))
+        (subst (λ (b : List ℕ). ReadsEntry masters b (entry_at s m)) (sym (others m other)) (stands.reads m below)))
+        (cases_eq m n);
+    apart = apart;
+  }
+
+  -- the cell still selects what it did
+  pub stands_still : (old new : List ℕ) → StandsForLabels masters old s → body new n ≡ body old n → ((m : ℕ) → m ≢ n → body new m ≡ body old m) → StandsForLabels masters new s
+  stands_still old new stands here others = record {
+    size = stands.size;
+    reads = λ m below. subst (λ (b : List ℕ). ReadsEntry masters b (entry_at s m))
+        (sym (⊎_elim (λ (is : m ≡ n). ap (body new) is ∙ here ∙ ap (body old) (sym is)) (λ (other : m ≡ n → ⊥). others m other) (cases_eq m n))) (stands.reads m below);
+    apart = stands.apart;
+  }
+
+-- ---- and the memory knows it
+
+pub told_map : (m : Medium) (P Q : List ℕ → Type 0) → Told m P → ((c : List ℕ) → P c → Q c) → Told m Q
+told_map m P Q told weaker = told_from m.content Q (λ c is. weaker c (told_at m.content P c is told))
+
+pub agrees_set : (masters : MasterKeys) (rows : List (Option Row)) (s : List (Option Entry)) (n : ℕ) (entry : Option Entry) → Agrees masters rows s → Agrees masters (set rows n (remembered masters entry)) (set s n entry)
+agrees_set masters rows s n entry agrees = ap (λ r. set r n (remembered masters entry)) agrees ∙ sym (map-set (remembered masters) s n entry)
+
+pub same_directory : (masters : MasterKeys) (rows : List (Option Row)) (s : List (Option Entry)) → Agrees masters rows s → directory s ≡ row_directory rows
+same_directory masters rows s agrees = sym (ap row_directory agrees ∙ directory_remembered masters s)
+
+-- what is known where a call answers Ok
+pub ok_both : {P Q R : Type 0} (result : Result (Unit {0}) RecordFault) → (P → Q → R) → OnOk result P → OnOk result Q → OnOk result R
+ok_both (Ok x) both first second = both first second
+ok_both (Err e) both first second = tt
+
+pub unless_err : {T E P : Type 0} (r : Result T E) → is_err r ≡ false → OnOk r P → P
+unless_err (Ok x) is holds = holds
+unless_err (Err e) is holds = let wrong : true ≡ false = is in absurd (cc)
+
+-- the entry of a cell becomes another one
+module _ (masters : MasterKeys) (n : ℕ) (bytes : List ℕ) (entry : Option Entry) (rows : List (Option Row)) (row : Option Row) (s next : List (Option Entry)) (within : n < 1024)
+    (reads : ReadsEntry masters bytes entry) (row_is : row ≡ remembered masters entry) (apart : AreApart (set (row_directory rows) n (row_label row)))
+    (next_is : Agrees masters rows s → next ≡ set s n entry) where
+  next_apart : Agrees masters rows s → AreApart (directory (set s n entry))
+  next_apart agrees = subst AreApart
+      (ap (λ d. set d n (row_label row)) (sym (same_directory masters rows s agrees))
+      ∙ ap (set (directory s) n) (ap row_label row_is ∙ label_remembered masters entry)
+      ∙ sym (map-set entry_label s n entry)) apart
+
+  put_set : (old new : List ℕ) → KeepsLabels masters rows s old → body new n ≡ bytes → ((m : ℕ) → m ≢ n → body new m ≡ body old m) → StandsForLabels masters new next
+  put_set old new keeps here others = subst (StandsForLabels masters new) (sym (next_is keeps.agrees))
+      (stands_set masters n bytes entry s within reads old new keeps.stands (next_apart keeps.agrees) here others)
+
+  put_either : (old new : List ℕ) → KeepsLabels masters rows s old → IsReplacing n bytes old new → HoldsEither masters n s next old new
+  put_either old new keeps replacing = record {
+    outside = replacing.outside;
+    others = replacing.others;
+    untouched = replacing.untouched;
+    stands = ⊎_elim
+        (λ was. inl (stands_still masters n bytes entry s within reads old new keeps.stands was replacing.others))
+        (λ here. inr (put_set old new keeps here replacing.others)) replacing.here;
+  }
+
+  put_kept : (old new : List ℕ) → KeepsLabels masters rows s old → IsReplaced n bytes old new → KeepsLabels masters (set rows n row) next new
+  put_kept old new keeps replaced = record {
+    stands = put_set old new keeps replaced.here replaced.others;
+    agrees = ap (set rows n) row_is ∙ agrees_set masters rows s n entry keeps.agrees ∙ ap (map (remembered masters)) (sym (next_is keeps.agrees));
+  }
+
+  -- over a disk
+  module _ (m0 m1 : Medium) (start : Told m0 (KeepsLabels masters rows s)) where
+    told_kept : Becomes (IsReplaced n bytes) m0 m1 → Told m1 (KeepsLabels masters (set rows n row) next)
+    told_kept becomes = becomes_told m0 m1 (IsReplaced n bytes) (KeepsLabels masters rows s) (KeepsLabels masters (set rows n row) next) becomes start put_kept
+
+    put_from : (c : List ℕ) → From (IsReplacing n bytes) m0 c → From (HoldsEither masters n s next) m0 c
+    put_from c from = (from.0, from.1, put_either from.0 c (told_at m0.content (KeepsLabels masters rows s) from.0 from.1 start) from.2)
+
+    pub labels_changed : (result : Result (Unit {0}) RecordFault) (now : List (Option Row)) → ReplacesBody n bytes m0 m1 result → OnOk result (now ≡ set rows n row) → ChangesLabels masters n s next now m0 m1 result
+    labels_changed result now replaces known = record {
+      keeps = ok_both result (λ becomes is. subst (λ (r : List (Option Row)). Told m1 (KeepsLabels masters r next)) (sym is) (told_kept becomes)) replaces.replaced known;
+      either = record { size = replaces.replacing.size; told = λ c is. put_from c (replaces.replacing.told c is); still = replaces.replacing.still };
+      moments = each_weaker m0 m1 (From (IsReplacing n bytes) m0) (From (HoldsEither masters n s next) m0) replaces.moments put_from;
+    }
+
+-- the row of a cell becomes another one
+module _ (n : ℕ) (bytes : List ℕ) (row : Option Row) (rows : List (Option Row)) (within : n < 1024) (size : length rows ≡ 1024) (reads : ReadsRow bytes row) where
+  rows_put : (old new : List ℕ) → HoldsRows rows old → IsReplaced n bytes old new → HoldsRows (set rows n row) new
+  rows_put old new holds replaced = record {
+    reads = λ m below. ⊎_elim
+        (λ (is : m ≡ n). subst (λ (k : ℕ). ReadsRow (body new k) (get_or (set rows n row) k None)) (sym is)
+        (subst (λ (r : Option Row). ReadsRow (body new n) r) (sym (get_or-set_same rows n row None (omega (arith, size, within))))
+        (subst (λ (b : List ℕ). ReadsRow b row) (sym replaced.here) reads)))
+        (λ (other : m ≡ n → ⊥). subst (λ (r : Option Row). ReadsRow (body new m) r) (sym (get_or-set_other rows n m row None other))
+        (subst (λ (b : List ℕ). ReadsRow b (get_or rows m None)) (sym (replaced.others m other)) (holds.reads m below)))
+        (cases_eq m n);
+  }
+
+  pub rows_changed : (m0 m1 : Medium) → Told m0 (HoldsRows rows) → Becomes (IsReplaced n bytes) m0 m1 → Told m1 (HoldsRows (set rows n row))
+  rows_changed m0 m1 start becomes = becomes_told m0 m1 (IsReplaced n bytes) (HoldsRows rows) (HoldsRows (set rows n row)) becomes start rows_put
+
+-- ---- the three changes
+
+-- a label that no row has is put into the free cell
+pub created_is : (masters : MasterKeys) (rows : List (Option Row)) (s : List (Option Entry)) (label : List ℕ) (cell : ℕ) → cell ≡ free_cell (row_directory rows) → Agrees masters rows s → created label s ≡ set s cell (Some (null_entry label))
+created_is masters rows s label cell free agrees = ap (λ (c : ℕ). set s c (Some (null_entry label))) (ap free_cell (same_directory masters rows s agrees) ∙ sym free)
+
+pub written_is : (masters : MasterKeys) (rows : List (Option Row)) (s : List (Option Entry)) (label : List ℕ) (cell : ℕ) (key : Denoted) → label_at (row_directory rows) cell ≡ Some label → Agrees masters rows s → written cell key s ≡ set s cell (Some (record { label = label; what = Some key }))
+written_is masters rows s label cell key held agrees = ap (set s cell) (with_label (entry_at s cell) (sym (label_of_entry s cell) ∙ ap (λ d. label_at d cell) (same_directory masters rows s agrees) ∙ held))
+  where
+    with_label : (o : Option Entry) → entry_label o ≡ Some label → with_what key o ≡ Some (record { label = label; what = Some key })
+    with_label None is = absurd (none_some label is)
+    with_label (Some e) is = let same : e.label ≡ label = cc is in ap (λ l. Some (record { label = l; what = Some key })) same
+
+-- ---- what a disk tells
+
+-- what holds of every image is told of any disk
+pub told_all : (m : Medium) (P : List ℕ → Type 0) → ((c : List ℕ) → P c) → Told m P
+told_all m P all = told_from m.content P (λ c is. all c)
+
+-- what is told of a disk that was read, with what was told before
+pub told_next : (m0 m1 : Medium) (P Q R : List ℕ → Type 0) → Keeps m0 m1 → Told m0 P → Told m1 Q → ((c : List ℕ) → P c → Q c → R c) → Told m0 R
+told_next m0 m1 P Q R keeps before then both = told_from m0.content R (λ c is. both c (told_at m0.content P c is before) (told_at m1.content Q c (keeps.content ∙ is) then))
+
+-- what was told of a disk is told of it after calls that keep it
+pub told_still : (m0 m1 : Medium) (P : List ℕ → Type 0) → Keeps m0 m1 → Told m0 P → Told m1 P
+told_still m0 m1 P keeps told = told_from m1.content P (λ c is. told_at m0.content P c (sym keeps.content ∙ is) told)
+
+pub told_both : (m : Medium) (P Q R : List ℕ → Type 0) → Told m P → Told m Q → ((c : List ℕ) → P c → Q c → R c) → Told m R
+told_both m P Q R first second both = told_from m.content R (λ c is. both c (told_at m.content P c is first) (told_at m.content Q c is second))
+
+-- the same change of the same cell
+pub replaces_is : (m0 m1 : Medium) (result : Result (Unit {0}) RecordFault) (n k : ℕ) (a b : List ℕ) → n ≡ k → a ≡ b → ReplacesBody n a m0 m1 result → ReplacesBody k b m0 m1 result
+replaces_is m0 m1 result n k a b cells bodies replaces =
+    subst (λ (c : ℕ). ReplacesBody c b m0 m1 result) cells (subst (λ (x : List ℕ). ReplacesBody n x m0 m1 result) bodies replaces)

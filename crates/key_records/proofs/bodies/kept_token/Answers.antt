@@ -1,0 +1,18 @@
+use Rattle.std.proofs.Common.{ap, ◌∙◌}
+use Rattle.key_tokens.specs.declared.key_token.Asked.TheVariants as asked
+use Rattle.key_tokens.specs.declared.key_token.Token.{Token}
+use Rattle.key_records.proofs.KeptLaws.{kept_with_flag, denoted_same}
+use Rattle.key_records.proofs.bodies.kept_token.Goals as goal
+
+pub returns-clause-kept : goal.returns-clause-kept
+returns-clause-kept c masters =
+    kept_with_flag masters c.write_token-written.result c.write_token-written.ensures.flag
+    ∙ denoted_same masters c.write_token-written.result c.args.token.now (c.write_token-written.ensures.accepted asked.Internal c.in-Ok.ensures.layout.1) c.requires (c.write_token-written.ensures.fields ∙ c.in-Ok.ensures.token)
+
+pub returns-clause-known : goal.returns-clause-known
+returns-clause-known c = record {
+  bytes = c.are_bytes.ensures;
+  sound = c.write_token-written.ensures.accepted asked.Internal c.in-Ok.ensures.layout.1;
+  flag = c.write_token-written.ensures.flag;
+  under = ap (λ (t : Token). t.pattern) (c.write_token-written.ensures.fields ∙ c.in-Ok.ensures.token);
+}

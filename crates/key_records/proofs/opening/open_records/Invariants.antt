@@ -1,0 +1,7 @@
+-- The registers that the bench holds.
+use Rattle.key_cells.specs.Lease.{bench_of}
+use Rattle.master_registers.specs.Loaded.{masters_in}
+use Rattle.key_records.proofs.opening.open_records.Given as goal
+
+abbrev pub ghost-open_cells : goal.ghost-open_cells
+ghost-open_cells g a = masters_in a.held.now (bench_of a.lease.now)

@@ -1,0 +1,120 @@
+-- What a change of one record does to the store and to the memory, and when each answer comes.
+use Rattle.std.specs.Prelude.{◌≡◌, ◌≢◌, ◌≤◌, ◌⊎◌, ◌*◌, ℕ, List, Option, None, Some, set, slice_index}
+use Rattle.std.specs.Prelude.{Result, Err, OnOk, OnErr, is_some, Bool, false, bytes_eq}
+use Rattle.std.specs.List.{list_any}
+use Rattle.key_cells.specs.Lease.{bench_of, holding}
+use Rattle.key_cells.specs.declared.leases.Lease.{Lease}
+use Rattle.slot_disk.specs.Cells.{body, IsReplaced, IsReplacing, IsUntouched}
+use Rattle.slot_disk.specs.declared.cell.TheConstants.{CELL_LEN}
+use Rattle.slot_disk.specs.Faults.{Rose}
+use Rattle.slot_disk.specs.Medium.{Medium, IsSettled, Told, From, Becomes, EachImage}
+use Rattle.slot_disk.specs.Ranges.{SameOutside}
+use Rattle.key_tokens.specs.Denotes.{MasterKeys, Denoted}
+use Rattle.master_registers.specs.declared.patterns.Pattern.{Pattern}
+use Rattle.key_records.specs.Directory.{free_cell}
+use Rattle.key_records.specs.Entries.{Entry, directory}
+use Rattle.key_records.specs.RecordBody.{kept, null_kind, key_kind}
+use Rattle.key_records.specs.StoreStands.{StandsForLabels, KeepsLabels, entry_at}
+use Rattle.key_records.specs.declared.faults.RecordFault.{RecordFault}
+use Rattle.key_records.specs.declared.faults.RecordFault.TheVariants.{DiskFault}
+use Rattle.key_records.specs.declared.rows.Row.{Row}
+
+-- ---- the changes
+
+abbrev pub null_entry : List ℕ → Entry
+null_entry label = record { label = label; what = None }
+
+-- the label is held, null, in the lowest cell that no label has
+abbrev pub created : List ℕ → List (Option Entry) → List (Option Entry)
+created label s = set s (free_cell (directory s)) (Some (null_entry label))
+
+abbrev pub with_what : Denoted → Option Entry → Option Entry
+with_what key None = None
+with_what key (Some e) = Some (record { label = e.label; what = Some key })
+
+-- the label of a cell has this key
+abbrev pub written : ℕ → Denoted → List (Option Entry) → List (Option Entry)
+written cell key s = set s cell (with_what key (entry_at s cell))
+
+-- the label of a cell is no longer held
+abbrev pub deleted : ℕ → List (Option Entry) → List (Option Entry)
+deleted cell s = set s cell None
+
+-- ---- what a change does to the bytes of the store
+
+-- The cell selects this body. Every other cell selects the body that it did, and no byte has changed but the
+-- selector of the cell and those of its body that wasn't selected. After Ok the body that was selected stands
+-- where it stood, nothing is unsynced, and at each moment before the cell selects the old body or the new one.
+pub record ReplacesBody (cell : ℕ) (bytes : List ℕ) (old new : Medium)
+    (result : Result (Unit {0}) RecordFault) : Type 0 where
+  pub settled : OnOk result (IsSettled new)
+  pub replaced : OnOk result (Becomes (IsReplaced cell bytes) old new)
+  pub replacing : Becomes (IsReplacing cell bytes) old new
+  pub moments : EachImage old new (From (IsReplacing cell bytes) old)
+
+-- ---- what it does to the labels
+
+-- The store stands for the labels before or after, and every other cell selects the body that it did. No byte
+-- outside the cell has changed, and of the cell at most the selector and the body that wasn't selected.
+pub record HoldsEither (masters : MasterKeys) (cell : ℕ) (s next : List (Option Entry)) (old new : List ℕ)
+    : Type 0 where
+  pub outside : SameOutside (CELL_LEN * cell) CELL_LEN old new
+  pub others : (n : ℕ) → n ≢ cell → body new n ≡ body old n
+  pub untouched : (k : ℕ) → IsUntouched old cell k → slice_index new k ≡ slice_index old k
+  pub stands : StandsForLabels masters new s ⊎ StandsForLabels masters new next
+
+-- the labels of a store become others, by a change of one cell
+pub record ChangesLabels (masters : MasterKeys) (cell : ℕ) (s next : List (Option Entry))
+    (rows : List (Option Row)) (old new : Medium) (result : Result (Unit {0}) RecordFault) : Type 0 where
+  -- after Ok a read gives the labels after, and the memory knows them
+  pub keeps : OnOk result (Told new (KeepsLabels masters rows next))
+  -- whatever the answer, a read gives the labels before or after, and so does a stop at any moment of the call
+  pub either : Becomes (HoldsEither masters cell s next) old new
+  pub moments : EachImage old new (From (HoldsEither masters cell s next) old)
+
+-- the memory has the rows after, where the call answers Ok, and else those before
+pub record Remembers (rows next now : List (Option Row)) (result : Result (Unit {0}) RecordFault) : Type 0 where
+  pub done : OnOk result (now ≡ next)
+  pub kept : OnErr result (now ≡ rows)
+
+-- a disk's fault is answered only where the disk's count rose
+pub record HasRecordCause (before now : ℕ) (result : Result (Unit {0}) RecordFault) : Type 0 where
+  pub later : before ≤ now
+  pub failed : result ≡ Err DiskFault → Rose before now
+
+-- of what a lease holds the body alone has changed
+abbrev pub KeepsAllButBody : Lease → Lease → Type 0
+KeepsAllButBody old new = new ≡ holding old (record (bench_of old) { body = (bench_of new).body })
+
+-- ---- what is read
+
+-- what is read of an entry: its token, which stands for its key, or that it is null
+abbrev pub ReadsToken : MasterKeys → Option Entry → Bool → List ℕ → Type 0
+ReadsToken masters None found token = ⊥
+ReadsToken masters (Some e) found token =
+    (found ≡ is_some e.what) × ((key : Denoted) → e.what ≡ Some key → kept masters token ≡ Some key)
+
+abbrev pub has_key : Option Row → Bool
+has_key None = false
+has_key (Some r) = is_some r.pattern
+
+pub record HasReadCause (before now : ℕ) (result : Result Bool RecordFault) : Type 0 where
+  pub later : before ≤ now
+  pub failed : result ≡ Err DiskFault → Rose before now
+
+-- what byte 0 of the body of a row is
+abbrev pub row_kind : Option Pattern → ℕ
+row_kind None = null_kind
+row_kind (Some pattern) = key_kind
+
+abbrev pub has_pattern : Pattern → Option Pattern → Bool
+has_pattern pattern None = false
+has_pattern pattern (Some other) = bytes_eq other.bytes pattern.bytes
+
+abbrev pub is_under : Pattern → Option Row → Bool
+is_under pattern None = false
+is_under pattern (Some r) = has_pattern pattern r.pattern
+
+-- some key is under the master key with this pattern
+abbrev pub any_under : Pattern → List (Option Row) → Bool
+any_under pattern rows = list_any (λ row. is_under pattern row) rows

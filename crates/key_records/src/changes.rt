@@ -1,0 +1,181 @@
+//! Changes of one record. Each writes one cell, which costs two writes and two syncs: a stop at any moment
+//! leaves the labels before or after.
+ghost use Rattle.std.specs.Prelude.{◌≡◌, ◌≢◌, ◌↔◌, ◌⊎◌, ◌+◌, ◌*◌, ◌≤◌, ◌<◌, ℕ, List, Option, None, Some};
+ghost use Rattle.std.specs.Prelude.{Result, Ok, Err, set, get_or, IfErr, OnOk, OnErr, IsSome};
+ghost use Rattle.key_cells.specs.Lease.{bench_of};
+ghost use Rattle.key_tokens.specs.Denotes.{MasterKeys, Denoted, denoted};
+ghost use Rattle.key_records.specs.Changes.{ReplacesBody, ChangesLabels, Remembers, HasRecordCause};
+ghost use Rattle.key_records.specs.Changes.{KeepsAllButBody, created, deleted, written};
+ghost use Rattle.key_records.specs.Directory.{free_cell, cell_of, AreApart, label_at};
+ghost use Rattle.key_records.specs.Entries.{Entry, row_directory, row_label, label_or, null_row, key_row};
+ghost use Rattle.key_records.specs.RecordBody.{record_body, null_kind, key_kind, no_token, blank_body, renewed, ReadsRow};
+ghost use Rattle.key_records.specs.StoreStands.{KeepsLabels, HoldsRows};
+ghost use Rattle.master_registers.specs.Loaded.{IsLoaded, masters_in};
+ghost use Rattle.slot_disk.specs.Medium.{Told, IsSettled};
+ghost use Rattle.verb_rules.specs.Keys.{keys_of};
+
+use crate::bodies::{KEY, NULL, kept_token, pattern_in, write_blank, write_record};
+use crate::faults::RecordFault;
+use crate::labels::Label;
+use crate::records::{Place, Records, STORE_LEN};
+use crate::rows::Row;
+use key_cells::Lease;
+use master_registers::Registers;
+use slot_disk::{Cell, Disk, Steps, replace_cell};
+
+impl Records {
+    /// Holds a label, null, in the lowest cell that no label has. After `DiskFault` the records are to be
+    /// opened again.
+    pub fn create<D: Disk>(
+        &mut self,
+        store: &mut D,
+        lease: &mut Lease,
+        label: &Label,
+    ) -> Result<(), RecordFault>
+        requires size { (D.medium store.old).size ≡ STORE_LEN }
+        requires settled { IsSettled (D.medium store.old) }
+        requires holds { Told (D.medium store.old) (HoldsRows self.old) }
+
+        ensures cell { ReplacesBody (free_cell (row_directory self.old))
+            (record_body null_kind label.now no_token)
+            (D.medium store.old) (D.medium store.new) result }
+        ensures labels { (masters : MasterKeys) (s : List (Option Entry))
+            → Told (D.medium store.old) (KeepsLabels masters self.old s)
+            → ChangesLabels masters (free_cell (row_directory self.old)) s (created label.now s)
+            self.new (D.medium store.old) (D.medium store.new) result }
+        ensures memory { Remembers self.old
+            (set self.old (free_cell (row_directory self.old)) (Some (null_row label.now)))
+            self.new result }
+        ensures holds { OnOk result (Told (D.medium store.new) (HoldsRows self.new)) }
+        ensures rest { KeepsAllButBody lease.old lease.new }
+        ensures cause { HasRecordCause (D.faults store.old) (D.faults store.new) result }
+
+        // a full store refuses each label, and another one each label that is held
+        ensures full { (result ≡ Err RecordFault.Full)
+            ↔ (free_cell (row_directory self.old) ≡ 1024) }
+        ensures exists { (result ≡ Err RecordFault.Exists)
+            ↔ ((free_cell (row_directory self.old) ≢ 1024)
+            × (cell_of label.now (row_directory self.old) ≢ None)) }
+        ensures undamaged { IfErr result (λ fault. (n : ℕ) → fault ≢ RecordFault.Damaged n) }
+        ensures untouched { (result ≡ Err RecordFault.Full) ⊎ (result ≡ Err RecordFault.Exists)
+            → store.new ≡ store.old }
+        ensures lease_untouched { (result ≡ Err RecordFault.Full) ⊎ (result ≡ Err RecordFault.Exists)
+            → lease.new ≡ lease.old }
+    {
+        let Some(cell) = self.free_cell() else {
+            return Err(RecordFault::Full);
+        };
+        let mut steps: Steps<()> = Steps::new();
+        if self.find(label, &mut steps).is_some() {
+            return Err(RecordFault::Exists);
+        }
+        write_record(lease.body_mut(), NULL, label, &[0; 64]);
+        let row = Row {
+            label: *label,
+            pattern: None,
+        };
+        self.change(store, cell, lease.body(), Some(row))
+    }
+
+    /// No longer holds a label. After `DiskFault` the records are to be opened again.
+    pub fn delete<D: Disk>(
+        &mut self,
+        store: &mut D,
+        lease: &mut Lease,
+        place: Place,
+    ) -> Result<(), RecordFault>
+        requires held { IsSome (label_at (row_directory self.old) place) }
+        requires size { (D.medium store.old).size ≡ STORE_LEN }
+        requires settled { IsSettled (D.medium store.old) }
+        requires holds { Told (D.medium store.old) (HoldsRows self.old) }
+
+        ensures cell { ReplacesBody place blank_body
+            (D.medium store.old) (D.medium store.new) result }
+        ensures labels { (masters : MasterKeys) (s : List (Option Entry))
+            → Told (D.medium store.old) (KeepsLabels masters self.old s)
+            → ChangesLabels masters place s (deleted place s)
+            self.new (D.medium store.old) (D.medium store.new) result }
+        ensures memory { Remembers self.old (set self.old place None) self.new result }
+        ensures holds { OnOk result (Told (D.medium store.new) (HoldsRows self.new)) }
+        ensures rest { KeepsAllButBody lease.old lease.new }
+        ensures cause { HasRecordCause (D.faults store.old) (D.faults store.new) result }
+        ensures faults { IfErr result (λ fault. fault ≡ RecordFault.DiskFault) }
+    {
+        let cell = self.cell(place);
+        write_blank(lease.body_mut());
+        self.change(store, cell, lease.body(), None)
+    }
+
+    /// Gives a held label a key: the token is written with flag C0 and its validation value made anew. After
+    /// `DiskFault` the records are to be opened again.
+    pub fn write<D: Disk>(
+        &mut self,
+        store: &mut D,
+        lease: &mut Lease,
+        held: &Registers,
+        place: Place,
+        token: &[u8; 64],
+    ) -> Result<(), RecordFault>
+        requires held { IsSome (label_at (row_directory self.old) place) }
+        requires size { (D.medium store.old).size ≡ STORE_LEN }
+        requires settled { IsSettled (D.medium store.old) }
+        requires holds { Told (D.medium store.old) (HoldsRows self.old) }
+        requires loaded { IsLoaded held.now (bench_of lease.old) }
+        requires key { IsSome
+            (denoted (keys_of (masters_in held.now (bench_of lease.old))) token.now) }
+
+        ensures cell { ReplacesBody place
+            (record_body key_kind (label_or (get_or self.old place None)) (renewed token.now))
+            (D.medium store.old) (D.medium store.new) result }
+        ensures labels { (masters : MasterKeys) (s : List (Option Entry)) (key : Denoted)
+            → Told (D.medium store.old) (KeepsLabels masters self.old s)
+            → denoted masters token.now ≡ Some key
+            → ChangesLabels masters place s (written place key s)
+            self.new (D.medium store.old) (D.medium store.new) result }
+        ensures memory { Remembers self.old
+            (set self.old place (Some (key_row (label_or (get_or self.old place None)) token.now)))
+            self.new result }
+        ensures holds { OnOk result (Told (D.medium store.new) (HoldsRows self.new)) }
+        ensures rest { KeepsAllButBody lease.old lease.new }
+        ensures cause { HasRecordCause (D.faults store.old) (D.faults store.new) result }
+        ensures faults { IfErr result (λ fault. fault ≡ RecordFault.DiskFault) }
+    {
+        let cell = self.cell(place);
+        let label = self.label(place);
+        let pattern = pattern_in(token);
+        let token = kept_token(token);
+        write_record(lease.body_mut(), KEY, &label, &token);
+        let row = Row {
+            label,
+            pattern: Some(pattern),
+        };
+        self.change(store, cell, lease.body(), Some(row))
+    }
+
+    /// Writes a body into a cell, and remembers what it holds.
+    fn change<D: Disk>(
+        &mut self,
+        store: &mut D,
+        cell: u16,
+        body: &[u8; 192],
+        row: Option<Row>,
+    ) -> Result<(), RecordFault>
+        requires within { cell < 1024 }
+        requires size { (D.medium store.old).size ≡ STORE_LEN }
+        requires settled { IsSettled (D.medium store.old) }
+        requires reads { ReadsRow body.now row }
+        requires apart { AreApart (set (row_directory self.old) cell (row_label row)) }
+        requires holds { Told (D.medium store.old) (HoldsRows self.old) }
+        ensures cell { ReplacesBody cell body.now (D.medium store.old) (D.medium store.new) result }
+        ensures memory { Remembers self.old (set self.old cell row) self.new result }
+        ensures holds { OnOk result (Told (D.medium store.new) (HoldsRows self.new)) }
+        ensures faults { IfErr result (λ fault. fault ≡ RecordFault.DiskFault) }
+        ensures cause { HasRecordCause (D.faults store.old) (D.faults store.new) result }
+    {
+        if replace_cell(store, Cell::new(cell), body).is_err() {
+            return Err(RecordFault::DiskFault);
+        }
+        self.set_row(cell, row);
+        Ok(())
+    }
+}

@@ -1,0 +1,131 @@
+//! Opening a store: its cells are read upwards, each once.
+ghost use Rattle.std.specs.Prelude.{◌≡◌, ◌+◌, ◌*◌, ◌≤◌, ◌<◌, ◌⊎◌, ℕ, None, replicate, Result, Err, OnOk, OnErr, IfErr};
+ghost use Rattle.key_cells.specs.Lease.{bench_of};
+ghost use Rattle.key_records.specs.Changes.{HasRecordCause, KeepsAllButBody};
+ghost use Rattle.key_records.specs.Opening.{Opens, IsRefused};
+ghost use Rattle.key_records.specs.Rows.{AreRows};
+ghost use Rattle.key_records.specs.StoreStands.{KeepsLabels, HoldsRows, labels_in, IsFirstDamaged};
+ghost use Rattle.master_registers.specs.Loaded.{IsLoaded, Loaded, masters_in, registers_of};
+ghost use Rattle.master_registers.specs.Masters.{Masters};
+ghost use Rattle.slot_disk.specs.Cells.{body};
+ghost use Rattle.slot_disk.specs.Faults.{Rose};
+ghost use Rattle.slot_disk.specs.Medium.{Told, Keeps};
+ghost use Rattle.verb_rules.specs.Keys.{keys_of};
+
+use crate::bodies::read_row;
+use crate::faults::RecordFault;
+use crate::records::{CELLS, Records, STORE_LEN};
+use key_cells::Lease;
+use master_registers::Registers;
+use slot_disk::{Cell, Disk, read_cell};
+
+/// Reads each cell of the store once, upwards. Damaged names the first cell that reads as no record under the
+/// current and the old master key, or whose label a lower cell holds. After an error no label is known.
+pub fn open_records<D: Disk>(
+    store: &mut D,
+    lease: &mut Lease,
+    held: &Registers,
+    records: &mut Records,
+) -> Result<(), RecordFault>
+    requires size { (D.medium store.old).size ≡ STORE_LEN }
+    requires loaded { IsLoaded held.now (bench_of lease.old) }
+
+    ensures stands { OnOk result (Told (D.medium store.new) (λ image.
+        KeepsLabels (keys_of (masters_in held.now (bench_of lease.old))) records.new
+        (labels_in (keys_of (masters_in held.now (bench_of lease.old))) image) image)) }
+    ensures holds { OnOk result (Told (D.medium store.new) (HoldsRows records.new)) }
+    ensures unopened { OnErr result (records.new ≡ replicate CELLS None) }
+    ensures damaged { (cell : ℕ) → result ≡ Err (RecordFault.Damaged cell)
+        → Told (D.medium store.old) (λ image.
+        IsFirstDamaged (keys_of (masters_in held.now (bench_of lease.old))) image cell) }
+    ensures exact { (Rose (D.faults store.old) (D.faults store.new) → ⊥)
+        → Told (D.medium store.old) (λ image. (cell : ℕ)
+        → IsFirstDamaged (keys_of (masters_in held.now (bench_of lease.old))) image cell
+        → result ≡ Err (RecordFault.Damaged cell)) }
+    ensures faults { IfErr result (λ fault. (fault ≡ RecordFault.DiskFault)
+        ⊎ ((cell : ℕ) × (cell < 1024) × (fault ≡ RecordFault.Damaged cell))) }
+    ensures keeps { Keeps (D.medium store.old) (D.medium store.new) }
+    ensures cause { HasRecordCause (D.faults store.old) (D.faults store.new) result }
+    ensures rest { KeepsAllButBody lease.old lease.new }
+{
+    match open_cells(store, lease, held, records) {
+        Ok(()) => Ok(()),
+        Err(fault) => {
+            records.clear();
+            Err(fault)
+        }
+    }
+}
+
+/// Reads each cell.
+fn open_cells<D: Disk>(
+    store: &mut D,
+    lease: &mut Lease,
+    held: &Registers,
+    records: &mut Records,
+) -> Result<(), RecordFault>
+    ghost m: { Masters }
+    requires size { (D.medium store.old).size ≡ STORE_LEN }
+    requires told { held.now ≡ registers_of m }
+    ensures stands { OnOk result (Told (D.medium store.old) (λ image.
+        KeepsLabels (keys_of m) records.new (labels_in (keys_of m) image) image)) }
+    ensures damaged { (n : ℕ) → result ≡ Err (RecordFault.Damaged n)
+        → Told (D.medium store.old) (λ image. IsFirstDamaged (keys_of m) image n) }
+    ensures exact { (Rose (D.faults store.old) (D.faults store.new) → ⊥)
+        → Told (D.medium store.old) (λ image. (n : ℕ) → IsFirstDamaged (keys_of m) image n
+        → result ≡ Err (RecordFault.Damaged n)) }
+    ensures faults { IfErr result (λ fault. (fault ≡ RecordFault.DiskFault)
+        ⊎ ((cell : ℕ) × (cell < 1024) × (fault ≡ RecordFault.Damaged cell))) }
+    ensures keeps { Keeps (D.medium store.old) (D.medium store.new) }
+    ensures cause { HasRecordCause (D.faults store.old) (D.faults store.new) result }
+    ensures rest { KeepsAllButBody lease.old lease.new }
+{
+    records.clear();
+    for cell in 0..1024 {
+        match open_cell(store, lease, held, records, cell) {
+            Ok(()) => {}
+            Err(fault) => return Err(fault),
+        }
+    }
+    Ok(())
+}
+
+/// Reads one cell.
+fn open_cell<D: Disk>(
+    store: &mut D,
+    lease: &mut Lease,
+    held: &Registers,
+    records: &mut Records,
+    cell: u16,
+) -> Result<(), RecordFault>
+    ghost m: { Masters }
+    requires size { (D.medium store.old).size ≡ STORE_LEN }
+    requires below { cell < 1024 }
+    requires told { held.now ≡ registers_of m }
+    requires rows { AreRows records.old }
+    ensures opened { OnOk result (Told (D.medium store.old) (λ image.
+        Opens (keys_of m) (body image cell) cell records.old records.new)) }
+    ensures rows { AreRows records.new }
+    ensures damaged { (n : ℕ) → result ≡ Err (RecordFault.Damaged n)
+        → (n ≡ cell) × Told (D.medium store.old)
+        (λ image. IsRefused (keys_of m) (body image cell) records.old) }
+    ensures faults { IfErr result (λ fault.
+        (fault ≡ RecordFault.DiskFault) ⊎ (fault ≡ RecordFault.Damaged cell)) }
+    ensures keeps { Keeps (D.medium store.old) (D.medium store.new) }
+    ensures cause { HasRecordCause (D.faults store.old) (D.faults store.new) result }
+    ensures rest { KeepsAllButBody lease.old lease.new }
+{
+    if read_cell(store, Cell::new(cell), lease.body_mut()).is_err() {
+        return Err(RecordFault::DiskFault);
+    }
+    match read_row(lease.body(), held) {
+        Some(row) => {
+            if records.put(cell, row) {
+                Ok(())
+            } else {
+                Err(RecordFault::Damaged(cell))
+            }
+        }
+        None => Err(RecordFault::Damaged(cell)),
+    }
+}

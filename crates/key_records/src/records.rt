@@ -1,0 +1,256 @@
+//! The labels that are held, as the memory knows them.
+ghost use Rattle.std.specs.Prelude.{◌≡◌, ◌+◌, ◌-◌, ◌*◌, ◌^◌, ◌≤◌, ◌<◌, ℕ, List, Option, None, Some};
+ghost use Rattle.std.specs.Prelude.{length, replicate, set, get_or, IfOk, IfSome, IsSome, IsNone, IsTrue, IsFalse};
+ghost use Rattle.key_records.specs.Changes.{any_under, is_under};
+ghost use Rattle.key_records.specs.Directory.{cell_of, free_cell, held_count, AreApart, label_at, IsFresh};
+ghost use Rattle.key_records.specs.Entries.{row_directory, row_label, label_or};
+ghost use Rattle.key_records.specs.Rank.{IsNth};
+ghost use Rattle.key_records.specs.Rows.{AreRows};
+
+use crate::directory::Directory;
+use crate::labels::Label;
+use crate::rows::Row;
+use master_registers::Pattern;
+use slot_disk::{NoMemory, Steps};
+use std::alloc::Global;
+use std::marker::Model;
+
+/// The bytes of a store: 1,024 cells.
+pub const STORE_LEN: u64 = 1_572_864;
+
+/// How many cells a store has.
+pub(crate) const CELLS: usize = 1024;
+
+/// Where a label is held. `find` alone makes one.
+#[derive(Clone, Copy, Debug, PartialEq, Eq)]
+pub struct Place {
+    cell: u16,
+}
+
+// Clauses see the number of the cell.
+impl Model for Place {
+    ghost use Rattle.std.specs.Prelude.{ℕ};
+
+    ghost Value = { ℕ };
+
+    ghost view = { λ p. p.cell };
+
+    ghost inverse = { λ n. record { cell = n } };
+}
+
+impl Place {
+    pub(crate) fn cell(self) -> u16
+        ensures { result ≡ self }
+    {
+        self.cell
+    }
+}
+
+/// The labels that are held, each in its cell, with what the memory knows of them.
+#[derive(Drop)]
+pub struct Records {
+    rows: Vec<Option<Row>>,
+    directory: Directory,
+}
+
+// Clauses see a list of 1,024 places, one for each cell.
+impl Model for Records {
+    ghost use Rattle.std.specs.Prelude.{List, Option};
+    ghost use Rattle.key_records.specs.declared.rows.Row.{Row};
+    ghost use Rattle.key_records.specs.Rows.{AreListed};
+
+    ghost Value = { List (Option Row) };
+
+    ghost view = { λ r. r.rows.items };
+
+    ghost invariant = { λ r. AreListed r.rows.items r.directory };
+}
+
+impl Records {
+    /// No labels, with all the memory that records need.
+    pub fn new(alloc: Global) -> Result<Records, NoMemory>
+        ensures { IfOk result (λ records. records ≡ replicate CELLS None) }
+    {
+        let directory = Directory::new(alloc)?;
+        let mut rows = vec![in alloc; None; CELLS]?;
+        blank(rows.as_mut_slice());
+        Ok(Records { rows, directory })
+    }
+
+    /// Where the label is held, in at most 11 steps for 1,024 labels.
+    pub fn find<L>(&self, label: &Label, steps: &mut Steps<L>) -> Option<Place>
+        ensures found { result ≡ cell_of label.now (row_directory self.now) }
+        ensures held { IfSome result (λ place.
+            label_at (row_directory self.now) place ≡ Some label.now) }
+        ensures few { 2 ^ (steps.new - steps.old) ≤ 2 * held_count (row_directory self.now) + 1 }
+        ensures later { steps.old ≤ steps.new }
+    {
+        match self.directory.find(label, steps) {
+            Some(cell) => Some(Place { cell }),
+            None => None,
+        }
+    }
+
+    /// The place of a cell, where the cell holds a label. It takes no comparison.
+    pub fn place_in(&self, cell: u16) -> Option<Place>
+        requires { cell < 1024 }
+        ensures found { IfSome result (λ place.
+            (place ≡ cell) × IsSome (label_at (row_directory self.now) cell)) }
+        ensures none { IsNone result → label_at (row_directory self.now) cell ≡ None }
+    {
+        match &self.rows[cell as usize] {
+            Some(_) => Some(Place { cell }),
+            None => None,
+        }
+    }
+
+    /// How many labels are held.
+    pub fn count(&self) -> usize
+        ensures { result ≡ held_count (row_directory self.now) }
+    {
+        self.directory.count()
+    }
+
+    /// The label before which this many stand in ascending order of their bytes.
+    pub fn label_at(&self, index: usize) -> &Label
+        requires { index < held_count (row_directory self.now) }
+        ensures { IsNth index (row_directory self.now) result.now }
+    {
+        self.directory.label_at(index)
+    }
+
+    /// Whether some key is under the master key with this pattern.
+    pub fn any_under(&self, pattern: &Pattern) -> bool
+        ensures { result ≡ any_under pattern.now self.now }
+    {
+        self.rows.iter().any(|row| is_under(row, pattern))
+    }
+
+    /// The lowest cell that holds no label.
+    pub(crate) fn free_cell(&self) -> Option<u16>
+        ensures none { IsNone result → free_cell (row_directory self.now) ≡ 1024 }
+        ensures free { IfSome result (λ cell.
+            (cell ≡ free_cell (row_directory self.now)) × (cell < 1024)) }
+        ensures rows { AreRows self.now }
+    {
+        match free_in(&self.rows) {
+            Some(cell) => Some(cell as u16),
+            None => None,
+        }
+    }
+
+    /// The cell of a label that is held.
+    pub(crate) fn cell(&self, place: Place) -> u16
+        requires { IsSome (label_at (row_directory self.now) place) }
+        ensures cell { result ≡ place }
+        ensures within { result < 1024 }
+        ensures rows { AreRows self.now }
+    {
+        let _rows = &self.rows;
+        place.cell()
+    }
+
+    /// The row of a label that is held.
+    pub(crate) fn row(&self, place: Place) -> Row
+        requires { IsSome (label_at (row_directory self.now) place) }
+        ensures { get_or self.now place None ≡ Some result }
+    {
+        match self.rows[place.cell() as usize] {
+            Some(row) => row,
+            None => unreachable!(),
+        }
+    }
+
+    /// A label that is held.
+    pub(crate) fn label(&self, place: Place) -> Label
+        requires { IsSome (label_at (row_directory self.now) place) }
+        ensures held { label_at (row_directory self.now) place ≡ Some result }
+        ensures label { result ≡ label_or (get_or self.now place None) }
+    {
+        self.row(place).label
+    }
+
+    /// No labels.
+    pub(crate) fn clear(&mut self)
+        ensures cleared { self.new ≡ replicate CELLS None }
+        ensures rows { AreRows self.new }
+    {
+        blank(self.rows.as_mut_slice());
+        self.directory.clear();
+    }
+
+    /// Puts a row into a cell, where no cell holds its label.
+    pub(crate) fn put(&mut self, cell: u16, row: Option<Row>) -> bool
+        requires { cell < 1024 }
+        ensures put { IsTrue result → self.new ≡ set self.old cell row }
+        ensures held { IsFalse result → (label : List ℕ) × (row_label row ≡ Some label)
+            × (k : ℕ) × (label_at (row_directory self.old) k ≡ Some label) }
+        ensures rows { AreRows self.new }
+    {
+        let _rows = &self.rows;
+        if self.holds_label_of(&row) {
+            return false;
+        }
+        self.set_row(cell, row);
+        true
+    }
+
+    /// Whether a cell holds the label of a row.
+    fn holds_label_of(&self, row: &Option<Row>) -> bool
+        ensures found { IsTrue result → (label : List ℕ) × (row_label row.now ≡ Some label)
+            × (k : ℕ) × (label_at (row_directory self.now) k ≡ Some label) }
+        ensures fresh { IsFalse result → IsFresh (row_label row.now) (row_directory self.now) }
+    {
+        match row {
+            Some(row) => {
+                let mut steps: Steps<()> = Steps::new();
+                self.find(&row.label, &mut steps).is_some()
+            }
+            None => false,
+        }
+    }
+
+    /// Makes the row of a cell another one.
+    pub(crate) fn set_row(&mut self, cell: u16, row: Option<Row>)
+        requires within { cell < 1024 }
+        requires apart { AreApart (set (row_directory self.old) cell (row_label row)) }
+        ensures set { self.new ≡ set self.old cell row }
+        ensures rows { AreRows self.new }
+    {
+        self.directory.set_row(cell, &row);
+        self.rows[cell as usize] = row;
+    }
+}
+
+/// The first place without a row.
+fn free_in(rows: &[Option<Row>]) -> Option<usize>
+    ensures free { IfSome result (λ cell. (cell ≡ free_cell (row_directory rows.now))
+        × (cell < length rows.now)) }
+    ensures none { IsNone result → free_cell (row_directory rows.now) ≡ length rows.now }
+{
+    for cell in 0..rows.len() {
+        if rows[cell].is_none() {
+            return Some(cell);
+        }
+    }
+    None
+}
+
+/// Whether the key of a row is under the master key with this pattern.
+fn is_under(row: &Option<Row>, pattern: &Pattern) -> bool
+    ensures { result ≡ is_under pattern.now row.now }
+{
+    match row {
+        Some(row) => match row.pattern {
+            Some(other) => other.bytes == pattern.bytes,
+            None => false,
+        },
+        None => false,
+    }
+}
+
+fn blank(rows: &mut [Option<Row>])
+    ensures { rows.new ≡ replicate (length rows.old) None }
+{
+    rows.fill(None);
+}
