@@ -368,6 +368,19 @@ mod tests {
 
     const PART: &[u8] = b"0102030405060708090A0b0c0d0e0f101112131415161718";
 
+    // The role's name; of another text DEFAULT, which the tests here would notice.
+    fn name_of(text: &[u8]) -> RoleName {
+        RoleName::read(text).unwrap_or(RoleName::default_role())
+    }
+
+    // Whether the line is parsed as this request.
+    fn is_parsed(line: &[u8], request: &Request) -> bool {
+        match parse_request(line) {
+            Ok(parsed) => parsed == *request,
+            Err(_) => false,
+        }
+    }
+
     #[test]
     fn lines_over_keys_are_parsed(rt: HostRuntime) {
         let role = RoleName::default_role();
@@ -442,7 +455,7 @@ mod tests {
     #[test]
     fn lines_of_each_row_are_parsed(rt: HostRuntime) {
         let role = RoleName::default_role();
-        let teller = RoleName::read(b"TELLER").unwrap();
+        let teller = name_of(b"TELLER");
         let lines: [(&[u8], Request); 9] = [
             (
                 b"CSNBKTP role=DEFAULT token=020000000000c00000000000000000008ca64de9c1b123a700000000000000000000000000000000000000000000000000000000000000000000000050583190",
@@ -492,7 +505,7 @@ mod tests {
                     role,
                     action: b"DEFINE",
                     name: teller,
-                    points: AccessPoints::from_bits(0x03ff_000f).unwrap(),
+                    points: AccessPoints::from_bits(0x03ff_000f).unwrap_or(AccessPoints::empty()),
                 },
             ),
             (
@@ -513,8 +526,8 @@ mod tests {
                 },
             ),
         ];
-        for (line, request) in lines {
-            assert!(rt; parse_request(line) == Ok(request));
+        for (line, request) in lines.iter() {
+            assert!(rt; is_parsed(line, request));
         }
     }
 
