@@ -77,32 +77,43 @@ pub fn run<S: Source, K: Sink, M: Disk, E: Entropy>(
         PrefixSent cca s (E.left entropy.old) input (K.held sink.old) (K.held sink.new)) }
     ensures done { result ≡ Status.Done → (s : State) → Holds (M.medium «module».old) (IsModuleOf s)
         → WhereTold (S.left source.old) (S.left source.new) (λ input rest.
-        AllAnswered cca s (E.left entropy.old) (over (M.medium «module».new) (E.left entropy.new)) input (K.held sink.old) (K.held sink.new)) }
+        AllAnswered cca s (E.left entropy.old)
+        (over (M.medium «module».new) (E.left entropy.new)) input
+        (K.held sink.old) (K.held sink.new)) }
     ensures stopped { (result ≡ Status.ReadFault) ⊎ (result ≡ Status.InputLimit)
         → (s : State) → Holds (M.medium «module».old) (IsModuleOf s)
         → WhereTold (S.left source.old) (S.left source.new) (λ input rest.
-        WholeLinesAnswered cca s (E.left entropy.old) (over (M.medium «module».new) (E.left entropy.new)) input rest
+        WholeLinesAnswered cca s (E.left entropy.old)
+        (over (M.medium «module».new) (E.left entropy.new)) input rest
         (K.held sink.old) (K.held sink.new)) }
-    ensures cut { result ≡ Status.WriteFault → (s : State) → Holds (M.medium «module».old) (IsModuleOf s)
+    ensures cut { result ≡ Status.WriteFault → (s : State)
+        → Holds (M.medium «module».old) (IsModuleOf s)
         → WhereTold (S.left source.old) (S.left source.new) (λ input rest.
-        ReplyCut cca s (E.left entropy.old) (over (M.medium «module».new) (E.left entropy.new)) input (K.held sink.old) (K.held sink.new)) }
+        ReplyCut cca s (E.left entropy.old)
+        (over (M.medium «module».new) (E.left entropy.new)) input
+        (K.held sink.old) (K.held sink.new)) }
     // The module failed at a line; or before the first line, and then nothing has changed.
-    ensures lost { result ≡ Status.ModuleFault → (s : State) → Holds (M.medium «module».old) (IsModuleOf s)
+    ensures lost { result ≡ Status.ModuleFault → (s : State)
+        → Holds (M.medium «module».old) (IsModuleOf s)
         → WhereTold (S.left source.old) (S.left source.new) (λ input rest.
-        LineLost cca Stop.ModuleFault s (E.left entropy.old) (over (M.medium «module».new) (E.left entropy.new)) input
+        LineLost cca Stop.ModuleFault s (E.left entropy.old)
+        (over (M.medium «module».new) (E.left entropy.new)) input
         (K.held sink.old) (K.held sink.new)
         ⊎ Unopened (over (M.medium «module».old) (E.left entropy.old))
         (over (M.medium «module».new) (E.left entropy.new)) input rest
         (K.held sink.old) (K.held sink.new)) }
     // The random source failed, at a line that draws random bytes: nothing was written for it.
-    ensures undrawn { result ≡ Status.EntropyFault → (s : State) → Holds (M.medium «module».old) (IsModuleOf s)
+    ensures undrawn { result ≡ Status.EntropyFault → (s : State)
+        → Holds (M.medium «module».old) (IsModuleOf s)
         → WhereTold (S.left source.old) (S.left source.new) (λ input rest.
-        LineLost cca Stop.EntropyFault s (E.left entropy.old) (over (M.medium «module».new) (E.left entropy.new)) input
+        LineLost cca Stop.EntropyFault s (E.left entropy.old)
+        (over (M.medium «module».new) (E.left entropy.new)) input
         (K.held sink.old) (K.held sink.new)) }
     // The module at every moment.
     ensures moments { (s : State) → Holds (M.medium «module».old) (IsModuleOf s)
         → WhereTold (S.left source.old) (S.left source.new) (λ input rest.
-        EachImage (M.medium «module».old) (M.medium «module».new) (λ image. (M.medium «module».old).images image
+        EachImage (M.medium «module».old) (M.medium «module».new)
+        (λ image. (M.medium «module».old).images image
         ⊎ IsOnTheWay cca s (E.left entropy.old) input (λ t. IsModuleOf t image))) }
     ensures at_end { result ≡ Status.Done → IsAtEnd (S.left source.new) }
     ensures sink_grows { WhereTold (K.held sink.old) (K.held sink.new) Grows }
@@ -112,7 +123,8 @@ pub fn run<S: Source, K: Sink, M: Disk, E: Entropy>(
     ensures settled { ServesLines result → IsSettled (M.medium «module».new) }
     ensures unsound_source { (IsModuleSound (M.medium «module».old) → ⊥) → source.new ≡ source.old }
     ensures unsound_sink { (IsModuleSound (M.medium «module».old) → ⊥) → sink.new ≡ sink.old }
-    ensures unsound_entropy { (IsModuleSound (M.medium «module».old) → ⊥) → entropy.new ≡ entropy.old }
+    ensures unsound_entropy { (IsModuleSound (M.medium «module».old) → ⊥)
+        → entropy.new ≡ entropy.old }
     ensures unsound_module { (IsModuleSound (M.medium «module».old) → ⊥)
         → Keeps (M.medium «module».old) (M.medium «module».new) }
 
@@ -120,31 +132,40 @@ pub fn run<S: Source, K: Sink, M: Disk, E: Entropy>(
     // module are named.
     ensures damaged { (cell : ℕ) → result ≡ Status.Damaged Device.Module cell
         → Told (M.medium «module».old) (IsBroken cell) }
-    ensures judged { words.now ≡ codes "run" ∷ [] → (Rose (M.faults «module».old) (M.faults «module».new) → ⊥)
+    ensures judged { words.now ≡ codes "run" ∷ []
+        → (Rose (M.faults «module».old) (M.faults «module».new) → ⊥)
         → Told (M.medium «module».old) (λ image. (cell : ℕ) → IsBroken cell image
         → (result ≡ Status.Damaged Device.Module cell) ⊎ (result ≡ Status.NoMemory)) }
-    ensures cell { (device : AnyDevice) (cell : ℕ) → result ≡ Status.Damaged device cell → IsCell device cell }
+    ensures cell { (device : AnyDevice) (cell : ℕ) → result ≡ Status.Damaged device cell
+        → IsCell device cell }
 
     // Why it ended.
-    ensures read_fault { result ≡ Status.ReadFault → Rose (S.faults source.old) (S.faults source.new) }
-    ensures write_fault { result ≡ Status.WriteFault → Rose (K.faults sink.old) (K.faults sink.new) }
-    ensures module_fault { result ≡ Status.ModuleFault → Rose (M.faults «module».old) (M.faults «module».new) }
+    ensures read_fault { result ≡ Status.ReadFault
+        → Rose (S.faults source.old) (S.faults source.new) }
+    ensures write_fault { result ≡ Status.WriteFault
+        → Rose (K.faults sink.old) (K.faults sink.new) }
+    ensures module_fault { result ≡ Status.ModuleFault
+        → Rose (M.faults «module».old) (M.faults «module».new) }
     ensures entropy_fault { result ≡ Status.EntropyFault
         → Rose (E.faults entropy.old) (E.faults entropy.new) }
     ensures no_store { result ≡ Status.StoreFault → ⊥ }
     ensures limit { WhereTold (S.left source.old) (S.left source.new) (λ input rest.
-        (result ≡ Status.InputLimit) ↔ ((length input ≡ length rest + input_limit) × IsFaultless result)) }
+        (result ≡ Status.InputLimit) ↔ ((length input ≡ length rest + input_limit)
+        × IsFaultless result)) }
     ensures size { (M.medium «module».new).size ≡ (M.medium «module».old).size }
-    ensures still { IsSome (M.medium «module».old).content → IsSome (M.medium «module».new).content }
+    ensures still { IsSome (M.medium «module».old).content
+        → IsSome (M.medium «module».new).content }
 
     // Where the word is `run`, the module stands for a state, the input is short enough and no device fails, it
     // answers every line.
-    ensures complete { words.now ≡ codes "run" ∷ [] → (s : State) → Holds (M.medium «module».old) (IsModuleOf s)
+    ensures complete { words.now ≡ codes "run" ∷ [] → (s : State)
+        → Holds (M.medium «module».old) (IsModuleOf s)
         → (Rose (S.faults source.old) (S.faults source.new) → ⊥)
         → (Rose (K.faults sink.old) (K.faults sink.new) → ⊥)
         → (Rose (M.faults «module».old) (M.faults «module».new) → ⊥)
         → (Rose (E.faults entropy.old) (E.faults entropy.new) → ⊥)
-        → WhereTold (S.left source.old) (S.left source.new) (λ input rest. length input < input_limit
+        → WhereTold (S.left source.old) (S.left source.new) (λ input rest.
+        length input < input_limit
         → (result ≡ Status.Done) ⊎ (result ≡ Status.NoMemory)) }
 
     // No key is left in the bench.

@@ -102,13 +102,17 @@ impl Session {
 
         // What the line comes to, from the state for which the module stands.
         ensures serves { (s : State) → Holds (M.medium «module».old) (IsModuleOf s)
-            → LineServed cca s (remembers self.new.roles) result (over (M.medium «module».old) (E.left entropy.old)) (over (M.medium «module».new) (E.left entropy.new))
-            (S.left source.old) (S.left source.new) (K.held sink.old) (K.held sink.new) self.old.reading self.new.reading }
+            → LineServed cca s (remembers self.new.roles) result
+            (over (M.medium «module».old) (E.left entropy.old))
+            (over (M.medium «module».new) (E.left entropy.new))
+            (S.left source.old) (S.left source.new) (K.held sink.old) (K.held sink.new)
+            self.old.reading self.new.reading }
         ensures sound { OnOk result (Told (M.medium «module».new) (IsSound self.new.roles)) }
 
         // How far the input was taken.
         ensures ended { WhereTold (S.left source.old) (S.left source.new) (λ input rest.
-            (result ≡ Ok Served.Ended) ↔ (IsTrue self.new.reading.ended × (self.old.reading.pending ++ input ≡ []))) }
+            (result ≡ Ok Served.Ended) ↔ (IsTrue self.new.reading.ended
+            × (self.old.reading.pending ++ input ≡ []))) }
         ensures ends { result ≡ Ok Served.Ended → IsTrue self.new.reading.ended }
         ensures limit { WhereTold (S.left source.old) (S.left source.new) (λ input rest.
             (result ≡ Err Stop.InputLimit) ↔ ((self.new.reading.taken ≡ input_limit)
@@ -118,7 +122,8 @@ impl Session {
             LosesPart (self.old.reading.pending ++ input) rest) }
         ensures still_ended { IsTrue self.old.reading.ended → IsTrue self.new.reading.ended }
         ensures at_end { IsTrue self.new.reading.ended → IsAtEnd (S.left source.new) }
-        ensures advances { result ≡ Ok Served.Replied → bytes_ahead self.new.reading < bytes_ahead self.old.reading }
+        ensures advances { result ≡ Ok Served.Replied
+            → bytes_ahead self.new.reading < bytes_ahead self.old.reading }
         ensures counted { WhereTold (S.left source.old) (S.left source.new) (λ input rest.
             self.new.reading.taken + length rest ≡ self.old.reading.taken + length input) }
         ensures full { result ≡ Err Stop.InputLimit → self.new.reading.taken ≡ input_limit }
@@ -137,8 +142,10 @@ impl Session {
         ensures module_left { DiskLeft (M.medium «module».old) (M.medium «module».new)
             (M.faults «module».old) (M.faults «module».new) result Stop.ModuleFault }
         ensures module_cut { result ≡ Err Stop.WriteFault → IsSettled (M.medium «module».new) }
-        ensures source_left { TellsFault (S.faults source.old) (S.faults source.new) result Stop.ReadFault }
-        ensures sink_left { TellsFault (K.faults sink.old) (K.faults sink.new) result Stop.WriteFault }
+        ensures source_left { TellsFault (S.faults source.old) (S.faults source.new)
+            result Stop.ReadFault }
+        ensures sink_left { TellsFault (K.faults sink.old) (K.faults sink.new)
+            result Stop.WriteFault }
         ensures entropy_left { TellsFault (E.faults entropy.old) (E.faults entropy.new)
             result Stop.EntropyFault }
         ensures undamaged { (cell : ℕ) → result ≡ Err (Stop.Damaged Device.Module cell)
@@ -172,7 +179,8 @@ impl Session {
         requires { (M.medium «module».old).size ≡ module_size }
 
         ensures serves { (s : State) → Holds (M.medium «module».old) (IsModuleOf s)
-            → RunServed cca s result (over (M.medium «module».old) (E.left entropy.old)) (over (M.medium «module».new) (E.left entropy.new))
+            → RunServed cca s result (over (M.medium «module».old) (E.left entropy.old))
+            (over (M.medium «module».new) (E.left entropy.new))
             (S.left source.old) (S.left source.new) (K.held sink.old) (K.held sink.new) }
         ensures prefix { (s : State) → Holds (M.medium «module».old) (IsModuleOf s)
             → WhereTold (S.left source.old) (S.left source.new) (λ input rest.
@@ -186,9 +194,11 @@ impl Session {
             length input < input_limit → result ≡ Ok tt) }
 
         ensures sound { AnswersLines result → IsModuleSound (M.medium «module».old) }
-        ensures unsound_source { (IsModuleSound (M.medium «module».old) → ⊥) → source.new ≡ source.old }
+        ensures unsound_source { (IsModuleSound (M.medium «module».old) → ⊥)
+            → source.new ≡ source.old }
         ensures unsound_sink { (IsModuleSound (M.medium «module».old) → ⊥) → sink.new ≡ sink.old }
-        ensures unsound_entropy { (IsModuleSound (M.medium «module».old) → ⊥) → entropy.new ≡ entropy.old }
+        ensures unsound_entropy { (IsModuleSound (M.medium «module».old) → ⊥)
+            → entropy.new ≡ entropy.old }
         ensures unsound_module { (IsModuleSound (M.medium «module».old) → ⊥)
             → Keeps (M.medium «module».old) (M.medium «module».new) }
         ensures damaged { (cell : ℕ) → result ≡ Err (Stop.Damaged Device.Module cell)
@@ -205,8 +215,10 @@ impl Session {
         ensures settled { AnswersLines result → IsSettled (M.medium «module».new) }
         ensures module_left { DiskLeft (M.medium «module».old) (M.medium «module».new)
             (M.faults «module».old) (M.faults «module».new) result Stop.ModuleFault }
-        ensures source_left { TellsFault (S.faults source.old) (S.faults source.new) result Stop.ReadFault }
-        ensures sink_left { TellsFault (K.faults sink.old) (K.faults sink.new) result Stop.WriteFault }
+        ensures source_left { TellsFault (S.faults source.old) (S.faults source.new)
+            result Stop.ReadFault }
+        ensures sink_left { TellsFault (K.faults sink.old) (K.faults sink.new)
+            result Stop.WriteFault }
         ensures entropy_left { TellsFault (E.faults entropy.old) (E.faults entropy.new)
             result Stop.EntropyFault }
         ensures stops { IfErr result IsStop }
