@@ -180,7 +180,7 @@ shows_or s bench request v fields e reply left count verdict is shown = record {
 }
   where
     by_effect : (e : CodeEffect) → ShowsOr v fields e reply → IsDecided s bench [] request e reply
-    by_effect (code.Refused rule name) shown = verdict ∙ shown
+    by_effect (code.Refused _ name) shown = verdict ∙ shown
     by_effect code.Shown shown = (verdict ∙ shown.0, record { fields = fields; is = is; reply_is = shown.1 })
     by_effect (code.Change action) shown = absurd shown
     by_effect (code.DefineRole name points) shown = absurd shown

@@ -89,7 +89,7 @@ ShowsOr v fields (code.RemoveRole name) reply = ⊥
 
 -- what is certain of it in every state
 abbrev pub IsReady : CodeEffect → List ℕ → Type 0
-IsReady (code.Refused rule name) reply = (reply ≡ []) × (length name.now < 100)
+IsReady (code.Refused _ name) reply = (reply ≡ []) × (length name.now < 100)
 IsReady code.Shown reply = length reply ≤ 69000
 IsReady (code.Change action) reply = reply ≡ []
 IsReady (code.DefineRole name points) reply = reply ≡ []
