@@ -1,4 +1,4 @@
-//! The exclusive or on a table of known values, and lists that are or aren't zero.
+//! The exclusive or on a table of known values, lists that are or aren't zero, and kinds of characters.
 use crate::*;
 use key_cells::Secret;
 
@@ -38,5 +38,28 @@ fn zeros(rt: HostRuntime) {
         ([0x80, 0, 0].as_slice(), false),
     ] {
         assert_eq!(rt; is_zero(bytes), wanted);
+    }
+}
+
+#[test]
+fn kinds_of_characters(rt: HostRuntime) {
+    for (c, letter, digit, label) in [
+        (b'A', true, false, true),
+        (b'Z', true, false, true),
+        (b'@', false, false, true),
+        (b'[', false, false, false),
+        (b'a', false, false, false),
+        (b'0', false, true, true),
+        (b'9', false, true, true),
+        (b'/', false, false, false),
+        (b':', false, false, false),
+        (b'#', false, false, true),
+        (b'$', false, false, true),
+        (b'.', false, false, true),
+        (b'-', false, false, false),
+    ] {
+        assert_eq!(rt; is_letter(c), letter);
+        assert_eq!(rt; is_digit(c), digit);
+        assert_eq!(rt; is_label_byte(c), label);
     }
 }
