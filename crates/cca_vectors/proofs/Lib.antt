@@ -1,2 +1,5 @@
 pub mod Validity
 pub mod Judging
+pub mod DefaultLemmas
+pub mod TypeLemmas
+pub mod ClosingLemmas

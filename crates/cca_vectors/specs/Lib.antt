@@ -4,4 +4,7 @@ pub mod Vectors
 pub mod Classes
 pub mod VectorChecks
 pub mod Permissions
+pub mod KeyTypes
+pub mod DefaultVectors
+pub mod Closing
 pub use Rattle.byte_lists.specs.Bytes

@@ -1,4 +1,4 @@
-ghost use Rattle.std.specs.Prelude.{◌≡◌, ◌↔◌, ◌<◌, ◌==◌, IsOk, IfOk, OnOk, IfErr, None, Some};
+ghost use Rattle.std.specs.Prelude.{◌≡◌, ◌↔◌, ◌<◌, ◌++◌, ◌==◌, IsOk, IfOk, OnOk, IfErr, None, Some, false, ℕ, List};
 ghost use Rattle.std.specs.Option.{option_map};
 ghost use Rattle.cca_vectors.specs.Bits.{bit as bit_of, even_byte};
 ghost use Rattle.cca_vectors.specs.Checks.{first_failing};
@@ -6,6 +6,7 @@ ghost use Rattle.cca_vectors.specs.Vectors.{IsValid, left_of, right_of, length_o
 ghost use Rattle.cca_vectors.specs.VectorChecks.{is_even, is_anti_variant, has_form, right_half_for, vector_checks, rule_of};
 ghost use Rattle.cca_vectors.specs.Classes.{class_of};
 ghost use Rattle.cca_vectors.specs.Permissions.{permits, is_exportable};
+ghost use Rattle.cca_vectors.specs.Closing.{closed_byte, closed_half, closed_to_export, closed_zero};
 
 use crate::key_class::Class;
 use crate::key_usage::{Usage, is_data_bit};
@@ -19,6 +20,9 @@ const LEFT_OF_DOUBLE: u8 = 2;
 
 /// The bit that permits export.
 const EXPORT: usize = 17;
+
+/// The all-zero vector stands for this one, but for the export bit: that of a single-length DATA key.
+const ZERO_WITHOUT_EXPORT: [u8; 16] = [0, 0, 0x3c, 0, 3, 0, 0, 0, 0, 0, 0, 0, 0, 0, 0, 0];
 
 /// A valid control vector: 16 bytes, the first 8 for the left half of a key and the last 8 for its right
 /// half, which are zero for a key of single length.
@@ -118,6 +122,32 @@ fn right_half(bytes: &[u8; 16]) -> [u8; 8]
     half
 }
 
+fn joined(left: &[u8; 8], right: &[u8; 8]) -> [u8; 16]
+    ensures { result ≡ left.now ++ right.now }
+{
+    let mut bytes = [0; 16];
+    bytes[..8].copy_from_slice(left);
+    bytes[8..].copy_from_slice(right);
+    bytes
+}
+
+/// Byte 2 of a half without the export bit, and with bit 23 as its parity asks.
+fn closed_byte(byte: u8) -> u8
+    ensures { result ≡ closed_byte byte }
+{
+    even_byte(byte - 64 * (byte / 64 % 2))
+}
+
+fn closed_half(half: &[u8; 8]) -> [u8; 8]
+    ensures { result ≡ closed_half half.now }
+{
+    let mut closed = *half;
+    if !is_zero(half) {
+        closed[2] = closed_byte(half[2]);
+    }
+    closed
+}
+
 /// The first rule that the bytes break.
 fn first_fault(bytes: &[u8; 16]) -> Option<VectorFault>
     ensures { option_map rule_of result ≡ first_failing (vector_checks bytes.now) }
@@ -206,4 +236,36 @@ impl Vector {
     {
         is_zero(&self.bytes) || has_bit(&left_half(&self.bytes), EXPORT)
     }
+
+    /// The vector with its export bit off in both halves, and bit 23 as the parity of byte 2 asks; as it is, where it
+    /// forbids export. The all-zero vector becomes that of a single-length DATA key that may not be exported.
+    pub fn without_export(&self) -> Vector
+        ensures vector { result ≡ closed_to_export self.now }
+        ensures closed { is_exportable result ≡ false }
+        ensures length { length_of result ≡ length_of self.now }
+        ensures valid { IsValid result }
+    {
+        if !self.exportable() {
+            return *self;
+        }
+        if is_zero(&self.bytes) {
+            return Vector {
+                bytes: ZERO_WITHOUT_EXPORT,
+            };
+        }
+        let left = closed_half(&left_half(&self.bytes));
+        let right = closed_half(&right_half(&self.bytes));
+        Vector {
+            bytes: joined(&left, &right),
+        }
+    }
 }
+
+/// A valid vector that is made one that forbids export is valid, and forbids it.
+pub fn a_vector_can_be_closed()
+    ensures valid { (vector : List ℕ) → IsValid vector → IsValid (closed_to_export vector) }
+    ensures closed { (vector : List ℕ) → IsValid vector
+        → is_exportable (closed_to_export vector) ≡ false }
+    ensures length { (vector : List ℕ) → IsValid vector
+        → length_of (closed_to_export vector) ≡ length_of vector }
+{}

@@ -3,11 +3,15 @@
 #![tactic(auto)]
 
 mod control_vector;
+mod default_vector;
 mod key_class;
+mod key_type;
 mod key_usage;
 
-pub use control_vector::{Vector, VectorFault, vector_of};
+pub use control_vector::{Vector, VectorFault, a_vector_can_be_closed, vector_of};
+pub use default_vector::{default_of, default_vectors_are_valid};
 pub use key_class::Class;
+pub use key_type::{KeyType, pairs};
 pub use key_usage::Usage;
 
 #[cfg(test)]

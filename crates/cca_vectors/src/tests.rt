@@ -200,3 +200,181 @@ fn vectors_permit(rt: HostRuntime) {
         );
     }
 }
+
+/// Each type by its name.
+const TYPES: [(&[u8], KeyType); 13] = [
+    (b"DATA", KeyType::Data),
+    (b"DATAC", KeyType::Datac),
+    (b"DATAM", KeyType::Datam),
+    (b"DATAMV", KeyType::Datamv),
+    (b"CIPHER", KeyType::Cipher),
+    (b"ENCIPHER", KeyType::Encipher),
+    (b"DECIPHER", KeyType::Decipher),
+    (b"MAC", KeyType::Mac),
+    (b"MACVER", KeyType::Macver),
+    (b"EXPORTER", KeyType::Exporter),
+    (b"IMPORTER", KeyType::Importer),
+    (b"OKEYXLAT", KeyType::Okeyxlat),
+    (b"IKEYXLAT", KeyType::Ikeyxlat),
+];
+
+#[test]
+fn types_are_read_by_name(rt: HostRuntime) {
+    for (name, kind) in TYPES.iter() {
+        assert_eq!(rt; KeyType::read(name), Some(*kind));
+    }
+    for text in [
+        b"".as_slice(),
+        b"data".as_slice(),
+        b"DAT".as_slice(),
+        b"MACVERS".as_slice(),
+        b"OTHER".as_slice(),
+    ] {
+        assert_eq!(rt; KeyType::read(text), None);
+    }
+}
+
+/// The halves of a default vector.
+fn default_halves(kind: KeyType, length: usize) -> Option<(u64, u64)> {
+    match default_of(kind, length) {
+        Some(vector) => Some((
+            u64::from_be_bytes(vector.left()),
+            u64::from_be_bytes(vector.right()),
+        )),
+        None => None,
+    }
+}
+
+/// The whole table of default vectors: the left half for length 8, and both halves for length 16.
+#[test]
+fn default_vectors_by_type_and_length(rt: HostRuntime) {
+    for (kind, single, double) in [
+        (
+            KeyType::Data,
+            Some(0x0000_7d00_0300_0000u64),
+            Some((0x0000_7d00_0341_0000u64, 0x0000_7d00_0321_0000u64)),
+        ),
+        (
+            KeyType::Datac,
+            None,
+            Some((0x0000_7100_0341_0000, 0x0000_7100_0321_0000)),
+        ),
+        (
+            KeyType::Datam,
+            None,
+            Some((0x0000_4d00_0341_0000, 0x0000_4d00_0321_0000)),
+        ),
+        (
+            KeyType::Datamv,
+            None,
+            Some((0x0000_4400_0341_0000, 0x0000_4400_0321_0000)),
+        ),
+        (KeyType::Cipher, Some(0x0003_7100_0300_0000), None),
+        (KeyType::Encipher, Some(0x0003_6000_0300_0000), None),
+        (KeyType::Decipher, Some(0x0003_5000_0300_0000), None),
+        (
+            KeyType::Mac,
+            Some(0x0005_4d00_0300_0000),
+            Some((0x0005_4d00_0341_0000, 0x0005_4d00_0321_0000)),
+        ),
+        (
+            KeyType::Macver,
+            Some(0x0005_4400_0300_0000),
+            Some((0x0005_4400_0341_0000, 0x0005_4400_0321_0000)),
+        ),
+        (
+            KeyType::Exporter,
+            None,
+            Some((0x0041_7d00_0341_0000, 0x0041_7d00_0321_0000)),
+        ),
+        (
+            KeyType::Importer,
+            None,
+            Some((0x0042_7d00_0341_0000, 0x0042_7d00_0321_0000)),
+        ),
+        (
+            KeyType::Okeyxlat,
+            None,
+            Some((0x0041_4200_0341_0000, 0x0041_4200_0321_0000)),
+        ),
+        (
+            KeyType::Ikeyxlat,
+            None,
+            Some((0x0042_4200_0341_0000, 0x0042_4200_0321_0000)),
+        ),
+    ] {
+        assert_eq!(rt; default_halves(kind, 8), single.map(|left| (left, 0)));
+        assert_eq!(rt; default_halves(kind, 16), double);
+        for length in [0, 7, 9, 24] {
+            assert_eq!(rt; default_halves(kind, length), None);
+        }
+    }
+}
+
+/// The pairs in one order. Of all pairs of types these are pairs, and the nine of two different types in the other
+/// order too.
+#[test]
+fn pairs_of_types(rt: HostRuntime) {
+    for (first, second) in [
+        (KeyType::Data, KeyType::Data),
+        (KeyType::Datac, KeyType::Datac),
+        (KeyType::Datam, KeyType::Datam),
+        (KeyType::Cipher, KeyType::Cipher),
+        (KeyType::Mac, KeyType::Mac),
+        (KeyType::Datam, KeyType::Datamv),
+        (KeyType::Mac, KeyType::Macver),
+        (KeyType::Encipher, KeyType::Decipher),
+        (KeyType::Cipher, KeyType::Encipher),
+        (KeyType::Cipher, KeyType::Decipher),
+        (KeyType::Exporter, KeyType::Importer),
+        (KeyType::Okeyxlat, KeyType::Ikeyxlat),
+        (KeyType::Exporter, KeyType::Ikeyxlat),
+        (KeyType::Importer, KeyType::Okeyxlat),
+    ] {
+        assert!(rt; pairs(first, second));
+        assert!(rt; pairs(second, first));
+    }
+    let mut count = 0u32;
+    for (_, first) in TYPES.iter() {
+        for (_, second) in TYPES.iter() {
+            if pairs(*first, *second) {
+                count = count.saturating_add(1);
+            }
+        }
+    }
+    assert_eq!(rt; count, 23);
+}
+
+/// The export bit is bit 1 of byte 2, counted from the most significant one, and the last bit of the byte turns with it.
+#[test]
+fn export_is_forbidden(rt: HostRuntime) {
+    for (left, right, closed_left, closed_right) in [
+        (0x0000_0000_0000_0000, 0, 0x0000_3c00_0300_0000, 0),
+        (0x0000_7d00_0300_0000, 0, 0x0000_3c00_0300_0000, 0),
+        (0x0000_3c00_0300_0000, 0, 0x0000_3c00_0300_0000, 0),
+        (
+            0x0005_4d00_0341_0000,
+            0x0005_4d00_0321_0000,
+            0x0005_0c00_0341_0000,
+            0x0005_0c00_0321_0000,
+        ),
+        (
+            0x0041_7d00_0341_0000,
+            0x0041_7d00_0321_0000,
+            0x0041_3c00_0341_0000,
+            0x0041_3c00_0321_0000,
+        ),
+        (
+            0x0041_4200_0341_0000,
+            0x0041_4200_0321_0000,
+            0x0041_0300_0341_0000,
+            0x0041_0300_0321_0000,
+        ),
+    ] {
+        let vector = vector_of(&bytes_of(left, right)).expect(&rt, "a control vector");
+        let closed = vector.without_export();
+        assert_eq!(rt; u64::from_be_bytes(closed.left()), closed_left);
+        assert_eq!(rt; u64::from_be_bytes(closed.right()), closed_right);
+        assert!(rt; !closed.exportable());
+    }
+}
