@@ -48,6 +48,10 @@ opened_key bench judged = option_map (λ age. record { clear = opened bench judg
 abbrev pub HasHalves : Judged → Type 0
 HasHalves judged = length_of judged.token.vector ≡ 8 → IsZero judged.token.sealed.right
 
+-- the key is of double length, as transport keys are
+abbrev pub IsDouble : Judged → Type 0
+IsDouble judged = length_of judged.token.vector ≡ 16
+
 -- the master key of the register that a key is under
 abbrev pub master_under : MasterKeys → Age → Option MasterKey
 master_under masters Current = masters.current

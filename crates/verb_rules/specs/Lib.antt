@@ -3,3 +3,4 @@ pub mod Classes
 pub mod KeyChecks
 pub mod Keys
 pub mod LengthChecks
+pub mod TypeChecks

@@ -1,5 +1,5 @@
 //! Key operands, judged by the rules on tokens, registers and control vectors.
-ghost use Rattle.std.specs.Prelude.{◌≡◌, ◌≢◌, ℕ, List, None, Some, IfOk, IsSome};
+ghost use Rattle.std.specs.Prelude.{◌≡◌, ◌≢◌, ℕ, List, None, Some, IfOk, IsSome, IsTrue};
 ghost use Rattle.std.specs.Option.{option_map};
 ghost use Rattle.cca_vectors.specs.Checks.{first_failing};
 ghost use Rattle.key_cells.specs.Bench.{Bench};
@@ -9,7 +9,7 @@ ghost use Rattle.key_tokens.specs.TokenChecks.{rule_of};
 ghost use Rattle.master_registers.specs.Loaded.{Loaded};
 ghost use Rattle.master_registers.specs.Masters.{Masters};
 ghost use Rattle.verb_rules.specs.KeyChecks.{age_of, has_pattern, is_forbidden, key_checks, part_check, read_checks, register_with, use_checks, vector_use_checks};
-ghost use Rattle.verb_rules.specs.Keys.{HasHalves, keys_of, opened_key, opened_under};
+ghost use Rattle.verb_rules.specs.Keys.{HasHalves, IsDouble, keys_of, opened_key, opened_under};
 ghost use Rattle.verb_rules.specs.Rules.{Judges, rule_number};
 
 use crate::needs::Need;
@@ -104,6 +104,7 @@ fn vector_fault(need: &Need, vector: &Vector) -> Option<Rule>
 pub fn judge_use(token: &Token, age: Option<Age>, need: &Need) -> Result<Judged, Rule>
     ensures judges { Judges (use_checks need.now token.now.vector) result }
     ensures judged { IfOk result (λ judged. judged ≡ record { token = token.now; age = age }) }
+    ensures double { IsTrue need.now.double → IfOk result IsDouble }
 {
     if is_refused_part(need, &token.vector) {
         return Err(Rule::KeyPart);
@@ -119,6 +120,7 @@ fn judge_read(token: &Token, need: &Need, held: &Registers) -> Result<Judged, Ru
     ensures judges { Judges (read_checks need.now held.now token.now) result }
     ensures judged { IfOk result (λ judged. judged ≡ record { token = token.now; age = age_of held.now token.now }) }
     ensures internal { token.now.kind ≡ Kind.Internal → IfOk result (λ judged. IsSome judged.age) }
+    ensures double { IsTrue need.now.double → IfOk result IsDouble }
 {
     if is_refused_part(need, &token.vector) {
         return Err(Rule::KeyPart);
@@ -145,6 +147,7 @@ pub fn judge_key(token: &[u8; 64], need: &Need, held: &Registers) -> Result<Judg
     ensures age { IfOk result (λ judged. judged.age ≡ age_of held.now (token_of token.now)) }
     ensures halves { IfOk result HasHalves }
     ensures internal { need.now.asked ≡ Asked.Internal → IfOk result (λ judged. IsSome judged.age) }
+    ensures double { IsTrue need.now.double → IfOk result IsDouble }
     ensures denoted { (m : Masters) (bench : Bench) → Loaded m held.now bench → need.now.asked ≡ Asked.Internal
         → IfOk result (λ judged. denoted (keys_of m) token.now ≡ opened_key bench judged) }
     ensures denoted_under { (transport : List ℕ) → need.now.asked ≡ Asked.External

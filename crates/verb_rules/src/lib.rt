@@ -6,14 +6,16 @@ mod judging;
 mod lengths;
 mod needs;
 mod rules;
+mod types;
 
-pub use cca_vectors::Usage;
+pub use cca_vectors::{KeyType, Usage};
 pub use classes::Classes;
 pub use judging::{Judged, judge_key, judge_use};
 pub use key_tokens::{Age, Asked};
 pub use lengths::{MacRule, TextUse, judge_mac, judge_text};
 pub use needs::Need;
 pub use rules::Rule;
+pub use types::{judge_length, judge_pair};
 
 #[cfg(test)]
 mod tests;

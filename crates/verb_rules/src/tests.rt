@@ -334,3 +334,31 @@ fn sets_of_classes(rt: HostRuntime) {
         assert_eq!(rt; transport.has(class), wanted, "{class:?}");
     }
 }
+
+#[test]
+fn pairs_of_types(rt: HostRuntime) {
+    for (first, second, wanted) in [
+        (KeyType::Data, KeyType::Data, Ok(())),
+        (KeyType::Macver, KeyType::Mac, Ok(())),
+        (KeyType::Importer, KeyType::Okeyxlat, Ok(())),
+        (KeyType::Data, KeyType::Mac, Err(Rule::Pair)),
+        (KeyType::Exporter, KeyType::Exporter, Err(Rule::Pair)),
+        (KeyType::Exporter, KeyType::Okeyxlat, Err(Rule::Pair)),
+    ] {
+        assert_eq!(rt; judge_pair(first, second), wanted, "{first:?} {second:?}");
+    }
+}
+
+#[test]
+fn lengths_of_types(rt: HostRuntime) {
+    for (kind, length, wanted) in [
+        (KeyType::Data, 8, Ok(())),
+        (KeyType::Data, 16, Ok(())),
+        (KeyType::Data, 24, Err(Rule::KeyLength)),
+        (KeyType::Cipher, 16, Err(Rule::KeyLength)),
+        (KeyType::Exporter, 8, Err(Rule::KeyLength)),
+        (KeyType::Exporter, 16, Ok(())),
+    ] {
+        assert_eq!(rt; judge_length(kind, length), wanted, "{kind:?} {length}");
+    }
+}
