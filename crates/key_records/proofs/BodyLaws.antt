@@ -8,7 +8,8 @@ use Rattle.std.proofs.lemmas.List.{append_assoc, take_at, drop_at, length-append
 use Rattle.std.proofs.lemmas.Slice.Eq.{bytes_eq-Decides}
 use Rattle.byte_lists.specs.Bytes.{AreBytes}
 use Rattle.key_tokens.specs.Denotes.{MasterKeys, Denoted}
-use Rattle.key_records.specs.Labels.{is_label, IsLabel, is_label_byte, starts_label}
+use Rattle.byte_lists.specs.Characters.{is_label_byte}
+use Rattle.key_records.specs.Labels.{is_label, IsLabel, starts_label}
 use Rattle.key_records.specs.Entries.{Entry}
 use Rattle.key_records.specs.RecordBody.{record_body, blank_body, no_token, kept, ReadsEntry, ReadsWhat, label_in, token_in, what_of, IsWhat, entry_in, null_kind, key_kind}
 

@@ -1,12 +1,13 @@
 -- Rows of the memory.
-use Rattle.std.proofs.Common.{◌≡◌, ℕ, zero, suc, List, [], ◌∷◌, ◌++◌, length, take, drop, set, replicate, Option, None, refl, sym, ap, subst, ◌∙◌}
-use Rattle.std.proofs.lemmas.List.{take_at, length-set, length-replicate, map-set}
-use Rattle.key_records.specs.Directory.{AreApart}
+use Rattle.std.proofs.Common.{◌≡◌, ◌<◌, ◌≤◌, ⊎_elim, ℕ, zero, suc, List, [], ◌∷◌, ◌++◌, length, take, drop, set, replicate, Option, None, Some, refl, sym, ap, subst, ◌∙◌, arith}
+use Rattle.std.proofs.lemmas.Bool.{cases_lt}
+use Rattle.std.proofs.lemmas.List.{take_at, length-set, length-replicate, map-set, length-map, get_or_past}
+use Rattle.key_records.specs.Directory.{AreApart, label_at}
 use Rattle.key_records.specs.Entries.{row_directory, row_label}
 use Rattle.key_records.specs.Placed.{placed}
 use Rattle.key_records.specs.Rows.{AreRows, AreListed}
 use Rattle.key_records.specs.declared.rows.Row.{Row}
-use Rattle.key_records.proofs.DirectoryLaws.{apart_blank}
+use Rattle.key_records.proofs.DirectoryLaws.{apart_blank, none_some}
 
 blank_directory : (n : ℕ) → row_directory (replicate n None) ≡ replicate n None
 blank_directory zero = refl
@@ -37,3 +38,10 @@ none_placed = refl
 -- the rows and the directory of no labels
 pub none_listed : (rows directory : List (Option Row)) → rows ≡ replicate 1024 None → directory ≡ placed [] → AreListed rows directory
 none_listed rows directory is none = record { are = blank_rows rows 1024 refl is; same = none ∙ none_placed ∙ sym is }
+
+-- a label that is held stands in one of the cells
+pub held_within : (rows : List (Option Row)) (cell : ℕ) (label : List ℕ) → AreRows rows → label_at (row_directory rows) cell ≡ Some label → cell < 1024
+held_within rows cell label are held =
+    ⊎_elim (λ (within : cell < 1024). within)
+    (λ (past : 1024 ≤ cell). absurd (none_some label (sym (get_or_past (row_directory rows) cell None (omega (arith, length-map rows row_label, are.size))) ∙ held)))
+    (cases_lt cell 1024)

@@ -39,7 +39,8 @@ impl Model for Place {
 }
 
 impl Place {
-    pub(crate) fn cell(self) -> u16
+    /// The number of its cell.
+    pub fn cell(self) -> u16
         ensures { result ≡ self }
     {
         self.cell
@@ -82,6 +83,7 @@ impl Records {
         ensures found { result ≡ cell_of label.now (row_directory self.now) }
         ensures held { IfSome result (λ place.
             label_at (row_directory self.now) place ≡ Some label.now) }
+        ensures within { IfSome result (λ place. place < 1024) }
         ensures few { 2 ^ (steps.new - steps.old) ≤ 2 * held_count (row_directory self.now) + 1 }
         ensures later { steps.old ≤ steps.new }
     {
@@ -91,23 +93,27 @@ impl Records {
         }
     }
 
-    /// The place of a cell, where the cell holds a label. It takes no comparison.
-    pub fn place_in(&self, cell: u16) -> Option<Place>
+    /// The label of a cell, where the cell holds one. It takes no comparison and no memory.
+    pub fn label_in(&self, cell: u16) -> Option<&Label>
         requires { cell < 1024 }
-        ensures found { IfSome result (λ place.
-            (place ≡ cell) × IsSome (label_at (row_directory self.now) cell)) }
+        ensures label { IfSome result (λ label.
+            label_at (row_directory self.now) cell ≡ Some label.now) }
+        ensures found { IfSome result (λ label.
+            cell_of label.now (row_directory self.now) ≡ Some cell) }
         ensures none { IsNone result → label_at (row_directory self.now) cell ≡ None }
     {
         match &self.rows[cell as usize] {
-            Some(_) => Some(Place { cell }),
+            Some(row) => Some(&row.label),
             None => None,
         }
     }
 
     /// How many labels are held.
     pub fn count(&self) -> usize
-        ensures { result ≡ held_count (row_directory self.now) }
+        ensures count { result ≡ held_count (row_directory self.now) }
+        ensures most { result ≤ 1024 }
     {
+        let _rows = &self.rows;
         self.directory.count()
     }
 

@@ -411,11 +411,8 @@ fn labels_in_order(rt: HostRuntime) -> Result<(), Fail> {
     assert!(rt; store.size() == STORE_LEN);
     let records = opened(alloc, &mut store, &mut lease).or_else(|_| Err("not opened"))?;
     assert_eq!(rt; records.count(), 1024);
-    let mut steps: Steps<()> = Steps::new();
-    assert_eq!(rt;
-        records.place_in(2),
-        records.find(&label(b"L0778")?, &mut steps)
-    );
+    assert_eq!(rt; records.label_in(2), Some(&label(b"L0778")?));
+    assert_eq!(rt; Records::new(alloc)?.label_in(2), None);
     for index in 0..1024u16 {
         assert!(rt; usize::from(index) < records.count());
         assert_eq!(rt;
