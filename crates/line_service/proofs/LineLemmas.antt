@@ -110,6 +110,11 @@ module _ (A : Machine) (s : A.State) (K : A.State → Type 0) where
     store_as_before : WhereTold a b (λ i r. EachImage w.store w.store (λ e. IsAroundLine A s w.random (r0.pending ++ i) (λ t. A.InStore t e)))
     store_as_before = told_weaker a b _ _ (λ i r x. each_weaker w.store w.store _ _ (stays_still w stands m d).on_store (λ c h. inl h)) told
 
+    pairs_as_before : WhereTold a b (λ i r. EachPair w.module_ w.module_ w.store w.store (λ c e. IsAroundLine A s w.random (r0.pending ++ i) (Both A c e)))
+    pairs_as_before =
+        let stays = stays_still w stands m d in
+        told_weaker a b _ _ (λ i r x. each_pair w.module_ w.module_ w.store w.store _ _ _ stays.on_module stays.on_store (λ c e h k. inl (h, k))) told
+
     pub line_ended : LineServed A s K (Ok Ended) w w a b p q r0 r1
     line_ended = record {
       replied = λ h. absurd (cc h);
@@ -118,6 +123,7 @@ module _ (A : Machine) (s : A.State) (K : A.State → Type 0) where
       undamaged = λ device cell h. cc h;
       on_module = module_as_before;
       on_store = store_as_before;
+      pairs = pairs_as_before;
       goes_on = (s, stands);
     }
 
@@ -130,6 +136,7 @@ module _ (A : Machine) (s : A.State) (K : A.State → Type 0) where
       undamaged = λ device cell h. no_damage device cell (cc h);
       on_module = module_as_before;
       on_store = store_as_before;
+      pairs = pairs_as_before;
       goes_on = tt;
     }
 
@@ -189,6 +196,26 @@ module _ (A : Machine) (s : A.State) (K : A.State → Type 0) where
             (λ c on. around old.random line ahead rest moves.next (λ t. A.InStore t c) first (leads_one result line reply old new moves) on)
         by_case ahead rest line first (inr stays) = each_weaker old.store new.store _ _ stays.1.on_store (λ c h. inl h)
 
+    around_pairs : (r0 : Reading) (a b : Option (List ℕ)) → WhereTold a b (λ i r. Takes taken (r0.pending ++ i) now (now.pending ++ r))
+        → WhereTold a b (λ i r. EachPair old.module_ new.module_ old.store new.store (λ c d. IsAroundLine A s old.random (r0.pending ++ i) (Both A c d)))
+    around_pairs r0 a b takes =
+        told_weaker a b _ _
+        (λ i r took.
+        let here = line_taken taken (r0.pending ++ i) (now.pending ++ r) now some took in
+        by_case (r0.pending ++ i) (now.pending ++ r) here.line here.takes.first (serves here.line here.is).served)
+        takes
+      where
+        by_case : (ahead rest line : List ℕ) → lines ahead ≡ line ∷ lines rest → Moves A s K line result reply old new ⊎ (OnOk result ⊥ × Stays A s old new)
+            → EachPair old.module_ new.module_ old.store new.store (λ c d. IsAroundLine A s old.random ahead (Both A c d))
+        by_case ahead rest line first (inl moves) = record {
+          later1 = moves.pairs.later1;
+          later2 = moves.pairs.later2;
+          each = λ c d left right.
+              around old.random line ahead rest moves.next (Both A c d) first (leads_one result line reply old new moves) (moves.pairs.each c d left right);
+        }
+        by_case ahead rest line first (inr stays) =
+            each_pair old.module_ new.module_ old.store new.store _ _ _ stays.1.on_module stays.1.on_store (λ c d h k. inl (h, k))
+
   module _ (taken : Taken) (now : Reading) (some : taken ≡ End → ⊥) (reply : List ℕ) (old new : World) (u : Unit {0})
       (serves : (line : List ℕ) → IsTheLine taken now line → Serves A s K line (Ok u) reply old new) where
     goes_on : (t : A.State) × Stands A t K new.module_ new.store
@@ -223,6 +250,7 @@ module _ (A : Machine) (s : A.State) (K : A.State → Type 0) where
       undamaged = λ device cell h. cc h;
       on_module = around_module (Ok u) taken now some reply old new serves r0 a b takes;
       on_store = around_store (Ok u) taken now some reply old new serves r0 a b takes;
+      pairs = around_pairs (Ok u) taken now some reply old new serves r0 a b takes;
       goes_on = goes_on;
     }
 
@@ -252,6 +280,7 @@ module _ (A : Machine) (s : A.State) (K : A.State → Type 0) where
       undamaged = λ device cell h. cc h;
       on_module = around_module (Ok u) taken now some reply old new serves r0 a b takes;
       on_store = around_store (Ok u) taken now some reply old new serves r0 a b takes;
+      pairs = around_pairs (Ok u) taken now some reply old new serves r0 a b takes;
       goes_on = tt;
     }
       where
@@ -305,5 +334,6 @@ module _ (A : Machine) (s : A.State) (K : A.State → Type 0) where
       undamaged = λ device cell h. let same : stop ≡ Damaged device cell = cc h in subst IsLineStop same is_line_stop;
       on_module = around_module (Err stop) taken now some reply old new serves r0 a b takes;
       on_store = around_store (Err stop) taken now some reply old new serves r0 a b takes;
+      pairs = around_pairs (Err stop) taken now some reply old new serves r0 a b takes;
       goes_on = tt;
     }

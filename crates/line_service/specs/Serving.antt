@@ -1,7 +1,7 @@
 -- How far a run has come: what its source gave, what its sink got, and what its disks stand for.
 use Rattle.std.specs.Prelude.{◌≡◌, ◌⊎◌, ℕ, ◌<◌, List, [], ◌∷◌, ◌++◌, length, Bool, Option, IfSome, Ok, Err, Result, OnOk}
 use Rattle.std.specs.Io.KnownBytes.{Consumes}
-use Rattle.slot_disk.specs.Medium.{EachImage, Keeps}
+use Rattle.slot_disk.specs.Medium.{EachImage, EachPair, Keeps}
 use Rattle.slot_disk.specs.WhereTold.{WhereTold}
 use Rattle.script_buffers.specs.Lines.{lines, NoNewline, EndsLine}
 use Rattle.script_buffers.specs.Reading.{TakesLine, Reading, line_limit}
@@ -143,6 +143,9 @@ pub record LineServed (A : Machine) (s : A.State) (K : A.State → Type 0) (resu
       (λ c. IsAroundLine A s old.random (r0.pending ++ i) (λ t. A.InModule t c)))
   pub on_store : WhereTold input rest (λ i r. EachImage old.store new.store
       (λ d. IsAroundLine A s old.random (r0.pending ++ i) (λ t. A.InStore t d)))
+  -- each image of the module at a moment of the call with each of the store stands for the same state
+  pub pairs : WhereTold input rest (λ i r. EachPair old.module_ new.module_ old.store new.store
+      (λ c d. IsAroundLine A s old.random (r0.pending ++ i) (Both A c d)))
   pub goes_on : OnOk result ((t : A.State) × Stands A t K new.module_ new.store)
 
 -- ---- all lines
