@@ -1,0 +1,14 @@
+pub mod Tokens
+pub mod Changes
+pub mod Generated
+pub use Rattle.cca_vectors.specs.Closing
+pub use Rattle.cca_vectors.specs.DefaultVectors
+pub use Rattle.clear_keys.specs.Parity
+pub use Rattle.key_cells.specs.Bench
+pub use Rattle.key_cells.specs.Lease
+pub use Rattle.key_tokens.specs.Denotes
+pub use Rattle.master_registers.specs.Loaded
+pub use Rattle.multi_encipher.specs.Bundles
+pub use Rattle.slot_disk.specs.Faults
+pub use Rattle.verb_rules.specs.Keys
+pub use Rattle.verb_rules.specs.TypeChecks
