@@ -1,0 +1,85 @@
+-- Bytes of cells that a run leaves.
+use Rattle.std.proofs.Common.{◌≡◌, ◌≢◌, ◌≤◌, ◌<◌, ◌+◌, ◌-◌, ◌*◌, ◌%◌, ◌⊎◌, inl, inr, ⊎_elim, ℕ, List, Option, length, min, refl, sym, ap, subst, ◌∙◌, arith}
+use Rattle.std.specs.Prelude.{slice_index, slice_range}
+use Rattle.std.proofs.lemmas.Bool.{cases_lt}
+use Rattle.std.proofs.lemmas.Grind.{same_number_lists}
+use Rattle.slot_disk.specs.Cells.{selected, body_place, body_at, body, other_body, IsUntouched}
+use Rattle.slot_disk.proofs.CellSteps.{length-range, get_or-range, selected_below}
+use Rattle.key_records.specs.Ages.{is_old_entry}
+use Rattle.key_records.specs.Entries.{Entry}
+use Rattle.key_tokens.specs.Denotes.{MasterKeys}
+use Rattle.reencipher.specs.Further.{further}
+use Rattle.reencipher.specs.Runs.{IsOld, LeavesRest, LeavesOld}
+use Rattle.reencipher.specs.Turns.{HoldsTurn, LeavesOther}
+use Rattle.reencipher.proofs.FurtherLaws.{further_here}
+
+-- ---- a cell whose bytes stay
+
+same_selected : (old new : List ℕ) (n : ℕ) → slice_index new (1536 * n) ≡ slice_index old (1536 * n) → selected new n ≡ selected old n
+unfolding selected
+same_selected old new n is = ap (λ b. b % 2) is
+
+same_range : (old new : List ℕ) (at n : ℕ) → length new ≡ length old → ((k : ℕ) → k < n → slice_index new (at + k) ≡ slice_index old (at + k)) → slice_range new at (at + n) ≡ slice_range old at (at + n)
+same_range old new at n long same = same_number_lists (slice_range new at (at + n)) (slice_range old at (at + n))
+    (length-range new at n ∙ ap (λ (l : ℕ). min n (l - at)) long ∙ sym (length-range old at n))
+    (λ k within. let below : k < n = omega (arith, length-range new at n, within) in get_or-range new at n k below ∙ same k below ∙ sym (get_or-range old at n k below))
+
+module _ (old new : List ℕ) (n : ℕ) (long : length new ≡ length old) (same : (k : ℕ) → 1536 * n ≤ k → k < 1536 * n + 1536 → slice_index new k ≡ slice_index old k) where
+  stays_selected : selected new n ≡ selected old n
+  stays_selected = same_selected old new n (same (1536 * n) (omega arith) (omega arith))
+
+  stays_side : (side : ℕ) → side < 2 → body_at new n side ≡ body_at old n side
+  stays_side side low = same_range old new (body_place n side) 192 long (λ k below. same (body_place n side + k) (omega (arith, low, below)) (omega (arith, low, below)))
+
+  stays_body : body new n ≡ body old n
+  unfolding body
+  stays_body = ap (λ s. body_at new n s) stays_selected ∙ stays_side (selected old n) (selected_below old n)
+
+  stays_other : other_body new n ≡ other_body old n
+  unfolding other_body
+  stays_other = ap (λ s. body_at new n (1 - s)) stays_selected ∙ stays_side (1 - selected old n) (omega arith)
+
+-- ---- what a change of another cell doesn't touch
+
+lower_cells : (image : List ℕ) (cell n k : ℕ) → n < cell → 1536 * cell ≤ k → IsUntouched image n k
+lower_cells image cell n k below at =
+    let side : selected image n < 2 = selected_below image n in
+    (λ same. omega (arith, same, below, at), inr (omega (arith, side, below, at)))
+
+higher_cells : (image : List ℕ) (cell n k : ℕ) → n < cell → k < 1536 * n + 1536 → IsUntouched image cell k
+higher_cells image cell n k below at = (λ same. omega (arith, same, below, at), inl (omega (arith, below, at)))
+
+abbrev untouched_by : ℕ → ℕ → ℕ → Type 0
+untouched_by side n k = (k ≢ 1536 * n) × ((k < 1536 * n + 512 * (1 + (1 - side))) ⊎ (1536 * n + 512 * (1 + (1 - side)) + 192 ≤ k))
+
+pub leaves_none : (s : List (Option Entry)) (image : List ℕ) → LeavesRest s 0 image image
+leaves_none s image = record { size = refl; same = λ k untouched. refl }
+
+pub leaves_no_old : (s : List (Option Entry)) (image : List ℕ) → LeavesOld s 0 image image
+leaves_no_old s image n below = absurd (omega (arith, below))
+
+-- a run so far, and one cell's turn
+module _ (masters : MasterKeys) (s : List (Option Entry)) (cell : ℕ) (b c d : List ℕ) (first : LeavesRest s cell b c) (turn : HoldsTurn masters cell (further s cell) c d) where
+  in_cell : (k : ℕ) → 1536 * cell ≤ k → k < 1536 * cell + 1536 → slice_index c k ≡ slice_index b k
+  in_cell k at below = first.same k (λ n under old. lower_cells b cell n k under at)
+
+  pub leaves_more : LeavesRest s (cell + 1) b d
+  leaves_more = record {
+    size = turn.size ∙ first.size;
+    same = λ k untouched.
+        turn.same k (λ old. subst (λ side. untouched_by side cell k) (sym (stays_selected b c cell first.size in_cell))
+        (untouched cell (omega arith) (sym (ap is_old_entry (further_here s cell)) ∙ old)))
+        ∙ first.same k (λ n below. untouched n (omega (arith, below)));
+  }
+
+  pub leaves_more_old : LeavesOld s cell b c → LeavesOther cell (further s cell) c d → LeavesOld s (cell + 1) b d
+  leaves_more_old so_far here n below old = ⊎_elim
+      (λ (under : n < cell). stays_other c d n turn.size (λ k at within. turn.same k (λ now. higher_cells c cell n k under within)) ∙ so_far n under old)
+      (λ (above : cell ≤ n).
+      let is : n ≡ cell = omega (arith, below, above) in
+      subst (λ i. other_body d i ≡ body b i) (sym is)
+      (here (ap is_old_entry (further_here s cell) ∙ subst (IsOld s) is old) ∙ stays_body b c cell first.size in_cell))
+      (cases_lt n cell)
+
+pub leaves_all : (s : List (Option Entry)) (cells : ℕ) (old new : List ℕ) → cells ≤ 1024 → LeavesRest s cells old new → LeavesRest s 1024 old new
+leaves_all s cells old new within rest = record { size = rest.size; same = λ k untouched. rest.same k (λ n below. untouched n (omega (arith, below, within))) }

@@ -1,0 +1,5 @@
+pub mod CellLaws
+pub mod FurtherLaws
+pub mod RunLaws
+pub mod TokenLaws
+pub mod TurnLaws

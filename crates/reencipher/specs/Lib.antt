@@ -1,0 +1,17 @@
+pub mod Further
+pub mod Runs
+pub mod Turns
+pub use Rattle.key_cells.specs.Bench
+pub use Rattle.key_cells.specs.Lease
+pub use Rattle.key_records.specs.Ages
+pub use Rattle.key_records.specs.Changes
+pub use Rattle.key_records.specs.Entries
+pub use Rattle.key_records.specs.StoreStands
+pub use Rattle.key_records.specs.Written
+pub use Rattle.key_tokens.specs.Denotes
+pub use Rattle.master_registers.specs.Loaded
+pub use Rattle.master_registers.specs.Masters
+pub use Rattle.slot_disk.specs.Cells
+pub use Rattle.slot_disk.specs.Faults
+pub use Rattle.slot_disk.specs.Medium
+pub use Rattle.verb_rules.specs.Keys
