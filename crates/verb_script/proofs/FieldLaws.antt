@@ -10,7 +10,7 @@ use Rattle.std.proofs.lemmas.List.Splits.{slice_split_at, slice_split_none}
 use Rattle.std.proofs.lemmas.Option.{cond_some}
 use Rattle.std.proofs.lemmas.Slice.Eq.{starts_is}
 use Rattle.std.proofs.Math.Seq.{drop-append_seam}
-use Rattle.verb_script.specs.Grammar.{Values, role_name, other_role, points, hex_digits, one_of, key_text, hex_text, mac_text, accepts, meaning, meanings, FieldForm, RequestName, Request, fields_text, AreAccepted, IsValue, AreValues}
+use Rattle.verb_script.specs.Grammar.{Values, role_name, other_role, points, hex_digits, one_of, key_text, hex_text, mac_text, label_text, to_text, prefix_text, type_text, accepts, meaning, meanings, FieldForm, RequestName, Request, fields_text, AreAccepted, IsValue, AreValues}
 use Rattle.verb_script.specs.Requests.{words, value_after, field_value, with_front, values_in, request_with}
 use Rattle.verb_script.proofs.PlainRows.{NoSpace, plain_text, ArePlain}
 
@@ -116,6 +116,10 @@ one_value (one_of choices) v h = h
 one_value key_text v h = h
 one_value hex_text v h = h
 one_value mac_text v h = h
+one_value label_text v h = h
+one_value to_text v h = h
+one_value prefix_text v h = h
+one_value type_text v h = h
 
 pub accepted_values : (fs : List FieldForm) (vs : List (List ℕ)) → AreAccepted fs vs → AreValues fs (meanings fs vs)
 accepted_values [] [] h = tt

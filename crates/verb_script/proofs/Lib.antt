@@ -4,4 +4,5 @@ pub mod GrammarLaws
 pub mod PlainRows
 pub mod PointLemmas
 pub mod RowsApart
+pub mod TypeLaws
 pub mod WordLemmas

@@ -1,6 +1,6 @@
 -- No row of the grammar has a space in its verb, in a field's name or in a field's values. Of verbs, names and
 -- words this is computed; each further kind of value has a fact.
-use Rattle.std.proofs.Common.{◌≡◌, ℕ, ◌==◌, ◌&&◌, Bool, true, false, not, List, [], ◌∷◌, ◌++◌, take, drop, codes, refl, sym, ap, subst, inl, inr}
+use Rattle.std.proofs.Common.{◌≡◌, ℕ, ◌==◌, ◌&&◌, Bool, true, false, not, List, [], ◌∷◌, take, drop, codes, refl, sym, ap, subst, inl, inr}
 use Rattle.std.specs.Prelude.{IsTrue, ⊤}
 use Rattle.std.specs.List.{All, list_all, list_any}
 use Rattle.std.specs.Str.{bytes_eq}
@@ -10,8 +10,12 @@ use Rattle.std.proofs.lemmas.List.Elements.{All-nil, All-cons, All-append}
 use Rattle.std.proofs.lemmas.List.{take-append-drop}
 use Rattle.std.proofs.lemmas.Slice.Eq.{bytes_eq-Decides}
 use Rattle.hex.specs.Hex.{is_hex_digit}
+use Rattle.byte_lists.specs.Characters.{is_label_byte}
+use Rattle.verb_script.proofs.TypeLaws.{type_texts, named_text}
 use Rattle.cca_roles.specs.RoleNames.{is_role_name, is_name_byte}
-use Rattle.verb_script.specs.Grammar.{Values, role_name, other_role, points, hex_digits, one_of, key_text, hex_text, mac_text, accepts, is_hex, FieldForm, Row, RequestName, csnbktp, row_of}
+use Rattle.verb_script.specs.Grammar.{Values, role_name, other_role, points, hex_digits, one_of, key_text, hex_text, mac_text, label_text, to_text, prefix_text, type_text, accepts, FieldForm, Row, RequestName, csnbktp, row_of}
+use Rattle.verb_script.specs.Named.{is_visible, is_label_text, is_named, is_token_text}
+use Rattle.verb_script.specs.Values.{is_hex}
 
 -- no space stands in the text
 abbrev pub NoSpace : List ℕ → Type 0
@@ -61,6 +65,10 @@ are_plain_values (one_of choices) = list_all is_plain choices
 are_plain_values key_text = true
 are_plain_values hex_text = true
 are_plain_values mac_text = true
+are_plain_values label_text = true
+are_plain_values to_text = true
+are_plain_values prefix_text = true
+are_plain_values type_text = true
 
 abbrev pub is_plain_field : FieldForm → Bool
 is_plain_field f = is_plain f.name && are_plain_values f.values
@@ -88,11 +96,36 @@ choices_plain (c ∷ cs) v plain h =
 hex_values : (digits : ℕ) (v : List ℕ) → is_hex digits v ≡ true → NoSpace v
 hex_values digits v h = no_space is_hex_digit refl v (and_parts _ (list_all is_hex_digit v) h).1
 
-key_values : (v : List ℕ) → IsTrue (accepts key_text v) → NoSpace v
-key_values v h =
+-- a text of a plain front of two characters and a rest
+fronted : (front : List ℕ) → is_plain front ≡ true → (v : List ℕ) → bytes_eq (take 2 v) front ≡ true → NoSpace (drop 2 v) → NoSpace v
+fronted front plain v same rest =
+    let start : NoSpace (take 2 v) = subst NoSpace (sym ((bytes_eq-Decides (take 2 v) front).0 same)) (plain_text front plain) in
+    subst NoSpace (take-append-drop 2 v) (All-append (λ c. (c == 32) ≡ false) (take 2 v) (drop 2 v) start rest)
+
+label_values : (v : List ℕ) → is_label_text v ≡ true → NoSpace v
+label_values v h = no_space is_visible refl v (and_parts _ (list_all is_visible v) h).1
+
+named_values : (v : List ℕ) → is_named v ≡ true → NoSpace v
+named_values v h =
+    let both = and_parts (bytes_eq (take 2 v) (codes "L:")) (is_label_text (drop 2 v)) h in
+    fronted (codes "L:") refl v both.0 (label_values (drop 2 v) both.1)
+
+token_values : (v : List ℕ) → is_token_text v ≡ true → NoSpace v
+token_values v h =
     let both = and_parts (bytes_eq (take 2 v) (codes "T:")) (is_hex 128 (drop 2 v)) h in
-    let front : NoSpace (take 2 v) = subst NoSpace (sym ((bytes_eq-Decides (take 2 v) (codes "T:")).0 both.0)) (plain_text (codes "T:") refl) in
-    subst NoSpace (take-append-drop 2 v) (All-append (λ c. (c == 32) ≡ false) (take 2 v) (drop 2 v) front (hex_values 128 (drop 2 v) both.1))
+    fronted (codes "T:") refl v both.0 (hex_values 128 (drop 2 v) both.1)
+
+key_values : (v : List ℕ) → IsTrue (accepts key_text v) → NoSpace v
+key_values v h = elim (or_cases (is_token_text v) (is_named v) h) [
+  | inl token ↦ token_values v token
+  | inr named ↦ named_values v named
+]
+
+to_values : (v : List ℕ) → IsTrue (accepts to_text v) → NoSpace v
+to_values v h = elim (or_cases (bytes_eq v (codes "-")) (is_named v) h) [
+  | inl reply ↦ subst NoSpace (sym ((bytes_eq-Decides v (codes "-")).0 reply)) (plain_text (codes "-") refl)
+  | inr named ↦ named_values v named
+]
 
 mac_values : (lengths : List ℕ) (v : List ℕ) → list_any (λ digits. is_hex digits v) lengths ≡ true → NoSpace v
 mac_values [] v h = cc
@@ -110,6 +143,10 @@ values_plain (one_of choices) v plain h = choices_plain choices v plain h
 values_plain key_text v plain h = key_values v h
 values_plain hex_text v plain h = no_space is_hex_digit refl v (and_parts _ (list_all is_hex_digit v) h).1
 values_plain mac_text v plain h = mac_values (8 ∷ 12 ∷ 16 ∷ []) v h
+values_plain label_text v plain h = label_values v h
+values_plain to_text v plain h = to_values v h
+values_plain prefix_text v plain h = no_space is_label_byte refl v (and_parts _ (list_all is_label_byte v) h).1
+values_plain type_text v plain h = choices_plain type_texts v refl (named_text v h)
 
 fields_plain : (fs : List FieldForm) → list_all is_plain_field fs ≡ true → ArePlain fs
 fields_plain [] h = tt

@@ -6,7 +6,7 @@ use Rattle.std.specs.List.{list_all, list_any}
 use Rattle.std.specs.Str.{bytes_eq}
 use Rattle.std.proofs.lemmas.Bool.{and_parts, or_cases, or_parts, not-true}
 use Rattle.std.proofs.lemmas.Slice.Eq.{bytes_eq-Decides}
-use Rattle.verb_script.specs.Grammar.{Values, role_name, other_role, points, hex_digits, one_of, key_text, hex_text, mac_text, accepts, FieldForm, Row, RequestName, csnbktp, row_of, all_requests, Request}
+use Rattle.verb_script.specs.Grammar.{Values, role_name, other_role, points, hex_digits, one_of, key_text, hex_text, mac_text, label_text, to_text, prefix_text, type_text, accepts, FieldForm, Row, RequestName, csnbktp, row_of, all_requests, Request}
 use Rattle.verb_script.specs.Requests.{field_value, value_after, with_front, values_in, request_with, request_in, first_request}
 use Rattle.verb_script.proofs.FieldLaws.{front_parts, value_after_parts, value_after-append, named_parts, test_parts}
 
@@ -20,6 +20,10 @@ are_disjoint (hex_digits digits) values = false
 are_disjoint key_text values = false
 are_disjoint hex_text values = false
 are_disjoint mac_text values = false
+are_disjoint label_text values = false
+are_disjoint to_text values = false
+are_disjoint prefix_text values = false
+are_disjoint type_text values = false
 
 abbrev pub fields_differ : List FieldForm → List FieldForm → Bool
 fields_differ [] [] = false
@@ -58,6 +62,10 @@ disjoint_refused (hex_digits digits) b v h accepted = cc
 disjoint_refused key_text b v h accepted = cc
 disjoint_refused hex_text b v h accepted = cc
 disjoint_refused mac_text b v h accepted = cc
+disjoint_refused label_text b v h accepted = cc
+disjoint_refused to_text b v h accepted = cc
+disjoint_refused prefix_text b v h accepted = cc
+disjoint_refused type_text b v h accepted = cc
 
 field_refused : (f g : FieldForm) (ws : List (List ℕ)) (v : List ℕ) → (bytes_eq f.name g.name && are_disjoint f.values g.values) ≡ true
     → field_value f ws ≡ Some v → field_value g ws ≡ None

@@ -1,17 +1,17 @@
 -- The grammar of request lines: a table of rows. A line is words with one space between them. The first
 -- word is the verb, and each further one is a field's name, an equals sign and the field's value.
-use Rattle.std.specs.Prelude.{◌≡◌, ℕ, ◌==◌, ◌%◌, ◌&&◌, not, Bool, List, [], ◌∷◌, ◌++◌, length, take, drop, codes, IsTrue, ⊤, if◌then◌else◌}
+use Rattle.std.specs.Prelude.{◌≡◌, ℕ, ◌==◌, ◌%◌, ◌&&◌, ◌||◌, nat_le, not, Bool, List, [], ◌∷◌, ◌++◌, length, codes, is_some, IsTrue, ⊤, if◌then◌else◌}
 use Rattle.std.specs.Int.{from_be_bytes, w32}
 use Rattle.std.specs.List.{list_all, list_any}
 use Rattle.std.specs.Str.{bytes_eq}
 use Rattle.hex.specs.Hex.{is_hex_digit}
+use Rattle.byte_lists.specs.Characters.{is_label_byte}
+use Rattle.cca_vectors.specs.KeyTypes.{type_named}
 use Rattle.cca_roles.specs.Points.{are_points}
 use Rattle.cca_roles.specs.RoleNames.{is_role_name, default_name}
+use Rattle.verb_script.specs.Named.{is_label_text, is_named, is_token_text}
 use Rattle.verb_script.specs.Values.{hex_value}
-
--- exactly so many hexadecimal digits, of either case
-abbrev pub is_hex : ℕ → List ℕ → Bool
-is_hex digits text = length text == digits && list_all is_hex_digit text
+pub use Rattle.verb_script.specs.Values.{is_hex}
 
 abbrev pub is_even : ℕ → Bool
 is_even n = n % 2 == 0
@@ -28,12 +28,20 @@ pub data Values : Type 0 where
   hex_digits : ℕ → Values
   -- one of these words
   one_of : List (List ℕ) → Values
-  -- a key token: `T:` and 128 hexadecimal digits
+  -- a key: `T:` and 128 hexadecimal digits, or `L:` and what stands for a label
   key_text : Values
   -- an even number of hexadecimal digits
   hex_text : Values
   -- a message authentication code: 8, 12 or 16 hexadecimal digits
   mac_text : Values
+  -- what stands for a label: one or more characters from X'21' to X'7E'
+  label_text : Values
+  -- where a key goes: `-`, which is into the reply, or `L:` and what stands for a label
+  to_text : Values
+  -- what labels begin with: 0 to 64 characters that may stand in a label
+  prefix_text : Values
+  -- the name of a key type
+  type_text : Values
 
 abbrev pub accepts : Values → List ℕ → Bool
 accepts role_name text = is_role_name text
@@ -41,9 +49,13 @@ accepts other_role text = is_role_name text && not (bytes_eq text default_name)
 accepts points text = is_hex 8 text && are_points (from_be_bytes w32 (hex_value text))
 accepts (hex_digits digits) text = is_hex digits text
 accepts (one_of choices) text = list_any (bytes_eq text) choices
-accepts key_text text = bytes_eq (take 2 text) (codes "T:") && is_hex 128 (drop 2 text)
+accepts key_text text = is_token_text text || is_named text
 accepts hex_text text = is_even (length text) && list_all is_hex_digit text
 accepts mac_text text = list_any (λ digits. is_hex digits text) (8 ∷ 12 ∷ 16 ∷ [])
+accepts label_text text = is_label_text text
+accepts to_text text = bytes_eq text (codes "-") || is_named text
+accepts prefix_text text = nat_le (length text) 64 && list_all is_label_byte text
+accepts type_text text = is_some (type_named text)
 
 -- what a text says: of access control points the four bytes that the digits spell, and else itself
 abbrev pub meaning : Values → List ℕ → List ℕ
@@ -55,6 +67,10 @@ meaning (one_of choices) text = text
 meaning key_text text = text
 meaning hex_text text = text
 meaning mac_text text = text
+meaning label_text text = text
+meaning to_text text = text
+meaning prefix_text text = text
+meaning type_text text = text
 
 -- a field: its name and its values
 pub record FieldForm : Type 0 where
@@ -86,9 +102,34 @@ part_field = digits_field (codes "part") 48
 abbrev pub action_field : List (List ℕ) → FieldForm
 action_field choices = word_field (codes "action") choices
 
--- the token of a key
+-- a key, by its token or by its label
 abbrev pub key_field : FieldForm
 key_field = record { name = codes "key"; values = key_text }
+
+abbrev pub label_field : FieldForm
+label_field = record { name = codes "label"; values = label_text }
+
+-- where a key goes
+abbrev pub to_field : FieldForm
+to_field = record { name = codes "to"; values = to_text }
+
+abbrev pub prefix_field : FieldForm
+prefix_field = record { name = codes "prefix"; values = prefix_text }
+
+-- a key under which another is exported or imported
+abbrev pub transport_field : List ℕ → FieldForm
+transport_field name = record { name = name; values = key_text }
+
+-- a key's length in bytes
+abbrev pub length_field : FieldForm
+length_field = word_field (codes "length") (codes "8" ∷ codes "16" ∷ [])
+
+abbrev pub type_field : List ℕ → FieldForm
+type_field name = record { name = name; values = type_text }
+
+-- for whom keys are generated
+abbrev pub form_field : List (List ℕ) → FieldForm
+form_field choices = word_field (codes "form") choices
 
 -- the first vector of a chain of blocks
 abbrev pub iv_field : FieldForm
@@ -120,6 +161,18 @@ pub data RequestName : Type 0 where
   csnbkyt : RequestName
   csnbcki : RequestName
   csnbrng : RequestName
+  csnbkgn_op : RequestName
+  csnbkgn_pair : RequestName
+  csnbkgn_out : RequestName
+  csnbkim : RequestName
+  csnbkex : RequestName
+  csnbpex : RequestName
+  csnbktc : RequestName
+  csnbkrc : RequestName
+  csnbkrw : RequestName
+  csnbkrr : RequestName
+  csnbkrd : RequestName
+  csnbkrl : RequestName
   csnbmkp_part : RequestName
   csnbmkp_clear : RequestName
   csnbmkp_set : RequestName
@@ -142,12 +195,52 @@ row_of csnbmvr = record {
 row_of csnbkyt = record { verb = codes "CSNBKYT"; fields = role_field ∷ key_field ∷ [] }
 row_of csnbcki = record {
   verb = codes "CSNBCKI";
-  fields = role_field ∷ digits_field (codes "clear") 16 ∷ word_field (codes "to") (codes "-" ∷ []) ∷ [];
+  fields = role_field ∷ digits_field (codes "clear") 16 ∷ to_field ∷ [];
 }
 row_of csnbrng = record {
   verb = codes "CSNBRNG";
-  fields = role_field ∷ word_field (codes "form") (codes "RANDOM" ∷ codes "ODD" ∷ codes "EVEN" ∷ []) ∷ [];
+  fields = role_field ∷ form_field (codes "RANDOM" ∷ codes "ODD" ∷ codes "EVEN" ∷ []) ∷ [];
 }
+row_of csnbkgn_op = record {
+  verb = codes "CSNBKGN";
+  fields = role_field ∷ form_field (codes "OP" ∷ []) ∷ length_field ∷ type_field (codes "type1") ∷ to_field ∷ [];
+}
+row_of csnbkgn_pair = record {
+  verb = codes "CSNBKGN";
+  fields =
+      role_field
+      ∷ form_field (codes "OPEX" ∷ codes "OPIM" ∷ [])
+      ∷ length_field
+      ∷ type_field (codes "type1")
+      ∷ type_field (codes "type2")
+      ∷ transport_field (codes "transport2")
+      ∷ to_field
+      ∷ [];
+}
+row_of csnbkgn_out = record {
+  verb = codes "CSNBKGN";
+  fields =
+      role_field
+      ∷ form_field (codes "IMEX" ∷ codes "EXEX" ∷ codes "IMIM" ∷ [])
+      ∷ length_field
+      ∷ type_field (codes "type1")
+      ∷ type_field (codes "type2")
+      ∷ transport_field (codes "transport1")
+      ∷ transport_field (codes "transport2")
+      ∷ [];
+}
+row_of csnbkim = record { verb = codes "CSNBKIM"; fields = role_field ∷ token_field ∷ transport_field (codes "transport") ∷ to_field ∷ [] }
+row_of csnbkex = record { verb = codes "CSNBKEX"; fields = role_field ∷ key_field ∷ transport_field (codes "transport") ∷ [] }
+row_of csnbpex = record { verb = codes "CSNBPEX"; fields = role_field ∷ key_field ∷ to_field ∷ [] }
+row_of csnbktc = record {
+  verb = codes "CSNBKTC";
+  fields = role_field ∷ word_field (codes "rule") (codes "RTCMK" ∷ codes "RTNMK" ∷ []) ∷ token_field ∷ [];
+}
+row_of csnbkrc = record { verb = codes "CSNBKRC"; fields = role_field ∷ label_field ∷ [] }
+row_of csnbkrw = record { verb = codes "CSNBKRW"; fields = role_field ∷ label_field ∷ token_field ∷ [] }
+row_of csnbkrr = record { verb = codes "CSNBKRR"; fields = role_field ∷ label_field ∷ [] }
+row_of csnbkrd = record { verb = codes "CSNBKRD"; fields = role_field ∷ label_field ∷ [] }
+row_of csnbkrl = record { verb = codes "CSNBKRL"; fields = role_field ∷ prefix_field ∷ [] }
 row_of csnbmkp_part = record {
   verb = codes "CSNBMKP";
   fields = role_field ∷ action_field (codes "FIRST" ∷ codes "MIDDLE" ∷ codes "LAST" ∷ []) ∷ part_field ∷ [];
@@ -163,10 +256,25 @@ row_of csuaaci_remove = record {
   fields = role_field ∷ action_field (codes "REMOVE" ∷ []) ∷ name_field other_role ∷ [];
 }
 
+-- the rows of texts and of single keys
+abbrev pub use_requests : List RequestName
+use_requests = csnbktp ∷ csnbenc ∷ csnbdec ∷ csnbmgn ∷ csnbmvr ∷ csnbkyt ∷ csnbcki ∷ csnbrng ∷ []
+
+-- the rows that make and move keys
+abbrev pub key_requests : List RequestName
+key_requests = csnbkgn_op ∷ csnbkgn_pair ∷ csnbkgn_out ∷ csnbkim ∷ csnbkex ∷ csnbpex ∷ csnbktc ∷ []
+
+-- the rows of key records
+abbrev pub record_requests : List RequestName
+record_requests = csnbkrc ∷ csnbkrw ∷ csnbkrr ∷ csnbkrd ∷ csnbkrl ∷ []
+
+-- the rows of master keys and roles
+abbrev pub control_requests : List RequestName
+control_requests = csnbmkp_part ∷ csnbmkp_clear ∷ csnbmkp_set ∷ csuaaci_define ∷ csuaaci_remove ∷ []
+
 -- the rows in their order; no line spells requests of two rows
 abbrev pub all_requests : List RequestName
-all_requests =
-    csnbktp ∷ csnbenc ∷ csnbdec ∷ csnbmgn ∷ csnbmvr ∷ csnbkyt ∷ csnbcki ∷ csnbrng ∷ csnbmkp_part ∷ csnbmkp_clear ∷ csnbmkp_set ∷ csuaaci_define ∷ csuaaci_remove ∷ []
+all_requests = use_requests ++ (key_requests ++ (record_requests ++ control_requests))
 
 -- a request: its row, and what the row's fields say
 pub record Request : Type 0 where
@@ -209,6 +317,10 @@ IsValue (one_of choices) value = IsTrue (accepts (one_of choices) value)
 IsValue key_text value = IsTrue (accepts key_text value)
 IsValue hex_text value = IsTrue (accepts hex_text value)
 IsValue mac_text value = IsTrue (accepts mac_text value)
+IsValue label_text value = IsTrue (accepts label_text value)
+IsValue to_text value = IsTrue (accepts to_text value)
+IsValue prefix_text value = IsTrue (accepts prefix_text value)
+IsValue type_text value = IsTrue (accepts type_text value)
 
 abbrev pub AreValues : List FieldForm → List (List ℕ) → Type 0
 AreValues [] [] = ⊤

@@ -1,4 +1,5 @@
 pub mod Grammar
+pub mod Named
 pub mod Parsed
 pub mod Requests
 pub mod Values

@@ -1,10 +1,11 @@
 -- A parsed request as the grammar's request.
 use Rattle.std.specs.Int.{to_be_bytes, w32}
 use Rattle.std.specs.Prelude.{[], ◌∷◌, Option, Some, None, Result, Ok, Err}
-use Rattle.verb_script.specs.Grammar.{Request, csnbktp, csnbenc, csnbdec, csnbmgn, csnbmvr, csnbkyt, csnbcki, csnbrng, csnbmkp_part, csnbmkp_clear, csnbmkp_set, csuaaci_define, csuaaci_remove}
+use Rattle.cca_vectors.specs.KeyTypes.{type_name}
+use Rattle.verb_script.specs.Grammar.{Request, csnbktp, csnbenc, csnbdec, csnbmgn, csnbmvr, csnbkyt, csnbcki, csnbrng, csnbkgn_op, csnbkgn_pair, csnbkgn_out, csnbkim, csnbkex, csnbpex, csnbktc, csnbkrc, csnbkrw, csnbkrr, csnbkrd, csnbkrl, csnbmkp_part, csnbmkp_clear, csnbmkp_set, csuaaci_define, csuaaci_remove}
 use Rattle.verb_script.specs.declared.request.FormFault.{FormFault}
 use Rattle.verb_script.specs.declared.request.Request.{Request as Parsed}
-use Rattle.verb_script.specs.declared.request.Request.TheVariants.{Csnbktp, Csnbenc, Csnbdec, Csnbmgn, Csnbmvr, Csnbkyt, Csnbcki, Csnbrng, CsnbmkpPart, CsnbmkpClear, CsnbmkpSet, CsuaaciDefine, CsuaaciRemove}
+use Rattle.verb_script.specs.declared.request.Request.TheVariants.{Csnbktp, Csnbenc, Csnbdec, Csnbmgn, Csnbmvr, Csnbkyt, Csnbcki, Csnbrng, CsnbkgnOp, CsnbkgnPair, CsnbkgnOut, Csnbkim, Csnbkex, Csnbpex, Csnbktc, Csnbkrc, Csnbkrw, Csnbkrr, Csnbkrd, Csnbkrl, CsnbmkpPart, CsnbmkpClear, CsnbmkpSet, CsuaaciDefine, CsuaaciRemove}
 
 abbrev pub seen : Parsed → Request
 seen (Csnbktp role token) = record { name = csnbktp; values = role ∷ token.now ∷ [] }
@@ -15,6 +16,28 @@ seen (Csnbmvr role key rule mac text) = record { name = csnbmvr; values = role �
 seen (Csnbkyt role key) = record { name = csnbkyt; values = role ∷ key.now ∷ [] }
 seen (Csnbcki role clear to) = record { name = csnbcki; values = role ∷ clear.now ∷ to.now ∷ [] }
 seen (Csnbrng role form) = record { name = csnbrng; values = role ∷ form.now ∷ [] }
+seen (CsnbkgnOp role form length type1 to) =
+    record { name = csnbkgn_op; values = role ∷ form.now ∷ length.now ∷ type_name type1 ∷ to.now ∷ [] }
+seen (CsnbkgnPair role form length type1 type2 transport2 to) =
+    record {
+      name = csnbkgn_pair;
+      values = role ∷ form.now ∷ length.now ∷ type_name type1 ∷ type_name type2 ∷ transport2.now ∷ to.now ∷ [];
+    }
+seen (CsnbkgnOut role form length type1 type2 transport1 transport2) =
+    record {
+      name = csnbkgn_out;
+      values = role ∷ form.now ∷ length.now ∷ type_name type1 ∷ type_name type2 ∷ transport1.now ∷ transport2.now ∷ [];
+    }
+seen (Csnbkim role token transport to) =
+    record { name = csnbkim; values = role ∷ token.now ∷ transport.now ∷ to.now ∷ [] }
+seen (Csnbkex role key transport) = record { name = csnbkex; values = role ∷ key.now ∷ transport.now ∷ [] }
+seen (Csnbpex role key to) = record { name = csnbpex; values = role ∷ key.now ∷ to.now ∷ [] }
+seen (Csnbktc role rule token) = record { name = csnbktc; values = role ∷ rule.now ∷ token.now ∷ [] }
+seen (Csnbkrc role label) = record { name = csnbkrc; values = role ∷ label.now ∷ [] }
+seen (Csnbkrw role label token) = record { name = csnbkrw; values = role ∷ label.now ∷ token.now ∷ [] }
+seen (Csnbkrr role label) = record { name = csnbkrr; values = role ∷ label.now ∷ [] }
+seen (Csnbkrd role label) = record { name = csnbkrd; values = role ∷ label.now ∷ [] }
+seen (Csnbkrl role prefix) = record { name = csnbkrl; values = role ∷ prefix.now ∷ [] }
 seen (CsnbmkpPart role action part) = record { name = csnbmkp_part; values = role ∷ action.now ∷ part.now ∷ [] }
 seen (CsnbmkpClear role action) = record { name = csnbmkp_clear; values = role ∷ action.now ∷ [] }
 seen (CsnbmkpSet role action) = record { name = csnbmkp_set; values = role ∷ action.now ∷ [] }

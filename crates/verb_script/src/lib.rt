@@ -2,14 +2,19 @@
 #![tactic(auto)]
 
 mod digits;
+mod labels;
 mod laws;
 mod request;
 mod values;
 mod words;
 
 pub use digits::decode;
+pub use labels::named_label;
 pub use laws::a_line_spells_one_request;
 pub use request::{FormFault, Request, parse_request};
 pub use script_buffers::{
     LINE_LIMIT, LineBuffer, LineFault, REPLY_ROOM, ReplyBuffer, Taken, read_line,
 };
+
+#[cfg(test)]
+mod tests;

@@ -1,19 +1,22 @@
 //! The requests that a line may spell.
-ghost use Rattle.std.specs.Prelude.{◌≡◌, Some, None, [], ◌∷◌, codes, IfOk};
-ghost use Rattle.verb_script.specs.Grammar.{Request as Spelled, Spells, all_requests};
-ghost use Rattle.verb_script.specs.Grammar.{csnbktp as row_csnbktp, csnbenc as row_csnbenc, csnbdec as row_csnbdec, csnbmgn as row_csnbmgn, csnbmvr as row_csnbmvr, csnbkyt as row_csnbkyt, csnbcki as row_csnbcki, csnbrng as row_csnbrng, csnbmkp_part as row_csnbmkp_part, csnbmkp_clear as row_csnbmkp_clear, csnbmkp_set as row_csnbmkp_set, csuaaci_define as row_csuaaci_define, csuaaci_remove as row_csuaaci_remove};
+ghost use Rattle.std.specs.Prelude.{◌≡◌, Some, None, [], ◌∷◌, ◌++◌, codes, IfOk};
+ghost use Rattle.verb_script.specs.Grammar.{Request as Spelled, Spells, all_requests, key_requests, record_requests, control_requests};
+ghost use Rattle.verb_script.specs.Grammar.{csnbktp as row_csnbktp, csnbenc as row_csnbenc, csnbdec as row_csnbdec, csnbmgn as row_csnbmgn, csnbmvr as row_csnbmvr, csnbkyt as row_csnbkyt, csnbcki as row_csnbcki, csnbrng as row_csnbrng, csnbkgn_op as row_csnbkgn_op, csnbkgn_pair as row_csnbkgn_pair, csnbkgn_out as row_csnbkgn_out, csnbkim as row_csnbkim, csnbkex as row_csnbkex, csnbpex as row_csnbpex, csnbktc as row_csnbktc, csnbkrc as row_csnbkrc, csnbkrw as row_csnbkrw, csnbkrr as row_csnbkrr, csnbkrd as row_csnbkrd, csnbkrl as row_csnbkrl, csnbmkp_part as row_csnbmkp_part, csnbmkp_clear as row_csnbmkp_clear, csnbmkp_set as row_csnbmkp_set, csuaaci_define as row_csuaaci_define, csuaaci_remove as row_csuaaci_remove};
 ghost use Rattle.verb_script.specs.Parsed.{answered, seen, seen_option};
 ghost use Rattle.verb_script.specs.Requests.{request_of, row_request, first_request};
 ghost use Rattle.verb_script.specs.Words.{unread};
 
 use crate::words::Words;
 use cca_roles::{AccessPoints, RoleName};
+use cca_vectors::KeyType;
 
 /// The line spells no request.
 #[derive(Debug, Clone, Copy, PartialEq, Eq)]
 pub struct FormFault;
 
-/// A request. A field that is a slice is the part of the line that holds its value.
+/// A request. A field that is a slice is the part of the line that holds its value. A `key` is `T:` and the 128
+/// hexadecimal digits of a token, or `L:` and a label. Where a label is wanted, one or more characters from X'21' to
+/// X'7E' stand, which needn't be a label.
 #[derive(Debug, Clone, Copy, PartialEq, Eq)]
 pub enum Request<'a> {
     /// Key_Token_Parse: a key token, in 128 hexadecimal digits.
@@ -58,7 +61,7 @@ pub enum Request<'a> {
         role: RoleName,
         key: &'a [u8],
     },
-    /// Clear_Key_Import: the token of a clear DATA key.
+    /// Clear_Key_Import: a clear DATA key, in 16 hexadecimal digits; `to` is `-`, or `L:` and a label.
     Csnbcki {
         role: RoleName,
         clear: &'a [u8],
@@ -68,6 +71,85 @@ pub enum Request<'a> {
     Csnbrng {
         role: RoleName,
         form: &'a [u8],
+    },
+    /// Key_Generate OP: a key for here, of 8 or 16 bytes.
+    CsnbkgnOp {
+        role: RoleName,
+        form: &'a [u8],
+        length: &'a [u8],
+        type1: KeyType,
+        to: &'a [u8],
+    },
+    /// Key_Generate OPEX or OPIM: a key for here, and the same key for elsewhere under a transport key.
+    CsnbkgnPair {
+        role: RoleName,
+        form: &'a [u8],
+        length: &'a [u8],
+        type1: KeyType,
+        type2: KeyType,
+        transport2: &'a [u8],
+        to: &'a [u8],
+    },
+    /// Key_Generate IMEX, EXEX or IMIM: a key for elsewhere, twice, each time under a transport key.
+    CsnbkgnOut {
+        role: RoleName,
+        form: &'a [u8],
+        length: &'a [u8],
+        type1: KeyType,
+        type2: KeyType,
+        transport1: &'a [u8],
+        transport2: &'a [u8],
+    },
+    /// Key_Import: an external token, in 128 hexadecimal digits, brought from a transport key under the master key.
+    Csnbkim {
+        role: RoleName,
+        token: &'a [u8],
+        transport: &'a [u8],
+        to: &'a [u8],
+    },
+    /// Key_Export: a key brought from the master key under a transport key.
+    Csnbkex {
+        role: RoleName,
+        key: &'a [u8],
+        transport: &'a [u8],
+    },
+    /// Prohibit_Export: a key that may be exported no longer.
+    Csnbpex {
+        role: RoleName,
+        key: &'a [u8],
+        to: &'a [u8],
+    },
+    /// Key_Token_Change: a token, in 128 hexadecimal digits, brought under the current or the new master key.
+    Csnbktc {
+        role: RoleName,
+        rule: &'a [u8],
+        token: &'a [u8],
+    },
+    /// Key_Record_Create: the label gets a record with no key.
+    Csnbkrc {
+        role: RoleName,
+        label: &'a [u8],
+    },
+    /// Key_Record_Write: the label's record gets the key of a token, in 128 hexadecimal digits.
+    Csnbkrw {
+        role: RoleName,
+        label: &'a [u8],
+        token: &'a [u8],
+    },
+    /// Key_Record_Read: the token of the label's record.
+    Csnbkrr {
+        role: RoleName,
+        label: &'a [u8],
+    },
+    /// Key_Record_Delete: the label and its record are no longer held.
+    Csnbkrd {
+        role: RoleName,
+        label: &'a [u8],
+    },
+    /// Key_Record_List: the labels that begin with the prefix, 0 to 64 characters that may stand in a label.
+    Csnbkrl {
+        role: RoleName,
+        prefix: &'a [u8],
     },
     /// Master_Key_Process FIRST, MIDDLE or LAST: a part of the new master key, in 48 hexadecimal digits.
     CsnbmkpPart {
@@ -202,7 +284,7 @@ fn csnbcki<'a>(mut words: Words<'a>) -> Option<Request<'a>>
 {
     let role = words.role(b"role=")?;
     let clear = words.hex(b"clear=", 16)?;
-    let to = words.choice(b"to=", &[b"-"])?;
+    let to = words.to(b"to=")?;
     words.end()?;
     Some(Request::Csnbcki { role, clear, to })
 }
@@ -215,6 +297,176 @@ fn csnbrng<'a>(mut words: Words<'a>) -> Option<Request<'a>>
     let form = words.choice(b"form=", &[b"RANDOM", b"ODD", b"EVEN"])?;
     words.end()?;
     Some(Request::Csnbrng { role, form })
+}
+
+/// The request of the row CSNBKGN with one key, whose fields the words are.
+fn csnbkgn_op<'a>(mut words: Words<'a>) -> Option<Request<'a>>
+    ensures { seen_option result ≡ row_request row_csnbkgn_op (unread words.entry) }
+{
+    let role = words.role(b"role=")?;
+    let form = words.choice(b"form=", &[b"OP"])?;
+    let length = words.choice(b"length=", &[b"8", b"16"])?;
+    let type1 = words.key_type(b"type1=")?;
+    let to = words.to(b"to=")?;
+    words.end()?;
+    Some(Request::CsnbkgnOp {
+        role,
+        form,
+        length,
+        type1,
+        to,
+    })
+}
+
+/// The request of the row CSNBKGN with a key for here and one for elsewhere, whose fields the words are.
+fn csnbkgn_pair<'a>(mut words: Words<'a>) -> Option<Request<'a>>
+    ensures { seen_option result ≡ row_request row_csnbkgn_pair (unread words.entry) }
+{
+    let role = words.role(b"role=")?;
+    let form = words.choice(b"form=", &[b"OPEX", b"OPIM"])?;
+    let length = words.choice(b"length=", &[b"8", b"16"])?;
+    let type1 = words.key_type(b"type1=")?;
+    let type2 = words.key_type(b"type2=")?;
+    let transport2 = words.key(b"transport2=")?;
+    let to = words.to(b"to=")?;
+    words.end()?;
+    Some(Request::CsnbkgnPair {
+        role,
+        form,
+        length,
+        type1,
+        type2,
+        transport2,
+        to,
+    })
+}
+
+/// The request of the row CSNBKGN with both keys for elsewhere, whose fields the words are.
+fn csnbkgn_out<'a>(mut words: Words<'a>) -> Option<Request<'a>>
+    ensures { seen_option result ≡ row_request row_csnbkgn_out (unread words.entry) }
+{
+    let role = words.role(b"role=")?;
+    let form = words.choice(b"form=", &[b"IMEX", b"EXEX", b"IMIM"])?;
+    let length = words.choice(b"length=", &[b"8", b"16"])?;
+    let type1 = words.key_type(b"type1=")?;
+    let type2 = words.key_type(b"type2=")?;
+    let transport1 = words.key(b"transport1=")?;
+    let transport2 = words.key(b"transport2=")?;
+    words.end()?;
+    Some(Request::CsnbkgnOut {
+        role,
+        form,
+        length,
+        type1,
+        type2,
+        transport1,
+        transport2,
+    })
+}
+
+/// The request of the row CSNBKIM, whose fields the words are.
+fn csnbkim<'a>(mut words: Words<'a>) -> Option<Request<'a>>
+    ensures { seen_option result ≡ row_request row_csnbkim (unread words.entry) }
+{
+    let role = words.role(b"role=")?;
+    let token = words.hex(b"token=", 128)?;
+    let transport = words.key(b"transport=")?;
+    let to = words.to(b"to=")?;
+    words.end()?;
+    Some(Request::Csnbkim {
+        role,
+        token,
+        transport,
+        to,
+    })
+}
+
+/// The request of the row CSNBKEX, whose fields the words are.
+fn csnbkex<'a>(mut words: Words<'a>) -> Option<Request<'a>>
+    ensures { seen_option result ≡ row_request row_csnbkex (unread words.entry) }
+{
+    let role = words.role(b"role=")?;
+    let key = words.key(b"key=")?;
+    let transport = words.key(b"transport=")?;
+    words.end()?;
+    Some(Request::Csnbkex {
+        role,
+        key,
+        transport,
+    })
+}
+
+/// The request of the row CSNBPEX, whose fields the words are.
+fn csnbpex<'a>(mut words: Words<'a>) -> Option<Request<'a>>
+    ensures { seen_option result ≡ row_request row_csnbpex (unread words.entry) }
+{
+    let role = words.role(b"role=")?;
+    let key = words.key(b"key=")?;
+    let to = words.to(b"to=")?;
+    words.end()?;
+    Some(Request::Csnbpex { role, key, to })
+}
+
+/// The request of the row CSNBKTC, whose fields the words are.
+fn csnbktc<'a>(mut words: Words<'a>) -> Option<Request<'a>>
+    ensures { seen_option result ≡ row_request row_csnbktc (unread words.entry) }
+{
+    let role = words.role(b"role=")?;
+    let rule = words.choice(b"rule=", &[b"RTCMK", b"RTNMK"])?;
+    let token = words.hex(b"token=", 128)?;
+    words.end()?;
+    Some(Request::Csnbktc { role, rule, token })
+}
+
+/// The request of the row CSNBKRC, whose fields the words are.
+fn csnbkrc<'a>(mut words: Words<'a>) -> Option<Request<'a>>
+    ensures { seen_option result ≡ row_request row_csnbkrc (unread words.entry) }
+{
+    let role = words.role(b"role=")?;
+    let label = words.label(b"label=")?;
+    words.end()?;
+    Some(Request::Csnbkrc { role, label })
+}
+
+/// The request of the row CSNBKRW, whose fields the words are.
+fn csnbkrw<'a>(mut words: Words<'a>) -> Option<Request<'a>>
+    ensures { seen_option result ≡ row_request row_csnbkrw (unread words.entry) }
+{
+    let role = words.role(b"role=")?;
+    let label = words.label(b"label=")?;
+    let token = words.hex(b"token=", 128)?;
+    words.end()?;
+    Some(Request::Csnbkrw { role, label, token })
+}
+
+/// The request of the row CSNBKRR, whose fields the words are.
+fn csnbkrr<'a>(mut words: Words<'a>) -> Option<Request<'a>>
+    ensures { seen_option result ≡ row_request row_csnbkrr (unread words.entry) }
+{
+    let role = words.role(b"role=")?;
+    let label = words.label(b"label=")?;
+    words.end()?;
+    Some(Request::Csnbkrr { role, label })
+}
+
+/// The request of the row CSNBKRD, whose fields the words are.
+fn csnbkrd<'a>(mut words: Words<'a>) -> Option<Request<'a>>
+    ensures { seen_option result ≡ row_request row_csnbkrd (unread words.entry) }
+{
+    let role = words.role(b"role=")?;
+    let label = words.label(b"label=")?;
+    words.end()?;
+    Some(Request::Csnbkrd { role, label })
+}
+
+/// The request of the row CSNBKRL, whose fields the words are.
+fn csnbkrl<'a>(mut words: Words<'a>) -> Option<Request<'a>>
+    ensures { seen_option result ≡ row_request row_csnbkrl (unread words.entry) }
+{
+    let role = words.role(b"role=")?;
+    let prefix = words.prefix(b"prefix=")?;
+    words.end()?;
+    Some(Request::Csnbkrl { role, prefix })
 }
 
 /// The request of the row CSNBMKP with a part, whose fields the words are.
@@ -301,8 +553,73 @@ fn csnbmkp<'a>(words: Words<'a>) -> Option<Request<'a>>
     csnbmkp_set(words)
 }
 
-/// The request of this verb whose fields the words are. It costs at most a comparison with each
-/// verb of the grammar.
+/// The request of the first of CSNBKGN's rows whose fields the words are. A row that the words aren't is given
+/// up at the form, so that a key is read once.
+fn csnbkgn<'a>(words: Words<'a>) -> Option<Request<'a>>
+    ensures { seen_option result ≡ first_request (row_csnbkgn_op ∷ row_csnbkgn_pair ∷ row_csnbkgn_out ∷ []) (codes "CSNBKGN" ∷ unread words.entry) }
+{
+    if let Some(request) = csnbkgn_op(words) {
+        return Some(request);
+    }
+    if let Some(request) = csnbkgn_pair(words) {
+        return Some(request);
+    }
+    csnbkgn_out(words)
+}
+
+/// The request of this verb of master keys or roles, whose fields the words are.
+fn control_request<'a>(verb: &[u8], words: Words<'a>) -> Option<Request<'a>>
+    ensures { seen_option result ≡ first_request control_requests (verb.now ∷ unread words.entry) }
+{
+    if verb == b"CSNBMKP".as_slice() {
+        csnbmkp(words)
+    } else if verb == b"CSUAACI".as_slice() {
+        csuaaci(words)
+    } else {
+        None
+    }
+}
+
+/// The request of this verb of key records, or of a verb further down, whose fields the words are.
+fn record_request<'a>(verb: &[u8], words: Words<'a>) -> Option<Request<'a>>
+    ensures { seen_option result ≡ first_request (record_requests ++ control_requests) (verb.now ∷ unread words.entry) }
+{
+    if verb == b"CSNBKRC".as_slice() {
+        csnbkrc(words)
+    } else if verb == b"CSNBKRW".as_slice() {
+        csnbkrw(words)
+    } else if verb == b"CSNBKRR".as_slice() {
+        csnbkrr(words)
+    } else if verb == b"CSNBKRD".as_slice() {
+        csnbkrd(words)
+    } else if verb == b"CSNBKRL".as_slice() {
+        csnbkrl(words)
+    } else {
+        control_request(verb, words)
+    }
+}
+
+/// The request of this verb that makes or moves keys, or of a verb further down, whose fields the words are.
+fn key_request<'a>(verb: &[u8], words: Words<'a>) -> Option<Request<'a>>
+    ensures { seen_option result ≡ first_request (key_requests ++ (record_requests ++ control_requests)) (verb.now ∷ unread words.entry) }
+{
+    if verb == b"CSNBKGN".as_slice() {
+        csnbkgn(words)
+    } else if verb == b"CSNBKIM".as_slice() {
+        csnbkim(words)
+    } else if verb == b"CSNBKEX".as_slice() {
+        csnbkex(words)
+    } else if verb == b"CSNBPEX".as_slice() {
+        csnbpex(words)
+    } else if verb == b"CSNBKTC".as_slice() {
+        csnbktc(words)
+    } else {
+        record_request(verb, words)
+    }
+}
+
+/// The request of this verb whose fields the words are. It costs at most a comparison with each verb of the
+/// grammar.
 fn request_of_verb<'a>(verb: &[u8], words: Words<'a>) -> Option<Request<'a>>
     ensures { seen_option result ≡ first_request all_requests (verb.now ∷ unread words.entry) }
 {
@@ -322,12 +639,8 @@ fn request_of_verb<'a>(verb: &[u8], words: Words<'a>) -> Option<Request<'a>>
         csnbcki(words)
     } else if verb == b"CSNBRNG".as_slice() {
         csnbrng(words)
-    } else if verb == b"CSNBMKP".as_slice() {
-        csnbmkp(words)
-    } else if verb == b"CSUAACI".as_slice() {
-        csuaaci(words)
     } else {
-        None
+        key_request(verb, words)
     }
 }
 
@@ -357,212 +670,4 @@ pub fn parse_request(line: &[u8]) -> Result<Request<'_>, FormFault>
     ensures only { (request : Spelled) → Spells request line.now → answered result ≡ Some request }
 {
     parsed(line)
-}
-
-#[cfg(test)]
-mod tests {
-    use super::*;
-
-    const TOKEN: &[u8] =
-        b"020000000000c00000000000000000008ca64de9c1b123a700000000000000000000000000000000000000000000000000000000000000000000000050583190";
-
-    const PART: &[u8] = b"0102030405060708090A0b0c0d0e0f101112131415161718";
-
-    // The role's name; of another text DEFAULT, which the tests here would notice.
-    fn name_of(text: &[u8]) -> RoleName {
-        RoleName::read(text).unwrap_or(RoleName::default_role())
-    }
-
-    // Whether the line is parsed as this request.
-    fn is_parsed(line: &[u8], request: &Request) -> bool {
-        match parse_request(line) {
-            Ok(parsed) => parsed == *request,
-            Err(_) => false,
-        }
-    }
-
-    #[test]
-    fn lines_over_keys_are_parsed(rt: HostRuntime) {
-        let role = RoleName::default_role();
-        let key: &[u8] =
-            b"T:020000000000c00000000000000000008ca64de9c1b123a700000000000000000000000000000000000000000000000000000000000000000000000050583190";
-        let lines: [(&[u8], Request); 7] = [
-            (
-                b"CSNBENC role=DEFAULT key=T:020000000000c00000000000000000008ca64de9c1b123a700000000000000000000000000000000000000000000000000000000000000000000000050583190 iv=0000000000000000 pad=NONE text=0123456789abcdef",
-                Request::Csnbenc {
-                    role,
-                    key,
-                    iv: b"0000000000000000",
-                    pad: b"NONE",
-                    text: b"0123456789abcdef",
-                },
-            ),
-            (
-                b"CSNBDEC role=DEFAULT key=T:020000000000c00000000000000000008ca64de9c1b123a700000000000000000000000000000000000000000000000000000000000000000000000050583190 iv=fedcba9876543210 pad=X9.23 text=",
-                Request::Csnbdec {
-                    role,
-                    key,
-                    iv: b"fedcba9876543210",
-                    pad: b"X9.23",
-                    text: b"",
-                },
-            ),
-            (
-                b"CSNBMGN role=DEFAULT key=T:020000000000c00000000000000000008ca64de9c1b123a700000000000000000000000000000000000000000000000000000000000000000000000050583190 rule=X9.9-1 length=4 text=00",
-                Request::Csnbmgn {
-                    role,
-                    key,
-                    rule: b"X9.9-1",
-                    length: b"4",
-                    text: b"00",
-                },
-            ),
-            (
-                b"CSNBMVR role=DEFAULT key=T:020000000000c00000000000000000008ca64de9c1b123a700000000000000000000000000000000000000000000000000000000000000000000000050583190 rule=X9.19OPT mac=0123456789AB text=00",
-                Request::Csnbmvr {
-                    role,
-                    key,
-                    rule: b"X9.19OPT",
-                    mac: b"0123456789AB",
-                    text: b"00",
-                },
-            ),
-            (
-                b"CSNBKYT role=DEFAULT key=T:020000000000c00000000000000000008ca64de9c1b123a700000000000000000000000000000000000000000000000000000000000000000000000050583190",
-                Request::Csnbkyt { role, key },
-            ),
-            (
-                b"CSNBCKI role=DEFAULT clear=0123456789abcdef to=-",
-                Request::Csnbcki {
-                    role,
-                    clear: b"0123456789abcdef",
-                    to: b"-",
-                },
-            ),
-            (
-                b"CSNBRNG role=DEFAULT form=EVEN",
-                Request::Csnbrng {
-                    role,
-                    form: b"EVEN",
-                },
-            ),
-        ];
-        for (line, request) in lines.iter() {
-            assert!(rt; is_parsed(line, request));
-        }
-    }
-
-    #[test]
-    fn lines_of_each_row_are_parsed(rt: HostRuntime) {
-        let role = RoleName::default_role();
-        let teller = name_of(b"TELLER");
-        let lines: [(&[u8], Request); 9] = [
-            (
-                b"CSNBKTP role=DEFAULT token=020000000000c00000000000000000008ca64de9c1b123a700000000000000000000000000000000000000000000000000000000000000000000000050583190",
-                Request::Csnbktp { role, token: TOKEN },
-            ),
-            (
-                b"CSNBMKP role=DEFAULT action=FIRST part=0102030405060708090A0b0c0d0e0f101112131415161718",
-                Request::CsnbmkpPart {
-                    role,
-                    action: b"FIRST",
-                    part: PART,
-                },
-            ),
-            (
-                b"CSNBMKP role=DEFAULT action=MIDDLE part=0102030405060708090A0b0c0d0e0f101112131415161718",
-                Request::CsnbmkpPart {
-                    role,
-                    action: b"MIDDLE",
-                    part: PART,
-                },
-            ),
-            (
-                b"CSNBMKP role=DEFAULT action=LAST part=0102030405060708090A0b0c0d0e0f101112131415161718",
-                Request::CsnbmkpPart {
-                    role,
-                    action: b"LAST",
-                    part: PART,
-                },
-            ),
-            (
-                b"CSNBMKP role=DEFAULT action=CLEAR",
-                Request::CsnbmkpClear {
-                    role,
-                    action: b"CLEAR",
-                },
-            ),
-            (
-                b"CSNBMKP role=DEFAULT action=SET",
-                Request::CsnbmkpSet {
-                    role,
-                    action: b"SET",
-                },
-            ),
-            (
-                b"CSUAACI role=DEFAULT action=DEFINE name=TELLER points=03Ff000F",
-                Request::CsuaaciDefine {
-                    role,
-                    action: b"DEFINE",
-                    name: teller,
-                    points: AccessPoints::from_bits(0x03ff_000f).unwrap_or(AccessPoints::empty()),
-                },
-            ),
-            (
-                b"CSUAACI role=TELLER action=DEFINE name=DEFAULT points=00000000",
-                Request::CsuaaciDefine {
-                    role: teller,
-                    action: b"DEFINE",
-                    name: role,
-                    points: AccessPoints::empty(),
-                },
-            ),
-            (
-                b"CSUAACI role=DEFAULT action=REMOVE name=TELLER",
-                Request::CsuaaciRemove {
-                    role,
-                    action: b"REMOVE",
-                    name: teller,
-                },
-            ),
-        ];
-        for (line, request) in lines.iter() {
-            assert!(rt; is_parsed(line, request));
-        }
-    }
-
-    #[test]
-    fn other_lines_are_no_requests(rt: HostRuntime) {
-        let lines: [&[u8]; 26] = [
-            b"",
-            b"CSNBKTP",
-            b"CSNBKTP role=DEFAULT token=0200",
-            b"CSNBKTP role=DEFAULT  token=0200",
-            b"csnbktp role=DEFAULT",
-            b"CSNBKYT role=DEFAULT key=L:K",
-            b"CSNBMKP role=DEFAULT",
-            b"CSNBMKP role=DEFAULT action=",
-            b"CSNBMKP role=DEFAULT action=NEXT",
-            b"CSNBMKP role=DEFAULT action=set",
-            b"CSNBMKP role=DEFAULT action=SETS",
-            b"CSNBMKP action=SET role=DEFAULT",
-            b"CSNBMKP role=DEFAULT action=SET\r",
-            b"CSNBMKP role=DEFAULT action=FIRST",
-            b"CSNBMKP role=DEFAULT action=FIRST part=0102030405060708090a0b0c0d0e0f10111213141516171",
-            b"CSNBMKP role=DEFAULT action=FIRST part=0102030405060708090a0b0c0d0e0f1011121314151617180",
-            b"CSNBKYT role=DEFAULT key=T:00",
-            b"CSNBRNG role=DEFAULT form=NONE",
-            b"CSNBCKI role=DEFAULT clear=0123456789abcdef to=",
-            b"CSNBENC role=DEFAULT key=T:020000000000c00000000000000000008ca64de9c1b123a700000000000000000000000000000000000000000000000000000000000000000000000050583190 iv=0000000000000000 pad=NONE text=0",
-            b"CSUAACI role=DEFAULT action=REMOVE name=DEFAULT",
-            b"CSUAACI role=DEFAULT action=REMOVE name=teller",
-            b"CSUAACI role=DEFAULT action=DEFINE name=TELLER points=04000000",
-            b"CSUAACI role=DEFAULT action=DEFINE name=TELLER points=f",
-            b"CSUAACI role=DEFAULT action=DEFINE name=TELLER",
-            b"CSNBMKP role=DEFAULT action=CLEAR part=0102030405060708090a0b0c0d0e0f101112131415161718",
-        ];
-        for line in lines {
-            assert!(rt; parse_request(line) == Err(FormFault));
-        }
-    }
 }

@@ -1,19 +1,23 @@
 //! The words of a request line, and the fields in them.
-ghost use Rattle.std.specs.Prelude.{◌≡◌, ◌<◌, ℕ, get_or, IsTrue, ◌==◌, nat_eq, [], ◌∷◌, drop, length, Some, None, option_copied, MatchOption, position, if◌then◌else◌};
+ghost use Rattle.std.specs.Prelude.{◌≡◌, ◌<◌, ℕ, get_or, IsTrue, ◌==◌, nat_eq, [], ◌∷◌, drop, length, Some, None, option_copied, MatchOption, is_some, position, if◌then◌else◌};
 ghost use Rattle.std.specs.List.{position_or_len, starts_with};
 ghost use Rattle.std.specs.Int.{to_be_bytes, from_be_bytes, w32};
 ghost use Rattle.std.specs.Option.{option_map};
 ghost use Rattle.std.specs.Str.{bytes_eq};
 ghost use Rattle.cca_roles.specs.Points.{are_points};
 ghost use Rattle.cca_roles.specs.RoleNames.{default_name};
-ghost use Rattle.verb_script.specs.Grammar.{role_name, other_role, points, hex_digits, one_of, key_text, hex_text, mac_text, is_hex};
-ghost use Rattle.verb_script.specs.Values.{hex_value};
+ghost use Rattle.cca_vectors.specs.KeyTypes.{type_name, type_named};
+ghost use Rattle.verb_script.specs.Grammar.{role_name, other_role, points, hex_digits, one_of, key_text, hex_text, mac_text, label_text, to_text, prefix_text, type_text};
+ghost use Rattle.verb_script.specs.Values.{is_hex, hex_value};
 ghost use Rattle.verb_script.specs.Requests.{words, value_after, first_value, at_end};
 ghost use Rattle.verb_script.specs.Words.{words_left, unread, texts};
 
 use crate::digits::decode;
-use crate::values::{is_hex_of, is_hex_text, is_key, is_mac, is_one_of};
+use crate::values::{
+    is_hex_of, is_hex_text, is_key, is_label_text, is_mac, is_one_of, is_prefix, is_to,
+};
 use cca_roles::{AccessPoints, RoleName};
+use cca_vectors::KeyType;
 
 /// The place of the first space.
 fn space_in(text: &[u8]) -> Option<usize>
@@ -120,7 +124,7 @@ fn choice_in<'a>(word: &'a [u8], prefix: &[u8], choices: &[&[u8]]) -> Option<&'a
     }
 }
 
-/// The key token in a word that is the prefix and that token.
+/// The key in a word that is the prefix and that key, by its token or by its label.
 fn key_in<'a>(word: &'a [u8], prefix: &[u8]) -> Option<&'a [u8]>
     ensures { option_copied result ≡ value_after prefix.now key_text word.now }
 {
@@ -148,6 +152,50 @@ fn mac_in<'a>(word: &'a [u8], prefix: &[u8]) -> Option<&'a [u8]>
         Some(value) if is_mac(value) => Some(value),
         _ => None,
     }
+}
+
+/// What stands for a label, in a word that is the prefix and that text.
+fn label_in<'a>(word: &'a [u8], prefix: &[u8]) -> Option<&'a [u8]>
+    ensures { option_copied result ≡ value_after prefix.now label_text word.now }
+{
+    match after(word, prefix) {
+        Some(value) if is_label_text(value) => Some(value),
+        _ => None,
+    }
+}
+
+/// Where a key goes, in a word that is the prefix and that text.
+fn to_in<'a>(word: &'a [u8], prefix: &[u8]) -> Option<&'a [u8]>
+    ensures { option_copied result ≡ value_after prefix.now to_text word.now }
+{
+    match after(word, prefix) {
+        Some(value) if is_to(value) => Some(value),
+        _ => None,
+    }
+}
+
+/// What labels begin with, in a word that is the prefix and that text.
+fn prefix_in<'a>(word: &'a [u8], prefix: &[u8]) -> Option<&'a [u8]>
+    ensures { option_copied result ≡ value_after prefix.now prefix_text word.now }
+{
+    match after(word, prefix) {
+        Some(value) if is_prefix(value) => Some(value),
+        _ => None,
+    }
+}
+
+/// The key type of this name.
+fn type_of(name: &[u8]) -> Option<KeyType>
+    ensures { option_map type_name result ≡ (if is_some (type_named name.now) then Some name.now else None) }
+{
+    KeyType::read(name)
+}
+
+/// The key type in a word that is the prefix and the type's name.
+fn key_type_in(word: &[u8], prefix: &[u8]) -> Option<KeyType>
+    ensures { option_map type_name result ≡ value_after prefix.now type_text word.now }
+{
+    type_of(after(word, prefix)?)
 }
 
 /// The words of a line that aren't read yet.
@@ -208,7 +256,7 @@ impl<'a> Words<'a> {
         hex_in(self.next()?, prefix, digits)
     }
 
-    /// The key token in the next word, which is the prefix and that token.
+    /// The key in the next word, which is the prefix and that key, by its token or by its label.
     pub(crate) fn key(&mut self, prefix: &[u8]) -> Option<&'a [u8]>
         ensures value { option_copied result ≡ first_value prefix.now key_text (unread self.old) }
         ensures rest { unread self.new ≡ drop 1 (unread self.old) }
@@ -230,6 +278,39 @@ impl<'a> Words<'a> {
         ensures rest { unread self.new ≡ drop 1 (unread self.old) }
     {
         mac_in(self.next()?, prefix)
+    }
+
+    /// What stands for a label, in the next word, which is the prefix and that text.
+    pub(crate) fn label(&mut self, prefix: &[u8]) -> Option<&'a [u8]>
+        ensures value { option_copied result ≡ first_value prefix.now label_text (unread self.old) }
+        ensures rest { unread self.new ≡ drop 1 (unread self.old) }
+    {
+        label_in(self.next()?, prefix)
+    }
+
+    /// Where a key goes, in the next word, which is the prefix and that text.
+    pub(crate) fn to(&mut self, prefix: &[u8]) -> Option<&'a [u8]>
+        ensures value { option_copied result ≡ first_value prefix.now to_text (unread self.old) }
+        ensures rest { unread self.new ≡ drop 1 (unread self.old) }
+    {
+        to_in(self.next()?, prefix)
+    }
+
+    /// What labels begin with, in the next word, which is the prefix and that text.
+    pub(crate) fn prefix(&mut self, prefix: &[u8]) -> Option<&'a [u8]>
+        ensures value { option_copied result ≡ first_value prefix.now prefix_text (unread self.old) }
+        ensures rest { unread self.new ≡ drop 1 (unread self.old) }
+    {
+        prefix_in(self.next()?, prefix)
+    }
+
+    /// The key type in the next word, which is the prefix and the type's name.
+    pub(crate) fn key_type(&mut self, prefix: &[u8]) -> Option<KeyType>
+        ensures value { option_map type_name result
+            ≡ first_value prefix.now type_text (unread self.old) }
+        ensures rest { unread self.new ≡ drop 1 (unread self.old) }
+    {
+        key_type_in(self.next()?, prefix)
     }
 
     /// The choice in the next word, which is the prefix and one of the choices.

@@ -1,4 +1,4 @@
-use Rattle.std.proofs.Common.{◌≡◌, ◌∙◌, ◌<◌, ℕ, length, get_or, sym, ap, subst, cond, Some, None, rules}
+use Rattle.std.proofs.Common.{◌≡◌, length, subst, cond, Some, None, rules}
 use Rattle.std.specs.Int.{to_be_bytes, from_be_bytes, w32}
 use Rattle.std.specs.Option.{option_map}
 use Rattle.cca_roles.specs.Points.{are_points}
