@@ -11,14 +11,24 @@ use Rattle.key_tokens.specs.declared.key_token.Token.{Token}
 use Rattle.key_tokens.specs.Fields.{token_of}
 use Rattle.script_buffers.specs.Replies.{Reply, Refused, Done, Field, Hex, Text, Number}
 use Rattle.master_registers.specs.Masters.{NewRegister, Empty, Partial, Full, Masters}
-use Rattle.verb_script.specs.Grammar.{Request, RequestName, csnbktp, csnbenc, csnbdec, csnbmgn, csnbmvr, csnbkyt, csnbcki, csnbrng, csnbmkp_part, csnbmkp_clear, csnbmkp_set, csuaaci_define, csuaaci_remove, value_of}
+use Rattle.key_records.specs.Changes.{created, written, deleted}
+use Rattle.key_records.specs.Directory.{free_cell}
+use Rattle.key_records.specs.Entries.{Entry, directory}
+use Rattle.key_tokens.specs.Denotes.{ClearKey, Denoted}
+use Rattle.cca_vectors.specs.declared.key_type.KeyType.{KeyType}
+use Rattle.key_transport.specs.Generated.{generated_key}
+use Rattle.key_transport.specs.Tokens.{as_current, closed_key, changed_token, external_token}
+use Rattle.verb_script.specs.Named.{label_named}
+use Rattle.verb_script.specs.Grammar.{Request, RequestName, csnbktp, csnbenc, csnbdec, csnbmgn, csnbmvr, csnbkyt, csnbcki, csnbrng, csnbkgn_op, csnbkgn_pair, csnbkgn_out, csnbkim, csnbkex, csnbpex, csnbktc, csnbkrc, csnbkrw, csnbkrr, csnbkrd, csnbkrl, csnbmkp_part, csnbmkp_clear, csnbmkp_set, csuaaci_define, csuaaci_remove, value_of}
 use Rattle.cca_roles.specs.Roles.{define_place, after_define, remove_place, after_remove}
 use Rattle.cca_machine.specs.State.{State}
 use Rattle.cca_machine.specs.Actions.{part_action}
 use Rattle.master_registers.specs.Actions.{after_action}
 use Rattle.master_registers.specs.declared.actions.Action.TheVariants.{Clear, Set}
-use Rattle.cca_machine.specs.Choices.{pad_named, mac_rule_named, mac_length_named, form_named}
-use Rattle.cca_machine.specs.Keys.{key_of_request, any_old, warning}
+use Rattle.cca_machine.specs.Choices.{pad_named, mac_rule_named, mac_length_named, form_named, key_length_named, type_in, target_named}
+use Rattle.cca_machine.specs.Ageing.{aged}
+use Rattle.cca_machine.specs.Keys.{key_in_field, imported, key_of_request, key_of_token, key_of_label, cell_with, or_no_key, any_old, warning}
+use Rattle.cca_machine.specs.Listing.{label_fields}
 use Rattle.cca_machine.specs.Operands.{operands, listed}
 use Rattle.cca_machine.specs.Verdict.{Refusal, bytes_in, verdict}
 use Rattle.cipher_verbs.specs.CipherTexts.{enciphered_text, deciphered_text, test_value}
@@ -31,12 +41,18 @@ use Rattle.verb_rules.specs.Keys.{keys_of, token_for}
 pub data Effect : Type 0 where
   -- a reply alone
   Show : List Field → Effect
-  -- the registers become these
-  Become : Masters → Effect
+  -- the registers and the labels become these
+  Become : Masters → List (Option Entry) → Effect
   -- the role of this name has these access control points
   DefineRole : List ℕ → ℕ → Effect
   -- the role of this name is no longer held
   RemoveRole : List ℕ → Effect
+  -- this label is held, with nothing in its record
+  Create : List ℕ → Effect
+  -- the record of this label has this key, whatever it had; the reply has these fields
+  Write : List ℕ → Denoted → List Field → Effect
+  -- the label is no longer held
+  Delete : List ℕ → Effect
 
 -- ---- the reply to CSNBKTP
 
@@ -82,6 +98,25 @@ yes_or_no false = codes "no"
 abbrev pub points_in : Request → ℕ
 points_in request = from_be_bytes w32 (value_of request (codes "points"))
 
+-- a key goes into the record of a label; or into the reply, as a token in a field of this name. Further fields follow.
+abbrev pub delivered_with : State → List ℕ → Option (List ℕ) → Denoted → List Field → Effect
+delivered_with s field None key fields = Show (Hex field (token_for (keys_of s.registers) key) ∷ fields)
+delivered_with s field (Some label) key fields = Write label key (Text (codes "stored") label ∷ fields)
+
+abbrev pub delivered : State → List ℕ → Option (List ℕ) → Denoted → Effect
+delivered s field to key = delivered_with s field to key []
+
+-- the types of a request's two generated keys
+abbrev pub type1_of : Request → KeyType
+type1_of r = type_in (value_of r (codes "type1"))
+
+abbrev pub type2_of : Request → KeyType
+type2_of r = type_in (value_of r (codes "type2"))
+
+-- the external token of a key under the transport key of a field
+abbrev pub token_out : State → Request → List ℕ → ClearKey → List ℕ
+token_out s r field clear = external_token (key_in_field s r field).key clear
+
 -- with the random bytes that it draws
 abbrev pub effect : State → List ℕ → RequestName → Request → Effect
 effect s drawn csnbktp r = Show (token_fields (token_of (bytes_in r (codes "token"))))
@@ -96,11 +131,32 @@ effect s drawn csnbmvr r =
     Show (Text (codes "match") (yes_or_no
     (is_code (mac_rule_named (value_of r (codes "rule"))) (key_of_request s r) (bytes_in r (codes "text")) (bytes_in r (codes "mac")))) ∷ [])
 effect s drawn csnbkyt r = Show (Hex (codes "value") (test_value (key_of_request s r)) ∷ [])
-effect s drawn csnbcki r = Show (Hex (codes "token") (token_for (keys_of s.registers) (imported_key (bytes_in r (codes "clear")))) ∷ [])
+effect s drawn csnbcki r = delivered s (codes "token") (label_named (value_of r (codes "to"))) (imported_key (bytes_in r (codes "clear")))
 effect s drawn csnbrng r = Show (Hex (codes "random") (in_form (form_named (value_of r (codes "form"))) drawn) ∷ [])
-effect s drawn csnbmkp_part r = Become (after_action (part_action (value_of r (codes "action"))) (bytes_in r (codes "part")) s.registers)
-effect s drawn csnbmkp_clear r = Become (after_action Clear [] s.registers)
-effect s drawn csnbmkp_set r = Become (after_action Set [] s.registers)
+effect s drawn csnbkgn_op r =
+    delivered s (codes "token1") (label_named (value_of r (codes "to"))) (as_current (generated_key (type1_of r) drawn))
+effect s drawn csnbkgn_pair r =
+    delivered_with s (codes "token1") (label_named (value_of r (codes "to"))) (as_current (generated_key (type1_of r) drawn))
+    (Hex (codes "token2") (token_out s r (codes "transport2") (generated_key (type2_of r) drawn)) ∷ [])
+effect s drawn csnbkgn_out r = Show (
+    Hex (codes "token1") (token_out s r (codes "transport1") (generated_key (type1_of r) drawn))
+    ∷ Hex (codes "token2") (token_out s r (codes "transport2") (generated_key (type2_of r) drawn))
+    ∷ [])
+effect s drawn csnbkim r =
+    delivered s (codes "token") (label_named (value_of r (codes "to")))
+    (as_current (imported (key_in_field s r (codes "transport")) (bytes_in r (codes "token"))))
+effect s drawn csnbkex r = Show (Hex (codes "token") (token_out s r (codes "transport") (key_of_request s r)) ∷ [])
+effect s drawn csnbpex r = delivered s (codes "token") (label_named (value_of r (codes "to"))) (as_current (closed_key (key_of_request s r)))
+effect s drawn csnbktc r = Show (Hex (codes "token")
+    (changed_token s.registers (target_named (value_of r (codes "rule"))) (or_no_key (key_of_token s (bytes_in r (codes "token")))).clear) ∷ [])
+effect s drawn csnbkrc r = Create (value_of r (codes "label"))
+effect s drawn csnbkrw r = Write (value_of r (codes "label")) (or_no_key (key_of_token s (bytes_in r (codes "token")))) []
+effect s drawn csnbkrr r = Show (Hex (codes "token") (token_for (keys_of s.registers) (or_no_key (key_of_label s (value_of r (codes "label"))))) ∷ [])
+effect s drawn csnbkrd r = Delete (value_of r (codes "label"))
+effect s drawn csnbkrl r = Show (label_fields (value_of r (codes "prefix")) (directory s.labels))
+effect s drawn csnbmkp_part r = Become (after_action (part_action (value_of r (codes "action"))) (bytes_in r (codes "part")) s.registers) s.labels
+effect s drawn csnbmkp_clear r = Become (after_action Clear [] s.registers) s.labels
+effect s drawn csnbmkp_set r = Become (after_action Set [] s.registers) (aged s.labels)
 effect s drawn csuaaci_define r = DefineRole (value_of r (codes "name")) (points_in r)
 effect s drawn csuaaci_remove r = RemoveRole (value_of r (codes "name"))
 
@@ -114,6 +170,18 @@ draws csnbmvr r = 0
 draws csnbkyt r = 0
 draws csnbcki r = 0
 draws csnbrng r = 8
+draws csnbkgn_op r = key_length_named (value_of r (codes "length"))
+draws csnbkgn_pair r = key_length_named (value_of r (codes "length"))
+draws csnbkgn_out r = key_length_named (value_of r (codes "length"))
+draws csnbkim r = 0
+draws csnbkex r = 0
+draws csnbpex r = 0
+draws csnbktc r = 0
+draws csnbkrc r = 0
+draws csnbkrw r = 0
+draws csnbkrr r = 0
+draws csnbkrd r = 0
+draws csnbkrl r = 0
 draws csnbmkp_part r = 0
 draws csnbmkp_clear r = 0
 draws csnbmkp_set r = 0
@@ -127,6 +195,8 @@ pub record Outcome : Type 0 where
   pub reply : Reply
   -- the cell of the module that is written
   pub module_cell : Option ℕ
+  -- the cell of the store that is written
+  pub store_cell : Option ℕ
   -- what else a stop on the way may leave: of a request that writes many cells, the state after some of them
   pub between : ℕ → State
 
@@ -136,24 +206,51 @@ new_name Empty = codes "empty"
 new_name (Partial bytes) = codes "partial"
 new_name (Full bytes) = codes "full"
 
+abbrev pub written_in : Option ℕ → Denoted → List (Option Entry) → List (Option Entry)
+written_in None key labels = labels
+written_in (Some cell) key labels = written cell key labels
+
+abbrev pub deleted_in : Option ℕ → List (Option Entry) → List (Option Entry)
+deleted_in None labels = labels
+deleted_in (Some cell) labels = deleted cell labels
+
 abbrev pub state_after : State → Effect → State
 state_after s (Show fields) = s
-state_after s (Become m) = record s { registers = m }
+state_after s (Become m labels) = record s { registers = m; labels = labels }
 state_after s (DefineRole name points) = record s { roles = after_define name points s.roles }
 state_after s (RemoveRole name) = record s { roles = after_remove name s.roles }
+state_after s (Create label) = record s { labels = created label s.labels }
+state_after s (Write label key fields) = record s { labels = written_in (cell_with s label) key s.labels }
+state_after s (Delete label) = record s { labels = deleted_in (cell_with s label) s.labels }
 
 abbrev pub fields_after : State → Effect → List Field
 fields_after s (Show fields) = fields
-fields_after s (Become m) = Text (codes "new") (new_name m.coming) ∷ []
+fields_after s (Become m labels) = Text (codes "new") (new_name m.coming) ∷ []
 fields_after s (DefineRole name points) = []
 fields_after s (RemoveRole name) = []
+fields_after s (Create label) = []
+fields_after s (Write label key fields) = fields
+fields_after s (Delete label) = []
 
 -- the registers stand in cell 0, the roles in the cells behind it
 abbrev pub cell_after : State → Effect → Option ℕ
 cell_after s (Show fields) = None
-cell_after s (Become m) = Some 0
+cell_after s (Become m labels) = Some 0
 cell_after s (DefineRole name points) = Some (define_place name s.roles + 1)
 cell_after s (RemoveRole name) = Some (remove_place name s.roles + 1)
+cell_after s (Create label) = None
+cell_after s (Write label key fields) = None
+cell_after s (Delete label) = None
+
+-- each label stands in a cell of the store
+abbrev pub store_cell_after : State → Effect → Option ℕ
+store_cell_after s (Show fields) = None
+store_cell_after s (Become m labels) = None
+store_cell_after s (DefineRole name points) = None
+store_cell_after s (RemoveRole name) = None
+store_cell_after s (Create label) = Some (free_cell (directory s.labels))
+store_cell_after s (Write label key fields) = cell_with s label
+store_cell_after s (Delete label) = cell_with s label
 
 -- the reply ends with the warning
 abbrev pub effected : State → Request → Effect → Outcome
@@ -161,12 +258,13 @@ effected s request e = record {
   state = state_after s e;
   reply = Done (fields_after s e ++ warning (any_old s (listed (operands request))));
   module_cell = cell_after s e;
+  store_cell = store_cell_after s e;
   between = λ k. s;
 }
 
 -- a refusal changes nothing
 abbrev pub refused : State → Refusal → Outcome
-refused s r = record { state = s; reply = Refused r.rule r.operand; module_cell = None; between = λ k. s }
+refused s r = record { state = s; reply = Refused r.rule r.operand; module_cell = None; store_cell = None; between = λ k. s }
 
 abbrev pub or_act : Option Refusal → State → List ℕ → Request → Outcome
 or_act (Some r) s drawn request = refused s r

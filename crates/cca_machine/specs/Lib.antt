@@ -1,8 +1,10 @@
 pub mod Act
 pub mod Actions
+pub mod Ageing
 pub mod Choices
 pub mod Keys
 pub mod Lines
+pub mod Listing
 pub mod Operands
 pub mod Points
 pub mod Session

@@ -1,15 +1,19 @@
 -- The operands of a request that name a key or a label, as a table.
-use Rattle.std.specs.Prelude.{ℕ, false, List, [], ◌∷◌, codes, Option, None, Some}
-use Rattle.verb_script.specs.Grammar.{Request, RequestName, csnbktp, csnbenc, csnbdec, csnbmgn, csnbmvr, csnbkyt, csnbcki, csnbrng, csnbmkp_part, csnbmkp_clear, csnbmkp_set, csuaaci_define, csuaaci_remove, value_of}
+use Rattle.std.specs.Prelude.{ℕ, Bool, true, false, ◌||◌, is_some, List, [], ◌∷◌, codes, Option, None, Some}
+use Rattle.verb_script.specs.Grammar.{Request, RequestName, csnbktp, csnbenc, csnbdec, csnbmgn, csnbmvr, csnbkyt, csnbcki, csnbrng, csnbkgn_op, csnbkgn_pair, csnbkgn_out, csnbkim, csnbkex, csnbpex, csnbktc, csnbkrc, csnbkrw, csnbkrr, csnbkrd, csnbkrl, csnbmkp_part, csnbmkp_clear, csnbmkp_set, csuaaci_define, csuaaci_remove, value_of}
 use Rattle.cca_vectors.specs.declared.key_class.Class.{Class}
-use Rattle.cca_vectors.specs.declared.key_class.Class.TheVariants.{Data, Cipher, Mac, Exporter, Importer}
+use Rattle.cca_vectors.specs.declared.key_class.Class.TheVariants.{Data, Cipher, Mac, Exporter, Importer, Other}
 use Rattle.cca_vectors.specs.declared.key_usage.Usage.{Usage}
-use Rattle.cca_vectors.specs.declared.key_usage.Usage.TheVariants.{Encipher, Decipher, MacGenerate, MacVerify}
-use Rattle.key_tokens.specs.declared.key_token.Asked.TheVariants.{Internal}
+use Rattle.cca_vectors.specs.declared.key_usage.Usage.TheVariants.{Encipher, Decipher, MacGenerate, MacVerify, Transport, PairOperational, PairImportExport, PairSame}
+use Rattle.key_tokens.specs.declared.key_token.Asked.TheVariants.{Internal, External}
+use Rattle.key_transport.specs.declared.generating.Form.{Form}
+use Rattle.key_transport.specs.declared.generating.Form.TheVariants.{Op, Opex, Opim, Imex, Exex, Imim}
+use Rattle.verb_script.specs.Named.{label_named}
 use Rattle.verb_rules.specs.Classes.{classes_of}
 use Rattle.verb_rules.specs.declared.needs.Need.{Need}
+use Rattle.cca_machine.specs.Choices.{pair_form_named, out_form_named}
 use Rattle.cca_machine.specs.declared.asking.Ask.{Ask}
-use Rattle.cca_machine.specs.declared.asking.Ask.TheVariants.{AnyToken, Key, Nothing}
+use Rattle.cca_machine.specs.declared.asking.Ask.TheVariants.{AnyToken, Key, Token, External as ExternalToken, Record, Held, NewLabel, Target, Nothing}
 
 -- the name of a field, its text, and what is asked of it
 pub record Operand : Type 0 where
@@ -35,6 +39,12 @@ no_operands = record { first = no_operand; second = no_operand; third = no_opera
 abbrev pub one_operand : Operand → Operands
 one_operand o = record { first = o; second = no_operand; third = no_operand }
 
+abbrev pub two_operands : Operand → Operand → Operands
+two_operands o p = record { first = o; second = p; third = no_operand }
+
+abbrev pub three_operands : Operand → Operand → Operand → Operands
+three_operands o p q = record { first = o; second = p; third = q }
+
 -- an internal key of one of these classes that permits a use
 abbrev pub internal_key : List Class → Option Usage → Need
 internal_key classes usage = record { asked = Internal; classes = classes_of classes; usage = usage; export = false; double = false; parts = false }
@@ -42,6 +52,42 @@ internal_key classes usage = record { asked = Internal; classes = classes_of cla
 -- every class but OTHER
 abbrev pub five_classes : List Class
 five_classes = Data ∷ Cipher ∷ Mac ∷ Exporter ∷ Importer ∷ []
+
+abbrev pub every_class : List Class
+every_class = Data ∷ Cipher ∷ Mac ∷ Exporter ∷ Importer ∷ Other ∷ []
+
+-- any internal key, also one that is a part
+abbrev pub any_key : Need
+any_key = record { asked = Internal; classes = classes_of every_class; usage = None; export = false; double = false; parts = true }
+
+-- an internal key of any class that may be exported
+abbrev pub exported_key : Need
+exported_key = record { asked = Internal; classes = classes_of every_class; usage = None; export = true; double = false; parts = false }
+
+-- an external token of any class
+abbrev pub external_key : Need
+external_key = record { asked = External; classes = classes_of every_class; usage = None; export = false; double = false; parts = false }
+
+-- a transport key of double length: of this class, and permitted for this use
+abbrev pub transport_key : Class → Usage → Need
+transport_key class use_of = record { asked = Internal; classes = classes_of (class ∷ []); usage = Some use_of; export = false; double = true; parts = false }
+
+-- the transport keys of two keys that are generated together, by the form
+abbrev pub first_transport : Form → Need
+first_transport Op = transport_key Importer PairImportExport
+first_transport Opex = transport_key Importer PairImportExport
+first_transport Opim = transport_key Importer PairImportExport
+first_transport Imex = transport_key Importer PairImportExport
+first_transport Exex = transport_key Exporter PairSame
+first_transport Imim = transport_key Importer PairSame
+
+abbrev pub second_transport : Form → Need
+second_transport Op = transport_key Exporter PairOperational
+second_transport Opex = transport_key Exporter PairOperational
+second_transport Opim = transport_key Importer PairOperational
+second_transport Imex = transport_key Exporter PairImportExport
+second_transport Exex = transport_key Exporter PairSame
+second_transport Imim = transport_key Importer PairSame
 
 abbrev pub key_operand : Request → List Class → Option Usage → Operands
 key_operand r classes usage = one_operand (operand r (codes "key") (Key (internal_key classes usage)))
@@ -54,8 +100,24 @@ operands_of csnbdec r = key_operand r (Data ∷ Cipher ∷ []) (Some Decipher)
 operands_of csnbmgn r = key_operand r (Data ∷ Mac ∷ []) (Some MacGenerate)
 operands_of csnbmvr r = key_operand r (Data ∷ Mac ∷ []) (Some MacVerify)
 operands_of csnbkyt r = key_operand r five_classes None
-operands_of csnbcki r = no_operands
+operands_of csnbcki r = one_operand (operand r (codes "to") Target)
 operands_of csnbrng r = no_operands
+operands_of csnbkgn_op r = one_operand (operand r (codes "to") Target)
+operands_of csnbkgn_pair r = two_operands (operand r (codes "transport2") (Key (second_transport (pair_form_named (value_of r (codes "form"))))))
+    (operand r (codes "to") Target)
+operands_of csnbkgn_out r = two_operands (operand r (codes "transport1") (Key (first_transport (out_form_named (value_of r (codes "form"))))))
+    (operand r (codes "transport2") (Key (second_transport (out_form_named (value_of r (codes "form"))))))
+operands_of csnbkim r = three_operands (operand r (codes "token") (ExternalToken external_key))
+    (operand r (codes "transport") (Key (transport_key Importer Transport))) (operand r (codes "to") Target)
+operands_of csnbkex r = two_operands (operand r (codes "key") (Key exported_key))
+    (operand r (codes "transport") (Key (transport_key Exporter Transport)))
+operands_of csnbpex r = two_operands (operand r (codes "key") (Key (internal_key five_classes None))) (operand r (codes "to") Target)
+operands_of csnbktc r = one_operand (operand r (codes "token") (Token any_key))
+operands_of csnbkrc r = one_operand (operand r (codes "label") NewLabel)
+operands_of csnbkrw r = two_operands (operand r (codes "label") Held) (operand r (codes "token") (Token any_key))
+operands_of csnbkrr r = one_operand (operand r (codes "label") Record)
+operands_of csnbkrd r = one_operand (operand r (codes "label") Held)
+operands_of csnbkrl r = no_operands
 operands_of csnbmkp_part r = no_operands
 operands_of csnbmkp_clear r = no_operands
 operands_of csnbmkp_set r = no_operands
@@ -67,3 +129,20 @@ operands request = operands_of request.name request
 
 abbrev pub listed : Operands → List Operand
 listed os = os.first ∷ os.second ∷ os.third ∷ []
+
+-- the operand is a label
+abbrev pub is_named_by : List ℕ → Ask → Bool
+is_named_by text AnyToken = false
+is_named_by text (Key need) = is_some (label_named text)
+is_named_by text (Token need) = false
+is_named_by text (ExternalToken need) = false
+is_named_by text Record = true
+is_named_by text Held = true
+is_named_by text NewLabel = true
+is_named_by text Target = is_some (label_named text)
+is_named_by text Nothing = false
+
+-- one of the operands is a label
+abbrev pub names_label : List Operand → Bool
+names_label [] = false
+names_label (o ∷ os) = is_named_by o.text o.ask || names_label os

@@ -1,32 +1,43 @@
 -- The verdict on a request: the first rule that it breaks, with the operand that breaks it. The rules stand in tables, and
 -- each is asked as the tables say. A rule that needs an earlier one doesn't fail where that one does.
-use Rattle.std.specs.Prelude.{ℕ, ◌/◌, Bool, true, false, not, ◌&&◌, is_none, List, [], ◌∷◌, length, codes, Option, Some, None}
+use Rattle.std.specs.Prelude.{ℕ, ◌/◌, ◌==◌, bit_or, Bool, true, false, not, ◌&&◌, is_none, is_some, List, [], ◌∷◌, ◌++◌, length, codes, Option, Some, None}
 use Rattle.cca_vectors.specs.Checks.{Check, check, first_failing}
 use Rattle.cca_roles.specs.Points.{includes}
 use Rattle.cca_roles.specs.Roles.{points_of, define_refused, remove_refused}
 use Rattle.cca_machine.specs.Points.{point}
 use Rattle.key_tokens.specs.TokenChecks.{token_checks}
 use Rattle.key_tokens.specs.declared.key_token.Asked.TheVariants.{Either}
-use Rattle.verb_script.specs.Grammar.{Request, RequestName, csnbktp, csnbenc, csnbdec, csnbmgn, csnbmvr, csnbkyt, csnbcki, csnbrng, csnbmkp_part, csnbmkp_clear, csnbmkp_set, csuaaci_define, csuaaci_remove, value_of}
+use Rattle.verb_script.specs.Grammar.{Request, RequestName, csnbktp, csnbenc, csnbdec, csnbmgn, csnbmvr, csnbkyt, csnbcki, csnbrng, csnbkgn_op, csnbkgn_pair, csnbkgn_out, csnbkim, csnbkex, csnbpex, csnbktc, csnbkrc, csnbkrw, csnbkrr, csnbkrd, csnbkrl, csnbmkp_part, csnbmkp_clear, csnbmkp_set, csuaaci_define, csuaaci_remove, value_of}
+use Rattle.verb_script.specs.Named.{label_named}
 use Rattle.verb_script.specs.Values.{hex_value}
 use Rattle.cca_vectors.specs.Vectors.{length_of}
+use Rattle.cca_vectors.specs.declared.key_type.KeyType.{KeyType}
 use Rattle.cipher_verbs.specs.CipherTexts.{enciphering, pad_checks}
 use Rattle.cipher_verbs.specs.declared.padding.Pad.{Pad}
+use Rattle.key_records.specs.Ages.{any_old as any_old_label}
+use Rattle.key_records.specs.Directory.{free_cell}
+use Rattle.key_records.specs.Entries.{directory}
+use Rattle.key_records.specs.Labels.{is_label}
 use Rattle.key_tokens.specs.Denotes.{ClearKey}
 use Rattle.master_registers.specs.Loaded.{registers_of}
-use Rattle.verb_rules.specs.KeyChecks.{key_checks}
+use Rattle.verb_rules.specs.KeyChecks.{key_checks, use_checks}
 use Rattle.verb_rules.specs.LengthChecks.{text_checks, mac_checks}
+use Rattle.verb_rules.specs.TypeChecks.{pair_checks, length_checks}
+use Rattle.key_transport.specs.declared.changing.Target.{Target}
+use Rattle.key_transport.specs.declared.changing.Target.TheVariants.{Current, New}
+use Rattle.master_registers.specs.Masters.{set_refused}
 use Rattle.verb_rules.specs.declared.lengths.MacRule.{MacRule}
+use Rattle.verb_rules.specs.declared.needs.Need.{Need}
 use Rattle.verb_rules.specs.declared.lengths.TextUse.TheVariants.{Decipher, Mac}
 use Rattle.cca_machine.specs.State.{State}
-use Rattle.cca_machine.specs.Choices.{pad_named, mac_rule_named}
-use Rattle.cca_machine.specs.Keys.{key_bytes, key_of_request}
+use Rattle.cca_machine.specs.Choices.{pad_named, mac_rule_named, key_length_named, type_in, target_named}
+use Rattle.cca_machine.specs.Keys.{key_bytes, key_of_request, key_of_label, cell_with, or_no_key}
 use Rattle.cca_machine.specs.Operands.{Operand, operands, listed}
 use Rattle.cca_machine.specs.Actions.{part_action, action_checks}
 use Rattle.master_registers.specs.declared.actions.Action.{Action}
 use Rattle.master_registers.specs.declared.actions.Action.TheVariants.{First, Middle, Last, Clear, Set}
 use Rattle.cca_machine.specs.declared.asking.Ask.{Ask}
-use Rattle.cca_machine.specs.declared.asking.Ask.TheVariants.{AnyToken, Key, Nothing}
+use Rattle.cca_machine.specs.declared.asking.Ask.TheVariants as ask
 
 -- rules that are asked of one operand, in their order; where they speak of the line or of the request as
 -- a whole, the operand is `-`
@@ -70,6 +81,18 @@ needs_master csnbmvr = true
 needs_master csnbkyt = true
 needs_master csnbcki = true
 needs_master csnbrng = false
+needs_master csnbkgn_op = true
+needs_master csnbkgn_pair = true
+needs_master csnbkgn_out = true
+needs_master csnbkim = true
+needs_master csnbkex = true
+needs_master csnbpex = true
+needs_master csnbktc = true
+needs_master csnbkrc = false
+needs_master csnbkrw = true
+needs_master csnbkrr = true
+needs_master csnbkrd = false
+needs_master csnbkrl = false
 needs_master csnbmkp_part = false
 needs_master csnbmkp_clear = false
 needs_master csnbmkp_set = false
@@ -84,6 +107,19 @@ action_points Last = point (codes "MK_COMBINE")
 action_points Clear = point (codes "MK_CLEAR")
 action_points Set = point (codes "MK_SET")
 
+abbrev pub points_for : Option (List ℕ) → ℕ
+points_for None = 0
+points_for (Some label) = point (codes "KRW")
+
+-- a key that goes into a record needs the point of CSNBKRW too
+abbrev pub target_points : List ℕ → ℕ
+target_points to = points_for (label_named to)
+
+-- RTCMK or RTNMK
+abbrev pub change_points : Target → ℕ
+change_points Current = point (codes "KTC_CURRENT")
+change_points New = point (codes "KTC_NEW")
+
 abbrev pub needed_points : RequestName → Request → ℕ
 needed_points csnbktp r = 0
 needed_points csnbenc r = point (codes "ENC")
@@ -91,8 +127,20 @@ needed_points csnbdec r = point (codes "DEC")
 needed_points csnbmgn r = point (codes "MGN")
 needed_points csnbmvr r = point (codes "MVR")
 needed_points csnbkyt r = point (codes "KYT")
-needed_points csnbcki r = point (codes "CKI")
+needed_points csnbcki r = bit_or (point (codes "CKI")) (target_points (value_of r (codes "to")))
 needed_points csnbrng r = point (codes "RNG")
+needed_points csnbkgn_op r = bit_or (point (codes "KGN_OP")) (target_points (value_of r (codes "to")))
+needed_points csnbkgn_pair r = bit_or (point (codes "KGN_PAIR")) (target_points (value_of r (codes "to")))
+needed_points csnbkgn_out r = point (codes "KGN_OUT")
+needed_points csnbkim r = bit_or (point (codes "KIM")) (target_points (value_of r (codes "to")))
+needed_points csnbkex r = point (codes "KEX")
+needed_points csnbpex r = bit_or (point (codes "PEX")) (target_points (value_of r (codes "to")))
+needed_points csnbktc r = change_points (target_named (value_of r (codes "rule")))
+needed_points csnbkrc r = point (codes "KRC")
+needed_points csnbkrw r = point (codes "KRW")
+needed_points csnbkrr r = point (codes "KRR")
+needed_points csnbkrd r = point (codes "KRD")
+needed_points csnbkrl r = point (codes "KRL")
 needed_points csnbmkp_part r = action_points (part_action (value_of r (codes "action")))
 needed_points csnbmkp_clear r = action_points Clear
 needed_points csnbmkp_set r = action_points Set
@@ -126,11 +174,39 @@ bytes_in request name = hex_value (value_of request name)
 abbrev pub text_size : Request → ℕ
 text_size request = length (value_of request (codes "text")) / 2
 
--- what is asked of an operand: of a key token rules 09 to 16, of a key rules 09 to 22
+-- rule 06: the text is no label
+abbrev pub label_check : List ℕ → Check
+label_check label = check 6 (not (is_label label))
+
+-- and rule 07: no record has the label
+abbrev pub held_checks : State → List ℕ → List Check
+held_checks s label = label_check label ∷ check 7 (is_none (cell_with s label)) ∷ []
+
+-- and rule 08: its record is null
+abbrev pub record_checks : State → List ℕ → List Check
+record_checks s label = label_check label ∷ check 7 (is_none (cell_with s label)) ∷ check 8 (is_none (key_of_label s label)) ∷ []
+
+-- of a key by its label rules 06 to 08, 17 and 19 to 22; of a token rules 09 to 22
+abbrev pub key_questions : State → Need → Option (List ℕ) → List ℕ → List Check
+key_questions s need None text = key_checks need (registers_of s.registers) (key_bytes text)
+key_questions s need (Some label) text = record_checks s label ++ use_checks need (or_no_key (key_of_label s label)).clear.vector
+
+-- where a key goes: nothing is asked where that is the reply
+abbrev pub target_checks : State → Option (List ℕ) → List Check
+target_checks s None = []
+target_checks s (Some label) = held_checks s label
+
+-- what is asked of an operand
 abbrev pub operand_checks : State → List ℕ → Ask → List Check
-operand_checks s text AnyToken = token_checks Either (hex_value text)
-operand_checks s text (Key need) = key_checks need (registers_of s.registers) (key_bytes text)
-operand_checks s text Nothing = []
+operand_checks s text ask.AnyToken = token_checks Either (hex_value text)
+operand_checks s text (ask.Key need) = key_questions s need (label_named text) text
+operand_checks s text (ask.Token need) = key_checks need (registers_of s.registers) (hex_value text)
+operand_checks s text (ask.External need) = key_checks need (registers_of s.registers) (hex_value text)
+operand_checks s text ask.Record = record_checks s text
+operand_checks s text ask.Held = held_checks s text
+operand_checks s text ask.NewLabel = label_check text ∷ []
+operand_checks s text ask.Target = target_checks s (label_named text)
+operand_checks s text ask.Nothing = []
 
 abbrev pub operand_questions : State → List Operand → List Questions
 operand_questions s [] = []
@@ -143,6 +219,15 @@ operands_verdict s request = first_refusal (operand_questions s (listed (operand
 
 abbrev pub action_questions : State → Action → List Questions
 action_questions s action = questions (codes "-") (action_checks action s.registers) ∷ []
+
+-- of SET rules 25 and 26, and rule 27: a label is under the old master key
+abbrev pub set_questions : State → List Questions
+set_questions s = questions (codes "-") (action_checks Set s.registers ++ (check 27 (any_old_label s.labels) ∷ [])) ∷ []
+
+-- rule 28: every cell holds a label; rule 29: the label is held
+abbrev pub create_questions : State → List ℕ → List Questions
+create_questions s label =
+    questions (codes "label") (check 28 (free_cell (directory s.labels) == 1024) ∷ check 29 (is_some (cell_with s label)) ∷ []) ∷ []
 
 -- rule 30: the role table is full
 abbrev pub define_questions : State → List ℕ → List Questions
@@ -174,6 +259,31 @@ abbrev pub code_questions : State → Request → List Questions
 code_questions s r =
     mac_questions (mac_rule_named (value_of r (codes "rule"))) (text_size r) (key_of_request s r)
 
+-- rule 32 of the length of one generated key
+abbrev pub generate_questions : KeyType → ℕ → List Questions
+generate_questions kind length = questions (codes "length") (length_checks kind length) ∷ []
+
+-- rule 24 of the types of two, and rule 32 of their length
+abbrev pub pair_questions : KeyType → KeyType → ℕ → List Questions
+pair_questions first second length =
+    questions (codes "type2") (pair_checks first second)
+    ∷ questions (codes "length") (length_checks first length)
+    ∷ questions (codes "length") (length_checks second length)
+    ∷ []
+
+-- the types and the length that a request's fields name
+abbrev pub asked_of_one : Request → List Questions
+asked_of_one r = generate_questions (type_in (value_of r (codes "type1"))) (key_length_named (value_of r (codes "length")))
+
+abbrev pub asked_of_two : Request → List Questions
+asked_of_two r =
+    pair_questions (type_in (value_of r (codes "type1"))) (type_in (value_of r (codes "type2"))) (key_length_named (value_of r (codes "length")))
+
+-- rule 25 of a token that is changed to the new master key: the new register isn't full
+abbrev pub change_questions : State → Target → List Questions
+change_questions s Current = []
+change_questions s New = questions (codes "-") (check 25 (set_refused s.registers) ∷ []) ∷ []
+
 abbrev pub verb_questions : State → RequestName → Request → List Questions
 verb_questions s csnbktp r = []
 verb_questions s csnbenc r = encipher_questions (pad_named (value_of r (codes "pad"))) (text_size r)
@@ -184,9 +294,21 @@ verb_questions s csnbmvr r = code_questions s r
 verb_questions s csnbkyt r = []
 verb_questions s csnbcki r = []
 verb_questions s csnbrng r = []
+verb_questions s csnbkgn_op r = asked_of_one r
+verb_questions s csnbkgn_pair r = asked_of_two r
+verb_questions s csnbkgn_out r = asked_of_two r
+verb_questions s csnbkim r = []
+verb_questions s csnbkex r = []
+verb_questions s csnbpex r = []
+verb_questions s csnbktc r = change_questions s (target_named (value_of r (codes "rule")))
+verb_questions s csnbkrc r = create_questions s (value_of r (codes "label"))
+verb_questions s csnbkrw r = []
+verb_questions s csnbkrr r = []
+verb_questions s csnbkrd r = []
+verb_questions s csnbkrl r = []
 verb_questions s csnbmkp_part r = action_questions s (part_action (value_of r (codes "action")))
 verb_questions s csnbmkp_clear r = action_questions s Clear
-verb_questions s csnbmkp_set r = action_questions s Set
+verb_questions s csnbmkp_set r = set_questions s
 verb_questions s csuaaci_define r = define_questions s (value_of r (codes "name"))
 verb_questions s csuaaci_remove r = remove_questions s (value_of r (codes "name"))
 
