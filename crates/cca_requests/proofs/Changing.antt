@@ -1,13 +1,14 @@
 -- An action on the registers is what the machine makes of it.
-use Rattle.std.proofs.Common.{◌≡◌, ℕ, Bool, true, false, List, [], ◌∷◌, Option, None, Some, Result, Ok, Err, codes, refl, sym, ap, ◌∙◌, subst, inl, inr, ⊎_elim, arith}
+use Rattle.std.proofs.Common.{◌≡◌, ℕ, Bool, true, false, List, [], ◌∷◌, Option, None, Some, Result, Ok, Err, codes, refl, sym, ap, ◌∙◌, subst, inl, inr, ⊎_elim}
 use Rattle.std.specs.Prelude.{◌⊎◌, ◌↔◌, ◌≤◌, IsTrue, IfOk, OnOk, OnErr, IsSome}
 use Rattle.slot_disk.specs.Medium.{Medium, Told, IsSettled, EachImage, From}
 use Rattle.slot_disk.specs.Faults.{Rose}
-use Rattle.slot_disk.proofs.Media.{each_weaker, told_at, becomes_told}
+use Rattle.slot_disk.proofs.Media.{each_weaker, becomes_told}
 use Rattle.cca_roles.specs.RolesStand.{StandsForRoles}
 use Rattle.cca_roles.specs.declared.roles.Role.{Role}
 use Rattle.cca_vectors.specs.Checks.{check}
 use Rattle.key_cells.specs.Bench.{Bench}
+use Rattle.key_records.specs.Entries.{Entry}
 use Rattle.master_registers.specs.Masters.{NewRegister, Empty, Partial, Full, Masters, state_of}
 use Rattle.master_registers.specs.RegisterBody.{StandsForMasters}
 use Rattle.master_registers.specs.Loaded.{Loaded}
@@ -19,12 +20,10 @@ use Rattle.script_buffers.specs.Replies.{Done, Text, spelled}
 use Rattle.cca_machine.specs.State.{State, IsModuleOf}
 use Rattle.cca_machine.specs.Verdict.{questions, first_refusal}
 use Rattle.cca_machine.specs.Act.{Outcome, Become, new_name}
-use Rattle.line_service.specs.declared.stops.Stop.TheVariants.{EntropyFault}
-use Rattle.line_service.specs.Answering.{Holds}
-use Rattle.cca_requests.specs.Serving.{Stands, IsEither, SameBut, Carries, IsSound, Leaves}
+use Rattle.cca_requests.specs.Serving.{StandsInModule, IsEither, SameBut, CarriesModule, IsSound, LeavesModule}
 use Rattle.cca_requests.specs.Deciding.{plainly, or_effected, state_name, change_stop, change_reply}
-use Rattle.cca_requests.proofs.Contents.{at_content, roles_alike, sound}
-use Rattle.cca_requests.proofs.Serving.{still_carries, told_some}
+use Rattle.cca_requests.proofs.Contents.{at_content, holds_at, roles_alike, sound}
+use Rattle.cca_requests.proofs.Serving.{still_module, told_some, told_before}
 
 named_alike : (r : NewRegister) → state_name (state_of r) ≡ new_name r
 named_alike Empty = refl
@@ -32,19 +31,16 @@ named_alike (Partial bytes) = refl
 named_alike (Full bytes) = refl
 
 -- what comes of it, by whether rule 25 or 26 is broken
-abbrev outcome_by : Bool → Bool → State → Masters → Outcome
-outcome_by wrong same s next = or_effected (first_refusal (questions (codes "-") (check 25 wrong ∷ check 26 same ∷ []) ∷ [])) s (Become next)
+abbrev outcome_by : Bool → Bool → State → Masters → List (Option Entry) → Outcome
+outcome_by wrong same s next labels =
+    or_effected (first_refusal (questions (codes "-") (check 25 wrong ∷ check 26 same ∷ []) ∷ [])) s (Become next labels)
 
-pub holds_at : (content : Option (List ℕ)) (m : Medium) (P : List ℕ → Type 0) → m.content ≡ content → IsSome content → Told m P → Holds m P
-holds_at None m P is some told = cc some
-holds_at (Some c) m P is some told = record { image = c; told = is; has = told_at m.content P c is told }
-
-module _ {A : Type 0} (medium : A → Medium) (old new : A) (s : State) (roles : List (Option Role)) (next : Masters) (bench : Bench)
-    (settled : IsSettled (medium old)) (stands : Stands s roles (medium old)) where
+module _ {A : Type 0} (medium : A → Medium) (old new : A) (s : State) (roles : List (Option Role)) (next : Masters) (labels : List (Option Entry)) (bench : Bench)
+    (settled : IsSettled (medium old)) (stands : StandsInModule s roles (medium old)) where
   abbrev after : Outcome
-  after = plainly s (Become next)
+  after = plainly s (Become next labels)
 
-  either : (image : List ℕ) → From (HoldsEither s.registers next) (medium old) image → IsEither s after image
+  either : (image : List ℕ) → From (HoldsEither s.registers next) (medium old) image → IsEither IsModuleOf s after image
   either image from = ⊎_elim
       (λ before. inl (record { registers = before; roles = kept }))
       (λ changed. inr (record { registers = changed; roles = kept }))
@@ -53,9 +49,9 @@ module _ {A : Type 0} (medium : A → Medium) (old new : A) (s : State) (roles :
       kept : StandsForRoles image s.roles
       kept = roles_alike from.0 image s.roles from.2.others (at_content (medium old) (IsModuleOf s) stands.in_module from.0 from.1).roles
 
-  on_module : (r : Result Registers RegisterFault) → ChangesModule s.registers next (medium old) (medium new) r
-      → EachImage (medium old) (medium new) (IsEither s after)
-  on_module r changes = each_weaker (medium old) (medium new) (From (HoldsEither s.registers next) (medium old)) (IsEither s after) changes.moments either
+  on_the_way : (r : Result Registers RegisterFault) → ChangesModule s.registers next (medium old) (medium new) r
+      → EachImage (medium old) (medium new) (IsEither IsModuleOf s after)
+  on_the_way r changes = each_weaker (medium old) (medium new) (From (HoldsEither s.registers next) (medium old)) (IsEither IsModuleOf s after) changes.moments either
 
   outside : (r : Result Registers RegisterFault) → ChangesModule s.registers next (medium old) (medium new) r
       → EachImage (medium old) (medium new) (From (SameBut (Some 0)) (medium old))
@@ -65,7 +61,7 @@ module _ {A : Type 0} (medium : A → Medium) (old new : A) (s : State) (roles :
 
   carried : (r : Result Registers RegisterFault) (reply : List ℕ) → ChangesModule s.registers next (medium old) (medium new) r → IfOk r (λ now. Loaded next now bench)
       → OnOk (change_stop r) (reply ≡ spelled (change_reply r)) → (r ≡ Err RegisterState → ⊥) → (r ≡ Err SamePattern → ⊥)
-      → Carries after s (change_stop r) reply roles (medium old) (medium new)
+      → CarriesModule after s (change_stop r) reply roles (medium old) (medium new)
   carried (Ok now) reply changes loaded text state same = record {
     done = record {
       reply_is = text
@@ -87,13 +83,13 @@ module _ {A : Type 0} (medium : A → Medium) (old new : A) (s : State) (roles :
         memory = stands.memory;
       };
     };
-    on_module = on_module (Ok now) changes;
+    moments = on_the_way (Ok now) changes;
     outside = outside (Ok now) changes;
     stops = tt;
   }
   carried (Err DiskFault) reply changes loaded text state same = record {
     done = tt;
-    on_module = on_module (Err DiskFault) changes;
+    moments = on_the_way (Err DiskFault) changes;
     outside = outside (Err DiskFault) changes;
     stops = tt;
   }
@@ -101,26 +97,26 @@ module _ {A : Type 0} (medium : A → Medium) (old new : A) (s : State) (roles :
   carried (Err SamePattern) reply changes loaded text state same = absurd (same refl)
 
   refused_by_state : (same : Bool) (r : Result Registers RegisterFault) (reply : List ℕ) → r ≡ Err RegisterState → WhenRefused r (new ≡ old)
-      → OnOk (change_stop r) (reply ≡ spelled (change_reply r)) → Carries (outcome_by true same s next) s (change_stop r) reply roles (medium old) (medium new)
+      → OnOk (change_stop r) (reply ≡ spelled (change_reply r)) → CarriesModule (outcome_by true same s next labels) s (change_stop r) reply roles (medium old) (medium new)
   refused_by_state same (Ok now) reply is untouched text = cc is
   refused_by_state same (Err DiskFault) reply is untouched text = cc is
   refused_by_state same (Err RegisterState) reply is untouched text =
-      subst (λ x. Carries (outcome_by true same s next) s (Ok tt) reply roles (medium old) (medium x)) (sym untouched)
-      (still_carries (outcome_by true same s next) s (Ok tt) reply roles (medium old) refl text tt settled stands)
+      subst (λ x. CarriesModule (outcome_by true same s next labels) s (Ok tt) reply roles (medium old) (medium x)) (sym untouched)
+      (still_module (outcome_by true same s next labels) s (Ok tt) reply roles (medium old) refl text tt settled stands)
   refused_by_state same (Err SamePattern) reply is untouched text = cc is
 
   refused_by_pattern : (r : Result Registers RegisterFault) (reply : List ℕ) → r ≡ Err SamePattern → WhenRefused r (new ≡ old)
-      → OnOk (change_stop r) (reply ≡ spelled (change_reply r)) → Carries (outcome_by false true s next) s (change_stop r) reply roles (medium old) (medium new)
+      → OnOk (change_stop r) (reply ≡ spelled (change_reply r)) → CarriesModule (outcome_by false true s next labels) s (change_stop r) reply roles (medium old) (medium new)
   refused_by_pattern (Ok now) reply is untouched text = cc is
   refused_by_pattern (Err DiskFault) reply is untouched text = cc is
   refused_by_pattern (Err RegisterState) reply is untouched text = cc is
   refused_by_pattern (Err SamePattern) reply is untouched text =
-      subst (λ x. Carries (outcome_by false true s next) s (Ok tt) reply roles (medium old) (medium x)) (sym untouched)
-      (still_carries (outcome_by false true s next) s (Ok tt) reply roles (medium old) refl text tt settled stands)
+      subst (λ x. CarriesModule (outcome_by false true s next labels) s (Ok tt) reply roles (medium old) (medium x)) (sym untouched)
+      (still_module (outcome_by false true s next labels) s (Ok tt) reply roles (medium old) refl text tt settled stands)
 
   pub changes_as : (wrong same : Bool) (r : Result Registers RegisterFault) (reply : List ℕ) → ((r ≡ Err RegisterState) ↔ IsTrue wrong) → ((r ≡ Err SamePattern) ↔ IsTrue same)
       → ChangesModule s.registers next (medium old) (medium new) r → WhenRefused r (new ≡ old) → IfOk r (λ now. Loaded next now bench)
-      → OnOk (change_stop r) (reply ≡ spelled (change_reply r)) → Carries (outcome_by wrong same s next) s (change_stop r) reply roles (medium old) (medium new)
+      → OnOk (change_stop r) (reply ≡ spelled (change_reply r)) → CarriesModule (outcome_by wrong same s next labels) s (change_stop r) reply roles (medium old) (medium new)
   changes_as true same r reply state pattern changes untouched loaded text = refused_by_state same r reply (state.1 refl) untouched text
   changes_as false true r reply state pattern changes untouched loaded text = refused_by_pattern r reply (pattern.1 refl) untouched text
   changes_as false false r reply state pattern changes untouched loaded text =
@@ -128,30 +124,18 @@ module _ {A : Type 0} (medium : A → Medium) (old new : A) (s : State) (roles :
 
   -- where no cell is written, no device is called
   pub still_as : (wrong same : Bool) (r : Result Registers RegisterFault) → ((r ≡ Err RegisterState) ↔ IsTrue wrong) → ((r ≡ Err SamePattern) ↔ IsTrue same)
-      → WhenRefused r (new ≡ old) → (outcome_by wrong same s next).module_cell ≡ None → new ≡ old
+      → WhenRefused r (new ≡ old) → (outcome_by wrong same s next labels).module_cell ≡ None → new ≡ old
   still_as true same r state pattern untouched none = subst (λ (x : Result Registers RegisterFault). WhenRefused x (new ≡ old)) (state.1 refl) untouched
   still_as false true r state pattern untouched none = subst (λ (x : Result Registers RegisterFault). WhenRefused x (new ≡ old)) (pattern.1 refl) untouched
   still_as false false r state pattern untouched none = cc none
 
 -- ---- whatever the module holds
 
--- what a call leaves that does nothing
-pub still_left : (m : Medium) (registers : Masters) (roles : List (Option Role)) (count : ℕ) (reply : List ℕ) → IsSettled m
-    → Told m (λ image. StandsForMasters image registers) → Told m (λ image. StandsForRoles image roles)
-    → Leaves m m count count (Ok tt) reply roles roles
-still_left m registers roles count reply settled stands also = record {
-  disk = record { size = refl; still = λ some. some; settled = settled; later = omega arith; fault = λ is. cc is };
-  sound = sound m registers roles stands also;
-  silent = tt;
-  memory = tt;
-  stops = tt;
-}
-
 module _ {A : Type 0} (medium : A → Medium) (faults : A → ℕ) (old new : A) (m next : Masters) (roles : List (Option Role))
     (settled : IsSettled (medium old)) (stands : Told (medium old) (λ image. StandsForMasters image m))
     (also : Told (medium old) (λ image. StandsForRoles image roles)) (later : faults old ≤ faults new) where
   refused_left : (reply : List ℕ) → new ≡ old → ChangesModule m next (medium old) (medium new) (Err RegisterState) ⊎ ChangesModule m next (medium old) (medium new) (Err SamePattern)
-      → Leaves (medium old) (medium new) (faults old) (faults new) (Ok tt) reply roles roles
+      → LeavesModule (medium old) (medium new) (faults old) (faults new) (Ok tt) reply roles roles
   refused_left reply untouched changes = record {
     disk = record {
       size = ap (λ x. (medium x).size) untouched;
@@ -160,6 +144,7 @@ module _ {A : Type 0} (medium : A → Medium) (faults : A → ℕ) (old new : A)
       later = later;
       fault = λ is. cc is;
     };
+    told = λ some. subst (λ x. IsSome (medium x).content) untouched some;
     sound = subst (λ x. Told (medium x) (IsSound roles)) (sym untouched) (sound (medium old) m roles stands also);
     silent = tt;
     memory = tt;
@@ -169,9 +154,10 @@ module _ {A : Type 0} (medium : A → Medium) (faults : A → ℕ) (old new : A)
   -- what an action leaves
   pub left_as : (r : Result Registers RegisterFault) (reply : List ℕ) → ChangesModule m next (medium old) (medium new) r → WhenRefused r (new ≡ old)
       → (r ≡ Err DiskFault → Rose (faults old) (faults new)) → OnErr (change_stop r) (reply ≡ [])
-      → Leaves (medium old) (medium new) (faults old) (faults new) (change_stop r) reply roles roles
+      → LeavesModule (medium old) (medium new) (faults old) (faults new) (change_stop r) reply roles roles
   left_as (Ok now) reply changes untouched cause silent = record {
     disk = record { size = changes.either.size; still = changes.either.still; settled = changes.settled; later = later; fault = λ is. cc is };
+    told = told_before (HoldsEither m next) (medium old) (medium new) changes.either;
     sound = sound (medium new) next roles changes.stands
         (becomes_told (medium old) (medium new) (HoldsEither m next) (λ image. StandsForRoles image roles) (λ image. StandsForRoles image roles)
         changes.either also (λ d c p h. roles_alike d c roles h.others p));
@@ -181,21 +167,11 @@ module _ {A : Type 0} (medium : A → Medium) (faults : A → ℕ) (old new : A)
   }
   left_as (Err DiskFault) reply changes untouched cause silent = record {
     disk = record { size = changes.either.size; still = changes.either.still; settled = tt; later = later; fault = λ is. cause refl };
+    told = told_before (HoldsEither m next) (medium old) (medium new) changes.either;
     sound = tt;
     silent = silent;
     memory = refl;
-    stops = inl refl;
+    stops = refl;
   }
   left_as (Err RegisterState) reply changes untouched cause silent = refused_left reply untouched (inl changes)
   left_as (Err SamePattern) reply changes untouched cause silent = refused_left reply untouched (inr changes)
-
--- what a call leaves where the random source failed
-pub failed_left : (m : Medium) (roles : List (Option Role)) (count : ℕ) (reply : List ℕ) → reply ≡ []
-    → Leaves m m count count (Err EntropyFault) reply roles roles
-failed_left m roles count reply silent = record {
-  disk = record { size = refl; still = λ some. some; settled = tt; later = omega arith; fault = λ is. cc is };
-  sound = tt;
-  silent = silent;
-  memory = refl;
-  stops = inr refl;
-}

@@ -1,5 +1,6 @@
 -- What stands in the cells that a change leaves alone.
-use Rattle.std.proofs.Common.{◌≡◌, ◌≢◌, ◌+◌, ℕ, List, Option, Some, sym, subst, arith}
+use Rattle.std.proofs.Common.{◌≡◌, ◌≢◌, ◌+◌, ℕ, List, Option, None, Some, sym, subst, arith}
+use Rattle.std.specs.Prelude.{IsSome}
 use Rattle.slot_disk.specs.Cells.{body}
 use Rattle.slot_disk.specs.Medium.{Medium, Told}
 use Rattle.slot_disk.proofs.Media.{told_at, told_from}
@@ -15,6 +16,11 @@ use Rattle.cca_requests.specs.Serving.{IsSound}
 -- a fact on the content of a disk
 pub at_content : (m : Medium) (P : List ℕ → Type 0) → Holds m P → (d : List ℕ) → m.content ≡ Some d → P d
 at_content m P holds d is = let same : holds.image ≡ d = cc (holds.told, is) in subst P same holds.has
+
+-- a disk that tells its content, of which P is told
+pub holds_at : (content : Option (List ℕ)) (m : Medium) (P : List ℕ → Type 0) → m.content ≡ content → IsSome content → Told m P → Holds m P
+holds_at None m P is some told = cc some
+holds_at (Some c) m P is some told = record { image = c; told = is; has = told_at m.content P c is told }
 
 pub not_first : (n : ℕ) → n + 1 ≢ 0
 not_first n h = omega arith
@@ -41,8 +47,6 @@ pub sound : (m : Medium) (registers : Masters) (roles : List (Option Role)) → 
     → Told m (λ image. StandsForRoles image roles) → Told m (IsSound roles)
 sound m registers roles told also = told_from m.content (IsSound roles) (λ c is. record {
   registers = registers;
-  stands = record {
-    registers = told_at m.content (λ image. StandsForMasters image registers) c is told;
-    roles = told_at m.content (λ image. StandsForRoles image roles) c is also;
-  };
+  in_registers = told_at m.content (λ image. StandsForMasters image registers) c is told;
+  in_roles = told_at m.content (λ image. StandsForRoles image roles) c is also;
 })

@@ -1,9 +1,21 @@
 mod Acting
+mod Ageing
+mod Carrying
 mod Changing
 mod Contents
+mod Delivering
 mod Fields
+mod Generating
+mod GrantsKept
+mod LabelsRead
+mod Leaving
+mod ListedLabels
 mod Points
+mod Registers
 mod RoleChanging
 pub mod Serving
+mod SetRules
+mod Storing
 mod Texts
 mod TokenReply
+mod TokensAgain

@@ -18,15 +18,14 @@ use Rattle.line_service.specs.declared.stops.Stop.TheVariants.{ModuleFault}
 use Rattle.cca_machine.specs.State.{State, IsModuleOf}
 use Rattle.cca_machine.specs.Verdict.{questions}
 use Rattle.cca_machine.specs.Act.{Effect, Outcome}
-use Rattle.cca_requests.specs.Serving.{Stands, IsEither, SameBut, Carries, IsSound, Leaves}
+use Rattle.cca_requests.specs.Serving.{StandsInModule, IsEither, SameBut, CarriesModule, IsSound, LeavesModule}
 use Rattle.cca_requests.specs.Deciding.{plainly, role_outcome, role_stop, role_reply}
-use Rattle.cca_requests.proofs.Contents.{at_content, registers_alike, sound}
-use Rattle.cca_requests.proofs.Changing.{holds_at}
-use Rattle.cca_requests.proofs.Serving.{still_carries, told_some}
+use Rattle.cca_requests.proofs.Contents.{at_content, holds_at, registers_alike, sound}
+use Rattle.cca_requests.proofs.Serving.{still_module, told_some, told_before}
 
 -- what comes of a change of one place that no rule refuses
 abbrev pub changed_outcome : State → ℕ → List (Option Role) → Outcome
-changed_outcome s place next = record { state = record s { roles = next }; reply = Done []; module_cell = Some (place + 1); between = λ k. s }
+changed_outcome s place next = record { state = record s { roles = next }; reply = Done []; module_cell = Some (place + 1); store_cell = None; between = λ k. s }
 
 -- what comes of it, by whether rule 30 is broken
 abbrev outcome_by : Bool → State → Effect → Outcome
@@ -48,11 +47,11 @@ same_fault a b is = cc is
 
 module _ {A : Type 0} (medium : A → Medium) (old new : A) (s : State) (before now : List (Option Role)) (place : ℕ) (next : List (Option Role))
     (e : Effect) (e_is : plainly s e ≡ changed_outcome s place next) (full : RoleFault) (refusing : IsRefusing full)
-    (settled : IsSettled (medium old)) (stands : Stands s before (medium old)) where
+    (settled : IsSettled (medium old)) (stands : StandsInModule s before (medium old)) where
   abbrev after : Outcome
   after = changed_outcome s place next
 
-  either : (image : List ℕ) → From (HoldsEither (place + 1) s.roles next) (medium old) image → IsEither s after image
+  either : (image : List ℕ) → From (HoldsEither (place + 1) s.roles next) (medium old) image → IsEither IsModuleOf s after image
   either image from = ⊎_elim
       (λ unchanged. inl (record { registers = kept; roles = unchanged }))
       (λ changed. inr (record { registers = kept; roles = changed }))
@@ -61,8 +60,8 @@ module _ {A : Type 0} (medium : A → Medium) (old new : A) (s : State) (before 
       kept : StandsForMasters image s.registers
       kept = registers_alike from.0 image s.registers place from.2.others (at_content (medium old) (IsModuleOf s) stands.in_module from.0 from.1).registers
 
-  on_module : (r : Result (Unit {0}) RoleFault) → ChangesRoles place s.roles next (medium old) (medium new) r → EachImage (medium old) (medium new) (IsEither s after)
-  on_module r changes = each_weaker (medium old) (medium new) (From (HoldsEither (place + 1) s.roles next) (medium old)) (IsEither s after) changes.moments either
+  on_the_way : (r : Result (Unit {0}) RoleFault) → ChangesRoles place s.roles next (medium old) (medium new) r → EachImage (medium old) (medium new) (IsEither IsModuleOf s after)
+  on_the_way r changes = each_weaker (medium old) (medium new) (From (HoldsEither (place + 1) s.roles next) (medium old)) (IsEither IsModuleOf s after) changes.moments either
 
   outside : (r : Result (Unit {0}) RoleFault) → ChangesRoles place s.roles next (medium old) (medium new) r
       → EachImage (medium old) (medium new) (From (SameBut (Some (place + 1))) (medium old))
@@ -71,7 +70,7 @@ module _ {A : Type 0} (medium : A → Medium) (old new : A) (s : State) (before 
       changes.moments (λ image from. (from.0, from.1, record { outside = from.2.outside; others = from.2.others; untouched = from.2.untouched }))
 
   done : (u : Unit {0}) (reply : List ℕ) → ChangesRoles place s.roles next (medium old) (medium new) (Ok u) → now ≡ next → reply ≡ spelled (Done [])
-      → Carries after s (Ok tt) reply now (medium old) (medium new)
+      → CarriesModule after s (Ok tt) reply now (medium old) (medium new)
   done u reply changes memory text = record {
     done = record {
       reply_is = text;
@@ -92,24 +91,24 @@ module _ {A : Type 0} (medium : A → Medium) (old new : A) (s : State) (before 
         memory = memory;
       };
     };
-    on_module = on_module (Ok u) changes;
+    moments = on_the_way (Ok u) changes;
     outside = outside (Ok u) changes;
     stops = tt;
   }
 
   failed : (reply : List ℕ) → ChangesRoles place s.roles next (medium old) (medium new) (Err DiskFault)
-      → Carries after s (Err ModuleFault) reply now (medium old) (medium new)
-  failed reply changes = record { done = tt; on_module = on_module (Err DiskFault) changes; outside = outside (Err DiskFault) changes; stops = tt }
+      → CarriesModule after s (Err ModuleFault) reply now (medium old) (medium new)
+  failed reply changes = record { done = tt; moments = on_the_way (Err DiskFault) changes; outside = outside (Err DiskFault) changes; stops = tt }
 
   refused : (reply : List ℕ) → new ≡ old → now ≡ before → reply ≡ spelled (Refused 30 (codes "name"))
-      → Carries (outcome_by true s e) s (Ok tt) reply now (medium old) (medium new)
+      → CarriesModule (outcome_by true s e) s (Ok tt) reply now (medium old) (medium new)
   refused reply untouched memory text =
-      subst (λ x. Carries (outcome_by true s e) s (Ok tt) reply now (medium old) (medium x)) (sym untouched)
-      (subst (λ rs. Carries (outcome_by true s e) s (Ok tt) reply rs (medium old) (medium old)) (sym memory)
-      (still_carries (outcome_by true s e) s (Ok tt) reply before (medium old) refl text tt settled stands))
+      subst (λ x. CarriesModule (outcome_by true s e) s (Ok tt) reply now (medium old) (medium x)) (sym untouched)
+      (subst (λ rs. CarriesModule (outcome_by true s e) s (Ok tt) reply rs (medium old) (medium old)) (sym memory)
+      (still_module (outcome_by true s e) s (Ok tt) reply before (medium old) refl text tt settled stands))
 
   abbrev Answers : Bool → Result (Unit {0}) RoleFault → List ℕ → Type 0
-  Answers refuses r reply = Carries (outcome_by refuses s e) s (role_stop r) reply now (medium old) (medium new)
+  Answers refuses r reply = CarriesModule (outcome_by refuses s e) s (role_stop r) reply now (medium old) (medium new)
 
   module _ (reply : List ℕ) where
     by_fault : (refuses : Bool) (fault : RoleFault) → ((error fault ≡ Err full) ↔ IsTrue refuses) → (fault ≡ DiskFault) ⊎ (fault ≡ full)
@@ -119,12 +118,12 @@ module _ {A : Type 0} (medium : A → Medium) (old new : A) (s : State) (before 
         absurd (not_disk full refusing (sym (same_fault fault full (rule.1 refl)) ∙ disk))
     by_fault false fault rule (inl disk) changes untouched memory text =
         subst (λ f. Answers false (Err f) reply) (sym disk)
-        (subst (λ (o : Outcome). Carries o s (Err ModuleFault) reply now (medium old) (medium new)) (sym e_is)
+        (subst (λ (o : Outcome). CarriesModule o s (Err ModuleFault) reply now (medium old) (medium new)) (sym e_is)
         (failed reply (subst (λ f. ChangesRoles place s.roles next (medium old) (medium new) (Err f)) disk changes)))
     by_fault false fault rule (inr is) changes untouched memory text = let no : false ≡ true = rule.0 (ap error is) in cc no
     by_fault true fault rule (inr is) changes untouched memory text =
         subst (λ f. Answers true (Err f) reply) (sym is)
-        (subst (λ x. Carries (outcome_by true s e) s x reply now (medium old) (medium new)) (sym refusing.stop)
+        (subst (λ x. CarriesModule (outcome_by true s e) s x reply now (medium old) (medium new)) (sym refusing.stop)
         (refused reply (untouched (ap error is)) memory (told ∙ ap spelled refusing.reply)))
       where
         told_of : (r : Result (Unit {0}) Stop) (x : Reply) → r ≡ Ok tt → OnOk r (reply ≡ spelled x) → reply ≡ spelled x
@@ -139,7 +138,7 @@ module _ {A : Type 0} (medium : A → Medium) (old new : A) (s : State) (before 
         → (r ≡ Err full → new ≡ old) → Remembers before next now r → OnOk (role_stop r) (reply ≡ spelled (role_reply r)) → Answers refuses r reply
     role_changes_as true (Ok u) rule faults changes untouched memory text = let no = rule.1 refl in cc no
     role_changes_as false (Ok u) rule faults changes untouched memory text =
-        subst (λ (o : Outcome). Carries o s (Ok tt) reply now (medium old) (medium new)) (sym e_is) (done u reply changes memory.done text)
+        subst (λ (o : Outcome). CarriesModule o s (Ok tt) reply now (medium old) (medium new)) (sym e_is) (done u reply changes memory.done text)
     role_changes_as refuses (Err fault) rule faults changes untouched memory text = by_fault refuses fault rule faults changes untouched memory.kept text
 
   -- where no cell is written, no device is called
@@ -156,17 +155,18 @@ module _ {A : Type 0} (medium : A → Medium) (faults : A → ℕ) (old new : A)
     (settled : IsSettled (medium old)) (stands : Told (medium old) (λ image. StandsForMasters image m))
     (also : Told (medium old) (λ image. StandsForRoles image before)) (later : faults old ≤ faults new) (reply : List ℕ) where
   abbrev Left : Result (Unit {0}) Stop → Type 0
-  Left result = Leaves (medium old) (medium new) (faults old) (faults new) result reply before now
+  Left result = LeavesModule (medium old) (medium new) (faults old) (faults new) result reply before now
 
   left_by : (fault : RoleFault) → (fault ≡ DiskFault) ⊎ (fault ≡ full) → ChangesRoles place before next (medium old) (medium new) (Err fault)
       → (error fault ≡ Err full → new ≡ old) → now ≡ before → (error fault ≡ Err DiskFault → Rose (faults old) (faults new)) → OnErr (role_stop (Err fault)) (reply ≡ [])
       → Left (role_stop (Err fault))
   left_by fault (inl disk) changes untouched memory cause silent = subst (λ f. Left (role_stop (Err f))) (sym disk) (record {
     disk = record { size = changes.either.size; still = changes.either.still; settled = tt; later = later; fault = λ is. cause (ap error disk) };
+    told = told_before (HoldsEither (place + 1) before next) (medium old) (medium new) changes.either;
     sound = tt;
     silent = subst (λ f. OnErr (role_stop (Err f)) (reply ≡ [])) disk silent;
     memory = memory;
-    stops = inl refl;
+    stops = refl;
   })
   left_by fault (inr is) changes untouched memory cause silent =
       let same = untouched (ap error is) in
@@ -178,6 +178,7 @@ module _ {A : Type 0} (medium : A → Medium) (faults : A → ℕ) (old new : A)
           later = later;
           fault = λ no. cc no;
         };
+        told = told_before (HoldsEither (place + 1) before next) (medium old) (medium new) changes.either;
         sound = subst (λ x. Told (medium x) (IsSound now)) (sym same) (subst (λ rs. Told (medium old) (IsSound rs)) (sym memory) (sound (medium old) m before stands also));
         silent = tt;
         memory = tt;
@@ -190,6 +191,7 @@ module _ {A : Type 0} (medium : A → Medium) (faults : A → ℕ) (old new : A)
       → (r ≡ Err DiskFault → Rose (faults old) (faults new)) → OnErr (role_stop r) (reply ≡ []) → Left (role_stop r)
   role_left_as (Ok u) each changes untouched memory cause silent = record {
     disk = record { size = changes.either.size; still = changes.either.still; settled = changes.settled; later = later; fault = λ is. cc is };
+    told = told_before (HoldsEither (place + 1) before next) (medium old) (medium new) changes.either;
     sound = subst (λ rs. Told (medium new) (IsSound rs)) (sym memory.done) (sound (medium new) m next
         (becomes_told (medium old) (medium new) (HoldsEither (place + 1) before next) (λ image. StandsForMasters image m) (λ image. StandsForMasters image m)
         changes.either stands (λ d c p h. registers_alike d c m place h.others p))

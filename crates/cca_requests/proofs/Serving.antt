@@ -1,26 +1,44 @@
--- How what is said of the module is carried from call to call.
+-- How what is said of the disks is carried from call to call.
 use Rattle.std.proofs.Common.{◌≡◌, ℕ, List, [], Option, None, Some, Result, Ok, Err, refl, sym, ap, ◌∙◌, subst, inl, inr, ⊎_elim}
 use Rattle.std.specs.Prelude.{◌<◌, OnOk, IfErr, IfSome, IsSome}
-use Rattle.slot_disk.specs.Medium.{Medium, Told, IsSettled, From, EachImage, Keeps}
-use Rattle.slot_disk.proofs.Media.{goes_on, settled_image, each_weaker, keeps_still}
+use Rattle.slot_disk.specs.Medium.{Medium, Told, IsSettled, From, Becomes, EachImage, EachPair, Keeps}
+use Rattle.slot_disk.proofs.Media.{goes_on, settled_image, each_weaker, each_pair, keeps_still, settled_kept}
 use Rattle.script_buffers.specs.Replies.{spelled, Refused}
 use Rattle.cca_roles.specs.declared.roles.Role.{Role}
+use Rattle.key_records.specs.StoreStands.{Agrees}
+use Rattle.key_records.specs.declared.rows.Row.{Row}
 use Rattle.line_service.specs.declared.stops.Stop.{Stop}
+use Rattle.verb_rules.specs.Keys.{keys_of}
 use Rattle.verb_script.specs.Grammar.{Request}
-use Rattle.cca_machine.specs.State.{State, IsModuleOf}
+use Rattle.cca_machine.specs.State.{State, IsModuleOf, IsStoreOf}
 use Rattle.cca_machine.specs.Verdict.{Refusal, verdict}
 use Rattle.cca_machine.specs.Act.{Outcome, draws, or_act, performed}
 use Rattle.cca_machine.specs.Lines.{drawn_where, taken_by}
 use Rattle.line_service.specs.declared.stops.Stop.TheVariants.{EntropyFault}
+use Rattle.line_service.specs.Answering.{Holds, Unwritten}
+use Rattle.line_service.specs.Machine.{world}
 use Rattle.std.proofs.KnownBytes.{Consumes-nil}
-use Rattle.line_service.specs.Answering.{Holds}
-use Rattle.cca_requests.specs.Serving.{Stands, IsDone, IsEither, SameButCell, SameBut, IsFault, Carries, IsUnwritten, Serves}
+use Rattle.cca_requests.specs.Serving.{Tables, tables, StandsInModule, StandsInStore, Stands, IsEither, ArePair, SameButCell, SameBut, IsFault, IsDoneInModule, CarriesModule, IsDoneInStore, CarriesStore, IsDone, Carries, HasDrawn, Serves, HasTold}
 
-holds_told : (m : Medium) (P : List ℕ → Type 0) → Holds m P → Told m P
+-- ---- one disk
+
+pub holds_told : (m : Medium) (P : List ℕ → Type 0) → Holds m P → Told m P
 holds_told m P holds = subst (λ (o : Option (List ℕ)). IfSome o P) (sym holds.told) holds.has
 
 pub told_some : (m : Medium) (image : List ℕ) → m.content ≡ Some image → IsSome m.content
 told_some m image told = subst IsSome (sym told) refl
+
+-- a disk that tells its content after a change told it before
+pub told_before : (step : List ℕ → List ℕ → Type 0) (m0 m1 : Medium) → Becomes step m0 m1 → HasTold m0 m1
+told_before step m0 m1 becomes = by_content m1.content refl
+  where
+    by_content : (content : Option (List ℕ)) → m1.content ≡ content → IsSome content → IsSome m0.content
+    by_content None is some = cc some
+    by_content (Some c) is some = let from = becomes.told c is in told_some m0 from.0 from.1
+
+-- and one that was read
+pub told_kept : (m0 m1 : Medium) → Keeps m0 m1 → HasTold m0 m1
+told_kept m0 m1 keeps = λ some. subst IsSome keeps.content some
 
 same_but_cell : (cell : ℕ) (c : List ℕ) → SameButCell cell c c
 same_but_cell cell c = record {
@@ -38,6 +56,10 @@ pub read_images : (m0 m1 : Medium) (P Q : List ℕ → Type 0) → IsSettled m0 
 read_images m0 m1 P Q settled holds keeps weaker =
     each_weaker m0 m1 m0.images Q keeps.moments (λ c image. weaker c (settled_image m0 P c settled (holds_told m0 P holds) image))
 
+-- a call that does nothing
+pub still_images : (m : Medium) (P Q : List ℕ → Type 0) → IsSettled m → Holds m P → ((c : List ℕ) → P c → Q c) → EachImage m m Q
+still_images m P Q settled holds weaker = read_images m m P Q settled holds (keeps_still m) weaker
+
 pub read_outside : (cell : Option ℕ) (m0 m1 : Medium) → IsSettled m0 → Keeps m0 m1 → EachImage m0 m1 (From (SameBut cell) m0)
 read_outside cell m0 m1 settled keeps =
     each_weaker m0 m1 m0.images (From (SameBut cell) m0) keeps.moments (λ c image. (c, settled.only c image, same_but cell c))
@@ -45,38 +67,196 @@ read_outside cell m0 m1 settled keeps =
 pub holds_kept : (m0 m1 : Medium) (P : List ℕ → Type 0) → Keeps m0 m1 → Holds m0 P → Holds m1 P
 holds_kept m0 m1 P keeps holds = record { image = holds.image; told = keeps.content ∙ holds.told; has = holds.has }
 
-pub stands_kept : (s : State) (roles : List (Option Role)) (m0 m1 : Medium) → Keeps m0 m1 → Stands s roles m0 → Stands s roles m1
-stands_kept s roles m0 m1 keeps stands = record {
+-- a call that reads, and another one behind it
+after_read : (m0 m1 m2 : Medium) (P Q : List ℕ → Type 0) → IsSettled m0 → Holds m0 P → Keeps m0 m1 → ((c : List ℕ) → P c → Q c)
+    → EachImage m1 m2 Q → EachImage m0 m2 Q
+after_read m0 m1 m2 P Q settled holds keeps weaker moments =
+    goes_on m0 m1 m2 Q Q Q (read_images m0 m1 P Q settled holds keeps weaker) moments (λ c q. q) (λ c q. q)
+
+outside_after_read : (cell : Option ℕ) (m0 m1 m2 : Medium) → IsSettled m0 → Keeps m0 m1 → EachImage m1 m2 (From (SameBut cell) m1) → EachImage m0 m2 (From (SameBut cell) m0)
+outside_after_read cell m0 m1 m2 settled keeps outside =
+    goes_on m0 m1 m2 (From (SameBut cell) m0) (From (SameBut cell) m1) (From (SameBut cell) m0)
+    (read_outside cell m0 m1 settled keeps) outside (λ c p. p) (λ c from. (from.0, sym keeps.content ∙ from.1, from.2))
+
+unwritten_after_read : (m0 m1 m2 : Medium) → Keeps m0 m1 → EachImage m1 m2 m1.images → EachImage m0 m2 m0.images
+unwritten_after_read m0 m1 m2 keeps later = goes_on m0 m1 m2 m0.images m1.images m0.images keeps.moments later (λ c p. p) (λ c p. keeps.images c p)
+
+-- where no cell is written, nothing is
+pub unwritten : (cell : Option ℕ) (m0 m1 : Medium) → cell ≡ None → EachImage m0 m1 (From (SameBut cell) m0) → EachImage m0 m1 m0.images
+unwritten cell m0 m1 none outside =
+    each_weaker m0 m1 (From (SameBut cell) m0) m0.images outside
+    (λ c from.
+    let same : c ≡ from.0 = subst (λ (n : Option ℕ). SameBut n from.0 c) none from.2 in
+    subst m0.images (sym same) (m0.is_image from.0 from.1))
+
+-- ---- what stands
+
+pub module_kept : (s : State) (roles : List (Option Role)) (m0 m1 : Medium) → Keeps m0 m1 → StandsInModule s roles m0 → StandsInModule s roles m1
+module_kept s roles m0 m1 keeps stands = record {
   in_module = holds_kept m0 m1 (IsModuleOf s) keeps stands.in_module;
   memory = stands.memory;
 }
 
-module _ (o : Outcome) (s : State) (result : Result (Unit {0}) Stop) (reply : List ℕ) (roles : List (Option Role)) where
+pub store_kept : (s : State) (rows : List (Option Row)) (d0 d1 : Medium) → Keeps d0 d1 → StandsInStore s rows d0 → StandsInStore s rows d1
+store_kept s rows d0 d1 keeps stands = record {
+  in_store = holds_kept d0 d1 (IsStoreOf s) keeps stands.in_store;
+  agrees = stands.agrees;
+}
+
+pub stands_kept : (s : State) (t : Tables) (m0 m1 d0 d1 : Medium) → Keeps m0 m1 → Keeps d0 d1 → Stands s t m0 d0 → Stands s t m1 d1
+stands_kept s t m0 m1 d0 d1 keeps_module keeps_store stands = record {
+  on_module = module_kept s t.roles m0 m1 keeps_module stands.on_module;
+  on_store = store_kept s t.rows d0 d1 keeps_store stands.on_store;
+}
+
+-- ---- a call
+
+module _ (o : Outcome) (s : State) (result : Result (Unit {0}) Stop) (reply : List ℕ) where
   -- nothing was written: the state stays
-  pub still_carries : (m : Medium) → o.state ≡ s → OnOk result (reply ≡ spelled o.reply) → IfErr result IsFault → IsSettled m → Stands s roles m
-      → Carries o s result reply roles m m
-  still_carries m same text stops settled stands = record {
+  pub still_module : (roles : List (Option Role)) (m : Medium) → o.state ≡ s → OnOk result (reply ≡ spelled o.reply) → IfErr result IsFault
+      → IsSettled m → StandsInModule s roles m → CarriesModule o s result reply roles m m
+  still_module roles m same text stops settled stands = record {
     done = done_at result text;
-    on_module = read_images m m (IsModuleOf s) (IsEither s o) settled stands.in_module (keeps_still m) (λ c p. inl p);
+    moments = still_images m (IsModuleOf s) (IsEither IsModuleOf s o) settled stands.in_module (λ c p. inl p);
     outside = read_outside o.module_cell m m settled (keeps_still m);
     stops = stops;
   }
     where
-      done_at : (r : Result (Unit {0}) Stop) → OnOk r (reply ≡ spelled o.reply) → OnOk r (IsDone o reply roles m)
+      done_at : (r : Result (Unit {0}) Stop) → OnOk r (reply ≡ spelled o.reply) → OnOk r (IsDoneInModule o reply roles m)
       done_at (Ok u) says = record { reply_is = says; stands = rw same stands }
       done_at (Err stop) says = tt
 
-  -- the module was read before
-  pub carries_after_read : (before : List (Option Role)) (m0 m1 m2 : Medium) → IsSettled m0 → Stands s before m0 → Keeps m0 m1
-      → Carries o s result reply roles m1 m2 → Carries o s result reply roles m0 m2
-  carries_after_read before m0 m1 m2 settled stands keeps carries = record {
-    done = carries.done;
-    on_module = goes_on m0 m1 m2 (IsEither s o) (IsEither s o) (IsEither s o)
-        (read_images m0 m1 (IsModuleOf s) (IsEither s o) settled stands.in_module keeps (λ c p. inl p)) carries.on_module (λ c p. p) (λ c p. p);
-    outside = goes_on m0 m1 m2 (From (SameBut o.module_cell) m0) (From (SameBut o.module_cell) m1) (From (SameBut o.module_cell) m0)
-        (read_outside o.module_cell m0 m1 settled keeps) carries.outside (λ c p. p) (λ c from. (from.0, sym keeps.content ∙ from.1, from.2));
+  pub still_store : (rows : List (Option Row)) (d : Medium) → o.state ≡ s → OnOk result (reply ≡ spelled o.reply) → IfErr result IsFault
+      → IsSettled d → StandsInStore s rows d → CarriesStore o s result reply rows d d
+  still_store rows d same text stops settled stands = record {
+    done = done_at result text;
+    moments = still_images d (IsStoreOf s) (IsEither IsStoreOf s o) settled stands.in_store (λ c p. inl p);
+    outside = read_outside o.store_cell d d settled (keeps_still d);
+    stops = stops;
+  }
+    where
+      done_at : (r : Result (Unit {0}) Stop) → OnOk r (reply ≡ spelled o.reply) → OnOk r (IsDoneInStore o reply rows d)
+      done_at (Ok u) says = record { reply_is = says; stands = rw same stands }
+      done_at (Err stop) says = tt
+
+  pub still_carries : (t : Tables) (m d : Medium) → o.state ≡ s → OnOk result (reply ≡ spelled o.reply) → IfErr result IsFault
+      → IsSettled m → IsSettled d → Stands s t m d → Carries o s result reply t m m d d
+  still_carries t m d same text stops settled_module settled_store stands = record {
+    done = done_at result text;
+    on_module = still_images m (IsModuleOf s) (IsEither IsModuleOf s o) settled_module stands.on_module.in_module (λ c p. inl p);
+    on_store = still_images d (IsStoreOf s) (IsEither IsStoreOf s o) settled_store stands.on_store.in_store (λ c p. inl p);
+    one_disk = inr (inr (
+      still_images m (IsModuleOf s) (IsModuleOf s) settled_module stands.on_module.in_module (λ c p. p),
+      still_images d (IsStoreOf s) (IsStoreOf s) settled_store stands.on_store.in_store (λ c p. p),
+    ));
+    module_outside = read_outside o.module_cell m m settled_module (keeps_still m);
+    store_outside = read_outside o.store_cell d d settled_store (keeps_still d);
+    stops = stops;
+  }
+    where
+      done_at : (r : Result (Unit {0}) Stop) → OnOk r (reply ≡ spelled o.reply) → OnOk r (IsDone o reply t m d)
+      done_at (Ok u) says = record { reply_is = says; stands = rw same stands }
+      done_at (Err stop) says = tt
+
+  -- the module alone was written: what stood for the labels still does
+  pub module_carries : (roles : List (Option Role)) (rows : List (Option Row)) (m0 m1 d : Medium) → CarriesModule o s result reply roles m0 m1
+      → ((c : List ℕ) → IsStoreOf s c → IsStoreOf o.state c) → Agrees (keys_of o.state.registers) rows o.state.labels
+      → IsSettled d → StandsInStore s rows d → Carries o s result reply (tables roles rows) m0 m1 d d
+  module_carries roles rows m0 m1 d carries goes agrees settled stands = record {
+    done = done_at result carries.done;
+    on_module = carries.moments;
+    on_store = still_images d (IsStoreOf s) (IsEither IsStoreOf s o) settled stands.in_store (λ c p. inl p);
+    one_disk = inr (inl (still_images d (IsStoreOf s) (IsStoreOf s) settled stands.in_store (λ c p. p), goes));
+    module_outside = carries.outside;
+    store_outside = read_outside o.store_cell d d settled (keeps_still d);
     stops = carries.stops;
   }
+    where
+      done_at : (r : Result (Unit {0}) Stop) → OnOk r (IsDoneInModule o reply roles m1) → OnOk r (IsDone o reply (tables roles rows) m1 d)
+      done_at (Ok u) done = record {
+        reply_is = done.reply_is;
+        stands = record {
+          on_module = done.stands;
+          on_store = record {
+            in_store = record { image = stands.in_store.image; told = stands.in_store.told; has = goes stands.in_store.image stands.in_store.has };
+            agrees = agrees;
+          };
+        };
+      }
+      done_at (Err stop) done = tt
+
+  -- the store alone was written: what stood for the registers and the roles still does
+  pub store_carries : (roles : List (Option Role)) (rows : List (Option Row)) (m d0 d1 : Medium) → CarriesStore o s result reply rows d0 d1
+      → o.state.registers ≡ s.registers → o.state.roles ≡ s.roles
+      → IsSettled m → StandsInModule s roles m → Carries o s result reply (tables roles rows) m m d0 d1
+  store_carries roles rows m d0 d1 carries registers same_roles settled stands = record {
+    done = done_at result carries.done;
+    on_module = still_images m (IsModuleOf s) (IsEither IsModuleOf s o) settled stands.in_module (λ c p. inl p);
+    on_store = carries.moments;
+    one_disk = inl (still_images m (IsModuleOf s) (IsModuleOf s) settled stands.in_module (λ c p. p), goes);
+    module_outside = read_outside o.module_cell m m settled (keeps_still m);
+    store_outside = carries.outside;
+    stops = carries.stops;
+  }
+    where
+      goes : (c : List ℕ) → IsModuleOf s c → IsModuleOf o.state c
+      goes c p = record { registers = rw registers p.registers; roles = rw same_roles p.roles }
+
+      done_at : (r : Result (Unit {0}) Stop) → OnOk r (IsDoneInStore o reply rows d1) → OnOk r (IsDone o reply (tables roles rows) m d1)
+      done_at (Ok u) done = record {
+        reply_is = done.reply_is;
+        stands = record {
+          on_module = record {
+            in_module = record { image = stands.in_module.image; told = stands.in_module.told; has = goes stands.in_module.image stands.in_module.has };
+            memory = stands.memory ∙ sym same_roles;
+          };
+          on_store = done.stands;
+        };
+      }
+      done_at (Err stop) done = tt
+
+  -- both disks were read before
+  pub carries_after_reads : (before t : Tables) (m0 m1 m2 d0 d1 d2 : Medium) → IsSettled m0 → IsSettled d0 → Stands s before m0 d0
+      → Keeps m0 m1 → Keeps d0 d1 → Carries o s result reply t m1 m2 d1 d2 → Carries o s result reply t m0 m2 d0 d2
+  carries_after_reads before t m0 m1 m2 d0 d1 d2 settled_module settled_store stands keeps_module keeps_store carries = record {
+    done = carries.done;
+    on_module = after_read m0 m1 m2 (IsModuleOf s) (IsEither IsModuleOf s o) settled_module in_module keeps_module (λ c p. inl p) carries.on_module;
+    on_store = after_read d0 d1 d2 (IsStoreOf s) (IsEither IsStoreOf s o) settled_store in_store keeps_store (λ c p. inl p) carries.on_store;
+    one_disk = ⊎_elim
+        (λ rests. inl (of_module rests.0, rests.1))
+        (λ rest. ⊎_elim
+        (λ rests. inr (inl (of_store rests.0, rests.1)))
+        (λ none. inr (inr (of_module none.0, of_store none.1)))
+        rest)
+        carries.one_disk;
+    module_outside = outside_after_read o.module_cell m0 m1 m2 settled_module keeps_module carries.module_outside;
+    store_outside = outside_after_read o.store_cell d0 d1 d2 settled_store keeps_store carries.store_outside;
+    stops = carries.stops;
+  }
+    where
+      in_module : Holds m0 (IsModuleOf s)
+      in_module = stands.on_module.in_module
+
+      in_store : Holds d0 (IsStoreOf s)
+      in_store = stands.on_store.in_store
+
+      of_module : EachImage m1 m2 (IsModuleOf s) → EachImage m0 m2 (IsModuleOf s)
+      of_module = after_read m0 m1 m2 (IsModuleOf s) (IsModuleOf s) settled_module in_module keeps_module (λ c p. p)
+
+      of_store : EachImage d1 d2 (IsStoreOf s) → EachImage d0 d2 (IsStoreOf s)
+      of_store = after_read d0 d1 d2 (IsStoreOf s) (IsStoreOf s) settled_store in_store keeps_store (λ c p. p)
+
+  -- each image of one disk goes with each of the other
+  pub pairs_of : (t : Tables) (m0 m1 d0 d1 : Medium) → Carries o s result reply t m0 m1 d0 d1 → EachPair m0 m1 d0 d1 (ArePair s o)
+  pairs_of t m0 m1 d0 d1 carries = ⊎_elim
+      (λ rests. each_pair m0 m1 d0 d1 (IsModuleOf s) (IsEither IsStoreOf s o) (ArePair s o) rests.0 carries.on_store
+      (λ c d left right. ⊎_elim (λ before. inl (left, before)) (λ after. inr (rests.1 c left, after)) right))
+      (λ rest. ⊎_elim
+      (λ rests. each_pair m0 m1 d0 d1 (IsEither IsModuleOf s o) (IsStoreOf s) (ArePair s o) carries.on_module rests.0
+      (λ c d left right. ⊎_elim (λ before. inl (before, right)) (λ after. inr (after, rests.1 d right)) left))
+      (λ none. each_pair m0 m1 d0 d1 (IsModuleOf s) (IsStoreOf s) (ArePair s o) none.0 none.1 (λ c d left right. inl (left, right)))
+      rest)
+      carries.one_disk
 
 -- ---- a request
 
@@ -89,18 +269,21 @@ performed_by s drawn request v is = ap (λ (x : Option Refusal). or_act x s draw
 taken_for : (s : State) (request : Request) (v : Option Refusal) → verdict s request ≡ v → taken_by s request ≡ drawn_where v (draws request.name request)
 taken_for s request v is = ap (λ (x : Option Refusal). drawn_where x (draws request.name request)) is
 
-read_unwritten : (m0 m1 : Medium) → Keeps m0 m1 → IsUnwritten m0 m1
-read_unwritten m0 m1 keeps = keeps.moments
-
--- a refusal: no random byte is drawn
-pub refused_serves : (s : State) (request : Request) (r : Refusal) (reply : List ℕ) (roles : List (Option Role)) (m : Medium) (left : Option (List ℕ))
-    → verdict s request ≡ Some r → reply ≡ spelled (Refused r.rule r.operand) → IsSettled m → Stands s roles m → Serves s request (Ok tt) reply roles m m left left
-refused_serves s request r reply roles m left is text settled stands =
+-- a refusal: no random byte is drawn, and at most the store was read
+pub refused_serves : (s : State) (request : Request) (r : Refusal) (reply : List ℕ) (t : Tables) (m d0 d1 : Medium) (left : Option (List ℕ))
+    → verdict s request ≡ Some r → reply ≡ spelled (Refused r.rule r.operand) → IsSettled m → IsSettled d0 → Keeps d0 d1 → Stands s t m d0
+    → Serves s request (Ok tt) reply t (world m d0 left) (world m d1 left)
+refused_serves s request r reply t m d0 d1 left is text settled_module settled_store keeps stands =
+    let o : Outcome = performed s [] request in
     let by = performed_by s [] request (Some r) is in
+    let carries : Carries o s (Ok tt) reply t m m d0 d1 =
+    carries_after_reads o s (Ok tt) reply t t m m m d0 d1 d1 settled_module settled_store stands (keeps_still m) keeps
+    (still_carries o s (Ok tt) reply t m d1 (ap (λ (x : Outcome). x.state) by) (text ∙ ap (λ (x : Outcome). spelled x.reply) (sym by)) tt
+    settled_module (settled_kept d0 d1 keeps settled_store) (stands_kept s t m m d0 d1 (keeps_still m) keeps stands)) in
     record {
       drawn = [];
-      carries = still_carries (performed s [] request) s (Ok tt) reply roles m (ap (λ (o : Outcome). o.state) by)
-          (text ∙ ap (λ (o : Outcome). spelled o.reply) (sym by)) tt settled stands;
+      carries = carries;
+      pairs = pairs_of o s (Ok tt) reply t m m d0 d1 carries;
       random = inl (record { consumed = Consumes-nil left; size = sym (taken_for s request (Some r) is) });
       permitted = λ fault. cc fault;
       undrawn = λ fault. cc fault;
@@ -113,47 +296,74 @@ same_stop : (a b : Stop) → error a ≡ error b → a ≡ b
 same_stop a b is = cc is
 
 -- a fault of a device, before anything was written
-pub stopped_serves : (s : State) (request : Request) (stop : Stop) (reply : List ℕ) (roles : List (Option Role)) (m0 m1 : Medium) (before now : Option (List ℕ))
-    → IsFault stop → (stop ≡ EntropyFault → 0 < taken_by s request) → IsSettled m0 → Keeps m0 m1 → Stands s roles m0
-    → Serves s request (Err stop) reply roles m0 m1 before now
-stopped_serves s request stop reply roles m0 m1 before now fault permitted settled keeps stands =
+pub stopped_serves : (s : State) (request : Request) (stop : Stop) (reply : List ℕ) (before t : Tables) (m0 m1 d0 d1 : Medium) (left now : Option (List ℕ))
+    → IsFault stop → (stop ≡ EntropyFault → 0 < taken_by s request) → IsSettled m0 → IsSettled d0 → Keeps m0 m1 → Keeps d0 d1 → Stands s before m0 d0
+    → Serves s request (Err stop) reply t (world m0 d0 left) (world m1 d1 now)
+stopped_serves s request stop reply before t m0 m1 d0 d1 left now fault permitted settled_module settled_store keeps_module keeps_store stands =
     let o : Outcome = performed s [] request in
+    let in_module = stands.on_module.in_module in
+    let in_store = stands.on_store.in_store in
+    let carries : Carries o s (Err stop) reply t m0 m1 d0 d1 = record {
+      done = tt;
+      on_module = read_images m0 m1 (IsModuleOf s) (IsEither IsModuleOf s o) settled_module in_module keeps_module (λ c p. inl p);
+      on_store = read_images d0 d1 (IsStoreOf s) (IsEither IsStoreOf s o) settled_store in_store keeps_store (λ c p. inl p);
+      one_disk = inr (inr (
+        read_images m0 m1 (IsModuleOf s) (IsModuleOf s) settled_module in_module keeps_module (λ c p. p),
+        read_images d0 d1 (IsStoreOf s) (IsStoreOf s) settled_store in_store keeps_store (λ c p. p),
+      ));
+      module_outside = read_outside o.module_cell m0 m1 settled_module keeps_module;
+      store_outside = read_outside o.store_cell d0 d1 settled_store keeps_store;
+      stops = fault;
+    } in
+    let nothing : Unwritten (world m0 d0 left) (world m1 d1 now) = record { on_module = keeps_module.moments; on_store = keeps_store.moments } in
     record {
       drawn = [];
-      carries = record {
-        done = tt;
-        on_module = read_images m0 m1 (IsModuleOf s) (IsEither s o) settled stands.in_module keeps (λ c p. inl p);
-        outside = read_outside o.module_cell m0 m1 settled keeps;
-        stops = fault;
-      };
-      random = inr (tt, read_unwritten m0 m1 keeps);
+      carries = carries;
+      pairs = pairs_of o s (Err stop) reply t m0 m1 d0 d1 carries;
+      random = inr (tt, nothing);
       permitted = λ is. permitted (same_stop stop EntropyFault is);
-      undrawn = λ is. read_unwritten m0 m1 keeps;
+      undrawn = λ is. nothing;
     }
 
-unwritten_after_read : (m0 m1 m2 : Medium) → Keeps m0 m1 → IsUnwritten m1 m2 → IsUnwritten m0 m2
-unwritten_after_read m0 m1 m2 keeps later = goes_on m0 m1 m2 m0.images m1.images m0.images keeps.moments later (λ c p. p) (λ c p. keeps.images c p)
-
--- the module was read before
-pub serves_after_read : (s : State) (request : Request) (result : Result (Unit {0}) Stop) (reply : List ℕ) (before roles : List (Option Role)) (m0 m1 m2 : Medium)
-    (left now : Option (List ℕ))
-    → IsSettled m0 → Stands s before m0 → Keeps m0 m1 → Serves s request result reply roles m1 m2 left now → Serves s request result reply roles m0 m2 left now
-serves_after_read s request result reply before roles m0 m1 m2 left now settled stands keeps serves = record {
-  drawn = serves.drawn;
-  carries = carries_after_read (performed s serves.drawn request) s result reply roles before m0 m1 m2 settled stands keeps serves.carries;
-  random = ⊎_elim (λ drawn. inl drawn) (λ stopped. inr (stopped.0, unwritten_after_read m0 m1 m2 keeps stopped.1)) serves.random;
-  permitted = serves.permitted;
-  undrawn = λ is. unwritten_after_read m0 m1 m2 keeps (serves.undrawn is);
+-- it was carried out, with these random bytes; the random source didn't fail
+pub drawn_serves : (s : State) (request : Request) (drawn : List ℕ) (result : Result (Unit {0}) Stop) (reply : List ℕ) (t : Tables) (m0 m1 d0 d1 : Medium)
+    (left now : Option (List ℕ)) → Carries (performed s drawn request) s result reply t m0 m1 d0 d1 → HasDrawn drawn (taken_by s request) left now
+    → (result ≡ Err EntropyFault → ⊥) → Serves s request result reply t (world m0 d0 left) (world m1 d1 now)
+drawn_serves s request drawn result reply t m0 m1 d0 d1 left now carries random never = record {
+  drawn = drawn;
+  carries = carries;
+  pairs = pairs_of (performed s drawn request) s result reply t m0 m1 d0 d1 carries;
+  random = inl random;
+  permitted = λ fault. absurd (never fault);
+  undrawn = λ fault. absurd (never fault);
 }
 
--- a refusal writes no cell
-pub refused_cell : (s : State) (drawn : List ℕ) (request : Request) (r : Refusal) → verdict s request ≡ Some r → (performed s drawn request).module_cell ≡ None
-refused_cell s drawn request r is = ap (λ (o : Outcome). o.module_cell) (performed_by s drawn request (Some r) is)
+-- both disks were read before
+pub serves_after_reads : (s : State) (request : Request) (result : Result (Unit {0}) Stop) (reply : List ℕ) (before t : Tables) (m0 m1 m2 d0 d1 d2 : Medium)
+    (left now : Option (List ℕ)) → IsSettled m0 → IsSettled d0 → Keeps m0 m1 → Keeps d0 d1 → Stands s before m0 d0
+    → Serves s request result reply t (world m1 d1 left) (world m2 d2 now) → Serves s request result reply t (world m0 d0 left) (world m2 d2 now)
+serves_after_reads s request result reply before t m0 m1 m2 d0 d1 d2 left now settled_module settled_store keeps_module keeps_store stands serves =
+    let o : Outcome = performed s serves.drawn request in
+    let carries : Carries o s result reply t m0 m2 d0 d2 =
+    carries_after_reads o s result reply before t m0 m1 m2 d0 d1 d2 settled_module settled_store stands keeps_module keeps_store serves.carries in
+    record {
+      drawn = serves.drawn;
+      carries = carries;
+      pairs = pairs_of o s result reply t m0 m2 d0 d2 carries;
+      random = ⊎_elim (λ drawn. inl drawn) (λ stopped. inr (stopped.0, goes stopped.1)) serves.random;
+      permitted = serves.permitted;
+      undrawn = λ is. goes (serves.undrawn is);
+    }
+  where
+    goes : Unwritten (world m1 d1 left) (world m2 d2 now) → Unwritten (world m0 d0 left) (world m2 d2 now)
+    goes nothing = record {
+      on_module = unwritten_after_read m0 m1 m2 keeps_module nothing.on_module;
+      on_store = unwritten_after_read d0 d1 d2 keeps_store nothing.on_store;
+    }
 
--- where no cell is written, nothing is
-pub unwritten : (o : Outcome) (m0 m1 : Medium) → o.module_cell ≡ None → EachImage m0 m1 (From (SameBut o.module_cell) m0) → EachImage m0 m1 m0.images
-unwritten o m0 m1 none outside =
-    each_weaker m0 m1 (From (SameBut o.module_cell) m0) m0.images outside
-    (λ c from.
-    let same : c ≡ from.0 = subst (λ (cell : Option ℕ). SameBut cell from.0 c) none from.2 in
-    subst m0.images (sym same) (m0.is_image from.0 from.1))
+-- a refusal writes no cell
+pub refused_cells : (s : State) (drawn : List ℕ) (request : Request) (r : Refusal) → verdict s request ≡ Some r
+    → ((performed s drawn request).module_cell ≡ None) × ((performed s drawn request).store_cell ≡ None)
+refused_cells s drawn request r is =
+    let by = performed_by s drawn request (Some r) is in
+    (ap (λ (o : Outcome). o.module_cell) by, ap (λ (o : Outcome). o.store_cell) by)

@@ -1,32 +1,43 @@
 -- What a verb decided: what is still to be carried out.
-use Rattle.std.specs.Prelude.{◌≡◌, ◌≢◌, ◌≤◌, ◌<◌, false, ℕ, List, [], ◌∷◌, length, codes, Option, Some, None, Result, Ok, Err}
+use Rattle.std.specs.Prelude.{◌≡◌, ◌≢◌, ◌≤◌, ◌<◌, false, ⊤, IsSome, ℕ, List, [], ◌∷◌, length, codes, Option, Some, None, Result, Ok, Err}
 use Rattle.cca_roles.specs.RoleNames.{default_name}
+use Rattle.key_records.specs.Ages.{any_old as any_old_label}
+use Rattle.key_records.specs.Directory.{label_at}
+use Rattle.key_records.specs.Entries.{Entry, row_directory}
+use Rattle.key_records.specs.StoreStands.{HoldsRows, KeepsLabels}
+use Rattle.key_records.specs.declared.faults.RecordFault.{RecordFault}
+use Rattle.key_records.specs.declared.faults.RecordFault.TheVariants as record_fault
+use Rattle.key_records.specs.declared.rows.Row.{Row}
+use Rattle.key_tokens.specs.Denotes.{Denoted, denoted}
 use Rattle.cca_roles.specs.RolesStand.{StandsForRoles}
 use Rattle.cca_roles.specs.declared.faults.RoleFault.{RoleFault}
 use Rattle.cca_roles.specs.declared.faults.RoleFault.TheVariants as role
 use Rattle.cca_roles.specs.declared.roles.Role.{Role}
 use Rattle.key_cells.specs.Bench.{Bench}
 use Rattle.master_registers.specs.Actions.{after_action}
-use Rattle.master_registers.specs.Loaded.{Loaded, IsLoaded, StandsForLoaded}
+use Rattle.master_registers.specs.Loaded.{Loaded, IsLoaded, StandsForLoaded, masters_in}
 use Rattle.master_registers.specs.declared.actions.Action.{Action}
+use Rattle.master_registers.specs.declared.actions.Action.TheVariants.{First, Middle, Last, Clear, Set}
 use Rattle.master_registers.specs.declared.registers.NewState.{NewState}
 use Rattle.master_registers.specs.declared.registers.NewState.TheVariants as new
 use Rattle.master_registers.specs.declared.registers.Registers.{Registers}
 use Rattle.master_registers.specs.declared.faults.RegisterFault.{RegisterFault}
 use Rattle.master_registers.specs.declared.faults.RegisterFault.TheVariants as fault
-use Rattle.script_buffers.specs.Replies.{Field, Reply, Refused, Done, Text, written}
+use Rattle.script_buffers.specs.Replies.{Field, Hex, Reply, Refused, Done, Text, written}
 use Rattle.slot_disk.specs.Medium.{Medium, Told, IsSettled}
 use Rattle.verb_script.specs.Grammar.{Request}
 use Rattle.line_service.specs.declared.stops.Stop.{Stop}
-use Rattle.line_service.specs.declared.stops.Stop.TheVariants.{ModuleFault}
-use Rattle.cca_machine.specs.Keys.{any_old}
+use Rattle.line_service.specs.declared.stops.Stop.TheVariants.{ModuleFault, StoreFault}
+use Rattle.cca_machine.specs.Ageing.{aged}
+use Rattle.cca_machine.specs.Keys.{any_old, cell_with}
 use Rattle.cca_machine.specs.Lines.{drawn_where}
 use Rattle.cca_machine.specs.Operands.{operands, listed}
+use Rattle.verb_rules.specs.Keys.{keys_of}
 use Rattle.verb_rules.specs.Rules.{rule_number}
-use Rattle.cca_machine.specs.State.{State, module_size}
-use Rattle.cca_machine.specs.Verdict.{Questions, Refusal, refusal, first_refusal, action_questions, define_questions, remove_questions, verb_verdict}
-use Rattle.cca_machine.specs.Act.{Effect, Show, Become, DefineRole, RemoveRole, Outcome, effect, draws, state_after, fields_after, cell_after, refused}
-use Rattle.cca_requests.specs.Serving.{Stands, HasDrawn}
+use Rattle.cca_machine.specs.State.{State, module_size, store_size}
+use Rattle.cca_machine.specs.Verdict.{Questions, Refusal, refusal, first_refusal, action_questions, set_questions, create_questions, define_questions, remove_questions, verb_verdict}
+use Rattle.cca_machine.specs.Act.{Effect, Show, Become, DefineRole, RemoveRole, Create, Write, Delete, Outcome, effect, draws, state_after, fields_after, cell_after, store_cell_after, refused}
+use Rattle.cca_requests.specs.Serving.{Tables, StandsInModule, StandsInStore, Stands, HasDrawn}
 use Rattle.cca_requests.specs.declared.effects.Effect.{Effect as CodeEffect}
 use Rattle.cca_requests.specs.declared.effects.Effect.TheVariants as code
 
@@ -38,10 +49,31 @@ pub record HasLoaded (held : Registers) (bench : Bench) (roles : List (Option Ro
   pub stands : Told module_ (StandsForLoaded held bench)
   pub remembered : Told module_ (λ image. StandsForRoles image roles)
 
+-- of the store nothing is unsynced, and the memory knows its labels
+pub record HasStore (rows : List (Option Row)) (store : Medium) : Type 0 where
+  pub size : store.size ≡ store_size
+  pub settled : IsSettled store
+  pub holds : Told store (HoldsRows rows)
+
 -- the module stands for the state, whose registers are in the bench and whose roles the memory has
-pub record At (s : State) (held : Registers) (bench : Bench) (roles : List (Option Role)) (module_ : Medium) : Type 0 where
+pub record AtModule (s : State) (held : Registers) (bench : Bench) (roles : List (Option Role)) (module_ : Medium) : Type 0 where
   pub loaded : Loaded s.registers held bench
-  pub stands : Stands s roles module_
+  pub stands : StandsInModule s roles module_
+
+-- the same of the store, whose labels the memory knows
+pub record AtStore (s : State) (held : Registers) (bench : Bench) (rows : List (Option Row)) (store : Medium) : Type 0 where
+  pub loaded : Loaded s.registers held bench
+  pub stands : StandsInStore s rows store
+
+-- and of both
+pub record At (s : State) (held : Registers) (bench : Bench) (t : Tables) (m d : Medium) : Type 0 where
+  pub loaded : Loaded s.registers held bench
+  pub stands : Stands s t m d
+
+-- the memory knows the labels of the state, for which some store stands
+pub record IsRecorded (s : State) (rows : List (Option Row)) : Type 0 where
+  pub image : List ℕ
+  pub keeps : KeepsLabels (keys_of s.registers) rows s.labels image
 
 -- the reply has the fields that the effect shows
 pub record IsShown (e : Effect) (reply : List ℕ) : Type 0 where
@@ -53,16 +85,53 @@ pub record IsShown (e : Effect) (reply : List ℕ) : Type 0 where
 abbrev pub WarnsNot : State → Request → Type 0
 WarnsNot s request = any_old s (listed (operands request)) ≡ false
 
+-- what an action makes of the labels: SET makes their keys old
+abbrev pub labels_after : Action → List (Option Entry) → List (Option Entry)
+labels_after First labels = labels
+labels_after Middle labels = labels
+labels_after Last labels = labels
+labels_after Clear labels = labels
+labels_after Set labels = aged labels
+
+-- the action loses no key: of SET that no label is under the old master key
+abbrev pub LosesNone : Action → State → Type 0
+LosesNone First s = ⊤
+LosesNone Middle s = ⊤
+LosesNone Last s = ⊤
+LosesNone Clear s = ⊤
+LosesNone Set s = any_old_label s.labels ≡ false
+
+-- the effect gives the label at this place the key of a token, and the reply has its fields
+pub record IsWritten (s : State) (e : Effect) (place : ℕ) (token reply : List ℕ) : Type 0 where
+  pub label : List ℕ
+  pub key : Denoted
+  pub fields : List Field
+  pub is : e ≡ Write label key fields
+  pub placed : cell_with s label ≡ Some place
+  pub stands : denoted (keys_of s.registers) token ≡ Some key
+  pub reply_is : reply ≡ written fields
+
+-- the effect takes away the label at this place
+pub record IsDeleted (s : State) (e : Effect) (place : ℕ) : Type 0 where
+  pub label : List ℕ
+  pub is : e ≡ Delete label
+  pub placed : cell_with s label ≡ Some place
+
 -- what is still to be carried out gives this verdict and this effect
 abbrev pub IsLeft : State → Bench → Request → Option Refusal → Effect → CodeEffect → List ℕ → Type 0
 IsLeft s bench request v e (code.Refused rule name) reply = v ≡ Some (refusal (rule_number rule) name.now)
 IsLeft s bench request v e code.Shown reply = (v ≡ None) × IsShown e reply
 IsLeft s bench request v e (code.Change action) reply =
-    (v ≡ first_refusal (action_questions s action)) × (e ≡ Become (after_action action bench.part s.registers)) × WarnsNot s request
+    (v ≡ first_refusal (action_questions s action)) × (e ≡ Become (after_action action bench.part s.registers) (labels_after action s.labels))
+    × LosesNone action s × WarnsNot s request
 IsLeft s bench request v e (code.DefineRole name points) reply =
     (v ≡ first_refusal (define_questions s name)) × (e ≡ DefineRole name points) × WarnsNot s request
 IsLeft s bench request v e (code.RemoveRole name) reply =
     (v ≡ first_refusal (remove_questions s name)) × (e ≡ RemoveRole name) × WarnsNot s request
+IsLeft s bench request v e (code.Create label) reply =
+    (v ≡ first_refusal (create_questions s label)) × (e ≡ Create label) × WarnsNot s request
+IsLeft s bench request v e (code.Write place token) reply = (v ≡ None) × IsWritten s e place token reply
+IsLeft s bench request v e (code.Delete place) reply = (v ≡ None) × IsDeleted s e place × WarnsNot s request
 
 -- it gives the verdict and the effect of the verb, with these random bytes
 abbrev pub IsDecided : State → Bench → List ℕ → Request → CodeEffect → List ℕ → Type 0
@@ -79,6 +148,44 @@ abbrev pub MayDecide : State → Bench → Request → Result CodeEffect Stop �
 MayDecide s bench request (Ok e) reply before now = Decides s bench request e reply before now
 MayDecide s bench request (Err stop) reply before now = (verb_verdict s request ≡ None) × (0 < draws request.name request)
 
+-- a key goes into a record, or into the reply
+abbrev pub IsDelivered : State → Effect → CodeEffect → List ℕ → Type 0
+IsDelivered s e (code.Refused _ name) reply = ⊥
+IsDelivered s e code.Shown reply = IsShown e reply
+IsDelivered s e (code.Change action) reply = ⊥
+IsDelivered s e (code.DefineRole name points) reply = ⊥
+IsDelivered s e (code.RemoveRole name) reply = ⊥
+IsDelivered s e (code.Create label) reply = ⊥
+IsDelivered s e (code.Write place token) reply = IsWritten s e place token reply
+IsDelivered s e (code.Delete place) reply = ⊥
+
+-- the token of a second key, where there is one
+abbrev pub token2_fields : Option (List ℕ) → List Field
+token2_fields None = []
+token2_fields (Some token) = Hex (codes "token2") token ∷ []
+
+-- the same, whatever the state: this token goes to this place, or into the reply
+abbrev pub IsDelivery : List ℕ → Option ℕ → CodeEffect → Type 0
+IsDelivery token place (code.Refused _ name) = ⊥
+IsDelivery token place code.Shown = ⊤
+IsDelivery token place (code.Change action) = ⊥
+IsDelivery token place (code.DefineRole name points) = ⊥
+IsDelivery token place (code.RemoveRole name) = ⊥
+IsDelivery token place (code.Create label) = ⊥
+IsDelivery token place (code.Write other bytes) = (place ≡ Some other) × (bytes ≡ token)
+IsDelivery token place (code.Delete other) = ⊥
+
+-- SET is left to be carried out, or a rule refuses it
+abbrev pub IsSetDecided : State → CodeEffect → Type 0
+IsSetDecided s (code.Refused rule name) = (first_refusal (set_questions s) ≡ Some (refusal (rule_number rule) (codes "-"))) × (name.now ≡ codes "-")
+IsSetDecided s code.Shown = ⊥
+IsSetDecided s (code.Change action) = (action ≡ Set) × (first_refusal (set_questions s) ≡ None)
+IsSetDecided s (code.DefineRole name points) = ⊥
+IsSetDecided s (code.RemoveRole name) = ⊥
+IsSetDecided s (code.Create label) = ⊥
+IsSetDecided s (code.Write place token) = ⊥
+IsSetDecided s (code.Delete place) = ⊥
+
 -- a verb that shows these fields, or is refused with this verdict
 abbrev pub ShowsOr : Option Refusal → List Field → CodeEffect → List ℕ → Type 0
 ShowsOr v fields (code.Refused rule name) reply = v ≡ Some (refusal (rule_number rule) name.now)
@@ -86,18 +193,46 @@ ShowsOr v fields code.Shown reply = (v ≡ None) × (reply ≡ written fields)
 ShowsOr v fields (code.Change action) reply = ⊥
 ShowsOr v fields (code.DefineRole name points) reply = ⊥
 ShowsOr v fields (code.RemoveRole name) reply = ⊥
+ShowsOr v fields (code.Create label) reply = ⊥
+ShowsOr v fields (code.Write place token) reply = ⊥
+ShowsOr v fields (code.Delete place) reply = ⊥
+
+-- the memory knows the label at this place
+abbrev pub IsHeldAt : List (Option Row) → ℕ → Type 0
+IsHeldAt rows place = IsSome (label_at (row_directory rows) place)
 
 -- what is certain of it in every state
-abbrev pub IsReady : CodeEffect → List ℕ → Type 0
-IsReady (code.Refused _ name) reply = (reply ≡ []) × (length name.now < 100)
-IsReady code.Shown reply = length reply ≤ 69000
-IsReady (code.Change action) reply = reply ≡ []
-IsReady (code.DefineRole name points) reply = reply ≡ []
-IsReady (code.RemoveRole name) reply = (reply ≡ []) × (name ≢ default_name)
+abbrev pub IsReady : Registers → Bench → List (Option Row) → CodeEffect → List ℕ → Type 0
+IsReady held bench rows (code.Refused _ name) reply = (reply ≡ []) × (length name.now < 100)
+IsReady held bench rows code.Shown reply = length reply ≤ 69000
+IsReady held bench rows (code.Change action) reply = reply ≡ []
+IsReady held bench rows (code.DefineRole name points) reply = reply ≡ []
+IsReady held bench rows (code.RemoveRole name) reply = (reply ≡ []) × (name ≢ default_name)
+IsReady held bench rows (code.Create label) reply = reply ≡ []
+IsReady held bench rows (code.Write place token) reply =
+    IsHeldAt rows place × IsSome (denoted (keys_of (masters_in held bench)) token) × (length reply ≤ 69000)
+IsReady held bench rows (code.Delete place) reply = (reply ≡ []) × IsHeldAt rows place
+
+-- the effect writes the store
+abbrev pub WritesStore : CodeEffect → Type 0
+WritesStore (code.Refused _ name) = ⊥
+WritesStore code.Shown = ⊥
+WritesStore (code.Change action) = ⊥
+WritesStore (code.DefineRole name points) = ⊥
+WritesStore (code.RemoveRole name) = ⊥
+WritesStore (code.Create label) = ⊤
+WritesStore (code.Write place token) = ⊤
+WritesStore (code.Delete place) = ⊤
 
 -- what comes of an effect without a warning
 abbrev pub plainly : State → Effect → Outcome
-plainly s e = record { state = state_after s e; reply = Done (fields_after s e); module_cell = cell_after s e; between = λ k. s }
+plainly s e = record {
+  state = state_after s e;
+  reply = Done (fields_after s e);
+  module_cell = cell_after s e;
+  store_cell = store_cell_after s e;
+  between = λ k. s;
+}
 
 abbrev pub or_effected : Option Refusal → State → Effect → Outcome
 or_effected (Some r) s e = refused s r
@@ -106,7 +241,7 @@ or_effected None s e = plainly s e
 -- what comes of an action with this key part
 abbrev pub action_outcome : State → Action → List ℕ → Outcome
 action_outcome s action part =
-    or_effected (first_refusal (action_questions s action)) s (Become (after_action action part s.registers))
+    or_effected (first_refusal (action_questions s action)) s (Become (after_action action part s.registers) (labels_after action s.labels))
 
 -- the bench with the places that a verb may write as they are in another one
 abbrev pub with_places : Bench → Bench → Bench
@@ -153,3 +288,24 @@ role_reply (Err role.DiskFault) = Done []
 role_reply (Err (role.Damaged cell)) = Done []
 role_reply (Err role.TableFull) = Refused 30 (codes "name")
 role_reply (Err role.Unknown) = Refused 30 (codes "name")
+
+-- ---- a change of the records
+
+-- what comes of holding another label
+abbrev pub create_outcome : State → List ℕ → Outcome
+create_outcome s label = or_effected (first_refusal (create_questions s label)) s (Create label)
+
+abbrev pub record_stop : Result (Unit {0}) RecordFault → Result (Unit {0}) Stop
+record_stop (Ok done) = Ok tt
+record_stop (Err record_fault.DiskFault) = Err StoreFault
+record_stop (Err (record_fault.Damaged cell)) = Err StoreFault
+record_stop (Err record_fault.Full) = Ok tt
+record_stop (Err record_fault.Exists) = Ok tt
+
+-- the reply to it; a fault of the store has none
+abbrev pub record_reply : Result (Unit {0}) RecordFault → Reply
+record_reply (Ok done) = Done []
+record_reply (Err record_fault.DiskFault) = Done []
+record_reply (Err (record_fault.Damaged cell)) = Done []
+record_reply (Err record_fault.Full) = Refused 28 (codes "label")
+record_reply (Err record_fault.Exists) = Refused 29 (codes "label")

@@ -2,3 +2,4 @@ pub mod Deciding
 pub mod Drawing
 pub mod Judging
 pub mod Serving
+pub mod Stored

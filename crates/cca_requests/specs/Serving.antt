@@ -1,19 +1,26 @@
--- What a request leaves of the module, in a few records.
-use Rattle.std.specs.Prelude.{◌≡◌, ◌≢◌, ◌⊎◌, ◌≤◌, ◌<◌, ◌*◌, ℕ, List, [], length, slice_index, Option, Some, None, Result, Err, OnOk, OnErr, IfErr, ⊤}
+-- What a request leaves of the disks, in a few records.
+use Rattle.std.specs.Prelude.{◌≡◌, ◌≢◌, ◌⊎◌, ◌≤◌, ◌<◌, ◌*◌, ℕ, List, [], length, slice_index, Option, Some, None, Result, Err, OnOk, OnErr, IfErr, IsSome, ⊤}
 use Rattle.slot_disk.specs.Cells.{body, IsUntouched}
 use Rattle.slot_disk.specs.declared.cell.TheConstants.{CELL_LEN}
-use Rattle.slot_disk.specs.Medium.{Medium, Told, From, EachImage}
+use Rattle.slot_disk.specs.Medium.{Medium, Told, From, EachImage, EachPair}
 use Rattle.slot_disk.specs.Ranges.{SameOutside}
 use Rattle.script_buffers.specs.Reading.{line_limit}
 use Rattle.script_buffers.specs.Replies.{spelled}
+use Rattle.cca_roles.specs.RolesStand.{StandsForRoles}
 use Rattle.cca_roles.specs.declared.roles.Role.{Role}
+use Rattle.key_records.specs.StoreStands.{Agrees, HoldsRows}
+use Rattle.key_records.specs.declared.rows.Row.{Row}
 use Rattle.master_registers.specs.Masters.{Masters}
-use Rattle.line_service.specs.Answering.{Holds}
+use Rattle.master_registers.specs.RegisterBody.{StandsForMasters}
+use Rattle.line_service.specs.Answering.{Holds, Unwritten}
 use Rattle.line_service.specs.Devices.{DiskLeft}
+use Rattle.line_service.specs.Machine.{World}
+use Rattle.line_service.specs.declared.stops.Device.TheVariants.{Module, Store}
 use Rattle.line_service.specs.declared.stops.Stop.{Stop}
 use Rattle.line_service.specs.declared.stops.Stop.TheVariants.{ReadFault, WriteFault, EntropyFault, ModuleFault, StoreFault, Damaged, InputLimit}
+use Rattle.verb_rules.specs.Keys.{keys_of}
 use Rattle.verb_script.specs.Grammar.{Request, Spells}
-use Rattle.cca_machine.specs.State.{State, IsModuleOf}
+use Rattle.cca_machine.specs.State.{State, IsModuleOf, IsStoreOf}
 use Rattle.cca_machine.specs.Act.{Outcome, performed}
 use Rattle.cca_machine.specs.Lines.{taken_by}
 use Rattle.std.specs.Io.KnownBytes.{Consumes}
@@ -22,21 +29,38 @@ use Rattle.std.specs.Io.KnownBytes.{Consumes}
 abbrev pub IsSpelled : Request → Type 0
 IsSpelled request = (line : List ℕ) × Spells request line × (length line ≤ line_limit)
 
+-- what the memory has of the disks: the roles of the module, and what is known of the labels of the store
+pub record Tables : Type 0 where
+  pub roles : List (Option Role)
+  pub rows : List (Option Row)
+
+abbrev pub tables : List (Option Role) → List (Option Row) → Tables
+tables roles rows = record { roles = roles; rows = rows }
+
 -- the module tells its content, which stands for the state, and the memory has the roles of the state
-pub record Stands (s : State) (roles : List (Option Role)) (module_ : Medium) : Type 0 where
+pub record StandsInModule (s : State) (roles : List (Option Role)) (module_ : Medium) : Type 0 where
   pub in_module : Holds module_ (IsModuleOf s)
   pub memory : roles ≡ s.roles
 
+-- the store tells its content, which stands for the labels of the state, and the memory knows them
+pub record StandsInStore (s : State) (rows : List (Option Row)) (store : Medium) : Type 0 where
+  pub in_store : Holds store (IsStoreOf s)
+  pub agrees : Agrees (keys_of s.registers) rows s.labels
+
+-- both
+pub record Stands (s : State) (t : Tables) (m d : Medium) : Type 0 where
+  pub on_module : StandsInModule s t.roles m
+  pub on_store : StandsInStore s t.rows d
+
 -- ---- an outcome, carried out
 
--- the reply is the outcome's, and the module stands for its state
-pub record IsDone (o : Outcome) (reply : List ℕ) (roles : List (Option Role)) (module_ : Medium) : Type 0 where
-  pub reply_is : reply ≡ spelled o.reply
-  pub stands : Stands o.state roles module_
+-- an image stands for the state before, or for the one after
+abbrev pub IsEither : (State → List ℕ → Type 0) → State → Outcome → List ℕ → Type 0
+IsEither Of s o image = Of s image ⊎ Of o.state image
 
--- an image of the module stands for the state before, or for the one after
-abbrev pub IsEither : State → Outcome → List ℕ → Type 0
-IsEither s o image = IsModuleOf s image ⊎ IsModuleOf o.state image
+-- an image of the module with one of the store: both stand for the state before, or both for the one after
+abbrev pub ArePair : State → Outcome → List ℕ → List ℕ → Type 0
+ArePair s o c d = (IsModuleOf s c × IsStoreOf s d) ⊎ (IsModuleOf o.state c × IsStoreOf o.state d)
 
 -- new is old outside this cell, and in it but for the selector and the body that wasn't selected; every other cell selects
 -- the body that it did
@@ -60,11 +84,57 @@ IsFault WriteFault = ⊥
 IsFault InputLimit = ⊥
 IsFault (Damaged device cell) = ⊥
 
-pub record Carries (o : Outcome) (s : State) (result : Result (Unit {0}) Stop) (reply : List ℕ) (roles : List (Option Role)) (m0 m1 : Medium) : Type 0 where
-  pub done : OnOk result (IsDone o reply roles m1)
+-- ---- of the module alone
+
+pub record IsDoneInModule (o : Outcome) (reply : List ℕ) (roles : List (Option Role)) (module_ : Medium) : Type 0 where
+  pub reply_is : reply ≡ spelled o.reply
+  pub stands : StandsInModule o.state roles module_
+
+pub record CarriesModule (o : Outcome) (s : State) (result : Result (Unit {0}) Stop) (reply : List ℕ) (roles : List (Option Role)) (m0 m1 : Medium) : Type 0 where
+  pub done : OnOk result (IsDoneInModule o reply roles m1)
   -- whatever the answer, at each moment of the call
-  pub on_module : EachImage m0 m1 (IsEither s o)
+  pub moments : EachImage m0 m1 (IsEither IsModuleOf s o)
   pub outside : EachImage m0 m1 (From (SameBut o.module_cell) m0)
+  pub stops : IfErr result IsFault
+
+-- ---- of the store alone
+
+pub record IsDoneInStore (o : Outcome) (reply : List ℕ) (rows : List (Option Row)) (store : Medium) : Type 0 where
+  pub reply_is : reply ≡ spelled o.reply
+  pub stands : StandsInStore o.state rows store
+
+pub record CarriesStore (o : Outcome) (s : State) (result : Result (Unit {0}) Stop) (reply : List ℕ) (rows : List (Option Row)) (d0 d1 : Medium) : Type 0 where
+  pub done : OnOk result (IsDoneInStore o reply rows d1)
+  pub moments : EachImage d0 d1 (IsEither IsStoreOf s o)
+  pub outside : EachImage d0 d1 (From (SameBut o.store_cell) d0)
+  pub stops : IfErr result IsFault
+
+-- ---- of both
+
+-- the reply is the outcome's, and the disks stand for its state
+pub record IsDone (o : Outcome) (reply : List ℕ) (t : Tables) (m d : Medium) : Type 0 where
+  pub reply_is : reply ≡ spelled o.reply
+  pub stands : Stands o.state t m d
+
+-- each image of one disk stands for the state before, and what stands for that stands for the state after too
+abbrev pub Rests : (State → List ℕ → Type 0) → State → Outcome → Medium → Medium → Type 0
+Rests Of s o old new = EachImage old new (Of s) × ((c : List ℕ) → Of s c → Of o.state c)
+
+-- one disk at most is written: the store, or the module, or none of them
+abbrev pub OneDisk : State → Outcome → Medium → Medium → Medium → Medium → Type 0
+OneDisk s o m0 m1 d0 d1 =
+    Rests IsModuleOf s o m0 m1
+    ⊎ (Rests IsStoreOf s o d0 d1
+    ⊎ (EachImage m0 m1 (IsModuleOf s) × EachImage d0 d1 (IsStoreOf s)))
+
+pub record Carries (o : Outcome) (s : State) (result : Result (Unit {0}) Stop) (reply : List ℕ) (t : Tables) (m0 m1 d0 d1 : Medium) : Type 0 where
+  pub done : OnOk result (IsDone o reply t m1 d1)
+  -- whatever the answer, at each moment of the call
+  pub on_module : EachImage m0 m1 (IsEither IsModuleOf s o)
+  pub on_store : EachImage d0 d1 (IsEither IsStoreOf s o)
+  pub one_disk : OneDisk s o m0 m1 d0 d1
+  pub module_outside : EachImage m0 m1 (From (SameBut o.module_cell) m0)
+  pub store_outside : EachImage d0 d1 (From (SameBut o.store_cell) d0)
   pub stops : IfErr result IsFault
 
 -- the random bytes that were drawn are the next ones, and as many as the machine takes
@@ -72,32 +142,89 @@ pub record HasDrawn (drawn : List ℕ) (count : ℕ) (before now : Option (List 
   pub consumed : Consumes before now drawn
   pub size : length drawn ≡ count
 
--- nothing was written: a stop at any moment leaves what it could leave before
-abbrev pub IsUnwritten : Medium → Medium → Type 0
-IsUnwritten m0 m1 = EachImage m0 m1 m0.images
-
 -- what the machine makes of the request, with some random bytes, is carried out
-pub record Serves (s : State) (request : Request) (result : Result (Unit {0}) Stop) (reply : List ℕ) (roles : List (Option Role)) (m0 m1 : Medium)
-    (before now : Option (List ℕ)) : Type 0 where
+pub record Serves (s : State) (request : Request) (result : Result (Unit {0}) Stop) (reply : List ℕ) (t : Tables) (old new : World) : Type 0 where
   pub drawn : List ℕ
-  pub carries : Carries (performed s drawn request) s result reply roles m0 m1
+  pub carries : Carries (performed s drawn request) s result reply t old.module_ new.module_ old.store new.store
+  -- at each moment of the call, each image of the module with each of the store
+  pub pairs : EachPair old.module_ new.module_ old.store new.store (ArePair s (performed s drawn request))
   -- they were drawn; or it stopped before, and nothing was written
-  pub random : HasDrawn drawn (taken_by s request) before now ⊎ (OnOk result ⊥ × IsUnwritten m0 m1)
+  pub random : HasDrawn drawn (taken_by s request) old.random new.random ⊎ (OnOk result ⊥ × Unwritten old new)
   -- the random source fails only where the machine takes random bytes, and nothing is written then
   pub permitted : result ≡ Err EntropyFault → 0 < taken_by s request
-  pub undrawn : result ≡ Err EntropyFault → IsUnwritten m0 m1
+  pub undrawn : result ≡ Err EntropyFault → Unwritten old new
 
--- ---- what is certain whatever the module holds
+-- ---- what is certain whatever the disks hold
 
--- a content of the module stands for some state, whose roles the memory has
+-- a content of the module stands for some registers, and for the roles that the memory has
 pub record IsSound (roles : List (Option Role)) (image : List ℕ) : Type 0 where
   pub registers : Masters
-  pub stands : IsModuleOf (record { registers = registers; roles = roles }) image
+  pub in_registers : StandsForMasters image registers
+  pub in_roles : StandsForRoles image roles
 
--- what a call behind the loading of the registers leaves of the module, the reply and the memory
-pub record Leaves (old new : Medium) (before now : ℕ) (result : Result (Unit {0}) Stop) (reply : List ℕ) (roles later : List (Option Role)) : Type 0 where
+-- a request may stop for these
+abbrev pub IsRequestStop : Stop → Type 0
+IsRequestStop EntropyFault = ⊤
+IsRequestStop ModuleFault = ⊤
+IsRequestStop StoreFault = ⊤
+IsRequestStop (Damaged Module cell) = cell ≡ 0
+IsRequestStop (Damaged Store cell) = cell < 1024
+IsRequestStop ReadFault = ⊥
+IsRequestStop WriteFault = ⊥
+IsRequestStop InputLimit = ⊥
+
+-- once the registers are loaded, it may stop for these
+abbrev pub IsLoadedStop : Stop → Type 0
+IsLoadedStop EntropyFault = ⊤
+IsLoadedStop ModuleFault = ⊤
+IsLoadedStop StoreFault = ⊤
+IsLoadedStop (Damaged Module cell) = ⊥
+IsLoadedStop (Damaged Store cell) = cell < 1024
+IsLoadedStop ReadFault = ⊥
+IsLoadedStop WriteFault = ⊥
+IsLoadedStop InputLimit = ⊥
+
+-- the disk told its content before, where it tells it now
+abbrev pub HasTold : Medium → Medium → Type 0
+HasTold old new = IsSome new.content → IsSome old.content
+
+-- what a change of the module leaves of it, of the reply and of the memory
+pub record LeavesModule (old new : Medium) (before now : ℕ) (result : Result (Unit {0}) Stop) (reply : List ℕ) (roles later : List (Option Role)) : Type 0 where
   pub disk : DiskLeft old new before now result ModuleFault
+  pub told : HasTold old new
   pub sound : OnOk result (Told new (IsSound later))
   pub silent : OnErr result (reply ≡ [])
   pub memory : OnErr result (later ≡ roles)
-  pub stops : IfErr result (λ stop. (stop ≡ ModuleFault) ⊎ (stop ≡ EntropyFault))
+  pub stops : IfErr result (λ stop. stop ≡ ModuleFault)
+
+-- and a change of the store
+pub record LeavesStore (old new : Medium) (before now : ℕ) (result : Result (Unit {0}) Stop) (reply : List ℕ) (rows later : List (Option Row)) : Type 0 where
+  pub disk : DiskLeft old new before now result StoreFault
+  pub told : HasTold old new
+  pub holds : OnOk result (Told new (HoldsRows later))
+  pub silent : OnErr result (reply ≡ [])
+  pub memory : OnErr result (later ≡ rows)
+  pub stops : IfErr result (λ stop. stop ≡ StoreFault)
+
+-- two disks before and after a call, with their counts of faults
+pub record Span : Type 1 where
+  pub module_old : Medium
+  pub module_new : Medium
+  pub module_before : ℕ
+  pub module_now : ℕ
+  pub store_old : Medium
+  pub store_new : Medium
+  pub store_before : ℕ
+  pub store_now : ℕ
+
+-- what a call behind the loading of the registers leaves of both disks, of the reply and of the memory
+pub record Leaves (d : Span) (result : Result (Unit {0}) Stop) (reply : List ℕ) (t later : Tables) : Type 0 where
+  pub module_disk : DiskLeft d.module_old d.module_new d.module_before d.module_now result ModuleFault
+  pub store_disk : DiskLeft d.store_old d.store_new d.store_before d.store_now result StoreFault
+  pub module_told : HasTold d.module_old d.module_new
+  pub store_told : HasTold d.store_old d.store_new
+  pub sound : OnOk result (Told d.module_new (IsSound later.roles))
+  pub holds : OnOk result (Told d.store_new (HoldsRows later.rows))
+  pub silent : OnErr result (reply ≡ [])
+  pub memory : OnErr result (later ≡ t)
+  pub stops : IfErr result IsLoadedStop

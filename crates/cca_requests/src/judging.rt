@@ -1,25 +1,36 @@
 //! The operands of a request, judged in their order.
-ghost use Rattle.std.specs.Prelude.{◌≡◌, ◌<◌, Some, None, IfOk, IfErr, IsTrue, drop, length};
+ghost use Rattle.std.specs.Prelude.{◌≡◌, [], Some, None, Err, IfOk, IfErr, IsTrue, false, drop};
 ghost use Rattle.key_cells.specs.Bench.{Bench};
+ghost use Rattle.key_cells.specs.Lease.{bench_of};
+ghost use Rattle.key_records.specs.Changes.{KeepsAllButBody};
+ghost use Rattle.key_tokens.specs.TokenChecks.{rule_of};
+ghost use Rattle.key_tokens.specs.declared.key_token.Asked.TheVariants.{Internal, External};
+ghost use Rattle.line_service.specs.Devices.{DiskLeft};
 ghost use Rattle.master_registers.specs.Loaded.{Loaded};
-ghost use Rattle.cca_vectors.specs.Checks.{first_failing};
-ghost use Rattle.key_tokens.specs.TokenChecks.{rule_of, token_checks};
-ghost use Rattle.key_tokens.specs.Fields.{token_of};
-ghost use Rattle.key_tokens.specs.declared.key_token.Asked.TheVariants.{Either};
+ghost use Rattle.master_registers.specs.Masters.{Masters};
+ghost use Rattle.slot_disk.specs.Medium.{Keeps};
 ghost use Rattle.verb_rules.specs.Rules.{rule_number};
 ghost use Rattle.verb_script.specs.Grammar.{is_hex, accepts, key_text};
+ghost use Rattle.verb_script.specs.Named.{label_named};
 ghost use Rattle.verb_script.specs.Values.{hex_value};
+ghost use Rattle.cca_machine.specs.Operands.{is_named_by, names_label, listed};
 ghost use Rattle.cca_machine.specs.State.{State};
-ghost use Rattle.cca_machine.specs.Verdict.{operand_checks};
-ghost use Rattle.cca_requests.specs.Judging.{IsText, IsAsked, HasShape, HasJudged, HaveShapes, AreFit, IsJudged, seen_operands};
+ghost use Rattle.cca_requests.specs.Deciding.{AtStore, HasStore};
+ghost use Rattle.cca_requests.specs.Judging.{IsText, AreFit, seen_operands};
+ghost use Rattle.cca_requests.specs.Judging.{IsAsked, IsShaped, IsKeyedAnswer, IsStoreStop};
+ghost use Rattle.cca_requests.specs.Judging.{IsJudged, AreShaped, AreKeyedOperands};
 
-use crate::operands::{Operand, Operands};
-use crate::refusals::Refusal;
+use crate::operands::{Operand, Operands, any_key};
+use crate::stored::{judge_held, judge_label, judge_new_label, judge_target};
 use cca_machine::Ask;
+use key_cells::Lease;
+use key_records::{Place, Records};
 use key_tokens::{Asked, Token, TokenFault, read_token};
+use line_service::Stop;
 use master_registers::Registers;
+use slot_disk::Disk;
 use verb_rules::{Judged, Need, Rule, judge_key};
-use verb_script::decode;
+use verb_script::{decode, named_label};
 
 /// What an operand stands for, where it breaks no rule.
 #[derive(Clone, Copy)]
@@ -28,6 +39,8 @@ pub(crate) struct Grant {
     pub(crate) token: Option<Token>,
     /// The key, where one is asked for.
     pub(crate) key: Option<Judged>,
+    /// The place of the label, where one that is held is asked for.
+    pub(crate) place: Option<Place>,
 }
 
 /// What the operands stand for.
@@ -36,6 +49,21 @@ pub(crate) struct Granted {
     pub(crate) first: Grant,
     pub(crate) second: Grant,
     pub(crate) third: Grant,
+}
+
+/// The first rule that an operand breaks, or what it stands for.
+#[derive(Clone, Copy)]
+pub(crate) enum Answer {
+    Refused(Rule),
+    Granted(Grant),
+}
+
+/// The first rule that the operands break, with the name of the one that breaks it, or what they
+/// stand for.
+#[derive(Clone, Copy)]
+pub(crate) enum Verdict {
+    Refused(Rule, &'static str),
+    Granted(Granted),
 }
 
 /// The rule that a fault of a token says is broken.
@@ -55,7 +83,7 @@ fn token_rule(fault: TokenFault) -> Rule
 }
 
 /// The bytes of a key token that 128 hexadecimal digits spell.
-fn token_bytes(digits: &[u8]) -> [u8; 64]
+pub(crate) fn token_bytes(digits: &[u8]) -> [u8; 64]
     requires { IsTrue (is_hex 128 digits.now) }
     ensures { result ≡ hex_value digits.now }
 {
@@ -64,106 +92,189 @@ fn token_bytes(digits: &[u8]) -> [u8; 64]
     bytes
 }
 
-/// Judges a key token of either kind.
-fn judge_any_token(digits: &[u8]) -> Result<Grant, Rule>
-    requires { IsTrue (is_hex 128 digits.now) }
-    ensures passes { IfOk result (λ grant.
-        first_failing (token_checks Either (hex_value digits.now)) ≡ None) }
-    ensures granted { IfOk result (λ grant.
-        (grant.token ≡ Some (token_of (hex_value digits.now))) × (grant.key ≡ None)) }
-    ensures refused { IfErr result (λ rule.
-        first_failing (token_checks Either (hex_value digits.now)) ≡ Some (rule_number rule)) }
-{
-    match read_token(&token_bytes(digits), Asked::Either) {
-        Ok(token) => Ok(Grant {
+impl Grant {
+    pub(crate) fn nothing() -> Grant
+        ensures { result ≡ record { token = None; key = None; place = None } }
+    {
+        Grant {
+            token: None,
+            key: None,
+            place: None,
+        }
+    }
+
+    fn of_token(token: Token) -> Grant
+        ensures { result ≡ record { token = Some token; key = None; place = None } }
+    {
+        Grant {
             token: Some(token),
             key: None,
-        }),
-        Err(fault) => Err(token_rule(fault)),
+            place: None,
+        }
+    }
+
+    pub(crate) fn of_key(key: Judged) -> Grant
+        ensures { result ≡ record { token = None; key = Some key; place = None } }
+    {
+        Grant {
+            token: None,
+            key: Some(key),
+            place: None,
+        }
+    }
+
+    pub(crate) fn of_place(place: Place) -> Grant
+        ensures { result ≡ record { token = None; key = None; place = Some place } }
+    {
+        Grant {
+            token: None,
+            key: None,
+            place: Some(place),
+        }
+    }
+}
+
+/// Judges a key token of either kind.
+fn judge_any_token(digits: &[u8]) -> Answer
+    requires { IsTrue (is_hex 128 digits.now) }
+    ensures asked { (s : State) (bench : Bench) → IsAsked s bench digits.now Ask.AnyToken result }
+    ensures shaped { IsShaped [] digits.now Ask.AnyToken result }
+{
+    match read_token(&token_bytes(digits), Asked::Either) {
+        Ok(token) => Answer::Granted(Grant::of_token(token)),
+        Err(fault) => Answer::Refused(token_rule(fault)),
     }
 }
 
 /// The digits of a key token that stand behind `T:`.
 fn digits_of(text: &[u8]) -> &[u8]
-    requires { IsTrue (accepts key_text text.now) }
+    requires key { IsTrue (accepts key_text text.now) }
+    requires token { label_named text.now ≡ None }
     ensures text { result.now ≡ drop 2 text.now }
     ensures digits { IsTrue (is_hex 128 result.now) }
 {
     &text[2..]
 }
 
-/// Judges an internal key.
-fn judge_internal(text: &[u8], need: &Need, held: &Registers) -> Result<Grant, Rule>
-    requires text { IsTrue (accepts key_text text.now) }
-    requires asked { need.now.asked ≡ Asked.Internal }
+/// Judges the internal key of a token that 128 digits spell.
+fn judge_token(digits: &[u8], need: &Need, held: &Registers) -> Answer
+    requires digits { IsTrue (is_hex 128 digits.now) }
+    requires asked { need.now.asked ≡ Internal }
     ensures asked { (s : State) (bench : Bench) → Loaded s.registers held.now bench
-        → IsAsked s bench text.now (Ask.Key need.now) result }
-    ensures shaped { IfOk result HasJudged }
+        → IsAsked s bench digits.now (Ask.Token need.now) result }
+    ensures shaped { IsShaped [] digits.now (Ask.Token need.now) result }
+    ensures keyed { (m : Masters) (bench : Bench) → Loaded m held.now bench
+        → IsKeyedAnswer m digits.now (Ask.Token need.now) result }
 {
-    match judge_key(&token_bytes(digits_of(text)), need, held) {
-        Ok(judged) => Ok(Grant {
-            token: None,
-            key: Some(judged),
-        }),
-        Err(rule) => Err(rule),
+    match judge_key(&token_bytes(digits), need, held) {
+        Ok(judged) => Answer::Granted(Grant::of_key(judged)),
+        Err(rule) => Answer::Refused(rule),
     }
 }
 
-/// Judges one operand.
-fn judge_one(operand: &Operand, held: &Registers) -> Result<Grant, Rule>
-    requires { IsText operand.now.text.now operand.now.ask }
+/// Judges an external token that 128 digits spell.
+fn judge_external(digits: &[u8], need: &Need, held: &Registers) -> Answer
+    requires digits { IsTrue (is_hex 128 digits.now) }
+    requires asked { need.now.asked ≡ External }
     ensures asked { (s : State) (bench : Bench) → Loaded s.registers held.now bench
-        → IsAsked s bench operand.now.text.now operand.now.ask result }
-    ensures shaped { IfOk result (HasShape operand.now.ask) }
+        → IsAsked s bench digits.now (Ask.External need.now) result }
+    ensures shaped { IsShaped [] digits.now (Ask.External need.now) result }
+{
+    match judge_key(&token_bytes(digits), need, held) {
+        Ok(judged) => Answer::Granted(Grant::of_key(judged)),
+        Err(rule) => Answer::Refused(rule),
+    }
+}
+
+/// Judges one operand. A label costs at most 11 comparisons, and that of a key one read of a cell.
+fn judge_one<D: Disk>(
+    operand: &Operand,
+    store: &mut D,
+    lease: &mut Lease,
+    held: &Registers,
+    records: &Records,
+) -> Result<Answer, Stop>
+    requires text { IsText operand.now.text.now operand.now.ask }
+    requires store { HasStore records.now (D.medium store.old) }
+    ensures asked { (s : State)
+        → AtStore s held.now (bench_of lease.old) records.now (D.medium store.old)
+        → IfOk result (IsAsked s (bench_of lease.old) operand.now.text.now operand.now.ask) }
+    ensures shaped { IfOk result (IsShaped records.now operand.now.text.now operand.now.ask) }
+    ensures keyed { (m : Masters) → Loaded m held.now (bench_of lease.old)
+        → IfOk result (IsKeyedAnswer m operand.now.text.now operand.now.ask) }
+    ensures faults { (s : State)
+        → AtStore s held.now (bench_of lease.old) records.now (D.medium store.old)
+        → IfErr result (λ stop. stop ≡ Stop.StoreFault) }
+    ensures keeps { Keeps (D.medium store.old) (D.medium store.new) }
+    ensures store { DiskLeft (D.medium store.old) (D.medium store.new)
+        (D.faults store.old) (D.faults store.new) result Stop.StoreFault }
+    ensures spared { is_named_by operand.now.text.now operand.now.ask ≡ false
+        → store.new ≡ store.old }
+    ensures named { result ≡ Err Stop.StoreFault
+        → IsTrue (is_named_by operand.now.text.now operand.now.ask) }
+    ensures stops { IfErr result IsStoreStop }
+    ensures rest { KeepsAllButBody lease.old lease.new }
 {
     match operand.ask {
-        Ask::AnyToken => judge_any_token(operand.text),
-        Ask::Key(need) => judge_internal(operand.text, &need, held),
-        Ask::Nothing => Ok(Grant {
-            token: None,
-            key: None,
-        }),
+        Ask::AnyToken => Ok(judge_any_token(operand.text)),
+        Ask::Key(need) => match named_label(operand.text) {
+            Some(label) => judge_label(label, &need, store, lease, held, records),
+            None => Ok(judge_token(digits_of(operand.text), &need, held)),
+        },
+        Ask::Token(need) => Ok(judge_token(operand.text, &need, held)),
+        Ask::External(need) => Ok(judge_external(operand.text, &need, held)),
+        Ask::Record => judge_label(operand.text, &any_key(), store, lease, held, records),
+        Ask::Held => Ok(judge_held(operand.text, records)),
+        Ask::NewLabel => Ok(judge_new_label(operand.text)),
+        Ask::Target => Ok(judge_target(operand.text, records)),
+        Ask::Nothing => Ok(Answer::Granted(Grant::nothing())),
     }
 }
 
 /// Judges the operands, and names the first rule that one of them breaks.
-pub(crate) fn judge(operands: &Operands, held: &Registers) -> Result<Granted, Refusal>
-    requires { AreFit (seen_operands operands.now) }
-    ensures judged { (s : State) (bench : Bench) → Loaded s.registers held.now bench
-        → IsJudged s bench (seen_operands operands.now) result }
-    ensures shaped { IfOk result (HaveShapes (seen_operands operands.now)) }
-    ensures short { IfErr result (λ refusal. length refusal.operand.now < 100) }
+pub(crate) fn judge<D: Disk>(
+    operands: &Operands,
+    store: &mut D,
+    lease: &mut Lease,
+    held: &Registers,
+    records: &Records,
+) -> Result<Verdict, Stop>
+    requires fit { AreFit (seen_operands operands.now) }
+    requires store { HasStore records.now (D.medium store.old) }
+    ensures judged { (s : State)
+        → AtStore s held.now (bench_of lease.old) records.now (D.medium store.old)
+        → IfOk result (IsJudged s (bench_of lease.old) (seen_operands operands.now)) }
+    ensures shaped { IfOk result (AreShaped records.now (seen_operands operands.now)) }
+    ensures keyed { (m : Masters) → Loaded m held.now (bench_of lease.old)
+        → IfOk result (AreKeyedOperands m (seen_operands operands.now)) }
+    ensures faults { (s : State)
+        → AtStore s held.now (bench_of lease.old) records.now (D.medium store.old)
+        → IfErr result (λ stop. stop ≡ Stop.StoreFault) }
+    ensures keeps { Keeps (D.medium store.old) (D.medium store.new) }
+    ensures store { DiskLeft (D.medium store.old) (D.medium store.new)
+        (D.faults store.old) (D.faults store.new) result Stop.StoreFault }
+    ensures spared { names_label (listed (seen_operands operands.now)) ≡ false
+        → store.new ≡ store.old }
+    ensures named { result ≡ Err Stop.StoreFault
+        → IsTrue (names_label (listed (seen_operands operands.now))) }
+    ensures stops { IfErr result IsStoreStop }
+    ensures rest { KeepsAllButBody lease.old lease.new }
 {
-    let first = match judge_one(&operands.first, held) {
-        Ok(grant) => grant,
-        Err(rule) => {
-            return Err(Refusal {
-                rule,
-                operand: operands.first.name,
-            });
-        }
+    let first = match judge_one(&operands.first, store, lease, held, records)? {
+        Answer::Granted(grant) => grant,
+        Answer::Refused(rule) => return Ok(Verdict::Refused(rule, operands.first.name)),
     };
-    let second = match judge_one(&operands.second, held) {
-        Ok(grant) => grant,
-        Err(rule) => {
-            return Err(Refusal {
-                rule,
-                operand: operands.second.name,
-            });
-        }
+    let second = match judge_one(&operands.second, store, lease, held, records)? {
+        Answer::Granted(grant) => grant,
+        Answer::Refused(rule) => return Ok(Verdict::Refused(rule, operands.second.name)),
     };
-    let third = match judge_one(&operands.third, held) {
-        Ok(grant) => grant,
-        Err(rule) => {
-            return Err(Refusal {
-                rule,
-                operand: operands.third.name,
-            });
-        }
+    let third = match judge_one(&operands.third, store, lease, held, records)? {
+        Answer::Granted(grant) => grant,
+        Answer::Refused(rule) => return Ok(Verdict::Refused(rule, operands.third.name)),
     };
-    Ok(Granted {
+    Ok(Verdict::Granted(Granted {
         first,
         second,
         third,
-    })
+    }))
 }

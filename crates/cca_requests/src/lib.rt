@@ -5,11 +5,15 @@
 //! of these writes a disk.
 #![tactic(auto)]
 
+mod changing_module;
+mod changing_store;
 mod effects;
+mod endings;
 mod judging;
 mod operands;
 mod performing;
 mod refusals;
+mod stored;
 mod verbs;
 
 pub use line_service::{Device, Stop};

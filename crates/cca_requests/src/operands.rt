@@ -1,11 +1,17 @@
 //! The table of operands: of each request, what is asked of which field.
 ghost use Rattle.std.specs.Prelude.{◌≡◌, [], codes};
 ghost use Rattle.verb_script.specs.Parsed.{seen};
-ghost use Rattle.cca_machine.specs.Operands.{operands, no_operands, one_operand, internal_key};
+ghost use Rattle.cca_machine.specs.Operands.{operands, no_operands};
+ghost use Rattle.cca_machine.specs.Operands.{one_operand, two_operands, three_operands};
+ghost use Rattle.cca_machine.specs.Operands.{internal_key, any_key, exported_key, external_key};
+ghost use Rattle.cca_machine.specs.Operands.{transport_key, first_transport, second_transport};
+ghost use Rattle.cca_machine.specs.Operands.{five_classes};
 ghost use Rattle.cca_requests.specs.Judging.{IsAccepted, seen_operand, seen_operands, AreFit};
 
+use crate::verbs::csnbkgn::{out_form, pair_form};
 use cca_machine::Ask;
 use cca_vectors::Class;
+use key_transport::Form;
 use verb_rules::{Asked, Classes, Need, Usage};
 use verb_script::Request;
 
@@ -67,6 +73,17 @@ impl<'a> Operands<'a> {
             third: Operand::none(),
         }
     }
+
+    fn two(first: Operand<'a>, second: Operand<'a>) -> Operands<'a>
+        ensures { seen_operands result
+            ≡ two_operands (seen_operand first.entry) (seen_operand second.entry) }
+    {
+        Operands {
+            first,
+            second,
+            third: Operand::none(),
+        }
+    }
 }
 
 /// The table.
@@ -76,7 +93,7 @@ pub(crate) fn operands_of<'a>(request: &Request<'a>) -> Operands<'a>
     ensures fit { AreFit (operands (seen request.now)) }
 {
     match request {
-        Request::Csnbktp { token, .. } => csnbktp(token),
+        Request::Csnbktp { token, .. } => one_operand("token", token, Ask::AnyToken),
         Request::Csnbenc { key, .. } => key_operand(
             key,
             &[Class::Data, Class::Cipher],
@@ -98,8 +115,35 @@ pub(crate) fn operands_of<'a>(request: &Request<'a>) -> Operands<'a>
             Some(Usage::MacVerify),
         ),
         Request::Csnbkyt { key, .. } => key_operand(key, &FIVE_CLASSES, None),
-        Request::Csnbcki { clear, .. } => no_operands(clear),
+        Request::Csnbcki { to, .. } => one_operand("to", to, Ask::Target),
         Request::Csnbrng { form, .. } => no_operands(form),
+        Request::CsnbkgnOp { to, .. } => one_operand("to", to, Ask::Target),
+        Request::CsnbkgnPair {
+            form,
+            transport2,
+            to,
+            ..
+        } => csnbkgn_pair(pair_form(form), transport2, to),
+        Request::CsnbkgnOut {
+            form,
+            transport1,
+            transport2,
+            ..
+        } => csnbkgn_out(out_form(form), transport1, transport2),
+        Request::Csnbkim {
+            token,
+            transport,
+            to,
+            ..
+        } => csnbkim(token, transport, to),
+        Request::Csnbkex { key, transport, .. } => csnbkex(key, transport),
+        Request::Csnbpex { key, to, .. } => csnbpex(key, to),
+        Request::Csnbktc { token, .. } => one_operand("token", token, Ask::Token(any_key())),
+        Request::Csnbkrc { label, .. } => one_operand("label", label, Ask::NewLabel),
+        Request::Csnbkrw { label, token, .. } => csnbkrw(label, token),
+        Request::Csnbkrr { label, .. } => one_operand("label", label, Ask::Record),
+        Request::Csnbkrd { label, .. } => one_operand("label", label, Ask::Held),
+        Request::Csnbkrl { prefix, .. } => no_operands(prefix),
         Request::CsnbmkpPart { action, .. } => no_operands(action),
         Request::CsnbmkpClear { action, .. } => no_operands(action),
         Request::CsnbmkpSet { action, .. } => no_operands(action),
@@ -115,11 +159,182 @@ fn no_operands<'a>(_text: &'a [u8]) -> Operands<'a>
     Operands::none()
 }
 
-fn csnbktp<'a>(token: &'a [u8]) -> Operands<'a>
+fn one_operand<'a>(name: &'static str, text: &'a [u8], ask: Ask) -> Operands<'a>
     ensures { seen_operands result
-        ≡ one_operand (record { name = codes "token"; text = token.now; ask = Ask.AnyToken }) }
+        ≡ one_operand (record { name = name.now; text = text.now; ask = ask }) }
 {
-    Operands::one(Operand::new("token", token, Ask::AnyToken))
+    Operands::one(Operand::new(name, text, ask))
+}
+
+fn csnbkrw<'a>(label: &'a [u8], token: &'a [u8]) -> Operands<'a>
+    ensures { seen_operands result
+        ≡ two_operands (record { name = codes "label"; text = label.now; ask = Ask.Held })
+        (record { name = codes "token"; text = token.now; ask = Ask.Token any_key }) }
+{
+    Operands::two(
+        Operand::new("label", label, Ask::Held),
+        Operand::new("token", token, Ask::Token(any_key())),
+    )
+}
+
+/// The transport key of the second of two generated keys, of which the first is internal, and where
+/// the first one goes.
+fn csnbkgn_pair<'a>(form: Form, transport2: &'a [u8], to: &'a [u8]) -> Operands<'a>
+    ensures { seen_operands result ≡ two_operands
+        (record {
+          name = codes "transport2";
+          text = transport2.now;
+          ask = Ask.Key (second_transport form);
+        })
+        (record { name = codes "to"; text = to.now; ask = Ask.Target }) }
+{
+    Operands::two(
+        Operand::new("transport2", transport2, Ask::Key(second_transport(form))),
+        Operand::new("to", to, Ask::Target),
+    )
+}
+
+/// The transport keys of two generated keys that are both external.
+fn csnbkgn_out<'a>(form: Form, transport1: &'a [u8], transport2: &'a [u8]) -> Operands<'a>
+    ensures { seen_operands result ≡ two_operands
+        (record {
+          name = codes "transport1";
+          text = transport1.now;
+          ask = Ask.Key (first_transport form);
+        })
+        (record {
+          name = codes "transport2";
+          text = transport2.now;
+          ask = Ask.Key (second_transport form);
+        }) }
+{
+    Operands::two(
+        Operand::new("transport1", transport1, Ask::Key(first_transport(form))),
+        Operand::new("transport2", transport2, Ask::Key(second_transport(form))),
+    )
+}
+
+fn csnbkim<'a>(token: &'a [u8], transport: &'a [u8], to: &'a [u8]) -> Operands<'a>
+    ensures { seen_operands result ≡ three_operands
+        (record { name = codes "token"; text = token.now; ask = Ask.External external_key })
+        (record {
+          name = codes "transport";
+          text = transport.now;
+          ask = Ask.Key (transport_key Class.Importer Usage.Transport);
+        })
+        (record { name = codes "to"; text = to.now; ask = Ask.Target }) }
+{
+    Operands {
+        first: Operand::new("token", token, Ask::External(external_key())),
+        second: Operand::new(
+            "transport",
+            transport,
+            Ask::Key(transport_key(Class::Importer, Usage::Transport)),
+        ),
+        third: Operand::new("to", to, Ask::Target),
+    }
+}
+
+fn csnbkex<'a>(key: &'a [u8], transport: &'a [u8]) -> Operands<'a>
+    ensures { seen_operands result ≡ two_operands
+        (record { name = codes "key"; text = key.now; ask = Ask.Key exported_key })
+        (record {
+          name = codes "transport";
+          text = transport.now;
+          ask = Ask.Key (transport_key Class.Exporter Usage.Transport);
+        }) }
+{
+    Operands::two(
+        Operand::new("key", key, Ask::Key(exported_key())),
+        Operand::new(
+            "transport",
+            transport,
+            Ask::Key(transport_key(Class::Exporter, Usage::Transport)),
+        ),
+    )
+}
+
+fn csnbpex<'a>(key: &'a [u8], to: &'a [u8]) -> Operands<'a>
+    ensures { seen_operands result ≡ two_operands
+        (record {
+          name = codes "key";
+          text = key.now;
+          ask = Ask.Key (internal_key five_classes None);
+        })
+        (record { name = codes "to"; text = to.now; ask = Ask.Target }) }
+{
+    Operands::two(
+        Operand::new("key", key, Ask::Key(internal_key(&FIVE_CLASSES, None))),
+        Operand::new("to", to, Ask::Target),
+    )
+}
+
+/// A transport key of double length: of this class, and permitted for this use.
+fn transport_key(class: Class, usage: Usage) -> Need
+    ensures { result ≡ transport_key class usage }
+{
+    Need {
+        asked: Asked::Internal,
+        classes: Classes::of(&[class]),
+        usage: Some(usage),
+        export: false,
+        double: true,
+        parts: false,
+    }
+}
+
+/// The transport key of the first of two generated keys.
+fn first_transport(form: Form) -> Need
+    ensures { result ≡ first_transport form }
+{
+    match form {
+        Form::Op | Form::Opex | Form::Opim | Form::Imex => {
+            transport_key(Class::Importer, Usage::PairImportExport)
+        }
+        Form::Exex => transport_key(Class::Exporter, Usage::PairSame),
+        Form::Imim => transport_key(Class::Importer, Usage::PairSame),
+    }
+}
+
+/// The transport key of the second of two generated keys.
+fn second_transport(form: Form) -> Need
+    ensures { result ≡ second_transport form }
+{
+    match form {
+        Form::Op | Form::Opex => transport_key(Class::Exporter, Usage::PairOperational),
+        Form::Opim => transport_key(Class::Importer, Usage::PairOperational),
+        Form::Imex => transport_key(Class::Exporter, Usage::PairImportExport),
+        Form::Exex => transport_key(Class::Exporter, Usage::PairSame),
+        Form::Imim => transport_key(Class::Importer, Usage::PairSame),
+    }
+}
+
+/// An internal key of any class that may be exported.
+fn exported_key() -> Need
+    ensures { result ≡ exported_key }
+{
+    Need {
+        asked: Asked::Internal,
+        classes: Classes::of(&EVERY_CLASS),
+        usage: None,
+        export: true,
+        double: false,
+        parts: false,
+    }
+}
+
+/// An external token of any class.
+fn external_key() -> Need
+    ensures { result ≡ external_key }
+{
+    Need {
+        asked: Asked::External,
+        classes: Classes::of(&EVERY_CLASS),
+        usage: None,
+        export: false,
+        double: false,
+        parts: false,
+    }
 }
 
 /// Every class but OTHER.
@@ -130,6 +345,29 @@ const FIVE_CLASSES: [Class; 5] = [
     Class::Exporter,
     Class::Importer,
 ];
+
+const EVERY_CLASS: [Class; 6] = [
+    Class::Data,
+    Class::Cipher,
+    Class::Mac,
+    Class::Exporter,
+    Class::Importer,
+    Class::Other,
+];
+
+/// Any internal key, also one that is a part.
+pub(crate) fn any_key() -> Need
+    ensures { result ≡ any_key }
+{
+    Need {
+        asked: Asked::Internal,
+        classes: Classes::of(&EVERY_CLASS),
+        usage: None,
+        export: false,
+        double: false,
+        parts: true,
+    }
+}
 
 /// An internal key of one of these classes that permits a use.
 fn internal_key(classes: &[Class], usage: Option<Usage>) -> Need

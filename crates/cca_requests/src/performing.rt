@@ -1,49 +1,64 @@
 //! A request, judged and carried out.
-ghost use Rattle.std.specs.Prelude.{◌≡◌, ◌⊎◌, ℕ, List, [], None, Err, OnOk, OnErr, IfErr, IfOk, IsSome, IsNone, IsTrue, Some, codes};
+ghost use Rattle.std.specs.Prelude.{◌≡◌, ◌⊎◌, ℕ, true, false, List, [], None, Err, OnOk, OnErr, IfErr, IfOk, IsSome, IsNone, IsTrue, Some, codes};
 ghost use Rattle.std.specs.Option.{option_map};
 ghost use Rattle.cca_roles.specs.RolesStand.{StandsForRoles};
 ghost use Rattle.cca_vectors.specs.Checks.{first_failing};
 ghost use Rattle.key_cells.specs.Bench.{Bench, blank_bench};
 ghost use Rattle.key_cells.specs.Lease.{bench_of, holding, loan_of};
-ghost use Rattle.master_registers.specs.Loaded.{Loaded};
+ghost use Rattle.key_records.specs.StoreStands.{HoldsRows};
+ghost use Rattle.line_service.specs.Machine.{world};
+ghost use Rattle.master_registers.specs.Loaded.{Loaded, IsLoaded};
+ghost use Rattle.master_registers.specs.Masters.{Masters};
 ghost use Rattle.master_registers.specs.RegisterBody.{IsDamaged};
 ghost use Rattle.slot_disk.specs.Medium.{Told, IsSettled, Keeps};
 ghost use Rattle.line_service.specs.Devices.{DiskLeft, TellsFault};
-ghost use Rattle.verb_rules.specs.Keys.{HasHalves};
-ghost use Rattle.cca_machine.specs.Lines.{taken_by};
+ghost use Rattle.verb_rules.specs.Keys.{HasHalves, IsDouble};
+ghost use Rattle.cca_machine.specs.Lines.{drawn_where, taken_by};
 ghost use Rattle.verb_rules.specs.Rules.{rule_number};
+ghost use Rattle.verb_rules.specs.declared.needs.Need.{Need};
 ghost use Rattle.verb_script.specs.Grammar.{value_of};
 ghost use Rattle.verb_script.specs.Parsed.{seen};
-ghost use Rattle.cca_machine.specs.State.{State, module_size};
-ghost use Rattle.cca_machine.specs.Operands.{operands};
-ghost use Rattle.cca_machine.specs.Verdict.{action_points, needed_points, needs_master, general_checks, verdict, verb_verdict};
+ghost use Rattle.cca_machine.specs.State.{State, module_size, store_size};
+ghost use Rattle.cca_machine.specs.Operands.{operands, listed, names_label};
+ghost use Rattle.cca_machine.specs.Verdict.{action_points, target_points, change_points, needed_points, needs_master, general_checks, verdict, verb_verdict};
 ghost use Rattle.cca_machine.specs.Act.{performed, draws};
-ghost use Rattle.cca_requests.specs.Serving.{IsSpelled, IsSound, Stands, Serves, Leaves};
-ghost use Rattle.cca_requests.specs.Judging.{IsAccepted, HasJudged, HaveShapes, AreGranted, is_old_key, any_old_key};
-ghost use Rattle.cca_requests.specs.Deciding.{HasLoaded, At, MayDecide, IsReady, with_places};
+ghost use Rattle.cca_requests.specs.Serving.{IsSpelled, IsSound, IsRequestStop, Stands, Serves, Leaves, HasTold, tables};
+ghost use Rattle.cca_requests.specs.Judging.{IsAccepted, HasJudged, HasJudgedExternal, HasSomeJudged, HaveShapes, AreGranted, AreKeyed, is_old_key, any_old_key};
+ghost use Rattle.cca_requests.specs.Deciding.{HasLoaded, HasStore, At, IsRecorded, MayDecide, IsReady, WritesStore, with_places};
 
 use crate::effects::{Effect, carry};
-use crate::judging::{Grant, Granted, judge};
+use crate::judging::{Grant, Granted, Verdict, judge};
 use crate::operands::operands_of;
 use crate::refusals::refuse;
 use crate::verbs::csnbcki::csnbcki;
 use crate::verbs::csnbdec::csnbdec;
 use crate::verbs::csnbenc::csnbenc;
+use crate::verbs::csnbkex::csnbkex;
+use crate::verbs::csnbkgn::{generate_one, generate_out, generate_pair};
+use crate::verbs::csnbkim::csnbkim;
+use crate::verbs::csnbkrc::csnbkrc;
+use crate::verbs::csnbkrl::csnbkrl;
+use crate::verbs::csnbkrr::csnbkrr;
+use crate::verbs::csnbkrw::csnbkrw;
 use crate::verbs::csnbktp::csnbktp;
 use crate::verbs::csnbkyt::csnbkyt;
 use crate::verbs::csnbmgn::csnbmgn;
-use crate::verbs::csnbmkp::{part_action, put_part};
+use crate::verbs::csnbmkp::{self, part_action, put_part};
 use crate::verbs::csnbmvr::csnbmvr;
+use crate::verbs::csnbpex::csnbpex;
 use crate::verbs::csnbrng::csnbrng;
-use crate::verbs::csuaaci;
+use crate::verbs::delivering::deliver;
+use crate::verbs::{csnbktc, csuaaci};
 use cca_roles::{AccessPoints, RoleName, Roles};
 use key_cells::{Lease, Workbench};
+use key_records::{Place, Records};
 use key_tokens::{Age, Token};
+use key_transport::Target;
 use line_service::{Device, Stop};
 use master_registers::{Action, LoadFault, Registers, load};
 use slot_disk::{Disk, Entropy};
 use verb_rules::{Judged, Rule};
-use verb_script::{ReplyBuffer, Request};
+use verb_script::{ReplyBuffer, Request, named_label};
 
 /// Judges a request, carries it out where no rule refuses it, and writes the reply into the reply buffer.
 ///
@@ -51,89 +66,125 @@ use verb_script::{ReplyBuffer, Request};
 ///
 /// Random bytes are drawn once no rule refuses the request, and by one call.
 ///
-/// Each request reads the module twice. A change reads it once more, and writes and syncs it twice.
-pub fn perform<M: Disk, E: Entropy>(
+/// Each request reads the module twice, and for each label of a key one cell of the store. A change of a disk reads
+/// it once more at most, and writes and syncs it twice.
+pub fn perform<M: Disk, D: Disk, E: Entropy>(
     request: &Request,
     bench: &mut Workbench,
     module: &mut M,
+    store: &mut D,
     entropy: &mut E,
     roles: &mut Roles,
+    records: &mut Records,
     reply: &mut ReplyBuffer,
 ) -> Result<(), Stop>
     requires spelled { IsSpelled (seen request.now) }
-    requires size { (M.medium «module».old).size ≡ module_size }
-    requires settled { IsSettled (M.medium «module».old) }
+    requires module_size { (M.medium «module».old).size ≡ module_size }
+    requires module_settled { IsSettled (M.medium «module».old) }
     requires remembered { Told (M.medium «module».old) (λ image. StandsForRoles image roles.old) }
+    requires store_size { (D.medium store.old).size ≡ store_size }
+    requires store_settled { IsSettled (D.medium store.old) }
+    requires recorded { Told (D.medium store.old) (HoldsRows records.old) }
 
-    ensures serves { (s : State) → Stands s roles.old (M.medium «module».old)
-        → Serves s (seen request.now) result reply.new roles.new
-        (M.medium «module».old) (M.medium «module».new) (E.left entropy.old) (E.left entropy.new) }
+    ensures serves { (s : State) → Stands s (tables roles.old records.old)
+        (M.medium «module».old) (D.medium store.old)
+        → Serves s (seen request.now) result reply.new (tables roles.new records.new)
+        (world (M.medium «module».old) (D.medium store.old) (E.left entropy.old))
+        (world (M.medium «module».new) (D.medium store.new) (E.left entropy.new)) }
     ensures module { DiskLeft (M.medium «module».old) (M.medium «module».new)
         (M.faults «module».old) (M.faults «module».new) result Stop.ModuleFault }
+    ensures store { DiskLeft (D.medium store.old) (D.medium store.new)
+        (D.faults store.old) (D.faults store.new) result Stop.StoreFault }
+    ensures module_told { HasTold (M.medium «module».old) (M.medium «module».new) }
+    ensures store_told { HasTold (D.medium store.old) (D.medium store.new) }
     ensures sound { OnOk result (Told (M.medium «module».new) (IsSound roles.new)) }
+    ensures holds { OnOk result (Told (D.medium store.new) (HoldsRows records.new)) }
     ensures silent { OnErr result (reply.new ≡ []) }
-    ensures memory { OnErr result (roles.new ≡ roles.old) }
+    ensures roles { OnErr result (roles.new ≡ roles.old) }
+    ensures records { OnErr result (records.new ≡ records.old) }
     ensures damaged { result ≡ Err (Stop.Damaged Device.Module 0)
         → Told (M.medium «module».old) IsDamaged }
     ensures kept { result ≡ Err (Stop.Damaged Device.Module 0)
         → Keeps (M.medium «module».old) (M.medium «module».new) }
+    ensures named { result ≡ Err Stop.StoreFault
+        → IsTrue (names_label (listed (operands (seen request.now)))) }
+    ensures spared { names_label (listed (operands (seen request.now))) ≡ false
+        → store.new ≡ store.old }
     ensures entropy { TellsFault (E.faults entropy.old) (E.faults entropy.new) result Stop.EntropyFault }
-    ensures untouched { (s : State) → Stands s roles.old (M.medium «module».old)
+    ensures untouched { (s : State) → Stands s (tables roles.old records.old)
+        (M.medium «module».old) (D.medium store.old)
         → taken_by s (seen request.now) ≡ 0 → entropy.new ≡ entropy.old }
     ensures undrawn { draws (seen request.now).name (seen request.now) ≡ 0 → entropy.new ≡ entropy.old }
-    ensures stops { IfErr result (λ stop. (stop ≡ Stop.ModuleFault)
-        ⊎ ((stop ≡ Stop.EntropyFault) ⊎ (stop ≡ Stop.Damaged Device.Module 0))) }
+    ensures stops { IfErr result IsRequestStop }
     ensures bench { bench.new ≡ blank_bench }
 {
     reply.clear();
     let mut lease = Lease::open(bench);
     match load(module, &mut lease) {
-        Ok(held) => carry_out(request, module, entropy, &mut lease, &held, roles, reply),
+        Ok(held) => carry_out(
+            request, module, store, entropy, &mut lease, &held, roles, records, reply,
+        ),
         Err(LoadFault::DiskFault) => Err(Stop::ModuleFault),
         Err(LoadFault::Damaged) => Err(Stop::Damaged(Device::Module, 0)),
     }
 }
 
 /// Judges the request as a whole, and then its operands, over the registers that were loaded.
-fn carry_out<M: Disk, E: Entropy>(
+fn carry_out<M: Disk, D: Disk, E: Entropy>(
     request: &Request,
     module: &mut M,
+    store: &mut D,
     entropy: &mut E,
     lease: &mut Lease,
     held: &Registers,
     roles: &mut Roles,
+    records: &mut Records,
     reply: &mut ReplyBuffer,
 ) -> Result<(), Stop>
     requires accepted { IsAccepted (seen request.now) }
     requires at { HasLoaded held.now (bench_of lease.old) roles.old (M.medium «module».old) }
+    requires store { HasStore records.old (D.medium store.old) }
     requires empty { reply.old ≡ [] }
 
-    ensures serves { (s : State) → At s held.now (bench_of lease.old) roles.old (M.medium «module».old)
-        → Serves s (seen request.now) result reply.new roles.new
-        (M.medium «module».old) (M.medium «module».new) (E.left entropy.old) (E.left entropy.new) }
-    ensures still { (s : State) → At s held.now (bench_of lease.old) roles.old (M.medium «module».old)
-        → ((drawn : List ℕ) → (performed s drawn (seen request.now)).module_cell ≡ None)
-        → «module».new ≡ «module».old }
+    ensures serves { (s : State) → At s held.now (bench_of lease.old) (tables roles.old records.old)
+        (M.medium «module».old) (D.medium store.old)
+        → Serves s (seen request.now) result reply.new (tables roles.new records.new)
+        (world (M.medium «module».old) (D.medium store.old) (E.left entropy.old))
+        (world (M.medium «module».new) (D.medium store.new) (E.left entropy.new)) }
     ensures entropy { TellsFault (E.faults entropy.old) (E.faults entropy.new) result Stop.EntropyFault }
-    ensures untouched { (s : State) → At s held.now (bench_of lease.old) roles.old (M.medium «module».old)
+    ensures untouched { (s : State) → At s held.now (bench_of lease.old) (tables roles.old records.old)
+        (M.medium «module».old) (D.medium store.old)
         → taken_by s (seen request.now) ≡ 0 → entropy.new ≡ entropy.old }
     ensures undrawn { draws (seen request.now).name (seen request.now) ≡ 0 → entropy.new ≡ entropy.old }
-    ensures left { Leaves (M.medium «module».old) (M.medium «module».new)
-        (M.faults «module».old) (M.faults «module».new) result reply.new roles.old roles.new }
+    ensures left { Leaves (record {
+      module_old = M.medium «module».old;
+      module_new = M.medium «module».new;
+      module_before = M.faults «module».old;
+      module_now = M.faults «module».new;
+      store_old = D.medium store.old;
+      store_new = D.medium store.new;
+      store_before = D.faults store.old;
+      store_now = D.faults store.new;
+    }) result reply.new (tables roles.old records.old) (tables roles.new records.new) }
+    ensures named { result ≡ Err Stop.StoreFault
+        → IsTrue (names_label (listed (operands (seen request.now)))) }
+    ensures spared { names_label (listed (operands (seen request.now))) ≡ false
+        → store.new ≡ store.old }
     ensures loan { loan_of lease.new ≡ loan_of lease.old }
 {
     if let Some(rule) = general_rule(request, held, roles) {
         refuse(reply, rule, "-");
         return Ok(());
     }
-    match judge(&operands_of(request), held) {
-        Err(refusal) => {
-            refuse(reply, refusal.rule, refusal.operand);
+    match judge(&operands_of(request), store, lease, held, records) {
+        Ok(Verdict::Refused(rule, operand)) => {
+            refuse(reply, rule, operand);
             Ok(())
         }
-        Ok(granted) => act(
-            request, &granted, module, entropy, lease, held, roles, reply,
+        Ok(Verdict::Granted(granted)) => act(
+            request, &granted, module, store, entropy, lease, held, roles, records, reply,
         ),
+        Err(stop) => Err(stop),
     }
 }
 
@@ -166,6 +217,18 @@ fn role_of<'a, 'b>(request: &'b Request<'a>) -> &'b RoleName
         Request::Csnbkyt { role, .. } => role,
         Request::Csnbcki { role, .. } => role,
         Request::Csnbrng { role, .. } => role,
+        Request::CsnbkgnOp { role, .. } => role,
+        Request::CsnbkgnPair { role, .. } => role,
+        Request::CsnbkgnOut { role, .. } => role,
+        Request::Csnbkim { role, .. } => role,
+        Request::Csnbkex { role, .. } => role,
+        Request::Csnbpex { role, .. } => role,
+        Request::Csnbktc { role, .. } => role,
+        Request::Csnbkrc { role, .. } => role,
+        Request::Csnbkrw { role, .. } => role,
+        Request::Csnbkrr { role, .. } => role,
+        Request::Csnbkrd { role, .. } => role,
+        Request::Csnbkrl { role, .. } => role,
         Request::CsnbmkpPart { role, .. } => role,
         Request::CsnbmkpClear { role, .. } => role,
         Request::CsnbmkpSet { role, .. } => role,
@@ -187,6 +250,26 @@ fn action_points(action: Action) -> AccessPoints
     }
 }
 
+/// A key that goes into a record needs the point of CSNBKRW too.
+fn target_points(to: &[u8]) -> AccessPoints
+    ensures { result ≡ target_points to.now }
+{
+    match named_label(to) {
+        Some(_) => AccessPoints::KRW,
+        None => AccessPoints::empty(),
+    }
+}
+
+/// A token is changed to the current master key, or to the new one.
+fn change_points(target: Target) -> AccessPoints
+    ensures { result ≡ change_points target }
+{
+    match target {
+        Target::Current => AccessPoints::KTC_CURRENT,
+        Target::New => AccessPoints::KTC_NEW,
+    }
+}
+
 /// The access control points that a request needs.
 fn needed_points(request: &Request) -> AccessPoints
     ensures { result ≡ needed_points (seen request.now).name (seen request.now) }
@@ -198,8 +281,20 @@ fn needed_points(request: &Request) -> AccessPoints
         Request::Csnbmgn { .. } => AccessPoints::MGN,
         Request::Csnbmvr { .. } => AccessPoints::MVR,
         Request::Csnbkyt { .. } => AccessPoints::KYT,
-        Request::Csnbcki { .. } => AccessPoints::CKI,
+        Request::Csnbcki { to, .. } => AccessPoints::CKI.union(target_points(to)),
         Request::Csnbrng { .. } => AccessPoints::RNG,
+        Request::CsnbkgnOp { to, .. } => AccessPoints::KGN_OP.union(target_points(to)),
+        Request::CsnbkgnPair { to, .. } => AccessPoints::KGN_PAIR.union(target_points(to)),
+        Request::CsnbkgnOut { .. } => AccessPoints::KGN_OUT,
+        Request::Csnbkim { to, .. } => AccessPoints::KIM.union(target_points(to)),
+        Request::Csnbkex { .. } => AccessPoints::KEX,
+        Request::Csnbpex { to, .. } => AccessPoints::PEX.union(target_points(to)),
+        Request::Csnbktc { rule, .. } => change_points(csnbktc::target(rule)),
+        Request::Csnbkrc { .. } => AccessPoints::KRC,
+        Request::Csnbkrw { .. } => AccessPoints::KRW,
+        Request::Csnbkrr { .. } => AccessPoints::KRR,
+        Request::Csnbkrd { .. } => AccessPoints::KRD,
+        Request::Csnbkrl { .. } => AccessPoints::KRL,
         Request::CsnbmkpPart { action, .. } => action_points(part_action(action)),
         Request::CsnbmkpClear { .. } => action_points(Action::Clear),
         Request::CsnbmkpSet { .. } => action_points(Action::Set),
@@ -221,6 +316,18 @@ fn needs_master(request: &Request) -> bool
         Request::Csnbkyt { .. } => true,
         Request::Csnbcki { .. } => true,
         Request::Csnbrng { .. } => false,
+        Request::CsnbkgnOp { .. } => true,
+        Request::CsnbkgnPair { .. } => true,
+        Request::CsnbkgnOut { .. } => true,
+        Request::Csnbkim { .. } => true,
+        Request::Csnbkex { .. } => true,
+        Request::Csnbpex { .. } => true,
+        Request::Csnbktc { .. } => true,
+        Request::Csnbkrc { .. } => false,
+        Request::Csnbkrw { .. } => true,
+        Request::Csnbkrr { .. } => true,
+        Request::Csnbkrd { .. } => false,
+        Request::Csnbkrl { .. } => false,
         Request::CsnbmkpPart { .. } => false,
         Request::CsnbmkpClear { .. } => false,
         Request::CsnbmkpSet { .. } => false,
@@ -230,45 +337,70 @@ fn needs_master(request: &Request) -> bool
 }
 
 /// Carries out a request whose operands break no rule.
-fn act<M: Disk, E: Entropy>(
+fn act<M: Disk, D: Disk, E: Entropy>(
     request: &Request,
     granted: &Granted,
     module: &mut M,
+    store: &mut D,
     entropy: &mut E,
     lease: &mut Lease,
     held: &Registers,
     roles: &mut Roles,
+    records: &mut Records,
     reply: &mut ReplyBuffer,
 ) -> Result<(), Stop>
     requires accepted { IsAccepted (seen request.now) }
-    requires shaped { HaveShapes (operands (seen request.now)) granted.now }
+    requires shaped { HaveShapes records.old (operands (seen request.now)) granted.now }
+    requires keyed { (m : Masters) → Loaded m held.now (bench_of lease.old)
+        → AreKeyed m (operands (seen request.now)) }
     requires master { IsTrue (needs_master (seen request.now).name) → IsSome held.now.current_pattern }
     requires at { HasLoaded held.now (bench_of lease.old) roles.old (M.medium «module».old) }
+    requires store { HasStore records.old (D.medium store.old) }
     requires empty { reply.old ≡ [] }
 
-    ensures serves { (s : State) → At s held.now (bench_of lease.old) roles.old (M.medium «module».old)
+    ensures serves { (s : State) → At s held.now (bench_of lease.old) (tables roles.old records.old)
+        (M.medium «module».old) (D.medium store.old)
         → AreGranted s (bench_of lease.old) (operands (seen request.now)) granted.now
         → verdict s (seen request.now) ≡ verb_verdict s (seen request.now)
-        → Serves s (seen request.now) result reply.new roles.new
-        (M.medium «module».old) (M.medium «module».new) (E.left entropy.old) (E.left entropy.new) }
-    ensures still { (s : State) → At s held.now (bench_of lease.old) roles.old (M.medium «module».old)
-        → AreGranted s (bench_of lease.old) (operands (seen request.now)) granted.now
-        → verdict s (seen request.now) ≡ verb_verdict s (seen request.now)
-        → ((drawn : List ℕ) → (performed s drawn (seen request.now)).module_cell ≡ None)
-        → «module».new ≡ «module».old }
+        → Serves s (seen request.now) result reply.new (tables roles.new records.new)
+        (world (M.medium «module».old) (D.medium store.old) (E.left entropy.old))
+        (world (M.medium «module».new) (D.medium store.new) (E.left entropy.new)) }
     ensures entropy { TellsFault (E.faults entropy.old) (E.faults entropy.new) result Stop.EntropyFault }
     ensures untouched { (s : State)
         → verdict s (seen request.now) ≡ verb_verdict s (seen request.now)
         → AreGranted s (bench_of lease.old) (operands (seen request.now)) granted.now
-        → Loaded s.registers held.now (bench_of lease.old)
+        → At s held.now (bench_of lease.old) (tables roles.old records.old)
+        (M.medium «module».old) (D.medium store.old)
         → taken_by s (seen request.now) ≡ 0 → entropy.new ≡ entropy.old }
     ensures undrawn { draws (seen request.now).name (seen request.now) ≡ 0 → entropy.new ≡ entropy.old }
-    ensures left { Leaves (M.medium «module».old) (M.medium «module».new)
-        (M.faults «module».old) (M.faults «module».new) result reply.new roles.old roles.new }
+    ensures left { Leaves (record {
+      module_old = M.medium «module».old;
+      module_new = M.medium «module».new;
+      module_before = M.faults «module».old;
+      module_now = M.faults «module».new;
+      store_old = D.medium store.old;
+      store_new = D.medium store.new;
+      store_before = D.faults store.old;
+      store_now = D.faults store.new;
+    }) result reply.new (tables roles.old records.old) (tables roles.new records.new) }
+    ensures named { result ≡ Err Stop.StoreFault
+        → IsTrue (names_label (listed (operands (seen request.now)))) }
+    ensures spared { names_label (listed (operands (seen request.now))) ≡ false
+        → store.new ≡ store.old }
     ensures loan { loan_of lease.new ≡ loan_of lease.old }
 {
-    match decide(request, granted, entropy, lease, held, reply) {
-        Ok(effect) => carry(&effect, is_old(granted), module, lease, held, roles, reply),
+    match decide(request, granted, entropy, lease, held, records, reply) {
+        Ok(effect) => carry(
+            &effect,
+            is_old(granted),
+            module,
+            store,
+            lease,
+            held,
+            roles,
+            records,
+            reply,
+        ),
         Err(stop) => Err(stop),
     }
 }
@@ -280,20 +412,33 @@ fn decide<E: Entropy>(
     entropy: &mut E,
     lease: &mut Lease,
     held: &Registers,
+    records: &Records,
     reply: &mut ReplyBuffer,
 ) -> Result<Effect, Stop>
     requires accepted { IsAccepted (seen request.now) }
-    requires shaped { HaveShapes (operands (seen request.now)) granted.now }
+    requires shaped { HaveShapes records.now (operands (seen request.now)) granted.now }
+    requires keyed { (m : Masters) → Loaded m held.now (bench_of lease.old)
+        → AreKeyed m (operands (seen request.now)) }
     requires master { IsTrue (needs_master (seen request.now).name) → IsSome held.now.current_pattern }
+    requires loaded { IsLoaded held.now (bench_of lease.old) }
     requires empty { reply.old ≡ [] }
     ensures decides { (s : State) → Loaded s.registers held.now (bench_of lease.old)
+        → IsRecorded s records.now
         → AreGranted s (bench_of lease.old) (operands (seen request.now)) granted.now
         → MayDecide s (bench_of lease.new) (seen request.now) result reply.new
         (E.left entropy.old) (E.left entropy.new) }
-    ensures ready { IfOk result (λ effect. IsReady effect reply.new) }
+    ensures ready { IfOk result (λ effect.
+        IsReady held.now (bench_of lease.new) records.now effect reply.new) }
+    ensures named { IfOk result (λ effect. WritesStore effect
+        → IsTrue (names_label (listed (operands (seen request.now))))) }
     ensures silent { OnErr result (reply.new ≡ []) }
     ensures entropy { TellsFault (E.faults entropy.old) (E.faults entropy.new) result Stop.EntropyFault }
-    ensures untouched { draws (seen request.now).name (seen request.now) ≡ 0 → entropy.new ≡ entropy.old }
+    ensures untouched { (s : State) → Loaded s.registers held.now (bench_of lease.old)
+        → IsRecorded s records.now
+        → AreGranted s (bench_of lease.old) (operands (seen request.now)) granted.now
+        → drawn_where (verb_verdict s (seen request.now)) (draws (seen request.now).name (seen request.now)) ≡ 0
+        → entropy.new ≡ entropy.old }
+    ensures undrawn { draws (seen request.now).name (seen request.now) ≡ 0 → entropy.new ≡ entropy.old }
     ensures stops { IfErr result (λ stop. stop ≡ Stop.EntropyFault) }
     ensures places { lease.new ≡ holding lease.old (with_places (bench_of lease.old) (bench_of lease.new)) }
 {
@@ -334,32 +479,147 @@ fn decide<E: Entropy>(
             csnbkyt(key_in(&granted.first), lease, reply);
             Ok(Effect::Shown)
         }
-        Request::Csnbcki { clear, .. } => {
-            csnbcki(clear, lease, held, reply);
-            Ok(Effect::Shown)
+        Request::Csnbcki { clear, to, .. } => {
+            let token = csnbcki(clear, lease, held);
+            Ok(deliver("token", &token, None, to, granted.first.place, reply))
         }
         Request::Csnbrng { form, .. } => match csnbrng(form, entropy, reply) {
             Ok(()) => Ok(Effect::Shown),
             Err(_) => Err(Stop::EntropyFault),
         },
+        Request::CsnbkgnOp {
+            length,
+            type1,
+            to,
+            ..
+        } => match generate_one(
+            length,
+            *type1,
+            to,
+            granted.first.place,
+            entropy,
+            lease,
+            held,
+            reply,
+        ) {
+            Ok(effect) => Ok(effect),
+            Err(_) => Err(Stop::EntropyFault),
+        },
+        Request::CsnbkgnPair {
+            form,
+            length,
+            type1,
+            type2,
+            to,
+            ..
+        } => match generate_pair(
+            form,
+            length,
+            *type1,
+            *type2,
+            key_in(&granted.first),
+            to,
+            granted.second.place,
+            entropy,
+            lease,
+            held,
+            reply,
+        ) {
+            Ok(effect) => Ok(effect),
+            Err(_) => Err(Stop::EntropyFault),
+        },
+        Request::CsnbkgnOut {
+            form,
+            length,
+            type1,
+            type2,
+            ..
+        } => match generate_out(
+            form,
+            length,
+            *type1,
+            *type2,
+            key_in(&granted.first),
+            key_in(&granted.second),
+            entropy,
+            lease,
+            held,
+            reply,
+        ) {
+            Ok(effect) => Ok(effect),
+            Err(_) => Err(Stop::EntropyFault),
+        },
+        Request::Csnbkim { to, .. } => {
+            let token = csnbkim(
+                external_in(&granted.first),
+                key_in(&granted.second),
+                lease,
+                held,
+            );
+            Ok(deliver("token", &token, None, to, granted.third.place, reply))
+        }
+        Request::Csnbkex { .. } => {
+            csnbkex(
+                key_in(&granted.first),
+                key_in(&granted.second),
+                lease,
+                reply,
+            );
+            Ok(Effect::Shown)
+        }
+        Request::Csnbpex { to, .. } => {
+            let token = csnbpex(key_in(&granted.first), lease, held);
+            Ok(deliver("token", &token, None, to, granted.second.place, reply))
+        }
+        Request::Csnbktc { rule, .. } => {
+            Ok(csnbktc::csnbktc(key_in(&granted.first), rule, lease, held, reply))
+        }
+        Request::Csnbkrc { label, .. } => Ok(csnbkrc(label)),
+        Request::Csnbkrw { token, .. } => Ok(csnbkrw(token, place_in(&granted.first), reply)),
+        Request::Csnbkrr { .. } => {
+            csnbkrr(key_in(&granted.first), reply);
+            Ok(Effect::Shown)
+        }
+        Request::Csnbkrd { .. } => Ok(Effect::Delete(place_in(&granted.first))),
+        Request::Csnbkrl { prefix, .. } => {
+            csnbkrl(prefix, records, reply);
+            Ok(Effect::Shown)
+        }
         Request::CsnbmkpPart { action, part, .. } => {
             put_part(part, lease);
             Ok(Effect::Change(part_action(action)))
         }
         Request::CsnbmkpClear { .. } => Ok(Effect::Change(Action::Clear)),
-        Request::CsnbmkpSet { .. } => Ok(Effect::Change(Action::Set)),
+        Request::CsnbmkpSet { .. } => Ok(csnbmkp::set(lease, held, records)),
         Request::CsuaaciDefine { name, points, .. } => Ok(csuaaci::define(name, points)),
         Request::CsuaaciRemove { name, .. } => Ok(Effect::RemoveRole(*name)),
     }
 }
 
 fn key_in(grant: &Grant) -> &Judged
-    requires { HasJudged grant.now }
+    requires { HasSomeJudged grant.now }
     ensures key { grant.now.key ≡ Some result.now }
     ensures halves { HasHalves result.now }
     ensures under { IsSome result.now.age }
+    ensures double { (need : Need) → HasJudged need grant.now → need.double ≡ true
+        → IsDouble result.now }
 {
     grant.key.as_ref().unwrap()
+}
+
+fn external_in(grant: &Grant) -> &Judged
+    requires { HasJudgedExternal grant.now }
+    ensures key { grant.now.key ≡ Some result.now }
+    ensures halves { HasHalves result.now }
+{
+    grant.key.as_ref().unwrap()
+}
+
+fn place_in(grant: &Grant) -> Place
+    requires { IsSome grant.now.place }
+    ensures { grant.now.place ≡ Some result }
+{
+    grant.place.unwrap()
 }
 
 fn is_old_key(key: &Option<Judged>) -> bool

@@ -1,10 +1,10 @@
 //! CSNBCKI: a clear key imported.
-ghost use Rattle.std.specs.Prelude.{◌≡◌, ◌≤◌, ◌∷◌, ℕ, List, [], IsSome, IsTrue, codes, length, take};
+ghost use Rattle.std.specs.Prelude.{◌≡◌, IsSome, IsTrue, Some, take};
 ghost use Rattle.key_cells.specs.Bench.{key_of, with_key};
 ghost use Rattle.key_cells.specs.Lease.{bench_of, holding};
+ghost use Rattle.key_tokens.specs.Denotes.{denoted};
 ghost use Rattle.master_registers.specs.Loaded.{Loaded};
 ghost use Rattle.master_registers.specs.Masters.{Masters};
-ghost use Rattle.script_buffers.specs.Replies.{Hex, written};
 ghost use Rattle.verb_rules.specs.Keys.{keys_of, token_for};
 ghost use Rattle.verb_script.specs.Grammar.{is_hex};
 ghost use Rattle.verb_script.specs.Values.{hex_value};
@@ -15,7 +15,6 @@ use crate::verbs::texts::block_of;
 use cipher_verbs::clear_key_import;
 use key_cells::{KeyPlace, Lease};
 use master_registers::Registers;
-use verb_script::ReplyBuffer;
 
 fn put_front(block: &[u8; 8], key: &mut [u8; 16])
     ensures { take 8 key.new ≡ take 8 block.now }
@@ -33,18 +32,16 @@ fn put_clear(digits: &[u8], lease: &mut Lease)
     put_front(&block_of(digits), lease.key_mut(KeyPlace::Key));
 }
 
-/// Shows the token of a clear DATA key under the current master key.
-pub(crate) fn csnbcki(clear: &[u8], lease: &mut Lease, held: &Registers, reply: &mut ReplyBuffer)
+/// The token of a clear DATA key under the current master key.
+pub(crate) fn csnbcki(clear: &[u8], lease: &mut Lease, held: &Registers) -> [u8; 64]
     requires clear { IsTrue (is_hex 16 clear.now) }
     requires master { IsSome held.now.current_pattern }
-    requires empty { reply.old ≡ [] }
-    ensures fields { (m : Masters) → Loaded m held.now (bench_of lease.old)
-        → reply.new ≡ written (Hex (codes "token") (token_for (keys_of m) (imported_key (hex_value clear.now))) ∷ []) }
-    ensures size { length reply.new ≤ 69000 }
+    ensures token { (m : Masters) → Loaded m held.now (bench_of lease.old)
+        → result ≡ token_for (keys_of m) (imported_key (hex_value clear.now)) }
+    ensures denoted { (m : Masters) → Loaded m held.now (bench_of lease.old)
+        → denoted (keys_of m) result ≡ Some (imported_key (hex_value clear.now)) }
     ensures places { lease.new ≡ holding lease.old (with_places (bench_of lease.old) (bench_of lease.new)) }
 {
     put_clear(clear, lease);
-    let token = clear_key_import(lease, held);
-    reply.ok();
-    reply.hex("token", &token);
+    clear_key_import(lease, held)
 }

@@ -1,6 +1,9 @@
 //! CSNBENC: a text enciphered under a key.
-ghost use Rattle.std.specs.Prelude.{◌≡◌, ◌/◌, ◌∷◌, [], IsTrue, codes, length};
+ghost use Rattle.std.specs.Prelude.{◌≡◌, ◌/◌, ◌∷◌, [], IsTrue, codes, length, List, Option};
+ghost use Rattle.key_cells.specs.Bench.{Bench};
 ghost use Rattle.key_cells.specs.Lease.{bench_of, holding};
+ghost use Rattle.key_records.specs.declared.rows.Row.{Row};
+ghost use Rattle.master_registers.specs.declared.registers.Registers.{Registers};
 ghost use Rattle.script_buffers.specs.Replies.{Hex};
 ghost use Rattle.verb_rules.specs.Keys.{HasHalves, opened};
 ghost use Rattle.verb_script.specs.Grammar.{accepts, hex_text, is_hex};
@@ -34,7 +37,8 @@ pub(crate) fn csnbenc(
         ShowsOr (first_refusal (encipher_questions (pad_named pad.now) (length text.now / 2)))
         (Hex (codes "text") (enciphered_text clear (hex_value iv.now) (pad_named pad.now) (hex_value text.now)) ∷ [])
         result reply.new }
-    ensures ready { IsReady result reply.new }
+    ensures ready { (held : Registers) (bench : Bench) (rows : List (Option Row))
+        → IsReady held bench rows result reply.new }
     ensures places { lease.new ≡ holding lease.old (with_places (bench_of lease.old) (bench_of lease.new)) }
 {
     let padding = pad_of(pad);

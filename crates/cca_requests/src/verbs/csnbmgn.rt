@@ -1,6 +1,9 @@
 //! CSNBMGN: the message authentication code of a text.
-ghost use Rattle.std.specs.Prelude.{◌≡◌, ◌≤◌, ◌/◌, ◌∷◌, [], IsTrue, codes, length, take};
+ghost use Rattle.std.specs.Prelude.{◌≡◌, ◌≤◌, ◌/◌, ◌∷◌, [], IsTrue, codes, length, take, List, Option};
+ghost use Rattle.key_cells.specs.Bench.{Bench};
 ghost use Rattle.key_cells.specs.Lease.{bench_of, holding};
+ghost use Rattle.key_records.specs.declared.rows.Row.{Row};
+ghost use Rattle.master_registers.specs.declared.registers.Registers.{Registers};
 ghost use Rattle.script_buffers.specs.Replies.{Hex, written};
 ghost use Rattle.verb_rules.specs.Keys.{HasHalves, opened};
 ghost use Rattle.verb_script.specs.Grammar.{accepts, hex_text};
@@ -58,7 +61,8 @@ pub(crate) fn csnbmgn(
         ShowsOr (first_refusal (mac_questions method (length text.now / 2) clear))
         (Hex (codes "mac") (take (mac_length_named count.now) (code_of method clear (hex_value text.now))) ∷ [])
         result reply.new }
-    ensures ready { IsReady result reply.new }
+    ensures ready { (held : Registers) (bench : Bench) (rows : List (Option Row))
+        → IsReady held bench rows result reply.new }
     ensures places { lease.new ≡ holding lease.old (with_places (bench_of lease.old) (bench_of lease.new)) }
 {
     let method = mac_rule_of(rule);

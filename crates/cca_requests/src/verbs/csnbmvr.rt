@@ -1,11 +1,13 @@
 //! CSNBMVR: whether a text has a message authentication code.
-ghost use Rattle.std.specs.Prelude.{◌≡◌, ◌≤◌, ◌/◌, ◌∷◌, [], None, IsTrue, codes, length, take};
+ghost use Rattle.std.specs.Prelude.{◌≡◌, ◌≤◌, ◌/◌, ◌∷◌, [], None, IsTrue, codes, length, take, List, Option};
 ghost use Rattle.cca_vectors.specs.Checks.{first_failing};
 ghost use Rattle.cca_vectors.specs.Vectors.{length_of};
-ghost use Rattle.key_cells.specs.Bench.{text_of};
+ghost use Rattle.key_cells.specs.Bench.{Bench, text_of};
 ghost use Rattle.multi_encipher.specs.Bundles.{ChangesKeyAt};
 ghost use Rattle.verb_rules.specs.LengthChecks.{mac_checks, text_checks};
 ghost use Rattle.key_cells.specs.Lease.{bench_of, holding};
+ghost use Rattle.key_records.specs.declared.rows.Row.{Row};
+ghost use Rattle.master_registers.specs.declared.registers.Registers.{Registers};
 ghost use Rattle.script_buffers.specs.Replies.{Text, written};
 ghost use Rattle.verb_rules.specs.Keys.{HasHalves, opened};
 ghost use Rattle.verb_script.specs.Grammar.{accepts, hex_text, mac_text};
@@ -81,7 +83,8 @@ pub(crate) fn csnbmvr(
         ShowsOr (first_refusal (mac_questions method (length text.now / 2) clear))
         (Text (codes "match") (yes_or_no (is_code method clear (hex_value text.now) (hex_value mac.now))) ∷ [])
         result reply.new }
-    ensures ready { IsReady result reply.new }
+    ensures ready { (held : Registers) (bench : Bench) (rows : List (Option Row))
+        → IsReady held bench rows result reply.new }
     ensures places { lease.new ≡ holding lease.old (with_places (bench_of lease.old) (bench_of lease.new)) }
 {
     let method = mac_rule_of(rule);

@@ -2,35 +2,43 @@ use Rattle.std.proofs.Common.{◌∙◌, Err, sym, ap, subst}
 use Rattle.key_cells.specs.Lease.{bench_of}
 use Rattle.master_registers.specs.Loaded.{Loaded, masters_in}
 use Rattle.line_service.specs.declared.stops.Stop.TheVariants.{ModuleFault}
+use Rattle.slot_disk.proofs.Media.{keeps_still}
 use Rattle.verb_script.specs.Parsed.{seen}
 use Rattle.verb_script.proofs.GrammarLaws.{spelled_values}
-use Rattle.cca_requests.proofs.Acting.{registers_found, undamaged}
-use Rattle.cca_requests.proofs.Serving.{stopped_serves, serves_after_read, stands_kept}
+use Rattle.cca_requests.specs.Serving.{tables}
+use Rattle.cca_requests.proofs.Leaving.{no_damage}
+use Rattle.cca_requests.proofs.Registers.{registers_found, undamaged}
+use Rattle.cca_requests.proofs.Serving.{stopped_serves, serves_after_reads, stands_kept}
 use Rattle.cca_requests.proofs.performing.perform.Goals as goal
 
 pub returns-in-Ok-clause-serves : goal.returns-in-Ok-clause-serves
 returns-in-Ok-clause-serves g c = λ s stands.
+    let t = tables c.args.roles.now c.args.records.now in
     let m0 = g.M.Disk.medium c.args.module.now in
     let m1 = g.M.Disk.medium c.load.new.module in
+    let d = g.D.Disk.medium c.args.store.now in
     let bench = bench_of c.load.new.lease in
-    let found = registers_found m0 m1 s (masters_in c.in-Ok.held bench) stands.in_module c.load.ensures.keeps c.in-Ok.ensures.stands in
-    serves_after_read s (seen c.args.request.now) c.carry_out.result c.carry_out.new.reply c.args.roles.now c.carry_out.new.roles m0 m1 (g.M.Disk.medium c.carry_out.new.module)
+    let found = registers_found m0 m1 s (masters_in c.in-Ok.held bench) stands.on_module.in_module c.load.ensures.keeps c.in-Ok.ensures.stands in
+    serves_after_reads s (seen c.args.request.now) c.carry_out.result c.carry_out.new.reply t (tables c.carry_out.new.roles c.carry_out.new.records)
+    m0 m1 (g.M.Disk.medium c.carry_out.new.module) d d (g.D.Disk.medium c.carry_out.new.store)
     (g.E.Entropy.left c.args.entropy.now) (g.E.Entropy.left c.carry_out.new.entropy)
-    c.requires.settled stands c.load.ensures.keeps
+    c.requires.module_settled c.requires.store_settled c.load.ensures.keeps (keeps_still d) stands
     (c.carry_out.ensures.serves s (record {
       loaded = subst (λ m. Loaded m c.in-Ok.held bench) (sym found) c.in-Ok.ensures.loaded;
-      stands = stands_kept s c.args.roles.now m0 m1 c.load.ensures.keeps stands;
+      stands = stands_kept s t m0 m1 d d c.load.ensures.keeps (keeps_still d) stands;
     }))
 
 pub returns-in-Err-DiskFault-clause-serves : goal.returns-in-Err-DiskFault-clause-serves
 returns-in-Err-DiskFault-clause-serves g c = λ s stands.
-    stopped_serves s (seen c.args.request.now) ModuleFault c.clear.new.self c.args.roles.now (g.M.Disk.medium c.args.module.now) (g.M.Disk.medium c.load.new.module)
-    (g.E.Entropy.left c.args.entropy.now) (g.E.Entropy.left c.args.entropy.now) tt (λ is. cc is)
-    c.requires.settled c.load.ensures.keeps stands
+    let t = tables c.args.roles.now c.args.records.now in
+    let d = g.D.Disk.medium c.args.store.now in
+    let left = g.E.Entropy.left c.args.entropy.now in
+    stopped_serves s (seen c.args.request.now) ModuleFault c.clear.new.self t t (g.M.Disk.medium c.args.module.now) (g.M.Disk.medium c.load.new.module) d d left left tt (λ is. cc is)
+    c.requires.module_settled c.requires.store_settled c.load.ensures.keeps (keeps_still d) stands
 
 pub returns-clause-serves : goal.returns-clause-serves
 returns-clause-serves g c = λ s stands.
-    absurd (undamaged (g.M.Disk.medium c.args.module.now) s stands.in_module (c.load.ensures.damaged (c.in-Err-Damaged.is ∙ ap Err c.in-Err-Damaged.field-0-is)))
+    absurd (undamaged (g.M.Disk.medium c.args.module.now) s stands.on_module.in_module (c.load.ensures.damaged (c.in-Err-Damaged.is ∙ ap Err c.in-Err-Damaged.field-0-is)))
 
 pub carry_out-requires-clause-accepted : goal.carry_out-requires-clause-accepted
 carry_out-requires-clause-accepted g c =
@@ -38,11 +46,19 @@ carry_out-requires-clause-accepted g c =
 
 pub returns-in-Ok-clause-untouched : goal.returns-in-Ok-clause-untouched
 returns-in-Ok-clause-untouched g c = λ s stands none.
+    let t = tables c.args.roles.now c.args.records.now in
     let m0 = g.M.Disk.medium c.args.module.now in
     let m1 = g.M.Disk.medium c.load.new.module in
+    let d = g.D.Disk.medium c.args.store.now in
     let bench = bench_of c.load.new.lease in
-    let found = registers_found m0 m1 s (masters_in c.in-Ok.held bench) stands.in_module c.load.ensures.keeps c.in-Ok.ensures.stands in
+    let found = registers_found m0 m1 s (masters_in c.in-Ok.held bench) stands.on_module.in_module c.load.ensures.keeps c.in-Ok.ensures.stands in
     c.carry_out.ensures.untouched s (record {
       loaded = subst (λ m. Loaded m c.in-Ok.held bench) (sym found) c.in-Ok.ensures.loaded;
-      stands = stands_kept s c.args.roles.now m0 m1 c.load.ensures.keeps stands;
+      stands = stands_kept s t m0 m1 d d c.load.ensures.keeps (keeps_still d) stands;
     }) none
+
+pub returns-in-Ok-clause-damaged : goal.returns-in-Ok-clause-damaged
+returns-in-Ok-clause-damaged g c = λ is. absurd (no_damage c.carry_out.result 0 c.carry_out.ensures.left.stops is)
+
+pub returns-in-Ok-clause-kept : goal.returns-in-Ok-clause-kept
+returns-in-Ok-clause-kept g c = λ is. absurd (no_damage c.carry_out.result 0 c.carry_out.ensures.left.stops is)

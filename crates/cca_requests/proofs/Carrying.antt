@@ -1,0 +1,136 @@
+-- What a verb left to be done, carried out on two disks.
+use Rattle.std.proofs.Common.{◌≡◌, ℕ, Bool, true, false, ◌++◌, List, [], ◌∷◌, Option, None, Some, Result, codes, refl, ap, ◌∙◌}
+use Rattle.std.proofs.lemmas.List.{append-nil}
+use Rattle.slot_disk.specs.Medium.{Medium, IsSettled}
+use Rattle.cca_roles.specs.declared.roles.Role.{Role}
+use Rattle.clear_keys.proofs.TokenLemmas.{keys_apart}
+use Rattle.cca_vectors.specs.Checks.{check}
+use Rattle.key_records.specs.StoreStands.{Agrees}
+use Rattle.key_records.specs.declared.rows.Row.{Row}
+use Rattle.line_service.specs.declared.stops.Stop.{Stop}
+use Rattle.master_registers.specs.Actions.{after_action}
+use Rattle.master_registers.specs.Masters.{IsMasters, set_refused, same_pattern}
+use Rattle.master_registers.specs.declared.actions.Action.{Action}
+use Rattle.master_registers.specs.declared.actions.Action.TheVariants.{First, Middle, Last, Clear, Set}
+use Rattle.script_buffers.specs.Replies.{Field, Done}
+use Rattle.verb_rules.specs.Keys.{keys_of}
+use Rattle.verb_script.specs.Grammar.{Request}
+use Rattle.cca_machine.specs.Keys.{warning}
+use Rattle.cca_machine.specs.State.{State, IsStoreOf}
+use Rattle.cca_machine.specs.Verdict.{Questions, Refusal, questions, first_refusal, action_questions, create_questions}
+use Rattle.cca_machine.specs.Act.{Effect, Become, DefineRole, RemoveRole, Create, Outcome, effect, state_after, fields_after, cell_after, store_cell_after, effected, refused, or_act}
+use Rattle.cca_requests.specs.Serving.{tables, StandsInModule, StandsInStore, CarriesModule, CarriesStore, Carries}
+use Rattle.cca_requests.specs.Deciding.{WarnsNot, plainly, or_effected, labels_after, LosesNone, action_outcome, role_outcome, create_outcome, IsWritten, IsDeleted}
+use Rattle.cca_requests.proofs.Ageing.{set_apart, store_ages, memory_ages}
+use Rattle.cca_requests.proofs.Serving.{module_carries, store_carries}
+
+-- ---- what the machine makes of it
+
+abbrev with_fields : State → Effect → List Field → Outcome
+with_fields s e fields =
+    record { state = state_after s e; reply = Done fields; module_cell = cell_after s e; store_cell = store_cell_after s e; between = λ k. s }
+
+effected_plainly : (s : State) (request : Request) (e : Effect) → WarnsNot s request → effected s request e ≡ plainly s e
+effected_plainly s request e none =
+    ap (λ (fields : List Field). with_fields s e fields)
+    (ap (λ (b : Bool). fields_after s e ++ warning b) none ∙ append-nil (fields_after s e))
+
+by_verdict : (v : Option Refusal) (s : State) (drawn : List ℕ) (request : Request) → WarnsNot s request
+    → or_act v s drawn request ≡ or_effected v s (effect s drawn request.name request)
+by_verdict None s drawn request none = effected_plainly s request (effect s drawn request.name request) none
+by_verdict (Some r) s drawn request none = refl
+
+-- by the verdict and the effect that are known
+pub outcome_is : (v w : Option Refusal) (s : State) (drawn : List ℕ) (request : Request) (e : Effect) → v ≡ w → effect s drawn request.name request ≡ e
+    → WarnsNot s request → or_act v s drawn request ≡ or_effected w s e
+outcome_is v w s drawn request e same is none =
+    by_verdict v s drawn request none
+    ∙ (ap (λ (x : Option Refusal). or_effected x s (effect s drawn request.name request)) same ∙ ap (or_effected w s) is)
+
+-- the same of a refusal
+pub refused_is : (v : Option Refusal) (r : Refusal) (s : State) (drawn : List ℕ) (request : Request) → v ≡ Some r → or_act v s drawn request ≡ refused s r
+refused_is v r s drawn request is = ap (λ (x : Option Refusal). or_act x s drawn request) is
+
+-- the same of an effect whose reply may warn
+pub shown_is : (v : Option Refusal) (s : State) (drawn : List ℕ) (request : Request) (e : Effect) → v ≡ None → effect s drawn request.name request ≡ e
+    → or_act v s drawn request ≡ effected s request e
+shown_is v s drawn request e none is = ap (λ (x : Option Refusal). or_act x s drawn request) none ∙ ap (effected s request) is
+
+-- ---- a change of the module
+
+module _ (s : State) (roles later : List (Option Role)) (rows : List (Option Row)) (m0 m1 d : Medium) (result : Result (Unit {0}) Stop) (reply : List ℕ)
+    (settled : IsSettled d) (stands : StandsInStore s rows d) where
+  -- what stood for the labels does so after it, and the memory knows them
+  abbrev Goes : Outcome → Type 0
+  Goes o = ((c : List ℕ) → IsStoreOf s c → IsStoreOf o.state c) × Agrees (keys_of o.state.registers) rows o.state.labels
+
+  or_goes : (v : Option Refusal) (e : Effect) → (v ≡ None → Goes (plainly s e)) → Goes (or_effected v s e)
+  or_goes None e goes = goes refl
+  or_goes (Some r) e goes = (λ c p. p, stands.agrees)
+
+  by_goes : (o : Outcome) → Goes o → CarriesModule o s result reply later m0 m1 → Carries o s result reply (tables later rows) m0 m1 d d
+  by_goes o goes carries = module_carries o s result reply later rows m0 m1 d carries goes.0 goes.1 settled stands
+
+  rules_kept : (wrong same : Bool) → first_refusal (questions (codes "-") (check 25 wrong ∷ check 26 same ∷ []) ∷ []) ≡ None → (wrong ≡ false) × (same ≡ false)
+  rules_kept true same is = cc is
+  rules_kept false true is = cc is
+  rules_kept false false is = (refl, refl)
+
+  action_goes : (action : Action) (part : List ℕ) → IsMasters s.registers → LosesNone action s → first_refusal (action_questions s action) ≡ None
+      → Goes (plainly s (Become (after_action action part s.registers) (labels_after action s.labels)))
+  action_goes First part valid lost none = (λ c p. p, stands.agrees)
+  action_goes Middle part valid lost none = (λ c p. p, stands.agrees)
+  action_goes Last part valid lost none = (λ c p. p, stands.agrees)
+  action_goes Clear part valid lost none = (λ c p. p, stands.agrees)
+  action_goes Set part valid lost none =
+      let kept = rules_kept (set_refused s.registers) (same_pattern s.registers) none in (
+        λ c p. store_ages s.registers c s.labels (keys_apart s.registers valid) (set_apart s.registers kept.0 kept.1) lost p,
+        memory_ages s.registers rows s.labels lost stands.agrees,
+      )
+
+  pub action_carries : (action : Action) (part : List ℕ) → IsMasters s.registers → LosesNone action s
+      → CarriesModule (action_outcome s action part) s result reply later m0 m1
+      → Carries (action_outcome s action part) s result reply (tables later rows) m0 m1 d d
+  action_carries action part valid lost =
+      by_goes (action_outcome s action part)
+      (or_goes (first_refusal (action_questions s action)) (Become (after_action action part s.registers) (labels_after action s.labels)) (action_goes action part valid lost))
+
+  pub define_carries : (asked : List Questions) (name : List ℕ) (points : ℕ) → CarriesModule (role_outcome asked s (DefineRole name points)) s result reply later m0 m1
+      → Carries (role_outcome asked s (DefineRole name points)) s result reply (tables later rows) m0 m1 d d
+  define_carries asked name points =
+      by_goes (role_outcome asked s (DefineRole name points)) (or_goes (first_refusal asked) (DefineRole name points) (λ none. (λ c p. p, stands.agrees)))
+
+  pub remove_carries : (asked : List Questions) (name : List ℕ) → CarriesModule (role_outcome asked s (RemoveRole name)) s result reply later m0 m1
+      → Carries (role_outcome asked s (RemoveRole name)) s result reply (tables later rows) m0 m1 d d
+  remove_carries asked name =
+      by_goes (role_outcome asked s (RemoveRole name)) (or_goes (first_refusal asked) (RemoveRole name) (λ none. (λ c p. p, stands.agrees)))
+
+-- ---- a change of the store
+
+create_registers : (v : Option Refusal) (s : State) (label : List ℕ) → (or_effected v s (Create label)).state.registers ≡ s.registers
+create_registers None s label = refl
+create_registers (Some r) s label = refl
+
+create_roles : (v : Option Refusal) (s : State) (label : List ℕ) → (or_effected v s (Create label)).state.roles ≡ s.roles
+create_roles None s label = refl
+create_roles (Some r) s label = refl
+
+module _ (s : State) (roles : List (Option Role)) (rows : List (Option Row)) (m d0 d1 : Medium) (result : Result (Unit {0}) Stop) (reply : List ℕ)
+    (settled : IsSettled m) (stands : StandsInModule s roles m) where
+  pub create_carries : (label : List ℕ) → CarriesStore (create_outcome s label) s result reply rows d0 d1
+      → Carries (create_outcome s label) s result reply (tables roles rows) m m d0 d1
+  create_carries label carries =
+      store_carries (create_outcome s label) s result reply roles rows m d0 d1 carries
+      (create_registers (first_refusal (create_questions s label)) s label) (create_roles (first_refusal (create_questions s label)) s label) settled stands
+
+  pub write_carries : (request : Request) (e : Effect) (place : ℕ) (token before : List ℕ) → IsWritten s e place token before
+      → CarriesStore (effected s request e) s result reply rows d0 d1 → Carries (effected s request e) s result reply (tables roles rows) m m d0 d1
+  write_carries request e place token before goes carries =
+      store_carries (effected s request e) s result reply roles rows m d0 d1 carries
+      (ap (λ (x : Effect). (state_after s x).registers) goes.is) (ap (λ (x : Effect). (state_after s x).roles) goes.is) settled stands
+
+  pub delete_carries : (e : Effect) (place : ℕ) → IsDeleted s e place → CarriesStore (plainly s e) s result reply rows d0 d1
+      → Carries (plainly s e) s result reply (tables roles rows) m m d0 d1
+  delete_carries e place gone carries =
+      store_carries (plainly s e) s result reply roles rows m d0 d1 carries
+      (ap (λ (x : Effect). (state_after s x).registers) gone.is) (ap (λ (x : Effect). (state_after s x).roles) gone.is) settled stands

@@ -1,0 +1,68 @@
+-- A key that is delivered, and a key that goes into a record.
+use Rattle.std.proofs.Common.{◌≡◌, ◌≤◌, ℕ, true, false, List, [], length, Option, None, Some, refl, sym, ap, subst, arith}
+use Rattle.std.specs.Prelude.{Bool, IsSome, IsTrue, is_some, ◌||◌}
+use Rattle.key_cells.specs.Bench.{Bench}
+use Rattle.key_records.proofs.BodyLaws.{label_short}
+use Rattle.key_records.specs.Directory.{label_at}
+use Rattle.key_records.specs.Entries.{row_directory}
+use Rattle.key_records.specs.declared.rows.Row.{Row}
+use Rattle.key_tokens.specs.Denotes.{denoted}
+use Rattle.master_registers.specs.Loaded.{masters_in}
+use Rattle.master_registers.specs.declared.registers.Registers.{Registers}
+use Rattle.script_buffers.specs.Replies.{ok_text, written}
+use Rattle.verb_rules.specs.Keys.{keys_of}
+use Rattle.cca_requests.specs.Deciding.{IsDelivery, IsHeldAt, IsReady}
+use Rattle.cca_requests.specs.Drawing.{IsHeldPlace}
+use Rattle.cca_requests.specs.Judging.{HasPlace, HasTarget, IsPlaceFor}
+use Rattle.cca_requests.specs.declared.effects.Effect.{Effect as CodeEffect}
+use Rattle.cca_requests.specs.declared.effects.Effect.TheVariants as code
+use Rattle.cca_requests.specs.declared.judging.Grant.{Grant}
+
+-- a label that a key goes to is short
+pub short_named : (named : Option (List ℕ)) (label : List ℕ) (place : Option ℕ) → named ≡ Some label → IsPlaceFor named place → length label ≤ 64
+short_named None label place is target = cc is
+short_named (Some l) label place is target = let same : l ≡ label = cc in omega (arith, label_short l target.0, ap length same)
+
+pub some_of : {A : Type 0} (o : Option A) (x : A) → o ≡ Some x → IsSome o
+some_of o x is = subst IsSome (sym is) refl
+
+-- the memory knows the label at the place of a grant
+pub held_at : (rows : List (Option Row)) (label : List ℕ) (grant : Grant) (place : ℕ) → HasPlace rows label grant → grant.place ≡ Some place → IsHeldAt rows place
+held_at rows label grant place has is =
+    let same : has.place ≡ place = cc (has.is, is) in
+    subst (IsHeldAt rows) same (some_of (label_at (row_directory rows) has.place) label has.held)
+
+-- the memory knows the label at the place of a target
+pub target_place : (rows : List (Option Row)) (named : Option (List ℕ)) (grant : Grant) → HasTarget rows named grant → IsHeldPlace rows grant.place
+target_place rows None grant target = subst (IsHeldPlace rows) (sym target) tt
+target_place rows (Some label) grant target = subst (IsHeldPlace rows) (sym target.is) (some_of (label_at (row_directory rows) target.place) label target.held)
+
+module _ (rows : List (Option Row)) (place : Option ℕ) (token : List ℕ) (held_place : IsHeldPlace rows place) where
+  -- what is certain of a delivery in every state
+  pub delivery_ready : (held : Registers) (bench : Bench) (e : CodeEffect) (reply : List ℕ) → IsDelivery token place e
+      → IsSome (denoted (keys_of (masters_in held bench)) token) → length reply ≤ 69000 → IsReady held bench rows e reply
+  delivery_ready held bench (code.Refused _ name) reply delivery key size = absurd delivery
+  delivery_ready held bench code.Shown reply delivery key size = size
+  delivery_ready held bench (code.Change action) reply delivery key size = absurd delivery
+  delivery_ready held bench (code.DefineRole name points) reply delivery key size = absurd delivery
+  delivery_ready held bench (code.RemoveRole name) reply delivery key size = absurd delivery
+  delivery_ready held bench (code.Create label) reply delivery key size = absurd delivery
+  delivery_ready held bench (code.Write other bytes) reply delivery key size = (
+    subst (IsHeldPlace rows) delivery.0 held_place,
+    subst (λ b. IsSome (denoted (keys_of (masters_in held bench)) b)) (sym delivery.1) key,
+    size,
+  )
+  delivery_ready held bench (code.Delete other) reply delivery key size = absurd delivery
+
+pub either_left : (a b : Bool) → IsTrue a → IsTrue (a || b)
+either_left true b is = refl
+either_left false b is = cc is
+
+pub either_right : (a b : Bool) → IsTrue b → IsTrue (a || b)
+either_right true b is = refl
+either_right false b is = is
+
+-- a reply of no field
+pub no_fields_short : length (written []) ≤ 69000
+unfolding ok_text
+no_fields_short = omega arith

@@ -1,0 +1,91 @@
+-- The rules of SET, by what the memory knows.
+use Rattle.std.proofs.Common.{◌≡◌, ℕ, Bool, true, false, List, [], Option, None, Some, refl, sym, ap, subst, ◌∙◌, codes}
+use Rattle.std.specs.Prelude.{if◌then◌else◌}
+use Rattle.clear_keys.proofs.TokenLemmas.{keys_apart}
+use Rattle.key_cells.specs.Bench.{Bench}
+use Rattle.key_records.proofs.AgeLaws.{old_labels, no_old_labels}
+use Rattle.key_records.specs.Ages.{any_old}
+use Rattle.key_records.specs.Changes.{any_under}
+use Rattle.key_records.specs.declared.rows.Row.{Row}
+use Rattle.master_registers.specs.Loaded.{Loaded, pattern_in}
+use Rattle.master_registers.specs.Masters.{pattern_of_master, set_refused, same_pattern}
+use Rattle.master_registers.specs.declared.patterns.Pattern.{Pattern}
+use Rattle.master_registers.specs.declared.registers.Registers.{Registers}
+use Rattle.verb_rules.specs.Rules.{rule_number}
+use Rattle.verb_script.specs.Grammar.{csnbmkp_set}
+use Rattle.verb_rules.specs.Keys.{keys_of, master_key}
+use Rattle.cca_vectors.specs.Checks.{first_failing}
+use Rattle.master_registers.specs.declared.actions.Action.TheVariants.{Set}
+use Rattle.cca_machine.specs.Actions.{action_checks}
+use Rattle.cca_machine.specs.State.{State}
+use Rattle.cca_machine.specs.Verdict.{Refusal, action_questions, first_refusal, refusal, set_questions, or_refused}
+use Rattle.cca_requests.specs.Deciding.{IsDecided, IsRecorded, IsSetDecided}
+use Rattle.cca_requests.specs.declared.effects.Effect.{Effect as CodeEffect}
+use Rattle.cca_requests.specs.declared.effects.Effect.TheVariants as code
+
+-- by rules 25 and 26, and whether a label is under the old master key
+abbrev pub or_old : Option ℕ → Bool → Option Refusal
+or_old None true = Some (refusal 27 (codes "-"))
+or_old None false = None
+or_old (Some rule) old = Some (refusal rule (codes "-"))
+
+module _ (s : State) (held : Registers) (bench : Bench) (rows : List (Option Row)) (loaded : Loaded s.registers held bench) (recorded : IsRecorded s rows) where
+  former_is : pattern_in s.registers.former ≡ held.old_pattern
+  former_is = ap (λ (h : Registers). h.old_pattern) (sym loaded.told)
+
+  -- the labels that are under the old master key have its pattern
+  pub old_are : (pattern : Pattern) → held.old_pattern ≡ Some pattern → any_under pattern rows ≡ any_old s.labels
+  old_are pattern is = by_former s.registers.former refl (former_is ∙ is)
+    where
+      by_former : (former : Option (List ℕ)) → s.registers.former ≡ former → pattern_in former ≡ Some pattern → any_under pattern rows ≡ any_old s.labels
+      by_former None former found = cc found
+      by_former (Some x) former found =
+          let same : record { bytes = pattern_of_master x } ≡ pattern = cc in
+          ap (λ p. any_under p rows) (sym same)
+          ∙ old_labels (keys_of s.registers) (keys_apart s.registers loaded.valid) (record { key = x; pattern = pattern_of_master x }) (ap master_key former)
+          rows s.labels recorded.image recorded.keeps
+
+  -- where the old register is empty there are none
+  pub none_old : held.old_pattern ≡ None → false ≡ any_old s.labels
+  none_old is = by_former s.registers.former refl (former_is ∙ is)
+    where
+      by_former : (former : Option (List ℕ)) → s.registers.former ≡ former → pattern_in former ≡ None → false ≡ any_old s.labels
+      by_former None former found =
+          sym (no_old_labels (keys_of s.registers) (keys_apart s.registers loaded.valid) (ap master_key former) rows s.labels recorded.image recorded.keeps)
+      by_former (Some x) former found = cc found
+
+by_rules : (wrong same old : Bool) (rule : Option ℕ) → (if wrong then Some 25 else if same then Some 26 else None) ≡ rule
+    → or_refused (if wrong then Some 25 else if same then Some 26 else if old then Some 27 else None) (codes "-") None ≡ or_old rule old
+by_rules true same old rule is = ap (λ r. or_old r old) is
+by_rules false true old rule is = ap (λ r. or_old r old) is
+by_rules false false true rule is = ap (λ r. or_old r true) is
+by_rules false false false rule is = ap (λ r. or_old r false) is
+
+-- the first rule that SET breaks
+pub set_refusal : (s : State) (rule : Option ℕ) → first_failing (action_checks Set s.registers) ≡ rule → first_refusal (set_questions s) ≡ or_old rule (any_old s.labels)
+set_refusal s rule is = by_rules (set_refused s.registers) (same_pattern s.registers) (any_old s.labels) rule is
+
+parts_by : (wrong same old : Bool) → or_refused (if wrong then Some 25 else if same then Some 26 else if old then Some 27 else None) (codes "-") None ≡ None
+    → (or_refused (if wrong then Some 25 else if same then Some 26 else None) (codes "-") None ≡ None) × (old ≡ false)
+parts_by true same old none = cc none
+parts_by false true old none = cc none
+parts_by false false true none = cc none
+parts_by false false false none = (refl, refl)
+
+set_parts : (s : State) → first_refusal (set_questions s) ≡ None → (first_refusal (action_questions s Set) ≡ None) × (any_old s.labels ≡ false)
+set_parts s none = parts_by (set_refused s.registers) (same_pattern s.registers) (any_old s.labels) none
+
+-- SET is decided as the machine does
+pub set_decided : (s : State) (bench : Bench) (values : List (List ℕ)) (e : CodeEffect) (reply : List ℕ)
+    → IsSetDecided s e → IsDecided s bench [] (record { name = csnbmkp_set; values = values }) e reply
+set_decided s bench values (code.Refused rule name) reply decided = decided.0 ∙ ap (λ o. Some (refusal (rule_number rule) o)) (sym decided.1)
+set_decided s bench values code.Shown reply decided = absurd decided
+set_decided s bench values (code.Change action) reply decided =
+    let parts = set_parts s decided.1 in
+    subst (λ a. IsDecided s bench [] (record { name = csnbmkp_set; values = values }) (code.Change a) reply) (sym decided.0)
+    (decided.1 ∙ sym parts.0, refl, parts.1, refl)
+set_decided s bench values (code.DefineRole name points) reply decided = absurd decided
+set_decided s bench values (code.RemoveRole name) reply decided = absurd decided
+set_decided s bench values (code.Create label) reply decided = absurd decided
+set_decided s bench values (code.Write place token) reply decided = absurd decided
+set_decided s bench values (code.Delete place) reply decided = absurd decided

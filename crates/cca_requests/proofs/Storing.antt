@@ -1,0 +1,221 @@
+-- A change of the records is what the machine makes of it.
+use Rattle.std.proofs.Common.{◌≡◌, ◌≢◌, ℕ, Bool, true, false, List, [], ◌∷◌, Option, None, Some, Result, Ok, Err, codes, refl, sym, ap, ◌∙◌, subst, inl, inr, ⊎_elim}
+use Rattle.std.specs.Prelude.{◌⊎◌, ◌↔◌, ◌≤◌, ◌==◌, IsTrue, IsSome, IfErr, OnOk, OnErr, is_some}
+use Rattle.std.proofs.lemmas.Bool.{false_from_ne_true}
+use Rattle.std.proofs.lemmas.Bool.Decides.{Decides-eqb}
+use Rattle.slot_disk.specs.Cells.{IsReplacing}
+use Rattle.slot_disk.specs.Faults.{Rose}
+use Rattle.slot_disk.specs.Medium.{Medium, Told, IsSettled, From}
+use Rattle.slot_disk.proofs.Media.{each_weaker, told_from}
+use Rattle.cca_vectors.specs.Checks.{check}
+use Rattle.key_records.specs.Changes.{HoldsEither, ReplacesBody, ChangesLabels, Remembers, HasRecordCause, created}
+use Rattle.key_records.specs.Directory.{free_cell, cell_of}
+use Rattle.key_records.specs.Entries.{Entry, directory, row_directory}
+use Rattle.key_records.specs.StoreStands.{KeepsLabels, HoldsRows}
+use Rattle.key_records.specs.declared.faults.RecordFault.{RecordFault}
+use Rattle.key_records.specs.declared.faults.RecordFault.TheVariants.{DiskFault, Damaged, Full, Exists}
+use Rattle.key_records.specs.declared.rows.Row.{Row}
+use Rattle.key_records.proofs.StoreLaws.{same_directory}
+use Rattle.script_buffers.specs.Replies.{Refused, spelled}
+use Rattle.line_service.specs.declared.stops.Stop.TheVariants.{StoreFault}
+use Rattle.verb_rules.specs.Keys.{keys_of}
+use Rattle.cca_machine.specs.State.{State, IsStoreOf}
+use Rattle.cca_machine.specs.Verdict.{refusal, questions, first_refusal}
+use Rattle.cca_machine.specs.Act.{Create, Outcome, refused}
+use Rattle.cca_requests.specs.Serving.{StandsInStore, IsEither, SameBut, CarriesStore, LeavesStore}
+use Rattle.cca_requests.specs.Deciding.{IsRecorded, or_effected, record_stop, record_reply}
+use Rattle.cca_requests.proofs.Contents.{at_content, holds_at}
+use Rattle.cca_requests.proofs.Serving.{still_store, told_some, told_before}
+
+-- what comes of holding another label, by whether rule 28 or 29 is broken
+abbrev created_by : Bool → Bool → State → List ℕ → Outcome
+created_by full exists s label =
+    or_effected (first_refusal (questions (codes "label") (check 28 full ∷ check 29 exists ∷ []) ∷ [])) s (Create label)
+
+-- the memory knows the labels that the store stands for
+pub kept_labels : (s : State) (rows : List (Option Row)) (d : Medium) → StandsInStore s rows d → Told d (KeepsLabels (keys_of s.registers) rows s.labels)
+kept_labels s rows d stands = told_from d.content (KeepsLabels (keys_of s.registers) rows s.labels)
+    (λ c is. record { stands = at_content d (IsStoreOf s) stands.in_store c is; agrees = stands.agrees })
+
+pub recorded : (s : State) (rows : List (Option Row)) (d : Medium) → StandsInStore s rows d → IsRecorded s rows
+recorded s rows d stands = record { image = stands.in_store.image; keeps = record { stands = stands.in_store.has; agrees = stands.agrees } }
+
+-- the labels of the state are those that the memory knows
+pub known_directory : (s : State) (rows : List (Option Row)) (d : Medium) → StandsInStore s rows d → directory s.labels ≡ row_directory rows
+known_directory s rows d stands = same_directory (keys_of s.registers) rows s.labels stands.agrees
+
+module _ (d0 d1 : Medium) (s : State) (rows later : List (Option Row)) (stands : StandsInStore s rows d0)
+    (cell : ℕ) (next : List (Option Entry)) (o : Outcome) (state_is : o.state ≡ record s { labels = next }) (cell_is : o.store_cell ≡ Some cell) where
+  either : (image : List ℕ) → From (HoldsEither (keys_of s.registers) cell s.labels next) d0 image → IsEither IsStoreOf s o image
+  either image from = ⊎_elim (λ before. inl before) (λ after. inr (subst (λ (x : State). IsStoreOf x image) (sym state_is) after)) from.2.stands
+
+  outside : (image : List ℕ) → From (HoldsEither (keys_of s.registers) cell s.labels next) d0 image → From (SameBut o.store_cell) d0 image
+  outside image from = (
+    from.0,
+    from.1,
+    subst (λ (n : Option ℕ). SameBut n from.0 image) (sym cell_is)
+        (record { outside = from.2.outside; others = from.2.others; untouched = from.2.untouched }),
+  )
+
+  -- the labels became others
+  pub stored : (u : Unit {0}) (reply : List ℕ) → ChangesLabels (keys_of s.registers) cell s.labels next later d0 d1 (Ok u) → reply ≡ spelled o.reply
+      → CarriesStore o s (Ok tt) reply later d0 d1
+  stored u reply changes text = record {
+    done = record { reply_is = text; stands = subst (λ (x : State). StandsInStore x later d1) (sym state_is) after };
+    moments = each_weaker d0 d1 (From (HoldsEither (keys_of s.registers) cell s.labels next) d0) (IsEither IsStoreOf s o) changes.moments either;
+    outside = each_weaker d0 d1 (From (HoldsEither (keys_of s.registers) cell s.labels next) d0) (From (SameBut o.store_cell) d0) changes.moments outside;
+    stops = tt;
+  }
+    where
+      after : StandsInStore (record s { labels = next }) later d1
+      after =
+          let holds = holds_at d1.content d1 (KeepsLabels (keys_of s.registers) later next) refl
+          (changes.either.still (told_some d0 stands.in_store.image stands.in_store.told)) changes.keeps in
+          record {
+            in_store = record { image = holds.image; told = holds.told; has = holds.has.stands };
+            agrees = holds.has.agrees;
+          }
+
+  -- the store failed on the way
+  pub failed : (fault : RecordFault) (reply : List ℕ) → ChangesLabels (keys_of s.registers) cell s.labels next later d0 d1 (Err fault)
+      → CarriesStore o s (Err StoreFault) reply later d0 d1
+  failed fault reply changes = record {
+    done = tt;
+    moments = each_weaker d0 d1 (From (HoldsEither (keys_of s.registers) cell s.labels next) d0) (IsEither IsStoreOf s o) changes.moments either;
+    outside = each_weaker d0 d1 (From (HoldsEither (keys_of s.registers) cell s.labels next) d0) (From (SameBut o.store_cell) d0) changes.moments outside;
+    stops = tt;
+  }
+
+-- ---- another label
+
+some_held : (cell : Option ℕ) → cell ≢ None → is_some cell ≡ true
+some_held None held = absurd (held refl)
+some_held (Some n) held = refl
+
+held_some : (cell : Option ℕ) → is_some cell ≡ true → cell ≢ None
+held_some None is = cc is
+held_some (Some n) is = λ none. cc none
+
+-- rule 28 is broken where the memory knows a label of each cell
+pub full_as : (r : Result (Unit {0}) RecordFault) (labels known : List (Option (List ℕ))) → labels ≡ known
+    → ((r ≡ Err Full) ↔ (free_cell known ≡ 1024)) → ((r ≡ Err Full) ↔ IsTrue (free_cell labels == 1024))
+full_as r labels known same rule =
+    let tests = Decides-eqb (free_cell labels) 1024 in
+    let cell : free_cell labels ≡ free_cell known = ap free_cell same in
+    (λ is. tests.1 (cell ∙ rule.0 is), λ is. rule.1 (sym cell ∙ tests.0 is))
+
+-- and rule 29 where it knows the label
+pub exists_as : (r : Result (Unit {0}) RecordFault) (label : List ℕ) (labels known : List (Option (List ℕ))) → labels ≡ known
+    → ((r ≡ Err Exists) ↔ ((free_cell known ≢ 1024) × (cell_of label known ≢ None)))
+    → ((r ≡ Err Exists) ↔ (((free_cell labels == 1024) ≡ false) × IsTrue (is_some (cell_of label labels))))
+exists_as r label labels known same rule =
+    let tests = Decides-eqb (free_cell labels) 1024 in
+    let cell : free_cell labels ≡ free_cell known = ap free_cell same in
+    let place : cell_of label labels ≡ cell_of label known = ap (cell_of label) same in (
+      λ is.
+          let both = rule.0 is in
+          (false_from_ne_true (free_cell labels == 1024) (λ test. both.0 (sym cell ∙ tests.0 test)), ap (λ o. is_some o) place ∙ some_held (cell_of label known) both.1),
+      λ both. rule.1 (
+        λ is. let no : false ≡ true = sym both.0 ∙ tests.1 (cell ∙ is) in cc no,
+        held_some (cell_of label known) (sym (ap (λ o. is_some o) place) ∙ both.1),
+      ),
+    )
+
+module _ {A : Type 0} (medium : A → Medium) (old new : A) (s : State) (rows later : List (Option Row)) (label reply : List ℕ)
+    (settled : IsSettled (medium old)) (stands : StandsInStore s rows (medium old)) where
+  abbrev cell : ℕ
+  cell = free_cell (row_directory rows)
+
+  abbrev after : Outcome
+  after = created_by false false s label
+
+  cell_is : after.store_cell ≡ Some cell
+  cell_is = ap (λ d. Some (free_cell d)) (known_directory s rows (medium old) stands)
+
+  -- a rule refuses it
+  refused_as : (rule : ℕ) → new ≡ old → later ≡ rows → reply ≡ spelled (Refused rule (codes "label"))
+      → CarriesStore (refused s (refusal rule (codes "label"))) s (Ok tt) reply later (medium old) (medium new)
+  refused_as rule untouched memory text =
+      subst (λ x. CarriesStore (refused s (refusal rule (codes "label"))) s (Ok tt) reply later (medium old) (medium x)) (sym untouched)
+      (subst (λ rs. CarriesStore (refused s (refusal rule (codes "label"))) s (Ok tt) reply rs (medium old) (medium old)) (sym memory)
+      (still_store (refused s (refusal rule (codes "label"))) s (Ok tt) reply rows (medium old) refl text tt settled stands))
+
+  pub creates_as : (full exists : Bool) (next : List (Option Row)) (r : Result (Unit {0}) RecordFault)
+      → ((r ≡ Err Full) ↔ IsTrue full) → ((r ≡ Err Exists) ↔ ((full ≡ false) × IsTrue exists))
+      → ChangesLabels (keys_of s.registers) cell s.labels (created label s.labels) later (medium old) (medium new) r
+      → ((r ≡ Err Full) ⊎ (r ≡ Err Exists) → new ≡ old) → Remembers rows next later r → OnOk (record_stop r) (reply ≡ spelled (record_reply r))
+      → CarriesStore (created_by full exists s label) s (record_stop r) reply later (medium old) (medium new)
+  creates_as true exists next (Ok u) full_is exists_is changes untouched memory text = let no = full_is.1 refl in cc no
+  creates_as true exists next (Err DiskFault) full_is exists_is changes untouched memory text = let no = full_is.1 refl in cc no
+  creates_as true exists next (Err (Damaged n)) full_is exists_is changes untouched memory text = let no = full_is.1 refl in cc no
+  creates_as true exists next (Err Full) full_is exists_is changes untouched memory text = refused_as 28 (untouched (inl refl)) memory.kept text
+  creates_as true exists next (Err Exists) full_is exists_is changes untouched memory text = let no = full_is.1 refl in cc no
+  creates_as false true next (Ok u) full_is exists_is changes untouched memory text = let no = exists_is.1 (refl, refl) in cc no
+  creates_as false true next (Err DiskFault) full_is exists_is changes untouched memory text = let no = exists_is.1 (refl, refl) in cc no
+  creates_as false true next (Err (Damaged n)) full_is exists_is changes untouched memory text = let no = exists_is.1 (refl, refl) in cc no
+  creates_as false true next (Err Full) full_is exists_is changes untouched memory text = let no = exists_is.1 (refl, refl) in cc no
+  creates_as false true next (Err Exists) full_is exists_is changes untouched memory text = refused_as 29 (untouched (inr refl)) memory.kept text
+  creates_as false false next (Ok u) full_is exists_is changes untouched memory text =
+      stored (medium old) (medium new) s rows later stands cell (created label s.labels) after refl cell_is u reply changes text
+  creates_as false false next (Err DiskFault) full_is exists_is changes untouched memory text =
+      failed (medium old) (medium new) s rows later stands cell (created label s.labels) after refl cell_is DiskFault reply changes
+  creates_as false false next (Err (Damaged n)) full_is exists_is changes untouched memory text =
+      failed (medium old) (medium new) s rows later stands cell (created label s.labels) after refl cell_is (Damaged n) reply changes
+  creates_as false false next (Err Full) full_is exists_is changes untouched memory text = let no : false ≡ true = full_is.0 refl in cc no
+  creates_as false false next (Err Exists) full_is exists_is changes untouched memory text = let no : false ≡ true = (exists_is.0 refl).1 in cc no
+
+-- ---- whatever the store holds
+
+module _ (d0 d1 : Medium) (before now : ℕ) (rows later : List (Option Row)) (reply : List ℕ) (cell : ℕ) (bytes : List ℕ) where
+  pub stored_left : (u : Unit {0}) → ReplacesBody cell bytes d0 d1 (Ok u) → Told d1 (HoldsRows later) → before ≤ now
+      → LeavesStore d0 d1 before now (Ok tt) reply rows later
+  stored_left u replaces holds count = record {
+    disk = record { size = replaces.replacing.size; still = replaces.replacing.still; settled = replaces.settled; later = count; fault = λ is. cc is };
+    told = told_before (IsReplacing cell bytes) d0 d1 replaces.replacing;
+    holds = holds;
+    silent = tt;
+    memory = tt;
+    stops = tt;
+  }
+
+  pub failed_left : (fault : RecordFault) → ReplacesBody cell bytes d0 d1 (Err fault) → later ≡ rows → before ≤ now → Rose before now → reply ≡ []
+      → LeavesStore d0 d1 before now (Err StoreFault) reply rows later
+  failed_left fault replaces memory count rose silent = record {
+    disk = record { size = replaces.replacing.size; still = replaces.replacing.still; settled = tt; later = count; fault = λ is. rose };
+    told = told_before (IsReplacing cell bytes) d0 d1 replaces.replacing;
+    holds = tt;
+    silent = silent;
+    memory = memory;
+    stops = refl;
+  }
+
+module _ {A : Type 0} (medium : A → Medium) (faults : A → ℕ) (old new : A) (rows later next : List (Option Row)) (reply : List ℕ) (cell : ℕ) (bytes : List ℕ)
+    (settled : IsSettled (medium old)) (holds : Told (medium old) (HoldsRows rows)) where
+  refused_left : new ≡ old → later ≡ rows → faults old ≤ faults new → LeavesStore (medium old) (medium new) (faults old) (faults new) (Ok tt) reply rows later
+  refused_left untouched memory count = record {
+    disk = record {
+      size = ap (λ x. (medium x).size) untouched;
+      still = λ some. subst (λ x. IsSome (medium x).content) (sym untouched) some;
+      settled = subst (λ x. IsSettled (medium x)) (sym untouched) settled;
+      later = count;
+      fault = λ is. cc is;
+    };
+    told = λ some. subst (λ x. IsSome (medium x).content) untouched some;
+    holds = subst (λ x. Told (medium x) (HoldsRows later)) (sym untouched) (subst (λ rs. Told (medium old) (HoldsRows rs)) (sym memory) holds);
+    silent = tt;
+    memory = tt;
+    stops = tt;
+  }
+
+  -- what holding another label leaves
+  pub create_left_as : (r : Result (Unit {0}) RecordFault) → ReplacesBody cell bytes (medium old) (medium new) r → IfErr r (λ fault. (n : ℕ) → fault ≢ Damaged n)
+      → ((r ≡ Err Full) ⊎ (r ≡ Err Exists) → new ≡ old) → Remembers rows next later r → OnOk r (Told (medium new) (HoldsRows later))
+      → HasRecordCause (faults old) (faults new) r → OnErr (record_stop r) (reply ≡ [])
+      → LeavesStore (medium old) (medium new) (faults old) (faults new) (record_stop r) reply rows later
+  create_left_as (Ok u) replaces undamaged untouched memory holds_now cause silent =
+      stored_left (medium old) (medium new) (faults old) (faults new) rows later reply cell bytes u replaces holds_now cause.later
+  create_left_as (Err DiskFault) replaces undamaged untouched memory holds_now cause silent =
+      failed_left (medium old) (medium new) (faults old) (faults new) rows later reply cell bytes DiskFault replaces memory.kept cause.later (cause.failed refl) silent
+  create_left_as (Err (Damaged n)) replaces undamaged untouched memory holds_now cause silent = absurd (undamaged n refl)
+  create_left_as (Err Full) replaces undamaged untouched memory holds_now cause silent = refused_left (untouched (inl refl)) memory.kept cause.later
+  create_left_as (Err Exists) replaces undamaged untouched memory holds_now cause silent = refused_left (untouched (inr refl)) memory.kept cause.later

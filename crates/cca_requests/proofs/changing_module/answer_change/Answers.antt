@@ -1,0 +1,13 @@
+use Rattle.std.proofs.Common.{◌∙◌, [], ◌∷◌, ◌++◌, codes, sym, ap}
+use Rattle.script_buffers.specs.Replies.{Text, spelled, text_field}
+use Rattle.cca_requests.specs.Deciding.{state_name, change_reply}
+use Rattle.cca_requests.proofs.Fields.{one_text}
+use Rattle.cca_requests.proofs.changing_module.answer_change.Goals as goal
+
+pub returns-in-Ok-clause-reply : goal.returns-in-Ok-clause-reply
+returns-in-Ok-clause-reply c =
+    let name = state_name c.in-Ok.held.new_state in
+    c.end.ensures (Text (codes "new") name ∷ [])
+    (one_text (codes "new") name c.args.reply.now c.ok.new.self c.text.new.self c.requires c.ok.ensures.bytes
+    (c.text.ensures.bytes ∙ ap (λ x. c.ok.new.self ++ text_field (codes "new") x) (c.as_bytes.ensures.value ∙ c.name_of.ensures.name)))
+    ∙ ap (λ o. spelled (change_reply o)) (sym c.in-Ok.is)

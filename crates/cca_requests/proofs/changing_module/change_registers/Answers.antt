@@ -1,0 +1,59 @@
+use Rattle.std.proofs.Common.{◌≡◌, [], Err, OnOk, sym, subst}
+use Rattle.std.specs.Prelude.{◌↔◌, IsTrue, IfOk, OnErr}
+use Rattle.key_cells.specs.Lease.{bench_of}
+use Rattle.master_registers.specs.Masters.{Masters}
+use Rattle.master_registers.specs.Actions.{after_action, has_wrong_state, repeats_pattern}
+use Rattle.master_registers.specs.Changes.{ChangesModule}
+use Rattle.master_registers.specs.Loaded.{Loaded, masters_in}
+use Rattle.master_registers.specs.declared.faults.RegisterFault.TheVariants.{RegisterState, SamePattern}
+use Rattle.script_buffers.specs.Replies.{spelled}
+use Rattle.cca_requests.specs.Serving.{CarriesModule, LeavesModule}
+use Rattle.cca_requests.specs.Deciding.{action_outcome, labels_after, change_reply}
+use Rattle.cca_requests.proofs.Registers.{masters_are}
+use Rattle.cca_requests.proofs.Changing.{changes_as, still_as, left_as}
+use Rattle.cca_requests.proofs.changing_module.change_registers.Goals as goal
+
+pub returns-clause-carries : goal.returns-clause-carries
+returns-clause-carries g c = λ s at.
+    let bench = bench_of c.args.lease.now in
+    let later = bench_of c.change-outcome.new.lease in
+    let action = c.args.action in
+    let result = c.change-outcome.result in
+    let old = g.M.Disk.medium c.args.module.now in
+    let new = g.M.Disk.medium c.change-outcome.new.module in
+    let is = sym (masters_are s.registers c.args.held.now bench at.loaded) in
+    subst (λ r. CarriesModule (action_outcome s action bench.part) s r
+    c.answer_change.new.reply c.args.roles.now old new) (sym c.answer_change.ensures.stop)
+    (changes_as g.M.Disk.medium c.args.module.now c.change-outcome.new.module s c.args.roles.now (after_action action bench.part s.registers) (labels_after action s.labels) later
+    c.requires.at.settled at.stands (has_wrong_state action s.registers) (repeats_pattern action s.registers) result c.answer_change.new.reply
+    (subst (λ (m : Masters). (result ≡ Err RegisterState) ↔ IsTrue (has_wrong_state action m)) is c.change-outcome.ensures.cause.state)
+    (subst (λ (m : Masters). (result ≡ Err SamePattern) ↔ IsTrue (repeats_pattern action m)) is c.change-outcome.ensures.cause.same)
+    (subst (λ (m : Masters). ChangesModule m (after_action action bench.part m) old new result) is c.change-outcome.ensures.change.changed)
+    c.change-outcome.ensures.untouched
+    (subst (λ (m : Masters). IfOk result (λ now. Loaded (after_action action bench.part m) now later)) is c.change-outcome.ensures.change.loaded)
+    (subst (λ r. OnOk r (c.answer_change.new.reply ≡ spelled (change_reply result))) c.answer_change.ensures.stop c.answer_change.ensures.reply))
+
+pub returns-clause-still : goal.returns-clause-still
+returns-clause-still g c = λ s at none.
+    let bench = bench_of c.args.lease.now in
+    let action = c.args.action in
+    let result = c.change-outcome.result in
+    let is = sym (masters_are s.registers c.args.held.now bench at.loaded) in
+    still_as g.M.Disk.medium c.args.module.now c.change-outcome.new.module s c.args.roles.now (after_action action bench.part s.registers) (labels_after action s.labels) bench
+    c.requires.at.settled at.stands (has_wrong_state action s.registers) (repeats_pattern action s.registers) result
+    (subst (λ (m : Masters). (result ≡ Err RegisterState) ↔ IsTrue (has_wrong_state action m)) is c.change-outcome.ensures.cause.state)
+    (subst (λ (m : Masters). (result ≡ Err SamePattern) ↔ IsTrue (repeats_pattern action m)) is c.change-outcome.ensures.cause.same)
+    c.change-outcome.ensures.untouched none
+
+pub returns-clause-left : goal.returns-clause-left
+returns-clause-left g c =
+    let bench = bench_of c.args.lease.now in
+    let m = masters_in c.args.held.now bench in
+    let result = c.change-outcome.result in
+    let faults = g.M.Disk.faults in
+    let left = left_as g.M.Disk.medium faults c.args.module.now c.change-outcome.new.module m (after_action c.args.action bench.part m) c.args.roles.now
+    c.requires.at.settled c.requires.at.stands c.requires.at.remembered c.change-outcome.ensures.cause.later result c.answer_change.new.reply
+    c.change-outcome.ensures.change.changed c.change-outcome.ensures.untouched c.change-outcome.ensures.cause.failed
+    (subst (λ r. OnErr r (c.answer_change.new.reply ≡ [])) c.answer_change.ensures.stop c.answer_change.ensures.silent) in
+    subst (λ r. LeavesModule (g.M.Disk.medium c.args.module.now) (g.M.Disk.medium c.change-outcome.new.module) (faults c.args.module.now) (faults c.change-outcome.new.module)
+    r c.answer_change.new.reply c.args.roles.now c.args.roles.now) (sym c.answer_change.ensures.stop) left

@@ -1,0 +1,49 @@
+use Rattle.std.proofs.Common.{◌≡◌, [], Some, OnOk, sym, subst}
+use Rattle.std.specs.Prelude.{◌==◌, OnErr, is_some, set}
+use Rattle.key_records.specs.Directory.{free_cell, cell_of}
+use Rattle.key_records.specs.Entries.{directory, row_directory, null_row}
+use Rattle.key_records.specs.RecordBody.{record_body, null_kind, no_token}
+use Rattle.script_buffers.specs.Replies.{spelled}
+use Rattle.verb_rules.specs.Keys.{keys_of}
+use Rattle.cca_requests.specs.Serving.{CarriesStore, LeavesStore}
+use Rattle.cca_requests.specs.Deciding.{create_outcome, record_reply}
+use Rattle.cca_requests.proofs.Storing.{kept_labels, known_directory, full_as, exists_as, creates_as, create_left_as}
+use Rattle.cca_requests.proofs.changing_store.create.Goals as goal
+
+pub returns-clause-carries : goal.returns-clause-carries
+returns-clause-carries g c = λ s held at.
+    let label = c.args.label.now in
+    let rows = c.args.records.now in
+    let known = row_directory rows in
+    let labels = directory s.labels in
+    let r = c.create-outcome.result in
+    let old = g.D.Disk.medium c.args.store.now in
+    let new = g.D.Disk.medium c.create-outcome.new.store in
+    let now = c.create-outcome.new.self in
+    let same = known_directory s rows old at.stands in
+    subst (λ x. CarriesStore (create_outcome s label) s x c.answer_create.new.reply now old new) (sym c.answer_create.ensures.stop)
+    (creates_as g.D.Disk.medium c.args.store.now c.create-outcome.new.store s rows now label c.answer_create.new.reply c.requires.store.settled at.stands
+    (free_cell labels == 1024) (is_some (cell_of label labels)) (set rows (free_cell known) (Some (null_row label))) r
+    (full_as r labels known same c.create-outcome.ensures.full)
+    (exists_as r label labels known same c.create-outcome.ensures.exists)
+    (c.create-outcome.ensures.labels (keys_of s.registers) s.labels (kept_labels s rows old at.stands))
+    c.create-outcome.ensures.untouched
+    c.create-outcome.ensures.memory
+    (subst (λ x. OnOk x (c.answer_create.new.reply ≡ spelled (record_reply r))) c.answer_create.ensures.stop c.answer_create.ensures.reply))
+
+pub returns-clause-left : goal.returns-clause-left
+returns-clause-left g c =
+    let label = c.args.label.now in
+    let rows = c.args.records.now in
+    let cell = free_cell (row_directory rows) in
+    let r = c.create-outcome.result in
+    let medium = g.D.Disk.medium in
+    let faults = g.D.Disk.faults in
+    let now = c.create-outcome.new.self in
+    subst (λ x. LeavesStore (medium c.args.store.now) (medium c.create-outcome.new.store) (faults c.args.store.now) (faults c.create-outcome.new.store)
+    x c.answer_create.new.reply rows now) (sym c.answer_create.ensures.stop)
+    (create_left_as medium faults c.args.store.now c.create-outcome.new.store rows now (set rows cell (Some (null_row label))) c.answer_create.new.reply
+    cell (record_body null_kind label no_token) c.requires.store.settled c.requires.store.holds r
+    c.create-outcome.ensures.cell c.create-outcome.ensures.undamaged c.create-outcome.ensures.untouched c.create-outcome.ensures.memory
+    c.create-outcome.ensures.holds c.create-outcome.ensures.cause
+    (subst (λ x. OnErr x (c.answer_create.new.reply ≡ [])) c.answer_create.ensures.stop c.answer_create.ensures.silent))

@@ -1,0 +1,61 @@
+use Rattle.std.proofs.Common.{◌≡◌, ◌∙◌, ◌∷◌, [], ℕ, List, length, None, Some, codes, refl, sym, ap, subst}
+use Rattle.key_cells.specs.Lease.{bench_of}
+use Rattle.key_transport.specs.Generated.{HaveLength, generated_key, generated_tokens}
+use Rattle.key_transport.specs.Tokens.{external_token}
+use Rattle.key_transport.specs.declared.generating.Form.{Form}
+use Rattle.key_transport.specs.declared.generating.Generated.{Generated}
+use Rattle.master_registers.specs.Loaded.{masters_in}
+use Rattle.script_buffers.specs.Replies.{Hex, written}
+use Rattle.verb_rules.specs.Keys.{opened}
+use Rattle.verb_rules.specs.Rules.{rule_number}
+use Rattle.cca_machine.specs.Choices.{key_length_named, out_form_named}
+use Rattle.cca_machine.specs.Verdict.{first_refusal, pair_questions, refusal}
+use Rattle.cca_requests.specs.Deciding.{token2_fields}
+use Rattle.cca_requests.specs.Drawing.{HasRefused}
+use Rattle.cca_requests.specs.declared.effects.Effect.TheVariants as code
+use Rattle.cca_requests.proofs.Fields.{hex_before}
+use Rattle.cca_requests.proofs.Generating.{drawn_delivery, drawn_refusal, out_lengths, out_tokens, two_lengths}
+use Rattle.cca_requests.proofs.verbs.csnbkgn.generate_out.Goals as goal
+
+pub returns-in-Some-clause-generated : goal.returns-in-Some-clause-generated
+returns-in-Some-clause-generated g c = λ s.
+    let refused = c.in-Some.refusal in
+    let rules = λ (n : ℕ). first_refusal (pair_questions c.args.first c.args.second n) in
+    drawn_refusal s (rules (key_length_named c.args.length.now)) _ (key_length_named c.args.length.now) (g.E.Entropy.left c.args.entropy.now) c.args.reply.now
+    refused.rule refused.operand
+    (subst (λ (n : ℕ). rules n ≡ Some (refusal (rule_number refused.rule) refused.operand.now)) c.key_length-length.ensures c.in-Some.ensures)
+
+pub generate-requires-clause-lengths : goal.generate-requires-clause-lengths
+generate-requires-clause-lengths g c =
+    let size = c.key_length-length.result in
+    let none = subst (HasRefused (first_refusal (pair_questions c.args.first c.args.second size))) c.in_default.is c.judge_two.ensures in
+    subst (λ (f : Form). HaveLength f c.args.first c.args.second size) (sym c.out_form.ensures)
+    (out_lengths c.args.form.now c.args.first c.args.second size (two_lengths c.args.first c.args.second size none))
+
+pub returns-clause-generated : goal.returns-clause-generated
+returns-clause-generated g c = λ s.
+    let bench = bench_of c.args.lease.now in
+    let m = masters_in c.args.held.now bench in
+    let size = c.key_length-length.result in
+    let text = c.args.form.now in
+    let keys = c.in_ok-keys.keys in
+    let made = c.in_ok-keys.ensures.generated in
+    let one = generated_key c.args.first made.drawn in
+    let two = generated_key c.args.second made.drawn in
+    let out = (opened bench c.args.one.now).key in
+    let other = (opened bench c.args.two.now).key in
+    let rules = λ (n : ℕ). first_refusal (pair_questions c.args.first c.args.second n) in
+    let none : rules (key_length_named c.args.length.now) ≡ None =
+    subst (λ (n : ℕ). rules n ≡ None) c.key_length-length.ensures (subst (HasRefused (rules size)) c.in_default.is c.judge_two.ensures) in
+    let tokens : keys ≡ record { first = external_token out one; second = Some (external_token other two) } =
+    made.tokens m c.requires.loaded ∙ (ap (λ (f : Form). generated_tokens m f out other one two) c.out_form.ensures ∙ out_tokens m text out other one two) in
+    let reply = hex_before (codes "token1") keys.first (token2_fields keys.second) c.args.reply.now c.ok.new.self c.hex.new.self c.show_second.new.reply
+    c.requires.empty c.ok.ensures.bytes c.hex.ensures.bytes c.show_second.ensures.bytes in
+    drawn_delivery s (rules (key_length_named c.args.length.now)) _ (key_length_named c.args.length.now)
+    (g.E.Entropy.left c.args.entropy.now) (g.E.Entropy.left c.generate.new.entropy) c.show_second.new.reply made.drawn code.Shown none
+    (made.size_of ∙ c.key_length-length.ensures) made.consumed
+    (record {
+      fields = Hex (codes "token1") (external_token out one) ∷ Hex (codes "token2") (external_token other two) ∷ [];
+      is = refl;
+      reply_is = reply ∙ ap (λ (k : Generated). written (Hex (codes "token1") k.first ∷ token2_fields k.second)) tokens;
+    })

@@ -1,0 +1,79 @@
+-- What is found of a label, and of the key in its record.
+use Rattle.std.specs.Prelude.{◌≡◌, ◌<◌, ℕ, List, [], ◌∷◌, ◌++◌, is_none, Option, Some, None, Result, MatchResult, ⊤}
+use Rattle.cca_vectors.specs.Checks.{Check, check, first_failing}
+use Rattle.key_cells.specs.Bench.{Bench}
+use Rattle.key_records.specs.Directory.{cell_of, label_at}
+use Rattle.key_records.specs.Entries.{row_directory}
+use Rattle.key_records.specs.Labels.{IsLabel}
+use Rattle.key_records.specs.declared.faults.RecordFault.{RecordFault}
+use Rattle.key_records.specs.declared.faults.RecordFault.TheVariants as record_fault
+use Rattle.key_records.specs.declared.rows.Row.{Row}
+use Rattle.key_tokens.specs.Denotes.{Denoted}
+use Rattle.line_service.specs.declared.stops.Device.TheVariants.{Store}
+use Rattle.line_service.specs.declared.stops.Stop.{Stop}
+use Rattle.line_service.specs.declared.stops.Stop.TheVariants.{StoreFault, Damaged}
+use Rattle.master_registers.specs.Masters.{Masters}
+use Rattle.verb_rules.specs.KeyChecks.{use_checks}
+use Rattle.verb_rules.specs.Rules.{rule_number}
+use Rattle.verb_rules.specs.declared.judging.Judged.{Judged}
+use Rattle.verb_rules.specs.declared.needs.Need.{Need}
+use Rattle.verb_rules.specs.declared.rules.Rule.{Rule}
+use Rattle.cca_machine.specs.Keys.{key_of_label, or_no_key}
+use Rattle.cca_machine.specs.State.{State}
+use Rattle.cca_machine.specs.Verdict.{label_check, record_checks}
+use Rattle.cca_requests.specs.Judging.{HasStoredKey}
+use Rattle.cca_requests.specs.declared.judging.Answer.{Answer}
+use Rattle.cca_requests.specs.declared.judging.Answer.TheVariants as answer
+
+-- rules 06 and 07 of a label, by what the memory knows
+abbrev pub find_checks : List (Option Row) → List ℕ → List Check
+find_checks rows label = label_check label ∷ check 7 (is_none (cell_of label (row_directory rows))) ∷ []
+
+-- the place of a label that is held
+pub record IsFound (rows : List (Option Row)) (label : List ℕ) (place : ℕ) : Type 0 where
+  pub passes : first_failing (find_checks rows label) ≡ None
+  pub is : cell_of label (row_directory rows) ≡ Some place
+  pub held : label_at (row_directory rows) place ≡ Some label
+  pub label_is : IsLabel label
+  pub within : place < 1024
+
+-- the place, or the rule that the label breaks
+abbrev pub Finds : List (Option Row) → List ℕ → Result ℕ Rule → Type 0
+Finds rows label result =
+    MatchResult result (IsFound rows label) (λ rule. first_failing (find_checks rows label) ≡ Some (rule_number rule))
+
+-- a key that was read, by the rules on its use
+abbrev pub IsUsed : Need → Judged → Answer → Type 0
+IsUsed need judged (answer.Refused rule) = first_failing (use_checks need judged.token.vector) ≡ Some (rule_number rule)
+IsUsed need judged (answer.Granted grant) =
+    (first_failing (use_checks need judged.token.vector) ≡ None) × (grant ≡ record { token = None; key = Some judged; place = None })
+
+-- the key of a record, by the rules on its use; the token of a record is one
+abbrev pub IsStoredUse : Masters → Bench → Need → Denoted → Option Answer → Type 0
+IsStoredUse m bench need key None = ⊥
+IsStoredUse m bench need key (Some (answer.Refused rule)) = first_failing (use_checks need key.clear.vector) ≡ Some (rule_number rule)
+IsStoredUse m bench need key (Some (answer.Granted grant)) =
+    (first_failing (use_checks need key.clear.vector) ≡ None) × HasStoredKey m bench (Some key) grant
+
+-- the rules of a label whose key is asked for
+abbrev pub label_key_checks : State → Need → List ℕ → List Check
+label_key_checks s need label = record_checks s label ++ use_checks need (or_no_key (key_of_label s label)).clear.vector
+
+-- the first of them that is broken, or the key
+abbrev pub IsLabelAsked : State → Bench → Need → List ℕ → Answer → Type 0
+IsLabelAsked s bench need label (answer.Refused rule) = first_failing (label_key_checks s need label) ≡ Some (rule_number rule)
+IsLabelAsked s bench need label (answer.Granted grant) =
+    (first_failing (label_key_checks s need label) ≡ None) × HasStoredKey s.registers bench (key_of_label s label) grant
+
+-- reading a record fails by these alone
+abbrev pub IsReadFault : RecordFault → Type 0
+IsReadFault record_fault.DiskFault = ⊤
+IsReadFault (record_fault.Damaged cell) = ⊤
+IsReadFault record_fault.Full = ⊥
+IsReadFault record_fault.Exists = ⊥
+
+abbrev pub read_stop : RecordFault → Stop
+read_stop record_fault.DiskFault = StoreFault
+read_stop (record_fault.Damaged cell) = Damaged Store cell
+read_stop record_fault.Full = StoreFault
+read_stop record_fault.Exists = StoreFault

@@ -1,0 +1,163 @@
+//! Changes of the registers and of the roles, with their replies.
+ghost use Rattle.cca_roles.specs.RoleNames.{default_name};
+ghost use Rattle.std.specs.Prelude.{◌≡◌, ◌≢◌, ◌≤◌, [], None, OnOk, OnErr, length};
+ghost use Rattle.key_cells.specs.Lease.{bench_of, loan_of};
+ghost use Rattle.script_buffers.specs.Replies.{spelled};
+ghost use Rattle.cca_machine.specs.State.{State};
+ghost use Rattle.cca_machine.specs.Act.{DefineRole, RemoveRole};
+ghost use Rattle.cca_machine.specs.Verdict.{define_questions, remove_questions};
+ghost use Rattle.cca_requests.specs.Serving.{CarriesModule, LeavesModule};
+ghost use Rattle.cca_requests.specs.Deciding.{HasLoaded, AtModule, action_outcome, state_name, change_stop, change_reply, role_outcome, role_stop, role_reply};
+
+use crate::endings::end;
+use crate::refusals::refuse;
+use cca_roles::{AccessPoints, RoleFault, RoleName, Roles};
+use key_cells::Lease;
+use line_service::Stop;
+use master_registers::{Action, NewState, RegisterFault, Registers, change};
+use slot_disk::Disk;
+use verb_rules::Rule;
+use verb_script::ReplyBuffer;
+
+fn name_of(state: NewState) -> &'static str
+    ensures name { result.now ≡ state_name state }
+    ensures size { length result.now ≤ 7 }
+{
+    match state {
+        NewState::Empty => "empty",
+        NewState::Partial => "partial",
+        NewState::Full => "full",
+    }
+}
+
+/// Says how full the new register is, or which rule refused the change.
+fn answer_change(
+    outcome: Result<Registers, RegisterFault>,
+    reply: &mut ReplyBuffer,
+) -> Result<(), Stop>
+    requires { reply.old ≡ [] }
+    ensures stop { result ≡ change_stop outcome }
+    ensures reply { OnOk result (reply.new ≡ spelled (change_reply outcome)) }
+    ensures silent { OnErr result (reply.new ≡ []) }
+{
+    match outcome {
+        Ok(held) => {
+            reply.ok();
+            reply.text("new", name_of(held.new_state).as_bytes());
+            end(reply);
+            Ok(())
+        }
+        Err(RegisterFault::DiskFault) => Err(Stop::ModuleFault),
+        Err(RegisterFault::RegisterState) => {
+            refuse(reply, Rule::RegisterState, "-");
+            Ok(())
+        }
+        Err(RegisterFault::SamePattern) => {
+            refuse(reply, Rule::SamePattern, "-");
+            Ok(())
+        }
+    }
+}
+
+/// Carries out an action on the registers.
+pub(crate) fn change_registers<M: Disk>(
+    action: Action,
+    module: &mut M,
+    lease: &mut Lease,
+    held: &Registers,
+    roles: &Roles,
+    reply: &mut ReplyBuffer,
+) -> Result<(), Stop>
+    requires at { HasLoaded held.now (bench_of lease.old) roles.now (M.medium «module».old) }
+    requires empty { reply.old ≡ [] }
+    ensures carries { (s : State) → AtModule s held.now (bench_of lease.old) roles.now (M.medium «module».old)
+        → CarriesModule (action_outcome s action (bench_of lease.old).part) s result reply.new roles.now
+        (M.medium «module».old) (M.medium «module».new) }
+    ensures still { (s : State) → AtModule s held.now (bench_of lease.old) roles.now (M.medium «module».old)
+        → (action_outcome s action (bench_of lease.old).part).module_cell ≡ None
+        → «module».new ≡ «module».old }
+    ensures left { LeavesModule (M.medium «module».old) (M.medium «module».new)
+        (M.faults «module».old) (M.faults «module».new) result reply.new roles.now roles.now }
+    ensures loan { loan_of lease.new ≡ loan_of lease.old }
+{
+    let outcome = change(action, module, lease, held);
+    answer_change(outcome, reply)
+}
+
+/// Says that the roles are changed, or which rule refused the change.
+fn answer_roles(outcome: Result<(), RoleFault>, reply: &mut ReplyBuffer) -> Result<(), Stop>
+    requires { reply.old ≡ [] }
+    ensures stop { result ≡ role_stop outcome }
+    ensures reply { OnOk result (reply.new ≡ spelled (role_reply outcome)) }
+    ensures silent { OnErr result (reply.new ≡ []) }
+{
+    match outcome {
+        Ok(()) => {
+            reply.ok();
+            end(reply);
+            Ok(())
+        }
+        Err(RoleFault::DiskFault) => Err(Stop::ModuleFault),
+        Err(RoleFault::Damaged(_)) => Err(Stop::ModuleFault),
+        Err(RoleFault::TableFull) => {
+            refuse(reply, Rule::RoleTable, "name");
+            Ok(())
+        }
+        Err(RoleFault::Unknown) => {
+            refuse(reply, Rule::RoleTable, "name");
+            Ok(())
+        }
+    }
+}
+
+/// Gives a role these access control points.
+pub(crate) fn define_role<M: Disk>(
+    name: &RoleName,
+    points: AccessPoints,
+    module: &mut M,
+    lease: &mut Lease,
+    held: &Registers,
+    roles: &mut Roles,
+    reply: &mut ReplyBuffer,
+) -> Result<(), Stop>
+    requires at { HasLoaded held.now (bench_of lease.old) roles.old (M.medium «module».old) }
+    requires empty { reply.old ≡ [] }
+    ensures carries { (s : State) → AtModule s held.now (bench_of lease.old) roles.old (M.medium «module».old)
+        → CarriesModule (role_outcome (define_questions s name.now) s (DefineRole name.now points)) s
+        result reply.new roles.new (M.medium «module».old) (M.medium «module».new) }
+    ensures still { (s : State) → AtModule s held.now (bench_of lease.old) roles.old (M.medium «module».old)
+        → (role_outcome (define_questions s name.now) s (DefineRole name.now points)).module_cell ≡ None
+        → «module».new ≡ «module».old }
+    ensures left { LeavesModule (M.medium «module».old) (M.medium «module».new)
+        (M.faults «module».old) (M.faults «module».new) result reply.new roles.old roles.new }
+    ensures loan { loan_of lease.new ≡ loan_of lease.old }
+{
+    let outcome = roles.define(module, lease, name, points);
+    answer_roles(outcome, reply)
+}
+
+/// Makes a role one that isn't held.
+pub(crate) fn remove_role<M: Disk>(
+    name: &RoleName,
+    module: &mut M,
+    lease: &mut Lease,
+    held: &Registers,
+    roles: &mut Roles,
+    reply: &mut ReplyBuffer,
+) -> Result<(), Stop>
+    requires at { HasLoaded held.now (bench_of lease.old) roles.old (M.medium «module».old) }
+    requires empty { reply.old ≡ [] }
+    requires other { name.now ≢ default_name }
+    ensures carries { (s : State) → AtModule s held.now (bench_of lease.old) roles.old (M.medium «module».old)
+        → CarriesModule (role_outcome (remove_questions s name.now) s (RemoveRole name.now)) s
+        result reply.new roles.new (M.medium «module».old) (M.medium «module».new) }
+    ensures still { (s : State) → AtModule s held.now (bench_of lease.old) roles.old (M.medium «module».old)
+        → (role_outcome (remove_questions s name.now) s (RemoveRole name.now)).module_cell ≡ None
+        → «module».new ≡ «module».old }
+    ensures left { LeavesModule (M.medium «module».old) (M.medium «module».new)
+        (M.faults «module».old) (M.faults «module».new) result reply.new roles.old roles.new }
+    ensures loan { loan_of lease.new ≡ loan_of lease.old }
+{
+    let outcome = roles.remove(module, lease, name);
+    answer_roles(outcome, reply)
+}

@@ -1,0 +1,138 @@
+//! Changes of the records, with their replies.
+ghost use Rattle.std.specs.Prelude.{◌≡◌, [], OnOk, OnErr};
+ghost use Rattle.key_cells.specs.Lease.{bench_of, loan_of};
+ghost use Rattle.master_registers.specs.Loaded.{IsLoaded};
+ghost use Rattle.master_registers.specs.declared.registers.Registers.{Registers as HeldRegisters};
+ghost use Rattle.script_buffers.specs.Replies.{spelled};
+ghost use Rattle.verb_script.specs.Grammar.{Request};
+ghost use Rattle.cca_machine.specs.State.{State};
+ghost use Rattle.cca_machine.specs.Keys.{any_old};
+ghost use Rattle.cca_machine.specs.Operands.{operands, listed};
+ghost use Rattle.cca_machine.specs.Act.{Effect as MachineEffect, effected};
+ghost use Rattle.cca_requests.specs.declared.effects.Effect.TheVariants as code;
+ghost use Rattle.cca_requests.specs.Serving.{CarriesStore, LeavesStore};
+ghost use Rattle.cca_requests.specs.Deciding.{HasStore, AtStore, IsReady, IsHeldAt, IsWritten, IsDeleted, plainly, create_outcome, record_stop, record_reply};
+
+use crate::endings::{end, finish};
+use crate::refusals::refuse;
+use key_cells::Lease;
+use key_records::{Label, Place, RecordFault, Records};
+use line_service::Stop;
+use master_registers::Registers;
+use slot_disk::Disk;
+use verb_rules::Rule;
+use verb_script::ReplyBuffer;
+
+/// Says that a label is held, or which rule refused it.
+fn answer_create(outcome: Result<(), RecordFault>, reply: &mut ReplyBuffer) -> Result<(), Stop>
+    requires { reply.old ≡ [] }
+    ensures stop { result ≡ record_stop outcome }
+    ensures reply { OnOk result (reply.new ≡ spelled (record_reply outcome)) }
+    ensures silent { OnErr result (reply.new ≡ []) }
+{
+    match outcome {
+        Ok(()) => {
+            reply.ok();
+            end(reply);
+            Ok(())
+        }
+        Err(RecordFault::DiskFault) => Err(Stop::StoreFault),
+        Err(RecordFault::Damaged(_)) => Err(Stop::StoreFault),
+        Err(RecordFault::Full) => {
+            refuse(reply, Rule::StoreFull, "label");
+            Ok(())
+        }
+        Err(RecordFault::Exists) => {
+            refuse(reply, Rule::LabelExists, "label");
+            Ok(())
+        }
+    }
+}
+
+/// Holds a label, with nothing in its record.
+pub(crate) fn create<D: Disk>(
+    label: &Label,
+    store: &mut D,
+    lease: &mut Lease,
+    records: &mut Records,
+    reply: &mut ReplyBuffer,
+) -> Result<(), Stop>
+    requires store { HasStore records.old (D.medium store.old) }
+    requires empty { reply.old ≡ [] }
+    ensures carries { (s : State) (held : HeldRegisters)
+        → AtStore s held (bench_of lease.old) records.old (D.medium store.old)
+        → CarriesStore (create_outcome s label.now) s result reply.new records.new
+        (D.medium store.old) (D.medium store.new) }
+    ensures left { LeavesStore (D.medium store.old) (D.medium store.new)
+        (D.faults store.old) (D.faults store.new) result reply.new records.old records.new }
+    ensures loan { loan_of lease.new ≡ loan_of lease.old }
+{
+    let outcome = records.create(store, lease, label);
+    answer_create(outcome, reply)
+}
+
+/// Puts the key of a token into a record.
+pub(crate) fn write<D: Disk>(
+    place: Place,
+    token: &[u8; 64],
+    warns: bool,
+    store: &mut D,
+    lease: &mut Lease,
+    held: &Registers,
+    records: &mut Records,
+    reply: &mut ReplyBuffer,
+) -> Result<(), Stop>
+    requires store { HasStore records.old (D.medium store.old) }
+    requires loaded { IsLoaded held.now (bench_of lease.old) }
+    requires ready { IsReady held.now (bench_of lease.old) records.old (code.Write place token.now) reply.old }
+    ensures carries { (s : State) (request : Request) (e : MachineEffect)
+        → AtStore s held.now (bench_of lease.old) records.old (D.medium store.old)
+        → any_old s (listed (operands request)) ≡ warns
+        → IsWritten s e place token.now reply.old
+        → CarriesStore (effected s request e) s result reply.new records.new
+        (D.medium store.old) (D.medium store.new) }
+    ensures left { LeavesStore (D.medium store.old) (D.medium store.new)
+        (D.faults store.old) (D.faults store.new) result reply.new records.old records.new }
+    ensures loan { loan_of lease.new ≡ loan_of lease.old }
+{
+    match records.write(store, lease, held, place, token) {
+        Ok(()) => {
+            finish(warns, reply);
+            Ok(())
+        }
+        Err(_) => {
+            reply.clear();
+            Err(Stop::StoreFault)
+        }
+    }
+}
+
+/// Takes a label away.
+pub(crate) fn delete<D: Disk>(
+    place: Place,
+    store: &mut D,
+    lease: &mut Lease,
+    records: &mut Records,
+    reply: &mut ReplyBuffer,
+) -> Result<(), Stop>
+    requires store { HasStore records.old (D.medium store.old) }
+    requires held { IsHeldAt records.old place }
+    requires empty { reply.old ≡ [] }
+    ensures carries { (s : State) (held : HeldRegisters) (e : MachineEffect)
+        → AtStore s held (bench_of lease.old) records.old (D.medium store.old)
+        → IsDeleted s e place
+        → CarriesStore (plainly s e) s result reply.new records.new
+        (D.medium store.old) (D.medium store.new) }
+    ensures left { LeavesStore (D.medium store.old) (D.medium store.new)
+        (D.faults store.old) (D.faults store.new) result reply.new records.old records.new }
+    ensures loan { loan_of lease.new ≡ loan_of lease.old }
+{
+    match records.delete(store, lease, place) {
+        Ok(()) => {
+            reply.ok();
+            end(reply);
+            Ok(())
+        }
+        Err(_) => Err(Stop::StoreFault),
+    }
+}
