@@ -1,5 +1,6 @@
 mod ListLemmas
+mod OpeningLemmas
+mod KnownLemmas
 mod LineLemmas
-mod ModuleLemmas
 mod StopLemmas
 mod StatusLemmas

@@ -1,30 +1,30 @@
--- What `perform` makes of a request is what the desk answers to the line that spells it.
+-- What comes of one line.
 use Rattle.std.proofs.Common.{◌≡◌, ℕ, ◌<◌, ◌≤◌, List, [], length, take, Option, None, Some, Result, Ok, Err, codes, refl, sym, ap, ◌∙◌, subst, inl, inr, arith}
-use Rattle.std.specs.Prelude.{⊤, ◌⊎◌, OnOk, IfErr}
-use Rattle.slot_disk.specs.Medium.{Medium, IsSettled}
-use Rattle.slot_disk.proofs.Media.{each_weaker, each_still, each_pair, image_now}
+use Rattle.std.specs.Prelude.{◌⊎◌, OnOk, IfErr, IsTrue}
+use Rattle.slot_disk.specs.Medium.{Medium, IsSettled, From, EachImage}
+use Rattle.slot_disk.proofs.Media.{each_weaker, image_now}
 use Rattle.script_buffers.specs.Reading.{line_limit}
 use Rattle.script_buffers.specs.Replies.{Refused, spelled}
 use Rattle.verb_script.specs.Grammar.{Request, Spells}
 use Rattle.verb_script.specs.Requests.{request_of}
-use Rattle.cca_roles.specs.declared.roles.Role.{Role}
-use Rattle.cca_machine.specs.State.{State, IsModuleOf}
+use Rattle.cca_machine.specs.State.{State, IsModuleOf, IsStoreOf}
+use Rattle.cca_machine.specs.Operands.{operands, listed, names_label}
 use Rattle.cca_machine.specs.Verdict.{Refusal, verdict}
 use Rattle.cca_machine.specs.Act.{Outcome, draws, or_act, performed}
 use Rattle.cca_machine.specs.Lines.{LineOutcome, drawn_where, taken_by, line_outcome}
 use Rattle.cca_machine.proofs.LineLaws.{line-no_request, line-too_long, line-request, line-drawn}
-use Rattle.cca_requests.specs.Serving.{Serves as Performs, Carries, HasDrawn, IsDone, IsEither, IsFault, IsUnwritten}
-use Rattle.cca_requests.proofs.Serving.{unwritten}
-use Rattle.line_service.specs.Answering.{Stands, Steps, Around, Both, Moves, Stays, Serves}
+use Rattle.cca_requests.specs.Serving.{Tables, Stands as StandsFor, Serves as Performs, HasDrawn, IsDone, IsEither, ArePair, IsFault, SameBut}
+use Rattle.line_service.specs.Answering.{Holds, Stands, Steps, Around, Both, Moves, Stays, Serves, Unwritten}
 use Rattle.line_service.specs.Machine.{world}
 use Rattle.line_service.specs.Stops.{IsLineStop}
+use Rattle.line_service.specs.declared.stops.Device.TheVariants.{Store}
 use Rattle.line_service.specs.declared.stops.Stop.{Stop}
-use Rattle.line_service.specs.declared.stops.Stop.TheVariants.{EntropyFault, ModuleFault, Damaged}
-use Rattle.line_service.specs.declared.stops.Device.TheVariants.{Module}
+use Rattle.line_service.specs.declared.stops.Stop.TheVariants.{ReadFault, WriteFault, EntropyFault, ModuleFault, StoreFault, Damaged, InputLimit}
 use Rattle.line_service.proofs.LineLemmas.{refused_serves, still_has}
 use Rattle.cca_tool.specs.Coprocessor.{cca, IsRefusal, DrawsRandom, MayFail, remembers}
+use Rattle.cca_tool.proofs.KnownLemmas.{stands_as}
 
--- ---- lines that are refused without a look at the module
+-- ---- lines that are refused without a look at a disk
 
 refused_steps : (s : State) (line reply : List ℕ) (rule : ℕ)
     → ((random : List ℕ) → line_outcome s random line ≡ record { state = s; reply = Refused rule (codes "-"); random = random })
@@ -46,13 +46,22 @@ unspelled_serves s K line reply m d e short none is stands settled_m settled_d =
 -- ---- requests
 
 -- a refused request writes no cell, whatever random bytes come
-refusal_cell : (o : Option Refusal) (s : State) (r : Request) (drawn other : List ℕ) → IsRefusal (or_act o s drawn r).reply → (or_act o s other r).module_cell ≡ None
-refusal_cell (Some refusal) s r drawn other is = refl
-refusal_cell None s r drawn other is = absurd is
+abbrev WritesNone : Outcome → Type 0
+WritesNone o = (o.module_cell ≡ None) × (o.store_cell ≡ None)
 
-performed_cell : (s : State) (r : Request) (drawn other : List ℕ) → IsRefusal (performed s drawn r).reply → (performed s other r).module_cell ≡ None
+refusal_writes : (o : Option Refusal) (s : State) (r : Request) (drawn other : List ℕ) → IsRefusal (or_act o s drawn r).reply → WritesNone (or_act o s other r)
+refusal_writes (Some refusal) s r drawn other is = (refl, refl)
+refusal_writes None s r drawn other is = absurd is
+
+performed_writes : (s : State) (r : Request) (drawn other : List ℕ) → IsRefusal (performed s drawn r).reply → WritesNone (performed s other r)
 unfolding performed
-performed_cell s r drawn other is = refusal_cell (verdict s r) s r drawn other is
+performed_writes s r drawn other is = refusal_writes (verdict s r) s r drawn other is
+
+-- a disk of which no cell is written
+kept_images : (cell : Option ℕ) (m0 m1 : Medium) → cell ≡ None → EachImage m0 m1 (From (SameBut cell) m0) → EachImage m0 m1 m0.images
+kept_images cell m0 m1 none outside =
+    each_weaker m0 m1 (From (SameBut None) m0) m0.images (subst (λ (x : Option ℕ). EachImage m0 m1 (From (SameBut x) m0)) none outside)
+    (λ c from. subst m0.images (sym from.2) (m0.is_image from.0 from.1))
 
 -- a request that takes random bytes is one that draws them, and isn't refused
 drawn_where_permitted : (o : Option Refusal) (count : ℕ) → 0 < drawn_where o count → (0 < count) × (o ≡ None)
@@ -64,90 +73,110 @@ draws_random s line r spells some =
     let is = drawn_where_permitted (verdict s r) (draws r.name r) some in
     record { request = r; spelled = spells; draws = is.0; permitted = is.1 }
 
--- the stops of a request
-abbrev IsRequestStop : Stop → Type 0
-IsRequestStop stop = (stop ≡ ModuleFault) ⊎ ((stop ≡ EntropyFault) ⊎ (stop ≡ Damaged Module 0))
-
 module _ (s : State) (line : List ℕ) (r : Request) (short : length line ≤ line_limit) (spells : request_of line ≡ Some r) where
   steps : (drawn : List ℕ) → length drawn ≡ taken_by s r → Steps cca s line drawn (performed s drawn r).state (spelled (performed s drawn r).reply)
   steps drawn size = λ rest.
       ap (λ (o : LineOutcome). record { state = o.state; reply = spelled o.reply; random = o.random }) (line-drawn s drawn rest line r short spells size)
 
-  refused_cell : (drawn : List ℕ) → IsRefusal (line_outcome s [] line).reply → (performed s drawn r).module_cell ≡ None
-  refused_cell drawn refuses =
-      performed_cell s r (take (taken_by s r) []) drawn
+  refused_writes : (drawn : List ℕ) → IsRefusal (line_outcome s [] line).reply → WritesNone (performed s drawn r)
+  refused_writes drawn refuses =
+      performed_writes s r (take (taken_by s r) []) drawn
       (subst (λ (o : LineOutcome). IsRefusal o.reply) (line-request s [] line r short spells) refuses)
 
-  module _ (result : Result (Unit {0}) Stop) (reply : List ℕ) (before after : List (Option Role)) (m0 m1 d : Medium) (e0 e1 : Option (List ℕ))
-      (settled : IsSettled m0) (standing : Stands cca s (remembers before) m0 d) where
-    around : (o : Outcome) (c : List ℕ) → IsEither s o c → Around cca s line o.state (λ t. IsModuleOf t c)
-    around o c (inl same) = inl same
-    around o c (inr next) = inr (inl next)
+  -- a disk of which each image stands for the state before a request or after it
+  around : (Of : State → List ℕ → Type 0) (o : Outcome) (c : List ℕ) → IsEither Of s o c → Around cca s line o.state (λ t. Of t c)
+  around Of o c (inl same) = inl same
+  around Of o c (inr next) = inr (inl next)
 
-    both : (o : Outcome) (c b : List ℕ) → IsEither s o c → Around cca s line o.state (Both cca c b)
-    both o c b (inl same) = inl (same, tt)
-    both o c b (inr next) = inr (inl (next, tt))
+  around_both : (o : Outcome) (c d : List ℕ) → ArePair s o c d → Around cca s line o.state (Both cca c d)
+  around_both o c d (inl same) = inl same
+  around_both o c d (inr next) = inr (inl next)
 
-    stands_after : (o : Outcome) (u : Result (Unit {0}) Stop) → OnOk u (IsDone o reply after m1) → OnOk u (Stands cca o.state (remembers after) m1 d)
-    stands_after o (Ok done) is =
-        record { disks = record { in_module = is.stands.in_module; in_store = standing.disks.in_store }; agrees = is.stands.memory }
+  -- the stops of a request over disks that stand for a state
+  of_stop : (stop : Stop) → IsFault stop → Spells r line → (stop ≡ EntropyFault → 0 < taken_by s r)
+      → (stop ≡ StoreFault → IsTrue (names_label (listed (operands r)))) → IsLineStop stop × MayFail stop s line
+  of_stop ModuleFault fault found draws names = (tt, (r, found))
+  of_stop StoreFault fault found draws names = (tt, record { request = r; spelled = found; named = names refl })
+  of_stop EntropyFault fault found draws names = (tt, draws_random s line r found (draws refl))
+  of_stop ReadFault fault found draws names = absurd fault
+  of_stop WriteFault fault found draws names = absurd fault
+  of_stop InputLimit fault found draws names = absurd fault
+  of_stop (Damaged device cell) fault found draws names = absurd fault
+
+  line_stop : (u : Result (Unit {0}) Stop) → IfErr u IsFault → Spells r line → (u ≡ Err EntropyFault → 0 < taken_by s r)
+      → (u ≡ Err StoreFault → IsTrue (names_label (listed (operands r)))) → IfErr u (λ stop. IsLineStop stop × MayFail stop s line)
+  line_stop (Ok done) faults found draws names = tt
+  line_stop (Err stop) faults found draws names = of_stop stop faults found (λ is. draws (ap Err is)) (λ is. names (ap Err is))
+
+  module _ (result : Result (Unit {0}) Stop) (reply : List ℕ) (before after : Tables) (m0 m1 d0 d1 : Medium) (e0 e1 : Option (List ℕ))
+      (settled_m : IsSettled m0) (settled_d : IsSettled d0) (standing : Stands cca s (remembers before) m0 d0) where
+    stands_after : (o : Outcome) (u : Result (Unit {0}) Stop) → OnOk u (IsDone o reply after m1 d1) → OnOk u (Stands cca o.state (remembers after) m1 d1)
+    stands_after o (Ok done) is = stands_as o.state after m1 d1 is.stands
     stands_after o (Err stop) is = tt
 
-    reply_at : (o : Outcome) (u : Result (Unit {0}) Stop) → OnOk u (IsDone o reply after m1) → OnOk u (reply ≡ spelled o.reply)
+    reply_at : (o : Outcome) (u : Result (Unit {0}) Stop) → OnOk u (IsDone o reply after m1 d1) → OnOk u (reply ≡ spelled o.reply)
     reply_at o (Ok done) is = is.reply_is
     reply_at o (Err stop) is = tt
 
-    -- nothing was written: each image of the module stands for the state
-    stays : IsUnwritten m0 m1 → Stays cca s (world m0 d e0) (world m1 d e1)
+    -- nothing was written: each image stands for the state
+    stays_of : (a b : Medium) (P : List ℕ → Type 0) → IsSettled a → Holds a P → EachImage a b a.images → EachImage a b P
+    stays_of a b P settled holds still = each_weaker a b a.images P still (λ c among. image_now a a P (still_has a P holds settled) c among)
+
+    stays : Unwritten (world m0 d0 e0) (world m1 d1 e1) → Stays cca s (world m0 d0 e0) (world m1 d1 e1)
     stays unwritten = record {
-      on_module = each_weaker m0 m1 m0.images (IsModuleOf s) unwritten
-          (λ c among. image_now m0 m0 (IsModuleOf s) (still_has m0 (IsModuleOf s) standing.disks.in_module settled) c among);
-      on_store = each_weaker d d d.images (λ b. ⊤) (each_still d) (λ b h. tt);
+      on_module = stays_of m0 m1 (IsModuleOf s) settled_m standing.disks.in_module unwritten.on_module;
+      on_store = stays_of d0 d1 (IsStoreOf s) settled_d standing.disks.in_store unwritten.on_store;
     }
 
-    moves : (drawn : List ℕ) → Carries (performed s drawn r) s result reply after m0 m1 → HasDrawn drawn (taken_by s r) e0 e1
-        → Moves cca s (remembers after) line result reply (world m0 d e0) (world m1 d e1)
-    moves drawn carries random =
-        let o = performed s drawn r in
-        let store = each_weaker d d d.images (λ b. ⊤) (each_still d) (λ b h. tt) in
+    moves : (performs : Performs s r result reply after (world m0 d0 e0) (world m1 d1 e1)) → HasDrawn performs.drawn (taken_by s r) e0 e1
+        → Moves cca s (remembers after) line result reply (world m0 d0 e0) (world m1 d1 e1)
+    moves performs random =
+        let o = performed s performs.drawn r in
+        let carries = performs.carries in
         record {
-          drawn = drawn;
+          drawn = performs.drawn;
           next = o.state;
           answer = spelled o.reply;
-          steps = steps drawn random.size;
+          steps = steps performs.drawn random.size;
           consumed = random.consumed;
           reply_is = reply_at o result carries.done;
           stands = stands_after o result carries.done;
-          on_module = each_weaker m0 m1 _ _ carries.on_module (around o);
-          on_store = each_weaker d d d.images _ (each_still d) (λ b h. inl tt);
-          pairs = each_pair m0 m1 d d _ (λ b. ⊤) _ carries.on_module store (λ c b h k. both o c b h);
+          on_module = each_weaker m0 m1 (IsEither IsModuleOf s o) _ carries.on_module (around IsModuleOf o);
+          on_store = each_weaker d0 d1 (IsEither IsStoreOf s o) _ carries.on_store (around IsStoreOf o);
+          pairs = record {
+            later1 = performs.pairs.later1;
+            later2 = performs.pairs.later2;
+            each = λ c d first second. around_both o c d (performs.pairs.each c d first second);
+          };
         }
 
-    served : (drawn : List ℕ) → Carries (performed s drawn r) s result reply after m0 m1
-        → HasDrawn drawn (taken_by s r) e0 e1 ⊎ (OnOk result ⊥ × IsUnwritten m0 m1)
-        → Moves cca s (remembers after) line result reply (world m0 d e0) (world m1 d e1) ⊎ (OnOk result ⊥ × Stays cca s (world m0 d e0) (world m1 d e1))
-    served drawn carries (inl random) = inl (moves drawn carries random)
-    served drawn carries (inr stopped) = inr (stopped.0, stays stopped.1)
+    served : (performs : Performs s r result reply after (world m0 d0 e0) (world m1 d1 e1))
+        → HasDrawn performs.drawn (taken_by s r) e0 e1 ⊎ (OnOk result ⊥ × Unwritten (world m0 d0 e0) (world m1 d1 e1))
+        → Moves cca s (remembers after) line result reply (world m0 d0 e0) (world m1 d1 e1) ⊎ (OnOk result ⊥ × Stays cca s (world m0 d0 e0) (world m1 d1 e1))
+    served performs (inl random) = inl (moves performs random)
+    served performs (inr stopped) = inr (stopped.0, stays stopped.1)
 
-    of_stop : (stop : Stop) → IsRequestStop stop → IsFault stop → Spells r line → (stop ≡ EntropyFault → 0 < taken_by s r) → IsLineStop stop × MayFail stop s line
-    of_stop stop (inl is) fault found draws = subst (λ (x : Stop). IsLineStop x × MayFail x s line) (sym is) (tt, (r, found))
-    of_stop stop (inr (inl is)) fault found draws =
-        subst (λ (x : Stop). IsLineStop x × MayFail x s line) (sym is) (tt, draws_random s line r found (draws is))
-    of_stop stop (inr (inr is)) fault found draws = absurd (subst IsFault is fault)
-
-    line_stop : (u : Result (Unit {0}) Stop) → IfErr u IsRequestStop → IfErr u IsFault → Spells r line → (u ≡ Err EntropyFault → 0 < taken_by s r)
-        → IfErr u (λ stop. IsLineStop stop × MayFail stop s line)
-    line_stop (Ok done) stops faults found draws = tt
-    line_stop (Err stop) stops faults found draws = of_stop stop stops faults found (λ is. draws (ap Err is))
-
-    pub request_serves : Spells r line → IfErr result IsRequestStop → Performs s r result reply after m0 m1 e0 e1
-        → Serves cca s (remembers after) line result reply (world m0 d e0) (world m1 d e1)
-    request_serves found stops performs = record {
-      served = served performs.drawn performs.carries performs.random;
-      stops = line_stop result stops performs.carries.stops found performs.permitted;
+    pub request_serves : Spells r line → (result ≡ Err StoreFault → IsTrue (names_label (listed (operands r))))
+        → Performs s r result reply after (world m0 d0 e0) (world m1 d1 e1)
+        → Serves cca s (remembers after) line result reply (world m0 d0 e0) (world m1 d1 e1)
+    request_serves found names performs = record {
+      served = served performs performs.random;
+      stops = line_stop result performs.carries.stops found performs.permitted names;
       undrawn = λ h. stays (performs.undrawn h);
-      unwritten = λ refuses. record {
-        on_module = unwritten (performed s performs.drawn r) m0 m1 (refused_cell performs.drawn refuses) performs.carries.outside;
-        on_store = each_still d;
-      };
+      unwritten = λ refuses.
+          let none = refused_writes performs.drawn refuses in record {
+            on_module = kept_images (performed s performs.drawn r).module_cell m0 m1 none.0 performs.carries.module_outside;
+            on_store = kept_images (performed s performs.drawn r).store_cell d0 d1 none.1 performs.carries.store_outside;
+          };
     }
+
+-- a request that was answered leads to disks that stand for the state after it
+pub leads_on : (s : State) (r : Request) (result : Result (Unit {0}) Stop) (reply : List ℕ) (later : Tables) (m0 m1 d0 d1 : Medium) (e0 e1 : Option (List ℕ))
+    → Performs s r result reply later (world m0 d0 e0) (world m1 d1 e1) → OnOk result ((next : State) × StandsFor next later m1 d1)
+leads_on s r (Ok done) reply later m0 m1 d0 d1 e0 e1 performs = ((performed s performs.drawn r).state, performs.carries.done.stands)
+leads_on s r (Err stop) reply later m0 m1 d0 d1 e0 e1 performs = tt
+
+-- damage doesn't come over disks that stand for a state
+pub not_damaged : (s : State) (r : Request) (result : Result (Unit {0}) Stop) (reply : List ℕ) (later : Tables) (m0 m1 d0 d1 : Medium) (e0 e1 : Option (List ℕ)) (cell : ℕ)
+    → result ≡ Err (Damaged Store cell) → Performs s r result reply later (world m0 d0 e0) (world m1 d1 e1) → ⊥
+not_damaged s r result reply later m0 m1 d0 d1 e0 e1 cell is performs = subst (λ (u : Result (Unit {0}) Stop). IfErr u IsFault) is performs.carries.stops

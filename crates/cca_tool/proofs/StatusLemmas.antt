@@ -9,11 +9,11 @@ use Rattle.script_buffers.specs.Reading.{input_limit}
 use Rattle.line_service.specs.Stops.{AnswersLines, IsFaultless as IsFaultlessOutcome}
 use Rattle.line_service.specs.Serving.{PrefixSent, IsOnTheWay}
 use Rattle.line_service.proofs.RunLemmas.{prefix_none}
-use Rattle.line_service.specs.declared.stops.Device.TheVariants.{Module}
+use Rattle.line_service.specs.declared.stops.Device.TheVariants.{Module, Store}
 use Rattle.line_service.specs.declared.stops.Stop.{Stop}
 use Rattle.line_service.specs.declared.stops.Stop.TheVariants.{ReadFault, WriteFault, EntropyFault, ModuleFault, StoreFault, Damaged, InputLimit}
-use Rattle.cca_machine.specs.State.{State, IsModuleOf}
-use Rattle.cca_tool.specs.Coprocessor.{cca, IsBroken}
+use Rattle.cca_machine.specs.State.{State}
+use Rattle.cca_tool.specs.Coprocessor.{cca, IsBrokenModule, IsBrokenStore}
 use Rattle.cca_tool.specs.Statuses.{status_of_lem, ServesLines, IsFaultless}
 use Rattle.cca_tool.specs.declared.command.Status.{Status}
 use Rattle.cca_tool.specs.declared.command.Status.TheVariants as status
@@ -84,11 +84,18 @@ module _ (r : Result (Unit {0}) Stop) (outcome : Status) (is : outcome ≡ statu
         λ all. is ∙ ap status_of_lem (both.1 (all.0, faultless_outcome r (subst IsFaultless is all.1))),
       )) limit
 
-  pub judged_as : (m : Medium) → Told m (λ image. (cell : ℕ) → IsBroken cell image → r ≡ Err (Damaged Module cell))
-      → Told m (λ image. (cell : ℕ) → IsBroken cell image → (outcome ≡ status.Damaged Module cell) ⊎ (outcome ≡ status.NoMemory))
+  pub judged_as : (m : Medium) → Told m (λ image. (cell : ℕ) → IsBrokenModule cell image → r ≡ Err (Damaged Module cell))
+      → Told m (λ image. (cell : ℕ) → IsBrokenModule cell image → (outcome ≡ status.Damaged Module cell) ⊎ (outcome ≡ status.NoMemory))
   judged_as m judged =
       told_from m.content _ (λ c told cell broken.
-      inl (is ∙ ap status_of_lem (told_at m.content (λ image. (n : ℕ) → IsBroken n image → r ≡ Err (Damaged Module n)) c told judged cell broken)))
+      inl (is ∙ ap status_of_lem (told_at m.content (λ image. (n : ℕ) → IsBrokenModule n image → r ≡ Err (Damaged Module n)) c told judged cell broken)))
+
+  pub store_judged_as : (m d : Medium) → Told m (λ c. Told d (λ e. (cell : ℕ) → IsBrokenStore cell c e → r ≡ Err (Damaged Store cell)))
+      → Told m (λ c. Told d (λ e. (cell : ℕ) → IsBrokenStore cell c e → (outcome ≡ status.Damaged Store cell) ⊎ (outcome ≡ status.NoMemory)))
+  store_judged_as m d judged =
+      told_from m.content _ (λ c is_c. told_from d.content _ (λ e is_e cell broken.
+      let both = told_at m.content (λ x. Told d (λ y. (n : ℕ) → IsBrokenStore n x y → r ≡ Err (Damaged Store n))) c is_c judged in
+      inl (is ∙ ap status_of_lem (told_at d.content (λ y. (n : ℕ) → IsBrokenStore n c y → r ≡ Err (Damaged Store n)) e is_e both cell broken))))
 
   pub complete_as : (a b : Option (List ℕ)) → WhereTold a b (λ i s. length i < input_limit → r ≡ Ok tt)
       → WhereTold a b (λ i s. length i < input_limit → (outcome ≡ status.Done) ⊎ (outcome ≡ status.NoMemory))
@@ -99,6 +106,6 @@ module _ (r : Result (Unit {0}) Stop) (outcome : Status) (is : outcome ≡ statu
 pub prefix_still : (s : State) (random a p : Option (List ℕ)) → WhereTold a a (λ i r. PrefixSent cca s random i p p)
 prefix_still s random a p = told_same a _ (λ x. prefix_none cca s random x p p (told_same p (λ y z. z ≡ y) (λ y. refl)))
 
-pub moments_still : (s : State) (random : Option (List ℕ)) (m : Medium) (a : Option (List ℕ))
-    → WhereTold a a (λ i r. EachImage m m (λ image. m.images image ⊎ IsOnTheWay cca s random i (λ t. IsModuleOf t image)))
-moments_still s random m a = told_same a _ (λ x. each_weaker m m _ _ (each_still m) (λ c h. inl h))
+pub moments_still : (s : State) (random : Option (List ℕ)) (Of : State → List ℕ → Type 0) (m : Medium) (a : Option (List ℕ))
+    → WhereTold a a (λ i r. EachImage m m (λ image. m.images image ⊎ IsOnTheWay cca s random i (λ t. Of t image)))
+moments_still s random Of m a = told_same a _ (λ x. each_weaker m m _ _ (each_still m) (λ c h. inl h))

@@ -1,50 +1,55 @@
--- The stops of a session over a module.
-use Rattle.std.proofs.Common.{◌≡◌, ℕ, Result, Ok, Err, refl, ap, inl, inr}
-use Rattle.std.specs.Prelude.{◌⊎◌, IfErr}
+-- The stops of a session.
+use Rattle.std.proofs.Common.{◌≡◌, ℕ, List, Result, Ok, Err, refl, ap, ◌∙◌, subst}
+use Rattle.std.specs.Prelude.{IfErr}
 use Rattle.line_service.specs.declared.stops.Device.{Device}
 use Rattle.line_service.specs.declared.stops.Device.TheVariants.{Module}
 use Rattle.line_service.specs.declared.stops.Stop.{Stop}
 use Rattle.line_service.specs.declared.stops.Stop.TheVariants.{ReadFault, WriteFault, EntropyFault, ModuleFault, StoreFault, Damaged, InputLimit}
 use Rattle.slot_disk.specs.Medium.{Medium, Told}
 use Rattle.slot_disk.proofs.Media.{told_from, told_at}
-use Rattle.cca_roles.specs.RolesStand.{IsFirstDamaged}
-use Rattle.cca_roles.specs.declared.faults.RoleFault.{RoleFault}
 use Rattle.cca_roles.specs.declared.faults.RoleFault.TheVariants as role
+use Rattle.key_records.specs.declared.faults.RecordFault.TheVariants as record_fault
+use Rattle.cca_requests.specs.Serving.{IsRequestStop}
 use Rattle.cca_tool.specs.Coprocessor.{IsCell, IsStop}
 
-of_stop : (stop : Stop) → (stop ≡ StoreFault → ⊥) → ((device : Device) (cell : ℕ) → stop ≡ Damaged device cell → IsCell device cell) → IsStop stop
-of_stop ReadFault stores cells = tt
-of_stop WriteFault stores cells = tt
-of_stop InputLimit stores cells = tt
-of_stop EntropyFault stores cells = tt
-of_stop ModuleFault stores cells = tt
-of_stop (Damaged device cell) stores cells = cells device cell refl
-of_stop StoreFault stores cells = stores refl
+-- a stop that names no cell that a disk hasn't
+of_stop : (stop : Stop) → ((device : Device) (cell : ℕ) → stop ≡ Damaged device cell → IsCell device cell) → IsStop stop
+of_stop ReadFault cells = tt
+of_stop WriteFault cells = tt
+of_stop InputLimit cells = tt
+of_stop EntropyFault cells = tt
+of_stop ModuleFault cells = tt
+of_stop StoreFault cells = tt
+of_stop (Damaged device cell) cells = cells device cell refl
 
-pub stops_are : {T : Type 0} (result : Result T Stop) → (result ≡ Err StoreFault → ⊥)
+pub stops_are : {T : Type 0} (result : Result T Stop)
     → ((device : Device) (cell : ℕ) → result ≡ Err (Damaged device cell) → IsCell device cell) → IfErr result IsStop
-stops_are (Ok done) stores cells = tt
-stops_are (Err stop) stores cells = of_stop stop (λ h. stores (ap Err h)) (λ device cell h. cells device cell (ap Err h))
+stops_are (Ok done) cells = tt
+stops_are (Err stop) cells = of_stop stop (λ device cell h. cells device cell (ap Err h))
 
 -- of the module's cells, cell 0 alone is found damaged
-pub cell_zero : (r : Result (Unit {0}) Stop) (cell : ℕ) → IfErr r (λ stop. (stop ≡ ModuleFault) ⊎ ((stop ≡ EntropyFault) ⊎ (stop ≡ Damaged Module 0)))
-    → r ≡ Err (Damaged Module cell) → r ≡ Err (Damaged Module 0)
-cell_zero (Ok done) cell stops h = cc h
-cell_zero (Err stop) cell (inl is) h = cc (is, h)
-cell_zero (Err stop) cell (inr (inl is)) h = cc (is, h)
-cell_zero (Err stop) cell (inr (inr is)) h = ap Err is
+pub cell_zero : (r : Result (Unit {0}) Stop) (cell : ℕ) → IfErr r IsRequestStop → r ≡ Err (Damaged Module cell) → r ≡ Err (Damaged Module 0)
+cell_zero r cell stops h =
+    h ∙ ap (λ (n : ℕ). Err (Damaged Module n)) (subst (λ (u : Result (Unit {0}) Stop). IfErr u IsRequestStop) h stops)
 
-pub same_cell : (x cell : ℕ) → ◌≡◌ {A = Result (Unit {0}) Stop} (Err (Damaged Module x)) (Err (Damaged Module cell)) → x ≡ cell
-same_cell x cell h = cc h
+pub same_cell : {T : Type 0} (device : Device) (x cell : ℕ) → ◌≡◌ {A = Result T Stop} (Err (Damaged device x)) (Err (Damaged device cell)) → x ≡ cell
+same_cell device x cell h = cc h
 
-same_role : (r : Result (Unit {0}) RoleFault) (x cell : ℕ) → r ≡ Err (role.Damaged x) → r ≡ Err (role.Damaged cell) → x ≡ cell
-same_role r x cell first second = cc (first, second)
+pub same_role : (x cell : ℕ) → role.Damaged x ≡ role.Damaged cell → x ≡ cell
+same_role x cell h = cc h
 
--- the cell of a damaged role, as a stop names it
-pub named_cell : (r : Result (Unit {0}) RoleFault) (x : ℕ) → r ≡ Err (role.Damaged x) → (m : Medium)
-    → Told m (λ image. (cell : ℕ) → IsFirstDamaged image cell → r ≡ Err (role.Damaged cell))
-    → Told m (λ image. (cell : ℕ) → IsFirstDamaged image cell → ◌≡◌ {A = Result (Unit {0}) Stop} (Err (Damaged Module x)) (Err (Damaged Module cell)))
-named_cell r x is m exact =
+pub same_record : (x cell : ℕ) → record_fault.Damaged x ≡ record_fault.Damaged cell → x ≡ cell
+same_record x cell h = cc h
+
+-- the cell that a fault tells of, as a stop names it
+pub named_cell : (T : Type 0) {F : Type 0} (device : Device) (fault : ℕ → F) → ((x cell : ℕ) → fault x ≡ fault cell → x ≡ cell)
+    → (P : List ℕ → ℕ → Type 0) (r : Result (Unit {0}) F) (x : ℕ) → r ≡ Err (fault x) → (m : Medium)
+    → Told m (λ image. (cell : ℕ) → P image cell → r ≡ Err (fault cell))
+    → Told m (λ image. (cell : ℕ) → P image cell → ◌≡◌ {A = Result T Stop} (Err (Damaged device x)) (Err (Damaged device cell)))
+named_cell T device fault one P r x is m exact =
     told_from m.content _ (λ c told cell first.
-    ap (λ (n : ℕ). Err (Damaged Module n))
-    (same_role r x cell is (told_at m.content (λ image. (n : ℕ) → IsFirstDamaged image n → r ≡ Err (role.Damaged n)) c told exact cell first)))
+    ap (λ (n : ℕ). Err (Damaged device n))
+    (one x cell (same_fault r (fault x) (fault cell) is (told_at m.content (λ image. (n : ℕ) → P image n → r ≡ Err (fault n)) c told exact cell first))))
+  where
+    same_fault : {F : Type 0} (r : Result (Unit {0}) F) (a b : F) → r ≡ Err a → r ≡ Err b → a ≡ b
+    same_fault r a b first second = cc (first, second)

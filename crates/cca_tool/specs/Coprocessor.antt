@@ -1,21 +1,27 @@
--- The coprocessor as a machine that answers lines. It has a module and random bytes, and so far no store.
-use Rattle.std.specs.Prelude.{⊤, ◌≡◌, ◌⊎◌, ◌≤◌, ◌<◌, ℕ, List, [], Option, None}
-use Rattle.std.proofs.Common.{inl, inr}
-use Rattle.slot_disk.specs.Medium.{Medium, Told}
-use Rattle.slot_disk.specs.BlankMedium.{blank_medium}
-use Rattle.master_registers.specs.RegisterBody.{IsDamaged}
+-- The coprocessor as a machine that answers lines, over a module, a store and random bytes.
+use Rattle.std.specs.Prelude.{⊤, ◌≡◌, ◌⊎◌, ◌≤◌, ◌<◌, ℕ, List, [], Option, None, IsTrue}
+use Rattle.std.proofs.Common.{inl, inr, subst}
+use Rattle.slot_disk.specs.Cells.{body}
+use Rattle.master_registers.specs.Masters.{Masters}
+use Rattle.master_registers.specs.RegisterBody.{StandsForMasters, IsDamaged}
+use Rattle.master_registers.proofs.BodyLaws.{reads_one}
 use Rattle.script_buffers.specs.Replies.{Reply, Refused, Done, spelled}
+use Rattle.verb_rules.specs.Keys.{keys_of}
 use Rattle.verb_script.specs.Grammar.{Request, Spells}
-use Rattle.cca_roles.specs.RolesStand.{IsFirstDamaged}
+use Rattle.cca_roles.specs.RolesStand.{StandsForRoles, IsFirstDamaged}
 use Rattle.cca_roles.specs.declared.roles.Role.{Role}
 use Rattle.cca_roles.proofs.StandLaws.{stands_undamaged}
-use Rattle.cca_machine.specs.State.{State, IsModuleOf, module_size}
+use Rattle.key_records.specs.StoreStands.{StandsForLabels, Agrees, IsFirstDamaged as IsFirstDamagedRecord}
+use Rattle.key_records.proofs.OpeningLaws.{stands_undamaged as labels_undamaged}
+use Rattle.cca_machine.specs.State.{State, IsModuleOf, IsStoreOf, module_size, store_size}
+use Rattle.cca_machine.specs.Operands.{operands, listed, names_label}
 use Rattle.cca_machine.specs.Verdict.{verdict}
 use Rattle.cca_machine.specs.Act.{draws}
 use Rattle.cca_machine.specs.Lines.{line_outcome}
-use Rattle.line_service.specs.Machine.{Machine, Outcome, World, world}
+use Rattle.cca_requests.specs.Serving.{Tables}
+use Rattle.line_service.specs.Machine.{Machine, Outcome}
 use Rattle.line_service.specs.declared.stops.Device.{Device}
-use Rattle.line_service.specs.declared.stops.Device.TheVariants.{Module}
+use Rattle.line_service.specs.declared.stops.Device.TheVariants.{Module, Store}
 use Rattle.line_service.specs.declared.stops.Stop.{Stop}
 use Rattle.line_service.specs.declared.stops.Stop.TheVariants.{ReadFault, WriteFault, EntropyFault, ModuleFault, StoreFault, Damaged, InputLimit}
 
@@ -27,6 +33,12 @@ IsRefusal (Done fields) = ⊥
 -- the line spells a request
 abbrev pub IsRequest : List ℕ → Type 0
 IsRequest line = (request : Request) × Spells request line
+
+-- the line spells a request with a label in an operand
+pub record NamesLabel (line : List ℕ) : Type 0 where
+  pub request : Request
+  pub spelled : Spells request line
+  pub named : IsTrue (names_label (listed (operands request)))
 
 -- the line spells a request that draws random bytes, and that no rule refuses from this state
 pub record DrawsRandom (s : State) (line : List ℕ) : Type 0 where
@@ -41,11 +53,12 @@ line_step s random line =
     let o = line_outcome s random line in
     record { state = o.state; reply = spelled o.reply; random = o.random }
 
--- the module may fail at a request, the random source where random bytes are drawn, and no other device at any line
+-- The module may fail at a request, the store where an operand is a label, the random source where random bytes are
+-- drawn, and no other device at any line.
 abbrev pub MayFail : Stop → State → List ℕ → Type 0
 MayFail ModuleFault s line = IsRequest line
+MayFail StoreFault s line = NamesLabel line
 MayFail EntropyFault s line = DrawsRandom s line
-MayFail StoreFault s line = ⊥
 MayFail ReadFault s line = ⊥
 MayFail WriteFault s line = ⊥
 MayFail InputLimit s line = ⊥
@@ -53,17 +66,38 @@ MayFail (Damaged device cell) s line = ⊥
 
 -- Cell 0 reads as no registers; or it reads as some, and this is the first cell behind it that reads as no role, or as
 -- one whose name a lower cell holds.
-abbrev pub IsBroken : ℕ → List ℕ → Type 0
-IsBroken cell image = ((cell ≡ 0) × IsDamaged image) ⊎ ((IsDamaged image → ⊥) × IsFirstDamaged image cell)
+abbrev pub IsBrokenModule : ℕ → List ℕ → Type 0
+IsBrokenModule cell image = ((cell ≡ 0) × IsDamaged image) ⊎ ((IsDamaged image → ⊥) × IsFirstDamaged image cell)
 
--- the disk has this cell: so far the module alone has some, from 0 to 32
-pub record IsCell (device : Device) (cell : ℕ) : Type 0 where
-  pub device_is : device ≡ Module
-  pub within : cell ≤ 32
+-- The module stands for some registers and roles, and this is the first cell of the store that reads as no record
+-- under those registers, or as one whose label a lower cell holds.
+pub record IsBrokenStore (cell : ℕ) (c d : List ℕ) : Type 0 where
+  pub registers : Masters
+  pub roles : List (Option Role)
+  pub in_registers : StandsForMasters c registers
+  pub in_roles : StandsForRoles c roles
+  pub first : IsFirstDamagedRecord (keys_of registers) d cell
 
-pub broken_apart : (cell : ℕ) (c : List ℕ) (s : State) → IsBroken cell c → IsModuleOf s c → ⊥
-broken_apart cell c s (inl damaged) is = damaged.1 s.registers is.registers
-broken_apart cell c s (inr first) is = stands_undamaged c s.roles first.1.place is.roles first.1.within first.1.damaged
+-- the disk has this cell: the module 33 cells, the store 1,024
+abbrev pub IsCell : Device → ℕ → Type 0
+IsCell Module cell = cell ≤ 32
+IsCell Store cell = cell < 1024
+
+-- what stands for registers and roles isn't broken
+pub module_stands : (cell : ℕ) (c : List ℕ) (registers : Masters) (roles : List (Option Role)) → IsBrokenModule cell c
+    → StandsForMasters c registers → StandsForRoles c roles → ⊥
+module_stands cell c registers roles (inl damaged) in_registers in_roles = damaged.1 registers in_registers
+module_stands cell c registers roles (inr first) in_registers in_roles =
+    stands_undamaged c roles first.1.place in_roles first.1.within first.1.damaged
+
+pub broken_module_apart : (cell : ℕ) (c : List ℕ) (s : State) → IsBrokenModule cell c → IsModuleOf s c → ⊥
+broken_module_apart cell c s broken is = module_stands cell c s.registers s.roles broken is.registers is.roles
+
+pub broken_store_apart : (cell : ℕ) (c d : List ℕ) (s : State) → IsBrokenStore cell c d → IsModuleOf s c → IsStoreOf s d → ⊥
+broken_store_apart cell c d s broken is labels =
+    let one : s.registers ≡ broken.registers = reads_one (body c 0) s.registers broken.registers is.registers broken.in_registers in
+    labels_undamaged (keys_of broken.registers) d s.labels cell (subst (λ (m : Masters). StandsForLabels (keys_of m) d s.labels) one labels)
+    broken.first.within broken.first.damaged
 
 abbrev pub cca : Machine
 cca = record {
@@ -71,26 +105,22 @@ cca = record {
   step = line_step;
   Refuses = λ s line. IsRefusal (line_outcome s [] line).reply;
   InModule = IsModuleOf;
-  InStore = λ s d. ⊤;
+  InStore = IsStoreOf;
   Between = λ s line t. ⊥;
   MayStop = MayFail;
   Draws = ⊤;
   HasCell = IsCell;
-  IsBrokenModule = IsBroken;
-  IsBrokenStore = λ cell c d. ⊥;
-  module_apart = broken_apart;
-  store_apart = λ cell c d s broken in_module in_store. broken;
+  IsBrokenModule = IsBrokenModule;
+  IsBrokenStore = IsBrokenStore;
+  module_apart = broken_module_apart;
+  store_apart = broken_store_apart;
   module_size = module_size;
-  store_size = 0;
+  store_size = store_size;
 }
 
--- the devices: the module, the random bytes still to come where they are told, and no store
-abbrev pub over : Medium → Option (List ℕ) → World
-over m random = world m blank_medium random
-
--- these are the roles of the state
-abbrev pub remembers : List (Option Role) → State → Type 0
-remembers roles s = roles ≡ s.roles
+-- the memory has the roles of the state, and knows its labels
+abbrev pub remembers : Tables → State → Type 0
+remembers t s = (t.roles ≡ s.roles) × Agrees (keys_of s.registers) t.rows s.labels
 
 -- a session stops for these alone
 abbrev pub IsStop : Stop → Type 0
@@ -99,19 +129,26 @@ IsStop WriteFault = ⊤
 IsStop InputLimit = ⊤
 IsStop EntropyFault = ⊤
 IsStop ModuleFault = ⊤
+IsStop StoreFault = ⊤
 IsStop (Damaged device cell) = IsCell device cell
-IsStop StoreFault = ⊥
 
 -- and before its first line for these
 abbrev pub IsOpeningStop : Stop → Type 0
 IsOpeningStop ModuleFault = ⊤
+IsOpeningStop StoreFault = ⊤
 IsOpeningStop (Damaged device cell) = IsCell device cell
 IsOpeningStop ReadFault = ⊥
 IsOpeningStop WriteFault = ⊥
 IsOpeningStop InputLimit = ⊥
 IsOpeningStop EntropyFault = ⊥
-IsOpeningStop StoreFault = ⊥
 
--- what the module tells stands for some state
-abbrev pub IsModuleSound : Medium → Type 0
-IsModuleSound m = Told m (λ image. (s : State) × IsModuleOf s image)
+-- of these those of the module
+abbrev pub IsModuleStop : Stop → Type 0
+IsModuleStop ModuleFault = ⊤
+IsModuleStop (Damaged Module cell) = cell ≤ 32
+IsModuleStop (Damaged Store cell) = ⊥
+IsModuleStop StoreFault = ⊥
+IsModuleStop ReadFault = ⊥
+IsModuleStop WriteFault = ⊥
+IsModuleStop InputLimit = ⊥
+IsModuleStop EntropyFault = ⊥

@@ -6,11 +6,12 @@ ghost use Rattle.slot_disk.specs.Faults.{Rose};
 ghost use Rattle.slot_disk.specs.Medium.{Told, IsSettled, EachImage, Keeps};
 ghost use Rattle.slot_disk.specs.WhereTold.{WhereTold};
 ghost use Rattle.script_buffers.specs.Reading.{input_limit};
-ghost use Rattle.line_service.specs.Answering.{Holds};
+ghost use Rattle.line_service.specs.Answering.{OnDisks, IsSound};
+ghost use Rattle.line_service.specs.Machine.{world};
 ghost use Rattle.line_service.specs.Sending.{Grows};
 ghost use Rattle.line_service.specs.Serving.{PrefixSent, AllAnswered, WholeLinesAnswered, ReplyCut, LineLost, Unopened, IsOnTheWay};
-ghost use Rattle.cca_machine.specs.State.{State, IsModuleOf, module_size};
-ghost use Rattle.cca_tool.specs.Coprocessor.{cca, over, IsBroken, IsCell, IsModuleSound};
+ghost use Rattle.cca_machine.specs.State.{State, IsModuleOf, IsStoreOf, module_size, store_size};
+ghost use Rattle.cca_tool.specs.Coprocessor.{cca, IsBrokenModule, IsBrokenStore, IsCell};
 ghost use Rattle.cca_tool.specs.Statuses.{status_of_lem, CallsNone, ServesLines, IsFaultless};
 ghost use Rattle.line_service.specs.declared.stops.Device.{Device as AnyDevice};
 
@@ -47,20 +48,22 @@ pub enum Status {
 }
 
 /// Serves the requests of the source, one on a line, and sends a reply line for each to the sink. The master
-/// key registers stand on the module.
+/// key registers and the roles stand on the module, the key records in the store.
 ///
 /// The words are the one word `run`. All memory is taken before a device is called, and none after. The
-/// bench is wiped first, since it may hold anything.
-pub fn run<S: Source, K: Sink, M: Disk, E: Entropy>(
+/// bench is wiped first, since it may hold anything. The module is judged before the store is called.
+pub fn run<S: Source, K: Sink, M: Disk, D: Disk, E: Entropy>(
     alloc: Global,
     words: &Words,
     bench: &mut Workbench,
     source: &mut S,
     sink: &mut K,
     module: &mut M,
+    store: &mut D,
     entropy: &mut E,
 ) -> Status
-    requires { (M.medium «module».old).size ≡ module_size }
+    requires module_size { (M.medium «module».old).size ≡ module_size }
+    requires store_size { (D.medium store.old).size ≡ store_size }
 
     ensures usage { (result ≡ Status.Usage) ↔ (words.now ≢ codes "run" ∷ []) }
 
@@ -68,74 +71,104 @@ pub fn run<S: Source, K: Sink, M: Disk, E: Entropy>(
     ensures no_source { CallsNone result → source.new ≡ source.old }
     ensures no_sink { CallsNone result → sink.new ≡ sink.old }
     ensures no_module { CallsNone result → «module».new ≡ «module».old }
+    ensures no_store { CallsNone result → store.new ≡ store.old }
     ensures no_entropy { CallsNone result → entropy.new ≡ entropy.old }
 
-    // What the sink got, and the state for which the module stands, from the state for which it stood: the first
+    // What the sink got, and the state for which the disks stand, from the state for which they stood: the first
     // bytes of the replies, and at `Done` all of them.
-    ensures prefix { (s : State) → Holds (M.medium «module».old) (IsModuleOf s)
+    ensures prefix { (s : State) → OnDisks cca s (M.medium «module».old) (D.medium store.old)
         → WhereTold (S.left source.old) (S.left source.new) (λ input rest.
         PrefixSent cca s (E.left entropy.old) input (K.held sink.old) (K.held sink.new)) }
-    ensures done { result ≡ Status.Done → (s : State) → Holds (M.medium «module».old) (IsModuleOf s)
+    ensures done { result ≡ Status.Done → (s : State)
+        → OnDisks cca s (M.medium «module».old) (D.medium store.old)
         → WhereTold (S.left source.old) (S.left source.new) (λ input rest.
         AllAnswered cca s (E.left entropy.old)
-        (over (M.medium «module».new) (E.left entropy.new)) input
+        (world (M.medium «module».new) (D.medium store.new) (E.left entropy.new)) input
         (K.held sink.old) (K.held sink.new)) }
     ensures stopped { (result ≡ Status.ReadFault) ⊎ (result ≡ Status.InputLimit)
-        → (s : State) → Holds (M.medium «module».old) (IsModuleOf s)
+        → (s : State) → OnDisks cca s (M.medium «module».old) (D.medium store.old)
         → WhereTold (S.left source.old) (S.left source.new) (λ input rest.
         WholeLinesAnswered cca s (E.left entropy.old)
-        (over (M.medium «module».new) (E.left entropy.new)) input rest
+        (world (M.medium «module».new) (D.medium store.new) (E.left entropy.new)) input rest
         (K.held sink.old) (K.held sink.new)) }
     ensures cut { result ≡ Status.WriteFault → (s : State)
-        → Holds (M.medium «module».old) (IsModuleOf s)
+        → OnDisks cca s (M.medium «module».old) (D.medium store.old)
         → WhereTold (S.left source.old) (S.left source.new) (λ input rest.
         ReplyCut cca s (E.left entropy.old)
-        (over (M.medium «module».new) (E.left entropy.new)) input
+        (world (M.medium «module».new) (D.medium store.new) (E.left entropy.new)) input
         (K.held sink.old) (K.held sink.new)) }
-    // The module failed at a line; or before the first line, and then nothing has changed.
+    // A disk failed at a line; or before the first line, and then nothing has changed.
     ensures lost { result ≡ Status.ModuleFault → (s : State)
-        → Holds (M.medium «module».old) (IsModuleOf s)
+        → OnDisks cca s (M.medium «module».old) (D.medium store.old)
         → WhereTold (S.left source.old) (S.left source.new) (λ input rest.
         LineLost cca Stop.ModuleFault s (E.left entropy.old)
-        (over (M.medium «module».new) (E.left entropy.new)) input
+        (world (M.medium «module».new) (D.medium store.new) (E.left entropy.new)) input
         (K.held sink.old) (K.held sink.new)
-        ⊎ Unopened (over (M.medium «module».old) (E.left entropy.old))
-        (over (M.medium «module».new) (E.left entropy.new)) input rest
+        ⊎ Unopened (world (M.medium «module».old) (D.medium store.old) (E.left entropy.old))
+        (world (M.medium «module».new) (D.medium store.new) (E.left entropy.new)) input rest
+        (K.held sink.old) (K.held sink.new)) }
+    ensures store_lost { result ≡ Status.StoreFault → (s : State)
+        → OnDisks cca s (M.medium «module».old) (D.medium store.old)
+        → WhereTold (S.left source.old) (S.left source.new) (λ input rest.
+        LineLost cca Stop.StoreFault s (E.left entropy.old)
+        (world (M.medium «module».new) (D.medium store.new) (E.left entropy.new)) input
+        (K.held sink.old) (K.held sink.new)
+        ⊎ Unopened (world (M.medium «module».old) (D.medium store.old) (E.left entropy.old))
+        (world (M.medium «module».new) (D.medium store.new) (E.left entropy.new)) input rest
         (K.held sink.old) (K.held sink.new)) }
     // The random source failed, at a line that draws random bytes: nothing was written for it.
     ensures undrawn { result ≡ Status.EntropyFault → (s : State)
-        → Holds (M.medium «module».old) (IsModuleOf s)
+        → OnDisks cca s (M.medium «module».old) (D.medium store.old)
         → WhereTold (S.left source.old) (S.left source.new) (λ input rest.
         LineLost cca Stop.EntropyFault s (E.left entropy.old)
-        (over (M.medium «module».new) (E.left entropy.new)) input
+        (world (M.medium «module».new) (D.medium store.new) (E.left entropy.new)) input
         (K.held sink.old) (K.held sink.new)) }
-    // The module at every moment.
-    ensures moments { (s : State) → Holds (M.medium «module».old) (IsModuleOf s)
+    // Each disk at every moment.
+    ensures moments { (s : State) → OnDisks cca s (M.medium «module».old) (D.medium store.old)
         → WhereTold (S.left source.old) (S.left source.new) (λ input rest.
         EachImage (M.medium «module».old) (M.medium «module».new)
         (λ image. (M.medium «module».old).images image
         ⊎ IsOnTheWay cca s (E.left entropy.old) input (λ t. IsModuleOf t image))) }
+    ensures store_moments { (s : State) → OnDisks cca s (M.medium «module».old) (D.medium store.old)
+        → WhereTold (S.left source.old) (S.left source.new) (λ input rest.
+        EachImage (D.medium store.old) (D.medium store.new)
+        (λ image. (D.medium store.old).images image
+        ⊎ IsOnTheWay cca s (E.left entropy.old) input (λ t. IsStoreOf t image))) }
     ensures at_end { result ≡ Status.Done → IsAtEnd (S.left source.new) }
     ensures sink_grows { WhereTold (K.held sink.old) (K.held sink.new) Grows }
 
-    // Lines are served only where the module stands for a state. Where it doesn't, all is as before.
-    ensures sound { ServesLines result → IsModuleSound (M.medium «module».old) }
+    // Lines are served only where the disks stand for a state. Where they don't, all is as before.
+    ensures sound { ServesLines result
+        → IsSound cca (M.medium «module».old) (D.medium store.old) }
     ensures settled { ServesLines result → IsSettled (M.medium «module».new) }
-    ensures unsound_source { (IsModuleSound (M.medium «module».old) → ⊥) → source.new ≡ source.old }
-    ensures unsound_sink { (IsModuleSound (M.medium «module».old) → ⊥) → sink.new ≡ sink.old }
-    ensures unsound_entropy { (IsModuleSound (M.medium «module».old) → ⊥)
+    ensures store_settled { ServesLines result → IsSettled (D.medium store.new) }
+    ensures unsound_source { (IsSound cca (M.medium «module».old) (D.medium store.old) → ⊥)
+        → source.new ≡ source.old }
+    ensures unsound_sink { (IsSound cca (M.medium «module».old) (D.medium store.old) → ⊥)
+        → sink.new ≡ sink.old }
+    ensures unsound_entropy { (IsSound cca (M.medium «module».old) (D.medium store.old) → ⊥)
         → entropy.new ≡ entropy.old }
-    ensures unsound_module { (IsModuleSound (M.medium «module».old) → ⊥)
+    ensures unsound_module { (IsSound cca (M.medium «module».old) (D.medium store.old) → ⊥)
         → Keeps (M.medium «module».old) (M.medium «module».new) }
+    ensures unsound_store { (IsSound cca (M.medium «module».old) (D.medium store.old) → ⊥)
+        → Keeps (D.medium store.old) (D.medium store.new) }
 
-    // Damage is told where a cell is broken, and then always, unless the module failed. Only cells 0 to 32 of the
-    // module are named.
+    // Damage is told where a cell is broken, and then always, unless a disk failed. Only cells 0 to 32 of the module
+    // and 0 to 1,023 of the store are named.
     ensures damaged { (cell : ℕ) → result ≡ Status.Damaged Device.Module cell
-        → Told (M.medium «module».old) (IsBroken cell) }
+        → Told (M.medium «module».old) (IsBrokenModule cell) }
+    ensures store_damaged { (cell : ℕ) → result ≡ Status.Damaged Device.Store cell
+        → Told (M.medium «module».old) (λ c. Told (D.medium store.old) (IsBrokenStore cell c)) }
     ensures judged { words.now ≡ codes "run" ∷ []
         → (Rose (M.faults «module».old) (M.faults «module».new) → ⊥)
-        → Told (M.medium «module».old) (λ image. (cell : ℕ) → IsBroken cell image
+        → Told (M.medium «module».old) (λ c. (cell : ℕ) → IsBrokenModule cell c
         → (result ≡ Status.Damaged Device.Module cell) ⊎ (result ≡ Status.NoMemory)) }
+    ensures store_judged { words.now ≡ codes "run" ∷ []
+        → (Rose (M.faults «module».old) (M.faults «module».new) → ⊥)
+        → (Rose (D.faults store.old) (D.faults store.new) → ⊥)
+        → Told (M.medium «module».old) (λ c. Told (D.medium store.old) (λ d. (cell : ℕ)
+        → IsBrokenStore cell c d
+        → (result ≡ Status.Damaged Device.Store cell) ⊎ (result ≡ Status.NoMemory))) }
     ensures cell { (device : AnyDevice) (cell : ℕ) → result ≡ Status.Damaged device cell
         → IsCell device cell }
 
@@ -146,23 +179,28 @@ pub fn run<S: Source, K: Sink, M: Disk, E: Entropy>(
         → Rose (K.faults sink.old) (K.faults sink.new) }
     ensures module_fault { result ≡ Status.ModuleFault
         → Rose (M.faults «module».old) (M.faults «module».new) }
+    ensures store_fault { result ≡ Status.StoreFault
+        → Rose (D.faults store.old) (D.faults store.new) }
     ensures entropy_fault { result ≡ Status.EntropyFault
         → Rose (E.faults entropy.old) (E.faults entropy.new) }
-    ensures no_store { result ≡ Status.StoreFault → ⊥ }
     ensures limit { WhereTold (S.left source.old) (S.left source.new) (λ input rest.
         (result ≡ Status.InputLimit) ↔ ((length input ≡ length rest + input_limit)
         × IsFaultless result)) }
     ensures size { (M.medium «module».new).size ≡ (M.medium «module».old).size }
+    ensures store_size { (D.medium store.new).size ≡ (D.medium store.old).size }
     ensures still { IsSome (M.medium «module».old).content
         → IsSome (M.medium «module».new).content }
+    ensures store_still { IsSome (D.medium store.old).content
+        → IsSome (D.medium store.new).content }
 
-    // Where the word is `run`, the module stands for a state, the input is short enough and no device fails, it
+    // Where the word is `run`, the disks stand for a state, the input is short enough and no device fails, it
     // answers every line.
     ensures complete { words.now ≡ codes "run" ∷ [] → (s : State)
-        → Holds (M.medium «module».old) (IsModuleOf s)
+        → OnDisks cca s (M.medium «module».old) (D.medium store.old)
         → (Rose (S.faults source.old) (S.faults source.new) → ⊥)
         → (Rose (K.faults sink.old) (K.faults sink.new) → ⊥)
         → (Rose (M.faults «module».old) (M.faults «module».new) → ⊥)
+        → (Rose (D.faults store.old) (D.faults store.new) → ⊥)
         → (Rose (E.faults entropy.old) (E.faults entropy.new) → ⊥)
         → WhereTold (S.left source.old) (S.left source.new) (λ input rest.
         length input < input_limit
@@ -176,7 +214,7 @@ pub fn run<S: Source, K: Sink, M: Disk, E: Entropy>(
         return Status::Usage;
     }
     match Session::new(alloc) {
-        Ok(mut session) => status_of(session.serve(bench, source, sink, module, entropy)),
+        Ok(mut session) => status_of(session.serve(bench, source, sink, module, store, entropy)),
         Err(_) => Status::NoMemory,
     }
 }

@@ -1,46 +1,53 @@
 //! What answers the lines of the coprocessor.
-ghost use Rattle.std.specs.Prelude.{◌≡◌, ◌⊎◌, ◌≤◌, ℕ, codes, Err, OnOk, IfErr};
-ghost use Rattle.key_cells.specs.Bench.{blank_bench};
+ghost use Rattle.std.specs.Prelude.{◌≡◌, ◌≤◌, ℕ, codes, Err, OnOk, IfOk, IfErr};
+ghost use Rattle.key_cells.specs.Lease.{bench_of, loan_of};
 ghost use Rattle.slot_disk.specs.Faults.{Rose};
 ghost use Rattle.slot_disk.specs.Medium.{Told, Keeps};
+ghost use Rattle.master_registers.specs.Loaded.{IsLoaded, StandsForLoaded, masters_in};
 ghost use Rattle.script_buffers.specs.Replies.{Refused, spelled};
+ghost use Rattle.verb_rules.specs.Keys.{keys_of};
+ghost use Rattle.cca_roles.specs.RolesStand.{StandsForRoles};
+ghost use Rattle.key_records.specs.StoreStands.{KeepsLabels, HoldsRows, IsFirstDamaged, labels_in};
 ghost use Rattle.line_service.specs.Devices.{DiskLeft};
-ghost use Rattle.cca_machine.specs.State.{module_size};
-ghost use Rattle.cca_requests.specs.Serving.{IsSound};
-ghost use Rattle.cca_tool.specs.Coprocessor.{cca, remembers, IsBroken, IsOpeningStop};
+ghost use Rattle.cca_machine.specs.State.{module_size, store_size};
+ghost use Rattle.cca_requests.specs.Judging.{IsStoreStop};
+ghost use Rattle.cca_requests.specs.Serving.{tables};
+ghost use Rattle.cca_tool.specs.Coprocessor.{cca, remembers, IsBrokenModule, IsModuleStop};
+ghost use Rattle.cca_tool.specs.Sessions.{AreKnown};
 
 use cca_requests::perform;
 use cca_roles::{RoleFault, Roles, open_roles};
 use key_cells::{Lease, Workbench};
+use key_records::{RecordFault, Records, open_records};
 use line_service::{Desk, Device, Stop};
-use master_registers::{LoadFault, load};
+use master_registers::{LoadFault, Registers, load};
 use slot_disk::{Disk, Entropy, settle};
 use verb_script::{ReplyBuffer, parse_request};
 
-/// The coprocessor. It remembers the roles of the module.
+/// The coprocessor. It remembers the roles of the module and the labels of the store.
 #[derive(Drop)]
 pub(crate) struct Coprocessor {
     pub(crate) roles: Roles,
+    pub(crate) records: Records,
 }
 
 impl Desk for Coprocessor {
     ghost machine = { cca };
 
-    ghost knows = { λ desk s. remembers desk.roles s };
+    ghost knows = { λ desk s. remembers (tables desk.roles desk.records) s };
 
-    ghost ready = { λ desk m d. Told m (IsSound desk.roles) };
+    ghost ready = { λ desk m d. AreKnown (tables desk.roles desk.records) m d };
 
+    // The module is judged before the store is called.
     fn open<M: Disk, D: Disk>(
         &mut self,
         bench: &mut Workbench,
         module: &mut M,
         store: &mut D,
     ) -> Result<(), Stop> {
-        match open_module(bench, module, &mut self.roles) {
-            Ok(()) => match settle(store) {
-                Ok(()) => Ok(()),
-                Err(_) => Err(Stop::StoreFault),
-            },
+        let mut lease = Lease::open(bench);
+        match open_module(module, &mut lease, &mut self.roles) {
+            Ok(held) => open_store(store, &mut lease, &held, &mut self.records),
             Err(stop) => Err(stop),
         }
     }
@@ -55,11 +62,20 @@ impl Desk for Coprocessor {
         reply: &mut ReplyBuffer,
         bench: &mut Workbench,
         module: &mut M,
-        _store: &mut D,
+        store: &mut D,
         entropy: &mut E,
     ) -> Result<(), Stop> {
         match parse_request(line) {
-            Ok(request) => perform(&request, bench, module, entropy, &mut self.roles, reply),
+            Ok(request) => perform(
+                &request,
+                bench,
+                module,
+                store,
+                entropy,
+                &mut self.roles,
+                &mut self.records,
+                reply,
+            ),
             Err(_) => {
                 bench.wipe();
                 refuse_line(reply, 1);
@@ -69,38 +85,78 @@ impl Desk for Coprocessor {
     }
 }
 
-/// Makes every image of the module its content, sees that it stands for a state, and reads its roles.
-pub(crate) fn open_module<M: Disk>(
-    bench: &mut Workbench,
+/// Makes every image of the module its content, loads its registers into the bench, and reads its roles.
+fn open_module<M: Disk>(
     module: &mut M,
+    lease: &mut Lease,
     roles: &mut Roles,
-) -> Result<(), Stop>
+) -> Result<Registers, Stop>
     requires { (M.medium «module».old).size ≡ module_size }
 
-    ensures sound { OnOk result (Told (M.medium «module».new) (IsSound roles.new)) }
+    ensures loaded { IfOk result (λ held. IsLoaded held (bench_of lease.new)) }
+    ensures registers { IfOk result (λ held.
+        Told (M.medium «module».new) (StandsForLoaded held (bench_of lease.new))) }
+    ensures roles { OnOk result
+        (Told (M.medium «module».new) (λ image. StandsForRoles image roles.new)) }
     ensures damaged { (cell : ℕ) → result ≡ Err (Stop.Damaged Device.Module cell)
-        → Told (M.medium «module».old) (IsBroken cell) }
+        → Told (M.medium «module».old) (IsBrokenModule cell) }
     ensures judged { (Rose (M.faults «module».old) (M.faults «module».new) → ⊥)
-        → Told (M.medium «module».old) (λ image. (cell : ℕ) → IsBroken cell image
+        → Told (M.medium «module».old) (λ image. (cell : ℕ) → IsBrokenModule cell image
         → result ≡ Err (Stop.Damaged Device.Module cell)) }
     ensures kept { Keeps (M.medium «module».old) (M.medium «module».new) }
     ensures left { DiskLeft (M.medium «module».old) (M.medium «module».new)
         (M.faults «module».old) (M.faults «module».new) result Stop.ModuleFault }
-    ensures stops { IfErr result IsOpeningStop }
-    ensures bench { bench.new ≡ blank_bench }
+    ensures stops { IfErr result IsModuleStop }
+    ensures loan { loan_of lease.new ≡ loan_of lease.old }
 {
-    let mut lease = Lease::open(bench);
     if settle(module).is_err() {
         return Err(Stop::ModuleFault);
     }
-    match load(module, &mut lease) {
-        Ok(_) => match open_roles(module, &mut lease, roles) {
-            Ok(()) => Ok(()),
+    match load(module, lease) {
+        Ok(held) => match open_roles(module, lease, roles) {
+            Ok(()) => Ok(held),
             Err(RoleFault::Damaged(cell)) => Err(Stop::Damaged(Device::Module, cell)),
             Err(_) => Err(Stop::ModuleFault),
         },
         Err(LoadFault::DiskFault) => Err(Stop::ModuleFault),
         Err(LoadFault::Damaged) => Err(Stop::Damaged(Device::Module, 0)),
+    }
+}
+
+/// Makes every image of the store its content, and reads its labels under the registers that were loaded.
+fn open_store<D: Disk>(
+    store: &mut D,
+    lease: &mut Lease,
+    held: &Registers,
+    records: &mut Records,
+) -> Result<(), Stop>
+    requires size { (D.medium store.old).size ≡ store_size }
+    requires loaded { IsLoaded held.now (bench_of lease.old) }
+
+    ensures keeps { OnOk result (Told (D.medium store.new) (λ image.
+        KeepsLabels (keys_of (masters_in held.now (bench_of lease.old))) records.new
+        (labels_in (keys_of (masters_in held.now (bench_of lease.old))) image) image)) }
+    ensures holds { OnOk result (Told (D.medium store.new) (HoldsRows records.new)) }
+    ensures damaged { (cell : ℕ) → result ≡ Err (Stop.Damaged Device.Store cell)
+        → Told (D.medium store.old)
+        (λ image. IsFirstDamaged (keys_of (masters_in held.now (bench_of lease.old))) image cell) }
+    ensures judged { (Rose (D.faults store.old) (D.faults store.new) → ⊥)
+        → Told (D.medium store.old) (λ image. (cell : ℕ)
+        → IsFirstDamaged (keys_of (masters_in held.now (bench_of lease.old))) image cell
+        → result ≡ Err (Stop.Damaged Device.Store cell)) }
+    ensures kept { Keeps (D.medium store.old) (D.medium store.new) }
+    ensures left { DiskLeft (D.medium store.old) (D.medium store.new)
+        (D.faults store.old) (D.faults store.new) result Stop.StoreFault }
+    ensures stops { IfErr result IsStoreStop }
+    ensures loan { loan_of lease.new ≡ loan_of lease.old }
+{
+    if settle(store).is_err() {
+        return Err(Stop::StoreFault);
+    }
+    match open_records(store, lease, held, records) {
+        Ok(()) => Ok(()),
+        Err(RecordFault::Damaged(cell)) => Err(Stop::Damaged(Device::Store, cell)),
+        Err(_) => Err(Stop::StoreFault),
     }
 }
 

@@ -1,0 +1,147 @@
+-- The disks as they are opened.
+use Rattle.std.proofs.Common.{◌≡◌, ℕ, List, Option, Result, Err, refl, sym, subst, ◌∙◌, inl, inr}
+use Rattle.slot_disk.specs.Cells.{body}
+use Rattle.slot_disk.specs.Medium.{Medium, Told, EachImage, Keeps}
+use Rattle.slot_disk.proofs.Media.{image_now, told_from, told_at}
+use Rattle.master_registers.specs.Masters.{Masters}
+use Rattle.master_registers.specs.RegisterBody.{StandsForMasters, IsDamaged}
+use Rattle.master_registers.proofs.BodyLaws.{reads_one}
+use Rattle.cca_roles.specs.RolesStand.{StandsForRoles, IsFirstDamaged}
+use Rattle.cca_roles.specs.declared.roles.Role.{Role}
+use Rattle.verb_rules.specs.Keys.{keys_of}
+use Rattle.key_records.specs.StoreStands.{KeepsLabels, labels_in, IsFirstDamaged as IsFirstDamagedRecord}
+use Rattle.key_records.specs.declared.rows.Row.{Row}
+use Rattle.key_records.proofs.OpeningLaws.{stands_undamaged as labels_undamaged}
+use Rattle.line_service.specs.declared.stops.Device.TheVariants.{Module, Store}
+use Rattle.line_service.specs.declared.stops.Stop.{Stop}
+use Rattle.line_service.specs.declared.stops.Stop.TheVariants.{ReadFault, WriteFault, EntropyFault, ModuleFault, StoreFault, Damaged, InputLimit}
+use Rattle.cca_tool.specs.Coprocessor.{IsBrokenModule, IsBrokenStore, IsModuleStop, module_stands}
+
+-- ---- what is told
+
+pub settled_keeps : (m0 m1 : Medium) → m1.content ≡ m0.content → EachImage m0 m1 m0.images → Keeps m0 m1
+settled_keeps m0 m1 same moments =
+    record { content = same; images = λ c image. image_now m0 m1 m0.images moments c image; moments = moments }
+
+-- what is told now was told before
+pub told_before : (m0 m1 : Medium) (P Q : List ℕ → Type 0) → m1.content ≡ m0.content → ((c : List ℕ) → P c → Q c) → Told m1 P → Told m0 Q
+told_before m0 m1 P Q same weaker told = told_from m0.content Q (λ c is. weaker c (told_at m1.content P c (same ∙ is) told))
+
+pub told_after : (m0 m1 : Medium) (P Q : List ℕ → Type 0) → m1.content ≡ m0.content → ((c : List ℕ) → P c → Q c) → Told m0 P → Told m1 Q
+told_after m0 m1 P Q same weaker told = told_from m1.content Q (λ c is. weaker c (told_at m0.content P c (sym same ∙ is) told))
+
+pub told_both : (m : Medium) (P Q R : List ℕ → Type 0) → ((c : List ℕ) → P c → Q c → R c) → Told m P → Told m Q → Told m R
+told_both m P Q R joined first second = told_from m.content R (λ c is. joined c (told_at m.content P c is first) (told_at m.content Q c is second))
+
+-- ---- the module
+
+pub broken_registers : (m0 m1 : Medium) (cell : ℕ) → m1.content ≡ m0.content → cell ≡ 0 → Told m1 IsDamaged → Told m0 (IsBrokenModule cell)
+broken_registers m0 m1 cell same is told = told_before m0 m1 IsDamaged (IsBrokenModule cell) same (λ c damaged. inl (is, damaged)) told
+
+-- the registers were loaded, and a cell behind them is damaged
+pub broken_role : (m0 m1 : Medium) (cell : ℕ) (registers : Masters) → m1.content ≡ m0.content → Told m1 (λ image. StandsForMasters image registers)
+    → Told m1 (λ image. IsFirstDamaged image cell) → Told m0 (IsBrokenModule cell)
+broken_role m0 m1 cell registers same loaded damaged =
+    told_before m0 m1 (IsBrokenModule cell) (IsBrokenModule cell) same (λ c broken. broken)
+    (told_both m1 (λ image. StandsForMasters image registers) (λ image. IsFirstDamaged image cell) (IsBrokenModule cell)
+    (λ c stands first. inr (λ never. never registers stands, first)) loaded damaged)
+
+-- registers that were loaded aren't broken: a broken cell is one of a role
+pub judged_role : (m0 m1 : Medium) (registers : Masters) (X : ℕ → Type 0) → m1.content ≡ m0.content → Told m1 (λ image. StandsForMasters image registers)
+    → Told m1 (λ image. (cell : ℕ) → IsFirstDamaged image cell → X cell) → Told m0 (λ image. (cell : ℕ) → IsBrokenModule cell image → X cell)
+judged_role m0 m1 registers X same loaded judged =
+    told_before m0 m1 _ _ same (λ c here. here)
+    (told_both m1 (λ image. StandsForMasters image registers) (λ image. (cell : ℕ) → IsFirstDamaged image cell → X cell)
+    (λ image. (cell : ℕ) → IsBrokenModule cell image → X cell) (λ c stands each cell broken. by_case c stands each cell broken) loaded judged)
+  where
+    by_case : (c : List ℕ) → StandsForMasters c registers → ((cell : ℕ) → IsFirstDamaged c cell → X cell) → (cell : ℕ) → IsBrokenModule cell c → X cell
+    by_case c stands each cell (inl damaged) = absurd (damaged.1 registers stands)
+    by_case c stands each cell (inr first) = each cell first.1
+
+-- damaged registers are cell 0
+pub judged_registers : (m0 m1 : Medium) (X : ℕ → Type 0) → m1.content ≡ m0.content → Told m1 IsDamaged → X 0 → Told m0 (λ image. (cell : ℕ) → IsBrokenModule cell image → X cell)
+judged_registers m0 m1 X same damaged here =
+    told_before m0 m1 IsDamaged _ same (λ c never cell broken. by_case c never cell broken) damaged
+  where
+    by_case : (c : List ℕ) → IsDamaged c → (cell : ℕ) → IsBrokenModule cell c → X cell
+    by_case c never cell (inl damaged) = subst X (sym damaged.0) here
+    by_case c never cell (inr first) = absurd (first.0 never)
+
+-- what stands for registers and roles isn't broken
+pub stands_unbroken : (m0 m1 : Medium) (registers : Masters) (roles : List (Option Role)) (X : ℕ → Type 0) → m1.content ≡ m0.content
+    → Told m1 (λ image. StandsForMasters image registers) → Told m1 (λ image. StandsForRoles image roles)
+    → Told m0 (λ image. (cell : ℕ) → IsBrokenModule cell image → X cell)
+stands_unbroken m0 m1 registers roles X same loaded opened =
+    told_before m0 m1 _ _ same (λ c here. here)
+    (told_both m1 (λ image. StandsForMasters image registers) (λ image. StandsForRoles image roles)
+    (λ image. (cell : ℕ) → IsBrokenModule cell image → X cell)
+    (λ c in_registers in_roles cell broken. absurd (module_stands cell c registers roles broken in_registers in_roles)) loaded opened)
+
+-- ---- the store beside it
+
+-- the module stands for registers and roles, and a cell of the store is damaged under these registers
+pub broken_record : (m0 m1 d0 : Medium) (registers : Masters) (roles : List (Option Role)) (cell : ℕ) → m1.content ≡ m0.content
+    → Told m1 (λ image. StandsForMasters image registers) → Told m1 (λ image. StandsForRoles image roles)
+    → Told d0 (λ image. IsFirstDamagedRecord (keys_of registers) image cell) → Told m0 (λ c. Told d0 (IsBrokenStore cell c))
+broken_record m0 m1 d0 registers roles cell same loaded opened damaged =
+    told_from m0.content (λ c. Told d0 (IsBrokenStore cell c)) (λ c is.
+    told_from d0.content (IsBrokenStore cell c) (λ d is_d. record {
+      registers = registers;
+      roles = roles;
+      in_registers = told_at m1.content (λ image. StandsForMasters image registers) c (same ∙ is) loaded;
+      in_roles = told_at m1.content (λ image. StandsForRoles image roles) c (same ∙ is) opened;
+      first = told_at d0.content (λ image. IsFirstDamagedRecord (keys_of registers) image cell) d is_d damaged;
+    }))
+
+-- a broken cell of the store is damaged under the registers that were loaded
+pub judged_record : (m0 m1 d0 : Medium) (registers : Masters) (X : ℕ → Type 0) → m1.content ≡ m0.content
+    → Told m1 (λ image. StandsForMasters image registers)
+    → Told d0 (λ image. (cell : ℕ) → IsFirstDamagedRecord (keys_of registers) image cell → X cell)
+    → Told m0 (λ c. Told d0 (λ d. (cell : ℕ) → IsBrokenStore cell c d → X cell))
+judged_record m0 m1 d0 registers X same loaded judged =
+    told_from m0.content _ (λ c is. told_from d0.content _ (λ d is_d cell broken.
+    let one = reads_one (body c 0) broken.registers registers broken.in_registers
+    (told_at m1.content (λ image. StandsForMasters image registers) c (same ∙ is) loaded) in
+    told_at d0.content (λ image. (n : ℕ) → IsFirstDamagedRecord (keys_of registers) image n → X n) d is_d judged cell
+    (subst (λ (m : Masters). IsFirstDamagedRecord (keys_of m) d cell) one broken.first)))
+
+no_stop : (stop : Stop) (c : List ℕ) (registers : Masters) (roles : List (Option Role)) → IsModuleStop stop
+    → (stop ≡ ModuleFault → ⊥) → ((cell : ℕ) → stop ≡ Damaged Module cell → IsBrokenModule cell c)
+    → StandsForMasters c registers → StandsForRoles c roles → ⊥
+no_stop ModuleFault c registers roles kind still damaged in_registers in_roles = still refl
+no_stop (Damaged Module cell) c registers roles kind still damaged in_registers in_roles =
+    module_stands cell c registers roles (damaged cell refl) in_registers in_roles
+no_stop (Damaged Store cell) c registers roles kind still damaged in_registers in_roles = kind
+no_stop StoreFault c registers roles kind still damaged in_registers in_roles = kind
+no_stop ReadFault c registers roles kind still damaged in_registers in_roles = kind
+no_stop WriteFault c registers roles kind still damaged in_registers in_roles = kind
+no_stop InputLimit c registers roles kind still damaged in_registers in_roles = kind
+no_stop EntropyFault c registers roles kind still damaged in_registers in_roles = kind
+
+-- a store that stands for labels has no damaged cell
+pub kept_undamaged : (d0 d1 : Medium) (registers : Masters) (rows : List (Option Row)) (X : ℕ → Type 0) → d1.content ≡ d0.content
+    → Told d1 (λ image. KeepsLabels (keys_of registers) rows (labels_in (keys_of registers) image) image)
+    → Told d0 (λ image. (cell : ℕ) → IsFirstDamagedRecord (keys_of registers) image cell → X cell)
+kept_undamaged d0 d1 registers rows X same kept =
+    let keys = keys_of registers in
+    told_before d0 d1 (λ image. KeepsLabels keys rows (labels_in keys image) image) _ same
+    (λ d keeps cell first. absurd (labels_undamaged keys d (labels_in keys d) cell keeps.stands first.within first.damaged)) kept
+
+-- a stop that is handed on
+pub handed_judged : {T : Type 0} (r : Result T Stop) (stop : Stop) → r ≡ Err stop → (m : Medium)
+    → Told m (λ image. (cell : ℕ) → IsBrokenModule cell image → r ≡ Err (Damaged Module cell))
+    → Told m (λ image. (cell : ℕ) → IsBrokenModule cell image → ◌≡◌ {A = Result (Unit {0}) Stop} (Err stop) (Err (Damaged Module cell)))
+handed_judged r stop is m judged =
+    told_before m m _ _ refl (λ c each cell broken. same_stop r stop (Damaged Module cell) is (each cell broken)) judged
+  where
+    same_stop : {T : Type 0} (u : Result T Stop) (a b : Stop) → u ≡ Err a → u ≡ Err b → ◌≡◌ {A = Result (Unit {0}) Stop} (Err a) (Err b)
+    same_stop u a b first second = cc (first, second)
+
+-- a module that isn't opened, though it didn't fail, stands for no registers and roles, and the store isn't judged
+pub unjudged_store : (m0 d0 : Medium) (stop : Stop) (X : ℕ → Type 0) → IsModuleStop stop → (stop ≡ ModuleFault → ⊥)
+    → ((cell : ℕ) → stop ≡ Damaged Module cell → Told m0 (IsBrokenModule cell))
+    → Told m0 (λ c. Told d0 (λ d. (cell : ℕ) → IsBrokenStore cell c d → X cell))
+unjudged_store m0 d0 stop X kind still damaged =
+    told_from m0.content _ (λ c is. told_from d0.content _ (λ d is_d cell broken.
+    absurd (no_stop stop c broken.registers broken.roles kind still
+    (λ n named. told_at m0.content (IsBrokenModule n) c is (damaged n named)) broken.in_registers broken.in_roles)))
