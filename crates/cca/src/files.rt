@@ -9,6 +9,9 @@ use std::os::unix::fs::OpenOptionsExt;
 /// The module: the cell of the registers, and 32 cells of roles.
 pub const MODULE_LEN: u64 = 50_688;
 
+/// The store: 1,024 cells, one for each label.
+pub const STORE_LEN: u64 = 1_572_864;
+
 /// Read and written by the file's owner alone.
 const OWNER_ALONE: u32 = 0o600;
 

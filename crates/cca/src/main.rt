@@ -1,7 +1,8 @@
 //! `cca`: a coprocessor for the DES keys of IBM's Common Cryptographic Architecture, in software.
 //!
 //! `cca run` reads request lines on standard input, and writes a reply line for each on standard
-//! output. The master key registers stand in the file `cca.module` of the current folder.
+//! output. The master key registers and the roles stand in the file `cca.module` of the current folder, and keys under
+//! labels, always enciphered, in the file `cca.store`.
 #![tactic(auto)]
 
 ghost use Rattle.std.specs.Prelude.{◌≡◌, ◌↔◌, ◌++◌, ◌∷◌, [], OnOk, IsNone};
@@ -11,7 +12,7 @@ mod files;
 
 use cca_tool::{Status, Words, run};
 use fault::{Fault, fault_of};
-use files::{MODULE_LEN, open_disk, open_random};
+use files::{MODULE_LEN, STORE_LEN, open_disk, open_random};
 use key_cells::Workbench;
 use slot_disk::{NoMemory, StreamEntropy, StreamSink, StreamSource};
 use std::env;
@@ -47,6 +48,7 @@ fn run_in(rt: &HostRuntime) -> Result<Status, Fault> {
         return Ok(Status::Usage);
     }
     let mut module = open_disk(rt, "cca.module", MODULE_LEN)?;
+    let mut store = open_disk(rt, "cca.store", STORE_LEN)?;
     let mut bench = Workbench::new();
     let mut source = StreamSource::new(rt.stdin());
     let mut sink = StreamSink::new(rt.stdout());
@@ -58,6 +60,7 @@ fn run_in(rt: &HostRuntime) -> Result<Status, Fault> {
         &mut source,
         &mut sink,
         &mut module,
+        &mut store,
         &mut entropy,
     ))
 }

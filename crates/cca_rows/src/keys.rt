@@ -1,7 +1,7 @@
 //! Verbs over keys that are given as tokens: runs of the top call. The tokens here were made by OpenSSL's triple DES and
 //! SHA-1 from the clear keys, after the definition of a token.
 
-use crate::rows::{CALLS, MODULE_SIZE, words_of};
+use crate::rows::{CALLS, MODULE_SIZE, STORE_SIZE, words_of};
 use cca_tool::{Status, run};
 use key_cells::Workbench;
 use slot_disk::{MemoryDisk, MemoryEntropy, MemorySink, MemorySource};
@@ -205,11 +205,11 @@ const REFUSED: &[(&str, &str)] = &[
     ),
     (
         "CSNBENC role=DEFAULT key=L:K iv=0000000000000000 pad=NONE text=0000000000000000",
-        "NO 01 -",
+        "NO 07 key",
     ),
     (
         "CSNBCKI role=DEFAULT clear=0123456789abcdef to=L:K",
-        "NO 01 -",
+        "NO 07 to",
     ),
     (
         "CSNBMVR role=DEFAULT key=T:010000000000c000083bf1025be34c448292d66fa813459c000000000000000000007d0003000000000000000000000000000000000000000000000092c69651 rule=X9.9-1 mac=f1d30f6849 text=0000000000000000",
@@ -329,7 +329,7 @@ fn lines_of(alloc: Global, tables: &[&[(&str, &str)]]) -> Result<(String, String
     Ok((requests, replies))
 }
 
-// Runs requests over a blank module and these random bytes, and asserts the replies.
+// Runs requests over a blank module, a blank store and these random bytes, and asserts the replies.
 fn expect_replies(
     rt: &impl Abort,
     alloc: Global,
@@ -342,6 +342,7 @@ fn expect_replies(
     let mut source = MemorySource::new(alloc, requests.as_bytes(), 1_000)?;
     let mut sink = MemorySink::new(alloc, ROOM)?;
     let mut module = MemoryDisk::new(alloc, MODULE_SIZE, CALLS)?;
+    let mut store = MemoryDisk::new(alloc, STORE_SIZE, CALLS)?;
     let mut entropy = MemoryEntropy::new(alloc, random)?;
     assert_eq!(rt;
         run(
@@ -351,6 +352,7 @@ fn expect_replies(
             &mut source,
             &mut sink,
             &mut module,
+            &mut store,
             &mut entropy
         ),
         Status::Done
@@ -418,6 +420,7 @@ fn a_fault_of_the_random_source_ends_the_run(rt: HostRuntime) -> Result<(), Fail
     let mut source = MemorySource::new(alloc, b"CSNBRNG role=DEFAULT form=RANDOM\n", 100)?;
     let mut sink = MemorySink::new(alloc, ROOM)?;
     let mut module = MemoryDisk::new(alloc, MODULE_SIZE, CALLS)?;
+    let mut store = MemoryDisk::new(alloc, STORE_SIZE, CALLS)?;
     let mut entropy = MemoryEntropy::new(alloc, &[0; 8])?;
     entropy.fail_at(0);
     assert_eq!(rt;
@@ -428,6 +431,7 @@ fn a_fault_of_the_random_source_ends_the_run(rt: HostRuntime) -> Result<(), Fail
             &mut source,
             &mut sink,
             &mut module,
+            &mut store,
             &mut entropy
         ),
         Status::EntropyFault

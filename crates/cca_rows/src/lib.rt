@@ -7,11 +7,17 @@ ghost use Rattle.cca_rows.specs.WorkedCeremonies.{CeremoniesAnswered};
 #[cfg(test)]
 mod keys;
 #[cfg(test)]
+mod labels;
+#[cfg(test)]
 mod masters;
+#[cfg(test)]
+mod moves;
 #[cfg(test)]
 mod roles;
 #[cfg(test)]
 mod rows;
+#[cfg(test)]
+mod sessions;
 
 /// The machine gives the replies to two key ceremonies that are known from outside: the definitions compute them.
 pub fn worked_ceremonies()

@@ -2,7 +2,7 @@
 ghost use Rattle.std.specs.Prelude.{◌≡◌};
 ghost use Rattle.slot_disk.specs.LogMedium.{log_medium};
 
-use crate::rows::{CALLS, MODULE_SIZE, ROOM, words_of};
+use crate::rows::{CALLS, MODULE_SIZE, ROOM, STORE_SIZE, words_of};
 use cca_tool::{Device, Status, run};
 use key_cells::Workbench;
 use slot_disk::{BlankEntropy, Disk, MemoryDisk, MemorySink, MemorySource};
@@ -18,7 +18,7 @@ CSNBMKP role=DEFAULT action=SET
 
 const CEREMONY_REPLIES: &str = "OK new=partial\nOK new=full\nOK new=empty\n";
 
-// Runs an input over the module, and asserts the status and the replies.
+// Runs an input over the module and a blank store, and asserts the status and the replies.
 pub(crate) fn run_over(
     rt: &impl Abort,
     alloc: Global,
@@ -33,6 +33,7 @@ pub(crate) fn run_over(
     let mut bench = Workbench::new();
     let mut source = MemorySource::new(alloc, input.as_bytes(), 100)?;
     let mut sink = MemorySink::new(alloc, ROOM)?;
+    let mut store = MemoryDisk::new(alloc, STORE_SIZE, CALLS)?;
     assert_eq!(rt;
         run(
             alloc,
@@ -41,6 +42,7 @@ pub(crate) fn run_over(
             &mut source,
             &mut sink,
             module,
+            &mut store,
             &mut BlankEntropy::new()
         ),
         want.0
@@ -137,16 +139,19 @@ fn run_failing(
 
 #[test]
 fn a_fault_of_the_module_ends_the_run(rt: HostRuntime) -> Result<(), Fail> {
-    // Opening is a sync and two reads of each cell. Each request is two reads, and its change a read, and twice a write and a
-    // sync.
-    for call in 0..88 {
-        let replies = if call < 74 {
-            ""
-        } else if call < 81 {
-            "OK new=partial\n"
-        } else {
-            "OK new=partial\nOK new=full\n"
-        };
+    let table = [
+        // A sync and two reads of each cell open the module.
+        (0, ""),
+        (66, ""),
+        // Each request is two reads, and its change a read, and twice a write and a sync.
+        (67, ""),
+        (73, ""),
+        (74, "OK new=partial\n"),
+        (80, "OK new=partial\n"),
+        (81, "OK new=partial\nOK new=full\n"),
+        (87, "OK new=partial\nOK new=full\n"),
+    ];
+    for (call, replies) in table {
         run_failing(&rt, rt.alloc(), call, (Status::ModuleFault, replies))?;
     }
     run_failing(&rt, rt.alloc(), 88, (Status::Done, CEREMONY_REPLIES))

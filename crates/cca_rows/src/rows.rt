@@ -20,6 +20,9 @@ pub(crate) const ROOM: usize = 4_096;
 // The bytes of a module, and the writes and syncs that its test disk notes.
 pub(crate) const MODULE_SIZE: u64 = 50_688;
 
+// The bytes of a store.
+pub(crate) const STORE_SIZE: u64 = 1_572_864;
+
 pub(crate) const CALLS: u64 = 100;
 
 pub(crate) fn words_of(alloc: Global, list: &[&str]) -> Result<Words, Fail> {
@@ -46,6 +49,7 @@ fn expect_run(
     let mut source = MemorySource::new(alloc, input, piece)?;
     let mut sink = MemorySink::new(alloc, ROOM)?;
     let mut module = MemoryDisk::new(alloc, MODULE_SIZE, CALLS)?;
+    let mut store = MemoryDisk::new(alloc, STORE_SIZE, CALLS)?;
     assert_eq!(rt;
         run(
             alloc,
@@ -54,6 +58,7 @@ fn expect_run(
             &mut source,
             &mut sink,
             &mut module,
+            &mut store,
             &mut BlankEntropy::new()
         ),
         want.0
@@ -145,7 +150,7 @@ fn other_lines_are_refused(rt: HostRuntime) -> Result<(), Fail> {
         (b"\n", b"NO 01 -\n"),
         (b"x", b"NO 01 -\n"),
         (b"\n\nx\n", b"NO 01 -\nNO 01 -\nNO 01 -\n"),
-        (b"CSNBKYT role=DEFAULT key=L:K\n", b"NO 01 -\n"),
+        (b"CSNBKYT role=DEFAULT key=L:\n", b"NO 01 -\n"),
         (b"CSNBKTP role=DEFAULT\n", b"NO 01 -\n"),
         (b"CSNBKTP role=DEFAULT token=\r\n", b"NO 01 -\n"),
     ];
@@ -227,6 +232,7 @@ fn run_failing(
         sink.fail_at(call);
     }
     let mut module = MemoryDisk::new(alloc, MODULE_SIZE, CALLS)?;
+    let mut store = MemoryDisk::new(alloc, STORE_SIZE, CALLS)?;
     let status = run(
         alloc,
         &words,
@@ -234,6 +240,7 @@ fn run_failing(
         &mut source,
         &mut sink,
         &mut module,
+        &mut store,
         &mut BlankEntropy::new(),
     );
     replies.clear();
