@@ -1,20 +1,17 @@
 //! Verbs over keys that are given as tokens: runs of the top call. The tokens here were made by OpenSSL's triple DES and
 //! SHA-1 from the clear keys, after the definition of a token.
 
-use crate::rows::{CALLS, MODULE_SIZE, STORE_SIZE, words_of};
+use crate::rows::{CALLS, MODULE_SIZE, ROOM, STORE_SIZE, words_of};
+use crate::tables::{expect, expect_replies, lines_of};
 use cca_tool::{Status, run};
 use key_cells::Workbench;
 use slot_disk::{MemoryDisk, MemoryEntropy, MemorySink, MemorySource};
 use std::alloc::Global;
-use std::process::Abort;
 use std::test::Fail;
 
 // The line that enciphers, up to its text.
 const ZEROS_UNDER_ZERO: &str =
     "CSNBENC role=DEFAULT key=T:010000000000c000083bf1025be34c44639aac267ee1137e000000000000000000007d000300000000000000000000000000000000000000000000004a9c39ea iv=0000000000000000 pad=NONE text=";
-
-// The room of a sink: more than the replies of a table need.
-const ROOM: usize = 40_000;
 
 // The master key that the tokens here are under.
 const MASTER_KEY: &[(&str, &str)] = &[
@@ -313,64 +310,6 @@ const RANDOM: &[(&str, &str)] = &[
     ("CSNBRNG role=NOBODY form=ODD", "NO 03 -"),
     ("CSNBRNG role=DEFAULT form=SOME", "NO 01 -"),
 ];
-
-// The first parts of the rows as lines, or the second ones.
-fn lines_of(alloc: Global, tables: &[&[(&str, &str)]]) -> Result<(String, String), Fail> {
-    let mut requests = String::new(alloc);
-    let mut replies = String::new(alloc);
-    for table in tables {
-        for row in *table {
-            requests.push_str(row.0)?;
-            requests.push_str("\n")?;
-            replies.push_str(row.1)?;
-            replies.push_str("\n")?;
-        }
-    }
-    Ok((requests, replies))
-}
-
-// Runs requests over a blank module, a blank store and these random bytes, and asserts the replies.
-fn expect_replies(
-    rt: &impl Abort,
-    alloc: Global,
-    requests: &String,
-    replies: &String,
-    random: &[u8],
-) -> Result<(), Fail> {
-    let words = words_of(alloc, &["run"])?;
-    let mut bench = Workbench::new();
-    let mut source = MemorySource::new(alloc, requests.as_bytes(), 1_000)?;
-    let mut sink = MemorySink::new(alloc, ROOM)?;
-    let mut module = MemoryDisk::new(alloc, MODULE_SIZE, CALLS)?;
-    let mut store = MemoryDisk::new(alloc, STORE_SIZE, CALLS)?;
-    let mut entropy = MemoryEntropy::new(alloc, random)?;
-    assert_eq!(rt;
-        run(
-            alloc,
-            &words,
-            &mut bench,
-            &mut source,
-            &mut sink,
-            &mut module,
-            &mut store,
-            &mut entropy
-        ),
-        Status::Done
-    );
-    assert_eq!(rt; sink.bytes(), replies.as_bytes());
-    Ok(())
-}
-
-// The same for the requests of some tables.
-fn expect(
-    rt: &impl Abort,
-    alloc: Global,
-    tables: &[&[(&str, &str)]],
-    random: &[u8],
-) -> Result<(), Fail> {
-    let (requests, replies) = lines_of(alloc, tables)?;
-    expect_replies(rt, alloc, &requests, &replies, random)
-}
 
 #[test]
 fn texts_codes_and_tests_under_a_key_are_the_published_ones(rt: HostRuntime) -> Result<(), Fail> {

@@ -3,6 +3,7 @@
 ghost use Rattle.std.specs.Prelude.{◌≡◌};
 
 use crate::rows::{MODULE_SIZE, STORE_SIZE, words_of};
+use crate::tables::{expect, lines_of};
 use cca_tool::{Device, Status, run};
 use key_cells::Workbench;
 use slot_disk::{BlankEntropy, Disk, MemoryDisk, MemorySink, MemorySource};
@@ -223,26 +224,6 @@ const ROLES: &[(&str, &str)] = &[
     ("CSNBKRL role=CLERK prefix=", "NO 04 -"),
 ];
 
-// The lines of some tables, and the replies to them.
-fn lines_of(alloc: Global, tables: &[&[(&str, &str)]]) -> Result<(String, String), Fail> {
-    let mut requests = String::new(alloc);
-    let mut replies = String::new(alloc);
-    for table in tables {
-        append(table, &mut requests, &mut replies)?;
-    }
-    Ok((requests, replies))
-}
-
-fn append(table: &[(&str, &str)], requests: &mut String, replies: &mut String) -> Result<(), Fail> {
-    for (request, reply) in table {
-        requests.push_str(request)?;
-        requests.push_str("\n")?;
-        replies.push_str(reply)?;
-        replies.push_str("\n")?;
-    }
-    Ok(())
-}
-
 // Runs an input over the disks, and asserts the status and the replies.
 fn run_over(
     rt: &impl Abort,
@@ -278,39 +259,24 @@ fn run_over(
     Ok(())
 }
 
-// Runs the requests of some tables over blank disks, and asserts the replies.
-fn expect(rt: &impl Abort, alloc: Global, tables: &[&[(&str, &str)]]) -> Result<(), Fail> {
-    let mut module = MemoryDisk::new(alloc, MODULE_SIZE, CALLS)?;
-    let mut store = MemoryDisk::new(alloc, STORE_SIZE, CALLS)?;
-    let (requests, replies) = lines_of(alloc, tables)?;
-    run_over(
-        rt,
-        alloc,
-        &mut module,
-        &mut store,
-        requests.as_str(),
-        (Status::Done, replies.as_str()),
-    )
-}
-
 #[test]
 fn labels_name_keys(rt: HostRuntime) -> Result<(), Fail> {
-    expect(&rt, rt.alloc(), &[LABELLED, USED])
+    expect(&rt, rt.alloc(), &[LABELLED, USED], &[])
 }
 
 #[test]
 fn each_rule_of_a_label_is_named(rt: HostRuntime) -> Result<(), Fail> {
-    expect(&rt, rt.alloc(), &[LABELLED, RECORDS])
+    expect(&rt, rt.alloc(), &[LABELLED, RECORDS], &[])
 }
 
 #[test]
 fn no_stored_key_is_lost_by_set(rt: HostRuntime) -> Result<(), Fail> {
-    expect(&rt, rt.alloc(), &[LABELLED, NEW_MASTER_KEY])
+    expect(&rt, rt.alloc(), &[LABELLED, NEW_MASTER_KEY], &[])
 }
 
 #[test]
 fn a_key_goes_into_a_record_by_two_points(rt: HostRuntime) -> Result<(), Fail> {
-    expect(&rt, rt.alloc(), &[LABELLED, ROLES])
+    expect(&rt, rt.alloc(), &[LABELLED, ROLES], &[])
 }
 
 #[test]

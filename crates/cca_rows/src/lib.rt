@@ -18,6 +18,8 @@ mod roles;
 mod rows;
 #[cfg(test)]
 mod sessions;
+#[cfg(test)]
+mod tables;
 
 /// The machine gives the replies to two key ceremonies that are known from outside: the definitions compute them.
 pub fn worked_ceremonies()

@@ -2,19 +2,11 @@
 //! generated key has the bytes 01. The tokens here were made by another program's triple DES and SHA-1 from the clear keys,
 //! after the definition of a token.
 
-use crate::rows::{MODULE_SIZE, STORE_SIZE, words_of};
-use cca_tool::{Status, run};
-use key_cells::Workbench;
-use slot_disk::{MemoryDisk, MemoryEntropy, MemorySink, MemorySource};
-use std::alloc::Global;
-use std::process::Abort;
+use crate::tables::expect;
 use std::test::Fail;
 
-// The writes and syncs that a test disk notes here: four for each change.
-const CALLS: u64 = 100;
-
-// The room of a sink: more than the replies here need.
-const ROOM: usize = 40_000;
+// The random bytes: more than the keys of a table take.
+const RANDOM: &[u8] = &[0; 600];
 
 // A master key, two transport keys, and a label for a key.
 const TRANSPORT: &[(&str, &str)] = &[
@@ -411,74 +403,27 @@ const MORNING: &[(&str, &str)] = &[
     ),
 ];
 
-// The lines of some tables, and the replies to them.
-fn lines_of(alloc: Global, tables: &[&[(&str, &str)]]) -> Result<(String, String), Fail> {
-    let mut requests = String::new(alloc);
-    let mut replies = String::new(alloc);
-    for table in tables {
-        append(table, &mut requests, &mut replies)?;
-    }
-    Ok((requests, replies))
-}
-
-fn append(table: &[(&str, &str)], requests: &mut String, replies: &mut String) -> Result<(), Fail> {
-    for (request, reply) in table {
-        requests.push_str(request)?;
-        requests.push_str("\n")?;
-        replies.push_str(reply)?;
-        replies.push_str("\n")?;
-    }
-    Ok(())
-}
-
-// Runs the requests of some tables over blank disks and random bytes that are zero, and asserts the replies.
-fn expect(rt: &impl Abort, alloc: Global, tables: &[&[(&str, &str)]]) -> Result<(), Fail> {
-    let (requests, replies) = lines_of(alloc, tables)?;
-    let words = words_of(alloc, &["run"])?;
-    let mut bench = Workbench::new();
-    let mut source = MemorySource::new(alloc, requests.as_bytes(), 1_000)?;
-    let mut sink = MemorySink::new(alloc, ROOM)?;
-    let mut module = MemoryDisk::new(alloc, MODULE_SIZE, CALLS)?;
-    let mut store = MemoryDisk::new(alloc, STORE_SIZE, CALLS)?;
-    let mut entropy = MemoryEntropy::new(alloc, &[0; 600])?;
-    assert_eq!(rt;
-        run(
-            alloc,
-            &words,
-            &mut bench,
-            &mut source,
-            &mut sink,
-            &mut module,
-            &mut store,
-            &mut entropy
-        ),
-        Status::Done
-    );
-    assert_eq!(rt; sink.bytes(), replies.as_bytes());
-    Ok(())
-}
-
 #[test]
 fn keys_are_moved_under_transport_keys(rt: HostRuntime) -> Result<(), Fail> {
-    expect(&rt, rt.alloc(), &[TRANSPORT, MOVED])
+    expect(&rt, rt.alloc(), &[TRANSPORT, MOVED], RANDOM)
 }
 
 #[test]
 fn each_type_has_its_lengths(rt: HostRuntime) -> Result<(), Fail> {
-    expect(&rt, rt.alloc(), &[TRANSPORT, GENERATED])
+    expect(&rt, rt.alloc(), &[TRANSPORT, GENERATED], RANDOM)
 }
 
 #[test]
 fn keys_are_generated_in_pairs(rt: HostRuntime) -> Result<(), Fail> {
-    expect(&rt, rt.alloc(), &[TRANSPORT, PAIRS, DOUBLE_CODE])
+    expect(&rt, rt.alloc(), &[TRANSPORT, PAIRS, DOUBLE_CODE], RANDOM)
 }
 
 #[test]
 fn a_token_is_changed_to_another_master_key(rt: HostRuntime) -> Result<(), Fail> {
-    expect(&rt, rt.alloc(), &[TRANSPORT, CHANGED])
+    expect(&rt, rt.alloc(), &[TRANSPORT, CHANGED], RANDOM)
 }
 
 #[test]
 fn a_morning_at_a_bank(rt: HostRuntime) -> Result<(), Fail> {
-    expect(&rt, rt.alloc(), &[MORNING])
+    expect(&rt, rt.alloc(), &[MORNING], RANDOM)
 }

@@ -1,0 +1,81 @@
+//! Tables of rows, each a request line and the reply to it, and runs of the top call over them.
+
+use crate::rows::{MODULE_SIZE, STORE_SIZE, words_of};
+use cca_tool::{Status, run};
+use key_cells::Workbench;
+use slot_disk::{MemoryDisk, MemoryEntropy, MemorySink, MemorySource};
+use std::alloc::Global;
+use std::process::Abort;
+use std::test::Fail;
+
+// The writes and syncs that a test disk notes here: four for each change.
+const CALLS: u64 = 200;
+
+// The room of a sink: more than the replies of a table need.
+const ROOM: usize = 40_000;
+
+// The request lines of some tables, and the replies to them.
+pub(crate) fn lines_of(
+    alloc: Global,
+    tables: &[&[(&str, &str)]],
+) -> Result<(String, String), Fail> {
+    let mut requests = String::new(alloc);
+    let mut replies = String::new(alloc);
+    for table in tables {
+        append(table, &mut requests, &mut replies)?;
+    }
+    Ok((requests, replies))
+}
+
+fn append(table: &[(&str, &str)], requests: &mut String, replies: &mut String) -> Result<(), Fail> {
+    for (request, reply) in table {
+        requests.push_str(request)?;
+        requests.push_str("\n")?;
+        replies.push_str(reply)?;
+        replies.push_str("\n")?;
+    }
+    Ok(())
+}
+
+// Runs requests over a blank module, a blank store and these random bytes, and asserts the replies.
+pub(crate) fn expect_replies(
+    rt: &impl Abort,
+    alloc: Global,
+    requests: &String,
+    replies: &String,
+    random: &[u8],
+) -> Result<(), Fail> {
+    let words = words_of(alloc, &["run"])?;
+    let mut bench = Workbench::new();
+    let mut source = MemorySource::new(alloc, requests.as_bytes(), 1_000)?;
+    let mut sink = MemorySink::new(alloc, ROOM)?;
+    let mut module = MemoryDisk::new(alloc, MODULE_SIZE, CALLS)?;
+    let mut store = MemoryDisk::new(alloc, STORE_SIZE, CALLS)?;
+    let mut entropy = MemoryEntropy::new(alloc, random)?;
+    assert_eq!(rt;
+        run(
+            alloc,
+            &words,
+            &mut bench,
+            &mut source,
+            &mut sink,
+            &mut module,
+            &mut store,
+            &mut entropy
+        ),
+        Status::Done
+    );
+    assert_eq!(rt; sink.bytes(), replies.as_bytes());
+    Ok(())
+}
+
+// The same for the requests of some tables.
+pub(crate) fn expect(
+    rt: &impl Abort,
+    alloc: Global,
+    tables: &[&[(&str, &str)]],
+    random: &[u8],
+) -> Result<(), Fail> {
+    let (requests, replies) = lines_of(alloc, tables)?;
+    expect_replies(rt, alloc, &requests, &replies, random)
+}
