@@ -45,6 +45,8 @@ pub fn reencipher<D: Disk>(
     // whatever the store holds
     ensures size { (D.medium store.new).size ≡ STORE_LEN }
     ensures settled { OnOk result (IsSettled (D.medium store.new)) }
+    ensures still { IsSome (D.medium store.old).content → IsSome (D.medium store.new).content }
+    ensures told { IsSome (D.medium store.new).content → IsSome (D.medium store.old).content }
     ensures holds { OnOk result (Told (D.medium store.new) (HoldsRows records.new)) }
     ensures directory { row_directory records.new ≡ row_directory records.old }
     ensures damaged { (n : ℕ) → result ≡ Err (RecordFault.Damaged n)

@@ -20,6 +20,7 @@ invariant-loop-cell g l = record {
   size : (g.D.Disk.medium l.store).size ≡ STORE_LEN;
   settled : IsSettled (g.D.Disk.medium l.store);
   still : IsSome (g.D.Disk.medium l.fn.store).content → IsSome (g.D.Disk.medium l.store).content;
+  told : IsSome (g.D.Disk.medium l.store).content → IsSome (g.D.Disk.medium l.fn.store).content;
   holds : Told (g.D.Disk.medium l.store) (HoldsRows l.records);
   directory : row_directory l.records ≡ row_directory l.fn.records;
   few : l.changed ≤ l.cell;

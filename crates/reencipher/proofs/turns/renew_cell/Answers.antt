@@ -18,7 +18,7 @@ use Rattle.verb_rules.specs.Keys.{keys_of}
 use Rattle.reencipher.specs.Further.{under_current}
 use Rattle.reencipher.specs.Turns.{renewed_at, RenewsCell}
 use Rattle.reencipher.proofs.TokenLaws.{loaded_after}
-use Rattle.reencipher.proofs.TurnLaws.{old_what, reads_what, with_current, current_of, current_some, same_label, loaded_body, renews_none, renews_failed, renews_written}
+use Rattle.reencipher.proofs.TurnLaws.{told_before, old_what, reads_what, with_current, current_of, current_some, same_label, loaded_body, renews_none, renews_failed, renews_written}
 use Rattle.reencipher.proofs.turns.renew_cell.Goals as goal
 
 no_label : (o : Option Entry) → entry_label o ≡ None → is_old_entry o ≡ false
@@ -110,3 +110,11 @@ returns-clause-renews g c m s loaded told =
     _ c.in_ok-write.ensures.cell
     (c.in_ok-write.ensures.labels masters s key.0 (told_still m0 m1 (KeepsLabels masters c.args.records.now s) c.read.ensures.keeps told)
     (c.in-Some-renewed_token.ensures.key m now ∙ key.1)))
+
+pub returns-in_err-write-clause-told : goal.returns-in_err-write-clause-told
+returns-in_err-write-clause-told g c = λ some.
+    subst IsSome c.read.ensures.keeps.content (told_before _ (g.D.Disk.medium c.read.new.store) (g.D.Disk.medium c.write.new.store) c.in_err-write.ensures.cell.replacing some)
+
+pub returns-clause-told : goal.returns-clause-told
+returns-clause-told g c = λ some.
+    subst IsSome c.read.ensures.keeps.content (told_before _ (g.D.Disk.medium c.read.new.store) (g.D.Disk.medium c.write.new.store) c.in_ok-write.ensures.cell.replacing some)
