@@ -178,6 +178,7 @@ pub data RequestName : Type 0 where
   csnbmkp_set : RequestName
   csuaaci_define : RequestName
   csuaaci_remove : RequestName
+  reencipher : RequestName
 
 -- the grammar
 abbrev pub row_of : RequestName → Row
@@ -255,6 +256,7 @@ row_of csuaaci_remove = record {
   verb = codes "CSUAACI";
   fields = role_field ∷ action_field (codes "REMOVE" ∷ []) ∷ name_field other_role ∷ [];
 }
+row_of reencipher = record { verb = codes "REENCIPHER"; fields = role_field ∷ [] }
 
 -- the rows of texts and of single keys
 abbrev pub use_requests : List RequestName
@@ -268,9 +270,9 @@ key_requests = csnbkgn_op ∷ csnbkgn_pair ∷ csnbkgn_out ∷ csnbkim ∷ csnbk
 abbrev pub record_requests : List RequestName
 record_requests = csnbkrc ∷ csnbkrw ∷ csnbkrr ∷ csnbkrd ∷ csnbkrl ∷ []
 
--- the rows of master keys and roles
+-- the rows of master keys, of roles, and of the store as a whole
 abbrev pub control_requests : List RequestName
-control_requests = csnbmkp_part ∷ csnbmkp_clear ∷ csnbmkp_set ∷ csuaaci_define ∷ csuaaci_remove ∷ []
+control_requests = csnbmkp_part ∷ csnbmkp_clear ∷ csnbmkp_set ∷ csuaaci_define ∷ csuaaci_remove ∷ reencipher ∷ []
 
 -- the rows in their order; no line spells requests of two rows
 abbrev pub all_requests : List RequestName

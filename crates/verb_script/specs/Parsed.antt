@@ -2,10 +2,10 @@
 use Rattle.std.specs.Int.{to_be_bytes, w32}
 use Rattle.std.specs.Prelude.{[], ◌∷◌, Option, Some, None, Result, Ok, Err}
 use Rattle.cca_vectors.specs.KeyTypes.{type_name}
-use Rattle.verb_script.specs.Grammar.{Request, csnbktp, csnbenc, csnbdec, csnbmgn, csnbmvr, csnbkyt, csnbcki, csnbrng, csnbkgn_op, csnbkgn_pair, csnbkgn_out, csnbkim, csnbkex, csnbpex, csnbktc, csnbkrc, csnbkrw, csnbkrr, csnbkrd, csnbkrl, csnbmkp_part, csnbmkp_clear, csnbmkp_set, csuaaci_define, csuaaci_remove}
+use Rattle.verb_script.specs.Grammar.{Request, csnbktp, csnbenc, csnbdec, csnbmgn, csnbmvr, csnbkyt, csnbcki, csnbrng, csnbkgn_op, csnbkgn_pair, csnbkgn_out, csnbkim, csnbkex, csnbpex, csnbktc, csnbkrc, csnbkrw, csnbkrr, csnbkrd, csnbkrl, csnbmkp_part, csnbmkp_clear, csnbmkp_set, csuaaci_define, csuaaci_remove, reencipher}
 use Rattle.verb_script.specs.declared.request.FormFault.{FormFault}
 use Rattle.verb_script.specs.declared.request.Request.{Request as Parsed}
-use Rattle.verb_script.specs.declared.request.Request.TheVariants.{Csnbktp, Csnbenc, Csnbdec, Csnbmgn, Csnbmvr, Csnbkyt, Csnbcki, Csnbrng, CsnbkgnOp, CsnbkgnPair, CsnbkgnOut, Csnbkim, Csnbkex, Csnbpex, Csnbktc, Csnbkrc, Csnbkrw, Csnbkrr, Csnbkrd, Csnbkrl, CsnbmkpPart, CsnbmkpClear, CsnbmkpSet, CsuaaciDefine, CsuaaciRemove}
+use Rattle.verb_script.specs.declared.request.Request.TheVariants.{Csnbktp, Csnbenc, Csnbdec, Csnbmgn, Csnbmvr, Csnbkyt, Csnbcki, Csnbrng, CsnbkgnOp, CsnbkgnPair, CsnbkgnOut, Csnbkim, Csnbkex, Csnbpex, Csnbktc, Csnbkrc, Csnbkrw, Csnbkrr, Csnbkrd, Csnbkrl, CsnbmkpPart, CsnbmkpClear, CsnbmkpSet, CsuaaciDefine, CsuaaciRemove, Reencipher}
 
 abbrev pub seen : Parsed → Request
 seen (Csnbktp role token) = record { name = csnbktp; values = role ∷ token.now ∷ [] }
@@ -44,6 +44,7 @@ seen (CsnbmkpSet role action) = record { name = csnbmkp_set; values = role ∷ a
 seen (CsuaaciDefine role action name points) =
     record { name = csuaaci_define; values = role ∷ action.now ∷ name ∷ to_be_bytes w32 points ∷ [] }
 seen (CsuaaciRemove role action name) = record { name = csuaaci_remove; values = role ∷ action.now ∷ name ∷ [] }
+seen (Reencipher role) = record { name = reencipher; values = role ∷ [] }
 
 -- what parsing answered
 abbrev pub answered : Result Parsed FormFault → Option Request

@@ -1,7 +1,7 @@
 //! The requests that a line may spell.
 ghost use Rattle.std.specs.Prelude.{◌≡◌, Some, None, [], ◌∷◌, ◌++◌, codes, IfOk};
 ghost use Rattle.verb_script.specs.Grammar.{Request as Spelled, Spells, all_requests, key_requests, record_requests, control_requests};
-ghost use Rattle.verb_script.specs.Grammar.{csnbktp as row_csnbktp, csnbenc as row_csnbenc, csnbdec as row_csnbdec, csnbmgn as row_csnbmgn, csnbmvr as row_csnbmvr, csnbkyt as row_csnbkyt, csnbcki as row_csnbcki, csnbrng as row_csnbrng, csnbkgn_op as row_csnbkgn_op, csnbkgn_pair as row_csnbkgn_pair, csnbkgn_out as row_csnbkgn_out, csnbkim as row_csnbkim, csnbkex as row_csnbkex, csnbpex as row_csnbpex, csnbktc as row_csnbktc, csnbkrc as row_csnbkrc, csnbkrw as row_csnbkrw, csnbkrr as row_csnbkrr, csnbkrd as row_csnbkrd, csnbkrl as row_csnbkrl, csnbmkp_part as row_csnbmkp_part, csnbmkp_clear as row_csnbmkp_clear, csnbmkp_set as row_csnbmkp_set, csuaaci_define as row_csuaaci_define, csuaaci_remove as row_csuaaci_remove};
+ghost use Rattle.verb_script.specs.Grammar.{csnbktp as row_csnbktp, csnbenc as row_csnbenc, csnbdec as row_csnbdec, csnbmgn as row_csnbmgn, csnbmvr as row_csnbmvr, csnbkyt as row_csnbkyt, csnbcki as row_csnbcki, csnbrng as row_csnbrng, csnbkgn_op as row_csnbkgn_op, csnbkgn_pair as row_csnbkgn_pair, csnbkgn_out as row_csnbkgn_out, csnbkim as row_csnbkim, csnbkex as row_csnbkex, csnbpex as row_csnbpex, csnbktc as row_csnbktc, csnbkrc as row_csnbkrc, csnbkrw as row_csnbkrw, csnbkrr as row_csnbkrr, csnbkrd as row_csnbkrd, csnbkrl as row_csnbkrl, csnbmkp_part as row_csnbmkp_part, csnbmkp_clear as row_csnbmkp_clear, csnbmkp_set as row_csnbmkp_set, csuaaci_define as row_csuaaci_define, csuaaci_remove as row_csuaaci_remove, reencipher as row_reencipher};
 ghost use Rattle.verb_script.specs.Parsed.{answered, seen, seen_option};
 ghost use Rattle.verb_script.specs.Requests.{request_of, row_request, first_request};
 ghost use Rattle.verb_script.specs.Words.{unread};
@@ -179,6 +179,10 @@ pub enum Request<'a> {
         role: RoleName,
         action: &'a [u8],
         name: RoleName,
+    },
+    /// Every label under the old master key is brought under the current one.
+    Reencipher {
+        role: RoleName,
     },
 }
 
@@ -528,10 +532,20 @@ fn csuaaci_remove<'a>(mut words: Words<'a>) -> Option<Request<'a>>
     Some(Request::CsuaaciRemove { role, action, name })
 }
 
+/// The request of the row REENCIPHER, whose fields the words are.
+fn reencipher<'a>(mut words: Words<'a>) -> Option<Request<'a>>
+    ensures { seen_option result ≡ row_request row_reencipher (unread words.entry) }
+{
+    let role = words.role(b"role=")?;
+    words.end()?;
+    Some(Request::Reencipher { role })
+}
+
 /// The request of the first of CSUAACI's rows whose fields the words are.
 fn csuaaci<'a>(words: Words<'a>) -> Option<Request<'a>>
     ensures { seen_option result
-        ≡ first_request (row_csuaaci_define ∷ row_csuaaci_remove ∷ []) (codes "CSUAACI" ∷ unread words.entry) }
+        ≡ first_request (row_csuaaci_define ∷ row_csuaaci_remove ∷ [])
+        (codes "CSUAACI" ∷ unread words.entry) }
 {
     if let Some(request) = csuaaci_define(words) {
         return Some(request);
@@ -542,7 +556,9 @@ fn csuaaci<'a>(words: Words<'a>) -> Option<Request<'a>>
 /// The request of the first of CSNBMKP's rows whose fields the words are. A row that the words aren't is
 /// given up at the action, so that a part is read once.
 fn csnbmkp<'a>(words: Words<'a>) -> Option<Request<'a>>
-    ensures { seen_option result ≡ first_request (row_csnbmkp_part ∷ row_csnbmkp_clear ∷ row_csnbmkp_set ∷ []) (codes "CSNBMKP" ∷ unread words.entry) }
+    ensures { seen_option result ≡ first_request
+        (row_csnbmkp_part ∷ row_csnbmkp_clear ∷ row_csnbmkp_set ∷ [])
+        (codes "CSNBMKP" ∷ unread words.entry) }
 {
     if let Some(request) = csnbmkp_part(words) {
         return Some(request);
@@ -556,7 +572,9 @@ fn csnbmkp<'a>(words: Words<'a>) -> Option<Request<'a>>
 /// The request of the first of CSNBKGN's rows whose fields the words are. A row that the words aren't is given
 /// up at the form, so that a key is read once.
 fn csnbkgn<'a>(words: Words<'a>) -> Option<Request<'a>>
-    ensures { seen_option result ≡ first_request (row_csnbkgn_op ∷ row_csnbkgn_pair ∷ row_csnbkgn_out ∷ []) (codes "CSNBKGN" ∷ unread words.entry) }
+    ensures { seen_option result ≡ first_request
+        (row_csnbkgn_op ∷ row_csnbkgn_pair ∷ row_csnbkgn_out ∷ [])
+        (codes "CSNBKGN" ∷ unread words.entry) }
 {
     if let Some(request) = csnbkgn_op(words) {
         return Some(request);
@@ -567,7 +585,7 @@ fn csnbkgn<'a>(words: Words<'a>) -> Option<Request<'a>>
     csnbkgn_out(words)
 }
 
-/// The request of this verb of master keys or roles, whose fields the words are.
+/// The request of this verb of master keys, of roles or of the whole store, whose fields the words are.
 fn control_request<'a>(verb: &[u8], words: Words<'a>) -> Option<Request<'a>>
     ensures { seen_option result ≡ first_request control_requests (verb.now ∷ unread words.entry) }
 {
@@ -575,6 +593,8 @@ fn control_request<'a>(verb: &[u8], words: Words<'a>) -> Option<Request<'a>>
         csnbmkp(words)
     } else if verb == b"CSUAACI".as_slice() {
         csuaaci(words)
+    } else if verb == b"REENCIPHER".as_slice() {
+        reencipher(words)
     } else {
         None
     }
@@ -582,7 +602,8 @@ fn control_request<'a>(verb: &[u8], words: Words<'a>) -> Option<Request<'a>>
 
 /// The request of this verb of key records, or of a verb further down, whose fields the words are.
 fn record_request<'a>(verb: &[u8], words: Words<'a>) -> Option<Request<'a>>
-    ensures { seen_option result ≡ first_request (record_requests ++ control_requests) (verb.now ∷ unread words.entry) }
+    ensures { seen_option result ≡ first_request (record_requests ++ control_requests)
+        (verb.now ∷ unread words.entry) }
 {
     if verb == b"CSNBKRC".as_slice() {
         csnbkrc(words)
@@ -601,7 +622,8 @@ fn record_request<'a>(verb: &[u8], words: Words<'a>) -> Option<Request<'a>>
 
 /// The request of this verb that makes or moves keys, or of a verb further down, whose fields the words are.
 fn key_request<'a>(verb: &[u8], words: Words<'a>) -> Option<Request<'a>>
-    ensures { seen_option result ≡ first_request (key_requests ++ (record_requests ++ control_requests)) (verb.now ∷ unread words.entry) }
+    ensures { seen_option result ≡ first_request
+        (key_requests ++ (record_requests ++ control_requests)) (verb.now ∷ unread words.entry) }
 {
     if verb == b"CSNBKGN".as_slice() {
         csnbkgn(words)

@@ -256,7 +256,7 @@ fn lines_that_make_and_move_keys_are_parsed(rt: HostRuntime) {
 fn lines_of_each_row_are_parsed(rt: HostRuntime) {
     let role = RoleName::default_role();
     let teller = name_of(b"TELLER");
-    let lines: [(&[u8], Request); 9] = [
+    let lines: [(&[u8], Request); 10] = [
         (
             b"CSNBKTP role=DEFAULT token=020000000000c00000000000000000008ca64de9c1b123a700000000000000000000000000000000000000000000000000000000000000000000000050583190",
             Request::Csnbktp { role, token: TOKEN },
@@ -325,6 +325,10 @@ fn lines_of_each_row_are_parsed(rt: HostRuntime) {
                 name: teller,
             },
         ),
+        (
+            b"REENCIPHER role=TELLER",
+            Request::Reencipher { role: teller },
+        ),
     ];
     for (line, request) in lines.iter() {
         assert!(rt; is_parsed(line, request));
@@ -333,7 +337,7 @@ fn lines_of_each_row_are_parsed(rt: HostRuntime) {
 
 #[test]
 fn other_lines_are_no_requests(rt: HostRuntime) {
-    let lines: [&[u8]; 26] = [
+    let lines: [&[u8]; 30] = [
         b"",
         b"CSNBKTP",
         b"CSNBKTP role=DEFAULT token=0200",
@@ -360,6 +364,10 @@ fn other_lines_are_no_requests(rt: HostRuntime) {
         b"CSUAACI role=DEFAULT action=DEFINE name=TELLER points=f",
         b"CSUAACI role=DEFAULT action=DEFINE name=TELLER",
         b"CSNBMKP role=DEFAULT action=CLEAR part=0102030405060708090a0b0c0d0e0f101112131415161718",
+        b"REENCIPHER",
+        b"REENCIPHER role=DEFAULT label=K",
+        b"REENCIPHE role=DEFAULT",
+        b"reencipher role=DEFAULT",
     ];
     for line in lines {
         assert!(rt; parse_request(line) == Err(FormFault));

@@ -48,7 +48,8 @@ fn split_word(text: &[u8]) -> (&[u8], Option<&[u8]>)
 
 /// What follows the prefix in a word.
 fn after<'a>(word: &'a [u8], prefix: &[u8]) -> Option<&'a [u8]>
-    ensures { option_copied result ≡ (if starts_with nat_eq word.now prefix.now then Some (drop (length prefix.now) word.now) else None) }
+    ensures { option_copied result ≡ (if starts_with nat_eq word.now prefix.now then Some
+        (drop (length prefix.now) word.now) else None) }
 {
     word.strip_prefix(prefix)
 }
@@ -87,7 +88,8 @@ fn number_of(bytes: &[u8; 4]) -> u32
 fn points_of(digits: &[u8]) -> Option<AccessPoints>
     requires { IsTrue (is_hex 8 digits.now) }
     ensures { option_map (to_be_bytes w32) result
-        ≡ (if are_points (from_be_bytes w32 (hex_value digits.now)) then Some (hex_value digits.now) else None) }
+        ≡ (if are_points (from_be_bytes w32 (hex_value digits.now)) then Some
+        (hex_value digits.now) else None) }
 {
     let mut bytes = [0; 4];
     decode(digits, &mut bytes);
@@ -186,7 +188,8 @@ fn prefix_in<'a>(word: &'a [u8], prefix: &[u8]) -> Option<&'a [u8]>
 
 /// The key type of this name.
 fn type_of(name: &[u8]) -> Option<KeyType>
-    ensures { option_map type_name result ≡ (if is_some (type_named name.now) then Some name.now else None) }
+    ensures { option_map type_name result
+        ≡ (if is_some (type_named name.now) then Some name.now else None) }
 {
     KeyType::read(name)
 }
@@ -250,7 +253,8 @@ impl<'a> Words<'a> {
 
     /// The digits in the next word, which is the prefix and so many hexadecimal digits.
     pub(crate) fn hex(&mut self, prefix: &[u8], digits: usize) -> Option<&'a [u8]>
-        ensures value { option_copied result ≡ first_value prefix.now (hex_digits digits) (unread self.old) }
+        ensures value { option_copied result
+            ≡ first_value prefix.now (hex_digits digits) (unread self.old) }
         ensures rest { unread self.new ≡ drop 1 (unread self.old) }
     {
         hex_in(self.next()?, prefix, digits)
@@ -298,7 +302,8 @@ impl<'a> Words<'a> {
 
     /// What labels begin with, in the next word, which is the prefix and that text.
     pub(crate) fn prefix(&mut self, prefix: &[u8]) -> Option<&'a [u8]>
-        ensures value { option_copied result ≡ first_value prefix.now prefix_text (unread self.old) }
+        ensures value { option_copied result
+            ≡ first_value prefix.now prefix_text (unread self.old) }
         ensures rest { unread self.new ≡ drop 1 (unread self.old) }
     {
         prefix_in(self.next()?, prefix)
@@ -315,7 +320,8 @@ impl<'a> Words<'a> {
 
     /// The choice in the next word, which is the prefix and one of the choices.
     pub(crate) fn choice(&mut self, prefix: &[u8], choices: &[&[u8]]) -> Option<&'a [u8]>
-        ensures value { option_copied result ≡ first_value prefix.now (one_of (texts choices.now)) (unread self.old) }
+        ensures value { option_copied result
+            ≡ first_value prefix.now (one_of (texts choices.now)) (unread self.old) }
         ensures rest { unread self.new ≡ drop 1 (unread self.old) }
     {
         choice_in(self.next()?, prefix, choices)
