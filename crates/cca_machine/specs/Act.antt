@@ -19,8 +19,9 @@ use Rattle.cca_vectors.specs.declared.key_type.KeyType.{KeyType}
 use Rattle.key_transport.specs.Generated.{generated_key}
 use Rattle.key_transport.specs.Tokens.{as_current, closed_key, changed_token, external_token}
 use Rattle.verb_script.specs.Named.{label_named}
-use Rattle.verb_script.specs.Grammar.{Request, RequestName, csnbktp, csnbenc, csnbdec, csnbmgn, csnbmvr, csnbkyt, csnbcki, csnbrng, csnbkgn_op, csnbkgn_pair, csnbkgn_out, csnbkim, csnbkex, csnbpex, csnbktc, csnbkrc, csnbkrw, csnbkrr, csnbkrd, csnbkrl, csnbmkp_part, csnbmkp_clear, csnbmkp_set, csuaaci_define, csuaaci_remove, value_of}
+use Rattle.verb_script.specs.Grammar.{Request, RequestName, csnbktp, csnbenc, csnbdec, csnbmgn, csnbmvr, csnbkyt, csnbcki, csnbrng, csnbkgn_op, csnbkgn_pair, csnbkgn_out, csnbkim, csnbkex, csnbpex, csnbktc, csnbkrc, csnbkrw, csnbkrr, csnbkrd, csnbkrl, csnbmkp_part, csnbmkp_clear, csnbmkp_set, csuaaci_define, csuaaci_remove, reencipher, value_of}
 use Rattle.cca_roles.specs.Roles.{define_place, after_define, remove_place, after_remove}
+use Rattle.reencipher.specs.Further.{further, old_count}
 use Rattle.cca_machine.specs.State.{State}
 use Rattle.cca_machine.specs.Actions.{part_action}
 use Rattle.master_registers.specs.Actions.{after_action}
@@ -53,6 +54,8 @@ pub data Effect : Type 0 where
   Write : List ℕ → Denoted → List Field → Effect
   -- the label is no longer held
   Delete : List ℕ → Effect
+  -- every label under the old master key has the same key under the current one
+  Reencipher : Effect
 
 -- ---- the reply to CSNBKTP
 
@@ -159,6 +162,7 @@ effect s drawn csnbmkp_clear r = Become (after_action Clear [] s.registers) s.la
 effect s drawn csnbmkp_set r = Become (after_action Set [] s.registers) (aged s.labels)
 effect s drawn csuaaci_define r = DefineRole (value_of r (codes "name")) (points_in r)
 effect s drawn csuaaci_remove r = RemoveRole (value_of r (codes "name"))
+effect s drawn reencipher r = Reencipher
 
 -- how many random bytes a permitted request draws
 abbrev pub draws : RequestName → Request → ℕ
@@ -187,17 +191,23 @@ draws csnbmkp_clear r = 0
 draws csnbmkp_set r = 0
 draws csuaaci_define r = 0
 draws csuaaci_remove r = 0
+draws reencipher r = 0
 
 -- ---- what comes of it
+
+-- the cells of a disk that are written
+pub data Cells : Type 0 where
+  NoCell : Cells
+  OneCell : ℕ → Cells
+  -- of the cells of these labels those that hold a label under the old master key
+  OldCells : List (Option Entry) → Cells
 
 pub record Outcome : Type 0 where
   pub state : State
   pub reply : Reply
-  -- the cell of the module that is written
-  pub module_cell : Option ℕ
-  -- the cell of the store that is written
-  pub store_cell : Option ℕ
-  -- what else a stop on the way may leave: of a request that writes many cells, the state after some of them
+  pub module_cells : Cells
+  pub store_cells : Cells
+  -- what else a stop on the way may leave: of a request that writes many cells, the state once it came to this one
   pub between : ℕ → State
 
 -- how full the new master key register is
@@ -222,6 +232,18 @@ state_after s (RemoveRole name) = record s { roles = after_remove name s.roles }
 state_after s (Create label) = record s { labels = created label s.labels }
 state_after s (Write label key fields) = record s { labels = written_in (cell_with s label) key s.labels }
 state_after s (Delete label) = record s { labels = deleted_in (cell_with s label) s.labels }
+state_after s Reencipher = record s { labels = further s.labels 1024 }
+
+-- the state once the labels in the cells below this one are current
+abbrev pub state_between : State → Effect → ℕ → State
+state_between s (Show fields) cell = s
+state_between s (Become m labels) cell = s
+state_between s (DefineRole name points) cell = s
+state_between s (RemoveRole name) cell = s
+state_between s (Create label) cell = s
+state_between s (Write label key fields) cell = s
+state_between s (Delete label) cell = s
+state_between s Reencipher cell = record s { labels = further s.labels cell }
 
 abbrev pub fields_after : State → Effect → List Field
 fields_after s (Show fields) = fields
@@ -231,40 +253,47 @@ fields_after s (RemoveRole name) = []
 fields_after s (Create label) = []
 fields_after s (Write label key fields) = fields
 fields_after s (Delete label) = []
+fields_after s Reencipher = Number (codes "changed") (old_count s.labels) ∷ []
 
 -- the registers stand in cell 0, the roles in the cells behind it
-abbrev pub cell_after : State → Effect → Option ℕ
-cell_after s (Show fields) = None
-cell_after s (Become m labels) = Some 0
-cell_after s (DefineRole name points) = Some (define_place name s.roles + 1)
-cell_after s (RemoveRole name) = Some (remove_place name s.roles + 1)
-cell_after s (Create label) = None
-cell_after s (Write label key fields) = None
-cell_after s (Delete label) = None
+abbrev pub module_cells_after : State → Effect → Cells
+module_cells_after s (Show fields) = NoCell
+module_cells_after s (Become m labels) = OneCell 0
+module_cells_after s (DefineRole name points) = OneCell (define_place name s.roles + 1)
+module_cells_after s (RemoveRole name) = OneCell (remove_place name s.roles + 1)
+module_cells_after s (Create label) = NoCell
+module_cells_after s (Write label key fields) = NoCell
+module_cells_after s (Delete label) = NoCell
+module_cells_after s Reencipher = NoCell
+
+abbrev pub cell_or_none : Option ℕ → Cells
+cell_or_none None = NoCell
+cell_or_none (Some cell) = OneCell cell
 
 -- each label stands in a cell of the store
-abbrev pub store_cell_after : State → Effect → Option ℕ
-store_cell_after s (Show fields) = None
-store_cell_after s (Become m labels) = None
-store_cell_after s (DefineRole name points) = None
-store_cell_after s (RemoveRole name) = None
-store_cell_after s (Create label) = Some (free_cell (directory s.labels))
-store_cell_after s (Write label key fields) = cell_with s label
-store_cell_after s (Delete label) = cell_with s label
+abbrev pub store_cells_after : State → Effect → Cells
+store_cells_after s (Show fields) = NoCell
+store_cells_after s (Become m labels) = NoCell
+store_cells_after s (DefineRole name points) = NoCell
+store_cells_after s (RemoveRole name) = NoCell
+store_cells_after s (Create label) = OneCell (free_cell (directory s.labels))
+store_cells_after s (Write label key fields) = cell_or_none (cell_with s label)
+store_cells_after s (Delete label) = cell_or_none (cell_with s label)
+store_cells_after s Reencipher = OldCells s.labels
 
 -- the reply ends with the warning
 abbrev pub effected : State → Request → Effect → Outcome
 effected s request e = record {
   state = state_after s e;
   reply = Done (fields_after s e ++ warning (any_old s (listed (operands request))));
-  module_cell = cell_after s e;
-  store_cell = store_cell_after s e;
-  between = λ k. s;
+  module_cells = module_cells_after s e;
+  store_cells = store_cells_after s e;
+  between = state_between s e;
 }
 
 -- a refusal changes nothing
 abbrev pub refused : State → Refusal → Outcome
-refused s r = record { state = s; reply = Refused r.rule r.operand; module_cell = None; store_cell = None; between = λ k. s }
+refused s r = record { state = s; reply = Refused r.rule r.operand; module_cells = NoCell; store_cells = NoCell; between = λ cell. s }
 
 abbrev pub or_act : Option Refusal → State → List ℕ → Request → Outcome
 or_act (Some r) s drawn request = refused s r

@@ -7,6 +7,7 @@ pub mod Lines
 pub mod Listing
 pub mod Operands
 pub mod Points
+pub mod Reruns
 pub mod Session
 pub mod State
 pub mod Verdict

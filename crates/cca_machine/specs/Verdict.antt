@@ -7,7 +7,7 @@ use Rattle.cca_roles.specs.Roles.{points_of, define_refused, remove_refused}
 use Rattle.cca_machine.specs.Points.{point}
 use Rattle.key_tokens.specs.TokenChecks.{token_checks}
 use Rattle.key_tokens.specs.declared.key_token.Asked.TheVariants.{Either}
-use Rattle.verb_script.specs.Grammar.{Request, RequestName, csnbktp, csnbenc, csnbdec, csnbmgn, csnbmvr, csnbkyt, csnbcki, csnbrng, csnbkgn_op, csnbkgn_pair, csnbkgn_out, csnbkim, csnbkex, csnbpex, csnbktc, csnbkrc, csnbkrw, csnbkrr, csnbkrd, csnbkrl, csnbmkp_part, csnbmkp_clear, csnbmkp_set, csuaaci_define, csuaaci_remove, value_of}
+use Rattle.verb_script.specs.Grammar.{Request, RequestName, csnbktp, csnbenc, csnbdec, csnbmgn, csnbmvr, csnbkyt, csnbcki, csnbrng, csnbkgn_op, csnbkgn_pair, csnbkgn_out, csnbkim, csnbkex, csnbpex, csnbktc, csnbkrc, csnbkrw, csnbkrr, csnbkrd, csnbkrl, csnbmkp_part, csnbmkp_clear, csnbmkp_set, csuaaci_define, csuaaci_remove, reencipher, value_of}
 use Rattle.verb_script.specs.Named.{label_named}
 use Rattle.verb_script.specs.Values.{hex_value}
 use Rattle.cca_vectors.specs.Vectors.{length_of}
@@ -98,6 +98,7 @@ needs_master csnbmkp_clear = false
 needs_master csnbmkp_set = false
 needs_master csuaaci_define = false
 needs_master csuaaci_remove = false
+needs_master reencipher = true
 
 -- the access control points that a request needs
 abbrev pub action_points : Action → ℕ
@@ -146,6 +147,7 @@ needed_points csnbmkp_clear r = action_points Clear
 needed_points csnbmkp_set r = action_points Set
 needed_points csuaaci_define r = point (codes "ROLES")
 needed_points csuaaci_remove r = point (codes "ROLES")
+needed_points reencipher r = point (codes "REENC")
 
 -- a role that is held lacks a point
 abbrev pub lacks : Option ℕ → ℕ → Bool
@@ -311,6 +313,7 @@ verb_questions s csnbmkp_clear r = action_questions s Clear
 verb_questions s csnbmkp_set r = set_questions s
 verb_questions s csuaaci_define r = define_questions s (value_of r (codes "name"))
 verb_questions s csuaaci_remove r = remove_questions s (value_of r (codes "name"))
+verb_questions s reencipher r = []
 
 abbrev pub verb_verdict : State → Request → Option Refusal
 verb_verdict s request = first_refusal (verb_questions s request.name request)

@@ -2,14 +2,20 @@
 //! crate of definitions, in `specs/`, and of laws over them.
 #![tactic(auto)]
 
-ghost use Rattle.std.specs.Prelude.{◌≡◌, ℕ, List, [], ◌++◌, ◌<◌, ◌≤◌, length, codes, Option, None, Some};
+ghost use Rattle.std.specs.Prelude.{◌≡◌, ℕ, List, [], ◌∷◌, ◌++◌, ◌<◌, ◌≤◌, length, codes, Option, None, Some};
 ghost use Rattle.script_buffers.specs.Reading.{line_limit};
-ghost use Rattle.script_buffers.specs.Replies.{Refused};
+ghost use Rattle.script_buffers.specs.Replies.{Refused, Done, Number};
+ghost use Rattle.slot_disk.specs.Cells.{body};
 ghost use Rattle.verb_script.specs.Requests.{request_of};
 ghost use Rattle.verb_script.specs.Grammar.{Request};
-ghost use Rattle.cca_machine.specs.State.{State, blank_state};
+ghost use Rattle.key_tokens.specs.Denotes.{HaveDistinctPatterns};
+ghost use Rattle.reencipher.specs.Further.{reruns, old_count};
+ghost use Rattle.verb_rules.specs.Keys.{keys_of};
+ghost use Rattle.cca_machine.specs.State.{State, IsStoreOf, blank_state};
 ghost use Rattle.cca_machine.specs.Act.{performed};
 ghost use Rattle.cca_machine.specs.Lines.{line_outcome, taken_by};
+ghost use Rattle.cca_machine.specs.Verdict.{verdict};
+ghost use Rattle.cca_machine.specs.Reruns.{reencipher_for, stopped};
 ghost use Rattle.cca_machine.specs.Session.{replies};
 ghost use Rattle.cca_machine.specs.WorkedRoles.{worked_roles, worked_role_table, lines_of, replies_of};
 ghost use Rattle.cca_machine.specs.WorkedTokens.{TokensAnswered, worked_tokens};
@@ -26,21 +32,52 @@ pub fn worked_key_tokens()
 /// The same of requests on roles, one after another from a blank module.
 pub fn worked_requests_on_roles()
     ensures roles { replies blank_state [] (lines_of worked_roles) ≡ replies_of worked_roles }
-    ensures full_table { replies blank_state [] (lines_of worked_role_table) ≡ replies_of worked_role_table }
+    ensures full_table { replies blank_state [] (lines_of worked_role_table)
+        ≡ replies_of worked_role_table }
 {}
 
 /// What comes of a line, by what the line is. A request takes its random bytes whatever follows them.
 pub fn outcomes_of_lines()
     ensures no_request { (s : State) (random line : List ℕ) → length line ≤ line_limit
         → request_of line ≡ None
-        → line_outcome s random line ≡ record { state = s; reply = Refused 1 (codes "-"); random = random } }
+        → line_outcome s random line
+        ≡ record { state = s; reply = Refused 1 (codes "-"); random = random } }
     ensures too_long { (s : State) (random line : List ℕ) → line_limit < length line
-        → line_outcome s random line ≡ record { state = s; reply = Refused 2 (codes "-"); random = random } }
-    ensures request { (s : State) (drawn rest line : List ℕ) (request : Request) → length line ≤ line_limit
+        → line_outcome s random line
+        ≡ record { state = s; reply = Refused 2 (codes "-"); random = random } }
+    ensures request { (s : State) (drawn rest line : List ℕ) (request : Request)
+        → length line ≤ line_limit
         → request_of line ≡ Some request → length drawn ≡ taken_by s request
         → line_outcome s (drawn ++ rest) line ≡ record {
           state = (performed s drawn request).state;
           reply = (performed s drawn request).reply;
           random = rest;
         } }
+{}
+
+/// REENCIPHER is stopped at some cell, begun again and stopped again, any number of times. It is then permitted exactly
+/// where it was. A run that isn't stopped leaves the state that one run from the start leaves, and in each cell of the
+/// store the same selected bytes; and the next run finds no label under the old master key.
+pub fn stopped_runs_end_as_one_run()
+    ensures stop { (s : State) (drawn role : List ℕ) (cell : ℕ)
+        → verdict s (reencipher_for role) ≡ None
+        → (performed s drawn (reencipher_for role)).between cell ≡ stopped s (cell ∷ []) }
+    ensures verdict { (s : State) (role stops : List ℕ)
+        → verdict (stopped s stops) (reencipher_for role) ≡ verdict s (reencipher_for role) }
+    ensures state { (s : State) (role stops : List ℕ) → length s.labels ≤ 1024
+        → verdict s (reencipher_for role) ≡ None
+        → (performed (stopped s stops) [] (reencipher_for role)).state
+        ≡ (performed s [] (reencipher_for role)).state }
+    ensures changed { (s : State) (role stops : List ℕ) → verdict s (reencipher_for role) ≡ None
+        → (performed (stopped s stops) [] (reencipher_for role)).reply
+        ≡ Done (Number (codes "changed") (old_count (reruns s.labels stops)) ∷ []) }
+    ensures none_left { (s : State) (role : List ℕ) → length s.labels ≤ 1024
+        → verdict s (reencipher_for role) ≡ None
+        → (performed (performed s [] (reencipher_for role)).state [] (reencipher_for role)).reply
+        ≡ Done (Number (codes "changed") 0 ∷ []) }
+    ensures bytes { (s : State) (role stops one other : List ℕ) (cell : ℕ)
+        → HaveDistinctPatterns (keys_of s.registers) → verdict s (reencipher_for role) ≡ None
+        → IsStoreOf (performed s [] (reencipher_for role)).state one
+        → IsStoreOf (performed (stopped s stops) [] (reencipher_for role)).state other
+        → cell < 1024 → body one cell ≡ body other cell }
 {}
