@@ -9,5 +9,6 @@ mod stops;
 
 pub use desk::Desk;
 pub use running::serve;
+pub use sending::send;
 pub use serving::{Served, serve_one};
 pub use stops::{Device, Stop};
