@@ -2,10 +2,10 @@
 use Rattle.std.proofs.Common.{◌≡◌, ℕ, Bool, true, false, List, Option, None, Some, refl, sym, ap, ◌∙◌, codes, [], subst}
 use Rattle.cca_vectors.specs.Checks.{first_failing}
 use Rattle.key_cells.specs.Bench.{Bench}
-use Rattle.verb_script.specs.Grammar.{Request, RequestName, csnbrng}
+use Rattle.verb_script.specs.Grammar.{Request}
 use Rattle.verb_script.specs.Values.{hex_value}
 use Rattle.cca_machine.specs.State.{State}
-use Rattle.cca_machine.specs.Verdict.{Refusal, refusal, or_then, or_refused, first_refusal, verb_questions, general_checks, operands_verdict, verb_verdict, verdict}
+use Rattle.cca_machine.specs.Verdict.{Refusal, refusal, or_then, or_refused, general_checks, operands_verdict, verb_verdict, verdict}
 use Rattle.cca_machine.specs.Act.{Show, draws, effect}
 use Rattle.std.specs.Prelude.{◌||◌, IsSome, option_map, bytes_eq, if◌then◌else◌}
 use Rattle.std.proofs.KnownBytes.{Consumes-nil}
@@ -116,6 +116,7 @@ shows_or s bench request v fields e reply left count verdict is shown = record {
     by_effect (code.Create label) shown = absurd shown
     by_effect (code.Write place token) shown = absurd shown
     by_effect (code.Delete place) shown = absurd shown
+    by_effect code.Reencipher shown = absurd shown
 
 -- what was decided without random bytes
 pub decides : (s : State) (bench : Bench) (request : Request) (e : CodeEffect) (reply : List ℕ) (left : Option (List ℕ))

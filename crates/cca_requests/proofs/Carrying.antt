@@ -18,7 +18,7 @@ use Rattle.verb_script.specs.Grammar.{Request}
 use Rattle.cca_machine.specs.Keys.{warning}
 use Rattle.cca_machine.specs.State.{State, IsStoreOf}
 use Rattle.cca_machine.specs.Verdict.{Questions, Refusal, questions, first_refusal, action_questions, create_questions}
-use Rattle.cca_machine.specs.Act.{Effect, Become, DefineRole, RemoveRole, Create, Outcome, effect, state_after, fields_after, cell_after, store_cell_after, effected, refused, or_act}
+use Rattle.cca_machine.specs.Act.{Effect, Show, Become, DefineRole, RemoveRole, Create, Write, Delete, Reencipher, Outcome, effect, state_after, fields_after, state_between, module_cells_after, store_cells_after, effected, refused, or_act}
 use Rattle.cca_requests.specs.Serving.{tables, StandsInModule, StandsInStore, CarriesModule, CarriesStore, Carries}
 use Rattle.cca_requests.specs.Deciding.{WarnsNot, plainly, or_effected, labels_after, LosesNone, action_outcome, role_outcome, create_outcome, IsWritten, IsDeleted}
 use Rattle.cca_requests.proofs.Ageing.{set_apart, store_ages, memory_ages}
@@ -28,7 +28,13 @@ use Rattle.cca_requests.proofs.Serving.{module_carries, store_carries}
 
 abbrev with_fields : State → Effect → List Field → Outcome
 with_fields s e fields =
-    record { state = state_after s e; reply = Done fields; module_cell = cell_after s e; store_cell = store_cell_after s e; between = λ k. s }
+    record {
+      state = state_after s e;
+      reply = Done fields;
+      module_cells = module_cells_after s e;
+      store_cells = store_cells_after s e;
+      between = state_between s e;
+    }
 
 effected_plainly : (s : State) (request : Request) (e : Effect) → WarnsNot s request → effected s request e ≡ plainly s e
 effected_plainly s request e none =
@@ -62,14 +68,14 @@ module _ (s : State) (roles later : List (Option Role)) (rows : List (Option Row
     (settled : IsSettled d) (stands : StandsInStore s rows d) where
   -- what stood for the labels does so after it, and the memory knows them
   abbrev Goes : Outcome → Type 0
-  Goes o = ((c : List ℕ) → IsStoreOf s c → IsStoreOf o.state c) × Agrees (keys_of o.state.registers) rows o.state.labels
+  Goes o = ((c : List ℕ) → IsStoreOf s c → IsStoreOf o.state c) × ((cell : ℕ) → o.between cell ≡ s) × Agrees (keys_of o.state.registers) rows o.state.labels
 
   or_goes : (v : Option Refusal) (e : Effect) → (v ≡ None → Goes (plainly s e)) → Goes (or_effected v s e)
   or_goes None e goes = goes refl
-  or_goes (Some r) e goes = (λ c p. p, stands.agrees)
+  or_goes (Some r) e goes = (λ c p. p, λ cell. refl, stands.agrees)
 
   by_goes : (o : Outcome) → Goes o → CarriesModule o s result reply later m0 m1 → Carries o s result reply (tables later rows) m0 m1 d d
-  by_goes o goes carries = module_carries o s result reply later rows m0 m1 d carries goes.0 goes.1 settled stands
+  by_goes o goes carries = module_carries o s result reply later rows m0 m1 d carries goes.0 goes.1 goes.2 settled stands
 
   rules_kept : (wrong same : Bool) → first_refusal (questions (codes "-") (check 25 wrong ∷ check 26 same ∷ []) ∷ []) ≡ None → (wrong ≡ false) × (same ≡ false)
   rules_kept true same is = cc is
@@ -78,13 +84,14 @@ module _ (s : State) (roles later : List (Option Role)) (rows : List (Option Row
 
   action_goes : (action : Action) (part : List ℕ) → IsMasters s.registers → LosesNone action s → first_refusal (action_questions s action) ≡ None
       → Goes (plainly s (Become (after_action action part s.registers) (labels_after action s.labels)))
-  action_goes First part valid lost none = (λ c p. p, stands.agrees)
-  action_goes Middle part valid lost none = (λ c p. p, stands.agrees)
-  action_goes Last part valid lost none = (λ c p. p, stands.agrees)
-  action_goes Clear part valid lost none = (λ c p. p, stands.agrees)
+  action_goes First part valid lost none = (λ c p. p, λ cell. refl, stands.agrees)
+  action_goes Middle part valid lost none = (λ c p. p, λ cell. refl, stands.agrees)
+  action_goes Last part valid lost none = (λ c p. p, λ cell. refl, stands.agrees)
+  action_goes Clear part valid lost none = (λ c p. p, λ cell. refl, stands.agrees)
   action_goes Set part valid lost none =
       let kept = rules_kept (set_refused s.registers) (same_pattern s.registers) none in (
         λ c p. store_ages s.registers c s.labels (keys_apart s.registers valid) (set_apart s.registers kept.0 kept.1) lost p,
+        λ cell. refl,
         memory_ages s.registers rows s.labels lost stands.agrees,
       )
 
@@ -98,12 +105,12 @@ module _ (s : State) (roles later : List (Option Role)) (rows : List (Option Row
   pub define_carries : (asked : List Questions) (name : List ℕ) (points : ℕ) → CarriesModule (role_outcome asked s (DefineRole name points)) s result reply later m0 m1
       → Carries (role_outcome asked s (DefineRole name points)) s result reply (tables later rows) m0 m1 d d
   define_carries asked name points =
-      by_goes (role_outcome asked s (DefineRole name points)) (or_goes (first_refusal asked) (DefineRole name points) (λ none. (λ c p. p, stands.agrees)))
+      by_goes (role_outcome asked s (DefineRole name points)) (or_goes (first_refusal asked) (DefineRole name points) (λ none. (λ c p. p, λ cell. refl, stands.agrees)))
 
   pub remove_carries : (asked : List Questions) (name : List ℕ) → CarriesModule (role_outcome asked s (RemoveRole name)) s result reply later m0 m1
       → Carries (role_outcome asked s (RemoveRole name)) s result reply (tables later rows) m0 m1 d d
   remove_carries asked name =
-      by_goes (role_outcome asked s (RemoveRole name)) (or_goes (first_refusal asked) (RemoveRole name) (λ none. (λ c p. p, stands.agrees)))
+      by_goes (role_outcome asked s (RemoveRole name)) (or_goes (first_refusal asked) (RemoveRole name) (λ none. (λ c p. p, λ cell. refl, stands.agrees)))
 
 -- ---- a change of the store
 
@@ -115,22 +122,44 @@ create_roles : (v : Option Refusal) (s : State) (label : List ℕ) → (or_effec
 create_roles None s label = refl
 create_roles (Some r) s label = refl
 
+create_between : (v : Option Refusal) (s : State) (label : List ℕ) (cell : ℕ)
+    → (((or_effected v s (Create label)).between cell).registers ≡ s.registers) × (((or_effected v s (Create label)).between cell).roles ≡ s.roles)
+create_between None s label cell = (refl, refl)
+create_between (Some r) s label cell = (refl, refl)
+
+-- on the way through an effect the registers and the roles stay
+between_alike : (s : State) (e : Effect) (cell : ℕ) → ((state_between s e cell).registers ≡ s.registers) × ((state_between s e cell).roles ≡ s.roles)
+between_alike s (Show fields) cell = (refl, refl)
+between_alike s (Become m labels) cell = (refl, refl)
+between_alike s (DefineRole name points) cell = (refl, refl)
+between_alike s (RemoveRole name) cell = (refl, refl)
+between_alike s (Create label) cell = (refl, refl)
+between_alike s (Write label key fields) cell = (refl, refl)
+between_alike s (Delete label) cell = (refl, refl)
+between_alike s Reencipher cell = (refl, refl)
+
 module _ (s : State) (roles : List (Option Role)) (rows : List (Option Row)) (m d0 d1 : Medium) (result : Result (Unit {0}) Stop) (reply : List ℕ)
     (settled : IsSettled m) (stands : StandsInModule s roles m) where
   pub create_carries : (label : List ℕ) → CarriesStore (create_outcome s label) s result reply rows d0 d1
       → Carries (create_outcome s label) s result reply (tables roles rows) m m d0 d1
   create_carries label carries =
       store_carries (create_outcome s label) s result reply roles rows m d0 d1 carries
-      (create_registers (first_refusal (create_questions s label)) s label) (create_roles (first_refusal (create_questions s label)) s label) settled stands
+      (create_registers (first_refusal (create_questions s label)) s label) (create_roles (first_refusal (create_questions s label)) s label)
+      (create_between (first_refusal (create_questions s label)) s label) settled stands
 
   pub write_carries : (request : Request) (e : Effect) (place : ℕ) (token before : List ℕ) → IsWritten s e place token before
       → CarriesStore (effected s request e) s result reply rows d0 d1 → Carries (effected s request e) s result reply (tables roles rows) m m d0 d1
   write_carries request e place token before goes carries =
       store_carries (effected s request e) s result reply roles rows m d0 d1 carries
-      (ap (λ (x : Effect). (state_after s x).registers) goes.is) (ap (λ (x : Effect). (state_after s x).roles) goes.is) settled stands
+      (ap (λ (x : Effect). (state_after s x).registers) goes.is) (ap (λ (x : Effect). (state_after s x).roles) goes.is) (between_alike s e) settled stands
 
   pub delete_carries : (e : Effect) (place : ℕ) → IsDeleted s e place → CarriesStore (plainly s e) s result reply rows d0 d1
       → Carries (plainly s e) s result reply (tables roles rows) m m d0 d1
   delete_carries e place gone carries =
       store_carries (plainly s e) s result reply roles rows m d0 d1 carries
-      (ap (λ (x : Effect). (state_after s x).registers) gone.is) (ap (λ (x : Effect). (state_after s x).roles) gone.is) settled stands
+      (ap (λ (x : Effect). (state_after s x).registers) gone.is) (ap (λ (x : Effect). (state_after s x).roles) gone.is) (between_alike s e) settled stands
+
+  pub renew_carries : CarriesStore (plainly s Reencipher) s result reply rows d0 d1
+      → Carries (plainly s Reencipher) s result reply (tables roles rows) m m d0 d1
+  renew_carries carries =
+      store_carries (plainly s Reencipher) s result reply roles rows m d0 d1 carries refl refl (between_alike s Reencipher) settled stands

@@ -1,5 +1,5 @@
 -- An action on the registers is what the machine makes of it.
-use Rattle.std.proofs.Common.{◌≡◌, ℕ, Bool, true, false, List, [], ◌∷◌, Option, None, Some, Result, Ok, Err, codes, refl, sym, ap, ◌∙◌, subst, inl, inr, ⊎_elim}
+use Rattle.std.proofs.Common.{◌≡◌, ℕ, Bool, true, false, List, [], ◌∷◌, Option, Result, Ok, Err, codes, refl, sym, ap, ◌∙◌, subst, inl, inr, ⊎_elim}
 use Rattle.std.specs.Prelude.{◌⊎◌, ◌↔◌, ◌≤◌, IsTrue, IfOk, OnOk, OnErr, IsSome}
 use Rattle.slot_disk.specs.Medium.{Medium, Told, IsSettled, EachImage, From}
 use Rattle.slot_disk.specs.Faults.{Rose}
@@ -19,7 +19,7 @@ use Rattle.master_registers.specs.declared.registers.Registers.{Registers}
 use Rattle.script_buffers.specs.Replies.{Done, Text, spelled}
 use Rattle.cca_machine.specs.State.{State, IsModuleOf}
 use Rattle.cca_machine.specs.Verdict.{questions, first_refusal}
-use Rattle.cca_machine.specs.Act.{Outcome, Become, new_name}
+use Rattle.cca_machine.specs.Act.{Outcome, NoCell, OneCell, Become, new_name}
 use Rattle.cca_requests.specs.Serving.{StandsInModule, IsEither, SameBut, CarriesModule, IsSound, LeavesModule}
 use Rattle.cca_requests.specs.Deciding.{plainly, or_effected, state_name, change_stop, change_reply}
 use Rattle.cca_requests.proofs.Contents.{at_content, holds_at, roles_alike, sound}
@@ -43,7 +43,7 @@ module _ {A : Type 0} (medium : A → Medium) (old new : A) (s : State) (roles :
   either : (image : List ℕ) → From (HoldsEither s.registers next) (medium old) image → IsEither IsModuleOf s after image
   either image from = ⊎_elim
       (λ before. inl (record { registers = before; roles = kept }))
-      (λ changed. inr (record { registers = changed; roles = kept }))
+      (λ changed. inr (inl (record { registers = changed; roles = kept })))
       from.2.stands
     where
       kept : StandsForRoles image s.roles
@@ -54,9 +54,9 @@ module _ {A : Type 0} (medium : A → Medium) (old new : A) (s : State) (roles :
   on_the_way r changes = each_weaker (medium old) (medium new) (From (HoldsEither s.registers next) (medium old)) (IsEither IsModuleOf s after) changes.moments either
 
   outside : (r : Result Registers RegisterFault) → ChangesModule s.registers next (medium old) (medium new) r
-      → EachImage (medium old) (medium new) (From (SameBut (Some 0)) (medium old))
+      → EachImage (medium old) (medium new) (From (SameBut (OneCell 0)) (medium old))
   outside r changes =
-      each_weaker (medium old) (medium new) (From (HoldsEither s.registers next) (medium old)) (From (SameBut (Some 0)) (medium old)) changes.moments
+      each_weaker (medium old) (medium new) (From (HoldsEither s.registers next) (medium old)) (From (SameBut (OneCell 0)) (medium old)) changes.moments
       (λ image from. (from.0, from.1, record { outside = from.2.outside; others = from.2.others; untouched = from.2.untouched }))
 
   carried : (r : Result Registers RegisterFault) (reply : List ℕ) → ChangesModule s.registers next (medium old) (medium new) r → IfOk r (λ now. Loaded next now bench)
@@ -124,7 +124,7 @@ module _ {A : Type 0} (medium : A → Medium) (old new : A) (s : State) (roles :
 
   -- where no cell is written, no device is called
   pub still_as : (wrong same : Bool) (r : Result Registers RegisterFault) → ((r ≡ Err RegisterState) ↔ IsTrue wrong) → ((r ≡ Err SamePattern) ↔ IsTrue same)
-      → WhenRefused r (new ≡ old) → (outcome_by wrong same s next labels).module_cell ≡ None → new ≡ old
+      → WhenRefused r (new ≡ old) → (outcome_by wrong same s next labels).module_cells ≡ NoCell → new ≡ old
   still_as true same r state pattern untouched none = subst (λ (x : Result Registers RegisterFault). WhenRefused x (new ≡ old)) (state.1 refl) untouched
   still_as false true r state pattern untouched none = subst (λ (x : Result Registers RegisterFault). WhenRefused x (new ≡ old)) (pattern.1 refl) untouched
   still_as false false r state pattern untouched none = cc none

@@ -1,6 +1,6 @@
 -- A key that is delivered, and a key that goes into a record.
 use Rattle.std.proofs.Common.{◌≡◌, ◌≤◌, ℕ, true, false, List, [], length, Option, None, Some, refl, sym, ap, subst, arith}
-use Rattle.std.specs.Prelude.{Bool, IsSome, IsTrue, is_some, ◌||◌}
+use Rattle.std.specs.Prelude.{Bool, IsSome, IsTrue, ◌||◌}
 use Rattle.key_cells.specs.Bench.{Bench}
 use Rattle.key_records.proofs.BodyLaws.{label_short}
 use Rattle.key_records.specs.Directory.{label_at}
@@ -53,6 +53,7 @@ module _ (rows : List (Option Row)) (place : Option ℕ) (token : List ℕ) (hel
     size,
   )
   delivery_ready held bench (code.Delete other) reply delivery key size = absurd delivery
+  delivery_ready held bench code.Reencipher reply delivery key size = absurd delivery
 
 pub either_left : (a b : Bool) → IsTrue a → IsTrue (a || b)
 either_left true b is = refl

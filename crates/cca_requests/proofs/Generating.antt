@@ -1,5 +1,5 @@
 -- Keys that are generated: their rules, and what is left with the random bytes that were drawn.
-use Rattle.std.proofs.Common.{◌≡◌, ◌<◌, ℕ, Bool, true, false, List, [], ◌∷◌, length, Option, None, Some, refl, sym, ap, ◌∙◌, subst, codes, arith}
+use Rattle.std.proofs.Common.{◌≡◌, ◌<◌, ℕ, Bool, true, false, List, [], length, Option, None, Some, refl, sym, ap, ◌∙◌, subst, codes, arith}
 use Rattle.std.specs.Prelude.{IsSome, bytes_eq, if◌then◌else◌}
 use Rattle.std.specs.Borrow.{Bor}
 use Rattle.std.specs.Io.KnownBytes.{Consumes}
@@ -143,6 +143,7 @@ delivered_or s v e (code.RemoveRole name) reply none delivered = absurd delivere
 delivered_or s v e (code.Create label) reply none delivered = absurd delivered
 delivered_or s v e (code.Write place token) reply none delivered = (none, delivered)
 delivered_or s v e (code.Delete place) reply none delivered = absurd delivered
+delivered_or s v e code.Reencipher reply none delivered = absurd delivered
 
 module _ (s : State) (v : Option Refusal) (make : List ℕ → Effect) (count : ℕ) where
   -- a key of the random bytes that were drawn goes into a record, or into the reply
@@ -179,6 +180,7 @@ generated_decides s bench request before now reply e leaves = record { drawn = l
     by_effect (code.Create label) left = absurd left
     by_effect (code.Write place token) left = left
     by_effect (code.Delete place) left = absurd left
+    by_effect code.Reencipher left = absurd left
 
 -- a verb that draws nothing, and delivers a key
 pub delivered_decides : (s : State) (bench : Bench) (request : Request) (e : CodeEffect) (reply : List ℕ) (left : Option (List ℕ))

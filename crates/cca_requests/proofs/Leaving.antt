@@ -6,9 +6,10 @@ use Rattle.cca_roles.specs.declared.roles.Role.{Role}
 use Rattle.key_records.specs.StoreStands.{HoldsRows}
 use Rattle.key_records.specs.declared.rows.Row.{Row}
 use Rattle.line_service.specs.Devices.{DiskLeft}
-use Rattle.line_service.specs.declared.stops.Device.TheVariants.{Module}
+use Rattle.line_service.specs.declared.stops.Device.TheVariants.{Module, Store}
 use Rattle.line_service.specs.declared.stops.Stop.{Stop}
-use Rattle.line_service.specs.declared.stops.Stop.TheVariants.{ModuleFault, StoreFault, Damaged}
+use Rattle.line_service.specs.declared.stops.Stop.TheVariants.{ReadFault, WriteFault, EntropyFault, ModuleFault, StoreFault, Damaged, InputLimit}
+use Rattle.cca_requests.specs.Judging.{IsStoreStop}
 use Rattle.cca_requests.specs.Serving.{Tables, tables, Span, IsSound, IsLoadedStop, LeavesModule, LeavesStore, Leaves}
 
 abbrev pub span : Medium → Medium → ℕ → ℕ → Medium → Medium → ℕ → ℕ → Span
@@ -48,7 +49,8 @@ still_left m d m_count d_count reply t settled_module settled_store sound holds 
   sound = sound;
   holds = holds;
   silent = tt;
-  memory = tt;
+  roles = tt;
+  labels = tt;
   stops = tt;
 }
 
@@ -59,27 +61,30 @@ never_store : (result : Result (Unit {0}) Stop) → IfErr result (λ stop. stop 
 never_store (Ok u) stops is = cc is
 never_store (Err stop) stops is = let no : error ModuleFault ≡ Err StoreFault = ap error (sym stops) ∙ is in cc no
 
-never_module : (result : Result (Unit {0}) Stop) → IfErr result (λ stop. stop ≡ StoreFault) → result ≡ Err ModuleFault → ⊥
-never_module (Ok u) stops is = cc is
-never_module (Err stop) stops is = let no : error StoreFault ≡ Err ModuleFault = ap error (sym stops) ∙ is in cc no
+never_module : (result : Result (Unit {0}) Stop) → IfErr result IsStoreStop → result ≡ Err ModuleFault → ⊥
+never_module result stops is = subst (λ (r : Result (Unit {0}) Stop). IfErr r IsStoreStop) is stops
 
 module_stop : (result : Result (Unit {0}) Stop) → IfErr result (λ stop. stop ≡ ModuleFault) → IfErr result IsLoadedStop
 module_stop (Ok u) stops = tt
 module_stop (Err stop) stops = subst IsLoadedStop (sym stops) tt
 
-store_stop : (result : Result (Unit {0}) Stop) → IfErr result (λ stop. stop ≡ StoreFault) → IfErr result IsLoadedStop
+loaded_stop : (stop : Stop) → IsStoreStop stop → IsLoadedStop stop
+loaded_stop StoreFault stops = tt
+loaded_stop (Damaged Store cell) stops = stops
+loaded_stop (Damaged Module cell) stops = absurd stops
+loaded_stop EntropyFault stops = absurd stops
+loaded_stop ModuleFault stops = absurd stops
+loaded_stop ReadFault stops = absurd stops
+loaded_stop WriteFault stops = absurd stops
+loaded_stop InputLimit stops = absurd stops
+
+store_stop : (result : Result (Unit {0}) Stop) → IfErr result IsStoreStop → IfErr result IsLoadedStop
 store_stop (Ok u) stops = tt
-store_stop (Err stop) stops = subst IsLoadedStop (sym stops) tt
+store_stop (Err stop) stops = loaded_stop stop stops
 
-known_roles : (result : Result (Unit {0}) Stop) (roles later : List (Option Role)) (rows : List (Option Row)) → OnErr result (later ≡ roles)
-    → OnErr result (tables later rows ≡ tables roles rows)
-known_roles (Ok u) roles later rows same = tt
-known_roles (Err stop) roles later rows same = ap (λ (rs : List (Option Role)). tables rs rows) same
-
-known_rows : (result : Result (Unit {0}) Stop) (roles : List (Option Role)) (rows later : List (Option Row)) → OnErr result (later ≡ rows)
-    → OnErr result (tables roles later ≡ tables roles rows)
-known_rows (Ok u) roles rows later same = tt
-known_rows (Err stop) roles rows later same = ap (λ (rs : List (Option Row)). tables roles rs) same
+err_always : {P : Type 0} (result : Result (Unit {0}) Stop) → P → OnErr result P
+err_always (Ok u) p = tt
+err_always (Err stop) p = p
 
 module _ (result : Result (Unit {0}) Stop) (reply : List ℕ) where
   -- of the module alone
@@ -94,7 +99,8 @@ module _ (result : Result (Unit {0}) Stop) (reply : List ℕ) where
     sound = left.sound;
     holds = ok_always result holds;
     silent = left.silent;
-    memory = known_roles result roles later rows left.memory;
+    roles = left.memory;
+    labels = err_always result refl;
     stops = module_stop result left.stops;
   }
 
@@ -110,7 +116,8 @@ module _ (result : Result (Unit {0}) Stop) (reply : List ℕ) where
     sound = ok_always result sound;
     holds = left.holds;
     silent = left.silent;
-    memory = known_rows result roles rows later left.memory;
+    roles = err_always result refl;
+    labels = left.memory;
     stops = store_stop result left.stops;
   }
 

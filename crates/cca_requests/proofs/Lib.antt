@@ -12,6 +12,7 @@ mod Leaving
 mod ListedLabels
 mod Points
 mod Registers
+mod Renewing
 mod RoleChanging
 pub mod Serving
 mod SetRules

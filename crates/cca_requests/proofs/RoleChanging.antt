@@ -1,5 +1,5 @@
 -- A change of the roles is what the machine makes of it.
-use Rattle.std.proofs.Common.{◌≡◌, ◌+◌, ℕ, Bool, true, false, List, [], ◌∷◌, Option, None, Some, Result, Ok, Err, codes, refl, sym, ap, ◌∙◌, subst, inl, inr, ⊎_elim}
+use Rattle.std.proofs.Common.{◌≡◌, ◌+◌, ℕ, Bool, true, false, List, [], ◌∷◌, Option, Result, Ok, Err, codes, refl, sym, ap, ◌∙◌, subst, inl, inr, ⊎_elim}
 use Rattle.std.specs.Prelude.{◌⊎◌, ◌↔◌, ◌≤◌, IsTrue, OnOk, OnErr, IfErr}
 use Rattle.slot_disk.specs.Faults.{Rose}
 use Rattle.slot_disk.specs.Medium.{Medium, Told, IsSettled, EachImage, From}
@@ -17,7 +17,7 @@ use Rattle.line_service.specs.declared.stops.Stop.{Stop}
 use Rattle.line_service.specs.declared.stops.Stop.TheVariants.{ModuleFault}
 use Rattle.cca_machine.specs.State.{State, IsModuleOf}
 use Rattle.cca_machine.specs.Verdict.{questions}
-use Rattle.cca_machine.specs.Act.{Effect, Outcome}
+use Rattle.cca_machine.specs.Act.{Effect, NoCell, OneCell, Outcome}
 use Rattle.cca_requests.specs.Serving.{StandsInModule, IsEither, SameBut, CarriesModule, IsSound, LeavesModule}
 use Rattle.cca_requests.specs.Deciding.{plainly, role_outcome, role_stop, role_reply}
 use Rattle.cca_requests.proofs.Contents.{at_content, holds_at, registers_alike, sound}
@@ -25,7 +25,7 @@ use Rattle.cca_requests.proofs.Serving.{still_module, told_some, told_before}
 
 -- what comes of a change of one place that no rule refuses
 abbrev pub changed_outcome : State → ℕ → List (Option Role) → Outcome
-changed_outcome s place next = record { state = record s { roles = next }; reply = Done []; module_cell = Some (place + 1); store_cell = None; between = λ k. s }
+changed_outcome s place next = record { state = record s { roles = next }; reply = Done []; module_cells = OneCell (place + 1); store_cells = NoCell; between = λ cell. s }
 
 -- what comes of it, by whether rule 30 is broken
 abbrev outcome_by : Bool → State → Effect → Outcome
@@ -54,7 +54,7 @@ module _ {A : Type 0} (medium : A → Medium) (old new : A) (s : State) (before 
   either : (image : List ℕ) → From (HoldsEither (place + 1) s.roles next) (medium old) image → IsEither IsModuleOf s after image
   either image from = ⊎_elim
       (λ unchanged. inl (record { registers = kept; roles = unchanged }))
-      (λ changed. inr (record { registers = kept; roles = changed }))
+      (λ changed. inr (inl (record { registers = kept; roles = changed })))
       from.2.stands
     where
       kept : StandsForMasters image s.registers
@@ -64,9 +64,9 @@ module _ {A : Type 0} (medium : A → Medium) (old new : A) (s : State) (before 
   on_the_way r changes = each_weaker (medium old) (medium new) (From (HoldsEither (place + 1) s.roles next) (medium old)) (IsEither IsModuleOf s after) changes.moments either
 
   outside : (r : Result (Unit {0}) RoleFault) → ChangesRoles place s.roles next (medium old) (medium new) r
-      → EachImage (medium old) (medium new) (From (SameBut (Some (place + 1))) (medium old))
+      → EachImage (medium old) (medium new) (From (SameBut (OneCell (place + 1))) (medium old))
   outside r changes =
-      each_weaker (medium old) (medium new) (From (HoldsEither (place + 1) s.roles next) (medium old)) (From (SameBut (Some (place + 1))) (medium old))
+      each_weaker (medium old) (medium new) (From (HoldsEither (place + 1) s.roles next) (medium old)) (From (SameBut (OneCell (place + 1))) (medium old))
       changes.moments (λ image from. (from.0, from.1, record { outside = from.2.outside; others = from.2.others; untouched = from.2.untouched }))
 
   done : (u : Unit {0}) (reply : List ℕ) → ChangesRoles place s.roles next (medium old) (medium new) (Ok u) → now ≡ next → reply ≡ spelled (Done [])
@@ -143,10 +143,10 @@ module _ {A : Type 0} (medium : A → Medium) (old new : A) (s : State) (before 
 
   -- where no cell is written, no device is called
   pub role_still_as : (refuses : Bool) (r : Result (Unit {0}) RoleFault) → ((r ≡ Err full) ↔ IsTrue refuses) → (r ≡ Err full → new ≡ old)
-      → (outcome_by refuses s e).module_cell ≡ None → new ≡ old
+      → (outcome_by refuses s e).module_cells ≡ NoCell → new ≡ old
   role_still_as true r rule untouched none = untouched (rule.1 refl)
   role_still_as false r rule untouched none =
-      let no : Some (place + 1) ≡ None = sym (ap (λ (o : Outcome). o.module_cell) e_is) ∙ none in cc no
+      let no : OneCell (place + 1) ≡ NoCell = sym (ap (λ (o : Outcome). o.module_cells) e_is) ∙ none in cc no
 
 -- ---- whatever the module holds
 

@@ -12,7 +12,7 @@ use Rattle.verb_rules.specs.Keys.{keys_of}
 use Rattle.verb_script.specs.Grammar.{Request}
 use Rattle.cca_machine.specs.State.{State, IsModuleOf, IsStoreOf}
 use Rattle.cca_machine.specs.Verdict.{Refusal, verdict}
-use Rattle.cca_machine.specs.Act.{Outcome, draws, or_act, performed}
+use Rattle.cca_machine.specs.Act.{Outcome, Cells, NoCell, OneCell, OldCells, draws, or_act, performed}
 use Rattle.cca_machine.specs.Lines.{drawn_where, taken_by}
 use Rattle.line_service.specs.declared.stops.Stop.TheVariants.{EntropyFault}
 use Rattle.line_service.specs.Answering.{Holds, Unwritten}
@@ -47,9 +47,10 @@ same_but_cell cell c = record {
   untouched = λ k h. refl;
 }
 
-same_but : (cell : Option ℕ) (c : List ℕ) → SameBut cell c c
-same_but None c = refl
-same_but (Some cell) c = same_but_cell cell c
+same_but : (cells : Cells) (c : List ℕ) → SameBut cells c c
+same_but NoCell c = refl
+same_but (OneCell cell) c = same_but_cell cell c
+same_but (OldCells labels) c = record { size = refl; same = λ k h. refl }
 
 -- a call that only reads a settled disk which holds P
 pub read_images : (m0 m1 : Medium) (P Q : List ℕ → Type 0) → IsSettled m0 → Holds m0 P → Keeps m0 m1 → ((c : List ℕ) → P c → Q c) → EachImage m0 m1 Q
@@ -60,9 +61,9 @@ read_images m0 m1 P Q settled holds keeps weaker =
 pub still_images : (m : Medium) (P Q : List ℕ → Type 0) → IsSettled m → Holds m P → ((c : List ℕ) → P c → Q c) → EachImage m m Q
 still_images m P Q settled holds weaker = read_images m m P Q settled holds (keeps_still m) weaker
 
-pub read_outside : (cell : Option ℕ) (m0 m1 : Medium) → IsSettled m0 → Keeps m0 m1 → EachImage m0 m1 (From (SameBut cell) m0)
-read_outside cell m0 m1 settled keeps =
-    each_weaker m0 m1 m0.images (From (SameBut cell) m0) keeps.moments (λ c image. (c, settled.only c image, same_but cell c))
+pub read_outside : (cells : Cells) (m0 m1 : Medium) → IsSettled m0 → Keeps m0 m1 → EachImage m0 m1 (From (SameBut cells) m0)
+read_outside cells m0 m1 settled keeps =
+    each_weaker m0 m1 m0.images (From (SameBut cells) m0) keeps.moments (λ c image. (c, settled.only c image, same_but cells c))
 
 pub holds_kept : (m0 m1 : Medium) (P : List ℕ → Type 0) → Keeps m0 m1 → Holds m0 P → Holds m1 P
 holds_kept m0 m1 P keeps holds = record { image = holds.image; told = keeps.content ∙ holds.told; has = holds.has }
@@ -73,20 +74,20 @@ after_read : (m0 m1 m2 : Medium) (P Q : List ℕ → Type 0) → IsSettled m0 �
 after_read m0 m1 m2 P Q settled holds keeps weaker moments =
     goes_on m0 m1 m2 Q Q Q (read_images m0 m1 P Q settled holds keeps weaker) moments (λ c q. q) (λ c q. q)
 
-outside_after_read : (cell : Option ℕ) (m0 m1 m2 : Medium) → IsSettled m0 → Keeps m0 m1 → EachImage m1 m2 (From (SameBut cell) m1) → EachImage m0 m2 (From (SameBut cell) m0)
-outside_after_read cell m0 m1 m2 settled keeps outside =
-    goes_on m0 m1 m2 (From (SameBut cell) m0) (From (SameBut cell) m1) (From (SameBut cell) m0)
-    (read_outside cell m0 m1 settled keeps) outside (λ c p. p) (λ c from. (from.0, sym keeps.content ∙ from.1, from.2))
+outside_after_read : (cells : Cells) (m0 m1 m2 : Medium) → IsSettled m0 → Keeps m0 m1 → EachImage m1 m2 (From (SameBut cells) m1) → EachImage m0 m2 (From (SameBut cells) m0)
+outside_after_read cells m0 m1 m2 settled keeps outside =
+    goes_on m0 m1 m2 (From (SameBut cells) m0) (From (SameBut cells) m1) (From (SameBut cells) m0)
+    (read_outside cells m0 m1 settled keeps) outside (λ c p. p) (λ c from. (from.0, sym keeps.content ∙ from.1, from.2))
 
 unwritten_after_read : (m0 m1 m2 : Medium) → Keeps m0 m1 → EachImage m1 m2 m1.images → EachImage m0 m2 m0.images
 unwritten_after_read m0 m1 m2 keeps later = goes_on m0 m1 m2 m0.images m1.images m0.images keeps.moments later (λ c p. p) (λ c p. keeps.images c p)
 
 -- where no cell is written, nothing is
-pub unwritten : (cell : Option ℕ) (m0 m1 : Medium) → cell ≡ None → EachImage m0 m1 (From (SameBut cell) m0) → EachImage m0 m1 m0.images
-unwritten cell m0 m1 none outside =
-    each_weaker m0 m1 (From (SameBut cell) m0) m0.images outside
+pub unwritten : (cells : Cells) (m0 m1 : Medium) → cells ≡ NoCell → EachImage m0 m1 (From (SameBut cells) m0) → EachImage m0 m1 m0.images
+unwritten cells m0 m1 none outside =
+    each_weaker m0 m1 (From (SameBut cells) m0) m0.images outside
     (λ c from.
-    let same : c ≡ from.0 = subst (λ (n : Option ℕ). SameBut n from.0 c) none from.2 in
+    let same : c ≡ from.0 = subst (λ (n : Cells). SameBut n from.0 c) none from.2 in
     subst m0.images (sym same) (m0.is_image from.0 from.1))
 
 -- ---- what stands
@@ -118,7 +119,7 @@ module _ (o : Outcome) (s : State) (result : Result (Unit {0}) Stop) (reply : Li
   still_module roles m same text stops settled stands = record {
     done = done_at result text;
     moments = still_images m (IsModuleOf s) (IsEither IsModuleOf s o) settled stands.in_module (λ c p. inl p);
-    outside = read_outside o.module_cell m m settled (keeps_still m);
+    outside = read_outside o.module_cells m m settled (keeps_still m);
     stops = stops;
   }
     where
@@ -131,7 +132,7 @@ module _ (o : Outcome) (s : State) (result : Result (Unit {0}) Stop) (reply : Li
   still_store rows d same text stops settled stands = record {
     done = done_at result text;
     moments = still_images d (IsStoreOf s) (IsEither IsStoreOf s o) settled stands.in_store (λ c p. inl p);
-    outside = read_outside o.store_cell d d settled (keeps_still d);
+    outside = read_outside o.store_cells d d settled (keeps_still d);
     stops = stops;
   }
     where
@@ -149,8 +150,8 @@ module _ (o : Outcome) (s : State) (result : Result (Unit {0}) Stop) (reply : Li
       still_images m (IsModuleOf s) (IsModuleOf s) settled_module stands.on_module.in_module (λ c p. p),
       still_images d (IsStoreOf s) (IsStoreOf s) settled_store stands.on_store.in_store (λ c p. p),
     ));
-    module_outside = read_outside o.module_cell m m settled_module (keeps_still m);
-    store_outside = read_outside o.store_cell d d settled_store (keeps_still d);
+    module_outside = read_outside o.module_cells m m settled_module (keeps_still m);
+    store_outside = read_outside o.store_cells d d settled_store (keeps_still d);
     stops = stops;
   }
     where
@@ -160,15 +161,18 @@ module _ (o : Outcome) (s : State) (result : Result (Unit {0}) Stop) (reply : Li
 
   -- the module alone was written: what stood for the labels still does
   pub module_carries : (roles : List (Option Role)) (rows : List (Option Row)) (m0 m1 d : Medium) → CarriesModule o s result reply roles m0 m1
-      → ((c : List ℕ) → IsStoreOf s c → IsStoreOf o.state c) → Agrees (keys_of o.state.registers) rows o.state.labels
+      → ((c : List ℕ) → IsStoreOf s c → IsStoreOf o.state c) → ((cell : ℕ) → o.between cell ≡ s) → Agrees (keys_of o.state.registers) rows o.state.labels
       → IsSettled d → StandsInStore s rows d → Carries o s result reply (tables roles rows) m0 m1 d d
-  module_carries roles rows m0 m1 d carries goes agrees settled stands = record {
+  module_carries roles rows m0 m1 d carries goes between agrees settled stands = record {
     done = done_at result carries.done;
     on_module = carries.moments;
     on_store = still_images d (IsStoreOf s) (IsEither IsStoreOf s o) settled stands.in_store (λ c p. inl p);
-    one_disk = inr (inl (still_images d (IsStoreOf s) (IsStoreOf s) settled stands.in_store (λ c p. p), goes));
+    one_disk = inr (inl (
+      still_images d (IsStoreOf s) (IsStoreOf s) settled stands.in_store (λ c p. p),
+      λ c p. (goes c p, λ cell. subst (λ (t : State). IsStoreOf t c) (sym (between cell)) p),
+    ));
     module_outside = carries.outside;
-    store_outside = read_outside o.store_cell d d settled (keeps_still d);
+    store_outside = read_outside o.store_cells d d settled (keeps_still d);
     stops = carries.stops;
   }
     where
@@ -188,19 +192,26 @@ module _ (o : Outcome) (s : State) (result : Result (Unit {0}) Stop) (reply : Li
   -- the store alone was written: what stood for the registers and the roles still does
   pub store_carries : (roles : List (Option Role)) (rows : List (Option Row)) (m d0 d1 : Medium) → CarriesStore o s result reply rows d0 d1
       → o.state.registers ≡ s.registers → o.state.roles ≡ s.roles
+      → ((cell : ℕ) → ((o.between cell).registers ≡ s.registers) × ((o.between cell).roles ≡ s.roles))
       → IsSettled m → StandsInModule s roles m → Carries o s result reply (tables roles rows) m m d0 d1
-  store_carries roles rows m d0 d1 carries registers same_roles settled stands = record {
+  store_carries roles rows m d0 d1 carries registers same_roles between settled stands = record {
     done = done_at result carries.done;
     on_module = still_images m (IsModuleOf s) (IsEither IsModuleOf s o) settled stands.in_module (λ c p. inl p);
     on_store = carries.moments;
-    one_disk = inl (still_images m (IsModuleOf s) (IsModuleOf s) settled stands.in_module (λ c p. p), goes);
-    module_outside = read_outside o.module_cell m m settled (keeps_still m);
+    one_disk = inl (
+      still_images m (IsModuleOf s) (IsModuleOf s) settled stands.in_module (λ c p. p),
+      λ c p. (goes c p, λ cell. same_module (o.between cell) (between cell).0 (between cell).1 c p),
+    );
+    module_outside = read_outside o.module_cells m m settled (keeps_still m);
     store_outside = carries.outside;
     stops = carries.stops;
   }
     where
+      same_module : (t : State) → t.registers ≡ s.registers → t.roles ≡ s.roles → (c : List ℕ) → IsModuleOf s c → IsModuleOf t c
+      same_module t registers_are roles_are c p = record { registers = rw registers_are p.registers; roles = rw roles_are p.roles }
+
       goes : (c : List ℕ) → IsModuleOf s c → IsModuleOf o.state c
-      goes c p = record { registers = rw registers p.registers; roles = rw same_roles p.roles }
+      goes = same_module o.state registers same_roles
 
       done_at : (r : Result (Unit {0}) Stop) → OnOk r (IsDoneInStore o reply rows d1) → OnOk r (IsDone o reply (tables roles rows) m d1)
       done_at (Ok u) done = record {
@@ -229,8 +240,8 @@ module _ (o : Outcome) (s : State) (result : Result (Unit {0}) Stop) (reply : Li
         (λ none. inr (inr (of_module none.0, of_store none.1)))
         rest)
         carries.one_disk;
-    module_outside = outside_after_read o.module_cell m0 m1 m2 settled_module keeps_module carries.module_outside;
-    store_outside = outside_after_read o.store_cell d0 d1 d2 settled_store keeps_store carries.store_outside;
+    module_outside = outside_after_read o.module_cells m0 m1 m2 settled_module keeps_module carries.module_outside;
+    store_outside = outside_after_read o.store_cells d0 d1 d2 settled_store keeps_store carries.store_outside;
     stops = carries.stops;
   }
     where
@@ -250,10 +261,22 @@ module _ (o : Outcome) (s : State) (result : Result (Unit {0}) Stop) (reply : Li
   pub pairs_of : (t : Tables) (m0 m1 d0 d1 : Medium) → Carries o s result reply t m0 m1 d0 d1 → EachPair m0 m1 d0 d1 (ArePair s o)
   pairs_of t m0 m1 d0 d1 carries = ⊎_elim
       (λ rests. each_pair m0 m1 d0 d1 (IsModuleOf s) (IsEither IsStoreOf s o) (ArePair s o) rests.0 carries.on_store
-      (λ c d left right. ⊎_elim (λ before. inl (left, before)) (λ after. inr (rests.1 c left, after)) right))
+      (λ c d left right. ⊎_elim
+      (λ before. inl (left, before))
+      (λ later. ⊎_elim
+      (λ after. inr (inl ((rests.1 c left).0, after)))
+      (λ between. inr (inr (between.0, between.1, ((rests.1 c left).1 between.0, between.2))))
+      later)
+      right))
       (λ rest. ⊎_elim
       (λ rests. each_pair m0 m1 d0 d1 (IsEither IsModuleOf s o) (IsStoreOf s) (ArePair s o) carries.on_module rests.0
-      (λ c d left right. ⊎_elim (λ before. inl (before, right)) (λ after. inr (after, rests.1 d right)) left))
+      (λ c d left right. ⊎_elim
+      (λ before. inl (before, right))
+      (λ later. ⊎_elim
+      (λ after. inr (inl (after, (rests.1 d right).0)))
+      (λ between. inr (inr (between.0, between.1, (between.2, (rests.1 d right).1 between.0))))
+      later)
+      left))
       (λ none. each_pair m0 m1 d0 d1 (IsModuleOf s) (IsStoreOf s) (ArePair s o) none.0 none.1 (λ c d left right. inl (left, right)))
       rest)
       carries.one_disk
@@ -311,8 +334,8 @@ stopped_serves s request stop reply before t m0 m1 d0 d1 left now fault permitte
         read_images m0 m1 (IsModuleOf s) (IsModuleOf s) settled_module in_module keeps_module (λ c p. p),
         read_images d0 d1 (IsStoreOf s) (IsStoreOf s) settled_store in_store keeps_store (λ c p. p),
       ));
-      module_outside = read_outside o.module_cell m0 m1 settled_module keeps_module;
-      store_outside = read_outside o.store_cell d0 d1 settled_store keeps_store;
+      module_outside = read_outside o.module_cells m0 m1 settled_module keeps_module;
+      store_outside = read_outside o.store_cells d0 d1 settled_store keeps_store;
       stops = fault;
     } in
     let nothing : Unwritten (world m0 d0 left) (world m1 d1 now) = record { on_module = keeps_module.moments; on_store = keeps_store.moments } in
@@ -363,7 +386,7 @@ serves_after_reads s request result reply before t m0 m1 m2 d0 d1 d2 left now se
 
 -- a refusal writes no cell
 pub refused_cells : (s : State) (drawn : List ℕ) (request : Request) (r : Refusal) → verdict s request ≡ Some r
-    → ((performed s drawn request).module_cell ≡ None) × ((performed s drawn request).store_cell ≡ None)
+    → ((performed s drawn request).module_cells ≡ NoCell) × ((performed s drawn request).store_cells ≡ NoCell)
 refused_cells s drawn request r is =
     let by = performed_by s drawn request (Some r) is in
-    (ap (λ (o : Outcome). o.module_cell) by, ap (λ (o : Outcome). o.store_cell) by)
+    (ap (λ (o : Outcome). o.module_cells) by, ap (λ (o : Outcome). o.store_cells) by)

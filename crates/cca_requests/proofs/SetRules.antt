@@ -89,3 +89,4 @@ set_decided s bench values (code.RemoveRole name) reply decided = absurd decided
 set_decided s bench values (code.Create label) reply decided = absurd decided
 set_decided s bench values (code.Write place token) reply decided = absurd decided
 set_decided s bench values (code.Delete place) reply decided = absurd decided
+set_decided s bench values code.Reencipher reply decided = absurd decided

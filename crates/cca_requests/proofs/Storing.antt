@@ -21,7 +21,7 @@ use Rattle.line_service.specs.declared.stops.Stop.TheVariants.{StoreFault}
 use Rattle.verb_rules.specs.Keys.{keys_of}
 use Rattle.cca_machine.specs.State.{State, IsStoreOf}
 use Rattle.cca_machine.specs.Verdict.{refusal, questions, first_refusal}
-use Rattle.cca_machine.specs.Act.{Create, Outcome, refused}
+use Rattle.cca_machine.specs.Act.{Create, Cells, OneCell, Outcome, refused}
 use Rattle.cca_requests.specs.Serving.{StandsInStore, IsEither, SameBut, CarriesStore, LeavesStore}
 use Rattle.cca_requests.specs.Deciding.{IsRecorded, or_effected, record_stop, record_reply}
 use Rattle.cca_requests.proofs.Contents.{at_content, holds_at}
@@ -45,15 +45,15 @@ pub known_directory : (s : State) (rows : List (Option Row)) (d : Medium) → St
 known_directory s rows d stands = same_directory (keys_of s.registers) rows s.labels stands.agrees
 
 module _ (d0 d1 : Medium) (s : State) (rows later : List (Option Row)) (stands : StandsInStore s rows d0)
-    (cell : ℕ) (next : List (Option Entry)) (o : Outcome) (state_is : o.state ≡ record s { labels = next }) (cell_is : o.store_cell ≡ Some cell) where
+    (cell : ℕ) (next : List (Option Entry)) (o : Outcome) (state_is : o.state ≡ record s { labels = next }) (cell_is : o.store_cells ≡ OneCell cell) where
   either : (image : List ℕ) → From (HoldsEither (keys_of s.registers) cell s.labels next) d0 image → IsEither IsStoreOf s o image
-  either image from = ⊎_elim (λ before. inl before) (λ after. inr (subst (λ (x : State). IsStoreOf x image) (sym state_is) after)) from.2.stands
+  either image from = ⊎_elim (λ before. inl before) (λ after. inr (inl (subst (λ (x : State). IsStoreOf x image) (sym state_is) after))) from.2.stands
 
-  outside : (image : List ℕ) → From (HoldsEither (keys_of s.registers) cell s.labels next) d0 image → From (SameBut o.store_cell) d0 image
+  outside : (image : List ℕ) → From (HoldsEither (keys_of s.registers) cell s.labels next) d0 image → From (SameBut o.store_cells) d0 image
   outside image from = (
     from.0,
     from.1,
-    subst (λ (n : Option ℕ). SameBut n from.0 image) (sym cell_is)
+    subst (λ (n : Cells). SameBut n from.0 image) (sym cell_is)
         (record { outside = from.2.outside; others = from.2.others; untouched = from.2.untouched }),
   )
 
@@ -63,7 +63,7 @@ module _ (d0 d1 : Medium) (s : State) (rows later : List (Option Row)) (stands :
   stored u reply changes text = record {
     done = record { reply_is = text; stands = subst (λ (x : State). StandsInStore x later d1) (sym state_is) after };
     moments = each_weaker d0 d1 (From (HoldsEither (keys_of s.registers) cell s.labels next) d0) (IsEither IsStoreOf s o) changes.moments either;
-    outside = each_weaker d0 d1 (From (HoldsEither (keys_of s.registers) cell s.labels next) d0) (From (SameBut o.store_cell) d0) changes.moments outside;
+    outside = each_weaker d0 d1 (From (HoldsEither (keys_of s.registers) cell s.labels next) d0) (From (SameBut o.store_cells) d0) changes.moments outside;
     stops = tt;
   }
     where
@@ -82,7 +82,7 @@ module _ (d0 d1 : Medium) (s : State) (rows later : List (Option Row)) (stands :
   failed fault reply changes = record {
     done = tt;
     moments = each_weaker d0 d1 (From (HoldsEither (keys_of s.registers) cell s.labels next) d0) (IsEither IsStoreOf s o) changes.moments either;
-    outside = each_weaker d0 d1 (From (HoldsEither (keys_of s.registers) cell s.labels next) d0) (From (SameBut o.store_cell) d0) changes.moments outside;
+    outside = each_weaker d0 d1 (From (HoldsEither (keys_of s.registers) cell s.labels next) d0) (From (SameBut o.store_cells) d0) changes.moments outside;
     stops = tt;
   }
 
@@ -129,8 +129,8 @@ module _ {A : Type 0} (medium : A → Medium) (old new : A) (s : State) (rows la
   abbrev after : Outcome
   after = created_by false false s label
 
-  cell_is : after.store_cell ≡ Some cell
-  cell_is = ap (λ d. Some (free_cell d)) (known_directory s rows (medium old) stands)
+  cell_is : after.store_cells ≡ OneCell cell
+  cell_is = ap (λ d. OneCell (free_cell d)) (known_directory s rows (medium old) stands)
 
   -- a rule refuses it
   refused_as : (rule : ℕ) → new ≡ old → later ≡ rows → reply ≡ spelled (Refused rule (codes "label"))
@@ -185,8 +185,8 @@ module _ (d0 d1 : Medium) (before now : ℕ) (rows later : List (Option Row)) (r
     told = told_before (IsReplacing cell bytes) d0 d1 replaces.replacing;
     holds = tt;
     silent = silent;
-    memory = memory;
-    stops = refl;
+    memory = ap row_directory memory;
+    stops = tt;
   }
 
 module _ {A : Type 0} (medium : A → Medium) (faults : A → ℕ) (old new : A) (rows later next : List (Option Row)) (reply : List ℕ) (cell : ℕ) (bytes : List ℕ)

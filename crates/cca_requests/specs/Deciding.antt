@@ -36,7 +36,7 @@ use Rattle.verb_rules.specs.Keys.{keys_of}
 use Rattle.verb_rules.specs.Rules.{rule_number}
 use Rattle.cca_machine.specs.State.{State, module_size, store_size}
 use Rattle.cca_machine.specs.Verdict.{Questions, Refusal, refusal, first_refusal, action_questions, set_questions, create_questions, define_questions, remove_questions, verb_verdict}
-use Rattle.cca_machine.specs.Act.{Effect, Show, Become, DefineRole, RemoveRole, Create, Write, Delete, Outcome, effect, draws, state_after, fields_after, cell_after, store_cell_after, refused}
+use Rattle.cca_machine.specs.Act.{Effect, Show, Become, DefineRole, RemoveRole, Create, Write, Delete, Reencipher, Outcome, effect, draws, state_after, state_between, fields_after, module_cells_after, store_cells_after, refused}
 use Rattle.cca_requests.specs.Serving.{Tables, StandsInModule, StandsInStore, Stands, HasDrawn}
 use Rattle.cca_requests.specs.declared.effects.Effect.{Effect as CodeEffect}
 use Rattle.cca_requests.specs.declared.effects.Effect.TheVariants as code
@@ -132,6 +132,7 @@ IsLeft s bench request v e (code.Create label) reply =
     (v ≡ first_refusal (create_questions s label)) × (e ≡ Create label) × WarnsNot s request
 IsLeft s bench request v e (code.Write place token) reply = (v ≡ None) × IsWritten s e place token reply
 IsLeft s bench request v e (code.Delete place) reply = (v ≡ None) × IsDeleted s e place × WarnsNot s request
+IsLeft s bench request v e code.Reencipher reply = (v ≡ None) × (e ≡ Reencipher) × WarnsNot s request
 
 -- it gives the verdict and the effect of the verb, with these random bytes
 abbrev pub IsDecided : State → Bench → List ℕ → Request → CodeEffect → List ℕ → Type 0
@@ -158,6 +159,7 @@ IsDelivered s e (code.RemoveRole name) reply = ⊥
 IsDelivered s e (code.Create label) reply = ⊥
 IsDelivered s e (code.Write place token) reply = IsWritten s e place token reply
 IsDelivered s e (code.Delete place) reply = ⊥
+IsDelivered s e code.Reencipher reply = ⊥
 
 -- the token of a second key, where there is one
 abbrev pub token2_fields : Option (List ℕ) → List Field
@@ -174,6 +176,7 @@ IsDelivery token place (code.RemoveRole name) = ⊥
 IsDelivery token place (code.Create label) = ⊥
 IsDelivery token place (code.Write other bytes) = (place ≡ Some other) × (bytes ≡ token)
 IsDelivery token place (code.Delete other) = ⊥
+IsDelivery token place code.Reencipher = ⊥
 
 -- SET is left to be carried out, or a rule refuses it
 abbrev pub IsSetDecided : State → CodeEffect → Type 0
@@ -185,6 +188,7 @@ IsSetDecided s (code.RemoveRole name) = ⊥
 IsSetDecided s (code.Create label) = ⊥
 IsSetDecided s (code.Write place token) = ⊥
 IsSetDecided s (code.Delete place) = ⊥
+IsSetDecided s code.Reencipher = ⊥
 
 -- a verb that shows these fields, or is refused with this verdict
 abbrev pub ShowsOr : Option Refusal → List Field → CodeEffect → List ℕ → Type 0
@@ -196,6 +200,7 @@ ShowsOr v fields (code.RemoveRole name) reply = ⊥
 ShowsOr v fields (code.Create label) reply = ⊥
 ShowsOr v fields (code.Write place token) reply = ⊥
 ShowsOr v fields (code.Delete place) reply = ⊥
+ShowsOr v fields code.Reencipher reply = ⊥
 
 -- the memory knows the label at this place
 abbrev pub IsHeldAt : List (Option Row) → ℕ → Type 0
@@ -212,6 +217,7 @@ IsReady held bench rows (code.Create label) reply = reply ≡ []
 IsReady held bench rows (code.Write place token) reply =
     IsHeldAt rows place × IsSome (denoted (keys_of (masters_in held bench)) token) × (length reply ≤ 69000)
 IsReady held bench rows (code.Delete place) reply = (reply ≡ []) × IsHeldAt rows place
+IsReady held bench rows code.Reencipher reply = (reply ≡ []) × IsSome held.current_pattern
 
 -- the effect writes the store
 abbrev pub WritesStore : CodeEffect → Type 0
@@ -223,15 +229,28 @@ WritesStore (code.RemoveRole name) = ⊥
 WritesStore (code.Create label) = ⊤
 WritesStore (code.Write place token) = ⊤
 WritesStore (code.Delete place) = ⊤
+WritesStore code.Reencipher = ⊤
+
+-- the effect goes through every label of the store
+abbrev pub GoesThrough : CodeEffect → Type 0
+GoesThrough (code.Refused _ name) = ⊥
+GoesThrough code.Shown = ⊥
+GoesThrough (code.Change action) = ⊥
+GoesThrough (code.DefineRole name points) = ⊥
+GoesThrough (code.RemoveRole name) = ⊥
+GoesThrough (code.Create label) = ⊥
+GoesThrough (code.Write place token) = ⊥
+GoesThrough (code.Delete place) = ⊥
+GoesThrough code.Reencipher = ⊤
 
 -- what comes of an effect without a warning
 abbrev pub plainly : State → Effect → Outcome
 plainly s e = record {
   state = state_after s e;
   reply = Done (fields_after s e);
-  module_cell = cell_after s e;
-  store_cell = store_cell_after s e;
-  between = λ k. s;
+  module_cells = module_cells_after s e;
+  store_cells = store_cells_after s e;
+  between = state_between s e;
 }
 
 abbrev pub or_effected : Option Refusal → State → Effect → Outcome

@@ -42,6 +42,7 @@ IsDeliveredOr s v e (code.RemoveRole name) reply = ⊥
 IsDeliveredOr s v e (code.Create label) reply = ⊥
 IsDeliveredOr s v e (code.Write place token) reply = (v ≡ None) × IsWritten s e place token reply
 IsDeliveredOr s v e (code.Delete place) reply = ⊥
+IsDeliveredOr s v e code.Reencipher reply = ⊥
 
 -- random bytes are drawn where no rule of the verb refuses the request, and the effect that is left is made with them
 pub record LeavesDrawn (s : State) (v : Option Refusal) (make : List ℕ → Effect) (count : ℕ) (before now : Option (List ℕ)) (reply : List ℕ) (e : CodeEffect) : Type 0 where

@@ -1,5 +1,5 @@
 -- What a request leaves of the disks, in a few records.
-use Rattle.std.specs.Prelude.{◌≡◌, ◌≢◌, ◌⊎◌, ◌≤◌, ◌<◌, ◌*◌, ℕ, List, [], length, slice_index, Option, Some, None, Result, Err, OnOk, OnErr, IfErr, IsSome, ⊤}
+use Rattle.std.specs.Prelude.{◌≡◌, ◌≢◌, ◌⊎◌, ◌≤◌, ◌<◌, ◌*◌, ℕ, List, [], length, slice_index, Option, Result, Err, OnOk, OnErr, IfErr, IsSome, ⊤}
 use Rattle.slot_disk.specs.Cells.{body, IsUntouched}
 use Rattle.slot_disk.specs.declared.cell.TheConstants.{CELL_LEN}
 use Rattle.slot_disk.specs.Medium.{Medium, Told, From, EachImage, EachPair}
@@ -9,9 +9,11 @@ use Rattle.script_buffers.specs.Replies.{spelled}
 use Rattle.cca_roles.specs.RolesStand.{StandsForRoles}
 use Rattle.cca_roles.specs.declared.roles.Role.{Role}
 use Rattle.key_records.specs.StoreStands.{Agrees, HoldsRows}
+use Rattle.key_records.specs.Entries.{row_directory}
 use Rattle.key_records.specs.declared.rows.Row.{Row}
 use Rattle.master_registers.specs.Masters.{Masters}
 use Rattle.master_registers.specs.RegisterBody.{StandsForMasters}
+use Rattle.reencipher.specs.Runs.{LeavesRest}
 use Rattle.line_service.specs.Answering.{Holds, Unwritten}
 use Rattle.line_service.specs.Devices.{DiskLeft}
 use Rattle.line_service.specs.Machine.{World}
@@ -21,7 +23,8 @@ use Rattle.line_service.specs.declared.stops.Stop.TheVariants.{ReadFault, WriteF
 use Rattle.verb_rules.specs.Keys.{keys_of}
 use Rattle.verb_script.specs.Grammar.{Request, Spells}
 use Rattle.cca_machine.specs.State.{State, IsModuleOf, IsStoreOf}
-use Rattle.cca_machine.specs.Act.{Outcome, performed}
+use Rattle.cca_requests.specs.Judging.{IsStoreStop}
+use Rattle.cca_machine.specs.Act.{Outcome, Cells, NoCell, OneCell, OldCells, performed}
 use Rattle.cca_machine.specs.Lines.{taken_by}
 use Rattle.std.specs.Io.KnownBytes.{Consumes}
 
@@ -54,13 +57,17 @@ pub record Stands (s : State) (t : Tables) (m d : Medium) : Type 0 where
 
 -- ---- an outcome, carried out
 
--- an image stands for the state before, or for the one after
-abbrev pub IsEither : (State → List ℕ → Type 0) → State → Outcome → List ℕ → Type 0
-IsEither Of s o image = Of s image ⊎ Of o.state image
+-- P holds of the state before or after, or of one between: where the labels below some cell are current
+abbrev pub IsAround : State → Outcome → (State → Type 0) → Type 0
+IsAround s o P = P s ⊎ (P o.state ⊎ ((cell : ℕ) × (cell ≤ 1024) × P (o.between cell)))
 
--- an image of the module with one of the store: both stand for the state before, or both for the one after
+-- an image stands for one of these states
+abbrev pub IsEither : (State → List ℕ → Type 0) → State → Outcome → List ℕ → Type 0
+IsEither Of s o image = IsAround s o (λ t. Of t image)
+
+-- an image of the module with one of the store: both stand for the same of these states
 abbrev pub ArePair : State → Outcome → List ℕ → List ℕ → Type 0
-ArePair s o c d = (IsModuleOf s c × IsStoreOf s d) ⊎ (IsModuleOf o.state c × IsStoreOf o.state d)
+ArePair s o c d = IsAround s o (λ t. IsModuleOf t c × IsStoreOf t d)
 
 -- new is old outside this cell, and in it but for the selector and the body that wasn't selected; every other cell selects
 -- the body that it did
@@ -69,10 +76,11 @@ pub record SameButCell (cell : ℕ) (old new : List ℕ) : Type 0 where
   pub others : (n : ℕ) → n ≢ cell → body new n ≡ body old n
   pub untouched : (k : ℕ) → IsUntouched old cell k → slice_index new k ≡ slice_index old k
 
--- where no cell is written, new is old
-abbrev pub SameBut : Option ℕ → List ℕ → List ℕ → Type 0
-SameBut None old new = new ≡ old
-SameBut (Some cell) old new = SameButCell cell old new
+-- new is old but for these cells; where no cell is written, new is old
+abbrev pub SameBut : Cells → List ℕ → List ℕ → Type 0
+SameBut NoCell old new = new ≡ old
+SameBut (OneCell cell) old new = SameButCell cell old new
+SameBut (OldCells labels) old new = LeavesRest labels 1024 old new
 
 -- a device failed
 abbrev pub IsFault : Stop → Type 0
@@ -94,7 +102,7 @@ pub record CarriesModule (o : Outcome) (s : State) (result : Result (Unit {0}) S
   pub done : OnOk result (IsDoneInModule o reply roles m1)
   -- whatever the answer, at each moment of the call
   pub moments : EachImage m0 m1 (IsEither IsModuleOf s o)
-  pub outside : EachImage m0 m1 (From (SameBut o.module_cell) m0)
+  pub outside : EachImage m0 m1 (From (SameBut o.module_cells) m0)
   pub stops : IfErr result IsFault
 
 -- ---- of the store alone
@@ -106,7 +114,7 @@ pub record IsDoneInStore (o : Outcome) (reply : List ℕ) (rows : List (Option R
 pub record CarriesStore (o : Outcome) (s : State) (result : Result (Unit {0}) Stop) (reply : List ℕ) (rows : List (Option Row)) (d0 d1 : Medium) : Type 0 where
   pub done : OnOk result (IsDoneInStore o reply rows d1)
   pub moments : EachImage d0 d1 (IsEither IsStoreOf s o)
-  pub outside : EachImage d0 d1 (From (SameBut o.store_cell) d0)
+  pub outside : EachImage d0 d1 (From (SameBut o.store_cells) d0)
   pub stops : IfErr result IsFault
 
 -- ---- of both
@@ -116,9 +124,10 @@ pub record IsDone (o : Outcome) (reply : List ℕ) (t : Tables) (m d : Medium) :
   pub reply_is : reply ≡ spelled o.reply
   pub stands : Stands o.state t m d
 
--- each image of one disk stands for the state before, and what stands for that stands for the state after too
+-- Each image of one disk stands for the state before, and what stands for that stands for the state after too, and for
+-- those between.
 abbrev pub Rests : (State → List ℕ → Type 0) → State → Outcome → Medium → Medium → Type 0
-Rests Of s o old new = EachImage old new (Of s) × ((c : List ℕ) → Of s c → Of o.state c)
+Rests Of s o old new = EachImage old new (Of s) × ((c : List ℕ) → Of s c → Of o.state c × ((cell : ℕ) → Of (o.between cell) c))
 
 -- one disk at most is written: the store, or the module, or none of them
 abbrev pub OneDisk : State → Outcome → Medium → Medium → Medium → Medium → Type 0
@@ -133,8 +142,8 @@ pub record Carries (o : Outcome) (s : State) (result : Result (Unit {0}) Stop) (
   pub on_module : EachImage m0 m1 (IsEither IsModuleOf s o)
   pub on_store : EachImage d0 d1 (IsEither IsStoreOf s o)
   pub one_disk : OneDisk s o m0 m1 d0 d1
-  pub module_outside : EachImage m0 m1 (From (SameBut o.module_cell) m0)
-  pub store_outside : EachImage d0 d1 (From (SameBut o.store_cell) d0)
+  pub module_outside : EachImage m0 m1 (From (SameBut o.module_cells) m0)
+  pub store_outside : EachImage d0 d1 (From (SameBut o.store_cells) d0)
   pub stops : IfErr result IsFault
 
 -- the random bytes that were drawn are the next ones, and as many as the machine takes
@@ -197,14 +206,14 @@ pub record LeavesModule (old new : Medium) (before now : ℕ) (result : Result (
   pub memory : OnErr result (later ≡ roles)
   pub stops : IfErr result (λ stop. stop ≡ ModuleFault)
 
--- and a change of the store
+-- And a change of the store. After an error the memory holds the labels that it held, in their cells.
 pub record LeavesStore (old new : Medium) (before now : ℕ) (result : Result (Unit {0}) Stop) (reply : List ℕ) (rows later : List (Option Row)) : Type 0 where
   pub disk : DiskLeft old new before now result StoreFault
   pub told : HasTold old new
   pub holds : OnOk result (Told new (HoldsRows later))
   pub silent : OnErr result (reply ≡ [])
-  pub memory : OnErr result (later ≡ rows)
-  pub stops : IfErr result (λ stop. stop ≡ StoreFault)
+  pub memory : OnErr result (row_directory later ≡ row_directory rows)
+  pub stops : IfErr result IsStoreStop
 
 -- two disks before and after a call, with their counts of faults
 pub record Span : Type 1 where
@@ -226,5 +235,7 @@ pub record Leaves (d : Span) (result : Result (Unit {0}) Stop) (reply : List ℕ
   pub sound : OnOk result (Told d.module_new (IsSound later.roles))
   pub holds : OnOk result (Told d.store_new (HoldsRows later.rows))
   pub silent : OnErr result (reply ≡ [])
-  pub memory : OnErr result (later ≡ t)
+  -- after an error the memory has the roles that it had, and holds the labels that it held, in their cells
+  pub roles : OnErr result (later.roles ≡ t.roles)
+  pub labels : OnErr result (row_directory later.rows ≡ row_directory t.rows)
   pub stops : IfErr result IsLoadedStop

@@ -4,7 +4,7 @@ ghost use Rattle.std.specs.Prelude.{◌≡◌, ◌≢◌, ◌≤◌, [], None, O
 ghost use Rattle.key_cells.specs.Lease.{bench_of, loan_of};
 ghost use Rattle.script_buffers.specs.Replies.{spelled};
 ghost use Rattle.cca_machine.specs.State.{State};
-ghost use Rattle.cca_machine.specs.Act.{DefineRole, RemoveRole};
+ghost use Rattle.cca_machine.specs.Act.{NoCell, DefineRole, RemoveRole};
 ghost use Rattle.cca_machine.specs.Verdict.{define_questions, remove_questions};
 ghost use Rattle.cca_requests.specs.Serving.{CarriesModule, LeavesModule};
 ghost use Rattle.cca_requests.specs.Deciding.{HasLoaded, AtModule, action_outcome, state_name, change_stop, change_reply, role_outcome, role_stop, role_reply};
@@ -70,11 +70,14 @@ pub(crate) fn change_registers<M: Disk>(
 ) -> Result<(), Stop>
     requires at { HasLoaded held.now (bench_of lease.old) roles.now (M.medium «module».old) }
     requires empty { reply.old ≡ [] }
-    ensures carries { (s : State) → AtModule s held.now (bench_of lease.old) roles.now (M.medium «module».old)
-        → CarriesModule (action_outcome s action (bench_of lease.old).part) s result reply.new roles.now
+    ensures carries { (s : State) → AtModule s held.now (bench_of lease.old) roles.now
+        (M.medium «module».old)
+        → CarriesModule (action_outcome s action (bench_of lease.old).part) s
+        result reply.new roles.now
         (M.medium «module».old) (M.medium «module».new) }
-    ensures still { (s : State) → AtModule s held.now (bench_of lease.old) roles.now (M.medium «module».old)
-        → (action_outcome s action (bench_of lease.old).part).module_cell ≡ None
+    ensures still { (s : State) → AtModule s held.now (bench_of lease.old) roles.now
+        (M.medium «module».old)
+        → (action_outcome s action (bench_of lease.old).part).module_cells ≡ NoCell
         → «module».new ≡ «module».old }
     ensures left { LeavesModule (M.medium «module».old) (M.medium «module».new)
         (M.faults «module».old) (M.faults «module».new) result reply.new roles.now roles.now }
@@ -122,11 +125,15 @@ pub(crate) fn define_role<M: Disk>(
 ) -> Result<(), Stop>
     requires at { HasLoaded held.now (bench_of lease.old) roles.old (M.medium «module».old) }
     requires empty { reply.old ≡ [] }
-    ensures carries { (s : State) → AtModule s held.now (bench_of lease.old) roles.old (M.medium «module».old)
-        → CarriesModule (role_outcome (define_questions s name.now) s (DefineRole name.now points)) s
+    ensures carries { (s : State) → AtModule s held.now (bench_of lease.old) roles.old
+        (M.medium «module».old)
+        → CarriesModule (role_outcome (define_questions s name.now) s
+        (DefineRole name.now points)) s
         result reply.new roles.new (M.medium «module».old) (M.medium «module».new) }
-    ensures still { (s : State) → AtModule s held.now (bench_of lease.old) roles.old (M.medium «module».old)
-        → (role_outcome (define_questions s name.now) s (DefineRole name.now points)).module_cell ≡ None
+    ensures still { (s : State) → AtModule s held.now (bench_of lease.old) roles.old
+        (M.medium «module».old)
+        → (role_outcome (define_questions s name.now) s (DefineRole name.now points)).module_cells
+        ≡ NoCell
         → «module».new ≡ «module».old }
     ensures left { LeavesModule (M.medium «module».old) (M.medium «module».new)
         (M.faults «module».old) (M.faults «module».new) result reply.new roles.old roles.new }
@@ -148,11 +155,13 @@ pub(crate) fn remove_role<M: Disk>(
     requires at { HasLoaded held.now (bench_of lease.old) roles.old (M.medium «module».old) }
     requires empty { reply.old ≡ [] }
     requires other { name.now ≢ default_name }
-    ensures carries { (s : State) → AtModule s held.now (bench_of lease.old) roles.old (M.medium «module».old)
+    ensures carries { (s : State) → AtModule s held.now (bench_of lease.old) roles.old
+        (M.medium «module».old)
         → CarriesModule (role_outcome (remove_questions s name.now) s (RemoveRole name.now)) s
         result reply.new roles.new (M.medium «module».old) (M.medium «module».new) }
-    ensures still { (s : State) → AtModule s held.now (bench_of lease.old) roles.old (M.medium «module».old)
-        → (role_outcome (remove_questions s name.now) s (RemoveRole name.now)).module_cell ≡ None
+    ensures still { (s : State) → AtModule s held.now (bench_of lease.old) roles.old
+        (M.medium «module».old)
+        → (role_outcome (remove_questions s name.now) s (RemoveRole name.now)).module_cells ≡ NoCell
         → «module».new ≡ «module».old }
     ensures left { LeavesModule (M.medium «module».old) (M.medium «module».new)
         (M.faults «module».old) (M.faults «module».new) result reply.new roles.old roles.new }

@@ -1,5 +1,5 @@
 //! Changes of the records, with their replies.
-ghost use Rattle.std.specs.Prelude.{◌≡◌, [], OnOk, OnErr};
+ghost use Rattle.std.specs.Prelude.{◌≡◌, [], IsSome, OnOk, OnErr};
 ghost use Rattle.key_cells.specs.Lease.{bench_of, loan_of};
 ghost use Rattle.master_registers.specs.Loaded.{IsLoaded};
 ghost use Rattle.master_registers.specs.declared.registers.Registers.{Registers as HeldRegisters};
@@ -8,17 +8,19 @@ ghost use Rattle.verb_script.specs.Grammar.{Request};
 ghost use Rattle.cca_machine.specs.State.{State};
 ghost use Rattle.cca_machine.specs.Keys.{any_old};
 ghost use Rattle.cca_machine.specs.Operands.{operands, listed};
-ghost use Rattle.cca_machine.specs.Act.{Effect as MachineEffect, effected};
+ghost use Rattle.cca_machine.specs.Act.{Effect as MachineEffect, Reencipher, effected};
 ghost use Rattle.cca_requests.specs.declared.effects.Effect.TheVariants as code;
 ghost use Rattle.cca_requests.specs.Serving.{CarriesStore, LeavesStore};
 ghost use Rattle.cca_requests.specs.Deciding.{HasStore, AtStore, IsReady, IsHeldAt, IsWritten, IsDeleted, plainly, create_outcome, record_stop, record_reply};
 
 use crate::endings::{end, finish};
 use crate::refusals::refuse;
+use crate::stored::stop_of;
 use key_cells::Lease;
 use key_records::{Label, Place, RecordFault, Records};
 use line_service::Stop;
 use master_registers::Registers;
+use reencipher::reencipher;
 use slot_disk::Disk;
 use verb_rules::Rule;
 use verb_script::ReplyBuffer;
@@ -65,6 +67,7 @@ pub(crate) fn create<D: Disk>(
         (D.medium store.old) (D.medium store.new) }
     ensures left { LeavesStore (D.medium store.old) (D.medium store.new)
         (D.faults store.old) (D.faults store.new) result reply.new records.old records.new }
+    ensures kept { OnErr result (records.new ≡ records.old) }
     ensures loan { loan_of lease.new ≡ loan_of lease.old }
 {
     let outcome = records.create(store, lease, label);
@@ -84,7 +87,8 @@ pub(crate) fn write<D: Disk>(
 ) -> Result<(), Stop>
     requires store { HasStore records.old (D.medium store.old) }
     requires loaded { IsLoaded held.now (bench_of lease.old) }
-    requires ready { IsReady held.now (bench_of lease.old) records.old (code.Write place token.now) reply.old }
+    requires ready { IsReady held.now (bench_of lease.old) records.old
+        (code.Write place token.now) reply.old }
     ensures carries { (s : State) (request : Request) (e : MachineEffect)
         → AtStore s held.now (bench_of lease.old) records.old (D.medium store.old)
         → any_old s (listed (operands request)) ≡ warns
@@ -93,6 +97,7 @@ pub(crate) fn write<D: Disk>(
         (D.medium store.old) (D.medium store.new) }
     ensures left { LeavesStore (D.medium store.old) (D.medium store.new)
         (D.faults store.old) (D.faults store.new) result reply.new records.old records.new }
+    ensures kept { OnErr result (records.new ≡ records.old) }
     ensures loan { loan_of lease.new ≡ loan_of lease.old }
 {
     match records.write(store, lease, held, place, token) {
@@ -125,6 +130,7 @@ pub(crate) fn delete<D: Disk>(
         (D.medium store.old) (D.medium store.new) }
     ensures left { LeavesStore (D.medium store.old) (D.medium store.new)
         (D.faults store.old) (D.faults store.new) result reply.new records.old records.new }
+    ensures kept { OnErr result (records.new ≡ records.old) }
     ensures loan { loan_of lease.new ≡ loan_of lease.old }
 {
     match records.delete(store, lease, place) {
@@ -134,5 +140,36 @@ pub(crate) fn delete<D: Disk>(
             Ok(())
         }
         Err(_) => Err(Stop::StoreFault),
+    }
+}
+
+/// Brings every label under the old master key under the current one, and says how many there were.
+pub(crate) fn renew<D: Disk>(
+    store: &mut D,
+    lease: &mut Lease,
+    held: &Registers,
+    records: &mut Records,
+    reply: &mut ReplyBuffer,
+) -> Result<(), Stop>
+    requires store { HasStore records.old (D.medium store.old) }
+    requires loaded { IsLoaded held.now (bench_of lease.old) }
+    requires current { IsSome held.now.current_pattern }
+    requires empty { reply.old ≡ [] }
+    ensures carries { (s : State)
+        → AtStore s held.now (bench_of lease.old) records.old (D.medium store.old)
+        → CarriesStore (plainly s Reencipher) s result reply.new records.new
+        (D.medium store.old) (D.medium store.new) }
+    ensures left { LeavesStore (D.medium store.old) (D.medium store.new)
+        (D.faults store.old) (D.faults store.new) result reply.new records.old records.new }
+    ensures loan { loan_of lease.new ≡ loan_of lease.old }
+{
+    match reencipher(lease, held, store, records) {
+        Ok(changed) => {
+            reply.ok();
+            reply.number("changed", changed);
+            end(reply);
+            Ok(())
+        }
+        Err(fault) => Err(stop_of(fault)),
     }
 }

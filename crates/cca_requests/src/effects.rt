@@ -1,5 +1,5 @@
 //! What a verb leaves to be done, and how it is done: the only calls that write a disk.
-ghost use Rattle.std.specs.Prelude.{◌≡◌, ◌≢◌, ℕ, List, Err};
+ghost use Rattle.std.specs.Prelude.{◌≡◌, ◌≢◌, ℕ, List, Err, OnErr};
 ghost use Rattle.key_cells.specs.Lease.{bench_of, loan_of};
 ghost use Rattle.verb_script.specs.Grammar.{Request};
 ghost use Rattle.cca_machine.specs.State.{State};
@@ -8,10 +8,10 @@ ghost use Rattle.cca_machine.specs.Operands.{operands, listed};
 ghost use Rattle.cca_machine.specs.Act.{or_act};
 ghost use Rattle.cca_machine.specs.Verdict.{verb_verdict};
 ghost use Rattle.cca_requests.specs.Serving.{Carries, Leaves, tables};
-ghost use Rattle.cca_requests.specs.Deciding.{HasLoaded, HasStore, At, IsDecided, IsReady, WritesStore};
+ghost use Rattle.cca_requests.specs.Deciding.{HasLoaded, HasStore, At, IsDecided, IsReady, WritesStore, GoesThrough};
 
 use crate::changing_module::{change_registers, define_role, remove_role};
-use crate::changing_store::{create, delete, write};
+use crate::changing_store::{create, delete, renew, write};
 use crate::endings::finish;
 use crate::refusals::refuse;
 use cca_roles::{AccessPoints, RoleName, Roles};
@@ -42,9 +42,12 @@ pub(crate) enum Effect {
     Write(Place, [u8; 64]),
     /// The label at this place is no longer held.
     Delete(Place),
+    /// Every label under the old master key is brought under the current one.
+    Reencipher,
 }
 
-/// Does what a verb left to be done. A change reads a disk once at most, and writes and syncs it twice.
+/// Does what a verb left to be done. A change reads a disk once at most, and writes and syncs it twice; re-enciphering
+/// does so for each label, and reads it once more.
 pub(crate) fn carry<M: Disk, D: Disk>(
     effect: &Effect,
     warns: bool,
@@ -78,6 +81,7 @@ pub(crate) fn carry<M: Disk, D: Disk>(
       store_now = D.faults store.new;
     }) result reply.new (tables roles.old records.old) (tables roles.new records.new) }
     ensures entropy { result ≢ Err Stop.EntropyFault }
+    ensures rows { (GoesThrough effect.now → ⊥) → OnErr result (records.new ≡ records.old) }
     ensures writes { result ≡ Err Stop.StoreFault → WritesStore effect.now }
     ensures spared { (WritesStore effect.now → ⊥) → store.new ≡ store.old }
     ensures loan { loan_of lease.new ≡ loan_of lease.old }
@@ -101,5 +105,6 @@ pub(crate) fn carry<M: Disk, D: Disk>(
             write(*place, token, warns, store, lease, held, records, reply)
         }
         Effect::Delete(place) => delete(*place, store, lease, records, reply),
+        Effect::Reencipher => renew(store, lease, held, records, reply),
     }
 }

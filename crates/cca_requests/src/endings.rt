@@ -8,7 +8,8 @@ use verb_script::ReplyBuffer;
 /// Ends the reply to a request that was carried out, with the warning where a key is under the old master key.
 pub(crate) fn finish(warns: bool, reply: &mut ReplyBuffer)
     requires { length reply.old ≤ 69000 }
-    ensures { (fields : List Field) → reply.old ≡ written fields → reply.new ≡ spelled (Done (fields ++ warning warns)) }
+    ensures { (fields : List Field) → reply.old ≡ written fields
+        → reply.new ≡ spelled (Done (fields ++ warning warns)) }
 {
     if warns {
         reply.text("warn", b"old");
@@ -19,7 +20,8 @@ pub(crate) fn finish(warns: bool, reply: &mut ReplyBuffer)
 /// Ends the reply to a request that was carried out and warns of nothing.
 pub(crate) fn end(reply: &mut ReplyBuffer)
     requires { length reply.old ≤ 69000 }
-    ensures { (fields : List Field) → reply.old ≡ written fields → reply.new ≡ spelled (Done fields) }
+    ensures { (fields : List Field) → reply.old ≡ written fields
+        → reply.new ≡ spelled (Done fields) }
 {
     reply.finish();
 }

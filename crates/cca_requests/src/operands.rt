@@ -149,6 +149,7 @@ pub(crate) fn operands_of<'a>(request: &Request<'a>) -> Operands<'a>
         Request::CsnbmkpSet { action, .. } => no_operands(action),
         Request::CsuaaciDefine { action, .. } => no_operands(action),
         Request::CsuaaciRemove { action, .. } => no_operands(action),
+        Request::Reencipher { .. } => no_operands(b""),
     }
 }
 

@@ -5,6 +5,7 @@ ghost use Rattle.cca_roles.specs.RolesStand.{StandsForRoles};
 ghost use Rattle.cca_vectors.specs.Checks.{first_failing};
 ghost use Rattle.key_cells.specs.Bench.{Bench, blank_bench};
 ghost use Rattle.key_cells.specs.Lease.{bench_of, holding, loan_of};
+ghost use Rattle.key_records.specs.Entries.{row_directory};
 ghost use Rattle.key_records.specs.StoreStands.{HoldsRows};
 ghost use Rattle.line_service.specs.Machine.{world};
 ghost use Rattle.master_registers.specs.Loaded.{Loaded, IsLoaded};
@@ -19,12 +20,12 @@ ghost use Rattle.verb_rules.specs.declared.needs.Need.{Need};
 ghost use Rattle.verb_script.specs.Grammar.{value_of};
 ghost use Rattle.verb_script.specs.Parsed.{seen};
 ghost use Rattle.cca_machine.specs.State.{State, module_size, store_size};
-ghost use Rattle.cca_machine.specs.Operands.{operands, listed, names_label};
+ghost use Rattle.cca_machine.specs.Operands.{operands, needs_store, is_reencipher};
 ghost use Rattle.cca_machine.specs.Verdict.{action_points, target_points, change_points, needed_points, needs_master, general_checks, verdict, verb_verdict};
 ghost use Rattle.cca_machine.specs.Act.{performed, draws};
 ghost use Rattle.cca_requests.specs.Serving.{IsSpelled, IsSound, IsRequestStop, Stands, Serves, Leaves, HasTold, tables};
 ghost use Rattle.cca_requests.specs.Judging.{IsAccepted, HasJudged, HasJudgedExternal, HasSomeJudged, HaveShapes, AreGranted, AreKeyed, is_old_key, any_old_key};
-ghost use Rattle.cca_requests.specs.Deciding.{HasLoaded, HasStore, At, IsRecorded, MayDecide, IsReady, WritesStore, with_places};
+ghost use Rattle.cca_requests.specs.Deciding.{HasLoaded, HasStore, At, IsRecorded, MayDecide, IsReady, WritesStore, GoesThrough, with_places};
 
 use crate::effects::{Effect, carry};
 use crate::judging::{Grant, Granted, Verdict, judge};
@@ -67,7 +68,9 @@ use verb_script::{ReplyBuffer, Request, named_label};
 /// Random bytes are drawn once no rule refuses the request, and by one call.
 ///
 /// Each request reads the module twice, and for each label of a key one cell of the store. A change of a disk reads
-/// it once more at most, and writes and syncs it twice.
+/// it once more at most, and writes and syncs it twice. Re-enciphering goes through the store cell by cell: it costs two
+/// reads for each label, and a change of its cell where it is under the old master key. After a stop on its way the
+/// memory is to be opened again; what it holds is still which labels there are, and in which cells.
 pub fn perform<M: Disk, D: Disk, E: Entropy>(
     request: &Request,
     bench: &mut Workbench,
@@ -101,20 +104,23 @@ pub fn perform<M: Disk, D: Disk, E: Entropy>(
     ensures holds { OnOk result (Told (D.medium store.new) (HoldsRows records.new)) }
     ensures silent { OnErr result (reply.new ≡ []) }
     ensures roles { OnErr result (roles.new ≡ roles.old) }
-    ensures records { OnErr result (records.new ≡ records.old) }
+    ensures labels { OnErr result (row_directory records.new ≡ row_directory records.old) }
+    ensures records { is_reencipher (seen request.now).name ≡ false
+        → OnErr result (records.new ≡ records.old) }
     ensures damaged { result ≡ Err (Stop.Damaged Device.Module 0)
         → Told (M.medium «module».old) IsDamaged }
     ensures kept { result ≡ Err (Stop.Damaged Device.Module 0)
         → Keeps (M.medium «module».old) (M.medium «module».new) }
     ensures named { result ≡ Err Stop.StoreFault
-        → IsTrue (names_label (listed (operands (seen request.now)))) }
-    ensures spared { names_label (listed (operands (seen request.now))) ≡ false
-        → store.new ≡ store.old }
-    ensures entropy { TellsFault (E.faults entropy.old) (E.faults entropy.new) result Stop.EntropyFault }
+        → IsTrue (needs_store (seen request.now)) }
+    ensures spared { needs_store (seen request.now) ≡ false → store.new ≡ store.old }
+    ensures entropy { TellsFault (E.faults entropy.old) (E.faults entropy.new)
+        result Stop.EntropyFault }
     ensures untouched { (s : State) → Stands s (tables roles.old records.old)
         (M.medium «module».old) (D.medium store.old)
         → taken_by s (seen request.now) ≡ 0 → entropy.new ≡ entropy.old }
-    ensures undrawn { draws (seen request.now).name (seen request.now) ≡ 0 → entropy.new ≡ entropy.old }
+    ensures undrawn { draws (seen request.now).name (seen request.now) ≡ 0
+        → entropy.new ≡ entropy.old }
     ensures stops { IfErr result IsRequestStop }
     ensures bench { bench.new ≡ blank_bench }
 {
@@ -151,11 +157,14 @@ fn carry_out<M: Disk, D: Disk, E: Entropy>(
         → Serves s (seen request.now) result reply.new (tables roles.new records.new)
         (world (M.medium «module».old) (D.medium store.old) (E.left entropy.old))
         (world (M.medium «module».new) (D.medium store.new) (E.left entropy.new)) }
-    ensures entropy { TellsFault (E.faults entropy.old) (E.faults entropy.new) result Stop.EntropyFault }
-    ensures untouched { (s : State) → At s held.now (bench_of lease.old) (tables roles.old records.old)
+    ensures entropy { TellsFault (E.faults entropy.old) (E.faults entropy.new)
+        result Stop.EntropyFault }
+    ensures untouched { (s : State) → At s held.now (bench_of lease.old)
+        (tables roles.old records.old)
         (M.medium «module».old) (D.medium store.old)
         → taken_by s (seen request.now) ≡ 0 → entropy.new ≡ entropy.old }
-    ensures undrawn { draws (seen request.now).name (seen request.now) ≡ 0 → entropy.new ≡ entropy.old }
+    ensures undrawn { draws (seen request.now).name (seen request.now) ≡ 0
+        → entropy.new ≡ entropy.old }
     ensures left { Leaves (record {
       module_old = M.medium «module».old;
       module_new = M.medium «module».new;
@@ -166,10 +175,11 @@ fn carry_out<M: Disk, D: Disk, E: Entropy>(
       store_before = D.faults store.old;
       store_now = D.faults store.new;
     }) result reply.new (tables roles.old records.old) (tables roles.new records.new) }
+    ensures rows { is_reencipher (seen request.now).name ≡ false
+        → OnErr result (records.new ≡ records.old) }
     ensures named { result ≡ Err Stop.StoreFault
-        → IsTrue (names_label (listed (operands (seen request.now)))) }
-    ensures spared { names_label (listed (operands (seen request.now))) ≡ false
-        → store.new ≡ store.old }
+        → IsTrue (needs_store (seen request.now)) }
+    ensures spared { needs_store (seen request.now) ≡ false → store.new ≡ store.old }
     ensures loan { loan_of lease.new ≡ loan_of lease.old }
 {
     if let Some(rule) = general_rule(request, held, roles) {
@@ -190,7 +200,8 @@ fn carry_out<M: Disk, D: Disk, E: Entropy>(
 
 /// Rules 03, 04 and 05.
 fn general_rule(request: &Request, held: &Registers, roles: &Roles) -> Option<Rule>
-    ensures rule { (s : State) (bench : Bench) → roles.now ≡ s.roles → Loaded s.registers held.now bench
+    ensures rule { (s : State) (bench : Bench) → roles.now ≡ s.roles
+        → Loaded s.registers held.now bench
         → option_map rule_number result ≡ first_failing (general_checks s (seen request.now)) }
     ensures master { IsNone result → IsTrue (needs_master (seen request.now).name)
         → IsSome held.now.current_pattern }
@@ -234,6 +245,7 @@ fn role_of<'a, 'b>(request: &'b Request<'a>) -> &'b RoleName
         Request::CsnbmkpSet { role, .. } => role,
         Request::CsuaaciDefine { role, .. } => role,
         Request::CsuaaciRemove { role, .. } => role,
+        Request::Reencipher { role } => role,
     }
 }
 
@@ -300,6 +312,7 @@ fn needed_points(request: &Request) -> AccessPoints
         Request::CsnbmkpSet { .. } => action_points(Action::Set),
         Request::CsuaaciDefine { .. } => AccessPoints::ROLES,
         Request::CsuaaciRemove { .. } => AccessPoints::ROLES,
+        Request::Reencipher { .. } => AccessPoints::REENC,
     }
 }
 
@@ -333,6 +346,7 @@ fn needs_master(request: &Request) -> bool
         Request::CsnbmkpSet { .. } => false,
         Request::CsuaaciDefine { .. } => false,
         Request::CsuaaciRemove { .. } => false,
+        Request::Reencipher { .. } => true,
     }
 }
 
@@ -353,7 +367,8 @@ fn act<M: Disk, D: Disk, E: Entropy>(
     requires shaped { HaveShapes records.old (operands (seen request.now)) granted.now }
     requires keyed { (m : Masters) → Loaded m held.now (bench_of lease.old)
         → AreKeyed m (operands (seen request.now)) }
-    requires master { IsTrue (needs_master (seen request.now).name) → IsSome held.now.current_pattern }
+    requires master { IsTrue (needs_master (seen request.now).name)
+        → IsSome held.now.current_pattern }
     requires at { HasLoaded held.now (bench_of lease.old) roles.old (M.medium «module».old) }
     requires store { HasStore records.old (D.medium store.old) }
     requires empty { reply.old ≡ [] }
@@ -365,14 +380,16 @@ fn act<M: Disk, D: Disk, E: Entropy>(
         → Serves s (seen request.now) result reply.new (tables roles.new records.new)
         (world (M.medium «module».old) (D.medium store.old) (E.left entropy.old))
         (world (M.medium «module».new) (D.medium store.new) (E.left entropy.new)) }
-    ensures entropy { TellsFault (E.faults entropy.old) (E.faults entropy.new) result Stop.EntropyFault }
+    ensures entropy { TellsFault (E.faults entropy.old) (E.faults entropy.new)
+        result Stop.EntropyFault }
     ensures untouched { (s : State)
         → verdict s (seen request.now) ≡ verb_verdict s (seen request.now)
         → AreGranted s (bench_of lease.old) (operands (seen request.now)) granted.now
         → At s held.now (bench_of lease.old) (tables roles.old records.old)
         (M.medium «module».old) (D.medium store.old)
         → taken_by s (seen request.now) ≡ 0 → entropy.new ≡ entropy.old }
-    ensures undrawn { draws (seen request.now).name (seen request.now) ≡ 0 → entropy.new ≡ entropy.old }
+    ensures undrawn { draws (seen request.now).name (seen request.now) ≡ 0
+        → entropy.new ≡ entropy.old }
     ensures left { Leaves (record {
       module_old = M.medium «module».old;
       module_new = M.medium «module».new;
@@ -383,10 +400,11 @@ fn act<M: Disk, D: Disk, E: Entropy>(
       store_before = D.faults store.old;
       store_now = D.faults store.new;
     }) result reply.new (tables roles.old records.old) (tables roles.new records.new) }
+    ensures rows { is_reencipher (seen request.now).name ≡ false
+        → OnErr result (records.new ≡ records.old) }
     ensures named { result ≡ Err Stop.StoreFault
-        → IsTrue (names_label (listed (operands (seen request.now)))) }
-    ensures spared { names_label (listed (operands (seen request.now))) ≡ false
-        → store.new ≡ store.old }
+        → IsTrue (needs_store (seen request.now)) }
+    ensures spared { needs_store (seen request.now) ≡ false → store.new ≡ store.old }
     ensures loan { loan_of lease.new ≡ loan_of lease.old }
 {
     match decide(request, granted, entropy, lease, held, records, reply) {
@@ -419,7 +437,8 @@ fn decide<E: Entropy>(
     requires shaped { HaveShapes records.now (operands (seen request.now)) granted.now }
     requires keyed { (m : Masters) → Loaded m held.now (bench_of lease.old)
         → AreKeyed m (operands (seen request.now)) }
-    requires master { IsTrue (needs_master (seen request.now).name) → IsSome held.now.current_pattern }
+    requires master { IsTrue (needs_master (seen request.now).name)
+        → IsSome held.now.current_pattern }
     requires loaded { IsLoaded held.now (bench_of lease.old) }
     requires empty { reply.old ≡ [] }
     ensures decides { (s : State) → Loaded s.registers held.now (bench_of lease.old)
@@ -430,17 +449,23 @@ fn decide<E: Entropy>(
     ensures ready { IfOk result (λ effect.
         IsReady held.now (bench_of lease.new) records.now effect reply.new) }
     ensures named { IfOk result (λ effect. WritesStore effect
-        → IsTrue (names_label (listed (operands (seen request.now))))) }
+        → IsTrue (needs_store (seen request.now))) }
+    ensures through { IfOk result (λ effect. GoesThrough effect
+        → IsTrue (is_reencipher (seen request.now).name)) }
     ensures silent { OnErr result (reply.new ≡ []) }
-    ensures entropy { TellsFault (E.faults entropy.old) (E.faults entropy.new) result Stop.EntropyFault }
+    ensures entropy { TellsFault (E.faults entropy.old) (E.faults entropy.new)
+        result Stop.EntropyFault }
     ensures untouched { (s : State) → Loaded s.registers held.now (bench_of lease.old)
         → IsRecorded s records.now
         → AreGranted s (bench_of lease.old) (operands (seen request.now)) granted.now
-        → drawn_where (verb_verdict s (seen request.now)) (draws (seen request.now).name (seen request.now)) ≡ 0
+        → drawn_where (verb_verdict s (seen request.now))
+        (draws (seen request.now).name (seen request.now)) ≡ 0
         → entropy.new ≡ entropy.old }
-    ensures undrawn { draws (seen request.now).name (seen request.now) ≡ 0 → entropy.new ≡ entropy.old }
+    ensures undrawn { draws (seen request.now).name (seen request.now) ≡ 0
+        → entropy.new ≡ entropy.old }
     ensures stops { IfErr result (λ stop. stop ≡ Stop.EntropyFault) }
-    ensures places { lease.new ≡ holding lease.old (with_places (bench_of lease.old) (bench_of lease.new)) }
+    ensures places { lease.new ≡ holding lease.old
+        (with_places (bench_of lease.old) (bench_of lease.new)) }
 {
     match request {
         Request::Csnbktp { .. } => {
@@ -593,6 +618,7 @@ fn decide<E: Entropy>(
         Request::CsnbmkpSet { .. } => Ok(csnbmkp::set(lease, held, records)),
         Request::CsuaaciDefine { name, points, .. } => Ok(csuaaci::define(name, points)),
         Request::CsuaaciRemove { name, .. } => Ok(Effect::RemoveRole(*name)),
+        Request::Reencipher { .. } => Ok(Effect::Reencipher),
     }
 }
 

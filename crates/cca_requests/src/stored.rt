@@ -104,8 +104,8 @@ fn judge_stored(token: &[u8; 64], need: &Need, held: &Registers) -> Option<Answe
     }
 }
 
-/// Why a record wasn't read.
-fn stop_of(fault: RecordFault) -> Stop
+/// Why a record wasn't read, or a label not brought under another master key.
+pub(crate) fn stop_of(fault: RecordFault) -> Stop
     requires { IsReadFault fault }
     ensures { result ≡ read_stop fault }
 {

@@ -27,7 +27,8 @@ fn put_clear(digits: &[u8], lease: &mut Lease)
     requires { IsTrue (is_hex 16 digits.now) }
     ensures key { take 8 (bench_of lease.new).key ≡ take 8 (hex_value digits.now) }
     ensures stays { lease.new
-        ≡ holding lease.old (with_key (bench_of lease.old) KeyPlace.Key (key_of (bench_of lease.new) KeyPlace.Key)) }
+        ≡ holding lease.old (with_key (bench_of lease.old) KeyPlace.Key
+        (key_of (bench_of lease.new) KeyPlace.Key)) }
 {
     put_front(&block_of(digits), lease.key_mut(KeyPlace::Key));
 }
@@ -40,7 +41,8 @@ pub(crate) fn csnbcki(clear: &[u8], lease: &mut Lease, held: &Registers) -> [u8;
         → result ≡ token_for (keys_of m) (imported_key (hex_value clear.now)) }
     ensures denoted { (m : Masters) → Loaded m held.now (bench_of lease.old)
         → denoted (keys_of m) result ≡ Some (imported_key (hex_value clear.now)) }
-    ensures places { lease.new ≡ holding lease.old (with_places (bench_of lease.old) (bench_of lease.new)) }
+    ensures places { lease.new ≡ holding lease.old
+        (with_places (bench_of lease.old) (bench_of lease.new)) }
 {
     put_clear(clear, lease);
     clear_key_import(lease, held)

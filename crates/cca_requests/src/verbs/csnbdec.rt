@@ -35,13 +35,16 @@ pub(crate) fn csnbdec(
     requires iv { IsTrue (is_hex 16 iv.now) }
     requires text { IsTrue (accepts hex_text text.now) }
     requires empty { reply.old ≡ [] }
-    ensures shows { let clear = opened (bench_of lease.old) key.now in let padding = pad_named pad.now in
+    ensures shows { let clear = opened (bench_of lease.old) key.now in
+        let padding = pad_named pad.now in
         ShowsOr (first_refusal (decipher_questions (length text.now / 2) clear (hex_value iv.now) padding (hex_value text.now)))
-        (Hex (codes "text") (or_empty (deciphered_text clear (hex_value iv.now) padding (hex_value text.now))) ∷ [])
+        (Hex (codes "text") (or_empty (deciphered_text clear (hex_value iv.now) padding
+        (hex_value text.now))) ∷ [])
         result reply.new }
     ensures ready { (held : Registers) (bench : Bench) (rows : List (Option Row))
         → IsReady held bench rows result reply.new }
-    ensures places { lease.new ≡ holding lease.old (with_places (bench_of lease.old) (bench_of lease.new)) }
+    ensures places { lease.new ≡ holding lease.old
+        (with_places (bench_of lease.old) (bench_of lease.new)) }
 {
     if let Err(rule) = judge_digits(TextUse::Decipher, text) {
         return Effect::Refused(rule, "text");

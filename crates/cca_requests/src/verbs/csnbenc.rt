@@ -35,11 +35,13 @@ pub(crate) fn csnbenc(
     requires empty { reply.old ≡ [] }
     ensures shows { let clear = opened (bench_of lease.old) key.now in
         ShowsOr (first_refusal (encipher_questions (pad_named pad.now) (length text.now / 2)))
-        (Hex (codes "text") (enciphered_text clear (hex_value iv.now) (pad_named pad.now) (hex_value text.now)) ∷ [])
+        (Hex (codes "text") (enciphered_text clear (hex_value iv.now) (pad_named pad.now)
+        (hex_value text.now)) ∷ [])
         result reply.new }
     ensures ready { (held : Registers) (bench : Bench) (rows : List (Option Row))
         → IsReady held bench rows result reply.new }
-    ensures places { lease.new ≡ holding lease.old (with_places (bench_of lease.old) (bench_of lease.new)) }
+    ensures places { lease.new ≡ holding lease.old
+        (with_places (bench_of lease.old) (bench_of lease.new)) }
 {
     let padding = pad_of(pad);
     if let Err(rule) = judge_digits(enciphering(padding), text) {

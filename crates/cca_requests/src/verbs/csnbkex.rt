@@ -20,7 +20,8 @@ pub(crate) fn csnbkex(key: &Judged, transport: &Judged, lease: &mut Lease, reply
         reply.new ≡ written (Hex (codes "token")
         (external_token (opened bench transport.now).key (opened bench key.now)) ∷ []) }
     ensures size { length reply.new ≤ 69000 }
-    ensures places { lease.new ≡ holding lease.old (with_places (bench_of lease.old) (bench_of lease.new)) }
+    ensures places { lease.new ≡ holding lease.old
+        (with_places (bench_of lease.old) (bench_of lease.new)) }
 {
     let token = export(lease, key, transport);
     reply.ok();

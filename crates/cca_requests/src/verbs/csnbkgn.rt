@@ -15,7 +15,7 @@ ghost use Rattle.cca_machine.specs.Act.{Show, delivered, delivered_with};
 ghost use Rattle.cca_machine.specs.Choices.{key_length_named, out_form_named, pair_form_named};
 ghost use Rattle.cca_machine.specs.State.{State};
 ghost use Rattle.cca_machine.specs.Verdict.{first_refusal, generate_questions, pair_questions};
-ghost use Rattle.cca_requests.specs.Deciding.{IsReady, WritesStore, with_places};
+ghost use Rattle.cca_requests.specs.Deciding.{IsReady, WritesStore, GoesThrough, with_places};
 ghost use Rattle.cca_requests.specs.Drawing.{HasRefused, IsHeldPlace, LeavesDrawn};
 ghost use Rattle.cca_requests.specs.Judging.{IsPlaceFor, target_cell};
 
@@ -110,18 +110,23 @@ pub(crate) fn generate_one<E: Entropy>(
         → place ≡ target_cell s (label_named to.now)
         → IfOk result (LeavesDrawn s
         (first_refusal (generate_questions kind (key_length_named length.now)))
-        (λ (drawn : List ℕ). delivered s (codes "token1") (label_named to.now) (as_current (generated_key kind drawn)))
+        (λ (drawn : List ℕ). delivered s (codes "token1") (label_named to.now)
+        (as_current (generated_key kind drawn)))
         (key_length_named length.now) (E.left entropy.old) (E.left entropy.new) reply.new) }
     ensures permitted { OnErr result
         (first_refusal (generate_questions kind (key_length_named length.now)) ≡ None) }
-    ensures untouched { IsSome (first_refusal (generate_questions kind (key_length_named length.now)))
+    ensures untouched { IsSome (first_refusal
+        (generate_questions kind (key_length_named length.now)))
         → entropy.new ≡ entropy.old }
     ensures ready { (rows : List (Option Row)) → IsHeldPlace rows place
         → IfOk result (λ effect. IsReady held.now (bench_of lease.new) rows effect reply.new) }
-    ensures named { IfOk result (λ effect. WritesStore effect → IsTrue (is_some (label_named to.now))) }
+    ensures named { IfOk result (λ effect. WritesStore effect
+        → IsTrue (is_some (label_named to.now))) }
+    ensures one_label { IfOk result (λ effect. GoesThrough effect → ⊥) }
     ensures silent { OnErr result (reply.new ≡ []) }
     ensures cause { HasCause (E.faults entropy.old) (E.faults entropy.new) result }
-    ensures places { lease.new ≡ holding lease.old (with_places (bench_of lease.old) (bench_of lease.new)) }
+    ensures places { lease.new ≡ holding lease.old
+        (with_places (bench_of lease.old) (bench_of lease.new)) }
 {
     let length = key_length(length);
     if let Some(refusal) = judge_one(kind, length) {
@@ -165,19 +170,25 @@ pub(crate) fn generate_pair<E: Entropy>(
         → place ≡ target_cell s (label_named to.now)
         → IfOk result (LeavesDrawn s
         (first_refusal (pair_questions first second (key_length_named length.now)))
-        (λ (drawn : List ℕ). delivered_with s (codes "token1") (label_named to.now) (as_current (generated_key first drawn))
-        (Hex (codes "token2") (external_token (opened (bench_of lease.old) transport.now).key (generated_key second drawn)) ∷ []))
+        (λ (drawn : List ℕ). delivered_with s (codes "token1") (label_named to.now)
+        (as_current (generated_key first drawn))
+        (Hex (codes "token2") (external_token (opened (bench_of lease.old) transport.now).key
+        (generated_key second drawn)) ∷ []))
         (key_length_named length.now) (E.left entropy.old) (E.left entropy.new) reply.new) }
     ensures permitted { OnErr result
         (first_refusal (pair_questions first second (key_length_named length.now)) ≡ None) }
-    ensures untouched { IsSome (first_refusal (pair_questions first second (key_length_named length.now)))
+    ensures untouched { IsSome (first_refusal
+        (pair_questions first second (key_length_named length.now)))
         → entropy.new ≡ entropy.old }
     ensures ready { (rows : List (Option Row)) → IsHeldPlace rows place
         → IfOk result (λ effect. IsReady held.now (bench_of lease.new) rows effect reply.new) }
-    ensures named { IfOk result (λ effect. WritesStore effect → IsTrue (is_some (label_named to.now))) }
+    ensures named { IfOk result (λ effect. WritesStore effect
+        → IsTrue (is_some (label_named to.now))) }
+    ensures one_label { IfOk result (λ effect. GoesThrough effect → ⊥) }
     ensures silent { OnErr result (reply.new ≡ []) }
     ensures cause { HasCause (E.faults entropy.old) (E.faults entropy.new) result }
-    ensures places { lease.new ≡ holding lease.old (with_places (bench_of lease.old) (bench_of lease.new)) }
+    ensures places { lease.new ≡ holding lease.old
+        (with_places (bench_of lease.old) (bench_of lease.new)) }
 {
     let length = key_length(length);
     if let Some(refusal) = judge_two(first, second, length) {
@@ -225,14 +236,16 @@ pub(crate) fn generate_out<E: Entropy>(
         (key_length_named length.now) (E.left entropy.old) (E.left entropy.new) reply.new) }
     ensures permitted { OnErr result
         (first_refusal (pair_questions first second (key_length_named length.now)) ≡ None) }
-    ensures untouched { IsSome (first_refusal (pair_questions first second (key_length_named length.now)))
+    ensures untouched { IsSome (first_refusal
+        (pair_questions first second (key_length_named length.now)))
         → entropy.new ≡ entropy.old }
     ensures ready { (bench : Bench) (rows : List (Option Row))
         → IfOk result (λ effect. IsReady held.now bench rows effect reply.new) }
     ensures spares { IfOk result (λ effect. WritesStore effect → ⊥) }
     ensures silent { OnErr result (reply.new ≡ []) }
     ensures cause { HasCause (E.faults entropy.old) (E.faults entropy.new) result }
-    ensures places { lease.new ≡ holding lease.old (with_places (bench_of lease.old) (bench_of lease.new)) }
+    ensures places { lease.new ≡ holding lease.old
+        (with_places (bench_of lease.old) (bench_of lease.new)) }
 {
     let length = key_length(length);
     if let Some(refusal) = judge_two(first, second, length) {

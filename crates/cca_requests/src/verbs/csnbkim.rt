@@ -26,8 +26,10 @@ pub(crate) fn csnbkim(
     ensures token { let bench = bench_of lease.old in (m : Masters) → Loaded m held.now bench
         → result ≡ current_token m (transported_key bench source.now transport.now) }
     ensures denoted { let bench = bench_of lease.old in (m : Masters) → Loaded m held.now bench
-        → denoted (keys_of m) result ≡ Some (as_current (transported_key bench source.now transport.now)) }
-    ensures places { lease.new ≡ holding lease.old (with_places (bench_of lease.old) (bench_of lease.new)) }
+        → denoted (keys_of m) result ≡ Some
+        (as_current (transported_key bench source.now transport.now)) }
+    ensures places { lease.new ≡ holding lease.old
+        (with_places (bench_of lease.old) (bench_of lease.new)) }
 {
     import(lease, held, source, transport)
 }

@@ -48,7 +48,8 @@ pub(crate) fn csnbktc(
     ensures ready { (bench : Bench) (rows : List (Option Row))
         → IsReady held.now bench rows result reply.new }
     ensures spares { WritesStore result → ⊥ }
-    ensures places { lease.new ≡ holding lease.old (with_places (bench_of lease.old) (bench_of lease.new)) }
+    ensures places { lease.new ≡ holding lease.old
+        (with_places (bench_of lease.old) (bench_of lease.new)) }
 {
     let target = target(rule);
     if target == Target::New && held.new_state != NewState::Full {

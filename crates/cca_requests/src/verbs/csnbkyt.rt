@@ -15,9 +15,11 @@ use verb_script::ReplyBuffer;
 pub(crate) fn csnbkyt(key: &Judged, lease: &mut Lease, reply: &mut ReplyBuffer)
     requires halves { HasHalves key.now }
     requires empty { reply.old ≡ [] }
-    ensures fields { reply.new ≡ written (Hex (codes "value") (test_value (opened (bench_of lease.old) key.now)) ∷ []) }
+    ensures fields { reply.new ≡ written
+        (Hex (codes "value") (test_value (opened (bench_of lease.old) key.now)) ∷ []) }
     ensures size { length reply.new ≤ 69000 }
-    ensures places { lease.new ≡ holding lease.old (with_places (bench_of lease.old) (bench_of lease.new)) }
+    ensures places { lease.new ≡ holding lease.old
+        (with_places (bench_of lease.old) (bench_of lease.new)) }
 {
     let value = key_test(lease, key);
     reply.ok();

@@ -57,13 +57,16 @@ pub(crate) fn csnbmgn(
     requires halves { HasHalves key.now }
     requires text { IsTrue (accepts hex_text text.now) }
     requires empty { reply.old ≡ [] }
-    ensures shows { let clear = opened (bench_of lease.old) key.now in let method = mac_rule_named rule.now in
+    ensures shows { let clear = opened (bench_of lease.old) key.now in
+        let method = mac_rule_named rule.now in
         ShowsOr (first_refusal (mac_questions method (length text.now / 2) clear))
-        (Hex (codes "mac") (take (mac_length_named count.now) (code_of method clear (hex_value text.now))) ∷ [])
+        (Hex (codes "mac") (take (mac_length_named count.now)
+        (code_of method clear (hex_value text.now))) ∷ [])
         result reply.new }
     ensures ready { (held : Registers) (bench : Bench) (rows : List (Option Row))
         → IsReady held bench rows result reply.new }
-    ensures places { lease.new ≡ holding lease.old (with_places (bench_of lease.old) (bench_of lease.new)) }
+    ensures places { lease.new ≡ holding lease.old
+        (with_places (bench_of lease.old) (bench_of lease.new)) }
 {
     let method = mac_rule_of(rule);
     if let Err(broken) = judge_digits(TextUse::Mac, text) {

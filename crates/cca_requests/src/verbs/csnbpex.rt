@@ -21,7 +21,8 @@ pub(crate) fn csnbpex(key: &Judged, lease: &mut Lease, held: &Registers) -> [u8;
         → result ≡ current_token m (closed_key (opened bench key.now)) }
     ensures denoted { let bench = bench_of lease.old in (m : Masters) → Loaded m held.now bench
         → denoted (keys_of m) result ≡ Some (as_current (closed_key (opened bench key.now))) }
-    ensures places { lease.new ≡ holding lease.old (with_places (bench_of lease.old) (bench_of lease.new)) }
+    ensures places { lease.new ≡ holding lease.old
+        (with_places (bench_of lease.old) (bench_of lease.new)) }
 {
     prohibit_export(lease, held, key)
 }

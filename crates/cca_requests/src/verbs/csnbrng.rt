@@ -30,7 +30,8 @@ pub(crate) fn csnbrng<E: Entropy>(
     reply: &mut ReplyBuffer,
 ) -> Result<(), Failed>
     requires { reply.old ≡ [] }
-    ensures drawn { OnOk result (ShowsDrawn (form_named form.now) (E.left entropy.old) (E.left entropy.new) reply.new) }
+    ensures drawn { OnOk result (ShowsDrawn (form_named form.now) (E.left entropy.old)
+        (E.left entropy.new) reply.new) }
     ensures size { length reply.new ≤ 69000 }
     ensures silent { OnErr result (reply.new ≡ []) }
     ensures cause { HasCause (E.faults entropy.old) (E.faults entropy.new) result }

@@ -37,7 +37,8 @@ pub(crate) fn deliver(
     requires target { IsPlaceFor (label_named to.now) place }
     requires empty { reply.old ≡ [] }
     requires short { length field.now ≤ 20 }
-    ensures delivered { (s : State) (key : Denoted) → token.now ≡ token_for (keys_of s.registers) key
+    ensures delivered { (s : State) (key : Denoted)
+        → token.now ≡ token_for (keys_of s.registers) key
         → denoted (keys_of s.registers) token.now ≡ Some key
         → place ≡ target_cell s (label_named to.now)
         → IsDelivered s (delivered_with s field.now (label_named to.now) key (token2_fields second))

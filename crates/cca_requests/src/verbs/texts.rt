@@ -83,7 +83,8 @@ pub(super) fn block_of(digits: &[u8]) -> [u8; 8]
 pub(super) fn show_text(lease: &Lease, reply: &mut ReplyBuffer)
     requires room { (bench_of lease.now).text.size ≤ 4096 }
     requires empty { reply.old ≡ [] }
-    ensures fields { reply.new ≡ written (Hex (codes "text") (text_of (bench_of lease.now).text) ∷ []) }
+    ensures fields { reply.new ≡ written
+        (Hex (codes "text") (text_of (bench_of lease.now).text) ∷ []) }
     ensures size { length reply.new ≤ 69000 }
 {
     reply.ok();

@@ -4,12 +4,12 @@ use Rattle.master_registers.specs.Actions.{after_action}
 use Rattle.master_registers.specs.Loaded.{masters_in}
 use Rattle.script_buffers.specs.Replies.{Done, spelled}
 use Rattle.verb_rules.specs.Rules.{rule_number}
-use Rattle.cca_machine.specs.Act.{Outcome, Show, Become, DefineRole, RemoveRole, Create, effect, effected, refused}
+use Rattle.cca_machine.specs.Act.{Outcome, Show, Become, DefineRole, RemoveRole, Create, Reencipher, effect, effected, refused}
 use Rattle.cca_machine.specs.Keys.{warning}
 use Rattle.cca_machine.specs.Verdict.{refusal, first_refusal, action_questions, create_questions, define_questions, remove_questions, verb_verdict}
 use Rattle.cca_requests.specs.Serving.{Carries, tables}
 use Rattle.cca_requests.specs.Deciding.{IsDecided, labels_after}
-use Rattle.cca_requests.proofs.Carrying.{outcome_is, refused_is, shown_is, action_carries, define_carries, remove_carries, create_carries, write_carries, delete_carries}
+use Rattle.cca_requests.proofs.Carrying.{outcome_is, refused_is, shown_is, action_carries, define_carries, remove_carries, create_carries, write_carries, delete_carries, renew_carries}
 use Rattle.cca_requests.proofs.Contents.{sound}
 use Rattle.cca_requests.proofs.Leaving.{still_left, module_left, store_left}
 use Rattle.cca_requests.proofs.Serving.{still_carries}
@@ -119,6 +119,17 @@ returns-in-Delete-clause-carries g c = λ s request drawn at old decided.
     e c.in-Delete.place left.1
     (c.delete.ensures.carries s c.args.held.now e (record { loaded = at.loaded; stands = at.stands.on_store }) left.1))
 
+pub returns-in-Reencipher-clause-carries : goal.returns-in-Reencipher-clause-carries
+returns-in-Reencipher-clause-carries g c = λ s request drawn at old decided.
+    let left = subst (λ e. IsDecided s (bench_of c.args.lease.now) drawn request e c.args.reply.now) c.in-Reencipher.is decided in
+    let m = g.M.Disk.medium c.args.module.now in
+    let d0 = g.D.Disk.medium c.args.store.now in
+    let d1 = g.D.Disk.medium c.renew.new.store in
+    subst (λ (o : Outcome). Carries o s c.renew.result c.renew.new.reply (tables c.args.roles.now c.renew.new.records) m m d0 d1)
+    (sym (outcome_is (verb_verdict s request) None s drawn request Reencipher left.0 left.1 left.2))
+    (renew_carries s c.args.roles.now c.renew.new.records m d0 d1 c.renew.result c.renew.new.reply c.requires.at.settled at.stands.on_module
+    (c.renew.ensures.carries s (record { loaded = at.loaded; stands = at.stands.on_store })))
+
 -- ---- whatever the disks hold
 
 pub returns-in-Refused-clause-left : goal.returns-in-Refused-clause-left
@@ -175,4 +186,12 @@ returns-in-Delete-clause-left g c =
     store_left c.delete.result c.delete.new.reply m (g.D.Disk.medium c.args.store.now) (g.D.Disk.medium c.delete.new.store)
     (g.M.Disk.faults c.args.module.now) (g.D.Disk.faults c.args.store.now) (g.D.Disk.faults c.delete.new.store)
     c.args.roles.now c.args.records.now c.delete.new.records c.delete.ensures.left c.requires.at.settled
+    (sound m (masters_in c.args.held.now (bench_of c.args.lease.now)) c.args.roles.now c.requires.at.stands c.requires.at.remembered)
+
+pub returns-in-Reencipher-clause-left : goal.returns-in-Reencipher-clause-left
+returns-in-Reencipher-clause-left g c =
+    let m = g.M.Disk.medium c.args.module.now in
+    store_left c.renew.result c.renew.new.reply m (g.D.Disk.medium c.args.store.now) (g.D.Disk.medium c.renew.new.store)
+    (g.M.Disk.faults c.args.module.now) (g.D.Disk.faults c.args.store.now) (g.D.Disk.faults c.renew.new.store)
+    c.args.roles.now c.args.records.now c.renew.new.records c.renew.ensures.left c.requires.at.settled
     (sound m (masters_in c.args.held.now (bench_of c.args.lease.now)) c.args.roles.now c.requires.at.stands c.requires.at.remembered)

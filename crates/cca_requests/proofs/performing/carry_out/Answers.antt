@@ -1,17 +1,22 @@
-use Rattle.std.proofs.Common.{◌≡◌, ◌∙◌, None, Some, sym, ap, subst, codes}
+use Rattle.std.proofs.Common.{◌≡◌, ◌∙◌, false, None, Some, Result, Err, sym, ap, subst, codes}
+use Rattle.std.specs.Prelude.{IsTrue}
+use Rattle.std.proofs.lemmas.Bool.{or_parts}
 use Rattle.std.specs.Option.{option_map}
 use Rattle.cca_vectors.specs.Checks.{first_failing}
 use Rattle.key_cells.specs.Lease.{bench_of}
+use Rattle.line_service.specs.declared.stops.Stop.{Stop}
 use Rattle.line_service.specs.declared.stops.Stop.TheVariants.{EntropyFault, StoreFault}
 use Rattle.slot_disk.proofs.Media.{keeps_still}
 use Rattle.verb_rules.specs.Rules.{rule_number}
+use Rattle.verb_script.specs.Grammar.{Request}
 use Rattle.verb_script.specs.Parsed.{seen}
-use Rattle.cca_machine.specs.Operands.{operands}
+use Rattle.cca_machine.specs.Operands.{Operands, operands, listed, names_label, is_reencipher, needs_store}
 use Rattle.cca_machine.specs.Verdict.{refusal, general_checks}
 use Rattle.cca_requests.specs.Judging.{IsJudged}
 use Rattle.cca_requests.specs.declared.judging.Verdict.TheVariants as code
 use Rattle.cca_requests.specs.Serving.{tables, IsFault}
 use Rattle.cca_requests.proofs.Acting.{verdict_general, verdict_operands}
+use Rattle.cca_requests.proofs.Delivering.{either_right}
 use Rattle.cca_requests.proofs.GrantsKept.{grants_kept, loaded_kept}
 use Rattle.cca_requests.proofs.Serving.{refused_serves, stopped_serves, serves_after_reads, stands_kept}
 use Rattle.cca_requests.proofs.performing.carry_out.Goals as goal
@@ -99,3 +104,35 @@ returns-in-Err-clause-serves g c = λ s at.
     stopped_serves s request c.in-Err.stop c.args.reply.now t t m m (g.D.Disk.medium c.args.store.now) (g.D.Disk.medium c.judge.new.store) left left
     (subst IsFault (sym fault) tt) (λ is. let no : StoreFault ≡ EntropyFault = sym fault ∙ is in cc no)
     c.requires.at.settled c.requires.store.settled (keeps_still m) c.judge.ensures.keeps at.stands
+
+-- ---- where the store isn't needed
+
+abbrev error : Stop → Result (Unit {0}) Stop
+error stop = Err stop
+
+same_stop : (a b : Stop) → error a ≡ error b → a ≡ b
+same_stop a b is = cc is
+
+-- a label in an operand needs the store
+needed : (r : Request) (os : Operands) → os ≡ operands r → IsTrue (names_label (listed os)) → IsTrue (needs_store r)
+needed r os same named =
+    either_right (is_reencipher r.name) (names_label (listed (operands r))) (subst (λ o. IsTrue (names_label (listed o))) same named)
+
+-- and where the store isn't needed, no operand is a label
+unnamed : (r : Request) (os : Operands) → os ≡ operands r → needs_store r ≡ false → names_label (listed os) ≡ false
+unnamed r os same none =
+    ap (λ o. names_label (listed o)) same ∙ (or_parts (is_reencipher r.name) (names_label (listed (operands r))) none).1
+
+pub returns-in-Err-clause-named : goal.returns-in-Err-clause-named
+returns-in-Err-clause-named g c = λ is.
+    needed (seen c.args.request.now) _ c.operands_of.ensures.table (c.judge.ensures.named (c.in-Err.is ∙ ap Err (same_stop c.in-Err.stop StoreFault is)))
+
+pub returns-in-Err-clause-spared : goal.returns-in-Err-clause-spared
+returns-in-Err-clause-spared g c = λ none. c.judge.ensures.spared (unnamed (seen c.args.request.now) _ c.operands_of.ensures.table none)
+
+pub returns-in-Ok-Refused-clause-spared : goal.returns-in-Ok-Refused-clause-spared
+returns-in-Ok-Refused-clause-spared g c = λ none. c.judge.ensures.spared (unnamed (seen c.args.request.now) _ c.operands_of.ensures.table none)
+
+pub returns-in-Ok-Granted-clause-spared : goal.returns-in-Ok-Granted-clause-spared
+returns-in-Ok-Granted-clause-spared g c = λ none.
+    c.act.ensures.spared none ∙ c.judge.ensures.spared (unnamed (seen c.args.request.now) _ c.operands_of.ensures.table none)

@@ -30,7 +30,7 @@ use Rattle.cca_machine.specs.Act.{Become, DefineRole, or_empty, yes_or_no, token
 use Rattle.cca_machine.specs.Choices.{pad_named, mac_rule_named, mac_length_named, key_length_named, target_named, type_in}
 use Rattle.cca_machine.specs.Keys.{key_in_text, key_of_label, key_of_request, or_no_key, imported, key_in_field, key_of_token, or_no_clear}
 use Rattle.cca_machine.specs.Listing.{label_fields}
-use Rattle.cca_machine.specs.Operands.{operands, listed, names_label}
+use Rattle.cca_machine.specs.Operands.{operands, needs_store}
 use Rattle.cca_machine.specs.Verdict.{first_refusal, define_questions, encipher_questions, decipher_questions, mac_questions, change_questions, generate_questions, pair_questions, verb_verdict}
 use Rattle.cipher_verbs.specs.CipherTexts.{enciphered_text, deciphered_text}
 use Rattle.mac_verbs.specs.Codes.{code_of, is_code}
@@ -330,7 +330,7 @@ pub returns-in-Ok-generate_pair-clause-named : goal.returns-in-Ok-generate_pair-
 returns-in-Ok-generate_pair-clause-named g c = λ writes.
     let row = c.in-CsnbkgnPair in
     let to = is_some (label_named row.to.now) in
-    subst (λ (r : Request). IsTrue (names_label (listed (operands r)))) (sym (ap seen row.is))
+    subst (λ (r : Request). IsTrue (needs_store r)) (sym (ap seen row.is))
     (either_right (is_some (label_named row.transport2.now)) (to || false) (either_left to false (c.in-Ok-generate_pair.ensures.named writes)))
 
 pub returns-in-Ok-generate_pair-clause-untouched : goal.returns-in-Ok-generate_pair-clause-untouched

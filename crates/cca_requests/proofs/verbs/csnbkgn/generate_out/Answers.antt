@@ -1,4 +1,4 @@
-use Rattle.std.proofs.Common.{◌≡◌, ◌∙◌, ◌∷◌, [], ℕ, List, length, None, Some, codes, refl, sym, ap, subst}
+use Rattle.std.proofs.Common.{◌≡◌, ◌∙◌, ◌∷◌, [], ℕ, None, Some, codes, refl, sym, ap, subst}
 use Rattle.key_cells.specs.Lease.{bench_of}
 use Rattle.key_transport.specs.Generated.{HaveLength, generated_key, generated_tokens}
 use Rattle.key_transport.specs.Tokens.{external_token}
@@ -8,7 +8,7 @@ use Rattle.master_registers.specs.Loaded.{masters_in}
 use Rattle.script_buffers.specs.Replies.{Hex, written}
 use Rattle.verb_rules.specs.Keys.{opened}
 use Rattle.verb_rules.specs.Rules.{rule_number}
-use Rattle.cca_machine.specs.Choices.{key_length_named, out_form_named}
+use Rattle.cca_machine.specs.Choices.{key_length_named}
 use Rattle.cca_machine.specs.Verdict.{first_refusal, pair_questions, refusal}
 use Rattle.cca_requests.specs.Deciding.{token2_fields}
 use Rattle.cca_requests.specs.Drawing.{HasRefused}

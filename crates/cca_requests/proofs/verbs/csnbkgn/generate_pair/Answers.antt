@@ -1,4 +1,4 @@
-use Rattle.std.proofs.Common.{◌≡◌, ◌∙◌, ◌∷◌, [], ℕ, List, length, None, Some, codes, refl, sym, ap, subst, true}
+use Rattle.std.proofs.Common.{◌≡◌, ◌∙◌, [], ℕ, List, None, Some, codes, sym, ap, subst}
 use Rattle.std.specs.Prelude.{IsSome}
 use Rattle.key_cells.specs.Lease.{bench_of}
 use Rattle.key_tokens.specs.Denotes.{denoted}
@@ -7,12 +7,12 @@ use Rattle.key_transport.specs.Tokens.{as_current, current_token, external_token
 use Rattle.key_transport.specs.declared.generating.Form.{Form}
 use Rattle.key_transport.specs.declared.generating.Generated.{Generated}
 use Rattle.master_registers.specs.Loaded.{masters_in}
-use Rattle.script_buffers.specs.Replies.{Field, Hex}
+use Rattle.script_buffers.specs.Replies.{Field}
 use Rattle.verb_rules.specs.Keys.{keys_of, opened}
 use Rattle.verb_rules.specs.Rules.{rule_number}
 use Rattle.verb_script.specs.Named.{label_named}
 use Rattle.cca_machine.specs.Act.{delivered_with}
-use Rattle.cca_machine.specs.Choices.{key_length_named, pair_form_named}
+use Rattle.cca_machine.specs.Choices.{key_length_named}
 use Rattle.cca_machine.specs.Verdict.{first_refusal, pair_questions, refusal}
 use Rattle.cca_requests.specs.Deciding.{IsDelivered, token2_fields}
 use Rattle.cca_requests.specs.Drawing.{HasRefused}

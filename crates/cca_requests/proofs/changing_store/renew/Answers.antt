@@ -1,0 +1,40 @@
+use Rattle.std.proofs.Common.{◌∷◌, ◌∙◌, [], length, Err, ap, codes, refl, sym, subst, ⊎_elim, arith}
+use Rattle.std.proofs.lemmas.Fmt.{length-decimal-le}
+use Rattle.slot_disk.proofs.Media.{told_at}
+use Rattle.script_buffers.specs.Replies.{Number}
+use Rattle.cca_machine.specs.Act.{Reencipher}
+use Rattle.cca_requests.specs.Deciding.{plainly}
+use Rattle.cca_requests.specs.Serving.{CarriesStore}
+use Rattle.cca_requests.specs.Stored.{read_stop}
+use Rattle.cca_requests.proofs.Fields.{one_number}
+use Rattle.cca_requests.proofs.Renewing.{renewed, ended}
+use Rattle.cca_requests.proofs.Storing.{kept_labels}
+use Rattle.cca_requests.proofs.changing_store.renew.Goals as goal
+
+pub returns-in-Ok-clause-carries : goal.returns-in-Ok-clause-carries
+returns-in-Ok-clause-carries g c = λ s at.
+    let old = g.D.Disk.medium c.args.store.now in
+    let rows = c.args.records.now in
+    renewed old (g.D.Disk.medium c.reencipher.new.store) s rows c.reencipher.new.records at.stands _
+    (c.in-Ok.ensures.labels s.registers s.labels at.loaded (kept_labels s rows old at.stands))
+    c.in-Ok.changed c.end.new.reply refl
+    (c.end.ensures (Number (codes "changed") c.in-Ok.changed ∷ [])
+    (one_number (codes "changed") c.in-Ok.changed c.args.reply.now c.ok.new.self c.number.new.self c.requires.empty c.ok.ensures.bytes c.number.ensures.bytes))
+
+pub returns-in-Err-clause-carries : goal.returns-in-Err-clause-carries
+returns-in-Err-clause-carries g c = λ s at.
+    let old = g.D.Disk.medium c.args.store.now in
+    let new = g.D.Disk.medium c.reencipher.new.store in
+    let rows = c.args.records.now in
+    let now = c.reencipher.new.records in
+    let reply = c.args.reply.now in
+    let runs = c.in-Err.ensures.labels s.registers s.labels at.loaded (kept_labels s rows old at.stands) in
+    ⊎_elim
+    (λ disk. subst (λ stop. CarriesStore (plainly s Reencipher) s (Err stop) reply now old new) (sym (c.stop_of.ensures ∙ ap read_stop disk))
+    (ended old new s rows now at.stands _ runs reply))
+    (λ damaged. absurd (told_at old.content (λ _. ⊥) at.stands.in_store.image at.stands.in_store.told
+    (c.reencipher.ensures.damaged damaged.0 (c.in-Err.is ∙ ap Err damaged.2))))
+    c.in-Err.ensures.faults
+
+pub number-requires : goal.number-requires
+number-requires g c = omega (arith, length-decimal-le 10 c.in-Ok.changed (omega arith) (omega arith) (omega arith), ap length c.requires.empty)
