@@ -1,6 +1,12 @@
+mod CountingLemmas
+mod DemoLemmas
+mod DemoRunLemmas
 mod ListLemmas
 mod OpeningLemmas
+mod BetweenLemmas
 mod KnownLemmas
 mod LineLemmas
 mod StopLemmas
 mod StatusLemmas
+mod Walks
+mod WordLemmas

@@ -1,5 +1,5 @@
 -- What comes of one line.
-use Rattle.std.proofs.Common.{◌≡◌, ℕ, ◌<◌, ◌≤◌, List, [], length, take, Option, None, Some, Result, Ok, Err, codes, refl, sym, ap, ◌∙◌, subst, inl, inr, arith}
+use Rattle.std.proofs.Common.{◌≡◌, ℕ, ◌<◌, ◌≤◌, List, [], length, take, Option, None, Some, Result, Ok, Err, codes, refl, sym, ap, ◌∙◌, subst, inl, inr, ⊎_elim, arith}
 use Rattle.std.specs.Prelude.{◌⊎◌, OnOk, IfErr, IsTrue}
 use Rattle.slot_disk.specs.Medium.{Medium, IsSettled, From, EachImage}
 use Rattle.slot_disk.proofs.Media.{each_weaker, image_now}
@@ -8,12 +8,12 @@ use Rattle.script_buffers.specs.Replies.{Refused, spelled}
 use Rattle.verb_script.specs.Grammar.{Request, Spells}
 use Rattle.verb_script.specs.Requests.{request_of}
 use Rattle.cca_machine.specs.State.{State, IsModuleOf, IsStoreOf}
-use Rattle.cca_machine.specs.Operands.{operands, listed, names_label}
+use Rattle.cca_machine.specs.Operands.{needs_store}
 use Rattle.cca_machine.specs.Verdict.{Refusal, verdict}
-use Rattle.cca_machine.specs.Act.{Outcome, draws, or_act, performed}
+use Rattle.cca_machine.specs.Act.{Cells, NoCell, Outcome, draws, or_act, performed}
 use Rattle.cca_machine.specs.Lines.{LineOutcome, drawn_where, taken_by, line_outcome}
 use Rattle.cca_machine.proofs.LineLaws.{line-no_request, line-too_long, line-request, line-drawn}
-use Rattle.cca_requests.specs.Serving.{Tables, Stands as StandsFor, Serves as Performs, HasDrawn, IsDone, IsEither, ArePair, IsFault, SameBut}
+use Rattle.cca_requests.specs.Serving.{Tables, Stands as StandsFor, Serves as Performs, HasDrawn, IsDone, IsAround, IsEither, IsFault, SameBut}
 use Rattle.line_service.specs.Answering.{Holds, Stands, Steps, Around, Both, Moves, Stays, Serves, Unwritten}
 use Rattle.line_service.specs.Machine.{world}
 use Rattle.line_service.specs.Stops.{IsLineStop}
@@ -22,6 +22,7 @@ use Rattle.line_service.specs.declared.stops.Stop.{Stop}
 use Rattle.line_service.specs.declared.stops.Stop.TheVariants.{ReadFault, WriteFault, EntropyFault, ModuleFault, StoreFault, Damaged, InputLimit}
 use Rattle.line_service.proofs.LineLemmas.{refused_serves, still_has}
 use Rattle.cca_tool.specs.Coprocessor.{cca, IsRefusal, DrawsRandom, MayFail, remembers}
+use Rattle.cca_tool.proofs.BetweenLemmas.{between_is}
 use Rattle.cca_tool.proofs.KnownLemmas.{stands_as}
 
 -- ---- lines that are refused without a look at a disk
@@ -47,7 +48,7 @@ unspelled_serves s K line reply m d e short none is stands settled_m settled_d =
 
 -- a refused request writes no cell, whatever random bytes come
 abbrev WritesNone : Outcome → Type 0
-WritesNone o = (o.module_cell ≡ None) × (o.store_cell ≡ None)
+WritesNone o = (o.module_cells ≡ NoCell) × (o.store_cells ≡ NoCell)
 
 refusal_writes : (o : Option Refusal) (s : State) (r : Request) (drawn other : List ℕ) → IsRefusal (or_act o s drawn r).reply → WritesNone (or_act o s other r)
 refusal_writes (Some refusal) s r drawn other is = (refl, refl)
@@ -58,9 +59,9 @@ unfolding performed
 performed_writes s r drawn other is = refusal_writes (verdict s r) s r drawn other is
 
 -- a disk of which no cell is written
-kept_images : (cell : Option ℕ) (m0 m1 : Medium) → cell ≡ None → EachImage m0 m1 (From (SameBut cell) m0) → EachImage m0 m1 m0.images
-kept_images cell m0 m1 none outside =
-    each_weaker m0 m1 (From (SameBut None) m0) m0.images (subst (λ (x : Option ℕ). EachImage m0 m1 (From (SameBut x) m0)) none outside)
+kept_images : (cells : Cells) (m0 m1 : Medium) → cells ≡ NoCell → EachImage m0 m1 (From (SameBut cells) m0) → EachImage m0 m1 m0.images
+kept_images cells m0 m1 none outside =
+    each_weaker m0 m1 (From (SameBut NoCell) m0) m0.images (subst (λ (x : Cells). EachImage m0 m1 (From (SameBut x) m0)) none outside)
     (λ c from. subst m0.images (sym from.2) (m0.is_image from.0 from.1))
 
 -- a request that takes random bytes is one that draws them, and isn't refused
@@ -83,20 +84,20 @@ module _ (s : State) (line : List ℕ) (r : Request) (short : length line ≤ li
       performed_writes s r (take (taken_by s r) []) drawn
       (subst (λ (o : LineOutcome). IsRefusal o.reply) (line-request s [] line r short spells) refuses)
 
-  -- a disk of which each image stands for the state before a request or after it
-  around : (Of : State → List ℕ → Type 0) (o : Outcome) (c : List ℕ) → IsEither Of s o c → Around cca s line o.state (λ t. Of t c)
-  around Of o c (inl same) = inl same
-  around Of o c (inr next) = inr (inl next)
-
-  around_both : (o : Outcome) (c d : List ℕ) → ArePair s o c d → Around cca s line o.state (Both cca c d)
-  around_both o c d (inl same) = inl same
-  around_both o c d (inr next) = inr (inl next)
+  -- a state before a request or after it, or one on the way of a permitted REENCIPHER
+  around : Spells r line → (drawn : List ℕ) (P : State → Type 0) → IsAround s (performed s drawn r) P → Around cca s line (performed s drawn r).state P
+  around found drawn P (inl same) = inl same
+  around found drawn P (inr (inl next)) = inr (inl next)
+  around found drawn P (inr (inr between)) = ⊎_elim
+      (λ still. inl (subst P still between.2))
+      (λ renewing. inr (inr ((performed s drawn r).between between.0, renewing, between.2)))
+      (between_is s line r drawn between.0 between.1 found)
 
   -- the stops of a request over disks that stand for a state
   of_stop : (stop : Stop) → IsFault stop → Spells r line → (stop ≡ EntropyFault → 0 < taken_by s r)
-      → (stop ≡ StoreFault → IsTrue (names_label (listed (operands r)))) → IsLineStop stop × MayFail stop s line
+      → (stop ≡ StoreFault → IsTrue (needs_store r)) → IsLineStop stop × MayFail stop s line
   of_stop ModuleFault fault found draws names = (tt, (r, found))
-  of_stop StoreFault fault found draws names = (tt, record { request = r; spelled = found; named = names refl })
+  of_stop StoreFault fault found draws names = (tt, record { request = r; spelled = found; needs = names refl })
   of_stop EntropyFault fault found draws names = (tt, draws_random s line r found (draws refl))
   of_stop ReadFault fault found draws names = absurd fault
   of_stop WriteFault fault found draws names = absurd fault
@@ -104,7 +105,7 @@ module _ (s : State) (line : List ℕ) (r : Request) (short : length line ≤ li
   of_stop (Damaged device cell) fault found draws names = absurd fault
 
   line_stop : (u : Result (Unit {0}) Stop) → IfErr u IsFault → Spells r line → (u ≡ Err EntropyFault → 0 < taken_by s r)
-      → (u ≡ Err StoreFault → IsTrue (names_label (listed (operands r)))) → IfErr u (λ stop. IsLineStop stop × MayFail stop s line)
+      → (u ≡ Err StoreFault → IsTrue (needs_store r)) → IfErr u (λ stop. IsLineStop stop × MayFail stop s line)
   line_stop (Ok done) faults found draws names = tt
   line_stop (Err stop) faults found draws names = of_stop stop faults found (λ is. draws (ap Err is)) (λ is. names (ap Err is))
 
@@ -128,9 +129,9 @@ module _ (s : State) (line : List ℕ) (r : Request) (short : length line ≤ li
       on_store = stays_of d0 d1 (IsStoreOf s) settled_d standing.disks.in_store unwritten.on_store;
     }
 
-    moves : (performs : Performs s r result reply after (world m0 d0 e0) (world m1 d1 e1)) → HasDrawn performs.drawn (taken_by s r) e0 e1
+    moves : Spells r line → (performs : Performs s r result reply after (world m0 d0 e0) (world m1 d1 e1)) → HasDrawn performs.drawn (taken_by s r) e0 e1
         → Moves cca s (remembers after) line result reply (world m0 d0 e0) (world m1 d1 e1)
-    moves performs random =
+    moves found performs random =
         let o = performed s performs.drawn r in
         let carries = performs.carries in
         record {
@@ -141,32 +142,32 @@ module _ (s : State) (line : List ℕ) (r : Request) (short : length line ≤ li
           consumed = random.consumed;
           reply_is = reply_at o result carries.done;
           stands = stands_after o result carries.done;
-          on_module = each_weaker m0 m1 (IsEither IsModuleOf s o) _ carries.on_module (around IsModuleOf o);
-          on_store = each_weaker d0 d1 (IsEither IsStoreOf s o) _ carries.on_store (around IsStoreOf o);
+          on_module = each_weaker m0 m1 (IsEither IsModuleOf s o) _ carries.on_module (λ c is. around found performs.drawn (λ t. IsModuleOf t c) is);
+          on_store = each_weaker d0 d1 (IsEither IsStoreOf s o) _ carries.on_store (λ d is. around found performs.drawn (λ t. IsStoreOf t d) is);
           pairs = record {
             later1 = performs.pairs.later1;
             later2 = performs.pairs.later2;
-            each = λ c d first second. around_both o c d (performs.pairs.each c d first second);
+            each = λ c d first second. around found performs.drawn (Both cca c d) (performs.pairs.each c d first second);
           };
         }
 
-    served : (performs : Performs s r result reply after (world m0 d0 e0) (world m1 d1 e1))
+    served : Spells r line → (performs : Performs s r result reply after (world m0 d0 e0) (world m1 d1 e1))
         → HasDrawn performs.drawn (taken_by s r) e0 e1 ⊎ (OnOk result ⊥ × Unwritten (world m0 d0 e0) (world m1 d1 e1))
         → Moves cca s (remembers after) line result reply (world m0 d0 e0) (world m1 d1 e1) ⊎ (OnOk result ⊥ × Stays cca s (world m0 d0 e0) (world m1 d1 e1))
-    served performs (inl random) = inl (moves performs random)
-    served performs (inr stopped) = inr (stopped.0, stays stopped.1)
+    served found performs (inl random) = inl (moves found performs random)
+    served found performs (inr stopped) = inr (stopped.0, stays stopped.1)
 
-    pub request_serves : Spells r line → (result ≡ Err StoreFault → IsTrue (names_label (listed (operands r))))
+    pub request_serves : Spells r line → (result ≡ Err StoreFault → IsTrue (needs_store r))
         → Performs s r result reply after (world m0 d0 e0) (world m1 d1 e1)
         → Serves cca s (remembers after) line result reply (world m0 d0 e0) (world m1 d1 e1)
     request_serves found names performs = record {
-      served = served performs performs.random;
+      served = served found performs performs.random;
       stops = line_stop result performs.carries.stops found performs.permitted names;
       undrawn = λ h. stays (performs.undrawn h);
       unwritten = λ refuses.
           let none = refused_writes performs.drawn refuses in record {
-            on_module = kept_images (performed s performs.drawn r).module_cell m0 m1 none.0 performs.carries.module_outside;
-            on_store = kept_images (performed s performs.drawn r).store_cell d0 d1 none.1 performs.carries.store_outside;
+            on_module = kept_images (performed s performs.drawn r).module_cells m0 m1 none.0 performs.carries.module_outside;
+            on_store = kept_images (performed s performs.drawn r).store_cells d0 d1 none.1 performs.carries.store_outside;
           };
     }
 

@@ -7,14 +7,15 @@ use Rattle.master_registers.specs.RegisterBody.{StandsForMasters, IsDamaged}
 use Rattle.master_registers.proofs.BodyLaws.{reads_one}
 use Rattle.script_buffers.specs.Replies.{Reply, Refused, Done, spelled}
 use Rattle.verb_rules.specs.Keys.{keys_of}
-use Rattle.verb_script.specs.Grammar.{Request, Spells}
+use Rattle.verb_script.specs.Grammar.{Request, reencipher, Spells}
 use Rattle.cca_roles.specs.RolesStand.{StandsForRoles, IsFirstDamaged}
 use Rattle.cca_roles.specs.declared.roles.Role.{Role}
 use Rattle.cca_roles.proofs.StandLaws.{stands_undamaged}
 use Rattle.key_records.specs.StoreStands.{StandsForLabels, Agrees, IsFirstDamaged as IsFirstDamagedRecord}
 use Rattle.key_records.proofs.OpeningLaws.{stands_undamaged as labels_undamaged}
 use Rattle.cca_machine.specs.State.{State, IsModuleOf, IsStoreOf, module_size, store_size}
-use Rattle.cca_machine.specs.Operands.{operands, listed, names_label}
+use Rattle.reencipher.specs.Further.{further}
+use Rattle.cca_machine.specs.Operands.{needs_store}
 use Rattle.cca_machine.specs.Verdict.{verdict}
 use Rattle.cca_machine.specs.Act.{draws}
 use Rattle.cca_machine.specs.Lines.{line_outcome}
@@ -34,11 +35,11 @@ IsRefusal (Done fields) = ⊥
 abbrev pub IsRequest : List ℕ → Type 0
 IsRequest line = (request : Request) × Spells request line
 
--- the line spells a request with a label in an operand
-pub record NamesLabel (line : List ℕ) : Type 0 where
+-- the line spells a request with a label in an operand, or REENCIPHER
+pub record NeedsStore (line : List ℕ) : Type 0 where
   pub request : Request
   pub spelled : Spells request line
-  pub named : IsTrue (names_label (listed (operands request)))
+  pub needs : IsTrue (needs_store request)
 
 -- the line spells a request that draws random bytes, and that no rule refuses from this state
 pub record DrawsRandom (s : State) (line : List ℕ) : Type 0 where
@@ -47,17 +48,28 @@ pub record DrawsRandom (s : State) (line : List ℕ) : Type 0 where
   pub draws : 0 < draws request.name request
   pub permitted : verdict s request ≡ None
 
+-- The line spells REENCIPHER, which no rule refuses from this state. A stop on its way leaves a state in which every
+-- label in a cell below some number is current.
+pub record IsRenewing (s : State) (line : List ℕ) (t : State) : Type 0 where
+  pub request : Request
+  pub spelled : Spells request line
+  pub is : request.name ≡ reencipher
+  pub permitted : verdict s request ≡ None
+  pub cells : ℕ
+  pub within : cells ≤ 1024
+  pub state_is : t ≡ record s { labels = further s.labels cells }
+
 -- what comes of a line, with its reply in bytes
 abbrev pub line_step : State → List ℕ → List ℕ → Outcome State
 line_step s random line =
     let o = line_outcome s random line in
     record { state = o.state; reply = spelled o.reply; random = o.random }
 
--- The module may fail at a request, the store where an operand is a label, the random source where random bytes are
--- drawn, and no other device at any line.
+-- The module may fail at a request, the store where an operand is a label and at REENCIPHER, the random source where
+-- random bytes are drawn, and no other device at any line.
 abbrev pub MayFail : Stop → State → List ℕ → Type 0
 MayFail ModuleFault s line = IsRequest line
-MayFail StoreFault s line = NamesLabel line
+MayFail StoreFault s line = NeedsStore line
 MayFail EntropyFault s line = DrawsRandom s line
 MayFail ReadFault s line = ⊥
 MayFail WriteFault s line = ⊥
@@ -106,7 +118,7 @@ cca = record {
   Refuses = λ s line. IsRefusal (line_outcome s [] line).reply;
   InModule = IsModuleOf;
   InStore = IsStoreOf;
-  Between = λ s line t. ⊥;
+  Between = IsRenewing;
   MayStop = MayFail;
   Draws = ⊤;
   HasCell = IsCell;

@@ -1,9 +1,20 @@
 //! The words of a command line.
-ghost use Rattle.std.specs.Prelude.{◌≡◌, ◌↔◌, ◌++◌, ◌∷◌, [], OnOk, OnErr, IsTrue, codes};
+ghost use Rattle.std.specs.Prelude.{◌≡◌, ◌≤◌, ◌↔◌, ◌++◌, ◌∷◌, ℕ, [], OnOk, OnErr, IsTrue, codes, decimal, Some};
+ghost use Rattle.cca_tool.specs.Demo.{IsDemo};
 
+use itoa::Buffer;
 use slot_disk::NoMemory;
 use std::alloc::Global;
 use std::marker::Model;
+
+/// What the words of a command line ask for.
+#[derive(Clone, Copy, Debug, PartialEq, Eq)]
+pub enum Command {
+    /// `run`: the requests of the input are served.
+    Run,
+    /// `demo N`: lines that are made up from this number are served, and counted.
+    Demo(u32),
+}
 
 /// The words behind the program's name.
 #[derive(Drop)]
@@ -42,13 +53,65 @@ impl Words {
         Ok(())
     }
 
-    /// Whether they are the one word `run`.
-    pub fn are_run(&self) -> bool
+    /// The command, where they are one: the one word `run`, or `demo` and a number from 1 to 1,000 in decimal
+    /// digits, of which the first isn't zero.
+    pub fn command(&self) -> Option<Command>
+        ensures run { (result ≡ Some Command.Run) ↔ (self.now ≡ codes "run" ∷ []) }
+        ensures demo { (n : ℕ) → (result ≡ Some (Command.Demo n)) ↔ IsDemo n self.now }
+    {
+        if self.are_run() {
+            return Some(Command::Run);
+        }
+        match self.demo_number() {
+            Some(number) => Some(Command::Demo(number)),
+            None => None,
+        }
+    }
+
+    // Whether they are the one word `run`.
+    fn are_run(&self) -> bool
         ensures { IsTrue result ↔ (self.now ≡ codes "run" ∷ []) }
     {
         match self.words.as_slice() {
             [word] => word.as_str() == "run",
             _ => false,
         }
+    }
+
+    // The number behind `demo`, where they are these two words.
+    fn demo_number(&self) -> Option<u32>
+        ensures { (n : ℕ) → (result ≡ Some n) ↔ IsDemo n self.now }
+    {
+        match self.words.as_slice() {
+            [word, number] => demo_of(word.as_str(), number.as_str()),
+            _ => None,
+        }
+    }
+}
+
+// The number of a demo, where the two words ask for one.
+fn demo_of(word: &str, number: &str) -> Option<u32>
+    ensures { (n : ℕ) → (result ≡ Some n) ↔ IsDemo n (word.now ∷ number.now ∷ []) }
+{
+    if word == "demo" {
+        small_number(number)
+    } else {
+        None
+    }
+}
+
+// A number from 1 to 1,000, where the word is its decimal digits.
+fn small_number(word: &str) -> Option<u32>
+    ensures { (n : ℕ) → (result ≡ Some n) ↔ ((word.now ≡ decimal n) × (1 ≤ n) × (n ≤ 1000)) }
+{
+    let Ok(number) = word.parse::<u32>() else {
+        return None;
+    };
+    let mut digits = Buffer::new();
+    let is_plain = digits.format(number) == word;
+    if is_plain && 1 <= number && number <= 1000 {
+        Some(number)
+    } else {
+        None
     }
 }

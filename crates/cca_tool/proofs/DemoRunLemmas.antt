@@ -1,0 +1,119 @@
+-- What the lines of a demo come to, from what a run of its text comes to.
+use Rattle.std.proofs.Common.{◌≡◌, ◌⊎◌, ℕ, ◌+◌, ◌<◌, ◌≤◌, List, [], ◌++◌, length, Option, None, Some, Result, Ok, Err, sym, ap, ◌∙◌, subst, inl, inr, arith}
+use Rattle.slot_disk.specs.Faults.{Rose}
+use Rattle.slot_disk.specs.Medium.{Medium, Told, EachImage}
+use Rattle.slot_disk.specs.WhereTold.{WhereTold}
+use Rattle.slot_disk.proofs.Media.{told_from, told_at}
+use Rattle.script_buffers.specs.Lines.{lines, EndsLine}
+use Rattle.script_buffers.specs.Reading.{input_limit}
+use Rattle.line_service.specs.Machine.{world}
+use Rattle.line_service.specs.Sending.{GotPart}
+use Rattle.line_service.specs.Serving.{Led, AllAnswered, LineLost, Unopened, IsOnTheWay}
+use Rattle.line_service.specs.declared.stops.Device.TheVariants.{Module, Store}
+use Rattle.line_service.specs.declared.stops.Stop.{Stop}
+use Rattle.line_service.specs.declared.stops.Stop.TheVariants.{ReadFault, WriteFault, EntropyFault, ModuleFault, StoreFault, Damaged, InputLimit}
+use Rattle.cca_machine.specs.State.{State}
+use Rattle.cca_tool.specs.Coprocessor.{cca, IsBrokenModule, IsBrokenStore}
+use Rattle.cca_tool.specs.Counting.{counted, counted_summary}
+use Rattle.cca_tool.specs.Demo.{demo_lines, demo_text, summary, summary_text, are_ok, are_refused}
+use Rattle.cca_tool.specs.DemoRun.{SummarySent, SummaryCut, DemoLost}
+use Rattle.cca_tool.specs.Statuses.{status_of_lem}
+use Rattle.cca_tool.specs.declared.command.Status.{Status}
+use Rattle.cca_tool.specs.declared.command.Status.TheVariants as status
+use Rattle.cca_tool.proofs.CountingLemmas.{ok-is, refused-is, old-is}
+use Rattle.cca_tool.proofs.DemoLemmas.{lines-demo_text, demo-short, replies-end}
+
+-- a count that is always 0 doesn't rise
+pub never_rose : Rose 0 0 → ⊥
+never_rose h = omega (arith, h)
+
+pub never_usage : (r : Result (Unit {0}) Stop) → status_of_lem r ≡ status.Usage → ⊥
+never_usage (Ok done) h = cc h
+never_usage (Err ReadFault) h = cc h
+never_usage (Err WriteFault) h = cc h
+never_usage (Err EntropyFault) h = cc h
+never_usage (Err ModuleFault) h = cc h
+never_usage (Err StoreFault) h = cc h
+never_usage (Err (Damaged device cell)) h = cc h
+never_usage (Err InputLimit) h = cc h
+
+no_stop : (done : Unit {0}) (stop : Stop) → ◌≡◌ {A = Result (Unit {0}) Stop} (Ok done) (Err stop) → ⊥
+no_stop done stop h = cc h
+
+-- where the lines were all answered, no disk was damaged
+module _ (r : Result (Unit {0}) Stop) (done : Unit {0}) (is : r ≡ Ok done) (out : Status) where
+  pub judged_done : (m : Medium) → Told m (λ image. (cell : ℕ) → IsBrokenModule cell image → r ≡ Err (Damaged Module cell))
+      → Told m (λ image. (cell : ℕ) → IsBrokenModule cell image → (out ≡ status.Damaged Module cell) ⊎ (out ≡ status.NoMemory))
+  judged_done m judged =
+      told_from m.content _ (λ c told cell broken.
+      absurd (no_stop done (Damaged Module cell) (sym is
+      ∙ told_at m.content (λ image. (n : ℕ) → IsBrokenModule n image → r ≡ Err (Damaged Module n)) c told judged cell broken)))
+
+  pub store_judged_done : (m d : Medium) → Told m (λ c. Told d (λ e. (cell : ℕ) → IsBrokenStore cell c e → r ≡ Err (Damaged Store cell)))
+      → Told m (λ c. Told d (λ e. (cell : ℕ) → IsBrokenStore cell c e → (out ≡ status.Damaged Store cell) ⊎ (out ≡ status.NoMemory)))
+  store_judged_done m d judged =
+      told_from m.content _ (λ c is_c. told_from d.content _ (λ e is_e cell broken.
+      let both = told_at m.content (λ x. Told d (λ y. (n : ℕ) → IsBrokenStore n x y → r ≡ Err (Damaged Store n))) c is_c judged in
+      absurd (no_stop done (Damaged Store cell) (sym is
+      ∙ told_at d.content (λ y. (n : ℕ) → IsBrokenStore n c y → r ≡ Err (Damaged Store n)) e is_e both cell broken))))
+
+module _ (n : ℕ) (text : List ℕ) (is : text ≡ demo_text n) where
+  pub short : n ≤ 1000 → length text < input_limit
+  short few = subst (λ (x : List ℕ). length x < input_limit) (sym is) (demo-short n few)
+
+  pub within_limit : n ≤ 1000 → (rest : List ℕ) → length text ≡ length rest + input_limit → ⊥
+  within_limit few rest full = omega (arith, short few, full)
+
+  pub moments_of : (s : State) (Of : State → List ℕ → Type 0) (m0 m1 : Medium)
+      → EachImage m0 m1 (λ c. m0.images c ⊎ IsOnTheWay cca s None text (λ t. Of t c))
+      → EachImage m0 m1 (λ c. m0.images c ⊎ IsOnTheWay cca s None (demo_text n) (λ t. Of t c))
+  moments_of s Of m0 m1 each =
+      subst (λ (x : List ℕ). EachImage m0 m1 (λ c. m0.images c ⊎ IsOnTheWay cca s None x (λ t. Of t c))) is each
+
+  pub lost_of : (stop : Stop) (s : State) (m0 m1 d0 d1 : Medium) (rest : List ℕ) (before now : Option (List ℕ))
+      → LineLost cca stop s None (world m1 d1 None) text before now ⊎ Unopened (world m0 d0 None) (world m1 d1 None) text rest before now
+      → DemoLost stop n s (world m0 d0 None) (world m1 d1 None)
+  lost_of stop s m0 m1 d0 d1 rest before now (inl lost) = inl (record {
+    whole = lost.whole;
+    line = lost.line;
+    others = lost.others;
+    lines_are = ap lines (sym is) ∙ lost.lines_are;
+    state = lost.state;
+    sent = lost.sent;
+    leads = lost.leads;
+    held = tt;
+    may_stop = lost.may_stop;
+    left = lost.left;
+    undrawn = lost.undrawn;
+  })
+  lost_of stop s m0 m1 d0 d1 rest before now (inr none) = inr (none.on_module, none.on_store)
+
+  module _ (s : State) (m d : Medium) (start tally : List ℕ) (none : start ≡ []) (all : AllAnswered cca s None (world m d None) text (Some start) (Some tally)) where
+    led : Led cca s None (world m d None) (demo_lines n) all.sent
+    led = subst (λ (ls : List (List ℕ)). Led cca s None (world m d None) ls all.sent) (ap lines is ∙ lines-demo_text n) all.led
+
+    ends : EndsLine all.sent
+    ends = replies-end (lines text) s all.led.last all.led.drawn all.sent all.led.runs
+
+    told : counted_summary n tally ≡ summary n all.sent
+    told =
+        ap (counted_summary n) (all.held ∙ ap (λ (x : List ℕ). x ++ all.sent) none)
+        ∙ (ap (λ (x : ℕ). summary_text n x (counted all.sent).refused (counted all.sent).old) (ok-is all.sent ends)
+        ∙ (ap (λ (x : ℕ). summary_text n (are_ok all.sent) x (counted all.sent).old) (refused-is all.sent ends)
+        ∙ ap (λ (x : ℕ). summary_text n (are_ok all.sent) (are_refused all.sent) x) (old-is all.sent ends)))
+
+    pub summary_sent : (line : List ℕ) → line ≡ counted_summary n tally → (before now : Option (List ℕ))
+        → WhereTold before now (λ x y. y ≡ x ++ line) → SummarySent n s (world m d None) before now
+    summary_sent line line_is before now held = record {
+      sent = all.sent;
+      led = led;
+      held = subst (λ (l : List ℕ). WhereTold before now (λ x y. y ≡ x ++ l)) (line_is ∙ told) held;
+    }
+
+    pub summary_cut : (line : List ℕ) → line ≡ counted_summary n tally → (before now : Option (List ℕ))
+        → WhereTold before now (λ x y. GotPart x y line) → SummaryCut n s (world m d None) before now
+    summary_cut line line_is before now got = record {
+      sent = all.sent;
+      led = led;
+      got = subst (λ (l : List ℕ). WhereTold before now (λ x y. GotPart x y l)) (line_is ∙ told) got;
+    }

@@ -1,0 +1,30 @@
+//! A history that only proofs read. It takes no memory, and its methods do nothing at run time.
+ghost use Rattle.std.specs.Prelude.{◌≡◌, List, [], ◌∷◌, ◌++◌};
+ghost use Rattle.std.specs.Borrow.{ftrue};
+
+use std::marker::{Model, PhantomData};
+
+/// What came so far, one after the other. A clause reads it as `items`.
+#[derive(Drop)]
+pub(crate) struct History<A> {
+    of: PhantomData<A>,
+    pub(crate) ghost items: { List A },
+}
+
+impl<A> Model for History<A> {
+    ghost also_owns = { λ _. ftrue };
+}
+
+impl<A> History<A> {
+    pub(crate) fn new() -> History<A>
+        ensures { result.items ≡ [] }
+    {
+        History { of: PhantomData }
+    }
+
+    pub(crate) fn and(&self, item: &A) -> History<A>
+        ensures { result.items ≡ self.now.items ++ item.now ∷ [] }
+    {
+        History { of: PhantomData }
+    }
+}
