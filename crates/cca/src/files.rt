@@ -23,6 +23,25 @@ const OWNER_ALONE: u32 = 0o600;
 pub fn open_disk(rt: &HostRuntime, name: &str, size: u64) -> Result<FileDisk, Fault>
     ensures { IfOk result (λ disk. (⟦<FileDisk as Disk>⟧.medium disk).size ≡ size) }
 {
+    let file = open_locked(rt, name)?;
+    made_whole(&file, size)?;
+    Ok(FileDisk::new(file, size))
+}
+
+/// The same, but that what the file held is gone: it is all zero.
+pub fn new_disk(rt: &HostRuntime, name: &str, size: u64) -> Result<FileDisk, Fault>
+    ensures { IfOk result (λ disk. (⟦<FileDisk as Disk>⟧.medium disk).size ≡ size) }
+{
+    let file = open_locked(rt, name)?;
+    if file.set_len(0).is_err() {
+        return Err(Fault::File);
+    }
+    made_whole(&file, size)?;
+    Ok(FileDisk::new(file, size))
+}
+
+/// The file of this name, made where it is missing, and locked.
+fn open_locked(rt: &HostRuntime, name: &str) -> Result<File, Fault> {
     let opened = OpenOptions::new()
         .read(true)
         .write(true)
@@ -35,8 +54,7 @@ pub fn open_disk(rt: &HostRuntime, name: &str, size: u64) -> Result<FileDisk, Fa
     if file.try_lock().is_err() {
         return Err(Fault::File);
     }
-    made_whole(&file, size)?;
-    Ok(FileDisk::new(file, size))
+    Ok(file)
 }
 
 /// The random bytes of the system.

@@ -3,6 +3,8 @@
 //! `cca run` reads request lines on standard input, and writes a reply line for each on standard
 //! output. The master key registers and the roles stand in the file `cca.module` of the current folder, and keys under
 //! labels, always enciphered, in the file `cca.store`.
+//!
+//! `cca demo N` serves lines that are made up for N labels, over files of its own, and writes how they were answered.
 #![tactic(auto)]
 
 ghost use Rattle.std.specs.Prelude.{◌≡◌, ◌↔◌, ◌++◌, ◌∷◌, [], OnOk, IsNone};
@@ -10,11 +12,11 @@ ghost use Rattle.std.specs.Prelude.{◌≡◌, ◌↔◌, ◌++◌, ◌∷◌, [
 mod fault;
 mod files;
 
-use cca_tool::{Status, Words, run};
+use cca_tool::{Command, Status, Words, run};
 use fault::{Fault, fault_of};
-use files::{MODULE_LEN, STORE_LEN, open_disk, open_random};
+use files::{MODULE_LEN, STORE_LEN, new_disk, open_disk, open_random};
 use key_cells::Workbench;
-use slot_disk::{NoMemory, StreamEntropy, StreamSink, StreamSource};
+use slot_disk::{Disk, FileDisk, NoMemory, StreamEntropy, StreamSink, StreamSource};
 use std::env;
 use std::io::ErrorKind;
 use std::process::ExitCode;
@@ -43,19 +45,41 @@ fn fault_in(outcome: Result<Status, Fault>) -> Option<Fault>
 
 fn run_in(rt: &HostRuntime) -> Result<Status, Fault> {
     let words = words_of(rt)?;
-    // Other words open no file.
-    if !words.are_run() {
-        return Ok(Status::Usage);
+    match words.command() {
+        Some(Command::Run) => {
+            let module = open_disk(rt, "cca.module", MODULE_LEN)?;
+            let store = open_disk(rt, "cca.store", STORE_LEN)?;
+            run_over(rt, &words, module, store)
+        }
+        Some(Command::Demo(_)) => {
+            let module = new_disk(rt, "demo.module", MODULE_LEN)?;
+            let store = new_disk(rt, "demo.store", STORE_LEN)?;
+            run_over(rt, &words, module, store)
+        }
+        // Other words open no file.
+        None => Ok(Status::Usage),
     }
-    let mut module = open_disk(rt, "cca.module", MODULE_LEN)?;
-    let mut store = open_disk(rt, "cca.store", STORE_LEN)?;
+}
+
+/// Runs the command over these files.
+fn run_over(
+    rt: &HostRuntime,
+    words: &Words,
+    module: FileDisk,
+    store: FileDisk,
+) -> Result<Status, Fault>
+    requires module_size { (⟦<FileDisk as Disk>⟧.medium «module»).size ≡ 50688 }
+    requires store_size { (⟦<FileDisk as Disk>⟧.medium store).size ≡ 1572864 }
+{
+    let mut module = module;
+    let mut store = store;
     let mut bench = Workbench::new();
     let mut source = StreamSource::new(rt.stdin());
     let mut sink = StreamSink::new(rt.stdout());
     let mut entropy = StreamEntropy::new(open_random(rt)?);
     Ok(run(
         rt.alloc(),
-        &words,
+        words,
         &mut bench,
         &mut source,
         &mut sink,
