@@ -287,6 +287,7 @@ const NO_MASTER_KEY: &[(&str, &str)] = &[
         "CSNBCKI role=DEFAULT clear=0123456789abcdef to=-",
         "NO 05 -",
     ),
+    ("REENCIPHER role=DEFAULT", "NO 05 -"),
     (
         "CSNBRNG role=DEFAULT form=ODD",
         "OK random=0101010101010101",

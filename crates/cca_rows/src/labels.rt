@@ -194,8 +194,14 @@ const NEW_MASTER_KEY: &[(&str, &str)] = &[
     ),
     ("CSNBKRD role=DEFAULT label=K", "OK"),
     ("CSNBMKP role=DEFAULT action=SET", "NO 27 -"),
-    ("CSNBKRD role=DEFAULT label=Z", "OK"),
+    ("REENCIPHER role=NOBODY", "NO 03 -"),
+    ("REENCIPHER role=DEFAULT", "OK changed=1"),
+    ("CSNBKYT role=DEFAULT key=L:Z", "OK value=d5d44ff7"),
+    ("REENCIPHER role=DEFAULT", "OK changed=0"),
     ("CSNBMKP role=DEFAULT action=SET", "OK new=empty"),
+    ("CSNBKYT role=DEFAULT key=L:Z", "OK value=d5d44ff7 warn=old"),
+    ("CSNBKRD role=DEFAULT label=Z", "OK"),
+    ("REENCIPHER role=DEFAULT", "OK changed=0"),
 ];
 
 // Roles beside labels: a request whose key goes into a record needs the point of CSNBKRW too.
@@ -222,6 +228,12 @@ const ROLES: &[(&str, &str)] = &[
     ),
     ("CSNBKRD role=CLERK label=K", "NO 04 -"),
     ("CSNBKRL role=CLERK prefix=", "NO 04 -"),
+    ("REENCIPHER role=CLERK", "NO 04 -"),
+    (
+        "CSUAACI role=DEFAULT action=DEFINE name=CLERK points=02000000",
+        "OK",
+    ),
+    ("REENCIPHER role=CLERK", "OK changed=0"),
 ];
 
 // Runs an input over the disks, and asserts the status and the replies.

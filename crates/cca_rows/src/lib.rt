@@ -5,6 +5,14 @@
 ghost use Rattle.cca_rows.specs.WorkedCeremonies.{CeremoniesAnswered};
 
 #[cfg(test)]
+mod cuts;
+#[cfg(test)]
+mod demo;
+#[cfg(test)]
+mod disks;
+#[cfg(test)]
+mod faults;
+#[cfg(test)]
 mod keys;
 #[cfg(test)]
 mod labels;
@@ -19,7 +27,11 @@ mod rows;
 #[cfg(test)]
 mod sessions;
 #[cfg(test)]
+mod stops;
+#[cfg(test)]
 mod tables;
+#[cfg(test)]
+mod tokens;
 
 /// The machine gives the replies to two key ceremonies that are known from outside: the definitions compute them.
 pub fn worked_ceremonies()

@@ -2,7 +2,7 @@
 //! generated key has the bytes 01. The tokens here were made by another program's triple DES and SHA-1 from the clear keys,
 //! after the definition of a token.
 
-use crate::tables::expect;
+use crate::tables::{expect, expect_in_pieces, lines_of};
 use std::test::Fail;
 
 // The random bytes: more than the keys of a table take.
@@ -326,7 +326,7 @@ const DOUBLE_CODE: &[(&str, &str)] = &[
 ];
 
 // A morning: keys for a teller, an exchange of keys, and a new master key.
-const MORNING: &[(&str, &str)] = &[
+pub(crate) const MORNING: &[(&str, &str)] = &[
     (
         "CSNBMKP role=DEFAULT action=FIRST part=111111111111111111111111111111111111111111111111",
         "OK new=partial",
@@ -397,6 +397,11 @@ const MORNING: &[(&str, &str)] = &[
         "CSNBENC role=TELLER key=L:PAY.DATA iv=0000000000000000 pad=NONE text=0000000000000000",
         "OK text=8ca64de9c1b123a7 warn=old",
     ),
+    ("REENCIPHER role=DEFAULT", "OK changed=4"),
+    (
+        "CSNBENC role=TELLER key=L:PAY.DATA iv=0000000000000000 pad=NONE text=0000000000000000",
+        "OK text=8ca64de9c1b123a7",
+    ),
     (
         "CSNBKRL role=DEFAULT prefix=PAY",
         "OK count=2 labels=PAY.DATA,PAY.MAC",
@@ -426,4 +431,11 @@ fn a_token_is_changed_to_another_master_key(rt: HostRuntime) -> Result<(), Fail>
 #[test]
 fn a_morning_at_a_bank(rt: HostRuntime) -> Result<(), Fail> {
     expect(&rt, rt.alloc(), &[MORNING], RANDOM)
+}
+
+#[test]
+fn a_morning_may_come_byte_by_byte_and_end_without_a_newline(rt: HostRuntime) -> Result<(), Fail> {
+    let (requests, replies) = lines_of(rt.alloc(), &[MORNING])?;
+    let cut = requests.as_bytes().strip_suffix(b"\n").unwrap_or(b"");
+    expect_in_pieces(&rt, rt.alloc(), cut, &replies, RANDOM, 1)
 }

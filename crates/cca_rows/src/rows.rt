@@ -199,9 +199,12 @@ fn a_line_has_at_most_9216_bytes(rt: HostRuntime) -> Result<(), Fail> {
 
 #[test]
 fn other_words_are_a_faulty_command_line(rt: HostRuntime) -> Result<(), Fail> {
-    let lists: [&[&str]; 6] = [
+    let lists: [&[&str]; 9] = [
         &[],
         &["demo", "0"],
+        &["demo", "1001"],
+        &["demo", "03"],
+        &["demo", "1", "2"],
         &["demo"],
         &["run", "run"],
         &["RUN"],

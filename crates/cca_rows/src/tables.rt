@@ -1,4 +1,5 @@
 //! Tables of rows, each a request line and the reply to it, and runs of the top call over them.
+ghost use Rattle.std.specs.Prelude.{◌<◌};
 
 use crate::rows::{MODULE_SIZE, STORE_SIZE, words_of};
 use cca_tool::{Status, run};
@@ -45,9 +46,23 @@ pub(crate) fn expect_replies(
     replies: &String,
     random: &[u8],
 ) -> Result<(), Fail> {
+    expect_in_pieces(rt, alloc, requests.as_bytes(), replies, random, 1_000)
+}
+
+// The same for requests that come in pieces of this size.
+pub(crate) fn expect_in_pieces(
+    rt: &impl Abort,
+    alloc: Global,
+    requests: &[u8],
+    replies: &String,
+    random: &[u8],
+    piece: usize,
+) -> Result<(), Fail>
+    requires { 0 < piece }
+{
     let words = words_of(alloc, &["run"])?;
     let mut bench = Workbench::new();
-    let mut source = MemorySource::new(alloc, requests.as_bytes(), 1_000)?;
+    let mut source = MemorySource::new(alloc, requests, piece)?;
     let mut sink = MemorySink::new(alloc, ROOM)?;
     let mut module = MemoryDisk::new(alloc, MODULE_SIZE, CALLS)?;
     let mut store = MemoryDisk::new(alloc, STORE_SIZE, CALLS)?;
