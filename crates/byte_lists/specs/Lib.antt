@@ -1,3 +1,4 @@
 pub mod Bytes
 pub mod Characters
+pub mod Directory
 pub use Rattle.key_cells.specs.Secret

@@ -43,7 +43,7 @@ set_apart m state same = by_registers m.coming m.current state same
 
 -- ---- one token
 
-none_some : {A : Type 0} (x : A) → None ≡ Some x → ⊥
+pub none_some : {A : Type 0} (x : A) → None ≡ Some x → ⊥
 none_some x is = cc is
 
 kept_denoted : (masters : MasterKeys) (token : List ℕ) (key : Denoted) → kept masters token ≡ Some key

@@ -1,5 +1,4 @@
 pub mod PointLaws
-pub mod DirectoryLaws
 pub mod BodyLaws
 pub mod TableLaws
 pub mod StandLaws

@@ -9,7 +9,7 @@ use Rattle.slot_disk.specs.Medium.{Medium, Told, From, Becomes, EachImage, Keeps
 use Rattle.slot_disk.proofs.Media.{told_from, told_at, becomes_told, each_weaker, each_still}
 use Rattle.slot_disk.proofs.CellSteps.{outside_same}
 use Rattle.cca_roles.specs.Changes.{HoldsEither}
-use Rattle.cca_roles.specs.Directory.{name_at, AreApart}
+use Rattle.byte_lists.specs.Directory.{name_at, AreApart}
 use Rattle.cca_roles.specs.RoleBody.{ReadsPlace, slot_in}
 use Rattle.cca_roles.specs.Roles.{names, name_of, role_at}
 use Rattle.cca_roles.specs.RolesStand.{StandsForRoles, roles_in, IsDamagedPlace, IsFirstDamaged}

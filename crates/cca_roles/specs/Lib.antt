@@ -1,12 +1,12 @@
 pub mod Points
 pub mod RoleNames
 pub mod RoleInside
-pub mod Directory
 pub mod Roles
 pub mod RoleBody
 pub mod RolesStand
 pub mod Changes
 pub mod Opening
+pub use Rattle.byte_lists.specs.Directory
 pub use Rattle.key_cells.specs.Bench
 pub use Rattle.key_cells.specs.Lease
 pub use Rattle.slot_disk.specs.Cells

@@ -9,7 +9,9 @@ use Rattle.cca_roles.specs.declared.roles.Role.{Role}
 -- Byte 0 is X'01', byte 1 how long the name is. The name stands at 2, the points at 10, most significant byte first. Every
 -- other byte is zero.
 unfoldable pub role_body : List ℕ → ℕ → List ℕ
-role_body name points = 1 ∷ length name ∷ (name ++ (replicate (8 - length name) 0 ++ (to_be_bytes w32 points ++ replicate 178 0)))
+role_body name points =
+    1 ∷ length name ∷ (name ++ (replicate (8 - length name) 0
+    ++ (to_be_bytes w32 points ++ replicate 178 0)))
 
 unfoldable pub blank_body : List ℕ
 blank_body = replicate 192 0
@@ -28,7 +30,9 @@ ReadsSlot bytes (Some r) = ReadsRole bytes r
 -- DEFAULT stands in the first place, where a blank body stands for every point
 abbrev pub ReadsDefault : List ℕ → Option Role → Type 0
 ReadsDefault bytes None = ⊥
-ReadsDefault bytes (Some r) = (r.name ≡ default_name) × (((bytes ≡ blank_body) × (r.points ≡ every_point)) ⊎ ReadsRole bytes r)
+ReadsDefault bytes (Some r) =
+    (r.name ≡ default_name)
+    × (((bytes ≡ blank_body) × (r.points ≡ every_point)) ⊎ ReadsRole bytes r)
 
 -- what the body of a place reads as
 abbrev pub ReadsPlace : ℕ → List ℕ → Option Role → Type 0

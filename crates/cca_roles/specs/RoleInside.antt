@@ -19,4 +19,5 @@ abbrev made : ℕ → List ℕ → Inside
 made n bytes = record { length = n; bytes = bytes }
 
 pub inside_again : (n : Inside) → IsText n → inside_of (text_of n) ≡ n
-inside_again n is = ap (λ k. made k (text_of n ++ replicate (8 - k) 0)) is.long ∙ ap (made n.length) (sym is.filled)
+inside_again n is =
+    ap (λ k. made k (text_of n ++ replicate (8 - k) 0)) is.long ∙ ap (made n.length) (sym is.filled)

@@ -1,12 +1,7 @@
 -- Names of roles.
 use Rattle.std.specs.Prelude.{ℕ, nat_le, Bool, false, ◌&&◌, ◌||◌, List, [], ◌∷◌, length, IsTrue, codes}
 use Rattle.std.specs.List.{list_all}
-
-abbrev pub is_letter : ℕ → Bool
-is_letter c = nat_le 0x41 c && nat_le c 0x5a
-
-abbrev pub is_digit : ℕ → Bool
-is_digit c = nat_le 0x30 c && nat_le c 0x39
+use Rattle.byte_lists.specs.Characters.{is_letter, is_digit}
 
 -- A to Z and 0 to 9
 abbrev pub is_name_byte : ℕ → Bool

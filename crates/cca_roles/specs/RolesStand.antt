@@ -2,7 +2,7 @@
 use Rattle.std.specs.Prelude.{◌≡◌, ◌≤◌, ◌<◌, ◌⊎◌, ◌+◌, ℕ, List, length, map, Option, Some}
 use Rattle.std.specs.List.{range_with_len}
 use Rattle.slot_disk.specs.Cells.{body}
-use Rattle.cca_roles.specs.Directory.{AreApart}
+use Rattle.byte_lists.specs.Directory.{AreApart}
 use Rattle.cca_roles.specs.RoleBody.{ReadsPlace, slot_in}
 use Rattle.cca_roles.specs.Roles.{names, role_at}
 use Rattle.cca_roles.specs.declared.roles.Role.{Role}
@@ -35,7 +35,8 @@ pub record Repeats (image : List ℕ) (n : ℕ) : Type 0 where
 
 -- the body of a place reads as nothing, or as a role whose name a lower place holds
 abbrev pub IsDamagedPlace : List ℕ → ℕ → Type 0
-IsDamagedPlace image n = ((slot : Option Role) → ReadsPlace n (body image (n + 1)) slot → ⊥) ⊎ Repeats image n
+IsDamagedPlace image n =
+    ((slot : Option Role) → ReadsPlace n (body image (n + 1)) slot → ⊥) ⊎ Repeats image n
 
 -- the first damaged cell from 1 to 32
 pub record IsFirstDamaged (image : List ℕ) (cell : ℕ) : Type 0 where

@@ -2,7 +2,7 @@
 ghost use Rattle.std.specs.Prelude.{◌≡◌, ◌≢◌, ◌↔◌, ◌⊎◌, ◌+◌, ◌*◌, ◌≤◌, ◌<◌, ℕ, Option, None, Some, Result, Ok, Err, set, IfErr, IfSome, IsNone, IsTrue};
 ghost use Rattle.slot_disk.specs.Medium.{Told, IsSettled};
 ghost use Rattle.cca_roles.specs.Changes.{ChangesRoles, Remembers, HasRoleCause, KeepsAllButBody};
-ghost use Rattle.cca_roles.specs.Directory.{AreApart};
+ghost use Rattle.byte_lists.specs.Directory.{AreApart};
 ghost use Rattle.cca_roles.specs.RoleBody.{ReadsPlace};
 ghost use Rattle.cca_roles.specs.RoleNames.{default_name};
 ghost use Rattle.cca_roles.specs.Roles.{names, name_of, define_place, after_define, define_refused};
@@ -42,7 +42,8 @@ impl Roles {
             (fault ≡ RoleFault.DiskFault) ⊎ (fault ≡ RoleFault.TableFull)) }
 
         // a full table refuses a new name, and nothing is touched
-        ensures full { (result ≡ Err RoleFault.TableFull) ↔ IsTrue (define_refused name.now self.old) }
+        ensures full { (result ≡ Err RoleFault.TableFull)
+            ↔ IsTrue (define_refused name.now self.old) }
         ensures untouched { result ≡ Err RoleFault.TableFull → «module».new ≡ «module».old }
         ensures lease_untouched { result ≡ Err RoleFault.TableFull → lease.new ≡ lease.old }
     {
@@ -80,7 +81,8 @@ impl Roles {
             (fault ≡ RoleFault.DiskFault) ⊎ (fault ≡ RoleFault.Unknown)) }
 
         // a name that isn't held is refused, and nothing is touched
-        ensures unknown { (result ≡ Err RoleFault.Unknown) ↔ IsTrue (remove_refused name.now self.old) }
+        ensures unknown { (result ≡ Err RoleFault.Unknown)
+            ↔ IsTrue (remove_refused name.now self.old) }
         ensures untouched { result ≡ Err RoleFault.Unknown → «module».new ≡ «module».old }
         ensures lease_untouched { result ≡ Err RoleFault.Unknown → lease.new ≡ lease.old }
     {
@@ -98,7 +100,8 @@ impl Roles {
         ensures within { IfSome result (λ place. place < 32) }
         ensures none { IsNone result ↔ IsTrue (define_refused name.now self.now) }
         ensures first { IfSome result (λ place. place ≡ 0 → name.now ≡ default_name) }
-        ensures apart { IfSome result (λ place. AreApart (set (names self.now) place (Some name.now))) }
+        ensures apart { IfSome result
+            (λ place. AreApart (set (names self.now) place (Some name.now))) }
     {
         match self.place_of(name) {
             Some(place) => Some(place),

@@ -2,9 +2,10 @@
 ghost use Rattle.std.specs.Prelude.{◌≡◌, ◌+◌, ◌≤◌, ◌<◌, ◌++◌, ◌-◌, ◌↔◌, length, replicate, drop, nat_le, IfSome, IsSome};
 ghost use Rattle.std.specs.List.{list_all};
 ghost use Rattle.std.specs.Str.{bytes_eq};
-ghost use Rattle.cca_roles.specs.RoleNames.{is_letter, is_digit, is_name_byte, starts_name};
+ghost use Rattle.cca_roles.specs.RoleNames.{is_name_byte, starts_name};
 ghost use Rattle.cca_roles.specs.RoleNames.{is_role_name, IsRoleName, default_name};
 
+use byte_lists::{is_digit, is_letter};
 use std::marker::Model;
 
 /// A role's name: 1 to 8 characters of A to Z and 0 to 9, of which the first is a letter.
@@ -28,18 +29,6 @@ impl Model for RoleName {
     ghost inverse = { inside_of };
 
     ghost inverse_ok = { inside_again };
-}
-
-fn is_letter(c: u8) -> bool
-    ensures { result ≡ is_letter c }
-{
-    0x41 <= c && c <= 0x5a
-}
-
-fn is_digit(c: u8) -> bool
-    ensures { result ≡ is_digit c }
-{
-    0x30 <= c && c <= 0x39
 }
 
 fn is_name_byte(c: u8) -> bool

@@ -30,8 +30,8 @@ pub fn open_roles<M: Disk>(
     ensures exact { (Rose (M.faults «module».old) (M.faults «module».new) → ⊥)
         → Told (M.medium «module».old) (λ image. (cell : ℕ) → IsFirstDamaged image cell
         → result ≡ Err (RoleFault.Damaged cell)) }
-    ensures faults { IfErr result (λ fault.
-        (fault ≡ RoleFault.DiskFault) ⊎ ((cell : ℕ) × IsRoleCell cell × (fault ≡ RoleFault.Damaged cell))) }
+    ensures faults { IfErr result (λ fault. (fault ≡ RoleFault.DiskFault)
+        ⊎ ((cell : ℕ) × IsRoleCell cell × (fault ≡ RoleFault.Damaged cell))) }
     ensures keeps { Keeps (M.medium «module».old) (M.medium «module».new) }
     ensures cause { HasRoleCause (M.faults «module».old) (M.faults «module».new) result }
     ensures rest { KeepsAllButBody lease.old lease.new }
@@ -91,8 +91,8 @@ fn open_place<M: Disk>(
         (λ image. Opens (body image (place + 1)) place roles.old roles.new)) }
     ensures roles { AreRoles roles.new }
     ensures damaged { (cell : ℕ) → result ≡ Err (RoleFault.Damaged cell)
-        → (cell ≡ place + 1)
-        × Told (M.medium «module».old) (λ image. IsRefused (body image (place + 1)) place roles.old) }
+        → (cell ≡ place + 1) × Told (M.medium «module».old)
+        (λ image. IsRefused (body image (place + 1)) place roles.old) }
     ensures faults { IfErr result (λ fault.
         (fault ≡ RoleFault.DiskFault) ⊎ (fault ≡ RoleFault.Damaged (place + 1))) }
     ensures keeps { Keeps (M.medium «module».old) (M.medium «module».new) }

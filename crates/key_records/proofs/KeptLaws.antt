@@ -20,7 +20,7 @@ use Rattle.verb_rules.specs.Keys.{keys_of, master_key}
 use Rattle.key_records.specs.Entries.{Entry, remembered, pattern_for, pattern_under, pattern_or}
 use Rattle.byte_lists.specs.Bytes.{AreBytes}
 use Rattle.key_records.specs.RecordBody.{kept, IsKept, ReadsEntry, ReadsWhat, ReadsRow, ReadsPattern}
-use Rattle.key_records.proofs.DirectoryLaws.{none_some}
+use Rattle.byte_lists.proofs.DirectoryLaws.{none_some}
 
 pub kept_flag : (masters : MasterKeys) (token : List ℕ) → slice_index token 6 ≢ 0xc0 → kept masters token ≡ None
 unfolding kept

@@ -1,5 +1,4 @@
 pub mod BodyLaws
-pub mod DirectoryLaws
 pub mod KeptLaws
 pub mod TokenLaws
 pub mod OneBody

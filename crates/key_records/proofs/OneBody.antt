@@ -17,7 +17,7 @@ use Rattle.key_records.specs.Entries.{Entry}
 use Rattle.key_records.specs.RecordBody.{ReadsEntry, ReadsWhat, kept, record_body, key_kind}
 use Rattle.key_records.specs.StoreStands.{StandsForLabels}
 use Rattle.key_records.specs.Written.{register_of, token_under, token_bytes, record_bytes, written_body}
-use Rattle.key_records.proofs.DirectoryLaws.{none_some}
+use Rattle.byte_lists.proofs.DirectoryLaws.{none_some}
 use Rattle.key_records.proofs.KeptLaws.{kept_flag, kept_with_flag}
 
 part_long : (bytes part : List ℕ) (at size : ℕ) → length bytes ≡ 64 → at + size < 65 → slice_range bytes at (at + size) ≡ part → length part ≡ size

@@ -13,7 +13,7 @@ use Rattle.std.proofs.lemmas.List.Sums.{sum_by-set}
 use Rattle.key_records.specs.Directory.{label_at, AreApart, held_count, cell_of, cell_from}
 use Rattle.key_records.specs.Entries.{row_directory, row_label}
 use Rattle.key_records.specs.declared.rows.Row.{Row}
-use Rattle.key_records.proofs.DirectoryLaws.{none_some, cell_found, cell_is}
+use Rattle.byte_lists.proofs.DirectoryLaws.{none_some, place_found, place_is}
 use Rattle.key_records.proofs.OpeningLaws.{label_of_row}
 use Rattle.key_records.specs.Ascending.{AreAscending, IsBefore, IsPlace, text_at, slot_label}
 use Rattle.key_records.specs.Placed.{placed, row_in, AreCells, AreSlots}
@@ -67,7 +67,7 @@ module _ (slots : List Slot) (are : AreSlots slots) where
   pub find_found : (at : ℕ) (d : Slot) (label : List ℕ) → at < length slots → text_at (map slot_label slots) at ≡ label → cell_of label (row_directory (placed slots)) ≡ Some (get_or slots at d).cell
   find_found at d label within is =
       let low : (get_or slots at d).cell < 1024 = cell_low slots at d are.cells within in
-      cell_is (row_directory (placed slots)) (get_or slots at d).cell label placed_apart
+      place_is (row_directory (placed slots)) (get_or slots at d).cell label placed_apart
       (label_of_row (placed slots) (get_or slots at d).cell ∙ ap row_label (placed_at slots (get_or slots at d).cell low ∙ row_held slots at d are.cells within) ∙ ap (λ l. Some l) (sym (text_is slots at d within) ∙ is))
 
   pub find_missing : (at : ℕ) (label : List ℕ) → IsPlace (map slot_label slots) label at → (k : ℕ) → label_at (row_directory (placed slots)) k ≢ Some label
@@ -84,7 +84,7 @@ cell_none label d fresh = by_answer (cell_from 0 label d) refl
   where
     by_answer : (o : Option ℕ) → cell_from 0 label d ≡ o → cell_from 0 label d ≡ None
     by_answer None is = is
-    by_answer (Some n) is = let found = cell_found label d 0 n is in absurd (fresh found.0 found.3)
+    by_answer (Some n) is = let found = place_found label d 0 n is in absurd (fresh found.0 found.3)
 
 -- ---- how many
 

@@ -17,7 +17,7 @@ use Rattle.key_records.specs.Rows.{AreRows}
 use Rattle.key_records.specs.StoreStands.{StandsForLabels, labels_in, IsFirstDamaged}
 use Rattle.key_records.specs.declared.rows.Row.{Row}
 use Rattle.key_records.proofs.BodyLaws.{spelled, spelled_label, spelled_again, spelled_what, entry_blank, entry_reads}
-use Rattle.key_records.proofs.DirectoryLaws.{apart_set, apart_none, held_somewhere, held_nowhere}
+use Rattle.byte_lists.proofs.DirectoryLaws.{apart_set, apart_none, held_somewhere, held_nowhere}
 use Rattle.key_records.proofs.OpeningLaws.{label_remembered, opened_none, opened_more, opened_all, refused_damaged}
 use Rattle.key_records.proofs.RowLaws.{blank_rows, rows_set}
 

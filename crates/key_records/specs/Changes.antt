@@ -56,8 +56,8 @@ pub record ReplacesBody (cell : ℕ) (bytes : List ℕ) (old new : Medium)
 
 -- The store stands for the labels before or after, and every other cell selects the body that it did. No byte
 -- outside the cell has changed, and of the cell at most the selector and the body that wasn't selected.
-pub record HoldsEither (masters : MasterKeys) (cell : ℕ) (s next : List (Option Entry)) (old new : List ℕ)
-    : Type 0 where
+pub record HoldsEither (masters : MasterKeys) (cell : ℕ) (s next : List (Option Entry))
+    (old new : List ℕ) : Type 0 where
   pub outside : SameOutside (CELL_LEN * cell) CELL_LEN old new
   pub others : (n : ℕ) → n ≢ cell → body new n ≡ body old n
   pub untouched : (k : ℕ) → IsUntouched old cell k → slice_index new k ≡ slice_index old k
@@ -65,7 +65,8 @@ pub record HoldsEither (masters : MasterKeys) (cell : ℕ) (s next : List (Optio
 
 -- the labels of a store become others, by a change of one cell
 pub record ChangesLabels (masters : MasterKeys) (cell : ℕ) (s next : List (Option Entry))
-    (rows : List (Option Row)) (old new : Medium) (result : Result (Unit {0}) RecordFault) : Type 0 where
+    (rows : List (Option Row)) (old new : Medium) (result : Result (Unit {0}) RecordFault)
+    : Type 0 where
   -- after Ok a read gives the labels after, and the memory knows them
   pub keeps : OnOk result (Told new (KeepsLabels masters rows next))
   -- whatever the answer, a read gives the labels before or after, and so does a stop at any moment of the call
@@ -73,7 +74,8 @@ pub record ChangesLabels (masters : MasterKeys) (cell : ℕ) (s next : List (Opt
   pub moments : EachImage old new (From (HoldsEither masters cell s next) old)
 
 -- the memory has the rows after, where the call answers Ok, and else those before
-pub record Remembers (rows next now : List (Option Row)) (result : Result (Unit {0}) RecordFault) : Type 0 where
+pub record Remembers (rows next now : List (Option Row)) (result : Result (Unit {0}) RecordFault)
+    : Type 0 where
   pub done : OnOk result (now ≡ next)
   pub kept : OnErr result (now ≡ rows)
 

@@ -45,7 +45,8 @@ pattern_for masters d = pattern_under masters d.age
 -- a label with the pattern of the register that it is under
 abbrev pub remembered : MasterKeys → Option Entry → Option Row
 remembered masters None = None
-remembered masters (Some e) = Some (record { label = e.label; pattern = option_map (pattern_for masters) e.what })
+remembered masters (Some e) =
+    Some (record { label = e.label; pattern = option_map (pattern_for masters) e.what })
 
 abbrev pub label_or : Option Row → List ℕ
 label_or None = []
@@ -57,4 +58,7 @@ null_row label = record { label = label; pattern = None }
 
 -- a record with a token
 abbrev pub key_row : List ℕ → List ℕ → Row
-key_row label token = record { label = label; pattern = Some (record { bytes = pattern_of_token token }) }
+key_row label token = record {
+  label = label;
+  pattern = Some (record { bytes = pattern_of_token token });
+}

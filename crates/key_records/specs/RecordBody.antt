@@ -90,4 +90,7 @@ IsWhat masters kind token =
 unfoldable pub entry_in : MasterKeys → List ℕ → Option Entry
 entry_in masters bytes =
     if bytes_eq bytes blank_body then None else
-    Some (record { label = label_in bytes; what = what_of masters (slice_index bytes 0) (token_in bytes) })
+    Some (record {
+      label = label_in bytes;
+      what = what_of masters (slice_index bytes 0) (token_in bytes);
+    })

@@ -12,7 +12,8 @@ abbrev pub entry_at : List (Option Entry) → ℕ → Option Entry
 entry_at s n = get_or s n None
 
 -- each cell reads as the label that s has there, and is blank where s has none
-pub record StandsForLabels (masters : MasterKeys) (image : List ℕ) (s : List (Option Entry)) : Type 0 where
+pub record StandsForLabels (masters : MasterKeys) (image : List ℕ) (s : List (Option Entry))
+    : Type 0 where
   pub size : length s ≡ 1024
   pub reads : (n : ℕ) → n < 1024 → ReadsEntry masters (body image n) (entry_at s n)
   pub apart : AreApart (directory s)

@@ -59,8 +59,8 @@ impl Records {
         ensures undamaged { IfErr result (λ fault. (n : ℕ) → fault ≢ RecordFault.Damaged n) }
         ensures untouched { (result ≡ Err RecordFault.Full) ⊎ (result ≡ Err RecordFault.Exists)
             → store.new ≡ store.old }
-        ensures lease_untouched { (result ≡ Err RecordFault.Full) ⊎ (result ≡ Err RecordFault.Exists)
-            → lease.new ≡ lease.old }
+        ensures lease_untouched { (result ≡ Err RecordFault.Full)
+            ⊎ (result ≡ Err RecordFault.Exists) → lease.new ≡ lease.old }
     {
         let Some(cell) = self.free_cell() else {
             return Err(RecordFault::Full);

@@ -1,12 +1,12 @@
 use Rattle.std.proofs.Common.{◌≡◌, ◌∙◌, Some, sym, ap, subst}
 use Rattle.cca_vectors.specs.Checks.{first_failing}
-use Rattle.key_records.proofs.DirectoryLaws.{none_some}
 use Rattle.key_tokens.specs.declared.key_token.Asked.TheVariants.{Internal}
 use Rattle.master_registers.specs.Loaded.{registers_of}
 use Rattle.master_registers.specs.declared.registers.Registers.{Registers}
 use Rattle.verb_rules.specs.KeyChecks.{age_of, key_checks}
 use Rattle.verb_rules.specs.Rules.{rule_number}
 use Rattle.verb_rules.specs.declared.needs.Need.{Need}
+use Rattle.cca_requests.proofs.Ageing.{none_some}
 use Rattle.cca_requests.proofs.LabelsRead.{never_refused, stored_use}
 use Rattle.cca_requests.proofs.stored.judge_stored.Goals as goal
 

@@ -1,7 +1,7 @@
 use Rattle.std.proofs.Common.{◌≡◌, List, ℕ, Option, Some, sym, ap, subst, ◌∙◌}
 use Rattle.std.specs.Prelude.{set}
 use Rattle.slot_disk.specs.Cells.{body}
-use Rattle.cca_roles.specs.Directory.{AreApart}
+use Rattle.byte_lists.specs.Directory.{AreApart}
 use Rattle.cca_roles.specs.Opening.{OpenedTo}
 use Rattle.cca_roles.specs.RoleBody.{ReadsPlace, slot_in}
 use Rattle.cca_roles.specs.Roles.{AreRoles, names, name_of, blank_roles}

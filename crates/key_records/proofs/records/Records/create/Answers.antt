@@ -6,7 +6,7 @@ use Rattle.key_records.specs.Entries.{row_directory, null_row}
 use Rattle.key_records.specs.RecordBody.{record_body, no_token, null_kind}
 use Rattle.key_records.specs.declared.rows.Row.{Row}
 use Rattle.key_records.proofs.BodyLaws.{no_token_is}
-use Rattle.key_records.proofs.DirectoryLaws.{held_nowhere, apart_set}
+use Rattle.byte_lists.proofs.DirectoryLaws.{held_nowhere, apart_set}
 use Rattle.key_records.proofs.StoreLaws.{created_is, labels_changed, replaces_is}
 use Rattle.key_records.proofs.records.Records.create.Goals as goal
 

@@ -1,4 +1,4 @@
--- Which name stands in which place.
+-- Names in their places: a list with a name, or none, for each place.
 use Rattle.std.specs.Prelude.{◌≡◌, ◌≢◌, ⊤, ℕ, ◌+◌, Bool, false, List, [], ◌∷◌, get_or, bytes_eq}
 use Rattle.std.specs.Prelude.{Option, None, Some, if◌then◌else◌}
 

@@ -4,7 +4,7 @@ use Rattle.std.specs.Prelude.{is_some, if◌then◌else◌}
 use Rattle.std.proofs.lemmas.Slice.Eq.{bytes_eq-Decides}
 use Rattle.std.proofs.lemmas.Bool.{cases_eq, cases_lt}
 use Rattle.std.proofs.lemmas.List.{get_or-set_same, get_or-set_other, get_or_past, length-set, drop_more, drop_all, set-get_or}
-use Rattle.cca_roles.specs.Directory.{name_at, AreApart, has_name, place_from, place_of, free_from, free_place, IsFresh}
+use Rattle.byte_lists.specs.Directory.{name_at, AreApart, has_name, place_from, place_of, free_from, free_place, IsFresh}
 
 pub none_some : {X : Type 0} (x : X) → None ≡ Some x → ⊥
 none_some x is = cc
