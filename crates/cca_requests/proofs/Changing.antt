@@ -3,7 +3,7 @@ use Rattle.std.proofs.Common.{◌≡◌, ℕ, Bool, true, false, List, [], ◌�
 use Rattle.std.specs.Prelude.{◌⊎◌, ◌↔◌, ◌≤◌, IsTrue, IfOk, OnOk, OnErr, IsSome}
 use Rattle.slot_disk.specs.Medium.{Medium, Told, IsSettled, EachImage, From}
 use Rattle.slot_disk.specs.Faults.{Rose}
-use Rattle.slot_disk.proofs.Media.{each_weaker, becomes_told}
+use Rattle.slot_disk.proofs.Media.{each_weaker, becomes_told, told_before}
 use Rattle.cca_roles.specs.RolesStand.{StandsForRoles}
 use Rattle.cca_roles.specs.declared.roles.Role.{Role}
 use Rattle.cca_vectors.specs.Checks.{check}
@@ -23,7 +23,7 @@ use Rattle.cca_machine.specs.Act.{Outcome, NoCell, OneCell, Become, new_name}
 use Rattle.cca_requests.specs.Serving.{StandsInModule, IsEither, SameBut, CarriesModule, IsSound, LeavesModule}
 use Rattle.cca_requests.specs.Deciding.{plainly, or_effected, state_name, change_stop, change_reply}
 use Rattle.cca_requests.proofs.Contents.{at_content, holds_at, roles_alike, sound}
-use Rattle.cca_requests.proofs.Serving.{still_module, told_some, told_before}
+use Rattle.cca_requests.proofs.Serving.{still_module, told_some}
 
 named_alike : (r : NewRegister) → state_name (state_of r) ≡ new_name r
 named_alike Empty = refl

@@ -3,7 +3,7 @@ use Rattle.std.proofs.Common.{◌≡◌, ◌+◌, ℕ, Bool, true, false, List, 
 use Rattle.std.specs.Prelude.{◌⊎◌, ◌↔◌, ◌≤◌, IsTrue, OnOk, OnErr, IfErr}
 use Rattle.slot_disk.specs.Faults.{Rose}
 use Rattle.slot_disk.specs.Medium.{Medium, Told, IsSettled, EachImage, From}
-use Rattle.slot_disk.proofs.Media.{each_weaker, becomes_told}
+use Rattle.slot_disk.proofs.Media.{each_weaker, becomes_told, told_before}
 use Rattle.cca_vectors.specs.Checks.{check}
 use Rattle.cca_roles.specs.Changes.{HoldsEither, ChangesRoles, Remembers}
 use Rattle.cca_roles.specs.RolesStand.{StandsForRoles}
@@ -21,7 +21,7 @@ use Rattle.cca_machine.specs.Act.{Effect, NoCell, OneCell, Outcome}
 use Rattle.cca_requests.specs.Serving.{StandsInModule, IsEither, SameBut, CarriesModule, IsSound, LeavesModule}
 use Rattle.cca_requests.specs.Deciding.{plainly, role_outcome, role_stop, role_reply}
 use Rattle.cca_requests.proofs.Contents.{at_content, holds_at, registers_alike, sound}
-use Rattle.cca_requests.proofs.Serving.{still_module, told_some, told_before}
+use Rattle.cca_requests.proofs.Serving.{still_module, told_some}
 
 -- what comes of a change of one place that no rule refuses
 abbrev pub changed_outcome : State → ℕ → List (Option Role) → Outcome

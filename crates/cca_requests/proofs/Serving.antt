@@ -28,15 +28,7 @@ holds_told m P holds = subst (λ (o : Option (List ℕ)). IfSome o P) (sym holds
 pub told_some : (m : Medium) (image : List ℕ) → m.content ≡ Some image → IsSome m.content
 told_some m image told = subst IsSome (sym told) refl
 
--- a disk that tells its content after a change told it before
-pub told_before : (step : List ℕ → List ℕ → Type 0) (m0 m1 : Medium) → Becomes step m0 m1 → HasTold m0 m1
-told_before step m0 m1 becomes = by_content m1.content refl
-  where
-    by_content : (content : Option (List ℕ)) → m1.content ≡ content → IsSome content → IsSome m0.content
-    by_content None is some = cc some
-    by_content (Some c) is some = let from = becomes.told c is in told_some m0 from.0 from.1
-
--- and one that was read
+-- a disk that was read tells its content where it told it before
 pub told_kept : (m0 m1 : Medium) → Keeps m0 m1 → HasTold m0 m1
 told_kept m0 m1 keeps = λ some. subst IsSome keeps.content some
 

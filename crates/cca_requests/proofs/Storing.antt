@@ -6,7 +6,7 @@ use Rattle.std.proofs.lemmas.Bool.Decides.{Decides-eqb}
 use Rattle.slot_disk.specs.Cells.{IsReplacing}
 use Rattle.slot_disk.specs.Faults.{Rose}
 use Rattle.slot_disk.specs.Medium.{Medium, Told, IsSettled, From}
-use Rattle.slot_disk.proofs.Media.{each_weaker, told_from}
+use Rattle.slot_disk.proofs.Media.{each_weaker, told_from, told_before}
 use Rattle.cca_vectors.specs.Checks.{check}
 use Rattle.key_records.specs.Changes.{HoldsEither, ReplacesBody, ChangesLabels, Remembers, HasRecordCause, created}
 use Rattle.key_records.specs.Directory.{free_cell, cell_of}
@@ -25,7 +25,7 @@ use Rattle.cca_machine.specs.Act.{Create, Cells, OneCell, Outcome, refused}
 use Rattle.cca_requests.specs.Serving.{StandsInStore, IsEither, SameBut, CarriesStore, LeavesStore}
 use Rattle.cca_requests.specs.Deciding.{IsRecorded, or_effected, record_stop, record_reply}
 use Rattle.cca_requests.proofs.Contents.{at_content, holds_at}
-use Rattle.cca_requests.proofs.Serving.{still_store, told_some, told_before}
+use Rattle.cca_requests.proofs.Serving.{still_store, told_some}
 
 -- what comes of holding another label, by whether rule 28 or 29 is broken
 abbrev created_by : Bool → Bool → State → List ℕ → Outcome

@@ -27,14 +27,6 @@ use Rattle.reencipher.specs.Runs.{ChangesKeyAndBody}
 use Rattle.reencipher.specs.Turns.{renewed_at, HoldsTurn, RenewsCell}
 use Rattle.reencipher.proofs.FurtherLaws.{renewed_current}
 
--- a disk that tells its content after a change told it before
-pub told_before : (step : List ℕ → List ℕ → Type 0) (m0 m1 : Medium) → Becomes step m0 m1 → IsSome m1.content → IsSome m0.content
-told_before step m0 m1 becomes = by_content m1.content refl
-  where
-    by_content : (content : Option (List ℕ)) → m1.content ≡ content → IsSome content → IsSome m0.content
-    by_content None is some = cc some
-    by_content (Some c) is some = let from = becomes.told c is in subst IsSome (sym from.1) refl
-
 -- ---- the label and its token
 
 -- the key of a label

@@ -23,7 +23,8 @@ IsOld s n = is_old_entry (entry_at s n) ≡ true
 -- of the body that wasn't selected there.
 pub record LeavesRest (s : List (Option Entry)) (cells : ℕ) (old new : List ℕ) : Type 0 where
   pub size : length new ≡ length old
-  pub same : (k : ℕ) → ((n : ℕ) → n < cells → IsOld s n → IsUntouched old n k) → slice_index new k ≡ slice_index old k
+  pub same : (k : ℕ) → ((n : ℕ) → n < cells → IsOld s n → IsUntouched old n k)
+      → slice_index new k ≡ slice_index old k
 
 -- in each cell below `cells` that held a label under the old master key the body that was selected stands on the other side
 abbrev pub LeavesOld : List (Option Entry) → ℕ → List ℕ → List ℕ → Type 0
@@ -31,7 +32,8 @@ LeavesOld s cells old new = (n : ℕ) → n < cells → IsOld s n → other_body
 
 -- A store on the way: every label in a cell below some number is current. Each cell selects the one body that its label
 -- has, and no other byte has changed.
-pub record IsOnTheWay (masters : MasterKeys) (s : List (Option Entry)) (old new : List ℕ) : Type 0 where
+pub record IsOnTheWay (masters : MasterKeys) (s : List (Option Entry)) (old new : List ℕ)
+    : Type 0 where
   pub cells : ℕ
   pub within : cells ≤ 1024
   pub stands : StandsForLabels masters new (further s cells)
@@ -48,7 +50,8 @@ pub record Reenciphers (masters : MasterKeys) (s : List (Option Entry)) (rows : 
   -- the answer is how many were under the old master key
   pub count : IfOk result (λ n. Told old (λ _. n ≡ old_count s))
   -- after a fault the memory knows the labels as they were before the cell at which the run ended
-  pub ended : OnErr result (Told old (λ _. (cell : ℕ) × (cell < 1024) × Agrees masters rows (further s cell)))
+  pub ended : OnErr result
+      (Told old (λ _. (cell : ℕ) × (cell < 1024) × Agrees masters rows (further s cell)))
   -- whatever the answer, a read gives a store on the way, and so does a stop at any moment of the call
   pub either : Becomes (IsOnTheWay masters s) old new
   pub moments : EachImage old new (From (IsOnTheWay masters s) old)

@@ -13,7 +13,7 @@ use Rattle.slot_disk.specs.StageLaws.{length-stage, content_torn, length-overwri
 use Rattle.slot_disk.specs.declared.memory_disk.Torn.{Torn}
 use Rattle.slot_disk.specs.declared.memory_disk.Torn.TheVariants.{Old, New, Fill}
 use Rattle.slot_disk.specs.TornImage.{torn_image, torn_over}
-use Rattle.slot_disk.specs.DiskState.{DiskState, IsDisk, blank_image, new_disk}
+use Rattle.slot_disk.specs.DiskState.{IsDisk, blank_image}
 use Rattle.slot_disk.specs.LogMedium.{log_medium}
 use Rattle.slot_disk.specs.Medium.{IsSettled}
 use Rattle.slot_disk.proofs.Staging.{stage-push, settled_only}

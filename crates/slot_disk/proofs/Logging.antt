@@ -11,7 +11,6 @@ use Rattle.slot_disk.specs.Medium.{Medium, IsSettled, After, Becomes, EachImage}
 use Rattle.slot_disk.specs.LogMedium.{LeftSince, log_medium}
 use Rattle.slot_disk.specs.StageLaws.{length-stage}
 use Rattle.slot_disk.proofs.CellSteps.{outside_same}
-use Rattle.slot_disk.proofs.Media.{each_still, each_weaker, becomes_same}
 use Rattle.slot_disk.proofs.Staging.{stage-push, written_torn, settled_only, synced_torn}
 use Rattle.slot_disk.proofs.Overwriting.{overwrite_outside, overwrite_holds}
 

@@ -1,6 +1,6 @@
 -- How clauses on media are carried over calls, over loops and over two disks.
 use Rattle.std.proofs.Common.{◌≡◌, inl, inr, ⊎_elim, ℕ, List, Option, None, Some, IfSome, IsSome, refl, sym, ◌∙◌, subst, arith}
-use Rattle.slot_disk.specs.Medium.{Medium, Told, IsSettled, After, From, Becomes, EachImage, Keeps, Reached, EachPair}
+use Rattle.slot_disk.specs.Medium.{Medium, Told, IsSettled, From, Becomes, EachImage, Keeps, Reached, EachPair}
 
 -- ---- what is told
 
@@ -11,6 +11,15 @@ told_from (Some c) P each = each c refl
 
 pub told_at : (content : Option (List ℕ)) (P : List ℕ → Type 0) (c : List ℕ) → content ≡ Some c → IfSome content P → P c
 told_at content P c is told = subst (λ (o : Option (List ℕ)). IfSome o P) is told
+
+-- a disk that tells its content after a step told it before
+pub told_before : (step : List ℕ → List ℕ → Type 0) (m0 m1 : Medium) → Becomes step m0 m1
+    → IsSome m1.content → IsSome m0.content
+told_before step m0 m1 becomes = by_content m1.content refl
+  where
+    by_content : (content : Option (List ℕ)) → m1.content ≡ content → IsSome content → IsSome m0.content
+    by_content None is some = cc some
+    by_content (Some c) is some = let from = becomes.told c is in subst IsSome (sym from.1) refl
 
 module _ (m0 m1 : Medium) where
   -- what is told after a step

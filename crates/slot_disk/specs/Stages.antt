@@ -18,7 +18,11 @@ abbrev pub settled : List ℕ → Stage
 settled image = record { content = image; synced = image; unsynced = [] }
 
 abbrev pub noting : Stage → Call → Stage
-noting s (Written at bytes) = record { content = overwrite s.content at bytes; synced = s.synced; unsynced = s.unsynced ++ (at, length bytes) ∷ [] }
+noting s (Written at bytes) = record {
+  content = overwrite s.content at bytes;
+  synced = s.synced;
+  unsynced = s.unsynced ++ (at, length bytes) ∷ [];
+}
 noting s Synced = settled s.content
 
 -- after these calls on a disk that began with this image
@@ -32,4 +36,5 @@ covers ranges k = list_any (λ r. nat_le r.0 k && nat_lt k (r.0 + r.1)) ranges
 -- what a stop may leave: any bytes in the unsynced ranges, and elsewhere those of the last sync
 pub record IsTorn (s : Stage) (image : List ℕ) : Type 0 where
   pub size : length image ≡ length s.synced
-  pub elsewhere : (k : ℕ) → covers s.unsynced k ≡ false → slice_index image k ≡ slice_index s.synced k
+  pub elsewhere : (k : ℕ) → covers s.unsynced k ≡ false
+      → slice_index image k ≡ slice_index s.synced k

@@ -9,7 +9,8 @@ use Rattle.slot_disk.specs.declared.memory_disk.Torn.TheVariants.{Old, New, Fill
 abbrev pub torn_image : Torn → Stage → List ℕ
 torn_image Old s = s.synced
 torn_image New s = s.content
-torn_image (Fill byte) s = fold (λ image range. overwrite image range.0 (replicate range.1 byte)) s.synced s.unsynced
+torn_image (Fill byte) s =
+    fold (λ image range. overwrite image range.0 (replicate range.1 byte)) s.synced s.unsynced
 
 -- one range more
 abbrev pub torn_over : Torn → List ℕ → ℕ → List ℕ → List ℕ

@@ -2,7 +2,7 @@ use Rattle.std.proofs.Common.{◌≡◌, ℕ, List, Option, None, Some, Ok, Err,
 use Rattle.std.specs.Prelude.{IsSome}
 use Rattle.key_cells.specs.Lease.{bench_of}
 use Rattle.slot_disk.specs.Medium.{Medium, Told}
-use Rattle.slot_disk.proofs.Media.{keeps_still}
+use Rattle.slot_disk.proofs.Media.{keeps_still, told_before}
 use Rattle.key_tokens.specs.Denotes.{Denoted, MasterKeys, denoted}
 use Rattle.key_records.specs.Ages.{has_old_key, is_old_entry}
 use Rattle.key_records.specs.Changes.{ReadsToken, written}
@@ -18,7 +18,7 @@ use Rattle.verb_rules.specs.Keys.{keys_of}
 use Rattle.reencipher.specs.Further.{under_current}
 use Rattle.reencipher.specs.Turns.{renewed_at, RenewsCell}
 use Rattle.reencipher.proofs.TokenLaws.{loaded_after}
-use Rattle.reencipher.proofs.TurnLaws.{told_before, old_what, reads_what, with_current, current_of, current_some, same_label, loaded_body, renews_none, renews_failed, renews_written}
+use Rattle.reencipher.proofs.TurnLaws.{old_what, reads_what, with_current, current_of, current_some, same_label, loaded_body, renews_none, renews_failed, renews_written}
 use Rattle.reencipher.proofs.turns.renew_cell.Goals as goal
 
 no_label : (o : Option Entry) → entry_label o ≡ None → is_old_entry o ≡ false
