@@ -103,8 +103,10 @@ points_in request = from_be_bytes w32 (value_of request (codes "points"))
 
 -- a key goes into the record of a label; or into the reply, as a token in a field of this name. Further fields follow.
 abbrev pub delivered_with : State → List ℕ → Option (List ℕ) → Denoted → List Field → Effect
-delivered_with s field None key fields = Show (Hex field (token_for (keys_of s.registers) key) ∷ fields)
-delivered_with s field (Some label) key fields = Write label key (Text (codes "stored") label ∷ fields)
+delivered_with s field None key fields =
+    Show (Hex field (token_for (keys_of s.registers) key) ∷ fields)
+delivered_with s field (Some label) key fields =
+    Write label key (Text (codes "stored") label ∷ fields)
 
 abbrev pub delivered : State → List ℕ → Option (List ℕ) → Denoted → Effect
 delivered s field to key = delivered_with s field to key []
@@ -124,23 +126,35 @@ token_out s r field clear = external_token (key_in_field s r field).key clear
 abbrev pub effect : State → List ℕ → RequestName → Request → Effect
 effect s drawn csnbktp r = Show (token_fields (token_of (bytes_in r (codes "token"))))
 effect s drawn csnbenc r =
-    Show (Hex (codes "text") (enciphered_text (key_of_request s r) (bytes_in r (codes "iv")) (pad_named (value_of r (codes "pad"))) (bytes_in r (codes "text"))) ∷ [])
+    Show (Hex (codes "text")
+    (enciphered_text (key_of_request s r) (bytes_in r (codes "iv"))
+    (pad_named (value_of r (codes "pad"))) (bytes_in r (codes "text"))) ∷ [])
 effect s drawn csnbdec r =
-    Show (Hex (codes "text") (or_empty (deciphered_text (key_of_request s r) (bytes_in r (codes "iv")) (pad_named (value_of r (codes "pad"))) (bytes_in r (codes "text")))) ∷ [])
+    Show (Hex (codes "text")
+    (or_empty (deciphered_text (key_of_request s r) (bytes_in r (codes "iv"))
+    (pad_named (value_of r (codes "pad"))) (bytes_in r (codes "text")))) ∷ [])
 effect s drawn csnbmgn r =
     Show (Hex (codes "mac") (take (mac_length_named (value_of r (codes "length")))
-    (code_of (mac_rule_named (value_of r (codes "rule"))) (key_of_request s r) (bytes_in r (codes "text")))) ∷ [])
+    (code_of (mac_rule_named (value_of r (codes "rule"))) (key_of_request s r)
+    (bytes_in r (codes "text")))) ∷ [])
 effect s drawn csnbmvr r =
     Show (Text (codes "match") (yes_or_no
-    (is_code (mac_rule_named (value_of r (codes "rule"))) (key_of_request s r) (bytes_in r (codes "text")) (bytes_in r (codes "mac")))) ∷ [])
+    (is_code (mac_rule_named (value_of r (codes "rule"))) (key_of_request s r)
+    (bytes_in r (codes "text")) (bytes_in r (codes "mac")))) ∷ [])
 effect s drawn csnbkyt r = Show (Hex (codes "value") (test_value (key_of_request s r)) ∷ [])
-effect s drawn csnbcki r = delivered s (codes "token") (label_named (value_of r (codes "to"))) (imported_key (bytes_in r (codes "clear")))
-effect s drawn csnbrng r = Show (Hex (codes "random") (in_form (form_named (value_of r (codes "form"))) drawn) ∷ [])
+effect s drawn csnbcki r =
+    delivered s (codes "token") (label_named (value_of r (codes "to")))
+    (imported_key (bytes_in r (codes "clear")))
+effect s drawn csnbrng r =
+    Show (Hex (codes "random") (in_form (form_named (value_of r (codes "form"))) drawn) ∷ [])
 effect s drawn csnbkgn_op r =
-    delivered s (codes "token1") (label_named (value_of r (codes "to"))) (as_current (generated_key (type1_of r) drawn))
+    delivered s (codes "token1") (label_named (value_of r (codes "to")))
+    (as_current (generated_key (type1_of r) drawn))
 effect s drawn csnbkgn_pair r =
-    delivered_with s (codes "token1") (label_named (value_of r (codes "to"))) (as_current (generated_key (type1_of r) drawn))
-    (Hex (codes "token2") (token_out s r (codes "transport2") (generated_key (type2_of r) drawn)) ∷ [])
+    delivered_with s (codes "token1") (label_named (value_of r (codes "to")))
+    (as_current (generated_key (type1_of r) drawn))
+    (Hex (codes "token2")
+    (token_out s r (codes "transport2") (generated_key (type2_of r) drawn)) ∷ [])
 effect s drawn csnbkgn_out r = Show (
     Hex (codes "token1") (token_out s r (codes "transport1") (generated_key (type1_of r) drawn))
     ∷ Hex (codes "token2") (token_out s r (codes "transport2") (generated_key (type2_of r) drawn))
@@ -148,16 +162,28 @@ effect s drawn csnbkgn_out r = Show (
 effect s drawn csnbkim r =
     delivered s (codes "token") (label_named (value_of r (codes "to")))
     (as_current (imported (key_in_field s r (codes "transport")) (bytes_in r (codes "token"))))
-effect s drawn csnbkex r = Show (Hex (codes "token") (token_out s r (codes "transport") (key_of_request s r)) ∷ [])
-effect s drawn csnbpex r = delivered s (codes "token") (label_named (value_of r (codes "to"))) (as_current (closed_key (key_of_request s r)))
+effect s drawn csnbkex r =
+    Show (Hex (codes "token") (token_out s r (codes "transport") (key_of_request s r)) ∷ [])
+effect s drawn csnbpex r =
+    delivered s (codes "token") (label_named (value_of r (codes "to")))
+    (as_current (closed_key (key_of_request s r)))
 effect s drawn csnbktc r = Show (Hex (codes "token")
-    (changed_token s.registers (target_named (value_of r (codes "rule"))) (or_no_key (key_of_token s (bytes_in r (codes "token")))).clear) ∷ [])
+    (changed_token s.registers (target_named (value_of r (codes "rule")))
+    (or_no_key (key_of_token s (bytes_in r (codes "token")))).clear) ∷ [])
 effect s drawn csnbkrc r = Create (value_of r (codes "label"))
-effect s drawn csnbkrw r = Write (value_of r (codes "label")) (or_no_key (key_of_token s (bytes_in r (codes "token")))) []
-effect s drawn csnbkrr r = Show (Hex (codes "token") (token_for (keys_of s.registers) (or_no_key (key_of_label s (value_of r (codes "label"))))) ∷ [])
+effect s drawn csnbkrw r =
+    Write (value_of r (codes "label")) (or_no_key (key_of_token s (bytes_in r (codes "token")))) []
+effect s drawn csnbkrr r =
+    Show (Hex (codes "token")
+    (token_for (keys_of s.registers)
+    (or_no_key (key_of_label s (value_of r (codes "label"))))) ∷ [])
 effect s drawn csnbkrd r = Delete (value_of r (codes "label"))
 effect s drawn csnbkrl r = Show (label_fields (value_of r (codes "prefix")) (directory s.labels))
-effect s drawn csnbmkp_part r = Become (after_action (part_action (value_of r (codes "action"))) (bytes_in r (codes "part")) s.registers) s.labels
+effect s drawn csnbmkp_part r =
+    Become
+    (after_action (part_action (value_of r (codes "action")))
+    (bytes_in r (codes "part")) s.registers)
+    s.labels
 effect s drawn csnbmkp_clear r = Become (after_action Clear [] s.registers) s.labels
 effect s drawn csnbmkp_set r = Become (after_action Set [] s.registers) (aged s.labels)
 effect s drawn csuaaci_define r = DefineRole (value_of r (codes "name")) (points_in r)
@@ -230,7 +256,8 @@ state_after s (Become m labels) = record s { registers = m; labels = labels }
 state_after s (DefineRole name points) = record s { roles = after_define name points s.roles }
 state_after s (RemoveRole name) = record s { roles = after_remove name s.roles }
 state_after s (Create label) = record s { labels = created label s.labels }
-state_after s (Write label key fields) = record s { labels = written_in (cell_with s label) key s.labels }
+state_after s (Write label key fields) =
+    record s { labels = written_in (cell_with s label) key s.labels }
 state_after s (Delete label) = record s { labels = deleted_in (cell_with s label) s.labels }
 state_after s Reencipher = record s { labels = further s.labels 1024 }
 
@@ -293,7 +320,13 @@ effected s request e = record {
 
 -- a refusal changes nothing
 abbrev pub refused : State → Refusal → Outcome
-refused s r = record { state = s; reply = Refused r.rule r.operand; module_cells = NoCell; store_cells = NoCell; between = λ cell. s }
+refused s r = record {
+  state = s;
+  reply = Refused r.rule r.operand;
+  module_cells = NoCell;
+  store_cells = NoCell;
+  between = λ cell. s;
+}
 
 abbrev pub or_act : Option Refusal → State → List ℕ → Request → Outcome
 or_act (Some r) s drawn request = refused s r

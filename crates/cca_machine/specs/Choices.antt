@@ -25,11 +25,15 @@ mac_rule_named text = if bytes_eq text (codes "X9.9-1") then X99 else X919
 
 -- 4, 6 or 8
 abbrev pub mac_length_named : List ℕ → ℕ
-mac_length_named text = if bytes_eq text (codes "4") then 4 else if bytes_eq text (codes "6") then 6 else 8
+mac_length_named text =
+    if bytes_eq text (codes "4") then 4 else if bytes_eq text (codes "6") then 6 else 8
 
 -- RANDOM, ODD or EVEN
 abbrev pub form_named : List ℕ → RandomForm
-form_named text = if bytes_eq text (codes "RANDOM") then Random else if bytes_eq text (codes "ODD") then Odd else Even
+form_named text =
+    if bytes_eq text (codes "RANDOM") then Random
+    else if bytes_eq text (codes "ODD") then Odd
+    else Even
 
 -- 8 or 16 bytes
 abbrev pub key_length_named : List ℕ → ℕ
@@ -41,7 +45,10 @@ pair_form_named text = if bytes_eq text (codes "OPEX") then Opex else Opim
 
 -- IMEX, EXEX or IMIM
 abbrev pub out_form_named : List ℕ → Form
-out_form_named text = if bytes_eq text (codes "IMEX") then Imex else if bytes_eq text (codes "EXEX") then Exex else Imim
+out_form_named text =
+    if bytes_eq text (codes "IMEX") then Imex
+    else if bytes_eq text (codes "EXEX") then Exex
+    else Imim
 
 abbrev pub or_data : Option KeyType → KeyType
 or_data None = kind.Data

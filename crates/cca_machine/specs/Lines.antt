@@ -39,10 +39,15 @@ request_outcome s random request =
 
 -- A line that breaks neither rule spells a request, so that the last case doesn't come.
 abbrev pub outcome_by : Option ℕ → State → List ℕ → Option Request → LineOutcome
-outcome_by (Some rule) s random request = record { state = s; reply = Refused rule (codes "-"); random = random }
+outcome_by (Some rule) s random request = record {
+  state = s;
+  reply = Refused rule (codes "-");
+  random = random;
+}
 outcome_by None s random (Some request) = request_outcome s random request
 outcome_by None s random None = record { state = s; reply = Refused 1 (codes "-"); random = random }
 
 -- what comes of a line, with the random bytes that are ahead
 unfoldable pub line_outcome : State → List ℕ → List ℕ → LineOutcome
-line_outcome s random line = outcome_by (first_failing (line_checks line (request_of line))) s random (request_of line)
+line_outcome s random line =
+    outcome_by (first_failing (line_checks line (request_of line))) s random (request_of line)

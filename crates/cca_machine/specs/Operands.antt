@@ -47,7 +47,14 @@ three_operands o p q = record { first = o; second = p; third = q }
 
 -- an internal key of one of these classes that permits a use
 abbrev pub internal_key : List Class → Option Usage → Need
-internal_key classes usage = record { asked = Internal; classes = classes_of classes; usage = usage; export = false; double = false; parts = false }
+internal_key classes usage = record {
+  asked = Internal;
+  classes = classes_of classes;
+  usage = usage;
+  export = false;
+  double = false;
+  parts = false;
+}
 
 -- every class but OTHER
 abbrev pub five_classes : List Class
@@ -58,19 +65,47 @@ every_class = Data ∷ Cipher ∷ Mac ∷ Exporter ∷ Importer ∷ Other ∷ []
 
 -- any internal key, also one that is a part
 abbrev pub any_key : Need
-any_key = record { asked = Internal; classes = classes_of every_class; usage = None; export = false; double = false; parts = true }
+any_key = record {
+  asked = Internal;
+  classes = classes_of every_class;
+  usage = None;
+  export = false;
+  double = false;
+  parts = true;
+}
 
 -- an internal key of any class that may be exported
 abbrev pub exported_key : Need
-exported_key = record { asked = Internal; classes = classes_of every_class; usage = None; export = true; double = false; parts = false }
+exported_key = record {
+  asked = Internal;
+  classes = classes_of every_class;
+  usage = None;
+  export = true;
+  double = false;
+  parts = false;
+}
 
 -- an external token of any class
 abbrev pub external_key : Need
-external_key = record { asked = External; classes = classes_of every_class; usage = None; export = false; double = false; parts = false }
+external_key = record {
+  asked = External;
+  classes = classes_of every_class;
+  usage = None;
+  export = false;
+  double = false;
+  parts = false;
+}
 
 -- a transport key of double length: of this class, and permitted for this use
 abbrev pub transport_key : Class → Usage → Need
-transport_key class use_of = record { asked = Internal; classes = classes_of (class ∷ []); usage = Some use_of; export = false; double = true; parts = false }
+transport_key class use_of = record {
+  asked = Internal;
+  classes = classes_of (class ∷ []);
+  usage = Some use_of;
+  export = false;
+  double = true;
+  parts = false;
+}
 
 -- the transport keys of two keys that are generated together, by the form
 abbrev pub first_transport : Form → Need
@@ -90,7 +125,8 @@ second_transport Exex = transport_key Exporter PairSame
 second_transport Imim = transport_key Importer PairSame
 
 abbrev pub key_operand : Request → List Class → Option Usage → Operands
-key_operand r classes usage = one_operand (operand r (codes "key") (Key (internal_key classes usage)))
+key_operand r classes usage =
+    one_operand (operand r (codes "key") (Key (internal_key classes usage)))
 
 -- the table
 abbrev pub operands_of : RequestName → Request → Operands
@@ -103,18 +139,27 @@ operands_of csnbkyt r = key_operand r five_classes None
 operands_of csnbcki r = one_operand (operand r (codes "to") Target)
 operands_of csnbrng r = no_operands
 operands_of csnbkgn_op r = one_operand (operand r (codes "to") Target)
-operands_of csnbkgn_pair r = two_operands (operand r (codes "transport2") (Key (second_transport (pair_form_named (value_of r (codes "form"))))))
+operands_of csnbkgn_pair r =
+    two_operands (operand r (codes "transport2")
+    (Key (second_transport (pair_form_named (value_of r (codes "form"))))))
     (operand r (codes "to") Target)
-operands_of csnbkgn_out r = two_operands (operand r (codes "transport1") (Key (first_transport (out_form_named (value_of r (codes "form"))))))
-    (operand r (codes "transport2") (Key (second_transport (out_form_named (value_of r (codes "form"))))))
+operands_of csnbkgn_out r =
+    two_operands (operand r (codes "transport1")
+    (Key (first_transport (out_form_named (value_of r (codes "form"))))))
+    (operand r (codes "transport2")
+    (Key (second_transport (out_form_named (value_of r (codes "form"))))))
 operands_of csnbkim r = three_operands (operand r (codes "token") (ExternalToken external_key))
-    (operand r (codes "transport") (Key (transport_key Importer Transport))) (operand r (codes "to") Target)
+    (operand r (codes "transport") (Key (transport_key Importer Transport)))
+    (operand r (codes "to") Target)
 operands_of csnbkex r = two_operands (operand r (codes "key") (Key exported_key))
     (operand r (codes "transport") (Key (transport_key Exporter Transport)))
-operands_of csnbpex r = two_operands (operand r (codes "key") (Key (internal_key five_classes None))) (operand r (codes "to") Target)
+operands_of csnbpex r =
+    two_operands (operand r (codes "key") (Key (internal_key five_classes None)))
+    (operand r (codes "to") Target)
 operands_of csnbktc r = one_operand (operand r (codes "token") (Token any_key))
 operands_of csnbkrc r = one_operand (operand r (codes "label") NewLabel)
-operands_of csnbkrw r = two_operands (operand r (codes "label") Held) (operand r (codes "token") (Token any_key))
+operands_of csnbkrw r =
+    two_operands (operand r (codes "label") Held) (operand r (codes "token") (Token any_key))
 operands_of csnbkrr r = one_operand (operand r (codes "label") Record)
 operands_of csnbkrd r = one_operand (operand r (codes "label") Held)
 operands_of csnbkrl r = no_operands

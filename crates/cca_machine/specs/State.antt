@@ -27,7 +27,11 @@ pub record State : Type 0 where
 
 -- the state of a blank module and a blank store
 abbrev pub blank_state : State
-blank_state = record { registers = blank_masters; roles = blank_roles; labels = replicate 1024 None }
+blank_state = record {
+  registers = blank_masters;
+  roles = blank_roles;
+  labels = replicate 1024 None;
+}
 
 -- a module with this content stands for the state
 pub record IsModuleOf (s : State) (image : List ℕ) : Type 0 where

@@ -130,8 +130,10 @@ needed_points csnbmvr r = point (codes "MVR")
 needed_points csnbkyt r = point (codes "KYT")
 needed_points csnbcki r = bit_or (point (codes "CKI")) (target_points (value_of r (codes "to")))
 needed_points csnbrng r = point (codes "RNG")
-needed_points csnbkgn_op r = bit_or (point (codes "KGN_OP")) (target_points (value_of r (codes "to")))
-needed_points csnbkgn_pair r = bit_or (point (codes "KGN_PAIR")) (target_points (value_of r (codes "to")))
+needed_points csnbkgn_op r =
+    bit_or (point (codes "KGN_OP")) (target_points (value_of r (codes "to")))
+needed_points csnbkgn_pair r =
+    bit_or (point (codes "KGN_PAIR")) (target_points (value_of r (codes "to")))
 needed_points csnbkgn_out r = point (codes "KGN_OUT")
 needed_points csnbkim r = bit_or (point (codes "KIM")) (target_points (value_of r (codes "to")))
 needed_points csnbkex r = point (codes "KEX")
@@ -186,12 +188,17 @@ held_checks s label = label_check label ∷ check 7 (is_none (cell_with s label)
 
 -- and rule 08: its record is null
 abbrev pub record_checks : State → List ℕ → List Check
-record_checks s label = label_check label ∷ check 7 (is_none (cell_with s label)) ∷ check 8 (is_none (key_of_label s label)) ∷ []
+record_checks s label =
+    label_check label
+    ∷ check 7 (is_none (cell_with s label))
+    ∷ check 8 (is_none (key_of_label s label))
+    ∷ []
 
 -- of a key by its label rules 06 to 08, 17 and 19 to 22; of a token rules 09 to 22
 abbrev pub key_questions : State → Need → Option (List ℕ) → List ℕ → List Check
 key_questions s need None text = key_checks need (registers_of s.registers) (key_bytes text)
-key_questions s need (Some label) text = record_checks s label ++ use_checks need (or_no_key (key_of_label s label)).clear.vector
+key_questions s need (Some label) text =
+    record_checks s label ++ use_checks need (or_no_key (key_of_label s label)).clear.vector
 
 -- where a key goes: nothing is asked where that is the reply
 abbrev pub target_checks : State → Option (List ℕ) → List Check
@@ -203,7 +210,8 @@ abbrev pub operand_checks : State → List ℕ → Ask → List Check
 operand_checks s text ask.AnyToken = token_checks Either (hex_value text)
 operand_checks s text (ask.Key need) = key_questions s need (label_named text) text
 operand_checks s text (ask.Token need) = key_checks need (registers_of s.registers) (hex_value text)
-operand_checks s text (ask.External need) = key_checks need (registers_of s.registers) (hex_value text)
+operand_checks s text (ask.External need) =
+    key_checks need (registers_of s.registers) (hex_value text)
 operand_checks s text ask.Record = record_checks s text
 operand_checks s text ask.Held = held_checks s text
 operand_checks s text ask.NewLabel = label_check text ∷ []
@@ -212,7 +220,8 @@ operand_checks s text ask.Nothing = []
 
 abbrev pub operand_questions : State → List Operand → List Questions
 operand_questions s [] = []
-operand_questions s (o ∷ os) = questions o.name (operand_checks s o.text o.ask) ∷ operand_questions s os
+operand_questions s (o ∷ os) =
+    questions o.name (operand_checks s o.text o.ask) ∷ operand_questions s os
 
 abbrev pub operands_verdict : State → Request → Option Refusal
 operands_verdict s request = first_refusal (operand_questions s (listed (operands request)))
@@ -224,24 +233,31 @@ action_questions s action = questions (codes "-") (action_checks action s.regist
 
 -- of SET rules 25 and 26, and rule 27: a label is under the old master key
 abbrev pub set_questions : State → List Questions
-set_questions s = questions (codes "-") (action_checks Set s.registers ++ (check 27 (any_old_label s.labels) ∷ [])) ∷ []
+set_questions s =
+    questions (codes "-")
+    (action_checks Set s.registers ++ (check 27 (any_old_label s.labels) ∷ [])) ∷ []
 
 -- rule 28: every cell holds a label; rule 29: the label is held
 abbrev pub create_questions : State → List ℕ → List Questions
 create_questions s label =
-    questions (codes "label") (check 28 (free_cell (directory s.labels) == 1024) ∷ check 29 (is_some (cell_with s label)) ∷ []) ∷ []
+    questions (codes "label")
+    (check 28 (free_cell (directory s.labels) == 1024)
+    ∷ check 29 (is_some (cell_with s label)) ∷ []) ∷ []
 
 -- rule 30: the role table is full
 abbrev pub define_questions : State → List ℕ → List Questions
-define_questions s name = questions (codes "name") (check 30 (define_refused name s.roles) ∷ []) ∷ []
+define_questions s name =
+    questions (codes "name") (check 30 (define_refused name s.roles) ∷ []) ∷ []
 
 -- rule 30: the role isn't held
 abbrev pub remove_questions : State → List ℕ → List Questions
-remove_questions s name = questions (codes "name") (check 30 (remove_refused name s.roles) ∷ []) ∷ []
+remove_questions s name =
+    questions (codes "name") (check 30 (remove_refused name s.roles) ∷ []) ∷ []
 
 -- rule 23 of a text that is enciphered
 abbrev pub encipher_questions : Pad → ℕ → List Questions
-encipher_questions padding size = questions (codes "text") (text_checks (enciphering padding) size) ∷ []
+encipher_questions padding size =
+    questions (codes "text") (text_checks (enciphering padding) size) ∷ []
 
 -- rule 23 of a text that is deciphered, and rule 31 of the deciphered text
 abbrev pub decipher_questions : ℕ → ClearKey → List ℕ → Pad → List ℕ → List Questions
@@ -275,11 +291,14 @@ pair_questions first second length =
 
 -- the types and the length that a request's fields name
 abbrev pub asked_of_one : Request → List Questions
-asked_of_one r = generate_questions (type_in (value_of r (codes "type1"))) (key_length_named (value_of r (codes "length")))
+asked_of_one r =
+    generate_questions (type_in (value_of r (codes "type1")))
+    (key_length_named (value_of r (codes "length")))
 
 abbrev pub asked_of_two : Request → List Questions
 asked_of_two r =
-    pair_questions (type_in (value_of r (codes "type1"))) (type_in (value_of r (codes "type2"))) (key_length_named (value_of r (codes "length")))
+    pair_questions (type_in (value_of r (codes "type1"))) (type_in (value_of r (codes "type2")))
+    (key_length_named (value_of r (codes "length")))
 
 -- rule 25 of a token that is changed to the new master key: the new register isn't full
 abbrev pub change_questions : State → Target → List Questions
@@ -290,7 +309,8 @@ abbrev pub verb_questions : State → RequestName → Request → List Questions
 verb_questions s csnbktp r = []
 verb_questions s csnbenc r = encipher_questions (pad_named (value_of r (codes "pad"))) (text_size r)
 verb_questions s csnbdec r =
-    decipher_questions (text_size r) (key_of_request s r) (bytes_in r (codes "iv")) (pad_named (value_of r (codes "pad"))) (bytes_in r (codes "text"))
+    decipher_questions (text_size r) (key_of_request s r) (bytes_in r (codes "iv"))
+    (pad_named (value_of r (codes "pad"))) (bytes_in r (codes "text"))
 verb_questions s csnbmgn r = code_questions s r
 verb_questions s csnbmvr r = code_questions s r
 verb_questions s csnbkyt r = []
@@ -323,4 +343,5 @@ verb_verdict s request = first_refusal (verb_questions s request.name request)
 -- the rules of the request as a whole, then those of its operands in their order, then those of its verb
 abbrev pub verdict : State → Request → Option Refusal
 verdict s request =
-    or_refused (first_failing (general_checks s request)) (codes "-") (or_then (operands_verdict s request) (verb_verdict s request))
+    or_refused (first_failing (general_checks s request)) (codes "-")
+    (or_then (operands_verdict s request) (verb_verdict s request))

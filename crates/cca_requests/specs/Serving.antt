@@ -94,11 +94,13 @@ IsFault (Damaged device cell) = ⊥
 
 -- ---- of the module alone
 
-pub record IsDoneInModule (o : Outcome) (reply : List ℕ) (roles : List (Option Role)) (module_ : Medium) : Type 0 where
+pub record IsDoneInModule (o : Outcome) (reply : List ℕ) (roles : List (Option Role))
+    (module_ : Medium) : Type 0 where
   pub reply_is : reply ≡ spelled o.reply
   pub stands : StandsInModule o.state roles module_
 
-pub record CarriesModule (o : Outcome) (s : State) (result : Result (Unit {0}) Stop) (reply : List ℕ) (roles : List (Option Role)) (m0 m1 : Medium) : Type 0 where
+pub record CarriesModule (o : Outcome) (s : State) (result : Result (Unit {0}) Stop)
+    (reply : List ℕ) (roles : List (Option Role)) (m0 m1 : Medium) : Type 0 where
   pub done : OnOk result (IsDoneInModule o reply roles m1)
   -- whatever the answer, at each moment of the call
   pub moments : EachImage m0 m1 (IsEither IsModuleOf s o)
@@ -107,11 +109,13 @@ pub record CarriesModule (o : Outcome) (s : State) (result : Result (Unit {0}) S
 
 -- ---- of the store alone
 
-pub record IsDoneInStore (o : Outcome) (reply : List ℕ) (rows : List (Option Row)) (store : Medium) : Type 0 where
+pub record IsDoneInStore (o : Outcome) (reply : List ℕ) (rows : List (Option Row)) (store : Medium)
+    : Type 0 where
   pub reply_is : reply ≡ spelled o.reply
   pub stands : StandsInStore o.state rows store
 
-pub record CarriesStore (o : Outcome) (s : State) (result : Result (Unit {0}) Stop) (reply : List ℕ) (rows : List (Option Row)) (d0 d1 : Medium) : Type 0 where
+pub record CarriesStore (o : Outcome) (s : State) (result : Result (Unit {0}) Stop) (reply : List ℕ)
+    (rows : List (Option Row)) (d0 d1 : Medium) : Type 0 where
   pub done : OnOk result (IsDoneInStore o reply rows d1)
   pub moments : EachImage d0 d1 (IsEither IsStoreOf s o)
   pub outside : EachImage d0 d1 (From (SameBut o.store_cells) d0)
@@ -127,7 +131,9 @@ pub record IsDone (o : Outcome) (reply : List ℕ) (t : Tables) (m d : Medium) :
 -- Each image of one disk stands for the state before, and what stands for that stands for the state after too, and for
 -- those between.
 abbrev pub Rests : (State → List ℕ → Type 0) → State → Outcome → Medium → Medium → Type 0
-Rests Of s o old new = EachImage old new (Of s) × ((c : List ℕ) → Of s c → Of o.state c × ((cell : ℕ) → Of (o.between cell) c))
+Rests Of s o old new =
+    EachImage old new (Of s)
+    × ((c : List ℕ) → Of s c → Of o.state c × ((cell : ℕ) → Of (o.between cell) c))
 
 -- one disk at most is written: the store, or the module, or none of them
 abbrev pub OneDisk : State → Outcome → Medium → Medium → Medium → Medium → Type 0
@@ -136,7 +142,8 @@ OneDisk s o m0 m1 d0 d1 =
     ⊎ (Rests IsStoreOf s o d0 d1
     ⊎ (EachImage m0 m1 (IsModuleOf s) × EachImage d0 d1 (IsStoreOf s)))
 
-pub record Carries (o : Outcome) (s : State) (result : Result (Unit {0}) Stop) (reply : List ℕ) (t : Tables) (m0 m1 d0 d1 : Medium) : Type 0 where
+pub record Carries (o : Outcome) (s : State) (result : Result (Unit {0}) Stop) (reply : List ℕ)
+    (t : Tables) (m0 m1 d0 d1 : Medium) : Type 0 where
   pub done : OnOk result (IsDone o reply t m1 d1)
   -- whatever the answer, at each moment of the call
   pub on_module : EachImage m0 m1 (IsEither IsModuleOf s o)
@@ -152,13 +159,17 @@ pub record HasDrawn (drawn : List ℕ) (count : ℕ) (before now : Option (List 
   pub size : length drawn ≡ count
 
 -- what the machine makes of the request, with some random bytes, is carried out
-pub record Serves (s : State) (request : Request) (result : Result (Unit {0}) Stop) (reply : List ℕ) (t : Tables) (old new : World) : Type 0 where
+pub record Serves (s : State) (request : Request) (result : Result (Unit {0}) Stop) (reply : List ℕ)
+    (t : Tables) (old new : World) : Type 0 where
   pub drawn : List ℕ
-  pub carries : Carries (performed s drawn request) s result reply t old.module_ new.module_ old.store new.store
+  pub carries : Carries (performed s drawn request) s result reply t old.module_ new.module_
+      old.store new.store
   -- at each moment of the call, each image of the module with each of the store
-  pub pairs : EachPair old.module_ new.module_ old.store new.store (ArePair s (performed s drawn request))
+  pub pairs : EachPair old.module_ new.module_ old.store new.store
+      (ArePair s (performed s drawn request))
   -- they were drawn; or it stopped before, and nothing was written
-  pub random : HasDrawn drawn (taken_by s request) old.random new.random ⊎ (OnOk result ⊥ × Unwritten old new)
+  pub random : HasDrawn drawn (taken_by s request) old.random new.random
+      ⊎ (OnOk result ⊥ × Unwritten old new)
   -- the random source fails only where the machine takes random bytes, and nothing is written then
   pub permitted : result ≡ Err EntropyFault → 0 < taken_by s request
   pub undrawn : result ≡ Err EntropyFault → Unwritten old new
@@ -198,7 +209,8 @@ abbrev pub HasTold : Medium → Medium → Type 0
 HasTold old new = IsSome new.content → IsSome old.content
 
 -- what a change of the module leaves of it, of the reply and of the memory
-pub record LeavesModule (old new : Medium) (before now : ℕ) (result : Result (Unit {0}) Stop) (reply : List ℕ) (roles later : List (Option Role)) : Type 0 where
+pub record LeavesModule (old new : Medium) (before now : ℕ) (result : Result (Unit {0}) Stop)
+    (reply : List ℕ) (roles later : List (Option Role)) : Type 0 where
   pub disk : DiskLeft old new before now result ModuleFault
   pub told : HasTold old new
   pub sound : OnOk result (Told new (IsSound later))
@@ -207,7 +219,8 @@ pub record LeavesModule (old new : Medium) (before now : ℕ) (result : Result (
   pub stops : IfErr result (λ stop. stop ≡ ModuleFault)
 
 -- And a change of the store. After an error the memory holds the labels that it held, in their cells.
-pub record LeavesStore (old new : Medium) (before now : ℕ) (result : Result (Unit {0}) Stop) (reply : List ℕ) (rows later : List (Option Row)) : Type 0 where
+pub record LeavesStore (old new : Medium) (before now : ℕ) (result : Result (Unit {0}) Stop)
+    (reply : List ℕ) (rows later : List (Option Row)) : Type 0 where
   pub disk : DiskLeft old new before now result StoreFault
   pub told : HasTold old new
   pub holds : OnOk result (Told new (HoldsRows later))
@@ -227,8 +240,10 @@ pub record Span : Type 1 where
   pub store_now : ℕ
 
 -- what a call behind the loading of the registers leaves of both disks, of the reply and of the memory
-pub record Leaves (d : Span) (result : Result (Unit {0}) Stop) (reply : List ℕ) (t later : Tables) : Type 0 where
-  pub module_disk : DiskLeft d.module_old d.module_new d.module_before d.module_now result ModuleFault
+pub record Leaves (d : Span) (result : Result (Unit {0}) Stop) (reply : List ℕ) (t later : Tables)
+    : Type 0 where
+  pub module_disk : DiskLeft d.module_old d.module_new d.module_before d.module_now result
+      ModuleFault
   pub store_disk : DiskLeft d.store_old d.store_new d.store_before d.store_now result StoreFault
   pub module_told : HasTold d.module_old d.module_new
   pub store_told : HasTold d.store_old d.store_new

@@ -79,7 +79,8 @@ MayFail (Damaged device cell) s line = ⊥
 -- Cell 0 reads as no registers; or it reads as some, and this is the first cell behind it that reads as no role, or as
 -- one whose name a lower cell holds.
 abbrev pub IsBrokenModule : ℕ → List ℕ → Type 0
-IsBrokenModule cell image = ((cell ≡ 0) × IsDamaged image) ⊎ ((IsDamaged image → ⊥) × IsFirstDamaged image cell)
+IsBrokenModule cell image =
+    ((cell ≡ 0) × IsDamaged image) ⊎ ((IsDamaged image → ⊥) × IsFirstDamaged image cell)
 
 -- The module stands for some registers and roles, and this is the first cell of the store that reads as no record
 -- under those registers, or as one whose label a lower cell holds.
@@ -96,19 +97,26 @@ IsCell Module cell = cell ≤ 32
 IsCell Store cell = cell < 1024
 
 -- what stands for registers and roles isn't broken
-pub module_stands : (cell : ℕ) (c : List ℕ) (registers : Masters) (roles : List (Option Role)) → IsBrokenModule cell c
+pub module_stands : (cell : ℕ) (c : List ℕ) (registers : Masters) (roles : List (Option Role))
+    → IsBrokenModule cell c
     → StandsForMasters c registers → StandsForRoles c roles → ⊥
-module_stands cell c registers roles (inl damaged) in_registers in_roles = damaged.1 registers in_registers
+module_stands cell c registers roles (inl damaged) in_registers in_roles =
+    damaged.1 registers in_registers
 module_stands cell c registers roles (inr first) in_registers in_roles =
     stands_undamaged c roles first.1.place in_roles first.1.within first.1.damaged
 
-pub broken_module_apart : (cell : ℕ) (c : List ℕ) (s : State) → IsBrokenModule cell c → IsModuleOf s c → ⊥
-broken_module_apart cell c s broken is = module_stands cell c s.registers s.roles broken is.registers is.roles
+pub broken_module_apart : (cell : ℕ) (c : List ℕ) (s : State) → IsBrokenModule cell c
+    → IsModuleOf s c → ⊥
+broken_module_apart cell c s broken is =
+    module_stands cell c s.registers s.roles broken is.registers is.roles
 
-pub broken_store_apart : (cell : ℕ) (c d : List ℕ) (s : State) → IsBrokenStore cell c d → IsModuleOf s c → IsStoreOf s d → ⊥
+pub broken_store_apart : (cell : ℕ) (c d : List ℕ) (s : State) → IsBrokenStore cell c d
+    → IsModuleOf s c → IsStoreOf s d → ⊥
 broken_store_apart cell c d s broken is labels =
-    let one : s.registers ≡ broken.registers = reads_one (body c 0) s.registers broken.registers is.registers broken.in_registers in
-    labels_undamaged (keys_of broken.registers) d s.labels cell (subst (λ (m : Masters). StandsForLabels (keys_of m) d s.labels) one labels)
+    let one : s.registers ≡ broken.registers =
+    reads_one (body c 0) s.registers broken.registers is.registers broken.in_registers in
+    labels_undamaged (keys_of broken.registers) d s.labels cell
+    (subst (λ (m : Masters). StandsForLabels (keys_of m) d s.labels) one labels)
     broken.first.within broken.first.damaged
 
 abbrev pub cca : Machine

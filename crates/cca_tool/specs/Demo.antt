@@ -26,8 +26,8 @@ four_digits i = (48 + i / 1000 % 10) ∷ (48 + i / 100 % 10) ∷ (48 + i / 10 % 
 -- a number below 65,536 in four hexadecimal digits
 abbrev pub four_hex_digits : ℕ → List ℕ
 four_hex_digits i =
-    digit_glyph false (i / 4096 % 16) ∷ digit_glyph false (i / 256 % 16) ∷ digit_glyph false (i / 16 % 16)
-    ∷ digit_glyph false (i % 16) ∷ []
+    digit_glyph false (i / 4096 % 16) ∷ digit_glyph false (i / 256 % 16)
+    ∷ digit_glyph false (i / 16 % 16) ∷ digit_glyph false (i % 16) ∷ []
 
 -- a master key is entered in two parts, the second all zero, and becomes the current one
 abbrev pub key_set : List ℕ → List (List ℕ)
@@ -41,13 +41,15 @@ key_set part =
 abbrev pub key_made : ℕ → List (List ℕ)
 key_made i =
     (codes "CSNBKRC role=DEFAULT label=KEY." ++ four_digits i)
-    ∷ (codes "CSNBCKI role=DEFAULT clear=000000000000" ++ (four_hex_digits i ++ (codes " to=L:KEY." ++ four_digits i)))
+    ∷ (codes "CSNBCKI role=DEFAULT clear=000000000000"
+    ++ (four_hex_digits i ++ (codes " to=L:KEY." ++ four_digits i)))
     ∷ []
 
 -- a zero block is enciphered under the key of a label
 abbrev pub key_used : ℕ → List (List ℕ)
 key_used i =
-    (codes "CSNBENC role=DEFAULT key=L:KEY." ++ (four_digits i ++ codes " iv=0000000000000000 pad=NONE text=0000000000000000"))
+    (codes "CSNBENC role=DEFAULT key=L:KEY."
+    ++ (four_digits i ++ codes " iv=0000000000000000 pad=NONE text=0000000000000000"))
     ∷ []
 
 -- the key of a label is tested
@@ -56,7 +58,8 @@ key_tested i = (codes "CSNBKYT role=DEFAULT key=L:KEY." ++ four_digits i) ∷ []
 
 -- every other label is deleted
 abbrev pub key_deleted : ℕ → List (List ℕ)
-key_deleted i = if i % 2 == 0 then (codes "CSNBKRD role=DEFAULT label=KEY." ++ four_digits i) ∷ [] else []
+key_deleted i =
+    if i % 2 == 0 then (codes "CSNBKRD role=DEFAULT label=KEY." ++ four_digits i) ∷ [] else []
 
 -- the lines for the numbers 0, 1 and so on, so many of them
 abbrev pub for_each : (ℕ → List (List ℕ)) → ℕ → List (List ℕ)

@@ -11,13 +11,15 @@ use Rattle.cca_tool.specs.Coprocessor.{cca}
 use Rattle.cca_tool.specs.Demo.{demo_lines, demo_text, summary}
 
 -- The lines of the demo lead to the state for which the disks stand, and the sink got the summary of the replies.
-pub record SummarySent (n : ℕ) (s : State) (new : World) (before now : Option (List ℕ)) : Type 0 where
+pub record SummarySent (n : ℕ) (s : State) (new : World) (before now : Option (List ℕ))
+    : Type 0 where
   pub sent : List ℕ
   pub led : Led cca s None new (demo_lines n) sent
   pub held : WhereTold before now (λ x y. y ≡ x ++ summary n sent)
 
 -- The same, but that the sink didn't get all of the summary.
-pub record SummaryCut (n : ℕ) (s : State) (new : World) (before now : Option (List ℕ)) : Type 0 where
+pub record SummaryCut (n : ℕ) (s : State) (new : World) (before now : Option (List ℕ))
+    : Type 0 where
   pub sent : List ℕ
   pub led : Led cca s None new (demo_lines n) sent
   pub got : WhereTold before now (λ x y. GotPart x y (summary n sent))

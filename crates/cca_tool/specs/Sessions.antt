@@ -23,4 +23,5 @@ blank_memory = record { reading = blank; tables = tables blank_roles (replicate 
 pub record AreKnown (t : Tables) (m d : Medium) : Type 0 where
   pub in_module : Told m (IsSound t.roles)
   pub in_store : Told d (HoldsRows t.rows)
-  pub in_both : Told m (λ c. Told d (λ e. (s : State) × IsModuleOf s c × IsStoreOf s e × remembers t s))
+  pub in_both : Told m
+      (λ c. Told d (λ e. (s : State) × IsModuleOf s c × IsStoreOf s e × remembers t s))

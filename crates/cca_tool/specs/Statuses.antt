@@ -22,7 +22,8 @@ CallsNone outcome = (outcome ≡ status.Usage) ⊎ (outcome ≡ status.NoMemory)
 -- lines were served, and neither a disk nor the random bytes ended that
 abbrev pub ServesLines : Status → Type 0
 ServesLines outcome =
-    (outcome ≡ status.Done) ⊎ ((outcome ≡ status.ReadFault) ⊎ ((outcome ≡ status.InputLimit) ⊎ (outcome ≡ status.WriteFault)))
+    (outcome ≡ status.Done) ⊎ ((outcome ≡ status.ReadFault)
+    ⊎ ((outcome ≡ status.InputLimit) ⊎ (outcome ≡ status.WriteFault)))
 
 -- no device failed and no disk is damaged
 abbrev pub IsFaultless : Status → Type 0

@@ -22,7 +22,8 @@ type_name Ikeyxlat = codes "IKEYXLAT"
 
 abbrev pub key_types : List KeyType
 key_types =
-    Data ∷ Datac ∷ Datam ∷ Datamv ∷ Cipher ∷ Encipher ∷ Decipher ∷ Mac ∷ Macver ∷ Exporter ∷ Importer ∷ Okeyxlat ∷ Ikeyxlat ∷ []
+    Data ∷ Datac ∷ Datam ∷ Datamv ∷ Cipher ∷ Encipher ∷ Decipher ∷ Mac ∷ Macver ∷ Exporter
+    ∷ Importer ∷ Okeyxlat ∷ Ikeyxlat ∷ []
 
 -- the type with this name
 abbrev pub type_named : List ℕ → Option KeyType
@@ -61,7 +62,8 @@ key_pairs =
 
 -- the types stand in a pair, in this order
 abbrev pub is_listed_pair : KeyType → KeyType → Bool
-is_listed_pair first second = list_any (λ p. is_type p.one first && is_type p.other second) key_pairs
+is_listed_pair first second =
+    list_any (λ p. is_type p.one first && is_type p.other second) key_pairs
 
 -- the types are a pair, in either order
 abbrev pub is_pair : KeyType → KeyType → Bool

@@ -52,7 +52,9 @@ pub record IsRightHalfFor (left right : List ℕ) : Type 0 where
 
 -- a single-length key with no right half, or a double-length key
 abbrev pub HasKeyForm : List ℕ → List ℕ → Type 0
-HasKeyForm left right = ((form_of left ≡ single_length) × IsZero right) ⊎ ((form_of left ≡ left_of_double) × IsRightHalfFor left right)
+HasKeyForm left right =
+    ((form_of left ≡ single_length) × IsZero right)
+    ⊎ ((form_of left ≡ left_of_double) × IsRightHalfFor left right)
 
 -- 16 bytes of even parity whose halves are anti-variant and have a key form
 pub record IsValid (vector : List ℕ) : Type 0 where

@@ -170,7 +170,8 @@ fn first_fault(bytes: &[u8; 16]) -> Option<VectorFault>
 pub fn vector_of(bytes: &[u8; 16]) -> Result<Vector, VectorFault>
     ensures vector { IfOk result (λ vector. vector ≡ bytes.now) }
     ensures accepted { OnOk result (first_failing (vector_checks bytes.now) ≡ None) }
-    ensures refused { IfErr result (λ fault. first_failing (vector_checks bytes.now) ≡ Some (rule_of fault)) }
+    ensures refused { IfErr result
+        (λ fault. first_failing (vector_checks bytes.now) ≡ Some (rule_of fault)) }
     ensures valid { IsOk result ↔ IsValid bytes.now }
 {
     if let Some(fault) = first_fault(bytes) {

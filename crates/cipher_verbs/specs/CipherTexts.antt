@@ -38,7 +38,8 @@ deciphered_text clear start padding text = unpadded padding (uncbc_text (une cle
 
 -- rule 31: the last byte of the deciphered text is no count of padding
 abbrev pub pad_checks : ClearKey → List ℕ → Pad → List ℕ → List Check
-pad_checks clear start padding text = check 31 (is_none (deciphered_text clear start padding text)) ∷ []
+pad_checks clear start padding text =
+    check 31 (is_none (deciphered_text clear start padding text)) ∷ []
 
 -- the first four bytes of a block of zeros enciphered under a key
 abbrev pub test_value : ClearKey → List ℕ
@@ -47,7 +48,11 @@ test_value clear = take 4 (e clear.key zero_block)
 -- of a lease the place `Key`, the schedules and the text may have changed, and nothing else
 abbrev pub ChangesText : Lease → Lease → Type 0
 ChangesText old new =
-    new ≡ holding old (record (bench_of old) { key = (bench_of new).key; schedules = (bench_of new).schedules; text = (bench_of new).text })
+    new ≡ holding old (record (bench_of old) {
+      key = (bench_of new).key;
+      schedules = (bench_of new).schedules;
+      text = (bench_of new).text;
+    })
 
 -- the place of a text with zeros over the text, and with no text
 abbrev pub cleared : Text → Text

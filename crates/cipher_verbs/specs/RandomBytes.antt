@@ -13,7 +13,8 @@ in_form Odd drawn = map odd_byte drawn
 in_form Even drawn = map even_byte drawn
 
 -- the bytes are the next eight of a source of random bytes, in this form
-pub record Draws (form : RandomForm) (before after : Option (List ℕ)) (bytes : List ℕ) : Type 0 where
+pub record Draws (form : RandomForm) (before after : Option (List ℕ)) (bytes : List ℕ)
+    : Type 0 where
   pub drawn : List ℕ
   pub size : length drawn ≡ 8
   pub consumed : Consumes before after drawn

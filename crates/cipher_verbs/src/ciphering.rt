@@ -43,7 +43,8 @@ fn encipher_whole(lease: &mut Lease, key: &Judged, start: &[u8; 8])
 /// change.
 pub fn encipher(lease: &mut Lease, key: &Judged, start: &[u8; 8], padding: Pad)
     requires halves { HasHalves key.now }
-    requires length { first_failing (text_checks (enciphering padding) (bench_of lease.old).text.size) ≡ None }
+    requires length { first_failing
+        (text_checks (enciphering padding) (bench_of lease.old).text.size) ≡ None }
     ensures text { let clear = opened (bench_of lease.old) key.now in
         text_in lease.new
         ≡ enciphered_text clear start.now padding (text_in lease.old) }
@@ -76,7 +77,8 @@ fn decipher_whole(lease: &mut Lease, key: &Judged, start: &[u8; 8])
 /// then empty, and its clear bytes are zero. Only the place `Key`, the schedules and the text of the lease change.
 pub fn decipher(lease: &mut Lease, key: &Judged, start: &[u8; 8], padding: Pad) -> Result<(), Rule>
     requires halves { HasHalves key.now }
-    requires length { first_failing (text_checks TextUse.Decipher (bench_of lease.old).text.size) ≡ None }
+    requires length { first_failing
+        (text_checks TextUse.Decipher (bench_of lease.old).text.size) ≡ None }
     ensures judges { let clear = opened (bench_of lease.old) key.now in
         Judges (pad_checks clear start.now padding (text_in lease.old)) result }
     ensures text { let clear = opened (bench_of lease.old) key.now in

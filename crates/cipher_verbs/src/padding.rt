@@ -67,7 +67,8 @@ fn add_padding(lease: &mut Lease)
 
 /// Pads the text to whole blocks, where that is asked.
 pub(crate) fn pad_text(lease: &mut Lease, padding: Pad)
-    requires { first_failing (text_checks (enciphering padding) (bench_of lease.old).text.size) ≡ None }
+    requires { first_failing
+        (text_checks (enciphering padding) (bench_of lease.old).text.size) ≡ None }
     ensures whole { (bench_of lease.new).text.size % 8 ≡ 0 }
     ensures text { text_in lease.new ≡ padded padding (text_in lease.old) }
     ensures room { (bench_of lease.new).text.size ≤ 4096 }
@@ -82,8 +83,8 @@ pub(crate) fn pad_text(lease: &mut Lease, padding: Pad)
 
 /// Makes the bytes of the text zero, and the text empty.
 fn clear_text(lease: &mut Lease)
-    ensures { lease.new
-        ≡ holding lease.old (record (bench_of lease.old) { text = cleared (bench_of lease.old).text }) }
+    ensures { lease.new ≡ holding lease.old
+        (record (bench_of lease.old) { text = cleared (bench_of lease.old).text }) }
 {
     lease.text_mut().fill(0);
     lease.set_text_length(0);

@@ -7,4 +7,7 @@ use Rattle.multi_encipher.specs.Bundles.{key_in}
 
 -- the key in the place `Key` with this vector, under the current master key
 abbrev pub current_key : Bench → List ℕ → Denoted
-current_key bench vector = record { clear = record { key = key_in vector bench.key; vector = vector }; age = Current }
+current_key bench vector = record {
+  clear = record { key = key_in vector bench.key; vector = vector };
+  age = Current;
+}

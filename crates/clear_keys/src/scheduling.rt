@@ -101,7 +101,8 @@ fn schedule_halves(lease: &mut Lease, single: bool)
 /// and two blocks, and two schedules.
 pub fn schedule_key(lease: &mut Lease, key: &Judged)
     requires { HasHalves key.now }
-    ensures schedules { HoldKey (bench_of lease.new).schedules (opened (bench_of lease.old) key.now).key }
+    ensures schedules { HoldKey (bench_of lease.new).schedules
+        (opened (bench_of lease.old) key.now).key }
     ensures length { IsKey key.now.token.vector (opened (bench_of lease.old) key.now).key }
     ensures stays { ChangesKeyAt KeyPlace.Key lease.old lease.new }
 {

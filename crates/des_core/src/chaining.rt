@@ -15,9 +15,10 @@ use key_cells::Lease;
 #[inline]
 fn encipher_one(lease: &mut Lease, at: usize, chain: u64) -> u64
     requires { at + 8 ≤ (bench_of lease.now).text.size }
-    ensures block { to_be_bytes w64 result
-        ≡ ede_bytes (schedules_in lease.old) (xor (take 8 (drop at (text_in lease.old))) (to_be_bytes w64 chain)) }
-    ensures lease { lease.new ≡ with_text_in lease.old (put_at (text_in lease.old) at (to_be_bytes w64 result)) }
+    ensures block { to_be_bytes w64 result ≡ ede_bytes (schedules_in lease.old)
+        (xor (take 8 (drop at (text_in lease.old))) (to_be_bytes w64 chain)) }
+    ensures lease { lease.new ≡ with_text_in lease.old
+        (put_at (text_in lease.old) at (to_be_bytes w64 result)) }
 {
     let word = ede_word(lease.schedules(), word_at(lease.text(), at) ^ chain);
     put_word(lease.text_mut(), at, word);
@@ -46,9 +47,9 @@ pub fn cbc_encipher(lease: &mut Lease, start: &[u8; 8])
 fn decipher_one(lease: &mut Lease, at: usize, chain: u64) -> u64
     requires { at + 8 ≤ (bench_of lease.now).text.size }
     ensures block { to_be_bytes w64 result ≡ take 8 (drop at (text_in lease.old)) }
-    ensures lease { lease.new
-        ≡ with_text_in lease.old (put_at (text_in lease.old) at
-        (xor (ded_bytes (schedules_in lease.old) (take 8 (drop at (text_in lease.old)))) (to_be_bytes w64 chain))) }
+    ensures lease { lease.new ≡ with_text_in lease.old (put_at (text_in lease.old) at
+        (xor (ded_bytes (schedules_in lease.old) (take 8 (drop at (text_in lease.old))))
+        (to_be_bytes w64 chain))) }
 {
     let sealed = word_at(lease.text(), at);
     let word = ded_word(lease.schedules(), sealed) ^ chain;
@@ -61,12 +62,13 @@ fn decipher_one(lease: &mut Lease, at: usize, chain: u64) -> u64
 fn decipher_two(lease: &mut Lease, at: usize, chain: u64) -> u64
     requires { at + 16 ≤ (bench_of lease.now).text.size }
     ensures block { to_be_bytes w64 result ≡ take 8 (drop (at + 8) (text_in lease.old)) }
-    ensures lease { lease.new
-        ≡ with_text_in lease.old (put_at
+    ensures lease { lease.new ≡ with_text_in lease.old (put_at
         (put_at (text_in lease.old) at
-        (xor (ded_bytes (schedules_in lease.old) (take 8 (drop at (text_in lease.old)))) (to_be_bytes w64 chain)))
+        (xor (ded_bytes (schedules_in lease.old) (take 8 (drop at (text_in lease.old))))
+        (to_be_bytes w64 chain)))
         (at + 8)
-        (xor (ded_bytes (schedules_in lease.old) (take 8 (drop (at + 8) (text_in lease.old)))) (take 8 (drop at (text_in lease.old))))) }
+        (xor (ded_bytes (schedules_in lease.old) (take 8 (drop (at + 8) (text_in lease.old))))
+        (take 8 (drop at (text_in lease.old))))) }
 {
     let first = word_at(lease.text(), at);
     let second = word_at(lease.text(), at + 8);

@@ -28,20 +28,26 @@ lease_row = the_row (record { mir = named 1; lft = [] })
 
 -- the lease ends with what was written in the place of a master key
 abbrev pub LendsMaster : MutBor Lease → MasterPlace → MutBor (List ℕ) → Fml
-LendsMaster l place r = Lends lease_row (Array u8 24) l r (λ w. holding l.now (with_master (bench_of l.now) place w))
+LendsMaster l place r =
+    Lends lease_row (Array u8 24) l r (λ w. holding l.now (with_master (bench_of l.now) place w))
 
 -- the lease ends with what was written in the place of a key
 abbrev pub LendsKey : MutBor Lease → KeyPlace → MutBor (List ℕ) → Fml
-LendsKey l place r = Lends lease_row (Array u8 16) l r (λ w. holding l.now (with_key (bench_of l.now) place w))
+LendsKey l place r =
+    Lends lease_row (Array u8 16) l r (λ w. holding l.now (with_key (bench_of l.now) place w))
 
 -- the lease ends with the schedules that were written
 abbrev pub LendsSchedules : MutBor Lease → MutBor (List Schedule) → Fml
-LendsSchedules l r = Lends lease_row (Array schedules.the_row 3) l r (λ w. holding l.now (record (bench_of l.now) { schedules = w }))
+LendsSchedules l r =
+    Lends lease_row (Array schedules.the_row 3) l r
+    (λ w. holding l.now (record (bench_of l.now) { schedules = w }))
 
 -- the lease ends with the body that was written
 abbrev pub LendsBody : MutBor Lease → MutBor (List ℕ) → Fml
-LendsBody l r = Lends lease_row (Array u8 192) l r (λ w. holding l.now (record (bench_of l.now) { body = w }))
+LendsBody l r =
+    Lends lease_row (Array u8 192) l r (λ w. holding l.now (record (bench_of l.now) { body = w }))
 
 -- the lease ends with what was written in its text
 abbrev pub LendsText : MutBor Lease → MutBor (List ℕ) → Fml
-LendsText l r = Lends lease_row (Array u8 0) l r (λ w. holding l.now (with_text_of (bench_of l.now) w))
+LendsText l r =
+    Lends lease_row (Array u8 0) l r (λ w. holding l.now (with_text_of (bench_of l.now) w))

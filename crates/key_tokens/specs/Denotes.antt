@@ -34,20 +34,32 @@ pub record MasterKeys : Type 0 where
 -- the bytes are a token of this kind and pattern whose halves are the key enciphered under three bundle
 pub record IsTokenOf (kind : Kind) (pattern bundle bytes : List ℕ) (clear : ClearKey) : Type 0 where
   pub key : IsKey clear.vector clear.key
-  pub token : IsToken bytes (record { kind = kind; pattern = pattern; sealed = seal bundle clear.vector clear.key; vector = clear.vector })
+  pub token : IsToken bytes (record {
+    kind = kind;
+    pattern = pattern;
+    sealed = seal bundle clear.vector clear.key;
+    vector = clear.vector;
+  })
 
 -- an internal token stands for a key under the master key of the register that has its pattern
 abbrev pub Denotes : MasterKeys → List ℕ → ClearKey → Age → Type 0
-Denotes masters bytes clear Current = (master : MasterKey) × ((masters.current ≡ Some master) × IsTokenOf Internal master.pattern master.key bytes clear)
-Denotes masters bytes clear Old = (master : MasterKey) × ((masters.former ≡ Some master) × IsTokenOf Internal master.pattern master.key bytes clear)
+Denotes masters bytes clear Current =
+    (master : MasterKey)
+    × ((masters.current ≡ Some master) × IsTokenOf Internal master.pattern master.key bytes clear)
+Denotes masters bytes clear Old =
+    (master : MasterKey)
+    × ((masters.former ≡ Some master) × IsTokenOf Internal master.pattern master.key bytes clear)
 
 -- an external token stands for a key under a transport key
 abbrev pub DenotesUnder : List ℕ → List ℕ → ClearKey → Type 0
-DenotesUnder transport bytes clear = IsTokenOf External (replicate 8 0) (transport_bundle transport) bytes clear
+DenotesUnder transport bytes clear =
+    IsTokenOf External (replicate 8 0) (transport_bundle transport) bytes clear
 
 -- the patterns of two registers differ
 abbrev pub HaveDistinctPatterns : MasterKeys → Type 0
-HaveDistinctPatterns masters = (current former : MasterKey) → masters.current ≡ Some current → masters.former ≡ Some former → current.pattern ≢ former.pattern
+HaveDistinctPatterns masters =
+    (current former : MasterKey) → masters.current ≡ Some current → masters.former ≡ Some former
+    → current.pattern ≢ former.pattern
 
 -- ---- as a function
 
@@ -62,26 +74,40 @@ is_token asked bytes = is_none (first_failing (token_checks asked bytes))
 
 -- the key whose halves the token holds, enciphered under three bundle
 abbrev pub clear_of : List ℕ → List ℕ → ClearKey
-clear_of bundle bytes = record { key = unseal bundle (vector_bytes_of bytes) (sealed_of bytes); vector = vector_bytes_of bytes }
+clear_of bundle bytes = record {
+  key = unseal bundle (vector_bytes_of bytes) (sealed_of bytes);
+  vector = vector_bytes_of bytes;
+}
 
 -- the token under a register, where it has its pattern, or else another answer
 abbrev pub denoted_or : Option MasterKey → Age → List ℕ → Option Denoted → Option Denoted
 denoted_or None age bytes other = other
 denoted_or (Some master) age bytes other =
-    if bytes_eq (pattern_of_token bytes) master.pattern then Some (record { clear = clear_of master.key bytes; age = age }) else other
+    if bytes_eq (pattern_of_token bytes) master.pattern
+    then Some (record { clear = clear_of master.key bytes; age = age })
+    else other
 
 unfoldable pub denoted : MasterKeys → List ℕ → Option Denoted
 denoted masters bytes =
-    if is_token asked.Internal bytes then denoted_or masters.current Current bytes (denoted_or masters.former Old bytes None) else None
+    if is_token asked.Internal bytes
+    then denoted_or masters.current Current bytes (denoted_or masters.former Old bytes None)
+    else None
 
 unfoldable pub denoted_under : List ℕ → List ℕ → Option ClearKey
 denoted_under transport bytes =
-    if is_token asked.External bytes then Some (clear_of (transport_bundle transport) bytes) else None
+    if is_token asked.External bytes
+    then Some (clear_of (transport_bundle transport) bytes)
+    else None
 
 -- ---- the relation is the function
 
 pub record DenotesOne (masters : MasterKeys) (transport bytes : List ℕ) : Type 0 where
-  pub internal : (clear : ClearKey) (age : Age) → Denotes masters bytes clear age → denoted masters bytes ≡ Some (record { clear = clear; age = age })
-  pub internal_back : (clear : ClearKey) (age : Age) → denoted masters bytes ≡ Some (record { clear = clear; age = age }) → Denotes masters bytes clear age
-  pub external : (clear : ClearKey) → DenotesUnder transport bytes clear → denoted_under transport bytes ≡ Some clear
-  pub external_back : (clear : ClearKey) → denoted_under transport bytes ≡ Some clear → DenotesUnder transport bytes clear
+  pub internal : (clear : ClearKey) (age : Age) → Denotes masters bytes clear age
+      → denoted masters bytes ≡ Some (record { clear = clear; age = age })
+  pub internal_back : (clear : ClearKey) (age : Age)
+      → denoted masters bytes ≡ Some (record { clear = clear; age = age })
+      → Denotes masters bytes clear age
+  pub external : (clear : ClearKey) → DenotesUnder transport bytes clear
+      → denoted_under transport bytes ≡ Some clear
+  pub external_back : (clear : ClearKey) → denoted_under transport bytes ≡ Some clear
+      → DenotesUnder transport bytes clear

@@ -20,4 +20,9 @@ abbrev pub vector_bytes_of : List ℕ → List ℕ
 vector_bytes_of bytes = slice_range bytes 32 48
 
 abbrev pub token_of : List ℕ → Token
-token_of bytes = record { kind = kind_of bytes; pattern = pattern_of_token bytes; sealed = sealed_of bytes; vector = vector_bytes_of bytes }
+token_of bytes = record {
+  kind = kind_of bytes;
+  pattern = pattern_of_token bytes;
+  sealed = sealed_of bytes;
+  vector = vector_bytes_of bytes;
+}

@@ -41,7 +41,8 @@ layout token flag tvv =
 -- each place of the table has its content
 abbrev pub HasPlaces : List ℕ → List Place → Type 0
 HasPlaces bytes [] = ⊤
-HasPlaces bytes (p ∷ places) = (slice_range bytes p.first (p.last + 1) ≡ p.content) × HasPlaces bytes places
+HasPlaces bytes (p ∷ places) =
+    (slice_range bytes p.first (p.last + 1) ≡ p.content) × HasPlaces bytes places
 
 -- the contents of the places, one after another
 abbrev pub contents : List Place → List ℕ

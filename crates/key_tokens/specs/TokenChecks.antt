@@ -16,12 +16,14 @@ abbrev pub stored_tvv : List ℕ → ℕ
 stored_tvv bytes = word_at bytes 60
 
 abbrev pub has_flag : List ℕ → Bool
-has_flag bytes = slice_index bytes 6 == 0xc0 || (slice_index bytes 6 == 0x80 && is_zero (vector_bytes_of bytes))
+has_flag bytes =
+    slice_index bytes 6 == 0xc0 || (slice_index bytes 6 == 0x80 && is_zero (vector_bytes_of bytes))
 
 -- bytes 1 to 3, 5, 7 and 48 to 59, and in an external token bytes 8 to 15
 abbrev pub reserved_is_zero : List ℕ → Bool
 reserved_is_zero bytes =
-    is_zero (slice_range bytes 1 4) && is_zero (slice_range bytes 5 6) && is_zero (slice_range bytes 7 8)
+    is_zero (slice_range bytes 1 4) && is_zero (slice_range bytes 5 6)
+    && is_zero (slice_range bytes 7 8)
     && is_zero (slice_range bytes 48 60)
     && (not (slice_index bytes 0 == 0x02) || is_zero (slice_range bytes 8 16))
 
@@ -37,11 +39,14 @@ header_checks asked bytes =
 
 -- the right half of a single-length key is zero
 abbrev pub has_right_half : List ℕ → Bool
-has_right_half bytes = not (length_of (vector_bytes_of bytes) == 8) || is_zero (slice_range bytes 24 32)
+has_right_half bytes =
+    not (length_of (vector_bytes_of bytes) == 8) || is_zero (slice_range bytes 24 32)
 
 -- then rules 14 to 16 of the vector, and rule 16 of the right half
 abbrev pub token_checks : Asked → List ℕ → List Check
-token_checks asked bytes = header_checks asked bytes ++ vector_checks (vector_bytes_of bytes) ++ check 16 (not (has_right_half bytes)) ∷ []
+token_checks asked bytes =
+    header_checks asked bytes ++ vector_checks (vector_bytes_of bytes)
+    ++ check 16 (not (has_right_half bytes)) ∷ []
 
 -- the rule that a fault says is broken
 abbrev pub rule_of : TokenFault → ℕ

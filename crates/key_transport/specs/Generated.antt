@@ -24,7 +24,10 @@ vector_for kind size = unwrap_or (default_vector kind size) []
 
 -- the key of a type that random bytes make: each byte with odd parity by its low-order bit
 abbrev pub generated_key : KeyType → List ℕ → ClearKey
-generated_key kind drawn = record { key = map odd_byte drawn; vector = vector_for kind (length drawn) }
+generated_key kind drawn = record {
+  key = map odd_byte drawn;
+  vector = vector_for kind (length drawn);
+}
 
 -- the first key of a form is internal; else it is external under the first transport key
 abbrev pub is_operational : Form → Bool
@@ -39,11 +42,26 @@ is_operational Imim = false
 -- second transport key
 abbrev pub generated_tokens : Masters → Form → List ℕ → List ℕ → ClearKey → ClearKey → Generated
 generated_tokens m Op one two first second = record { first = current_token m first; second = None }
-generated_tokens m Opex one two first second = record { first = current_token m first; second = Some (external_token two second) }
-generated_tokens m Opim one two first second = record { first = current_token m first; second = Some (external_token two second) }
-generated_tokens m Imex one two first second = record { first = external_token one first; second = Some (external_token two second) }
-generated_tokens m Exex one two first second = record { first = external_token one first; second = Some (external_token two second) }
-generated_tokens m Imim one two first second = record { first = external_token one first; second = Some (external_token two second) }
+generated_tokens m Opex one two first second = record {
+  first = current_token m first;
+  second = Some (external_token two second);
+}
+generated_tokens m Opim one two first second = record {
+  first = current_token m first;
+  second = Some (external_token two second);
+}
+generated_tokens m Imex one two first second = record {
+  first = external_token one first;
+  second = Some (external_token two second);
+}
+generated_tokens m Exex one two first second = record {
+  first = external_token one first;
+  second = Some (external_token two second);
+}
+generated_tokens m Imim one two first second = record {
+  first = external_token one first;
+  second = Some (external_token two second);
+}
 
 -- the transport key of an operand; empty where none is given
 abbrev pub transport_key : Bench → Option Judged → List ℕ
@@ -89,12 +107,14 @@ pub record DrawsKey (size : ℕ) (before after : Option (List ℕ)) (place : Lis
   pub key : take size place ≡ map odd_byte drawn
 
 -- the tokens are those of keys that the next so many bytes of a random source make
-pub record Generates (held : Registers) (bench : Bench) (form : Form) (size : ℕ) (first second : KeyType) (one two : Option Judged)
+pub record Generates (held : Registers) (bench : Bench) (form : Form) (size : ℕ)
+    (first second : KeyType) (one two : Option Judged)
     (before after : Option (List ℕ)) (result : Generated) : Type 0 where
   pub drawn : List ℕ
   pub size_of : length drawn ≡ size
   pub consumed : Consumes before after drawn
   pub tokens : (m : Masters) → Loaded m held bench
-      → result ≡ generated_tokens m form (transport_key bench one) (transport_key bench two) (generated_key first drawn) (generated_key second drawn)
+      → result ≡ generated_tokens m form (transport_key bench one) (transport_key bench two)
+      (generated_key first drawn) (generated_key second drawn)
   pub operational : (m : Masters) → Loaded m held bench → is_operational form ≡ true
       → denoted (keys_of m) result.first ≡ Some (as_current (generated_key first drawn))

@@ -40,7 +40,12 @@ changed_token m New clear = new_token m clear
 -- the external token of a key under a transport key of 16 bytes; it has no pattern
 unfoldable pub external_token : List ℕ → ClearKey → List ℕ
 external_token transport clear =
-    made (record { kind = External; pattern = replicate 8 0; sealed = seal (transport_bundle transport) clear.vector clear.key; vector = clear.vector })
+    made (record {
+      kind = External;
+      pattern = replicate 8 0;
+      sealed = seal (transport_bundle transport) clear.vector clear.key;
+      vector = clear.vector;
+    })
 
 -- the same key, with a control vector that forbids export
 abbrev pub closed_key : ClearKey → ClearKey

@@ -48,7 +48,8 @@ pub struct Generated {
 /// Puts random bytes with odd parity into the first bytes of a place, drawn in one fill.
 fn fill_key<E: Entropy>(place: &mut [u8; 16], length: usize, entropy: &mut E) -> Result<(), Failed>
     requires { length ≤ 16 }
-    ensures drawn { OnOk result (DrawsKey length (E.left entropy.old) (E.left entropy.new) place.new) }
+    ensures drawn { OnOk result
+        (DrawsKey length (E.left entropy.old) (E.left entropy.new) place.new) }
     ensures cause { HasCause (E.faults entropy.old) (E.faults entropy.new) result }
 {
     let key = &mut place[..length];
@@ -147,8 +148,10 @@ pub fn generate<E: Entropy>(
     requires current { IsSome held.now.current_pattern }
     requires lengths { HaveLength form first second length }
     requires transports { AreGiven form (option_copied one) (option_copied two) }
-    ensures generated { IfOk result (Generates held.now (bench_of lease.old) form length first second
-        (option_copied one.entry) (option_copied two.entry) (E.left entropy.old) (E.left entropy.new)) }
+    ensures generated { IfOk result
+        (Generates held.now (bench_of lease.old) form length first second
+        (option_copied one.entry) (option_copied two.entry)
+        (E.left entropy.old) (E.left entropy.new)) }
     ensures cause { HasCause (E.faults entropy.old) (E.faults entropy.new) result }
     ensures stays { ChangesKeys lease.old lease.new }
 {

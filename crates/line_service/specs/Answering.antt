@@ -31,7 +31,8 @@ pub record IsSound (A : Machine) (m d : Medium) : Type 0 where
 -- The line leads from one state to the next with this reply. It takes these random bytes, whatever follows them.
 abbrev pub Steps : (A : Machine) → A.State → List ℕ → List ℕ → A.State → List ℕ → Type 0
 Steps A s line drawn next reply =
-    (rest : List ℕ) → A.step s (drawn ++ rest) line ≡ record { state = next; reply = reply; random = rest }
+    (rest : List ℕ)
+    → A.step s (drawn ++ rest) line ≡ record { state = next; reply = reply; random = rest }
 
 -- P holds of the state before a line or after it, or of one between
 abbrev pub Around : (A : Machine) → A.State → List ℕ → A.State → (A.State → Type 0) → Type 0
@@ -53,7 +54,8 @@ pub record Stays (A : Machine) (s : A.State) (old new : World) : Type 0 where
 
 -- The line was carried out, or a device failed on the way. Each image of a disk at a moment of the call, and each
 -- pair of them, stands for the state before the line or after it, or for one between.
-pub record Moves (A : Machine) (s : A.State) (K : A.State → Type 0) (line : List ℕ) (result : Result (Unit {0}) Stop) (reply : List ℕ) (old new : World) : Type 0 where
+pub record Moves (A : Machine) (s : A.State) (K : A.State → Type 0) (line : List ℕ)
+    (result : Result (Unit {0}) Stop) (reply : List ℕ) (old new : World) : Type 0 where
   pub drawn : List ℕ
   pub next : A.State
   pub answer : List ℕ
@@ -61,12 +63,15 @@ pub record Moves (A : Machine) (s : A.State) (K : A.State → Type 0) (line : Li
   pub consumed : Consumes old.random new.random drawn
   pub reply_is : OnOk result (reply ≡ answer)
   pub stands : OnOk result (Stands A next K new.module_ new.store)
-  pub on_module : EachImage old.module_ new.module_ (λ c. Around A s line next (λ t. A.InModule t c))
+  pub on_module : EachImage old.module_ new.module_
+      (λ c. Around A s line next (λ t. A.InModule t c))
   pub on_store : EachImage old.store new.store (λ d. Around A s line next (λ t. A.InStore t d))
-  pub pairs : EachPair old.module_ new.module_ old.store new.store (λ c d. Around A s line next (Both A c d))
+  pub pairs : EachPair old.module_ new.module_ old.store new.store
+      (λ c d. Around A s line next (Both A c d))
 
 -- What answering a line leaves, from the state s. Memory then agrees with the states that have K.
-pub record Serves (A : Machine) (s : A.State) (K : A.State → Type 0) (line : List ℕ) (result : Result (Unit {0}) Stop) (reply : List ℕ) (old new : World) : Type 0 where
+pub record Serves (A : Machine) (s : A.State) (K : A.State → Type 0) (line : List ℕ)
+    (result : Result (Unit {0}) Stop) (reply : List ℕ) (old new : World) : Type 0 where
   pub served : Moves A s K line result reply old new ⊎ (OnOk result ⊥ × Stays A s old new)
   pub stops : IfErr result (λ stop. IsLineStop stop × A.MayStop stop s line)
   pub undrawn : result ≡ Err EntropyFault → Stays A s old new

@@ -33,7 +33,8 @@ pub record Machine : Type 1 where
   pub IsBrokenStore : ℕ → List ℕ → List ℕ → Type 0
   -- what is broken stands for no state
   pub module_apart : (cell : ℕ) (c : List ℕ) (s : State) → IsBrokenModule cell c → InModule s c → ⊥
-  pub store_apart : (cell : ℕ) (c d : List ℕ) (s : State) → IsBrokenStore cell c d → InModule s c → InStore s d → ⊥
+  pub store_apart : (cell : ℕ) (c d : List ℕ) (s : State) → IsBrokenStore cell c d → InModule s c
+      → InStore s d → ⊥
   -- in bytes
   pub module_size : ℕ
   pub store_size : ℕ

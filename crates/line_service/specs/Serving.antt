@@ -28,20 +28,23 @@ session A s random (line ∷ ls) =
 -- The lines lead from one state to another with these replies. They take these random bytes, whatever follows them.
 abbrev pub Runs : (A : Machine) → A.State → List (List ℕ) → List ℕ → A.State → List ℕ → Type 0
 Runs A s ls drawn next sent =
-    (rest : List ℕ) → session A s (drawn ++ rest) ls ≡ record { state = next; reply = sent; random = rest }
+    (rest : List ℕ)
+    → session A s (drawn ++ rest) ls ≡ record { state = next; reply = sent; random = rest }
 
 -- the bytes stand at the front of what a random source had left, where it tells that
 abbrev pub IsFrontOf : Option (List ℕ) → List ℕ → Type 0
 IsFrontOf random drawn = IfSome random (λ all. (left : List ℕ) × (all ≡ drawn ++ left))
 
 -- some lines lead to a state with these replies, by random bytes that the source had
-pub record Leads (A : Machine) (s : A.State) (random : Option (List ℕ)) (ls : List (List ℕ)) (t : A.State) (sent : List ℕ) : Type 0 where
+pub record Leads (A : Machine) (s : A.State) (random : Option (List ℕ)) (ls : List (List ℕ))
+    (t : A.State) (sent : List ℕ) : Type 0 where
   pub drawn : List ℕ
   pub front : IsFrontOf random drawn
   pub runs : Runs A s ls drawn t sent
 
 -- some lines lead with these replies to the state for which the disks stand, and no other random byte was taken
-pub record Led (A : Machine) (s : A.State) (random : Option (List ℕ)) (new : World) (ls : List (List ℕ)) (sent : List ℕ) : Type 0 where
+pub record Led (A : Machine) (s : A.State) (random : Option (List ℕ)) (new : World)
+    (ls : List (List ℕ)) (sent : List ℕ) : Type 0 where
   pub last : A.State
   pub drawn : List ℕ
   pub consumed : Consumes random new.random drawn
@@ -49,14 +52,16 @@ pub record Led (A : Machine) (s : A.State) (random : Option (List ℕ)) (new : W
   pub stands : OnDisks A last new.module_ new.store
 
 -- P holds of the state after some first lines of the input, or of one on the way through the next line
-pub record IsOnTheWay (A : Machine) (s : A.State) (random : Option (List ℕ)) (input : List ℕ) (P : A.State → Type 0) : Type 0 where
+pub record IsOnTheWay (A : Machine) (s : A.State) (random : Option (List ℕ)) (input : List ℕ)
+    (P : A.State → Type 0) : Type 0 where
   pub first : List (List ℕ)
   pub others : List (List ℕ)
   pub lines_are : lines input ≡ first ++ others
   pub state : A.State
   pub sent : List ℕ
   pub leads : Leads A s random first state sent
-  pub has : P state ⊎ ((line : List ℕ) × (more : List (List ℕ)) × (others ≡ line ∷ more) × ((t : A.State) × A.Between state line t × P t))
+  pub has : P state ⊎ ((line : List ℕ) × (more : List (List ℕ)) × (others ≡ line ∷ more)
+      × ((t : A.State) × A.Between state line t × P t))
 
 -- each image of the module with each of the store stands for the state
 abbrev pub EachPairStands : (A : Machine) → A.State → World → Type 0
@@ -64,13 +69,15 @@ EachPairStands A s new = (c d : List ℕ) → new.module_.images c → new.store
 
 -- A line that follows `first` random bytes was begun. Each pair of images stands for the state before it or after it,
 -- or for one between.
-pub record StandsAround (A : Machine) (s : A.State) (line : List ℕ) (random : Option (List ℕ)) (first : List ℕ) (new : World) : Type 0 where
+pub record StandsAround (A : Machine) (s : A.State) (line : List ℕ) (random : Option (List ℕ))
+    (first : List ℕ) (new : World) : Type 0 where
   pub drawn : List ℕ
   pub next : A.State
   pub reply : List ℕ
   pub steps : Steps A s line drawn next reply
   pub consumed : Consumes random new.random (first ++ drawn)
-  pub pairs : (c d : List ℕ) → new.module_.images c → new.store.images d → Around A s line next (Both A c d)
+  pub pairs : (c d : List ℕ) → new.module_.images c → new.store.images d
+      → Around A s line next (Both A c d)
 
 -- ---- one line
 
@@ -82,7 +89,8 @@ IsTheLine End reading line = ⊥
 
 -- One line was taken from the bytes ahead, the sink got the reply to it, and disks and memory stand for the state
 -- after it.
-pub record AnswersLine (A : Machine) (s : A.State) (K : A.State → Type 0) (old new : World) (ahead rest : List ℕ) (ended : Bool) (before now : Option (List ℕ)) : Type 0 where
+pub record AnswersLine (A : Machine) (s : A.State) (K : A.State → Type 0) (old new : World)
+    (ahead rest : List ℕ) (ended : Bool) (before now : Option (List ℕ)) : Type 0 where
   pub line : List ℕ
   pub takes : TakesLine ahead line rest ended
   pub drawn : List ℕ
@@ -95,7 +103,8 @@ pub record AnswersLine (A : Machine) (s : A.State) (K : A.State → Type 0) (old
   pub unwritten : A.Refuses s line → Unwritten old new
 
 -- the same, but that the sink didn't get all of the reply
-pub record CutsReply (A : Machine) (s : A.State) (K : A.State → Type 0) (old new : World) (ahead rest : List ℕ) (ended : Bool) (before now : Option (List ℕ)) : Type 0 where
+pub record CutsReply (A : Machine) (s : A.State) (K : A.State → Type 0) (old new : World)
+    (ahead rest : List ℕ) (ended : Bool) (before now : Option (List ℕ)) : Type 0 where
   pub line : List ℕ
   pub takes : TakesLine ahead line rest ended
   pub drawn : List ℕ
@@ -108,7 +117,8 @@ pub record CutsReply (A : Machine) (s : A.State) (K : A.State → Type 0) (old n
   pub unwritten : A.Refuses s line → Unwritten old new
 
 -- one line, at which the device may fail, was taken from the bytes ahead, and the device failed
-pub record LosesLine (A : Machine) (stop : Stop) (s : A.State) (old new : World) (ahead rest : List ℕ) (ended : Bool) : Type 0 where
+pub record LosesLine (A : Machine) (stop : Stop) (s : A.State) (old new : World)
+    (ahead rest : List ℕ) (ended : Bool) : Type 0 where
   pub line : List ℕ
   pub takes : TakesLine ahead line rest ended
   pub may_stop : A.MayStop stop s line
@@ -117,21 +127,25 @@ pub record LosesLine (A : Machine) (stop : Stop) (s : A.State) (old new : World)
   pub unwritten : A.Refuses s line → Unwritten old new
 
 -- a line leads to this state, by random bytes that the source had
-pub record LeadsOne (A : Machine) (s : A.State) (random : Option (List ℕ)) (line : List ℕ) (next : A.State) : Type 0 where
+pub record LeadsOne (A : Machine) (s : A.State) (random : Option (List ℕ)) (line : List ℕ)
+    (next : A.State) : Type 0 where
   pub drawn : List ℕ
   pub front : IsFrontOf random drawn
   pub reply : List ℕ
   pub steps : Steps A s line drawn next reply
 
 -- P holds of the state before the first of the lines ahead or after it, or of one between
-abbrev pub IsAroundLine : (A : Machine) → A.State → Option (List ℕ) → List ℕ → (A.State → Type 0) → Type 0
+abbrev pub IsAroundLine : (A : Machine) → A.State → Option (List ℕ) → List ℕ → (A.State → Type 0)
+    → Type 0
 IsAroundLine A s random ahead P =
     P s ⊎ ((line : List ℕ) × (others : List ℕ) × (lines ahead ≡ line ∷ lines others)
     × ((next : A.State) × LeadsOne A s random line next × Around A s line next P))
 
 -- What a line leaves from the state s, by how it came out. Memory then agrees with the states that have K. The options
 -- are what the source had left and has left, and what the sink held and holds, where they tell it.
-pub record LineServed (A : Machine) (s : A.State) (K : A.State → Type 0) (result : Result Served Stop) (old new : World) (input rest before now : Option (List ℕ)) (r0 r1 : Reading) : Type 0 where
+pub record LineServed (A : Machine) (s : A.State) (K : A.State → Type 0)
+    (result : Result Served Stop) (old new : World) (input rest before now : Option (List ℕ))
+    (r0 r1 : Reading) : Type 0 where
   pub replied : result ≡ Ok Replied → WhereTold input rest (λ i r.
       AnswersLine A s K old new (r0.pending ++ i) (r1.pending ++ r) r1.ended before now)
   pub cut : result ≡ Err WriteFault → WhereTold input rest (λ i r.
@@ -151,14 +165,16 @@ pub record LineServed (A : Machine) (s : A.State) (K : A.State → Type 0) (resu
 -- ---- all lines
 
 -- the sink got the replies to all lines of the input, and the disks stand for the state after them
-pub record AllAnswered (A : Machine) (s : A.State) (random : Option (List ℕ)) (new : World) (input : List ℕ) (before now : Option (List ℕ)) : Type 0 where
+pub record AllAnswered (A : Machine) (s : A.State) (random : Option (List ℕ)) (new : World)
+    (input : List ℕ) (before now : Option (List ℕ)) : Type 0 where
   pub sent : List ℕ
   pub held : WhereTold before now (λ x y. y ≡ x ++ sent)
   pub led : Led A s random new (lines input) sent
 
 -- The sink got the replies to exactly those lines that a newline ended among the bytes that were taken, and the
 -- disks stand for the state after them.
-pub record WholeLinesAnswered (A : Machine) (s : A.State) (random : Option (List ℕ)) (new : World) (input rest : List ℕ) (before now : Option (List ℕ)) : Type 0 where
+pub record WholeLinesAnswered (A : Machine) (s : A.State) (random : Option (List ℕ)) (new : World)
+    (input rest : List ℕ) (before now : Option (List ℕ)) : Type 0 where
   pub whole : List ℕ
   pub part : List ℕ
   pub taken : input ≡ (whole ++ part) ++ rest
@@ -170,7 +186,8 @@ pub record WholeLinesAnswered (A : Machine) (s : A.State) (random : Option (List
 
 -- The sink got the replies to the lines before some line of the input, and not all of the reply to it. The disks
 -- stand for the state after that line.
-pub record ReplyCut (A : Machine) (s : A.State) (random : Option (List ℕ)) (new : World) (input : List ℕ) (before now : Option (List ℕ)) : Type 0 where
+pub record ReplyCut (A : Machine) (s : A.State) (random : Option (List ℕ)) (new : World)
+    (input : List ℕ) (before now : Option (List ℕ)) : Type 0 where
   pub whole : List ℕ
   pub line : List ℕ
   pub others : List ℕ
@@ -188,7 +205,8 @@ pub record ReplyCut (A : Machine) (s : A.State) (random : Option (List ℕ)) (ne
 
 -- The sink got the replies to the lines before some line of the input, at which the device may fail. Each pair of
 -- images stands for the state before that line; or each stands for that or the one after it, or for one between.
-pub record LineLost (A : Machine) (stop : Stop) (s : A.State) (random : Option (List ℕ)) (new : World) (input : List ℕ) (before now : Option (List ℕ)) : Type 0 where
+pub record LineLost (A : Machine) (stop : Stop) (s : A.State) (random : Option (List ℕ))
+    (new : World) (input : List ℕ) (before now : Option (List ℕ)) : Type 0 where
   pub whole : List ℕ
   pub line : List ℕ
   pub others : List ℕ
@@ -202,18 +220,21 @@ pub record LineLost (A : Machine) (stop : Stop) (s : A.State) (random : Option (
   pub undrawn : stop ≡ EntropyFault → EachPairStands A state new
 
 -- The sink got the first bytes of the replies to the input.
-pub record PrefixSent (A : Machine) (s : A.State) (random : Option (List ℕ)) (input : List ℕ) (before now : Option (List ℕ)) : Type 0 where
+pub record PrefixSent (A : Machine) (s : A.State) (random : Option (List ℕ)) (input : List ℕ)
+    (before now : Option (List ℕ)) : Type 0 where
   pub first : List (List ℕ)
   pub others : List (List ℕ)
   pub lines_are : lines input ≡ first ++ others
   pub state : A.State
   pub replies : List ℕ
   pub leads : Leads A s random first state replies
-  pub held : WhereTold before now (λ x y. (sent : List ℕ) × (missing : List ℕ) × (y ≡ x ++ sent) × (replies ≡ sent ++ missing))
+  pub held : WhereTold before now
+      (λ x y. (sent : List ℕ) × (missing : List ℕ) × (y ≡ x ++ sent) × (replies ≡ sent ++ missing))
 
 -- Before the first line was taken: the sink got nothing, no byte of the source and no random byte was taken, and
 -- neither what a disk holds nor what a stop may leave of it has changed.
-pub record Unopened (old new : World) (input rest : List ℕ) (before now : Option (List ℕ)) : Type 0 where
+pub record Unopened (old new : World) (input rest : List ℕ) (before now : Option (List ℕ))
+    : Type 0 where
   pub untaken : rest ≡ input
   pub held : WhereTold before now (λ x y. y ≡ x)
   pub undrawn : new.random ≡ old.random
@@ -222,15 +243,20 @@ pub record Unopened (old new : World) (input rest : List ℕ) (before now : Opti
 
 -- What a run leaves from the state s, by how it ended. The options are what the source had left and has left, and
 -- what the sink held and holds, where they tell it.
-pub record RunServed (A : Machine) (s : A.State) (result : Result (Unit {0}) Stop) (old new : World) (input rest before now : Option (List ℕ)) : Type 0 where
-  pub done : result ≡ Ok tt → WhereTold input rest (λ i r. AllAnswered A s old.random new i before now)
+pub record RunServed (A : Machine) (s : A.State) (result : Result (Unit {0}) Stop) (old new : World)
+    (input rest before now : Option (List ℕ)) : Type 0 where
+  pub done : result ≡ Ok tt
+      → WhereTold input rest (λ i r. AllAnswered A s old.random new i before now)
   pub stopped : (result ≡ Err ReadFault) ⊎ (result ≡ Err InputLimit)
       → WhereTold input rest (λ i r. WholeLinesAnswered A s old.random new i r before now)
-  pub cut : result ≡ Err WriteFault → WhereTold input rest (λ i r. ReplyCut A s old.random new i before now)
+  pub cut : result ≡ Err WriteFault
+      → WhereTold input rest (λ i r. ReplyCut A s old.random new i before now)
   pub lost : (stop : Stop) → IsLineStop stop → result ≡ Err stop
-      → WhereTold input rest (λ i r. LineLost A stop s old.random new i before now ⊎ Unopened old new i r before now)
+      → WhereTold input rest
+      (λ i r. LineLost A stop s old.random new i before now ⊎ Unopened old new i r before now)
   -- random bytes are taken at a line alone
-  pub undrawn : result ≡ Err EntropyFault → WhereTold input rest (λ i r. LineLost A EntropyFault s old.random new i before now)
+  pub undrawn : result ≡ Err EntropyFault
+      → WhereTold input rest (λ i r. LineLost A EntropyFault s old.random new i before now)
   pub undamaged : (device : Device) (cell : ℕ) → result ≡ Err (Damaged device cell) → ⊥
   pub on_module : WhereTold input rest (λ i r. EachImage old.module_ new.module_
       (λ c. old.module_.images c ⊎ IsOnTheWay A s old.random i (λ t. A.InModule t c)))

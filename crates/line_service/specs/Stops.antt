@@ -42,7 +42,8 @@ IsUnanswered result = (result ≡ Ok Ended) ⊎ ((result ≡ Err ReadFault) ⊎ 
 -- lines were served, and neither a disk nor the random source ended that
 abbrev pub AnswersLines : Result (Unit {0}) Stop → Type 0
 AnswersLines result =
-    IsOk result ⊎ ((result ≡ Err ReadFault) ⊎ ((result ≡ Err InputLimit) ⊎ (result ≡ Err WriteFault)))
+    IsOk result ⊎ ((result ≡ Err ReadFault)
+    ⊎ ((result ≡ Err InputLimit) ⊎ (result ≡ Err WriteFault)))
 
 -- no device failed and no disk is damaged: the input came to its end or to its limit
 abbrev pub IsFaultless : Result (Unit {0}) Stop → Type 0

@@ -47,7 +47,8 @@ pub trait Desk {
         ensures module_damaged { (cell : ℕ) → result ≡ Err (Stop.Damaged Device.Module cell)
             → Told (M.medium «module».old) (machine.IsBrokenModule cell) }
         ensures store_damaged { (cell : ℕ) → result ≡ Err (Stop.Damaged Device.Store cell)
-            → Told (M.medium «module».old) (λ c. Told (D.medium store.old) (machine.IsBrokenStore cell c)) }
+            → Told (M.medium «module».old)
+            (λ c. Told (D.medium store.old) (machine.IsBrokenStore cell c)) }
         ensures module_judged { (Rose (M.faults «module».old) (M.faults «module».new) → ⊥)
             → Told (M.medium «module».old) (λ c. (cell : ℕ) → machine.IsBrokenModule cell c
             → result ≡ Err (Stop.Damaged Device.Module cell)) }

@@ -59,7 +59,8 @@ fn serve_all<A: Desk, S: Source, K: Sink, M: Disk, D: Disk, E: Entropy>(
         (M.faults «module».old) (M.faults «module».new) result Stop.ModuleFault }
     ensures store_left { DiskLeft (D.medium store.old) (D.medium store.new)
         (D.faults store.old) (D.faults store.new) result Stop.StoreFault }
-    ensures source_left { TellsFault (S.faults source.old) (S.faults source.new) result Stop.ReadFault }
+    ensures source_left { TellsFault
+        (S.faults source.old) (S.faults source.new) result Stop.ReadFault }
     ensures sink_left { TellsFault (K.faults sink.old) (K.faults sink.new) result Stop.WriteFault }
     ensures entropy_left { TellsFault (E.faults entropy.old) (E.faults entropy.new)
         result Stop.EntropyFault }
@@ -140,7 +141,8 @@ pub fn serve<A: Desk, S: Source, K: Sink, M: Disk, D: Disk, E: Entropy>(
     ensures module_damaged { (cell : ℕ) → result ≡ Err (Stop.Damaged Device.Module cell)
         → Told (M.medium «module».old) (A.machine.IsBrokenModule cell) }
     ensures store_damaged { (cell : ℕ) → result ≡ Err (Stop.Damaged Device.Store cell)
-        → Told (M.medium «module».old) (λ c. Told (D.medium store.old) (A.machine.IsBrokenStore cell c)) }
+        → Told (M.medium «module».old)
+        (λ c. Told (D.medium store.old) (A.machine.IsBrokenStore cell c)) }
     ensures module_judged { (Rose (M.faults «module».old) (M.faults «module».new) → ⊥)
         → Told (M.medium «module».old) (λ c. (cell : ℕ) → A.machine.IsBrokenModule cell c
         → result ≡ Err (Stop.Damaged Device.Module cell)) }
@@ -163,7 +165,8 @@ pub fn serve<A: Desk, S: Source, K: Sink, M: Disk, D: Disk, E: Entropy>(
         (M.faults «module».old) (M.faults «module».new) result Stop.ModuleFault }
     ensures store_left { DiskLeft (D.medium store.old) (D.medium store.new)
         (D.faults store.old) (D.faults store.new) result Stop.StoreFault }
-    ensures source_left { TellsFault (S.faults source.old) (S.faults source.new) result Stop.ReadFault }
+    ensures source_left { TellsFault
+        (S.faults source.old) (S.faults source.new) result Stop.ReadFault }
     ensures sink_left { TellsFault (K.faults sink.old) (K.faults sink.new) result Stop.WriteFault }
     ensures entropy_left { TellsFault (E.faults entropy.old) (E.faults entropy.new)
         result Stop.EntropyFault }

@@ -8,8 +8,10 @@ use slot_disk::{Failed, Sink};
 
 /// Writes the whole piece: one call, unless the sink takes it in parts.
 pub fn send<K: Sink>(sink: &mut K, piece: &[u8]) -> Result<(), Failed>
-    ensures all { OnOk result (WhereTold (K.held sink.old) (K.held sink.new) (λ before now. now ≡ before ++ piece.now)) }
-    ensures part { OnErr result (WhereTold (K.held sink.old) (K.held sink.new) (λ before now. GotPart before now piece.now)) }
+    ensures all { OnOk result (WhereTold (K.held sink.old) (K.held sink.new)
+        (λ before now. now ≡ before ++ piece.now)) }
+    ensures part { OnErr result (WhereTold (K.held sink.old) (K.held sink.new)
+        (λ before now. GotPart before now piece.now)) }
     ensures cause { HasCause (K.faults sink.old) (K.faults sink.new) result }
 {
     let mut rest = piece;

@@ -113,7 +113,8 @@ pub fn serve_one<A: Desk, S: Source, K: Sink, M: Disk, D: Disk, E: Entropy>(
         → LineServed A.machine s (A.knows desk.new) result
         (world (M.medium «module».old) (D.medium store.old) (E.left entropy.old))
         (world (M.medium «module».new) (D.medium store.new) (E.left entropy.new))
-        (S.left source.old) (S.left source.new) (K.held sink.old) (K.held sink.new) lines.old lines.new }
+        (S.left source.old) (S.left source.new)
+        (K.held sink.old) (K.held sink.new) lines.old lines.new }
     ensures ready { OnOk result (A.ready desk.new (M.medium «module».new) (D.medium store.new)) }
 
     // How far the input was taken.
@@ -153,7 +154,8 @@ pub fn serve_one<A: Desk, S: Source, K: Sink, M: Disk, D: Disk, E: Entropy>(
         (D.faults store.old) (D.faults store.new) result Stop.StoreFault }
     ensures module_cut { result ≡ Err Stop.WriteFault → IsSettled (M.medium «module».new) }
     ensures store_cut { result ≡ Err Stop.WriteFault → IsSettled (D.medium store.new) }
-    ensures source_left { TellsFault (S.faults source.old) (S.faults source.new) result Stop.ReadFault }
+    ensures source_left { TellsFault
+        (S.faults source.old) (S.faults source.new) result Stop.ReadFault }
     ensures sink_left { TellsFault (K.faults sink.old) (K.faults sink.new) result Stop.WriteFault }
     ensures entropy_left { TellsFault (E.faults entropy.old) (E.faults entropy.new)
         result Stop.EntropyFault }

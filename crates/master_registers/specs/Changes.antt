@@ -25,7 +25,8 @@ pub record HoldsEither (m next : Masters) (old new : List ℕ) : Type 0 where
   pub stands : StandsForMasters new m ⊎ StandsForMasters new next
 
 -- The registers of a module become others.
-pub record ChangesModule (m next : Masters) (old new : Medium) (result : Result Registers RegisterFault) : Type 0 where
+pub record ChangesModule (m next : Masters) (old new : Medium)
+    (result : Result Registers RegisterFault) : Type 0 where
   -- after Ok nothing is unsynced, and cell 0 selects the table of the new registers
   pub settled : OnOk result (IsSettled new)
   pub replaced : OnOk result (Becomes (IsReplaced 0 (registers_body next)) old new)
@@ -42,15 +43,20 @@ WhenRefused (Err register_fault.RegisterState) P = P
 WhenRefused (Err register_fault.SamePattern) P = P
 
 -- An action on the registers that a bench holds, whose place `part` has the key part.
-pub record ChangesRegisters (action : Action) (held : Registers) (bench later : Bench) (old new : Medium) (result : Result Registers RegisterFault) : Type 0 where
+pub record ChangesRegisters (action : Action) (held : Registers) (bench later : Bench)
+    (old new : Medium) (result : Result Registers RegisterFault) : Type 0 where
   -- after Ok the bench holds the registers that the action makes, after a fault of the disk their bytes
-  pub loaded : IfOk result (λ next. Loaded (after_action action bench.part (masters_in held bench)) next later)
-  pub placed : result ≡ Err register_fault.DiskFault → ArePlaced (after_action action bench.part (masters_in held bench)) later
+  pub loaded : IfOk result
+      (λ next. Loaded (after_action action bench.part (masters_in held bench)) next later)
+  pub placed : result ≡ Err register_fault.DiskFault
+      → ArePlaced (after_action action bench.part (masters_in held bench)) later
   -- the registers of the module become these
-  pub changed : ChangesModule (masters_in held bench) (after_action action bench.part (masters_in held bench)) old new result
+  pub changed : ChangesModule (masters_in held bench)
+      (after_action action bench.part (masters_in held bench)) old new result
 
 -- A disk's fault is answered only where the disk's count rose, and a rule's refusal exactly where the rule is broken.
-pub record HasChangeCause (action : Action) (m : Masters) (before now : ℕ) (result : Result Registers RegisterFault) : Type 0 where
+pub record HasChangeCause (action : Action) (m : Masters) (before now : ℕ)
+    (result : Result Registers RegisterFault) : Type 0 where
   pub later : before ≤ now
   pub failed : result ≡ Err register_fault.DiskFault → Rose before now
   pub state : (result ≡ Err register_fault.RegisterState) ↔ IsTrue (has_wrong_state action m)

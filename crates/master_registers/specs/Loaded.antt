@@ -18,7 +18,11 @@ pattern_in (Some bytes) = Some (record { bytes = pattern_of_master bytes })
 
 -- how full the new register is, and the patterns of the others
 abbrev pub registers_of : Masters → Registers
-registers_of m = record { new_state = state_of m.coming; current_pattern = pattern_in m.current; old_pattern = pattern_in m.former }
+registers_of m = record {
+  new_state = state_of m.coming;
+  current_pattern = pattern_in m.current;
+  old_pattern = pattern_in m.former;
+}
 
 -- the places of the bench hold the registers, zeros where empty
 pub record ArePlaced (m : Masters) (bench : Bench) : Type 0 where
@@ -33,7 +37,12 @@ pub record Loaded (m : Masters) (held : Registers) (bench : Bench) : Type 0 wher
 
 -- the bench with the registers and the body of another one
 abbrev pub with_registers : Bench → Bench → Bench
-with_registers bench other = record bench { coming = other.coming; current = other.current; former = other.former; body = other.body }
+with_registers bench other = record bench {
+  coming = other.coming;
+  current = other.current;
+  former = other.former;
+  body = other.body;
+}
 
 -- of a lease the places of the registers and the body may have changed, and nothing else
 abbrev pub KeepsRest : Lease → Lease → Type 0

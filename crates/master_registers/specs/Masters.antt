@@ -114,7 +114,8 @@ abbrev pub has_pattern_of : NewRegister → Option (List ℕ) → Bool
 has_pattern_of Empty current = false
 has_pattern_of (Partial bytes) current = false
 has_pattern_of (Full bytes) None = false
-has_pattern_of (Full bytes) (Some current) = bytes_eq (pattern_of_master current) (pattern_of_master bytes)
+has_pattern_of (Full bytes) (Some current) =
+    bytes_eq (pattern_of_master current) (pattern_of_master bytes)
 
 -- SET is refused, where new is full, if current is full and has the same pattern
 abbrev pub same_pattern : Masters → Bool

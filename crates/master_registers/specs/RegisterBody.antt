@@ -27,7 +27,8 @@ blank_body = replicate 192 0
 
 -- a blank body stands for three empty registers, and any other for those whose table it is
 abbrev pub ReadsMasters : List ℕ → Masters → Type 0
-ReadsMasters bytes m = ((bytes ≡ blank_body) × (m ≡ blank_masters)) ⊎ ((bytes ≡ registers_body m) × IsMasters m)
+ReadsMasters bytes m =
+    ((bytes ≡ blank_body) × (m ≡ blank_masters)) ⊎ ((bytes ≡ registers_body m) × IsMasters m)
 
 -- the selected body of cell 0 reads as these registers
 abbrev pub StandsForMasters : List ℕ → Masters → Type 0

@@ -35,12 +35,15 @@ IsElsewhere Second into = into ≢ place.Second
 
 -- of a lease the schedules may have changed, and nothing else
 abbrev pub ChangesSchedules : Lease → Lease → Type 0
-ChangesSchedules old new = new ≡ holding old (record (bench_of old) { schedules = (bench_of new).schedules })
+ChangesSchedules old new =
+    new ≡ holding old (record (bench_of old) { schedules = (bench_of new).schedules })
 
 -- of a lease the schedules and a key's place may have changed, and nothing else
 abbrev pub ChangesKeyAt : KeyPlace → Lease → Lease → Type 0
 ChangesKeyAt place old new =
-    new ≡ holding old (record (with_key (bench_of old) place (key_of (bench_of new) place)) { schedules = (bench_of new).schedules })
+    new ≡ holding old (record (with_key (bench_of old) place (key_of (bench_of new) place)) {
+      schedules = (bench_of new).schedules;
+    })
 
 -- the key that stands in 16 bytes, by the length that its vector says
 abbrev pub key_in : List ℕ → List ℕ → List ℕ

@@ -13,16 +13,22 @@ variant_key bundle n vector = xor (key_of_bundle bundle n) vector
 
 -- a half of a key enciphered under a bundle, with the vector of that half
 unfoldable pub sealed_half : List ℕ → List ℕ → List ℕ → List ℕ
-sealed_half bundle vector half = ede (variant_key bundle 0 vector) (variant_key bundle 1 vector) (variant_key bundle 2 vector) half
+sealed_half bundle vector half =
+    ede (variant_key bundle 0 vector) (variant_key bundle 1 vector) (variant_key bundle 2 vector)
+    half
 
 unfoldable pub opened_half : List ℕ → List ℕ → List ℕ → List ℕ
-opened_half bundle vector sealed = ded (variant_key bundle 0 vector) (variant_key bundle 1 vector) (variant_key bundle 2 vector) sealed
+opened_half bundle vector sealed =
+    ded (variant_key bundle 0 vector) (variant_key bundle 1 vector) (variant_key bundle 2 vector)
+    sealed
 
 -- the halves of a key enciphered under a bundle; a single-length key has a zero right half
 unfoldable pub seal : List ℕ → List ℕ → List ℕ → Sealed
 seal bundle vector key = record {
   left = sealed_half bundle (left_of vector) (slice_range key 0 8);
-  right = if length_of vector == 8 then replicate 8 0 else sealed_half bundle (right_of vector) (slice_range key 8 16);
+  right =
+      if length_of vector == 8 then replicate 8 0
+      else sealed_half bundle (right_of vector) (slice_range key 8 16);
 }
 
 -- the key whose halves these are
@@ -44,6 +50,9 @@ pub record IsSealed (vector : List ℕ) (sealed : Sealed) : Type 0 where
 -- under a given bundle and vector, sealing is one to one from the keys onto the halves
 pub record SealIsOneToOne (bundle vector : List ℕ) : Type 0 where
   pub sealed : (key : List ℕ) → IsKey vector key → IsSealed vector (seal bundle vector key)
-  pub undone : (key : List ℕ) → IsKey vector key → unseal bundle vector (seal bundle vector key) ≡ key
-  pub opened : (sealed : Sealed) → IsSealed vector sealed → IsKey vector (unseal bundle vector sealed)
-  pub redone : (sealed : Sealed) → IsSealed vector sealed → seal bundle vector (unseal bundle vector sealed) ≡ sealed
+  pub undone : (key : List ℕ) → IsKey vector key
+      → unseal bundle vector (seal bundle vector key) ≡ key
+  pub opened : (sealed : Sealed) → IsSealed vector sealed
+      → IsKey vector (unseal bundle vector sealed)
+  pub redone : (sealed : Sealed) → IsSealed vector sealed
+      → seal bundle vector (unseal bundle vector sealed) ≡ sealed

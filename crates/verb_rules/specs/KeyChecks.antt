@@ -71,7 +71,8 @@ use_checks need vector = part_check need vector ∷ vector_use_checks need vecto
 
 -- the rules of a token that was read: 17 to 22
 abbrev pub read_checks : Need → Registers → Token → List Check
-read_checks need held token = part_check need token.vector ∷ pattern_check held token ∷ vector_use_checks need token.vector
+read_checks need held token =
+    part_check need token.vector ∷ pattern_check held token ∷ vector_use_checks need token.vector
 
 -- the rules of 64 bytes that are given as a token: 09 to 22
 abbrev pub key_checks : Need → Registers → List ℕ → List Check

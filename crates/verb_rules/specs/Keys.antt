@@ -30,7 +30,10 @@ master_for current former (Some Old) = former
 
 -- the key of a judged token whose halves are enciphered under a key bundle
 abbrev pub opened_by : List ℕ → Judged → ClearKey
-opened_by bundle judged = record { key = unseal bundle judged.token.vector judged.token.sealed; vector = judged.token.vector }
+opened_by bundle judged = record {
+  key = unseal bundle judged.token.vector judged.token.sealed;
+  vector = judged.token.vector;
+}
 
 -- the clear key of a judged internal token, under the master keys of the bench
 abbrev pub opened : Bench → Judged → ClearKey
@@ -42,7 +45,8 @@ opened_under transport judged = opened_by (transport_bundle transport) judged
 
 -- the clear key of a judged internal token, with the register that it is under
 abbrev pub opened_key : Bench → Judged → Option Denoted
-opened_key bench judged = option_map (λ age. record { clear = opened bench judged; age = age }) judged.age
+opened_key bench judged =
+    option_map (λ age. record { clear = opened bench judged; age = age }) judged.age
 
 -- the right half of a single-length key is zero
 abbrev pub HasHalves : Judged → Type 0
@@ -61,7 +65,12 @@ master_under masters Old = masters.former
 abbrev pub sealed_token : Option MasterKey → ClearKey → List ℕ
 sealed_token None clear = replicate 64 0
 sealed_token (Some master) clear =
-    made (record { kind = Internal; pattern = master.pattern; sealed = seal master.key clear.vector clear.key; vector = clear.vector })
+    made (record {
+      kind = Internal;
+      pattern = master.pattern;
+      sealed = seal master.key clear.vector clear.key;
+      vector = clear.vector;
+    })
 
 -- the one internal token that is written for a key, under the master key of its register
 unfoldable pub token_for : MasterKeys → Denoted → List ℕ

@@ -40,4 +40,6 @@ rule_number rule.KeyLength = 32
 
 -- Ok where none of the rules is broken, and else the first that is
 abbrev pub Judges : {A : Type 0} → List Check → Result A Rule → Type 0
-Judges checks result = MatchResult result (λ _. first_failing checks ≡ None) (λ r. first_failing checks ≡ Some (rule_number r))
+Judges checks result =
+    MatchResult result (λ _. first_failing checks ≡ None)
+    (λ r. first_failing checks ≡ Some (rule_number r))

@@ -82,7 +82,8 @@ fn is_forbidden(usage: Option<Usage>, vector: &Vector) -> bool
 
 /// The first of rules 19 to 22 that the control vector breaks.
 fn vector_fault(need: &Need, vector: &Vector) -> Option<Rule>
-    ensures { option_map rule_number result ≡ first_failing (vector_use_checks need.now vector.now) }
+    ensures { option_map rule_number result
+        ≡ first_failing (vector_use_checks need.now vector.now) }
 {
     if !need.classes.has(vector.class()) {
         return Some(Rule::Class);
@@ -118,7 +119,8 @@ pub fn judge_use(token: &Token, age: Option<Age>, need: &Need) -> Result<Judged,
 /// Judges a token that was read by rules 17 to 22.
 fn judge_read(token: &Token, need: &Need, held: &Registers) -> Result<Judged, Rule>
     ensures judges { Judges (read_checks need.now held.now token.now) result }
-    ensures judged { IfOk result (λ judged. judged ≡ record { token = token.now; age = age_of held.now token.now }) }
+    ensures judged { IfOk result (λ judged.
+        judged ≡ record { token = token.now; age = age_of held.now token.now }) }
     ensures internal { token.now.kind ≡ Kind.Internal → IfOk result (λ judged. IsSome judged.age) }
     ensures double { IsTrue need.now.double → IfOk result IsDouble }
 {
@@ -148,10 +150,12 @@ pub fn judge_key(token: &[u8; 64], need: &Need, held: &Registers) -> Result<Judg
     ensures halves { IfOk result HasHalves }
     ensures internal { need.now.asked ≡ Asked.Internal → IfOk result (λ judged. IsSome judged.age) }
     ensures double { IsTrue need.now.double → IfOk result IsDouble }
-    ensures denoted { (m : Masters) (bench : Bench) → Loaded m held.now bench → need.now.asked ≡ Asked.Internal
+    ensures denoted { (m : Masters) (bench : Bench) → Loaded m held.now bench
+        → need.now.asked ≡ Asked.Internal
         → IfOk result (λ judged. denoted (keys_of m) token.now ≡ opened_key bench judged) }
     ensures denoted_under { (transport : List ℕ) → need.now.asked ≡ Asked.External
-        → IfOk result (λ judged. denoted_under transport token.now ≡ Some (opened_under transport judged)) }
+        → IfOk result (λ judged.
+        denoted_under transport token.now ≡ Some (opened_under transport judged)) }
 {
     match read_token(token, need.asked) {
         Ok(read) => judge_read(&read, need, held),

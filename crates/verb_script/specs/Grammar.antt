@@ -183,15 +183,25 @@ pub data RequestName : Type 0 where
 -- the grammar
 abbrev pub row_of : RequestName → Row
 row_of csnbktp = record { verb = codes "CSNBKTP"; fields = role_field ∷ token_field ∷ [] }
-row_of csnbenc = record { verb = codes "CSNBENC"; fields = role_field ∷ key_field ∷ iv_field ∷ pad_field ∷ text_field ∷ [] }
-row_of csnbdec = record { verb = codes "CSNBDEC"; fields = role_field ∷ key_field ∷ iv_field ∷ pad_field ∷ text_field ∷ [] }
+row_of csnbenc = record {
+  verb = codes "CSNBENC";
+  fields = role_field ∷ key_field ∷ iv_field ∷ pad_field ∷ text_field ∷ [];
+}
+row_of csnbdec = record {
+  verb = codes "CSNBDEC";
+  fields = role_field ∷ key_field ∷ iv_field ∷ pad_field ∷ text_field ∷ [];
+}
 row_of csnbmgn = record {
   verb = codes "CSNBMGN";
-  fields = role_field ∷ key_field ∷ rule_field ∷ word_field (codes "length") (codes "4" ∷ codes "6" ∷ codes "8" ∷ []) ∷ text_field ∷ [];
+  fields =
+      role_field ∷ key_field ∷ rule_field
+      ∷ word_field (codes "length") (codes "4" ∷ codes "6" ∷ codes "8" ∷ []) ∷ text_field ∷ [];
 }
 row_of csnbmvr = record {
   verb = codes "CSNBMVR";
-  fields = role_field ∷ key_field ∷ rule_field ∷ record { name = codes "mac"; values = mac_text } ∷ text_field ∷ [];
+  fields =
+      role_field ∷ key_field ∷ rule_field ∷ record { name = codes "mac"; values = mac_text }
+      ∷ text_field ∷ [];
 }
 row_of csnbkyt = record { verb = codes "CSNBKYT"; fields = role_field ∷ key_field ∷ [] }
 row_of csnbcki = record {
@@ -204,7 +214,9 @@ row_of csnbrng = record {
 }
 row_of csnbkgn_op = record {
   verb = codes "CSNBKGN";
-  fields = role_field ∷ form_field (codes "OP" ∷ []) ∷ length_field ∷ type_field (codes "type1") ∷ to_field ∷ [];
+  fields =
+      role_field ∷ form_field (codes "OP" ∷ []) ∷ length_field ∷ type_field (codes "type1")
+      ∷ to_field ∷ [];
 }
 row_of csnbkgn_pair = record {
   verb = codes "CSNBKGN";
@@ -230,27 +242,47 @@ row_of csnbkgn_out = record {
       ∷ transport_field (codes "transport2")
       ∷ [];
 }
-row_of csnbkim = record { verb = codes "CSNBKIM"; fields = role_field ∷ token_field ∷ transport_field (codes "transport") ∷ to_field ∷ [] }
-row_of csnbkex = record { verb = codes "CSNBKEX"; fields = role_field ∷ key_field ∷ transport_field (codes "transport") ∷ [] }
+row_of csnbkim = record {
+  verb = codes "CSNBKIM";
+  fields = role_field ∷ token_field ∷ transport_field (codes "transport") ∷ to_field ∷ [];
+}
+row_of csnbkex = record {
+  verb = codes "CSNBKEX";
+  fields = role_field ∷ key_field ∷ transport_field (codes "transport") ∷ [];
+}
 row_of csnbpex = record { verb = codes "CSNBPEX"; fields = role_field ∷ key_field ∷ to_field ∷ [] }
 row_of csnbktc = record {
   verb = codes "CSNBKTC";
-  fields = role_field ∷ word_field (codes "rule") (codes "RTCMK" ∷ codes "RTNMK" ∷ []) ∷ token_field ∷ [];
+  fields =
+      role_field ∷ word_field (codes "rule") (codes "RTCMK" ∷ codes "RTNMK" ∷ [])
+      ∷ token_field ∷ [];
 }
 row_of csnbkrc = record { verb = codes "CSNBKRC"; fields = role_field ∷ label_field ∷ [] }
-row_of csnbkrw = record { verb = codes "CSNBKRW"; fields = role_field ∷ label_field ∷ token_field ∷ [] }
+row_of csnbkrw = record {
+  verb = codes "CSNBKRW";
+  fields = role_field ∷ label_field ∷ token_field ∷ [];
+}
 row_of csnbkrr = record { verb = codes "CSNBKRR"; fields = role_field ∷ label_field ∷ [] }
 row_of csnbkrd = record { verb = codes "CSNBKRD"; fields = role_field ∷ label_field ∷ [] }
 row_of csnbkrl = record { verb = codes "CSNBKRL"; fields = role_field ∷ prefix_field ∷ [] }
 row_of csnbmkp_part = record {
   verb = codes "CSNBMKP";
-  fields = role_field ∷ action_field (codes "FIRST" ∷ codes "MIDDLE" ∷ codes "LAST" ∷ []) ∷ part_field ∷ [];
+  fields =
+      role_field ∷ action_field (codes "FIRST" ∷ codes "MIDDLE" ∷ codes "LAST" ∷ []) ∷ part_field
+      ∷ [];
 }
-row_of csnbmkp_clear = record { verb = codes "CSNBMKP"; fields = role_field ∷ action_field (codes "CLEAR" ∷ []) ∷ [] }
-row_of csnbmkp_set = record { verb = codes "CSNBMKP"; fields = role_field ∷ action_field (codes "SET" ∷ []) ∷ [] }
+row_of csnbmkp_clear = record {
+  verb = codes "CSNBMKP";
+  fields = role_field ∷ action_field (codes "CLEAR" ∷ []) ∷ [];
+}
+row_of csnbmkp_set = record {
+  verb = codes "CSNBMKP";
+  fields = role_field ∷ action_field (codes "SET" ∷ []) ∷ [];
+}
 row_of csuaaci_define = record {
   verb = codes "CSUAACI";
-  fields = role_field ∷ action_field (codes "DEFINE" ∷ []) ∷ name_field role_name ∷ points_field ∷ [];
+  fields =
+      role_field ∷ action_field (codes "DEFINE" ∷ []) ∷ name_field role_name ∷ points_field ∷ [];
 }
 row_of csuaaci_remove = record {
   verb = codes "CSUAACI";
@@ -272,7 +304,8 @@ record_requests = csnbkrc ∷ csnbkrw ∷ csnbkrr ∷ csnbkrd ∷ csnbkrl ∷ []
 
 -- the rows of master keys, of roles, and of the store as a whole
 abbrev pub control_requests : List RequestName
-control_requests = csnbmkp_part ∷ csnbmkp_clear ∷ csnbmkp_set ∷ csuaaci_define ∷ csuaaci_remove ∷ reencipher ∷ []
+control_requests =
+    csnbmkp_part ∷ csnbmkp_clear ∷ csnbmkp_set ∷ csuaaci_define ∷ csuaaci_remove ∷ reencipher ∷ []
 
 -- the rows in their order; no line spells requests of two rows
 abbrev pub all_requests : List RequestName

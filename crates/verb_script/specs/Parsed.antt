@@ -9,41 +9,78 @@ use Rattle.verb_script.specs.declared.request.Request.TheVariants.{Csnbktp, Csnb
 
 abbrev pub seen : Parsed → Request
 seen (Csnbktp role token) = record { name = csnbktp; values = role ∷ token.now ∷ [] }
-seen (Csnbenc role key iv padding text) = record { name = csnbenc; values = role ∷ key.now ∷ iv.now ∷ padding.now ∷ text.now ∷ [] }
-seen (Csnbdec role key iv padding text) = record { name = csnbdec; values = role ∷ key.now ∷ iv.now ∷ padding.now ∷ text.now ∷ [] }
-seen (Csnbmgn role key rule length text) = record { name = csnbmgn; values = role ∷ key.now ∷ rule.now ∷ length.now ∷ text.now ∷ [] }
-seen (Csnbmvr role key rule mac text) = record { name = csnbmvr; values = role ∷ key.now ∷ rule.now ∷ mac.now ∷ text.now ∷ [] }
+seen (Csnbenc role key iv padding text) = record {
+  name = csnbenc;
+  values = role ∷ key.now ∷ iv.now ∷ padding.now ∷ text.now ∷ [];
+}
+seen (Csnbdec role key iv padding text) = record {
+  name = csnbdec;
+  values = role ∷ key.now ∷ iv.now ∷ padding.now ∷ text.now ∷ [];
+}
+seen (Csnbmgn role key rule length text) = record {
+  name = csnbmgn;
+  values = role ∷ key.now ∷ rule.now ∷ length.now ∷ text.now ∷ [];
+}
+seen (Csnbmvr role key rule mac text) = record {
+  name = csnbmvr;
+  values = role ∷ key.now ∷ rule.now ∷ mac.now ∷ text.now ∷ [];
+}
 seen (Csnbkyt role key) = record { name = csnbkyt; values = role ∷ key.now ∷ [] }
 seen (Csnbcki role clear to) = record { name = csnbcki; values = role ∷ clear.now ∷ to.now ∷ [] }
 seen (Csnbrng role form) = record { name = csnbrng; values = role ∷ form.now ∷ [] }
 seen (CsnbkgnOp role form length type1 to) =
-    record { name = csnbkgn_op; values = role ∷ form.now ∷ length.now ∷ type_name type1 ∷ to.now ∷ [] }
+    record {
+      name = csnbkgn_op;
+      values = role ∷ form.now ∷ length.now ∷ type_name type1 ∷ to.now ∷ [];
+    }
 seen (CsnbkgnPair role form length type1 type2 transport2 to) =
     record {
       name = csnbkgn_pair;
-      values = role ∷ form.now ∷ length.now ∷ type_name type1 ∷ type_name type2 ∷ transport2.now ∷ to.now ∷ [];
+      values =
+          role ∷ form.now ∷ length.now ∷ type_name type1 ∷ type_name type2 ∷ transport2.now ∷ to.now
+          ∷ [];
     }
 seen (CsnbkgnOut role form length type1 type2 transport1 transport2) =
     record {
       name = csnbkgn_out;
-      values = role ∷ form.now ∷ length.now ∷ type_name type1 ∷ type_name type2 ∷ transport1.now ∷ transport2.now ∷ [];
+      values =
+          role ∷ form.now ∷ length.now ∷ type_name type1 ∷ type_name type2 ∷ transport1.now
+          ∷ transport2.now ∷ [];
     }
 seen (Csnbkim role token transport to) =
     record { name = csnbkim; values = role ∷ token.now ∷ transport.now ∷ to.now ∷ [] }
-seen (Csnbkex role key transport) = record { name = csnbkex; values = role ∷ key.now ∷ transport.now ∷ [] }
+seen (Csnbkex role key transport) = record {
+  name = csnbkex;
+  values = role ∷ key.now ∷ transport.now ∷ [];
+}
 seen (Csnbpex role key to) = record { name = csnbpex; values = role ∷ key.now ∷ to.now ∷ [] }
-seen (Csnbktc role rule token) = record { name = csnbktc; values = role ∷ rule.now ∷ token.now ∷ [] }
+seen (Csnbktc role rule token) = record {
+  name = csnbktc;
+  values = role ∷ rule.now ∷ token.now ∷ [];
+}
 seen (Csnbkrc role label) = record { name = csnbkrc; values = role ∷ label.now ∷ [] }
-seen (Csnbkrw role label token) = record { name = csnbkrw; values = role ∷ label.now ∷ token.now ∷ [] }
+seen (Csnbkrw role label token) = record {
+  name = csnbkrw;
+  values = role ∷ label.now ∷ token.now ∷ [];
+}
 seen (Csnbkrr role label) = record { name = csnbkrr; values = role ∷ label.now ∷ [] }
 seen (Csnbkrd role label) = record { name = csnbkrd; values = role ∷ label.now ∷ [] }
 seen (Csnbkrl role prefix) = record { name = csnbkrl; values = role ∷ prefix.now ∷ [] }
-seen (CsnbmkpPart role action part) = record { name = csnbmkp_part; values = role ∷ action.now ∷ part.now ∷ [] }
+seen (CsnbmkpPart role action part) = record {
+  name = csnbmkp_part;
+  values = role ∷ action.now ∷ part.now ∷ [];
+}
 seen (CsnbmkpClear role action) = record { name = csnbmkp_clear; values = role ∷ action.now ∷ [] }
 seen (CsnbmkpSet role action) = record { name = csnbmkp_set; values = role ∷ action.now ∷ [] }
 seen (CsuaaciDefine role action name points) =
-    record { name = csuaaci_define; values = role ∷ action.now ∷ name ∷ to_be_bytes w32 points ∷ [] }
-seen (CsuaaciRemove role action name) = record { name = csuaaci_remove; values = role ∷ action.now ∷ name ∷ [] }
+    record {
+      name = csuaaci_define;
+      values = role ∷ action.now ∷ name ∷ to_be_bytes w32 points ∷ [];
+    }
+seen (CsuaaciRemove role action name) = record {
+  name = csuaaci_remove;
+  values = role ∷ action.now ∷ name ∷ [];
+}
 seen (Reencipher role) = record { name = reencipher; values = role ∷ [] }
 
 -- what parsing answered

@@ -37,7 +37,8 @@ pub(crate) fn csnbdec(
     requires empty { reply.old ≡ [] }
     ensures shows { let clear = opened (bench_of lease.old) key.now in
         let padding = pad_named pad.now in
-        ShowsOr (first_refusal (decipher_questions (length text.now / 2) clear (hex_value iv.now) padding (hex_value text.now)))
+        ShowsOr (first_refusal (decipher_questions (length text.now / 2) clear
+        (hex_value iv.now) padding (hex_value text.now)))
         (Hex (codes "text") (or_empty (deciphered_text clear (hex_value iv.now) padding
         (hex_value text.now))) ∷ [])
         result reply.new }

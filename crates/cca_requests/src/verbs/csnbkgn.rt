@@ -230,8 +230,10 @@ pub(crate) fn generate_out<E: Entropy>(
     ensures generated { (s : State) → IfOk result (LeavesDrawn s
         (first_refusal (pair_questions first second (key_length_named length.now)))
         (λ (drawn : List ℕ). Show (
-        Hex (codes "token1") (external_token (opened (bench_of lease.old) one.now).key (generated_key first drawn))
-        ∷ Hex (codes "token2") (external_token (opened (bench_of lease.old) two.now).key (generated_key second drawn))
+        Hex (codes "token1")
+        (external_token (opened (bench_of lease.old) one.now).key (generated_key first drawn))
+        ∷ Hex (codes "token2")
+        (external_token (opened (bench_of lease.old) two.now).key (generated_key second drawn))
         ∷ []))
         (key_length_named length.now) (E.left entropy.old) (E.left entropy.new) reply.new) }
     ensures permitted { OnErr result
