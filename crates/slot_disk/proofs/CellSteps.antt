@@ -65,20 +65,21 @@ pub selected_below : (image : List ℕ) (n : ℕ) → selected image n < 2
 unfolding selected
 selected_below image n = omega arith
 
-selected-written : (n side : ℕ) (old new : List ℕ) → side < 2 → HoldsPiece (1536 * n) (side ∷ []) old new → selected new n ≡ side
-unfolding selected
-selected-written n side old new low holds =
-    let put : get_or new (1536 * n) 0 ≡ side = ap (λ (k : ℕ). get_or new k 0) (at_front (1536 * n)) ∙ holds.here 0 (omega arith) in
-    ap (λ (b : ℕ). b % 2) put ∙ omega arith
+selector-written : (n side : ℕ) (old new : List ℕ) → HoldsPiece (1536 * n) (side ∷ []) old new → get_or new (1536 * n) 0 ≡ side
+selector-written n side old new holds = ap (λ (k : ℕ). get_or new k 0) (at_front (1536 * n)) ∙ holds.here 0 (omega arith)
   where
     at_front : (k : ℕ) → k ≡ k + 0
     at_front k = omega arith
+
+selected-written : (n side : ℕ) (old new : List ℕ) → side < 2 → HoldsPiece (1536 * n) (side ∷ []) old new → selected new n ≡ side
+unfolding selected
+selected-written n side old new low holds = ap (λ (b : ℕ). b % 2) (selector-written n side old new holds) ∙ omega arith
 
 -- a cell whose selector and whose selected body stay
 body-stays : (old new : List ℕ) (n : ℕ) → selected new n ≡ selected old n → body_at new n (selected old n) ≡ body_at old n (selected old n) → body new n ≡ body old n
 body-stays old new n turned same = body-side new n ∙ ap (λ (s : ℕ). body_at new n s) turned ∙ same ∙ sym (body-side old n)
 
-elsewhere : (n m : ℕ) → m ≢ n → (1536 * m + 1536 ≤ 1536 * n) ⊎ (1536 * n + 1536 ≤ 1536 * m)
+pub elsewhere : (n m : ℕ) → m ≢ n → (1536 * m + 1536 ≤ 1536 * n) ⊎ (1536 * n + 1536 ≤ 1536 * m)
 elsewhere n m other = ⊎_elim (λ below. inl (omega arith)) (λ above. inr (omega arith)) (cases_lt m n)
 
 -- what is written in one cell leaves the others
@@ -170,6 +171,7 @@ module _ (n : ℕ) (bytes old mid new : List ℕ) (was : Staged n bytes old mid)
     outside = torn.outside;
     others = torn.others;
     here = body-side new n ∙ ap (λ (s : ℕ). body_at new n s) side_is ∙ side_stays (1 - selected old n) (omega arith) holds.outside ∙ was.spare;
+    selector = omega (arith, selector-written n (1 - selected old n) mid new holds);
     other = other-side new n ∙ ap (λ (s : ℕ). body_at new n s) other_is ∙ side_stays (selected old n) (selected_below old n) holds.outside ∙ was.kept ∙ sym (body-side old n);
     untouched = torn.untouched;
   }

@@ -6,5 +6,6 @@ pub mod Media
 pub mod Overwriting
 pub mod Reading
 pub mod Replacing
+pub mod SpareLemmas
 pub mod Staging
 pub mod WhereToldLemmas

@@ -1,5 +1,6 @@
 -- How clauses on media are carried over calls, over loops and over two disks.
 use Rattle.std.proofs.Common.{◌≡◌, inl, inr, ⊎_elim, ℕ, List, Option, None, Some, IfSome, IsSome, refl, sym, ◌∙◌, subst, arith}
+use Rattle.std.proofs.lemmas.Option.{same_Some}
 use Rattle.slot_disk.specs.Medium.{Medium, Told, IsSettled, From, Becomes, EachImage, Keeps, Reached, EachPair}
 
 -- ---- what is told
@@ -27,6 +28,25 @@ module _ (m0 m1 : Medium) where
   becomes_told step P Q becomes told weaker = told_from m1.content Q (λ c is.
       let from = becomes.told c is in
       weaker from.0 c (told_at m0.content P from.0 from.1 told) from.2)
+
+  pub becomes_weaker : (one two : List ℕ → List ℕ → Type 0) → Becomes one m0 m1 → ((b c : List ℕ) → one b c → two b c) → Becomes two m0 m1
+  becomes_weaker one two becomes weaker = record {
+    size = becomes.size;
+    told = λ c is. let from = becomes.told c is in (from.0, from.1, weaker from.0 c from.2);
+    still = becomes.still;
+  }
+
+  -- two steps from one content
+  pub becomes_both : (one two : List ℕ → List ℕ → Type 0) → Becomes one m0 m1 → Becomes two m0 m1 → Becomes (λ b c. one b c × two b c) m0 m1
+  becomes_both one two first second = record {
+    size = first.size;
+    told = λ c is.
+        let a = first.told c is in
+        let b = second.told c is in
+        let same : b.0 ≡ a.0 = same_Some b.0 a.0 (sym b.1 ∙ a.1) in
+        (a.0, a.1, (a.2, subst (λ d. two d c) same b.2));
+    still = first.still;
+  }
 
   -- a disk that gives the same as before
   pub becomes_same : (step : List ℕ → List ℕ → Type 0) → m1.size ≡ m0.size → m1.content ≡ m0.content → ((c : List ℕ) → step c c) → Becomes step m0 m1

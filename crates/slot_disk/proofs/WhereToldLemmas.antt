@@ -1,5 +1,6 @@
 -- How facts on told bytes follow from one another, by cases on what is told.
-use Rattle.std.proofs.Common.{◌≡◌, ℕ, ◌≤◌, List, [], ◌++◌, Option, None, Some, subst, arith}
+use Rattle.std.proofs.Common.{◌≡◌, ℕ, ◌<◌, ◌≤◌, inl, inr, ⊎_elim, List, [], ◌++◌, Option, None, Some, subst, arith}
+use Rattle.std.proofs.lemmas.Bool.{cases_lt}
 use Rattle.std.specs.Io.KnownBytes.{Keeps, Appends, Consumes, IsAtEnd}
 use Rattle.slot_disk.specs.Faults.{Rose}
 use Rattle.slot_disk.specs.WhereTold.{WhereTold}
@@ -62,5 +63,8 @@ told_same (Some x) P same = same x
 -- ---- counts
 
 -- a count that rose before or after other calls rose over all of them
-pub rose_wider : (a b c d : ℕ) → a ≤ b → Rose b c → c ≤ d → Rose a d
-rose_wider a b c d before rose after = omega arith
+pub rose_wider : (a b c d : ℕ) → a ≤ b → b ≤ c → c ≤ d → Rose b c → Rose a d
+rose_wider a b c d before within after rose = ⊎_elim
+    (λ (more : a < d). inl more)
+    (λ (none : d ≤ a). inr (omega (arith, rose)))
+    (cases_lt a d)

@@ -1,13 +1,13 @@
 -- When a device may answer that it failed: its count of faults has risen in the call.
-use Rattle.std.specs.Prelude.{ℕ, ◌+◌, ◌-◌, ◌^◌, ◌≤◌, min, Result, OnErr}
+use Rattle.std.specs.Prelude.{◌≡◌, ◌<◌, ◌≤◌, ◌⊎◌, ℕ, ◌+◌, ◌-◌, ◌^◌, min, Result, OnErr}
 
 -- one more, for a count that stops at `u64::MAX`
 abbrev pub one_more : ℕ → ℕ
 one_more count = min (count + 1) (2 ^ 64 - 1)
 
--- a count that stops at `u64::MAX` has risen, or stands there
+-- a count is greater than it was, or stands at `u64::MAX`
 abbrev pub Rose : ℕ → ℕ → Type 0
-Rose before now = one_more before ≤ now
+Rose before now = (before < now) ⊎ (now ≡ 2 ^ 64 - 1)
 
 -- a count never falls, and a call that answers an error has raised it
 pub record HasCause {T E : Type 0} (before now : ℕ) (result : Result T E) : Type 0 where

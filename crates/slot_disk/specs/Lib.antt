@@ -10,6 +10,7 @@ pub mod Ranges
 pub mod SilentMedium
 pub mod SinkState
 pub mod SourceState
+pub mod SpareBytes
 pub mod StageLaws
 pub mod Stages
 pub mod TornImage

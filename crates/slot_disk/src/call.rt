@@ -1,5 +1,6 @@
 //! The calls that a disk in memory notes.
 ghost use Rattle.std.specs.Prelude.{◌≡◌, ◌≤◌, length};
+ghost use Rattle.slot_disk.specs.Cells.{body_size};
 ghost use Rattle.slot_disk.specs.Ranges.{overwrite};
 
 use crate::BODY_LEN;
@@ -14,18 +15,18 @@ pub(crate) struct Piece {
 
 impl Model for Piece {
     ghost use Rattle.std.specs.Prelude.{◌≤◌, ℕ, List, take};
-    ghost use Rattle.slot_disk.specs.declared.cell.TheConstants.{BODY_LEN};
+    ghost use Rattle.slot_disk.specs.Cells.{body_size};
 
     ghost Value = { List ℕ };
 
     ghost view = { λ p. take p.length p.bytes };
 
-    ghost invariant = { λ p. p.length ≤ BODY_LEN };
+    ghost invariant = { λ p. p.length ≤ body_size };
 }
 
 impl Piece {
     pub(crate) fn new(piece: &[u8]) -> Piece
-        requires { length piece.now ≤ BODY_LEN }
+        requires { length piece.now ≤ body_size }
         ensures { result ≡ piece.now }
     {
         let mut bytes = [0; BODY_LEN];
@@ -38,7 +39,7 @@ impl Piece {
 
     pub(crate) fn bytes(&self) -> &[u8]
         ensures bytes { result.now ≡ self.now }
-        ensures short { length self.now ≤ BODY_LEN }
+        ensures short { length self.now ≤ body_size }
     {
         &self.bytes[..self.length]
     }

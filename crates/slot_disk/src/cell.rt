@@ -1,7 +1,7 @@
 //! Cells: the selected one of two bodies, and how a body is replaced so that a stop leaves the old or
 //! the new one.
 ghost use Rattle.std.specs.Prelude.{◌≡◌, ◌+◌, ◌-◌, ◌*◌, ◌<◌, ◌≤◌, [], ◌∷◌, length, IfOk, OnOk};
-ghost use Rattle.slot_disk.specs.Cells.{selected, body_place as place_of_body};
+ghost use Rattle.slot_disk.specs.Cells.{cell_size, body_size, selected, body_place as place_of_body};
 ghost use Rattle.slot_disk.specs.Cells.{body as selected_body, IsReplaced, IsReplacing};
 ghost use Rattle.slot_disk.specs.Faults.{HasCause};
 ghost use Rattle.slot_disk.specs.Medium.{Told, IsSettled, From, Becomes, EachImage, Keeps};
@@ -45,7 +45,7 @@ impl Cell {
     }
 
     fn selector_place(self) -> u64
-        ensures { result ≡ CELL_LEN * self }
+        ensures { result ≡ cell_size * self }
     {
         CELL_LEN * u64::from(self.number)
     }
@@ -70,7 +70,7 @@ pub fn settle<D: Disk>(disk: &mut D) -> Result<(), Failed>
 
 /// Reads the selected body. After `Failed`, `out` may hold any bytes.
 pub fn read_cell<D: Disk>(disk: &mut D, cell: Cell, out: &mut [u8; BODY_LEN]) -> Result<(), Failed>
-    requires { CELL_LEN * (cell + 1) ≤ (D.medium disk.old).size }
+    requires { cell_size * (cell + 1) ≤ (D.medium disk.old).size }
     ensures bytes { OnOk result (Told (D.medium disk.old) (λ c. out.new ≡ selected_body c cell)) }
     ensures keeps { Keeps (D.medium disk.old) (D.medium disk.new) }
     ensures cause { HasCause (D.faults disk.old) (D.faults disk.new) result }
@@ -82,7 +82,7 @@ pub fn read_cell<D: Disk>(disk: &mut D, cell: Cell, out: &mut [u8; BODY_LEN]) ->
 /// Replaces the selected body: the other body is written and synced, and then the one byte that
 /// selects it. It costs two writes and two syncs.
 pub fn replace_cell<D: Disk>(disk: &mut D, cell: Cell, body: &[u8; BODY_LEN]) -> Result<(), Failed>
-    requires within { CELL_LEN * (cell + 1) ≤ (D.medium disk.old).size }
+    requires within { cell_size * (cell + 1) ≤ (D.medium disk.old).size }
     requires settled { IsSettled (D.medium disk.old) }
 
     ensures settled { OnOk result (IsSettled (D.medium disk.new)) }
@@ -104,7 +104,7 @@ pub fn replace_cell<D: Disk>(disk: &mut D, cell: Cell, body: &[u8; BODY_LEN]) ->
 
 // Which body is selected: 0 is the first.
 fn selected_side<D: Disk>(disk: &mut D, cell: Cell) -> Result<u8, Failed>
-    requires { CELL_LEN * (cell + 1) ≤ (D.medium disk.old).size }
+    requires { cell_size * (cell + 1) ≤ (D.medium disk.old).size }
     ensures side { IfOk result (λ side. Told (D.medium disk.old) (λ c. side ≡ selected c cell)) }
     ensures two { IfOk result (λ side. side < 2) }
     ensures keeps { Keeps (D.medium disk.old) (D.medium disk.new) }
@@ -118,7 +118,7 @@ fn selected_side<D: Disk>(disk: &mut D, cell: Cell) -> Result<u8, Failed>
 // A write and a sync.
 fn put<D: Disk>(disk: &mut D, at: u64, piece: &[u8]) -> Result<(), Failed>
     requires within { at + length piece.now ≤ (D.medium disk.old).size }
-    requires short { length piece.now ≤ BODY_LEN }
+    requires short { length piece.now ≤ body_size }
     requires settled { IsSettled (D.medium disk.old) }
     ensures settled { OnOk result (IsSettled (D.medium disk.new)) }
     ensures bytes { OnOk result

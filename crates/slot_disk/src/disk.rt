@@ -1,10 +1,11 @@
 //! A disk of a fixed size, and what a stop may leave of it.
 ghost use Rattle.std.specs.Prelude.{◌≡◌, ◌+◌, ◌≤◌, ℕ, length, slice_range, OnOk};
+ghost use Rattle.slot_disk.specs.Cells.{body_size};
 ghost use Rattle.slot_disk.specs.Faults.{HasCause};
 ghost use Rattle.slot_disk.specs.Medium.{Medium, Told, IsSettled, After, Becomes, EachImage, Keeps};
 ghost use Rattle.slot_disk.specs.Ranges.{SameOutside, HoldsPiece};
 
-use crate::{BODY_LEN, Failed};
+use crate::Failed;
 
 /// A disk of a fixed size. What was written since the last sync that succeeded may be torn by a
 /// stop: each range that was written may then hold any bytes, and all other bytes stay.
@@ -33,7 +34,7 @@ pub trait Disk {
     /// range may hold any bytes.
     fn write(&mut self, at: u64, piece: &[u8]) -> Result<(), Failed>
         requires within { at + length piece.now ≤ (medium self.old).size }
-        requires short { length piece.now ≤ BODY_LEN }
+        requires short { length piece.now ≤ body_size }
         ensures bytes { OnOk result
             (Becomes (HoldsPiece at piece.now) (medium self.old) (medium self.new)) }
         ensures outside { Becomes (SameOutside at (length piece.now))

@@ -1,5 +1,6 @@
 //! A disk in memory, which can show what a stop after any of its calls may have left.
 ghost use Rattle.std.specs.Prelude.{◌≡◌, ◌+◌, ◌≤◌, ◌↔◌, length, take, slice_range, IfOk, OnOk, OnErr, IsErr, IsTrue};
+ghost use Rattle.slot_disk.specs.Cells.{body_size};
 ghost use Rattle.slot_disk.specs.DiskState.{blank_image, new_disk, refuses_call, after_noted};
 ghost use Rattle.slot_disk.specs.FaultPlan.{fails_now, after_call, with_failing};
 ghost use Rattle.slot_disk.specs.Faults.{HasCause};
@@ -157,7 +158,7 @@ fn replay_call(call: &Call, torn: Torn, content: &mut [u8], image: &mut [u8])
 }
 
 fn tear(image: &mut [u8], at: usize, bytes: &[u8], torn: Torn)
-    requires { length bytes.now ≤ BODY_LEN }
+    requires { length bytes.now ≤ body_size }
     ensures { image.new ≡ torn_over torn image.old at bytes.now }
 {
     match torn {
@@ -202,7 +203,7 @@ impl Disk for MemoryDisk {
 
     fn write(&mut self, at: u64, piece: &[u8]) -> Result<(), Failed>
         requires within { at + length piece.now ≤ length self.old.first }
-        requires short { length piece.now ≤ BODY_LEN }
+        requires short { length piece.now ≤ body_size }
         ensures bytes { OnOk result
             (Becomes (HoldsPiece at piece.now) (medium_of self.old) (medium_of self.new)) }
         ensures outside { Becomes (SameOutside at (length piece.now))
