@@ -31,7 +31,7 @@ closed_even byte fits = even_byte_even (byte - 64 * (byte / 64 % 2)) (omega arit
 bit_off : (byte last : ℕ) → last < 2 → ((byte - 64 * (byte / 64 % 2)) / 2 * 2 + last) / 64 % 2 ≡ 0
 bit_off byte last small = omega arith
 
-closed_bit : (byte : ℕ) → bit_at (closed_byte byte) 6 ≡ 0
+pub closed_bit : (byte : ℕ) → bit_at (closed_byte byte) 6 ≡ 0
 closed_bit byte =
     bit_off byte (count_ones ((byte - 64 * (byte / 64 % 2)) / 2) % 2) (omega arith)
 
@@ -47,22 +47,22 @@ pub record IsHalf (half : List ℕ) : Type 0 where
   pub even : (k : ℕ) → IsEven (get_or half k 0)
   pub anti : IsAntiVariant half
 
-tested : (half : List ℕ) → (is_zero half ≡ true) ⊎ (is_zero half ≡ false)
+pub tested : (half : List ℕ) → (is_zero half ≡ true) ⊎ (is_zero half ≡ false)
 tested half = elim (is_zero half) as (λ b. (b ≡ true) ⊎ (b ≡ false)) [ true ↦ inl refl | false ↦ inr refl ]
 
-closed_as_is : (half : List ℕ) → is_zero half ≡ true → closed_half half ≡ half
+pub closed_as_is : (half : List ℕ) → is_zero half ≡ true → closed_half half ≡ half
 closed_as_is half e = ap (λ b. if b then half else set half 2 (closed_byte (get_or half 2 0))) e
 
 closed_set : (half : List ℕ) → is_zero half ≡ false → closed_half half ≡ set half 2 (closed_byte (get_or half 2 0))
 closed_set half e = ap (λ b. if b then half else set half 2 (closed_byte (get_or half 2 0))) e
 
-other_byte : (half : List ℕ) (k : ℕ) → k ≢ 2 → get_or (closed_half half) k 0 ≡ get_or half k 0
+pub other_byte : (half : List ℕ) (k : ℕ) → k ≢ 2 → get_or (closed_half half) k 0 ≡ get_or half k 0
 other_byte half k ne =
     ⊎_elim (λ (e : is_zero half ≡ true). ap (λ l. get_or l k 0) (closed_as_is half e))
     (λ (e : is_zero half ≡ false). ap (λ l. get_or l k 0) (closed_set half e) ∙ get_or-set_other half 2 k (closed_byte (get_or half 2 0)) 0 ne)
     (tested half)
 
-second_byte : (half : List ℕ) → length half ≡ 8 → is_zero half ≡ false → get_or (closed_half half) 2 0 ≡ closed_byte (get_or half 2 0)
+pub second_byte : (half : List ℕ) → length half ≡ 8 → is_zero half ≡ false → get_or (closed_half half) 2 0 ≡ closed_byte (get_or half 2 0)
 second_byte half size e = ap (λ l. get_or l 2 0) (closed_set half e) ∙ get_or-set_same half 2 (closed_byte (get_or half 2 0)) 0 (omega arith)
 
 -- what holds of each byte of a half, and of its byte 2 when that is closed
@@ -88,7 +88,7 @@ other_bit half n ne = ap (λ byte. bit_at byte (7 - n % 8)) (other_byte half (n 
 same_form : (half : List ℕ) → form_of (closed_half half) ≡ form_of half
 same_form half = ap (λ byte. 4 * bit_at byte 7 + 2 * bit_at byte 6 + bit_at byte 5) (other_byte half 5 (omega arith))
 
-zero_test : (half : List ℕ) → IsZero half → is_zero half ≡ true
+pub zero_test : (half : List ℕ) → IsZero half → is_zero half ≡ true
 zero_test half z = (is_zero-Decides half).1 z
 
 anti_closed : (half : List ℕ) → IsAntiVariant half → IsAntiVariant (closed_half half)
@@ -105,7 +105,7 @@ closed_is_half half h = record {
 
 -- ---- two halves
 
-not_zero : (half : List ℕ) → length half ≡ 8 → form_of half ≢ 0 → is_zero half ≡ false
+pub not_zero : (half : List ℕ) → length half ≡ 8 → form_of half ≢ 0 → is_zero half ≡ false
 not_zero half size ne =
     ⊎_elim (λ (e : is_zero half ≡ true).
     absurd (ne (ap form_of (zeros_of 8 half size ((is_zero-Decides half).0 e)))))
@@ -141,7 +141,7 @@ form_closed left right l r (inr (double, h)) =
 
 -- ---- the vector
 
-all_from : (P : ℕ → Type 0) (xs : List ℕ) → ((k : ℕ) → P (get_or xs k 0)) → All P xs
+pub all_from : (P : ℕ → Type 0) (xs : List ℕ) → ((k : ℕ) → P (get_or xs k 0)) → All P xs
 all_from P xs each k d within = subst P (get_or_default xs k 0 d within) (each k)
 
 pub closed_zero_valid : IsValid closed_zero
@@ -170,7 +170,7 @@ module _ (vector : List ℕ) (valid : IsValid vector) where
   even_behind : (k : ℕ) → IsEven (get_or (drop 8 vector) k 0)
   even_behind k = rw get_or-drop (each_even (8 + k))
 
-  left_half : IsHalf (left_of vector)
+  pub left_half : IsHalf (left_of vector)
   left_half = record {
     size = simp length-take (omega (arith, valid.whole));
     bytes = bytes_taken 8 vector each_byte;
@@ -178,7 +178,7 @@ module _ (vector : List ℕ) (valid : IsValid vector) where
     anti = valid.left;
   }
 
-  right_half : IsHalf (right_of vector)
+  pub right_half : IsHalf (right_of vector)
   right_half = record {
     size = simp (length-take, length-drop) (omega (arith, valid.whole));
     bytes = bytes_taken 8 (drop 8 vector) (bytes_dropped 8 vector each_byte);
@@ -186,7 +186,7 @@ module _ (vector : List ℕ) (valid : IsValid vector) where
     anti = valid.right;
   }
 
-  abbrev closed : List ℕ
+  abbrev pub closed : List ℕ
   closed = closed_half (left_of vector) ++ closed_half (right_of vector)
 
   closed_left : IsHalf (closed_half (left_of vector))
@@ -195,10 +195,10 @@ module _ (vector : List ℕ) (valid : IsValid vector) where
   closed_right : IsHalf (closed_half (right_of vector))
   closed_right = closed_is_half (right_of vector) right_half
 
-  left_is : left_of closed ≡ closed_half (left_of vector)
+  pub left_is : left_of closed ≡ closed_half (left_of vector)
   left_is = take_at (closed_half (left_of vector)) (closed_half (right_of vector)) 8 closed_left.size
 
-  right_is : right_of closed ≡ closed_half (right_of vector)
+  pub right_is : right_of closed ≡ closed_half (right_of vector)
   right_is =
       ap (take 8) (drop_at (closed_half (left_of vector)) (closed_half (right_of vector)) 8 closed_left.size)
       ∙ take_all 8 (closed_half (right_of vector)) (omega (arith, closed_right.size))
@@ -226,7 +226,7 @@ module _ (vector : List ℕ) (valid : IsValid vector) where
   closed_length = ap (λ form. if eqb form single_length then 8 else 16) (ap form_of left_is ∙ same_form (left_of vector))
 
   -- a vector that may be exported and isn't zero has a left half that isn't zero
-  left_counts : is_exportable vector ≡ true → is_zero vector ≡ false → is_zero (left_of vector) ≡ false
+  pub left_counts : is_exportable vector ≡ true → is_zero vector ≡ false → is_zero (left_of vector) ≡ false
   left_counts ex z =
       ⊎_elim (λ (e : is_zero (left_of vector) ≡ true).
       let blank : left_of vector ≡ replicate 8 0 = zeros_of 8 (left_of vector) left_half.size ((is_zero-Decides (left_of vector)).0 e) in

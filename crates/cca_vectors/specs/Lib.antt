@@ -6,5 +6,7 @@ pub mod VectorChecks
 pub mod Permissions
 pub mod KeyTypes
 pub mod DefaultVectors
+pub mod ClosedBits
 pub mod Closing
+pub mod PartVectors
 pub use Rattle.byte_lists.specs.Bytes

@@ -7,8 +7,10 @@ ghost use Rattle.cca_vectors.specs.VectorChecks.{is_even, is_anti_variant, has_f
 ghost use Rattle.cca_vectors.specs.Classes.{class_of};
 ghost use Rattle.cca_vectors.specs.Permissions.{permits, is_exportable};
 ghost use Rattle.cca_vectors.specs.Closing.{closed_byte, closed_half, closed_to_export, closed_zero};
+ghost use Rattle.cca_vectors.specs.PartVectors.{as_part};
 
 use crate::key_class::Class;
+use crate::key_part::part_half;
 use crate::key_usage::{Usage, is_data_bit};
 use byte_lists::is_zero;
 use std::marker::Model;
@@ -256,6 +258,20 @@ impl Vector {
         }
         let left = closed_half(&left_half(&self.bytes));
         let right = closed_half(&right_half(&self.bytes));
+        Vector {
+            bytes: joined(&left, &right),
+        }
+    }
+
+    /// The vector of a part of the key, where this is that of a key, and the vector of the whole key, where this is that
+    /// of a part: bit 44, the key-part bit, and bit 47 are changed in each half that isn't all zero.
+    pub fn as_part(&self) -> Vector
+        ensures vector { result ≡ as_part self.now }
+        ensures length { length_of result ≡ length_of self.now }
+        ensures valid { IsValid result }
+    {
+        let left = part_half(&left_half(&self.bytes));
+        let right = part_half(&right_half(&self.bytes));
         Vector {
             bytes: joined(&left, &right),
         }

@@ -378,3 +378,32 @@ fn export_is_forbidden(rt: HostRuntime) {
         assert!(rt; !closed.exportable());
     }
 }
+
+/// The vectors of key parts of the standard: bit 44 and, for the parity of byte 5, bit 47 are turned, there and back.
+#[test]
+fn vectors_of_parts(rt: HostRuntime) {
+    for (left, right, part_left, part_right) in [
+        (0x0000_0000_0000_0000, 0, 0x0000_0000_0000_0000, 0),
+        (0x0000_7d00_0300_0000, 0, 0x0000_7d00_0309_0000, 0),
+        (0x0003_7100_0300_0000, 0, 0x0003_7100_0309_0000, 0),
+        (
+            0x0005_4d00_0341_0000,
+            0x0005_4d00_0321_0000,
+            0x0005_4d00_0348_0000,
+            0x0005_4d00_0328_0000,
+        ),
+        (
+            0x0041_7d00_0341_0000,
+            0x0041_7d00_0321_0000,
+            0x0041_7d00_0348_0000,
+            0x0041_7d00_0328_0000,
+        ),
+    ] {
+        let whole = vector_of(&bytes_of(left, right)).expect(&rt, "a control vector");
+        let part = whole.as_part();
+        assert_eq!(rt; u64::from_be_bytes(part.left()), part_left);
+        assert_eq!(rt; u64::from_be_bytes(part.right()), part_right);
+        assert_eq!(rt; part.is_part(), left != 0);
+        assert_eq!(rt; part.as_part(), whole);
+    }
+}
