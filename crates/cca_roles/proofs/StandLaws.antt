@@ -6,7 +6,8 @@ use Rattle.std.proofs.lemmas.List.{get_or-set_same, get_or-set_other, length-set
 use Rattle.std.proofs.lemmas.List.FromFn.{length-map-range_with_len, get_or-map-range_with_len}
 use Rattle.slot_disk.specs.Cells.{body, IsReplaced, IsReplacing}
 use Rattle.slot_disk.specs.Medium.{Medium, Told, From, Becomes, EachImage, Keeps, IsSettled}
-use Rattle.slot_disk.proofs.Media.{told_from, told_at, becomes_told, each_weaker, each_still}
+use Rattle.slot_disk.specs.SpareBytes.{HasTurned}
+use Rattle.slot_disk.proofs.Media.{told_from, told_at, becomes_told, becomes_weaker, each_weaker, each_still}
 use Rattle.slot_disk.proofs.CellSteps.{outside_same}
 use Rattle.cca_roles.specs.Changes.{HoldsEither}
 use Rattle.byte_lists.specs.Directory.{name_at, AreApart}
@@ -90,6 +91,9 @@ module _ (n : ℕ) (bytes : List ℕ) (slot : Option Role) (s : List (Option Rol
   module _ (m0 m1 : Medium) (start : Told m0 (λ image. StandsForRoles image s)) where
     pub told_set : Becomes (IsReplaced (n + 1) bytes) m0 m1 → Told m1 (λ image. StandsForRoles image (set s n slot))
     told_set becomes = becomes_told m0 m1 (IsReplaced (n + 1) bytes) (λ image. StandsForRoles image s) (λ image. StandsForRoles image (set s n slot)) becomes start (λ old new stands replaced. stands_set old new stands replaced.here replaced.others)
+
+    pub told_turned : Becomes (IsReplaced (n + 1) bytes) m0 m1 → Becomes (HasTurned (n + 1)) m0 m1
+    told_turned becomes = becomes_weaker m0 m1 (IsReplaced (n + 1) bytes) (HasTurned (n + 1)) becomes (λ b c by. (by.selector, by.other))
 
     either_from : (c : List ℕ) → From (IsReplacing (n + 1) bytes) m0 c → From (HoldsEither (n + 1) s (set s n slot)) m0 c
     either_from c from = (from.0, from.1, holds_either from.0 c (told_at m0.content (λ image. StandsForRoles image s) from.0 from.1 start) from.2)

@@ -3,11 +3,11 @@ use Rattle.std.specs.Prelude.{◌≡◌, ◌≢◌, ◌≤◌, ◌⊎◌, ◌+�
 use Rattle.std.specs.Prelude.{Result, Err, OnOk, OnErr}
 use Rattle.key_cells.specs.Lease.{bench_of, holding}
 use Rattle.key_cells.specs.declared.leases.Lease.{Lease}
-use Rattle.slot_disk.specs.Cells.{body, IsUntouched}
-use Rattle.slot_disk.specs.declared.cell.TheConstants.{CELL_LEN}
+use Rattle.slot_disk.specs.Cells.{cell_size, body, IsUntouched}
 use Rattle.slot_disk.specs.Faults.{Rose}
 use Rattle.slot_disk.specs.Medium.{Medium, IsSettled, Told, From, Becomes, EachImage}
 use Rattle.slot_disk.specs.Ranges.{SameOutside}
+use Rattle.slot_disk.specs.SpareBytes.{HasTurned}
 use Rattle.cca_roles.specs.RolesStand.{StandsForRoles}
 use Rattle.cca_roles.specs.declared.faults.RoleFault.{RoleFault}
 use Rattle.cca_roles.specs.declared.faults.RoleFault.TheVariants.{DiskFault}
@@ -17,7 +17,7 @@ use Rattle.cca_roles.specs.declared.roles.Role.{Role}
 -- byte outside the cell has changed, and none of the cell but its selector and the bytes of the body
 -- that wasn't selected.
 pub record HoldsEither (cell : ℕ) (s next : List (Option Role)) (old new : List ℕ) : Type 0 where
-  pub outside : SameOutside (CELL_LEN * cell) CELL_LEN old new
+  pub outside : SameOutside (cell_size * cell) cell_size old new
   pub others : (n : ℕ) → n ≢ cell → body new n ≡ body old n
   pub untouched : (k : ℕ) → IsUntouched old cell k → slice_index new k ≡ slice_index old k
   pub stands : StandsForRoles new s ⊎ StandsForRoles new next
@@ -28,6 +28,8 @@ pub record ChangesRoles (place : ℕ) (s next : List (Option Role)) (old new : M
   -- after Ok nothing is unsynced, and a read gives the roles after
   pub settled : OnOk result (IsSettled new)
   pub stands : OnOk result (Told new (λ image. StandsForRoles image next))
+  -- and the body that the cell selected stands where it stood, as the one that isn't selected
+  pub turned : OnOk result (Becomes (HasTurned (place + 1)) old new)
   -- whatever the answer, a read gives the roles before or after, and so does a stop at any moment of the call
   pub either : Becomes (HoldsEither (place + 1) s next) old new
   pub moments : EachImage old new (From (HoldsEither (place + 1) s next) old)

@@ -31,11 +31,14 @@ access_points =
     ∷ (codes "MK_SET", 0x0080_0000)
     ∷ (codes "ROLES", 0x0100_0000)
     ∷ (codes "REENC", 0x0200_0000)
+    ∷ (codes "KPI_FIRST", 0x0400_0000)
+    ∷ (codes "KPI_COMBINE", 0x0800_0000)
+    ∷ (codes "KTR", 0x1000_0000)
     ∷ []
 
 -- every point together
 abbrev pub every_point : ℕ
-every_point = 0x03ff_ffff
+every_point = 0x1fff_ffff
 
 -- no bit is on that isn't a point
 abbrev pub are_points : ℕ → Bool

@@ -158,6 +158,21 @@ impl AccessPoints {
         points: Points::REENC,
     };
 
+    /// Needed by CSNBKPI, rule FIRST.
+    pub const KPI_FIRST: AccessPoints = AccessPoints {
+        points: Points::KPI_FIRST,
+    };
+
+    /// Needed by CSNBKPI, rules MIDDLE and LAST.
+    pub const KPI_COMBINE: AccessPoints = AccessPoints {
+        points: Points::KPI_COMBINE,
+    };
+
+    /// Needed by CSNBKTR.
+    pub const KTR: AccessPoints = AccessPoints {
+        points: Points::KTR,
+    };
+
     /// No point.
     pub fn empty() -> AccessPoints
         ensures { result ≡ 0 }

@@ -36,6 +36,9 @@ bitflag_items! {
         const MK_SET = 0x0080_0000;
         const ROLES = 0x0100_0000;
         const REENC = 0x0200_0000;
+        const KPI_FIRST = 0x0400_0000;
+        const KPI_COMBINE = 0x0800_0000;
+        const KTR = 0x1000_0000;
     }
 }
 

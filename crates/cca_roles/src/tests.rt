@@ -67,6 +67,9 @@ fn points(rt: HostRuntime) {
         (AccessPoints::MK_SET, 0x0080_0000),
         (AccessPoints::ROLES, 0x0100_0000),
         (AccessPoints::REENC, 0x0200_0000),
+        (AccessPoints::KPI_FIRST, 0x0400_0000),
+        (AccessPoints::KPI_COMBINE, 0x0800_0000),
+        (AccessPoints::KTR, 0x1000_0000),
     ] {
         assert_eq!(rt; points.bits(), bits);
         assert!(rt; AccessPoints::all().contains(points));
@@ -74,8 +77,8 @@ fn points(rt: HostRuntime) {
         every = every.union(points);
     }
     assert_eq!(rt; every, AccessPoints::all());
-    assert_eq!(rt; every.bits(), 0x03ff_ffff);
-    for bits in [0x0400_0000, 0x0400_0001, 0x8000_0000, 0xffff_ffff] {
+    assert_eq!(rt; every.bits(), 0x1fff_ffff);
+    for bits in [0x2000_0000, 0x2000_0001, 0x8000_0000, 0xffff_ffff] {
         assert_eq!(rt; AccessPoints::from_bits(bits), None);
     }
     assert_eq!(rt; AccessPoints::from_bits(0), Some(AccessPoints::empty()));
@@ -177,10 +180,10 @@ fn changes(rt: HostRuntime) -> Result<(), Fail> {
     let mut module = MemoryDisk::new(rt.alloc(), MODULE_LEN, 100)?;
     let blank = [0; 192];
     let teller = body_of(6, TELLER, [0, 0, 0, 0x0f]);
-    let clerk = body_of(5, CLERK, [0x02, 0x00, 0x00, 0x01]);
+    let clerk = body_of(5, CLERK, [0x12, 0x00, 0x00, 0x01]);
     for (change, cell, body) in [
         (define(b"TELLER", 0x0f)?, 2, teller),
-        (define(b"CLERK", 0x0200_0001)?, 3, clerk),
+        (define(b"CLERK", 0x1200_0001)?, 3, clerk),
         (
             define(b"TELLER", 0x03ff_ffff)?,
             2,
@@ -208,7 +211,8 @@ fn changes(rt: HostRuntime) -> Result<(), Fail> {
     for (name, bits, wanted) in [
         (b"DEFAULT".as_slice(), 0x10, Some(true)),
         (b"DEFAULT".as_slice(), 0x11, Some(false)),
-        (b"CLERK".as_slice(), 0x0200_0001, Some(true)),
+        (b"CLERK".as_slice(), 0x1200_0001, Some(true)),
+        (b"CLERK".as_slice(), 0x0400_0000, Some(false)),
         (b"CLERK".as_slice(), 0x02, Some(false)),
         (b"A".as_slice(), 0, Some(true)),
         (b"TELLER".as_slice(), 0, None),
@@ -303,7 +307,7 @@ fn damaged_cells(rt: HostRuntime) -> Result<(), Fail> {
         ),
         // bits that are no points, and bytes outside the table
         (
-            (2, with_byte(teller, 10, 4)),
+            (2, with_byte(teller, 10, 0x20)),
             (3, clerk),
             Err(RoleFault::Damaged(2)),
         ),

@@ -6,7 +6,7 @@ use Rattle.slot_disk.specs.Medium.{Becomes, EachImage, From}
 use Rattle.byte_lists.specs.Directory.{AreApart}
 use Rattle.cca_roles.specs.Roles.{names, name_of}
 use Rattle.cca_roles.specs.declared.roles.Role.{Role}
-use Rattle.cca_roles.proofs.StandLaws.{unless_err, told_set, either_becomes, either_moments}
+use Rattle.cca_roles.proofs.StandLaws.{unless_err, told_set, told_turned, either_becomes, either_moments}
 use Rattle.cca_roles.proofs.roles.Roles.change.Goals as goal
 
 apart_next : (s : List (Option Role)) (n : ℕ) (slot : Option Role) → AreApart (set (names s) n (name_of slot)) → AreApart (names (set s n slot))
@@ -22,6 +22,7 @@ returns-then-is_err-clause-changed g c =
     record {
       settled = tt;
       stands = tt;
+      turned = tt;
       either = either_becomes c.args.place bytes c.args.slot s c.requires.within c.requires.reads apart m0 m1 c.requires.stands
           (subst (λ (n : ℕ). Becomes (IsReplacing n bytes) m0 m1) c.new.ensures c.replace_cell.ensures.replacing);
       moments = either_moments c.args.place bytes c.args.slot s c.requires.within c.requires.reads apart m0 m1 c.requires.stands
@@ -38,6 +39,9 @@ returns-clause-changed g c =
     record {
       settled = unless_err c.replace_cell.result (sym c.is_err.ensures.value ∙ c.if-is_err.false) c.replace_cell.ensures.settled;
       stands = told_set c.args.place bytes c.args.slot s c.requires.within c.requires.reads apart m0 m1 c.requires.stands
+          (subst (λ (n : ℕ). Becomes (IsReplaced n bytes) m0 m1) c.new.ensures
+          (unless_err c.replace_cell.result (sym c.is_err.ensures.value ∙ c.if-is_err.false) c.replace_cell.ensures.replaced));
+      turned = told_turned c.args.place bytes c.args.slot s c.requires.within c.requires.reads apart m0 m1 c.requires.stands
           (subst (λ (n : ℕ). Becomes (IsReplaced n bytes) m0 m1) c.new.ensures
           (unless_err c.replace_cell.result (sym c.is_err.ensures.value ∙ c.if-is_err.false) c.replace_cell.ensures.replaced));
       either = either_becomes c.args.place bytes c.args.slot s c.requires.within c.requires.reads apart m0 m1 c.requires.stands
