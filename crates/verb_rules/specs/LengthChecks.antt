@@ -1,25 +1,40 @@
--- The rules on lengths: of a text, by its use, and of the key of a message authentication code.
-use Rattle.std.specs.Prelude.{ℕ, ◌%◌, Bool, not, nat_le, ◌&&◌, List, [], ◌∷◌, ◌==◌}
+-- The rules on lengths: of a text, by its use, of the key of a message authentication code, and of a key part.
+use Rattle.std.specs.Prelude.{ℕ, ◌+◌, ◌%◌, Bool, not, nat_le, ◌&&◌, List, [], ◌∷◌, ◌==◌}
 use Rattle.cca_vectors.specs.Checks.{Check, check}
 use Rattle.verb_rules.specs.declared.lengths.MacRule.{MacRule}
 use Rattle.verb_rules.specs.declared.lengths.MacRule.TheVariants.{X99, X919}
 use Rattle.verb_rules.specs.declared.lengths.TextUse.{TextUse}
-use Rattle.verb_rules.specs.declared.lengths.TextUse.TheVariants.{EncipherPlain, EncipherPadded, Decipher, Mac}
+use Rattle.verb_rules.specs.declared.lengths.TextUse.TheVariants.{EncipherPlain, EncipherPadded, Decipher, Mac, Segment, LastPlain, LastPadded, LastDecipher, LastMac}
 
 -- the greatest length of a text
 abbrev pub text_room : ℕ
 text_room = 4096
 
--- whole blocks of 8 bytes, one at least
-abbrev pub is_whole : ℕ → Bool
-is_whole length = length % 8 == 0 && nat_le 8 length && nat_le length text_room
+-- the greatest length of a segment of a text
+abbrev pub segment_room : ℕ
+segment_room = 4088
 
--- the lengths of texts, in bytes
+-- whole blocks of 8 bytes, one at least
+abbrev pub are_blocks : ℕ → Bool
+are_blocks length = length % 8 == 0 && nat_le 8 length
+
+abbrev pub is_whole : ℕ → Bool
+is_whole length = are_blocks length && nat_le length text_room
+
+abbrev pub is_segment : ℕ → Bool
+is_segment length = nat_le length segment_room
+
+-- the lengths of texts, in bytes; of the last segment of a text together with the bytes that the one before carried over
 abbrev pub has_length : TextUse → ℕ → Bool
 has_length EncipherPlain length = is_whole length
 has_length EncipherPadded length = nat_le length 4095
 has_length Decipher length = is_whole length
 has_length Mac length = nat_le 1 length && nat_le length text_room
+has_length Segment length = is_segment length
+has_length (LastPlain carried) length = is_segment length && are_blocks (length + carried)
+has_length LastPadded length = is_segment length
+has_length (LastDecipher carried) length = is_segment length && are_blocks (length + carried)
+has_length (LastMac carried) length = is_segment length && nat_le 1 (length + carried)
 
 -- rule 23
 abbrev pub text_checks : TextUse → ℕ → List Check

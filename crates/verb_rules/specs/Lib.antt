@@ -4,3 +4,4 @@ pub mod KeyChecks
 pub mod Keys
 pub mod LengthChecks
 pub mod TypeChecks
+pub mod PartChecks

@@ -1,4 +1,4 @@
--- The rules by their numbers, in the order in which they are judged.
+-- The rules by their numbers. They are judged in this order, but that 36 comes before 23.
 use Rattle.std.specs.Prelude.{◌≡◌, ℕ, List, None, Some, Result, MatchResult}
 use Rattle.cca_vectors.specs.Checks.{Check, first_failing}
 use Rattle.verb_rules.specs.declared.rules.Rule.{Rule}
@@ -37,6 +37,8 @@ rule_number rule.LabelExists = 29
 rule_number rule.RoleTable = 30
 rule_number rule.PadCount = 31
 rule_number rule.KeyLength = 32
+rule_number rule.WholeKey = 35
+rule_number rule.Chain = 36
 
 -- Ok where none of the rules is broken, and else the first that is
 abbrev pub Judges : {A : Type 0} → List Check → Result A Rule → Type 0

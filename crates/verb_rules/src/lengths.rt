@@ -1,12 +1,15 @@
 //! The rules on lengths: of a text, by its use, and of the key of a message authentication code.
-ghost use Rattle.verb_rules.specs.LengthChecks.{has_length, mac_key_length, mac_checks, text_checks};
+ghost use Rattle.std.specs.Prelude.{◌≡◌, ◌+◌};
+ghost use Rattle.verb_rules.specs.LengthChecks.{are_blocks, has_length, is_segment, mac_key_length, mac_checks, text_checks};
 ghost use Rattle.verb_rules.specs.Rules.{Judges};
-ghost use Rattle.std.specs.Prelude.{◌≡◌};
 
 use crate::rules::Rule;
 
 /// The greatest length of a text in bytes.
 const TEXT_ROOM: usize = 4096;
+
+/// The greatest length of a segment of a text in bytes.
+const SEGMENT_ROOM: usize = 4088;
 
 const BLOCK: usize = 8;
 
@@ -21,6 +24,17 @@ pub enum TextUse {
     Decipher,
     /// To have its message authentication code made or verified.
     Mac,
+    /// As a segment of a text, but the last one.
+    Segment,
+    /// As the last segment of a text that is enciphered as it is, after `carried` bytes of the segments before.
+    LastPlain { carried: usize },
+    /// As the last segment of a text that is enciphered with padding of ANSI X9.23.
+    LastPadded,
+    /// As the last segment of a text that is deciphered, after `carried` bytes of the segments before.
+    LastDecipher { carried: usize },
+    /// As the last segment of a text whose message authentication code is made or verified, after `carried` bytes of the
+    /// segments before.
+    LastMac { carried: usize },
 }
 
 /// How a message authentication code is made.
@@ -30,6 +44,20 @@ pub enum MacRule {
     X99,
     /// X9.19OPT: under a double-length key.
     X919,
+}
+
+/// Whether two lengths together are those of whole blocks, one at least.
+fn are_blocks(length: usize, carried: usize) -> bool
+    ensures { result ≡ are_blocks (length + carried) }
+{
+    (length % BLOCK + carried % BLOCK) % BLOCK == 0
+        && (BLOCK <= length || BLOCK <= carried || BLOCK <= length + carried)
+}
+
+fn is_segment(length: usize) -> bool
+    ensures { result ≡ is_segment length }
+{
+    length <= SEGMENT_ROOM
 }
 
 impl TextUse {
@@ -43,6 +71,11 @@ impl TextUse {
             }
             TextUse::EncipherPadded => length < TEXT_ROOM,
             TextUse::Mac => 1 <= length && length <= TEXT_ROOM,
+            TextUse::Segment | TextUse::LastPadded => is_segment(length),
+            TextUse::LastPlain { carried } | TextUse::LastDecipher { carried } => {
+                is_segment(length) && are_blocks(length, carried)
+            }
+            TextUse::LastMac { carried } => is_segment(length) && (1 <= length || 1 <= carried),
         }
     }
 }

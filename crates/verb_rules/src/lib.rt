@@ -2,6 +2,7 @@
 #![tactic(auto)]
 
 mod classes;
+mod combining;
 mod judging;
 mod lengths;
 mod needs;
@@ -10,6 +11,7 @@ mod types;
 
 pub use cca_vectors::{KeyType, Usage};
 pub use classes::Classes;
+pub use combining::judge_part;
 pub use judging::{Judged, judge_key, judge_use};
 pub use key_tokens::{Age, Asked};
 pub use lengths::{MacRule, TextUse, judge_mac, judge_text};

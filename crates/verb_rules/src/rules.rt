@@ -2,7 +2,8 @@
 ghost use Rattle.std.specs.Prelude.{◌≡◌, ◌<◌};
 ghost use Rattle.verb_rules.specs.Rules.{rule_number};
 
-/// A rule that a request may break, in the order in which the rules are judged.
+/// A rule that a request may break, in the order in which the rules are judged; but the last, `Chain`, is judged before
+/// `TextLength`.
 #[derive(Clone, Copy, Debug, PartialEq, Eq)]
 pub enum Rule {
     /// 01: The line is no request.
@@ -69,10 +70,14 @@ pub enum Rule {
     PadCount,
     /// 32: The key, or its type, doesn't have this length.
     KeyLength,
+    /// 35: The key is whole, where a key part is combined with another.
+    WholeKey,
+    /// 36: The chain isn't one that a segment gives.
+    Chain,
 }
 
 impl Rule {
-    /// The rule's number, 1 to 32.
+    /// The rule's number: 1 to 32, 35 or 36.
     pub fn number(self) -> u8
         ensures number { result ≡ rule_number self }
         ensures two_digits { result < 100 }
@@ -110,6 +115,8 @@ impl Rule {
             Rule::RoleTable => 30,
             Rule::PadCount => 31,
             Rule::KeyLength => 32,
+            Rule::WholeKey => 35,
+            Rule::Chain => 36,
         }
     }
 }

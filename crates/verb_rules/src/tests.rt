@@ -302,6 +302,25 @@ fn lengths_of_texts(rt: HostRuntime) {
         (TextUse::Mac, 1, true),
         (TextUse::Mac, 4096, true),
         (TextUse::Mac, 4097, false),
+        (TextUse::Segment, 0, true),
+        (TextUse::Segment, 4088, true),
+        (TextUse::Segment, 4089, false),
+        (TextUse::LastPlain { carried: 0 }, 0, false),
+        (TextUse::LastPlain { carried: 7 }, 1, true),
+        (TextUse::LastPlain { carried: 7 }, 8, false),
+        (TextUse::LastPlain { carried: 0 }, 4088, true),
+        (TextUse::LastPlain { carried: 0 }, 4096, false),
+        (TextUse::LastPadded, 0, true),
+        (TextUse::LastPadded, 4088, true),
+        (TextUse::LastPadded, 4089, false),
+        (TextUse::LastDecipher { carried: 0 }, 0, false),
+        (TextUse::LastDecipher { carried: 3 }, 5, true),
+        (TextUse::LastDecipher { carried: 3 }, 4, false),
+        (TextUse::LastDecipher { carried: 3 }, 4093, false),
+        (TextUse::LastMac { carried: 0 }, 0, false),
+        (TextUse::LastMac { carried: 1 }, 0, true),
+        (TextUse::LastMac { carried: 0 }, 1, true),
+        (TextUse::LastMac { carried: 0 }, 4089, false),
     ] {
         let wanted = if fits { Ok(()) } else { Err(Rule::TextLength) };
         assert_eq!(rt; judge_text(use_of, length), wanted, "{use_of:?} {length}");
@@ -361,4 +380,49 @@ fn lengths_of_types(rt: HostRuntime) {
     ] {
         assert_eq!(rt; judge_length(kind, length), wanted, "{kind:?} {length}");
     }
+}
+
+/// A part is combined with a part of its length alone; the length is judged first.
+#[test]
+fn parts_that_are_combined(rt: HostRuntime) {
+    for (left, right, length, wanted) in [
+        (0x0000_7d00_0309_0000u64, 0u64, 8, Ok(())),
+        (0x0000_7d00_0309_0000, 0, 16, Err(Rule::KeyLength)),
+        (0x0000_7d00_0300_0000, 0, 8, Err(Rule::WholeKey)),
+        (0x0000_7d00_0300_0000, 0, 16, Err(Rule::KeyLength)),
+        (0x0041_7d00_0348_0000, 0x0041_7d00_0328_0000, 16, Ok(())),
+        (
+            0x0041_7d00_0348_0000,
+            0x0041_7d00_0328_0000,
+            8,
+            Err(Rule::KeyLength),
+        ),
+        (
+            0x0041_7d00_0341_0000,
+            0x0041_7d00_0321_0000,
+            16,
+            Err(Rule::WholeKey),
+        ),
+    ] {
+        let mut bytes = [0; 16];
+        bytes[..8].copy_from_slice(&left.to_be_bytes());
+        bytes[8..].copy_from_slice(&right.to_be_bytes());
+        let token = Token {
+            kind: key_tokens::Kind::Internal,
+            pattern: CURRENT_PATTERN,
+            sealed: Sealed {
+                left: [0x11; 8],
+                right: [0; 8],
+            },
+            vector: vector_of(&bytes).expect(&rt, "a control vector"),
+        };
+        let key = Judged {
+            token,
+            age: Some(Age::Current),
+        };
+        assert_eq!(rt; judge_part(&key, length), wanted, "{left:x} {length}");
+    }
+    assert_eq!(rt; Rule::KeyLength.number(), 32);
+    assert_eq!(rt; Rule::WholeKey.number(), 35);
+    assert_eq!(rt; Rule::Chain.number(), 36);
 }
