@@ -24,8 +24,9 @@ fn text_has_length(lease: &Lease)
     let _text = lease.text();
 }
 
-/// Enciphers a text of whole blocks under a key in a chain from a start.
-fn encipher_whole(lease: &mut Lease, key: &Judged, start: &[u8; 8])
+/// Enciphers a text of whole blocks, or of none, under the clear key of a judged internal token, in a chain from a
+/// start, in place. Only the place `Key`, the schedules and the text of the lease change.
+pub fn encipher_blocks(lease: &mut Lease, key: &Judged, start: &[u8; 8])
     requires halves { HasHalves key.now }
     requires whole { (bench_of lease.old).text.size % 8 ≡ 0 }
     ensures text { let clear = opened (bench_of lease.old) key.now in
@@ -52,11 +53,12 @@ pub fn encipher(lease: &mut Lease, key: &Judged, start: &[u8; 8], padding: Pad)
     ensures stays { ChangesText lease.old lease.new }
 {
     pad_text(lease, padding);
-    encipher_whole(lease, key, start);
+    encipher_blocks(lease, key, start);
 }
 
-/// Deciphers a text of whole blocks under a key in a chain from a start.
-fn decipher_whole(lease: &mut Lease, key: &Judged, start: &[u8; 8])
+/// Deciphers a text of whole blocks, or of none, under the clear key of a judged internal token, in a chain from a
+/// start, in place. Only the place `Key`, the schedules and the text of the lease change.
+pub fn decipher_blocks(lease: &mut Lease, key: &Judged, start: &[u8; 8])
     requires halves { HasHalves key.now }
     requires whole { (bench_of lease.old).text.size % 8 ≡ 0 }
     ensures text { let clear = opened (bench_of lease.old) key.now in
@@ -88,7 +90,7 @@ pub fn decipher(lease: &mut Lease, key: &Judged, start: &[u8; 8], padding: Pad) 
     ensures room { (bench_of lease.new).text.size ≤ 4096 }
     ensures stays { ChangesText lease.old lease.new }
 {
-    decipher_whole(lease, key, start);
+    decipher_blocks(lease, key, start);
     match padding {
         Pad::None => Ok(()),
         Pad::X923 => remove_padding(lease),

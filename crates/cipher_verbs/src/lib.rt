@@ -8,9 +8,9 @@ mod padding;
 mod random;
 mod testing;
 
-pub use ciphering::{decipher, encipher};
+pub use ciphering::{decipher, decipher_blocks, encipher, encipher_blocks};
 pub use importing::clear_key_import;
-pub use padding::Pad;
+pub use padding::{Pad, clear_text};
 pub use random::{RandomForm, random_number};
 pub use testing::key_test;
 

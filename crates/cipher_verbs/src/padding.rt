@@ -82,7 +82,7 @@ pub(crate) fn pad_text(lease: &mut Lease, padding: Pad)
 }
 
 /// Makes the bytes of the text zero, and the text empty.
-fn clear_text(lease: &mut Lease)
+pub fn clear_text(lease: &mut Lease)
     ensures { lease.new ≡ holding lease.old
         (record (bench_of lease.old) { text = cleared (bench_of lease.old).text }) }
 {

@@ -214,6 +214,7 @@ fn a_zero_key_is_imported(rt: HostRuntime) {
     assert_eq!(rt; token.vector.left(), 0x0000_7d00_0300_0000u64.to_be_bytes());
 }
 
+/// Random bytes come in one fill: a second one would fail.
 #[test]
 fn random_bytes(rt: HostRuntime) -> Result<(), Fail> {
     for (drawn, form, wanted) in [
@@ -232,6 +233,7 @@ fn random_bytes(rt: HostRuntime) -> Result<(), Fail> {
         ),
     ] {
         let mut entropy = MemoryEntropy::new(rt.alloc(), &drawn)?;
+        entropy.fail_at(1);
         assert_eq!(rt; random_number(form, &mut entropy).ok(), Some(wanted));
         assert_eq!(rt; random_number(form, &mut entropy).ok(), None);
     }

@@ -4,7 +4,7 @@ use Rattle.key_cells.specs.Lease.{bench_of}
 use Rattle.verb_rules.specs.Keys.{opened}
 use Rattle.clear_keys.specs.Scheduled.{left_key, right_key}
 use Rattle.clear_keys.proofs.ModeLemmas.{ede_of, enciphered_chain, key_length}
-use Rattle.cipher_verbs.proofs.ciphering.encipher_whole.Goals as goal
+use Rattle.cipher_verbs.proofs.ciphering.encipher_blocks.Goals as goal
 
 pub returns-clause-text : goal.returns-clause-text
 returns-clause-text c =
