@@ -70,8 +70,8 @@ fn draw_key<E: Entropy>(lease: &mut Lease, length: usize, entropy: &mut E) -> Re
     fill_key(lease.key_mut(KeyPlace::Key), length, entropy)
 }
 
-/// The control vector of a type that has this length.
-fn vector_for(kind: KeyType, length: usize) -> Vector
+/// The control vector of a type that has this length in bytes.
+pub fn vector_for(kind: KeyType, length: usize) -> Vector
     requires { HasLength kind length }
     ensures vector { result ≡ vector_for kind length }
     ensures length { length_of result ≡ length }

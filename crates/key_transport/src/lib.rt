@@ -11,9 +11,10 @@ mod writing;
 
 pub use changing::{Target, a_new_token_is_current_once_set, token_change};
 pub use exporting::export;
-pub use generating::{Form, Generated, generate};
+pub use generating::{Form, Generated, generate, vector_for};
 pub use importing::import;
 pub use prohibiting::prohibit_export;
+pub use writing::write_under;
 
 #[cfg(test)]
 mod tests;

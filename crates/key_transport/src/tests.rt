@@ -509,13 +509,15 @@ fn tokens_are_changed(rt: HostRuntime) {
     }
 }
 
-/// A key of each length, of which each draws its length in one fill, until no random byte is left.
+/// A key of each length, of which each draws its length in one fill, until no random byte is left. A second fill for
+/// the first key would fail.
 #[test]
 fn one_key_is_generated(rt: HostRuntime) -> Result<(), Fail> {
     let mut bench = Workbench::new();
     let mut lease = Lease::open(&mut bench);
     let held = put_masters(&mut lease);
     let mut zeros = MemoryEntropy::new(rt.alloc(), &[0; 16])?;
+    zeros.fail_at(1);
     let made = generate(
         &mut lease,
         &held,
@@ -585,7 +587,7 @@ fn pair_of(first: &[u64; 8], second: &[u64; 8]) -> Option<Generated> {
     })
 }
 
-/// The operational key, and the other one under the second transport key.
+/// The operational key, and the other one under the second transport key. A second fill would fail.
 #[test]
 fn pairs_with_an_operational_key(rt: HostRuntime) -> Result<(), Fail> {
     let mut bench = Workbench::new();
@@ -594,6 +596,7 @@ fn pairs_with_an_operational_key(rt: HostRuntime) -> Result<(), Fail> {
     let exporter = transport(&rt, &held, &EXPORTER);
     let importer = transport(&rt, &held, &IMPORTER);
     let mut entropy = MemoryEntropy::new(rt.alloc(), &RANDOM)?;
+    entropy.fail_at(1);
     let made = generate(
         &mut lease,
         &held,
@@ -607,6 +610,7 @@ fn pairs_with_an_operational_key(rt: HostRuntime) -> Result<(), Fail> {
     );
     assert_eq!(rt; made.ok(), pair_of(&MAC, &MACVER_EXPORTED));
     let mut entropy = MemoryEntropy::new(rt.alloc(), &RANDOM)?;
+    entropy.fail_at(1);
     let made = generate(
         &mut lease,
         &held,
@@ -622,7 +626,7 @@ fn pairs_with_an_operational_key(rt: HostRuntime) -> Result<(), Fail> {
     Ok(())
 }
 
-/// Both keys under transport keys, the first one under the first.
+/// Both keys under transport keys, the first one under the first. A second fill would fail.
 #[test]
 fn pairs_without_an_operational_key(rt: HostRuntime) -> Result<(), Fail> {
     let mut bench = Workbench::new();
@@ -631,6 +635,7 @@ fn pairs_without_an_operational_key(rt: HostRuntime) -> Result<(), Fail> {
     let exporter = transport(&rt, &held, &EXPORTER);
     let importer = transport(&rt, &held, &IMPORTER);
     let mut entropy = MemoryEntropy::new(rt.alloc(), &RANDOM)?;
+    entropy.fail_at(1);
     let made = generate(
         &mut lease,
         &held,
@@ -644,6 +649,7 @@ fn pairs_without_an_operational_key(rt: HostRuntime) -> Result<(), Fail> {
     );
     assert_eq!(rt; made.ok(), pair_of(&MACVER_IMPORTABLE, &MAC_EXPORTED));
     let mut entropy = MemoryEntropy::new(rt.alloc(), &RANDOM)?;
+    entropy.fail_at(1);
     let made = generate(
         &mut lease,
         &held,
@@ -657,6 +663,7 @@ fn pairs_without_an_operational_key(rt: HostRuntime) -> Result<(), Fail> {
     );
     assert_eq!(rt; made.ok(), pair_of(&DATA_EXPORTED, &DATA_IMPORTABLE));
     let mut entropy = MemoryEntropy::new(rt.alloc(), &RANDOM)?;
+    entropy.fail_at(1);
     let made = generate(
         &mut lease,
         &held,

@@ -47,7 +47,7 @@ fn write_external(lease: &mut Lease, vector: &Vector) -> [u8; 64]
 
 /// Writes the external token of the key in the place `Key`, of the length that the vector says, under the clear key of a
 /// judged transport key. Only the place `First` and the schedules of the lease change.
-pub(crate) fn write_under(lease: &mut Lease, transport: &Judged, vector: &Vector) -> [u8; 64]
+pub fn write_under(lease: &mut Lease, transport: &Judged, vector: &Vector) -> [u8; 64]
     requires { IsDouble transport.now }
     ensures token { let bench = bench_of lease.old in
         result ≡ external_token (opened bench transport.now).key (key_with bench vector.now) }
