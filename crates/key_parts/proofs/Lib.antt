@@ -1,0 +1,3 @@
+pub mod XorLemmas
+pub mod TypeLemmas
+pub mod PartLemmas

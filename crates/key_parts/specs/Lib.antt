@@ -1,0 +1,13 @@
+pub mod Parts
+pub mod Changes
+pub use Rattle.byte_lists.specs.Bytes
+pub use Rattle.cca_vectors.specs.PartVectors
+pub use Rattle.key_cells.specs.Bench
+pub use Rattle.key_cells.specs.Lease
+pub use Rattle.key_tokens.specs.Denotes
+pub use Rattle.key_transport.specs.Generated
+pub use Rattle.key_transport.specs.Tokens
+pub use Rattle.master_registers.specs.Loaded
+pub use Rattle.multi_encipher.specs.Bundles
+pub use Rattle.verb_rules.specs.KeyChecks
+pub use Rattle.verb_rules.specs.Keys
