@@ -4,8 +4,7 @@ use Rattle.std.specs.Prelude.{Result, Err, OnOk, OnErr, is_some, Bool, false, by
 use Rattle.std.specs.List.{list_any}
 use Rattle.key_cells.specs.Lease.{bench_of, holding}
 use Rattle.key_cells.specs.declared.leases.Lease.{Lease}
-use Rattle.slot_disk.specs.Cells.{body, IsReplaced, IsReplacing, IsUntouched}
-use Rattle.slot_disk.specs.declared.cell.TheConstants.{CELL_LEN}
+use Rattle.slot_disk.specs.Cells.{cell_size, body, IsReplaced, IsReplacing, IsUntouched}
 use Rattle.slot_disk.specs.Faults.{Rose}
 use Rattle.slot_disk.specs.Medium.{Medium, IsSettled, Told, From, Becomes, EachImage}
 use Rattle.slot_disk.specs.Ranges.{SameOutside}
@@ -58,7 +57,7 @@ pub record ReplacesBody (cell : ℕ) (bytes : List ℕ) (old new : Medium)
 -- outside the cell has changed, and of the cell at most the selector and the body that wasn't selected.
 pub record HoldsEither (masters : MasterKeys) (cell : ℕ) (s next : List (Option Entry))
     (old new : List ℕ) : Type 0 where
-  pub outside : SameOutside (CELL_LEN * cell) CELL_LEN old new
+  pub outside : SameOutside (cell_size * cell) cell_size old new
   pub others : (n : ℕ) → n ≢ cell → body new n ≡ body old n
   pub untouched : (k : ℕ) → IsUntouched old cell k → slice_index new k ≡ slice_index old k
   pub stands : StandsForLabels masters new s ⊎ StandsForLabels masters new next

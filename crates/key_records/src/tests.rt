@@ -522,6 +522,24 @@ fn damaged_cells(rt: HostRuntime) -> Result<(), Fail> {
     Ok(())
 }
 
+/// The record of a label is read by two reads of its cell. Neither is made twice, also where it fails.
+#[test]
+fn a_record_is_read_once(rt: HostRuntime) -> Result<(), Fail> {
+    let alloc = rt.alloc();
+    let key = label(b"KEY")?;
+    let [token, _, _] = tokens();
+    let failed = Ok(Err(RecordFault::DiskFault));
+    // Six calls put the record, and two reads for each of 1,024 cells open the store.
+    for (call, wanted) in [(2054, failed), (2055, failed), (2056, Ok(Ok(Some(token))))] {
+        let mut store = MemoryDisk::new(alloc, STORE_LEN, 10)?;
+        put(&mut store, 0, &body_of(2, b"KEY", &token))?;
+        store.fail_at(call);
+        assert!(rt; store.size() == STORE_LEN);
+        assert!(rt; shown(alloc, &mut store, &key) == wanted, "at call {call}");
+    }
+    Ok(())
+}
+
 /// A fault at each call leaves the labels before or after.
 #[test]
 fn a_fault_at_each_call(rt: HostRuntime) -> Result<(), Fail> {
@@ -546,6 +564,8 @@ fn a_fault_at_each_call(rt: HostRuntime) -> Result<(), Fail> {
         (2051, failed, Err(Stop::Unknown)),
         (2052, failed, Err(Stop::Unknown)),
         (2053, failed, Ok(Ok(None))),
+        // it made no further call
+        (2054, Ok(()), Err(Stop::Open(RecordFault::DiskFault))),
     ] {
         let mut store = MemoryDisk::new(alloc, STORE_LEN, 20)?;
         store.fail_at(call);

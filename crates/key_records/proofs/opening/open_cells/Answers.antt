@@ -58,7 +58,7 @@ pub returns-in-Err-clause-exact : goal.returns-in-Err-clause-exact
 returns-in-Err-clause-exact g c fell =
     ⊎_elim
     (λ (failed : c.in-Err.fault ≡ DiskFault). absurd (fell (rose_wider (g.D.Disk.faults c.args.store.now) (g.D.Disk.faults c.loop-cell.store) (g.D.Disk.faults c.open_cell.new.store) (g.D.Disk.faults c.open_cell.new.store) c.loop-cell.invariant.later
-    (c.open_cell.ensures.cause.failed (c.in-Err.is ∙ ap (λ f. Err f) failed)) (omega arith))))
+    c.open_cell.ensures.cause.later (omega arith) (c.open_cell.ensures.cause.failed (c.in-Err.is ∙ ap (λ f. Err f) failed)))))
     (λ (damaged : c.in-Err.fault ≡ Damaged c.loop-cell.cell).
     told_map (g.D.Disk.medium c.args.store.now) (λ image. IsFirstDamaged (keys_of g.m) image c.loop-cell.cell) _ (returns-in-Err-clause-damaged g c c.loop-cell.cell (ap (λ f. Err f) damaged))
     (λ image first n other. ap (λ f. Err f) (damaged ∙ ap (λ k. Damaged k) (first_one (keys_of g.m) image c.loop-cell.cell n first other))))
