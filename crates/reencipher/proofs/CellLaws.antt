@@ -4,13 +4,15 @@ use Rattle.std.specs.Prelude.{slice_index, slice_range}
 use Rattle.std.proofs.lemmas.Bool.{cases_lt}
 use Rattle.std.proofs.lemmas.Grind.{same_number_lists}
 use Rattle.slot_disk.specs.Cells.{selected, body_place, body_at, body, other_body, IsUntouched}
+use Rattle.slot_disk.specs.SpareBytes.{Turned}
 use Rattle.slot_disk.proofs.CellSteps.{length-range, get_or-range, selected_below}
+use Rattle.slot_disk.proofs.SpareLemmas.{same_spare_then, spare_untouched}
 use Rattle.key_records.specs.Ages.{is_old_entry}
 use Rattle.key_records.specs.Entries.{Entry}
 use Rattle.key_tokens.specs.Denotes.{MasterKeys}
 use Rattle.reencipher.specs.Further.{further}
-use Rattle.reencipher.specs.Runs.{IsOld, LeavesRest, LeavesOld}
-use Rattle.reencipher.specs.Turns.{HoldsTurn, LeavesOther}
+use Rattle.reencipher.specs.Runs.{IsOld, LeavesCells, LeavesRest, LeavesOld}
+use Rattle.reencipher.specs.Turns.{HoldsTurn, LeavesOther, LeavesCell, StaysOrTurns}
 use Rattle.reencipher.proofs.FurtherLaws.{further_here}
 
 -- ---- a cell whose bytes stay
@@ -52,25 +54,62 @@ higher_cells image cell n k below at = (λ same. omega (arith, same, below, at),
 abbrev untouched_by : ℕ → ℕ → ℕ → Type 0
 untouched_by side n k = (k ≢ 1536 * n) × ((k < 1536 * n + 512 * (1 + (1 - side))) ⊎ (1536 * n + 512 * (1 + (1 - side)) + 192 ≤ k))
 
-pub leaves_none : (s : List (Option Entry)) (image : List ℕ) → LeavesRest s 0 image image
-leaves_none s image = record { size = refl; same = λ k untouched. refl }
+pub leaves_none : (P : ℕ → Type 0) (image : List ℕ) → LeavesCells P 0 image image
+leaves_none P image = record { size = refl; same = λ k untouched. refl }
 
 pub leaves_no_old : (s : List (Option Entry)) (image : List ℕ) → LeavesOld s 0 image image
 leaves_no_old s image n below = absurd (omega (arith, below))
 
 -- a run so far, and one cell's turn
+module _ (P : ℕ → Type 0) (cell : ℕ) (b c d : List ℕ) (first : LeavesCells P cell b c) (turn : LeavesCell (P cell) cell c d) where
+  at_cell : (k : ℕ) → 1536 * cell ≤ k → k < 1536 * cell + 1536 → slice_index c k ≡ slice_index b k
+  at_cell k at below = first.same k (λ n under old. lower_cells b cell n k under at)
+
+  pub leaves_next : LeavesCells P (cell + 1) b d
+  leaves_next = record {
+    size = turn.size ∙ first.size;
+    same = λ k untouched.
+        turn.same k (λ old. subst (λ side. untouched_by side cell k) (sym (stays_selected b c cell first.size at_cell))
+        (untouched cell (omega arith) old))
+        ∙ first.same k (λ n below. untouched n (omega (arith, below)));
+  }
+
+  lower_stays : (n : ℕ) → n < cell → (k : ℕ) → 1536 * n ≤ k → k < 1536 * n + 1536 → slice_index d k ≡ slice_index c k
+  lower_stays n under k at within = turn.same k (λ now. higher_cells c cell n k under within)
+
+  -- the cells below stay as they are, and this one was as it was
+  pub turned_next : Turned cell b c → StaysOrTurns cell c d → Turned (cell + 1) b d
+  turned_next so_far here = record {
+    same = same_spare_then b c d so_far.same (record { size = turn.size; spare = λ k is. turn.same k (λ may. spare_untouched c cell k is) });
+    cells = λ n below. ⊎_elim
+        (λ (under : n < cell). ⊎_elim
+        (λ same. inl (λ k within. lower_stays n under (1536 * n + k) (omega arith) (omega (arith, within)) ∙ same k within))
+        (λ turned. inr (
+          subst (λ (v : ℕ). v < 2) (sym (lower_stays n under (1536 * n) (omega arith) (omega arith))) turned.0,
+          stays_other c d n turn.size (lower_stays n under) ∙ turned.1,
+        ))
+        (so_far.cells n under))
+        (λ (above : cell ≤ n).
+        let is : cell ≡ n = omega (arith, below, above) in
+        subst (λ m. StaysOrTurns m b d) is (⊎_elim
+        (λ same. inl (λ k within. same k within ∙ at_cell (1536 * cell + k) (omega arith) (omega (arith, within))))
+        (λ turned. inr (turned.0, turned.1 ∙ stays_body b c cell first.size at_cell))
+        here))
+        (cases_lt n cell);
+  }
+
+pub leaves_weaker : (P Q : Type 0) (cell : ℕ) (old new : List ℕ) → (P → Q) → LeavesCell P cell old new → LeavesCell Q cell old new
+leaves_weaker P Q cell old new weaker leaves = record { size = leaves.size; same = λ k untouched. leaves.same k (λ p. untouched (weaker p)) }
+
 module _ (masters : MasterKeys) (s : List (Option Entry)) (cell : ℕ) (b c d : List ℕ) (first : LeavesRest s cell b c) (turn : HoldsTurn masters cell (further s cell) c d) where
   in_cell : (k : ℕ) → 1536 * cell ≤ k → k < 1536 * cell + 1536 → slice_index c k ≡ slice_index b k
   in_cell k at below = first.same k (λ n under old. lower_cells b cell n k under at)
 
   pub leaves_more : LeavesRest s (cell + 1) b d
-  leaves_more = record {
-    size = turn.size ∙ first.size;
-    same = λ k untouched.
-        turn.same k (λ old. subst (λ side. untouched_by side cell k) (sym (stays_selected b c cell first.size in_cell))
-        (untouched cell (omega arith) (sym (ap is_old_entry (further_here s cell)) ∙ old)))
-        ∙ first.same k (λ n below. untouched n (omega (arith, below)));
-  }
+  leaves_more = leaves_next (IsOld s) cell b c d first (record {
+    size = turn.size;
+    same = λ k untouched. turn.same k (λ old. untouched (sym (ap is_old_entry (further_here s cell)) ∙ old));
+  })
 
   pub leaves_more_old : LeavesOld s cell b c → LeavesOther cell (further s cell) c d → LeavesOld s (cell + 1) b d
   leaves_more_old so_far here n below old = ⊎_elim
@@ -81,5 +120,5 @@ module _ (masters : MasterKeys) (s : List (Option Entry)) (cell : ℕ) (b c d : 
       (here (ap is_old_entry (further_here s cell) ∙ subst (IsOld s) is old) ∙ stays_body b c cell first.size in_cell))
       (cases_lt n cell)
 
-pub leaves_all : (s : List (Option Entry)) (cells : ℕ) (old new : List ℕ) → cells ≤ 1024 → LeavesRest s cells old new → LeavesRest s 1024 old new
-leaves_all s cells old new within rest = record { size = rest.size; same = λ k untouched. rest.same k (λ n below. untouched n (omega (arith, below, within))) }
+pub leaves_all : (P : ℕ → Type 0) (cells : ℕ) (old new : List ℕ) → cells ≤ 1024 → LeavesCells P cells old new → LeavesCells P 1024 old new
+leaves_all P cells old new within rest = record { size = rest.size; same = λ k untouched. rest.same k (λ n below. untouched n (omega (arith, below, within))) }

@@ -4,7 +4,7 @@ use Rattle.std.specs.Prelude.{IsSome, IfSome}
 use Rattle.key_cells.specs.Lease.{bench_of, holding}
 use Rattle.key_cells.specs.declared.leases.Lease.{Lease}
 use Rattle.slot_disk.specs.Medium.{Medium, Told, IsSettled, From, Becomes, EachImage}
-use Rattle.slot_disk.proofs.Media.{told_from, told_at, each_weaker, each_still, goes_on, becomes_same, becomes_then}
+use Rattle.slot_disk.proofs.Media.{told_from, told_at, each_weaker, each_still, goes_on, becomes_same, becomes_both, becomes_then}
 use Rattle.key_tokens.specs.Denotes.{MasterKeys, HaveDistinctPatterns}
 use Rattle.key_records.specs.Ages.{is_old_entry}
 use Rattle.key_records.specs.Entries.{Entry}
@@ -13,7 +13,7 @@ use Rattle.key_records.specs.declared.faults.RecordFault.{RecordFault}
 use Rattle.key_records.specs.declared.rows.Row.{Row}
 use Rattle.key_records.proofs.OneBody.{one_body}
 use Rattle.reencipher.specs.Further.{further, old_count}
-use Rattle.reencipher.specs.Runs.{LeavesOld, LeavesRest, IsOnTheWay, Reenciphers, ChangesKeyAndBody}
+use Rattle.reencipher.specs.Runs.{IsOld, LeavesOld, LeavesRest, IsOnTheWay, Reenciphers, ChangesKeyAndBody}
 use Rattle.reencipher.specs.Turns.{renewed_at, HoldsTurn, LeavesOther, RenewsCell}
 use Rattle.reencipher.proofs.CellLaws.{leaves_none, leaves_no_old, leaves_more, leaves_more_old, leaves_all}
 use Rattle.reencipher.proofs.FurtherLaws.{further_none, further_next, length-further, old_all, old_step}
@@ -27,7 +27,7 @@ module _ (masters : MasterKeys) (apart : HaveDistinctPatterns masters) (s : List
     within = within;
     stands = stands;
     bodies = λ n below. one_body masters apart _ (entry_at (further s cells) n) (stands.reads n below);
-    rest = leaves_all s cells old new within rest;
+    rest = leaves_all (IsOld s) cells old new within rest;
   }
 
   turn_on_the_way : (cell : ℕ) (b c d : List ℕ) → cell < 1024 → LeavesRest s cell b c → HoldsTurn masters cell (further s cell) c d → IsOnTheWay masters s b d
@@ -35,7 +35,7 @@ module _ (masters : MasterKeys) (apart : HaveDistinctPatterns masters) (s : List
       let more = leaves_more masters s cell b c d first turn in
       ⊎_elim
       (λ (was : StandsForLabels masters d (further s cell)).
-      record { cells = cell; within = omega (arith, within); stands = was; bodies = λ n below. one_body masters apart _ (entry_at (further s cell) n) (was.reads n below); rest = leaves_all s (cell + 1) b d (omega (arith, within)) more })
+      record { cells = cell; within = omega (arith, within); stands = was; bodies = λ n below. one_body masters apart _ (entry_at (further s cell) n) (was.reads n below); rest = leaves_all (IsOld s) (cell + 1) b d (omega (arith, within)) more })
       (λ (after : StandsForLabels masters d (renewed_at cell (further s cell))).
       on_the_way (cell + 1) b d (omega (arith, within)) (subst (StandsForLabels masters d) (sym (further_next s cell)) after) more)
       turn.stands
@@ -58,21 +58,6 @@ told_as m P X told weaker = told_from m.content (λ _. X) (λ c is. weaker c (to
 abbrev pub LeavesSoFar : List (Option Entry) → ℕ → List ℕ → List ℕ → Type 0
 LeavesSoFar s cell old new = LeavesRest s cell old new × LeavesOld s cell old new
 
--- two steps from one content
-becomes_both : (m0 m1 : Medium) (one two : List ℕ → List ℕ → Type 0) → Becomes one m0 m1 → Becomes two m0 m1 → Becomes (λ b c. one b c × two b c) m0 m1
-becomes_both m0 m1 one two first second = record {
-  size = first.size;
-  told = λ c is.
-      let a = first.told c is in
-      let b = second.told c is in
-      let same : b.0 ≡ a.0 = some_one (sym b.1 ∙ a.1) in
-      (a.0, a.1, (a.2, subst (λ d. two d c) same b.2));
-  still = first.still;
-}
-  where
-    some_one : {x y : List ℕ} → Some x ≡ Some y → x ≡ y
-    some_one is = cc is
-
 -- every label in a cell below is current, and the number of those that were old is counted
 pub record Reaches (masters : MasterKeys) (s : List (Option Entry)) (cell changed : ℕ) (rows : List (Option Row)) (m0 m1 : Medium) : Type 0 where
   pub keeps : Told m1 (KeepsLabels masters rows (further s cell))
@@ -85,13 +70,13 @@ module _ (masters : MasterKeys) (apart : HaveDistinctPatterns masters) (s : List
   reaches_start rows m settled told = record {
     keeps = subst (λ (t : List (Option Entry)). Told m (KeepsLabels masters rows t)) (sym (further_none s)) told;
     count = told_as m (KeepsLabels masters rows s) (0 + old_count (further s 0) ≡ old_count s) told (λ c keeps. omega (arith, ap old_count (further_none s)));
-    rest = becomes_same m m (LeavesSoFar s 0) refl refl (λ c. (leaves_none s c, leaves_no_old s c));
+    rest = becomes_same m m (LeavesSoFar s 0) refl refl (λ c. (leaves_none (IsOld s) c, leaves_no_old s c));
     moments = each_weaker m m m.images (From (IsOnTheWay masters s) m) (each_still m) (λ c image.
         let is = settled.only c image in (
           c,
           is,
           on_the_way masters apart s 0 c c (omega arith)
-              (subst (StandsForLabels masters c) (sym (further_none s)) (told_at m.content (KeepsLabels masters rows s) c is told).stands) (leaves_none s c),
+              (subst (StandsForLabels masters c) (sym (further_none s)) (told_at m.content (KeepsLabels masters rows s) c is told).stands) (leaves_none (IsOld s) c),
         ));
   }
 

@@ -2,6 +2,7 @@
 use Rattle.std.proofs.Common.{◌≡◌, ◌-◌, ℕ, Bool, true, false, List, Option, None, Some, take, replicate, sym, ap, subst, ◌∙◌, arith}
 use Rattle.std.specs.Prelude.{if◌then◌else◌, option_map}
 use Rattle.std.proofs.lemmas.List.{take_at}
+use Rattle.std.proofs.lemmas.Slice.Eq.{bytes_eq-Decides}
 use Rattle.cca_vectors.specs.Checks.{first_failing}
 use Rattle.cca_vectors.specs.Vectors.{length_of}
 use Rattle.key_cells.specs.Bench.{Bench}
@@ -15,6 +16,7 @@ use Rattle.key_tokens.specs.TokenChecks.{token_checks}
 use Rattle.key_records.specs.Ages.{has_old_key}
 use Rattle.master_registers.specs.Loaded.{Loaded}
 use Rattle.master_registers.specs.Masters.{Masters}
+use Rattle.master_registers.specs.declared.patterns.Pattern.{Pattern}
 use Rattle.master_registers.specs.declared.registers.Registers.{Registers}
 use Rattle.multi_encipher.specs.Bundles.{ChangesKeyAt, key_in, with_zeros}
 use Rattle.multi_encipher.specs.Seals.{IsKey}
@@ -37,6 +39,11 @@ module _ (held : Registers) (pattern : List ℕ) where
   register_old b other is =
       ap (λ t. if t then Some Current else from_old (has_pattern held.old_pattern pattern)) (sym other)
       ∙ ap from_old (sym is)
+
+-- a full register with this pattern
+pub pattern_is : (register : Option Pattern) (bytes : List ℕ) → has_pattern register bytes ≡ true → register ≡ Some (record { bytes = bytes })
+pattern_is None bytes is = cc is
+pattern_is (Some pattern) bytes is = ap (λ b. let p : Pattern = record { bytes = b } in Some p) (sym ((bytes_eq-Decides bytes pattern.bytes).0 is))
 
 -- a token that was read, by the register that has its pattern
 module _ (m : Masters) (held : Registers) (bench : Bench) (bytes : List ℕ) (token : Token) (loaded : Loaded m held bench)

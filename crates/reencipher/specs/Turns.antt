@@ -2,6 +2,7 @@
 use Rattle.std.specs.Prelude.{◌≡◌, ◌⊎◌, ℕ, Bool, List, Option, set, slice_index, length, Result, OnOk, OnErr, IfOk}
 use Rattle.slot_disk.specs.Cells.{body, other_body, IsUntouched}
 use Rattle.slot_disk.specs.Medium.{Medium, Told, From, Becomes, EachImage}
+use Rattle.slot_disk.specs.SpareBytes.{SameCell, HasTurned}
 use Rattle.key_tokens.specs.Denotes.{MasterKeys}
 use Rattle.key_records.specs.Ages.{is_old_entry}
 use Rattle.key_records.specs.Entries.{Entry}
@@ -20,6 +21,21 @@ pub record HoldsTurn (masters : MasterKeys) (cell : ℕ) (s : List (Option Entry
   pub size : length new ≡ length old
   pub same : (k : ℕ) → (IsOld s cell → IsUntouched old cell k) → slice_index new k ≡ slice_index old k
   pub stands : StandsForLabels masters new s ⊎ StandsForLabels masters new (renewed_at cell s)
+
+-- no byte has changed but, where P holds, the selector of the cell and those of the body that wasn't selected
+pub record LeavesCell (P : Type 0) (cell : ℕ) (old new : List ℕ) : Type 0 where
+  pub size : length new ≡ length old
+  pub same : (k : ℕ) → (P → IsUntouched old cell k) → slice_index new k ≡ slice_index old k
+
+abbrev pub StaysOrTurns : ℕ → List ℕ → List ℕ → Type 0
+StaysOrTurns cell old new = SameCell cell old new ⊎ HasTurned cell old new
+
+-- of the bytes of the store, where P says that the cell may turn
+pub record TurnsCell (P : Type 0) (cell : ℕ) (old new : Medium) (result : Result Bool RecordFault)
+    : Type 0 where
+  pub turned : OnOk result (Becomes (StaysOrTurns cell) old new)
+  pub either : Becomes (LeavesCell P cell) old new
+  pub moments : EachImage old new (From (LeavesCell P cell) old)
 
 -- the body that was selected stands on the other side, where the label was old
 abbrev pub LeavesOther : ℕ → List (Option Entry) → List ℕ → List ℕ → Type 0

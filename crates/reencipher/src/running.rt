@@ -6,7 +6,7 @@ ghost use Rattle.key_records.specs.StoreStands.{HoldsRows, KeepsLabels};
 ghost use Rattle.key_records.specs.declared.records.TheConstants.{STORE_LEN};
 ghost use Rattle.master_registers.specs.Loaded.{IsLoaded, Loaded};
 ghost use Rattle.master_registers.specs.Masters.{Masters};
-ghost use Rattle.reencipher.specs.Runs.{Reenciphers, HasRunCause, ChangesKeyAndBody};
+ghost use Rattle.reencipher.specs.Runs.{Reenciphers, TurnsCells, HasRunCause, ChangesKeyAndBody};
 ghost use Rattle.slot_disk.specs.Medium.{Told, IsSettled};
 ghost use Rattle.verb_rules.specs.Keys.{keys_of};
 
@@ -40,6 +40,10 @@ pub fn reencipher<D: Disk>(
         → Loaded m held.now (bench_of lease.old)
         → Told (D.medium store.old) (KeepsLabels (keys_of m) records.old s)
         → Reenciphers (keys_of m) s records.new
+        (D.medium store.old) (D.medium store.new) result }
+
+    // the labels that the memory knows, also those under neither register
+    ensures cells { TurnsCells held.now records.old records.new
         (D.medium store.old) (D.medium store.new) result }
 
     // whatever the store holds

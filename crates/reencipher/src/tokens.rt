@@ -5,6 +5,7 @@ ghost use Rattle.key_cells.specs.Bench.{Bench};
 ghost use Rattle.key_cells.specs.Lease.{bench_of};
 ghost use Rattle.key_records.specs.Ages.{has_old_key};
 ghost use Rattle.key_tokens.specs.Denotes.{denoted};
+ghost use Rattle.key_tokens.specs.Fields.{pattern_of_token};
 ghost use Rattle.key_tokens.specs.declared.key_token.Age.{Age};
 ghost use Rattle.master_registers.specs.Loaded.{Loaded};
 ghost use Rattle.master_registers.specs.Masters.{Masters};
@@ -27,6 +28,8 @@ fn old_key(token: &[u8; 64], held: &Registers) -> Option<Judged>
         → IfSome result (λ key. denoted (keys_of m) token.now ≡ opened_key bench key) }
     ensures old { (m : Masters) (bench : Bench) → Loaded m held.now bench
         → is_some result ≡ has_old_key (denoted (keys_of m) token.now) }
+    ensures pattern { IfSome result (λ _.
+        held.now.old_pattern ≡ Some (record { bytes = pattern_of_token token.now })) }
 {
     let token = match read_token(token, Asked::Internal) {
         Ok(token) => token,
@@ -64,6 +67,8 @@ pub(crate) fn renewed_token(
         denoted (keys_of m) new ≡ under_current (denoted (keys_of m) token.now)) }
     ensures old { (m : Masters) → Loaded m held.now (bench_of lease.old)
         → is_some result ≡ has_old_key (denoted (keys_of m) token.now) }
+    ensures pattern { IfSome result (λ _.
+        held.now.old_pattern ≡ Some (record { bytes = pattern_of_token token.now })) }
     ensures stays { ChangesKeyAt KeyPlace.Key lease.old lease.new }
 {
     let key = match old_key(token, held) {

@@ -1,5 +1,5 @@
 //! One cell's turn: its label under the old master key becomes the same key under the current one.
-ghost use Rattle.std.specs.Prelude.{◌≡◌, ◌⊎◌, ◌<◌, ℕ, List, Option, Some, Result, Err, IfErr, IfSome, IsSome, IsNone, OnOk, None};
+ghost use Rattle.std.specs.Prelude.{◌≡◌, ◌≢◌, ◌⊎◌, ◌<◌, get_or, ℕ, List, Option, Some, Result, Err, IfErr, IfSome, IsSome, IsNone, OnOk, None};
 ghost use Rattle.key_cells.specs.Lease.{bench_of};
 ghost use Rattle.key_records.specs.Directory.{label_at};
 ghost use Rattle.key_records.specs.Entries.{Entry, row_directory};
@@ -7,8 +7,8 @@ ghost use Rattle.key_records.specs.StoreStands.{HoldsRows, KeepsLabels};
 ghost use Rattle.key_records.specs.declared.records.TheConstants.{STORE_LEN};
 ghost use Rattle.master_registers.specs.Loaded.{IsLoaded, Loaded};
 ghost use Rattle.master_registers.specs.Masters.{Masters};
-ghost use Rattle.reencipher.specs.Runs.{HasRunCause, ChangesKeyAndBody};
-ghost use Rattle.reencipher.specs.Turns.{RenewsCell};
+ghost use Rattle.reencipher.specs.Runs.{IsOldRow, HasRunCause, ChangesKeyAndBody};
+ghost use Rattle.reencipher.specs.Turns.{RenewsCell, TurnsCell};
 ghost use Rattle.slot_disk.specs.Medium.{Told, IsSettled};
 ghost use Rattle.verb_rules.specs.Keys.{keys_of};
 
@@ -56,6 +56,12 @@ pub(crate) fn renew_cell<D: Disk>(
         → Told (D.medium store.old) (KeepsLabels (keys_of m) records.old s)
         → RenewsCell (keys_of m) cell s records.old records.new
         (D.medium store.old) (D.medium store.new) result }
+    ensures turns { TurnsCell (IsOldRow held.now records.old cell) cell
+        (D.medium store.old) (D.medium store.new) result }
+    ensures row { Told (D.medium store.old) (λ _. (IsOldRow held.now records.old cell → ⊥)
+        → get_or records.new cell None ≡ get_or records.old cell None) }
+    ensures others { (n : ℕ) → n ≢ cell
+        → get_or records.new n None ≡ get_or records.old n None }
     ensures size { (D.medium store.new).size ≡ STORE_LEN }
     ensures settled { OnOk result (IsSettled (D.medium store.new)) }
     ensures still { IsSome (D.medium store.old).content → IsSome (D.medium store.new).content }

@@ -3,7 +3,8 @@ use mir.Val.{bool_byte}
 use Rattle.clear_keys.proofs.TokenLemmas.{keys_apart}
 use Rattle.verb_rules.specs.Keys.{keys_of}
 use Rattle.reencipher.specs.Further.{further}
-use Rattle.reencipher.specs.Runs.{Reenciphers}
+use Rattle.reencipher.specs.Runs.{Reenciphers, TurnsCells}
+use Rattle.reencipher.proofs.RowLaws.{turned_start, turned_on, turns_ended, turns_whole}
 use Rattle.reencipher.proofs.RunLaws.{Reaches, reaches_start, reaches_next, ends_at, ends_whole, changes_none, changes_more}
 use Rattle.reencipher.proofs.TurnLaws.{loaded_turn}
 use Rattle.reencipher.proofs.running.reencipher.Goals as goal
@@ -19,6 +20,7 @@ byte_low false = omega arith
 pub loop-cell-init : goal.loop-cell-init
 loop-cell-init g c = record {
   labels = λ m s loaded told. reaches_start (keys_of m) (keys_apart m loaded.valid) s c.args.records.now (g.D.Disk.medium c.args.store.now) c.requires.settled told;
+  cells = turned_start c.args.held.now c.args.records.now (g.D.Disk.medium c.args.store.now) c.requires.settled;
   size = c.requires.size;
   settled = c.requires.settled;
   still = λ some. some;
@@ -55,6 +57,9 @@ loop-cell-preserved g c = record {
       (sym (c.from-changed.ensures ∙ byte_is c.in_ok-renewed.renewed))
       (reaches_next (keys_of m) (keys_apart m loaded.valid) s c.loop-cell.cell c.loop-cell.changed c.loop-cell.records c.renew_cell.new.records m0 m1 m2 c.loop-cell-test.true so_far
       c.in_ok-renewed.renewed (c.in_ok-renewed.ensures.renews m (further s c.loop-cell.cell) now so_far.keeps));
+  cells = turned_on c.args.held.now c.args.records.now c.loop-cell.cell c.loop-cell.records c.renew_cell.new.records
+      (g.D.Disk.medium c.args.store.now) (g.D.Disk.medium c.loop-cell.store) (g.D.Disk.medium c.renew_cell.new.store) c.loop-cell-test.true c.loop-cell.invariant.cells
+      c.renew_cell.ensures.others c.renew_cell.ensures.row c.in_ok-renewed.renewed c.in_ok-renewed.ensures.turns;
   size = c.renew_cell.ensures.size;
   settled = c.in_ok-renewed.ensures.settled;
   still = λ some. c.renew_cell.ensures.still (c.loop-cell.invariant.still some);
@@ -71,3 +76,19 @@ returns-clause-labels g c m s loaded told =
     let all : c.loop-cell.cell ≡ 1024 = search rules in
     ends_whole (keys_of m) (keys_apart m loaded.valid) s c.loop-cell.cell c.loop-cell.changed c.loop-cell.records (g.D.Disk.medium c.args.store.now) (g.D.Disk.medium c.loop-cell.store) all
     (c.loop-cell.invariant.labels m s loaded told)
+
+pub returns-in_err-renewed-clause-cells : goal.returns-in_err-renewed-clause-cells
+returns-in_err-renewed-clause-cells g c =
+    let m0 = g.D.Disk.medium c.args.store.now in
+    let m2 = g.D.Disk.medium c.renew_cell.new.store in
+    let failed : c.from_residual.result ≡ Err c.in_err-renewed.field-0.0 = search rules in
+    subst (λ r. TurnsCells c.args.held.now c.args.records.now c.renew_cell.new.records m0 m2 r) (sym failed)
+    (turns_ended c.args.held.now c.args.records.now c.loop-cell.cell c.loop-cell.records c.renew_cell.new.records
+    m0 (g.D.Disk.medium c.loop-cell.store) m2 c.loop-cell-test.true c.loop-cell.invariant.cells
+    c.renew_cell.ensures.others c.renew_cell.ensures.row c.in_err-renewed.field-0.0 c.in_err-renewed.ensures.turns)
+
+pub returns-clause-cells : goal.returns-clause-cells
+returns-clause-cells g c =
+    let all : c.loop-cell.cell ≡ 1024 = search rules in
+    turns_whole c.args.held.now c.args.records.now c.loop-cell.cell c.loop-cell.changed c.loop-cell.records
+    (g.D.Disk.medium c.args.store.now) (g.D.Disk.medium c.loop-cell.store) all c.loop-cell.invariant.cells

@@ -10,6 +10,7 @@ use Rattle.master_registers.specs.Loaded.{Loaded}
 use Rattle.master_registers.specs.Masters.{Masters}
 use Rattle.verb_rules.specs.Keys.{keys_of}
 use Rattle.reencipher.specs.Runs.{ChangesKeyAndBody}
+use Rattle.reencipher.proofs.RowLaws.{HasTurnedTo}
 use Rattle.reencipher.proofs.RunLaws.{Reaches}
 use Rattle.reencipher.proofs.running.reencipher.Given as goal
 
@@ -17,6 +18,7 @@ abbrev pub invariant-loop-cell : goal.invariant-loop-cell
 invariant-loop-cell g l = record {
   labels : (m : Masters) (s : List (Option Entry)) → Loaded m l.held (bench_of l.fn.lease) → Told (g.D.Disk.medium l.fn.store) (KeepsLabels (keys_of m) l.fn.records s)
       → Reaches (keys_of m) s l.cell l.changed l.records (g.D.Disk.medium l.fn.store) (g.D.Disk.medium l.store);
+  cells : HasTurnedTo l.held l.fn.records l.cell l.records (g.D.Disk.medium l.fn.store) (g.D.Disk.medium l.store);
   size : (g.D.Disk.medium l.store).size ≡ STORE_LEN;
   settled : IsSettled (g.D.Disk.medium l.store);
   still : IsSome (g.D.Disk.medium l.fn.store).content → IsSome (g.D.Disk.medium l.store).content;
