@@ -1,6 +1,7 @@
 pub mod SendingLemmas
 pub mod LineLemmas
 pub mod SessionLemmas
+pub mod SpareLaws
 pub mod StopLemmas
 pub mod OpeningLemmas
 pub mod RunLemmas

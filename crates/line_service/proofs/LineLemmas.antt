@@ -1,9 +1,9 @@
 -- One line, as it is taken, answered and sent.
-use Rattle.std.proofs.Common.{◌≡◌, ℕ, zero, suc, ◌+◌, Bool, List, [], ◌∷◌, ◌++◌, length, Option, None, Some, Result, Ok, Err, refl, ap, sym, subst, inl, inr, arith}
+use Rattle.std.proofs.Common.{◌≡◌, ℕ, zero, suc, ◌+◌, Bool, List, [], ◌∷◌, ◌++◌, length, Option, None, Some, Result, Ok, Err, refl, ap, sym, subst, inl, inr, ⊎_elim, arith}
 use Rattle.std.specs.Prelude.{⊤, ◌⊎◌, OnOk, replicate}
 use Rattle.std.specs.Io.KnownBytes.{Consumes}
 use Rattle.std.proofs.KnownBytes.{Consumes-nil}
-use Rattle.slot_disk.specs.Medium.{Medium, EachImage, EachPair, IsSettled}
+use Rattle.slot_disk.specs.Medium.{Medium, From, EachImage, EachPair, IsSettled}
 use Rattle.slot_disk.specs.WhereTold.{WhereTold}
 use Rattle.slot_disk.proofs.Media.{each_weaker, each_still, each_pair, image_now, settled_image, told_from}
 use Rattle.slot_disk.proofs.WhereToldLemmas.{told_weaker}
@@ -14,13 +14,14 @@ use Rattle.script_buffers.specs.declared.lines.Taken.TheVariants.{Line, TooLong,
 use Rattle.line_service.specs.Machine.{Machine, World}
 use Rattle.line_service.specs.Sending.{GotPart}
 use Rattle.line_service.specs.Stops.{IsLineStop, IsDeskStop}
-use Rattle.line_service.specs.Answering.{Holds, Stands, Steps, Around, Both, Stays, Unwritten, Moves, Serves}
-use Rattle.line_service.specs.Serving.{IsTheLine, IsFrontOf, EachPairStands, StandsAround, LeadsOne, LosesLine, IsAroundLine, LineServed}
+use Rattle.line_service.specs.Answering.{Holds, Stands, Steps, Around, Both, Stays, Unwritten, Moves, WritesWithin, Turns, Serves}
+use Rattle.line_service.specs.Serving.{IsTheLine, IsFrontOf, EachPairStands, StandsAround, LeadsOne, LosesLine, IsAroundLine, IsWithinLine, KeepsSpare, LineServed}
 use Rattle.line_service.specs.declared.serving.Served.{Served}
 use Rattle.line_service.specs.declared.serving.Served.TheVariants.{Replied, Ended}
 use Rattle.line_service.specs.declared.stops.Stop.{Stop}
 use Rattle.line_service.specs.declared.stops.Stop.TheVariants.{WriteFault, ReadFault, InputLimit, Damaged}
 use Rattle.line_service.specs.declared.stops.Device.{Device}
+use Rattle.line_service.proofs.SpareLaws.{turns_still, within_still, spare_still, within_spare}
 
 -- ---- disks
 
@@ -99,6 +100,8 @@ module _ (A : Machine) (s : A.State) (K : A.State → Type 0) where
         stops = tt;
         undrawn = λ h. absurd (cc h);
         unwritten = λ h. unwritten_still w;
+        within = within_still A s line w m d;
+        turns = turns_still A w;
       }
 
   -- no line was answered
@@ -115,6 +118,11 @@ module _ (A : Machine) (s : A.State) (K : A.State → Type 0) where
         let stays = stays_still w stands m d in
         told_weaker a b _ _ (λ i r x. each_pair w.module_ w.module_ w.store w.store _ _ _ stays.on_module stays.on_store (λ c e h k. inl (h, k))) told
 
+    still_within : (May : List ℕ → List ℕ → List ℕ → Type 0) (old : Medium) → IsSettled old
+        → WhereTold a b (λ i r. EachImage old old (IsWithinLine May old (r0.pending ++ i)))
+    still_within May old settled =
+        told_weaker a b _ _ (λ i r x. each_weaker old old _ _ (each_still old) (λ c image. inl (settled.only c image))) told
+
     pub line_ended : LineServed A s K (Ok Ended) w w a b p q r0 r1
     line_ended = record {
       replied = λ h. absurd (cc h);
@@ -124,6 +132,10 @@ module _ (A : Machine) (s : A.State) (K : A.State → Type 0) where
       on_module = module_as_before;
       on_store = store_as_before;
       pairs = pairs_as_before;
+      within_module = still_within (A.ModuleMay s) w.module_ m;
+      within_store = still_within (A.StoreMay s) w.store d;
+      spare = spare_still w m d;
+      turns = λ h. absurd (⊎_elim (λ replied. cc replied) (λ cut. cc cut) h);
       goes_on = (s, stands);
     }
 
@@ -137,6 +149,10 @@ module _ (A : Machine) (s : A.State) (K : A.State → Type 0) where
       on_module = module_as_before;
       on_store = store_as_before;
       pairs = pairs_as_before;
+      within_module = still_within (A.ModuleMay s) w.module_ m;
+      within_store = still_within (A.StoreMay s) w.store d;
+      spare = spare_still w m d;
+      turns = λ h. absurd (⊎_elim (λ replied. cc replied) (λ cut. no_write (cc cut)) h);
       goes_on = tt;
     }
 
@@ -216,8 +232,32 @@ module _ (A : Machine) (s : A.State) (K : A.State → Type 0) where
         by_case ahead rest line first (inr stays) =
             each_pair old.module_ new.module_ old.store new.store _ _ _ stays.1.on_module stays.1.on_store (λ c d h k. inl (h, k))
 
+    within_line : (May : List ℕ → List ℕ → List ℕ → Type 0) (m0 m1 : Medium) → ((line : List ℕ) → IsTheLine taken now line → EachImage m0 m1 (From (May line) m0))
+        → (r0 : Reading) (a b : Option (List ℕ)) → WhereTold a b (λ i r. Takes taken (r0.pending ++ i) now (now.pending ++ r))
+        → WhereTold a b (λ i r. EachImage m0 m1 (IsWithinLine May m0 (r0.pending ++ i)))
+    within_line May m0 m1 within r0 a b takes =
+        told_weaker a b _ _
+        (λ i r took.
+        let here = line_taken taken (r0.pending ++ i) (now.pending ++ r) now some took in
+        each_weaker m0 m1 _ _ (within here.line here.is) (λ c from. inr (here.line, now.pending ++ r, here.takes.first, from)))
+        takes
+
+    within_module : (r0 : Reading) (a b : Option (List ℕ)) → WhereTold a b (λ i r. Takes taken (r0.pending ++ i) now (now.pending ++ r))
+        → WhereTold a b (λ i r. EachImage old.module_ new.module_ (IsWithinLine (A.ModuleMay s) old.module_ (r0.pending ++ i)))
+    within_module = within_line (A.ModuleMay s) old.module_ new.module_ (λ line is. (serves line is).within.on_module)
+
+    within_store : (r0 : Reading) (a b : Option (List ℕ)) → WhereTold a b (λ i r. Takes taken (r0.pending ++ i) now (now.pending ++ r))
+        → WhereTold a b (λ i r. EachImage old.store new.store (IsWithinLine (A.StoreMay s) old.store (r0.pending ++ i)))
+    within_store = within_line (A.StoreMay s) old.store new.store (λ line is. (serves line is).within.on_store)
+
+    keeps_spare : KeepsSpare old new
+    keeps_spare = let here = some_line taken now some in within_spare A s here.0 old new (serves here.0 here.1).within
+
   module _ (taken : Taken) (now : Reading) (some : taken ≡ End → ⊥) (reply : List ℕ) (old new : World) (u : Unit {0})
       (serves : (line : List ℕ) → IsTheLine taken now line → Serves A s K line (Ok u) reply old new) where
+    turned : Turns A old new
+    turned = let here = some_line taken now some in (serves here.0 here.1).turns
+
     goes_on : (t : A.State) × Stands A t K new.module_ new.store
     goes_on =
         let here = some_line taken now some in
@@ -251,6 +291,10 @@ module _ (A : Machine) (s : A.State) (K : A.State → Type 0) where
       on_module = around_module (Ok u) taken now some reply old new serves r0 a b takes;
       on_store = around_store (Ok u) taken now some reply old new serves r0 a b takes;
       pairs = around_pairs (Ok u) taken now some reply old new serves r0 a b takes;
+      within_module = within_module (Ok u) taken now some reply old new serves r0 a b takes;
+      within_store = within_store (Ok u) taken now some reply old new serves r0 a b takes;
+      spare = keeps_spare (Ok u) taken now some reply old new serves;
+      turns = λ h. turned;
       goes_on = goes_on;
     }
 
@@ -281,6 +325,10 @@ module _ (A : Machine) (s : A.State) (K : A.State → Type 0) where
       on_module = around_module (Ok u) taken now some reply old new serves r0 a b takes;
       on_store = around_store (Ok u) taken now some reply old new serves r0 a b takes;
       pairs = around_pairs (Ok u) taken now some reply old new serves r0 a b takes;
+      within_module = within_module (Ok u) taken now some reply old new serves r0 a b takes;
+      within_store = within_store (Ok u) taken now some reply old new serves r0 a b takes;
+      spare = keeps_spare (Ok u) taken now some reply old new serves;
+      turns = λ h. turned;
       goes_on = tt;
     }
       where
@@ -335,5 +383,9 @@ module _ (A : Machine) (s : A.State) (K : A.State → Type 0) where
       on_module = around_module (Err stop) taken now some reply old new serves r0 a b takes;
       on_store = around_store (Err stop) taken now some reply old new serves r0 a b takes;
       pairs = around_pairs (Err stop) taken now some reply old new serves r0 a b takes;
+      within_module = within_module (Err stop) taken now some reply old new serves r0 a b takes;
+      within_store = within_store (Err stop) taken now some reply old new serves r0 a b takes;
+      spare = keeps_spare (Err stop) taken now some reply old new serves;
+      turns = λ h. absurd (⊎_elim (λ replied. cc replied) (λ cut. let same : stop ≡ WriteFault = cc cut in subst IsLineStop same is_line_stop) h);
       goes_on = tt;
     }

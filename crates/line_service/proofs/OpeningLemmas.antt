@@ -1,7 +1,8 @@
 -- A run from the disks as they were before they were opened.
-use Rattle.std.proofs.Common.{◌≡◌, ℕ, List, Option, Result, Err, refl, ◌∙◌, subst, inl, inr}
+use Rattle.std.proofs.Common.{◌≡◌, ℕ, List, Option, IsSome, Result, Err, refl, sym, ◌∙◌, subst, inl, inr}
 use Rattle.std.specs.Prelude.{◌⊎◌}
-use Rattle.slot_disk.specs.Medium.{Medium, Told, Keeps}
+use Rattle.slot_disk.specs.Medium.{Medium, Told, From, Becomes, Keeps}
+use Rattle.slot_disk.specs.SpareBytes.{SameSpare}
 use Rattle.slot_disk.proofs.Media.{goes_on, each_weaker, keeps_then, told_from, told_at}
 use Rattle.slot_disk.proofs.WhereToldLemmas.{told_same, told_weaker}
 use Rattle.line_service.specs.Machine.{Machine, World, world}
@@ -12,7 +13,7 @@ use Rattle.line_service.specs.declared.stops.Device.{Device}
 use Rattle.line_service.specs.declared.stops.Device.TheVariants.{Module, Store}
 use Rattle.line_service.specs.declared.stops.Stop.{Stop}
 use Rattle.line_service.specs.declared.stops.Stop.TheVariants.{ReadFault, WriteFault, InputLimit, Damaged}
-use Rattle.line_service.proofs.RunLemmas.{no_opening_draw}
+use Rattle.line_service.proofs.RunLemmas.{no_opening_draw, no_opening_answer}
 
 holds_still : (m0 m : Medium) (P : List ℕ → Type 0) → Keeps m0 m → Holds m0 P → Holds m P
 holds_still m0 m P kept holds = record { image = holds.image; told = kept.content ∙ holds.told; has = holds.has }
@@ -57,6 +58,18 @@ module _ (A : Machine) (m0 m d0 d : Medium) (random : Option (List ℕ)) (kept_m
     agrees = agrees;
   }
 
+  -- what became of the content as it was opened became of it as it was
+  becomes_from : (x y z : Medium) (step : List ℕ → List ℕ → Type 0) → Keeps x y → Becomes step y z → Becomes step x z
+  becomes_from x y z step kept becomes = record {
+    size = becomes.size ∙ kept.moments.size;
+    told = λ c is. let from = becomes.told c is in (from.0, sym kept.content ∙ from.1, from.2);
+    still = λ some. becomes.still (subst IsSome (sym kept.content) some);
+  }
+
+  still : (x y : Medium) → Keeps x y → (c : List ℕ) → y.images c ⊎ From SameSpare y c → x.images c ⊎ From SameSpare x c
+  still x y kept c (inl h) = inl (kept.images c h)
+  still x y kept c (inr from) = inr (from.0, sym kept.content ∙ from.1, from.2)
+
   pub opened : (s : A.State) (result : Result (Unit {0}) Stop) (w1 : World) (a b p q : Option (List ℕ))
       → RunServed A s result (world m d random) w1 a b p q → RunServed A s result (world m0 d0 random) w1 a b p q
   opened s result w1 a b p q run = record {
@@ -68,6 +81,14 @@ module _ (A : Machine) (m0 m d0 d : Medium) (random : Option (List ℕ)) (kept_m
     undamaged = run.undamaged;
     on_module = told_weaker a b _ _ (λ i r each. goes_on m0 m w1.module_ _ _ _ kept_m.moments each (λ c h. inl h) (λ c h. first m0 m kept_m c _ h)) run.on_module;
     on_store = told_weaker a b _ _ (λ i r each. goes_on d0 d w1.store _ _ _ kept_d.moments each (λ c h. inl h) (λ c h. first d0 d kept_d c _ h)) run.on_store;
+    spare = record {
+      on_module = goes_on m0 m w1.module_ _ _ _ kept_m.moments run.spare.on_module (λ c h. inl h) (λ c h. still m0 m kept_m c h);
+      on_store = goes_on d0 d w1.store _ _ _ kept_d.moments run.spare.on_store (λ c h. inl h) (λ c h. still d0 d kept_d c h);
+    };
+    at_rest = λ answers. told_weaker a b _ _ (λ i r rests. record {
+      on_module = becomes_from m0 m w1.module_ _ kept_m rests.on_module;
+      on_store = becomes_from d0 d w1.store _ kept_d rests.on_store;
+    }) (run.at_rest answers);
   }
     where
       first : (x y : Medium) → Keeps x y → (c : List ℕ) (P : Type 0) → y.images c ⊎ P → x.images c ⊎ P
@@ -103,6 +124,11 @@ module _ (A : Machine) (m0 m d0 d : Medium) (random : Option (List ℕ)) (kept_m
     undamaged = λ device cell h. undamaged device cell (cc h);
     on_module = told_same a _ (λ x. each_weaker m0 m _ _ kept_m.moments (λ c h. inl h));
     on_store = told_same a _ (λ x. each_weaker d0 d _ _ kept_d.moments (λ c h. inl h));
+    spare = record {
+      on_module = each_weaker m0 m _ _ kept_m.moments (λ c h. inl h);
+      on_store = each_weaker d0 d _ _ kept_d.moments (λ c h. inl h);
+    };
+    at_rest = λ answers. absurd (no_opening_answer stop kind answers);
   }
     where
       no_input : (stop : Stop) → IsOpeningStop stop → ◌≡◌ {A = Result (Unit {0}) Stop} (Err stop) (Err ReadFault) ⊎ ◌≡◌ {A = Result (Unit {0}) Stop} (Err stop) (Err InputLimit) → ⊥

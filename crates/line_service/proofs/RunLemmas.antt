@@ -13,7 +13,7 @@ use Rattle.line_service.specs.declared.stops.Stop.{Stop}
 use Rattle.line_service.specs.declared.stops.Stop.TheVariants.{ReadFault, WriteFault, ModuleFault, StoreFault, EntropyFault, Damaged, InputLimit}
 use Rattle.line_service.proofs.LineLemmas.{front_of}
 use Rattle.line_service.proofs.SessionLemmas.{leads_none, runs_push}
-use Rattle.line_service.specs.Stops.{IsOpeningStop, IsFaultless}
+use Rattle.line_service.specs.Stops.{AnswersLines, IsOpeningStop, IsFaultless}
 
 module _ (A : Machine) (s : A.State) (random : Option (List ℕ)) where
   led_leads : (new : World) (ls : List (List ℕ)) (sent : List ℕ) → (led : Led A s random new ls sent) → Leads A s random ls led.last sent
@@ -173,3 +173,9 @@ no_opening_write stop kind h = let same : stop ≡ WriteFault = cc h in subst Is
 
 pub no_opening_draw : (stop : Stop) → IsOpeningStop stop → ◌≡◌ {A = Result (Unit {0}) Stop} (Err stop) (Err EntropyFault) → ⊥
 no_opening_draw stop kind h = let same : stop ≡ EntropyFault = cc h in subst IsOpeningStop same kind
+
+pub no_opening_answer : (stop : Stop) → IsOpeningStop stop → AnswersLines (Err stop) → ⊥
+no_opening_answer stop kind (inl ok) = cc ok
+no_opening_answer stop kind (inr (inl h)) = no_opening_read stop kind h
+no_opening_answer stop kind (inr (inr (inl h))) = let same : stop ≡ InputLimit = cc h in subst IsOpeningStop same kind
+no_opening_answer stop kind (inr (inr (inr h))) = no_opening_write stop kind h

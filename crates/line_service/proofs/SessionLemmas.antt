@@ -1,5 +1,5 @@
 -- How a session goes on from line to line.
-use Rattle.std.proofs.Common.{◌≡◌, ℕ, ◌+◌, Bool, false, List, [], ◌∷◌, ◌++◌, length, Option, None, Some, Result, Ok, Err, refl, sym, ap, ◌∙◌, subst, inl, inr, append_assoc, arith}
+use Rattle.std.proofs.Common.{◌≡◌, ℕ, ◌+◌, ◌≤◌, Bool, false, List, [], ◌∷◌, ◌++◌, length, Option, None, Some, Result, Ok, Err, refl, sym, ap, ◌∙◌, subst, inl, inr, append_assoc, arith}
 use Rattle.std.specs.Prelude.{◌⊎◌, ◌≢◌, IsTrue}
 use Rattle.std.specs.Io.KnownBytes.{Consumes}
 use Rattle.std.proofs.KnownBytes.{Consumes-nil, Consumes-trans}
@@ -7,20 +7,21 @@ use Rattle.std.proofs.lemmas.List.{append-nil}
 use Rattle.slot_disk.specs.Medium.{EachImage, IsSettled}
 use Rattle.slot_disk.specs.WhereTold.{WhereTold}
 use Rattle.slot_disk.proofs.Media.{goes_on, each_weaker}
-use Rattle.slot_disk.proofs.WhereToldLemmas.{told_then, told_same, told_both}
+use Rattle.slot_disk.proofs.WhereToldLemmas.{told_weaker, told_then, told_same, told_both}
 use Rattle.script_buffers.specs.Lines.{newline, lines, NoNewline, EndsLine}
-use Rattle.script_buffers.specs.Reading.{Reading, blank, LosesPart}
+use Rattle.script_buffers.specs.Reading.{Reading, blank, input_limit, LosesPart}
 use Rattle.script_buffers.proofs.LineLemmas.{lines-nil, lines-whole, lines-append}
 use Rattle.line_service.specs.Machine.{Machine, Outcome, World}
 use Rattle.line_service.specs.Sending.{GotPart}
 use Rattle.line_service.specs.Stops.{IsLineStop}
-use Rattle.line_service.specs.Answering.{Stands, Steps, Around}
-use Rattle.line_service.specs.Serving.{session, Runs, IsFrontOf, Leads, Led, LeadsOne, IsOnTheWay, IsAroundLine, EachPairStands, StandsAround, AnswersLine, CutsReply, LosesLine, LineServed, AllAnswered, WholeLinesAnswered, ReplyCut, LineLost}
+use Rattle.line_service.specs.Answering.{Stands, Steps, Around, Turns}
+use Rattle.line_service.specs.Serving.{session, Runs, IsFrontOf, Leads, Led, LeadsOne, IsOnTheWay, IsAroundLine, EachPairStands, StandsAround, AnswersLine, CutsReply, LosesLine, LineServed, AllAnswered, WholeLinesAnswered, ReplyCut, LineLost, AtRest}
 use Rattle.line_service.specs.declared.serving.Served.{Served}
 use Rattle.line_service.specs.declared.serving.Served.TheVariants.{Replied}
 use Rattle.line_service.specs.declared.stops.Stop.{Stop}
 use Rattle.line_service.specs.declared.stops.Stop.TheVariants.{WriteFault}
 use Rattle.line_service.proofs.LineLemmas.{front_of, stays_still}
+use Rattle.line_service.proofs.SpareLaws.{at_rest_nothing, at_rest_more}
 
 -- ---- bytes
 
@@ -109,6 +110,7 @@ module _ (A : Machine) where
     pub agrees : K led.last
     pub on_module : EachImage w0.module_ w.module_ (λ c. IsOnTheWay A s w0.random input (λ t. A.InModule t c))
     pub on_store : EachImage w0.store w.store (λ d. IsOnTheWay A s w0.random input (λ t. A.InStore t d))
+    pub at_rest : AtRest A s w0.random input w0 w
 
   pub leads_none : (s : A.State) (random : Option (List ℕ)) → Leads A s random (lines []) s []
   leads_none s random = record { drawn = []; front = none random; runs = runs_none s }
@@ -136,6 +138,7 @@ module _ (A : Machine) where
         agrees = stands.agrees;
         on_module = each_weaker w.module_ w.module_ _ _ stays.on_module (λ c has. at_start s w.random input (λ t. A.InModule t c) has);
         on_store = each_weaker w.store w.store _ _ stays.on_store (λ e has. at_start s w.random input (λ t. A.InStore t e) has);
+        at_rest = at_rest_nothing A s w.random input w;
       }
 
   -- ---- from one line to the next
@@ -196,11 +199,16 @@ module _ (A : Machine) where
         → EachImage w0.store w1.store (λ d. IsOnTheWay A s w0.random input (λ t. A.InStore t d))
     store_on next = goes_on w0.store w.store w1.store _ _ _ served.on_store next (λ c on. on) (λ c on. on_the_way (λ t. A.InStore t c) on)
 
+    pub rests_on : Turns A w w1 → AtRest A s w0.random input w0 w1
+    rests_on turns =
+        at_rest_more A s w0.random input (lines served.whole) (lines ahead) served.lines_are served.led.last served.sent leads_now
+        w0 w w1 served.led.stands served.at_rest turns
+
     pub served_more : (rest : List ℕ) (ended : Bool) (u : Option (List ℕ)) → AnswersLine A served.led.last K1 w w1 ahead rest ended q u
         → EachImage w.module_ w1.module_ (λ c. IsAroundLine A served.led.last w.random ahead (λ t. A.InModule t c))
         → EachImage w.store w1.store (λ d. IsAroundLine A served.led.last w.random ahead (λ t. A.InStore t d))
-        → IsServed s K1 w0 w1 input rest ended p u
-    served_more rest ended u answers mods stores = by_end answers.takes.bytes
+        → Turns A w w1 → IsServed s K1 w0 w1 input rest ended p u
+    served_more rest ended u answers mods stores turns = by_end answers.takes.bytes
       where
         with_whole : (whole : List ℕ) → input ≡ whole ++ rest → lines whole ≡ lines served.whole ++ answers.line ∷ []
             → EndsLine whole ⊎ ((rest ≡ []) × IsTrue ended) → IsServed s K1 w0 w1 input rest ended p u
@@ -222,6 +230,7 @@ module _ (A : Machine) where
           agrees = answers.stands.agrees;
           on_module = module_on mods;
           on_store = store_on stores;
+          at_rest = rests_on turns;
         }
 
         by_end : (ahead ≡ answers.line ++ newline ∷ rest) ⊎ ((ahead ≡ answers.line) × (rest ≡ []) × IsTrue ended) → IsServed s K1 w0 w1 input rest ended p u
@@ -342,7 +351,8 @@ module _ (A : Machine) where
     has_served_more is =
         step_on s K w0 w a b c p q old X _ _
         (λ input mid rest served x next.
-        served_more s K K1 w0 w w1 input (old.pending ++ mid) old.ended p q served (new.pending ++ rest) new.ended u next.0 next.1.0 next.1.1)
+        served_more s K K1 w0 w w1 input (old.pending ++ mid) old.ended p q served (new.pending ++ rest) new.ended u next.0 next.1.0 next.1.1
+        ((line served.led.last (record { disks = served.led.stands; agrees = served.agrees })).turns (inl is)))
         first told
         (λ t stands. let l = line t stands in told_both b c _ _ (l.replied is) (told_both b c _ _ l.on_module l.on_store))
 
@@ -351,6 +361,12 @@ module _ (A : Machine) where
         step_on s K w0 w a b c p q old X _ _
         (λ input mid rest served x cuts. served_cut s K K1 w0 w w1 input (old.pending ++ mid) old.ended p q served (new.pending ++ rest) new.ended u cuts)
         first told (λ t stands. (line t stands).cut is)
+
+    pub cut_at_rest : result ≡ Err WriteFault → WhereTold a c (λ i r. AtRest A s w0.random i w0 w1)
+    cut_at_rest is =
+        step_on s K w0 w a b c p q old X _ _
+        (λ input mid rest served x turns. rests_on s K K1 w0 w w1 input (old.pending ++ mid) old.ended p q served turns)
+        first told (λ t stands. told_weaker b c _ _ (λ i r x. (line t stands).turns (inr is)) told)
 
     pub has_served_lost : (stop : Stop) → IsLineStop stop → result ≡ Err stop → WhereTold a c (λ i r. LineLost A stop s w0.random w1 i p q)
     has_served_lost stop kind is =
@@ -371,6 +387,10 @@ module _ (A : Machine) where
         (λ input mid rest served x next.
         each_weaker w0.store w1.store _ _ (store_on s K K1 w0 w w1 input (old.pending ++ mid) old.ended p q served next) (λ e on. inr on))
         first told (λ t stands. (line t stands).on_store)
+
+  pub at_rest_now : (s : A.State) (K : A.State → Type 0) (w0 w : World) (a b c p q : Option (List ℕ)) (reading : Reading) (X : List ℕ → List ℕ → Type 0)
+      → HasServed s K w0 w a b p q reading → WhereTold b c X → WhereTold a c (λ i r. AtRest A s w0.random i w0 w)
+  at_rest_now s K w0 w a b c p q reading X first told = told_then a b c _ _ _ (λ x y z served last. served.at_rest) first told
 
   pub has_served_all : (s : A.State) (K : A.State → Type 0) (w0 w : World) (a b c p q : Option (List ℕ)) (old new : Reading) → HasServed s K w0 w a b p q old
       → WhereTold b c (λ input rest. (old.pending ++ input ≡ []) × (new.pending ++ rest ≡ [])) → WhereTold a c (λ i r. AllAnswered A s w0.random w i p q)
@@ -402,3 +422,6 @@ counted_nothing a reading fresh =
 
 pub blank_open : (reading : Reading) → reading ≡ blank → IsTrue reading.ended → ⊥
 blank_open reading fresh ended = let not_ended : reading.ended ≡ false = ap (λ (r : Reading). r.ended) fresh in cc
+
+pub blank_within : (reading : Reading) → reading ≡ blank → reading.taken ≤ input_limit
+blank_within reading fresh = subst (λ (r : Reading). r.taken ≤ input_limit) (sym fresh) (omega arith)

@@ -1,17 +1,18 @@
 -- A stop of one line is the stop of the run.
-use Rattle.std.proofs.Common.{◌≡◌, List, ℕ, Bool, Option, None, Some, IfSome, IsSome, Result, Ok, Err, ap, refl, sym, subst, ◌∙◌, inl, inr, append_assoc}
-use Rattle.std.specs.Prelude.{◌⊎◌, ◌≢◌, ◌++◌, ◌↔◌, [], IsTrue}
-use Rattle.slot_disk.specs.Medium.{Medium, Told}
+use Rattle.std.proofs.Common.{◌≡◌, List, ℕ, Bool, Option, None, Some, IfSome, IsSome, Result, Ok, Err, ap, refl, sym, subst, ◌∙◌, inl, inr, append_assoc, arith}
+use Rattle.std.specs.Prelude.{◌⊎◌, ◌≢◌, ◌++◌, ◌↔◌, [], IsTrue, IsOk}
+use Rattle.slot_disk.specs.Medium.{Medium, Told, IsSettled}
 use Rattle.slot_disk.specs.WhereTold.{WhereTold}
 use Rattle.slot_disk.proofs.WhereToldLemmas.{told_weaker, told_then, told_same}
 use Rattle.std.proofs.lemmas.List.{append-nil}
-use Rattle.line_service.specs.Machine.{World, world}
+use Rattle.line_service.specs.Machine.{Machine, World, world}
 use Rattle.line_service.specs.Sending.{Grows}
 use Rattle.line_service.specs.declared.serving.Served.{Served}
 use Rattle.line_service.specs.declared.serving.Served.TheVariants.{Replied, Ended}
 use Rattle.line_service.specs.declared.stops.Stop.{Stop}
-use Rattle.line_service.specs.Stops.{IsLineStop}
-use Rattle.line_service.specs.declared.stops.Stop.TheVariants.{ReadFault, WriteFault, InputLimit}
+use Rattle.line_service.specs.Stops.{IsLineStop, IsDeskStop, AnswersLines}
+use Rattle.line_service.specs.Devices.{Span, Devices, DiskLeft, DevicesLeft}
+use Rattle.line_service.specs.declared.stops.Stop.TheVariants.{ReadFault, WriteFault, EntropyFault, ModuleFault, StoreFault, InputLimit}
 
 stop_of : (a b : Stop) → ◌≡◌ {A = Result (Unit {0}) Stop} (Err a) (Err b) → a ≡ b
 stop_of a b h = cc
@@ -24,6 +25,14 @@ pub stopped_as : (r : Result Served Stop) (stop : Stop) → r ≡ Err stop
     → (r ≡ Err ReadFault) ⊎ (r ≡ Err InputLimit)
 stopped_as r stop is (inl h) = inl (same_stop r stop ReadFault is h)
 stopped_as r stop is (inr h) = inr (same_stop r stop InputLimit is h)
+
+-- how lines ended that were served up to a stop
+pub by_answer : (r : Result Served Stop) (stop : Stop) → r ≡ Err stop → (P : Type 0) → AnswersLines (Err stop)
+    → ((r ≡ Err ReadFault) ⊎ (r ≡ Err InputLimit) → P) → (r ≡ Err WriteFault → P) → P
+by_answer r stop is P (inl ok) unread cut = absurd (cc ok)
+by_answer r stop is P (inr (inl h)) unread cut = unread (inl (same_stop r stop ReadFault is h))
+by_answer r stop is P (inr (inr (inl h))) unread cut = unread (inr (same_stop r stop InputLimit is h))
+by_answer r stop is P (inr (inr (inr h))) unread cut = cut (same_stop r stop WriteFault is h)
 
 pub no_stop : ◌≡◌ {A = Result (Unit {0}) Stop} (Ok tt) (Err ReadFault) ⊎ ◌≡◌ {A = Result (Unit {0}) Stop} (Ok tt) (Err InputLimit) → ⊥
 no_stop (inl h) = cc h
@@ -91,3 +100,49 @@ ended_unsent r is h = cc (is, h)
 
 pub ended_uncut : (r : Result Served Stop) → r ≡ Ok Ended → r ≡ Err WriteFault → ⊥
 ended_uncut r is h = cc (is, h)
+
+-- ---- what is left of the devices
+
+disk_stopped : {T U : Type 0} (old new : Medium) (before now : ℕ) (stop other : Stop)
+    → DiskLeft old new before now (IsOk {T = T} (Err stop)) (◌≡◌ {A = Result T Stop} (Err stop) (Err other))
+    → DiskLeft old new before now (IsOk {T = U} (Err stop)) (◌≡◌ {A = Result U Stop} (Err stop) (Err other))
+disk_stopped old new before now stop other left = record {
+  size = left.size;
+  still = left.still;
+  settled = λ ok. absurd (cc ok);
+  later = left.later;
+  fault = λ h. let same : stop ≡ other = cc h in left.fault (ap Err same);
+}
+
+-- a stop that is handed on
+pub devices_stopped : {T U : Type 0} (A : Machine) (stop : Stop) (d : Span Devices) → DevicesLeft {T = T} A (Err stop) d → DevicesLeft {T = U} A (Err stop) d
+devices_stopped A stop d left = record {
+  module_left = disk_stopped d.old.world.module_ d.new.world.module_ d.old.module_faults d.new.module_faults stop ModuleFault left.module_left;
+  store_left = disk_stopped d.old.world.store d.new.world.store d.old.store_faults d.new.store_faults stop StoreFault left.store_left;
+  entropy_left = record { later = left.entropy_left.later; fault = λ h. let same : stop ≡ EntropyFault = cc h in left.entropy_left.fault (ap Err same) };
+  draws = λ h. let same : stop ≡ EntropyFault = cc h in left.draws (ap Err same);
+}
+
+disk_still : (m : Medium) (count : ℕ) (done failed : Type 0) → (done → IsSettled m) → (failed → ⊥) → DiskLeft m m count count done failed
+disk_still m count done failed settled never = record {
+  size = refl;
+  still = λ some. some;
+  settled = settled;
+  later = omega arith;
+  fault = λ h. absurd (never h);
+}
+
+-- no device behind the machine was called
+pub devices_unread : {T : Type 0} (A : Machine) (now : Devices) → DevicesLeft {T = T} A (Err ReadFault) (record { old = now; new = now })
+devices_unread A now = record {
+  module_left = disk_still now.world.module_ now.module_faults _ _ (λ ok. absurd (cc ok)) (λ h. cc h);
+  store_left = disk_still now.world.store now.store_faults _ _ (λ ok. absurd (cc ok)) (λ h. cc h);
+  entropy_left = record { later = omega arith; fault = λ h. absurd (cc h) };
+  draws = λ h. absurd (cc h);
+}
+
+pub no_desk_read : {T : Type 0} (stop : Stop) → IsDeskStop stop → ◌≡◌ {A = Result T Stop} (Err stop) (Err ReadFault) → ⊥
+no_desk_read stop kind h = let same : stop ≡ ReadFault = cc h in subst IsDeskStop same kind
+
+pub no_desk_write : {T : Type 0} (stop : Stop) → IsDeskStop stop → ◌≡◌ {A = Result T Stop} (Err stop) (Err WriteFault) → ⊥
+no_desk_write stop kind h = let same : stop ≡ WriteFault = cc h in subst IsDeskStop same kind

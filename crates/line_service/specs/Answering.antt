@@ -1,7 +1,8 @@
 -- What answering one line leaves.
 use Rattle.std.specs.Prelude.{◌≡◌, ◌⊎◌, ℕ, List, ◌++◌, Some, Result, Err, OnOk, IfErr}
 use Rattle.std.specs.Io.KnownBytes.{Consumes}
-use Rattle.slot_disk.specs.Medium.{Medium, Told, EachImage, EachPair}
+use Rattle.slot_disk.specs.Medium.{Medium, Told, From, Becomes, EachImage, EachPair}
+use Rattle.slot_disk.specs.SpareBytes.{Turned}
 use Rattle.line_service.specs.Machine.{Machine, World}
 use Rattle.line_service.specs.Stops.{IsLineStop}
 use Rattle.line_service.specs.declared.stops.Stop.{Stop}
@@ -69,6 +70,18 @@ pub record Moves (A : Machine) (s : A.State) (K : A.State → Type 0) (line : Li
   pub pairs : EachPair old.module_ new.module_ old.store new.store
       (λ c d. Around A s line next (Both A c d))
 
+-- each image of a disk at a moment is one that a stop on the way through the line may leave
+pub record WritesWithin (A : Machine) (s : A.State) (line : List ℕ) (old new : World)
+    : Type 0 where
+  pub on_module : EachImage old.module_ new.module_ (From (A.ModuleMay s line) old.module_)
+  pub on_store : EachImage old.store new.store (From (A.StoreMay s line) old.store)
+
+-- In each cell that has changed the body that was selected stands on the other side, and the selector is 0 or 1. No
+-- byte outside selectors and bodies has changed.
+pub record Turns (A : Machine) (old new : World) : Type 0 where
+  pub on_module : Becomes (Turned A.module_cells) old.module_ new.module_
+  pub on_store : Becomes (Turned A.store_cells) old.store new.store
+
 -- What answering a line leaves, from the state s. Memory then agrees with the states that have K.
 pub record Serves (A : Machine) (s : A.State) (K : A.State → Type 0) (line : List ℕ)
     (result : Result (Unit {0}) Stop) (reply : List ℕ) (old new : World) : Type 0 where
@@ -76,3 +89,5 @@ pub record Serves (A : Machine) (s : A.State) (K : A.State → Type 0) (line : L
   pub stops : IfErr result (λ stop. IsLineStop stop × A.MayStop stop s line)
   pub undrawn : result ≡ Err EntropyFault → Stays A s old new
   pub unwritten : A.Refuses s line → Unwritten old new
+  pub within : WritesWithin A s line old new
+  pub turns : OnOk result (Turns A old new)

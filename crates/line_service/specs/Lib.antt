@@ -4,3 +4,4 @@ pub mod Stops
 pub mod Devices
 pub mod Answering
 pub mod Serving
+pub mod Running

@@ -1,6 +1,7 @@
 -- A machine that answers lines, over two disks and a list of random bytes.
-use Rattle.std.specs.Prelude.{ℕ, List, Option}
+use Rattle.std.specs.Prelude.{ℕ, List, [], ◌∷◌, ◌++◌, Option}
 use Rattle.slot_disk.specs.Medium.{Medium}
+use Rattle.slot_disk.specs.SpareBytes.{SameSpare}
 use Rattle.line_service.specs.declared.stops.Device.{Device}
 use Rattle.line_service.specs.declared.stops.Stop.{Stop}
 
@@ -9,6 +10,16 @@ pub record Outcome (S : Type 0) : Type 0 where
   pub state : S
   pub reply : List ℕ
   pub random : List ℕ
+
+-- What comes of lines, one after another, where `step` says what comes of one: the replies, the state after them, and
+-- the random bytes that are left.
+abbrev pub outcome_of_lines : {S : Type 0} → (S → List ℕ → List ℕ → Outcome S) → S → List ℕ
+    → List (List ℕ) → Outcome S
+outcome_of_lines step s random [] = record { state = s; reply = []; random = random }
+outcome_of_lines step s random (line ∷ ls) =
+    let now = step s random line in
+    let later = outcome_of_lines step now.state now.random ls in
+    record { state = later.state; reply = now.reply ++ later.reply; random = later.random }
 
 pub record Machine : Type 1 where
   pub State : Type 0
@@ -38,6 +49,19 @@ pub record Machine : Type 1 where
   -- in bytes
   pub module_size : ℕ
   pub store_size : ℕ
+  -- how many cells of a disk lines may change
+  pub module_cells : ℕ
+  pub store_cells : ℕ
+  -- what a stop on the way through a line may leave of a disk, from the content before the line
+  pub ModuleMay : State → List ℕ → List ℕ → List ℕ → Type 0
+  pub StoreMay : State → List ℕ → List ℕ → List ℕ → Type 0
+  pub module_still : (s : State) (line image : List ℕ) → ModuleMay s line image image
+  pub store_still : (s : State) (line image : List ℕ) → StoreMay s line image image
+  -- no byte outside selectors and bodies changes then
+  pub module_spare : (s : State) (line old new : List ℕ) → ModuleMay s line old new
+      → SameSpare old new
+  pub store_spare : (s : State) (line old new : List ℕ) → StoreMay s line old new
+      → SameSpare old new
 
 -- the devices behind a machine at a moment
 pub record World : Type 1 where

@@ -1,16 +1,18 @@
 -- How far a run has come: what its source gave, what its sink got, and what its disks stand for.
-use Rattle.std.specs.Prelude.{◌≡◌, ◌⊎◌, ℕ, ◌<◌, List, [], ◌∷◌, ◌++◌, length, Bool, Option, IfSome, Ok, Err, Result, OnOk}
+use Rattle.std.specs.Prelude.{◌≡◌, ◌⊎◌, ℕ, ◌*◌, ◌<◌, List, [], ◌∷◌, ◌++◌, length, slice_index, Bool, Option, Some, IfSome, Ok, Err, Result, OnOk}
 use Rattle.std.specs.Io.KnownBytes.{Consumes}
-use Rattle.slot_disk.specs.Medium.{EachImage, EachPair, Keeps}
+use Rattle.slot_disk.specs.Cells.{body, other_body}
+use Rattle.slot_disk.specs.Medium.{Medium, From, Becomes, EachImage, EachPair, Keeps}
+use Rattle.slot_disk.specs.SpareBytes.{SameSpare, SameCell}
 use Rattle.slot_disk.specs.WhereTold.{WhereTold}
 use Rattle.script_buffers.specs.Lines.{lines, NoNewline, EndsLine}
 use Rattle.script_buffers.specs.Reading.{TakesLine, Reading, line_limit}
 use Rattle.script_buffers.specs.declared.lines.Taken.{Taken}
 use Rattle.script_buffers.specs.declared.lines.Taken.TheVariants.{Line, TooLong, End}
-use Rattle.line_service.specs.Machine.{Machine, Outcome, World}
+use Rattle.line_service.specs.Machine.{Machine, Outcome, outcome_of_lines, World}
 use Rattle.line_service.specs.Sending.{GotPart}
-use Rattle.line_service.specs.Answering.{Steps, Around, Both, OnDisks, Stands, Unwritten}
-use Rattle.line_service.specs.Stops.{IsLineStop}
+use Rattle.line_service.specs.Answering.{Steps, Around, Both, OnDisks, Stands, Unwritten, Turns}
+use Rattle.line_service.specs.Stops.{IsLineStop, AnswersLines}
 use Rattle.line_service.specs.declared.stops.Device.{Device}
 use Rattle.line_service.specs.declared.stops.Stop.{Stop}
 use Rattle.line_service.specs.declared.stops.Stop.TheVariants.{ReadFault, WriteFault, InputLimit, EntropyFault, Damaged}
@@ -19,11 +21,7 @@ use Rattle.line_service.specs.declared.serving.Served.TheVariants.{Replied}
 
 -- the machine's replies to lines, one after another, the state after them, and the random bytes that are left
 abbrev pub session : (A : Machine) → A.State → List ℕ → List (List ℕ) → Outcome A.State
-session A s random [] = record { state = s; reply = []; random = random }
-session A s random (line ∷ ls) =
-    let now = A.step s random line in
-    let later = session A now.state now.random ls in
-    record { state = later.state; reply = now.reply ++ later.reply; random = later.random }
+session A = outcome_of_lines A.step
 
 -- The lines lead from one state to another with these replies. They take these random bytes, whatever follows them.
 abbrev pub Runs : (A : Machine) → A.State → List (List ℕ) → List ℕ → A.State → List ℕ → Type 0
@@ -141,6 +139,18 @@ IsAroundLine A s random ahead P =
     P s ⊎ ((line : List ℕ) × (others : List ℕ) × (lines ahead ≡ line ∷ lines others)
     × ((next : A.State) × LeadsOne A s random line next × Around A s line next P))
 
+-- an image on the way through the first of the lines ahead, or the content before it
+abbrev pub IsWithinLine : (List ℕ → List ℕ → List ℕ → Type 0) → Medium → List ℕ → List ℕ → Type 0
+IsWithinLine May old ahead image =
+    (old.content ≡ Some image)
+    ⊎ ((line : List ℕ) × (others : List ℕ) × (lines ahead ≡ line ∷ lines others)
+    × From (May line) old image)
+
+-- each image of a disk at a moment has the bytes outside selectors and bodies that the disk had
+pub record KeepsSpare (old new : World) : Type 0 where
+  pub on_module : EachImage old.module_ new.module_ (From SameSpare old.module_)
+  pub on_store : EachImage old.store new.store (From SameSpare old.store)
+
 -- What a line leaves from the state s, by how it came out. Memory then agrees with the states that have K. The options
 -- are what the source had left and has left, and what the sink held and holds, where they tell it.
 pub record LineServed (A : Machine) (s : A.State) (K : A.State → Type 0)
@@ -160,6 +170,13 @@ pub record LineServed (A : Machine) (s : A.State) (K : A.State → Type 0)
   -- each image of the module at a moment of the call with each of the store stands for the same state
   pub pairs : WhereTold input rest (λ i r. EachPair old.module_ new.module_ old.store new.store
       (λ c d. IsAroundLine A s old.random (r0.pending ++ i) (Both A c d)))
+  -- each image of a disk is one that a stop on the way through the line may leave
+  pub within_module : WhereTold input rest (λ i r. EachImage old.module_ new.module_
+      (IsWithinLine (A.ModuleMay s) old.module_ (r0.pending ++ i)))
+  pub within_store : WhereTold input rest (λ i r. EachImage old.store new.store
+      (IsWithinLine (A.StoreMay s) old.store (r0.pending ++ i)))
+  pub spare : KeepsSpare old new
+  pub turns : (result ≡ Ok Replied) ⊎ (result ≡ Err WriteFault) → Turns A old new
   pub goes_on : OnOk result ((t : A.State) × Stands A t K new.module_ new.store)
 
 -- ---- all lines
@@ -241,6 +258,45 @@ pub record Unopened (old new : World) (input rest : List ℕ) (before now : Opti
   pub on_module : Keeps old.module_ new.module_
   pub on_store : Keeps old.store new.store
 
+-- After some first lines the disk had a content that stood for the state, and whose cell n selected this body.
+pub record WasSelected (A : Machine) (In : A.State → List ℕ → Type 0) (s : A.State)
+    (random : Option (List ℕ)) (ls : List (List ℕ)) (n : ℕ) (bytes : List ℕ) : Type 0 where
+  pub first : List (List ℕ)
+  pub others : List (List ℕ)
+  pub lines_are : ls ≡ first ++ others
+  pub state : A.State
+  pub sent : List ℕ
+  pub leads : Leads A s random first state sent
+  pub content : List ℕ
+  pub stands : In state content
+  pub is : body content n ≡ bytes
+
+-- What lines leave of a disk with so many cells. Each cell has the bytes that it had; or its selector is 0 or 1, and
+-- the body that isn't selected was selected once, at the start or after some line. No byte outside selectors and
+-- bodies has changed.
+pub record Rests (A : Machine) (In : A.State → List ℕ → Type 0) (cells : ℕ) (s : A.State)
+    (random : Option (List ℕ)) (ls : List (List ℕ)) (old new : List ℕ) : Type 0 where
+  pub same : SameSpare old new
+  pub each : (n : ℕ) → n < cells → SameCell n old new
+      ⊎ ((slice_index new (1536 * n) < 2)
+      × WasSelected A In s random ls n (other_body new n))
+
+-- both disks at rest, after lines of the input
+pub record AtRest (A : Machine) (s : A.State) (random : Option (List ℕ)) (input : List ℕ)
+    (old new : World) : Type 0 where
+  pub on_module : Becomes (Rests A A.InModule A.module_cells s random (lines input))
+      old.module_ new.module_
+  pub on_store : Becomes (Rests A A.InStore A.store_cells s random (lines input))
+      old.store new.store
+
+-- each image of a disk at a moment is one that a stop could leave at the start, or has the bytes outside selectors
+-- and bodies that the disk had
+pub record SparesAlways (old new : World) : Type 0 where
+  pub on_module : EachImage old.module_ new.module_
+      (λ c. old.module_.images c ⊎ From SameSpare old.module_ c)
+  pub on_store : EachImage old.store new.store
+      (λ d. old.store.images d ⊎ From SameSpare old.store d)
+
 -- What a run leaves from the state s, by how it ended. The options are what the source had left and has left, and
 -- what the sink held and holds, where they tell it.
 pub record RunServed (A : Machine) (s : A.State) (result : Result (Unit {0}) Stop) (old new : World)
@@ -262,3 +318,6 @@ pub record RunServed (A : Machine) (s : A.State) (result : Result (Unit {0}) Sto
       (λ c. old.module_.images c ⊎ IsOnTheWay A s old.random i (λ t. A.InModule t c)))
   pub on_store : WhereTold input rest (λ i r. EachImage old.store new.store
       (λ d. old.store.images d ⊎ IsOnTheWay A s old.random i (λ t. A.InStore t d)))
+  pub spare : SparesAlways old new
+  pub at_rest : AnswersLines result
+      → WhereTold input rest (λ i r. AtRest A s old.random i old new)

@@ -1,16 +1,15 @@
 //! What answers a line.
-ghost use Rattle.std.specs.Prelude.{◌≡◌, ◌≤◌, ◌<◌, ℕ, List, [], length, Result, Err, OnOk, IfErr};
+ghost use Rattle.std.specs.Prelude.{◌≡◌, ◌≤◌, ◌<◌, ℕ, List, [], length, OnOk, IfErr};
 ghost use Rattle.key_cells.specs.Bench.{blank_bench};
-ghost use Rattle.slot_disk.specs.Faults.{Rose};
-ghost use Rattle.slot_disk.specs.Medium.{Medium, Told, IsSettled, Keeps};
+ghost use Rattle.slot_disk.specs.Medium.{Medium};
 ghost use Rattle.script_buffers.specs.Reading.{line_limit};
 ghost use Rattle.line_service.specs.Machine.{Machine, world};
 ghost use Rattle.line_service.specs.Answering.{OnDisks, IsSound, Stands, Steps, Serves};
-ghost use Rattle.line_service.specs.Devices.{DiskLeft, TellsFault};
+ghost use Rattle.line_service.specs.Devices.{AreSettled, HaveSizes, DamageTold, DevicesLeft, OpeningLeft, Undamaged};
 ghost use Rattle.line_service.specs.Stops.{IsDeskStop, IsOpeningStop};
-ghost use Rattle.line_service.specs.declared.stops.Device.{Device as AnyDevice};
 
-use crate::stops::{Device, Stop};
+use crate::devices::Shown;
+use crate::stops::Stop;
 use key_cells::Workbench;
 use script_buffers::ReplyBuffer;
 use slot_disk::{Disk, Entropy};
@@ -34,8 +33,8 @@ pub trait Desk {
         module: &mut M,
         store: &mut D,
     ) -> Result<(), Stop>
-        requires module_size { (M.medium «module».old).size ≡ machine.module_size }
-        requires store_size { (D.medium store.old).size ≡ machine.store_size }
+        requires { HaveSizes machine.module_size machine.store_size
+            (⟦<(M, D) as Shown>⟧.shown («module».old, store.old)) }
 
         // It succeeds only where the disks stand for a state, and memory then agrees with it.
         ensures sound { OnOk result (IsSound machine (M.medium «module».old) (D.medium store.old)) }
@@ -43,30 +42,11 @@ pub trait Desk {
             → OnDisks machine s (M.medium «module».old) (D.medium store.old) → knows self.new s) }
         ensures ready { OnOk result (ready self.new (M.medium «module».new) (D.medium store.new)) }
 
-        // Damage is told where a cell is broken, and then always, unless a disk failed.
-        ensures module_damaged { (cell : ℕ) → result ≡ Err (Stop.Damaged Device.Module cell)
-            → Told (M.medium «module».old) (machine.IsBrokenModule cell) }
-        ensures store_damaged { (cell : ℕ) → result ≡ Err (Stop.Damaged Device.Store cell)
-            → Told (M.medium «module».old)
-            (λ c. Told (D.medium store.old) (machine.IsBrokenStore cell c)) }
-        ensures module_judged { (Rose (M.faults «module».old) (M.faults «module».new) → ⊥)
-            → Told (M.medium «module».old) (λ c. (cell : ℕ) → machine.IsBrokenModule cell c
-            → result ≡ Err (Stop.Damaged Device.Module cell)) }
-        ensures store_judged { (Rose (M.faults «module».old) (M.faults «module».new) → ⊥)
-            → (Rose (D.faults store.old) (D.faults store.new) → ⊥)
-            → Told (M.medium «module».old) (λ c. Told (D.medium store.old) (λ d. (cell : ℕ)
-            → machine.IsBrokenStore cell c d → result ≡ Err (Stop.Damaged Device.Store cell))) }
-
-        // Nothing is written.
-        ensures module_kept { Keeps (M.medium «module».old) (M.medium «module».new) }
-        ensures store_kept { Keeps (D.medium store.old) (D.medium store.new) }
-        ensures module_left { DiskLeft (M.medium «module».old) (M.medium «module».new)
-            (M.faults «module».old) (M.faults «module».new) result Stop.ModuleFault }
-        ensures store_left { DiskLeft (D.medium store.old) (D.medium store.new)
-            (D.faults store.old) (D.faults store.new) result Stop.StoreFault }
-
-        ensures cells { (device : AnyDevice) (cell : ℕ) → result ≡ Err (Stop.Damaged device cell)
-            → machine.HasCell device cell }
+        // Damage is told where a cell is broken, and then always, unless a disk failed. Nothing is written.
+        ensures damage { DamageTold machine result (⟦<(M, D) as Shown>⟧.between
+            («module».old, store.old) («module».new, store.new)) }
+        ensures left { OpeningLeft result (⟦<(M, D) as Shown>⟧.between
+            («module».old, store.old) («module».new, store.new)) }
         ensures stops { IfErr result IsOpeningStop }
         ensures bench { bench.new ≡ blank_bench };
 
@@ -86,10 +66,8 @@ pub trait Desk {
         entropy: &mut E,
     ) -> Result<(), Stop>
         requires short { length line.now ≤ line_limit }
-        requires module_size { (M.medium «module».old).size ≡ machine.module_size }
-        requires store_size { (D.medium store.old).size ≡ machine.store_size }
-        requires module_settled { IsSettled (M.medium «module».old) }
-        requires store_settled { IsSettled (D.medium store.old) }
+        requires disks { AreSettled machine.module_size machine.store_size
+            (⟦<(M, D) as Shown>⟧.shown («module».old, store.old)) }
         requires ready { ready self.old (M.medium «module».old) (D.medium store.old) }
 
         ensures serves { (s : machine.State)
@@ -100,21 +78,10 @@ pub trait Desk {
         ensures ready { OnOk result (ready self.new (M.medium «module».new) (D.medium store.new)) }
 
         // Disks that tell their bytes don't turn out damaged.
-        ensures module_sound { (cell : ℕ) → result ≡ Err (Stop.Damaged Device.Module cell)
-            → Told (M.medium «module».old) (λ c. ⊥) }
-        ensures store_sound { (cell : ℕ) → result ≡ Err (Stop.Damaged Device.Store cell)
-            → Told (M.medium «module».old) (λ c. Told (D.medium store.old) (λ d. ⊥)) }
-
-        ensures module_left { DiskLeft (M.medium «module».old) (M.medium «module».new)
-            (M.faults «module».old) (M.faults «module».new) result Stop.ModuleFault }
-        ensures store_left { DiskLeft (D.medium store.old) (D.medium store.new)
-            (D.faults store.old) (D.faults store.new) result Stop.StoreFault }
-        ensures entropy_left { TellsFault (E.faults entropy.old) (E.faults entropy.new)
-            result Stop.EntropyFault }
-        ensures draws { result ≡ Err Stop.EntropyFault → machine.Draws }
-
-        ensures cells { (device : AnyDevice) (cell : ℕ) → result ≡ Err (Stop.Damaged device cell)
-            → machine.HasCell device cell }
+        ensures undamaged { Undamaged machine result
+            (⟦<(M, D) as Shown>⟧.shown («module».old, store.old)) }
+        ensures left { DevicesLeft machine result (⟦<(M, D, E) as Shown>⟧.between
+            («module».old, store.old, entropy.old) («module».new, store.new, entropy.new)) }
         ensures stops { IfErr result IsDeskStop }
         ensures bench { bench.new ≡ blank_bench };
 }

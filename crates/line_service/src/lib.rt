@@ -2,12 +2,14 @@
 #![tactic(auto)]
 
 mod desk;
+mod devices;
 mod running;
 mod sending;
 mod serving;
 mod stops;
 
 pub use desk::Desk;
+pub use devices::{Shown, ShownOutside};
 pub use running::serve;
 pub use sending::send;
 pub use serving::{Served, serve_one};

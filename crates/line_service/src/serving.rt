@@ -1,22 +1,19 @@
 //! One line, from the source to its reply at the sink.
-ghost use Rattle.std.specs.Prelude.{◌≡◌, ◌++◌, ◌+◌, ◌⊎◌, ◌↔◌, ◌<◌, ℕ, List, [], IsTrue, Ok, Err, OnOk, IfErr, length};
+ghost use Rattle.std.specs.Prelude.{◌≡◌, ℕ, List, IsTrue, Err, OnOk, IfErr};
 ghost use Rattle.std.specs.Io.KnownBytes.{IsAtEnd};
 ghost use Rattle.key_cells.specs.Bench.{blank_bench};
-ghost use Rattle.slot_disk.specs.Medium.{Told, IsSettled};
-ghost use Rattle.slot_disk.specs.WhereTold.{WhereTold};
-ghost use Rattle.script_buffers.specs.Lines.{NoNewline};
-ghost use Rattle.script_buffers.specs.Reading.{Reading, Shows, given, input_limit, LosesPart, bytes_ahead};
-ghost use Rattle.line_service.specs.Machine.{Machine, world};
+ghost use Rattle.script_buffers.specs.Reading.{Shows};
+ghost use Rattle.line_service.specs.Machine.{world};
 ghost use Rattle.line_service.specs.Answering.{Stands, Serves};
-ghost use Rattle.line_service.specs.Devices.{DiskLeft, TellsFault};
-ghost use Rattle.line_service.specs.Sending.{Grows};
-ghost use Rattle.line_service.specs.Serving.{IsTheLine, LineServed};
-ghost use Rattle.line_service.specs.Stops.{IsDeskStop, IsUnanswered};
-ghost use Rattle.line_service.specs.declared.stops.Device.{Device as AnyDevice};
+ghost use Rattle.line_service.specs.Devices.{AreSettled, BothSettled, DevicesLeft, OutsideLeft, Undamaged};
+ghost use Rattle.line_service.specs.Running.{LineLeaves, LineTaken, Unmoved};
+ghost use Rattle.line_service.specs.Serving.{IsTheLine};
+ghost use Rattle.line_service.specs.Stops.{IsDeskStop};
 
 use crate::desk::Desk;
+use crate::devices::{Shown, ShownOutside};
 use crate::sending::send;
-use crate::stops::{Device, Stop};
+use crate::stops::Stop;
 use key_cells::Workbench;
 use script_buffers::{LineBuffer, LineFault, ReplyBuffer, Taken, read_line};
 use slot_disk::{Disk, Entropy, Sink, Source};
@@ -42,10 +39,8 @@ fn answer_taken<A: Desk, M: Disk, D: Disk, E: Entropy>(
     entropy: &mut E,
 ) -> Result<(), Stop>
     requires shown { Shows taken lines.now }
-    requires module_size { (M.medium «module».old).size ≡ A.machine.module_size }
-    requires store_size { (D.medium store.old).size ≡ A.machine.store_size }
-    requires module_settled { IsSettled (M.medium «module».old) }
-    requires store_settled { IsSettled (D.medium store.old) }
+    requires disks { AreSettled A.machine.module_size A.machine.store_size
+        (⟦<(M, D) as Shown>⟧.shown («module».old, store.old)) }
     requires ready { A.ready desk.old (M.medium «module».old) (D.medium store.old) }
 
     ensures serves { (s : A.machine.State)
@@ -55,19 +50,10 @@ fn answer_taken<A: Desk, M: Disk, D: Disk, E: Entropy>(
         (world (M.medium «module».old) (D.medium store.old) (E.left entropy.old))
         (world (M.medium «module».new) (D.medium store.new) (E.left entropy.new)) }
     ensures ready { OnOk result (A.ready desk.new (M.medium «module».new) (D.medium store.new)) }
-    ensures module_sound { (cell : ℕ) → result ≡ Err (Stop.Damaged Device.Module cell)
-        → Told (M.medium «module».old) (λ c. ⊥) }
-    ensures store_sound { (cell : ℕ) → result ≡ Err (Stop.Damaged Device.Store cell)
-        → Told (M.medium «module».old) (λ c. Told (D.medium store.old) (λ d. ⊥)) }
-    ensures module_left { DiskLeft (M.medium «module».old) (M.medium «module».new)
-        (M.faults «module».old) (M.faults «module».new) result Stop.ModuleFault }
-    ensures store_left { DiskLeft (D.medium store.old) (D.medium store.new)
-        (D.faults store.old) (D.faults store.new) result Stop.StoreFault }
-    ensures entropy_left { TellsFault (E.faults entropy.old) (E.faults entropy.new)
-        result Stop.EntropyFault }
-    ensures draws { result ≡ Err Stop.EntropyFault → A.machine.Draws }
-    ensures cells { (device : AnyDevice) (cell : ℕ) → result ≡ Err (Stop.Damaged device cell)
-        → A.machine.HasCell device cell }
+    ensures undamaged { Undamaged A.machine result
+        (⟦<(M, D) as Shown>⟧.shown («module».old, store.old)) }
+    ensures left { DevicesLeft A.machine result (⟦<(M, D, E) as Shown>⟧.between
+        («module».old, store.old, entropy.old) («module».new, store.new, entropy.new)) }
     ensures stops { IfErr result IsDeskStop }
     ensures bench { bench.new ≡ blank_bench }
 {
@@ -101,72 +87,36 @@ pub fn serve_one<A: Desk, S: Source, K: Sink, M: Disk, D: Disk, E: Entropy>(
     entropy: &mut E,
 ) -> Result<Served, Stop>
     requires at_end { IsTrue lines.old.ended → IsAtEnd (S.left source.old) }
-    requires module_size { (M.medium «module».old).size ≡ A.machine.module_size }
-    requires store_size { (D.medium store.old).size ≡ A.machine.store_size }
-    requires module_settled { IsSettled (M.medium «module».old) }
-    requires store_settled { IsSettled (D.medium store.old) }
+    requires disks { AreSettled A.machine.module_size A.machine.store_size
+        (⟦<(M, D) as Shown>⟧.shown («module».old, store.old)) }
     requires ready { A.ready desk.old (M.medium «module».old) (D.medium store.old) }
 
     // What the line comes to, from the state for which the disks stand.
     ensures serves { (s : A.machine.State)
         → Stands A.machine s (A.knows desk.old) (M.medium «module».old) (D.medium store.old)
-        → LineServed A.machine s (A.knows desk.new) result
-        (world (M.medium «module».old) (D.medium store.old) (E.left entropy.old))
-        (world (M.medium «module».new) (D.medium store.new) (E.left entropy.new))
-        (S.left source.old) (S.left source.new)
-        (K.held sink.old) (K.held sink.new) lines.old lines.new }
+        → LineLeaves A.machine s (A.knows desk.new) result
+        (⟦<(S, K, M, D, E) as ShownOutside>⟧.between
+        (source.old, sink.old, «module».old, store.old, entropy.old)
+        (source.new, sink.new, «module».new, store.new, entropy.new)) lines.old lines.new }
     ensures ready { OnOk result (A.ready desk.new (M.medium «module».new) (D.medium store.new)) }
 
     // How far the input was taken.
-    ensures ended { WhereTold (S.left source.old) (S.left source.new) (λ input rest.
-        (result ≡ Ok Served.Ended) ↔ (IsTrue lines.new.ended × (lines.old.pending ++ input ≡ []))) }
-    ensures all_taken { result ≡ Ok Served.Ended → WhereTold (S.left source.old) (S.left source.new)
-        (λ input rest. (lines.old.pending ++ input ≡ []) × (lines.new.pending ++ rest ≡ [])) }
-    ensures ends { result ≡ Ok Served.Ended → IsTrue lines.new.ended }
-    ensures limit { WhereTold (S.left source.old) (S.left source.new) (λ input rest.
-        (result ≡ Err Stop.InputLimit) ↔ ((lines.new.taken ≡ input_limit)
-        × NoNewline (lines.old.pending ++ given input rest))) }
-    ensures part_lost { (result ≡ Err Stop.ReadFault) ⊎ (result ≡ Err Stop.InputLimit)
-        → WhereTold (S.left source.old) (S.left source.new) (λ input rest.
-        LosesPart (lines.old.pending ++ input) rest) }
-    ensures still_ended { IsTrue lines.old.ended → IsTrue lines.new.ended }
-    ensures at_end { IsTrue lines.new.ended → IsAtEnd (S.left source.new) }
-    ensures advances { result ≡ Ok Served.Replied → bytes_ahead lines.new < bytes_ahead lines.old }
-    ensures counted { WhereTold (S.left source.old) (S.left source.new) (λ input rest.
-        lines.new.taken + length rest ≡ lines.old.taken + length input) }
-    ensures full { result ≡ Err Stop.InputLimit → lines.new.taken ≡ input_limit }
-    ensures short { (result ≡ Err Stop.ReadFault) ⊎ (result ≡ Ok Served.Ended)
-        → lines.new.taken < input_limit }
+    ensures taken { LineTaken result (⟦<(S, K, M, D, E) as ShownOutside>⟧.between
+        (source.old, sink.old, «module».old, store.old, entropy.old)
+        (source.new, sink.new, «module».new, store.new, entropy.new)) lines.old lines.new }
 
     // Where no reply is sent, the sink is as before; and where no line was answered, so is all else.
-    ensures sink_unmoved { (result ≡ Ok Served.Replied → ⊥) → (result ≡ Err Stop.WriteFault → ⊥)
-        → sink.new ≡ sink.old }
-    ensures sink_grows { WhereTold (K.held sink.old) (K.held sink.new) Grows }
-    ensures module_unmoved { IsUnanswered result → «module».new ≡ «module».old }
-    ensures store_unmoved { IsUnanswered result → store.new ≡ store.old }
-    ensures entropy_unmoved { IsUnanswered result → entropy.new ≡ entropy.old }
-    ensures desk_unmoved { IsUnanswered result → desk.new ≡ desk.old }
+    ensures unmoved { Unmoved result sink.old sink.new «module».old «module».new
+        store.old store.new entropy.old entropy.new desk.old desk.new }
 
     // What is left of each device, and why it stopped.
-    ensures module_left { DiskLeft (M.medium «module».old) (M.medium «module».new)
-        (M.faults «module».old) (M.faults «module».new) result Stop.ModuleFault }
-    ensures store_left { DiskLeft (D.medium store.old) (D.medium store.new)
-        (D.faults store.old) (D.faults store.new) result Stop.StoreFault }
-    ensures module_cut { result ≡ Err Stop.WriteFault → IsSettled (M.medium «module».new) }
-    ensures store_cut { result ≡ Err Stop.WriteFault → IsSettled (D.medium store.new) }
-    ensures source_left { TellsFault
-        (S.faults source.old) (S.faults source.new) result Stop.ReadFault }
-    ensures sink_left { TellsFault (K.faults sink.old) (K.faults sink.new) result Stop.WriteFault }
-    ensures entropy_left { TellsFault (E.faults entropy.old) (E.faults entropy.new)
-        result Stop.EntropyFault }
-    ensures draws { result ≡ Err Stop.EntropyFault → A.machine.Draws }
-    ensures cells { (device : AnyDevice) (cell : ℕ) → result ≡ Err (Stop.Damaged device cell)
-        → A.machine.HasCell device cell }
-    ensures module_sound { (cell : ℕ) → result ≡ Err (Stop.Damaged Device.Module cell)
-        → Told (M.medium «module».old) (λ c. ⊥) }
-    ensures store_sound { (cell : ℕ) → result ≡ Err (Stop.Damaged Device.Store cell)
-        → Told (M.medium «module».old) (λ c. Told (D.medium store.old) (λ d. ⊥)) }
-
+    ensures left { OutsideLeft A.machine result (⟦<(S, K, M, D, E) as ShownOutside>⟧.between
+        (source.old, sink.old, «module».old, store.old, entropy.old)
+        (source.new, sink.new, «module».new, store.new, entropy.new)) }
+    ensures undamaged { Undamaged A.machine result
+        (⟦<(M, D) as Shown>⟧.shown («module».old, store.old)) }
+    ensures cut { result ≡ Err Stop.WriteFault → BothSettled
+        (⟦<(M, D) as Shown>⟧.shown («module».new, store.new)) }
     ensures bench { bench.new ≡ blank_bench }
 {
     bench.wipe();

@@ -1,9 +1,10 @@
 -- What a line leaves, by how far it came.
-use Rattle.std.proofs.Common.{◌≡◌, ◌++◌, ℕ, List, subst}
+use Rattle.std.proofs.Common.{◌≡◌, ◌++◌, ℕ, List, subst, arith, rules}
 use Rattle.slot_disk.specs.WhereTold.{WhereTold}
 use Rattle.line_service.specs.Machine.{world}
 use Rattle.line_service.specs.Sending.{GotPart}
-use Rattle.line_service.proofs.LineLemmas.{line_replied, line_cut, line_lost}
+use Rattle.line_service.proofs.LineLemmas.{line_replied, line_cut, line_lost, line_ended, line_unread, line_over}
+use Rattle.line_service.proofs.StopLemmas.{devices_stopped, devices_unread, no_desk_read, no_desk_write, grows_none}
 use Rattle.line_service.proofs.serving.serve_one.Goals as goal
 
 pub returns-in-Ok-send-clause-serves : goal.returns-in-Ok-send-clause-serves
@@ -34,3 +35,37 @@ returns-in-Err-clause-serves g c = λ s stands.
     c.in-Err.stop (c.in-Err.ensures.serves s stands) c.args.lines.now
     (g.S.Source.left c.args.source.now) (g.S.Source.left c.read_line.new.source) (g.K.Sink.held c.args.sink.now) (g.K.Sink.held c.args.sink.now)
     c.in-Ok.ensures.answer
+
+pub returns-in-End-clause-serves : goal.returns-in-End-clause-serves
+returns-in-End-clause-serves g c = λ s stands.
+    line_ended g.A.Desk.machine s (g.A.Desk.knows c.args.desk.now) (world (g.M.Disk.medium c.args.module.now) (g.D.Disk.medium c.args.store.now) (g.E.Entropy.left c.args.entropy.now))
+    (g.S.Source.left c.args.source.now) (g.S.Source.left c.read_line.new.source) (g.K.Sink.held c.args.sink.now) (g.K.Sink.held c.args.sink.now)
+    c.args.lines.now c.read_line.new.buffer _ c.read_line.ensures.counted stands c.requires.disks.module_settled c.requires.disks.store_settled
+
+pub returns-in-Err-ReadFault-clause-serves : goal.returns-in-Err-ReadFault-clause-serves
+returns-in-Err-ReadFault-clause-serves g c = λ s stands.
+    line_unread g.A.Desk.machine s (g.A.Desk.knows c.args.desk.now) (world (g.M.Disk.medium c.args.module.now) (g.D.Disk.medium c.args.store.now) (g.E.Entropy.left c.args.entropy.now))
+    (g.S.Source.left c.args.source.now) (g.S.Source.left c.read_line.new.source) (g.K.Sink.held c.args.sink.now) (g.K.Sink.held c.args.sink.now)
+    c.args.lines.now c.read_line.new.buffer _ c.read_line.ensures.counted stands c.requires.disks.module_settled c.requires.disks.store_settled
+
+pub returns-in-Err-InputLimit-clause-serves : goal.returns-in-Err-InputLimit-clause-serves
+returns-in-Err-InputLimit-clause-serves g c = λ s stands.
+    line_over g.A.Desk.machine s (g.A.Desk.knows c.args.desk.now) (world (g.M.Disk.medium c.args.module.now) (g.D.Disk.medium c.args.store.now) (g.E.Entropy.left c.args.entropy.now))
+    (g.S.Source.left c.args.source.now) (g.S.Source.left c.read_line.new.source) (g.K.Sink.held c.args.sink.now) (g.K.Sink.held c.args.sink.now)
+    c.args.lines.now c.read_line.new.buffer _ c.read_line.ensures.counted stands c.requires.disks.module_settled c.requires.disks.store_settled
+
+pub returns-in-Err-clause-left : goal.returns-in-Err-clause-left
+returns-in-Err-clause-left g c = record {
+  devices_left = devices_stopped g.A.Desk.machine c.in-Err.stop _ c.in-Err.ensures.left;
+  source_left = record { later = c.read_line.ensures.later; fault = λ h. absurd (no_desk_read c.in-Err.stop c.in-Err.ensures.stops h) };
+  sink_left = record { later = omega arith; fault = λ h. absurd (no_desk_write c.in-Err.stop c.in-Err.ensures.stops h) };
+  sink_grows = grows_none (g.K.Sink.held c.args.sink.now);
+}
+
+pub returns-in-Err-ReadFault-clause-left : goal.returns-in-Err-ReadFault-clause-left
+returns-in-Err-ReadFault-clause-left g c = record {
+  devices_left = devices_unread g.A.Desk.machine _;
+  source_left = record { later = c.read_line.ensures.later; fault = λ h. search rules };
+  sink_left = record { later = omega arith; fault = λ h. absurd (cc h) };
+  sink_grows = grows_none (g.K.Sink.held c.args.sink.now);
+}
