@@ -34,6 +34,8 @@ pub data Values : Type 0 where
   hex_text : Values
   -- a message authentication code: 8, 12 or 16 hexadecimal digits
   mac_text : Values
+  -- a part of a key: 16 or 32 hexadecimal digits
+  part_text : Values
   -- what stands for a label: one or more characters from X'21' to X'7E'
   label_text : Values
   -- where a key goes: `-`, which is into the reply, or `L:` and what stands for a label
@@ -52,6 +54,7 @@ accepts (one_of choices) text = list_any (bytes_eq text) choices
 accepts key_text text = is_token_text text || is_named text
 accepts hex_text text = is_even (length text) && list_all is_hex_digit text
 accepts mac_text text = list_any (λ digits. is_hex digits text) (8 ∷ 12 ∷ 16 ∷ [])
+accepts part_text text = list_any (λ digits. is_hex digits text) (16 ∷ 32 ∷ [])
 accepts label_text text = is_label_text text
 accepts to_text text = bytes_eq text (codes "-") || is_named text
 accepts prefix_text text = nat_le (length text) 64 && list_all is_label_byte text
@@ -67,6 +70,7 @@ meaning (one_of choices) text = text
 meaning key_text text = text
 meaning hex_text text = text
 meaning mac_text text = text
+meaning part_text text = text
 meaning label_text text = text
 meaning to_text text = text
 meaning prefix_text text = text
@@ -144,6 +148,29 @@ text_field = record { name = codes "text"; values = hex_text }
 abbrev pub rule_field : FieldForm
 rule_field = word_field (codes "rule") (codes "X9.9-1" ∷ codes "X9.19OPT" ∷ [])
 
+-- how many bytes of a message authentication code are given
+abbrev pub mac_length_field : FieldForm
+mac_length_field = word_field (codes "length") (codes "4" ∷ codes "6" ∷ codes "8" ∷ [])
+
+abbrev pub mac_field : FieldForm
+mac_field = record { name = codes "mac"; values = mac_text }
+
+-- which segment of a text this is
+abbrev pub segment_field : List ℕ → FieldForm
+segment_field choice = word_field (codes "segment") (choice ∷ [])
+
+-- what the segment before left: 16 bytes
+abbrev pub chain_field : FieldForm
+chain_field = digits_field (codes "chain") 32
+
+-- which part of a key this is
+abbrev pub part_rule_field : List (List ℕ) → FieldForm
+part_rule_field choices = word_field (codes "rule") choices
+
+-- a part of a key: as many bytes as the key has
+abbrev pub key_part_field : FieldForm
+key_part_field = record { name = codes "part"; values = part_text }
+
 -- the name of the role that a request defines or removes
 abbrev pub name_field : Values → FieldForm
 name_field values = record { name = codes "name"; values = values }
@@ -155,9 +182,21 @@ points_field = record { name = codes "points"; values = points }
 pub data RequestName : Type 0 where
   csnbktp : RequestName
   csnbenc : RequestName
+  csnbenc_first : RequestName
+  csnbenc_middle : RequestName
+  csnbenc_last : RequestName
   csnbdec : RequestName
+  csnbdec_first : RequestName
+  csnbdec_middle : RequestName
+  csnbdec_last : RequestName
   csnbmgn : RequestName
+  csnbmgn_first : RequestName
+  csnbmgn_middle : RequestName
+  csnbmgn_last : RequestName
   csnbmvr : RequestName
+  csnbmvr_first : RequestName
+  csnbmvr_middle : RequestName
+  csnbmvr_last : RequestName
   csnbkyt : RequestName
   csnbcki : RequestName
   csnbrng : RequestName
@@ -168,6 +207,9 @@ pub data RequestName : Type 0 where
   csnbkex : RequestName
   csnbpex : RequestName
   csnbktc : RequestName
+  csnbkpi_first : RequestName
+  csnbkpi_middle : RequestName
+  csnbktr : RequestName
   csnbkrc : RequestName
   csnbkrw : RequestName
   csnbkrr : RequestName
@@ -187,21 +229,79 @@ row_of csnbenc = record {
   verb = codes "CSNBENC";
   fields = role_field ∷ key_field ∷ iv_field ∷ pad_field ∷ text_field ∷ [];
 }
+row_of csnbenc_first = record {
+  verb = codes "CSNBENC";
+  fields = role_field ∷ key_field ∷ segment_field (codes "FIRST") ∷ iv_field ∷ text_field ∷ [];
+}
+row_of csnbenc_middle = record {
+  verb = codes "CSNBENC";
+  fields = role_field ∷ key_field ∷ segment_field (codes "MIDDLE") ∷ chain_field ∷ text_field ∷ [];
+}
+row_of csnbenc_last = record {
+  verb = codes "CSNBENC";
+  fields =
+      role_field ∷ key_field ∷ segment_field (codes "LAST") ∷ chain_field ∷ pad_field
+      ∷ text_field ∷ [];
+}
 row_of csnbdec = record {
   verb = codes "CSNBDEC";
   fields = role_field ∷ key_field ∷ iv_field ∷ pad_field ∷ text_field ∷ [];
 }
+row_of csnbdec_first = record {
+  verb = codes "CSNBDEC";
+  fields = role_field ∷ key_field ∷ segment_field (codes "FIRST") ∷ iv_field ∷ text_field ∷ [];
+}
+row_of csnbdec_middle = record {
+  verb = codes "CSNBDEC";
+  fields = role_field ∷ key_field ∷ segment_field (codes "MIDDLE") ∷ chain_field ∷ text_field ∷ [];
+}
+row_of csnbdec_last = record {
+  verb = codes "CSNBDEC";
+  fields =
+      role_field ∷ key_field ∷ segment_field (codes "LAST") ∷ chain_field ∷ pad_field
+      ∷ text_field ∷ [];
+}
 row_of csnbmgn = record {
   verb = codes "CSNBMGN";
   fields =
-      role_field ∷ key_field ∷ rule_field
-      ∷ word_field (codes "length") (codes "4" ∷ codes "6" ∷ codes "8" ∷ []) ∷ text_field ∷ [];
+      role_field ∷ key_field ∷ rule_field ∷ mac_length_field ∷ text_field ∷ [];
+}
+row_of csnbmgn_first = record {
+  verb = codes "CSNBMGN";
+  fields = role_field ∷ key_field ∷ rule_field ∷ segment_field (codes "FIRST") ∷ text_field ∷ [];
+}
+row_of csnbmgn_middle = record {
+  verb = codes "CSNBMGN";
+  fields =
+      role_field ∷ key_field ∷ rule_field ∷ segment_field (codes "MIDDLE") ∷ chain_field
+      ∷ text_field ∷ [];
+}
+row_of csnbmgn_last = record {
+  verb = codes "CSNBMGN";
+  fields =
+      role_field ∷ key_field ∷ rule_field ∷ segment_field (codes "LAST") ∷ mac_length_field
+      ∷ chain_field ∷ text_field ∷ [];
 }
 row_of csnbmvr = record {
   verb = codes "CSNBMVR";
   fields =
-      role_field ∷ key_field ∷ rule_field ∷ record { name = codes "mac"; values = mac_text }
+      role_field ∷ key_field ∷ rule_field ∷ mac_field ∷ text_field ∷ [];
+}
+row_of csnbmvr_first = record {
+  verb = codes "CSNBMVR";
+  fields = role_field ∷ key_field ∷ rule_field ∷ segment_field (codes "FIRST") ∷ text_field ∷ [];
+}
+row_of csnbmvr_middle = record {
+  verb = codes "CSNBMVR";
+  fields =
+      role_field ∷ key_field ∷ rule_field ∷ segment_field (codes "MIDDLE") ∷ chain_field
       ∷ text_field ∷ [];
+}
+row_of csnbmvr_last = record {
+  verb = codes "CSNBMVR";
+  fields =
+      role_field ∷ key_field ∷ rule_field ∷ segment_field (codes "LAST") ∷ mac_field
+      ∷ chain_field ∷ text_field ∷ [];
 }
 row_of csnbkyt = record { verb = codes "CSNBKYT"; fields = role_field ∷ key_field ∷ [] }
 row_of csnbcki = record {
@@ -257,6 +357,24 @@ row_of csnbktc = record {
       role_field ∷ word_field (codes "rule") (codes "RTCMK" ∷ codes "RTNMK" ∷ [])
       ∷ token_field ∷ [];
 }
+row_of csnbkpi_first = record {
+  verb = codes "CSNBKPI";
+  fields =
+      role_field ∷ part_rule_field (codes "FIRST" ∷ []) ∷ type_field (codes "type")
+      ∷ key_part_field ∷ to_field ∷ [];
+}
+row_of csnbkpi_middle = record {
+  verb = codes "CSNBKPI";
+  fields =
+      role_field ∷ part_rule_field (codes "MIDDLE" ∷ codes "LAST" ∷ []) ∷ key_field
+      ∷ key_part_field ∷ to_field ∷ [];
+}
+row_of csnbktr = record {
+  verb = codes "CSNBKTR";
+  fields =
+      role_field ∷ token_field ∷ transport_field (codes "transport1")
+      ∷ transport_field (codes "transport2") ∷ [];
+}
 row_of csnbkrc = record { verb = codes "CSNBKRC"; fields = role_field ∷ label_field ∷ [] }
 row_of csnbkrw = record {
   verb = codes "CSNBKRW";
@@ -290,13 +408,27 @@ row_of csuaaci_remove = record {
 }
 row_of reencipher = record { verb = codes "REENCIPHER"; fields = role_field ∷ [] }
 
--- the rows of texts and of single keys
+-- the rows of single keys and of random bytes
 abbrev pub use_requests : List RequestName
-use_requests = csnbktp ∷ csnbenc ∷ csnbdec ∷ csnbmgn ∷ csnbmvr ∷ csnbkyt ∷ csnbcki ∷ csnbrng ∷ []
+use_requests = csnbktp ∷ csnbkyt ∷ csnbcki ∷ csnbrng ∷ []
+
+-- the rows of texts, whole and in segments
+abbrev pub cipher_requests : List RequestName
+cipher_requests =
+    csnbenc ∷ csnbenc_first ∷ csnbenc_middle ∷ csnbenc_last
+    ∷ csnbdec ∷ csnbdec_first ∷ csnbdec_middle ∷ csnbdec_last ∷ []
+
+-- the rows of message authentication codes, of whole texts and of texts in segments
+abbrev pub code_requests : List RequestName
+code_requests =
+    csnbmgn ∷ csnbmgn_first ∷ csnbmgn_middle ∷ csnbmgn_last
+    ∷ csnbmvr ∷ csnbmvr_first ∷ csnbmvr_middle ∷ csnbmvr_last ∷ []
 
 -- the rows that make and move keys
 abbrev pub key_requests : List RequestName
-key_requests = csnbkgn_op ∷ csnbkgn_pair ∷ csnbkgn_out ∷ csnbkim ∷ csnbkex ∷ csnbpex ∷ csnbktc ∷ []
+key_requests =
+    csnbkgn_op ∷ csnbkgn_pair ∷ csnbkgn_out ∷ csnbkim ∷ csnbkex ∷ csnbpex ∷ csnbktc
+    ∷ csnbkpi_first ∷ csnbkpi_middle ∷ csnbktr ∷ []
 
 -- the rows of key records
 abbrev pub record_requests : List RequestName
@@ -309,7 +441,9 @@ control_requests =
 
 -- the rows in their order; no line spells requests of two rows
 abbrev pub all_requests : List RequestName
-all_requests = use_requests ++ (key_requests ++ (record_requests ++ control_requests))
+all_requests =
+    cipher_requests ++ (code_requests ++ (use_requests
+    ++ (key_requests ++ (record_requests ++ control_requests))))
 
 -- a request: its row, and what the row's fields say
 pub record Request : Type 0 where
@@ -352,6 +486,7 @@ IsValue (one_of choices) value = IsTrue (accepts (one_of choices) value)
 IsValue key_text value = IsTrue (accepts key_text value)
 IsValue hex_text value = IsTrue (accepts hex_text value)
 IsValue mac_text value = IsTrue (accepts mac_text value)
+IsValue part_text value = IsTrue (accepts part_text value)
 IsValue label_text value = IsTrue (accepts label_text value)
 IsValue to_text value = IsTrue (accepts to_text value)
 IsValue prefix_text value = IsTrue (accepts prefix_text value)

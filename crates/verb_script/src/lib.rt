@@ -1,10 +1,16 @@
 //! Request lines: the grammar of the verbs, and the request that a line spells.
 #![tactic(auto)]
 
+mod cipher_rows;
+mod code_rows;
+mod control_rows;
 mod digits;
+mod key_rows;
 mod labels;
 mod laws;
+mod record_rows;
 mod request;
+mod use_rows;
 mod values;
 mod words;
 

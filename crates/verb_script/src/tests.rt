@@ -253,6 +253,153 @@ fn lines_that_make_and_move_keys_are_parsed(rt: HostRuntime) {
 }
 
 #[test]
+fn lines_of_texts_in_segments_are_parsed(rt: HostRuntime) {
+    let role = RoleName::default_role();
+    let key: &[u8] = b"L:K";
+    let chain: &[u8] = b"1234567890abcdef074e6f7720697320";
+    let lines: [(&[u8], Request); 8] = [
+        (
+            b"CSNBENC role=DEFAULT key=L:K segment=FIRST iv=1234567890abcdef text=4e6f7720697320",
+            Request::CsnbencFirst {
+                role,
+                key,
+                segment: b"FIRST",
+                iv: b"1234567890abcdef",
+                text: b"4e6f7720697320",
+            },
+        ),
+        (
+            b"CSNBENC role=DEFAULT key=L:K segment=MIDDLE chain=1234567890abcdef074e6f7720697320 text=74",
+            Request::CsnbencMiddle {
+                role,
+                key,
+                segment: b"MIDDLE",
+                chain,
+                text: b"74",
+            },
+        ),
+        (
+            b"CSNBDEC role=DEFAULT key=L:K segment=MIDDLE chain=1234567890abcdef074e6f7720697320 text=",
+            Request::CsnbdecMiddle {
+                role,
+                key,
+                segment: b"MIDDLE",
+                chain,
+                text: b"",
+            },
+        ),
+        (
+            b"CSNBDEC role=DEFAULT key=L:K segment=LAST chain=1234567890abcdef074e6f7720697320 pad=X9.23 text=00",
+            Request::CsnbdecLast {
+                role,
+                key,
+                segment: b"LAST",
+                chain,
+                pad: b"X9.23",
+                text: b"00",
+            },
+        ),
+        (
+            b"CSNBMGN role=DEFAULT key=L:K rule=X9.9-1 segment=FIRST text=3736353433",
+            Request::CsnbmgnFirst {
+                role,
+                key,
+                rule: b"X9.9-1",
+                segment: b"FIRST",
+                text: b"3736353433",
+            },
+        ),
+        (
+            b"CSNBMGN role=DEFAULT key=L:K rule=X9.19OPT segment=LAST length=6 chain=1234567890abcdef074e6f7720697320 text=32",
+            Request::CsnbmgnLast {
+                role,
+                key,
+                rule: b"X9.19OPT",
+                segment: b"LAST",
+                length: b"6",
+                chain,
+                text: b"32",
+            },
+        ),
+        (
+            b"CSNBMVR role=DEFAULT key=L:K rule=X9.9-1 segment=MIDDLE chain=1234567890abcdef074e6f7720697320 text=32",
+            Request::CsnbmvrMiddle {
+                role,
+                key,
+                rule: b"X9.9-1",
+                segment: b"MIDDLE",
+                chain,
+                text: b"32",
+            },
+        ),
+        (
+            b"CSNBMVR role=DEFAULT key=L:K rule=X9.9-1 segment=LAST mac=f1d30f68 chain=1234567890abcdef074e6f7720697320 text=32",
+            Request::CsnbmvrLast {
+                role,
+                key,
+                rule: b"X9.9-1",
+                segment: b"LAST",
+                mac: b"f1d30f68",
+                chain,
+                text: b"32",
+            },
+        ),
+    ];
+    for (line, request) in lines.iter() {
+        assert!(rt; is_parsed(line, request));
+    }
+}
+
+#[test]
+fn lines_of_keys_in_parts_are_parsed(rt: HostRuntime) {
+    let role = RoleName::default_role();
+    let lines: [(&[u8], Request); 4] = [
+        (
+            b"CSNBKPI role=DEFAULT rule=FIRST type=DATA part=ffffffffffffffff to=L:P",
+            Request::CsnbkpiFirst {
+                role,
+                rule: b"FIRST",
+                kind: KeyType::Data,
+                part: b"ffffffffffffffff",
+                to: b"L:P",
+            },
+        ),
+        (
+            b"CSNBKPI role=DEFAULT rule=MIDDLE key=L:P part=0123456789abcdef0123456789ABCDEF to=-",
+            Request::CsnbkpiMiddle {
+                role,
+                rule: b"MIDDLE",
+                key: b"L:P",
+                part: b"0123456789abcdef0123456789ABCDEF",
+                to: b"-",
+            },
+        ),
+        (
+            b"CSNBKPI role=DEFAULT rule=LAST key=L:P part=fedcba9876543210 to=L:P",
+            Request::CsnbkpiMiddle {
+                role,
+                rule: b"LAST",
+                key: b"L:P",
+                part: b"fedcba9876543210",
+                to: b"L:P",
+            },
+        ),
+        (
+            b"CSNBKTR role=DEFAULT token=020000000000c00000000000000000008ca64de9c1b123a700000000000000000000000000000000000000000000000000000000000000000000000050583190 transport1=L:IX transport2=L:OX",
+            Request::Csnbktr {
+                role,
+                token: TOKEN,
+                transport1: b"L:IX",
+                transport2: b"L:OX",
+            },
+        ),
+    ];
+    for (line, request) in lines.iter() {
+        assert!(rt; is_parsed(line, request));
+    }
+}
+
+#[test]
 fn lines_of_each_row_are_parsed(rt: HostRuntime) {
     let role = RoleName::default_role();
     let teller = name_of(b"TELLER");
@@ -360,7 +507,7 @@ fn other_lines_are_no_requests(rt: HostRuntime) {
         b"CSNBENC role=DEFAULT key=T:020000000000c00000000000000000008ca64de9c1b123a700000000000000000000000000000000000000000000000000000000000000000000000050583190 iv=0000000000000000 pad=NONE text=0",
         b"CSUAACI role=DEFAULT action=REMOVE name=DEFAULT",
         b"CSUAACI role=DEFAULT action=REMOVE name=teller",
-        b"CSUAACI role=DEFAULT action=DEFINE name=TELLER points=04000000",
+        b"CSUAACI role=DEFAULT action=DEFINE name=TELLER points=20000000",
         b"CSUAACI role=DEFAULT action=DEFINE name=TELLER points=f",
         b"CSUAACI role=DEFAULT action=DEFINE name=TELLER",
         b"CSNBMKP role=DEFAULT action=CLEAR part=0102030405060708090a0b0c0d0e0f101112131415161718",
@@ -416,6 +563,28 @@ fn other_lines_of_keys_are_no_requests(rt: HostRuntime) {
         b"CSNBKEX role=DEFAULT key=L:K transport=L:EXP to=-",
         b"CSNBPEX role=DEFAULT key=L:K",
         b"CSNBKTC role=DEFAULT rule=RTOMK token=020000000000c00000000000000000008ca64de9c1b123a700000000000000000000000000000000000000000000000000000000000000000000000050583190",
+    ];
+    for line in lines {
+        assert!(rt; parse_request(line) == Err(FormFault));
+    }
+}
+
+#[test]
+fn other_lines_of_segments_and_parts_are_no_requests(rt: HostRuntime) {
+    let lines: [&[u8]; 13] = [
+        b"CSNBENC role=DEFAULT key=L:K segment=FIRST chain=1234567890abcdef074e6f7720697320 text=",
+        b"CSNBENC role=DEFAULT key=L:K segment=FIRST iv=1234567890abcdef pad=NONE text=",
+        b"CSNBENC role=DEFAULT key=L:K segment=MIDDLE iv=1234567890abcdef text=",
+        b"CSNBENC role=DEFAULT key=L:K segment=MIDDLE chain=1234567890abcdef074e6f77206973 text=",
+        b"CSNBENC role=DEFAULT key=L:K segment=LAST chain=1234567890abcdef074e6f7720697320 text=",
+        b"CSNBENC role=DEFAULT key=L:K segment=ONLY iv=1234567890abcdef text=",
+        b"CSNBMGN role=DEFAULT key=L:K rule=X9.9-1 segment=LAST chain=1234567890abcdef074e6f7720697320 text=",
+        b"CSNBMVR role=DEFAULT key=L:K rule=X9.9-1 segment=LAST length=8 chain=1234567890abcdef074e6f7720697320 text=",
+        b"CSNBKPI role=DEFAULT rule=FIRST type=DATA part=ffffffffffff to=-",
+        b"CSNBKPI role=DEFAULT rule=FIRST type=DATA part=ffffffffffffffffffffffffffffffffffffffffffffffff to=-",
+        b"CSNBKPI role=DEFAULT rule=LAST type=DATA part=ffffffffffffffff to=-",
+        b"CSNBKPI role=DEFAULT rule=MIDDLE key=L:K part=ffffffffffffffff",
+        b"CSNBKTR role=DEFAULT token=020000000000c00000000000000000008ca64de9c1b123a700000000000000000000000000000000000000000000000000000000000000000000000050583190 transport1=L:IX transport2=-",
     ];
     for line in lines {
         assert!(rt; parse_request(line) == Err(FormFault));

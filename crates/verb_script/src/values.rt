@@ -1,7 +1,7 @@
 //! The values that fields accept.
 ghost use Rattle.std.specs.Prelude.{◌≡◌};
 ghost use Rattle.byte_lists.specs.Characters.{is_label_byte};
-ghost use Rattle.verb_script.specs.Grammar.{accepts, key_text, hex_text, mac_text, to_text, prefix_text};
+ghost use Rattle.verb_script.specs.Grammar.{accepts, key_text, hex_text, mac_text, part_text, to_text, prefix_text};
 ghost use Rattle.verb_script.specs.Named.{is_visible, is_label_text, is_token_text};
 ghost use Rattle.verb_script.specs.Values.{is_hex};
 ghost use Rattle.std.specs.List.{list_all, list_any};
@@ -43,6 +43,13 @@ pub(crate) fn is_mac(text: &[u8]) -> bool
     ensures { result ≡ accepts mac_text text.now }
 {
     is_hex_of(text, 8) || is_hex_of(text, 12) || is_hex_of(text, 16)
+}
+
+/// Whether the text is a part of a key.
+pub(crate) fn is_part(text: &[u8]) -> bool
+    ensures { result ≡ accepts part_text text.now }
+{
+    is_hex_of(text, 16) || is_hex_of(text, 32)
 }
 
 fn is_visible(c: u8) -> bool

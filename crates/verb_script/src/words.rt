@@ -7,14 +7,14 @@ ghost use Rattle.std.specs.Str.{bytes_eq};
 ghost use Rattle.cca_roles.specs.Points.{are_points};
 ghost use Rattle.cca_roles.specs.RoleNames.{default_name};
 ghost use Rattle.cca_vectors.specs.KeyTypes.{type_name, type_named};
-ghost use Rattle.verb_script.specs.Grammar.{role_name, other_role, points, hex_digits, one_of, key_text, hex_text, mac_text, label_text, to_text, prefix_text, type_text};
+ghost use Rattle.verb_script.specs.Grammar.{role_name, other_role, points, hex_digits, one_of, key_text, hex_text, mac_text, part_text, label_text, to_text, prefix_text, type_text};
 ghost use Rattle.verb_script.specs.Values.{is_hex, hex_value};
 ghost use Rattle.verb_script.specs.Requests.{words, value_after, first_value, at_end};
 ghost use Rattle.verb_script.specs.Words.{words_left, unread, texts};
 
 use crate::digits::decode;
 use crate::values::{
-    is_hex_of, is_hex_text, is_key, is_label_text, is_mac, is_one_of, is_prefix, is_to,
+    is_hex_of, is_hex_text, is_key, is_label_text, is_mac, is_one_of, is_part, is_prefix, is_to,
 };
 use cca_roles::{AccessPoints, RoleName};
 use cca_vectors::KeyType;
@@ -156,6 +156,16 @@ fn mac_in<'a>(word: &'a [u8], prefix: &[u8]) -> Option<&'a [u8]>
     }
 }
 
+/// The digits in a word that is the prefix and a part of a key.
+fn part_in<'a>(word: &'a [u8], prefix: &[u8]) -> Option<&'a [u8]>
+    ensures { option_copied result ≡ value_after prefix.now part_text word.now }
+{
+    match after(word, prefix) {
+        Some(value) if is_part(value) => Some(value),
+        _ => None,
+    }
+}
+
 /// What stands for a label, in a word that is the prefix and that text.
 fn label_in<'a>(word: &'a [u8], prefix: &[u8]) -> Option<&'a [u8]>
     ensures { option_copied result ≡ value_after prefix.now label_text word.now }
@@ -282,6 +292,14 @@ impl<'a> Words<'a> {
         ensures rest { unread self.new ≡ drop 1 (unread self.old) }
     {
         mac_in(self.next()?, prefix)
+    }
+
+    /// The digits in the next word, which is the prefix and a part of a key.
+    pub(crate) fn part(&mut self, prefix: &[u8]) -> Option<&'a [u8]>
+        ensures value { option_copied result ≡ first_value prefix.now part_text (unread self.old) }
+        ensures rest { unread self.new ≡ drop 1 (unread self.old) }
+    {
+        part_in(self.next()?, prefix)
     }
 
     /// What stands for a label, in the next word, which is the prefix and that text.
