@@ -1,2 +1,5 @@
+mod CutReplies
+mod HexTexts
 pub mod LineLaws
+mod PairLaws
 mod RerunLaws

@@ -1,6 +1,6 @@
 -- What a request does where no rule refuses it, and what comes of it.
 use Rattle.std.specs.Int.{from_be_bytes, w32}
-use Rattle.std.specs.Prelude.{ℕ, Bool, true, false, ◌+◌, ◌==◌, ◌++◌, take, List, [], ◌∷◌, codes, Option, Some, None, if◌then◌else◌}
+use Rattle.std.specs.Prelude.{ℕ, Bool, true, false, ◌+◌, ◌==◌, ◌++◌, take, length, List, [], ◌∷◌, codes, Option, Some, None, if◌then◌else◌}
 use Rattle.cca_vectors.specs.declared.key_class.Class.{Class}
 use Rattle.cca_vectors.specs.declared.key_class.Class.TheVariants.{Data, Cipher, Mac, Exporter, Importer, Other}
 use Rattle.cca_vectors.specs.Vectors.{length_of, left_of}
@@ -16,27 +16,37 @@ use Rattle.key_records.specs.Directory.{free_cell}
 use Rattle.key_records.specs.Entries.{Entry, directory}
 use Rattle.key_tokens.specs.Denotes.{ClearKey, Denoted}
 use Rattle.cca_vectors.specs.declared.key_type.KeyType.{KeyType}
+use Rattle.key_parts.specs.Parts.{first_key, combined_key}
 use Rattle.key_transport.specs.Generated.{generated_key}
 use Rattle.key_transport.specs.Tokens.{as_current, closed_key, changed_token, external_token}
 use Rattle.verb_script.specs.Named.{label_named}
-use Rattle.verb_script.specs.Grammar.{Request, RequestName, csnbktp, csnbenc, csnbdec, csnbmgn, csnbmvr, csnbkyt, csnbcki, csnbrng, csnbkgn_op, csnbkgn_pair, csnbkgn_out, csnbkim, csnbkex, csnbpex, csnbktc, csnbkrc, csnbkrw, csnbkrr, csnbkrd, csnbkrl, csnbmkp_part, csnbmkp_clear, csnbmkp_set, csuaaci_define, csuaaci_remove, reencipher, value_of}
+use Rattle.verb_script.specs.Grammar.{Request, RequestName, csnbktp, csnbenc, csnbenc_first, csnbenc_middle, csnbenc_last, csnbdec, csnbdec_first, csnbdec_middle, csnbdec_last, csnbmgn, csnbmgn_first, csnbmgn_middle, csnbmgn_last, csnbmvr, csnbmvr_first, csnbmvr_middle, csnbmvr_last, csnbkyt, csnbcki, csnbrng, csnbkgn_op, csnbkgn_pair, csnbkgn_out, csnbkim, csnbkex, csnbpex, csnbktc, csnbkpi_first, csnbkpi_middle, csnbktr, csnbkrc, csnbkrw, csnbkrr, csnbkrd, csnbkrl, csnbmkp_part, csnbmkp_clear, csnbmkp_set, csuaaci_define, csuaaci_remove, reencipher, value_of}
 use Rattle.cca_roles.specs.Roles.{define_place, after_define, remove_place, after_remove}
 use Rattle.reencipher.specs.Further.{further, old_count}
 use Rattle.cca_machine.specs.State.{State}
 use Rattle.cca_machine.specs.Actions.{part_action}
 use Rattle.master_registers.specs.Actions.{after_action}
 use Rattle.master_registers.specs.declared.actions.Action.TheVariants.{Clear, Set}
-use Rattle.cca_machine.specs.Choices.{pad_named, mac_rule_named, mac_length_named, form_named, key_length_named, type_in, target_named}
+use Rattle.cca_machine.specs.Choices.{pad_named, mac_rule_named, mac_length_named, form_named, key_length_named, type_in, target_named, is_last_part}
 use Rattle.cca_machine.specs.Ageing.{aged}
 use Rattle.cca_machine.specs.Keys.{key_in_field, imported, key_of_request, key_of_token, key_of_label, cell_with, or_no_key, any_old, warning}
 use Rattle.cca_machine.specs.Listing.{label_fields}
 use Rattle.cca_machine.specs.Operands.{operands, listed}
-use Rattle.cca_machine.specs.Verdict.{Refusal, bytes_in, verdict}
+use Rattle.cca_machine.specs.Verdict.{Refusal, bytes_in, chain_in, code_rule, part_in, verdict}
 use Rattle.cipher_verbs.specs.CipherTexts.{enciphered_text, deciphered_text, test_value}
 use Rattle.cipher_verbs.specs.Imported.{imported_key}
 use Rattle.cipher_verbs.specs.RandomBytes.{in_form}
 use Rattle.mac_verbs.specs.Codes.{code_of, is_code}
 use Rattle.verb_rules.specs.Keys.{keys_of, token_for}
+use Rattle.verb_rules.specs.declared.lengths.MacRule.{MacRule}
+use Rattle.cipher_verbs.specs.declared.padding.Pad.{Pad}
+use Rattle.des_core.specs.Modes.{zero_block}
+use Rattle.text_segments.specs.Chains.{chain_bytes, first_chain}
+use Rattle.text_segments.specs.Segments.{chain_after, last_code, last_text, segment_text}
+use Rattle.text_segments.specs.declared.chains.Chain.{Chain}
+use Rattle.text_segments.specs.declared.modes.Mode.{Mode}
+use Rattle.text_segments.specs.declared.modes.Mode.TheVariants as mode
+use Rattle.std.specs.Str.{bytes_eq}
 
 -- what a permitted request does
 pub data Effect : Type 0 where
@@ -122,25 +132,87 @@ type2_of r = type_in (value_of r (codes "type2"))
 abbrev pub token_out : State → Request → List ℕ → ClearKey → List ℕ
 token_out s r field clear = external_token (key_in_field s r field).key clear
 
--- with the random bytes that it draws
+-- ---- texts in segments
+
+-- the text that a segment gives, and the chain after it
+abbrev pub segment_fields : ClearKey → Mode → Chain → List ℕ → List Field
+segment_fields clear mode chain text =
+    Hex (codes "text") (segment_text clear mode chain text)
+    ∷ Hex (codes "chain") (chain_bytes (chain_after clear mode chain text)) ∷ []
+
+-- of a code a segment gives the chain alone
+abbrev pub code_segment_fields : ClearKey → MacRule → Chain → List ℕ → List Field
+code_segment_fields clear rule chain text =
+    Hex (codes "chain") (chain_bytes (chain_after clear (mode.Mac rule) chain text)) ∷ []
+
+-- the text that the last segment gives
+abbrev pub last_text_fields : ClearKey → Mode → Chain → Pad → List ℕ → List Field
+last_text_fields clear mode chain padding text =
+    Hex (codes "text") (or_empty (last_text clear mode chain padding text)) ∷ []
+
+-- the leftmost bytes, so many, of the code after the last segment
+abbrev pub last_code_fields : ClearKey → MacRule → Chain → ℕ → List ℕ → List Field
+last_code_fields clear rule chain count text =
+    Hex (codes "mac") (take count (last_code clear rule chain text)) ∷ []
+
+-- whether the bytes are the leftmost so many of that code
+abbrev pub last_match_fields : ClearKey → MacRule → Chain → List ℕ → List ℕ → List Field
+last_match_fields clear rule chain mac text =
+    Text (codes "match") (yes_or_no
+    (bytes_eq mac (take (length mac) (last_code clear rule chain text)))) ∷ []
+
+-- what a segment of a request shows, by what it goes on from
+abbrev pub shown_segment : State → Mode → Chain → Request → Effect
+shown_segment s mode chain r =
+    Show (segment_fields (key_of_request s r) mode chain (bytes_in r (codes "text")))
+
+abbrev pub shown_last : State → Mode → Request → Effect
+shown_last s mode r =
+    Show (last_text_fields (key_of_request s r) mode (chain_in r)
+    (pad_named (value_of r (codes "pad"))) (bytes_in r (codes "text")))
+
+abbrev pub shown_code_segment : State → Chain → Request → Effect
+shown_code_segment s chain r =
+    Show (code_segment_fields (key_of_request s r) (code_rule r) chain (bytes_in r (codes "text")))
+
+-- ---- with the random bytes that it draws
+
 abbrev pub effect : State → List ℕ → RequestName → Request → Effect
 effect s drawn csnbktp r = Show (token_fields (token_of (bytes_in r (codes "token"))))
 effect s drawn csnbenc r =
     Show (Hex (codes "text")
     (enciphered_text (key_of_request s r) (bytes_in r (codes "iv"))
     (pad_named (value_of r (codes "pad"))) (bytes_in r (codes "text"))) ∷ [])
+effect s drawn csnbenc_first r =
+    shown_segment s mode.Encipher (first_chain (bytes_in r (codes "iv"))) r
+effect s drawn csnbenc_middle r = shown_segment s mode.Encipher (chain_in r) r
+effect s drawn csnbenc_last r = shown_last s mode.Encipher r
 effect s drawn csnbdec r =
     Show (Hex (codes "text")
     (or_empty (deciphered_text (key_of_request s r) (bytes_in r (codes "iv"))
     (pad_named (value_of r (codes "pad"))) (bytes_in r (codes "text")))) ∷ [])
+effect s drawn csnbdec_first r =
+    shown_segment s mode.Decipher (first_chain (bytes_in r (codes "iv"))) r
+effect s drawn csnbdec_middle r = shown_segment s mode.Decipher (chain_in r) r
+effect s drawn csnbdec_last r = shown_last s mode.Decipher r
 effect s drawn csnbmgn r =
     Show (Hex (codes "mac") (take (mac_length_named (value_of r (codes "length")))
     (code_of (mac_rule_named (value_of r (codes "rule"))) (key_of_request s r)
     (bytes_in r (codes "text")))) ∷ [])
+effect s drawn csnbmgn_first r = shown_code_segment s (first_chain zero_block) r
+effect s drawn csnbmgn_middle r = shown_code_segment s (chain_in r) r
+effect s drawn csnbmgn_last r =
+    Show (last_code_fields (key_of_request s r) (code_rule r) (chain_in r)
+    (mac_length_named (value_of r (codes "length"))) (bytes_in r (codes "text")))
 effect s drawn csnbmvr r =
     Show (Text (codes "match") (yes_or_no
     (is_code (mac_rule_named (value_of r (codes "rule"))) (key_of_request s r)
     (bytes_in r (codes "text")) (bytes_in r (codes "mac")))) ∷ [])
+effect s drawn csnbmvr_first r = shown_code_segment s (first_chain zero_block) r
+effect s drawn csnbmvr_middle r = shown_code_segment s (chain_in r) r
+effect s drawn csnbmvr_last r =
+    Show (last_match_fields (key_of_request s r) (code_rule r) (chain_in r)
+    (bytes_in r (codes "mac")) (bytes_in r (codes "text")))
 effect s drawn csnbkyt r = Show (Hex (codes "value") (test_value (key_of_request s r)) ∷ [])
 effect s drawn csnbcki r =
     delivered s (codes "token") (label_named (value_of r (codes "to")))
@@ -170,6 +242,17 @@ effect s drawn csnbpex r =
 effect s drawn csnbktc r = Show (Hex (codes "token")
     (changed_token s.registers (target_named (value_of r (codes "rule")))
     (or_no_key (key_of_token s (bytes_in r (codes "token")))).clear) ∷ [])
+effect s drawn csnbkpi_first r =
+    delivered s (codes "token") (label_named (value_of r (codes "to")))
+    (as_current (first_key (type_in (value_of r (codes "type"))) (part_in r)))
+effect s drawn csnbkpi_middle r =
+    delivered s (codes "token") (label_named (value_of r (codes "to")))
+    (as_current (combined_key (is_last_part (value_of r (codes "rule")))
+    (key_of_request s r) (part_in r)))
+effect s drawn csnbktr r =
+    Show (Hex (codes "token")
+    (token_out s r (codes "transport2")
+    (imported (key_in_field s r (codes "transport1")) (bytes_in r (codes "token")))) ∷ [])
 effect s drawn csnbkrc r = Create (value_of r (codes "label"))
 effect s drawn csnbkrw r =
     Write (value_of r (codes "label")) (or_no_key (key_of_token s (bytes_in r (codes "token")))) []
@@ -194,9 +277,21 @@ effect s drawn reencipher r = Reencipher
 abbrev pub draws : RequestName → Request → ℕ
 draws csnbktp r = 0
 draws csnbenc r = 0
+draws csnbenc_first r = 0
+draws csnbenc_middle r = 0
+draws csnbenc_last r = 0
 draws csnbdec r = 0
+draws csnbdec_first r = 0
+draws csnbdec_middle r = 0
+draws csnbdec_last r = 0
 draws csnbmgn r = 0
+draws csnbmgn_first r = 0
+draws csnbmgn_middle r = 0
+draws csnbmgn_last r = 0
 draws csnbmvr r = 0
+draws csnbmvr_first r = 0
+draws csnbmvr_middle r = 0
+draws csnbmvr_last r = 0
 draws csnbkyt r = 0
 draws csnbcki r = 0
 draws csnbrng r = 8
@@ -207,6 +302,9 @@ draws csnbkim r = 0
 draws csnbkex r = 0
 draws csnbpex r = 0
 draws csnbktc r = 0
+draws csnbkpi_first r = 0
+draws csnbkpi_middle r = 0
+draws csnbktr r = 0
 draws csnbkrc r = 0
 draws csnbkrw r = 0
 draws csnbkrr r = 0

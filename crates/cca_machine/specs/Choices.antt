@@ -1,5 +1,5 @@
 -- What the words of fields choose.
-use Rattle.std.specs.Prelude.{ℕ, List, codes, Option, None, Some, if◌then◌else◌}
+use Rattle.std.specs.Prelude.{ℕ, Bool, List, codes, Option, None, Some, if◌then◌else◌}
 use Rattle.std.specs.Str.{bytes_eq}
 use Rattle.cipher_verbs.specs.declared.padding.Pad.{Pad}
 use Rattle.cipher_verbs.specs.declared.padding.Pad.TheVariants as padding
@@ -61,3 +61,7 @@ type_in text = or_data (type_named text)
 -- RTCMK or RTNMK
 abbrev pub target_named : List ℕ → Target
 target_named text = if bytes_eq text (codes "RTCMK") then Current else New
+
+-- MIDDLE or LAST
+abbrev pub is_last_part : List ℕ → Bool
+is_last_part text = bytes_eq text (codes "LAST")

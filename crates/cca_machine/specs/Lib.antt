@@ -1,12 +1,15 @@
 pub mod Act
 pub mod Actions
 pub mod Ageing
+pub mod Broken
 pub mod Choices
+pub mod CutRequests
 pub mod Keys
 pub mod Lines
 pub mod Listing
 pub mod Operands
 pub mod Points
+pub mod Pairs
 pub mod Reruns
 pub mod Session
 pub mod State

@@ -1,10 +1,10 @@
 -- The operands of a request that name a key or a label, as a table.
 use Rattle.std.specs.Prelude.{ℕ, Bool, true, false, ◌||◌, is_some, List, [], ◌∷◌, codes, Option, None, Some}
-use Rattle.verb_script.specs.Grammar.{Request, RequestName, csnbktp, csnbenc, csnbdec, csnbmgn, csnbmvr, csnbkyt, csnbcki, csnbrng, csnbkgn_op, csnbkgn_pair, csnbkgn_out, csnbkim, csnbkex, csnbpex, csnbktc, csnbkrc, csnbkrw, csnbkrr, csnbkrd, csnbkrl, csnbmkp_part, csnbmkp_clear, csnbmkp_set, csuaaci_define, csuaaci_remove, reencipher, value_of}
+use Rattle.verb_script.specs.Grammar.{Request, RequestName, csnbktp, csnbenc, csnbenc_first, csnbenc_middle, csnbenc_last, csnbdec, csnbdec_first, csnbdec_middle, csnbdec_last, csnbmgn, csnbmgn_first, csnbmgn_middle, csnbmgn_last, csnbmvr, csnbmvr_first, csnbmvr_middle, csnbmvr_last, csnbkyt, csnbcki, csnbrng, csnbkgn_op, csnbkgn_pair, csnbkgn_out, csnbkim, csnbkex, csnbpex, csnbktc, csnbkpi_first, csnbkpi_middle, csnbktr, csnbkrc, csnbkrw, csnbkrr, csnbkrd, csnbkrl, csnbmkp_part, csnbmkp_clear, csnbmkp_set, csuaaci_define, csuaaci_remove, reencipher, value_of}
 use Rattle.cca_vectors.specs.declared.key_class.Class.{Class}
 use Rattle.cca_vectors.specs.declared.key_class.Class.TheVariants.{Data, Cipher, Mac, Exporter, Importer, Other}
 use Rattle.cca_vectors.specs.declared.key_usage.Usage.{Usage}
-use Rattle.cca_vectors.specs.declared.key_usage.Usage.TheVariants.{Encipher, Decipher, MacGenerate, MacVerify, Transport, PairOperational, PairImportExport, PairSame}
+use Rattle.cca_vectors.specs.declared.key_usage.Usage.TheVariants.{Encipher, Decipher, MacGenerate, MacVerify, Transport, Translate, PairOperational, PairImportExport, PairSame}
 use Rattle.key_tokens.specs.declared.key_token.Asked.TheVariants.{Internal, External}
 use Rattle.key_transport.specs.declared.generating.Form.{Form}
 use Rattle.key_transport.specs.declared.generating.Form.TheVariants.{Op, Opex, Opim, Imex, Exex, Imim}
@@ -74,6 +74,17 @@ any_key = record {
   parts = true;
 }
 
+-- an internal key that may be a part, of every class but OTHER
+abbrev pub part_key : Need
+part_key = record {
+  asked = Internal;
+  classes = classes_of five_classes;
+  usage = None;
+  export = false;
+  double = false;
+  parts = true;
+}
+
 -- an internal key of any class that may be exported
 abbrev pub exported_key : Need
 exported_key = record {
@@ -132,9 +143,21 @@ key_operand r classes usage =
 abbrev pub operands_of : RequestName → Request → Operands
 operands_of csnbktp r = one_operand (operand r (codes "token") AnyToken)
 operands_of csnbenc r = key_operand r (Data ∷ Cipher ∷ []) (Some Encipher)
+operands_of csnbenc_first r = key_operand r (Data ∷ Cipher ∷ []) (Some Encipher)
+operands_of csnbenc_middle r = key_operand r (Data ∷ Cipher ∷ []) (Some Encipher)
+operands_of csnbenc_last r = key_operand r (Data ∷ Cipher ∷ []) (Some Encipher)
 operands_of csnbdec r = key_operand r (Data ∷ Cipher ∷ []) (Some Decipher)
+operands_of csnbdec_first r = key_operand r (Data ∷ Cipher ∷ []) (Some Decipher)
+operands_of csnbdec_middle r = key_operand r (Data ∷ Cipher ∷ []) (Some Decipher)
+operands_of csnbdec_last r = key_operand r (Data ∷ Cipher ∷ []) (Some Decipher)
 operands_of csnbmgn r = key_operand r (Data ∷ Mac ∷ []) (Some MacGenerate)
+operands_of csnbmgn_first r = key_operand r (Data ∷ Mac ∷ []) (Some MacGenerate)
+operands_of csnbmgn_middle r = key_operand r (Data ∷ Mac ∷ []) (Some MacGenerate)
+operands_of csnbmgn_last r = key_operand r (Data ∷ Mac ∷ []) (Some MacGenerate)
 operands_of csnbmvr r = key_operand r (Data ∷ Mac ∷ []) (Some MacVerify)
+operands_of csnbmvr_first r = key_operand r (Data ∷ Mac ∷ []) (Some MacVerify)
+operands_of csnbmvr_middle r = key_operand r (Data ∷ Mac ∷ []) (Some MacVerify)
+operands_of csnbmvr_last r = key_operand r (Data ∷ Mac ∷ []) (Some MacVerify)
 operands_of csnbkyt r = key_operand r five_classes None
 operands_of csnbcki r = one_operand (operand r (codes "to") Target)
 operands_of csnbrng r = no_operands
@@ -157,6 +180,13 @@ operands_of csnbpex r =
     two_operands (operand r (codes "key") (Key (internal_key five_classes None)))
     (operand r (codes "to") Target)
 operands_of csnbktc r = one_operand (operand r (codes "token") (Token any_key))
+operands_of csnbkpi_first r = one_operand (operand r (codes "to") Target)
+operands_of csnbkpi_middle r =
+    two_operands (operand r (codes "key") (Key part_key)) (operand r (codes "to") Target)
+operands_of csnbktr r =
+    three_operands (operand r (codes "token") (ExternalToken external_key))
+    (operand r (codes "transport1") (Key (transport_key Importer Translate)))
+    (operand r (codes "transport2") (Key (transport_key Exporter Translate)))
 operands_of csnbkrc r = one_operand (operand r (codes "label") NewLabel)
 operands_of csnbkrw r =
     two_operands (operand r (codes "label") Held) (operand r (codes "token") (Token any_key))

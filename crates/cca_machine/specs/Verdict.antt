@@ -7,13 +7,14 @@ use Rattle.cca_roles.specs.Roles.{points_of, define_refused, remove_refused}
 use Rattle.cca_machine.specs.Points.{point}
 use Rattle.key_tokens.specs.TokenChecks.{token_checks}
 use Rattle.key_tokens.specs.declared.key_token.Asked.TheVariants.{Either}
-use Rattle.verb_script.specs.Grammar.{Request, RequestName, csnbktp, csnbenc, csnbdec, csnbmgn, csnbmvr, csnbkyt, csnbcki, csnbrng, csnbkgn_op, csnbkgn_pair, csnbkgn_out, csnbkim, csnbkex, csnbpex, csnbktc, csnbkrc, csnbkrw, csnbkrr, csnbkrd, csnbkrl, csnbmkp_part, csnbmkp_clear, csnbmkp_set, csuaaci_define, csuaaci_remove, reencipher, value_of}
+use Rattle.verb_script.specs.Grammar.{Request, RequestName, csnbktp, csnbenc, csnbenc_first, csnbenc_middle, csnbenc_last, csnbdec, csnbdec_first, csnbdec_middle, csnbdec_last, csnbmgn, csnbmgn_first, csnbmgn_middle, csnbmgn_last, csnbmvr, csnbmvr_first, csnbmvr_middle, csnbmvr_last, csnbkyt, csnbcki, csnbrng, csnbkgn_op, csnbkgn_pair, csnbkgn_out, csnbkim, csnbkex, csnbpex, csnbktc, csnbkpi_first, csnbkpi_middle, csnbktr, csnbkrc, csnbkrw, csnbkrr, csnbkrd, csnbkrl, csnbmkp_part, csnbmkp_clear, csnbmkp_set, csuaaci_define, csuaaci_remove, reencipher, value_of}
 use Rattle.verb_script.specs.Named.{label_named}
 use Rattle.verb_script.specs.Values.{hex_value}
 use Rattle.cca_vectors.specs.Vectors.{length_of}
 use Rattle.cca_vectors.specs.declared.key_type.KeyType.{KeyType}
 use Rattle.cipher_verbs.specs.CipherTexts.{enciphering, pad_checks}
 use Rattle.cipher_verbs.specs.declared.padding.Pad.{Pad}
+use Rattle.cipher_verbs.specs.declared.padding.Pad.TheVariants as padding
 use Rattle.key_records.specs.Ages.{any_old as any_old_label}
 use Rattle.key_records.specs.Directory.{free_cell}
 use Rattle.key_records.specs.Entries.{directory}
@@ -23,12 +24,18 @@ use Rattle.master_registers.specs.Loaded.{registers_of}
 use Rattle.verb_rules.specs.KeyChecks.{key_checks, use_checks}
 use Rattle.verb_rules.specs.LengthChecks.{text_checks, mac_checks}
 use Rattle.verb_rules.specs.TypeChecks.{pair_checks, length_checks}
+use Rattle.verb_rules.specs.PartChecks.{part_length_checks, whole_key_checks}
+use Rattle.text_segments.specs.Chains.{chain_checks, chain_of}
+use Rattle.text_segments.specs.Segments.{last_use, last_checks}
+use Rattle.text_segments.specs.declared.chains.Chain.{Chain}
+use Rattle.text_segments.specs.declared.modes.Mode.{Mode}
+use Rattle.text_segments.specs.declared.modes.Mode.TheVariants.{Encipher, Decipher, Mac}
 use Rattle.key_transport.specs.declared.changing.Target.{Target}
 use Rattle.key_transport.specs.declared.changing.Target.TheVariants.{Current, New}
 use Rattle.master_registers.specs.Masters.{set_refused}
 use Rattle.verb_rules.specs.declared.lengths.MacRule.{MacRule}
 use Rattle.verb_rules.specs.declared.needs.Need.{Need}
-use Rattle.verb_rules.specs.declared.lengths.TextUse.TheVariants.{Decipher, Mac}
+use Rattle.verb_rules.specs.declared.lengths.TextUse.TheVariants as use_of
 use Rattle.cca_machine.specs.State.{State}
 use Rattle.cca_machine.specs.Choices.{pad_named, mac_rule_named, key_length_named, type_in, target_named}
 use Rattle.cca_machine.specs.Keys.{key_bytes, key_of_request, key_of_label, cell_with, or_no_key}
@@ -75,9 +82,21 @@ or_then (Some r) others = Some r
 abbrev pub needs_master : RequestName → Bool
 needs_master csnbktp = false
 needs_master csnbenc = true
+needs_master csnbenc_first = true
+needs_master csnbenc_middle = true
+needs_master csnbenc_last = true
 needs_master csnbdec = true
+needs_master csnbdec_first = true
+needs_master csnbdec_middle = true
+needs_master csnbdec_last = true
 needs_master csnbmgn = true
+needs_master csnbmgn_first = true
+needs_master csnbmgn_middle = true
+needs_master csnbmgn_last = true
 needs_master csnbmvr = true
+needs_master csnbmvr_first = true
+needs_master csnbmvr_middle = true
+needs_master csnbmvr_last = true
 needs_master csnbkyt = true
 needs_master csnbcki = true
 needs_master csnbrng = false
@@ -88,6 +107,9 @@ needs_master csnbkim = true
 needs_master csnbkex = true
 needs_master csnbpex = true
 needs_master csnbktc = true
+needs_master csnbkpi_first = true
+needs_master csnbkpi_middle = true
+needs_master csnbktr = true
 needs_master csnbkrc = false
 needs_master csnbkrw = true
 needs_master csnbkrr = true
@@ -124,9 +146,21 @@ change_points New = point (codes "KTC_NEW")
 abbrev pub needed_points : RequestName → Request → ℕ
 needed_points csnbktp r = 0
 needed_points csnbenc r = point (codes "ENC")
+needed_points csnbenc_first r = point (codes "ENC")
+needed_points csnbenc_middle r = point (codes "ENC")
+needed_points csnbenc_last r = point (codes "ENC")
 needed_points csnbdec r = point (codes "DEC")
+needed_points csnbdec_first r = point (codes "DEC")
+needed_points csnbdec_middle r = point (codes "DEC")
+needed_points csnbdec_last r = point (codes "DEC")
 needed_points csnbmgn r = point (codes "MGN")
+needed_points csnbmgn_first r = point (codes "MGN")
+needed_points csnbmgn_middle r = point (codes "MGN")
+needed_points csnbmgn_last r = point (codes "MGN")
 needed_points csnbmvr r = point (codes "MVR")
+needed_points csnbmvr_first r = point (codes "MVR")
+needed_points csnbmvr_middle r = point (codes "MVR")
+needed_points csnbmvr_last r = point (codes "MVR")
 needed_points csnbkyt r = point (codes "KYT")
 needed_points csnbcki r = bit_or (point (codes "CKI")) (target_points (value_of r (codes "to")))
 needed_points csnbrng r = point (codes "RNG")
@@ -139,6 +173,11 @@ needed_points csnbkim r = bit_or (point (codes "KIM")) (target_points (value_of 
 needed_points csnbkex r = point (codes "KEX")
 needed_points csnbpex r = bit_or (point (codes "PEX")) (target_points (value_of r (codes "to")))
 needed_points csnbktc r = change_points (target_named (value_of r (codes "rule")))
+needed_points csnbkpi_first r =
+    bit_or (point (codes "KPI_FIRST")) (target_points (value_of r (codes "to")))
+needed_points csnbkpi_middle r =
+    bit_or (point (codes "KPI_COMBINE")) (target_points (value_of r (codes "to")))
+needed_points csnbktr r = point (codes "KTR")
 needed_points csnbkrc r = point (codes "KRC")
 needed_points csnbkrw r = point (codes "KRW")
 needed_points csnbkrr r = point (codes "KRR")
@@ -262,16 +301,90 @@ encipher_questions padding size =
 -- rule 23 of a text that is deciphered, and rule 31 of the deciphered text
 abbrev pub decipher_questions : ℕ → ClearKey → List ℕ → Pad → List ℕ → List Questions
 decipher_questions size key start padding text =
-    questions (codes "text") (text_checks Decipher size)
+    questions (codes "text") (text_checks use_of.Decipher size)
     ∷ questions (codes "text") (pad_checks key start padding text)
     ∷ []
 
 -- rule 23 of the text, and rule 32 of the key
 abbrev pub mac_questions : MacRule → ℕ → ClearKey → List Questions
 mac_questions rule size key =
-    questions (codes "text") (text_checks Mac size)
+    questions (codes "text") (text_checks use_of.Mac size)
     ∷ questions (codes "key") (mac_checks rule (length_of key.vector))
     ∷ []
+
+-- rule 23 of a segment that isn't the last
+abbrev pub segment_questions : ℕ → List Questions
+segment_questions size = questions (codes "text") (text_checks use_of.Segment size) ∷ []
+
+-- rule 36 of the chain that a segment goes on from, and then the others
+abbrev pub chain_questions : List ℕ → List Questions → List Questions
+chain_questions chain others = questions (codes "chain") (chain_checks chain) ∷ others
+
+-- rule 23 of the last segment, together with the bytes that are carried
+abbrev pub last_segment_questions : Mode → Pad → Chain → ℕ → List Questions
+last_segment_questions mode padding chain size =
+    questions (codes "text") (text_checks (last_use mode padding (length chain.carried)) size) ∷ []
+
+-- and rule 31 of the deciphered text
+abbrev pub last_text_questions : Mode → ClearKey → Chain → Pad → ℕ → List ℕ → List Questions
+last_text_questions mode clear chain padding size text =
+    last_segment_questions mode padding chain size
+    ++ (questions (codes "text") (last_checks clear mode chain padding text) ∷ [])
+
+-- and rule 32 of the key of a code
+abbrev pub code_key_questions : MacRule → ClearKey → List Questions → List Questions
+code_key_questions rule clear others =
+    others ++ (questions (codes "key") (mac_checks rule (length_of clear.vector)) ∷ [])
+
+-- the chain in a request's field
+abbrev pub chain_in : Request → Chain
+chain_in r = chain_of (bytes_in r (codes "chain"))
+
+abbrev pub middle_questions : Request → List Questions
+middle_questions r =
+    chain_questions (bytes_in r (codes "chain")) (segment_questions (text_size r))
+
+abbrev pub last_questions : State → Mode → Request → List Questions
+last_questions s mode r =
+    chain_questions (bytes_in r (codes "chain"))
+    (last_text_questions mode (key_of_request s r) (chain_in r)
+    (pad_named (value_of r (codes "pad"))) (text_size r) (bytes_in r (codes "text")))
+
+abbrev pub code_rule : Request → MacRule
+code_rule r = mac_rule_named (value_of r (codes "rule"))
+
+abbrev pub first_code_questions : State → Request → List Questions
+first_code_questions s r =
+    code_key_questions (code_rule r) (key_of_request s r) (segment_questions (text_size r))
+
+abbrev pub middle_code_questions : State → Request → List Questions
+middle_code_questions s r =
+    code_key_questions (code_rule r) (key_of_request s r) (middle_questions r)
+
+abbrev pub last_code_questions : State → Request → List Questions
+last_code_questions s r =
+    code_key_questions (code_rule r) (key_of_request s r)
+    (chain_questions (bytes_in r (codes "chain"))
+    (last_segment_questions (Mac (code_rule r)) padding.None (chain_in r) (text_size r)))
+
+-- rule 32 of the first part of a key: the key's type doesn't have this length
+abbrev pub first_part_questions : KeyType → ℕ → List Questions
+first_part_questions kind length = questions (codes "part") (length_checks kind length) ∷ []
+
+-- rule 32 of a further part: it hasn't the key's length; rule 35: the key is whole
+abbrev pub further_part_questions : List ℕ → ℕ → List Questions
+further_part_questions vector length =
+    questions (codes "part") (part_length_checks vector length)
+    ∷ questions (codes "key") (whole_key_checks vector)
+    ∷ []
+
+-- the bytes of the part in a request's field
+abbrev pub part_in : Request → List ℕ
+part_in r = bytes_in r (codes "part")
+
+-- how many bytes the digits of the part spell
+abbrev pub part_size : Request → ℕ
+part_size r = length (value_of r (codes "part")) / 2
 
 abbrev pub code_questions : State → Request → List Questions
 code_questions s r =
@@ -308,11 +421,23 @@ change_questions s New = questions (codes "-") (check 25 (set_refused s.register
 abbrev pub verb_questions : State → RequestName → Request → List Questions
 verb_questions s csnbktp r = []
 verb_questions s csnbenc r = encipher_questions (pad_named (value_of r (codes "pad"))) (text_size r)
+verb_questions s csnbenc_first r = segment_questions (text_size r)
+verb_questions s csnbenc_middle r = middle_questions r
+verb_questions s csnbenc_last r = last_questions s Encipher r
 verb_questions s csnbdec r =
     decipher_questions (text_size r) (key_of_request s r) (bytes_in r (codes "iv"))
     (pad_named (value_of r (codes "pad"))) (bytes_in r (codes "text"))
+verb_questions s csnbdec_first r = segment_questions (text_size r)
+verb_questions s csnbdec_middle r = middle_questions r
+verb_questions s csnbdec_last r = last_questions s Decipher r
 verb_questions s csnbmgn r = code_questions s r
+verb_questions s csnbmgn_first r = first_code_questions s r
+verb_questions s csnbmgn_middle r = middle_code_questions s r
+verb_questions s csnbmgn_last r = last_code_questions s r
 verb_questions s csnbmvr r = code_questions s r
+verb_questions s csnbmvr_first r = first_code_questions s r
+verb_questions s csnbmvr_middle r = middle_code_questions s r
+verb_questions s csnbmvr_last r = last_code_questions s r
 verb_questions s csnbkyt r = []
 verb_questions s csnbcki r = []
 verb_questions s csnbrng r = []
@@ -323,6 +448,11 @@ verb_questions s csnbkim r = []
 verb_questions s csnbkex r = []
 verb_questions s csnbpex r = []
 verb_questions s csnbktc r = change_questions s (target_named (value_of r (codes "rule")))
+verb_questions s csnbkpi_first r =
+    first_part_questions (type_in (value_of r (codes "type"))) (part_size r)
+verb_questions s csnbkpi_middle r =
+    further_part_questions (key_of_request s r).vector (part_size r)
+verb_questions s csnbktr r = []
 verb_questions s csnbkrc r = create_questions s (value_of r (codes "label"))
 verb_questions s csnbkrw r = []
 verb_questions s csnbkrr r = []

@@ -19,7 +19,7 @@ worked_roles =
     ∷ worked (codes "CSNBMKP role=TELLER action=CLEAR") (codes "NO 03 -")
     ∷ worked (codes "CSUAACI role=DEFAULT action=REMOVE name=TELLER") (codes "NO 30 name")
     ∷ worked (codes "CSUAACI role=DEFAULT action=REMOVE name=DEFAULT") (codes "NO 01 -")
-    ∷ worked (codes "CSUAACI role=DEFAULT action=DEFINE name=TELLER points=04000000") (codes "NO 01 -")
+    ∷ worked (codes "CSUAACI role=DEFAULT action=DEFINE name=TELLER points=20000000") (codes "NO 01 -")
     ∷ worked (codes "CSUAACI role=DEFAULT action=DEFINE name=DEFAULT points=02ffffff") (codes "OK")
     ∷ worked (codes "CSNBMKP role=DEFAULT action=CLEAR") (codes "OK new=empty")
     ∷ worked (codes "CSUAACI role=DEFAULT action=REMOVE name=TELLER") (codes "NO 04 -")

@@ -13,6 +13,7 @@ ghost use Rattle.reencipher.specs.Further.{reruns, old_count};
 ghost use Rattle.verb_rules.specs.Keys.{keys_of};
 ghost use Rattle.cca_machine.specs.State.{State, IsStoreOf, blank_state};
 ghost use Rattle.cca_machine.specs.Act.{performed};
+ghost use Rattle.cca_machine.specs.CutRequests.{RepliedTextsAreWhole, RepliedCodesAreWhole, CutCodesAreVerified};
 ghost use Rattle.cca_machine.specs.Lines.{line_outcome, taken_by};
 ghost use Rattle.cca_machine.specs.Verdict.{verdict};
 ghost use Rattle.cca_machine.specs.Reruns.{reencipher_for, stopped};
@@ -21,8 +22,10 @@ ghost use Rattle.cca_machine.specs.WorkedRoles.{worked_roles, worked_role_table,
 ghost use Rattle.cca_machine.specs.WorkedTokens.{TokensAnswered, worked_tokens};
 
 mod asking;
+mod pairs;
 
 pub use asking::Ask;
+pub use pairs::a_pair_stands_for_one_state;
 
 /// The machine gives the replies that are known from outside: the definitions compute them.
 pub fn worked_key_tokens()
@@ -53,6 +56,19 @@ pub fn outcomes_of_lines()
           reply = (performed s drawn request).reply;
           random = rest;
         } }
+{}
+
+/// A text of any length goes through CSNBENC or CSNBDEC in segments, each given the chain that the one before replied. Where
+/// no rule refuses one, the texts that are replied, joined, are the whole text enciphered or deciphered.
+pub fn segments_reply_the_whole_text()
+    ensures { RepliedTextsAreWhole }
+{}
+
+/// The same of CSNBMGN and CSNBMVR: the code that is replied after the last segment, or compared there, is that of the whole
+/// text.
+pub fn segments_reply_the_whole_code()
+    ensures made { RepliedCodesAreWhole }
+    ensures verified { CutCodesAreVerified }
 {}
 
 /// REENCIPHER is stopped at some cell, begun again and stopped again, any number of times. It is then permitted exactly
