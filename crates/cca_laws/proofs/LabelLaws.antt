@@ -1,0 +1,250 @@
+-- What a request leaves of the labels that it isn't given.
+use Rattle.std.proofs.Common.{◌≡◌, ◌≢◌, ℕ, Bool, true, false, List, [], ◌∷◌, Option, None, Some, ⊎_elim, refl, sym, ap, subst, ◌∙◌, codes, ◌||◌, IsSome, true≢false}
+use Rattle.std.specs.Prelude.{⊤, if◌then◌else◌}
+use Rattle.byte_lists.specs.Directory.{has_name}
+use Rattle.key_records.specs.Ages.{any_old, has_old_key, is_old, is_old_entry}
+use Rattle.key_records.specs.Directory.{cell_of, free_cell}
+use Rattle.key_records.specs.Changes.{null_entry, with_what}
+use Rattle.key_records.specs.Entries.{Entry, directory, entry_label}
+use Rattle.key_records.specs.StoreStands.{entry_at}
+use Rattle.key_tokens.specs.Denotes.{ClearKey, Denoted}
+use Rattle.key_tokens.specs.declared.key_token.Age.TheVariants.{Old}
+use Rattle.script_buffers.specs.Replies.{Field}
+use Rattle.verb_script.specs.Grammar.{Request, RequestName, csnbcki, csnbkgn_op, csnbkgn_pair, csnbkim, csnbpex, csnbkpi_first, csnbkpi_middle, csnbkrc, csnbmkp_part, csnbmkp_clear, csnbmkp_set, reencipher, value_of}
+use Rattle.verb_script.specs.Named.{label_named}
+use Rattle.cca_machine.specs.Act.{Effect, Show, Become, DefineRole, RemoveRole, Create, Write, Delete, Reencipher, delivered_with, effect, state_after as after_effect, or_act, performed, written_in, deleted_in}
+use Rattle.cca_machine.specs.Ageing.{aged}
+use Rattle.cca_machine.specs.Keys.{cell_with, key_of_label, what_at, what_in}
+use Rattle.cca_machine.specs.Operands.{listed, operands_of}
+use Rattle.cca_machine.specs.Session.{state_after}
+use Rattle.cca_machine.specs.State.{State}
+use Rattle.cca_machine.specs.Verdict.{Refusal, first_refusal, verb_questions, verdict}
+use Rattle.cca_laws.specs.EachLine.{EachRequest}
+use Rattle.cca_laws.specs.Targets.{AreOther, Spares, changes_ages, clear_of_label}
+use Rattle.cca_laws.proofs.EffectLaws.{Fits, effect_fits, third_passed}
+use Rattle.cca_laws.proofs.LabelLists.{Alike, Compare, Same, SameClear, alike_aged, alike_further, alike_itself, alike_set, as_clear, clear_in, has_other, key_for, key_is, keys_compare, label_kept, place_free, place_other, same_cell}
+use Rattle.cca_laws.proofs.LineCases.{after, over_lines, permitted, refused_none}
+
+-- ---- one effect
+
+module _ (s : State) (label : List ℕ) where
+  -- the effect isn't on this label
+  abbrev pub IsElsewhere : Effect → Type 0
+  IsElsewhere (Create other) = other ≢ label
+  IsElsewhere (Write other key fields) = (n : ℕ) → cell_with s other ≡ Some n → other ≢ label
+  IsElsewhere (Delete other) = (n : ℕ) → cell_with s other ≡ Some n → other ≢ label
+  IsElsewhere _ = ⊤
+
+  -- no key changes its age
+  abbrev pub IsAgeless : Effect → Type 0
+  IsAgeless (Become m labels) = labels ≡ s.labels
+  IsAgeless Reencipher = ⊥
+  IsAgeless _ = ⊤
+
+  created_alike : (other : List ℕ) → other ≢ label → Alike label Same s.labels (after_effect s (Create other)).labels
+  unfolding free_cell
+  created_alike other apart =
+      alike_set label s.labels (free_cell (directory s.labels)) (Some (null_entry other)) (place_free label s.labels) (has_other label other apart)
+
+  module _ (other : List ℕ) (apart : (n : ℕ) → cell_with s other ≡ Some n → other ≢ label) where
+    written_alike : (key : Denoted) (fields : List Field) → Alike label Same s.labels (after_effect s (Write other key fields)).labels
+    unfolding cell_of
+    written_alike key fields = by_cell (cell_with s other) refl
+      where
+        by_cell : (o : Option ℕ) → cell_with s other ≡ o → Alike label Same s.labels (written_in o key s.labels)
+        by_cell None is = alike_itself label s.labels
+        by_cell (Some n) is =
+            let before : has_name label (entry_label (entry_at s.labels n)) ≡ false = place_other label other s.labels n (apart n is) is in
+            alike_set label s.labels n (with_what key (entry_at s.labels n)) before (ap (has_name label) (label_kept key (entry_at s.labels n)) ∙ before)
+
+    deleted_alike : Alike label Same s.labels (after_effect s (Delete other)).labels
+    unfolding cell_of
+    deleted_alike = by_cell (cell_with s other) refl
+      where
+        by_cell : (o : Option ℕ) → cell_with s other ≡ o → Alike label Same s.labels (deleted_in o s.labels)
+        by_cell None is = alike_itself label s.labels
+        by_cell (Some n) is = alike_set label s.labels n None (place_other label other s.labels n (apart n is) is) refl
+
+  pub same_alike : (e : Effect) → IsElsewhere e → IsAgeless e → Alike label Same s.labels (after_effect s e).labels
+  same_alike (Become m labels) elsewhere ageless = subst (λ (ls : List (Option Entry)). Alike label Same s.labels ls) (sym ageless) (alike_itself label s.labels)
+  same_alike (Create other) elsewhere ageless = created_alike other elsewhere
+  same_alike (Write other key fields) elsewhere ageless = written_alike other elsewhere key fields
+  same_alike (Delete other) elsewhere ageless = deleted_alike other elsewhere
+  same_alike Reencipher elsewhere ageless = absurd ageless
+  same_alike (Show fields) elsewhere ageless = alike_itself label s.labels
+  same_alike (DefineRole name points) elsewhere ageless = alike_itself label s.labels
+  same_alike (RemoveRole name) elsewhere ageless = alike_itself label s.labels
+
+  pub clear_alike : (name : RequestName) (r : Request) (e : Effect) → Fits s name r e → IsElsewhere e → Alike label SameClear s.labels (after_effect s e).labels
+  clear_alike name r (Become m labels) fits elsewhere = ⊎_elim
+      (λ (same : labels ≡ s.labels). as_clear label s.labels labels (same_alike (Become m labels) tt same))
+      (λ (age : labels ≡ aged s.labels). subst (λ (ls : List (Option Entry)). Alike label SameClear s.labels ls) (sym age) (alike_aged label s.labels))
+      fits
+  clear_alike name r Reencipher fits elsewhere = alike_further label s.labels 1024
+  clear_alike name r (Create other) fits elsewhere = as_clear label s.labels _ (same_alike (Create other) elsewhere tt)
+  clear_alike name r (Write other key fields) fits elsewhere = as_clear label s.labels _ (same_alike (Write other key fields) elsewhere tt)
+  clear_alike name r (Delete other) fits elsewhere = as_clear label s.labels _ (same_alike (Delete other) elsewhere tt)
+  clear_alike name r (Show fields) fits elsewhere = as_clear label s.labels _ (same_alike (Show fields) elsewhere tt)
+  clear_alike name r (DefineRole role points) fits elsewhere = as_clear label s.labels _ (same_alike (DefineRole role points) elsewhere tt)
+  clear_alike name r (RemoveRole role) fits elsewhere = as_clear label s.labels _ (same_alike (RemoveRole role) elsewhere tt)
+
+  -- ---- where an effect is elsewhere
+
+  none_some : (n : ℕ) → None ≡ Some n → ⊥
+  none_some n is = cc
+
+  -- of a label that is held, and isn't given
+  pub held_elsewhere : (cell : ℕ) (name : RequestName) (r : Request) → cell_with s label ≡ Some cell → AreOther label (listed (operands_of name r))
+      → (e : Effect) → Fits s name r e → IsElsewhere e
+  held_elsewhere cell name r held spared (Create other) fits =
+      λ same. none_some cell (sym fits.fresh ∙ (ap (λ l. cell_with s l) same ∙ held))
+  held_elsewhere cell name r held spared (Write other key fields) fits = λ n is. fits label spared
+  held_elsewhere cell name r held spared (Delete other) fits = λ n is. fits label spared
+  held_elsewhere cell name r held spared _ fits = tt
+
+  -- of a label that isn't held, and isn't created
+  pub free_elsewhere : (name : RequestName) (r : Request) → cell_with s label ≡ None → (name ≡ csnbkrc → value_of r (codes "label") ≢ label)
+      → (e : Effect) → Fits s name r e → IsElsewhere e
+  free_elsewhere name r free apart (Create other) fits = λ same. apart fits.verb (sym fits.named ∙ same)
+  free_elsewhere name r free apart (Write other key fields) fits = λ n is same. none_some n (sym free ∙ (ap (λ l. cell_with s l) (sym same) ∙ is))
+  free_elsewhere name r free apart (Delete other) fits = λ n is same. none_some n (sym free ∙ (ap (λ l. cell_with s l) (sym same) ∙ is))
+  free_elsewhere name r free apart _ fits = tt
+
+  -- ---- what the label finds afterwards
+
+  pub cell_kept : (R : Compare) (t : State) → Alike label R s.labels t.labels → cell_with t label ≡ cell_with s label
+  unfolding cell_of
+  cell_kept R t alike = same_cell label R s.labels t.labels alike
+
+  pub clear_kept : (t : State) → Alike label SameClear s.labels t.labels → clear_of_label t label ≡ clear_of_label s label
+  unfolding cell_of
+  clear_kept t alike =
+      ap clear_in (key_is label t.labels) ∙ (keys_compare label SameClear refl s.labels t.labels alike ∙ ap clear_in (sym (key_is label s.labels)))
+
+  pub key_kept : (t : State) → Alike label Same s.labels t.labels → key_of_label t label ≡ key_of_label s label
+  unfolding cell_of
+  key_kept t alike = key_is label t.labels ∙ (sym (keys_compare label Same refl s.labels t.labels alike) ∙ sym (key_is label s.labels))
+
+-- ---- each request
+
+ageless_delivery : (s : State) (l field : List ℕ) (to : Option (List ℕ)) (key : Denoted) (fields : List Field) → IsAgeless s l (delivered_with s field to key fields)
+ageless_delivery s l field None key fields = tt
+ageless_delivery s l field (Some label) key fields = tt
+
+ageless : (s : State) (drawn l : List ℕ) (name : RequestName) (r : Request) → changes_ages name ≡ false → IsAgeless s l (effect s drawn name r)
+ageless s drawn l csnbcki r keeps = ageless_delivery s l _ (label_named (value_of r (codes "to"))) _ _
+ageless s drawn l csnbkgn_op r keeps = ageless_delivery s l _ (label_named (value_of r (codes "to"))) _ _
+ageless s drawn l csnbkgn_pair r keeps = ageless_delivery s l _ (label_named (value_of r (codes "to"))) _ _
+ageless s drawn l csnbkim r keeps = ageless_delivery s l _ (label_named (value_of r (codes "to"))) _ _
+ageless s drawn l csnbpex r keeps = ageless_delivery s l _ (label_named (value_of r (codes "to"))) _ _
+ageless s drawn l csnbkpi_first r keeps = ageless_delivery s l _ (label_named (value_of r (codes "to"))) _ _
+ageless s drawn l csnbkpi_middle r keeps = ageless_delivery s l _ (label_named (value_of r (codes "to"))) _ _
+ageless s drawn l csnbmkp_part r keeps = refl
+ageless s drawn l csnbmkp_clear r keeps = refl
+ageless s drawn l csnbmkp_set r keeps = cc keeps
+ageless s drawn l reencipher r keeps = cc keeps
+ageless s drawn l _ r keeps = tt
+
+by_performed : (P : State → Type 0) (s : State) (drawn : List ℕ) (r : Request) → P s → (verdict s r ≡ None → P (after s drawn r)) → P (performed s drawn r).state
+unfolding performed
+by_performed P s drawn r before next = by_verdict (verdict s r) refl
+  where
+    by_verdict : (v : Option Refusal) → verdict s r ≡ v → P (or_act v s drawn r).state
+    by_verdict (Some refusal) is = before
+    by_verdict None is = next is
+
+module _ (s : State) (drawn label : List ℕ) (r : Request) where
+  held_after : (cell : ℕ) → Spares label r → cell_with s label ≡ Some cell → verdict s r ≡ None → Alike label SameClear s.labels (after s drawn r).labels
+  held_after cell spared held permits =
+      let fits = effect_fits s drawn r permits in
+      clear_alike s label r.name r (effect s drawn r.name r) fits (held_elsewhere s label cell r.name r held spared (effect s drawn r.name r) fits)
+
+  pub others_kept : (cell : ℕ) → Spares label r → cell_with s label ≡ Some cell
+      → (cell_with (performed s drawn r).state label ≡ Some cell) × (clear_of_label (performed s drawn r).state label ≡ clear_of_label s label)
+  others_kept cell spared held =
+      by_performed (λ (t : State). (cell_with t label ≡ Some cell) × (clear_of_label t label ≡ clear_of_label s label)) s drawn r (held, refl)
+      (λ permits. let alike = held_after cell spared held permits in
+      (cell_kept s label SameClear (after s drawn r) alike ∙ held, clear_kept s label (after s drawn r) alike))
+
+  pub ages_kept : (cell : ℕ) → Spares label r → cell_with s label ≡ Some cell → changes_ages r.name ≡ false
+      → key_of_label (performed s drawn r).state label ≡ key_of_label s label
+  ages_kept cell spared held keeps =
+      by_performed (λ (t : State). key_of_label t label ≡ key_of_label s label) s drawn r refl
+      (λ permits. let fits = effect_fits s drawn r permits in
+      key_kept s label (after s drawn r)
+      (same_alike s label (effect s drawn r.name r) (held_elsewhere s label cell r.name r held spared (effect s drawn r.name r) fits)
+      (ageless s drawn label r.name r keeps)))
+
+  pub stays_free : cell_with s label ≡ None → (r.name ≡ csnbkrc → value_of r (codes "label") ≢ label) → cell_with (performed s drawn r).state label ≡ None
+  stays_free free apart =
+      by_performed (λ (t : State). cell_with t label ≡ None) s drawn r free
+      (λ permits. let fits = effect_fits s drawn r permits in
+      cell_kept s label SameClear (after s drawn r)
+      (clear_alike s label r.name r (effect s drawn r.name r) fits (free_elsewhere s label r.name r free apart (effect s drawn r.name r) fits)) ∙ free)
+
+-- ---- over lines
+
+-- a label that has a key is held
+held_with : (s : State) (label : List ℕ) (key : ClearKey) → clear_of_label s label ≡ Some key → (cell : ℕ) × (cell_with s label ≡ Some cell)
+held_with s label key is = by_cell (cell_with s label) refl
+  where
+    by_cell : (o : Option ℕ) → cell_with s label ≡ o → (cell : ℕ) × (cell_with s label ≡ Some cell)
+    by_cell (Some cell) held = (cell, held)
+    by_cell None free =
+        let none : None ≡ Some key = sym (ap (λ (o : Option ℕ). clear_in (what_at s.labels o)) free) ∙ is in cc
+
+pub kept_over : (s : State) (random label : List ℕ) (lines : List (List ℕ)) (key : ClearKey) → EachRequest (λ _ r. Spares label r) s random lines
+    → clear_of_label s label ≡ Some key → clear_of_label (state_after s random lines) label ≡ Some key
+kept_over s random label lines key each is =
+    over_lines (λ (t : State). clear_of_label t label ≡ Some key) (λ _ r. Spares label r)
+    (λ t drawn r now spared permits.
+    let held = held_with t label key now in
+    clear_kept t label (after t drawn r) (held_after t drawn label r held.0 spared held.1 permits) ∙ now)
+    s random lines is each
+
+aging : (s : State) (drawn label : List ℕ) (name : RequestName) (r : Request) → changes_ages name ≡ true → Fits s name r (effect s drawn name r)
+    → Alike label SameClear s.labels (after_effect s (effect s drawn name r)).labels
+aging s drawn label csnbmkp_set r is fits = clear_alike s label csnbmkp_set r (effect s drawn csnbmkp_set r) fits tt
+aging s drawn label reencipher r is fits = clear_alike s label reencipher r (effect s drawn reencipher r) fits tt
+aging s drawn label _ r is fits = cc is
+
+pub aging_keeps : (s : State) (drawn label : List ℕ) (r : Request) → changes_ages r.name ≡ true
+    → clear_of_label (performed s drawn r).state label ≡ clear_of_label s label
+aging_keeps s drawn label r is =
+    by_performed (λ (t : State). clear_of_label t label ≡ clear_of_label s label) s drawn r refl
+    (λ permits. clear_kept s label (after s drawn r) (aging s drawn label r.name r is (effect_fits s drawn r permits)))
+
+-- ---- SET
+
+or_true : (b : Bool) → (b || true) ≡ true
+or_true true = refl
+or_true false = refl
+
+old_there : (label : List ℕ) (es : List (Option Entry)) (key : Denoted) → key_for label es ≡ Some key → key.age ≡ Old → any_old es ≡ true
+old_there label [] key is old = cc is
+old_there label (e ∷ es) key is old = by_test (has_name label (entry_label e)) is (old_there label es key)
+  where
+    old_here : (x : Option Entry) → what_in x ≡ Some key → is_old_entry x ≡ true
+    old_here None same = cc same
+    old_here (Some x) same = ap has_old_key same ∙ ap is_old old
+
+    by_test : (t : Bool) → (if t then what_in e else key_for label es) ≡ Some key → (key_for label es ≡ Some key → key.age ≡ Old → any_old es ≡ true)
+        → any_old (e ∷ es) ≡ true
+    by_test true here later = ap (λ b. b || any_old es) (old_here e here)
+    by_test false there later = ap (λ b. is_old_entry e || b) (later there old) ∙ or_true (is_old_entry e)
+
+set_passes : (s : State) (r : Request) (name : RequestName) → name ≡ csnbmkp_set → first_refusal (verb_questions s name r) ≡ None → any_old s.labels ≡ false
+set_passes s r name is none =
+    let at : first_refusal (verb_questions s csnbmkp_set r) ≡ None = subst (λ (n : RequestName). first_refusal (verb_questions s n r) ≡ None) is none in
+    third_passed _ _ (any_old s.labels) 25 26 27 (refused_none _ _ _ at).0
+
+pub set_waits : (s : State) (label : List ℕ) (r : Request) (key : Denoted) → key_of_label s label ≡ Some key → key.age ≡ Old → r.name ≡ csnbmkp_set
+    → IsSome (verdict s r)
+unfolding cell_of
+set_waits s label r key is old set = by_verdict (verdict s r) refl
+  where
+    by_verdict : (v : Option Refusal) → verdict s r ≡ v → IsSome v
+    by_verdict (Some refusal) permits = refl
+    by_verdict None permits =
+        let none : any_old s.labels ≡ false = set_passes s r r.name set (permitted s r permits).verb in
+        absurd (true≢false (sym (old_there label s.labels key (sym (key_is label s.labels) ∙ is) old) ∙ none))

@@ -1,0 +1,200 @@
+-- What a label finds in a list of places, before a change and after it.
+use Rattle.std.proofs.Common.{◌≡◌, ◌≢◌, ℕ, zero, suc, ◌+◌, Bool, true, false, List, [], ◌∷◌, set, Option, None, Some, refl, sym, ap, subst, ◌∙◌, add-one, option_map, true≢false, arith}
+use Rattle.std.specs.Prelude.{⊤, if◌then◌else◌}
+use Rattle.byte_lists.specs.Directory.{has_name, name_at, place_from, place_of, free_from, free_place}
+use Rattle.byte_lists.proofs.DirectoryLaws.{has_name_is, held_at}
+use Rattle.key_records.specs.Changes.{with_what}
+use Rattle.key_records.specs.Entries.{Entry, directory, entry_label}
+use Rattle.key_records.specs.StoreStands.{entry_at}
+use Rattle.key_tokens.specs.Denotes.{ClearKey, Denoted}
+use Rattle.reencipher.specs.Further.{current_entry, further, under_current}
+use Rattle.cca_machine.specs.Ageing.{aged, aged_entry, aged_key}
+use Rattle.cca_machine.specs.Keys.{what_at, what_in}
+
+-- ---- the first place with a label
+
+-- the key in the first of these places that has the label
+abbrev pub key_for : List ℕ → List (Option Entry) → Option Denoted
+key_for label [] = None
+key_for label (e ∷ es) = if has_name label (entry_label e) then what_in e else key_for label es
+
+next : ℕ → ℕ
+next n = n + 1
+
+place_next : (label : List ℕ) (d : List (Option (List ℕ))) (at : ℕ) → place_from (at + 1) label d ≡ option_map next (place_from at label d)
+unfolding next
+place_next label [] at = refl
+place_next label (n ∷ ns) at = by_test (has_name label n) (place_next label ns (at + 1))
+  where
+    by_test : (t : Bool) → place_from (at + 1 + 1) label ns ≡ option_map next (place_from (at + 1) label ns)
+        → (if t then Some (at + 1) else place_from (at + 1 + 1) label ns) ≡ option_map next (if t then Some at else place_from (at + 1) label ns)
+    by_test true later = refl
+    by_test false later = later
+
+what_next : (e : Option Entry) (es : List (Option Entry)) (o : Option ℕ) → what_at (e ∷ es) (option_map next o) ≡ what_at es o
+unfolding next
+what_next e es None = refl
+what_next e es (Some n) = ap (λ k. what_in (entry_at (e ∷ es) k)) (add-one n)
+
+-- what a label finds by its place
+pub key_is : (label : List ℕ) (es : List (Option Entry)) → what_at es (place_of label (directory es)) ≡ key_for label es
+unfolding place_of
+key_is label [] = refl
+key_is label (e ∷ es) = by_test (has_name label (entry_label e)) (what_at_next ∙ key_is label es)
+  where
+    what_at_next : what_at (e ∷ es) (place_from 1 label (directory es)) ≡ what_at es (place_of label (directory es))
+    what_at_next = ap (what_at (e ∷ es)) (place_next label (directory es) 0) ∙ what_next e es (place_from 0 label (directory es))
+
+    by_test : (t : Bool) → what_at (e ∷ es) (place_from 1 label (directory es)) ≡ key_for label es
+        → what_at (e ∷ es) (if t then Some 0 else place_from 1 label (directory es)) ≡ (if t then what_in e else key_for label es)
+    by_test true later = refl
+    by_test false later = later
+
+-- ---- two lists that are alike for a label
+
+-- how two keys compare
+abbrev pub Compare : Type 1
+Compare = Option Denoted → Option Denoted → Type 0
+
+abbrev pub AreAlike : List ℕ → Compare → Option Entry → Option Entry → Type 0
+AreAlike label R a b =
+    (has_name label (entry_label b) ≡ has_name label (entry_label a)) × (has_name label (entry_label a) ≡ true → R (what_in a) (what_in b))
+
+-- place by place the label stands in both or in neither, and its keys compare
+abbrev pub Alike : List ℕ → Compare → List (Option Entry) → List (Option Entry) → Type 0
+Alike label R [] [] = ⊤
+Alike label R [] (b ∷ bs) = ⊥
+Alike label R (a ∷ as_) [] = ⊥
+Alike label R (a ∷ as_) (b ∷ bs) = AreAlike label R a b × Alike label R as_ bs
+
+pub same_place : (label : List ℕ) (R : Compare) (es fs : List (Option Entry)) (at : ℕ) → Alike label R es fs
+    → place_from at label (directory fs) ≡ place_from at label (directory es)
+same_place label R [] [] at alike = refl
+same_place label R [] (f ∷ fs) at alike = absurd alike
+same_place label R (e ∷ es) [] at alike = absurd alike
+same_place label R (e ∷ es) (f ∷ fs) at alike =
+    ap (λ t. if t then Some at else place_from (at + 1) label (directory fs)) alike.0.0
+    ∙ ap (λ o. if has_name label (entry_label e) then Some at else o) (same_place label R es fs (at + 1) alike.1)
+
+pub same_cell : (label : List ℕ) (R : Compare) (es fs : List (Option Entry)) → Alike label R es fs → place_of label (directory fs) ≡ place_of label (directory es)
+unfolding place_of
+same_cell label R es fs alike = same_place label R es fs 0 alike
+
+pub keys_compare : (label : List ℕ) (R : Compare) → R None None → (es fs : List (Option Entry)) → Alike label R es fs → R (key_for label es) (key_for label fs)
+keys_compare label R none [] [] alike = none
+keys_compare label R none [] (f ∷ fs) alike = absurd alike
+keys_compare label R none (e ∷ es) [] alike = absurd alike
+keys_compare label R none (e ∷ es) (f ∷ fs) alike =
+    subst (λ t. R (key_for label (e ∷ es)) (if t then what_in f else key_for label fs)) (sym alike.0.0)
+    (by_test (has_name label (entry_label e)) alike.0.1 (keys_compare label R none es fs alike.1))
+  where
+    by_test : (t : Bool) → (t ≡ true → R (what_in e) (what_in f)) → R (key_for label es) (key_for label fs)
+        → R (if t then what_in e else key_for label es) (if t then what_in f else key_for label fs)
+    by_test true here later = here refl
+    by_test false here later = later
+
+-- ---- the changes
+
+abbrev pub Same : Compare
+Same a b = a ≡ b
+
+pub alike_itself : (label : List ℕ) (es : List (Option Entry)) → Alike label Same es es
+alike_itself label [] = tt
+alike_itself label (e ∷ es) = ((refl, λ has. refl), alike_itself label es)
+
+-- a place that hasn't the label gets something else
+pub alike_set : (label : List ℕ) (es : List (Option Entry)) (n : ℕ) (e : Option Entry) → has_name label (entry_label (entry_at es n)) ≡ false
+    → has_name label (entry_label e) ≡ false → Alike label Same es (set es n e)
+alike_set label [] n e before now = tt
+alike_set label (x ∷ xs) zero e before now = ((now ∙ sym before, λ has. absurd (true≢false (sym has ∙ before))), alike_itself label xs)
+alike_set label (x ∷ xs) (suc n) e before now = ((refl, λ has. refl), alike_set label xs n e before now)
+
+abbrev pub clear_in : Option Denoted → Option ClearKey
+clear_in o = option_map (λ key. key.clear) o
+
+abbrev pub SameClear : Compare
+SameClear a b = clear_in b ≡ clear_in a
+
+aged_clear : (o : Option Denoted) → clear_in (aged_key o) ≡ clear_in o
+aged_clear None = refl
+aged_clear (Some key) = refl
+
+alike_aged_entry : (label : List ℕ) (e : Option Entry) → AreAlike label SameClear e (aged_entry e)
+alike_aged_entry label None = (refl, λ has. refl)
+alike_aged_entry label (Some e) = (refl, λ has. aged_clear e.what)
+
+pub alike_aged : (label : List ℕ) (es : List (Option Entry)) → Alike label SameClear es (aged es)
+alike_aged label [] = tt
+alike_aged label (e ∷ es) = (alike_aged_entry label e, alike_aged label es)
+
+current_clear : (o : Option Denoted) → clear_in (under_current o) ≡ clear_in o
+current_clear None = refl
+current_clear (Some key) = refl
+
+alike_current : (label : List ℕ) (e : Option Entry) → AreAlike label SameClear e (current_entry e)
+alike_current label None = (refl, λ has. refl)
+alike_current label (Some e) = (refl, λ has. current_clear e.what)
+
+alike_clear : (label : List ℕ) (es : List (Option Entry)) → Alike label SameClear es es
+alike_clear label [] = tt
+alike_clear label (e ∷ es) = ((refl, λ has. refl), alike_clear label es)
+
+pub alike_further : (label : List ℕ) (es : List (Option Entry)) (n : ℕ) → Alike label SameClear es (further es n)
+alike_further label [] n = tt
+alike_further label (e ∷ es) zero = alike_clear label (e ∷ es)
+alike_further label (e ∷ es) (suc n) = (alike_current label e, alike_further label es n)
+
+-- ---- places
+
+pub name_of_entry : (es : List (Option Entry)) (n : ℕ) → name_at (directory es) n ≡ entry_label (entry_at es n)
+name_of_entry [] n = refl
+name_of_entry (e ∷ es) zero = refl
+name_of_entry (e ∷ es) (suc n) = name_of_entry es n
+
+-- another label
+pub has_other : (label other : List ℕ) → other ≢ label → has_name label (Some other) ≡ false
+has_other label other apart = by_test (has_name label (Some other)) refl
+  where
+    same_some : (a b : List ℕ) → Some a ≡ Some b → a ≡ b
+    same_some a b is = cc
+
+    by_test : (t : Bool) → has_name label (Some other) ≡ t → has_name label (Some other) ≡ false
+    by_test true is = absurd (apart (same_some other label (has_name_is label (Some other) is)))
+    by_test false is = is
+
+-- the place of another label hasn't this one
+pub place_other : (label other : List ℕ) (es : List (Option Entry)) (n : ℕ) → other ≢ label → place_of other (directory es) ≡ Some n
+    → has_name label (entry_label (entry_at es n)) ≡ false
+place_other label other es n apart is =
+    ap (has_name label) (sym (name_of_entry es n) ∙ held_at other (directory es) n is) ∙ has_other label other apart
+
+-- the place that is free has no label
+free_at : (d : List (Option (List ℕ))) (at : ℕ) → (n : ℕ) × (free_from at d ≡ at + n) × (name_at d n ≡ None)
+free_at [] at = (0, omega arith, refl)
+free_at (None ∷ ns) at = (0, omega arith, refl)
+free_at (Some n ∷ ns) at = let later = free_at ns (at + 1) in (suc later.0, omega (arith, later.1), later.2)
+
+free_has_none : (d : List (Option (List ℕ))) → name_at d (free_place d) ≡ None
+unfolding free_place
+free_has_none d =
+    let found = free_at d 0 in
+    let place : free_from 0 d ≡ found.0 = omega (arith, found.1) in
+    ap (name_at d) place ∙ found.2
+
+pub place_free : (label : List ℕ) (es : List (Option Entry)) → has_name label (entry_label (entry_at es (free_place (directory es)))) ≡ false
+place_free label es = ap (has_name label) (sym (name_of_entry es (free_place (directory es))) ∙ free_has_none (directory es))
+
+pub label_kept : (key : Denoted) (e : Option Entry) → entry_label (with_what key e) ≡ entry_label e
+label_kept key None = refl
+label_kept key (Some e) = refl
+
+-- a comparison that is weaker
+alike_weaker : (label : List ℕ) (R S : Compare) → ((a b : Option Denoted) → R a b → S a b) → (es fs : List (Option Entry)) → Alike label R es fs → Alike label S es fs
+alike_weaker label R S weaker [] [] alike = tt
+alike_weaker label R S weaker [] (f ∷ fs) alike = absurd alike
+alike_weaker label R S weaker (e ∷ es) [] alike = absurd alike
+alike_weaker label R S weaker (e ∷ es) (f ∷ fs) alike =
+    ((alike.0.0, λ has. weaker (what_in e) (what_in f) (alike.0.1 has)), alike_weaker label R S weaker es fs alike.1)
+
+pub as_clear : (label : List ℕ) (es fs : List (Option Entry)) → Alike label Same es fs → Alike label SameClear es fs
+as_clear label es fs alike = alike_weaker label Same SameClear (λ a b same. ap clear_in (sym same)) es fs alike

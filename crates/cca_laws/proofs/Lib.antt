@@ -1,0 +1,13 @@
+pub mod CeremonyLaws
+pub mod CleanLaws
+pub mod DiskLaws
+pub mod EffectLaws
+pub mod LabelLaws
+pub mod LabelLists
+pub mod LineCases
+pub mod NamedLaws
+pub mod PartLaws
+pub mod PointLaws
+pub mod ReplyLaws
+pub mod SealedLaws
+pub mod UseLaws

@@ -1,0 +1,8 @@
+use Rattle.cca_laws.proofs.ReplyLaws.{one_reply, replies_pair}
+use Rattle.cca_laws.proofs.replies.one_reply_is_one_line.Goals as goal
+
+pub returns-clause-one : goal.returns-clause-one
+returns-clause-one c = one_reply
+
+pub returns-clause-pairs : goal.returns-clause-pairs
+returns-clause-pairs c = replies_pair

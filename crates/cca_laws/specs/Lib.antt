@@ -1,0 +1,11 @@
+pub mod Ceremony
+pub mod Disks
+pub mod EachLine
+pub mod KeyInParts
+pub mod MasterBytes
+pub mod NamedLabels
+pub mod Points
+pub mod ReplyLines
+pub mod Sealed
+pub mod Targets
+pub mod Uses
