@@ -10,7 +10,7 @@ use Rattle.cca_vectors.specs.Checks.{check}
 use Rattle.key_cells.specs.Bench.{Bench}
 use Rattle.key_records.specs.Entries.{Entry}
 use Rattle.master_registers.specs.Masters.{NewRegister, Empty, Partial, Full, Masters, state_of}
-use Rattle.master_registers.specs.RegisterBody.{StandsForMasters}
+use Rattle.master_registers.specs.RegisterBody.{StandsForMasters, registers_body}
 use Rattle.master_registers.specs.Loaded.{Loaded}
 use Rattle.master_registers.specs.Changes.{ChangesModule, HoldsEither, WhenRefused}
 use Rattle.master_registers.specs.declared.faults.RegisterFault.{RegisterFault}
@@ -22,6 +22,8 @@ use Rattle.cca_machine.specs.Verdict.{questions, first_refusal}
 use Rattle.cca_machine.specs.Act.{Outcome, NoCell, OneCell, Become, new_name}
 use Rattle.cca_requests.specs.Serving.{StandsInModule, IsEither, SameBut, CarriesModule, IsSound, LeavesModule}
 use Rattle.cca_requests.specs.Deciding.{plainly, or_effected, state_name, change_stop, change_reply}
+use Rattle.slot_disk.proofs.SpareLemmas.{becomes_turned}
+use Rattle.cca_requests.proofs.Leaving.{still_turned}
 use Rattle.cca_requests.proofs.Contents.{at_content, holds_at, roles_alike, sound}
 use Rattle.cca_requests.proofs.Serving.{still_module, told_some}
 
@@ -140,11 +142,12 @@ module _ {A : Type 0} (medium : A → Medium) (faults : A → ℕ) (old new : A)
     disk = record {
       size = ap (λ x. (medium x).size) untouched;
       still = λ some. subst (λ x. IsSome (medium x).content) (sym untouched) some;
-      settled = subst (λ x. IsSettled (medium x)) (sym untouched) settled;
+      settled = λ ok. subst (λ x. IsSettled (medium x)) (sym untouched) settled;
       later = later;
       fault = λ is. cc is;
     };
     told = λ some. subst (λ x. IsSome (medium x).content) untouched some;
+    turned = still_turned 33 (medium old) (medium new) (ap (λ x. (medium x).size) untouched) (ap (λ x. (medium x).content) untouched);
     sound = subst (λ x. Told (medium x) (IsSound roles)) (sym untouched) (sound (medium old) m roles stands also);
     silent = tt;
     memory = tt;
@@ -156,8 +159,9 @@ module _ {A : Type 0} (medium : A → Medium) (faults : A → ℕ) (old new : A)
       → (r ≡ Err DiskFault → Rose (faults old) (faults new)) → OnErr (change_stop r) (reply ≡ [])
       → LeavesModule (medium old) (medium new) (faults old) (faults new) (change_stop r) reply roles roles
   left_as (Ok now) reply changes untouched cause silent = record {
-    disk = record { size = changes.either.size; still = changes.either.still; settled = changes.settled; later = later; fault = λ is. cc is };
+    disk = record { size = changes.either.size; still = changes.either.still; settled = λ ok. changes.settled; later = later; fault = λ is. cc is };
     told = told_before (HoldsEither m next) (medium old) (medium new) changes.either;
+    turned = becomes_turned 0 33 (medium old) (medium new) (registers_body next) changes.replaced;
     sound = sound (medium new) next roles changes.stands
         (becomes_told (medium old) (medium new) (HoldsEither m next) (λ image. StandsForRoles image roles) (λ image. StandsForRoles image roles)
         changes.either also (λ d c p h. roles_alike d c roles h.others p));
@@ -166,8 +170,9 @@ module _ {A : Type 0} (medium : A → Medium) (faults : A → ℕ) (old new : A)
     stops = tt;
   }
   left_as (Err DiskFault) reply changes untouched cause silent = record {
-    disk = record { size = changes.either.size; still = changes.either.still; settled = tt; later = later; fault = λ is. cause refl };
+    disk = record { size = changes.either.size; still = changes.either.still; settled = λ ok. absurd (cc ok); later = later; fault = λ is. cause refl };
     told = told_before (HoldsEither m next) (medium old) (medium new) changes.either;
+    turned = tt;
     sound = tt;
     silent = silent;
     memory = refl;

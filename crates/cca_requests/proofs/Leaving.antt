@@ -1,57 +1,70 @@
 -- What a call leaves of both disks, of the reply and of the memory, whatever the disks hold.
-use Rattle.std.proofs.Common.{◌≡◌, ℕ, List, Option, Result, Ok, Err, refl, sym, ap, ◌∙◌, subst, arith}
-use Rattle.std.specs.Prelude.{OnOk, OnErr, IfErr}
-use Rattle.slot_disk.specs.Medium.{Medium, Told, IsSettled}
+use Rattle.std.proofs.Common.{◌≡◌, ℕ, List, Option, None, Result, Ok, Err, refl, sym, ap, ◌∙◌, subst, arith}
+use Rattle.std.specs.Prelude.{◌≤◌, IsOk, IsSome, OnOk, OnErr, IfErr}
+use Rattle.slot_disk.specs.Medium.{Medium, Told, IsSettled, Becomes, Keeps}
+use Rattle.slot_disk.specs.SpareBytes.{Turned}
+use Rattle.slot_disk.proofs.Media.{becomes_same}
+use Rattle.slot_disk.proofs.SpareLemmas.{turned_same}
+use Rattle.slot_disk.proofs.WhereToldLemmas.{rose_wider}
 use Rattle.cca_roles.specs.declared.roles.Role.{Role}
 use Rattle.key_records.specs.StoreStands.{HoldsRows}
 use Rattle.key_records.specs.declared.rows.Row.{Row}
-use Rattle.line_service.specs.Devices.{DiskLeft}
+use Rattle.line_service.specs.Devices.{DiskLeft, devices}
 use Rattle.line_service.specs.declared.stops.Device.TheVariants.{Module, Store}
 use Rattle.line_service.specs.declared.stops.Stop.{Stop}
 use Rattle.line_service.specs.declared.stops.Stop.TheVariants.{ReadFault, WriteFault, EntropyFault, ModuleFault, StoreFault, Damaged, InputLimit}
 use Rattle.cca_requests.specs.Judging.{IsStoreStop}
-use Rattle.cca_requests.specs.Serving.{Tables, tables, Span, IsSound, IsLoadedStop, LeavesModule, LeavesStore, Leaves}
-
-abbrev pub span : Medium → Medium → ℕ → ℕ → Medium → Medium → ℕ → ℕ → Span
-span m0 m1 m_before m_now d0 d1 d_before d_now = record {
-  module_old = m0;
-  module_new = m1;
-  module_before = m_before;
-  module_now = m_now;
-  store_old = d0;
-  store_new = d1;
-  store_before = d_before;
-  store_now = d_now;
-}
+use Rattle.cca_requests.specs.Serving.{Tables, tables, IsSound, IsLoadedStop, LeavesModule, LeavesStore, Leaves}
 
 ok_always : {P : Type 0} (result : Result (Unit {0}) Stop) → P → OnOk result P
 ok_always (Ok u) p = p
 ok_always (Err stop) p = tt
 
+-- a disk that is as it was
+pub still_turned : (count : ℕ) (m0 m1 : Medium) → m1.size ≡ m0.size → m1.content ≡ m0.content → Becomes (Turned count) m0 m1
+still_turned count m0 m1 size content = becomes_same m0 m1 (Turned count) size content (turned_same count)
+
+-- a disk that was read
+pub read_turned : (count : ℕ) (m0 m1 : Medium) → Keeps m0 m1 → Becomes (Turned count) m0 m1
+read_turned count m0 m1 keeps = still_turned count m0 m1 keeps.moments.size keeps.content
+
+-- and changed after that
+turned_after : (count : ℕ) (m0 m1 m2 : Medium) (result : Result (Unit {0}) Stop) → Keeps m0 m1 → OnOk result (Becomes (Turned count) m1 m2)
+    → OnOk result (Becomes (Turned count) m0 m2)
+turned_after count m0 m1 m2 (Ok u) keeps becomes = record {
+  size = becomes.size ∙ keeps.moments.size;
+  told = λ c is. let from = becomes.told c is in (from.0, sym keeps.content ∙ from.1, from.2);
+  still = λ some. becomes.still (subst IsSome (sym keeps.content) some);
+}
+turned_after count m0 m1 m2 (Err stop) keeps becomes = tt
+
 -- a disk that no call touched
-pub untouched_left : (m : Medium) (count : ℕ) (result : Result (Unit {0}) Stop) (stop : Stop) → IsSettled m → (result ≡ Err stop → ⊥) → DiskLeft m m count count result stop
+pub untouched_left : (m : Medium) (count : ℕ) (result : Result (Unit {0}) Stop) (stop : Stop) → IsSettled m → (result ≡ Err stop → ⊥)
+    → DiskLeft m m count count (IsOk result) (result ≡ Err stop)
 untouched_left m count result stop settled never = record {
   size = refl;
   still = λ some. some;
-  settled = ok_always result settled;
+  settled = λ ok. settled;
   later = omega arith;
   fault = λ is. absurd (never is);
 }
 
 -- what a call leaves that writes nothing
 pub still_left : (m d : Medium) (m_count d_count : ℕ) (reply : List ℕ) (t : Tables) → IsSettled m → IsSettled d
-    → Told m (IsSound t.roles) → Told d (HoldsRows t.rows) → Leaves (span m m m_count m_count d d d_count d_count) (Ok tt) reply t t
+    → Told m (IsSound t.roles) → Told d (HoldsRows t.rows)
+    → Leaves (Ok tt) reply (record { old = devices m m_count d d_count None 0; new = devices m m_count d d_count None 0 }) t t
 still_left m d m_count d_count reply t settled_module settled_store sound holds = record {
   module_disk = untouched_left m m_count (Ok tt) ModuleFault settled_module (λ is. cc is);
   store_disk = untouched_left d d_count (Ok tt) StoreFault settled_store (λ is. cc is);
   module_told = λ some. some;
   store_told = λ some. some;
+  module_turned = still_turned 33 m m refl refl;
+  store_turned = still_turned 1024 d d refl refl;
   sound = sound;
   holds = holds;
   silent = tt;
   roles = tt;
   labels = tt;
-  stops = tt;
 }
 
 abbrev error : Stop → Result (Unit {0}) Stop
@@ -64,7 +77,7 @@ never_store (Err stop) stops is = let no : error ModuleFault ≡ Err StoreFault 
 never_module : (result : Result (Unit {0}) Stop) → IfErr result IsStoreStop → result ≡ Err ModuleFault → ⊥
 never_module result stops is = subst (λ (r : Result (Unit {0}) Stop). IfErr r IsStoreStop) is stops
 
-module_stop : (result : Result (Unit {0}) Stop) → IfErr result (λ stop. stop ≡ ModuleFault) → IfErr result IsLoadedStop
+pub module_stop : (result : Result (Unit {0}) Stop) → IfErr result (λ stop. stop ≡ ModuleFault) → IfErr result IsLoadedStop
 module_stop (Ok u) stops = tt
 module_stop (Err stop) stops = subst IsLoadedStop (sym stops) tt
 
@@ -78,7 +91,7 @@ loaded_stop ReadFault stops = absurd stops
 loaded_stop WriteFault stops = absurd stops
 loaded_stop InputLimit stops = absurd stops
 
-store_stop : (result : Result (Unit {0}) Stop) → IfErr result IsStoreStop → IfErr result IsLoadedStop
+pub store_stop : (result : Result (Unit {0}) Stop) → IfErr result IsStoreStop → IfErr result IsLoadedStop
 store_stop (Ok u) stops = tt
 store_stop (Err stop) stops = loaded_stop stop stops
 
@@ -90,36 +103,67 @@ module _ (result : Result (Unit {0}) Stop) (reply : List ℕ) where
   -- of the module alone
   pub module_left : (m0 m1 d : Medium) (before now count : ℕ) (roles later : List (Option Role)) (rows : List (Option Row))
       → LeavesModule m0 m1 before now result reply roles later → IsSettled d → Told d (HoldsRows rows)
-      → Leaves (span m0 m1 before now d d count count) result reply (tables roles rows) (tables later rows)
+      → Leaves result reply (record { old = devices m0 before d count None 0; new = devices m1 now d count None 0 }) (tables roles rows) (tables later rows)
   module_left m0 m1 d before now count roles later rows left settled holds = record {
     module_disk = left.disk;
     store_disk = untouched_left d count result StoreFault settled (never_store result left.stops);
     module_told = left.told;
     store_told = λ some. some;
+    module_turned = left.turned;
+    store_turned = ok_always result (still_turned 1024 d d refl refl);
     sound = left.sound;
     holds = ok_always result holds;
     silent = left.silent;
     roles = left.memory;
     labels = err_always result refl;
-    stops = module_stop result left.stops;
   }
 
   -- of the store alone
   pub store_left : (m d0 d1 : Medium) (count before now : ℕ) (roles : List (Option Role)) (rows later : List (Option Row))
       → LeavesStore d0 d1 before now result reply rows later → IsSettled m → Told m (IsSound roles)
-      → Leaves (span m m count count d0 d1 before now) result reply (tables roles rows) (tables roles later)
+      → Leaves result reply (record { old = devices m count d0 before None 0; new = devices m count d1 now None 0 }) (tables roles rows) (tables roles later)
   store_left m d0 d1 count before now roles rows later left settled sound = record {
     module_disk = untouched_left m count result ModuleFault settled (never_module result left.stops);
     store_disk = left.disk;
     module_told = λ some. some;
     store_told = left.told;
+    module_turned = ok_always result (still_turned 33 m m refl refl);
+    store_turned = left.turned;
     sound = ok_always result sound;
     holds = left.holds;
     silent = left.silent;
     roles = err_always result refl;
     labels = left.memory;
-    stops = store_stop result left.stops;
   }
+
+disk_after : (m0 m1 m2 : Medium) (before mid now : ℕ) (done failed : Type 0) → Keeps m0 m1 → before ≤ mid → DiskLeft m1 m2 mid now done failed
+    → DiskLeft m0 m2 before now done failed
+disk_after m0 m1 m2 before mid now done failed keeps later left = record {
+  size = left.size ∙ keeps.moments.size;
+  still = λ some. left.still (subst IsSome (sym keeps.content) some);
+  settled = left.settled;
+  later = omega (arith, later, left.later);
+  fault = λ h. rose_wider before mid now now later left.later (omega arith) (left.fault h);
+}
+
+-- what is left after a call that reads both disks, and another behind it
+pub leaves_after_reads : (result : Result (Unit {0}) Stop) (reply : List ℕ) (m0 m1 m2 d0 d1 d2 : Medium) (m_before m_mid m_now d_before d_mid d_now : ℕ) (t later : Tables)
+    → Keeps m0 m1 → m_before ≤ m_mid → Keeps d0 d1 → d_before ≤ d_mid
+    → Leaves result reply (record { old = devices m1 m_mid d1 d_mid None 0; new = devices m2 m_now d2 d_now None 0 }) t later
+    → Leaves result reply (record { old = devices m0 m_before d0 d_before None 0; new = devices m2 m_now d2 d_now None 0 }) t later
+leaves_after_reads result reply m0 m1 m2 d0 d1 d2 m_before m_mid m_now d_before d_mid d_now t later keeps_m later_m keeps_d later_d left = record {
+  module_disk = disk_after m0 m1 m2 m_before m_mid m_now (IsOk result) (result ≡ Err ModuleFault) keeps_m later_m left.module_disk;
+  store_disk = disk_after d0 d1 d2 d_before d_mid d_now (IsOk result) (result ≡ Err StoreFault) keeps_d later_d left.store_disk;
+  module_told = λ some. subst IsSome keeps_m.content (left.module_told some);
+  store_told = λ some. subst IsSome keeps_d.content (left.store_told some);
+  module_turned = turned_after 33 m0 m1 m2 result keeps_m left.module_turned;
+  store_turned = turned_after 1024 d0 d1 d2 result keeps_d left.store_turned;
+  sound = left.sound;
+  holds = left.holds;
+  silent = left.silent;
+  roles = left.roles;
+  labels = left.labels;
+}
 
 -- once the registers are loaded, the module is damaged no more
 pub no_damage : (result : Result (Unit {0}) Stop) (cell : ℕ) → IfErr result IsLoadedStop → result ≡ Err (Damaged Module cell) → ⊥

@@ -7,6 +7,8 @@ mod Delivering
 mod Fields
 mod Generating
 mod GrantsKept
+mod KeyParts
+mod KeyedVerbs
 mod LabelsRead
 mod Leaving
 mod ListedLabels
@@ -15,6 +17,7 @@ mod Registers
 mod Renewing
 mod RoleChanging
 pub mod Serving
+mod SegmentRules
 mod SetRules
 mod Storing
 mod Texts

@@ -20,6 +20,8 @@ use Rattle.cca_machine.specs.Verdict.{questions}
 use Rattle.cca_machine.specs.Act.{Effect, NoCell, OneCell, Outcome}
 use Rattle.cca_requests.specs.Serving.{StandsInModule, IsEither, SameBut, CarriesModule, IsSound, LeavesModule}
 use Rattle.cca_requests.specs.Deciding.{plainly, role_outcome, role_stop, role_reply}
+use Rattle.slot_disk.proofs.SpareLemmas.{changed_turned}
+use Rattle.cca_requests.proofs.Leaving.{still_turned}
 use Rattle.cca_requests.proofs.Contents.{at_content, holds_at, registers_alike, sound}
 use Rattle.cca_requests.proofs.Serving.{still_module, told_some}
 
@@ -161,8 +163,9 @@ module _ {A : Type 0} (medium : A → Medium) (faults : A → ℕ) (old new : A)
       → (error fault ≡ Err full → new ≡ old) → now ≡ before → (error fault ≡ Err DiskFault → Rose (faults old) (faults new)) → OnErr (role_stop (Err fault)) (reply ≡ [])
       → Left (role_stop (Err fault))
   left_by fault (inl disk) changes untouched memory cause silent = subst (λ f. Left (role_stop (Err f))) (sym disk) (record {
-    disk = record { size = changes.either.size; still = changes.either.still; settled = tt; later = later; fault = λ is. cause (ap error disk) };
+    disk = record { size = changes.either.size; still = changes.either.still; settled = λ ok. absurd (cc ok); later = later; fault = λ is. cause (ap error disk) };
     told = told_before (HoldsEither (place + 1) before next) (medium old) (medium new) changes.either;
+    turned = tt;
     sound = tt;
     silent = subst (λ f. OnErr (role_stop (Err f)) (reply ≡ [])) disk silent;
     memory = memory;
@@ -174,11 +177,12 @@ module _ {A : Type 0} (medium : A → Medium) (faults : A → ℕ) (old new : A)
         disk = record {
           size = changes.either.size;
           still = changes.either.still;
-          settled = subst (λ x. IsSettled (medium x)) (sym same) settled;
+          settled = λ ok. subst (λ x. IsSettled (medium x)) (sym same) settled;
           later = later;
           fault = λ no. cc no;
         };
         told = told_before (HoldsEither (place + 1) before next) (medium old) (medium new) changes.either;
+        turned = still_turned 33 (medium old) (medium new) (ap (λ x. (medium x).size) same) (ap (λ x. (medium x).content) same);
         sound = subst (λ x. Told (medium x) (IsSound now)) (sym same) (subst (λ rs. Told (medium old) (IsSound rs)) (sym memory) (sound (medium old) m before stands also));
         silent = tt;
         memory = tt;
@@ -190,8 +194,10 @@ module _ {A : Type 0} (medium : A → Medium) (faults : A → ℕ) (old new : A)
       → ChangesRoles place before next (medium old) (medium new) r → (r ≡ Err full → new ≡ old) → Remembers before next now r
       → (r ≡ Err DiskFault → Rose (faults old) (faults new)) → OnErr (role_stop r) (reply ≡ []) → Left (role_stop r)
   role_left_as (Ok u) each changes untouched memory cause silent = record {
-    disk = record { size = changes.either.size; still = changes.either.still; settled = changes.settled; later = later; fault = λ is. cc is };
+    disk = record { size = changes.either.size; still = changes.either.still; settled = λ ok. changes.settled; later = later; fault = λ is. cc is };
     told = told_before (HoldsEither (place + 1) before next) (medium old) (medium new) changes.either;
+    turned = changed_turned (place + 1) 33 (medium old) (medium new) (HoldsEither (place + 1) before next) changes.either changes.turned
+        (λ b c by. by.outside) (λ b c by. by.untouched);
     sound = subst (λ rs. Told (medium new) (IsSound rs)) (sym memory.done) (sound (medium new) m next
         (becomes_told (medium old) (medium new) (HoldsEither (place + 1) before next) (λ image. StandsForMasters image m) (λ image. StandsForMasters image m)
         changes.either stands (λ d c p h. registers_alike d c m place h.others p))

@@ -24,6 +24,8 @@ use Rattle.cca_machine.specs.Verdict.{refusal, questions, first_refusal}
 use Rattle.cca_machine.specs.Act.{Create, Cells, OneCell, Outcome, refused}
 use Rattle.cca_requests.specs.Serving.{StandsInStore, IsEither, SameBut, CarriesStore, LeavesStore}
 use Rattle.cca_requests.specs.Deciding.{IsRecorded, or_effected, record_stop, record_reply}
+use Rattle.slot_disk.proofs.SpareLemmas.{becomes_turned}
+use Rattle.cca_requests.proofs.Leaving.{still_turned}
 use Rattle.cca_requests.proofs.Contents.{at_content, holds_at}
 use Rattle.cca_requests.proofs.Serving.{still_store, told_some}
 
@@ -170,8 +172,9 @@ module _ (d0 d1 : Medium) (before now : ℕ) (rows later : List (Option Row)) (r
   pub stored_left : (u : Unit {0}) → ReplacesBody cell bytes d0 d1 (Ok u) → Told d1 (HoldsRows later) → before ≤ now
       → LeavesStore d0 d1 before now (Ok tt) reply rows later
   stored_left u replaces holds count = record {
-    disk = record { size = replaces.replacing.size; still = replaces.replacing.still; settled = replaces.settled; later = count; fault = λ is. cc is };
+    disk = record { size = replaces.replacing.size; still = replaces.replacing.still; settled = λ ok. replaces.settled; later = count; fault = λ is. cc is };
     told = told_before (IsReplacing cell bytes) d0 d1 replaces.replacing;
+    turned = becomes_turned cell 1024 d0 d1 bytes replaces.replaced;
     holds = holds;
     silent = tt;
     memory = tt;
@@ -181,8 +184,9 @@ module _ (d0 d1 : Medium) (before now : ℕ) (rows later : List (Option Row)) (r
   pub failed_left : (fault : RecordFault) → ReplacesBody cell bytes d0 d1 (Err fault) → later ≡ rows → before ≤ now → Rose before now → reply ≡ []
       → LeavesStore d0 d1 before now (Err StoreFault) reply rows later
   failed_left fault replaces memory count rose silent = record {
-    disk = record { size = replaces.replacing.size; still = replaces.replacing.still; settled = tt; later = count; fault = λ is. rose };
+    disk = record { size = replaces.replacing.size; still = replaces.replacing.still; settled = λ ok. absurd (cc ok); later = count; fault = λ is. rose };
     told = told_before (IsReplacing cell bytes) d0 d1 replaces.replacing;
+    turned = tt;
     holds = tt;
     silent = silent;
     memory = ap row_directory memory;
@@ -196,11 +200,12 @@ module _ {A : Type 0} (medium : A → Medium) (faults : A → ℕ) (old new : A)
     disk = record {
       size = ap (λ x. (medium x).size) untouched;
       still = λ some. subst (λ x. IsSome (medium x).content) (sym untouched) some;
-      settled = subst (λ x. IsSettled (medium x)) (sym untouched) settled;
+      settled = λ ok. subst (λ x. IsSettled (medium x)) (sym untouched) settled;
       later = count;
       fault = λ is. cc is;
     };
     told = λ some. subst (λ x. IsSome (medium x).content) untouched some;
+    turned = still_turned 1024 (medium old) (medium new) (ap (λ x. (medium x).size) untouched) (ap (λ x. (medium x).content) untouched);
     holds = subst (λ x. Told (medium x) (HoldsRows later)) (sym untouched) (subst (λ rs. Told (medium old) (HoldsRows rs)) (sym memory) holds);
     silent = tt;
     memory = tt;

@@ -1,9 +1,9 @@
 -- What a request leaves of the disks, in a few records.
-use Rattle.std.specs.Prelude.{◌≡◌, ◌≢◌, ◌⊎◌, ◌≤◌, ◌<◌, ◌*◌, ℕ, List, [], length, slice_index, Option, Result, Err, OnOk, OnErr, IfErr, IsSome, ⊤}
+use Rattle.std.specs.Prelude.{◌≡◌, ◌≢◌, ◌⊎◌, ◌≤◌, ◌<◌, ◌*◌, ℕ, List, [], length, slice_index, false, Option, Result, Err, OnOk, OnErr, IfErr, IsOk, IsSome, IsTrue, ⊤}
 use Rattle.slot_disk.specs.Cells.{body, IsUntouched}
-use Rattle.slot_disk.specs.declared.cell.TheConstants.{CELL_LEN}
-use Rattle.slot_disk.specs.Medium.{Medium, Told, From, EachImage, EachPair}
+use Rattle.slot_disk.specs.Medium.{Medium, Told, Keeps, From, Becomes, EachImage, EachPair}
 use Rattle.slot_disk.specs.Ranges.{SameOutside}
+use Rattle.slot_disk.specs.SpareBytes.{Turned}
 use Rattle.script_buffers.specs.Reading.{line_limit}
 use Rattle.script_buffers.specs.Replies.{spelled}
 use Rattle.cca_roles.specs.RolesStand.{StandsForRoles}
@@ -12,10 +12,10 @@ use Rattle.key_records.specs.StoreStands.{Agrees, HoldsRows}
 use Rattle.key_records.specs.Entries.{row_directory}
 use Rattle.key_records.specs.declared.rows.Row.{Row}
 use Rattle.master_registers.specs.Masters.{Masters}
-use Rattle.master_registers.specs.RegisterBody.{StandsForMasters}
+use Rattle.master_registers.specs.RegisterBody.{StandsForMasters, IsDamaged}
 use Rattle.reencipher.specs.Runs.{LeavesRest}
 use Rattle.line_service.specs.Answering.{Holds, Unwritten}
-use Rattle.line_service.specs.Devices.{DiskLeft}
+use Rattle.line_service.specs.Devices.{Span, Devices, DiskLeft, TellsFault, ModuleLeft, StoreLeft}
 use Rattle.line_service.specs.Machine.{World}
 use Rattle.line_service.specs.declared.stops.Device.TheVariants.{Module, Store}
 use Rattle.line_service.specs.declared.stops.Stop.{Stop}
@@ -23,8 +23,9 @@ use Rattle.line_service.specs.declared.stops.Stop.TheVariants.{ReadFault, WriteF
 use Rattle.verb_rules.specs.Keys.{keys_of}
 use Rattle.verb_script.specs.Grammar.{Request, Spells}
 use Rattle.cca_machine.specs.State.{State, IsModuleOf, IsStoreOf}
+use Rattle.cca_machine.specs.Operands.{needs_store}
 use Rattle.cca_requests.specs.Judging.{IsStoreStop}
-use Rattle.cca_machine.specs.Act.{Outcome, Cells, NoCell, OneCell, OldCells, performed}
+use Rattle.cca_machine.specs.Act.{Outcome, Cells, NoCell, OneCell, OldCells, performed, draws}
 use Rattle.cca_machine.specs.Lines.{taken_by}
 use Rattle.std.specs.Io.KnownBytes.{Consumes}
 
@@ -72,7 +73,7 @@ ArePair s o c d = IsAround s o (λ t. IsModuleOf t c × IsStoreOf t d)
 -- new is old outside this cell, and in it but for the selector and the body that wasn't selected; every other cell selects
 -- the body that it did
 pub record SameButCell (cell : ℕ) (old new : List ℕ) : Type 0 where
-  pub outside : SameOutside (CELL_LEN * cell) CELL_LEN old new
+  pub outside : SameOutside (1536 * cell) 1536 old new
   pub others : (n : ℕ) → n ≢ cell → body new n ≡ body old n
   pub untouched : (k : ℕ) → IsUntouched old cell k → slice_index new k ≡ slice_index old k
 
@@ -211,8 +212,10 @@ HasTold old new = IsSome new.content → IsSome old.content
 -- what a change of the module leaves of it, of the reply and of the memory
 pub record LeavesModule (old new : Medium) (before now : ℕ) (result : Result (Unit {0}) Stop)
     (reply : List ℕ) (roles later : List (Option Role)) : Type 0 where
-  pub disk : DiskLeft old new before now result ModuleFault
+  pub disk : DiskLeft old new before now (IsOk result) (result ≡ Err ModuleFault)
   pub told : HasTold old new
+  -- after Ok the body that was selected in a cell that has changed stands on the other side
+  pub turned : OnOk result (Becomes (Turned 33) old new)
   pub sound : OnOk result (Told new (IsSound later))
   pub silent : OnErr result (reply ≡ [])
   pub memory : OnErr result (later ≡ roles)
@@ -221,36 +224,53 @@ pub record LeavesModule (old new : Medium) (before now : ℕ) (result : Result (
 -- And a change of the store. After an error the memory holds the labels that it held, in their cells.
 pub record LeavesStore (old new : Medium) (before now : ℕ) (result : Result (Unit {0}) Stop)
     (reply : List ℕ) (rows later : List (Option Row)) : Type 0 where
-  pub disk : DiskLeft old new before now result StoreFault
+  pub disk : DiskLeft old new before now (IsOk result) (result ≡ Err StoreFault)
   pub told : HasTold old new
+  pub turned : OnOk result (Becomes (Turned 1024) old new)
   pub holds : OnOk result (Told new (HoldsRows later))
   pub silent : OnErr result (reply ≡ [])
   pub memory : OnErr result (row_directory later ≡ row_directory rows)
   pub stops : IfErr result IsStoreStop
 
--- two disks before and after a call, with their counts of faults
-pub record Span : Type 1 where
-  pub module_old : Medium
-  pub module_new : Medium
-  pub module_before : ℕ
-  pub module_now : ℕ
-  pub store_old : Medium
-  pub store_new : Medium
-  pub store_before : ℕ
-  pub store_now : ℕ
-
--- what a call behind the loading of the registers leaves of both disks, of the reply and of the memory
-pub record Leaves (d : Span) (result : Result (Unit {0}) Stop) (reply : List ℕ) (t later : Tables)
-    : Type 0 where
-  pub module_disk : DiskLeft d.module_old d.module_new d.module_before d.module_now result
-      ModuleFault
-  pub store_disk : DiskLeft d.store_old d.store_new d.store_before d.store_now result StoreFault
-  pub module_told : HasTold d.module_old d.module_new
-  pub store_told : HasTold d.store_old d.store_new
-  pub sound : OnOk result (Told d.module_new (IsSound later.roles))
-  pub holds : OnOk result (Told d.store_new (HoldsRows later.rows))
+-- what a call leaves of both disks, of the reply and of the memory
+pub record Leaves (result : Result (Unit {0}) Stop) (reply : List ℕ) (d : Span Devices)
+    (t later : Tables) : Type 0 where
+  pub module_disk : ModuleLeft d (IsOk result) (result ≡ Err ModuleFault)
+  pub store_disk : StoreLeft d (IsOk result) (result ≡ Err StoreFault)
+  pub module_told : HasTold d.old.world.module_ d.new.world.module_
+  pub store_told : HasTold d.old.world.store d.new.world.store
+  -- after Ok, of each cell that has changed, the selector is 0 or 1 and the body that was selected stands on the other
+  -- side, and no byte outside selectors and bodies has changed
+  pub module_turned : OnOk result (Becomes (Turned 33) d.old.world.module_ d.new.world.module_)
+  pub store_turned : OnOk result (Becomes (Turned 1024) d.old.world.store d.new.world.store)
+  pub sound : OnOk result (Told d.new.world.module_ (IsSound later.roles))
+  pub holds : OnOk result (Told d.new.world.store (HoldsRows later.rows))
   pub silent : OnErr result (reply ≡ [])
   -- after an error the memory has the roles that it had, and holds the labels that it held, in their cells
   pub roles : OnErr result (later.roles ≡ t.roles)
   pub labels : OnErr result (row_directory later.rows ≡ row_directory t.rows)
-  pub stops : IfErr result IsLoadedStop
+
+-- cell 0 of the module reads as no registers, and nothing was written
+pub record FindsDamage (old new : Medium) : Type 0 where
+  pub damaged : Told old IsDamaged
+  pub kept : Keeps old new
+
+-- the store is called only for a label in an operand, and for REENCIPHER
+pub record SparesStore {D : Type 0} (request : Request) (result : Result (Unit {0}) Stop)
+    (store0 store1 : D) : Type 0 where
+  pub named : result ≡ Err StoreFault → IsTrue (needs_store request)
+  pub spared : needs_store request ≡ false → store1 ≡ store0
+
+-- Random bytes are taken only where the machine takes some, from a state that has P, and where the request draws some;
+-- the random source fails only there too.
+pub record DrawsOnly {E : Type 0} (P : State → Type 0) (request : Request)
+    (result : Result (Unit {0}) Stop) (entropy0 entropy1 : E) (before now : ℕ) : Type 0 where
+  pub entropy : TellsFault before now (result ≡ Err EntropyFault)
+  pub untouched : (s : State) → P s → taken_by s request ≡ 0 → entropy1 ≡ entropy0
+  pub undrawn : draws request.name request ≡ 0 → entropy1 ≡ entropy0
+  pub drawing : result ≡ Err EntropyFault → 0 < draws request.name request
+
+-- each disk that tells its bytes holds what the memory has of it
+pub record AreRemembered (t : Tables) (m d : Medium) : Type 0 where
+  pub remembered : Told m (λ image. StandsForRoles image t.roles)
+  pub recorded : Told d (HoldsRows t.rows)

@@ -1,5 +1,5 @@
 //! What a verb leaves to be done, and how it is done: the only calls that write a disk.
-ghost use Rattle.std.specs.Prelude.{◌≡◌, ◌≢◌, ℕ, List, Err, OnErr};
+ghost use Rattle.std.specs.Prelude.{◌≡◌, ◌≢◌, ℕ, List, Err, OnErr, IfErr};
 ghost use Rattle.key_cells.specs.Lease.{bench_of, loan_of};
 ghost use Rattle.verb_script.specs.Grammar.{Request};
 ghost use Rattle.cca_machine.specs.State.{State};
@@ -7,7 +7,7 @@ ghost use Rattle.cca_machine.specs.Keys.{any_old};
 ghost use Rattle.cca_machine.specs.Operands.{operands, listed};
 ghost use Rattle.cca_machine.specs.Act.{or_act};
 ghost use Rattle.cca_machine.specs.Verdict.{verb_verdict};
-ghost use Rattle.cca_requests.specs.Serving.{Carries, Leaves, tables};
+ghost use Rattle.cca_requests.specs.Serving.{Carries, Leaves, IsLoadedStop, tables};
 ghost use Rattle.cca_requests.specs.Deciding.{HasLoaded, HasStore, At, IsDecided, IsReady, WritesStore, GoesThrough};
 
 use crate::changing_module::{change_registers, define_role, remove_role};
@@ -17,7 +17,7 @@ use crate::refusals::refuse;
 use cca_roles::{AccessPoints, RoleName, Roles};
 use key_cells::Lease;
 use key_records::{Label, Place, Records};
-use line_service::Stop;
+use line_service::{Shown, Stop};
 use master_registers::{Action, Registers};
 use slot_disk::Disk;
 use verb_rules::Rule;
@@ -70,16 +70,10 @@ pub(crate) fn carry<M: Disk, D: Disk>(
         → Carries (or_act (verb_verdict s request) s drawn request) s result reply.new
         (tables roles.new records.new)
         (M.medium «module».old) (M.medium «module».new) (D.medium store.old) (D.medium store.new) }
-    ensures left { Leaves (record {
-      module_old = M.medium «module».old;
-      module_new = M.medium «module».new;
-      module_before = M.faults «module».old;
-      module_now = M.faults «module».new;
-      store_old = D.medium store.old;
-      store_new = D.medium store.new;
-      store_before = D.faults store.old;
-      store_now = D.faults store.new;
-    }) result reply.new (tables roles.old records.old) (tables roles.new records.new) }
+    ensures left { Leaves result reply.new (⟦<(M, D) as Shown>⟧.between
+        («module».old, store.old) («module».new, store.new))
+        (tables roles.old records.old) (tables roles.new records.new) }
+    ensures stops { IfErr result IsLoadedStop }
     ensures entropy { result ≢ Err Stop.EntropyFault }
     ensures rows { (GoesThrough effect.now → ⊥) → OnErr result (records.new ≡ records.old) }
     ensures writes { result ≡ Err Stop.StoreFault → WritesStore effect.now }

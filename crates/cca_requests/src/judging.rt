@@ -1,5 +1,5 @@
 //! The operands of a request, judged in their order.
-ghost use Rattle.std.specs.Prelude.{◌≡◌, [], Some, None, Err, IfOk, IfErr, IsTrue, false, drop};
+ghost use Rattle.std.specs.Prelude.{◌≡◌, [], Some, None, Err, IfOk, IfErr, IsOk, IsTrue, false, drop};
 ghost use Rattle.key_cells.specs.Bench.{Bench};
 ghost use Rattle.key_cells.specs.Lease.{bench_of};
 ghost use Rattle.key_records.specs.Changes.{KeepsAllButBody};
@@ -207,7 +207,7 @@ fn judge_one<D: Disk>(
         → IfErr result (λ stop. stop ≡ Stop.StoreFault) }
     ensures keeps { Keeps (D.medium store.old) (D.medium store.new) }
     ensures store { DiskLeft (D.medium store.old) (D.medium store.new)
-        (D.faults store.old) (D.faults store.new) result Stop.StoreFault }
+        (D.faults store.old) (D.faults store.new) (IsOk result) (result ≡ Err Stop.StoreFault) }
     ensures spared { is_named_by operand.now.text.now operand.now.ask ≡ false
         → store.new ≡ store.old }
     ensures named { result ≡ Err Stop.StoreFault
@@ -252,7 +252,7 @@ pub(crate) fn judge<D: Disk>(
         → IfErr result (λ stop. stop ≡ Stop.StoreFault) }
     ensures keeps { Keeps (D.medium store.old) (D.medium store.new) }
     ensures store { DiskLeft (D.medium store.old) (D.medium store.new)
-        (D.faults store.old) (D.faults store.new) result Stop.StoreFault }
+        (D.faults store.old) (D.faults store.new) (IsOk result) (result ≡ Err Stop.StoreFault) }
     ensures spared { names_label (listed (seen_operands operands.now)) ≡ false
         → store.new ≡ store.old }
     ensures named { result ≡ Err Stop.StoreFault

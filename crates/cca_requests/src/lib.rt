@@ -9,6 +9,7 @@ mod changing_module;
 mod changing_store;
 mod effects;
 mod endings;
+mod general;
 mod judging;
 mod operands;
 mod performing;

@@ -1,9 +1,9 @@
 //! The table of operands: of each request, what is asked of which field.
-ghost use Rattle.std.specs.Prelude.{◌≡◌, [], codes};
+ghost use Rattle.std.specs.Prelude.{◌≡◌, ◌∷◌, [], Some, codes};
 ghost use Rattle.verb_script.specs.Parsed.{seen};
 ghost use Rattle.cca_machine.specs.Operands.{operands, no_operands};
 ghost use Rattle.cca_machine.specs.Operands.{one_operand, two_operands, three_operands};
-ghost use Rattle.cca_machine.specs.Operands.{internal_key, any_key, exported_key, external_key};
+ghost use Rattle.cca_machine.specs.Operands.{internal_key, any_key, part_key, exported_key, external_key};
 ghost use Rattle.cca_machine.specs.Operands.{transport_key, first_transport, second_transport};
 ghost use Rattle.cca_machine.specs.Operands.{five_classes};
 ghost use Rattle.cca_requests.specs.Judging.{IsAccepted, seen_operand, seen_operands, AreFit};
@@ -94,26 +94,22 @@ pub(crate) fn operands_of<'a>(request: &Request<'a>) -> Operands<'a>
 {
     match request {
         Request::Csnbktp { token, .. } => one_operand("token", token, Ask::AnyToken),
-        Request::Csnbenc { key, .. } => key_operand(
-            key,
-            &[Class::Data, Class::Cipher],
-            Some(Usage::Encipher),
-        ),
-        Request::Csnbdec { key, .. } => key_operand(
-            key,
-            &[Class::Data, Class::Cipher],
-            Some(Usage::Decipher),
-        ),
-        Request::Csnbmgn { key, .. } => key_operand(
-            key,
-            &[Class::Data, Class::Mac],
-            Some(Usage::MacGenerate),
-        ),
-        Request::Csnbmvr { key, .. } => key_operand(
-            key,
-            &[Class::Data, Class::Mac],
-            Some(Usage::MacVerify),
-        ),
+        Request::Csnbenc { key, .. } => csnbenc_key(key),
+        Request::CsnbencFirst { key, .. } => csnbenc_key(key),
+        Request::CsnbencMiddle { key, .. } => csnbenc_key(key),
+        Request::CsnbencLast { key, .. } => csnbenc_key(key),
+        Request::Csnbdec { key, .. } => csnbdec_key(key),
+        Request::CsnbdecFirst { key, .. } => csnbdec_key(key),
+        Request::CsnbdecMiddle { key, .. } => csnbdec_key(key),
+        Request::CsnbdecLast { key, .. } => csnbdec_key(key),
+        Request::Csnbmgn { key, .. } => csnbmgn_key(key),
+        Request::CsnbmgnFirst { key, .. } => csnbmgn_key(key),
+        Request::CsnbmgnMiddle { key, .. } => csnbmgn_key(key),
+        Request::CsnbmgnLast { key, .. } => csnbmgn_key(key),
+        Request::Csnbmvr { key, .. } => csnbmvr_key(key),
+        Request::CsnbmvrFirst { key, .. } => csnbmvr_key(key),
+        Request::CsnbmvrMiddle { key, .. } => csnbmvr_key(key),
+        Request::CsnbmvrLast { key, .. } => csnbmvr_key(key),
         Request::Csnbkyt { key, .. } => key_operand(key, &FIVE_CLASSES, None),
         Request::Csnbcki { to, .. } => one_operand("to", to, Ask::Target),
         Request::Csnbrng { form, .. } => no_operands(form),
@@ -139,6 +135,14 @@ pub(crate) fn operands_of<'a>(request: &Request<'a>) -> Operands<'a>
         Request::Csnbkex { key, transport, .. } => csnbkex(key, transport),
         Request::Csnbpex { key, to, .. } => csnbpex(key, to),
         Request::Csnbktc { token, .. } => one_operand("token", token, Ask::Token(any_key())),
+        Request::CsnbkpiFirst { to, .. } => one_operand("to", to, Ask::Target),
+        Request::CsnbkpiMiddle { key, to, .. } => csnbkpi_middle(key, to),
+        Request::Csnbktr {
+            token,
+            transport1,
+            transport2,
+            ..
+        } => csnbktr(token, transport1, transport2),
         Request::Csnbkrc { label, .. } => one_operand("label", label, Ask::NewLabel),
         Request::Csnbkrw { label, token, .. } => csnbkrw(label, token),
         Request::Csnbkrr { label, .. } => one_operand("label", label, Ask::Record),
@@ -270,6 +274,92 @@ fn csnbpex<'a>(key: &'a [u8], to: &'a [u8]) -> Operands<'a>
     )
 }
 
+/// A key that enciphers texts.
+fn csnbenc_key<'a>(key: &'a [u8]) -> Operands<'a>
+    ensures { seen_operands result ≡ one_operand (record {
+      name = codes "key";
+      text = key.now;
+      ask = Ask.Key (internal_key (Class.Data ∷ Class.Cipher ∷ []) (Some Usage.Encipher));
+    }) }
+{
+    key_operand(key, &[Class::Data, Class::Cipher], Some(Usage::Encipher))
+}
+
+/// A key that deciphers texts.
+fn csnbdec_key<'a>(key: &'a [u8]) -> Operands<'a>
+    ensures { seen_operands result ≡ one_operand (record {
+      name = codes "key";
+      text = key.now;
+      ask = Ask.Key (internal_key (Class.Data ∷ Class.Cipher ∷ []) (Some Usage.Decipher));
+    }) }
+{
+    key_operand(key, &[Class::Data, Class::Cipher], Some(Usage::Decipher))
+}
+
+/// A key that makes codes.
+fn csnbmgn_key<'a>(key: &'a [u8]) -> Operands<'a>
+    ensures { seen_operands result ≡ one_operand (record {
+      name = codes "key";
+      text = key.now;
+      ask = Ask.Key (internal_key (Class.Data ∷ Class.Mac ∷ []) (Some Usage.MacGenerate));
+    }) }
+{
+    key_operand(key, &[Class::Data, Class::Mac], Some(Usage::MacGenerate))
+}
+
+/// A key that verifies codes.
+fn csnbmvr_key<'a>(key: &'a [u8]) -> Operands<'a>
+    ensures { seen_operands result ≡ one_operand (record {
+      name = codes "key";
+      text = key.now;
+      ask = Ask.Key (internal_key (Class.Data ∷ Class.Mac ∷ []) (Some Usage.MacVerify));
+    }) }
+{
+    key_operand(key, &[Class::Data, Class::Mac], Some(Usage::MacVerify))
+}
+
+/// The key part that a further part is combined with, and where the key goes.
+fn csnbkpi_middle<'a>(key: &'a [u8], to: &'a [u8]) -> Operands<'a>
+    ensures { seen_operands result ≡ two_operands
+        (record { name = codes "key"; text = key.now; ask = Ask.Key part_key })
+        (record { name = codes "to"; text = to.now; ask = Ask.Target }) }
+{
+    Operands::two(
+        Operand::new("key", key, Ask::Key(part_key())),
+        Operand::new("to", to, Ask::Target),
+    )
+}
+
+/// A key to be translated, and the transport keys that it is translated from and to.
+fn csnbktr<'a>(token: &'a [u8], transport1: &'a [u8], transport2: &'a [u8]) -> Operands<'a>
+    ensures { seen_operands result ≡ three_operands
+        (record { name = codes "token"; text = token.now; ask = Ask.External external_key })
+        (record {
+          name = codes "transport1";
+          text = transport1.now;
+          ask = Ask.Key (transport_key Class.Importer Usage.Translate);
+        })
+        (record {
+          name = codes "transport2";
+          text = transport2.now;
+          ask = Ask.Key (transport_key Class.Exporter Usage.Translate);
+        }) }
+{
+    Operands {
+        first: Operand::new("token", token, Ask::External(external_key())),
+        second: Operand::new(
+            "transport1",
+            transport1,
+            Ask::Key(transport_key(Class::Importer, Usage::Translate)),
+        ),
+        third: Operand::new(
+            "transport2",
+            transport2,
+            Ask::Key(transport_key(Class::Exporter, Usage::Translate)),
+        ),
+    }
+}
+
 /// A transport key of double length: of this class, and permitted for this use.
 fn transport_key(class: Class, usage: Usage) -> Need
     ensures { result ≡ transport_key class usage }
@@ -363,6 +453,20 @@ pub(crate) fn any_key() -> Need
     Need {
         asked: Asked::Internal,
         classes: Classes::of(&EVERY_CLASS),
+        usage: None,
+        export: false,
+        double: false,
+        parts: true,
+    }
+}
+
+/// An internal key that may be a part, of every class but OTHER.
+fn part_key() -> Need
+    ensures { result ≡ part_key }
+{
+    Need {
+        asked: Asked::Internal,
+        classes: Classes::of(&FIVE_CLASSES),
         usage: None,
         export: false,
         double: false,

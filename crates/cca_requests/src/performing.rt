@@ -1,18 +1,13 @@
 //! A request, judged and carried out.
-ghost use Rattle.std.specs.Prelude.{◌≡◌, ◌⊎◌, ℕ, true, false, List, [], None, Err, OnOk, OnErr, IfErr, IfOk, IsSome, IsNone, IsTrue, Some, codes};
+ghost use Rattle.std.specs.Prelude.{◌≡◌, ◌<◌, ◌⊎◌, ℕ, true, false, List, [], None, Err, OnErr, IfErr, IfOk, IsSome, IsNone, IsTrue, Some, codes};
 ghost use Rattle.std.specs.Option.{option_map};
-ghost use Rattle.cca_roles.specs.RolesStand.{StandsForRoles};
 ghost use Rattle.cca_vectors.specs.Checks.{first_failing};
 ghost use Rattle.key_cells.specs.Bench.{Bench, blank_bench};
 ghost use Rattle.key_cells.specs.Lease.{bench_of, holding, loan_of};
-ghost use Rattle.key_records.specs.Entries.{row_directory};
-ghost use Rattle.key_records.specs.StoreStands.{HoldsRows};
 ghost use Rattle.line_service.specs.Machine.{world};
 ghost use Rattle.master_registers.specs.Loaded.{Loaded, IsLoaded};
 ghost use Rattle.master_registers.specs.Masters.{Masters};
-ghost use Rattle.master_registers.specs.RegisterBody.{IsDamaged};
-ghost use Rattle.slot_disk.specs.Medium.{Told, IsSettled, Keeps};
-ghost use Rattle.line_service.specs.Devices.{DiskLeft, TellsFault};
+ghost use Rattle.line_service.specs.Devices.{AreSettled, TellsFault};
 ghost use Rattle.verb_rules.specs.Keys.{HasHalves, IsDouble};
 ghost use Rattle.cca_machine.specs.Lines.{drawn_where, taken_by};
 ghost use Rattle.verb_rules.specs.Rules.{rule_number};
@@ -23,14 +18,18 @@ ghost use Rattle.cca_machine.specs.State.{State, module_size, store_size};
 ghost use Rattle.cca_machine.specs.Operands.{operands, needs_store, is_reencipher};
 ghost use Rattle.cca_machine.specs.Verdict.{action_points, target_points, change_points, needed_points, needs_master, general_checks, verdict, verb_verdict};
 ghost use Rattle.cca_machine.specs.Act.{performed, draws};
-ghost use Rattle.cca_requests.specs.Serving.{IsSpelled, IsSound, IsRequestStop, Stands, Serves, Leaves, HasTold, tables};
+ghost use Rattle.cca_requests.specs.Serving.{IsSpelled, IsRequestStop, IsLoadedStop, Stands, Serves, Leaves, FindsDamage, SparesStore, DrawsOnly, AreRemembered, tables};
 ghost use Rattle.cca_requests.specs.Judging.{IsAccepted, HasJudged, HasJudgedExternal, HasSomeJudged, HaveShapes, AreGranted, AreKeyed, is_old_key, any_old_key};
 ghost use Rattle.cca_requests.specs.Deciding.{HasLoaded, HasStore, At, IsRecorded, MayDecide, IsReady, WritesStore, GoesThrough, with_places};
 
 use crate::effects::{Effect, carry};
+use crate::general::general_rule;
 use crate::judging::{Grant, Granted, Verdict, judge};
 use crate::operands::operands_of;
 use crate::refusals::refuse;
+use crate::verbs::code_segments::{
+    first_code_segment, last_code_segment, last_match_segment, middle_code_segment,
+};
 use crate::verbs::csnbcki::csnbcki;
 use crate::verbs::csnbdec::csnbdec;
 use crate::verbs::csnbenc::csnbenc;
@@ -42,6 +41,7 @@ use crate::verbs::csnbkrl::csnbkrl;
 use crate::verbs::csnbkrr::csnbkrr;
 use crate::verbs::csnbkrw::csnbkrw;
 use crate::verbs::csnbktp::csnbktp;
+use crate::verbs::csnbktr::csnbktr;
 use crate::verbs::csnbkyt::csnbkyt;
 use crate::verbs::csnbmgn::csnbmgn;
 use crate::verbs::csnbmkp::{self, part_action, put_part};
@@ -49,17 +49,18 @@ use crate::verbs::csnbmvr::csnbmvr;
 use crate::verbs::csnbpex::csnbpex;
 use crate::verbs::csnbrng::csnbrng;
 use crate::verbs::delivering::deliver;
-use crate::verbs::{csnbktc, csuaaci};
-use cca_roles::{AccessPoints, RoleName, Roles};
+use crate::verbs::segments::{first_segment, last_segment, middle_segment};
+use crate::verbs::{csnbkpi, csnbktc, csuaaci};
+use cca_roles::Roles;
 use key_cells::{Lease, Workbench};
 use key_records::{Place, Records};
 use key_tokens::{Age, Token};
-use key_transport::Target;
-use line_service::{Device, Stop};
+use line_service::{Device, Shown, Stop};
 use master_registers::{Action, LoadFault, Registers, load};
 use slot_disk::{Disk, Entropy};
+use text_segments::Mode;
 use verb_rules::{Judged, Rule};
-use verb_script::{ReplyBuffer, Request, named_label};
+use verb_script::{ReplyBuffer, Request};
 
 /// Judges a request, carries it out where no rule refuses it, and writes the reply into the reply buffer.
 ///
@@ -82,45 +83,27 @@ pub fn perform<M: Disk, D: Disk, E: Entropy>(
     reply: &mut ReplyBuffer,
 ) -> Result<(), Stop>
     requires spelled { IsSpelled (seen request.now) }
-    requires module_size { (M.medium «module».old).size ≡ module_size }
-    requires module_settled { IsSettled (M.medium «module».old) }
-    requires remembered { Told (M.medium «module».old) (λ image. StandsForRoles image roles.old) }
-    requires store_size { (D.medium store.old).size ≡ store_size }
-    requires store_settled { IsSettled (D.medium store.old) }
-    requires recorded { Told (D.medium store.old) (HoldsRows records.old) }
+    requires disks { AreSettled module_size store_size
+        (⟦<(M, D) as Shown>⟧.shown («module».old, store.old)) }
+    requires known { AreRemembered (tables roles.old records.old)
+        (M.medium «module».old) (D.medium store.old) }
 
     ensures serves { (s : State) → Stands s (tables roles.old records.old)
         (M.medium «module».old) (D.medium store.old)
         → Serves s (seen request.now) result reply.new (tables roles.new records.new)
         (world (M.medium «module».old) (D.medium store.old) (E.left entropy.old))
         (world (M.medium «module».new) (D.medium store.new) (E.left entropy.new)) }
-    ensures module { DiskLeft (M.medium «module».old) (M.medium «module».new)
-        (M.faults «module».old) (M.faults «module».new) result Stop.ModuleFault }
-    ensures store { DiskLeft (D.medium store.old) (D.medium store.new)
-        (D.faults store.old) (D.faults store.new) result Stop.StoreFault }
-    ensures module_told { HasTold (M.medium «module».old) (M.medium «module».new) }
-    ensures store_told { HasTold (D.medium store.old) (D.medium store.new) }
-    ensures sound { OnOk result (Told (M.medium «module».new) (IsSound roles.new)) }
-    ensures holds { OnOk result (Told (D.medium store.new) (HoldsRows records.new)) }
-    ensures silent { OnErr result (reply.new ≡ []) }
-    ensures roles { OnErr result (roles.new ≡ roles.old) }
-    ensures labels { OnErr result (row_directory records.new ≡ row_directory records.old) }
+    ensures left { Leaves result reply.new (⟦<(M, D) as Shown>⟧.between
+        («module».old, store.old) («module».new, store.new))
+        (tables roles.old records.old) (tables roles.new records.new) }
     ensures records { is_reencipher (seen request.now).name ≡ false
         → OnErr result (records.new ≡ records.old) }
-    ensures damaged { result ≡ Err (Stop.Damaged Device.Module 0)
-        → Told (M.medium «module».old) IsDamaged }
-    ensures kept { result ≡ Err (Stop.Damaged Device.Module 0)
-        → Keeps (M.medium «module».old) (M.medium «module».new) }
-    ensures named { result ≡ Err Stop.StoreFault
-        → IsTrue (needs_store (seen request.now)) }
-    ensures spared { needs_store (seen request.now) ≡ false → store.new ≡ store.old }
-    ensures entropy { TellsFault (E.faults entropy.old) (E.faults entropy.new)
-        result Stop.EntropyFault }
-    ensures untouched { (s : State) → Stands s (tables roles.old records.old)
-        (M.medium «module».old) (D.medium store.old)
-        → taken_by s (seen request.now) ≡ 0 → entropy.new ≡ entropy.old }
-    ensures undrawn { draws (seen request.now).name (seen request.now) ≡ 0
-        → entropy.new ≡ entropy.old }
+    ensures damage { result ≡ Err (Stop.Damaged Device.Module 0)
+        → FindsDamage (M.medium «module».old) (M.medium «module».new) }
+    ensures store { SparesStore (seen request.now) result store.old store.new }
+    ensures random { DrawsOnly (λ s. Stands s (tables roles.old records.old)
+        (M.medium «module».old) (D.medium store.old)) (seen request.now)
+        result entropy.old entropy.new (E.faults entropy.old) (E.faults entropy.new) }
     ensures stops { IfErr result IsRequestStop }
     ensures bench { bench.new ≡ blank_bench }
 {
@@ -157,29 +140,17 @@ fn carry_out<M: Disk, D: Disk, E: Entropy>(
         → Serves s (seen request.now) result reply.new (tables roles.new records.new)
         (world (M.medium «module».old) (D.medium store.old) (E.left entropy.old))
         (world (M.medium «module».new) (D.medium store.new) (E.left entropy.new)) }
-    ensures entropy { TellsFault (E.faults entropy.old) (E.faults entropy.new)
-        result Stop.EntropyFault }
-    ensures untouched { (s : State) → At s held.now (bench_of lease.old)
-        (tables roles.old records.old)
-        (M.medium «module».old) (D.medium store.old)
-        → taken_by s (seen request.now) ≡ 0 → entropy.new ≡ entropy.old }
-    ensures undrawn { draws (seen request.now).name (seen request.now) ≡ 0
-        → entropy.new ≡ entropy.old }
-    ensures left { Leaves (record {
-      module_old = M.medium «module».old;
-      module_new = M.medium «module».new;
-      module_before = M.faults «module».old;
-      module_now = M.faults «module».new;
-      store_old = D.medium store.old;
-      store_new = D.medium store.new;
-      store_before = D.faults store.old;
-      store_now = D.faults store.new;
-    }) result reply.new (tables roles.old records.old) (tables roles.new records.new) }
+    ensures random { DrawsOnly (λ s. At s held.now (bench_of lease.old)
+        (tables roles.old records.old) (M.medium «module».old) (D.medium store.old))
+        (seen request.now) result entropy.old entropy.new
+        (E.faults entropy.old) (E.faults entropy.new) }
+    ensures left { Leaves result reply.new (⟦<(M, D) as Shown>⟧.between
+        («module».old, store.old) («module».new, store.new))
+        (tables roles.old records.old) (tables roles.new records.new) }
+    ensures stops { IfErr result IsLoadedStop }
     ensures rows { is_reencipher (seen request.now).name ≡ false
         → OnErr result (records.new ≡ records.old) }
-    ensures named { result ≡ Err Stop.StoreFault
-        → IsTrue (needs_store (seen request.now)) }
-    ensures spared { needs_store (seen request.now) ≡ false → store.new ≡ store.old }
+    ensures store { SparesStore (seen request.now) result store.old store.new }
     ensures loan { loan_of lease.new ≡ loan_of lease.old }
 {
     if let Some(rule) = general_rule(request, held, roles) {
@@ -195,158 +166,6 @@ fn carry_out<M: Disk, D: Disk, E: Entropy>(
             request, &granted, module, store, entropy, lease, held, roles, records, reply,
         ),
         Err(stop) => Err(stop),
-    }
-}
-
-/// Rules 03, 04 and 05.
-fn general_rule(request: &Request, held: &Registers, roles: &Roles) -> Option<Rule>
-    ensures rule { (s : State) (bench : Bench) → roles.now ≡ s.roles
-        → Loaded s.registers held.now bench
-        → option_map rule_number result ≡ first_failing (general_checks s (seen request.now)) }
-    ensures master { IsNone result → IsTrue (needs_master (seen request.now).name)
-        → IsSome held.now.current_pattern }
-{
-    match roles.permits(role_of(request), needed_points(request)) {
-        None => Some(Rule::Role),
-        Some(false) => Some(Rule::Point),
-        Some(true) if needs_master(request) && held.current_pattern.is_none() => {
-            Some(Rule::MasterKey)
-        }
-        Some(true) => None,
-    }
-}
-
-fn role_of<'a, 'b>(request: &'b Request<'a>) -> &'b RoleName
-    ensures { result.now ≡ value_of (seen request.now) (codes "role") }
-{
-    match request {
-        Request::Csnbktp { role, .. } => role,
-        Request::Csnbenc { role, .. } => role,
-        Request::Csnbdec { role, .. } => role,
-        Request::Csnbmgn { role, .. } => role,
-        Request::Csnbmvr { role, .. } => role,
-        Request::Csnbkyt { role, .. } => role,
-        Request::Csnbcki { role, .. } => role,
-        Request::Csnbrng { role, .. } => role,
-        Request::CsnbkgnOp { role, .. } => role,
-        Request::CsnbkgnPair { role, .. } => role,
-        Request::CsnbkgnOut { role, .. } => role,
-        Request::Csnbkim { role, .. } => role,
-        Request::Csnbkex { role, .. } => role,
-        Request::Csnbpex { role, .. } => role,
-        Request::Csnbktc { role, .. } => role,
-        Request::Csnbkrc { role, .. } => role,
-        Request::Csnbkrw { role, .. } => role,
-        Request::Csnbkrr { role, .. } => role,
-        Request::Csnbkrd { role, .. } => role,
-        Request::Csnbkrl { role, .. } => role,
-        Request::CsnbmkpPart { role, .. } => role,
-        Request::CsnbmkpClear { role, .. } => role,
-        Request::CsnbmkpSet { role, .. } => role,
-        Request::CsuaaciDefine { role, .. } => role,
-        Request::CsuaaciRemove { role, .. } => role,
-        Request::Reencipher { role } => role,
-    }
-}
-
-/// The access control points that an action needs.
-fn action_points(action: Action) -> AccessPoints
-    ensures { result ≡ action_points action }
-{
-    match action {
-        Action::First => AccessPoints::MK_FIRST,
-        Action::Middle => AccessPoints::MK_COMBINE,
-        Action::Last => AccessPoints::MK_COMBINE,
-        Action::Clear => AccessPoints::MK_CLEAR,
-        Action::Set => AccessPoints::MK_SET,
-    }
-}
-
-/// A key that goes into a record needs the point of CSNBKRW too.
-fn target_points(to: &[u8]) -> AccessPoints
-    ensures { result ≡ target_points to.now }
-{
-    match named_label(to) {
-        Some(_) => AccessPoints::KRW,
-        None => AccessPoints::empty(),
-    }
-}
-
-/// A token is changed to the current master key, or to the new one.
-fn change_points(target: Target) -> AccessPoints
-    ensures { result ≡ change_points target }
-{
-    match target {
-        Target::Current => AccessPoints::KTC_CURRENT,
-        Target::New => AccessPoints::KTC_NEW,
-    }
-}
-
-/// The access control points that a request needs.
-fn needed_points(request: &Request) -> AccessPoints
-    ensures { result ≡ needed_points (seen request.now).name (seen request.now) }
-{
-    match request {
-        Request::Csnbktp { .. } => AccessPoints::empty(),
-        Request::Csnbenc { .. } => AccessPoints::ENC,
-        Request::Csnbdec { .. } => AccessPoints::DEC,
-        Request::Csnbmgn { .. } => AccessPoints::MGN,
-        Request::Csnbmvr { .. } => AccessPoints::MVR,
-        Request::Csnbkyt { .. } => AccessPoints::KYT,
-        Request::Csnbcki { to, .. } => AccessPoints::CKI.union(target_points(to)),
-        Request::Csnbrng { .. } => AccessPoints::RNG,
-        Request::CsnbkgnOp { to, .. } => AccessPoints::KGN_OP.union(target_points(to)),
-        Request::CsnbkgnPair { to, .. } => AccessPoints::KGN_PAIR.union(target_points(to)),
-        Request::CsnbkgnOut { .. } => AccessPoints::KGN_OUT,
-        Request::Csnbkim { to, .. } => AccessPoints::KIM.union(target_points(to)),
-        Request::Csnbkex { .. } => AccessPoints::KEX,
-        Request::Csnbpex { to, .. } => AccessPoints::PEX.union(target_points(to)),
-        Request::Csnbktc { rule, .. } => change_points(csnbktc::target(rule)),
-        Request::Csnbkrc { .. } => AccessPoints::KRC,
-        Request::Csnbkrw { .. } => AccessPoints::KRW,
-        Request::Csnbkrr { .. } => AccessPoints::KRR,
-        Request::Csnbkrd { .. } => AccessPoints::KRD,
-        Request::Csnbkrl { .. } => AccessPoints::KRL,
-        Request::CsnbmkpPart { action, .. } => action_points(part_action(action)),
-        Request::CsnbmkpClear { .. } => action_points(Action::Clear),
-        Request::CsnbmkpSet { .. } => action_points(Action::Set),
-        Request::CsuaaciDefine { .. } => AccessPoints::ROLES,
-        Request::CsuaaciRemove { .. } => AccessPoints::ROLES,
-        Request::Reencipher { .. } => AccessPoints::REENC,
-    }
-}
-
-/// Whether rule 05 is asked.
-fn needs_master(request: &Request) -> bool
-    ensures { result ≡ needs_master (seen request.now).name }
-{
-    match request {
-        Request::Csnbktp { .. } => false,
-        Request::Csnbenc { .. } => true,
-        Request::Csnbdec { .. } => true,
-        Request::Csnbmgn { .. } => true,
-        Request::Csnbmvr { .. } => true,
-        Request::Csnbkyt { .. } => true,
-        Request::Csnbcki { .. } => true,
-        Request::Csnbrng { .. } => false,
-        Request::CsnbkgnOp { .. } => true,
-        Request::CsnbkgnPair { .. } => true,
-        Request::CsnbkgnOut { .. } => true,
-        Request::Csnbkim { .. } => true,
-        Request::Csnbkex { .. } => true,
-        Request::Csnbpex { .. } => true,
-        Request::Csnbktc { .. } => true,
-        Request::Csnbkrc { .. } => false,
-        Request::Csnbkrw { .. } => true,
-        Request::Csnbkrr { .. } => true,
-        Request::Csnbkrd { .. } => false,
-        Request::Csnbkrl { .. } => false,
-        Request::CsnbmkpPart { .. } => false,
-        Request::CsnbmkpClear { .. } => false,
-        Request::CsnbmkpSet { .. } => false,
-        Request::CsuaaciDefine { .. } => false,
-        Request::CsuaaciRemove { .. } => false,
-        Request::Reencipher { .. } => true,
     }
 }
 
@@ -381,7 +200,7 @@ fn act<M: Disk, D: Disk, E: Entropy>(
         (world (M.medium «module».old) (D.medium store.old) (E.left entropy.old))
         (world (M.medium «module».new) (D.medium store.new) (E.left entropy.new)) }
     ensures entropy { TellsFault (E.faults entropy.old) (E.faults entropy.new)
-        result Stop.EntropyFault }
+        (result ≡ Err Stop.EntropyFault) }
     ensures untouched { (s : State)
         → verdict s (seen request.now) ≡ verb_verdict s (seen request.now)
         → AreGranted s (bench_of lease.old) (operands (seen request.now)) granted.now
@@ -390,21 +209,15 @@ fn act<M: Disk, D: Disk, E: Entropy>(
         → taken_by s (seen request.now) ≡ 0 → entropy.new ≡ entropy.old }
     ensures undrawn { draws (seen request.now).name (seen request.now) ≡ 0
         → entropy.new ≡ entropy.old }
-    ensures left { Leaves (record {
-      module_old = M.medium «module».old;
-      module_new = M.medium «module».new;
-      module_before = M.faults «module».old;
-      module_now = M.faults «module».new;
-      store_old = D.medium store.old;
-      store_new = D.medium store.new;
-      store_before = D.faults store.old;
-      store_now = D.faults store.new;
-    }) result reply.new (tables roles.old records.old) (tables roles.new records.new) }
+    ensures drawing { result ≡ Err Stop.EntropyFault
+        → 0 < draws (seen request.now).name (seen request.now) }
+    ensures left { Leaves result reply.new (⟦<(M, D) as Shown>⟧.between
+        («module».old, store.old) («module».new, store.new))
+        (tables roles.old records.old) (tables roles.new records.new) }
+    ensures stops { IfErr result IsLoadedStop }
     ensures rows { is_reencipher (seen request.now).name ≡ false
         → OnErr result (records.new ≡ records.old) }
-    ensures named { result ≡ Err Stop.StoreFault
-        → IsTrue (needs_store (seen request.now)) }
-    ensures spared { needs_store (seen request.now) ≡ false → store.new ≡ store.old }
+    ensures store { SparesStore (seen request.now) result store.old store.new }
     ensures loan { loan_of lease.new ≡ loan_of lease.old }
 {
     match decide(request, granted, entropy, lease, held, records, reply) {
@@ -454,7 +267,7 @@ fn decide<E: Entropy>(
         → IsTrue (is_reencipher (seen request.now).name)) }
     ensures silent { OnErr result (reply.new ≡ []) }
     ensures entropy { TellsFault (E.faults entropy.old) (E.faults entropy.new)
-        result Stop.EntropyFault }
+        (result ≡ Err Stop.EntropyFault) }
     ensures untouched { (s : State) → Loaded s.registers held.now (bench_of lease.old)
         → IsRecorded s records.now
         → AreGranted s (bench_of lease.old) (operands (seen request.now)) granted.now
@@ -463,6 +276,7 @@ fn decide<E: Entropy>(
         → entropy.new ≡ entropy.old }
     ensures undrawn { draws (seen request.now).name (seen request.now) ≡ 0
         → entropy.new ≡ entropy.old }
+    ensures drawing { OnErr result (0 < draws (seen request.now).name (seen request.now)) }
     ensures stops { IfErr result (λ stop. stop ≡ Stop.EntropyFault) }
     ensures places { lease.new ≡ holding lease.old
         (with_places (bench_of lease.old) (bench_of lease.new)) }
@@ -480,9 +294,69 @@ fn decide<E: Entropy>(
             lease,
             reply,
         )),
+        Request::CsnbencFirst { iv, text, .. } => Ok(first_segment(
+            Mode::Encipher,
+            key_in(&granted.first),
+            iv,
+            text,
+            lease,
+            reply,
+        )),
+        Request::CsnbencMiddle { chain, text, .. } => Ok(middle_segment(
+            Mode::Encipher,
+            key_in(&granted.first),
+            chain,
+            text,
+            lease,
+            reply,
+        )),
+        Request::CsnbencLast {
+            chain,
+            pad,
+            text,
+            ..
+        } => Ok(last_segment(
+            Mode::Encipher,
+            key_in(&granted.first),
+            chain,
+            pad,
+            text,
+            lease,
+            reply,
+        )),
         Request::Csnbdec { iv, pad, text, .. } => Ok(csnbdec(
             key_in(&granted.first),
             iv,
+            pad,
+            text,
+            lease,
+            reply,
+        )),
+        Request::CsnbdecFirst { iv, text, .. } => Ok(first_segment(
+            Mode::Decipher,
+            key_in(&granted.first),
+            iv,
+            text,
+            lease,
+            reply,
+        )),
+        Request::CsnbdecMiddle { chain, text, .. } => Ok(middle_segment(
+            Mode::Decipher,
+            key_in(&granted.first),
+            chain,
+            text,
+            lease,
+            reply,
+        )),
+        Request::CsnbdecLast {
+            chain,
+            pad,
+            text,
+            ..
+        } => Ok(last_segment(
+            Mode::Decipher,
+            key_in(&granted.first),
+            chain,
             pad,
             text,
             lease,
@@ -494,12 +368,60 @@ fn decide<E: Entropy>(
             text,
             ..
         } => Ok(csnbmgn(key_in(&granted.first), rule, length, text, lease, reply)),
+        Request::CsnbmgnFirst { rule, text, .. } => Ok(first_code_segment(
+            key_in(&granted.first),
+            rule,
+            text,
+            lease,
+            reply,
+        )),
+        Request::CsnbmgnMiddle {
+            rule,
+            chain,
+            text,
+            ..
+        } => Ok(middle_code_segment(key_in(&granted.first), rule, chain, text, lease, reply)),
+        Request::CsnbmgnLast {
+            rule,
+            length,
+            chain,
+            text,
+            ..
+        } => Ok(last_code_segment(
+            key_in(&granted.first),
+            rule,
+            chain,
+            length,
+            text,
+            lease,
+            reply,
+        )),
         Request::Csnbmvr {
             rule,
             mac,
             text,
             ..
         } => Ok(csnbmvr(key_in(&granted.first), rule, mac, text, lease, reply)),
+        Request::CsnbmvrFirst { rule, text, .. } => Ok(first_code_segment(
+            key_in(&granted.first),
+            rule,
+            text,
+            lease,
+            reply,
+        )),
+        Request::CsnbmvrMiddle {
+            rule,
+            chain,
+            text,
+            ..
+        } => Ok(middle_code_segment(key_in(&granted.first), rule, chain, text, lease, reply)),
+        Request::CsnbmvrLast {
+            rule,
+            mac,
+            chain,
+            text,
+            ..
+        } => Ok(last_match_segment(key_in(&granted.first), rule, chain, mac, text, lease, reply)),
         Request::Csnbkyt { .. } => {
             csnbkyt(key_in(&granted.first), lease, reply);
             Ok(Effect::Shown)
@@ -598,6 +520,35 @@ fn decide<E: Entropy>(
         }
         Request::Csnbktc { rule, .. } => {
             Ok(csnbktc::csnbktc(key_in(&granted.first), rule, lease, held, reply))
+        }
+        Request::CsnbkpiFirst { kind, part, to, .. } => Ok(csnbkpi::first(
+            *kind,
+            part,
+            to,
+            granted.first.place,
+            lease,
+            held,
+            reply,
+        )),
+        Request::CsnbkpiMiddle { rule, part, to, .. } => Ok(csnbkpi::further(
+            key_in(&granted.first),
+            rule,
+            part,
+            to,
+            granted.second.place,
+            lease,
+            held,
+            reply,
+        )),
+        Request::Csnbktr { .. } => {
+            csnbktr(
+                external_in(&granted.first),
+                key_in(&granted.second),
+                key_in(&granted.third),
+                lease,
+                reply,
+            );
+            Ok(Effect::Shown)
         }
         Request::Csnbkrc { label, .. } => Ok(csnbkrc(label)),
         Request::Csnbkrw { token, .. } => Ok(csnbkrw(token, place_in(&granted.first), reply)),

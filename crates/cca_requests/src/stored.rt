@@ -1,6 +1,6 @@
 //! Labels, judged by what the memory knows of them, and the keys in their records. It is the only
 //! place that reads the store.
-ghost use Rattle.std.specs.Prelude.{◌≡◌, [], Some, IfOk, IfErr, IfSome, IsSome};
+ghost use Rattle.std.specs.Prelude.{◌≡◌, [], Some, Err, IfOk, IfErr, IfSome, IsOk, IsSome};
 ghost use Rattle.key_cells.specs.Bench.{Bench};
 ghost use Rattle.key_cells.specs.Lease.{bench_of};
 ghost use Rattle.key_records.specs.Changes.{KeepsAllButBody};
@@ -136,7 +136,7 @@ pub(crate) fn judge_label<D: Disk>(
         → IfErr result (λ stop. stop ≡ Stop.StoreFault) }
     ensures keeps { Keeps (D.medium store.old) (D.medium store.new) }
     ensures store { DiskLeft (D.medium store.old) (D.medium store.new)
-        (D.faults store.old) (D.faults store.new) result Stop.StoreFault }
+        (D.faults store.old) (D.faults store.new) (IsOk result) (result ≡ Err Stop.StoreFault) }
     ensures stops { IfErr result IsStoreStop }
     ensures rest { KeepsAllButBody lease.old lease.new }
 {

@@ -11,16 +11,10 @@ ghost use Rattle.verb_script.specs.Values.{hex_value};
 ghost use Rattle.cipher_verbs.specs.Imported.{imported_key};
 ghost use Rattle.cca_requests.specs.Deciding.{with_places};
 
-use crate::verbs::texts::block_of;
+use crate::verbs::key_digits::put_key;
 use cipher_verbs::clear_key_import;
 use key_cells::{KeyPlace, Lease};
 use master_registers::Registers;
-
-fn put_front(block: &[u8; 8], key: &mut [u8; 16])
-    ensures { take 8 key.new ≡ take 8 block.now }
-{
-    key[..8].copy_from_slice(block);
-}
 
 /// Puts the clear key that the digits spell into the place of the key.
 fn put_clear(digits: &[u8], lease: &mut Lease)
@@ -30,7 +24,7 @@ fn put_clear(digits: &[u8], lease: &mut Lease)
         ≡ holding lease.old (with_key (bench_of lease.old) KeyPlace.Key
         (key_of (bench_of lease.new) KeyPlace.Key)) }
 {
-    put_front(&block_of(digits), lease.key_mut(KeyPlace::Key));
+    put_key(digits, KeyPlace::Key, lease);
 }
 
 /// The token of a clear DATA key under the current master key.

@@ -21,7 +21,7 @@ use verb_rules::{Judged, TextUse, judge_mac};
 use verb_script::ReplyBuffer;
 
 /// How many bytes of a code are shown.
-fn count_of(word: &[u8]) -> usize
+pub(super) fn count_of(word: &[u8]) -> usize
     ensures count { result ≡ mac_length_named word.now }
     ensures most { result ≤ 8 }
 {
@@ -34,7 +34,7 @@ fn count_of(word: &[u8]) -> usize
     }
 }
 
-fn show_code(code: &[u8; 8], count: usize, reply: &mut ReplyBuffer)
+pub(super) fn show_code(code: &[u8; 8], count: usize, reply: &mut ReplyBuffer)
     requires most { count ≤ 8 }
     requires empty { reply.old ≡ [] }
     ensures fields { reply.new ≡ written (Hex (codes "mac") (take count code.now) ∷ []) }

@@ -26,7 +26,7 @@ use verb_rules::{Judged, MacRule, TextUse, judge_mac};
 use verb_script::{ReplyBuffer, decode};
 
 /// Puts the bytes of a code that the digits spell, and tells how many they are.
-fn put_code(digits: &[u8], bytes: &mut [u8; 8]) -> usize
+pub(super) fn put_code(digits: &[u8], bytes: &mut [u8; 8]) -> usize
     requires { IsTrue (accepts mac_text digits.now) }
     ensures code { take result bytes.new ≡ hex_value digits.now }
     ensures fewest { 4 ≤ result }
@@ -37,7 +37,7 @@ fn put_code(digits: &[u8], bytes: &mut [u8; 8]) -> usize
     count
 }
 
-fn show_match(same: bool, reply: &mut ReplyBuffer)
+pub(super) fn show_match(same: bool, reply: &mut ReplyBuffer)
     requires { reply.old ≡ [] }
     ensures fields { reply.new ≡ written (Text (codes "match") (yes_or_no same) ∷ []) }
     ensures size { length reply.new ≤ 69000 }

@@ -1,4 +1,4 @@
-use Rattle.std.proofs.Common.{◌∷◌, ◌∙◌, [], length, Err, ap, codes, refl, sym, subst, ⊎_elim, arith}
+use Rattle.std.proofs.Common.{◌∷◌, ◌∙◌, [], length, Err, ap, codes, refl, sym, subst, ⊎_elim, arith, rules}
 use Rattle.std.proofs.lemmas.Fmt.{length-decimal-le}
 use Rattle.slot_disk.proofs.Media.{told_at}
 use Rattle.script_buffers.specs.Replies.{Number}
@@ -38,3 +38,14 @@ returns-in-Err-clause-carries g c = λ s at.
 
 pub number-requires : goal.number-requires
 number-requires g c = omega (arith, length-decimal-le 10 c.in-Ok.changed (omega arith) (omega arith) (omega arith), ap length c.requires.empty)
+
+pub returns-in-Ok-clause-left : goal.returns-in-Ok-clause-left
+returns-in-Ok-clause-left g c = record {
+  disk = search rules;
+  told = search rules;
+  turned = c.in-Ok.ensures.cells.turned;
+  holds = search rules;
+  silent = search rules;
+  memory = search rules;
+  stops = search rules;
+}

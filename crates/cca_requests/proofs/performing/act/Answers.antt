@@ -62,3 +62,9 @@ returns-in-Err-clause-untouched g c = λ s is granted at none.
     let request = seen c.args.request.now in
     c.decide.ensures.untouched s at.loaded (recorded s c.args.records.now (g.D.Disk.medium c.args.store.now) at.stands.on_store) granted
     (subst (λ (v : Option Refusal). drawn_where v (draws request.name request) ≡ 0) is none)
+
+pub returns-in-Ok-clause-drawing : goal.returns-in-Ok-clause-drawing
+returns-in-Ok-clause-drawing g c = λ fault. absurd (c.carry.ensures.entropy fault)
+
+pub returns-in-Err-clause-drawing : goal.returns-in-Err-clause-drawing
+returns-in-Err-clause-drawing g c = λ fault. c.in-Err.ensures.drawing

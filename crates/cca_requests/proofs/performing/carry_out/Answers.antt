@@ -1,4 +1,4 @@
-use Rattle.std.proofs.Common.{◌≡◌, ◌∙◌, false, None, Some, Result, Err, sym, ap, subst, codes}
+use Rattle.std.proofs.Common.{◌≡◌, ◌∙◌, false, None, Some, Result, Err, refl, sym, ap, subst, codes, arith, rules}
 use Rattle.std.specs.Prelude.{IsTrue}
 use Rattle.std.proofs.lemmas.Bool.{or_parts}
 use Rattle.std.specs.Option.{option_map}
@@ -19,6 +19,7 @@ use Rattle.cca_requests.proofs.Acting.{verdict_general, verdict_operands}
 use Rattle.cca_requests.proofs.Delivering.{either_right}
 use Rattle.cca_requests.proofs.GrantsKept.{grants_kept, loaded_kept}
 use Rattle.cca_requests.proofs.Serving.{refused_serves, stopped_serves, serves_after_reads, stands_kept}
+use Rattle.cca_requests.proofs.Leaving.{still_turned, read_turned, leaves_after_reads}
 use Rattle.cca_requests.proofs.performing.carry_out.Goals as goal
 
 pub returns-in-Some-clause-serves : goal.returns-in-Some-clause-serves
@@ -73,26 +74,31 @@ returns-in-Ok-Granted-clause-serves g c = λ s at.
     }) (grants_kept s c.args.lease.now c.judge.new.lease (operands request) c.in-Ok-Granted.granted c.judge.ensures.rest granted.1)
     (verdict_operands s request None passes granted.0))
 
-pub returns-in-Ok-Granted-clause-untouched : goal.returns-in-Ok-Granted-clause-untouched
-returns-in-Ok-Granted-clause-untouched g c = λ s at none_taken.
-    let request = seen c.args.request.now in
-    let bench = bench_of c.args.lease.now in
-    let t = tables c.args.roles.now c.args.records.now in
-    let m = g.M.Disk.medium c.args.module.now in
-    let d0 = g.D.Disk.medium c.args.store.now in
-    let d1 = g.D.Disk.medium c.judge.new.store in
-    let passes : first_failing (general_checks s request) ≡ None =
-    sym (c.general_rule.ensures.rule s bench at.stands.on_module.memory at.loaded) ∙ ap (option_map rule_number) c.in_default.is in
-    let judged = subst (λ os. IsJudged s bench os c.in-Ok-Granted.field-0) c.operands_of.ensures.table
-    (c.in-Ok-Granted.ensures.judged s (record { loaded = at.loaded; stands = at.stands.on_store })) in
-    let granted : IsJudged s bench (operands request) (code.Granted c.in-Ok-Granted.granted) =
-    subst (λ v. IsJudged s bench (operands request) v) c.in-Ok-Granted.field-0-is judged in
-    c.act.ensures.untouched s (verdict_operands s request None passes granted.0)
-    (grants_kept s c.args.lease.now c.judge.new.lease (operands request) c.in-Ok-Granted.granted c.judge.ensures.rest granted.1)
-    (record {
-      loaded = loaded_kept s.registers c.args.held.now c.args.lease.now c.judge.new.lease c.judge.ensures.rest at.loaded;
-      stands = stands_kept s t m m d0 d1 (keeps_still m) c.judge.ensures.keeps at.stands;
-    }) none_taken
+pub returns-in-Ok-Granted-clause-random : goal.returns-in-Ok-Granted-clause-random
+returns-in-Ok-Granted-clause-random g c = record {
+  entropy = c.act.ensures.entropy;
+  untouched = λ s at none_taken.
+      let request = seen c.args.request.now in
+      let bench = bench_of c.args.lease.now in
+      let t = tables c.args.roles.now c.args.records.now in
+      let m = g.M.Disk.medium c.args.module.now in
+      let d0 = g.D.Disk.medium c.args.store.now in
+      let d1 = g.D.Disk.medium c.judge.new.store in
+      let passes : first_failing (general_checks s request) ≡ None =
+      sym (c.general_rule.ensures.rule s bench at.stands.on_module.memory at.loaded) ∙ ap (option_map rule_number) c.in_default.is in
+      let judged = subst (λ os. IsJudged s bench os c.in-Ok-Granted.field-0) c.operands_of.ensures.table
+      (c.in-Ok-Granted.ensures.judged s (record { loaded = at.loaded; stands = at.stands.on_store })) in
+      let granted : IsJudged s bench (operands request) (code.Granted c.in-Ok-Granted.granted) =
+      subst (λ v. IsJudged s bench (operands request) v) c.in-Ok-Granted.field-0-is judged in
+      c.act.ensures.untouched s (verdict_operands s request None passes granted.0)
+      (grants_kept s c.args.lease.now c.judge.new.lease (operands request) c.in-Ok-Granted.granted c.judge.ensures.rest granted.1)
+      (record {
+        loaded = loaded_kept s.registers c.args.held.now c.args.lease.now c.judge.new.lease c.judge.ensures.rest at.loaded;
+        stands = stands_kept s t m m d0 d1 (keeps_still m) c.judge.ensures.keeps at.stands;
+      }) none_taken;
+  undrawn = c.act.ensures.undrawn;
+  drawing = c.act.ensures.drawing;
+}
 
 pub returns-in-Err-clause-serves : goal.returns-in-Err-clause-serves
 returns-in-Err-clause-serves g c = λ s at.
@@ -123,16 +129,63 @@ unnamed : (r : Request) (os : Operands) → os ≡ operands r → needs_store r 
 unnamed r os same none =
     ap (λ o. names_label (listed o)) same ∙ (or_parts (is_reencipher r.name) (names_label (listed (operands r))) none).1
 
-pub returns-in-Err-clause-named : goal.returns-in-Err-clause-named
-returns-in-Err-clause-named g c = λ is.
-    needed (seen c.args.request.now) _ c.operands_of.ensures.table (c.judge.ensures.named (c.in-Err.is ∙ ap Err (same_stop c.in-Err.stop StoreFault is)))
+pub returns-in-Err-clause-store : goal.returns-in-Err-clause-store
+returns-in-Err-clause-store g c = record {
+  named = λ is. needed (seen c.args.request.now) _ c.operands_of.ensures.table (c.judge.ensures.named (c.in-Err.is ∙ ap Err (same_stop c.in-Err.stop StoreFault is)));
+  spared = λ none. c.judge.ensures.spared (unnamed (seen c.args.request.now) _ c.operands_of.ensures.table none);
+}
 
-pub returns-in-Err-clause-spared : goal.returns-in-Err-clause-spared
-returns-in-Err-clause-spared g c = λ none. c.judge.ensures.spared (unnamed (seen c.args.request.now) _ c.operands_of.ensures.table none)
+pub returns-in-Ok-Refused-clause-store : goal.returns-in-Ok-Refused-clause-store
+returns-in-Ok-Refused-clause-store g c = record {
+  named = λ is. cc is;
+  spared = λ none. c.judge.ensures.spared (unnamed (seen c.args.request.now) _ c.operands_of.ensures.table none);
+}
 
-pub returns-in-Ok-Refused-clause-spared : goal.returns-in-Ok-Refused-clause-spared
-returns-in-Ok-Refused-clause-spared g c = λ none. c.judge.ensures.spared (unnamed (seen c.args.request.now) _ c.operands_of.ensures.table none)
+pub returns-in-Ok-Granted-clause-store : goal.returns-in-Ok-Granted-clause-store
+returns-in-Ok-Granted-clause-store g c = record {
+  named = c.act.ensures.store.named;
+  spared = λ none.
+      c.act.ensures.store.spared none ∙ c.judge.ensures.spared (unnamed (seen c.args.request.now) _ c.operands_of.ensures.table none);
+}
 
-pub returns-in-Ok-Granted-clause-spared : goal.returns-in-Ok-Granted-clause-spared
-returns-in-Ok-Granted-clause-spared g c = λ none.
-    c.act.ensures.spared none ∙ c.judge.ensures.spared (unnamed (seen c.args.request.now) _ c.operands_of.ensures.table none)
+-- ---- what is left
+
+pub returns-in-Some-clause-left : goal.returns-in-Some-clause-left
+returns-in-Some-clause-left g c = record {
+  module_disk = search rules;
+  store_disk = search rules;
+  module_told = search rules;
+  store_told = search rules;
+  module_turned = still_turned 33 (g.M.Disk.medium c.args.module.now) (g.M.Disk.medium c.args.module.now) refl refl;
+  store_turned = still_turned 1024 (g.D.Disk.medium c.args.store.now) (g.D.Disk.medium c.args.store.now) refl refl;
+  sound = search rules;
+  holds = search rules;
+  silent = search rules;
+  roles = search rules;
+  labels = search rules;
+}
+
+pub returns-in-Ok-Refused-clause-left : goal.returns-in-Ok-Refused-clause-left
+returns-in-Ok-Refused-clause-left g c = record {
+  module_disk = search rules;
+  store_disk = search rules;
+  module_told = search rules;
+  store_told = search rules;
+  module_turned = still_turned 33 (g.M.Disk.medium c.args.module.now) (g.M.Disk.medium c.args.module.now) refl refl;
+  store_turned = read_turned 1024 (g.D.Disk.medium c.args.store.now) (g.D.Disk.medium c.judge.new.store) c.judge.ensures.keeps;
+  sound = search rules;
+  holds = search rules;
+  silent = search rules;
+  roles = search rules;
+  labels = search rules;
+}
+
+pub returns-in-Ok-Granted-clause-left : goal.returns-in-Ok-Granted-clause-left
+returns-in-Ok-Granted-clause-left g c =
+    let m = g.M.Disk.medium c.args.module.now in
+    leaves_after_reads c.act.result c.act.new.reply m m (g.M.Disk.medium c.act.new.module)
+    (g.D.Disk.medium c.args.store.now) (g.D.Disk.medium c.judge.new.store) (g.D.Disk.medium c.act.new.store)
+    (g.M.Disk.faults c.args.module.now) (g.M.Disk.faults c.args.module.now) (g.M.Disk.faults c.act.new.module)
+    (g.D.Disk.faults c.args.store.now) (g.D.Disk.faults c.judge.new.store) (g.D.Disk.faults c.act.new.store)
+    (tables c.args.roles.now c.args.records.now) (tables c.act.new.roles c.act.new.records)
+    (keeps_still m) (omega arith) c.judge.ensures.keeps c.judge.ensures.store.later c.act.ensures.left

@@ -1,11 +1,17 @@
 use Rattle.cca_requests.proofs.Generating.{delivered_decides, generated_decides, pair_taken, pair_types, some_length, type_is}
-use Rattle.cca_requests.specs.Drawing.{LeavesDrawn}
+use Rattle.cca_requests.proofs.KeyedVerbs.{delivered_or_decides, keyed_shows}
+use Rattle.cca_requests.specs.Drawing.{IsDeliveredOr, LeavesDrawn}
+use Rattle.key_parts.specs.Parts.{combined_key, first_key}
+use Rattle.des_core.specs.Modes.{zero_block}
+use Rattle.cipher_verbs.specs.declared.padding.Pad.TheVariants as padding
+use Rattle.text_segments.specs.Chains.{chain_of, first_chain}
+use Rattle.text_segments.specs.declared.modes.Mode.TheVariants as mode
 use Rattle.cca_machine.specs.Lines.{drawn_where}
 use Rattle.key_transport.specs.Tokens.{as_current, changed_token, closed_key, external_token, transported_key}
 use Rattle.key_transport.specs.Generated.{generated_key}
 use Rattle.cca_vectors.specs.declared.key_type.KeyType.{KeyType}
 use Rattle.cca_vectors.specs.KeyTypes.{type_name}
-use Rattle.std.proofs.Common.{◌≡◌, ◌≤◌, ◌∙◌, [], ◌∷◌, Option, None, refl, sym, ap, subst, codes, ℕ, List, ◌<◌, false}
+use Rattle.std.proofs.Common.{◌≡◌, ◌≤◌, ◌∙◌, [], ◌∷◌, Option, None, refl, sym, ap, subst, codes, ℕ, List, ◌<◌, false, arith}
 use Rattle.std.specs.Prelude.{◌/◌, IsSome, length, take, IsTrue, is_some, ◌||◌}
 use Rattle.std.specs.Int.{to_be_bytes, w32}
 use Rattle.std.proofs.KnownBytes.{Consumes-nil}
@@ -21,17 +27,17 @@ use Rattle.verb_rules.specs.KeyChecks.{age_of}
 use Rattle.verb_rules.specs.Keys.{keys_of, opened, opened_key, token_for, opened_under}
 use Rattle.verb_rules.specs.declared.judging.Judged.{Judged}
 use Rattle.verb_script.specs.Named.{label_named}
-use Rattle.verb_script.specs.Grammar.{Request, csnbktp, csnbenc, csnbdec, csnbmgn, csnbmvr, csnbkrr, csnbkrd, csnbkrl, csnbmkp_part, csnbmkp_set, csuaaci_define, csnbkgn_op, csnbkgn_pair, csnbkgn_out, csnbkim, csnbkex, csnbpex, csnbktc}
+use Rattle.verb_script.specs.Grammar.{Request, csnbktp, csnbenc, csnbdec, csnbmgn, csnbmvr, csnbkrr, csnbkrd, csnbkrl, csnbmkp_part, csnbmkp_set, csuaaci_define, csnbkgn_op, csnbkgn_pair, csnbkgn_out, csnbkim, csnbkex, csnbpex, csnbktc, csnbkpi_first, csnbkpi_middle, csnbktr, csnbenc_first, csnbenc_middle, csnbenc_last, csnbdec_first, csnbdec_middle, csnbdec_last, csnbmgn_first, csnbmgn_middle, csnbmgn_last, csnbmvr_first, csnbmvr_middle, csnbmvr_last}
 use Rattle.verb_script.specs.Parsed.{seen}
 use Rattle.verb_script.specs.Values.{hex_value}
 use Rattle.master_registers.specs.Actions.{after_action}
 use Rattle.cca_machine.specs.Actions.{part_action}
-use Rattle.cca_machine.specs.Act.{Become, DefineRole, or_empty, yes_or_no, token_fields, Show, delivered, delivered_with, draws}
-use Rattle.cca_machine.specs.Choices.{pad_named, mac_rule_named, mac_length_named, key_length_named, target_named, type_in}
+use Rattle.cca_machine.specs.Act.{Become, DefineRole, or_empty, yes_or_no, token_fields, Show, delivered, delivered_with, draws, segment_fields, last_text_fields, code_segment_fields, last_code_fields, last_match_fields}
+use Rattle.cca_machine.specs.Choices.{pad_named, mac_rule_named, mac_length_named, key_length_named, target_named, type_in, is_last_part}
 use Rattle.cca_machine.specs.Keys.{key_in_text, key_of_label, key_of_request, or_no_key, imported, key_in_field, key_of_token, or_no_clear}
 use Rattle.cca_machine.specs.Listing.{label_fields}
 use Rattle.cca_machine.specs.Operands.{operands, needs_store}
-use Rattle.cca_machine.specs.Verdict.{first_refusal, define_questions, encipher_questions, decipher_questions, mac_questions, change_questions, generate_questions, pair_questions, verb_verdict}
+use Rattle.cca_machine.specs.Verdict.{first_refusal, define_questions, encipher_questions, decipher_questions, mac_questions, change_questions, generate_questions, pair_questions, verb_verdict, segment_questions, chain_questions, last_text_questions, code_key_questions, last_segment_questions, first_part_questions, further_part_questions}
 use Rattle.cipher_verbs.specs.CipherTexts.{enciphered_text, deciphered_text}
 use Rattle.mac_verbs.specs.Codes.{code_of, is_code}
 use Rattle.cca_requests.specs.Deciding.{IsDecided, Decides, IsReady, ShowsOr, labels_after, IsDelivered}
@@ -369,6 +375,18 @@ returns-in-Err-generate_out-clause-decides g c = λ s loaded recorded granted.
     subst (λ (r : Request). (verb_verdict s r ≡ None) × (0 < draws r.name r)) (sym (ap seen row.is))
     (ap first_refusal (pair_types row.type1 row.type2 (key_length_named row.length.now)) ∙ c.in-Err-generate_out.ensures.permitted, some_length row.length.now)
 
+pub returns-in-Err-generate_one-clause-drawing : goal.returns-in-Err-generate_one-clause-drawing
+returns-in-Err-generate_one-clause-drawing g c =
+    subst (λ (r : Request). 0 < draws r.name r) (sym (ap seen c.in-CsnbkgnOp.is)) (some_length c.in-CsnbkgnOp.length.now)
+
+pub returns-in-Err-generate_pair-clause-drawing : goal.returns-in-Err-generate_pair-clause-drawing
+returns-in-Err-generate_pair-clause-drawing g c =
+    subst (λ (r : Request). 0 < draws r.name r) (sym (ap seen c.in-CsnbkgnPair.is)) (some_length c.in-CsnbkgnPair.length.now)
+
+pub returns-in-Err-generate_out-clause-drawing : goal.returns-in-Err-generate_out-clause-drawing
+returns-in-Err-generate_out-clause-drawing g c =
+    subst (λ (r : Request). 0 < draws r.name r) (sym (ap seen c.in-CsnbkgnOut.is)) (some_length c.in-CsnbkgnOut.length.now)
+
 -- ---- keys that are moved
 
 pub returns-in-Csnbkim-clause-decides : goal.returns-in-Csnbkim-clause-decides
@@ -488,3 +506,343 @@ returns-in-Csnbktc-clause-decides g c = λ s loaded recorded granted.
     subst (λ (r : Request). Decides s later r c.csnbktc.result c.csnbktc.new.reply left left) (sym is)
     (shows_or s later request refused (fields (or_no_key (key_of_token s bytes)).clear) c.csnbktc.result c.csnbktc.new.reply left refl refl refl
     (subst (λ (k : ClearKey). ShowsOr refused (fields k) c.csnbktc.result c.csnbktc.new.reply) (sym key) (c.csnbktc.ensures.shows s loaded)))
+
+-- ---- texts in segments
+
+pub returns-in-CsnbencFirst-clause-decides : goal.returns-in-CsnbencFirst-clause-decides
+returns-in-CsnbencFirst-clause-decides g c = λ s loaded recorded granted.
+    let bench = bench_of c.args.lease.now in
+    let left = g.E.Entropy.left c.args.entropy.now in
+    let row = c.in-CsnbencFirst in
+    let request : Request = record { name = csnbenc_first; values = row.role ∷ row.key.now ∷ row.segment.now ∷ row.iv.now ∷ row.text.now ∷ [] } in
+    let is = ap seen row.is in
+    let has = subst (λ (r : Request). AreGranted s bench (operands r) c.args.granted.now) is granted in
+    let judged = c.key_in-in-CsnbencFirst in
+    let later = bench_of c.first_segment.new.lease in
+    subst (λ (r : Request). Decides s later r c.first_segment.result c.first_segment.new.reply left left) (sym is)
+    (keyed_shows s later request (opened bench judged.result.now)
+    (λ k. first_refusal (segment_questions (length row.text.now / 2)))
+    (λ k. segment_fields k mode.Encipher (first_chain (hex_value row.iv.now)) (hex_value row.text.now))
+    c.first_segment.result c.first_segment.new.reply left refl refl refl
+    (key_is bench (key_in_text s row.key.now) c.args.granted.now.first judged.result.now has.0 judged.ensures.key judged.ensures.under)
+    c.first_segment.ensures.shows)
+
+pub returns-in-CsnbencMiddle-clause-decides : goal.returns-in-CsnbencMiddle-clause-decides
+returns-in-CsnbencMiddle-clause-decides g c = λ s loaded recorded granted.
+    let bench = bench_of c.args.lease.now in
+    let left = g.E.Entropy.left c.args.entropy.now in
+    let row = c.in-CsnbencMiddle in
+    let request : Request = record { name = csnbenc_middle; values = row.role ∷ row.key.now ∷ row.segment.now ∷ row.chain.now ∷ row.text.now ∷ [] } in
+    let is = ap seen row.is in
+    let has = subst (λ (r : Request). AreGranted s bench (operands r) c.args.granted.now) is granted in
+    let judged = c.key_in-in-CsnbencMiddle in
+    let later = bench_of c.middle_segment.new.lease in
+    subst (λ (r : Request). Decides s later r c.middle_segment.result c.middle_segment.new.reply left left) (sym is)
+    (keyed_shows s later request (opened bench judged.result.now)
+    (λ k. first_refusal (chain_questions (hex_value row.chain.now) (segment_questions (length row.text.now / 2))))
+    (λ k. segment_fields k mode.Encipher (chain_of (hex_value row.chain.now)) (hex_value row.text.now))
+    c.middle_segment.result c.middle_segment.new.reply left refl refl refl
+    (key_is bench (key_in_text s row.key.now) c.args.granted.now.first judged.result.now has.0 judged.ensures.key judged.ensures.under)
+    c.middle_segment.ensures.shows)
+
+pub returns-in-CsnbencLast-clause-decides : goal.returns-in-CsnbencLast-clause-decides
+returns-in-CsnbencLast-clause-decides g c = λ s loaded recorded granted.
+    let bench = bench_of c.args.lease.now in
+    let left = g.E.Entropy.left c.args.entropy.now in
+    let row = c.in-CsnbencLast in
+    let request : Request = record { name = csnbenc_last; values = row.role ∷ row.key.now ∷ row.segment.now ∷ row.chain.now ∷ row.pad.now ∷ row.text.now ∷ [] } in
+    let is = ap seen row.is in
+    let has = subst (λ (r : Request). AreGranted s bench (operands r) c.args.granted.now) is granted in
+    let judged = c.key_in-in-CsnbencLast in
+    let later = bench_of c.last_segment.new.lease in
+    subst (λ (r : Request). Decides s later r c.last_segment.result c.last_segment.new.reply left left) (sym is)
+    (keyed_shows s later request (opened bench judged.result.now)
+    (λ k. first_refusal (chain_questions (hex_value row.chain.now) (last_text_questions mode.Encipher k (chain_of (hex_value row.chain.now)) (pad_named row.pad.now) (length row.text.now / 2) (hex_value row.text.now))))
+    (λ k. last_text_fields k mode.Encipher (chain_of (hex_value row.chain.now)) (pad_named row.pad.now) (hex_value row.text.now))
+    c.last_segment.result c.last_segment.new.reply left refl refl refl
+    (key_is bench (key_in_text s row.key.now) c.args.granted.now.first judged.result.now has.0 judged.ensures.key judged.ensures.under)
+    c.last_segment.ensures.shows)
+
+pub returns-in-CsnbdecFirst-clause-decides : goal.returns-in-CsnbdecFirst-clause-decides
+returns-in-CsnbdecFirst-clause-decides g c = λ s loaded recorded granted.
+    let bench = bench_of c.args.lease.now in
+    let left = g.E.Entropy.left c.args.entropy.now in
+    let row = c.in-CsnbdecFirst in
+    let request : Request = record { name = csnbdec_first; values = row.role ∷ row.key.now ∷ row.segment.now ∷ row.iv.now ∷ row.text.now ∷ [] } in
+    let is = ap seen row.is in
+    let has = subst (λ (r : Request). AreGranted s bench (operands r) c.args.granted.now) is granted in
+    let judged = c.key_in-in-CsnbdecFirst in
+    let later = bench_of c.first_segment-in-CsnbdecFirst.new.lease in
+    subst (λ (r : Request). Decides s later r c.first_segment-in-CsnbdecFirst.result c.first_segment-in-CsnbdecFirst.new.reply left left) (sym is)
+    (keyed_shows s later request (opened bench judged.result.now)
+    (λ k. first_refusal (segment_questions (length row.text.now / 2)))
+    (λ k. segment_fields k mode.Decipher (first_chain (hex_value row.iv.now)) (hex_value row.text.now))
+    c.first_segment-in-CsnbdecFirst.result c.first_segment-in-CsnbdecFirst.new.reply left refl refl refl
+    (key_is bench (key_in_text s row.key.now) c.args.granted.now.first judged.result.now has.0 judged.ensures.key judged.ensures.under)
+    c.first_segment-in-CsnbdecFirst.ensures.shows)
+
+pub returns-in-CsnbdecMiddle-clause-decides : goal.returns-in-CsnbdecMiddle-clause-decides
+returns-in-CsnbdecMiddle-clause-decides g c = λ s loaded recorded granted.
+    let bench = bench_of c.args.lease.now in
+    let left = g.E.Entropy.left c.args.entropy.now in
+    let row = c.in-CsnbdecMiddle in
+    let request : Request = record { name = csnbdec_middle; values = row.role ∷ row.key.now ∷ row.segment.now ∷ row.chain.now ∷ row.text.now ∷ [] } in
+    let is = ap seen row.is in
+    let has = subst (λ (r : Request). AreGranted s bench (operands r) c.args.granted.now) is granted in
+    let judged = c.key_in-in-CsnbdecMiddle in
+    let later = bench_of c.middle_segment-in-CsnbdecMiddle.new.lease in
+    subst (λ (r : Request). Decides s later r c.middle_segment-in-CsnbdecMiddle.result c.middle_segment-in-CsnbdecMiddle.new.reply left left) (sym is)
+    (keyed_shows s later request (opened bench judged.result.now)
+    (λ k. first_refusal (chain_questions (hex_value row.chain.now) (segment_questions (length row.text.now / 2))))
+    (λ k. segment_fields k mode.Decipher (chain_of (hex_value row.chain.now)) (hex_value row.text.now))
+    c.middle_segment-in-CsnbdecMiddle.result c.middle_segment-in-CsnbdecMiddle.new.reply left refl refl refl
+    (key_is bench (key_in_text s row.key.now) c.args.granted.now.first judged.result.now has.0 judged.ensures.key judged.ensures.under)
+    c.middle_segment-in-CsnbdecMiddle.ensures.shows)
+
+pub returns-in-CsnbdecLast-clause-decides : goal.returns-in-CsnbdecLast-clause-decides
+returns-in-CsnbdecLast-clause-decides g c = λ s loaded recorded granted.
+    let bench = bench_of c.args.lease.now in
+    let left = g.E.Entropy.left c.args.entropy.now in
+    let row = c.in-CsnbdecLast in
+    let request : Request = record { name = csnbdec_last; values = row.role ∷ row.key.now ∷ row.segment.now ∷ row.chain.now ∷ row.pad.now ∷ row.text.now ∷ [] } in
+    let is = ap seen row.is in
+    let has = subst (λ (r : Request). AreGranted s bench (operands r) c.args.granted.now) is granted in
+    let judged = c.key_in-in-CsnbdecLast in
+    let later = bench_of c.last_segment-in-CsnbdecLast.new.lease in
+    subst (λ (r : Request). Decides s later r c.last_segment-in-CsnbdecLast.result c.last_segment-in-CsnbdecLast.new.reply left left) (sym is)
+    (keyed_shows s later request (opened bench judged.result.now)
+    (λ k. first_refusal (chain_questions (hex_value row.chain.now) (last_text_questions mode.Decipher k (chain_of (hex_value row.chain.now)) (pad_named row.pad.now) (length row.text.now / 2) (hex_value row.text.now))))
+    (λ k. last_text_fields k mode.Decipher (chain_of (hex_value row.chain.now)) (pad_named row.pad.now) (hex_value row.text.now))
+    c.last_segment-in-CsnbdecLast.result c.last_segment-in-CsnbdecLast.new.reply left refl refl refl
+    (key_is bench (key_in_text s row.key.now) c.args.granted.now.first judged.result.now has.0 judged.ensures.key judged.ensures.under)
+    c.last_segment-in-CsnbdecLast.ensures.shows)
+
+pub returns-in-CsnbmgnFirst-clause-decides : goal.returns-in-CsnbmgnFirst-clause-decides
+returns-in-CsnbmgnFirst-clause-decides g c = λ s loaded recorded granted.
+    let bench = bench_of c.args.lease.now in
+    let left = g.E.Entropy.left c.args.entropy.now in
+    let row = c.in-CsnbmgnFirst in
+    let request : Request = record { name = csnbmgn_first; values = row.role ∷ row.key.now ∷ row.rule.now ∷ row.segment.now ∷ row.text.now ∷ [] } in
+    let is = ap seen row.is in
+    let has = subst (λ (r : Request). AreGranted s bench (operands r) c.args.granted.now) is granted in
+    let judged = c.key_in-in-CsnbmgnFirst in
+    let later = bench_of c.first_code_segment.new.lease in
+    subst (λ (r : Request). Decides s later r c.first_code_segment.result c.first_code_segment.new.reply left left) (sym is)
+    (keyed_shows s later request (opened bench judged.result.now)
+    (λ k. first_refusal (code_key_questions (mac_rule_named row.rule.now) k (segment_questions (length row.text.now / 2))))
+    (λ k. code_segment_fields k (mac_rule_named row.rule.now) (first_chain zero_block) (hex_value row.text.now))
+    c.first_code_segment.result c.first_code_segment.new.reply left refl refl refl
+    (key_is bench (key_in_text s row.key.now) c.args.granted.now.first judged.result.now has.0 judged.ensures.key judged.ensures.under)
+    c.first_code_segment.ensures.shows)
+
+pub returns-in-CsnbmgnMiddle-clause-decides : goal.returns-in-CsnbmgnMiddle-clause-decides
+returns-in-CsnbmgnMiddle-clause-decides g c = λ s loaded recorded granted.
+    let bench = bench_of c.args.lease.now in
+    let left = g.E.Entropy.left c.args.entropy.now in
+    let row = c.in-CsnbmgnMiddle in
+    let request : Request = record { name = csnbmgn_middle; values = row.role ∷ row.key.now ∷ row.rule.now ∷ row.segment.now ∷ row.chain.now ∷ row.text.now ∷ [] } in
+    let is = ap seen row.is in
+    let has = subst (λ (r : Request). AreGranted s bench (operands r) c.args.granted.now) is granted in
+    let judged = c.key_in-in-CsnbmgnMiddle in
+    let later = bench_of c.middle_code_segment.new.lease in
+    subst (λ (r : Request). Decides s later r c.middle_code_segment.result c.middle_code_segment.new.reply left left) (sym is)
+    (keyed_shows s later request (opened bench judged.result.now)
+    (λ k. first_refusal (code_key_questions (mac_rule_named row.rule.now) k (chain_questions (hex_value row.chain.now) (segment_questions (length row.text.now / 2)))))
+    (λ k. code_segment_fields k (mac_rule_named row.rule.now) (chain_of (hex_value row.chain.now)) (hex_value row.text.now))
+    c.middle_code_segment.result c.middle_code_segment.new.reply left refl refl refl
+    (key_is bench (key_in_text s row.key.now) c.args.granted.now.first judged.result.now has.0 judged.ensures.key judged.ensures.under)
+    c.middle_code_segment.ensures.shows)
+
+pub returns-in-CsnbmgnLast-clause-decides : goal.returns-in-CsnbmgnLast-clause-decides
+returns-in-CsnbmgnLast-clause-decides g c = λ s loaded recorded granted.
+    let bench = bench_of c.args.lease.now in
+    let left = g.E.Entropy.left c.args.entropy.now in
+    let row = c.in-CsnbmgnLast in
+    let request : Request = record { name = csnbmgn_last; values = row.role ∷ row.key.now ∷ row.rule.now ∷ row.segment.now ∷ row.length.now ∷ row.chain.now ∷ row.text.now ∷ [] } in
+    let is = ap seen row.is in
+    let has = subst (λ (r : Request). AreGranted s bench (operands r) c.args.granted.now) is granted in
+    let judged = c.key_in-in-CsnbmgnLast in
+    let later = bench_of c.last_code_segment.new.lease in
+    subst (λ (r : Request). Decides s later r c.last_code_segment.result c.last_code_segment.new.reply left left) (sym is)
+    (keyed_shows s later request (opened bench judged.result.now)
+    (λ k. first_refusal (code_key_questions (mac_rule_named row.rule.now) k (chain_questions (hex_value row.chain.now) (last_segment_questions (mode.Mac (mac_rule_named row.rule.now)) padding.None (chain_of (hex_value row.chain.now)) (length row.text.now / 2)))))
+    (λ k. last_code_fields k (mac_rule_named row.rule.now) (chain_of (hex_value row.chain.now)) (mac_length_named row.length.now) (hex_value row.text.now))
+    c.last_code_segment.result c.last_code_segment.new.reply left refl refl refl
+    (key_is bench (key_in_text s row.key.now) c.args.granted.now.first judged.result.now has.0 judged.ensures.key judged.ensures.under)
+    c.last_code_segment.ensures.shows)
+
+pub returns-in-CsnbmvrFirst-clause-decides : goal.returns-in-CsnbmvrFirst-clause-decides
+returns-in-CsnbmvrFirst-clause-decides g c = λ s loaded recorded granted.
+    let bench = bench_of c.args.lease.now in
+    let left = g.E.Entropy.left c.args.entropy.now in
+    let row = c.in-CsnbmvrFirst in
+    let request : Request = record { name = csnbmvr_first; values = row.role ∷ row.key.now ∷ row.rule.now ∷ row.segment.now ∷ row.text.now ∷ [] } in
+    let is = ap seen row.is in
+    let has = subst (λ (r : Request). AreGranted s bench (operands r) c.args.granted.now) is granted in
+    let judged = c.key_in-in-CsnbmvrFirst in
+    let later = bench_of c.first_code_segment-in-CsnbmvrFirst.new.lease in
+    subst (λ (r : Request). Decides s later r c.first_code_segment-in-CsnbmvrFirst.result c.first_code_segment-in-CsnbmvrFirst.new.reply left left) (sym is)
+    (keyed_shows s later request (opened bench judged.result.now)
+    (λ k. first_refusal (code_key_questions (mac_rule_named row.rule.now) k (segment_questions (length row.text.now / 2))))
+    (λ k. code_segment_fields k (mac_rule_named row.rule.now) (first_chain zero_block) (hex_value row.text.now))
+    c.first_code_segment-in-CsnbmvrFirst.result c.first_code_segment-in-CsnbmvrFirst.new.reply left refl refl refl
+    (key_is bench (key_in_text s row.key.now) c.args.granted.now.first judged.result.now has.0 judged.ensures.key judged.ensures.under)
+    c.first_code_segment-in-CsnbmvrFirst.ensures.shows)
+
+pub returns-in-CsnbmvrMiddle-clause-decides : goal.returns-in-CsnbmvrMiddle-clause-decides
+returns-in-CsnbmvrMiddle-clause-decides g c = λ s loaded recorded granted.
+    let bench = bench_of c.args.lease.now in
+    let left = g.E.Entropy.left c.args.entropy.now in
+    let row = c.in-CsnbmvrMiddle in
+    let request : Request = record { name = csnbmvr_middle; values = row.role ∷ row.key.now ∷ row.rule.now ∷ row.segment.now ∷ row.chain.now ∷ row.text.now ∷ [] } in
+    let is = ap seen row.is in
+    let has = subst (λ (r : Request). AreGranted s bench (operands r) c.args.granted.now) is granted in
+    let judged = c.key_in-in-CsnbmvrMiddle in
+    let later = bench_of c.middle_code_segment-in-CsnbmvrMiddle.new.lease in
+    subst (λ (r : Request). Decides s later r c.middle_code_segment-in-CsnbmvrMiddle.result c.middle_code_segment-in-CsnbmvrMiddle.new.reply left left) (sym is)
+    (keyed_shows s later request (opened bench judged.result.now)
+    (λ k. first_refusal (code_key_questions (mac_rule_named row.rule.now) k (chain_questions (hex_value row.chain.now) (segment_questions (length row.text.now / 2)))))
+    (λ k. code_segment_fields k (mac_rule_named row.rule.now) (chain_of (hex_value row.chain.now)) (hex_value row.text.now))
+    c.middle_code_segment-in-CsnbmvrMiddle.result c.middle_code_segment-in-CsnbmvrMiddle.new.reply left refl refl refl
+    (key_is bench (key_in_text s row.key.now) c.args.granted.now.first judged.result.now has.0 judged.ensures.key judged.ensures.under)
+    c.middle_code_segment-in-CsnbmvrMiddle.ensures.shows)
+
+pub returns-in-CsnbmvrLast-clause-decides : goal.returns-in-CsnbmvrLast-clause-decides
+returns-in-CsnbmvrLast-clause-decides g c = λ s loaded recorded granted.
+    let bench = bench_of c.args.lease.now in
+    let left = g.E.Entropy.left c.args.entropy.now in
+    let row = c.in-CsnbmvrLast in
+    let request : Request = record { name = csnbmvr_last; values = row.role ∷ row.key.now ∷ row.rule.now ∷ row.segment.now ∷ row.mac.now ∷ row.chain.now ∷ row.text.now ∷ [] } in
+    let is = ap seen row.is in
+    let has = subst (λ (r : Request). AreGranted s bench (operands r) c.args.granted.now) is granted in
+    let judged = c.key_in-in-CsnbmvrLast in
+    let later = bench_of c.last_match_segment.new.lease in
+    subst (λ (r : Request). Decides s later r c.last_match_segment.result c.last_match_segment.new.reply left left) (sym is)
+    (keyed_shows s later request (opened bench judged.result.now)
+    (λ k. first_refusal (code_key_questions (mac_rule_named row.rule.now) k (chain_questions (hex_value row.chain.now) (last_segment_questions (mode.Mac (mac_rule_named row.rule.now)) padding.None (chain_of (hex_value row.chain.now)) (length row.text.now / 2)))))
+    (λ k. last_match_fields k (mac_rule_named row.rule.now) (chain_of (hex_value row.chain.now)) (hex_value row.mac.now) (hex_value row.text.now))
+    c.last_match_segment.result c.last_match_segment.new.reply left refl refl refl
+    (key_is bench (key_in_text s row.key.now) c.args.granted.now.first judged.result.now has.0 judged.ensures.key judged.ensures.under)
+    c.last_match_segment.ensures.shows)
+
+-- ---- keys in parts, and keys translated
+
+pub returns-in-CsnbkpiFirst-clause-decides : goal.returns-in-CsnbkpiFirst-clause-decides
+returns-in-CsnbkpiFirst-clause-decides g c = λ s loaded recorded granted.
+    let bench = bench_of c.args.lease.now in
+    let later = bench_of c.first.new.lease in
+    let left = g.E.Entropy.left c.args.entropy.now in
+    let row = c.in-CsnbkpiFirst in
+    let request : Request = record { name = csnbkpi_first; values = row.role ∷ row.rule.now ∷ type_name row.kind ∷ row.part.now ∷ row.to.now ∷ [] } in
+    let is = ap seen row.is in
+    let has = subst (λ (r : Request). AreGranted s bench (operands r) c.args.granted.now) is granted in
+    let goes = λ (k : KeyType). IsDeliveredOr s (first_refusal (first_part_questions k (length row.part.now / 2)))
+    (delivered s (codes "token") (label_named row.to.now) (as_current (first_key k (hex_value row.part.now)))) c.first.result c.first.new.reply in
+    subst (λ (r : Request). Decides s later r c.first.result c.first.new.reply left left) (sym is)
+    (delivered_or_decides s later request c.first.result c.first.new.reply left refl
+    (subst goes (sym (type_is row.kind)) (c.first.ensures.delivered s loaded has.0.0)))
+
+pub returns-in-CsnbkpiFirst-clause-ready : goal.returns-in-CsnbkpiFirst-clause-ready
+returns-in-CsnbkpiFirst-clause-ready g c =
+    let rows = c.args.records.now in
+    let shaped = subst (λ (r : Request). HaveShapes rows (operands r) c.args.granted.now) (ap seen c.in-CsnbkpiFirst.is) c.requires.shaped in
+    c.first.ensures.ready rows (target_place rows (label_named c.in-CsnbkpiFirst.to.now) c.args.granted.now.first shaped.0)
+
+pub returns-in-CsnbkpiMiddle-clause-decides : goal.returns-in-CsnbkpiMiddle-clause-decides
+returns-in-CsnbkpiMiddle-clause-decides g c = λ s loaded recorded granted.
+    let bench = bench_of c.args.lease.now in
+    let later = bench_of c.further.new.lease in
+    let left = g.E.Entropy.left c.args.entropy.now in
+    let row = c.in-CsnbkpiMiddle in
+    let request : Request = record { name = csnbkpi_middle; values = row.role ∷ row.rule.now ∷ row.key.now ∷ row.part.now ∷ row.to.now ∷ [] } in
+    let is = ap seen row.is in
+    let has = subst (λ (r : Request). AreGranted s bench (operands r) c.args.granted.now) is granted in
+    let judged = c.key_in-in-CsnbkpiMiddle in
+    let key : key_of_request s request ≡ opened bench judged.result.now =
+    key_is bench (key_in_text s row.key.now) c.args.granted.now.first judged.result.now has.0 judged.ensures.key judged.ensures.under in
+    let goes = λ (k : ClearKey). IsDeliveredOr s (first_refusal (further_part_questions k.vector (length row.part.now / 2)))
+    (delivered s (codes "token") (label_named row.to.now) (as_current (combined_key (is_last_part row.rule.now) k (hex_value row.part.now)))) c.further.result c.further.new.reply in
+    subst (λ (r : Request). Decides s later r c.further.result c.further.new.reply left left) (sym is)
+    (delivered_or_decides s later request c.further.result c.further.new.reply left refl
+    (subst goes (sym key) (c.further.ensures.delivered s loaded has.1.0)))
+
+pub returns-in-CsnbkpiMiddle-clause-ready : goal.returns-in-CsnbkpiMiddle-clause-ready
+returns-in-CsnbkpiMiddle-clause-ready g c =
+    let rows = c.args.records.now in
+    let shaped = subst (λ (r : Request). HaveShapes rows (operands r) c.args.granted.now) (ap seen c.in-CsnbkpiMiddle.is) c.requires.shaped in
+    c.further.ensures.ready rows (target_place rows (label_named c.in-CsnbkpiMiddle.to.now) c.args.granted.now.second shaped.1)
+
+pub returns-in-CsnbkpiMiddle-clause-named : goal.returns-in-CsnbkpiMiddle-clause-named
+returns-in-CsnbkpiMiddle-clause-named g c = λ writes.
+    let row = c.in-CsnbkpiMiddle in
+    let to = is_some (label_named row.to.now) in
+    subst (λ (r : Request). IsTrue (needs_store r)) (sym (ap seen row.is))
+    (either_right (is_some (label_named row.key.now)) (to || false) (either_left to false (c.further.ensures.named writes)))
+
+pub returns-in-Csnbktr-clause-decides : goal.returns-in-Csnbktr-clause-decides
+returns-in-Csnbktr-clause-decides g c = λ s loaded recorded granted.
+    let bench = bench_of c.args.lease.now in
+    let later = bench_of c.csnbktr.new.lease in
+    let left = g.E.Entropy.left c.args.entropy.now in
+    let row = c.in-Csnbktr in
+    let bytes = hex_value row.token.now in
+    let request : Request = record { name = csnbktr; values = row.role ∷ row.token.now ∷ row.transport1.now ∷ row.transport2.now ∷ [] } in
+    let is = ap seen row.is in
+    let has = subst (λ (r : Request). AreGranted s bench (operands r) c.args.granted.now) is granted in
+    let source = c.external_in-in-Csnbktr.result.now in
+    let one = c.key_in-in-Csnbktr.result.now in
+    let two = c.key_in-in-Csnbktr-2.result.now in
+    let from : key_in_field s request (codes "transport1") ≡ opened bench one =
+    key_is bench (key_in_text s row.transport1.now) c.args.granted.now.second one has.1 c.key_in-in-Csnbktr.ensures.key c.key_in-in-Csnbktr.ensures.under in
+    let to : key_in_field s request (codes "transport2") ≡ opened bench two =
+    key_is bench (key_in_text s row.transport2.now) c.args.granted.now.third two has.2 c.key_in-in-Csnbktr-2.ensures.key c.key_in-in-Csnbktr-2.ensures.under in
+    let same : has.0.judged ≡ source = cc (has.0.is, c.external_in-in-Csnbktr.ensures.key) in
+    let brought : imported (key_in_field s request (codes "transport1")) bytes ≡ transported_key bench source one =
+    ap (λ (k : ClearKey). imported k bytes) from
+    ∙ (ap or_no_clear (has.0.opens (opened bench one).key) ∙ ap (opened_under (opened bench one).key) same) in
+    let fields = λ (t k : ClearKey). Hex (codes "token") (external_token t.key k) ∷ [] in
+    subst (λ (r : Request). Decides s later r code.Shown c.csnbktr.new.reply left left) (sym is)
+    (shows_or s later request None (fields (key_in_field s request (codes "transport2")) (imported (key_in_field s request (codes "transport1")) bytes))
+    code.Shown c.csnbktr.new.reply left refl refl refl (
+      refl,
+      c.csnbktr.ensures.fields ∙ (ap (λ (k : ClearKey). written (fields (opened bench two) k)) (sym brought)
+          ∙ ap (λ (t : ClearKey). written (fields t (imported (key_in_field s request (codes "transport1")) bytes))) (sym to)),
+    ))
+
+-- ---- keys that are generated draw some bytes
+
+pub returns-in-Ok-generate_one-clause-undrawn : goal.returns-in-Ok-generate_one-clause-undrawn
+returns-in-Ok-generate_one-clause-undrawn g c = λ zero.
+    let row = c.in-CsnbkgnOp in
+    let none : key_length_named row.length.now ≡ 0 = subst (λ (r : Request). draws r.name r ≡ 0) (ap seen row.is) zero in
+    absurd (omega (arith, some_length row.length.now, none))
+
+pub returns-in-Ok-generate_pair-clause-undrawn : goal.returns-in-Ok-generate_pair-clause-undrawn
+returns-in-Ok-generate_pair-clause-undrawn g c = λ zero.
+    let row = c.in-CsnbkgnPair in
+    let none : key_length_named row.length.now ≡ 0 = subst (λ (r : Request). draws r.name r ≡ 0) (ap seen row.is) zero in
+    absurd (omega (arith, some_length row.length.now, none))
+
+pub returns-in-Ok-generate_out-clause-undrawn : goal.returns-in-Ok-generate_out-clause-undrawn
+returns-in-Ok-generate_out-clause-undrawn g c = λ zero.
+    let row = c.in-CsnbkgnOut in
+    let none : key_length_named row.length.now ≡ 0 = subst (λ (r : Request). draws r.name r ≡ 0) (ap seen row.is) zero in
+    absurd (omega (arith, some_length row.length.now, none))
+
+pub returns-in-Err-generate_one-clause-undrawn : goal.returns-in-Err-generate_one-clause-undrawn
+returns-in-Err-generate_one-clause-undrawn g c = λ zero.
+    let row = c.in-CsnbkgnOp in
+    let none : key_length_named row.length.now ≡ 0 = subst (λ (r : Request). draws r.name r ≡ 0) (ap seen row.is) zero in
+    absurd (omega (arith, some_length row.length.now, none))
+
+pub returns-in-Err-generate_pair-clause-undrawn : goal.returns-in-Err-generate_pair-clause-undrawn
+returns-in-Err-generate_pair-clause-undrawn g c = λ zero.
+    let row = c.in-CsnbkgnPair in
+    let none : key_length_named row.length.now ≡ 0 = subst (λ (r : Request). draws r.name r ≡ 0) (ap seen row.is) zero in
+    absurd (omega (arith, some_length row.length.now, none))
+
+pub returns-in-Err-generate_out-clause-undrawn : goal.returns-in-Err-generate_out-clause-undrawn
+returns-in-Err-generate_out-clause-undrawn g c = λ zero.
+    let row = c.in-CsnbkgnOut in
+    let none : key_length_named row.length.now ≡ 0 = subst (λ (r : Request). draws r.name r ≡ 0) (ap seen row.is) zero in
+    absurd (omega (arith, some_length row.length.now, none))

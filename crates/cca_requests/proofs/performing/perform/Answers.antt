@@ -1,4 +1,4 @@
-use Rattle.std.proofs.Common.{◌∙◌, Err, sym, ap, subst}
+use Rattle.std.proofs.Common.{◌∙◌, Err, sym, ap, subst, arith}
 use Rattle.key_cells.specs.Lease.{bench_of}
 use Rattle.master_registers.specs.Loaded.{Loaded, masters_in}
 use Rattle.line_service.specs.declared.stops.Stop.TheVariants.{ModuleFault}
@@ -6,7 +6,7 @@ use Rattle.slot_disk.proofs.Media.{keeps_still}
 use Rattle.verb_script.specs.Parsed.{seen}
 use Rattle.verb_script.proofs.GrammarLaws.{spelled_values}
 use Rattle.cca_requests.specs.Serving.{tables}
-use Rattle.cca_requests.proofs.Leaving.{no_damage}
+use Rattle.cca_requests.proofs.Leaving.{no_damage, leaves_after_reads}
 use Rattle.cca_requests.proofs.Registers.{registers_found, undamaged}
 use Rattle.cca_requests.proofs.Serving.{stopped_serves, serves_after_reads, stands_kept}
 use Rattle.cca_requests.proofs.performing.perform.Goals as goal
@@ -22,7 +22,7 @@ returns-in-Ok-clause-serves g c = λ s stands.
     serves_after_reads s (seen c.args.request.now) c.carry_out.result c.carry_out.new.reply t (tables c.carry_out.new.roles c.carry_out.new.records)
     m0 m1 (g.M.Disk.medium c.carry_out.new.module) d d (g.D.Disk.medium c.carry_out.new.store)
     (g.E.Entropy.left c.args.entropy.now) (g.E.Entropy.left c.carry_out.new.entropy)
-    c.requires.module_settled c.requires.store_settled c.load.ensures.keeps (keeps_still d) stands
+    c.requires.disks.module_settled c.requires.disks.store_settled c.load.ensures.keeps (keeps_still d) stands
     (c.carry_out.ensures.serves s (record {
       loaded = subst (λ m. Loaded m c.in-Ok.held bench) (sym found) c.in-Ok.ensures.loaded;
       stands = stands_kept s t m0 m1 d d c.load.ensures.keeps (keeps_still d) stands;
@@ -34,7 +34,7 @@ returns-in-Err-DiskFault-clause-serves g c = λ s stands.
     let d = g.D.Disk.medium c.args.store.now in
     let left = g.E.Entropy.left c.args.entropy.now in
     stopped_serves s (seen c.args.request.now) ModuleFault c.clear.new.self t t (g.M.Disk.medium c.args.module.now) (g.M.Disk.medium c.load.new.module) d d left left tt (λ is. cc is)
-    c.requires.module_settled c.requires.store_settled c.load.ensures.keeps (keeps_still d) stands
+    c.requires.disks.module_settled c.requires.disks.store_settled c.load.ensures.keeps (keeps_still d) stands
 
 pub returns-clause-serves : goal.returns-clause-serves
 returns-clause-serves g c = λ s stands.
@@ -44,21 +44,33 @@ pub carry_out-requires-clause-accepted : goal.carry_out-requires-clause-accepted
 carry_out-requires-clause-accepted g c =
     spelled_values (seen c.args.request.now) c.requires.spelled.0 c.requires.spelled.1
 
-pub returns-in-Ok-clause-untouched : goal.returns-in-Ok-clause-untouched
-returns-in-Ok-clause-untouched g c = λ s stands none.
-    let t = tables c.args.roles.now c.args.records.now in
-    let m0 = g.M.Disk.medium c.args.module.now in
-    let m1 = g.M.Disk.medium c.load.new.module in
+pub returns-in-Ok-clause-random : goal.returns-in-Ok-clause-random
+returns-in-Ok-clause-random g c = record {
+  entropy = c.carry_out.ensures.random.entropy;
+  untouched = λ s stands none.
+      let t = tables c.args.roles.now c.args.records.now in
+      let m0 = g.M.Disk.medium c.args.module.now in
+      let m1 = g.M.Disk.medium c.load.new.module in
+      let d = g.D.Disk.medium c.args.store.now in
+      let bench = bench_of c.load.new.lease in
+      let found = registers_found m0 m1 s (masters_in c.in-Ok.held bench) stands.on_module.in_module c.load.ensures.keeps c.in-Ok.ensures.stands in
+      c.carry_out.ensures.random.untouched s (record {
+        loaded = subst (λ m. Loaded m c.in-Ok.held bench) (sym found) c.in-Ok.ensures.loaded;
+        stands = stands_kept s t m0 m1 d d c.load.ensures.keeps (keeps_still d) stands;
+      }) none;
+  undrawn = c.carry_out.ensures.random.undrawn;
+  drawing = c.carry_out.ensures.random.drawing;
+}
+
+pub returns-in-Ok-clause-damage : goal.returns-in-Ok-clause-damage
+returns-in-Ok-clause-damage g c = λ is. absurd (no_damage c.carry_out.result 0 c.carry_out.ensures.stops is)
+
+pub returns-in-Ok-clause-left : goal.returns-in-Ok-clause-left
+returns-in-Ok-clause-left g c =
     let d = g.D.Disk.medium c.args.store.now in
-    let bench = bench_of c.load.new.lease in
-    let found = registers_found m0 m1 s (masters_in c.in-Ok.held bench) stands.on_module.in_module c.load.ensures.keeps c.in-Ok.ensures.stands in
-    c.carry_out.ensures.untouched s (record {
-      loaded = subst (λ m. Loaded m c.in-Ok.held bench) (sym found) c.in-Ok.ensures.loaded;
-      stands = stands_kept s t m0 m1 d d c.load.ensures.keeps (keeps_still d) stands;
-    }) none
-
-pub returns-in-Ok-clause-damaged : goal.returns-in-Ok-clause-damaged
-returns-in-Ok-clause-damaged g c = λ is. absurd (no_damage c.carry_out.result 0 c.carry_out.ensures.left.stops is)
-
-pub returns-in-Ok-clause-kept : goal.returns-in-Ok-clause-kept
-returns-in-Ok-clause-kept g c = λ is. absurd (no_damage c.carry_out.result 0 c.carry_out.ensures.left.stops is)
+    leaves_after_reads c.carry_out.result c.carry_out.new.reply
+    (g.M.Disk.medium c.args.module.now) (g.M.Disk.medium c.load.new.module) (g.M.Disk.medium c.carry_out.new.module) d d (g.D.Disk.medium c.carry_out.new.store)
+    (g.M.Disk.faults c.args.module.now) (g.M.Disk.faults c.load.new.module) (g.M.Disk.faults c.carry_out.new.module)
+    (g.D.Disk.faults c.args.store.now) (g.D.Disk.faults c.args.store.now) (g.D.Disk.faults c.carry_out.new.store)
+    (tables c.args.roles.now c.args.records.now) (tables c.carry_out.new.roles c.carry_out.new.records)
+    c.load.ensures.keeps c.load.ensures.cause.later (keeps_still d) (omega arith) c.carry_out.ensures.left

@@ -1,0 +1,29 @@
+-- A chain that a segment gives is the one that its bytes are.
+use Rattle.std.proofs.Common.{◌≡◌, subst}
+use Rattle.std.specs.Prelude.{◌/◌, length}
+use Rattle.key_cells.specs.Lease.{bench_of}
+use Rattle.text_segments.specs.Chains.{chain_of}
+use Rattle.text_segments.specs.declared.chains.Chain.{Chain}
+use Rattle.verb_rules.specs.Keys.{opened}
+use Rattle.verb_script.specs.Values.{hex_value}
+use Rattle.cca_machine.specs.Act.{segment_fields}
+use Rattle.cca_machine.specs.Verdict.{first_refusal, segment_questions}
+use Rattle.cca_requests.specs.Deciding.{ShowsOr}
+use Rattle.cca_requests.proofs.SegmentRules.{chain_refused, given_chain, no_chain, shows_after}
+use Rattle.cca_requests.proofs.verbs.segments.middle_segment.Goals as goal
+
+pub returns-in-Some-clause-shows : goal.returns-in-Some-clause-shows
+returns-in-Some-clause-shows c =
+    let bytes = hex_value c.args.chain.now in
+    let clear = opened (bench_of c.args.lease.now) c.args.key.now in
+    let given = given_chain c.chain_in.result c.in-Some.before bytes c.in-Some.is c.chain_in.ensures.judges c.chain_in.ensures.chain in
+    let others = λ (k : Chain). segment_questions (length c.args.text.now / 2) in
+    let fields = λ (k : Chain). segment_fields clear c.args.mode k (hex_value c.args.text.now) in
+    shows_after bytes (others (chain_of bytes)) (fields (chain_of bytes)) c.go_on.result c.go_on.new.reply given.0
+    (subst (λ (k : Chain). ShowsOr (first_refusal (others k)) (fields k) c.go_on.result c.go_on.new.reply) given.1 c.go_on.ensures.shows)
+
+pub returns-in-None-clause-shows : goal.returns-in-None-clause-shows
+returns-in-None-clause-shows c =
+    let bytes = hex_value c.args.chain.now in
+    let clear = opened (bench_of c.args.lease.now) c.args.key.now in
+    chain_refused bytes (segment_questions (length c.args.text.now / 2)) (no_chain c.chain_in.result bytes c.in-None.is c.chain_in.ensures.judges)

@@ -1,0 +1,223 @@
+//! CSNBENC and CSNBDEC over a text in segments.
+ghost use Rattle.std.specs.Prelude.{◌≡◌, ◌≤◌, ◌/◌, ◌∷◌, [], IsTrue, MatchOption, Some, None, IfSome, codes, length, List, Option};
+ghost use Rattle.cca_vectors.specs.Checks.{first_failing};
+ghost use Rattle.des_core.specs.Texts.{text_in};
+ghost use Rattle.key_cells.specs.Bench.{Bench};
+ghost use Rattle.key_cells.specs.Lease.{bench_of, holding};
+ghost use Rattle.key_records.specs.declared.rows.Row.{Row};
+ghost use Rattle.master_registers.specs.declared.registers.Registers.{Registers};
+ghost use Rattle.script_buffers.specs.Replies.{Hex, written};
+ghost use Rattle.text_segments.specs.Chains.{chain_bytes, chain_checks, chain_of, first_chain};
+ghost use Rattle.text_segments.specs.Segments.{IsCipher};
+ghost use Rattle.verb_rules.specs.Keys.{HasHalves, opened};
+ghost use Rattle.verb_script.specs.Grammar.{accepts, hex_text, is_hex};
+ghost use Rattle.verb_script.specs.Values.{hex_value};
+ghost use Rattle.cca_machine.specs.Act.{last_text_fields, segment_fields};
+ghost use Rattle.cca_machine.specs.Choices.{pad_named};
+ghost use Rattle.cca_machine.specs.Verdict.{first_refusal, chain_questions, last_text_questions, segment_questions};
+ghost use Rattle.cca_requests.specs.Deciding.{ShowsOr, IsReady, with_places};
+
+use crate::effects::Effect;
+use crate::verbs::texts::{block_of, judge_digits, pad_of, put_text, show_text};
+use cipher_verbs::Pad;
+use key_cells::Lease;
+use text_segments::{Chain, Mode, last_text, segment};
+use verb_rules::{Judged, Rule, TextUse};
+use verb_script::{ReplyBuffer, decode};
+
+/// The 16 bytes that 32 digits spell.
+fn bytes_of(digits: &[u8]) -> [u8; 16]
+    requires { IsTrue (is_hex 32 digits.now) }
+    ensures { result ≡ hex_value digits.now }
+{
+    let mut bytes = [0; 16];
+    decode(digits, &mut bytes);
+    bytes
+}
+
+/// The chain that 32 digits spell. None by rule 36.
+pub(super) fn chain_in(digits: &[u8]) -> Option<Chain>
+    requires { IsTrue (is_hex 32 digits.now) }
+    ensures judges { MatchOption result
+        (first_failing (chain_checks (hex_value digits.now)) ≡ Some 36)
+        (λ chain. first_failing (chain_checks (hex_value digits.now)) ≡ None) }
+    ensures chain { IfSome result (λ chain. chain ≡ chain_of (hex_value digits.now)) }
+{
+    Chain::read(&bytes_of(digits))
+}
+
+/// Shows the text of the workbench, and the chain after it.
+fn show_segment(lease: &Lease, chain: &Chain, reply: &mut ReplyBuffer)
+    requires room { (bench_of lease.now).text.size ≤ 4096 }
+    requires empty { reply.old ≡ [] }
+    ensures fields { reply.new ≡ written
+        (Hex (codes "text") (text_in lease.now) ∷ Hex (codes "chain") (chain_bytes chain.now) ∷ []) }
+    ensures size { length reply.new ≤ 69000 }
+{
+    reply.ok();
+    reply.hex("text", lease.text());
+    reply.hex("chain", &chain.bytes());
+}
+
+/// Shows the text of a segment that goes on from the chain, and the chain after it.
+fn go_on(
+    mode: Mode,
+    key: &Judged,
+    chain: &Chain,
+    text: &[u8],
+    lease: &mut Lease,
+    reply: &mut ReplyBuffer,
+) -> Effect
+    requires mode { IsCipher mode }
+    requires halves { HasHalves key.now }
+    requires text { IsTrue (accepts hex_text text.now) }
+    requires empty { reply.old ≡ [] }
+    ensures shows { let clear = opened (bench_of lease.old) key.now in
+        ShowsOr (first_refusal (segment_questions (length text.now / 2)))
+        (segment_fields clear mode chain.now (hex_value text.now))
+        result reply.new }
+    ensures ready { (held : Registers) (bench : Bench) (rows : List (Option Row))
+        → IsReady held bench rows result reply.new }
+    ensures places { lease.new ≡ holding lease.old
+        (with_places (bench_of lease.old) (bench_of lease.new)) }
+{
+    if let Err(rule) = judge_digits(TextUse::Segment, text) {
+        return Effect::Refused(rule, "text");
+    }
+    put_text(text, lease);
+    let next = segment(lease, key, mode, chain);
+    show_segment(lease, &next, reply);
+    Effect::Shown
+}
+
+/// Shows the text of the first segment, enciphered or deciphered under the key from `iv`, and the chain after it. A text
+/// that is too long is refused.
+pub(crate) fn first_segment(
+    mode: Mode,
+    key: &Judged,
+    iv: &[u8],
+    text: &[u8],
+    lease: &mut Lease,
+    reply: &mut ReplyBuffer,
+) -> Effect
+    requires mode { IsCipher mode }
+    requires halves { HasHalves key.now }
+    requires iv { IsTrue (is_hex 16 iv.now) }
+    requires text { IsTrue (accepts hex_text text.now) }
+    requires empty { reply.old ≡ [] }
+    ensures shows { let clear = opened (bench_of lease.old) key.now in
+        ShowsOr (first_refusal (segment_questions (length text.now / 2)))
+        (segment_fields clear mode (first_chain (hex_value iv.now)) (hex_value text.now))
+        result reply.new }
+    ensures ready { (held : Registers) (bench : Bench) (rows : List (Option Row))
+        → IsReady held bench rows result reply.new }
+    ensures places { lease.new ≡ holding lease.old
+        (with_places (bench_of lease.old) (bench_of lease.new)) }
+{
+    go_on(mode, key, &Chain::first(block_of(iv)), text, lease, reply)
+}
+
+/// Shows the text of a further segment, and the chain after it. A chain that no segment gives is refused, and a text that
+/// is too long.
+pub(crate) fn middle_segment(
+    mode: Mode,
+    key: &Judged,
+    chain: &[u8],
+    text: &[u8],
+    lease: &mut Lease,
+    reply: &mut ReplyBuffer,
+) -> Effect
+    requires mode { IsCipher mode }
+    requires halves { HasHalves key.now }
+    requires chain { IsTrue (is_hex 32 chain.now) }
+    requires text { IsTrue (accepts hex_text text.now) }
+    requires empty { reply.old ≡ [] }
+    ensures shows { let clear = opened (bench_of lease.old) key.now in
+        let before = hex_value chain.now in
+        ShowsOr (first_refusal
+        (chain_questions before (segment_questions (length text.now / 2))))
+        (segment_fields clear mode (chain_of before) (hex_value text.now))
+        result reply.new }
+    ensures ready { (held : Registers) (bench : Bench) (rows : List (Option Row))
+        → IsReady held bench rows result reply.new }
+    ensures places { lease.new ≡ holding lease.old
+        (with_places (bench_of lease.old) (bench_of lease.new)) }
+{
+    match chain_in(chain) {
+        Some(before) => go_on(mode, key, &before, text, lease, reply),
+        None => Effect::Refused(Rule::Chain, "chain"),
+    }
+}
+
+/// Shows the text of the last segment, which goes on from the chain.
+fn end(
+    mode: Mode,
+    key: &Judged,
+    chain: &Chain,
+    padding: Pad,
+    text: &[u8],
+    lease: &mut Lease,
+    reply: &mut ReplyBuffer,
+) -> Effect
+    requires mode { IsCipher mode }
+    requires halves { HasHalves key.now }
+    requires text { IsTrue (accepts hex_text text.now) }
+    requires empty { reply.old ≡ [] }
+    ensures shows { let clear = opened (bench_of lease.old) key.now in
+        ShowsOr (first_refusal (last_text_questions mode clear chain.now padding
+        (length text.now / 2) (hex_value text.now)))
+        (last_text_fields clear mode chain.now padding (hex_value text.now))
+        result reply.new }
+    ensures ready { (held : Registers) (bench : Bench) (rows : List (Option Row))
+        → IsReady held bench rows result reply.new }
+    ensures places { lease.new ≡ holding lease.old
+        (with_places (bench_of lease.old) (bench_of lease.new)) }
+{
+    let carried = chain.carried.bytes().len();
+    if let Err(rule) = judge_digits(mode.use_of_last(padding, carried), text) {
+        return Effect::Refused(rule, "text");
+    }
+    put_text(text, lease);
+    match last_text(lease, key, mode, chain, padding) {
+        Ok(()) => {
+            show_text(lease, reply);
+            Effect::Shown
+        }
+        Err(rule) => Effect::Refused(rule, "text"),
+    }
+}
+
+/// Shows the text of the last segment. A chain that no segment gives is refused, a text of a wrong length, and a
+/// deciphered text whose last byte is no count of padding.
+pub(crate) fn last_segment(
+    mode: Mode,
+    key: &Judged,
+    chain: &[u8],
+    pad: &[u8],
+    text: &[u8],
+    lease: &mut Lease,
+    reply: &mut ReplyBuffer,
+) -> Effect
+    requires mode { IsCipher mode }
+    requires halves { HasHalves key.now }
+    requires chain { IsTrue (is_hex 32 chain.now) }
+    requires text { IsTrue (accepts hex_text text.now) }
+    requires empty { reply.old ≡ [] }
+    ensures shows { let clear = opened (bench_of lease.old) key.now in
+        let before = hex_value chain.now in
+        let padding = pad_named pad.now in
+        ShowsOr (first_refusal (chain_questions before
+        (last_text_questions mode clear (chain_of before) padding (length text.now / 2)
+        (hex_value text.now))))
+        (last_text_fields clear mode (chain_of before) padding (hex_value text.now))
+        result reply.new }
+    ensures ready { (held : Registers) (bench : Bench) (rows : List (Option Row))
+        → IsReady held bench rows result reply.new }
+    ensures places { lease.new ≡ holding lease.old
+        (with_places (bench_of lease.old) (bench_of lease.new)) }
+{
+    match chain_in(chain) {
+        Some(before) => end(mode, key, &before, pad_of(pad), text, lease, reply),
+        None => Effect::Refused(Rule::Chain, "chain"),
+    }
+}
