@@ -4,7 +4,7 @@ use Rattle.std.specs.Prelude.{◌⊎◌}
 use Rattle.key_tokens.specs.Denotes.{Denoted}
 use Rattle.reencipher.specs.Further.{further}
 use Rattle.script_buffers.specs.Replies.{Field}
-use Rattle.verb_script.specs.Grammar.{Request, RequestName, csnbktp, csnbenc, csnbdec, csnbmgn, csnbmvr, csnbkyt, csnbcki, csnbrng, csnbkgn_op, csnbkgn_pair, csnbkgn_out, csnbkim, csnbkex, csnbpex, csnbktc, csnbkrc, csnbkrw, csnbkrr, csnbkrd, csnbkrl, csnbmkp_part, csnbmkp_clear, csnbmkp_set, csuaaci_define, csuaaci_remove, reencipher, Spells}
+use Rattle.verb_script.specs.Grammar.{Request, RequestName, csnbktp, csnbenc, csnbdec, csnbmgn, csnbmvr, csnbenc_first, csnbenc_middle, csnbenc_last, csnbdec_first, csnbdec_middle, csnbdec_last, csnbmgn_first, csnbmgn_middle, csnbmgn_last, csnbmvr_first, csnbmvr_middle, csnbmvr_last, csnbkyt, csnbcki, csnbrng, csnbkgn_op, csnbkgn_pair, csnbkgn_out, csnbkpi_first, csnbkpi_middle, csnbkim, csnbkex, csnbktr, csnbpex, csnbktc, csnbkrc, csnbkrw, csnbkrr, csnbkrd, csnbkrl, csnbmkp_part, csnbmkp_clear, csnbmkp_set, csuaaci_define, csuaaci_remove, reencipher, Spells}
 use Rattle.cca_machine.specs.State.{State}
 use Rattle.cca_machine.specs.Verdict.{Refusal, verdict}
 use Rattle.cca_machine.specs.Act.{effect, state_between, delivered_with, or_act, performed}
@@ -27,14 +27,29 @@ by_name s drawn csnbenc r cell = inl refl
 by_name s drawn csnbdec r cell = inl refl
 by_name s drawn csnbmgn r cell = inl refl
 by_name s drawn csnbmvr r cell = inl refl
+by_name s drawn csnbenc_first r cell = inl refl
+by_name s drawn csnbenc_middle r cell = inl refl
+by_name s drawn csnbenc_last r cell = inl refl
+by_name s drawn csnbdec_first r cell = inl refl
+by_name s drawn csnbdec_middle r cell = inl refl
+by_name s drawn csnbdec_last r cell = inl refl
+by_name s drawn csnbmgn_first r cell = inl refl
+by_name s drawn csnbmgn_middle r cell = inl refl
+by_name s drawn csnbmgn_last r cell = inl refl
+by_name s drawn csnbmvr_first r cell = inl refl
+by_name s drawn csnbmvr_middle r cell = inl refl
+by_name s drawn csnbmvr_last r cell = inl refl
 by_name s drawn csnbkyt r cell = inl refl
 by_name s drawn csnbcki r cell = inl (delivered_between s _ _ _ _ cell)
 by_name s drawn csnbrng r cell = inl refl
 by_name s drawn csnbkgn_op r cell = inl (delivered_between s _ _ _ _ cell)
 by_name s drawn csnbkgn_pair r cell = inl (delivered_between s _ _ _ _ cell)
 by_name s drawn csnbkgn_out r cell = inl refl
+by_name s drawn csnbkpi_first r cell = inl (delivered_between s _ _ _ _ cell)
+by_name s drawn csnbkpi_middle r cell = inl (delivered_between s _ _ _ _ cell)
 by_name s drawn csnbkim r cell = inl (delivered_between s _ _ _ _ cell)
 by_name s drawn csnbkex r cell = inl refl
+by_name s drawn csnbktr r cell = inl refl
 by_name s drawn csnbpex r cell = inl (delivered_between s _ _ _ _ cell)
 by_name s drawn csnbktc r cell = inl refl
 by_name s drawn csnbkrc r cell = inl refl

@@ -13,7 +13,8 @@ use Rattle.line_service.specs.Machine.{Outcome}
 use Rattle.line_service.specs.Serving.{session, Runs}
 use Rattle.cca_machine.specs.State.{State}
 use Rattle.cca_machine.specs.Lines.{line_outcome}
-use Rattle.cca_tool.specs.Coprocessor.{cca, line_step}
+use Rattle.cca_machine.specs.Session.{line_step}
+use Rattle.cca_tool.specs.Coprocessor.{cca}
 use Rattle.cca_tool.specs.Demo.{demo_lines, demo_text, joined, for_each, key_set, key_made, key_used, key_tested, key_deleted, first_part, second_part, four_digits, four_hex_digits}
 
 -- ---- lines and their text

@@ -1,14 +1,18 @@
 -- What the lines of a demo come to, from what a run of its text comes to.
-use Rattle.std.proofs.Common.{◌≡◌, ◌⊎◌, ℕ, ◌+◌, ◌<◌, ◌≤◌, List, [], ◌++◌, length, Option, None, Some, Result, Ok, Err, sym, ap, ◌∙◌, subst, inl, inr, arith}
+use Rattle.std.specs.Prelude.{IsOk}
+use Rattle.std.proofs.Common.{◌≡◌, refl, ◌⊎◌, ℕ, ◌+◌, ◌<◌, ◌≤◌, List, [], ◌++◌, length, Option, None, Some, Result, Ok, Err, sym, ap, ◌∙◌, subst, inl, inr, arith}
 use Rattle.slot_disk.specs.Faults.{Rose}
 use Rattle.slot_disk.specs.Medium.{Medium, Told, EachImage}
 use Rattle.slot_disk.specs.WhereTold.{WhereTold}
 use Rattle.slot_disk.proofs.Media.{told_from, told_at}
 use Rattle.script_buffers.specs.Lines.{lines, EndsLine}
 use Rattle.script_buffers.specs.Reading.{input_limit}
-use Rattle.line_service.specs.Machine.{world}
-use Rattle.line_service.specs.Sending.{GotPart}
-use Rattle.line_service.specs.Serving.{Led, AllAnswered, LineLost, Unopened, IsOnTheWay}
+use Rattle.line_service.specs.Devices.{Span, DiskLeft, TellsFault, DamageTold, Devices, devices, Outside, outside, OutsideLeft}
+use Rattle.line_service.specs.Machine.{World, world}
+use Rattle.line_service.specs.Running.{ServesSound}
+use Rattle.line_service.specs.Sending.{GotPart, Grows}
+use Rattle.line_service.specs.Serving.{Led, AllAnswered, LineLost, Unopened, IsOnTheWay, AtRest}
+use Rattle.line_service.specs.declared.stops.Device.{Device}
 use Rattle.line_service.specs.declared.stops.Device.TheVariants.{Module, Store}
 use Rattle.line_service.specs.declared.stops.Stop.{Stop}
 use Rattle.line_service.specs.declared.stops.Stop.TheVariants.{ReadFault, WriteFault, EntropyFault, ModuleFault, StoreFault, Damaged, InputLimit}
@@ -17,6 +21,7 @@ use Rattle.cca_tool.specs.Coprocessor.{cca, IsBrokenModule, IsBrokenStore}
 use Rattle.cca_tool.specs.Counting.{counted, counted_summary}
 use Rattle.cca_tool.specs.Demo.{demo_lines, demo_text, summary, summary_text, are_ok, are_refused}
 use Rattle.cca_tool.specs.DemoRun.{SummarySent, SummaryCut, DemoLost}
+use Rattle.cca_tool.specs.Running.{DemoLines, DemoLeft}
 use Rattle.cca_tool.specs.Statuses.{status_of_lem}
 use Rattle.cca_tool.specs.declared.command.Status.{Status}
 use Rattle.cca_tool.specs.declared.command.Status.TheVariants as status
@@ -25,7 +30,8 @@ use Rattle.cca_tool.proofs.DemoLemmas.{lines-demo_text, demo-short, replies-end}
 
 -- a count that is always 0 doesn't rise
 pub never_rose : Rose 0 0 → ⊥
-never_rose h = omega (arith, h)
+never_rose (inl more) = omega (arith, more)
+never_rose (inr ends) = cc ends
 
 pub never_usage : (r : Result (Unit {0}) Stop) → status_of_lem r ≡ status.Usage → ⊥
 never_usage (Ok done) h = cc h
@@ -69,6 +75,9 @@ module _ (n : ℕ) (text : List ℕ) (is : text ≡ demo_text n) where
       → EachImage m0 m1 (λ c. m0.images c ⊎ IsOnTheWay cca s None (demo_text n) (λ t. Of t c))
   moments_of s Of m0 m1 each =
       subst (λ (x : List ℕ). EachImage m0 m1 (λ c. m0.images c ⊎ IsOnTheWay cca s None x (λ t. Of t c))) is each
+
+  pub at_rest_of : (s : State) (old new : World) → AtRest cca s None text old new → AtRest cca s None (demo_text n) old new
+  at_rest_of s old new rests = subst (λ (x : List ℕ). AtRest cca s None x old new) is rests
 
   pub lost_of : (stop : Stop) (s : State) (m0 m1 d0 d1 : Medium) (rest : List ℕ) (before now : Option (List ℕ))
       → LineLost cca stop s None (world m1 d1 None) text before now ⊎ Unopened (world m0 d0 None) (world m1 d1 None) text rest before now
@@ -117,3 +126,84 @@ module _ (n : ℕ) (text : List ℕ) (is : text ≡ demo_text n) where
       led = led;
       got = subst (λ (l : List ℕ). WhereTold before now (λ x y. GotPart x y l)) (line_is ∙ told) got;
     }
+
+-- ---- in records
+
+-- the same sink and disks beside a source and a random source
+abbrev with_random : Outside → Option (List ℕ) → ℕ → Option (List ℕ) → ℕ → Outside
+with_random o input i_count random e_count =
+    outside input i_count o.output o.sink_faults
+    (devices o.devices.world.module_ o.devices.module_faults o.devices.world.store o.devices.store_faults random e_count)
+
+-- what is left of sink and disks, beside a source and a random source that weren't called
+pub demo_outside : (out : Status) (r : Result (Unit {0}) Stop) → out ≡ status_of_lem r → (out ≡ status.ReadFault → ⊥) → (out ≡ status.EntropyFault → ⊥)
+    → (o : Span Outside) (input : Option (List ℕ)) (i_count : ℕ) (random : Option (List ℕ)) (e_count : ℕ) → DemoLeft r o
+    → OutsideLeft cca r (record { old = with_random o.old input i_count random e_count; new = with_random o.new input i_count random e_count })
+demo_outside out r is unread undrawn o input i_count random e_count left = record {
+  devices_left = record {
+    module_left = left.module_left;
+    store_left = left.store_left;
+    entropy_left = record { later = omega arith; fault = λ h. absurd (undrawn (is ∙ ap status_of_lem h)) };
+    draws = λ h. tt;
+  };
+  source_left = record { later = omega arith; fault = λ h. absurd (unread (is ∙ ap status_of_lem h)) };
+  sink_left = left.sink_left;
+  sink_grows = left.sink_grows;
+}
+
+pub sound_at : {d : Span Devices} (r q : Result (Unit {0}) Stop) → r ≡ q → ServesSound cca r d → ServesSound cca q d
+sound_at {d} r q is sound = subst (λ (u : Result (Unit {0}) Stop). ServesSound cca u d) is sound
+
+pub damage_at : {d : Span Devices} (r q : Result (Unit {0}) Stop) → r ≡ q → DamageTold cca r d → DamageTold cca q d
+damage_at {d} r q is damage = subst (λ (u : Result (Unit {0}) Stop). DamageTold cca u d) is damage
+
+pub demo_lines_at : {o : Span Outside} (n k : ℕ) (s : State) (out : Status) → n ≡ k → DemoLines n s out o → DemoLines k s out o
+demo_lines_at {o} n k s out is lines = subst (λ (x : ℕ). DemoLines x s out o) is lines
+
+abbrev ok_of : Unit {0} → Result (Unit {0}) Stop
+ok_of done = Ok done
+
+-- all lines were served, and what came of the summary
+module _ (done : Unit {0}) (q : Result (Unit {0}) Stop) (undamaged : (device : Device) (cell : ℕ) → q ≡ Err (Damaged device cell) → ⊥)
+    (unfailed : (q ≡ Err ModuleFault → ⊥) × (q ≡ Err StoreFault → ⊥)) where
+  pub summary_sound : {d : Span Devices} → ServesSound cca (Ok done) d → ServesSound cca q d
+  summary_sound sound = record { sound = λ h. sound.sound (inl refl); settled = λ h. sound.settled (inl refl) }
+
+  pub summary_damage : {d : Span Devices} → DamageTold cca (Ok done) d → DamageTold cca q d
+  summary_damage {d} damage = record {
+    module_damaged = λ cell h. absurd (undamaged Module cell h);
+    store_damaged = λ cell h. absurd (undamaged Store cell h);
+    module_judged = λ still. told_from d.old.world.module_.content _ (λ c told cell broken.
+        absurd (no_stop done (Damaged Module cell)
+        (told_at d.old.world.module_.content (λ image. (n : ℕ) → IsBrokenModule n image → ◌≡◌ {A = Result (Unit {0}) Stop} (Ok done) (Err (Damaged Module n))) c told (damage.module_judged still) cell broken)));
+    store_judged = λ still_m still_d. told_from d.old.world.module_.content _ (λ c is_c. told_from d.old.world.store.content _ (λ e is_e cell broken.
+        let both = told_at d.old.world.module_.content (λ x. Told d.old.world.store (λ y. (n : ℕ) → IsBrokenStore n x y → ◌≡◌ {A = Result (Unit {0}) Stop} (Ok done) (Err (Damaged Store n)))) c is_c (damage.store_judged still_m still_d) in
+        absurd (no_stop done (Damaged Store cell)
+        (told_at d.old.world.store.content (λ y. (n : ℕ) → IsBrokenStore n c y → ◌≡◌ {A = Result (Unit {0}) Stop} (Ok done) (Err (Damaged Store n))) e is_e both cell broken))));
+    cells = λ device cell h. absurd (undamaged device cell h);
+  }
+
+  disk_after : (m0 m1 : Medium) (before now : ℕ) (stop : Stop) → (q ≡ Err stop → ⊥) → DiskLeft m0 m1 before now (IsOk (ok_of done)) (ok_of done ≡ Err stop)
+      → DiskLeft m0 m1 before now (IsOk q) (q ≡ Err stop)
+  disk_after m0 m1 before now stop never left = record {
+    size = left.size;
+    still = left.still;
+    settled = λ ok. left.settled refl;
+    later = left.later;
+    fault = λ h. absurd (never h);
+  }
+
+  pub summary_left : (m0 m1 d0 d1 : Medium) (m_before m_now d_before d_now sink_before sink_now : ℕ) (p q' : Option (List ℕ))
+      → DiskLeft m0 m1 m_before m_now (IsOk (ok_of done)) (ok_of done ≡ Err ModuleFault)
+      → DiskLeft d0 d1 d_before d_now (IsOk (ok_of done)) (ok_of done ≡ Err StoreFault)
+      → TellsFault sink_before sink_now (q ≡ Err WriteFault) → WhereTold p q' Grows
+      → DemoLeft q (record {
+        old = outside None 0 p sink_before (devices m0 m_before d0 d_before None 0);
+        new = outside None 0 q' sink_now (devices m1 m_now d1 d_now None 0);
+      })
+  summary_left m0 m1 d0 d1 m_before m_now d_before d_now sink_before sink_now p q' on_module on_store told grows = record {
+    sink_left = told;
+    sink_grows = grows;
+    module_left = disk_after m0 m1 m_before m_now ModuleFault unfailed.0 on_module;
+    store_left = disk_after d0 d1 d_before d_now StoreFault unfailed.1 on_store;
+  }

@@ -1,7 +1,8 @@
 -- What comes of one line.
 use Rattle.std.proofs.Common.{◌≡◌, ℕ, ◌<◌, ◌≤◌, List, [], length, take, Option, None, Some, Result, Ok, Err, codes, refl, sym, ap, ◌∙◌, subst, inl, inr, ⊎_elim, arith}
 use Rattle.std.specs.Prelude.{◌⊎◌, OnOk, IfErr, IsTrue}
-use Rattle.slot_disk.specs.Medium.{Medium, IsSettled, From, EachImage}
+use Rattle.slot_disk.specs.Medium.{Medium, IsSettled, From, Becomes, EachImage}
+use Rattle.slot_disk.specs.SpareBytes.{Turned}
 use Rattle.slot_disk.proofs.Media.{each_weaker, image_now}
 use Rattle.script_buffers.specs.Reading.{line_limit}
 use Rattle.script_buffers.specs.Replies.{Refused, spelled}
@@ -14,7 +15,7 @@ use Rattle.cca_machine.specs.Act.{Cells, NoCell, Outcome, draws, or_act, perform
 use Rattle.cca_machine.specs.Lines.{LineOutcome, drawn_where, taken_by, line_outcome}
 use Rattle.cca_machine.proofs.LineLaws.{line-no_request, line-too_long, line-request, line-drawn}
 use Rattle.cca_requests.specs.Serving.{Tables, Stands as StandsFor, Serves as Performs, HasDrawn, IsDone, IsAround, IsEither, IsFault, SameBut}
-use Rattle.line_service.specs.Answering.{Holds, Stands, Steps, Around, Both, Moves, Stays, Serves, Unwritten}
+use Rattle.line_service.specs.Answering.{Holds, Stands, Steps, Around, Both, Moves, Stays, Serves, Unwritten, WritesWithin, Turns}
 use Rattle.line_service.specs.Machine.{world}
 use Rattle.line_service.specs.Stops.{IsLineStop}
 use Rattle.line_service.specs.declared.stops.Device.TheVariants.{Store}
@@ -157,10 +158,23 @@ module _ (s : State) (line : List ℕ) (r : Request) (short : length line ≤ li
     served found performs (inl random) = inl (moves found performs random)
     served found performs (inr stopped) = inr (stopped.0, stays stopped.1)
 
+    within : Spells r line → Performs s r result reply after (world m0 d0 e0) (world m1 d1 e1) → WritesWithin cca s line (world m0 d0 e0) (world m1 d1 e1)
+    within found performs = record {
+      on_module = each_weaker m0 m1 _ _ performs.carries.module_outside (λ c from. (from.0, from.1, inr (r, performs.drawn, found, from.2)));
+      on_store = each_weaker d0 d1 _ _ performs.carries.store_outside (λ d from. (from.0, from.1, inr (r, performs.drawn, found, from.2)));
+    }
+
+    turns : (u : Result (Unit {0}) Stop) → OnOk u (Becomes (Turned 33) m0 m1) → OnOk u (Becomes (Turned 1024) d0 d1) → OnOk u (Turns cca (world m0 d0 e0) (world m1 d1 e1))
+    turns (Ok done) on_module on_store = record { on_module = on_module; on_store = on_store }
+    turns (Err stop) on_module on_store = tt
+
     pub request_serves : Spells r line → (result ≡ Err StoreFault → IsTrue (needs_store r))
+        → OnOk result (Becomes (Turned 33) m0 m1) → OnOk result (Becomes (Turned 1024) d0 d1)
         → Performs s r result reply after (world m0 d0 e0) (world m1 d1 e1)
         → Serves cca s (remembers after) line result reply (world m0 d0 e0) (world m1 d1 e1)
-    request_serves found names performs = record {
+    request_serves found names module_turned store_turned performs = record {
+      within = within found performs;
+      turns = turns result module_turned store_turned;
       served = served found performs performs.random;
       stops = line_stop result performs.carries.stops found performs.permitted names;
       undrawn = λ h. stays (performs.undrawn h);

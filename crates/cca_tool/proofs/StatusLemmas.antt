@@ -14,6 +14,7 @@ use Rattle.line_service.specs.declared.stops.Stop.{Stop}
 use Rattle.line_service.specs.declared.stops.Stop.TheVariants.{ReadFault, WriteFault, EntropyFault, ModuleFault, StoreFault, Damaged, InputLimit}
 use Rattle.cca_machine.specs.State.{State}
 use Rattle.cca_tool.specs.Coprocessor.{cca, IsBrokenModule, IsBrokenStore}
+use Rattle.cca_tool.specs.Running.{Ended}
 use Rattle.cca_tool.specs.Statuses.{status_of_lem, ServesLines, IsFaultless}
 use Rattle.cca_tool.specs.declared.command.Status.{Status}
 use Rattle.cca_tool.specs.declared.command.Status.TheVariants as status
@@ -109,3 +110,32 @@ prefix_still s random a p = told_same a _ (λ x. prefix_none cca s random x p p 
 pub moments_still : (s : State) (random : Option (List ℕ)) (Of : State → List ℕ → Type 0) (m : Medium) (a : Option (List ℕ))
     → WhereTold a a (λ i r. EachImage m m (λ image. m.images image ⊎ IsOnTheWay cca s random i (λ t. Of t image)))
 moments_still s random Of m a = told_same a _ (λ x. each_weaker m m _ _ (each_still m) (λ c h. inl h))
+
+-- ---- what holds of the outcome of which a status tells
+
+pub ended_as : (P : Result (Unit {0}) Stop → Type 0) (r : Result (Unit {0}) Stop) (outcome : Status) → outcome ≡ status_of_lem r → P r → Ended outcome P
+ended_as P r outcome is p = λ q h. subst P (sym (outcome_is r) ∙ (ap outcome_of (sym is ∙ h) ∙ outcome_is q)) p
+
+never_told : (r : Result (Unit {0}) Stop) → (status.NoMemory ≡ status_of_lem r) ⊎ (status.Usage ≡ status_of_lem r) → ⊥
+never_told (Ok done) (inl h) = cc h
+never_told (Ok done) (inr h) = cc h
+never_told (Err ReadFault) (inl h) = cc h
+never_told (Err ReadFault) (inr h) = cc h
+never_told (Err WriteFault) (inl h) = cc h
+never_told (Err WriteFault) (inr h) = cc h
+never_told (Err EntropyFault) (inl h) = cc h
+never_told (Err EntropyFault) (inr h) = cc h
+never_told (Err ModuleFault) (inl h) = cc h
+never_told (Err ModuleFault) (inr h) = cc h
+never_told (Err StoreFault) (inl h) = cc h
+never_told (Err StoreFault) (inr h) = cc h
+never_told (Err (Damaged device cell)) (inl h) = cc h
+never_told (Err (Damaged device cell)) (inr h) = cc h
+never_told (Err InputLimit) (inl h) = cc h
+never_told (Err InputLimit) (inr h) = cc h
+
+pub no_memory_ended : (P : Result (Unit {0}) Stop → Type 0) → Ended status.NoMemory P
+no_memory_ended P = λ r h. absurd (never_told r (inl h))
+
+pub usage_ended : (P : Result (Unit {0}) Stop → Type 0) → Ended status.Usage P
+usage_ended P = λ r h. absurd (never_told r (inr h))

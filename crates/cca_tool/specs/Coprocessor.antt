@@ -1,11 +1,13 @@
 -- The coprocessor as a machine that answers lines, over a module, a store and random bytes.
 use Rattle.std.specs.Prelude.{⊤, ◌≡◌, ◌⊎◌, ◌≤◌, ◌<◌, ℕ, List, [], Option, None, IsTrue}
-use Rattle.std.proofs.Common.{inl, inr, subst}
+use Rattle.std.proofs.Common.{inl, inr, refl, sym, subst}
 use Rattle.slot_disk.specs.Cells.{body}
+use Rattle.slot_disk.specs.SpareBytes.{SameSpare}
+use Rattle.slot_disk.proofs.SpareLemmas.{same_spare}
 use Rattle.master_registers.specs.Masters.{Masters}
 use Rattle.master_registers.specs.RegisterBody.{StandsForMasters, IsDamaged}
 use Rattle.master_registers.proofs.BodyLaws.{reads_one}
-use Rattle.script_buffers.specs.Replies.{Reply, Refused, Done, spelled}
+use Rattle.script_buffers.specs.Replies.{Reply, Refused, Done}
 use Rattle.verb_rules.specs.Keys.{keys_of}
 use Rattle.verb_script.specs.Grammar.{Request, reencipher, Spells}
 use Rattle.cca_roles.specs.RolesStand.{StandsForRoles, IsFirstDamaged}
@@ -14,13 +16,16 @@ use Rattle.cca_roles.proofs.StandLaws.{stands_undamaged}
 use Rattle.key_records.specs.StoreStands.{StandsForLabels, Agrees, IsFirstDamaged as IsFirstDamagedRecord}
 use Rattle.key_records.proofs.OpeningLaws.{stands_undamaged as labels_undamaged}
 use Rattle.cca_machine.specs.State.{State, IsModuleOf, IsStoreOf, module_size, store_size}
+pub use Rattle.cca_machine.specs.Broken.{IsBrokenModule, IsBrokenStore}
 use Rattle.reencipher.specs.Further.{further}
 use Rattle.cca_machine.specs.Operands.{needs_store}
 use Rattle.cca_machine.specs.Verdict.{verdict}
-use Rattle.cca_machine.specs.Act.{draws}
+use Rattle.cca_machine.specs.Act.{Outcome, Cells, draws, performed}
 use Rattle.cca_machine.specs.Lines.{line_outcome}
-use Rattle.cca_requests.specs.Serving.{Tables}
-use Rattle.line_service.specs.Machine.{Machine, Outcome}
+use Rattle.cca_machine.specs.Session.{line_step}
+use Rattle.cca_requests.specs.Serving.{Tables, SameBut}
+use Rattle.cca_requests.proofs.Serving.{same_but_spare}
+use Rattle.line_service.specs.Machine.{Machine}
 use Rattle.line_service.specs.declared.stops.Device.{Device}
 use Rattle.line_service.specs.declared.stops.Device.TheVariants.{Module, Store}
 use Rattle.line_service.specs.declared.stops.Stop.{Stop}
@@ -59,12 +64,6 @@ pub record IsRenewing (s : State) (line : List ℕ) (t : State) : Type 0 where
   pub within : cells ≤ 1024
   pub state_is : t ≡ record s { labels = further s.labels cells }
 
--- what comes of a line, with its reply in bytes
-abbrev pub line_step : State → List ℕ → List ℕ → Outcome State
-line_step s random line =
-    let o = line_outcome s random line in
-    record { state = o.state; reply = spelled o.reply; random = o.random }
-
 -- The module may fail at a request, the store where an operand is a label and at REENCIPHER, the random source where
 -- random bytes are drawn, and no other device at any line.
 abbrev pub MayFail : Stop → State → List ℕ → Type 0
@@ -75,21 +74,6 @@ MayFail ReadFault s line = ⊥
 MayFail WriteFault s line = ⊥
 MayFail InputLimit s line = ⊥
 MayFail (Damaged device cell) s line = ⊥
-
--- Cell 0 reads as no registers; or it reads as some, and this is the first cell behind it that reads as no role, or as
--- one whose name a lower cell holds.
-abbrev pub IsBrokenModule : ℕ → List ℕ → Type 0
-IsBrokenModule cell image =
-    ((cell ≡ 0) × IsDamaged image) ⊎ ((IsDamaged image → ⊥) × IsFirstDamaged image cell)
-
--- The module stands for some registers and roles, and this is the first cell of the store that reads as no record
--- under those registers, or as one whose label a lower cell holds.
-pub record IsBrokenStore (cell : ℕ) (c d : List ℕ) : Type 0 where
-  pub registers : Masters
-  pub roles : List (Option Role)
-  pub in_registers : StandsForMasters c registers
-  pub in_roles : StandsForRoles c roles
-  pub first : IsFirstDamagedRecord (keys_of registers) d cell
 
 -- the disk has this cell: the module 33 cells, the store 1,024
 abbrev pub IsCell : Device → ℕ → Type 0
@@ -119,6 +103,24 @@ broken_store_apart cell c d s broken is labels =
     (subst (λ (m : Masters). StandsForLabels (keys_of m) d s.labels) one labels)
     broken.first.within broken.first.damaged
 
+-- At most the cells have changed that a request of the line writes; a line that spells none writes no cell.
+abbrev pub MayWrite : (Outcome → Cells) → State → List ℕ → List ℕ → List ℕ → Type 0
+MayWrite cells_of s line old new =
+    (new ≡ old) ⊎ ((request : Request) × (drawn : List ℕ) × Spells request line
+    × SameBut (cells_of (performed s drawn request)) old new)
+
+abbrev pub ModuleMay : State → List ℕ → List ℕ → List ℕ → Type 0
+ModuleMay = MayWrite (λ o. o.module_cells)
+
+abbrev pub StoreMay : State → List ℕ → List ℕ → List ℕ → Type 0
+StoreMay = MayWrite (λ o. o.store_cells)
+
+pub write_spares : (cells_of : Outcome → Cells) (s : State) (line old new : List ℕ)
+    → MayWrite cells_of s line old new → SameSpare old new
+write_spares cells_of s line old new (inl same) = subst (SameSpare old) (sym same) (same_spare old)
+write_spares cells_of s line old new (inr writes) =
+    same_but_spare (cells_of (performed s writes.1 writes.0)) old new writes.3
+
 abbrev pub cca : Machine
 cca = record {
   State = State;
@@ -136,6 +138,14 @@ cca = record {
   store_apart = broken_store_apart;
   module_size = module_size;
   store_size = store_size;
+  module_cells = 33;
+  store_cells = 1024;
+  ModuleMay = ModuleMay;
+  StoreMay = StoreMay;
+  module_still = λ s line image. inl refl;
+  store_still = λ s line image. inl refl;
+  module_spare = write_spares (λ o. o.module_cells);
+  store_spare = write_spares (λ o. o.store_cells);
 }
 
 -- the memory has the roles of the state, and knows its labels

@@ -5,3 +5,4 @@ pub mod DemoRun
 pub mod Sections
 pub mod Sessions
 pub mod Statuses
+pub mod Running

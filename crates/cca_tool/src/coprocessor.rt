@@ -1,5 +1,5 @@
 //! What answers the lines of the coprocessor.
-ghost use Rattle.std.specs.Prelude.{◌≡◌, ◌≤◌, ℕ, codes, Err, OnOk, IfOk, IfErr};
+ghost use Rattle.std.specs.Prelude.{◌≡◌, ◌≤◌, ℕ, codes, Err, IsOk, OnOk, IfOk, IfErr};
 ghost use Rattle.key_cells.specs.Lease.{bench_of, loan_of};
 ghost use Rattle.slot_disk.specs.Faults.{Rose};
 ghost use Rattle.slot_disk.specs.Medium.{Told, Keeps};
@@ -105,7 +105,8 @@ fn open_module<M: Disk>(
         → result ≡ Err (Stop.Damaged Device.Module cell)) }
     ensures kept { Keeps (M.medium «module».old) (M.medium «module».new) }
     ensures left { DiskLeft (M.medium «module».old) (M.medium «module».new)
-        (M.faults «module».old) (M.faults «module».new) result Stop.ModuleFault }
+        (M.faults «module».old) (M.faults «module».new)
+        (IsOk result) (result ≡ Err Stop.ModuleFault) }
     ensures stops { IfErr result IsModuleStop }
     ensures loan { loan_of lease.new ≡ loan_of lease.old }
 {
@@ -146,7 +147,8 @@ fn open_store<D: Disk>(
         → result ≡ Err (Stop.Damaged Device.Store cell)) }
     ensures kept { Keeps (D.medium store.old) (D.medium store.new) }
     ensures left { DiskLeft (D.medium store.old) (D.medium store.new)
-        (D.faults store.old) (D.faults store.new) result Stop.StoreFault }
+        (D.faults store.old) (D.faults store.new)
+        (IsOk result) (result ≡ Err Stop.StoreFault) }
     ensures stops { IfErr result IsStoreStop }
     ensures loan { loan_of lease.new ≡ loan_of lease.old }
 {

@@ -1,21 +1,15 @@
 //! A demo: lines that are made up are served, and the replies are counted.
-ghost use Rattle.std.specs.Prelude.{◌≡◌, ◌≢◌, ◌⊎◌, ◌++◌, ◌+◌, ◌≤◌, ℕ, [], length, None, IsSome};
+ghost use Rattle.std.specs.Prelude.{◌≡◌, ◌++◌, ◌+◌, ◌≤◌, [], length};
 ghost use Rattle.key_cells.specs.Bench.{blank_bench};
-ghost use Rattle.slot_disk.specs.Faults.{Rose, HasCause};
-ghost use Rattle.slot_disk.specs.Medium.{Told, IsSettled, EachImage, Keeps};
-ghost use Rattle.slot_disk.specs.WhereTold.{WhereTold};
 ghost use Rattle.script_buffers.specs.Replies.{number_field, reply_limit};
 ghost use Rattle.line_service.specs.Answering.{OnDisks, IsSound};
-ghost use Rattle.line_service.specs.Machine.{world};
-ghost use Rattle.line_service.specs.Sending.{Grows, GotPart};
-ghost use Rattle.line_service.specs.Serving.{IsOnTheWay};
-ghost use Rattle.cca_machine.specs.State.{State, IsModuleOf, IsStoreOf, module_size, store_size};
-ghost use Rattle.cca_tool.specs.Coprocessor.{cca, IsBrokenModule, IsBrokenStore, IsCell};
-ghost use Rattle.cca_tool.specs.Demo.{demo_lines, demo_text};
+ghost use Rattle.line_service.specs.Devices.{HaveSizes, DamageTold};
+ghost use Rattle.line_service.specs.Running.{ServesSound};
+ghost use Rattle.cca_machine.specs.State.{State, module_size, store_size};
+ghost use Rattle.cca_tool.specs.Coprocessor.{cca};
+ghost use Rattle.cca_tool.specs.Demo.{demo_lines};
 ghost use Rattle.cca_tool.specs.Counting.{counted_summary};
-ghost use Rattle.cca_tool.specs.DemoRun.{SummarySent, SummaryCut, DemoLost};
-ghost use Rattle.cca_tool.specs.Statuses.{ServesLines};
-ghost use Rattle.line_service.specs.declared.stops.Device.{Device as AnyDevice};
+ghost use Rattle.cca_tool.specs.Running.{Ended, DisksUncalled, DemoLines, DemoAnswers, DemoUntouched, DemoLeft};
 
 use crate::command::{Status, status_of};
 use crate::demo_text::DemoText;
@@ -24,7 +18,7 @@ use crate::tally::Tally;
 use crate::unused::Unused;
 use itoa::Buffer;
 use key_cells::Workbench;
-use line_service::{Device, Stop, send};
+use line_service::{Shown, ShownOutside, send};
 use slot_disk::{Disk, Failed, Sink};
 use std::alloc::Global;
 use verb_script::ReplyBuffer;
@@ -41,85 +35,25 @@ pub(crate) fn serve_demo<K: Sink, M: Disk, D: Disk>(
 ) -> Status
     requires number { (1 ≤ number) × (number ≤ 1000) }
     requires blank { bench.old ≡ blank_bench }
-    requires module_size { (M.medium «module».old).size ≡ module_size }
-    requires store_size { (D.medium store.old).size ≡ store_size }
+    requires disks { HaveSizes module_size store_size
+        (⟦<(M, D) as Shown>⟧.shown («module».old, store.old)) }
 
-    ensures no_sink { result ≢ Status.Done → result ≢ Status.WriteFault → sink.new ≡ sink.old }
-    ensures no_module { result ≡ Status.NoMemory → «module».new ≡ «module».old }
-    ensures no_store { result ≡ Status.NoMemory → store.new ≡ store.old }
-    ensures answers { (result ≢ Status.Usage) × (result ≢ Status.ReadFault)
-        × (result ≢ Status.InputLimit) × (result ≢ Status.EntropyFault) }
+    ensures uncalled { result ≡ Status.NoMemory
+        → DisksUncalled «module».old «module».new store.old store.new }
+    ensures lines { (s : State) → OnDisks cca s (M.medium «module».old) (D.medium store.old)
+        → DemoLines number s result (⟦<(K, M, D) as ShownOutside>⟧.between
+        (sink.old, «module».old, store.old) (sink.new, «module».new, store.new)) }
+    ensures answers { DemoAnswers result sink.old sink.new }
 
-    ensures done { result ≡ Status.Done → (s : State)
-        → OnDisks cca s (M.medium «module».old) (D.medium store.old)
-        → SummarySent number s (world (M.medium «module».new) (D.medium store.new) None)
-        (K.held sink.old) (K.held sink.new) }
-    ensures cut { result ≡ Status.WriteFault → (s : State)
-        → OnDisks cca s (M.medium «module».old) (D.medium store.old)
-        → SummaryCut number s (world (M.medium «module».new) (D.medium store.new) None)
-        (K.held sink.old) (K.held sink.new) }
-    ensures lost { result ≡ Status.ModuleFault → (s : State)
-        → OnDisks cca s (M.medium «module».old) (D.medium store.old)
-        → DemoLost Stop.ModuleFault number s
-        (world (M.medium «module».old) (D.medium store.old) None)
-        (world (M.medium «module».new) (D.medium store.new) None) }
-    ensures store_lost { result ≡ Status.StoreFault → (s : State)
-        → OnDisks cca s (M.medium «module».old) (D.medium store.old)
-        → DemoLost Stop.StoreFault number s
-        (world (M.medium «module».old) (D.medium store.old) None)
-        (world (M.medium «module».new) (D.medium store.new) None) }
-    ensures moments { (s : State) → OnDisks cca s (M.medium «module».old) (D.medium store.old)
-        → EachImage (M.medium «module».old) (M.medium «module».new)
-        (λ image. (M.medium «module».old).images image
-        ⊎ IsOnTheWay cca s None (demo_text number) (λ t. IsModuleOf t image)) }
-    ensures store_moments { (s : State) → OnDisks cca s (M.medium «module».old) (D.medium store.old)
-        → EachImage (D.medium store.old) (D.medium store.new)
-        (λ image. (D.medium store.old).images image
-        ⊎ IsOnTheWay cca s None (demo_text number) (λ t. IsStoreOf t image)) }
-    ensures complete { (s : State) → OnDisks cca s (M.medium «module».old) (D.medium store.old)
-        → (Rose (K.faults sink.old) (K.faults sink.new) → ⊥)
-        → (Rose (M.faults «module».old) (M.faults «module».new) → ⊥)
-        → (Rose (D.faults store.old) (D.faults store.new) → ⊥)
-        → (result ≡ Status.Done) ⊎ (result ≡ Status.NoMemory) }
-    ensures sink_grows { WhereTold (K.held sink.old) (K.held sink.new) Grows }
-
-    ensures sound { ServesLines result → IsSound cca (M.medium «module».old) (D.medium store.old) }
-    ensures settled { ServesLines result → IsSettled (M.medium «module».new) }
-    ensures store_settled { ServesLines result → IsSettled (D.medium store.new) }
-    ensures unsound_sink { (IsSound cca (M.medium «module».old) (D.medium store.old) → ⊥)
-        → sink.new ≡ sink.old }
-    ensures unsound_module { (IsSound cca (M.medium «module».old) (D.medium store.old) → ⊥)
-        → Keeps (M.medium «module».old) (M.medium «module».new) }
-    ensures unsound_store { (IsSound cca (M.medium «module».old) (D.medium store.old) → ⊥)
-        → Keeps (D.medium store.old) (D.medium store.new) }
-
-    ensures damaged { (cell : ℕ) → result ≡ Status.Damaged Device.Module cell
-        → Told (M.medium «module».old) (IsBrokenModule cell) }
-    ensures store_damaged { (cell : ℕ) → result ≡ Status.Damaged Device.Store cell
-        → Told (M.medium «module».old) (λ c. Told (D.medium store.old) (IsBrokenStore cell c)) }
-    ensures judged { (Rose (M.faults «module».old) (M.faults «module».new) → ⊥)
-        → Told (M.medium «module».old) (λ c. (cell : ℕ) → IsBrokenModule cell c
-        → (result ≡ Status.Damaged Device.Module cell) ⊎ (result ≡ Status.NoMemory)) }
-    ensures store_judged { (Rose (M.faults «module».old) (M.faults «module».new) → ⊥)
-        → (Rose (D.faults store.old) (D.faults store.new) → ⊥)
-        → Told (M.medium «module».old) (λ c. Told (D.medium store.old) (λ d. (cell : ℕ)
-        → IsBrokenStore cell c d
-        → (result ≡ Status.Damaged Device.Store cell) ⊎ (result ≡ Status.NoMemory))) }
-    ensures cell { (device : AnyDevice) (cell : ℕ) → result ≡ Status.Damaged device cell
-        → IsCell device cell }
-
-    ensures write_fault { result ≡ Status.WriteFault
-        → Rose (K.faults sink.old) (K.faults sink.new) }
-    ensures module_fault { result ≡ Status.ModuleFault
-        → Rose (M.faults «module».old) (M.faults «module».new) }
-    ensures store_fault { result ≡ Status.StoreFault
-        → Rose (D.faults store.old) (D.faults store.new) }
-    ensures size { (M.medium «module».new).size ≡ (M.medium «module».old).size }
-    ensures store_size { (D.medium store.new).size ≡ (D.medium store.old).size }
-    ensures still { IsSome (M.medium «module».old).content
-        → IsSome (M.medium «module».new).content }
-    ensures store_still { IsSome (D.medium store.old).content
-        → IsSome (D.medium store.new).content }
+    ensures sound { Ended result (λ outcome. ServesSound cca outcome (⟦<(M, D) as Shown>⟧.between
+        («module».old, store.old) («module».new, store.new))) }
+    ensures unsound { (IsSound cca (M.medium «module».old) (D.medium store.old) → ⊥)
+        → DemoUntouched sink.old sink.new
+        (⟦<(M, D) as Shown>⟧.between («module».old, store.old) («module».new, store.new)) }
+    ensures damage { Ended result (λ outcome. DamageTold cca outcome (⟦<(M, D) as Shown>⟧.between
+        («module».old, store.old) («module».new, store.new))) }
+    ensures left { Ended result (λ outcome. DemoLeft outcome (⟦<(K, M, D) as ShownOutside>⟧.between
+        (sink.old, «module».old, store.old) (sink.new, «module».new, store.new))) }
     ensures bench { bench.new ≡ blank_bench }
 {
     let Ok(mut session) = Session::new(alloc) else {

@@ -41,4 +41,4 @@ returns-in-Err-Damaged-open_roles-clause-judged g c = λ still.
     judged_role (g.M.Disk.medium c.args.module.now) m1 (masters_in c.in-Ok.held (bench_of c.load.new.lease)) _
     (c.load.ensures.keeps.content ∙ c.settle.ensures.content) c.in-Ok.ensures.stands
     (named_cell Registers Module role.Damaged same_role IsFirstDamaged c.open_roles.result _ (here.is ∙ ap Err (here.field-0-is ∙ ap role.Damaged (sym here.cell-is))) m1
-    (c.open_roles.ensures.exact (λ rose. still (rose_wider _ _ _ _ (omega (arith, c.settle.ensures.cause.later, c.load.ensures.cause.later)) rose (omega arith)))))
+    (c.open_roles.ensures.exact (λ rose. still (rose_wider _ _ _ _ (omega (arith, c.settle.ensures.cause.later, c.load.ensures.cause.later)) c.open_roles.ensures.cause.later (omega arith) rose))))

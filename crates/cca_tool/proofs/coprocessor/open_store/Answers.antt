@@ -1,5 +1,5 @@
 -- A damaged cell is the one that is named, and a store that stands for labels has none.
-use Rattle.std.proofs.Common.{◌∙◌, ℕ, Err, ap, subst, arith}
+use Rattle.std.proofs.Common.{◌∙◌, ℕ, Err, IsSome, sym, ap, subst, arith, rules}
 use Rattle.slot_disk.specs.Medium.{Told}
 use Rattle.slot_disk.proofs.WhereToldLemmas.{rose_wider}
 use Rattle.key_cells.specs.Lease.{bench_of}
@@ -33,4 +33,13 @@ returns-in-Err-Damaged-clause-judged g c = λ still.
     let here = c.in-Err-Damaged in
     told_before (g.D.Disk.medium c.args.store.now) d1 _ _ c.settle.ensures.content (λ image each. each)
     (named_cell (Unit {0}) Store record_fault.Damaged same_record (λ image n. IsFirstDamaged keys image n) c.open_records.result here.cell (here.is ∙ ap Err here.field-0-is) d1
-    (c.open_records.ensures.exact (λ rose. still (rose_wider _ _ _ _ (omega (arith, c.settle.ensures.cause.later)) rose (omega arith)))))
+    (c.open_records.ensures.exact (λ rose. still (rose_wider _ _ _ _ (omega (arith, c.settle.ensures.cause.later)) c.open_records.ensures.cause.later (omega arith) rose))))
+
+pub returns-in-Ok-clause-left : goal.returns-in-Ok-clause-left
+returns-in-Ok-clause-left g c = record {
+  size = c.open_records.ensures.keeps.moments.size ∙ c.settle.ensures.moments.size;
+  still = λ some. subst IsSome (sym (c.open_records.ensures.keeps.content ∙ c.settle.ensures.content)) some;
+  settled = λ ok. search rules;
+  later = omega (arith, c.settle.ensures.cause.later, c.open_records.ensures.cause.later);
+  fault = λ h. absurd (cc h);
+}

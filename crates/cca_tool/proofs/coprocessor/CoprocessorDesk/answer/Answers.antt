@@ -1,5 +1,5 @@
 -- A line is a request, or breaks rule 01.
-use Rattle.std.proofs.Common.{sym}
+use Rattle.std.proofs.Common.{sym, rules}
 use Rattle.verb_script.specs.Parsed.{seen}
 use Rattle.cca_requests.specs.Serving.{tables}
 use Rattle.cca_tool.specs.Coprocessor.{remembers}
@@ -8,9 +8,11 @@ use Rattle.cca_tool.proofs.KnownLemmas.{roles_told, module_undamaged, never_told
 use Rattle.cca_tool.proofs.StopLemmas.{cell_zero}
 use Rattle.cca_tool.proofs.coprocessor.CoprocessorDesk.answer.Goals as goal
 
-pub perform-requires-clause-remembered : goal.perform-requires-clause-remembered
-perform-requires-clause-remembered g c =
-    roles_told (tables c.args.self.now.roles c.args.self.now.records) (g.M.Disk.medium c.args.module.now) (g.D.Disk.medium c.args.store.now) c.requires.ready
+pub perform-requires-clause-known : goal.perform-requires-clause-known
+perform-requires-clause-known g c = record {
+  remembered = roles_told (tables c.args.self.now.roles c.args.self.now.records) (g.M.Disk.medium c.args.module.now) (g.D.Disk.medium c.args.store.now) c.requires.ready;
+  recorded = c.requires.ready.in_store;
+}
 
 pub returns-in-Ok-clause-serves : goal.returns-in-Ok-clause-serves
 returns-in-Ok-clause-serves g c = λ s stands.
@@ -20,8 +22,8 @@ returns-in-Ok-clause-serves g c = λ s stands.
     request_serves s c.args.line.now (seen c.in-Ok.request) c.requires.short (sym c.in-Ok.ensures.exact) c.perform.result c.perform.new.reply
     before (tables c.perform.new.roles c.perform.new.records) m0 (g.M.Disk.medium c.perform.new.module) d0 (g.D.Disk.medium c.perform.new.store)
     (g.E.Entropy.left c.args.entropy.now) (g.E.Entropy.left c.perform.new.entropy)
-    c.requires.module_settled c.requires.store_settled stands c.in-Ok.ensures.found c.perform.ensures.named
-    (c.perform.ensures.serves s (stands_for s before m0 d0 stands))
+    c.requires.disks.module_settled c.requires.disks.store_settled stands c.in-Ok.ensures.found c.perform.ensures.store.named
+    c.perform.ensures.left.module_turned c.perform.ensures.left.store_turned (c.perform.ensures.serves s (stands_for s before m0 d0 stands))
 
 pub returns-in-Ok-clause-ready : goal.returns-in-Ok-clause-ready
 returns-in-Ok-clause-ready g c =
@@ -31,26 +33,28 @@ returns-in-Ok-clause-ready g c =
     let d0 = g.D.Disk.medium c.args.store.now in
     let d1 = g.D.Disk.medium c.perform.new.store in
     known_after (tables c.args.self.now.roles c.args.self.now.records) m0 d0 c.requires.ready later m1 d1
-    c.perform.ensures.module_told c.perform.ensures.store_told c.perform.result c.perform.ensures.sound c.perform.ensures.holds
+    c.perform.ensures.left.module_told c.perform.ensures.left.store_told c.perform.result c.perform.ensures.left.sound c.perform.ensures.left.holds
     (λ s stands. leads_on s (seen c.in-Ok.request) c.perform.result c.perform.new.reply later m0 m1 d0 d1
     (g.E.Entropy.left c.args.entropy.now) (g.E.Entropy.left c.perform.new.entropy) (c.perform.ensures.serves s stands))
 
-pub returns-in-Ok-clause-module_sound : goal.returns-in-Ok-clause-module_sound
-returns-in-Ok-clause-module_sound g c = λ cell h.
-    module_undamaged (tables c.args.self.now.roles c.args.self.now.records) (g.M.Disk.medium c.args.module.now) (g.D.Disk.medium c.args.store.now) c.requires.ready
-    (c.perform.ensures.damaged (cell_zero c.perform.result cell c.perform.ensures.stops h))
-
-pub returns-in-Ok-clause-store_sound : goal.returns-in-Ok-clause-store_sound
-returns-in-Ok-clause-store_sound g c = λ cell h.
+pub returns-in-Ok-clause-undamaged : goal.returns-in-Ok-clause-undamaged
+returns-in-Ok-clause-undamaged g c =
+    let before = tables c.args.self.now.roles c.args.self.now.records in
     let m0 = g.M.Disk.medium c.args.module.now in
     let d0 = g.D.Disk.medium c.args.store.now in
-    never_told (tables c.args.self.now.roles c.args.self.now.records) m0 d0 c.requires.ready
-    (λ s stands. not_damaged s (seen c.in-Ok.request) c.perform.result c.perform.new.reply (tables c.perform.new.roles c.perform.new.records)
-    m0 (g.M.Disk.medium c.perform.new.module) d0 (g.D.Disk.medium c.perform.new.store)
-    (g.E.Entropy.left c.args.entropy.now) (g.E.Entropy.left c.perform.new.entropy) cell h (c.perform.ensures.serves s stands))
+    record {
+      module_sound = λ cell h.
+          module_undamaged before m0 d0 c.requires.ready (c.perform.ensures.damage (cell_zero c.perform.result cell c.perform.ensures.stops h)).damaged;
+      store_sound = λ cell h.
+          never_told before m0 d0 c.requires.ready
+          (λ s stands. not_damaged s (seen c.in-Ok.request) c.perform.result c.perform.new.reply (tables c.perform.new.roles c.perform.new.records)
+          m0 (g.M.Disk.medium c.perform.new.module) d0 (g.D.Disk.medium c.perform.new.store)
+          (g.E.Entropy.left c.args.entropy.now) (g.E.Entropy.left c.perform.new.entropy) cell h (c.perform.ensures.serves s stands));
+      cells = search rules;
+    }
 
 pub returns-in-Err-clause-serves : goal.returns-in-Err-clause-serves
 returns-in-Err-clause-serves g c = λ s stands.
     unspelled_serves s (remembers (tables c.args.self.now.roles c.args.self.now.records)) c.args.line.now c.refuse_line.new.reply
     (g.M.Disk.medium c.args.module.now) (g.D.Disk.medium c.args.store.now) (g.E.Entropy.left c.args.entropy.now)
-    c.requires.short (sym c.in-Err.ensures.exact) c.refuse_line.ensures stands c.requires.module_settled c.requires.store_settled
+    c.requires.short (sym c.in-Err.ensures.exact) c.refuse_line.ensures stands c.requires.disks.module_settled c.requires.disks.store_settled
