@@ -1,5 +1,5 @@
 -- What the ends of a run are told as, and the exit status of each.
-use Rattle.std.specs.Prelude.{ℕ, Option, None, Some}
+use Rattle.std.specs.Prelude.{ℕ, Option, None, Some, Result, Ok, Err}
 use Rattle.cca.specs.declared.fault.Fault.{Fault}
 use Rattle.cca.specs.declared.fault.Fault.TheVariants as fault
 use Rattle.line_service.specs.declared.stops.Device.TheVariants.{Module, Store}
@@ -32,3 +32,8 @@ fault_of_lem status.ModuleFault = Some fault.Module
 fault_of_lem status.StoreFault = Some fault.Store
 fault_of_lem status.InputLimit = Some fault.InputLimit
 fault_of_lem status.NoMemory = Some fault.NoMemory
+
+-- why the program doesn't end well: the fault of the status of a run, or the one before it
+abbrev pub told_of : Result Status Fault → Option Fault
+told_of (Ok outcome) = fault_of_lem outcome
+told_of (Err fault) = Some fault

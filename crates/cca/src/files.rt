@@ -4,6 +4,7 @@ ghost use Rattle.std.specs.Prelude.{◌≡◌, IfOk};
 use crate::fault::Fault;
 use slot_disk::{Disk, FileDisk};
 use std::fs::{File, OpenOptions};
+use std::io;
 use std::os::unix::fs::OpenOptionsExt;
 
 /// The module: the cell of the registers, and 32 cells of roles.
@@ -17,14 +18,14 @@ const OWNER_ALONE: u32 = 0o600;
 
 /// The file of this name in the current folder, of this many bytes, locked until the program ends.
 ///
-/// Where it is missing or empty it is made, all zero. A file that is made is its owner's alone, and
-/// one that is there keeps its mode. A file that another run has locked isn't opened, and no byte of
-/// it is read.
+/// Where it is missing or empty it is made, all zero, and is on the drive with its name once this
+/// returns. A file that is made is its owner's alone, and one that is there keeps its mode. A file
+/// that another run has locked isn't opened, and no byte of it is read.
 pub fn open_disk(rt: &HostRuntime, name: &str, size: u64) -> Result<FileDisk, Fault>
     ensures { IfOk result (λ disk. (⟦<FileDisk as Disk>⟧.medium disk).size ≡ size) }
 {
     let file = open_locked(rt, name)?;
-    made_whole(&file, size)?;
+    made_whole(rt, &file, size)?;
     Ok(FileDisk::new(file, size))
 }
 
@@ -36,7 +37,7 @@ pub fn new_disk(rt: &HostRuntime, name: &str, size: u64) -> Result<FileDisk, Fau
     if file.set_len(0).is_err() {
         return Err(Fault::File);
     }
-    made_whole(&file, size)?;
+    made_whole(rt, &file, size)?;
     Ok(FileDisk::new(file, size))
 }
 
@@ -66,7 +67,7 @@ pub fn open_random(rt: &HostRuntime) -> Result<File, Fault> {
 }
 
 /// Makes an empty file all zero. Another one has this many bytes already, or is refused.
-fn made_whole(file: &File, size: u64) -> Result<(), Fault> {
+fn made_whole(rt: &HostRuntime, file: &File, size: u64) -> Result<(), Fault> {
     let Ok(metadata) = file.metadata() else {
         return Err(Fault::File);
     };
@@ -76,8 +77,18 @@ fn made_whole(file: &File, size: u64) -> Result<(), Fault> {
     if metadata.len() != 0 {
         return Err(Fault::Size);
     }
-    match file.set_len(size) {
+    match fill(rt, file, size) {
         Ok(()) => Ok(()),
         Err(_) => Err(Fault::File),
     }
+}
+
+/// Gives an empty file of the current folder this many bytes, all zero, and puts it on the drive.
+///
+/// The name comes there first, while the file is empty. So a file that has its size has its name on
+/// the drive too, also where the run that made it was killed.
+fn fill(rt: &HostRuntime, file: &File, size: u64) -> io::Result<()> {
+    File::open(rt, ".")?.sync_all()?;
+    file.set_len(size)?;
+    file.sync_all()
 }

@@ -8,6 +8,7 @@
 #![tactic(auto)]
 
 ghost use Rattle.std.specs.Prelude.{◌≡◌, ◌↔◌, ◌++◌, ◌∷◌, [], OnOk, IsNone};
+ghost use Rattle.cca.specs.Exits.{told_of};
 
 mod fault;
 mod files;
@@ -35,6 +36,7 @@ fn main(rt: HostRuntime) -> ExitCode {
 
 /// Why the program doesn't end well, if so.
 fn fault_in(outcome: Result<Status, Fault>) -> Option<Fault>
+    ensures told { result ≡ told_of outcome }
     ensures none { IsNone result ↔ (outcome ≡ Ok Status.Done) }
 {
     match outcome {
