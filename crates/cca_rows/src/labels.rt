@@ -2,11 +2,11 @@
 //! SHA-1 from the clear keys, after the definition of a token.
 ghost use Rattle.std.specs.Prelude.{◌≡◌};
 
+use crate::disks::status_over;
 use crate::rows::{MODULE_SIZE, STORE_SIZE, words_of};
 use crate::tables::{expect, lines_of};
-use cca_tool::{Device, Status, run};
-use key_cells::Workbench;
-use slot_disk::{BlankEntropy, Disk, MemoryDisk, MemorySink, MemorySource};
+use cca_tool::{Device, Status};
+use slot_disk::{Disk, MemoryDisk, MemorySink, MemorySource};
 use std::alloc::Global;
 use std::process::Abort;
 use std::test::Fail;
@@ -251,22 +251,12 @@ fn run_over(
     ensures store { (⟦<MemoryDisk as Disk>⟧.medium store.new).size ≡ 1572864 }
 {
     let words = words_of(alloc, &["run"])?;
-    let mut bench = Workbench::new();
     let mut source = MemorySource::new(alloc, input.as_bytes(), 1_000)?;
     let mut sink = MemorySink::new(alloc, ROOM)?;
-    assert_eq!(rt;
-        run(
-            alloc,
-            &words,
-            &mut bench,
-            &mut source,
-            &mut sink,
-            module,
-            store,
-            &mut BlankEntropy::new()
-        ),
-        want.0
-    );
+    let status = status_over(alloc, &words, &mut source, &mut sink, module, store);
+    assert!(rt; status == want.0);
+    assert!(rt; module.size() == MODULE_SIZE);
+    assert!(rt; store.size() == STORE_SIZE);
     assert_eq!(rt; sink.bytes(), want.1.as_bytes());
     Ok(())
 }

@@ -2,10 +2,10 @@
 ghost use Rattle.std.specs.Prelude.{◌≡◌};
 ghost use Rattle.slot_disk.specs.LogMedium.{log_medium};
 
+use crate::disks::status_over;
 use crate::rows::{CALLS, MODULE_SIZE, ROOM, STORE_SIZE, words_of};
-use cca_tool::{Device, Status, run};
-use key_cells::Workbench;
-use slot_disk::{BlankEntropy, Disk, MemoryDisk, MemorySink, MemorySource};
+use cca_tool::{Device, Status};
+use slot_disk::{Disk, MemoryDisk, MemorySink, MemorySource};
 use std::alloc::Global;
 use std::process::Abort;
 use std::test::Fail;
@@ -30,23 +30,12 @@ pub(crate) fn run_over(
     ensures { (⟦<MemoryDisk as Disk>⟧.medium «module».new).size ≡ 50688 }
 {
     let words = words_of(alloc, &["run"])?;
-    let mut bench = Workbench::new();
     let mut source = MemorySource::new(alloc, input.as_bytes(), 100)?;
     let mut sink = MemorySink::new(alloc, ROOM)?;
     let mut store = MemoryDisk::new(alloc, STORE_SIZE, CALLS)?;
-    assert_eq!(rt;
-        run(
-            alloc,
-            &words,
-            &mut bench,
-            &mut source,
-            &mut sink,
-            module,
-            &mut store,
-            &mut BlankEntropy::new()
-        ),
-        want.0
-    );
+    let status = status_over(alloc, &words, &mut source, &mut sink, module, &mut store);
+    assert!(rt; status == want.0);
+    assert!(rt; module.size() == MODULE_SIZE);
     assert_eq!(rt; sink.bytes(), want.1.as_bytes());
     Ok(())
 }
