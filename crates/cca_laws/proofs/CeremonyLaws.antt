@@ -1,9 +1,7 @@
 -- The steps of a key ceremony, one by one.
-use Rattle.std.proofs.Common.{◌≡◌, ℕ, ◌<◌, Bool, true, false, cond, not, List, [], ◌∷◌, length, Option, None, Some, refl, sym, ap, subst, ◌∙◌, codes, T, ◌==◌, bit_and, bit_xor, true≢false, ap₂, arith}
-use Rattle.std.specs.Prelude.{⊤, All}
+use Rattle.std.proofs.Common.{◌≡◌, ℕ, Bool, true, false, cond, not, List, [], ◌∷◌, length, Option, None, Some, refl, sym, ap, subst, ◌∙◌, codes, T, ◌==◌, bit_and, bit_xor, true≢false, ap₂, arith}
+use Rattle.std.specs.Prelude.{⊤}
 use Rattle.std.specs.Int.Bits.{xor_assoc, xor_self, xor_zero_r}
-use Rattle.std.proofs.lemmas.List.Elements.{All-cons, All-head, All-nil, All-tail}
-use Rattle.std.proofs.lemmas.Nat.{xor_of_8}
 use Rattle.byte_lists.specs.Bytes.{AreBytes, xor}
 use Rattle.byte_lists.proofs.ByteLemmas.{length-xor}
 use Rattle.key_tokens.specs.Denotes.{Denoted}
@@ -22,6 +20,7 @@ use Rattle.cca_machine.specs.Verdict.{action_points, bytes_in, first_refusal, ne
 use Rattle.cca_laws.specs.Ceremony.{IsOnlyOther, SameKeys, combine_point, first_point, set_point}
 use Rattle.cca_laws.specs.EachLine.{EachRequest}
 use Rattle.cca_laws.specs.Points.{HoldsNone}
+use Rattle.cca_laws.proofs.ByteLaws.{bytes_xor}
 use Rattle.cca_laws.proofs.EffectLaws.{second_passed}
 use Rattle.cca_laws.proofs.LineCases.{over_lines, permitted, refused_none}
 use Rattle.cca_laws.proofs.PointLaws.{lacks_them}
@@ -191,19 +190,11 @@ xor_again (x ∷ xs) [] same = absurd (omega (arith, same))
 xor_again (x ∷ xs) (y ∷ ys) same =
     ap₂ (λ (z : ℕ) (zs : List ℕ). z ∷ zs) (xor_assoc x y y ∙ (ap (bit_xor x) (xor_self y) ∙ xor_zero_r x)) (xor_again xs ys (omega (arith, same)))
 
-xor_fits : (xs ys : List ℕ) → All (λ b. b < 256) xs → All (λ b. b < 256) ys → All (λ b. b < 256) (xor xs ys)
-unfolding xor
-xor_fits [] ys first second = All-nil (λ b. b < 256)
-xor_fits (x ∷ xs) [] first second = All-nil (λ b. b < 256)
-xor_fits (x ∷ xs) (y ∷ ys) first second =
-    All-cons (λ b. b < 256) (bit_xor x y) (xor xs ys) (xor_of_8 x y (All-head (λ b. b < 256) x xs first) (All-head (λ b. b < 256) y ys second))
-    (xor_fits xs ys (All-tail (λ b. b < 256) x xs first) (All-tail (λ b. b < 256) y ys second))
-
 pub one_other : (part master : List ℕ) → AreBytes 24 part → AreBytes 24 master → IsOnlyOther part master (xor master part)
 one_other part master is_part is_master = record {
   bytes = record {
     size = length-xor master part (is_master.size ∙ sym is_part.size) ∙ is_master.size;
-    each = xor_fits master part is_master.each is_part.each;
+    each = bytes_xor master part is_master.each is_part.each;
   };
   whole = xor_again master part (is_master.size ∙ sym is_part.size);
   only = λ p is_p is. sym (xor_again p part (is_p.size ∙ sym is_part.size)) ∙ ap (λ m. xor m part) is;

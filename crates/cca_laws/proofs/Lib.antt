@@ -1,3 +1,4 @@
+pub mod ByteLaws
 pub mod CeremonyLaws
 pub mod CleanLaws
 pub mod DiskLaws
@@ -8,6 +9,7 @@ pub mod LineCases
 pub mod NamedLaws
 pub mod PartLaws
 pub mod PointLaws
+pub mod PrintLaws
 pub mod ReplyLaws
 pub mod SealedLaws
 pub mod UseLaws

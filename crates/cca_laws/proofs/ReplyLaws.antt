@@ -138,7 +138,7 @@ deleted_labels : (es : List (Option Entry)) (o : Option ℕ) → AreLabels (dire
 deleted_labels es None are = are
 deleted_labels es (Some n) are = set_labels es n None (λ is. tt) are
 
-abbrev HasLabels : State → Type 0
+abbrev pub HasLabels : State → Type 0
 HasLabels s = AreLabels (directory s.labels)
 
 labels_stay : (s : State) (name : RequestName) (r : Request) (e : Effect) → HasLabels s → Fits s name r e → HasLabels (after_effect s e)
@@ -167,7 +167,7 @@ all_labels : (es : List (Option Entry)) → ((n : ℕ) → n < length es → IsL
 all_labels [] each = tt
 all_labels (e ∷ es) each = with_one (entry_label e) (directory es) (each 0 (omega arith)) (all_labels es (λ n within. each (suc n) (omega (arith, within))))
 
-store_labels : (s : State) (image : List ℕ) → IsStoreOf s image → HasLabels s
+pub store_labels : (s : State) (image : List ℕ) → IsStoreOf s image → HasLabels s
 store_labels s image stands =
     all_labels s.labels (λ n within. entry_fits (keys_of s.registers) (body image n) (entry_at s.labels n) (stands.reads n (subst (λ k. n < k) stands.size within)))
 
