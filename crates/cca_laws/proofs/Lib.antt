@@ -5,6 +5,7 @@ pub mod DiskLaws
 pub mod EffectLaws
 pub mod LabelLaws
 pub mod LabelLists
+pub mod LengthLemmas
 pub mod LineCases
 pub mod NamedLaws
 pub mod PartLaws
@@ -12,4 +13,5 @@ pub mod PointLaws
 pub mod PrintLaws
 pub mod ReplyLaws
 pub mod SealedLaws
+pub mod SizeLaws
 pub mod UseLaws
