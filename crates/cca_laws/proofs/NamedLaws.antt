@@ -431,8 +431,25 @@ module _ (s : State) (m : Masters) (same : is_none m.current ≡ is_none s.regis
     text_operands csnbdec uses = ap key_questions_by (labelled_checks (internal_key (Data ∷ Cipher ∷ []) (Some Decipher)) (value_of r (codes "key")) label named)
     text_operands csnbmgn uses = ap key_questions_by (labelled_checks (internal_key (Data ∷ Mac ∷ []) (Some MacGenerate)) (value_of r (codes "key")) label named)
     text_operands csnbmvr uses = ap key_questions_by (labelled_checks (internal_key (Data ∷ Mac ∷ []) (Some MacVerify)) (value_of r (codes "key")) label named)
+    text_operands csnbenc_first uses = ap key_questions_by (labelled_checks (internal_key (Data ∷ Cipher ∷ []) (Some Encipher)) (value_of r (codes "key")) label named)
+    text_operands csnbenc_middle uses = ap key_questions_by (labelled_checks (internal_key (Data ∷ Cipher ∷ []) (Some Encipher)) (value_of r (codes "key")) label named)
+    text_operands csnbenc_last uses = ap key_questions_by (labelled_checks (internal_key (Data ∷ Cipher ∷ []) (Some Encipher)) (value_of r (codes "key")) label named)
+    text_operands csnbdec_first uses = ap key_questions_by (labelled_checks (internal_key (Data ∷ Cipher ∷ []) (Some Decipher)) (value_of r (codes "key")) label named)
+    text_operands csnbdec_middle uses = ap key_questions_by (labelled_checks (internal_key (Data ∷ Cipher ∷ []) (Some Decipher)) (value_of r (codes "key")) label named)
+    text_operands csnbdec_last uses = ap key_questions_by (labelled_checks (internal_key (Data ∷ Cipher ∷ []) (Some Decipher)) (value_of r (codes "key")) label named)
+    text_operands csnbmgn_first uses = ap key_questions_by (labelled_checks (internal_key (Data ∷ Mac ∷ []) (Some MacGenerate)) (value_of r (codes "key")) label named)
+    text_operands csnbmgn_middle uses = ap key_questions_by (labelled_checks (internal_key (Data ∷ Mac ∷ []) (Some MacGenerate)) (value_of r (codes "key")) label named)
+    text_operands csnbmgn_last uses = ap key_questions_by (labelled_checks (internal_key (Data ∷ Mac ∷ []) (Some MacGenerate)) (value_of r (codes "key")) label named)
+    text_operands csnbmvr_first uses = ap key_questions_by (labelled_checks (internal_key (Data ∷ Mac ∷ []) (Some MacVerify)) (value_of r (codes "key")) label named)
+    text_operands csnbmvr_middle uses = ap key_questions_by (labelled_checks (internal_key (Data ∷ Mac ∷ []) (Some MacVerify)) (value_of r (codes "key")) label named)
+    text_operands csnbmvr_last uses = ap key_questions_by (labelled_checks (internal_key (Data ∷ Mac ∷ []) (Some MacVerify)) (value_of r (codes "key")) label named)
     text_operands csnbkyt uses = ap key_questions_by (labelled_checks (internal_key five_classes None) (value_of r (codes "key")) label named)
     text_operands _ uses = cc uses
+
+    -- what is asked of the last segment of a code
+    abbrev last_code_by : ClearKey → List Questions
+    last_code_by key =
+        code_key_questions (code_rule r) key (chain_questions (bytes_in r (codes "chain")) (last_segment_questions (mode.Mac (code_rule r)) padding.None (chain_in r) (text_size r)))
 
     text_verb : (name : RequestName) → uses_text_key name ≡ true → verb_questions with_masters name r ≡ verb_questions s name r
     text_verb csnbenc uses = refl
@@ -440,6 +457,20 @@ module _ (s : State) (m : Masters) (same : is_none m.current ≡ is_none s.regis
         ap (λ (key : ClearKey). decipher_questions (text_size r) key (bytes_in r (codes "iv")) (pad_named (value_of r (codes "pad"))) (bytes_in r (codes "text"))) key_is
     text_verb csnbmgn uses = ap (λ (key : ClearKey). mac_questions (mac_rule_named (value_of r (codes "rule"))) (text_size r) key) key_is
     text_verb csnbmvr uses = ap (λ (key : ClearKey). mac_questions (mac_rule_named (value_of r (codes "rule"))) (text_size r) key) key_is
+    text_verb csnbenc_first uses = refl
+    text_verb csnbenc_middle uses = refl
+    text_verb csnbenc_last uses =
+        ap (λ (key : ClearKey). chain_questions (bytes_in r (codes "chain")) (last_text_questions mode.Encipher key (chain_in r) (pad_named (value_of r (codes "pad"))) (text_size r) (bytes_in r (codes "text")))) key_is
+    text_verb csnbdec_first uses = refl
+    text_verb csnbdec_middle uses = refl
+    text_verb csnbdec_last uses =
+        ap (λ (key : ClearKey). chain_questions (bytes_in r (codes "chain")) (last_text_questions mode.Decipher key (chain_in r) (pad_named (value_of r (codes "pad"))) (text_size r) (bytes_in r (codes "text")))) key_is
+    text_verb csnbmgn_first uses = ap (λ (key : ClearKey). code_key_questions (code_rule r) key (segment_questions (text_size r))) key_is
+    text_verb csnbmgn_middle uses = ap (λ (key : ClearKey). code_key_questions (code_rule r) key (middle_questions r)) key_is
+    text_verb csnbmgn_last uses = ap last_code_by key_is
+    text_verb csnbmvr_first uses = ap (λ (key : ClearKey). code_key_questions (code_rule r) key (segment_questions (text_size r))) key_is
+    text_verb csnbmvr_middle uses = ap (λ (key : ClearKey). code_key_questions (code_rule r) key (middle_questions r)) key_is
+    text_verb csnbmvr_last uses = ap last_code_by key_is
     text_verb csnbkyt uses = refl
     text_verb _ uses = cc uses
 
@@ -452,6 +483,24 @@ module _ (s : State) (m : Masters) (same : is_none m.current ≡ is_none s.regis
         ap (λ (key : ClearKey). let fs : List Field = Hex (codes "mac") (take (mac_length_named (value_of r (codes "length"))) (code_of (mac_rule_named (value_of r (codes "rule"))) key (bytes_in r (codes "text")))) ∷ [] in fs) key_is
     text_fields csnbmvr uses =
         ap (λ (key : ClearKey). let fs : List Field = Text (codes "match") (yes_or_no (is_code (mac_rule_named (value_of r (codes "rule"))) key (bytes_in r (codes "text")) (bytes_in r (codes "mac")))) ∷ [] in fs) key_is
+    text_fields csnbenc_first uses =
+        ap (λ (key : ClearKey). segment_fields key mode.Encipher (first_chain (bytes_in r (codes "iv"))) (bytes_in r (codes "text"))) key_is
+    text_fields csnbenc_middle uses = ap (λ (key : ClearKey). segment_fields key mode.Encipher (chain_in r) (bytes_in r (codes "text"))) key_is
+    text_fields csnbenc_last uses =
+        ap (λ (key : ClearKey). last_text_fields key mode.Encipher (chain_in r) (pad_named (value_of r (codes "pad"))) (bytes_in r (codes "text"))) key_is
+    text_fields csnbdec_first uses =
+        ap (λ (key : ClearKey). segment_fields key mode.Decipher (first_chain (bytes_in r (codes "iv"))) (bytes_in r (codes "text"))) key_is
+    text_fields csnbdec_middle uses = ap (λ (key : ClearKey). segment_fields key mode.Decipher (chain_in r) (bytes_in r (codes "text"))) key_is
+    text_fields csnbdec_last uses =
+        ap (λ (key : ClearKey). last_text_fields key mode.Decipher (chain_in r) (pad_named (value_of r (codes "pad"))) (bytes_in r (codes "text"))) key_is
+    text_fields csnbmgn_first uses = ap (λ (key : ClearKey). code_segment_fields key (code_rule r) (first_chain zero_block) (bytes_in r (codes "text"))) key_is
+    text_fields csnbmgn_middle uses = ap (λ (key : ClearKey). code_segment_fields key (code_rule r) (chain_in r) (bytes_in r (codes "text"))) key_is
+    text_fields csnbmvr_first uses = ap (λ (key : ClearKey). code_segment_fields key (code_rule r) (first_chain zero_block) (bytes_in r (codes "text"))) key_is
+    text_fields csnbmvr_middle uses = ap (λ (key : ClearKey). code_segment_fields key (code_rule r) (chain_in r) (bytes_in r (codes "text"))) key_is
+    text_fields csnbmgn_last uses =
+        ap (λ (key : ClearKey). last_code_fields key (code_rule r) (chain_in r) (mac_length_named (value_of r (codes "length"))) (bytes_in r (codes "text"))) key_is
+    text_fields csnbmvr_last uses =
+        ap (λ (key : ClearKey). last_match_fields key (code_rule r) (chain_in r) (bytes_in r (codes "mac")) (bytes_in r (codes "text"))) key_is
     text_fields csnbkyt uses = ap (λ (key : ClearKey). let fs : List Field = Hex (codes "value") (test_value key) ∷ [] in fs) key_is
     text_fields _ uses = cc uses
 
@@ -460,6 +509,18 @@ module _ (s : State) (m : Masters) (same : is_none m.current ≡ is_none s.regis
     text_old csnbdec uses = ap (λ (key : Option Denoted). is_old key || false) (labelled_key (value_of r (codes "key")) label named)
     text_old csnbmgn uses = ap (λ (key : Option Denoted). is_old key || false) (labelled_key (value_of r (codes "key")) label named)
     text_old csnbmvr uses = ap (λ (key : Option Denoted). is_old key || false) (labelled_key (value_of r (codes "key")) label named)
+    text_old csnbenc_first uses = ap (λ (key : Option Denoted). is_old key || false) (labelled_key (value_of r (codes "key")) label named)
+    text_old csnbenc_middle uses = ap (λ (key : Option Denoted). is_old key || false) (labelled_key (value_of r (codes "key")) label named)
+    text_old csnbenc_last uses = ap (λ (key : Option Denoted). is_old key || false) (labelled_key (value_of r (codes "key")) label named)
+    text_old csnbdec_first uses = ap (λ (key : Option Denoted). is_old key || false) (labelled_key (value_of r (codes "key")) label named)
+    text_old csnbdec_middle uses = ap (λ (key : Option Denoted). is_old key || false) (labelled_key (value_of r (codes "key")) label named)
+    text_old csnbdec_last uses = ap (λ (key : Option Denoted). is_old key || false) (labelled_key (value_of r (codes "key")) label named)
+    text_old csnbmgn_first uses = ap (λ (key : Option Denoted). is_old key || false) (labelled_key (value_of r (codes "key")) label named)
+    text_old csnbmgn_middle uses = ap (λ (key : Option Denoted). is_old key || false) (labelled_key (value_of r (codes "key")) label named)
+    text_old csnbmgn_last uses = ap (λ (key : Option Denoted). is_old key || false) (labelled_key (value_of r (codes "key")) label named)
+    text_old csnbmvr_first uses = ap (λ (key : Option Denoted). is_old key || false) (labelled_key (value_of r (codes "key")) label named)
+    text_old csnbmvr_middle uses = ap (λ (key : Option Denoted). is_old key || false) (labelled_key (value_of r (codes "key")) label named)
+    text_old csnbmvr_last uses = ap (λ (key : Option Denoted). is_old key || false) (labelled_key (value_of r (codes "key")) label named)
     text_old csnbkyt uses = ap (λ (key : Option Denoted). is_old key || false) (labelled_key (value_of r (codes "key")) label named)
     text_old _ uses = cc uses
 
