@@ -3,6 +3,7 @@ pub mod CeremonyLaws
 pub mod CleanLaws
 pub mod DiskLaws
 pub mod EffectLaws
+pub mod ExportLaws
 pub mod LabelLaws
 pub mod LabelLists
 pub mod LengthLemmas
@@ -14,4 +15,6 @@ pub mod PrintLaws
 pub mod ReplyLaws
 pub mod SealedLaws
 pub mod SizeLaws
+pub mod TokenFields
+pub mod TokenVectors
 pub mod UseLaws

@@ -74,14 +74,14 @@ directory_written es cell d =
     ∙ (ap (set (directory es) cell) (label_kept d (entry_at es cell) ∙ sym (name_of_entry es cell)) ∙ set-get_or (directory es) cell None)
 
 -- the state with this key in a cell
-abbrev with_key : State → ℕ → Denoted → State
+abbrev pub with_key : State → ℕ → Denoted → State
 with_key s cell d = record s { labels = written cell d s.labels }
 
 module _ (s : State) (label : List ℕ) (cell : ℕ) (held : cell_with s label ≡ Some cell) (d : Denoted) where
   cells_stay : (other : List ℕ) → cell_with (with_key s cell d) other ≡ cell_with s other
   cells_stay other = ap (cell_of other) (directory_written s.labels cell d)
 
-  key_found : key_of_label (with_key s cell d) label ≡ Some d
+  pub key_found : key_of_label (with_key s cell d) label ≡ Some d
   unfolding cell_of
   key_found =
       ap (what_at (written cell d s.labels)) (cells_stay label ∙ held)

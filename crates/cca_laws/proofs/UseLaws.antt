@@ -25,14 +25,13 @@ use Rattle.key_transport.specs.declared.changing.Target.TheVariants.{Current as 
 use Rattle.master_registers.specs.Loaded.{registers_of}
 use Rattle.master_registers.specs.Masters.{Masters}
 use Rattle.master_registers.specs.declared.registers.Registers.{Registers}
-use Rattle.script_buffers.specs.Replies.{Field, Hex, Text, Number}
 use Rattle.verb_rules.specs.Classes.{classes_of, has}
 use Rattle.verb_rules.specs.KeyChecks.{is_forbidden, key_checks, part_check, pattern_check, read_checks, use_checks, vector_use_checks}
 use Rattle.verb_rules.specs.Keys.{keys_of, master_key, master_under, sealed_token, token_for}
 use Rattle.verb_rules.specs.declared.needs.Need.{Need}
 use Rattle.verb_script.specs.Grammar.{Request, RequestName, csnbenc, csnbenc_first, csnbenc_middle, csnbenc_last, csnbdec, csnbdec_first, csnbdec_middle, csnbdec_last, csnbmgn, csnbmgn_first, csnbmgn_middle, csnbmgn_last, csnbmvr, csnbmvr_first, csnbmvr_middle, csnbmvr_last, csnbcki, csnbkgn_op, csnbkgn_pair, csnbkgn_out, csnbkim, csnbkex, csnbpex, csnbkpi_first, csnbkpi_middle, csnbktr, csnbktc, csnbkrr, csnbkrl, value_of}
 use Rattle.verb_script.specs.Named.{label_named}
-use Rattle.cca_machine.specs.Act.{Effect, Show, Write, delivered_with, effect, fields_after, or_act, performed}
+use Rattle.cca_machine.specs.Act.{delivered_with, effect, fields_after, or_act, performed}
 use Rattle.cca_machine.specs.Choices.{target_named}
 use Rattle.cca_machine.specs.Keys.{any_old, key_bytes, key_in_text, key_named, key_of_label, or_no_key, warning}
 use Rattle.cca_machine.specs.Listing.{label_fields}
@@ -41,8 +40,10 @@ use Rattle.cca_machine.specs.State.{State}
 use Rattle.cca_machine.specs.Verdict.{Refusal, first_refusal, key_questions, operand_checks, operand_questions, record_checks, verdict}
 use Rattle.cca_machine.specs.declared.asking.Ask.{Ask}
 use Rattle.cca_machine.specs.declared.asking.Ask.TheVariants as ask
-use Rattle.cca_laws.specs.Uses.{Allows, IsOperandOf, MayCarry, MayWork, NoneExternal, ShowsNoExternal, UnlessExternal, gives_external, is_token_field}
+use Rattle.cca_laws.specs.ReplyTokens.{IfToken, is_token_field}
+use Rattle.cca_laws.specs.Uses.{Allows, IsInternal, IsOperandOf, MayCarry, MayWork, ShowsNoExternal, gives_external}
 use Rattle.cca_laws.proofs.LineCases.{permitted, refused_none}
+use Rattle.cca_laws.proofs.TokenFields.{EffectShows, each-append, fields_have, warning_has}
 
 -- ---- checks that pass
 
@@ -130,7 +131,7 @@ or_vector (Some master) age bytes other otherwise key is = by_pattern (bytes_eq 
     by_pattern true same = sym (ap vector_or same)
     by_pattern false same = otherwise key same
 
-token_vector : (masters : MasterKeys) (bytes : List ℕ) (key : Denoted) → denoted masters bytes ≡ Some key → key.clear.vector ≡ vector_bytes_of bytes
+pub token_vector : (masters : MasterKeys) (bytes : List ℕ) (key : Denoted) → denoted masters bytes ≡ Some key → key.clear.vector ≡ vector_bytes_of bytes
 unfolding denoted
 token_vector masters bytes key is = by_test (is_token asked.Internal bytes) is
   where
@@ -151,7 +152,7 @@ key_allows s need text key (Some label) is passes =
 
 -- ---- the operands of a permitted request
 
-first_passes : (s : State) (o : Operand) (os : List Operand) → first_refusal (operand_questions s (o ∷ os)) ≡ None
+pub first_passes : (s : State) (o : Operand) (os : List Operand) → first_refusal (operand_questions s (o ∷ os)) ≡ None
     → (first_failing (operand_checks s o.text o.ask) ≡ None) × (first_refusal (operand_questions s os) ≡ None)
 first_passes s o os is = refused_none (first_failing (operand_checks s o.text o.ask)) o.name (first_refusal (operand_questions s os)) is
 
@@ -179,7 +180,7 @@ operand_allows s r o need key permits_it is asks stands =
 -- ---- verb by verb
 
 -- the operands behind the first one
-abbrev behind : RequestName → Request → List Operand
+abbrev pub behind : RequestName → Request → List Operand
 behind name r = (operands_of name r).second ∷ (operands_of name r).third ∷ []
 
 module _ (s : State) (r : Request) (key : Denoted) where
@@ -255,16 +256,11 @@ unfolding new_token
 changed_first m ToCurrent clear is = token_first (keys_of m) _ is
 changed_first m New clear is = sealed_first (master_key (full_bytes m.coming)) clear is
 
-abbrev Internal : Effect → Type 0
-Internal (Show fields) = NoneExternal fields
-Internal (Write label key fields) = NoneExternal fields
-Internal _ = ⊤
-
-delivered_internal : (s : State) (field : List ℕ) (to : Option (List ℕ)) (key : Denoted) → is_token_field field ≡ true → Internal (delivered_with s field to key [])
-delivered_internal s field None key is = subst (λ t. UnlessExternal t (token_for (keys_of s.registers) key) ⊤) (sym is) (token_first (keys_of s.registers) key, tt)
+delivered_internal : (s : State) (field : List ℕ) (to : Option (List ℕ)) (key : Denoted) → is_token_field field ≡ true → EffectShows IsInternal (delivered_with s field to key [])
+delivered_internal s field None key is = subst (λ t. IfToken IsInternal t (token_for (keys_of s.registers) key) ⊤) (sym is) (token_first (keys_of s.registers) key, tt)
 delivered_internal s field (Some label) key is = tt
 
-internal : (s : State) (drawn : List ℕ) (name : RequestName) (r : Request) → gives_external name ≡ false → Internal (effect s drawn name r)
+internal : (s : State) (drawn : List ℕ) (name : RequestName) (r : Request) → gives_external name ≡ false → EffectShows IsInternal (effect s drawn name r)
 unfolding label_fields
 internal s drawn csnbcki r none = delivered_internal s (codes "token") (label_named (value_of r (codes "to"))) _ refl
 internal s drawn csnbkgn_op r none = delivered_internal s (codes "token1") (label_named (value_of r (codes "to"))) _ refl
@@ -281,26 +277,6 @@ internal s drawn csnbkgn_pair r none = cc none
 internal s drawn csnbkgn_out r none = cc none
 internal s drawn _ r none = tt
 
-fields_internal : (s : State) (e : Effect) → Internal e → NoneExternal (fields_after s e)
-fields_internal s (Show fields) is = is
-fields_internal s (Write label key fields) is = is
-fields_internal s _ is = tt
-
-unless_append : (t : Bool) (bytes : List ℕ) (one other : Type 0) → (one → other) → UnlessExternal t bytes one → UnlessExternal t bytes other
-unless_append true bytes one other more is = (is.0, more is.1)
-unless_append false bytes one other more is = more is
-
-internal-append : (fs gs : List Field) → NoneExternal fs → NoneExternal gs → NoneExternal (fs ++ gs)
-internal-append [] gs first second = second
-internal-append (Hex name bytes ∷ fs) gs first second =
-    unless_append (is_token_field name) bytes (NoneExternal fs) (NoneExternal (fs ++ gs)) (λ is. internal-append fs gs is second) first
-internal-append (Text name bytes ∷ fs) gs first second = internal-append fs gs first second
-internal-append (Number name value ∷ fs) gs first second = internal-append fs gs first second
-
-warning_internal : (b : Bool) → NoneExternal (warning b)
-warning_internal true = tt
-warning_internal false = tt
-
 pub shows_no_external : (s : State) (drawn : List ℕ) (r : Request) → gives_external r.name ≡ false → ShowsNoExternal (performed s drawn r).reply
 unfolding performed
 shows_no_external s drawn r none = by_verdict (verdict s r)
@@ -308,8 +284,8 @@ shows_no_external s drawn r none = by_verdict (verdict s r)
     by_verdict : (v : Option Refusal) → ShowsNoExternal (or_act v s drawn r).reply
     by_verdict (Some refusal) = tt
     by_verdict None =
-        internal-append (fields_after s (effect s drawn r.name r)) (warning (any_old s (listed (operands r))))
-        (fields_internal s (effect s drawn r.name r) (internal s drawn r.name r none)) (warning_internal (any_old s (listed (operands r))))
+        each-append IsInternal (fields_after s (effect s drawn r.name r)) (warning (any_old s (listed (operands r))))
+        (fields_have IsInternal s (effect s drawn r.name r) (internal s drawn r.name r none)) (warning_has IsInternal (any_old s (listed (operands r))))
 
 pub closed_for_good : (clear : ClearKey) → IsValid clear.vector → ((closed_key clear).key ≡ clear.key) × (is_exportable (closed_key clear).vector ≡ false)
 closed_for_good clear valid = (refl, closing_off clear.vector valid)

@@ -4,8 +4,10 @@ pub mod EachLine
 pub mod KeyInParts
 pub mod MasterBytes
 pub mod NamedLabels
+pub mod Passing
 pub mod Points
 pub mod ReplyLines
+pub mod ReplyTokens
 pub mod Sealed
 pub mod Targets
 pub mod Uses

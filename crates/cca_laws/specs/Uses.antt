@@ -1,6 +1,5 @@
 -- What a key may be used for, by its control vector.
-use Rattle.std.specs.Prelude.{◌≡◌, ◌≢◌, ◌⊎◌, ℕ, Bool, true, false, List, [], ◌∷◌, Some, ⊤, codes, take, slice_index}
-use Rattle.std.specs.Str.{bytes_eq}
+use Rattle.std.specs.Prelude.{◌≡◌, ◌≢◌, ◌⊎◌, ℕ, Bool, true, false, List, [], ◌∷◌, Some, ⊤, slice_index}
 use Rattle.cca_vectors.specs.Classes.{class_of}
 use Rattle.cca_vectors.specs.Permissions.{is_exportable, permits}
 use Rattle.cca_vectors.specs.Vectors.{is_part_of, length_of}
@@ -8,11 +7,12 @@ use Rattle.cca_vectors.specs.declared.key_class.Class.{Class}
 use Rattle.cca_vectors.specs.declared.key_class.Class.TheVariants.{Data, Cipher, Mac, Exporter, Importer}
 use Rattle.cca_vectors.specs.declared.key_usage.Usage.{Usage}
 use Rattle.cca_vectors.specs.declared.key_usage.Usage.TheVariants.{Encipher, Decipher, MacGenerate, MacVerify, Transport}
-use Rattle.script_buffers.specs.Replies.{Field, Hex, Text, Number, Reply, Refused, Done}
+use Rattle.script_buffers.specs.Replies.{Reply}
 use Rattle.verb_rules.specs.Classes.{classes_of, has}
 use Rattle.verb_rules.specs.declared.needs.Need.{Need}
 use Rattle.verb_script.specs.Grammar.{Request, RequestName, csnbenc, csnbenc_first, csnbenc_middle, csnbenc_last, csnbdec, csnbdec_first, csnbdec_middle, csnbdec_last, csnbmgn, csnbmgn_first, csnbmgn_middle, csnbmgn_last, csnbmvr, csnbmvr_first, csnbmvr_middle, csnbmvr_last, csnbkgn_pair, csnbkgn_out, csnbkim, csnbkex, csnbktr}
 use Rattle.cca_machine.specs.Operands.{Operand, operands}
+use Rattle.cca_laws.specs.ReplyTokens.{ShowsTokens}
 
 -- ---- by the needs of an operand
 
@@ -85,22 +85,9 @@ gives_external csnbkgn_out = true
 gives_external csnbktr = true
 gives_external _ = false
 
--- the field is called token, token1 or token2
-abbrev pub is_token_field : List ℕ → Bool
-is_token_field name = bytes_eq (take 5 name) (codes "token")
-
-abbrev pub UnlessExternal : Bool → List ℕ → Type 0 → Type 0
-UnlessExternal true bytes others = (slice_index bytes 0 ≢ 0x02) × others
-UnlessExternal false bytes others = others
-
--- no field is an external token, which begins with X'02'
-abbrev pub NoneExternal : List Field → Type 0
-NoneExternal [] = ⊤
-NoneExternal (Hex name bytes ∷ fields) =
-    UnlessExternal (is_token_field name) bytes (NoneExternal fields)
-NoneExternal (Text name bytes ∷ fields) = NoneExternal fields
-NoneExternal (Number name value ∷ fields) = NoneExternal fields
+-- the token is no external one, which begins with X'02'
+abbrev pub IsInternal : List ℕ → Type 0
+IsInternal bytes = slice_index bytes 0 ≢ 0x02
 
 abbrev pub ShowsNoExternal : Reply → Type 0
-ShowsNoExternal (Refused rule operand) = ⊤
-ShowsNoExternal (Done fields) = NoneExternal fields
+ShowsNoExternal reply = ShowsTokens IsInternal reply

@@ -4,7 +4,7 @@ ghost use Rattle.std.specs.Prelude.{◌≡◌, ℕ, List, Some, None, codes, fal
 ghost use Rattle.cca_machine.specs.Act.{performed};
 ghost use Rattle.cca_machine.specs.Keys.{key_in_text};
 ghost use Rattle.cca_machine.specs.Operands.{Operand};
-ghost use Rattle.cca_machine.specs.State.{State};
+ghost use Rattle.cca_machine.specs.State.{State, IsStoreOf};
 ghost use Rattle.cca_machine.specs.Verdict.{verdict};
 ghost use Rattle.cca_machine.specs.declared.asking.Ask.TheVariants as ask;
 ghost use Rattle.cca_vectors.specs.Permissions.{is_exportable};
@@ -13,12 +13,14 @@ ghost use Rattle.key_tokens.specs.Denotes.{ClearKey, Denoted};
 ghost use Rattle.key_transport.specs.Tokens.{closed_key};
 ghost use Rattle.verb_rules.specs.declared.needs.Need.{Need};
 ghost use Rattle.verb_script.specs.Grammar.{Request, value_of};
+ghost use Rattle.cca_laws.specs.Passing.{StaysUnexportable, passed_vector};
 ghost use Rattle.cca_laws.specs.Uses.{Allows, IsOperandOf, MayWork, MayCarry, ShowsNoExternal, gives_external};
 
 /// A request that no rule refuses uses a key only where the key's control vector permits it: by what each operand needs,
 /// and, verb by verb, by class, permission bit, export bit and length, also where a text comes in segments. No reply but to
 /// CSNBKEX, to CSNBKTR and to the generation of a pair has an external token. A key that CSNBPEX closed is the same key,
-/// and its control vector forbids export.
+/// and its control vector forbids export. Where a request passes on a key whose control vector forbids export, so does
+/// that of each token in its reply, and that of the key in the record that it writes.
 pub fn keys_are_used_as_permitted()
     ensures operands { (s : State) (r : Request) (o : Operand) (need : Need) (key : Denoted)
         → verdict s r ≡ None → IsOperandOf r o → o.ask ≡ ask.Key need
@@ -33,4 +35,7 @@ pub fn keys_are_used_as_permitted()
         → ShowsNoExternal (performed s drawn r).reply }
     ensures closed { (clear : ClearKey) → IsValid clear.vector
         → ((closed_key clear).key ≡ clear.key) × (is_exportable (closed_key clear).vector ≡ false) }
+    ensures still { (s : State) (image drawn vector : List ℕ) (r : Request) → IsStoreOf s image
+        → verdict s r ≡ None → passed_vector s r ≡ Some vector → is_exportable vector ≡ false
+        → StaysUnexportable r (performed s drawn r) }
 {}
