@@ -1,5 +1,5 @@
--- What the machine puts into hexadecimal fields are bytes, each below 256: what ciphers and codes give, whatever their
--- keys and texts are, control vectors, tokens, and what digits spell.
+-- What the machine puts into hexadecimal fields are bytes, each below 256: what digits spell, what ciphers and codes give,
+-- control vectors and tokens.
 use Rattle.std.proofs.Common.{◌≡◌, ℕ, zero, suc, ◌-◌, ◌*◌, ◌/◌, ◌<◌, Bool, true, false, List, [], ◌∷◌, ◌++◌, length, set, take, drop, replicate, get_or, Option, None, Some, refl, arith}
 use Rattle.std.specs.Prelude.{⊤, bit_xor, nat_lt, unwrap_or, IfSome, if◌then◌else◌, Result, Ok, Err}
 use Rattle.std.specs.Int.{bytes_high_first, to_be_bytes, w32}
@@ -159,11 +159,11 @@ bytes_une : (key block : List ℕ) → Bytes (une key block)
 unfolding une
 bytes_une key block = either _ (deciphered key block) (ded (take 8 key) (drop 8 key) (take 8 key) block) (bytes-deciphered key block).each (bytes-ded _ _ _ block).each
 
--- the first four bytes of a block, or any number
+-- the front of an enciphered block
 pub bytes_front : (n : ℕ) (key block : List ℕ) → Bytes (take n (e key block))
 bytes_front n key block = takes n (e key block) (bytes_e key block)
 
--- each block has bytes
+-- blocks of bytes
 abbrev AreBlocks : List (List ℕ) → Type 0
 AreBlocks [] = ⊤
 AreBlocks (b ∷ bs) = Bytes b × AreBlocks bs
@@ -229,6 +229,7 @@ bytes_code_of X919 clear text = (bytes-enciphered (take 8 clear.key) (deciphered
 
 -- ---- segments
 
+-- a chain of bytes
 pub record HasBytes (chain : Chain) : Type 0 where
   pub block : Bytes chain.block
   pub carried : Bytes chain.carried
@@ -311,6 +312,7 @@ bytes_vector_for kind size = by_default (default_vector kind size) (default_vali
 
 -- ---- tokens
 
+-- places with bytes
 abbrev HavePlaces : List Place → Type 0
 HavePlaces [] = ⊤
 HavePlaces (p ∷ ps) = Bytes p.content × HavePlaces ps
@@ -372,7 +374,7 @@ module _ (clear : ClearKey) (are : Bytes clear.vector) where
   unfolding external_token
   bytes_external transport = bytes_made _ (zeros 8) (bytes_left _ clear.vector clear.key) (bytes_right _ clear.vector clear.key) are
 
--- ---- the vectors of keys that tokens stand for
+-- ---- the vectors of the keys that tokens stand for
 
 -- the control vector of a key, where there is one, has bytes
 abbrev pub HasVector : Option Denoted → Type 0
