@@ -13,6 +13,7 @@ pub mod PartLaws
 pub mod PointLaws
 pub mod PrintLaws
 pub mod ReplyLaws
+pub mod RunLaws
 pub mod SealedLaws
 pub mod SizeLaws
 pub mod TokenFields

@@ -65,7 +65,7 @@ along_apart s random (line ∷ lines) now zero d within = now
 along_apart s random (line ∷ lines) now (suc k) d within =
     along_apart (line_outcome s random line).state (line_outcome s random line).random lines (line_apart s random line now) k d (omega (arith, within))
 
-first_along : (s : State) (random : List ℕ) (lines : List (List ℕ)) → Contains (states_along s random lines) s
+pub first_along : (s : State) (random : List ℕ) (lines : List (List ℕ)) → Contains (states_along s random lines) s
 first_along s random [] = (0, omega arith, refl)
 first_along s random (line ∷ lines) = (0, omega arith, refl)
 

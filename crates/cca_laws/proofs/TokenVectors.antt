@@ -1,5 +1,5 @@
 -- The control vector that is read back from a token that was written with it.
-use Rattle.std.proofs.Common.{◌≡◌, ℕ, zero, suc, ◌+◌, ◌*◌, ◌-◌, ◌≤◌, Bool, true, false, not, List, [], ◌∷◌, ◌++◌, length, get_or, take, drop, replicate, Option, None, Some, ⊎_elim, refl, sym, ap, ◌∙◌, ◌||◌, ◌&&◌, ◌==◌, true≢false, arith}
+use Rattle.std.proofs.Common.{◌≡◌, ℕ, zero, suc, ◌+◌, ◌*◌, ◌≤◌, Bool, true, false, not, List, [], ◌∷◌, ◌++◌, length, get_or, take, drop, replicate, Option, None, Some, ⊎_elim, refl, sym, ap, ◌∙◌, ◌||◌, ◌&&◌, ◌==◌, true≢false, arith}
 use Rattle.std.specs.Prelude.{if◌then◌else◌, is_none}
 use Rattle.std.specs.Int.{bit_at, to_be_bytes, w32}
 use Rattle.std.specs.Str.{bytes_eq}

@@ -10,6 +10,7 @@ mod parts;
 mod points;
 mod repeating;
 mod replies;
+mod resting;
 mod sealing;
 mod usage;
 
@@ -21,5 +22,6 @@ pub use parts::a_key_from_its_parts;
 pub use points::no_point_no_effect;
 pub use repeating::the_same_in_the_same_out;
 pub use replies::one_reply_is_one_line;
+pub use resting::a_run_leaves_a_sealed_store;
 pub use sealing::the_store_is_sealed;
 pub use usage::keys_are_used_as_permitted;
