@@ -63,3 +63,39 @@ fn kinds_of_characters(rt: HostRuntime) {
         assert_eq!(rt; is_label_byte(c), label);
     }
 }
+
+#[test]
+fn copied_to_the_front(rt: HostRuntime) {
+    let mut room = [1, 2, 3];
+    put_front(&mut room, &[7, 8]);
+    assert_eq!(rt; room, [7, 8, 3]);
+}
+
+#[test]
+fn texts_that_are_names(rt: HostRuntime) {
+    let texts: [(&[u8], bool, bool); 11] = [
+        (b"", false, false),
+        (b"A", true, true),
+        (b"TELLER12", true, true),
+        (b"TELLER123", true, false),
+        (b"1A", false, false),
+        (b".A", false, false),
+        (b"A.1", true, false),
+        (b"#$@", true, false),
+        (b"a", false, false),
+        (
+            b"A234567890123456789012345678901234567890123456789012345678901234",
+            true,
+            false,
+        ),
+        (
+            b"A2345678901234567890123456789012345678901234567890123456789012345",
+            false,
+            false,
+        ),
+    ];
+    for (text, label, role) in texts {
+        assert_eq!(rt; is_label(text), label, "{text:?}");
+        assert_eq!(rt; is_role_name(text), role, "{text:?}");
+    }
+}

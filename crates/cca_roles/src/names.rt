@@ -1,11 +1,9 @@
 //! Names of roles.
-ghost use Rattle.std.specs.Prelude.{◌≡◌, ◌+◌, ◌≤◌, ◌<◌, ◌++◌, ◌-◌, ◌↔◌, length, replicate, drop, nat_le, IfSome, IsSome};
-ghost use Rattle.std.specs.List.{list_all};
+ghost use Rattle.std.specs.Prelude.{◌≡◌, ◌+◌, ◌≤◌, ◌<◌, ◌++◌, ◌-◌, ◌↔◌, length, replicate, IfSome, IsSome};
 ghost use Rattle.std.specs.Str.{bytes_eq};
-ghost use Rattle.cca_roles.specs.RoleNames.{is_name_byte, starts_name};
-ghost use Rattle.cca_roles.specs.RoleNames.{is_role_name, IsRoleName, default_name};
+ghost use Rattle.cca_roles.specs.RoleNames.{IsRoleName, default_name};
 
-use byte_lists::{is_digit, is_letter};
+use byte_lists::{is_role_name, put_front};
 use std::marker::Model;
 
 /// A role's name: 1 to 8 characters of A to Z and 0 to 9, of which the first is a letter.
@@ -29,44 +27,6 @@ impl Model for RoleName {
     ghost inverse = { inside_of };
 
     ghost inverse_ok = { inside_again };
-}
-
-fn is_name_byte(c: u8) -> bool
-    ensures { result ≡ is_name_byte c }
-{
-    is_letter(c) || is_digit(c)
-}
-
-fn starts_name(text: &[u8]) -> bool
-    ensures { result ≡ starts_name text.now }
-{
-    !text.is_empty() && is_letter(text[0])
-}
-
-fn is_short(text: &[u8]) -> bool
-    ensures { result ≡ nat_le (length text.now) 8 }
-{
-    text.len() <= 8
-}
-
-fn are_name_bytes(text: &[u8]) -> bool
-    ensures { result ≡ list_all is_name_byte text.now }
-{
-    text.iter().all(|c| is_name_byte(*c))
-}
-
-#[tactic(auto, unfolding(crate::specs::RoleNames::is_role_name))]
-fn is_role_name(text: &[u8]) -> bool
-    ensures { result ≡ is_role_name text.now }
-{
-    starts_name(text) && is_short(text) && are_name_bytes(text)
-}
-
-fn put_front(room: &mut [u8], text: &[u8])
-    requires { length text.now ≤ length room.old }
-    ensures { room.new ≡ text.now ++ drop (length text.now) room.old }
-{
-    room[..text.len()].copy_from_slice(text);
 }
 
 impl RoleName {

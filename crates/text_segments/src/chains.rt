@@ -3,7 +3,7 @@ ghost use Rattle.std.specs.Prelude.{◌≡◌, ◌↔◌, ◌≤◌, ◌<◌, �
 ghost use Rattle.cca_vectors.specs.Checks.{first_failing};
 ghost use Rattle.text_segments.specs.Chains.{chain_bytes, chain_checks, chain_of, first_chain, is_chain};
 
-use byte_lists::is_zero;
+use byte_lists::{is_zero, put_front};
 use std::marker::Model;
 
 /// How many bytes a block has.
@@ -46,14 +46,6 @@ pub struct Chain {
     pub block: [u8; 8],
     /// The bytes that are no whole block yet.
     pub carried: Carried,
-}
-
-/// Puts some bytes at the front of others.
-fn put_front(room: &mut [u8], bytes: &[u8])
-    requires { length bytes.now ≤ length room.old }
-    ensures { room.new ≡ bytes.now ++ drop (length bytes.now) room.old }
-{
-    room[..bytes.len()].copy_from_slice(bytes);
 }
 
 impl Carried {
