@@ -49,12 +49,12 @@ pub record IsTaken (taken : Taken) (ahead rest : List ℕ) (reading : Reading) :
   pub takes : TakesLine ahead line rest reading.ended
   pub is : IsTheLine taken reading line
 
-line_taken : (taken : Taken) (ahead rest : List ℕ) (reading : Reading) → (taken ≡ End → ⊥) → Takes taken ahead reading rest → IsTaken taken ahead rest reading
+pub line_taken : (taken : Taken) (ahead rest : List ℕ) (reading : Reading) → (taken ≡ End → ⊥) → Takes taken ahead reading rest → IsTaken taken ahead rest reading
 line_taken Line ahead rest reading some takes = record { line = reading.line; takes = takes.0; is = refl }
 line_taken TooLong ahead rest reading some takes = record { line = takes.0; takes = takes.1; is = takes.2 }
 line_taken End ahead rest reading some takes = absurd (some refl)
 
-long_line : (n b : ℕ) → length (replicate n b) ≡ n
+pub long_line : (n b : ℕ) → length (replicate n b) ≡ n
 long_line zero b = refl
 long_line (suc n) b = ap suc (long_line n b)
 
@@ -107,18 +107,18 @@ module _ (A : Machine) (s : A.State) (K : A.State → Type 0) where
   -- no line was answered
   module _ (w : World) (a b p q : Option (List ℕ)) (r0 r1 : Reading) (X : List ℕ → List ℕ → Type 0) (told : WhereTold a b X)
       (stands : Stands A s K w.module_ w.store) (m : IsSettled w.module_) (d : IsSettled w.store) where
-    module_as_before : WhereTold a b (λ i r. EachImage w.module_ w.module_ (λ c. IsAroundLine A s w.random (r0.pending ++ i) (λ t. A.InModule t c)))
+    pub module_as_before : WhereTold a b (λ i r. EachImage w.module_ w.module_ (λ c. IsAroundLine A s w.random (r0.pending ++ i) (λ t. A.InModule t c)))
     module_as_before = told_weaker a b _ _ (λ i r x. each_weaker w.module_ w.module_ _ _ (stays_still w stands m d).on_module (λ c h. inl h)) told
 
-    store_as_before : WhereTold a b (λ i r. EachImage w.store w.store (λ e. IsAroundLine A s w.random (r0.pending ++ i) (λ t. A.InStore t e)))
+    pub store_as_before : WhereTold a b (λ i r. EachImage w.store w.store (λ e. IsAroundLine A s w.random (r0.pending ++ i) (λ t. A.InStore t e)))
     store_as_before = told_weaker a b _ _ (λ i r x. each_weaker w.store w.store _ _ (stays_still w stands m d).on_store (λ c h. inl h)) told
 
-    pairs_as_before : WhereTold a b (λ i r. EachPair w.module_ w.module_ w.store w.store (λ c e. IsAroundLine A s w.random (r0.pending ++ i) (Both A c e)))
+    pub pairs_as_before : WhereTold a b (λ i r. EachPair w.module_ w.module_ w.store w.store (λ c e. IsAroundLine A s w.random (r0.pending ++ i) (Both A c e)))
     pairs_as_before =
         let stays = stays_still w stands m d in
         told_weaker a b _ _ (λ i r x. each_pair w.module_ w.module_ w.store w.store _ _ _ stays.on_module stays.on_store (λ c e h k. inl (h, k))) told
 
-    still_within : (May : List ℕ → List ℕ → List ℕ → Type 0) (old : Medium) → IsSettled old
+    pub still_within : (May : List ℕ → List ℕ → List ℕ → Type 0) (old : Medium) → IsSettled old
         → WhereTold a b (λ i r. EachImage old old (IsWithinLine May old (r0.pending ++ i)))
     still_within May old settled =
         told_weaker a b _ _ (λ i r x. each_weaker old old _ _ (each_still old) (λ c image. inl (settled.only c image))) told
@@ -139,7 +139,7 @@ module _ (A : Machine) (s : A.State) (K : A.State → Type 0) where
       goes_on = (s, stands);
     }
 
-    stopped : (stop : Stop) → (stop ≡ WriteFault → ⊥) → (IsLineStop stop → ⊥) → ((device : Device) (cell : ℕ) → stop ≡ Damaged device cell → ⊥)
+    pub stopped : (stop : Stop) → (stop ≡ WriteFault → ⊥) → (IsLineStop stop → ⊥) → ((device : Device) (cell : ℕ) → stop ≡ Damaged device cell → ⊥)
         → LineServed A s K (Err stop) w w a b p q r0 r1
     stopped stop no_write no_line no_damage = record {
       replied = λ h. absurd (cc h);
@@ -162,25 +162,25 @@ module _ (A : Machine) (s : A.State) (K : A.State → Type 0) where
     pub line_over : LineServed A s K (Err InputLimit) w w a b p q r0 r1
     line_over = stopped InputLimit (λ h. cc h) (λ kind. kind) (λ device cell h. cc h)
 
-  moved : (u : Unit {0}) (line reply : List ℕ) (old new : World) → Serves A s K line (Ok u) reply old new → Moves A s K line (Ok u) reply old new
+  pub moved : (u : Unit {0}) (line reply : List ℕ) (old new : World) → Serves A s K line (Ok u) reply old new → Moves A s K line (Ok u) reply old new
   moved u line reply old new serves = by_case serves.served
     where
       by_case : Moves A s K line (Ok u) reply old new ⊎ (⊥ × Stays A s old new) → Moves A s K line (Ok u) reply old new
       by_case (inl moves) = moves
       by_case (inr stopped) = absurd stopped.0
 
-  leads_one : (result : Result (Unit {0}) Stop) (line reply : List ℕ) (old new : World) → (moves : Moves A s K line result reply old new)
+  pub leads_one : (result : Result (Unit {0}) Stop) (line reply : List ℕ) (old new : World) → (moves : Moves A s K line result reply old new)
       → LeadsOne A s old.random line moves.next
   leads_one result line reply old new moves =
       record { drawn = moves.drawn; front = front_of old.random new.random moves.drawn moves.consumed; reply = moves.answer; steps = moves.steps }
 
-  around : (random : Option (List ℕ)) (line ahead rest : List ℕ) (next : A.State) (P : A.State → Type 0) → lines ahead ≡ line ∷ lines rest
+  pub around : (random : Option (List ℕ)) (line ahead rest : List ℕ) (next : A.State) (P : A.State → Type 0) → lines ahead ≡ line ∷ lines rest
       → LeadsOne A s random line next → Around A s line next P → IsAroundLine A s random ahead P
   around random line ahead rest next P first leads on = inr (line, rest, first, (next, leads, on))
 
   module _ (result : Result (Unit {0}) Stop) (taken : Taken) (now : Reading) (some : taken ≡ End → ⊥) (reply : List ℕ) (old new : World)
       (serves : (line : List ℕ) → IsTheLine taken now line → Serves A s K line result reply old new) where
-    around_module : (r0 : Reading) (a b : Option (List ℕ)) → WhereTold a b (λ i r. Takes taken (r0.pending ++ i) now (now.pending ++ r))
+    pub around_module : (r0 : Reading) (a b : Option (List ℕ)) → WhereTold a b (λ i r. Takes taken (r0.pending ++ i) now (now.pending ++ r))
         → WhereTold a b (λ i r. EachImage old.module_ new.module_ (λ c. IsAroundLine A s old.random (r0.pending ++ i) (λ t. A.InModule t c)))
     around_module r0 a b takes =
         told_weaker a b _ _
@@ -196,7 +196,7 @@ module _ (A : Machine) (s : A.State) (K : A.State → Type 0) where
             (λ c on. around old.random line ahead rest moves.next (λ t. A.InModule t c) first (leads_one result line reply old new moves) on)
         by_case ahead rest line first (inr stays) = each_weaker old.module_ new.module_ _ _ stays.1.on_module (λ c h. inl h)
 
-    around_store : (r0 : Reading) (a b : Option (List ℕ)) → WhereTold a b (λ i r. Takes taken (r0.pending ++ i) now (now.pending ++ r))
+    pub around_store : (r0 : Reading) (a b : Option (List ℕ)) → WhereTold a b (λ i r. Takes taken (r0.pending ++ i) now (now.pending ++ r))
         → WhereTold a b (λ i r. EachImage old.store new.store (λ d. IsAroundLine A s old.random (r0.pending ++ i) (λ t. A.InStore t d)))
     around_store r0 a b takes =
         told_weaker a b _ _
@@ -212,7 +212,7 @@ module _ (A : Machine) (s : A.State) (K : A.State → Type 0) where
             (λ c on. around old.random line ahead rest moves.next (λ t. A.InStore t c) first (leads_one result line reply old new moves) on)
         by_case ahead rest line first (inr stays) = each_weaker old.store new.store _ _ stays.1.on_store (λ c h. inl h)
 
-    around_pairs : (r0 : Reading) (a b : Option (List ℕ)) → WhereTold a b (λ i r. Takes taken (r0.pending ++ i) now (now.pending ++ r))
+    pub around_pairs : (r0 : Reading) (a b : Option (List ℕ)) → WhereTold a b (λ i r. Takes taken (r0.pending ++ i) now (now.pending ++ r))
         → WhereTold a b (λ i r. EachPair old.module_ new.module_ old.store new.store (λ c d. IsAroundLine A s old.random (r0.pending ++ i) (Both A c d)))
     around_pairs r0 a b takes =
         told_weaker a b _ _
@@ -232,7 +232,7 @@ module _ (A : Machine) (s : A.State) (K : A.State → Type 0) where
         by_case ahead rest line first (inr stays) =
             each_pair old.module_ new.module_ old.store new.store _ _ _ stays.1.on_module stays.1.on_store (λ c d h k. inl (h, k))
 
-    within_line : (May : List ℕ → List ℕ → List ℕ → Type 0) (m0 m1 : Medium) → ((line : List ℕ) → IsTheLine taken now line → EachImage m0 m1 (From (May line) m0))
+    pub within_line : (May : List ℕ → List ℕ → List ℕ → Type 0) (m0 m1 : Medium) → ((line : List ℕ) → IsTheLine taken now line → EachImage m0 m1 (From (May line) m0))
         → (r0 : Reading) (a b : Option (List ℕ)) → WhereTold a b (λ i r. Takes taken (r0.pending ++ i) now (now.pending ++ r))
         → WhereTold a b (λ i r. EachImage m0 m1 (IsWithinLine May m0 (r0.pending ++ i)))
     within_line May m0 m1 within r0 a b takes =
@@ -242,23 +242,23 @@ module _ (A : Machine) (s : A.State) (K : A.State → Type 0) where
         each_weaker m0 m1 _ _ (within here.line here.is) (λ c from. inr (here.line, now.pending ++ r, here.takes.first, from)))
         takes
 
-    within_module : (r0 : Reading) (a b : Option (List ℕ)) → WhereTold a b (λ i r. Takes taken (r0.pending ++ i) now (now.pending ++ r))
+    pub within_module : (r0 : Reading) (a b : Option (List ℕ)) → WhereTold a b (λ i r. Takes taken (r0.pending ++ i) now (now.pending ++ r))
         → WhereTold a b (λ i r. EachImage old.module_ new.module_ (IsWithinLine (A.ModuleMay s) old.module_ (r0.pending ++ i)))
     within_module = within_line (A.ModuleMay s) old.module_ new.module_ (λ line is. (serves line is).within.on_module)
 
-    within_store : (r0 : Reading) (a b : Option (List ℕ)) → WhereTold a b (λ i r. Takes taken (r0.pending ++ i) now (now.pending ++ r))
+    pub within_store : (r0 : Reading) (a b : Option (List ℕ)) → WhereTold a b (λ i r. Takes taken (r0.pending ++ i) now (now.pending ++ r))
         → WhereTold a b (λ i r. EachImage old.store new.store (IsWithinLine (A.StoreMay s) old.store (r0.pending ++ i)))
     within_store = within_line (A.StoreMay s) old.store new.store (λ line is. (serves line is).within.on_store)
 
-    keeps_spare : KeepsSpare old new
+    pub keeps_spare : KeepsSpare old new
     keeps_spare = let here = some_line taken now some in within_spare A s here.0 old new (serves here.0 here.1).within
 
   module _ (taken : Taken) (now : Reading) (some : taken ≡ End → ⊥) (reply : List ℕ) (old new : World) (u : Unit {0})
       (serves : (line : List ℕ) → IsTheLine taken now line → Serves A s K line (Ok u) reply old new) where
-    turned : Turns A old new
+    pub turned : Turns A old new
     turned = let here = some_line taken now some in (serves here.0 here.1).turns
 
-    goes_on : (t : A.State) × Stands A t K new.module_ new.store
+    pub goes_on : (t : A.State) × Stands A t K new.module_ new.store
     goes_on =
         let here = some_line taken now some in
         let moves = moved u here.0 reply old new (serves here.0 here.1) in
@@ -337,11 +337,11 @@ module _ (A : Machine) (s : A.State) (K : A.State → Type 0) where
 
   module _ (taken : Taken) (now : Reading) (some : taken ≡ End → ⊥) (reply : List ℕ) (old new : World) (stop : Stop)
       (serves : (line : List ℕ) → IsTheLine taken now line → Serves A s K line (Err stop) reply old new) where
-    stayed : Stays A s old new → EachPairStands A s new
+    pub stayed : Stays A s old new → EachPairStands A s new
     stayed stays = λ c d left right.
         (image_now old.module_ new.module_ (A.InModule s) stays.on_module c left, image_now old.store new.store (A.InStore s) stays.on_store d right)
 
-    loses : (line ahead rest : List ℕ) (ended : Bool) → TakesLine ahead line rest ended → Serves A s K line (Err stop) reply old new
+    pub loses : (line ahead rest : List ℕ) (ended : Bool) → TakesLine ahead line rest ended → Serves A s K line (Err stop) reply old new
         → LosesLine A stop s old new ahead rest ended
     loses line ahead rest ended takes here = record {
       line = line;
@@ -363,7 +363,7 @@ module _ (A : Machine) (s : A.State) (K : A.State → Type 0) where
         })
         by_case (inr stays) = inl (stayed stays.1)
 
-    is_line_stop : IsLineStop stop
+    pub is_line_stop : IsLineStop stop
     is_line_stop = let here = some_line taken now some in (serves here.0 here.1).stops.0
 
     pub line_lost : (r0 : Reading) (a b p q : Option (List ℕ)) → WhereTold a b (λ i r. Takes taken (r0.pending ++ i) now (now.pending ++ r))

@@ -15,7 +15,7 @@ use Rattle.line_service.specs.declared.stops.Stop.{Stop}
 use Rattle.line_service.specs.declared.stops.Stop.TheVariants.{ReadFault, WriteFault, InputLimit, Damaged}
 use Rattle.line_service.proofs.RunLemmas.{no_opening_draw, no_opening_answer}
 
-holds_still : (m0 m : Medium) (P : List ℕ → Type 0) → Keeps m0 m → Holds m0 P → Holds m P
+pub holds_still : (m0 m : Medium) (P : List ℕ → Type 0) → Keeps m0 m → Holds m0 P → Holds m P
 holds_still m0 m P kept holds = record { image = holds.image; told = kept.content ∙ holds.told; has = holds.has }
 
 -- what holds of nothing that is told holds of what was told before
@@ -59,14 +59,14 @@ module _ (A : Machine) (m0 m d0 d : Medium) (random : Option (List ℕ)) (kept_m
   }
 
   -- what became of the content as it was opened became of it as it was
-  becomes_from : (x y z : Medium) (step : List ℕ → List ℕ → Type 0) → Keeps x y → Becomes step y z → Becomes step x z
+  pub becomes_from : (x y z : Medium) (step : List ℕ → List ℕ → Type 0) → Keeps x y → Becomes step y z → Becomes step x z
   becomes_from x y z step kept becomes = record {
     size = becomes.size ∙ kept.moments.size;
     told = λ c is. let from = becomes.told c is in (from.0, sym kept.content ∙ from.1, from.2);
     still = λ some. becomes.still (subst IsSome (sym kept.content) some);
   }
 
-  still : (x y : Medium) → Keeps x y → (c : List ℕ) → y.images c ⊎ From SameSpare y c → x.images c ⊎ From SameSpare x c
+  pub still : (x y : Medium) → Keeps x y → (c : List ℕ) → y.images c ⊎ From SameSpare y c → x.images c ⊎ From SameSpare x c
   still x y kept c (inl h) = inl (kept.images c h)
   still x y kept c (inr from) = inr (from.0, sym kept.content ∙ from.1, from.2)
 

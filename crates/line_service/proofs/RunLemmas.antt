@@ -16,14 +16,14 @@ use Rattle.line_service.proofs.SessionLemmas.{leads_none, runs_push}
 use Rattle.line_service.specs.Stops.{AnswersLines, IsOpeningStop, IsFaultless}
 
 module _ (A : Machine) (s : A.State) (random : Option (List ℕ)) where
-  led_leads : (new : World) (ls : List (List ℕ)) (sent : List ℕ) → (led : Led A s random new ls sent) → Leads A s random ls led.last sent
+  pub led_leads : (new : World) (ls : List (List ℕ)) (sent : List ℕ) → (led : Led A s random new ls sent) → Leads A s random ls led.last sent
   led_leads new ls sent led = record { drawn = led.drawn; front = front_of random new.random led.drawn led.consumed; runs = led.runs }
 
-  got_all : (p q : Option (List ℕ)) (replies : List ℕ) → WhereTold p q (λ x y. y ≡ x ++ replies)
+  pub got_all : (p q : Option (List ℕ)) (replies : List ℕ) → WhereTold p q (λ x y. y ≡ x ++ replies)
       → WhereTold p q (λ x y. (sent : List ℕ) × (missing : List ℕ) × (y ≡ x ++ sent) × (replies ≡ sent ++ missing))
   got_all p q replies held = told_weaker p q _ _ (λ x y h. (replies, [], h, sym (append-nil replies))) held
 
-  prefix_all : (new : World) (i : List ℕ) (p q : Option (List ℕ)) → AllAnswered A s random new i p q → PrefixSent A s random i p q
+  pub prefix_all : (new : World) (i : List ℕ) (p q : Option (List ℕ)) → AllAnswered A s random new i p q → PrefixSent A s random i p q
   prefix_all new i p q all = record {
     first = lines i;
     others = [];
@@ -34,7 +34,7 @@ module _ (A : Machine) (s : A.State) (random : Option (List ℕ)) where
     held = got_all p q all.sent all.held;
   }
 
-  prefix_whole : (new : World) (i r : List ℕ) (p q : Option (List ℕ)) → WholeLinesAnswered A s random new i r p q → PrefixSent A s random i p q
+  pub prefix_whole : (new : World) (i r : List ℕ) (p q : Option (List ℕ)) → WholeLinesAnswered A s random new i r p q → PrefixSent A s random i p q
   prefix_whole new i r p q w = record {
     first = lines w.whole;
     others = lines (w.part ++ r);
@@ -45,7 +45,7 @@ module _ (A : Machine) (s : A.State) (random : Option (List ℕ)) where
     held = got_all p q w.sent w.held;
   }
 
-  prefix_cut : (new : World) (i : List ℕ) (p q : Option (List ℕ)) → ReplyCut A s random new i p q → PrefixSent A s random i p q
+  pub prefix_cut : (new : World) (i : List ℕ) (p q : Option (List ℕ)) → ReplyCut A s random new i p q → PrefixSent A s random i p q
   prefix_cut new i p q c = record {
     first = lines c.whole ++ c.line ∷ [];
     others = lines c.others;
@@ -65,7 +65,7 @@ module _ (A : Machine) (s : A.State) (random : Option (List ℕ)) where
     )) c.got;
   }
 
-  prefix_lost : (stop : Stop) (new : World) (i : List ℕ) (p q : Option (List ℕ)) → LineLost A stop s random new i p q → PrefixSent A s random i p q
+  pub prefix_lost : (stop : Stop) (new : World) (i : List ℕ) (p q : Option (List ℕ)) → LineLost A stop s random new i p q → PrefixSent A s random i p q
   prefix_lost stop new i p q l = record {
     first = lines l.whole;
     others = l.line ∷ lines l.others;
@@ -88,7 +88,7 @@ module _ (A : Machine) (s : A.State) (random : Option (List ℕ)) where
   }
 
 module _ (A : Machine) (s : A.State) (old new : World) (a b p q : Option (List ℕ)) where
-  prefix_stop : (result : Result (Unit {0}) Stop) (stop : Stop)
+  pub prefix_stop : (result : Result (Unit {0}) Stop) (stop : Stop)
       → WhereTold a b (λ i r. LineLost A stop s old.random new i p q ⊎ Unopened old new i r p q) → WhereTold a b (λ i r. PrefixSent A s old.random i p q)
   prefix_stop result stop told = told_weaker a b _ _ (λ i r x. by_case i r x) told
     where
@@ -106,7 +106,7 @@ module _ (A : Machine) (s : A.State) (old new : World) (a b p q : Option (List �
   prefix_sent (Err EntropyFault) run = prefix_stop (Err EntropyFault) EntropyFault (run.lost EntropyFault tt refl)
   prefix_sent (Err (Damaged device cell)) run = absurd (run.undamaged device cell refl)
 
-  too_long : (n m limit : ℕ) → n ≡ m + limit → n < limit → ⊥
+  pub too_long : (n m limit : ℕ) → n ≡ m + limit → n < limit → ⊥
   too_long n m limit is short = omega (arith, is, short)
 
   pub completes : (result : Result (Unit {0}) Stop) → RunServed A s result old new a b p q
@@ -125,7 +125,7 @@ module _ (A : Machine) (s : A.State) (old new : World) (a b p q : Option (List �
 
 -- ---- exactly where the input is too long
 
-equal_below : (n m limit : ℕ) → n ≡ m + limit → n < m + limit → ⊥
+pub equal_below : (n m limit : ℕ) → n ≡ m + limit → n < m + limit → ⊥
 equal_below n m limit is below = omega (arith, is, below)
 
 pub limit_is : (result : Result (Unit {0}) Stop) (a b : Option (List ℕ)) → WhereTold a b (λ i r. result ≡ Err InputLimit → length i ≡ length r + input_limit)

@@ -25,31 +25,31 @@ use Rattle.line_service.proofs.SpareLaws.{at_rest_nothing, at_rest_more}
 
 -- ---- bytes
 
-same_lines : (input : List ℕ) → lines input ≡ lines [] ++ lines input
+pub same_lines : (input : List ℕ) → lines input ≡ lines [] ++ lines input
 same_lines input = ap (λ ls. ls ++ lines input) (sym lines-nil)
 
-no_line : (line rest : List ℕ) → [] ≡ line ++ newline ∷ rest → ⊥
+pub no_line : (line rest : List ℕ) → [] ≡ line ++ newline ∷ rest → ⊥
 no_line [] rest same = cc
 no_line (b ∷ bs) rest same = cc
 
-ends_whole : (whole ahead line rest : List ℕ) (ended : Bool) → EndsLine whole ⊎ ((ahead ≡ []) × IsTrue ended)
+pub ends_whole : (whole ahead line rest : List ℕ) (ended : Bool) → EndsLine whole ⊎ ((ahead ≡ []) × IsTrue ended)
     → ahead ≡ line ++ newline ∷ rest → EndsLine whole
 ends_whole whole ahead line rest ended (inl ends) same = ends
 ends_whole whole ahead line rest ended (inr none) same = absurd (no_line line rest (sym none.0 ∙ same))
 
-more_lines : (input ahead line rest w whole : List ℕ)
+pub more_lines : (input ahead line rest w whole : List ℕ)
     → lines input ≡ lines w ++ lines ahead → lines ahead ≡ line ∷ lines rest → lines whole ≡ lines w ++ line ∷ []
     → lines input ≡ lines whole ++ lines rest
 more_lines input ahead line rest w whole all first more =
     all ∙ (ap (λ ls. lines w ++ ls) first
     ∙ (sym (append_assoc (lines w) (line ∷ []) (lines rest)) ∙ ap (λ ls. ls ++ lines rest) (sym more)))
 
-ended_line : (w line : List ℕ) → EndsLine w → NoNewline line → lines (w ++ (line ++ newline ∷ [])) ≡ lines w ++ line ∷ []
+pub ended_line : (w line : List ℕ) → EndsLine w → NoNewline line → lines (w ++ (line ++ newline ∷ [])) ≡ lines w ++ line ∷ []
 ended_line w line ends clean =
     lines-append w (line ++ newline ∷ []) ends
     ∙ ap (λ ls. lines w ++ ls) (lines-whole line [] clean ∙ ap (λ ls. line ∷ ls) lines-nil)
 
-last_line : (input w ahead line rest : List ℕ) → input ≡ w ++ ahead → lines input ≡ lines w ++ lines ahead
+pub last_line : (input w ahead line rest : List ℕ) → input ≡ w ++ ahead → lines input ≡ lines w ++ lines ahead
     → lines ahead ≡ line ∷ lines rest → ahead ≡ line → rest ≡ [] → lines (w ++ line) ≡ lines w ++ line ∷ []
 last_line input w ahead line rest taken all first same none =
     ap lines (ap (λ bytes. w ++ bytes) (sym same) ∙ sym taken)
@@ -70,12 +70,12 @@ held_then p q t sent reply first second =
 
 module _ (A : Machine) where
   -- one line after an outcome
-  abbrev onto : List ℕ → Outcome A.State → Outcome A.State
+  abbrev pub onto : List ℕ → Outcome A.State → Outcome A.State
   onto line o =
       let now = A.step o.state o.random line in
       record { state = now.state; reply = o.reply ++ now.reply; random = now.random }
 
-  session_push : (ls : List (List ℕ)) (line : List ℕ) (s : A.State) (random : List ℕ) → session A s random (ls ++ line ∷ []) ≡ onto line (session A s random ls)
+  pub session_push : (ls : List (List ℕ)) (line : List ℕ) (s : A.State) (random : List ℕ) → session A s random (ls ++ line ∷ []) ≡ onto line (session A s random ls)
   session_push [] line s random =
       let o = A.step s random line in
       ap (λ (bytes : List ℕ). record { state = o.state; reply = bytes; random = o.random }) (append-nil o.reply)
@@ -119,7 +119,7 @@ module _ (A : Machine) where
       none None = tt
       none (Some x) = (x, refl)
 
-  at_start : (s : A.State) (random : Option (List ℕ)) (input : List ℕ) (P : A.State → Type 0) → P s → IsOnTheWay A s random input P
+  pub at_start : (s : A.State) (random : Option (List ℕ)) (input : List ℕ) (P : A.State → Type 0) → P s → IsOnTheWay A s random input P
   at_start s random input P has =
       record { first = lines []; others = lines input; lines_are = same_lines input; state = s; sent = []; leads = leads_none s random; has = inl has }
 
@@ -144,10 +144,10 @@ module _ (A : Machine) where
   -- ---- from one line to the next
 
   module _ (s : A.State) (K K1 : A.State → Type 0) (w0 w w1 : World) (input ahead : List ℕ) (old_ended : Bool) (p q : Option (List ℕ)) (served : IsServed s K w0 w input ahead old_ended p q) where
-    abbrev leads_now : Leads A s w0.random (lines served.whole) served.led.last served.sent
+    abbrev pub leads_now : Leads A s w0.random (lines served.whole) served.led.last served.sent
     leads_now = record { drawn = served.led.drawn; front = front_of w0.random w.random served.led.drawn served.led.consumed; runs = served.led.runs }
 
-    leads_more : (line : List ℕ) (next : A.State) → (one : LeadsOne A served.led.last w.random line next)
+    pub leads_more : (line : List ℕ) (next : A.State) → (one : LeadsOne A served.led.last w.random line next)
         → Leads A s w0.random (lines served.whole ++ line ∷ []) next (served.sent ++ one.reply)
     leads_more line next one = record {
       drawn = served.led.drawn ++ one.drawn;
@@ -155,7 +155,7 @@ module _ (A : Machine) where
       runs = runs_push s served.led.last next (lines served.whole) line served.led.drawn one.drawn served.sent one.reply served.led.runs one.steps;
     }
 
-    as_before : (P : A.State → Type 0) → P served.led.last → IsOnTheWay A s w0.random input P
+    pub as_before : (P : A.State → Type 0) → P served.led.last → IsOnTheWay A s w0.random input P
     as_before P has = record {
       first = lines served.whole;
       others = lines ahead;
@@ -166,7 +166,7 @@ module _ (A : Machine) where
       has = inl has;
     }
 
-    on_the_way : (P : A.State → Type 0) → IsAroundLine A served.led.last w.random ahead P → IsOnTheWay A s w0.random input P
+    pub on_the_way : (P : A.State → Type 0) → IsAroundLine A served.led.last w.random ahead P → IsOnTheWay A s w0.random input P
     on_the_way P (inl has) = as_before P has
     on_the_way P (inr on) = by_case on.3.2
       where
@@ -256,7 +256,7 @@ module _ (A : Machine) where
         let same : served.whole ≡ input = sym (served.taken ∙ (ap (λ bytes. served.whole ++ bytes) none ∙ append-nil served.whole)) in
         record { sent = served.sent; held = served.held; led = subst (λ (bytes : List ℕ). Led A s w0.random w (lines bytes) served.sent) same served.led }
 
-    pub served_whole : (rest : List ℕ) → (IsTrue old_ended → ahead ≢ []) → LosesPart ahead rest → WholeLinesAnswered A s w0.random w input rest p q
+    abbrev pub served_whole : (rest : List ℕ) → (IsTrue old_ended → ahead ≢ []) → LosesPart ahead rest → WholeLinesAnswered A s w0.random w input rest p q
     served_whole rest unended loses = record {
       whole = served.whole;
       part = loses.0;
@@ -272,11 +272,11 @@ module _ (A : Machine) where
         by_cut (inl ends) = ends
         by_cut (inr none) = absurd (unended none.1 none.0)
 
-    ahead_lines : (line others : List ℕ) → lines ahead ≡ line ∷ lines others → lines input ≡ (lines served.whole ++ line ∷ []) ++ lines others
+    pub ahead_lines : (line others : List ℕ) → lines ahead ≡ line ∷ lines others → lines input ≡ (lines served.whole ++ line ∷ []) ++ lines others
     ahead_lines line others first =
         served.lines_are ∙ (ap (λ ls. lines served.whole ++ ls) first ∙ sym (append_assoc (lines served.whole) (line ∷ []) (lines others)))
 
-    pub served_cut : (rest : List ℕ) (ended : Bool) (u : Option (List ℕ)) → CutsReply A served.led.last K1 w w1 ahead rest ended q u → ReplyCut A s w0.random w1 input p u
+    abbrev pub served_cut : (rest : List ℕ) (ended : Bool) (u : Option (List ℕ)) → CutsReply A served.led.last K1 w w1 ahead rest ended q u → ReplyCut A s w0.random w1 input p u
     served_cut rest ended u cuts = record {
       whole = served.whole;
       line = cuts.line;
@@ -294,7 +294,7 @@ module _ (A : Machine) where
       stands = cuts.stands.disks;
     }
 
-    pub served_lost : (stop : Stop) (rest : List ℕ) (ended : Bool) → LosesLine A stop served.led.last w w1 ahead rest ended → LineLost A stop s w0.random w1 input p q
+    abbrev pub served_lost : (stop : Stop) (rest : List ℕ) (ended : Bool) → LosesLine A stop served.led.last w w1 ahead rest ended → LineLost A stop s w0.random w1 input p q
     served_lost stop rest ended loses = record {
       whole = served.whole;
       line = loses.line;
@@ -333,7 +333,7 @@ module _ (A : Machine) where
       subst (λ (r : Reading). HasServed s K w w a a p p r) (sym fresh) (told_same a _ (λ x. served_nothing s K w x false p stands m d))
 
   -- a step that depends on the state in which the session is
-  step_on : (s : A.State) (K : A.State → Type 0) (w0 w : World) (a b c p q : Option (List ℕ)) (reading : Reading)
+  pub step_on : (s : A.State) (K : A.State → Type 0) (w0 w : World) (a b c p q : Option (List ℕ)) (reading : Reading)
       (X : List ℕ → List ℕ → Type 0) (Q : A.State → List ℕ → List ℕ → Type 0) (R : List ℕ → List ℕ → Type 0)
       → ((input mid rest : List ℕ) → (served : IsServed s K w0 w input (reading.pending ++ mid) reading.ended p q) → X mid rest → Q served.led.last mid rest → R input rest)
       → HasServed s K w0 w a b p q reading → WhereTold b c X → ((t : A.State) → Stands A t K w.module_ w.store → WhereTold b c (Q t)) → WhereTold a c R

@@ -15,7 +15,7 @@ use Rattle.line_service.specs.Serving.{Leads, KeepsSpare, WasSelected, Rests, At
 
 -- ---- bytes
 
-same_byte : (p q : ℕ) (old new : List ℕ) → p ≡ q → get_or new p 0 ≡ get_or old p 0
+pub same_byte : (p q : ℕ) (old new : List ℕ) → p ≡ q → get_or new p 0 ≡ get_or old p 0
     → get_or new q 0 ≡ get_or old q 0
 same_byte p q old new is same = subst (λ k. get_or new k 0 ≡ get_or old k 0) is same
 
@@ -24,7 +24,7 @@ module _ (n : ℕ) (old new : List ℕ) (same : SameCell n old new) where
   pub same_selector : get_or new (1536 * n) 0 ≡ get_or old (1536 * n) 0
   same_selector = same_byte (1536 * n + 0) (1536 * n) old new (omega arith) (same 0 (omega arith))
 
-  same_side : (side : ℕ) → side < 2 → length new ≡ length old → body_at new n side ≡ body_at old n side
+  pub same_side : (side : ℕ) → side < 2 → length new ≡ length old → body_at new n side ≡ body_at old n side
   same_side side low long =
       let place = body_place n side in
       same_number_lists (slice_range new place (place + 192)) (slice_range old place (place + 192))
@@ -49,7 +49,7 @@ pub still_from : (m : Medium) (step : List ℕ → List ℕ → Type 0) → ((c 
 still_from m step still settled =
     each_weaker m m m.images _ (each_still m) (λ c image. (c, settled.only c image, still c))
 
-told_of : (m : Medium) (P : List ℕ → Type 0) → Holds m P → (c : List ℕ) → m.content ≡ Some c → P c
+pub told_of : (m : Medium) (P : List ℕ → Type 0) → Holds m P → (c : List ℕ) → m.content ≡ Some c → P c
 told_of m P holds c is = let same : holds.image ≡ c = cc (holds.told, is) in subst P same holds.has
 
 -- ---- one line
@@ -72,7 +72,7 @@ spare_still w m d = record {
   on_store = still_from w.store SameSpare same_spare d;
 }
 
-from_weaker : (m : Medium) (step wider : List ℕ → List ℕ → Type 0) → ((b c : List ℕ) → step b c → wider b c) → (c : List ℕ) → From step m c → From wider m c
+pub from_weaker : (m : Medium) (step wider : List ℕ → List ℕ → Type 0) → ((b c : List ℕ) → step b c → wider b c) → (c : List ℕ) → From step m c → From wider m c
 from_weaker m step wider weaker c from = (from.0, from.1, weaker from.0 c from.2)
 
 pub within_spare : (A : Machine) (s : A.State) (line : List ℕ) (old new : World) → WritesWithin A s line old new → KeepsSpare old new
@@ -96,7 +96,7 @@ spares_nothing w m d = record {
   on_store = becomes_same w.store w.store SameSpare refl refl same_spare;
 }
 
-spare_on : (m0 m1 m2 : Medium) → EachImage m0 m1 (From SameSpare m0) → Becomes SameSpare m0 m1 → EachImage m1 m2 (From SameSpare m1) → EachImage m0 m2 (From SameSpare m0)
+pub spare_on : (m0 m1 m2 : Medium) → EachImage m0 m1 (From SameSpare m0) → Becomes SameSpare m0 m1 → EachImage m1 m2 (From SameSpare m1) → EachImage m0 m2 (From SameSpare m0)
 spare_on m0 m1 m2 one became two =
     goes_on m0 m1 m2 _ _ _ one two (λ c from. from) (from_then m0 m1 SameSpare SameSpare SameSpare became same_spare_then)
 
@@ -115,7 +115,7 @@ spares_more A w0 w w1 so line turns = record {
       (λ a b c one two. same_spare_then a b c one two.same);
 }
 
-always_weaker : (m0 m1 : Medium) → EachImage m0 m1 (From SameSpare m0) → EachImage m0 m1 (λ c. m0.images c ⊎ From SameSpare m0 c)
+pub always_weaker : (m0 m1 : Medium) → EachImage m0 m1 (From SameSpare m0) → EachImage m0 m1 (λ c. m0.images c ⊎ From SameSpare m0 c)
 always_weaker m0 m1 each = each_weaker m0 m1 _ _ each (λ c from. inr from)
 
 pub spares_always : (w0 w1 : World) → KeepsSpare w0 w1 → SparesAlways w0 w1
@@ -126,15 +126,15 @@ spares_always w0 w1 keeps = record {
 
 module _ (A : Machine) (In : A.State → List ℕ → Type 0) (cells : ℕ) (s : A.State) (random : Option (List ℕ)) (ls : List (List ℕ)) where
   -- cell n is as it was, or its body that isn't selected was selected once
-  abbrev RestsIn : ℕ → List ℕ → List ℕ → Type 0
+  abbrev pub RestsIn : ℕ → List ℕ → List ℕ → Type 0
   RestsIn n old new = SameCell n old new ⊎ ((get_or new (1536 * n) 0 < 2) × WasSelected A In s random ls n (other_body new n))
 
-  rests_none : (c : List ℕ) → Rests A In cells s random ls c c
+  pub rests_none : (c : List ℕ) → Rests A In cells s random ls c c
   rests_none c = record { same = same_spare c; each = λ n below. inl (λ k within. refl) }
 
   -- the content b stands for a state that some first lines lead to
   module _ (first others : List (List ℕ)) (lines_are : ls ≡ first ++ others) (state : A.State) (sent : List ℕ) (leads : Leads A s random first state sent) where
-    rests_on : (a b c : List ℕ) → In state b → Rests A In cells s random ls a b → Turned cells b c → Rests A In cells s random ls a c
+    pub rests_on : (a b c : List ℕ) → In state b → Rests A In cells s random ls a b → Turned cells b c → Rests A In cells s random ls a c
     rests_on a b c stands one two = record {
       same = same_spare_then a b c one.same two.same;
       each = λ n below. ⊎_elim (λ still. as_before n still (one.each n below)) (λ turned. has_turned n turned) (two.cells n below);

@@ -14,7 +14,7 @@ use Rattle.line_service.specs.Stops.{IsLineStop, IsDeskStop, AnswersLines}
 use Rattle.line_service.specs.Devices.{Span, Devices, DiskLeft, DevicesLeft}
 use Rattle.line_service.specs.declared.stops.Stop.TheVariants.{ReadFault, WriteFault, EntropyFault, ModuleFault, StoreFault, InputLimit}
 
-stop_of : (a b : Stop) → ◌≡◌ {A = Result (Unit {0}) Stop} (Err a) (Err b) → a ≡ b
+pub stop_of : (a b : Stop) → ◌≡◌ {A = Result (Unit {0}) Stop} (Err a) (Err b) → a ≡ b
 stop_of a b h = cc
 
 pub same_stop : (r : Result Served Stop) (stop other : Stop) → r ≡ Err stop → ◌≡◌ {A = Result (Unit {0}) Stop} (Err stop) (Err other) → r ≡ Err other
@@ -103,7 +103,7 @@ ended_uncut r is h = cc (is, h)
 
 -- ---- what is left of the devices
 
-disk_stopped : {T U : Type 0} (old new : Medium) (before now : ℕ) (stop other : Stop)
+pub disk_stopped : {T U : Type 0} (old new : Medium) (before now : ℕ) (stop other : Stop)
     → DiskLeft old new before now (IsOk {T = T} (Err stop)) (◌≡◌ {A = Result T Stop} (Err stop) (Err other))
     → DiskLeft old new before now (IsOk {T = U} (Err stop)) (◌≡◌ {A = Result U Stop} (Err stop) (Err other))
 disk_stopped old new before now stop other left = record {
@@ -123,7 +123,7 @@ devices_stopped A stop d left = record {
   draws = λ h. let same : stop ≡ EntropyFault = cc h in left.draws (ap Err same);
 }
 
-disk_still : (m : Medium) (count : ℕ) (done failed : Type 0) → (done → IsSettled m) → (failed → ⊥) → DiskLeft m m count count done failed
+pub disk_still : (m : Medium) (count : ℕ) (done failed : Type 0) → (done → IsSettled m) → (failed → ⊥) → DiskLeft m m count count done failed
 disk_still m count done failed settled never = record {
   size = refl;
   still = λ some. some;

@@ -12,5 +12,5 @@ pub use desk::Desk;
 pub use devices::{Shown, ShownOutside};
 pub use running::serve;
 pub use sending::send;
-pub use serving::{Served, serve_one};
+pub use serving::{Served, answer_taken, serve_one};
 pub use stops::{Device, Stop};

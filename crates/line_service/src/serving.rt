@@ -27,8 +27,10 @@ pub enum Served {
     Ended,
 }
 
-// Writes the reply to the line that was taken into the reply buffer.
-fn answer_taken<A: Desk, M: Disk, D: Disk, E: Entropy>(
+/// Writes the reply to the line that was taken into the reply buffer.
+///
+/// The desk has opened the disks, and no call has answered a stop since.
+pub fn answer_taken<A: Desk, M: Disk, D: Disk, E: Entropy>(
     desk: &mut A,
     taken: Taken,
     lines: &LineBuffer,
