@@ -1,18 +1,17 @@
 //! The rules of a request as a whole: its role, the access control points that it needs, and the master key.
-ghost use Rattle.std.specs.Prelude.{◌≡◌, IsSome, IsNone, IsTrue, codes};
+ghost use Rattle.std.specs.Prelude.{◌≡◌, IsSome, IsNone, IsTrue};
 ghost use Rattle.std.specs.Option.{option_map};
 ghost use Rattle.cca_vectors.specs.Checks.{first_failing};
 ghost use Rattle.key_cells.specs.Bench.{Bench};
 ghost use Rattle.master_registers.specs.Loaded.{Loaded};
 ghost use Rattle.verb_rules.specs.Rules.{rule_number};
-ghost use Rattle.verb_script.specs.Grammar.{value_of};
 ghost use Rattle.verb_script.specs.Parsed.{seen};
 ghost use Rattle.cca_machine.specs.State.{State};
 ghost use Rattle.cca_machine.specs.Verdict.{action_points, target_points, change_points, needed_points, needs_master, general_checks};
 
 use crate::verbs::csnbktc;
 use crate::verbs::csnbmkp::part_action;
-use cca_roles::{AccessPoints, RoleName, Roles};
+use cca_roles::{AccessPoints, Roles};
 use key_transport::Target;
 use master_registers::{Action, Registers};
 use verb_rules::Rule;
@@ -26,61 +25,13 @@ pub(crate) fn general_rule(request: &Request, held: &Registers, roles: &Roles) -
     ensures master { IsNone result → IsTrue (needs_master (seen request.now).name)
         → IsSome held.now.current_pattern }
 {
-    match roles.permits(role_of(request), needed_points(request)) {
+    match roles.permits(request.role_name(), needed_points(request)) {
         None => Some(Rule::Role),
         Some(false) => Some(Rule::Point),
         Some(true) if needs_master(request) && held.current_pattern.is_none() => {
             Some(Rule::MasterKey)
         }
         Some(true) => None,
-    }
-}
-
-fn role_of<'a, 'b>(request: &'b Request<'a>) -> &'b RoleName
-    ensures { result.now ≡ value_of (seen request.now) (codes "role") }
-{
-    match request {
-        Request::Csnbktp { role, .. } => role,
-        Request::Csnbenc { role, .. } => role,
-        Request::CsnbencFirst { role, .. } => role,
-        Request::CsnbencMiddle { role, .. } => role,
-        Request::CsnbencLast { role, .. } => role,
-        Request::Csnbdec { role, .. } => role,
-        Request::CsnbdecFirst { role, .. } => role,
-        Request::CsnbdecMiddle { role, .. } => role,
-        Request::CsnbdecLast { role, .. } => role,
-        Request::Csnbmgn { role, .. } => role,
-        Request::CsnbmgnFirst { role, .. } => role,
-        Request::CsnbmgnMiddle { role, .. } => role,
-        Request::CsnbmgnLast { role, .. } => role,
-        Request::Csnbmvr { role, .. } => role,
-        Request::CsnbmvrFirst { role, .. } => role,
-        Request::CsnbmvrMiddle { role, .. } => role,
-        Request::CsnbmvrLast { role, .. } => role,
-        Request::Csnbkyt { role, .. } => role,
-        Request::Csnbcki { role, .. } => role,
-        Request::Csnbrng { role, .. } => role,
-        Request::CsnbkgnOp { role, .. } => role,
-        Request::CsnbkgnPair { role, .. } => role,
-        Request::CsnbkgnOut { role, .. } => role,
-        Request::Csnbkim { role, .. } => role,
-        Request::Csnbkex { role, .. } => role,
-        Request::Csnbpex { role, .. } => role,
-        Request::Csnbktc { role, .. } => role,
-        Request::CsnbkpiFirst { role, .. } => role,
-        Request::CsnbkpiMiddle { role, .. } => role,
-        Request::Csnbktr { role, .. } => role,
-        Request::Csnbkrc { role, .. } => role,
-        Request::Csnbkrw { role, .. } => role,
-        Request::Csnbkrr { role, .. } => role,
-        Request::Csnbkrd { role, .. } => role,
-        Request::Csnbkrl { role, .. } => role,
-        Request::CsnbmkpPart { role, .. } => role,
-        Request::CsnbmkpClear { role, .. } => role,
-        Request::CsnbmkpSet { role, .. } => role,
-        Request::CsuaaciDefine { role, .. } => role,
-        Request::CsuaaciRemove { role, .. } => role,
-        Request::Reencipher { role } => role,
     }
 }
 

@@ -8,6 +8,7 @@ mod digits;
 mod key_rows;
 mod labels;
 mod laws;
+mod parts;
 mod record_rows;
 mod request;
 mod use_rows;

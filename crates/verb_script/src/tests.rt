@@ -609,3 +609,70 @@ fn labels_that_name_keys(rt: HostRuntime) {
         assert!(rt; named_label(text) == *wanted);
     }
 }
+
+// What a request says of itself.
+fn is_told(line: &[u8], verb: &[u8], role: &[u8], label: Option<&[u8]>) -> bool {
+    match parse_request(line) {
+        Ok(request) => {
+            request.verb().as_bytes() == verb
+                && request.role() == role
+                && request.first_label() == label
+        }
+        Err(_) => false,
+    }
+}
+
+#[test]
+fn what_requests_say_of_themselves(rt: HostRuntime) {
+    let lines: [(&[u8], &[u8], &[u8], Option<&[u8]>); 9] = [
+        (
+            b"CSNBKRL role=DEFAULT prefix=A",
+            b"CSNBKRL",
+            b"DEFAULT",
+            None,
+        ),
+        (
+            b"CSNBKYT role=TELLER key=L:PAY.1",
+            b"CSNBKYT",
+            b"TELLER",
+            Some(b"PAY.1"),
+        ),
+        // two labels: the first in the order of the fields
+        (
+            b"CSNBKEX role=R1 key=L:ONE transport=L:TWO",
+            b"CSNBKEX",
+            b"R1",
+            Some(b"ONE"),
+        ),
+        // what isn't a label names none, and the next one is the first
+        (
+            b"CSNBKEX role=R1 key=L:1ONE transport=L:TWO",
+            b"CSNBKEX",
+            b"R1",
+            Some(b"TWO"),
+        ),
+        (
+            b"CSNBKEX role=R1 key=L:one transport=L:.TWO",
+            b"CSNBKEX",
+            b"R1",
+            None,
+        ),
+        (
+            b"CSNBKRC role=R1 label=K#$@.9",
+            b"CSNBKRC",
+            b"R1",
+            Some(b"K#$@.9"),
+        ),
+        (b"CSNBKRC role=R1 label=L:K", b"CSNBKRC", b"R1", None),
+        (
+            b"CSNBCKI role=R1 clear=0123456789abcdef to=-",
+            b"CSNBCKI",
+            b"R1",
+            None,
+        ),
+        (b"REENCIPHER role=R1", b"REENCIPHER", b"R1", None),
+    ];
+    for (line, verb, role, label) in lines {
+        assert!(rt; is_told(line, verb, role, label), "{line:?}");
+    }
+}
