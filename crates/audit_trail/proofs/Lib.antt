@@ -1,0 +1,6 @@
+pub mod FieldLaws
+pub mod BodyLaws
+pub mod TrailLaws
+pub mod OpeningLaws
+pub mod MediumLaws
+pub mod TotalLaws

@@ -1,0 +1,9 @@
+pub mod Entries
+pub mod RecordBody
+pub mod TrailStands
+pub mod Changes
+pub mod Reading
+pub mod Opening
+pub use Rattle.slot_disk.specs.Cells
+pub use Rattle.slot_disk.specs.Faults
+pub use Rattle.slot_disk.specs.Medium
