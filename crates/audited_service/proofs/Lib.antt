@@ -1,0 +1,8 @@
+pub mod NotingLemmas
+pub mod PlainLemmas
+pub mod RecordLemmas
+pub mod GrowingLemmas
+pub mod RunLemmas
+pub mod FullLemmas
+pub mod OpeningLemmas
+pub mod EndingLemmas

@@ -1,0 +1,101 @@
+-- For the functions of this crate alone: what one line leaves that is recorded before its reply is sent.
+use Rattle.std.specs.Prelude.{⊤, ◌≡◌, ◌^◌, ℕ, List, ◌++◌, Bool, Option, Ok, Err, Result, OnErr, IfOk}
+use Rattle.std.specs.Io.KnownBytes.{Consumes}
+use Rattle.slot_disk.specs.Medium.{Medium, Told, IsSettled, EachImage}
+use Rattle.slot_disk.specs.WhereTold.{WhereTold}
+use Rattle.script_buffers.specs.Reading.{TakesLine, Reading}
+use Rattle.audit_trail.specs.TrailStands.{IsTrail}
+use Rattle.audit_trail.specs.declared.entries.Entry.{Entry}
+use Rattle.audit_trail.specs.declared.faults.TrailFault.{TrailFault}
+use Rattle.audit_trail.specs.declared.faults.TrailFault.TheVariants.{DiskFault, Full, Damaged}
+use Rattle.line_service.specs.Machine.{Machine, World}
+use Rattle.line_service.specs.Answering.{Steps, OnDisks, Turns}
+use Rattle.line_service.specs.Devices.{Span, Outside}
+use Rattle.line_service.specs.Serving.{EachPairStands, LineServed, IsAroundLine, KeepsSpare}
+use Rattle.line_service.specs.declared.serving.Served.{Served}
+use Rattle.line_service.specs.declared.serving.Served.TheVariants.{Replied}
+use Rattle.line_service.specs.declared.stops.Stop.{Stop}
+use Rattle.audited_service.specs.Noting.{Noted, noting, Recorded, RecordedEither}
+
+-- ---- answers
+
+-- How a line came out, to all devices but the trail. A trail's fault leaves of source and disks what a line leaves
+-- whose reply was sent.
+abbrev pub line_part : Result (Result Served Stop) TrailFault → Result Served Stop
+line_part (Ok r) = r
+line_part (Err fault) = Ok Replied
+
+-- the faults of a record that is appended
+abbrev pub IsAppendFault : TrailFault → Type 0
+IsAppendFault DiskFault = ⊤
+IsAppendFault Full = ⊤
+IsAppendFault (Damaged cell) = ⊥
+
+-- ---- trail and memory
+
+-- a trail of this size, in bytes, of which nothing is unsynced
+pub record IsSettledTrail (size : ℕ) (t : Medium) : Type 0 where
+  pub size_is : t.size ≡ size
+  pub settled : IsSettled t
+
+-- memory agrees with the state, and the trail stands for its entries
+abbrev pub Agrees : {S : Type 0} → (S → Type 0) → Medium → Noted S → Type 0
+Agrees K trail t = K t.state × Told trail (λ c. IsTrail c t.entries)
+
+-- what the trail holds after this answer: the entries before a line, or these and perhaps the line's too
+abbrev pub RecordedBy : TrailFault → Medium → List Entry → List Entry → Type 0
+RecordedBy Full trail es next = Recorded trail es
+RecordedBy DiskFault trail es next = RecordedEither trail es next
+RecordedBy (Damaged cell) trail es next = ⊥
+
+-- ---- the line
+
+module _ (A : Machine) (entry : List ℕ → List ℕ → Entry) where
+  -- One line was taken from the bytes ahead and answered. The disks stand for the state after it, and so does each pair
+  -- of their images. No byte of the reply was sent.
+  pub record LineUnsent (s : Noted A.State) (old new : World) (ahead rest : List ℕ) (ended : Bool)
+      : Type 0 where
+    pub line : List ℕ
+    pub takes : TakesLine ahead line rest ended
+    pub drawn : List ℕ
+    pub next : Noted A.State
+    pub reply : List ℕ
+    pub steps : Steps (noting A entry) s line drawn next reply
+    pub consumed : Consumes old.random new.random drawn
+    pub stands : OnDisks (noting A entry) next new.module_ new.store
+    pub pairs : EachPairStands (noting A entry) next new
+
+  -- What a line leaves that is recorded before its reply is sent. `t0` and `t1` are the trail before and now.
+  pub record LineRecorded (s : Noted A.State) (K : Noted A.State → Type 0)
+      (result : Result (Result Served Stop) TrailFault) (old new : World) (t0 t1 : Medium)
+      (input rest before now : Option (List ℕ)) (r0 r1 : Reading) : Type 0 where
+    pub served : IfOk result
+        (λ r. LineServed (noting A entry) s K r old new input rest before now r0 r1)
+    pub unsent : (fault : TrailFault) → result ≡ Err fault → WhereTold input rest (λ i r.
+        (unsent : LineUnsent s old new (r0.pending ++ i) (r1.pending ++ r) r1.ended)
+        × RecordedBy fault t1 s.entries unsent.next.entries)
+    pub on_module : WhereTold input rest (λ i r. EachImage old.module_ new.module_
+        (λ c. IsAroundLine (noting A entry) s old.random (r0.pending ++ i)
+        (λ t. A.InModule t.state c)))
+    pub on_store : WhereTold input rest (λ i r. EachImage old.store new.store
+        (λ d. IsAroundLine (noting A entry) s old.random (r0.pending ++ i)
+        (λ t. A.InStore t.state d)))
+    pub on_trail : WhereTold input rest (λ i r. EachImage t0 t1
+        (λ c. IsAroundLine (noting A entry) s old.random (r0.pending ++ i)
+        (λ t. IsTrail c t.entries)))
+    pub spare : KeepsSpare old new
+    pub turns : OnErr result (Turns (noting A entry) old new)
+
+-- what a line leaves, in the words of LineRecorded, by the reading of lines before and after
+abbrev pub LineAudited : (A : Machine) → (List ℕ → List ℕ → Entry) → Noted A.State
+    → (Noted A.State → Type 0) → Result (Result Served Stop) TrailFault → Span Outside
+    → Medium → Medium → Reading → Reading → Type 0
+LineAudited A entry s K result o t0 t1 r0 r1 =
+    LineRecorded A entry s K result o.old.devices.world o.new.devices.world t0 t1
+    o.old.input o.new.input o.old.output o.new.output r0 r1
+
+-- A line finds the trail full only where no number is left, and then it doesn't call the trail.
+pub record FoundFull {T : Type 0} (result : Result (Result Served Stop) TrailFault)
+    (next : ℕ) (trail0 trail1 : T) : Type 0 where
+  pub number : result ≡ Err Full → next ≡ 2 ^ 63
+  pub uncalled : result ≡ Err Full → trail1 ≡ trail0

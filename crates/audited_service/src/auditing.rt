@@ -1,0 +1,121 @@
+//! One line, from the source to its record on the trail, and then its reply at the sink.
+ghost use Rattle.std.specs.Prelude.{◌≡◌, IsTrue, Ok, Err, OnOk, OnErr, IfErr};
+ghost use Rattle.std.specs.Io.KnownBytes.{IsAtEnd};
+ghost use Rattle.key_cells.specs.Bench.{blank_bench};
+ghost use Rattle.slot_disk.specs.Medium.{Told};
+ghost use Rattle.audit_trail.specs.Changes.{TrailLeft};
+ghost use Rattle.audit_trail.specs.TrailStands.{StandsForTrail};
+ghost use Rattle.line_service.specs.Answering.{Stands};
+ghost use Rattle.line_service.specs.Devices.{AreSettled, BothSettled, OutsideLeft, Undamaged};
+ghost use Rattle.line_service.specs.Running.{LineTaken, Unmoved};
+ghost use Rattle.audited_service.specs.Growing.{TrailGrows};
+ghost use Rattle.audited_service.specs.Noting.{Noted, noting};
+ghost use Rattle.audited_service.specs.EachLine.{Agrees, FoundFull, IsAppendFault, IsSettledTrail, LineAudited, line_part};
+
+use crate::scribe::{Scribe, entry_taken};
+use audit_trail::{TRAIL_LEN, Trail, TrailFault};
+use key_cells::Workbench;
+use line_service::{Desk, Served, Shown, ShownOutside, Stop, answer_taken, send};
+use script_buffers::{LineBuffer, LineFault, ReplyBuffer, Taken, read_line};
+use slot_disk::{Disk, Entropy, Sink, Source};
+
+// Serves one line: it is taken from the source and answered, recorded on the trail, and the reply is sent. The reply
+// goes to the sink only after every image of the disks stands for the state that the line leaves, and every image of
+// the trail has the line's record. The outer error is the trail's.
+//
+// Desk and trail were opened, and no call has answered a stop or a fault since.
+pub(crate) fn audit_one<
+    A: Desk,
+    W: Scribe,
+    S: Source,
+    K: Sink,
+    M: Disk,
+    D: Disk,
+    E: Entropy,
+    T: Disk,
+>(
+    desk: &mut A,
+    scribe: &W,
+    lines: &mut LineBuffer,
+    reply: &mut ReplyBuffer,
+    bench: &mut Workbench,
+    source: &mut S,
+    sink: &mut K,
+    module: &mut M,
+    store: &mut D,
+    entropy: &mut E,
+    held: &mut Trail,
+    trail: &mut T,
+) -> Result<Result<Served, Stop>, TrailFault>
+    requires at_end { IsTrue lines.old.ended → IsAtEnd (S.left source.old) }
+    requires disks { AreSettled A.machine.module_size A.machine.store_size
+        (⟦<(M, D) as Shown>⟧.shown («module».old, store.old)) }
+    requires trail { IsSettledTrail TRAIL_LEN (T.medium trail.old) }
+    requires ready { A.ready desk.old (M.medium «module».old) (D.medium store.old) }
+    requires held { Told (T.medium trail.old) (λ image. StandsForTrail image held.old) }
+
+    // What the line comes to, from the state for which the disks stand and the entries for which the trail stands.
+    ensures serves { (s : Noted A.machine.State)
+        → Stands (noting A.machine W.entry_of) s (Agrees (A.knows desk.old) (T.medium trail.old))
+        (M.medium «module».old) (D.medium store.old)
+        → LineAudited A.machine W.entry_of s (Agrees (A.knows desk.new) (T.medium trail.new)) result
+        (⟦<(S, K, M, D, E) as ShownOutside>⟧.between
+        (source.old, sink.old, «module».old, store.old, entropy.old)
+        (source.new, sink.new, «module».new, store.new, entropy.new))
+        (T.medium trail.old) (T.medium trail.new) lines.old lines.new }
+    ensures ready { result ≡ Ok (Ok Served.Replied)
+        → A.ready desk.new (M.medium «module».new) (D.medium store.new) }
+    ensures held { OnOk result
+        (Told (T.medium trail.new) (λ image. StandsForTrail image held.new)) }
+
+    // How far the input was taken.
+    ensures taken { LineTaken (line_part result) (⟦<(S, K, M, D, E) as ShownOutside>⟧.between
+        (source.old, sink.old, «module».old, store.old, entropy.old)
+        (source.new, sink.new, «module».new, store.new, entropy.new)) lines.old lines.new }
+
+    // Where no reply is sent, the sink is as before; where no line was answered, so is all else.
+    ensures unmoved { Unmoved (line_part result) sink.old sink.new «module».old «module».new
+        store.old store.new entropy.old entropy.new desk.old desk.new }
+    ensures unsent { OnErr result (sink.new ≡ sink.old) }
+    ensures untrailed { (line_part result ≡ Ok Served.Replied → ⊥)
+        → (line_part result ≡ Err Stop.WriteFault → ⊥) → trail.new ≡ trail.old }
+
+    // What is left of each device, and why it stopped.
+    ensures left { OutsideLeft A.machine (line_part result)
+        (⟦<(S, K, M, D, E) as ShownOutside>⟧.between
+        (source.old, sink.old, «module».old, store.old, entropy.old)
+        (source.new, sink.new, «module».new, store.new, entropy.new)) }
+    ensures undamaged { Undamaged A.machine (line_part result)
+        (⟦<(M, D) as Shown>⟧.shown («module».old, store.old)) }
+    ensures cut { result ≡ Ok (Err Stop.WriteFault) → BothSettled
+        (⟦<(M, D) as Shown>⟧.shown («module».new, store.new)) }
+    ensures trail_left { TrailLeft (T.medium trail.old) (T.medium trail.new)
+        (T.faults trail.old) (T.faults trail.new)
+        (result ≡ Err TrailFault.DiskFault → ⊥) (result ≡ Err TrailFault.DiskFault) }
+    ensures grows { TrailGrows (T.medium trail.old) (T.medium trail.new) }
+    ensures full { FoundFull result held.old trail.old trail.new }
+    ensures kinds { IfErr result IsAppendFault }
+    ensures bench { bench.new ≡ blank_bench }
+{
+    bench.wipe();
+    match read_line(source, lines) {
+        Ok(taken) => match taken {
+            Taken::End => Ok(Ok(Served::Ended)),
+            _ => match answer_taken(desk, taken, lines, reply, bench, module, store, entropy) {
+                Ok(()) => {
+                    let entry = entry_taken(scribe, taken, lines, reply.bytes());
+                    match held.append(trail, &entry) {
+                        Ok(()) => match send(sink, reply.bytes()) {
+                            Ok(()) => Ok(Ok(Served::Replied)),
+                            Err(_) => Ok(Err(Stop::WriteFault)),
+                        },
+                        Err(fault) => Err(fault),
+                    }
+                }
+                Err(stop) => Ok(Err(stop)),
+            },
+        },
+        Err(LineFault::ReadFault) => Ok(Err(Stop::ReadFault)),
+        Err(LineFault::InputLimit) => Ok(Err(Stop::InputLimit)),
+    }
+}
