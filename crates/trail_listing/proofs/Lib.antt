@@ -1,0 +1,3 @@
+mod LineLaws
+mod SendingLaws
+mod DamageLaws

@@ -1,0 +1,86 @@
+use Rattle.std.proofs.Common.{◌≡◌, ◌+◌, ℕ, List, Ok, Err, ap, arith}
+use Rattle.slot_disk.proofs.Media.{keeps_still, keeps_then}
+use Rattle.audit_trail.specs.Entries.{entry_at}
+use Rattle.audit_trail.specs.TrailStands.{IsTrail}
+use Rattle.audit_trail.specs.declared.entries.Entry.{Entry as AnyEntry}
+use Rattle.audit_trail.specs.declared.faults.TrailFault.TheVariants.{DiskFault, Damaged}
+use Rattle.trail_listing.specs.Lines.{record_line}
+use Rattle.trail_listing.specs.Listing.{Listed}
+use Rattle.trail_listing.specs.Sending.{SendsLine}
+use Rattle.trail_listing.specs.declared.listing.ListFault.TheVariants.{Trail}
+use Rattle.trail_listing.proofs.SendingLaws.{HasLinesBelow, told_earlier, of_each, of_both, of_none, no_line, one_line, listed_all, listed_part, grew, grew_none}
+use Rattle.trail_listing.proofs.listing.send_records.Goals as goal
+
+pub loop-number-init : goal.loop-number-init
+loop-number-init g c =
+    let held = g.K.Sink.held c.args.sink.now in
+    record {
+      told = of_each (g.T.Disk.medium c.args.trail.now) c.args.held.now c.requires.stands
+          (λ es. HasLinesBelow es c.saturating_sub-first.result held held)
+          (λ es long. no_line es c.saturating_sub-first.result held (omega (arith, long)));
+      grows = grew_none held;
+      keeps = keeps_still (g.T.Disk.medium c.args.trail.now);
+      trail_later = omega arith;
+      sink_later = omega arith;
+      from = omega arith;
+      empty = c.requires.empty;
+    }
+
+pub loop-number-preserved : goal.loop-number-preserved
+loop-number-preserved g c =
+    let m0 = g.T.Disk.medium c.args.trail.now in
+    let m1 = g.T.Disk.medium c.loop-number.trail in
+    let number : ℕ = c.loop-number.number in
+    let held0 = g.K.Sink.held c.args.sink.now in
+    let held1 = g.K.Sink.held c.loop-number.sink in
+    let held2 = g.K.Sink.held c.send_record.new.sink in
+    record {
+      told = of_both m0 c.args.held.now c.requires.stands
+          (λ es. HasLinesBelow es number held0 held1)
+          (λ es. SendsLine (record_line number (entry_at es number)) (Ok tt) held1 held2)
+          (λ es. HasLinesBelow es (number + 1) held0 held2)
+          c.loop-number.invariant.told
+          (told_earlier m0 m1 (λ image. (es : List AnyEntry) → IsTrail image es → SendsLine (record_line number (entry_at es number)) (Ok tt) held1 held2) c.loop-number.invariant.keeps.content c.in-Ok.ensures.line)
+          (λ es long before sends. one_line es number (omega (arith, long, c.loop-number.invariant.from, c.next_number-next.ensures.number)) held0 held1 held2 before sends.done);
+      grows = grew held0 held1 held2 c.loop-number.invariant.grows c.in-Ok.ensures.grows;
+      keeps = keeps_then m0 m1 (g.T.Disk.medium c.send_record.new.trail) c.loop-number.invariant.keeps c.in-Ok.ensures.keeps;
+      trail_later = omega (arith, c.loop-number.invariant.trail_later, c.in-Ok.ensures.trail_left.later);
+      sink_later = omega (arith, c.loop-number.invariant.sink_later, c.in-Ok.ensures.sink_left.later);
+      from = omega (arith, c.loop-number.invariant.from);
+      empty = c.in-Ok.ensures.emptied;
+    }
+
+pub returns-in-Err-clause-lines : goal.returns-in-Err-clause-lines
+returns-in-Err-clause-lines g c =
+    let m0 = g.T.Disk.medium c.args.trail.now in
+    let m1 = g.T.Disk.medium c.loop-number.trail in
+    let number : ℕ = c.loop-number.number in
+    let held0 = g.K.Sink.held c.args.sink.now in
+    let held1 = g.K.Sink.held c.loop-number.sink in
+    let held2 = g.K.Sink.held c.send_record.new.sink in
+    let Sends : List AnyEntry → Type 0 = λ es. SendsLine (record_line number (entry_at es number)) (Err c.in-Err.fault) held1 held2 in
+    let Never : List AnyEntry → Type 0 = λ es. (cell : ℕ) → Err c.in-Err.fault ≡ Err (Trail (Damaged cell)) → ⊥ in
+    of_both m0 c.args.held.now c.requires.stands
+    (λ es. HasLinesBelow es number held0 held1)
+    (λ es. Sends es × Never es)
+    (λ es. Listed es (Err c.in-Err.fault) held0 held2)
+    c.loop-number.invariant.told
+    (of_both m0 c.args.held.now c.requires.stands Sends Never (λ es. Sends es × Never es)
+    (told_earlier m0 m1 (λ image. (es : List AnyEntry) → IsTrail image es → Sends es) c.loop-number.invariant.keeps.content c.in-Err.ensures.line)
+    (told_earlier m0 m1 (λ image. (es : List AnyEntry) → IsTrail image es → Never es) c.loop-number.invariant.keeps.content (of_none m1 (Err c.in-Err.fault) c.in-Err.ensures.undamaged))
+    (λ es long sends never. (sends, never)))
+    (λ es long before both.
+    listed_part es number c.in-Err.fault held0 held1 held2 (omega (arith, long, c.loop-number.invariant.from, c.next_number-next.ensures.number)) (omega (arith, long, c.loop-number-test.true, c.next_number-next.ensures.number))
+    before both.0 both.1 (λ is. ap g.K.Sink.held (c.in-Err.ensures.unsent DiskFault is)))
+
+pub returns-clause-lines : goal.returns-clause-lines
+returns-clause-lines g c =
+    let m0 = g.T.Disk.medium c.args.trail.now in
+    let held0 = g.K.Sink.held c.args.sink.now in
+    let held1 = g.K.Sink.held c.loop-number.sink in
+    of_both m0 c.args.held.now c.requires.stands
+    (λ es. HasLinesBelow es c.loop-number.number held0 held1) (λ es. Unit {0})
+    (λ es. Listed es (Ok tt) held0 held1)
+    c.loop-number.invariant.told
+    (of_each m0 c.args.held.now c.requires.stands (λ es. Unit {0}) (λ es long. tt))
+    (λ es long before none. listed_all es c.loop-number.number held0 held1 (omega (arith, long, c.loop-number-test.false, c.loop-number.auto.number-end, c.next_number-next.ensures.number)) before)
