@@ -20,8 +20,10 @@ use Rattle.cca_requests.specs.Serving.{Tables, tables, Stands as StandsFor, IsSo
 use Rattle.line_service.specs.Answering.{OnDisks, Stands, IsSound}
 use Rattle.line_service.specs.declared.stops.Stop.{Stop}
 use Rattle.cca_tool.specs.Coprocessor.{cca, remembers}
+use Rattle.line_service.specs.Serving.{IsTheLine}
 use Rattle.script_buffers.specs.Reading.{Reading}
-use Rattle.cca_tool.specs.Sessions.{Memory, AreKnown}
+use Rattle.script_buffers.specs.declared.lines.Taken.{Taken}
+use Rattle.cca_tool.specs.Sessions.{Memory, AreKnown, IsWaitingLine}
 
 -- ---- one state
 
@@ -196,9 +198,25 @@ module _ (t : Tables) (m0 d0 : Medium) (known : AreKnown t m0 d0) where
 
 -- ---- memory
 
-pub same_memory : (a b : Reading) (r q : List (Option Role)) (x y : List (Option Row)) → a ≡ b → r ≡ q → x ≡ y
-    → (let one : Memory = record { reading = a; tables = tables r x } in one) ≡ (let other : Memory = record { reading = b; tables = tables q y } in other)
-same_memory a b r q x y reading roles rows =
-    ap (λ (here : Reading). let one : Memory = record { reading = here; tables = tables r x } in one) reading
-    ∙ (ap (λ (here : List (Option Role)). let one : Memory = record { reading = b; tables = tables here x } in one) roles
-    ∙ ap (λ (here : List (Option Row)). let one : Memory = record { reading = b; tables = tables q here } in one) rows)
+pub same_memory : (a b : Reading) (r q : List (Option Role)) (x y : List (Option Row)) (o p : List ℕ) → a ≡ b → r ≡ q → x ≡ y → o ≡ p
+    → (let one : Memory = record { reading = a; tables = tables r x; reply = o; waiting = None } in one)
+    ≡ (let other : Memory = record { reading = b; tables = tables q y; reply = p; waiting = None } in other)
+same_memory a b r q x y o p reading roles rows reply =
+    ap (λ (here : Reading). let one : Memory = record { reading = here; tables = tables r x; reply = o; waiting = None } in one) reading
+    ∙ (ap (λ (here : List (Option Role)). let one : Memory = record { reading = b; tables = tables here x; reply = o; waiting = None } in one) roles
+    ∙ (ap (λ (here : List (Option Row)). let one : Memory = record { reading = b; tables = tables q here; reply = o; waiting = None } in one) rows
+    ∙ ap (λ (here : List ℕ). let one : Memory = record { reading = b; tables = tables q y; reply = here; waiting = None } in one) reply))
+
+-- what holds of a session's memory holds of the fields that it shows
+module _ (inside shown : Memory) (same : inside ≡ shown) where
+  pub stands_inside : (s : State) (m d : Medium) → AreKnown shown.tables m d → OnDisks cca s m d → Stands cca s (remembers inside.tables) m d
+  stands_inside s m d known disks =
+      stands_known s inside.tables m d (subst (λ (memory : Memory). AreKnown memory.tables m d) (sym same) known) disks
+
+  pub line_inside : (taken : Taken) (line : List ℕ) → inside.waiting ≡ Some taken → IsWaitingLine shown line → IsTheLine taken inside.reading line
+  line_inside taken line waits is =
+      let here = subst (λ (memory : Memory). IsWaitingLine memory line) (sym same) is in
+      subst (λ (t : Taken). IsTheLine t inside.reading line) (one_taken inside.waiting here.0 taken here.1 waits) here.2
+    where
+      one_taken : (o : Option Taken) (a b : Taken) → o ≡ Some a → o ≡ Some b → a ≡ b
+      one_taken o a b first second = cc (first, second)

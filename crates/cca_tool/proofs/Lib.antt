@@ -1,3 +1,4 @@
+mod AuditLemmas
 mod CountingLemmas
 mod DemoLemmas
 mod DemoRunLemmas

@@ -1,6 +1,6 @@
 -- What comes of one line.
 use Rattle.std.proofs.Common.{◌≡◌, ℕ, ◌<◌, ◌≤◌, List, [], length, take, Option, None, Some, Result, Ok, Err, codes, refl, sym, ap, ◌∙◌, subst, inl, inr, ⊎_elim, arith}
-use Rattle.std.specs.Prelude.{◌⊎◌, OnOk, IfErr, IsTrue}
+use Rattle.std.specs.Prelude.{⊤, ◌⊎◌, OnOk, IfErr, IsTrue}
 use Rattle.slot_disk.specs.Medium.{Medium, IsSettled, From, Becomes, EachImage}
 use Rattle.slot_disk.specs.SpareBytes.{Turned}
 use Rattle.slot_disk.proofs.Media.{each_weaker, image_now}
@@ -16,7 +16,7 @@ use Rattle.cca_machine.specs.Lines.{LineOutcome, drawn_where, taken_by, line_out
 use Rattle.cca_machine.proofs.LineLaws.{line-no_request, line-too_long, line-request, line-drawn}
 use Rattle.cca_requests.specs.Serving.{Tables, Stands as StandsFor, Serves as Performs, HasDrawn, IsDone, IsAround, IsEither, IsFault, SameBut}
 use Rattle.line_service.specs.Answering.{Holds, Stands, Steps, Around, Both, Moves, Stays, Serves, Unwritten, WritesWithin, Turns}
-use Rattle.line_service.specs.Machine.{world}
+use Rattle.line_service.specs.Machine.{World, world}
 use Rattle.line_service.specs.Stops.{IsLineStop}
 use Rattle.line_service.specs.declared.stops.Device.TheVariants.{Store}
 use Rattle.line_service.specs.declared.stops.Stop.{Stop}
@@ -195,3 +195,32 @@ leads_on s r (Err stop) reply later m0 m1 d0 d1 e0 e1 performs = tt
 pub not_damaged : (s : State) (r : Request) (result : Result (Unit {0}) Stop) (reply : List ℕ) (later : Tables) (m0 m1 d0 d1 : Medium) (e0 e1 : Option (List ℕ)) (cell : ℕ)
     → result ≡ Err (Damaged Store cell) → Performs s r result reply later (world m0 d0 e0) (world m1 d1 e1) → ⊥
 not_damaged s r result reply later m0 m1 d0 d1 e0 e1 cell is performs = subst (λ (u : Result (Unit {0}) Stop). IfErr u IsFault) is performs.carries.stops
+
+-- ---- a line at which a device failed
+
+-- whatever the reply buffer holds then
+pub silent_serves : (s : State) (K : State → Type 0) (line : List ℕ) (stop : Stop) (reply other : List ℕ) (old new : World)
+    → Serves cca s K line (Err stop) reply old new → Serves cca s K line (Err stop) other old new
+silent_serves s K line stop reply other old new serves = record {
+  served = by_case serves.served;
+  stops = serves.stops;
+  undrawn = serves.undrawn;
+  unwritten = serves.unwritten;
+  within = serves.within;
+  turns = tt;
+}
+  where
+    by_case : Moves cca s K line (Err stop) reply old new ⊎ (⊤ × Stays cca s old new) → Moves cca s K line (Err stop) other old new ⊎ (⊤ × Stays cca s old new)
+    by_case (inl moves) = inl (record {
+      drawn = moves.drawn;
+      next = moves.next;
+      answer = moves.answer;
+      steps = moves.steps;
+      consumed = moves.consumed;
+      reply_is = tt;
+      stands = tt;
+      on_module = moves.on_module;
+      on_store = moves.on_store;
+      pairs = moves.pairs;
+    })
+    by_case (inr stays) = inr stays

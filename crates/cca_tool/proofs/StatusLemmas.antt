@@ -15,7 +15,7 @@ use Rattle.line_service.specs.declared.stops.Stop.TheVariants.{ReadFault, WriteF
 use Rattle.cca_machine.specs.State.{State}
 use Rattle.cca_tool.specs.Coprocessor.{cca, IsBrokenModule, IsBrokenStore}
 use Rattle.cca_tool.specs.Running.{Ended}
-use Rattle.cca_tool.specs.Statuses.{status_of_lem, ServesLines, IsFaultless}
+use Rattle.cca_tool.specs.Statuses.{status_of_lem, CallsNone, ServesLines, IsFaultless}
 use Rattle.cca_tool.specs.declared.command.Status.{Status}
 use Rattle.cca_tool.specs.declared.command.Status.TheVariants as status
 
@@ -32,7 +32,7 @@ outcome_of status.InputLimit = Err InputLimit
 outcome_of status.Usage = Ok tt
 outcome_of status.NoMemory = Ok tt
 
-outcome_is : (r : Result (Unit {0}) Stop) → outcome_of (status_of_lem r) ≡ r
+pub outcome_is : (r : Result (Unit {0}) Stop) → outcome_of (status_of_lem r) ≡ r
 outcome_is (Ok done) = refl
 outcome_is (Err ReadFault) = refl
 outcome_is (Err WriteFault) = refl
@@ -139,3 +139,8 @@ no_memory_ended P = λ r h. absurd (never_told r (inl h))
 
 pub usage_ended : (P : Result (Unit {0}) Stop → Type 0) → Ended status.Usage P
 usage_ended P = λ r h. absurd (never_told r (inr h))
+
+-- where the status tells how lines ended, devices were called
+pub calls_some : (outcome : Status) (r : Result (Unit {0}) Stop) → outcome ≡ status_of_lem r → CallsNone outcome → ⊥
+calls_some outcome r is (inl usage) = never_told r (inr (sym usage ∙ is))
+calls_some outcome r is (inr memory) = never_told r (inl (sym memory ∙ is))

@@ -6,3 +6,5 @@ pub mod Sections
 pub mod Sessions
 pub mod Statuses
 pub mod Running
+pub mod Auditing
+pub mod Showing

@@ -1,7 +1,15 @@
--- What a session holds in memory.
-use Rattle.std.specs.Prelude.{None, replicate}
+-- What a session holds in memory, and how it takes a line.
+use Rattle.std.specs.Prelude.{⊤, ◌≡◌, ◌⊎◌, ◌↔◌, ◌+◌, ◌<◌, ◌≤◌, ◌++◌, ℕ, List, [], length, Option, Some, None, IsTrue, IfOk, IfSome, OnErr, replicate, Result, Ok, Err}
+use Rattle.std.specs.Io.KnownBytes.{IsAtEnd}
 use Rattle.slot_disk.specs.Medium.{Medium, Told}
-use Rattle.script_buffers.specs.Reading.{Reading, blank}
+use Rattle.slot_disk.specs.WhereTold.{WhereTold}
+use Rattle.script_buffers.specs.Lines.{NoNewline}
+use Rattle.script_buffers.specs.Reading.{Reading, blank, given, input_limit, Takes, Shows, Advances, LosesPart}
+use Rattle.script_buffers.specs.declared.lines.Taken.{Taken}
+use Rattle.script_buffers.specs.declared.lines.Taken.TheVariants.{Line, TooLong, End}
+use Rattle.line_service.specs.Serving.{IsTheLine}
+use Rattle.line_service.specs.declared.stops.Stop.{Stop}
+use Rattle.line_service.specs.declared.stops.Stop.TheVariants.{ReadFault, WriteFault, EntropyFault, ModuleFault, StoreFault, Damaged, InputLimit}
 use Rattle.cca_roles.specs.Roles.{blank_roles}
 use Rattle.key_records.specs.StoreStands.{HoldsRows}
 use Rattle.cca_machine.specs.State.{State, IsModuleOf, IsStoreOf}
@@ -13,10 +21,19 @@ pub record Memory : Type 0 where
   pub reading : Reading
   -- the roles of the module, and what is known of the labels of the store
   pub tables : Tables
+  -- to the line that was answered last
+  pub reply : List ℕ
+  -- a line that was taken and isn't answered yet, by how it was taken
+  pub waiting : Option Taken
 
 -- nothing was taken and no disk was opened yet
 abbrev pub blank_memory : Memory
-blank_memory = record { reading = blank; tables = tables blank_roles (replicate 1024 None) }
+blank_memory = record {
+  reading = blank;
+  tables = tables blank_roles (replicate 1024 None);
+  reply = [];
+  waiting = None;
+}
 
 -- Each disk, where it tells its bytes, stands for what the memory has of it. Both, where they tell theirs, stand for one
 -- state, with which the memory agrees.
@@ -25,3 +42,58 @@ pub record AreKnown (t : Tables) (m d : Medium) : Type 0 where
   pub in_store : Told d (HoldsRows t.rows)
   pub in_both : Told m
       (λ c. Told d (λ e. (s : State) × IsModuleOf s c × IsStoreOf s e × remembers t s))
+
+-- ---- one line taken
+
+-- a line that waits is shown, unless it is too long
+abbrev pub ShowsWaiting : Option Taken → Reading → Type 0
+ShowsWaiting None reading = ⊤
+ShowsWaiting (Some Line) reading = Shows Line reading
+ShowsWaiting (Some TooLong) reading = Shows TooLong reading
+ShowsWaiting (Some End) reading = ⊥
+
+-- the line that waits for its answer
+abbrev pub IsWaitingLine : Memory → List ℕ → Type 0
+IsWaitingLine memory line =
+    (taken : Taken) × (memory.waiting ≡ Some taken) × IsTheLine taken memory.reading line
+
+-- a line that was taken waits; at the end of the input and after a stop none does
+abbrev pub waiting_after : Result Taken Stop → Option Taken
+waiting_after (Ok Line) = Some Line
+waiting_after (Ok TooLong) = Some TooLong
+waiting_after (Ok End) = None
+waiting_after (Err stop) = None
+
+-- the source failed, or the input is too long
+abbrev pub IsReadingStop : Stop → Type 0
+IsReadingStop ReadFault = ⊤
+IsReadingStop InputLimit = ⊤
+IsReadingStop WriteFault = ⊥
+IsReadingStop EntropyFault = ⊥
+IsReadingStop ModuleFault = ⊥
+IsReadingStop StoreFault = ⊥
+IsReadingStop (Damaged device cell) = ⊥
+
+-- How far the input was taken, by the reading of lines before and after. The options are what the source had left and
+-- has left, where it tells it.
+pub record InputRead (result : Result Taken Stop) (input rest : Option (List ℕ))
+    (r0 r1 : Reading) : Type 0 where
+  -- the first line of the bytes ahead was taken, and the others are ahead then
+  pub takes : IfOk result
+      (λ taken. WhereTold input rest (λ i r. Takes taken (r0.pending ++ i) r1 (r1.pending ++ r)))
+  pub shows : IfOk result (λ taken. Shows taken r1)
+  pub advances : IfOk result (λ taken. Advances taken r0 r1)
+  pub ended : WhereTold input rest (λ i r.
+      (result ≡ Ok End) ↔ (IsTrue r1.ended × (r0.pending ++ i ≡ [])))
+  pub ends : result ≡ Ok End → IsTrue r1.ended
+  pub limit : WhereTold input rest (λ i r.
+      (result ≡ Err InputLimit) ↔ ((r1.taken ≡ input_limit)
+      × NoNewline (r0.pending ++ given i r)))
+  pub part_lost : OnErr result
+      (WhereTold input rest (λ i r. LosesPart (r0.pending ++ i) r))
+  pub still_ended : IsTrue r0.ended → IsTrue r1.ended
+  pub at_end : IsTrue r1.ended → IsAtEnd rest
+  pub counted : WhereTold input rest (λ i r. r1.taken + length r ≡ r0.taken + length i)
+  pub within : r1.taken ≤ input_limit
+  pub full : result ≡ Err InputLimit → r1.taken ≡ input_limit
+  pub short : (result ≡ Err ReadFault) ⊎ (result ≡ Ok End) → r1.taken < input_limit

@@ -1,6 +1,7 @@
 //! `cca`: requests in, replies out.
 #![tactic(auto)]
 
+mod auditing;
 mod command;
 mod coprocessor;
 mod counts;
@@ -9,14 +10,18 @@ mod demo_lines;
 mod demo_text;
 mod history;
 mod session;
+mod showing;
 mod tally;
 mod unused;
 mod words;
 
+pub use auditing::{AuditStatus, run_audited};
 pub use cca_requests::perform;
 pub use command::{Status, run};
 pub use line_service::{Device, Served, Stop};
 pub use session::Session;
+pub use showing::show_trail;
+pub use verb_script::Taken;
 pub use words::{Command, Words};
 
 #[cfg(test)]

@@ -1,41 +1,53 @@
 //! Sessions: lines served one after another, over a module and a store.
-ghost use Rattle.std.specs.Prelude.{◌≡◌, IsTrue, Err, OnOk, IfOk, IfErr};
+ghost use Rattle.std.specs.Prelude.{◌≡◌, ℕ, List, [], None, IsSome, IsTrue, Err, OnOk, OnErr, IfOk, IfErr};
 ghost use Rattle.std.specs.Io.KnownBytes.{IsAtEnd};
 ghost use Rattle.key_cells.specs.Bench.{blank_bench};
 ghost use Rattle.script_buffers.specs.Reading.{blank};
-ghost use Rattle.line_service.specs.Answering.{OnDisks, IsSound};
-ghost use Rattle.line_service.specs.Devices.{HaveSizes, AreSettled, BothSettled, DamageTold, OpeningLeft, OutsideLeft, Undamaged};
+ghost use Rattle.line_service.specs.Answering.{OnDisks, IsSound, Serves};
+ghost use Rattle.line_service.specs.Devices.{HaveSizes, AreSettled, BothSettled, DamageTold, DevicesLeft, OpeningLeft, OutsideLeft, TellsFault, Undamaged};
+ghost use Rattle.line_service.specs.Machine.{world};
 ghost use Rattle.line_service.specs.Running.{LineLeaves, LinesServed, InputTaken, ServesSound, Untouched, LineTaken, Unmoved};
+ghost use Rattle.line_service.specs.Stops.{IsDeskStop};
 ghost use Rattle.cca_machine.specs.State.{State, module_size, store_size};
-ghost use Rattle.cca_tool.specs.Sessions.{blank_memory, AreKnown};
+ghost use Rattle.cca_tool.specs.Sessions.{blank_memory, AreKnown, InputRead, IsReadingStop, IsWaitingLine, waiting_after};
 ghost use Rattle.cca_tool.specs.Coprocessor.{cca, remembers, IsStop, IsOpeningStop};
 
 use crate::coprocessor::Coprocessor;
 use cca_roles::Roles;
 use key_cells::Workbench;
 use key_records::Records;
-use line_service::{Desk, Served, Shown, ShownOutside, Stop, serve, serve_one};
+use line_service::{Desk, Served, Shown, ShownOutside, Stop, answer_taken, serve, serve_one};
 use slot_disk::{Disk, Entropy, NoMemory, Sink, Source};
 use std::alloc::Global;
 use std::marker::Model;
-use verb_script::{LineBuffer, ReplyBuffer};
+use verb_script::{LineBuffer, LineFault, ReplyBuffer, Taken, read_line};
 
 /// The buffers of a session, the roles of its module and the labels of its store, with all the memory that it uses.
-/// Clauses see the reading of its lines, and the tables of roles and labels.
+/// Clauses see the reading of its lines, the tables of roles and labels, the reply, and the line that waits for its
+/// answer.
 #[derive(Drop)]
 pub struct Session {
-    lines: LineBuffer,
-    reply: ReplyBuffer,
-    desk: Coprocessor,
+    pub(crate) lines: LineBuffer,
+    pub(crate) reply: ReplyBuffer,
+    pub(crate) desk: Coprocessor,
+    // How the line was taken that isn't answered yet.
+    waiting: Option<Taken>,
 }
 
 impl Model for Session {
     ghost use Rattle.cca_requests.specs.Serving.{tables};
-    ghost use Rattle.cca_tool.specs.Sessions.{Memory};
+    ghost use Rattle.cca_tool.specs.Sessions.{Memory, ShowsWaiting};
 
     ghost Value = { Memory };
 
-    ghost view = { λ s. record { reading = s.lines; tables = tables s.desk.roles s.desk.records } };
+    ghost view = { λ s. record {
+      reading = s.lines;
+      tables = tables s.desk.roles s.desk.records;
+      reply = s.reply;
+      waiting = s.waiting;
+    } };
+
+    ghost invariant = { λ s. ShowsWaiting s.waiting s.lines };
 }
 
 impl Session {
@@ -53,12 +65,13 @@ impl Session {
                 roles: Roles::new(),
                 records,
             },
+            waiting: None,
         })
     }
 
-    /// Begins the session: bytes that were taken before and not answered are lost, every image of a disk becomes
-    /// its content, the registers are looked at, and roles and labels are read. The module is judged before the
-    /// store is called.
+    /// Begins the session: bytes that were taken before and not answered are lost, a line that waits among them.
+    /// Every image of a disk becomes its content, the registers are looked at, and roles and labels are read. The
+    /// module is judged before the store is called.
     pub fn begin<M: Disk, D: Disk>(
         &mut self,
         bench: &mut Workbench,
@@ -69,6 +82,7 @@ impl Session {
             (⟦<(M, D) as Shown>⟧.shown («module».old, store.old)) }
 
         ensures fresh { self.new.reading ≡ blank }
+        ensures idle { self.new.waiting ≡ None }
         // It succeeds only where the disks stand for a state, whose roles and labels are then known. Nothing is
         // written.
         ensures known { OnOk result
@@ -80,13 +94,13 @@ impl Session {
         ensures stops { IfErr result IsOpeningStop }
         ensures bench { bench.new ≡ blank_bench }
     {
-        self.lines.clear();
+        self.forget_lines();
         self.desk.open(bench, module, store)
     }
 
     /// Serves one line: it is taken from the source, judged and carried out, and the reply is sent.
     ///
-    /// The session was begun, and no call of it has answered a stop since.
+    /// The session was begun, no call of it has answered a stop since, and no line waits.
     pub fn serve_one<S: Source, K: Sink, M: Disk, D: Disk, E: Entropy>(
         &mut self,
         bench: &mut Workbench,
@@ -96,6 +110,7 @@ impl Session {
         store: &mut D,
         entropy: &mut E,
     ) -> Result<Served, Stop>
+        requires idle { self.old.waiting ≡ None }
         requires at_end { IsTrue self.old.reading.ended → IsAtEnd (S.left source.old) }
         requires disks { AreSettled module_size store_size
             (⟦<(M, D) as Shown>⟧.shown («module».old, store.old)) }
@@ -128,6 +143,7 @@ impl Session {
         ensures cut { result ≡ Err Stop.WriteFault → BothSettled
             (⟦<(M, D) as Shown>⟧.shown («module».new, store.new)) }
         ensures stops { IfErr result IsStop }
+        ensures idle { self.new.waiting ≡ None }
         ensures bench { bench.new ≡ blank_bench }
     {
         serve_one(
@@ -141,6 +157,107 @@ impl Session {
             store,
             entropy,
         )
+    }
+
+    /// Takes the next line from the source, as `read_line` does. The line waits then: it is to be answered before
+    /// the next one is taken.
+    ///
+    /// The session was begun, no call of it has answered a stop since, and no line waits.
+    pub fn take_line<S: Source>(&mut self, source: &mut S) -> Result<Taken, Stop>
+        requires idle { self.old.waiting ≡ None }
+        requires at_end { IsTrue self.old.reading.ended → IsAtEnd (S.left source.old) }
+
+        // How far the input was taken, and which line waits.
+        ensures read { InputRead result (S.left source.old) (S.left source.new)
+            self.old.reading self.new.reading }
+        ensures waits { self.new.waiting ≡ waiting_after result }
+        ensures tables { self.new.tables ≡ self.old.tables }
+        ensures reply { self.new.reply ≡ self.old.reply }
+        // Why no line was taken.
+        ensures left { TellsFault (S.faults source.old) (S.faults source.new)
+            (result ≡ Err Stop.ReadFault) }
+        ensures stops { IfErr result IsReadingStop }
+    {
+        match read_line(source, &mut self.lines) {
+            Ok(Taken::End) => Ok(Taken::End),
+            Ok(taken) => {
+                self.waiting = Some(taken);
+                Ok(taken)
+            }
+            Err(LineFault::ReadFault) => Err(Stop::ReadFault),
+            Err(LineFault::InputLimit) => Err(Stop::InputLimit),
+        }
+    }
+
+    /// The line that was taken last, without its newline. It is empty where none was taken, and where the line is
+    /// too long.
+    pub fn line(&self) -> &[u8]
+        ensures { result.now ≡ self.now.reading.line }
+    {
+        self.lines.line()
+    }
+
+    /// Answers the line that waits: it is judged and carried out, and `reply` gives the reply then. After a stop there
+    /// is none.
+    ///
+    /// The session was begun, and no call of it has answered a stop since.
+    pub fn answer<M: Disk, D: Disk, E: Entropy>(
+        &mut self,
+        bench: &mut Workbench,
+        module: &mut M,
+        store: &mut D,
+        entropy: &mut E,
+    ) -> Result<(), Stop>
+        requires waits { IsSome self.old.waiting }
+        requires disks { AreSettled module_size store_size
+            (⟦<(M, D) as Shown>⟧.shown («module».old, store.old)) }
+        requires known { AreKnown self.old.tables (M.medium «module».old) (D.medium store.old) }
+
+        // What the line comes to, from the state for which the disks stand.
+        ensures serves { (s : State) → OnDisks cca s (M.medium «module».old) (D.medium store.old)
+            → (line : List ℕ) → IsWaitingLine self.old line
+            → Serves cca s (remembers self.new.tables) line result self.new.reply
+            (world (M.medium «module».old) (D.medium store.old) (E.left entropy.old))
+            (world (M.medium «module».new) (D.medium store.new) (E.left entropy.new)) }
+        ensures known { OnOk result
+            (AreKnown self.new.tables (M.medium «module».new) (D.medium store.new)) }
+        ensures reading { self.new.reading ≡ self.old.reading }
+        ensures idle { self.new.waiting ≡ None }
+        ensures unanswered { OnErr result (self.new.reply ≡ []) }
+        // What is left of each device, and why it stopped. Disks that tell their bytes don't turn out damaged.
+        ensures left { DevicesLeft cca result (⟦<(M, D, E) as Shown>⟧.between
+            («module».old, store.old, entropy.old) («module».new, store.new, entropy.new)) }
+        ensures undamaged { Undamaged cca result
+            (⟦<(M, D) as Shown>⟧.shown («module».old, store.old)) }
+        ensures stops { IfErr result IsDeskStop }
+        ensures bench { bench.new ≡ blank_bench }
+    {
+        let Some(taken) = self.waiting.take() else {
+            unreachable!()
+        };
+        match answer_taken(
+            &mut self.desk,
+            taken,
+            &self.lines,
+            &mut self.reply,
+            bench,
+            module,
+            store,
+            entropy,
+        ) {
+            Ok(()) => Ok(()),
+            Err(stop) => {
+                self.reply.clear();
+                Err(stop)
+            }
+        }
+    }
+
+    /// The reply to the line that was answered last, with its newline.
+    pub fn reply(&self) -> &[u8]
+        ensures { result.now ≡ self.now.reply }
+    {
+        self.reply.bytes()
     }
 
     /// Begins the session, and serves line after line to the end of the input. It takes no memory.
@@ -181,6 +298,7 @@ impl Session {
         ensures stops { IfErr result IsStop }
         ensures bench { bench.new ≡ blank_bench }
     {
+        self.forget_lines();
         serve(
             &mut self.desk,
             &mut self.lines,
@@ -192,5 +310,13 @@ impl Session {
             store,
             entropy,
         )
+    }
+
+    // Drops the bytes that were taken and not answered, a line that waits among them.
+    fn forget_lines(&mut self)
+        ensures { self.new ≡ record self.old { reading = blank; waiting = None } }
+    {
+        self.lines.clear();
+        self.waiting = None;
     }
 }

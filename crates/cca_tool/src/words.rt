@@ -59,7 +59,7 @@ impl Words {
         ensures run { (result ≡ Some Command.Run) ↔ (self.now ≡ codes "run" ∷ []) }
         ensures demo { (n : ℕ) → (result ≡ Some (Command.Demo n)) ↔ IsDemo n self.now }
     {
-        if self.are_run() {
+        if self.are_just("run") {
             return Some(Command::Run);
         }
         match self.demo_number() {
@@ -68,12 +68,12 @@ impl Words {
         }
     }
 
-    // Whether they are the one word `run`.
-    fn are_run(&self) -> bool
-        ensures { IsTrue result ↔ (self.now ≡ codes "run" ∷ []) }
+    /// Whether they are this one word.
+    pub fn are_just(&self, word: &str) -> bool
+        ensures { IsTrue result ↔ (self.now ≡ word.now ∷ []) }
     {
         match self.words.as_slice() {
-            [word] => word.as_str() == "run",
+            [only] => only.as_str() == word,
             _ => false,
         }
     }

@@ -1,6 +1,6 @@
 -- The status tells how the lines ended; and where no device was called, nothing has changed.
 use Rattle.std.proofs.Common.{refl, inr}
-use Rattle.cca_tool.proofs.StatusLemmas.{ended_as, no_memory_ended, usage_ended}
+use Rattle.cca_tool.proofs.StatusLemmas.{ended_as, no_memory_ended, usage_ended, calls_some}
 use Rattle.cca_tool.proofs.DemoRunLemmas.{demo_outside, demo_lines_at}
 use Rattle.cca_tool.proofs.WordLemmas.{the_number, one_number, not_both}
 use Rattle.cca_tool.proofs.command.run.Goals as goal
@@ -21,6 +21,9 @@ returns-in-Ok-clause-damage g c = ended_as _ c.serve.result c.status_of.result c
 
 pub returns-in-Ok-clause-left : goal.returns-in-Ok-clause-left
 returns-in-Ok-clause-left g c = ended_as _ c.serve.result c.status_of.result c.status_of.ensures c.serve.ensures.left
+
+pub returns-in-Ok-clause-uncalled : goal.returns-in-Ok-clause-uncalled
+returns-in-Ok-clause-uncalled g c = λ none. absurd (calls_some c.status_of.result c.serve.result c.status_of.ensures none)
 
 -- ---- no device was called
 

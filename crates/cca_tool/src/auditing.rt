@@ -1,0 +1,156 @@
+//! The top call of an audited run.
+ghost use Rattle.std.specs.Prelude.{◌≡◌, ◌↔◌, ◌∷◌, [], List, codes, Err};
+ghost use Rattle.key_cells.specs.Bench.{blank_bench};
+ghost use Rattle.slot_disk.specs.Medium.{Told, Keeps};
+ghost use Rattle.audit_entries.specs.LineEntries.{entry_of};
+ghost use Rattle.audit_trail.specs.Changes.{TrailLeft};
+ghost use Rattle.audit_trail.specs.TrailStands.{IsTrail};
+ghost use Rattle.audit_trail.specs.declared.entries.Entry.{Entry};
+ghost use Rattle.audited_service.specs.Answers.{run_part, AuditsLines};
+ghost use Rattle.audited_service.specs.Auditing.{IsUnsoundTrail, LinesRecorded, AuditTaken, AuditsSound, TrailDamageTold};
+ghost use Rattle.audited_service.specs.Growing.{TrailGrows};
+ghost use Rattle.line_service.specs.Answering.{OnDisks, IsSound};
+ghost use Rattle.line_service.specs.Devices.{HaveSizes, DamageTold, OutsideLeft};
+ghost use Rattle.line_service.specs.Running.{Untouched};
+ghost use Rattle.cca_machine.specs.State.{State, module_size, store_size};
+ghost use Rattle.cca_tool.specs.Auditing.{audit_status_of_lem, AuditEnded, AuditCallsNone, AllUncalled};
+ghost use Rattle.cca_tool.specs.Coprocessor.{cca};
+
+use crate::command::{Status, status_of};
+use crate::session::Session;
+use crate::words::Words;
+use audit_entries::LineScribe;
+use audit_trail::{TRAIL_LEN, Trail, TrailFault};
+use audited_service::serve_audited;
+use key_cells::Workbench;
+use line_service::{Shown, ShownOutside, Stop};
+use slot_disk::{Disk, Entropy, Sink, Source};
+use std::alloc::Global;
+
+/// How an audited run ended, or a listing of its trail.
+#[derive(Clone, Copy, Debug, PartialEq, Eq)]
+pub enum AuditStatus {
+    /// As a run ends.
+    Run(Status),
+    /// The trail failed.
+    TrailFault,
+    /// A cell of the trail is damaged.
+    TrailDamaged(u16),
+    /// The trail has no number left for the record of a line.
+    TrailFull,
+}
+
+/// Serves the requests of the source, as `run` does, and records each line on the trail before its reply is sent.
+///
+/// This is for the one word `audit`. All memory is taken before a device is called, and none after. The bench is wiped
+/// first, since it may hold anything. The module is judged first, then the store, then the trail.
+pub fn run_audited<S: Source, K: Sink, M: Disk, D: Disk, E: Entropy, T: Disk>(
+    alloc: Global,
+    words: &Words,
+    bench: &mut Workbench,
+    source: &mut S,
+    sink: &mut K,
+    module: &mut M,
+    store: &mut D,
+    entropy: &mut E,
+    trail: &mut T,
+) -> AuditStatus
+    requires disks { HaveSizes module_size store_size
+        (⟦<(M, D) as Shown>⟧.shown («module».old, store.old)) }
+    requires trail { (T.medium trail.old).size ≡ TRAIL_LEN }
+
+    ensures usage { (result ≡ AuditStatus.Run Status.Usage)
+        ↔ (words.now ≡ codes "audit" ∷ [] → ⊥) }
+
+    // Where no device was called.
+    ensures uncalled { AuditCallsNone result
+        → AllUncalled source.old source.new sink.old sink.new «module».old «module».new
+        store.old store.new entropy.old entropy.new trail.old trail.new }
+
+    // What the lines come to, from the state for which the disks stand and the entries for which the trail stands: what
+    // the sink got, what disks and trail stand for, each of them at every moment, and that every line is recorded and
+    // answered where no device fails.
+    ensures lines { (s : State) (es : List Entry)
+        → OnDisks cca s (M.medium «module».old) (D.medium store.old)
+        → Told (T.medium trail.old) (λ c. IsTrail c es)
+        → AuditEnded result (λ outcome. LinesRecorded cca entry_of s es outcome
+        (⟦<(S, K, M, D, E) as ShownOutside>⟧.between
+        (source.old, sink.old, «module».old, store.old, entropy.old)
+        (source.new, sink.new, «module».new, store.new, entropy.new))
+        (T.medium trail.old) (T.medium trail.new) (T.faults trail.old) (T.faults trail.new)) }
+
+    // How far the input was taken.
+    ensures taken { AuditEnded result (λ outcome. AuditTaken outcome
+        (⟦<(S, K, M, D, E) as ShownOutside>⟧.between
+        (source.old, sink.old, «module».old, store.old, entropy.old)
+        (source.new, sink.new, «module».new, store.new, entropy.new))) }
+
+    // Lines are served only where the disks stand for a state and the trail for some entries. Where they don't, all is
+    // as before.
+    ensures sound { AuditEnded result (λ outcome. AuditsSound cca outcome
+        (⟦<(M, D) as Shown>⟧.between («module».old, store.old) («module».new, store.new))
+        (T.medium trail.old)) }
+    ensures unsound { (IsSound cca (M.medium «module».old) (D.medium store.old) → ⊥)
+        → Untouched source.old source.new sink.old sink.new entropy.old entropy.new
+        (⟦<(M, D) as Shown>⟧.between («module».old, store.old) («module».new, store.new))
+        × (trail.new ≡ trail.old) }
+    ensures unsound_trail { IsUnsoundTrail (T.medium trail.old)
+        → Untouched source.old source.new sink.old sink.new entropy.old entropy.new
+        (⟦<(M, D) as Shown>⟧.between («module».old, store.old) («module».new, store.new))
+        × Keeps (T.medium trail.old) (T.medium trail.new) }
+
+    // Damage is told where a cell is broken, and then always, unless a device failed: that of the module first, then that
+    // of the store, then that of the trail.
+    ensures damage { AuditEnded result (λ outcome. DamageTold cca (run_part outcome)
+        (⟦<(M, D) as Shown>⟧.between («module».old, store.old) («module».new, store.new))) }
+    ensures trail_damage { AuditEnded result (λ outcome. TrailDamageTold cca outcome
+        (⟦<(M, D) as Shown>⟧.between («module».old, store.old) («module».new, store.new))
+        (T.medium trail.old) (T.faults trail.old) (T.faults trail.new)) }
+
+    // What is left of each device, and why it ended.
+    ensures left { AuditEnded result (λ outcome. OutsideLeft cca (run_part outcome)
+        (⟦<(S, K, M, D, E) as ShownOutside>⟧.between
+        (source.old, sink.old, «module».old, store.old, entropy.old)
+        (source.new, sink.new, «module».new, store.new, entropy.new))) }
+    ensures trail_left { AuditEnded result (λ outcome. TrailLeft
+        (T.medium trail.old) (T.medium trail.new) (T.faults trail.old) (T.faults trail.new)
+        (AuditsLines outcome) (outcome ≡ Err TrailFault.DiskFault)) }
+    // Whatever the disks hold, entries are only added to the trail.
+    ensures trail_grows { TrailGrows (T.medium trail.old) (T.medium trail.new) }
+
+    // No key is left in the bench.
+    ensures bench { bench.new ≡ blank_bench }
+{
+    bench.wipe();
+    if !words.are_just("audit") {
+        return AuditStatus::Run(Status::Usage);
+    }
+    match Session::new(alloc) {
+        Ok(mut session) => audit_status_of(serve_audited(
+            &mut session.desk,
+            &LineScribe,
+            &mut session.lines,
+            &mut session.reply,
+            bench,
+            source,
+            sink,
+            module,
+            store,
+            entropy,
+            &mut Trail::new(),
+            trail,
+        )),
+        Err(_) => AuditStatus::Run(Status::NoMemory),
+    }
+}
+
+fn audit_status_of(outcome: Result<Result<(), Stop>, TrailFault>) -> AuditStatus
+    ensures { result ≡ audit_status_of_lem outcome }
+{
+    match outcome {
+        Ok(run) => AuditStatus::Run(status_of(run)),
+        Err(TrailFault::DiskFault) => AuditStatus::TrailFault,
+        Err(TrailFault::Damaged(cell)) => AuditStatus::TrailDamaged(cell),
+        Err(TrailFault::Full) => AuditStatus::TrailFull,
+    }
+}
