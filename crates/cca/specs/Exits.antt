@@ -3,6 +3,8 @@ use Rattle.std.specs.Prelude.{ℕ, Option, None, Some, Result, Ok, Err}
 use Rattle.cca.specs.declared.fault.Fault.{Fault}
 use Rattle.cca.specs.declared.fault.Fault.TheVariants as fault
 use Rattle.line_service.specs.declared.stops.Device.TheVariants.{Module, Store}
+use Rattle.cca_tool.specs.declared.auditing.AuditStatus.{AuditStatus}
+use Rattle.cca_tool.specs.declared.auditing.AuditStatus.TheVariants as audit
 use Rattle.cca_tool.specs.declared.command.Status.{Status}
 use Rattle.cca_tool.specs.declared.command.Status.TheVariants as status
 
@@ -18,22 +20,31 @@ exit_of fault.Entropy = 8
 exit_of fault.InputLimit = 9
 exit_of fault.NoMemory = 10
 exit_of fault.File = 11
+exit_of fault.Trail = 13
+exit_of (fault.TrailCell cell) = 14
+exit_of fault.TrailFull = 15
 exit_of fault.Size = 17
 
-abbrev pub fault_of_lem : Status → Option Fault
-fault_of_lem status.Done = None
-fault_of_lem status.Usage = Some fault.Usage
-fault_of_lem (status.Damaged Module cell) = Some (fault.ModuleCell cell)
-fault_of_lem (status.Damaged Store cell) = Some (fault.StoreCell cell)
-fault_of_lem status.ReadFault = Some fault.Input
-fault_of_lem status.WriteFault = Some fault.Output
-fault_of_lem status.EntropyFault = Some fault.Entropy
-fault_of_lem status.ModuleFault = Some fault.Module
-fault_of_lem status.StoreFault = Some fault.Store
-fault_of_lem status.InputLimit = Some fault.InputLimit
-fault_of_lem status.NoMemory = Some fault.NoMemory
+abbrev pub run_fault_of : Status → Option Fault
+run_fault_of status.Done = None
+run_fault_of status.Usage = Some fault.Usage
+run_fault_of (status.Damaged Module cell) = Some (fault.ModuleCell cell)
+run_fault_of (status.Damaged Store cell) = Some (fault.StoreCell cell)
+run_fault_of status.ReadFault = Some fault.Input
+run_fault_of status.WriteFault = Some fault.Output
+run_fault_of status.EntropyFault = Some fault.Entropy
+run_fault_of status.ModuleFault = Some fault.Module
+run_fault_of status.StoreFault = Some fault.Store
+run_fault_of status.InputLimit = Some fault.InputLimit
+run_fault_of status.NoMemory = Some fault.NoMemory
 
--- why the program doesn't end well: the fault of the status of a run, or the one before it
-abbrev pub told_of : Result Status Fault → Option Fault
+abbrev pub fault_of_lem : AuditStatus → Option Fault
+fault_of_lem (audit.Run outcome) = run_fault_of outcome
+fault_of_lem audit.TrailFault = Some fault.Trail
+fault_of_lem (audit.TrailDamaged cell) = Some (fault.TrailCell cell)
+fault_of_lem audit.TrailFull = Some fault.TrailFull
+
+-- why the program doesn't end well: the fault of the status of a call, or the one before it
+abbrev pub told_of : Result AuditStatus Fault → Option Fault
 told_of (Ok outcome) = fault_of_lem outcome
 told_of (Err fault) = Some fault

@@ -1,15 +1,15 @@
 //! How the program ends otherwise than well: by a text on standard error, and an exit status.
 ghost use Rattle.std.specs.Prelude.{◌≡◌, None};
-ghost use Rattle.cca.specs.Exits.{exit_of, fault_of_lem};
+ghost use Rattle.cca.specs.Exits.{exit_of, fault_of_lem, run_fault_of};
 
-use cca_tool::{Device, Status};
+use cca_tool::{AuditStatus, Device, Status};
 use thiserror::Error;
 
 /// Why the program didn't end well, with its text.
 #[derive(Clone, Copy, Debug, PartialEq, Eq, Error)]
 pub enum Fault {
     /// The words are no command, or one of them isn't UTF-8.
-    #[error("cca: usage: cca run, or cca demo N with N from 1 to 1000")]
+    #[error("cca: usage: cca run, cca demo N with N from 1 to 1000, cca audit, or cca trail")]
     Usage,
     /// The module holds in this cell what no module may hold.
     #[error("cca: module cell {0} is damaged")]
@@ -41,6 +41,15 @@ pub enum Fault {
     /// A file could not be opened or made, or another run uses it.
     #[error("cca: a file could not be opened")]
     File,
+    /// A call of the trail's file failed.
+    #[error("cca: the trail file failed")]
+    Trail,
+    /// The trail holds in this cell what no trail may hold there.
+    #[error("cca: trail cell {0} is damaged")]
+    TrailCell(u16),
+    /// No number is left for a further record of the trail.
+    #[error("cca: the trail is full")]
+    TrailFull,
     /// A file has another size than it must.
     #[error("cca: a file has a wrong size")]
     Size,
@@ -62,14 +71,29 @@ impl Fault {
             Fault::InputLimit => 9,
             Fault::NoMemory => 10,
             Fault::File => 11,
+            Fault::Trail => 13,
+            Fault::TrailCell(_) => 14,
+            Fault::TrailFull => 15,
             Fault::Size => 17,
         }
     }
 }
 
-/// What a run's end is told as: nothing where it ended well.
-pub fn fault_of(status: Status) -> Option<Fault>
+/// What an end is told as: nothing where it is a good one.
+pub fn fault_of(status: AuditStatus) -> Option<Fault>
     ensures { result ≡ fault_of_lem status }
+{
+    match status {
+        AuditStatus::Run(status) => run_fault_of(status),
+        AuditStatus::TrailFault => Some(Fault::Trail),
+        AuditStatus::TrailDamaged(cell) => Some(Fault::TrailCell(cell)),
+        AuditStatus::TrailFull => Some(Fault::TrailFull),
+    }
+}
+
+/// What a run's end is told as: nothing where it ended well.
+fn run_fault_of(status: Status) -> Option<Fault>
+    ensures { result ≡ run_fault_of status }
 {
     match status {
         Status::Done => None,

@@ -13,6 +13,9 @@ pub const MODULE_LEN: u64 = 50_688;
 /// The store: 1,024 cells, one for each label.
 pub const STORE_LEN: u64 = 1_572_864;
 
+/// The trail: 4,096 cells, one for each record that is held.
+pub const TRAIL_LEN: u64 = 6_291_456;
+
 /// Read and written by the file's owner alone.
 const OWNER_ALONE: u32 = 0o600;
 

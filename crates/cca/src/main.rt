@@ -5,6 +5,9 @@
 //! labels, always enciphered, in the file `cca.store`.
 //!
 //! `cca demo N` serves lines that are made up for N labels, over files of its own, and writes how they were answered.
+//!
+//! `cca audit` is `cca run` with an audit trail in the file `cca.trail`: one record a line, written before the line's
+//! reply. `cca trail` writes the records that it holds.
 #![tactic(auto)]
 
 ghost use Rattle.std.specs.Prelude.{◌≡◌, ◌↔◌, ◌++◌, ◌∷◌, [], OnOk, IsNone};
@@ -13,9 +16,9 @@ ghost use Rattle.cca.specs.Exits.{told_of};
 mod fault;
 mod files;
 
-use cca_tool::{Command, Status, Words, run};
+use cca_tool::{AuditStatus, Command, Status, Words, run, run_audited, show_trail};
 use fault::{Fault, fault_of};
-use files::{MODULE_LEN, STORE_LEN, new_disk, open_disk, open_random};
+use files::{MODULE_LEN, STORE_LEN, TRAIL_LEN, new_disk, open_disk, open_random};
 use key_cells::Workbench;
 use slot_disk::{Disk, FileDisk, NoMemory, StreamEntropy, StreamSink, StreamSource};
 use std::env;
@@ -35,9 +38,9 @@ fn main(rt: HostRuntime) -> ExitCode {
 }
 
 /// Why the program doesn't end well, if so.
-fn fault_in(outcome: Result<Status, Fault>) -> Option<Fault>
+fn fault_in(outcome: Result<AuditStatus, Fault>) -> Option<Fault>
     ensures told { result ≡ told_of outcome }
-    ensures none { IsNone result ↔ (outcome ≡ Ok Status.Done) }
+    ensures none { IsNone result ↔ (outcome ≡ Ok (AuditStatus.Run Status.Done)) }
 {
     match outcome {
         Ok(status) => fault_of(status),
@@ -45,8 +48,14 @@ fn fault_in(outcome: Result<Status, Fault>) -> Option<Fault>
     }
 }
 
-fn run_in(rt: &HostRuntime) -> Result<Status, Fault> {
+fn run_in(rt: &HostRuntime) -> Result<AuditStatus, Fault> {
     let words = words_of(rt)?;
+    if words.are_just("audit") {
+        return audit_in(rt, &words);
+    }
+    if words.are_just("trail") {
+        return trail_in(rt, &words);
+    }
     match words.command() {
         Some(Command::Run) => {
             let module = open_disk(rt, "cca.module", MODULE_LEN)?;
@@ -59,7 +68,7 @@ fn run_in(rt: &HostRuntime) -> Result<Status, Fault> {
             run_over(rt, &words, module, store)
         }
         // Other words open no file.
-        None => Ok(Status::Usage),
+        None => Ok(AuditStatus::Run(Status::Usage)),
     }
 }
 
@@ -69,7 +78,7 @@ fn run_over(
     words: &Words,
     module: FileDisk,
     store: FileDisk,
-) -> Result<Status, Fault>
+) -> Result<AuditStatus, Fault>
     requires module_size { (⟦<FileDisk as Disk>⟧.medium «module»).size ≡ 50688 }
     requires store_size { (⟦<FileDisk as Disk>⟧.medium store).size ≡ 1572864 }
 {
@@ -79,7 +88,7 @@ fn run_over(
     let mut source = StreamSource::new(rt.stdin());
     let mut sink = StreamSink::new(rt.stdout());
     let mut entropy = StreamEntropy::new(open_random(rt)?);
-    Ok(run(
+    let status = run(
         rt.alloc(),
         words,
         &mut bench,
@@ -88,7 +97,37 @@ fn run_over(
         &mut module,
         &mut store,
         &mut entropy,
+    );
+    Ok(AuditStatus::Run(status))
+}
+
+/// Serves requests with an audit trail.
+fn audit_in(rt: &HostRuntime, words: &Words) -> Result<AuditStatus, Fault> {
+    let mut module = open_disk(rt, "cca.module", MODULE_LEN)?;
+    let mut store = open_disk(rt, "cca.store", STORE_LEN)?;
+    let mut trail = open_disk(rt, "cca.trail", TRAIL_LEN)?;
+    let mut bench = Workbench::new();
+    let mut source = StreamSource::new(rt.stdin());
+    let mut sink = StreamSink::new(rt.stdout());
+    let mut entropy = StreamEntropy::new(open_random(rt)?);
+    Ok(run_audited(
+        rt.alloc(),
+        words,
+        &mut bench,
+        &mut source,
+        &mut sink,
+        &mut module,
+        &mut store,
+        &mut entropy,
+        &mut trail,
     ))
+}
+
+/// Shows the records of the audit trail.
+fn trail_in(rt: &HostRuntime, words: &Words) -> Result<AuditStatus, Fault> {
+    let mut trail = open_disk(rt, "cca.trail", TRAIL_LEN)?;
+    let mut sink = StreamSink::new(rt.stdout());
+    Ok(show_trail(rt.alloc(), words, &mut sink, &mut trail))
 }
 
 /// The words behind the program's name. A word that isn't UTF-8 is a faulty command line.
