@@ -5,6 +5,8 @@
 ghost use Rattle.cca_rows.specs.WorkedCeremonies.{CeremoniesAnswered};
 
 #[cfg(test)]
+mod audits;
+#[cfg(test)]
 mod cuts;
 #[cfg(test)]
 mod demo;
