@@ -1,0 +1,15 @@
+pub mod Exports
+pub mod Reading
+pub mod Stored
+pub use Rattle.key_cells.specs.Bench
+pub use Rattle.key_cells.specs.Lease
+pub use Rattle.key_records.specs.Changes
+pub use Rattle.key_records.specs.Directory
+pub use Rattle.key_records.specs.Entries
+pub use Rattle.key_records.specs.StoreStands
+pub use Rattle.key_tokens.specs.Denotes
+pub use Rattle.key_transport.specs.Tokens
+pub use Rattle.master_registers.specs.Loaded
+pub use Rattle.slot_disk.specs.Faults
+pub use Rattle.slot_disk.specs.Medium
+pub use Rattle.verb_rules.specs.Keys
