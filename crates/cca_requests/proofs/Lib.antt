@@ -9,9 +9,9 @@ mod Generating
 mod GrantsKept
 mod KeyParts
 mod KeyedVerbs
-mod LabelsRead
+pub mod LabelsRead
 mod Leaving
-mod ListedLabels
+pub mod ListedLabels
 mod Points
 mod Registers
 mod Renewing

@@ -29,7 +29,7 @@ module _ {X : Type 0} (p q : X → Bool) (implies : (x : X) → p x ≡ true →
       omega (arith, sum_by-cons (λ y. cond (p y) 1 0) x xs, sum_by-cons (λ y. cond (q y) 1 0) x xs, test_le (p x) (q x) (implies x), count_le xs)
 
   -- and one place more
-  count_lt : (xs : List X) (k : ℕ) (d : X) → k < length xs → p (get_or xs k d) ≡ false → q (get_or xs k d) ≡ true → count_by p xs < count_by q xs
+  pub count_lt : (xs : List X) (k : ℕ) (d : X) → k < length xs → p (get_or xs k d) ≡ false → q (get_or xs k d) ≡ true → count_by p xs < count_by q xs
   count_lt [] k d within fails holds = absurd (omega arith)
   count_lt (x ∷ xs) zero d within fails holds =
       let none : ◌≡◌ {A = ℕ} (cond (p x) 1 0) 0 = ap (λ t. cond t 1 0) fails in
@@ -43,7 +43,7 @@ module _ {X : Type 0} (p q : X → Bool) (implies : (x : X) → p x ≡ true →
 no_label : (label : List ℕ) → None ≡ Some label → ⊥
 no_label label is = cc is
 
-within_of : (d : List (Option (List ℕ))) (k : ℕ) (label : List ℕ) → label_at d k ≡ Some label → k < length d
+pub within_of : (d : List (Option (List ℕ))) (k : ℕ) (label : List ℕ) → label_at d k ≡ Some label → k < length d
 within_of d k label held =
     ⊎_elim (λ (below : k < length d). below) (λ (past : length d ≤ k). absurd (no_label label (sym (get_or_past d k None past) ∙ held))) (cases_lt k (length d))
 

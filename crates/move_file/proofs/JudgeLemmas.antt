@@ -1,0 +1,130 @@
+-- The transport key of a move is the key of its label.
+use Rattle.std.proofs.Common.{◌≡◌, ◌∙◌, ℕ, Bool, true, false, List, [], ◌∷◌, ◌++◌, Option, None, Some, Result, Ok, Err, refl, sym, ap, subst}
+use Rattle.std.specs.Prelude.{is_none, not, option_map, IfOk, MatchResult}
+use Rattle.cca_vectors.specs.Checks.{Check, check, first_failing}
+use Rattle.cca_vectors.proofs.Judging.{passed_over, stopped_in}
+use Rattle.key_cells.specs.Bench.{Bench}
+use Rattle.key_records.specs.Directory.{cell_of}
+use Rattle.key_records.specs.Entries.{Entry, row_directory}
+use Rattle.key_records.specs.Labels.{IsLabel, is_label}
+use Rattle.key_records.specs.StoreStands.{Agrees, KeepsLabels, entry_at}
+use Rattle.key_records.proofs.StoreLaws.{told_both, told_map}
+use Rattle.key_records.specs.declared.faults.RecordFault.{RecordFault}
+use Rattle.key_records.specs.declared.rows.Row.{Row}
+use Rattle.key_tokens.specs.Denotes.{ClearKey, Denoted}
+use Rattle.key_tokens.specs.declared.key_token.Age.{Age}
+use Rattle.slot_disk.specs.Medium.{Medium, Told}
+use Rattle.slot_disk.proofs.Media.{told_from}
+use Rattle.store_move.specs.Exports.{IsTransport, exporter, held_in, transport_checks, vector_in}
+use Rattle.verb_rules.specs.KeyChecks.{use_checks}
+use Rattle.verb_rules.specs.Keys.{keys_of, opened, opened_key}
+use Rattle.verb_rules.specs.Rules.{rule_number}
+use Rattle.verb_rules.specs.declared.judging.Judged.{Judged}
+use Rattle.verb_rules.specs.declared.rules.Rule.{Rule}
+use Rattle.cca_machine.specs.Keys.{cell_with, key_of_label, or_no_key, what_at, what_in}
+use Rattle.cca_machine.specs.State.{State}
+use Rattle.cca_machine.specs.Verdict.{record_checks}
+use Rattle.cca_requests.proofs.LabelsRead.{cell_is}
+use Rattle.move_file.specs.Judging.{IsJudged}
+use Rattle.move_file.specs.Moves.{clear_of, move_checks, role_checks}
+use Rattle.move_file.specs.declared.moves.Move.{Move}
+
+-- ---- the label's key
+
+-- a place that was found is this one
+pub found_at : (r a b : Option ℕ) → r ≡ a → r ≡ b → a ≡ b
+found_at r a b first second = sym first ∙ second
+
+-- what the record of a label holds, by its cell
+module _ (s : State) (rows : List (Option Row)) (agrees : Agrees (keys_of s.registers) rows s.labels) (label : List ℕ) where
+  pub key_at : (place : ℕ) → cell_of label (row_directory rows) ≡ Some place → key_of_label s label ≡ held_in (entry_at s.labels place)
+  key_at place is = ap (what_at s.labels) (cell_is s rows agrees label ∙ is) ∙ same_what (entry_at s.labels place)
+    where
+      same_what : (e : Option Entry) → what_in e ≡ held_in e
+      same_what None = refl
+      same_what (Some e) = refl
+
+-- ---- the rules
+
+-- rules 06 to 08, where rules 06 and 07 are as these tests say
+abbrev record_by : Bool → Bool → Option Denoted → List Check
+record_by no_label unknown what = check 6 no_label ∷ check 7 unknown ∷ check 8 (is_none what) ∷ []
+
+abbrev label_by : Bool → Bool → Option Denoted → List Check
+label_by no_label unknown what = record_by no_label unknown what ++ use_checks exporter (or_no_key what).clear.vector
+
+found_by : (what : Option Denoted) → first_failing (label_by false false what) ≡ first_failing (transport_checks what)
+found_by None = refl
+found_by (Some key) = refl
+
+module _ (s : State) (w : Move) (label : IsLabel w.transport) where
+  abbrev label_checks : List Check
+  label_checks = record_checks s w.transport ++ use_checks exporter (clear_of s w.transport).vector
+
+  -- the label is one
+  is_one : not (is_label w.transport) ≡ false
+  is_one = ap not label
+
+  unknown_refuses : cell_with s w.transport ≡ None → first_failing label_checks ≡ Some 7
+  unknown_refuses unknown =
+      ap (λ (t : Bool). first_failing (label_by t (is_none (cell_with s w.transport)) (key_of_label s w.transport))) is_one
+      ∙ ap (λ (o : Option ℕ). first_failing (label_by false (is_none o) (key_of_label s w.transport))) unknown
+
+  -- where it is held, the rules are those of what its record holds
+  known_checks : (place : ℕ) (what : Option Denoted) → cell_with s w.transport ≡ Some place → key_of_label s w.transport ≡ what
+      → first_failing label_checks ≡ first_failing (transport_checks what)
+  known_checks place what held is =
+      ap (λ (t : Bool). first_failing (label_by t (is_none (cell_with s w.transport)) (key_of_label s w.transport))) is_one
+      ∙ ap (λ (o : Option ℕ). first_failing (label_by false (is_none o) (key_of_label s w.transport))) held
+      ∙ ap (λ (o : Option Denoted). first_failing (label_by false false o)) is
+      ∙ found_by what
+
+  role_refuses : (rule : ℕ) → Some rule ≡ first_failing (role_checks s w.role) → first_failing (move_checks s w) ≡ Some rule
+  role_refuses rule is = stopped_in (role_checks s w.role) label_checks rule (sym is)
+
+  past_role : None ≡ first_failing (role_checks s w.role) → first_failing (move_checks s w) ≡ first_failing label_checks
+  past_role is = passed_over (role_checks s w.role) label_checks (sym is)
+
+  -- ---- the transport key
+
+  clear_is : (bench : Bench) (judged : Judged) → (age : Option Age) → (what : Option Denoted)
+      → option_map (λ (age : Age). let x : Denoted = record { clear = opened bench judged; age = age } in x) age ≡ what
+      → first_failing (transport_checks what) ≡ None → opened bench judged ≡ (or_no_key what).clear
+  clear_is bench judged None None is passes = cc passes
+  clear_is bench judged None (Some key) is passes = cc is
+  clear_is bench judged (Some age) None is passes = cc is
+  clear_is bench judged (Some age) (Some key) is passes = ap (λ (o : Option Denoted). (or_no_key o).clear) is
+
+  judged_as : (bench : Bench) (place : ℕ) (r : Result Judged Rule) → None ≡ first_failing (role_checks s w.role)
+      → cell_with s w.transport ≡ Some place → key_of_label s w.transport ≡ held_in (entry_at s.labels place)
+      → IsTransport bench (held_in (entry_at s.labels place)) r → IsJudged s w bench r
+  judged_as bench place (Ok judged) role held is (passes, opens) = (
+    past_role role ∙ known_checks place (held_in (entry_at s.labels place)) held is ∙ passes,
+    clear_is bench judged judged.age (held_in (entry_at s.labels place)) opens passes
+        ∙ ap (λ (o : Option Denoted). (or_no_key o).clear) (sym is),
+  )
+  judged_as bench place (Err broken) role held is fails =
+      past_role role ∙ known_checks place (held_in (entry_at s.labels place)) held is ∙ fails
+
+-- ---- by what the memory knows
+
+module _ (s : State) (w : Move) (rows : List (Option Row)) (m : Medium) (bench : Bench) (label : IsLabel w.transport)
+    (keeps : Told m (KeepsLabels (keys_of s.registers) rows s.labels)) (role : None ≡ first_failing (role_checks s w.role)) where
+  pub label_unknown : cell_of w.transport (row_directory rows) ≡ None
+      → Told m (λ _. first_failing (move_checks s w) ≡ Some 7)
+  label_unknown none =
+      told_map m (KeepsLabels (keys_of s.registers) rows s.labels) (λ _. first_failing (move_checks s w) ≡ Some 7) keeps
+      (λ c here. past_role s w label role ∙ unknown_refuses s w label (cell_is s rows here.agrees w.transport ∙ none))
+
+  pub label_judged : (place : ℕ) (r : Result (Result Judged Rule) RecordFault) → cell_of w.transport (row_directory rows) ≡ Some place
+      → IfOk r (λ judged. Told m (λ _. IsTransport bench (held_in (entry_at s.labels place)) judged))
+      → IfOk r (λ judged. Told m (λ _. IsJudged s w bench judged))
+  label_judged place (Ok judged) found told =
+      told_both m (KeepsLabels (keys_of s.registers) rows s.labels) (λ _. IsTransport bench (held_in (entry_at s.labels place)) judged)
+      (λ _. IsJudged s w bench judged) keeps told
+      (λ c here is. judged_as s w label bench place judged role (cell_is s rows here.agrees w.transport ∙ found) (key_at s rows here.agrees w.transport place found) is)
+  label_judged place (Err fault) found told = tt
+
+pub role_told : (s : State) (w : Move) (m : Medium) (label : IsLabel w.transport) (rule : ℕ) → Some rule ≡ first_failing (role_checks s w.role)
+    → Told m (λ _. first_failing (move_checks s w) ≡ Some rule)
+role_told s w m label rule is = told_from m.content _ (λ c told. role_refuses s w label rule is)

@@ -1,0 +1,5 @@
+mod JudgeLemmas
+mod LabelLaws
+mod LeaseLaws
+mod PartLaws
+mod PieceLaws

@@ -1,0 +1,32 @@
+use Rattle.std.proofs.Common.{◌≡◌, ◌≤◌}
+use Rattle.slot_disk.specs.Medium.{Keeps, Told}
+use Rattle.slot_disk.specs.WhereTold.{WhereTold}
+use Rattle.key_cells.specs.Lease.{bench_of}
+use Rattle.key_records.specs.Directory.{held_count}
+use Rattle.key_records.specs.Entries.{row_directory}
+use Rattle.key_records.specs.StoreStands.{KeepsLabels}
+use Rattle.line_service.specs.Sending.{Grows}
+use Rattle.master_registers.specs.Loaded.{Loaded}
+use Rattle.verb_rules.specs.Keys.{keys_of, opened}
+use Rattle.cca_machine.specs.State.{State}
+use Rattle.move_file.specs.Moves.{clear_of}
+use Rattle.move_file.specs.Telling.{KeepsMasters}
+use Rattle.move_file.proofs.PartLaws.{HasTold}
+use Rattle.move_file.proofs.writing.write_move.Given as goal
+
+-- what the labels so far added, and what is as before
+abbrev pub invariant-loop-index : goal.invariant-loop-index
+invariant-loop-index g l = record {
+  all : l.index-end ≡ held_count (row_directory l.records);
+  tells : (s : State) → Loaded s.registers l.held (bench_of l.fn.lease)
+      → Told (g.D.Disk.medium l.fn.store) (KeepsLabels (keys_of s.registers) l.records s.labels)
+      → opened (bench_of l.fn.lease) l.transport ≡ clear_of s l.how.transport
+      → Told (g.D.Disk.medium l.fn.store) (λ _. HasTold s l.how l.index (g.K.Sink.held l.fn.file) (g.K.Sink.held l.file) (g.P.Sink.held l.fn.report) (g.P.Sink.held l.report));
+  file_grows : WhereTold (g.K.Sink.held l.fn.file) (g.K.Sink.held l.file) Grows;
+  report_grows : WhereTold (g.P.Sink.held l.fn.report) (g.P.Sink.held l.report) Grows;
+  file_later : g.K.Sink.faults l.fn.file ≤ g.K.Sink.faults l.file;
+  report_later : g.P.Sink.faults l.fn.report ≤ g.P.Sink.faults l.report;
+  store_later : g.D.Disk.faults l.fn.store ≤ g.D.Disk.faults l.store;
+  keeps : Keeps (g.D.Disk.medium l.fn.store) (g.D.Disk.medium l.store);
+  masters : KeepsMasters l.fn.lease l.lease;
+}

@@ -1,0 +1,4 @@
+pub mod Judging
+pub mod Moves
+pub mod Telling
+pub mod Writing
