@@ -1,10 +1,13 @@
 -- What the ends of a run are told as, and the exit status of each.
-use Rattle.std.specs.Prelude.{ℕ, Option, None, Some, Result, Ok, Err}
+use Rattle.std.specs.Prelude.{◌≡◌, ◌⊎◌, ℕ, Option, None, Some, Result, Ok, Err}
+use Rattle.cca.specs.declared.fault.Ending.{Ending}
+use Rattle.cca.specs.declared.fault.Ending.TheVariants.{Run, Move}
 use Rattle.cca.specs.declared.fault.Fault.{Fault}
 use Rattle.cca.specs.declared.fault.Fault.TheVariants as fault
 use Rattle.line_service.specs.declared.stops.Device.TheVariants.{Module, Store}
 use Rattle.cca_tool.specs.declared.auditing.AuditStatus.{AuditStatus}
 use Rattle.cca_tool.specs.declared.auditing.AuditStatus.TheVariants as audit
+use Rattle.cca_tool.specs.declared.unloading.MoveStatus.TheVariants as move
 use Rattle.cca_tool.specs.declared.command.Status.{Status}
 use Rattle.cca_tool.specs.declared.command.Status.TheVariants as status
 
@@ -20,9 +23,11 @@ exit_of fault.Entropy = 8
 exit_of fault.InputLimit = 9
 exit_of fault.NoMemory = 10
 exit_of fault.File = 11
+exit_of (fault.Refused rule) = 12
 exit_of fault.Trail = 13
 exit_of (fault.TrailCell cell) = 14
 exit_of fault.TrailFull = 15
+exit_of fault.Report = 16
 exit_of fault.Size = 17
 
 abbrev pub run_fault_of : Status → Option Fault
@@ -38,13 +43,24 @@ run_fault_of status.StoreFault = Some fault.Store
 run_fault_of status.InputLimit = Some fault.InputLimit
 run_fault_of status.NoMemory = Some fault.NoMemory
 
-abbrev pub fault_of_lem : AuditStatus → Option Fault
-fault_of_lem (audit.Run outcome) = run_fault_of outcome
-fault_of_lem audit.TrailFault = Some fault.Trail
-fault_of_lem (audit.TrailDamaged cell) = Some (fault.TrailCell cell)
-fault_of_lem audit.TrailFull = Some fault.TrailFull
+abbrev pub audit_fault_of : AuditStatus → Option Fault
+audit_fault_of (audit.Run outcome) = run_fault_of outcome
+audit_fault_of audit.TrailFault = Some fault.Trail
+audit_fault_of (audit.TrailDamaged cell) = Some (fault.TrailCell cell)
+audit_fault_of audit.TrailFull = Some fault.TrailFull
+
+abbrev pub fault_of_lem : Ending → Option Fault
+fault_of_lem (Run outcome) = audit_fault_of outcome
+fault_of_lem (Move (move.Run outcome)) = run_fault_of outcome
+fault_of_lem (Move (move.Refused rule)) = Some (fault.Refused rule)
+fault_of_lem (Move move.ReportFault) = Some fault.Report
 
 -- why the program doesn't end well: the fault of the status of a call, or the one before it
-abbrev pub told_of : Result AuditStatus Fault → Option Fault
+abbrev pub told_of : Result Ending Fault → Option Fault
 told_of (Ok outcome) = fault_of_lem outcome
 told_of (Err fault) = Some fault
+
+-- a command was carried out to its end
+abbrev pub EndsWell : Result Ending Fault → Type 0
+EndsWell outcome =
+    (outcome ≡ Ok (Run (audit.Run status.Done))) ⊎ (outcome ≡ Ok (Move (move.Run status.Done)))

@@ -1,15 +1,15 @@
 //! How the program ends otherwise than well: by a text on standard error, and an exit status.
 ghost use Rattle.std.specs.Prelude.{◌≡◌, None};
-ghost use Rattle.cca.specs.Exits.{exit_of, fault_of_lem, run_fault_of};
+ghost use Rattle.cca.specs.Exits.{audit_fault_of, exit_of, fault_of_lem, run_fault_of};
 
-use cca_tool::{AuditStatus, Device, Status};
+use cca_tool::{AuditStatus, Device, MoveStatus, Status};
 use thiserror::Error;
 
 /// Why the program didn't end well, with its text.
 #[derive(Clone, Copy, Debug, PartialEq, Eq, Error)]
 pub enum Fault {
     /// The words are no command, or one of them isn't UTF-8.
-    #[error("cca: usage: cca run, cca demo N with N from 1 to 1000, cca audit, or cca trail")]
+    #[error("cca: usage: cca run, cca demo N with N from 1 to 1000, cca audit, cca trail, or cca unload ROLE LABEL ROLE LABEL")]
     Usage,
     /// The module holds in this cell what no module may hold.
     #[error("cca: module cell {0} is damaged")]
@@ -41,6 +41,9 @@ pub enum Fault {
     /// A file could not be opened or made, or another run uses it.
     #[error("cca: a file could not be opened")]
     File,
+    /// The rule of this number refuses a move.
+    #[error("cca: refused by rule {0:02}")]
+    Refused(u8),
     /// A call of the trail's file failed.
     #[error("cca: the trail file failed")]
     Trail,
@@ -50,6 +53,9 @@ pub enum Fault {
     /// No number is left for a further record of the trail.
     #[error("cca: the trail is full")]
     TrailFull,
+    /// The report of a move could not be written.
+    #[error("cca: the report could not be written")]
+    Report,
     /// A file has another size than it must.
     #[error("cca: a file has a wrong size")]
     Size,
@@ -71,17 +77,40 @@ impl Fault {
             Fault::InputLimit => 9,
             Fault::NoMemory => 10,
             Fault::File => 11,
+            Fault::Refused(_) => 12,
             Fault::Trail => 13,
             Fault::TrailCell(_) => 14,
             Fault::TrailFull => 15,
+            Fault::Report => 16,
             Fault::Size => 17,
         }
     }
 }
 
+/// How a command ended.
+#[derive(Clone, Copy, Debug, PartialEq, Eq)]
+pub enum Ending {
+    /// That of a run, with an audit trail or without, or of a listing of the trail.
+    Run(AuditStatus),
+    /// That of a move.
+    Move(MoveStatus),
+}
+
 /// What an end is told as: nothing where it is a good one.
-pub fn fault_of(status: AuditStatus) -> Option<Fault>
-    ensures { result ≡ fault_of_lem status }
+pub fn fault_of(ending: Ending) -> Option<Fault>
+    ensures { result ≡ fault_of_lem ending }
+{
+    match ending {
+        Ending::Run(status) => audit_fault_of(status),
+        Ending::Move(MoveStatus::Run(status)) => run_fault_of(status),
+        Ending::Move(MoveStatus::Refused(rule)) => Some(Fault::Refused(rule)),
+        Ending::Move(MoveStatus::ReportFault) => Some(Fault::Report),
+    }
+}
+
+/// What the end of an audited run or of a listing is told as.
+fn audit_fault_of(status: AuditStatus) -> Option<Fault>
+    ensures { result ≡ audit_fault_of status }
 {
     match status {
         AuditStatus::Run(status) => run_fault_of(status),

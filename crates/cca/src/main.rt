@@ -8,16 +8,19 @@
 //!
 //! `cca audit` is `cca run` with an audit trail in the file `cca.trail`: one record a line, written before the line's
 //! reply. `cca trail` writes the records that it holds.
+//!
+//! `cca unload ROLE LABEL ROLE LABEL` writes, on standard output, a request file that moves the keys of the store to
+//! another module, with which a transport key is shared, and on standard error which labels are kept back, and why.
 #![tactic(auto)]
 
 ghost use Rattle.std.specs.Prelude.{◌≡◌, ◌↔◌, ◌++◌, ◌∷◌, [], OnOk, IsNone};
-ghost use Rattle.cca.specs.Exits.{told_of};
+ghost use Rattle.cca.specs.Exits.{EndsWell, told_of};
 
 mod fault;
 mod files;
 
-use cca_tool::{AuditStatus, Command, Status, Words, run, run_audited, show_trail};
-use fault::{Fault, fault_of};
+use cca_tool::{AuditStatus, Command, Status, Words, run, run_audited, show_trail, unload};
+use fault::{Ending, Fault, fault_of};
 use files::{MODULE_LEN, STORE_LEN, TRAIL_LEN, new_disk, open_disk, open_random};
 use key_cells::Workbench;
 use slot_disk::{Disk, FileDisk, NoMemory, StreamEntropy, StreamSink, StreamSource};
@@ -38,34 +41,42 @@ fn main(rt: HostRuntime) -> ExitCode {
 }
 
 /// Why the program doesn't end well, if so.
-fn fault_in(outcome: Result<AuditStatus, Fault>) -> Option<Fault>
+fn fault_in(outcome: Result<Ending, Fault>) -> Option<Fault>
     ensures told { result ≡ told_of outcome }
-    ensures none { IsNone result ↔ (outcome ≡ Ok (AuditStatus.Run Status.Done)) }
+    ensures none { IsNone result ↔ EndsWell outcome }
 {
     match outcome {
-        Ok(status) => fault_of(status),
+        Ok(ending) => fault_of(ending),
         Err(fault) => Some(fault),
     }
 }
 
-fn run_in(rt: &HostRuntime) -> Result<AuditStatus, Fault> {
+fn run_in(rt: &HostRuntime) -> Result<Ending, Fault> {
     let words = words_of(rt)?;
+    if words.moving().is_some() {
+        return move_in(rt, &words);
+    }
+    Ok(Ending::Run(serve_in(rt, &words)?))
+}
+
+/// Serves requests, or shows the audit trail.
+fn serve_in(rt: &HostRuntime, words: &Words) -> Result<AuditStatus, Fault> {
     if words.are_just("audit") {
-        return audit_in(rt, &words);
+        return audit_in(rt, words);
     }
     if words.are_just("trail") {
-        return trail_in(rt, &words);
+        return trail_in(rt, words);
     }
     match words.command() {
         Some(Command::Run) => {
             let module = open_disk(rt, "cca.module", MODULE_LEN)?;
             let store = open_disk(rt, "cca.store", STORE_LEN)?;
-            run_over(rt, &words, module, store)
+            run_over(rt, words, module, store)
         }
         Some(Command::Demo(_)) => {
             let module = new_disk(rt, "demo.module", MODULE_LEN)?;
             let store = new_disk(rt, "demo.store", STORE_LEN)?;
-            run_over(rt, &words, module, store)
+            run_over(rt, words, module, store)
         }
         // Other words open no file.
         None => Ok(AuditStatus::Run(Status::Usage)),
@@ -128,6 +139,24 @@ fn trail_in(rt: &HostRuntime, words: &Words) -> Result<AuditStatus, Fault> {
     let mut trail = open_disk(rt, "cca.trail", TRAIL_LEN)?;
     let mut sink = StreamSink::new(rt.stdout());
     Ok(show_trail(rt.alloc(), words, &mut sink, &mut trail))
+}
+
+/// Moves the keys of the store: the file goes to standard output, and the report to standard error.
+fn move_in(rt: &HostRuntime, words: &Words) -> Result<Ending, Fault> {
+    let mut module = open_disk(rt, "cca.module", MODULE_LEN)?;
+    let mut store = open_disk(rt, "cca.store", STORE_LEN)?;
+    let mut bench = Workbench::new();
+    let mut sink = StreamSink::new(rt.stdout());
+    let mut report = StreamSink::new(rt.stderr());
+    Ok(Ending::Move(unload(
+        rt.alloc(),
+        words,
+        &mut bench,
+        &mut sink,
+        &mut report,
+        &mut module,
+        &mut store,
+    )))
 }
 
 /// The words behind the program's name. A word that isn't UTF-8 is a faulty command line.

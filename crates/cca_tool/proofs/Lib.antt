@@ -7,6 +7,7 @@ mod OpeningLemmas
 mod BetweenLemmas
 mod KnownLemmas
 mod LineLemmas
+mod MoveLemmas
 mod StopLemmas
 mod StatusLemmas
 mod Walks

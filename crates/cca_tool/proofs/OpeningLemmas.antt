@@ -1,21 +1,35 @@
 -- The disks as they are opened.
-use Rattle.std.proofs.Common.{◌≡◌, ℕ, List, Option, Result, Err, refl, sym, subst, ◌∙◌, inl, inr}
+use Rattle.std.proofs.Common.{◌≡◌, ℕ, List, Option, Result, Ok, Err, refl, sym, ap, subst, ◌∙◌, inl, inr}
+use Rattle.std.specs.Prelude.{IsOk}
+use Rattle.key_cells.specs.Bench.{Bench}
+use Rattle.key_cells.specs.Lease.{bench_of}
+use Rattle.key_cells.specs.declared.leases.Lease.{Lease}
 use Rattle.slot_disk.specs.Cells.{body}
 use Rattle.slot_disk.specs.Medium.{Medium, Told, EachImage, Keeps}
 use Rattle.slot_disk.proofs.Media.{image_now, told_from, told_at}
+use Rattle.master_registers.specs.Loaded.{IsLoaded, Loaded, StandsForLoaded, masters_in}
 use Rattle.master_registers.specs.Masters.{Masters}
+use Rattle.master_registers.specs.declared.registers.Registers.{Registers}
 use Rattle.master_registers.specs.RegisterBody.{StandsForMasters, IsDamaged}
 use Rattle.master_registers.proofs.BodyLaws.{reads_one}
 use Rattle.cca_roles.specs.RolesStand.{StandsForRoles, IsFirstDamaged}
 use Rattle.cca_roles.specs.declared.roles.Role.{Role}
+use Rattle.cca_roles.proofs.StandLaws.{stands_one as stands_roles}
 use Rattle.verb_rules.specs.Keys.{keys_of}
+use Rattle.key_records.specs.Changes.{KeepsAllButBody}
+use Rattle.key_records.specs.Entries.{Entry}
 use Rattle.key_records.specs.StoreStands.{KeepsLabels, labels_in, IsFirstDamaged as IsFirstDamagedRecord}
 use Rattle.key_records.specs.declared.rows.Row.{Row}
-use Rattle.key_records.proofs.OpeningLaws.{stands_undamaged as labels_undamaged}
+use Rattle.key_records.proofs.OpeningLaws.{stands_one as labels_one, stands_undamaged as labels_undamaged}
+use Rattle.line_service.specs.Answering.{OnDisks}
+use Rattle.line_service.specs.Devices.{DamageTold, Devices, OpeningLeft, Span}
 use Rattle.line_service.specs.declared.stops.Device.TheVariants.{Module, Store}
 use Rattle.line_service.specs.declared.stops.Stop.{Stop}
 use Rattle.line_service.specs.declared.stops.Stop.TheVariants.{ReadFault, WriteFault, EntropyFault, ModuleFault, StoreFault, Damaged, InputLimit}
-use Rattle.cca_tool.specs.Coprocessor.{IsBrokenModule, IsBrokenStore, IsModuleStop, module_stands}
+use Rattle.cca_machine.specs.State.{State}
+use Rattle.cca_requests.specs.Serving.{tables}
+use Rattle.cca_tool.specs.Opening.{IsOpened}
+use Rattle.cca_tool.specs.Coprocessor.{cca, IsBrokenModule, IsBrokenStore, IsModuleStop, module_stands}
 
 -- ---- what is told
 
@@ -128,14 +142,111 @@ kept_undamaged d0 d1 registers rows X same kept =
     (λ d keeps cell first. absurd (labels_undamaged keys d (labels_in keys d) cell keeps.stands first.within first.damaged)) kept
 
 -- a stop that is handed on
-pub handed_judged : {T : Type 0} (r : Result T Stop) (stop : Stop) → r ≡ Err stop → (m : Medium)
+pub handed_judged : (U : Type 0) {T : Type 0} (r : Result T Stop) (stop : Stop) → r ≡ Err stop → (m : Medium)
     → Told m (λ image. (cell : ℕ) → IsBrokenModule cell image → r ≡ Err (Damaged Module cell))
-    → Told m (λ image. (cell : ℕ) → IsBrokenModule cell image → ◌≡◌ {A = Result (Unit {0}) Stop} (Err stop) (Err (Damaged Module cell)))
-handed_judged r stop is m judged =
+    → Told m (λ image. (cell : ℕ) → IsBrokenModule cell image → ◌≡◌ {A = Result U Stop} (Err stop) (Err (Damaged Module cell)))
+handed_judged U r stop is m judged =
     told_before m m _ _ refl (λ c each cell broken. same_stop r stop (Damaged Module cell) is (each cell broken)) judged
   where
-    same_stop : {T : Type 0} (u : Result T Stop) (a b : Stop) → u ≡ Err a → u ≡ Err b → ◌≡◌ {A = Result (Unit {0}) Stop} (Err a) (Err b)
+    same_stop : {T : Type 0} (u : Result T Stop) (a b : Stop) → u ≡ Err a → u ≡ Err b → ◌≡◌ {A = Result U Stop} (Err a) (Err b)
     same_stop u a b first second = cc (first, second)
+
+-- the same of the store, and of a store that was opened
+pub as_stop : (U : Type 0) {T : Type 0} (r : Result T Stop) (stop named : Stop) → r ≡ Err stop → ◌≡◌ {A = Result U Stop} (Err stop) (Err named) → r ≡ Err named
+as_stop U r stop named is h = cc (is, h)
+
+pub handed_record : (U : Type 0) {T : Type 0} (r : Result T Stop) (stop : Stop) → r ≡ Err stop → (m : Medium) (P : List ℕ → ℕ → Type 0)
+    → Told m (λ image. (cell : ℕ) → P image cell → r ≡ Err (Damaged Store cell))
+    → Told m (λ image. (cell : ℕ) → P image cell → ◌≡◌ {A = Result U Stop} (Err stop) (Err (Damaged Store cell)))
+handed_record U r stop is m P judged =
+    told_before m m _ _ refl (λ c each cell broken. cc (is, each cell broken)) judged
+
+pub never_judged : {T : Type 0} (r : Result T Stop) (done : T) → r ≡ Ok done → (m : Medium) (P X : List ℕ → ℕ → Type 0)
+    → Told m (λ image. (cell : ℕ) → P image cell → r ≡ Err (Damaged Store cell))
+    → Told m (λ image. (cell : ℕ) → P image cell → X image cell)
+never_judged r done is m P X judged =
+    told_before m m _ _ refl (λ c each cell broken. absurd (cc (is, each cell broken))) judged
+
+-- ---- one answer for another with the same stops
+
+module _ {T U : Type 0} (r : Result T Stop) (q : Result U Stop) (d : Span Devices)
+    (onto : (stop : Stop) → r ≡ Err stop → q ≡ Err stop) (back : (stop : Stop) → q ≡ Err stop → r ≡ Err stop) where
+  pub damage_as : DamageTold cca r d → DamageTold cca q d
+  damage_as told = record {
+    module_damaged = λ cell h. told.module_damaged cell (back (Damaged Module cell) h);
+    store_damaged = λ cell h. told.store_damaged cell (back (Damaged Store cell) h);
+    module_judged = λ still.
+        told_before d.old.world.module_ d.old.world.module_ _ _ refl
+        (λ c each cell broken. onto (Damaged Module cell) (each cell broken)) (told.module_judged still);
+    store_judged = λ still_m still_d.
+        told_before d.old.world.module_ d.old.world.module_ _ _ refl
+        (λ c inner. told_before d.old.world.store d.old.world.store _ _ refl
+        (λ e each cell broken. onto (Damaged Store cell) (each cell broken)) inner)
+        (told.store_judged still_m still_d);
+    cells = λ device cell h. told.cells device cell (back (Damaged device cell) h);
+  }
+
+  pub left_as : (IsOk q → IsOk r) → OpeningLeft r d → OpeningLeft q d
+  left_as ok left = record {
+    module_kept = left.module_kept;
+    store_kept = left.store_kept;
+    module_left = record {
+      size = left.module_left.size;
+      still = left.module_left.still;
+      settled = λ h. left.module_left.settled (ok h);
+      later = left.module_left.later;
+      fault = λ h. left.module_left.fault (back ModuleFault h);
+    };
+    store_left = record {
+      size = left.store_left.size;
+      still = left.store_left.still;
+      settled = λ h. left.store_left.settled (ok h);
+      later = left.store_left.later;
+      fault = λ h. left.store_left.fault (back StoreFault h);
+    };
+  }
+
+-- ---- what was opened
+
+-- registers that are loaded stay so while the body of the bench changes
+loaded_after : (m : Masters) (held : Registers) (old new : Bench) → new ≡ record old { body = new.body } → Loaded m held old → Loaded m held new
+loaded_after m held old new is loaded = record {
+  valid = loaded.valid;
+  placed = record {
+    coming = ap (λ (b : Bench). b.coming) is ∙ loaded.placed.coming;
+    current = ap (λ (b : Bench). b.current) is ∙ loaded.placed.current;
+    former = ap (λ (b : Bench). b.former) is ∙ loaded.placed.former;
+  };
+  told = loaded.told;
+}
+
+-- the registers, the roles and the labels that were opened are those of the state for which the disks stand
+pub opened_as : (s : State) (held : Registers) (first last : Lease) (roles : List (Option Role)) (rows : List (Option Row)) (m0 m1 d0 d1 : Medium)
+    → OnDisks cca s m0 d0 → m1.content ≡ m0.content → d1.content ≡ d0.content
+    → IsLoaded held (bench_of first) → Told m1 (StandsForLoaded held (bench_of first)) → Told m1 (λ image. StandsForRoles image roles)
+    → Told d1 (λ image. KeepsLabels (keys_of (masters_in held (bench_of first))) rows (labels_in (keys_of (masters_in held (bench_of first))) image) image)
+    → KeepsAllButBody first last → IsOpened s held (bench_of last) (tables roles rows) d1
+opened_as s held first last roles rows m0 m1 d0 d1 disks same_m same_d loaded registers opened kept rest =
+    let c = disks.in_module.image in
+    let e = disks.in_store.image in
+    let masters = masters_in held (bench_of first) in
+    let one : masters ≡ s.registers =
+    reads_one (body c 0) masters s.registers (told_at m1.content (StandsForLoaded held (bench_of first)) c (same_m ∙ disks.in_module.told) registers) disks.in_module.has.registers in
+    let here = told_at d1.content (λ image. KeepsLabels (keys_of masters) rows (labels_in (keys_of masters) image) image) e (same_d ∙ disks.in_store.told) kept in
+    let labels : labels_in (keys_of masters) e ≡ s.labels =
+    ap (λ (m : Masters). labels_in (keys_of m) e) one ∙ sym (labels_one (keys_of s.registers) e s.labels disks.in_store.has) in
+    record {
+      loaded = loaded_after s.registers held (bench_of first) (bench_of last) (ap bench_of rest)
+          (subst (λ (m : Masters). Loaded m held (bench_of first)) one loaded);
+      roles = stands_roles c roles (told_at m1.content (λ image. StandsForRoles image roles) c (same_m ∙ disks.in_module.told) opened)
+          ∙ sym (stands_roles c s.roles disks.in_module.has.roles);
+      labels = record {
+        image = e;
+        told = same_d ∙ disks.in_store.told;
+        has = subst (λ (m : Masters). KeepsLabels (keys_of m) rows s.labels e) one
+            (subst (λ (l : List (Option Entry)). KeepsLabels (keys_of masters) rows l e) labels here);
+      };
+    }
 
 -- a module that isn't opened, though it didn't fail, stands for no registers and roles, and the store isn't judged
 pub unjudged_store : (m0 d0 : Medium) (stop : Stop) (X : ℕ → Type 0) → IsModuleStop stop → (stop ≡ ModuleFault → ⊥)

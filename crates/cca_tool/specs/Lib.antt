@@ -5,6 +5,8 @@ pub mod DemoRun
 pub mod Sections
 pub mod Sessions
 pub mod Statuses
+pub mod Unloading
+pub mod Opening
 pub mod Running
 pub mod Auditing
 pub mod Showing

@@ -8,18 +8,22 @@ ghost use Rattle.script_buffers.specs.Replies.{Refused, spelled};
 ghost use Rattle.verb_rules.specs.Keys.{keys_of};
 ghost use Rattle.cca_roles.specs.RolesStand.{StandsForRoles};
 ghost use Rattle.key_records.specs.StoreStands.{KeepsLabels, HoldsRows, IsFirstDamaged, labels_in};
-ghost use Rattle.line_service.specs.Devices.{DiskLeft};
-ghost use Rattle.cca_machine.specs.State.{module_size, store_size};
+ghost use Rattle.key_records.specs.Changes.{KeepsAllButBody};
+ghost use Rattle.line_service.specs.Answering.{OnDisks};
+ghost use Rattle.line_service.specs.Devices.{DamageTold, DiskLeft, HaveSizes, OpeningLeft};
+ghost use Rattle.line_service.specs.Stops.{IsOpeningStop};
+ghost use Rattle.cca_machine.specs.State.{State, module_size, store_size};
 ghost use Rattle.cca_requests.specs.Judging.{IsStoreStop};
 ghost use Rattle.cca_requests.specs.Serving.{tables};
 ghost use Rattle.cca_tool.specs.Coprocessor.{cca, remembers, IsBrokenModule, IsModuleStop};
+ghost use Rattle.cca_tool.specs.Opening.{IsOpened};
 ghost use Rattle.cca_tool.specs.Sessions.{AreKnown};
 
 use cca_requests::perform;
 use cca_roles::{RoleFault, Roles, open_roles};
 use key_cells::{Lease, Workbench};
 use key_records::{RecordFault, Records, open_records};
-use line_service::{Desk, Device, Stop};
+use line_service::{Desk, Device, Shown, Stop};
 use master_registers::{LoadFault, Registers, load};
 use slot_disk::{Disk, Entropy, settle};
 use verb_script::{ReplyBuffer, parse_request};
@@ -46,8 +50,8 @@ impl Desk for Coprocessor {
         store: &mut D,
     ) -> Result<(), Stop> {
         let mut lease = Lease::open(bench);
-        match open_module(module, &mut lease, &mut self.roles) {
-            Ok(held) => open_store(store, &mut lease, &held, &mut self.records),
+        match self.open_disks(&mut lease, module, store) {
+            Ok(_) => Ok(()),
             Err(stop) => Err(stop),
         }
     }
@@ -81,6 +85,40 @@ impl Desk for Coprocessor {
                 refuse_line(reply, 1);
                 Ok(())
             }
+        }
+    }
+}
+
+impl Coprocessor {
+    /// Opens the disks, and loads the registers into the bench. The module is judged before the store is called, and
+    /// nothing is written.
+    pub(crate) fn open_disks<M: Disk, D: Disk>(
+        &mut self,
+        lease: &mut Lease,
+        module: &mut M,
+        store: &mut D,
+    ) -> Result<Registers, Stop>
+        requires { HaveSizes module_size store_size
+            (⟦<(M, D) as Shown>⟧.shown («module».old, store.old)) }
+
+        ensures known { OnOk result (AreKnown (tables self.new.roles self.new.records)
+            (M.medium «module».new) (D.medium store.new)) }
+        ensures opened { (s : State) → OnDisks cca s (M.medium «module».old) (D.medium store.old)
+            → IfOk result (λ held. IsOpened s held (bench_of lease.new)
+            (tables self.new.roles self.new.records) (D.medium store.new)) }
+        ensures damage { DamageTold cca result (⟦<(M, D) as Shown>⟧.between
+            («module».old, store.old) («module».new, store.new)) }
+        ensures left { OpeningLeft result (⟦<(M, D) as Shown>⟧.between
+            («module».old, store.old) («module».new, store.new)) }
+        ensures stops { IfErr result IsOpeningStop }
+        ensures loan { loan_of lease.new ≡ loan_of lease.old }
+    {
+        match open_module(module, lease, &mut self.roles) {
+            Ok(held) => match open_store(store, lease, &held, &mut self.records) {
+                Ok(()) => Ok(held),
+                Err(stop) => Err(stop),
+            },
+            Err(stop) => Err(stop),
         }
     }
 }
@@ -150,7 +188,7 @@ fn open_store<D: Disk>(
         (D.faults store.old) (D.faults store.new)
         (IsOk result) (result ≡ Err Stop.StoreFault) }
     ensures stops { IfErr result IsStoreStop }
-    ensures loan { loan_of lease.new ≡ loan_of lease.old }
+    ensures rest { KeepsAllButBody lease.old lease.new }
 {
     if settle(store).is_err() {
         return Err(Stop::StoreFault);

@@ -12,6 +12,7 @@ mod history;
 mod session;
 mod showing;
 mod tally;
+mod unloading;
 mod unused;
 mod words;
 
@@ -21,6 +22,7 @@ pub use command::{Status, run};
 pub use line_service::{Device, Served, Stop};
 pub use session::Session;
 pub use showing::show_trail;
+pub use unloading::{MoveStatus, unload};
 pub use verb_script::Taken;
 pub use words::{Command, Words};
 

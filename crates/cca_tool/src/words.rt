@@ -1,8 +1,12 @@
 //! The words of a command line.
-ghost use Rattle.std.specs.Prelude.{◌≡◌, ◌≤◌, ◌↔◌, ◌++◌, ◌∷◌, ℕ, [], OnOk, OnErr, IsTrue, codes, decimal, Some};
+ghost use Rattle.std.specs.Prelude.{◌≡◌, ◌≤◌, ◌↔◌, ◌++◌, ◌∷◌, ℕ, [], OnOk, OnErr, IfSome, IsNone, IsTrue, codes, decimal, Some};
 ghost use Rattle.cca_tool.specs.Demo.{IsDemo};
+ghost use Rattle.cca_tool.specs.Unloading.{AreWordsOf, IsMove};
 
+use cca_roles::RoleName;
 use itoa::Buffer;
+use key_records::Label;
+use move_file::Move;
 use slot_disk::NoMemory;
 use std::alloc::Global;
 use std::marker::Model;
@@ -78,6 +82,23 @@ impl Words {
         }
     }
 
+    /// The move that they ask for, where they are `unload`, the name of a role, a label, the name of a role and a label.
+    pub fn moving(&self) -> Option<Move>
+        ensures found { IfSome result (λ w. AreWordsOf w self.now) }
+        ensures none { IsNone result → IsMove self.now → ⊥ }
+    {
+        match self.words.as_slice() {
+            [word, role, transport, role_there, transport_there] => move_of(
+                word.as_str(),
+                role.as_str(),
+                transport.as_str(),
+                role_there.as_str(),
+                transport_there.as_str(),
+            ),
+            _ => None,
+        }
+    }
+
     // The number behind `demo`, where they are these two words.
     fn demo_number(&self) -> Option<u32>
         ensures { (n : ℕ) → (result ≡ Some n) ↔ IsDemo n self.now }
@@ -87,6 +108,34 @@ impl Words {
             _ => None,
         }
     }
+}
+
+// The move that the five words ask for, where they do.
+fn move_of(
+    word: &str,
+    role: &str,
+    transport: &str,
+    role_there: &str,
+    transport_there: &str,
+) -> Option<Move>
+    ensures found { IfSome result (λ w. AreWordsOf w
+        (word.now ∷ role.now ∷ transport.now ∷ role_there.now ∷ transport_there.now ∷ [])) }
+    ensures none { IsNone result → IsMove
+        (word.now ∷ role.now ∷ transport.now ∷ role_there.now ∷ transport_there.now ∷ []) → ⊥ }
+{
+    if word != "unload" {
+        return None;
+    }
+    let role = RoleName::read(role.as_bytes())?;
+    let transport = Label::read(transport.as_bytes())?;
+    let role_there = RoleName::read(role_there.as_bytes())?;
+    let transport_there = Label::read(transport_there.as_bytes())?;
+    Some(Move {
+        role,
+        transport,
+        role_there,
+        transport_there,
+    })
 }
 
 // The number of a demo, where the two words ask for one.

@@ -1,88 +1,35 @@
--- The registers and roles that were read, with the labels that were read under them, are those of one state.
-use Rattle.std.proofs.Common.{◌≡◌, ◌∙◌, Err, refl, ap, subst, arith, rules}
-use Rattle.slot_disk.proofs.Media.{keeps_still}
-use Rattle.line_service.specs.declared.stops.Stop.TheVariants.{ModuleFault, StoreFault}
-use Rattle.cca_tool.specs.Coprocessor.{IsModuleStop}
-use Rattle.key_cells.specs.Lease.{bench_of}
-use Rattle.master_registers.specs.Loaded.{masters_in}
+-- What opening the disks comes to, told as its stops alone.
+use Rattle.std.proofs.Common.{◌∙◌, Ok, Err, refl, rules, sym}
+use Rattle.std.specs.Prelude.{IsOk}
 use Rattle.cca_requests.specs.Serving.{tables}
-use Rattle.cca_tool.proofs.OpeningLemmas.{stands_unbroken, broken_record, judged_record, handed_judged, unjudged_store}
-use Rattle.cca_tool.proofs.KnownLemmas.{ready_opened, sound_opened, knows_opened}
+use Rattle.cca_tool.proofs.KnownLemmas.{known_remembers, known_sound}
+use Rattle.cca_tool.proofs.OpeningLemmas.{damage_as, left_as}
 use Rattle.cca_tool.proofs.coprocessor.CoprocessorDesk.open.Goals as goal
-
-pub returns-in-Ok-clause-ready : goal.returns-in-Ok-clause-ready
-returns-in-Ok-clause-ready g c =
-    ready_opened c.open_store.result (g.M.Disk.medium c.open_module.new.module) (g.D.Disk.medium c.open_store.new.store)
-    (masters_in c.in-Ok.held (bench_of c.open_module.new.lease)) c.open_module.new.roles c.open_store.new.records
-    c.in-Ok.ensures.registers c.in-Ok.ensures.roles c.open_store.ensures.keeps c.open_store.ensures.holds
 
 pub returns-in-Ok-clause-sound : goal.returns-in-Ok-clause-sound
 returns-in-Ok-clause-sound g c =
-    sound_opened c.open_store.result (tables c.open_module.new.roles c.open_store.new.records)
-    (g.M.Disk.medium c.args.module.now) (g.M.Disk.medium c.open_module.new.module) (g.D.Disk.medium c.args.store.now) (g.D.Disk.medium c.open_store.new.store)
-    c.open_module.ensures.kept.content c.open_store.ensures.kept.content (returns-in-Ok-clause-ready g c)
+    known_sound (tables c.open_disks.new.self.roles c.open_disks.new.self.records)
+    (g.M.Disk.medium c.args.module.now) (g.M.Disk.medium c.open_disks.new.module) (g.D.Disk.medium c.args.store.now) (g.D.Disk.medium c.open_disks.new.store)
+    c.open_disks.ensures.left.module_kept.content c.open_disks.ensures.left.store_kept.content c.in-Ok.ensures.known
 
 pub returns-in-Ok-clause-knows : goal.returns-in-Ok-clause-knows
 returns-in-Ok-clause-knows g c =
-    knows_opened c.open_store.result (tables c.open_module.new.roles c.open_store.new.records)
-    (g.M.Disk.medium c.args.module.now) (g.M.Disk.medium c.open_module.new.module) (g.D.Disk.medium c.args.store.now) (g.D.Disk.medium c.open_store.new.store)
-    c.open_module.ensures.kept.content c.open_store.ensures.kept.content (returns-in-Ok-clause-ready g c)
+    known_remembers (tables c.open_disks.new.self.roles c.open_disks.new.self.records)
+    (g.M.Disk.medium c.args.module.now) (g.M.Disk.medium c.open_disks.new.module) (g.D.Disk.medium c.args.store.now) (g.D.Disk.medium c.open_disks.new.store)
+    c.open_disks.ensures.left.module_kept.content c.open_disks.ensures.left.store_kept.content c.in-Ok.ensures.known
 
 pub returns-in-Ok-clause-damage : goal.returns-in-Ok-clause-damage
 returns-in-Ok-clause-damage g c =
-    let m0 = g.M.Disk.medium c.args.module.now in
-    let m1 = g.M.Disk.medium c.open_module.new.module in
-    let d0 = g.D.Disk.medium c.args.store.now in
-    let masters = masters_in c.in-Ok.held (bench_of c.open_module.new.lease) in
-    record {
-      module_damaged = search rules;
-      store_damaged = λ cell h.
-          broken_record m0 m1 d0 masters c.open_module.new.roles cell
-          c.open_module.ensures.kept.content c.in-Ok.ensures.registers c.in-Ok.ensures.roles (c.open_store.ensures.damaged cell h);
-      module_judged = λ still.
-          stands_unbroken m0 m1 masters c.open_module.new.roles _
-          c.open_module.ensures.kept.content c.in-Ok.ensures.registers c.in-Ok.ensures.roles;
-      store_judged = λ still_m still_d.
-          judged_record m0 m1 d0 masters _
-          c.open_module.ensures.kept.content c.in-Ok.ensures.registers (c.open_store.ensures.judged still_d);
-      cells = search rules;
-    }
+    damage_as c.open_disks.result _ _ (λ stop h. absurd (cc (h, c.in-Ok.is))) (λ stop h. absurd (cc h)) c.open_disks.ensures.damage
 
 pub returns-clause-damage : goal.returns-clause-damage
 returns-clause-damage g c =
-    let m0 = g.M.Disk.medium c.args.module.now in
-    let d0 = g.D.Disk.medium c.args.store.now in
-    record {
-      module_damaged = search rules;
-      store_damaged = search rules;
-      module_judged = λ still.
-          handed_judged c.open_module.result c.in-Err.stop c.in-Err.is m0 (c.open_module.ensures.judged still);
-      store_judged = λ still_m still_d.
-          unjudged_store m0 d0 c.in-Err.stop _ c.in-Err.ensures.stops
-          (λ is. still_m (c.open_module.ensures.left.fault (c.in-Err.is ∙ ap Err is)))
-          (λ cell is. c.open_module.ensures.damaged cell (c.in-Err.is ∙ ap Err is));
-      cells = search rules;
-    }
+    damage_as c.open_disks.result _ _ (λ stop h. cc (h, c.in-Err.is)) (λ stop h. cc (h, c.in-Err.is)) c.open_disks.ensures.damage
+
+pub returns-in-Ok-clause-left : goal.returns-in-Ok-clause-left
+returns-in-Ok-clause-left g c =
+    left_as c.open_disks.result _ _ (λ stop h. absurd (cc (h, c.in-Ok.is))) (λ stop h. absurd (cc h)) (λ ok. search rules) c.open_disks.ensures.left
 
 pub returns-clause-left : goal.returns-clause-left
 returns-clause-left g c =
-    let stop = c.in-Err.stop in
-    let left = c.open_module.ensures.left in
-    record {
-      module_kept = c.open_module.ensures.kept;
-      store_kept = keeps_still (g.D.Disk.medium c.args.store.now);
-      module_left = record {
-        size = left.size;
-        still = left.still;
-        settled = λ ok. absurd (cc ok);
-        later = left.later;
-        fault = λ h. let same : stop ≡ ModuleFault = cc h in left.fault (c.in-Err.is ∙ ap Err same);
-      };
-      store_left = record {
-        size = refl;
-        still = λ some. some;
-        settled = λ ok. absurd (cc ok);
-        later = omega arith;
-        fault = λ h. let same : stop ≡ StoreFault = cc h in absurd (subst IsModuleStop same c.in-Err.ensures.stops);
-      };
-    }
+    left_as c.open_disks.result _ _ (λ stop h. cc (h, c.in-Err.is)) (λ stop h. cc (h, c.in-Err.is)) (λ ok. absurd (cc ok)) c.open_disks.ensures.left

@@ -1,0 +1,14 @@
+-- The words ask for one move.
+use Rattle.std.proofs.Common.{sym, subst}
+use Rattle.move_file.specs.declared.moves.Move.{Move}
+use Rattle.cca_tool.specs.Unloading.{MoveTold, Still}
+use Rattle.cca_tool.proofs.MoveLemmas.{one_move}
+use Rattle.cca_tool.proofs.unloading.unload.Goals as goal
+
+pub returns-in-Ok-clause-told : goal.returns-in-Ok-clause-told
+returns-in-Ok-clause-told g c = λ w are s disks.
+    subst (λ (v : Move). MoveTold s v c.move_store.result (g.K.Sink.held c.args.sink.now) (g.K.Sink.held c.move_store.new.sink)
+    (g.P.Sink.held c.args.report.now) (g.P.Sink.held c.move_store.new.report)
+    (Still (g.M.Disk.faults c.args.module.now) (g.M.Disk.faults c.move_store.new.module) × Still (g.D.Disk.faults c.args.store.now) (g.D.Disk.faults c.move_store.new.store))
+    (Still (g.K.Sink.faults c.args.sink.now) (g.K.Sink.faults c.move_store.new.sink) × Still (g.P.Sink.faults c.args.report.now) (g.P.Sink.faults c.move_store.new.report)))
+    (one_move c.in-Some.how w c.args.words.now c.in-Some.ensures.found are) (c.move_store.ensures.told s disks)

@@ -1,0 +1,164 @@
+-- What moving a store to another module comes to.
+use Rattle.std.specs.Prelude.{⊤, ◌≡◌, ◌⊎◌, ◌<◌, ℕ, List, [], ◌∷◌, codes, Option, None, Some, Result, Ok, Err}
+use Rattle.cca_roles.specs.RoleNames.{IsRoleName}
+use Rattle.key_records.specs.Labels.{IsLabel}
+use Rattle.slot_disk.specs.Faults.{Rose}
+use Rattle.cca_vectors.specs.Checks.{first_failing}
+use Rattle.key_records.specs.declared.faults.RecordFault.{RecordFault}
+use Rattle.key_records.specs.declared.faults.RecordFault.TheVariants.{DiskFault, Damaged, Full, Exists}
+use Rattle.line_service.specs.declared.stops.Device.{Device}
+use Rattle.line_service.specs.declared.stops.Device.TheVariants.{Module, Store}
+use Rattle.line_service.specs.declared.stops.Stop.{Stop}
+use Rattle.line_service.specs.declared.stops.Stop.TheVariants as stop
+use Rattle.cca_machine.specs.State.{State}
+use Rattle.move_file.specs.Moves.{move_checks}
+use Rattle.move_file.specs.Writing.{ToldAll, ToldTo}
+use Rattle.move_file.specs.declared.moves.Move.{Move}
+use Rattle.cca_tool.specs.Coprocessor.{IsCell}
+use Rattle.cca_tool.specs.declared.command.Status.{Status}
+use Rattle.cca_tool.specs.declared.command.Status.TheVariants as status
+use Rattle.cca_tool.specs.declared.unloading.MoveStatus.{MoveStatus}
+use Rattle.cca_tool.specs.declared.unloading.MoveStatus.TheVariants.{Run, Refused, ReportFault}
+
+-- ---- the words
+
+-- `unload`, a role and the label of a transport key, and the same of the other module
+pub record AreWordsOf (w : Move) (words : List (List ℕ)) : Type 0 where
+  pub are : words ≡ codes "unload" ∷ w.role ∷ w.transport ∷ w.role_there ∷ w.transport_there ∷ []
+  pub role : IsRoleName w.role
+  pub transport : IsLabel w.transport
+  pub role_there : IsRoleName w.role_there
+  pub transport_there : IsLabel w.transport_there
+
+-- the words ask for a move
+abbrev pub IsMove : List (List ℕ) → Type 0
+IsMove words = (w : Move) × AreWordsOf w words
+
+-- ---- the statuses
+
+-- a move ends with these
+abbrev pub IsMoveStatus : MoveStatus → Type 0
+IsMoveStatus (Run status.Done) = ⊤
+IsMoveStatus (Run status.Usage) = ⊤
+IsMoveStatus (Run status.NoMemory) = ⊤
+IsMoveStatus (Run status.WriteFault) = ⊤
+IsMoveStatus (Run status.ModuleFault) = ⊤
+IsMoveStatus (Run status.StoreFault) = ⊤
+IsMoveStatus (Run (status.Damaged device cell)) = IsCell device cell
+IsMoveStatus (Run status.ReadFault) = ⊥
+IsMoveStatus (Run status.EntropyFault) = ⊥
+IsMoveStatus (Run status.InputLimit) = ⊥
+IsMoveStatus (Refused rule) = ⊤
+IsMoveStatus ReportFault = ⊤
+
+-- once the disks are opened, with these
+abbrev pub IsLabelStatus : MoveStatus → Type 0
+IsLabelStatus (Run status.Done) = ⊤
+IsLabelStatus (Run status.WriteFault) = ⊤
+IsLabelStatus (Run status.StoreFault) = ⊤
+IsLabelStatus (Run (status.Damaged Store cell)) = cell < 1024
+IsLabelStatus (Run (status.Damaged Module cell)) = ⊥
+IsLabelStatus (Run status.ModuleFault) = ⊥
+IsLabelStatus (Run status.Usage) = ⊥
+IsLabelStatus (Run status.NoMemory) = ⊥
+IsLabelStatus (Run status.ReadFault) = ⊥
+IsLabelStatus (Run status.EntropyFault) = ⊥
+IsLabelStatus (Run status.InputLimit) = ⊥
+IsLabelStatus (Refused rule) = ⊤
+IsLabelStatus ReportFault = ⊤
+
+-- once the words are right and the memory is taken, with these
+abbrev pub IsOpenStatus : MoveStatus → Type 0
+IsOpenStatus (Run status.Done) = ⊤
+IsOpenStatus (Run status.WriteFault) = ⊤
+IsOpenStatus (Run status.ModuleFault) = ⊤
+IsOpenStatus (Run status.StoreFault) = ⊤
+IsOpenStatus (Run (status.Damaged device cell)) = IsCell device cell
+IsOpenStatus (Run status.Usage) = ⊥
+IsOpenStatus (Run status.NoMemory) = ⊥
+IsOpenStatus (Run status.ReadFault) = ⊥
+IsOpenStatus (Run status.EntropyFault) = ⊥
+IsOpenStatus (Run status.InputLimit) = ⊥
+IsOpenStatus (Refused rule) = ⊤
+IsOpenStatus ReportFault = ⊤
+
+-- no device was called
+abbrev pub MoveCallsNone : MoveStatus → Type 0
+MoveCallsNone outcome = (outcome ≡ Run status.Usage) ⊎ (outcome ≡ Run status.NoMemory)
+
+-- the stop of a disk, where the status is one
+abbrev pub status_stop : Status → Result (Unit {0}) Stop
+status_stop status.ModuleFault = Err stop.ModuleFault
+status_stop status.StoreFault = Err stop.StoreFault
+status_stop (status.Damaged device cell) = Err (stop.Damaged device cell)
+status_stop _ = Ok tt
+
+abbrev pub disk_stop : MoveStatus → Result (Unit {0}) Stop
+disk_stop (Run told) = status_stop told
+disk_stop (Refused rule) = Ok tt
+disk_stop ReportFault = Ok tt
+
+-- why the store wasn't read
+abbrev pub store_status_of : RecordFault → Status
+store_status_of DiskFault = status.StoreFault
+store_status_of (Damaged cell) = status.Damaged Store cell
+store_status_of Full = status.StoreFault
+store_status_of Exists = status.StoreFault
+
+-- labels were told: all of them, or up to one
+abbrev pub TellsLabels : MoveStatus → Type 0
+TellsLabels outcome =
+    (outcome ≡ Run status.Done) ⊎ ((outcome ≡ Run status.WriteFault) ⊎ (outcome ≡ ReportFault))
+
+-- the move was judged: it is refused, or labels were told
+abbrev pub TellsMove : MoveStatus → Type 0
+TellsMove outcome = ((rule : ℕ) × (outcome ≡ Refused rule)) ⊎ TellsLabels outcome
+
+-- a rule refused the move, or the module failed or is damaged: that is found before a label is read
+abbrev pub TellsNone : MoveStatus → Type 0
+TellsNone outcome =
+    ((rule : ℕ) × (outcome ≡ Refused rule)) ⊎ ((outcome ≡ Run status.ModuleFault)
+    ⊎ ((cell : ℕ) × (outcome ≡ Run (status.Damaged Module cell))))
+
+-- ---- what it comes to
+
+-- a device didn't fail
+abbrev pub Still : ℕ → ℕ → Type 0
+Still before now = Rose before now → ⊥
+
+-- What a move comes to, from the state for which the disks stand. `disks` says that no disk failed, and `outputs` that
+-- file and report didn't.
+pub record MoveTold (s : State) (w : Move) (outcome : MoveStatus)
+    (file0 file1 report0 report1 : Option (List ℕ)) (disks outputs : Type 0) : Type 0 where
+  -- the whole file and the whole report; no rule refuses the move
+  pub done : outcome ≡ Run status.Done → ToldAll s w file0 file1 report0 report1
+  pub permitted : TellsLabels outcome → first_failing (move_checks s w) ≡ None
+  -- file or report failed: labels were told up to one
+  pub cut : (outcome ≡ Run status.WriteFault) ⊎ (outcome ≡ ReportFault)
+      → ToldTo s w file0 file1 report0 report1
+  -- the store failed: nothing was told yet; or no rule refuses the move, and labels were told up to one
+  pub lost : outcome ≡ Run status.StoreFault
+      → ((file1 ≡ file0) × (report1 ≡ report0))
+      ⊎ ((first_failing (move_checks s w) ≡ None) × ToldTo s w file0 file1 report0 report1)
+  -- this is the first rule that refuses the move, and then it is always told, unless a disk failed
+  pub refused : (rule : ℕ) → outcome ≡ Refused rule → first_failing (move_checks s w) ≡ Some rule
+  pub refuses : disks → (rule : ℕ) → first_failing (move_checks s w) ≡ Some rule
+      → (outcome ≡ Refused rule) ⊎ (outcome ≡ Run status.NoMemory)
+  -- disks that stand for a state aren't damaged
+  pub undamaged : (device : Device) (cell : ℕ) → outcome ≡ Run (status.Damaged device cell) → ⊥
+  -- where no device fails and no rule refuses the move, all labels are told
+  pub complete : disks → outputs → first_failing (move_checks s w) ≡ None
+      → (outcome ≡ Run status.Done) ⊎ (outcome ≡ Run status.NoMemory)
+
+-- no device was called
+pub record MoveUncalled {K P M D : Type 0} (file0 file1 : K) (report0 report1 : P)
+    (module0 module1 : M) (store0 store1 : D) : Type 0 where
+  pub no_file : file1 ≡ file0
+  pub no_report : report1 ≡ report0
+  pub no_module : module1 ≡ module0
+  pub no_store : store1 ≡ store0
+
+-- nothing was told
+pub record MoveUntold {K P : Type 0} (file0 file1 : K) (report0 report1 : P) : Type 0 where
+  pub no_file : file1 ≡ file0
+  pub no_report : report1 ≡ report0

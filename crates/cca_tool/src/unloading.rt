@@ -1,0 +1,241 @@
+//! The top call that moves a store to another module.
+ghost use Rattle.std.specs.Prelude.{◌≡◌, ◌↔◌, ℕ, Err, IfErr, IsOk};
+ghost use Rattle.key_cells.specs.Bench.{blank_bench};
+ghost use Rattle.key_cells.specs.Lease.{bench_of, loan_of};
+ghost use Rattle.key_records.specs.StoreStands.{HoldsRows};
+ghost use Rattle.slot_disk.specs.Medium.{Keeps, Told};
+ghost use Rattle.slot_disk.specs.WhereTold.{WhereTold};
+ghost use Rattle.line_service.specs.Answering.{OnDisks, IsSound};
+ghost use Rattle.line_service.specs.Devices.{DamageTold, HaveSizes, OpeningLeft, TellsFault};
+ghost use Rattle.line_service.specs.Sending.{Grows};
+ghost use Rattle.cca_machine.specs.State.{State, module_size, store_size};
+ghost use Rattle.cca_requests.specs.Serving.{tables};
+ghost use Rattle.move_file.specs.Judging.{IsStoreFault};
+ghost use Rattle.move_file.specs.declared.moves.Move.{Move as AnyMove};
+ghost use Rattle.cca_tool.specs.Coprocessor.{cca};
+ghost use Rattle.cca_tool.specs.Opening.{IsOpened};
+ghost use Rattle.cca_tool.specs.Unloading.{AreWordsOf, IsLabelStatus, IsMove, IsMoveStatus, IsOpenStatus};
+ghost use Rattle.cca_tool.specs.Unloading.{MoveCallsNone, MoveTold, MoveUncalled, MoveUntold, Still, TellsMove, TellsNone};
+ghost use Rattle.cca_tool.specs.Unloading.{disk_stop, store_status_of};
+
+use crate::command::{Status, status_of};
+use crate::coprocessor::Coprocessor;
+use crate::session::Session;
+use crate::words::Words;
+use cca_roles::Roles;
+use key_cells::{Lease, Workbench};
+use key_records::{RecordFault, Records};
+use line_service::{Device, Shown};
+use master_registers::Registers;
+use move_file::{Move, MoveFault, judge_move, write_move};
+use script_buffers::ReplyBuffer;
+use slot_disk::{Disk, Sink};
+use std::alloc::Global;
+
+/// How a move ended.
+#[derive(Clone, Copy, Debug, PartialEq, Eq)]
+pub enum MoveStatus {
+    /// As a run ends: `Done` where all labels were told.
+    Run(Status),
+    /// The rule of this number refuses the move.
+    Refused(u8),
+    /// The report could not be written.
+    ReportFault,
+}
+
+/// Writes a request file that moves the keys of the store to another module, with which a transport key is shared, and a
+/// report of the labels that are kept back.
+///
+/// This is for the words `unload ROLE LABEL ROLE LABEL`: a role here, and the label that holds the transport key as an
+/// EXPORTER; a role at the other module, and the label there that holds it as an IMPORTER. The labels are told in
+/// ascending order: of each one that is moved, the file gets CSNBKRC and CSNBKIM; of each other one, the report gets a
+/// line that says why. Both disks are only read.
+///
+/// All memory is taken before a device is called, and none after. The bench is wiped first, since it may hold anything.
+pub fn unload<K: Sink, P: Sink, M: Disk, D: Disk>(
+    alloc: Global,
+    words: &Words,
+    bench: &mut Workbench,
+    sink: &mut K,
+    report: &mut P,
+    module: &mut M,
+    store: &mut D,
+) -> MoveStatus
+    requires { HaveSizes module_size store_size
+        (⟦<(M, D) as Shown>⟧.shown («module».old, store.old)) }
+
+    ensures usage { (result ≡ MoveStatus.Run Status.Usage) ↔ (IsMove words.now → ⊥) }
+    ensures statuses { IsMoveStatus result }
+    ensures uncalled { MoveCallsNone result → MoveUncalled sink.old sink.new report.old report.new
+        «module».old «module».new store.old store.new }
+
+    // What the move comes to, from the state for which the disks stand: which file and which report, and why it ended.
+    ensures told { (w : AnyMove) → AreWordsOf w words.now → (s : State)
+        → OnDisks cca s (M.medium «module».old) (D.medium store.old)
+        → MoveTold s w result (K.held sink.old) (K.held sink.new) (P.held report.old) (P.held report.new)
+        (Still (M.faults «module».old) (M.faults «module».new)
+        × Still (D.faults store.old) (D.faults store.new))
+        (Still (K.faults sink.old) (K.faults sink.new)
+        × Still (P.faults report.old) (P.faults report.new)) }
+
+    // A move is judged and told only where the disks stand for a state. Where they don't, and where a rule refuses the
+    // move or the module failed, nothing was told.
+    ensures sound { TellsMove result → IsSound cca (M.medium «module».old) (D.medium store.old) }
+    ensures unsound { (IsSound cca (M.medium «module».old) (D.medium store.old) → ⊥)
+        → MoveUntold sink.old sink.new report.old report.new }
+    ensures untold { TellsNone result → MoveUntold sink.old sink.new report.old report.new }
+
+    // Damage is told where a cell is broken, and then always, unless a disk failed.
+    ensures damage { (MoveCallsNone result → ⊥) → DamageTold cca (disk_stop result)
+        (⟦<(M, D) as Shown>⟧.between («module».old, store.old) («module».new, store.new)) }
+
+    // What is left of each device, and why it ended: the disks aren't written, and bytes are only added.
+    ensures left { (MoveCallsNone result → ⊥) → OpeningLeft (disk_stop result)
+        (⟦<(M, D) as Shown>⟧.between («module».old, store.old) («module».new, store.new)) }
+    ensures sink_left { TellsFault (K.faults sink.old) (K.faults sink.new)
+        (result ≡ MoveStatus.Run Status.WriteFault) }
+    ensures report_left { TellsFault (P.faults report.old) (P.faults report.new)
+        (result ≡ MoveStatus.ReportFault) }
+    ensures sink_grows { WhereTold (K.held sink.old) (K.held sink.new) Grows }
+    ensures report_grows { WhereTold (P.held report.old) (P.held report.new) Grows }
+
+    // No key is left in the bench.
+    ensures bench { bench.new ≡ blank_bench }
+{
+    bench.wipe();
+    let Some(how) = words.moving() else {
+        return MoveStatus::Run(Status::Usage);
+    };
+    match Session::new(alloc) {
+        Ok(mut session) => {
+            let mut lease = Lease::open(bench);
+            move_store(
+                &how,
+                &mut session.desk,
+                &mut session.reply,
+                &mut lease,
+                sink,
+                report,
+                module,
+                store,
+            )
+        }
+        Err(_) => MoveStatus::Run(Status::NoMemory),
+    }
+}
+
+/// Opens the disks, and moves the labels.
+fn move_store<K: Sink, P: Sink, M: Disk, D: Disk>(
+    how: &Move,
+    desk: &mut Coprocessor,
+    line: &mut ReplyBuffer,
+    lease: &mut Lease,
+    sink: &mut K,
+    report: &mut P,
+    module: &mut M,
+    store: &mut D,
+) -> MoveStatus
+    requires { HaveSizes module_size store_size
+        (⟦<(M, D) as Shown>⟧.shown («module».old, store.old)) }
+
+    ensures statuses { IsOpenStatus result }
+    ensures told { (s : State) → OnDisks cca s (M.medium «module».old) (D.medium store.old)
+        → MoveTold s how.now result
+        (K.held sink.old) (K.held sink.new) (P.held report.old) (P.held report.new)
+        (Still (M.faults «module».old) (M.faults «module».new)
+        × Still (D.faults store.old) (D.faults store.new))
+        (Still (K.faults sink.old) (K.faults sink.new)
+        × Still (P.faults report.old) (P.faults report.new)) }
+    ensures sound { TellsMove result → IsSound cca (M.medium «module».old) (D.medium store.old) }
+    ensures unsound { (IsSound cca (M.medium «module».old) (D.medium store.old) → ⊥)
+        → MoveUntold sink.old sink.new report.old report.new }
+    ensures untold { TellsNone result → MoveUntold sink.old sink.new report.old report.new }
+    ensures damage { DamageTold cca (disk_stop result)
+        (⟦<(M, D) as Shown>⟧.between («module».old, store.old) («module».new, store.new)) }
+    ensures left { OpeningLeft (disk_stop result)
+        (⟦<(M, D) as Shown>⟧.between («module».old, store.old) («module».new, store.new)) }
+    ensures sink_left { TellsFault (K.faults sink.old) (K.faults sink.new)
+        (result ≡ MoveStatus.Run Status.WriteFault) }
+    ensures report_left { TellsFault (P.faults report.old) (P.faults report.new)
+        (result ≡ MoveStatus.ReportFault) }
+    ensures sink_grows { WhereTold (K.held sink.old) (K.held sink.new) Grows }
+    ensures report_grows { WhereTold (P.held report.old) (P.held report.new) Grows }
+    ensures loan { loan_of lease.new ≡ loan_of lease.old }
+{
+    match desk.open_disks(lease, module, store) {
+        Ok(held) => move_labels(
+            how,
+            &desk.roles,
+            &desk.records,
+            line,
+            lease,
+            &held,
+            sink,
+            report,
+            store,
+        ),
+        Err(stop) => MoveStatus::Run(status_of(Err(stop))),
+    }
+}
+
+/// Judges the move, and tells the labels.
+fn move_labels<K: Sink, P: Sink, D: Disk>(
+    how: &Move,
+    roles: &Roles,
+    records: &Records,
+    line: &mut ReplyBuffer,
+    lease: &mut Lease,
+    held: &Registers,
+    sink: &mut K,
+    report: &mut P,
+    store: &mut D,
+) -> MoveStatus
+    requires size { (D.medium store.old).size ≡ store_size }
+    requires holds { Told (D.medium store.old) (HoldsRows records.now) }
+
+    ensures statuses { IsLabelStatus result }
+    ensures told { (s : State) → IsOpened s held.now (bench_of lease.old)
+        (tables roles.now records.now) (D.medium store.old)
+        → MoveTold s how.now result
+        (K.held sink.old) (K.held sink.new) (P.held report.old) (P.held report.new)
+        (Still (D.faults store.old) (D.faults store.new))
+        (Still (K.faults sink.old) (K.faults sink.new)
+        × Still (P.faults report.old) (P.faults report.new)) }
+    ensures untold { TellsNone result → MoveUntold sink.old sink.new report.old report.new }
+    ensures keeps { Keeps (D.medium store.old) (D.medium store.new) }
+    ensures store_left { TellsFault (D.faults store.old) (D.faults store.new)
+        (result ≡ MoveStatus.Run Status.StoreFault) }
+    ensures sink_left { TellsFault (K.faults sink.old) (K.faults sink.new)
+        (result ≡ MoveStatus.Run Status.WriteFault) }
+    ensures report_left { TellsFault (P.faults report.old) (P.faults report.new)
+        (result ≡ MoveStatus.ReportFault) }
+    ensures sink_grows { WhereTold (K.held sink.old) (K.held sink.new) Grows }
+    ensures report_grows { WhereTold (P.held report.old) (P.held report.new) Grows }
+    ensures loan { loan_of lease.new ≡ loan_of lease.old }
+{
+    match judge_move(how, lease, held, roles, store, records) {
+        Ok(Ok(transport)) => match write_move(
+            how, line, lease, held, &transport, sink, report, store, records,
+        ) {
+            Ok(()) => MoveStatus::Run(Status::Done),
+            Err(MoveFault::WriteFault) => MoveStatus::Run(Status::WriteFault),
+            Err(MoveFault::ReportFault) => MoveStatus::ReportFault,
+            Err(MoveFault::Store(fault)) => MoveStatus::Run(store_status(fault)),
+        },
+        Ok(Err(rule)) => MoveStatus::Refused(rule.number()),
+        Err(fault) => MoveStatus::Run(store_status(fault)),
+    }
+}
+
+/// Why the store wasn't read.
+fn store_status(fault: RecordFault) -> Status
+    requires { IsStoreFault fault }
+    ensures { result ≡ store_status_of fault }
+{
+    match fault {
+        RecordFault::DiskFault => Status::StoreFault,
+        RecordFault::Damaged(cell) => Status::Damaged(Device::Store, cell),
+        RecordFault::Full => unreachable!(),
+        RecordFault::Exists => unreachable!(),
+    }
+}
