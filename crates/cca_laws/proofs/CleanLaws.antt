@@ -58,7 +58,7 @@ element_clean [] k clean = tt
 element_clean (x ∷ xs) zero clean = first_of_both (is_clean_byte x) (is_clean xs) clean
 element_clean (x ∷ xs) (suc k) clean = element_clean xs k (second_of_both (is_clean_byte x) (is_clean xs) clean)
 
-hex_clean : (bytes : List ℕ) → T (is_clean (encode_with lower_digits bytes))
+pub hex_clean : (bytes : List ℕ) → T (is_clean (encode_with lower_digits bytes))
 unfolding encode_with
 hex_clean [] = tt
 hex_clean (b ∷ rest) =

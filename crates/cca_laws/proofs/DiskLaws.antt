@@ -38,7 +38,7 @@ none_some : (x : MasterKey) → None ≡ Some x → ⊥
 none_some x is = cc
 
 -- the master keys of a module have different patterns
-module_distinct : (s : State) (c : List ℕ) → IsModuleOf s c → HaveDistinctPatterns (keys_of s.registers)
+pub module_distinct : (s : State) (c : List ℕ) → IsModuleOf s c → HaveDistinctPatterns (keys_of s.registers)
 module_distinct s c stands = ⊎_elim
     (λ (blank : (body c 0 ≡ blank_body) × (s.registers ≡ blank_masters)). subst (λ (m : Masters). HaveDistinctPatterns (keys_of m)) (sym blank.1) (λ current former is_current is_former same. none_some current is_current))
     (λ (full : (body c 0 ≡ registers_body s.registers) × IsMasters s.registers). keys_apart s.registers full.1)

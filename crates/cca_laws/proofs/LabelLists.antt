@@ -174,7 +174,7 @@ free_at [] at = (0, omega arith, refl)
 free_at (None ∷ ns) at = (0, omega arith, refl)
 free_at (Some n ∷ ns) at = let later = free_at ns (at + 1) in (suc later.0, omega (arith, later.1), later.2)
 
-free_has_none : (d : List (Option (List ℕ))) → name_at d (free_place d) ≡ None
+pub free_has_none : (d : List (Option (List ℕ))) → name_at d (free_place d) ≡ None
 unfolding free_place
 free_has_none d =
     let found = free_at d 0 in

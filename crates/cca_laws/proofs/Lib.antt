@@ -8,6 +8,15 @@ pub mod LabelLaws
 pub mod LabelLists
 pub mod LengthLemmas
 pub mod LineCases
+pub mod MoveExports
+pub mod MoveLaws
+pub mod MoveLines
+pub mod MoveLists
+pub mod MoveRequests
+pub mod MoveRoom
+pub mod MoveRuns
+pub mod MoveSteps
+pub mod MoveTokens
 pub mod NamedLaws
 pub mod PartLaws
 pub mod PointLaws

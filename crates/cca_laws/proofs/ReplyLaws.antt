@@ -50,7 +50,7 @@ use Rattle.cca_laws.proofs.LineCases.{by_line}
 
 -- ---- labels
 
-all_clean : (p : ℕ → Bool) → ((c : ℕ) → T (p c) → T (is_clean_byte c)) → (xs : List ℕ) → T (list_all p xs) → T (is_clean xs)
+pub all_clean : (p : ℕ → Bool) → ((c : ℕ) → T (p c) → T (is_clean_byte c)) → (xs : List ℕ) → T (list_all p xs) → T (is_clean xs)
 all_clean p each [] holds = tt
 all_clean p each (x ∷ xs) holds =
     both (is_clean_byte x) (is_clean xs) (each x (first_of_both (p x) (list_all p xs) holds)) (all_clean p each xs (second_of_both (p x) (list_all p xs) holds))
@@ -61,7 +61,7 @@ visible_clean c visible = byte_clean c (λ is. subst (λ x. T (is_visible x)) is
 label_byte_clean : (c : ℕ) → T (is_label_byte c) → T (is_clean_byte c)
 label_byte_clean c may = byte_clean c (λ is. subst (λ x. T (is_label_byte x)) is may)
 
-label_clean : (label : List ℕ) → IsLabel label → T (is_clean label)
+pub label_clean : (label : List ℕ) → IsLabel label → T (is_clean label)
 unfolding is_label
 label_clean label is =
     all_clean is_label_byte label_byte_clean label
@@ -205,13 +205,15 @@ first_clean test (Some l ∷ d) are = by_test (test (Some l)) (first_clean test 
     by_test true later = label_clean l are.0
     by_test false later = later
 
+pub ascending_clean : (d : List (Option (List ℕ))) → AreLabels d → T (list_all is_clean (ascending d))
+ascending_clean d are = map_clean (nth_label d) (λ n. first_clean (has_rank n d) d are) (range_with_len 0 (held_count d))
+
 listing_clean : (prefix : List ℕ) (d : List (Option (List ℕ))) → AreLabels d → T (are_clean (label_fields prefix d))
 unfolding label_fields
 listing_clean prefix d are =
     both (is_clean (with_commas (beginning prefix (ascending d)))) true
     (commas_clean (beginning prefix (ascending d))
-    (filter_clean (λ label. starts_with nat_eq label prefix) (ascending d)
-    (map_clean (nth_label d) (λ n. first_clean (has_rank n d) d are) (range_with_len 0 (held_count d))))) tt
+    (filter_clean (λ label. starts_with nat_eq label prefix) (ascending d) (ascending_clean d are))) tt
 
 -- ---- the fields of each effect
 

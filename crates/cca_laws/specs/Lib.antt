@@ -3,6 +3,7 @@ pub mod Disks
 pub mod EachLine
 pub mod KeyInParts
 pub mod MasterBytes
+pub mod Moving
 pub mod NamedLabels
 pub mod Passing
 pub mod Points
