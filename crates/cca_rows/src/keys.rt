@@ -14,7 +14,7 @@ const ZEROS_UNDER_ZERO: &str =
     "CSNBENC role=DEFAULT key=T:010000000000c000083bf1025be34c44639aac267ee1137e000000000000000000007d000300000000000000000000000000000000000000000000004a9c39ea iv=0000000000000000 pad=NONE text=";
 
 // The master key that the tokens here are under.
-const MASTER_KEY: &[(&str, &str)] = &[
+pub(crate) const MASTER_KEY: &[(&str, &str)] = &[
     (
         "CSNBMKP role=DEFAULT action=FIRST part=0102030405060708090a0b0c0d0e0f101112131415161718",
         "OK new=partial",

@@ -34,6 +34,8 @@ mod stops;
 mod tables;
 #[cfg(test)]
 mod tokens;
+#[cfg(test)]
+mod unloading;
 
 /// The machine gives the replies to two key ceremonies that are known from outside: the definitions compute them.
 pub fn worked_ceremonies()

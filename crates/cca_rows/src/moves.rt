@@ -9,7 +9,7 @@ use std::test::Fail;
 const RANDOM: &[u8] = &[0; 600];
 
 // A master key, two transport keys, and a label for a key.
-const TRANSPORT: &[(&str, &str)] = &[
+pub(crate) const TRANSPORT: &[(&str, &str)] = &[
     (
         "CSNBMKP role=DEFAULT action=FIRST part=0102030405060708090a0b0c0d0e0f101112131415161718",
         "OK new=partial",

@@ -186,7 +186,11 @@ fn re_enciphered(
 }
 
 // Whether the first five cells of two stores select the same bodies.
-fn have_same_bodies(alloc: Global, one: &MemoryDisk, other: &MemoryDisk) -> Result<bool, Fail> {
+pub(crate) fn have_same_bodies(
+    alloc: Global,
+    one: &MemoryDisk,
+    other: &MemoryDisk,
+) -> Result<bool, Fail> {
     let mut one = copy_of(alloc, one)?;
     let mut other = copy_of(alloc, other)?;
     let mut first = [0; 192];

@@ -1,0 +1,706 @@
+//! Stores that are moved to another module: what `unload` writes, what the other module makes of it, what is refused, and
+//! how it ends where a device fails or a disk is damaged. The tokens here were made by another program's triple DES and
+//! SHA-1 from the clear keys, after the definition of a token; each key that is drawn has the bytes 01.
+
+use crate::disks::{CALLS, copy_of, run_on};
+use crate::keys::MASTER_KEY;
+use crate::moves::TRANSPORT;
+use crate::rows::{MODULE_SIZE, STORE_SIZE, words_of};
+use crate::stops::have_same_bodies;
+use crate::tables::lines_of;
+use cca_tool::{Device, MoveStatus, Status, unload};
+use key_cells::Workbench;
+use slot_disk::{Disk, MemoryDisk, MemorySink, Torn};
+use std::alloc::Global;
+use std::process::Abort;
+use std::test::Fail;
+
+// The room of a sink: more than a file here needs.
+const ROOM: usize = 4_096;
+
+// The command that moves the keys under EXP to a module that holds the transport key under IMP.
+const MOVE: [&str; 5] = ["unload", "DEFAULT", "EXP", "DEFAULT", "IMP"];
+
+// The key of zeros, which came under the transport key.
+const ZERO: &[(&str, &str)] = &[(
+    "CSNBKIM role=DEFAULT token=020000000000c00000000000000000008ca64de9c1b123a700000000000000000000000000000000000000000000000000000000000000000000000050583190 transport=L:IMP to=L:ZERO",
+    "OK stored=ZERO",
+)];
+
+// What the file has of it, and of the transport key itself.
+const FILE: [&str; 4] = [
+    "CSNBKRC role=DEFAULT label=EXP\n",
+    "CSNBKIM role=DEFAULT token=020000000000c000000000000000000023f2c4edba8eb3cb23246490b3c57f7400417d000341000000417d0003210000000000000000000000000000be5116bc transport=L:IMP to=L:EXP\n",
+    "CSNBKRC role=DEFAULT label=ZERO\n",
+    "CSNBKIM role=DEFAULT token=020000000000c00000000000000000008ca64de9c1b123a700000000000000000000000000000000000000000000000000000000000000000000000050583190 transport=L:IMP to=L:ZERO\n",
+];
+
+const REPORT: &str = "kept IMP target\n";
+
+// The transport key at the other module.
+const IMPORTER: &[(&str, &str)] = &[
+    ("CSNBKRC role=DEFAULT label=IMP", "OK"),
+    (
+        "CSNBKGN role=DEFAULT form=OP length=16 type1=IMPORTER to=L:IMP",
+        "OK stored=IMP",
+    ),
+];
+
+// Another master key.
+const NEXT_MASTER_KEY: &[(&str, &str)] = &[
+    (
+        "CSNBMKP role=DEFAULT action=FIRST part=ffffffffffffffffffffffffffffffffffffffffffffffff",
+        "OK new=partial",
+    ),
+    (
+        "CSNBMKP role=DEFAULT action=LAST part=000000000000000000000000000000000000000000000000",
+        "OK new=full",
+    ),
+    ("CSNBMKP role=DEFAULT action=SET", "OK new=empty"),
+];
+
+// The replies to the file, and to the same file once more.
+const FIRST_REPLIES: &str = "OK\nOK stored=EXP\nOK\nOK stored=ZERO\n";
+
+const NEXT_REPLIES: &str = "NO 29 label\nOK stored=EXP\nNO 29 label\nOK stored=ZERO\n";
+
+// The key of zeros is exported as it came, and so it is the same key.
+const EXPORTED: &[(&str, &str)] = &[(
+    "CSNBKEX role=DEFAULT key=L:ZERO transport=L:EXP",
+    "OK token=020000000000c00000000000000000008ca64de9c1b123a700000000000000000000000000000000000000000000000000000000000000000000000050583190",
+)];
+
+// A module and its store, with nothing noted.
+#[derive(Drop)]
+struct Pair {
+    module: MemoryDisk,
+    store: MemoryDisk,
+}
+
+// The device that fails.
+#[derive(Clone, Copy, Debug, PartialEq, Eq)]
+enum Failing {
+    None,
+    File,
+    Report,
+    Module,
+    Store,
+}
+
+// How a call ended, and what file and report got.
+#[derive(Drop)]
+struct Unloaded {
+    status: MoveStatus,
+    file: Vec<u8>,
+    report: Vec<u8>,
+}
+
+// A pair that has served no request.
+fn blank(alloc: Global) -> Result<Pair, Fail> {
+    Ok(Pair {
+        module: MemoryDisk::new(alloc, MODULE_SIZE, CALLS)?,
+        store: MemoryDisk::new(alloc, STORE_SIZE, CALLS)?,
+    })
+}
+
+// The pair after some requests, of which each must get its reply.
+fn after(
+    rt: &impl Abort,
+    alloc: Global,
+    pair: &Pair,
+    requests: &[u8],
+    replies: &[u8],
+) -> Result<Pair, Fail> {
+    let mut module = copy_of(alloc, &pair.module)?;
+    let mut store = copy_of(alloc, &pair.store)?;
+    if module.size() != MODULE_SIZE || store.size() != STORE_SIZE {
+        return Err(Fail::from("another size"));
+    }
+    let ended = run_on(alloc, requests, &mut module, &mut store)?;
+    assert_eq!(rt; ended.status, Status::Done);
+    assert_eq!(rt; ended.replies.as_slice(), replies);
+    Ok(Pair {
+        module: copy_of(alloc, &module)?,
+        store: copy_of(alloc, &store)?,
+    })
+}
+
+// The same for the requests of some tables.
+fn with(
+    rt: &impl Abort,
+    alloc: Global,
+    pair: &Pair,
+    tables: &[&[(&str, &str)]],
+) -> Result<Pair, Fail> {
+    let (requests, replies) = lines_of(alloc, tables)?;
+    after(rt, alloc, pair, requests.as_bytes(), replies.as_bytes())
+}
+
+// The store of these tests: EXP, IMP and ZERO.
+fn here(rt: &impl Abort, alloc: Global) -> Result<Pair, Fail> {
+    with(rt, alloc, &blank(alloc)?, &[TRANSPORT, ZERO])
+}
+
+// Another module with this master key and the transport key.
+fn there(rt: &impl Abort, alloc: Global, master_key: &[(&str, &str)]) -> Result<Pair, Fail> {
+    with(rt, alloc, &blank(alloc)?, &[master_key, IMPORTER])
+}
+
+// Unloads a store into sinks with so much room, with the call of this number failing. Each disk notes one call, the sync
+// that opens it: a write, or a further sync, would fail.
+fn unload_failing(
+    alloc: Global,
+    pair: &Pair,
+    words: &[&str],
+    failing: (Failing, u64),
+    room: (usize, usize),
+) -> Result<Unloaded, Fail> {
+    let words = words_of(alloc, words)?;
+    let mut file = MemorySink::new(alloc, room.0)?;
+    let mut report = MemorySink::new(alloc, room.1)?;
+    let mut module = pair.module.crash(alloc, 0, Torn::Old, 1)?;
+    let mut store = pair.store.crash(alloc, 0, Torn::Old, 1)?;
+    match failing.0 {
+        Failing::None => {}
+        Failing::File => file.fail_at(failing.1),
+        Failing::Report => report.fail_at(failing.1),
+        Failing::Module => module.fail_at(failing.1),
+        Failing::Store => store.fail_at(failing.1),
+    }
+    if module.size() != MODULE_SIZE || store.size() != STORE_SIZE {
+        return Err(Fail::from("another size"));
+    }
+    let mut bench = Workbench::new();
+    let status = unload(
+        alloc,
+        &words,
+        &mut bench,
+        &mut file,
+        &mut report,
+        &mut module,
+        &mut store,
+    );
+    Ok(Unloaded {
+        status,
+        file: Vec::from_slice(alloc, file.bytes())?,
+        report: Vec::from_slice(alloc, report.bytes())?,
+    })
+}
+
+// Some lines, one after another.
+fn joined(alloc: Global, lines: &[&str], count: usize) -> Result<String, Fail> {
+    let mut text = String::new(alloc);
+    for line in lines.iter().take(count) {
+        text.push_str(line)?;
+    }
+    Ok(text)
+}
+
+// Asserts how an unloading ended.
+fn is_so(rt: &impl Abort, ended: &Unloaded, status: MoveStatus, file: &str, report: &str) {
+    assert_eq!(rt; ended.status, status);
+    assert_eq!(rt; ended.file.as_slice(), file.as_bytes());
+    assert_eq!(rt; ended.report.as_slice(), report.as_bytes());
+}
+
+// Asserts what comes of these words where nothing fails.
+fn expect(
+    rt: &impl Abort,
+    alloc: Global,
+    pair: &Pair,
+    words: &[&str],
+    status: MoveStatus,
+    file: &str,
+    report: &str,
+) -> Result<(), Fail> {
+    let ended = unload_failing(alloc, pair, words, (Failing::None, 0), (ROOM, ROOM))?;
+    is_so(rt, &ended, status, file, report);
+    Ok(())
+}
+
+const DONE: MoveStatus = MoveStatus::Run(Status::Done);
+
+// ---- a move
+
+#[test]
+fn a_store_is_moved_and_moved_again(rt: HostRuntime) -> Result<(), Fail> {
+    let alloc = rt.alloc();
+    let file = joined(alloc, &FILE, FILE.len())?;
+    let from = here(&rt, alloc)?;
+    expect(&rt, alloc, &from, &MOVE, DONE, file.as_str(), REPORT)?;
+    let to = there(&rt, alloc, MASTER_KEY)?;
+    let requests = file.as_bytes();
+    let to = after(&rt, alloc, &to, requests, FIRST_REPLIES.as_bytes())?;
+    let to = after(&rt, alloc, &to, requests, NEXT_REPLIES.as_bytes())?;
+    with(&rt, alloc, &to, &[EXPORTED])?;
+    Ok(())
+}
+
+// Some first lines of the file, again and again, and then all of them: each cell of the store selects what one run over the
+// file leaves in it.
+#[test]
+fn a_move_is_begun_again(rt: HostRuntime) -> Result<(), Fail> {
+    let alloc = rt.alloc();
+    let file = joined(alloc, &FILE, FILE.len())?;
+    let blank = there(&rt, alloc, NEXT_MASTER_KEY)?;
+    let once = after(
+        &rt,
+        alloc,
+        &blank,
+        file.as_bytes(),
+        FIRST_REPLIES.as_bytes(),
+    )?;
+    let listed: &[(&str, &str)] = &[
+        (
+            "CSNBKRL role=DEFAULT prefix=",
+            "OK count=3 labels=EXP,IMP,ZERO",
+        ),
+        ("CSNBKYT role=DEFAULT key=L:ZERO", "OK value=8ca64de9"),
+    ];
+    with(&rt, alloc, &once, &[EXPORTED, listed])?;
+    let table = [
+        ([FILE[0], "", "", ""], "OK\n"),
+        (
+            [FILE[0], FILE[1], FILE[2], ""],
+            "NO 29 label\nOK stored=EXP\nOK\n",
+        ),
+        ([FILE[0], FILE[1], "", ""], "NO 29 label\nOK stored=EXP\n"),
+        (FILE, NEXT_REPLIES),
+    ];
+    let mut to = blank;
+    for (lines, replies) in table {
+        let part = joined(alloc, &lines, lines.len())?;
+        to = after(&rt, alloc, &to, part.as_bytes(), replies.as_bytes())?;
+    }
+    with(&rt, alloc, &to, &[EXPORTED, listed])?;
+    assert!(rt; have_same_bodies(alloc, &to.store, &once.store)?);
+    Ok(())
+}
+
+#[test]
+fn a_key_closed_to_export_stays(rt: HostRuntime) -> Result<(), Fail> {
+    let alloc = rt.alloc();
+    let closed: &[(&str, &str)] = &[(
+        "CSNBPEX role=DEFAULT key=L:ZERO to=L:ZERO",
+        "OK stored=ZERO",
+    )];
+    let from = with(&rt, alloc, &here(&rt, alloc)?, &[closed])?;
+    let file = joined(alloc, &FILE, 2)?;
+    let report = "kept IMP target\nkept ZERO 21\n";
+    expect(&rt, alloc, &from, &MOVE, DONE, file.as_str(), report)
+}
+
+// Labels in ascending order: one that has no key, two of keys in parts, of which one is as long as a transport key, one of
+// a key that is moved, the transport key, and one that is named as the transport key's there, though it has no key.
+#[test]
+fn what_is_no_key_stays(rt: HostRuntime) -> Result<(), Fail> {
+    let alloc = rt.alloc();
+    let labels: &[(&str, &str)] = &[
+        ("CSNBKRC role=DEFAULT label=THERE", "OK"),
+        ("CSNBKRC role=DEFAULT label=A.B", "OK"),
+        ("CSNBKRC role=DEFAULT label=#", "OK"),
+        ("CSNBKRC role=DEFAULT label=A", "OK"),
+        (
+            "CSNBKPI role=DEFAULT rule=FIRST type=EXPORTER part=01010101010101010101010101010101 to=L:A",
+            "OK stored=A",
+        ),
+        (
+            "CSNBKPI role=DEFAULT rule=FIRST type=DATA part=0101010101010101 to=L:A.B",
+            "OK stored=A.B",
+        ),
+        ("CSNBKRD role=DEFAULT label=IMP", "OK"),
+    ];
+    let from = with(&rt, alloc, &here(&rt, alloc)?, &[labels])?;
+    let words = ["unload", "DEFAULT", "EXP", "R2", "THERE"];
+    let file = "\
+CSNBKRC role=R2 label=EXP
+CSNBKIM role=R2 token=020000000000c000000000000000000023f2c4edba8eb3cb23246490b3c57f7400417d000341000000417d0003210000000000000000000000000000be5116bc transport=L:THERE to=L:EXP
+CSNBKRC role=R2 label=ZERO
+CSNBKIM role=R2 token=020000000000c00000000000000000008ca64de9c1b123a700000000000000000000000000000000000000000000000000000000000000000000000050583190 transport=L:THERE to=L:ZERO
+";
+    let report = "kept # 08\nkept A 17\nkept A.B 17\nkept THERE target\n";
+    expect(&rt, alloc, &from, &words, DONE, file, report)
+}
+
+// The key of EXP is exported under itself, and keys under the old master key are moved as others are.
+#[test]
+fn the_file_depends_on_no_master_key(rt: HostRuntime) -> Result<(), Fail> {
+    let alloc = rt.alloc();
+    let file = joined(alloc, &FILE, FILE.len())?;
+    let from = with(&rt, alloc, &here(&rt, alloc)?, &[NEXT_MASTER_KEY])?;
+    expect(&rt, alloc, &from, &MOVE, DONE, file.as_str(), REPORT)?;
+    let renewed: &[(&str, &str)] = &[("REENCIPHER role=DEFAULT", "OK changed=3")];
+    let from = with(&rt, alloc, &from, &[renewed])?;
+    expect(&rt, alloc, &from, &MOVE, DONE, file.as_str(), REPORT)
+}
+
+// The other module, with another master key, unloads the same file, and the first one takes it in again.
+#[test]
+fn a_store_is_moved_there_and_back(rt: HostRuntime) -> Result<(), Fail> {
+    let alloc = rt.alloc();
+    let file = joined(alloc, &FILE, FILE.len())?;
+    let from = here(&rt, alloc)?;
+    let to = there(&rt, alloc, NEXT_MASTER_KEY)?;
+    let to = after(&rt, alloc, &to, file.as_bytes(), FIRST_REPLIES.as_bytes())?;
+    expect(&rt, alloc, &to, &MOVE, DONE, file.as_str(), REPORT)?;
+    let back = after(&rt, alloc, &from, file.as_bytes(), NEXT_REPLIES.as_bytes())?;
+    let listed: &[(&str, &str)] = &[(
+        "CSNBKRL role=DEFAULT prefix=",
+        "OK count=3 labels=EXP,IMP,ZERO",
+    )];
+    with(&rt, alloc, &back, &[EXPORTED, listed])?;
+    Ok(())
+}
+
+// ---- what is refused
+
+// Labels that hold no transport key for exports, and roles that lack a point.
+const NO_TRANSPORT: &[(&str, &str)] = &[
+    ("CSNBKRC role=DEFAULT label=NULL", "OK"),
+    ("CSNBKRC role=DEFAULT label=PART", "OK"),
+    ("CSNBKRC role=DEFAULT label=OUT", "OK"),
+    ("CSNBKRC role=DEFAULT label=ONE", "OK"),
+    (
+        "CSNBKPI role=DEFAULT rule=FIRST type=IMPORTER part=01010101010101010101010101010101 to=L:PART",
+        "OK stored=PART",
+    ),
+    (
+        "CSNBKGN role=DEFAULT form=OP length=16 type1=OKEYXLAT to=L:OUT",
+        "OK stored=OUT",
+    ),
+    (
+        "CSNBKRW role=DEFAULT label=ONE token=010000000000c000083bf1025be34c441111111111111111000000000000000000417d000300000000000000000000000000000000000000000000008a839c68",
+        "OK",
+    ),
+    (
+        "CSUAACI role=DEFAULT action=DEFINE name=EXPORTS points=1ff7ffff",
+        "OK",
+    ),
+    (
+        "CSUAACI role=DEFAULT action=DEFINE name=LISTS points=1ffff7ff",
+        "OK",
+    ),
+    (
+        "CSUAACI role=DEFAULT action=DEFINE name=BOTH points=00080800",
+        "OK",
+    ),
+];
+
+#[test]
+fn the_first_broken_rule_refuses(rt: HostRuntime) -> Result<(), Fail> {
+    let alloc = rt.alloc();
+    let from = with(&rt, alloc, &here(&rt, alloc)?, &[NO_TRANSPORT])?;
+    let table = [
+        ("NOBODY", "EXP", 3),
+        ("NOBODY", "NONE", 3),
+        ("EXPORTS", "EXP", 4),
+        ("LISTS", "EXP", 4),
+        ("LISTS", "NULL", 4),
+        ("BOTH", "NONE", 7),
+        ("BOTH", "NULL", 8),
+        ("DEFAULT", "PART", 17),
+        ("DEFAULT", "IMP", 19),
+        ("DEFAULT", "ZERO", 19),
+        ("DEFAULT", "OUT", 20),
+        ("DEFAULT", "ONE", 22),
+    ];
+    for (role, label, rule) in table {
+        let words = ["unload", role, label, "DEFAULT", "IMP"];
+        let ended = unload_failing(alloc, &from, &words, (Failing::None, 0), (ROOM, ROOM))?;
+        assert_eq!(rt; ended.status, MoveStatus::Refused(rule), "{role} {label}");
+        is_so(&rt, &ended, MoveStatus::Refused(rule), "", "");
+    }
+    Ok(())
+}
+
+// Without a master key, though a role or a label may lack too.
+#[test]
+fn without_a_master_key_rule_05_refuses(rt: HostRuntime) -> Result<(), Fail> {
+    let alloc = rt.alloc();
+    let blank = blank(alloc)?;
+    let refused = MoveStatus::Refused(5);
+    expect(&rt, alloc, &blank, &MOVE, refused, "", "")?;
+    let nobody = ["unload", "NOBODY", "EXP", "DEFAULT", "IMP"];
+    expect(&rt, alloc, &blank, &nobody, MoveStatus::Refused(3), "", "")
+}
+
+// A role with both points and no other one may move a store, also where neither name of the other module is known here.
+#[test]
+fn two_points_are_enough(rt: HostRuntime) -> Result<(), Fail> {
+    let alloc = rt.alloc();
+    let from = with(&rt, alloc, &here(&rt, alloc)?, &[NO_TRANSPORT])?;
+    let words = ["unload", "BOTH", "EXP", "X", "Y"];
+    let ended = unload_failing(alloc, &from, &words, (Failing::None, 0), (ROOM, ROOM))?;
+    assert_eq!(rt; ended.status, DONE);
+    assert_eq!(rt;
+        ended.report.as_slice(),
+        b"kept NULL 08\nkept PART 17\n".as_slice()
+    );
+    Ok(())
+}
+
+// Whether these words are no command, with every device failing at its first call.
+fn are_usage(alloc: Global, words: &[&str]) -> Result<bool, Fail> {
+    let words = words_of(alloc, words)?;
+    let mut file = MemorySink::new(alloc, 0)?;
+    let mut report = MemorySink::new(alloc, 0)?;
+    let mut module = MemoryDisk::new(alloc, MODULE_SIZE, 0)?;
+    let mut store = MemoryDisk::new(alloc, STORE_SIZE, 0)?;
+    file.fail_at(0);
+    report.fail_at(0);
+    module.fail_at(0);
+    store.fail_at(0);
+    let status = unload(
+        alloc,
+        &words,
+        &mut Workbench::new(),
+        &mut file,
+        &mut report,
+        &mut module,
+        &mut store,
+    );
+    Ok(status == MoveStatus::Run(Status::Usage))
+}
+
+const LONGEST: &str = "ABCDEFGHIJKLMNOPQRSTUVWXYZ.0123456789#$@ABCDEFGHIJKLMNOPQRSTUVWXY";
+
+#[test]
+fn other_words_are_no_command(rt: HostRuntime) -> Result<(), Fail> {
+    let lists: [&[&str]; 20] = [
+        &[],
+        &["run"],
+        &["unload"],
+        &["unload", "R", "L", "R"],
+        &["unload", "R", "L", "R", "L", ""],
+        &["unload", "R", "L", "R", "L", "L"],
+        &["", "R", "L", "R", "L"],
+        &["Unload", "R", "L", "R", "L"],
+        &["trail", "R", "L", "R", "L"],
+        &["unload", "", "L", "R", "L"],
+        &["unload", "R", "", "R", "L"],
+        &["unload", "R", "L", "", "L"],
+        &["unload", "R", "L", "R", ""],
+        &["unload", "r", "L", "R", "L"],
+        &["unload", "R", "L", "ABCDEFGHI", "L"],
+        &["unload", "1R", "L", "R", "L"],
+        &["unload", "R#", "L", "R", "L"],
+        &["unload", "R", "1L", "R", "L"],
+        &["unload", "R", "L", "R", ".L"],
+        &["unload", "R", "L:L", "R", "L"],
+    ];
+    for words in lists {
+        assert!(rt; are_usage(rt.alloc(), words)?, "{words:?}");
+    }
+    let long = ["unload", "R", "L", "R", LONGEST];
+    assert!(rt; are_usage(rt.alloc(), &long)?);
+    Ok(())
+}
+
+// The longest role and label are names: the first thing that is found is that a device fails.
+#[test]
+fn names_have_8_and_64_characters(rt: HostRuntime) -> Result<(), Fail> {
+    let longest = LONGEST.get(0..64).unwrap_or("");
+    let words = ["unload", "ABCDEFG8", longest, "A", longest];
+    assert!(rt; !are_usage(rt.alloc(), &words)?);
+    Ok(())
+}
+
+// ---- devices that fail
+
+// What file and report get where a write of one of them fails: whole labels in ascending order, and a part of the next.
+#[test]
+fn each_write_may_fail(rt: HostRuntime) -> Result<(), Fail> {
+    let alloc = rt.alloc();
+    let from = here(&rt, alloc)?;
+    let cut = MoveStatus::Run(Status::WriteFault);
+    let table = [
+        (Failing::File, 0, cut, 0, ""),
+        (Failing::File, 1, cut, 1, ""),
+        (Failing::File, 2, cut, 2, REPORT),
+        (Failing::File, 3, cut, 3, REPORT),
+        (Failing::File, 4, DONE, 4, REPORT),
+        (Failing::Report, 0, MoveStatus::ReportFault, 2, ""),
+        (Failing::Report, 1, DONE, 4, REPORT),
+    ];
+    for (failing, call, status, lines, report) in table {
+        let file = joined(alloc, &FILE, lines)?;
+        let ended = unload_failing(alloc, &from, &MOVE, (failing, call), (ROOM, ROOM))?;
+        is_so(&rt, &ended, status, file.as_str(), report);
+    }
+    Ok(())
+}
+
+// A sink that takes its first bytes and no more.
+#[test]
+fn a_file_may_be_cut_at_any_byte(rt: HostRuntime) -> Result<(), Fail> {
+    let alloc = rt.alloc();
+    let from = here(&rt, alloc)?;
+    let file = joined(alloc, &FILE, FILE.len())?;
+    let all = file.as_bytes();
+    for room in [
+        0,
+        1,
+        30,
+        31,
+        32,
+        100,
+        232,
+        233,
+        260,
+        400,
+        all.len().saturating_sub(1),
+    ] {
+        let ended = unload_failing(alloc, &from, &MOVE, (Failing::None, 0), (room, ROOM))?;
+        assert_eq!(rt; ended.status, MoveStatus::Run(Status::WriteFault), "{room}");
+        assert_eq!(rt;
+            ended.file.as_slice(),
+            all.get(0..room).unwrap_or(b""),
+            "{room}"
+        );
+        assert!(rt;
+            REPORT.as_bytes().starts_with(ended.report.as_slice()),
+            "{room}"
+        );
+    }
+    for room in [0, 1, 8, REPORT.len().saturating_sub(1)] {
+        let ended = unload_failing(alloc, &from, &MOVE, (Failing::None, 0), (ROOM, room))?;
+        assert_eq!(rt; ended.status, MoveStatus::ReportFault, "{room}");
+        let report = REPORT.as_bytes();
+        assert_eq!(rt;
+            ended.report.as_slice(),
+            report.get(0..room).unwrap_or(b""),
+            "{room}"
+        );
+        assert!(rt; all.starts_with(ended.file.as_slice()), "{room}");
+    }
+    Ok(())
+}
+
+// Fails each call of a disk from this number on, upwards until a store is unloaded, and answers how many calls there are.
+fn calls_that_fail(
+    rt: &impl Abort,
+    alloc: Global,
+    words: &[&str],
+    failing: Failing,
+    fault: Status,
+    first: u64,
+) -> Result<u64, Fail> {
+    let from = here(rt, alloc)?;
+    let file = joined(alloc, &FILE, FILE.len())?;
+    for call in first..10_000 {
+        let ended = unload_failing(alloc, &from, words, (failing, call), (ROOM, ROOM))?;
+        if ended.status != MoveStatus::Run(fault) {
+            return Ok(call);
+        }
+        assert!(rt;
+            file.as_bytes().starts_with(ended.file.as_slice()),
+            "{call}"
+        );
+        assert!(rt;
+            REPORT.as_bytes().starts_with(ended.report.as_slice()),
+            "{call}"
+        );
+    }
+    Err(Fail::from("no run was done"))
+}
+
+#[test]
+fn each_call_of_the_module_may_fail(rt: HostRuntime) -> Result<(), Fail> {
+    let fault = Status::ModuleFault;
+    let calls = calls_that_fail(&rt, rt.alloc(), &MOVE, Failing::Module, fault, 0)?;
+    assert!(rt; calls >= 66);
+    Ok(())
+}
+
+// Some of the 2,048 reads that open the store, and each later call. A record is read by two reads, and of the labels at most
+// each is read once, and the transport key's once more.
+#[test]
+fn each_call_of_the_store_may_fail(rt: HostRuntime) -> Result<(), Fail> {
+    let alloc = rt.alloc();
+    let fault = Status::StoreFault;
+    let from = here(&rt, alloc)?;
+    for call in [0, 1, 2, 1_000, 2_046] {
+        let ended = unload_failing(alloc, &from, &MOVE, (Failing::Store, call), (ROOM, ROOM))?;
+        is_so(&rt, &ended, MoveStatus::Run(fault), "", "");
+    }
+    let refused = ["unload", "DEFAULT", "NONE", "DEFAULT", "IMP"];
+    let opening = calls_that_fail(&rt, alloc, &refused, Failing::Store, fault, 2_040)?;
+    let all = calls_that_fail(&rt, alloc, &MOVE, Failing::Store, fault, opening)?;
+    assert!(rt; opening >= 2_048 && opening <= 2_050);
+    assert!(rt; all >= opening + 6 && all <= opening + 8);
+    // the last read is of the last label, ZERO: the labels before it are told
+    let last = (Failing::Store, all.saturating_sub(1));
+    let ended = unload_failing(alloc, &from, &MOVE, last, (ROOM, ROOM))?;
+    let file = joined(alloc, &FILE, 2)?;
+    is_so(&rt, &ended, MoveStatus::Run(fault), file.as_str(), REPORT);
+    Ok(())
+}
+
+// ---- damage
+
+// All bytes of a disk.
+fn bytes_of(alloc: Global, disk: &MemoryDisk) -> Result<Vec<u8>, Fail> {
+    let mut disk = copy_of(alloc, disk)?;
+    let mut bytes = Vec::new(alloc);
+    bytes.resize(disk.size() as usize, 0)?;
+    disk.read(0, bytes.as_mut_slice())
+        .or_else(|_| Err("not read"))?;
+    Ok(bytes)
+}
+
+// The disk with the first byte of both bodies of a cell changed to one that no body begins with.
+fn damaged(alloc: Global, disk: &MemoryDisk, cell: usize) -> Result<MemoryDisk, Fail> {
+    let mut bytes = bytes_of(alloc, disk)?;
+    for side in [512, 1_024] {
+        match bytes
+            .as_mut_slice()
+            .get_mut(cell.saturating_mul(1_536).saturating_add(side))
+        {
+            Some(byte) => *byte = 9,
+            None => return Err(Fail::from("no such cell")),
+        }
+    }
+    Ok(MemoryDisk::from_image(alloc, bytes.as_slice(), CALLS)?)
+}
+
+#[test]
+fn a_damaged_cell_is_named(rt: HostRuntime) -> Result<(), Fail> {
+    let alloc = rt.alloc();
+    let whole = here(&rt, alloc)?;
+    let table = [
+        (Device::Module, 0u16),
+        (Device::Module, 32),
+        (Device::Store, 0),
+        (Device::Store, 2),
+        (Device::Store, 1_023),
+    ];
+    for (device, cell) in table {
+        let pair = match device {
+            Device::Module => Pair {
+                module: damaged(alloc, &whole.module, cell as usize)?,
+                store: copy_of(alloc, &whole.store)?,
+            },
+            Device::Store => Pair {
+                module: copy_of(alloc, &whole.module)?,
+                store: damaged(alloc, &whole.store, cell as usize)?,
+            },
+        };
+        let status = MoveStatus::Run(Status::Damaged(device, cell));
+        expect(&rt, alloc, &pair, &MOVE, status, "", "")?;
+    }
+    Ok(())
+}
+
+// A store beside a module with another master key is damaged, and isn't unloaded.
+#[test]
+fn a_store_of_another_module_is_damaged(rt: HostRuntime) -> Result<(), Fail> {
+    let alloc = rt.alloc();
+    let from = here(&rt, alloc)?;
+    let other = there(&rt, alloc, NEXT_MASTER_KEY)?;
+    let pair = Pair {
+        module: copy_of(alloc, &other.module)?,
+        store: copy_of(alloc, &from.store)?,
+    };
+    let status = MoveStatus::Run(Status::Damaged(Device::Store, 0));
+    expect(&rt, alloc, &pair, &MOVE, status, "", "")
+}
