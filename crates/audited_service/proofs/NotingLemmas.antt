@@ -86,6 +86,7 @@ module _ (A : Machine) (entry : List ℕ → List ℕ → Entry) where
           later2 = moves.pairs.later2;
           each = λ c d left right. around_noted line moves.answer moves.next (Both A c d) (moves.pairs.each c d left right);
         };
+        unwritten = moves.unwritten;
       }
 
       pub serves_noted : Serves A s.state K line result reply old new → Serves (noting A entry) s K1 line result reply old new

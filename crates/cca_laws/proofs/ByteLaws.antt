@@ -18,12 +18,13 @@ use Rattle.byte_lists.specs.Bytes.{is_zero, xor}
 use Rattle.byte_lists.proofs.ByteLemmas.{are_bytes}
 use Rattle.cca_vectors.specs.Bits.{even_byte}
 use Rattle.cca_vectors.specs.Closing.{closed_byte, closed_half, closed_to_export, closed_zero}
-use Rattle.cca_vectors.specs.DefaultVectors.{default_vector}
+use Rattle.cca_vectors.specs.DefaultVectors.{default_for, default_vector}
 use Rattle.cca_vectors.specs.PartVectors.{as_part, part_half, with_bit_changed}
 use Rattle.cca_vectors.specs.Permissions.{is_exportable}
 use Rattle.cca_vectors.specs.Vectors.{IsValid, left_of, right_of}
+use Rattle.cca_vectors.specs.declared.key_length.Length.{Length}
 use Rattle.cca_vectors.specs.declared.key_type.KeyType.{KeyType}
-use Rattle.cca_vectors.proofs.DefaultLemmas.{default_valid}
+use Rattle.cca_vectors.proofs.DefaultLemmas.{default_for_valid, default_valid}
 use Rattle.cipher_verbs.specs.CipherTexts.{deciphered_text, enciphered_text, padded, unpadded}
 use Rattle.cipher_verbs.specs.RandomBytes.{in_form}
 use Rattle.cipher_verbs.specs.declared.padding.Pad.{Pad}
@@ -46,7 +47,7 @@ use Rattle.key_tokens.specs.declared.key_token.Asked.TheVariants as asked
 use Rattle.key_tokens.specs.declared.key_token.Kind.{Kind}
 use Rattle.key_tokens.specs.declared.key_token.Kind.TheVariants.{Internal, External}
 use Rattle.key_tokens.specs.declared.key_token.Token.{Token}
-use Rattle.key_transport.specs.Generated.{vector_for}
+use Rattle.key_transport.specs.Generated.{generated_vector, vector_for}
 use Rattle.key_transport.specs.Tokens.{changed_token, external_token, full_bytes, new_token}
 use Rattle.key_transport.specs.declared.changing.Target.{Target}
 use Rattle.key_transport.specs.declared.changing.Target.TheVariants.{Current, New}
@@ -303,12 +304,16 @@ bytes_closed vector are =
     (bytes_closed_half (right_of vector) (slices vector 8 16 are))))
     are
 
+-- a vector that is valid, where there is one
+bytes_where : (o : Option (List ℕ)) → IfSome o IsValid → Bytes (unwrap_or o [])
+bytes_where None valid = none
+bytes_where (Some vector) valid = valid.bytes
+
 pub bytes_vector_for : (kind : KeyType) (size : ℕ) → Bytes (vector_for kind size)
-bytes_vector_for kind size = by_default (default_vector kind size) (default_valid kind size)
-  where
-    by_default : (o : Option (List ℕ)) → IfSome o IsValid → Bytes (unwrap_or o [])
-    by_default None valid = none
-    by_default (Some vector) valid = valid.bytes
+bytes_vector_for kind size = bytes_where (default_vector kind size) (default_valid kind size)
+
+pub bytes_generated : (kind : KeyType) (key_length : Length) → Bytes (generated_vector kind key_length)
+bytes_generated kind key_length = bytes_where (default_for kind key_length) (default_for_valid kind key_length)
 
 -- ---- tokens
 

@@ -119,7 +119,7 @@ module _ (points : ℕ) (P : Masters → Type 0)
   over_steps s random lines now each =
       over_lines (λ (t : State). P t.registers) (HoldsNone points)
       (λ t drawn r here lacks permits.
-      by_effect t (effect t drawn r.name r) (needed_points r.name r) (lacks_them points t r lacks permits) here (becomes t drawn r.name r (permitted t r permits).verb))
+      by_effect t (effect t drawn r.name r) (needed_points r.name r) (lacks_them points t drawn r lacks permits) here (becomes t drawn r.name r (permitted t drawn r permits).verb))
       s random lines now each
 
 -- ---- the three duties

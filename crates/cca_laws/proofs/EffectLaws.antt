@@ -89,5 +89,5 @@ module _ (s : State) (drawn : List ℕ) where
   fits_named _ r ops verb = tt
 
   -- the effect of a permitted request
-  pub effect_fits : (r : Request) → verdict s r ≡ None → Fits s r.name r (effect s drawn r.name r)
-  effect_fits r permits = let p = permitted s r permits in fits_named r.name r p.operands p.verb
+  pub effect_fits : (r : Request) → verdict s drawn r ≡ None → Fits s r.name r (effect s drawn r.name r)
+  effect_fits r permits = let p = permitted s drawn r permits in fits_named r.name r p.operands p.verb

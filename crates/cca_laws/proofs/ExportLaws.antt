@@ -387,12 +387,12 @@ stored s _ label key is there_ has = absurd there_
 
 -- ---- the law
 
-pub stays_unexportable : (s : State) (image drawn vector : List ℕ) (r : Request) → IsStoreOf s image → verdict s r ≡ None → passed_vector s r ≡ Some vector
+pub stays_unexportable : (s : State) (image drawn vector : List ℕ) (r : Request) → IsStoreOf s image → verdict s drawn r ≡ None → passed_vector s r ≡ Some vector
     → is_exportable vector ≡ false
     → StaysUnexportable r (performed s drawn r)
 unfolding performed
 stays_unexportable s image drawn vector r stands permits is off =
-    let p = permitted s r permits in
+    let p = permitted s drawn r permits in
     let e : Effect = effect s drawn r.name r in
     let shut : IsClosed (effect s drawn r.name r) = closed s image drawn stands r r.name vector p.operands p.verb p.master is off in
     subst (λ (v : Option Refusal). StaysUnexportable r (or_act v s drawn r)) (sym permits)

@@ -145,16 +145,16 @@ ageless s drawn l csnbmkp_set r keeps = cc keeps
 ageless s drawn l reencipher r keeps = cc keeps
 ageless s drawn l _ r keeps = tt
 
-by_performed : (P : State → Type 0) (s : State) (drawn : List ℕ) (r : Request) → P s → (verdict s r ≡ None → P (after s drawn r)) → P (performed s drawn r).state
+by_performed : (P : State → Type 0) (s : State) (drawn : List ℕ) (r : Request) → P s → (verdict s drawn r ≡ None → P (after s drawn r)) → P (performed s drawn r).state
 unfolding performed
-by_performed P s drawn r before next = by_verdict (verdict s r) refl
+by_performed P s drawn r before next = by_verdict (verdict s drawn r) refl
   where
-    by_verdict : (v : Option Refusal) → verdict s r ≡ v → P (or_act v s drawn r).state
+    by_verdict : (v : Option Refusal) → verdict s drawn r ≡ v → P (or_act v s drawn r).state
     by_verdict (Some refusal) is = before
     by_verdict None is = next is
 
 module _ (s : State) (drawn label : List ℕ) (r : Request) where
-  held_after : (cell : ℕ) → Spares label r → cell_with s label ≡ Some cell → verdict s r ≡ None → Alike label SameClear s.labels (after s drawn r).labels
+  held_after : (cell : ℕ) → Spares label r → cell_with s label ≡ Some cell → verdict s drawn r ≡ None → Alike label SameClear s.labels (after s drawn r).labels
   held_after cell spared held permits =
       let fits = effect_fits s drawn r permits in
       clear_alike s label r.name r (effect s drawn r.name r) fits (held_elsewhere s label cell r.name r held spared (effect s drawn r.name r) fits)
@@ -238,13 +238,13 @@ set_passes s r name is none =
     let at : first_refusal (verb_questions s csnbmkp_set r) ≡ None = subst (λ (n : RequestName). first_refusal (verb_questions s n r) ≡ None) is none in
     third_passed _ _ (any_old s.labels) 25 26 27 (refused_none _ _ _ at).0
 
-pub set_waits : (s : State) (label : List ℕ) (r : Request) (key : Denoted) → key_of_label s label ≡ Some key → key.age ≡ Old → r.name ≡ csnbmkp_set
-    → IsSome (verdict s r)
+pub set_waits : (s : State) (random label : List ℕ) (r : Request) (key : Denoted) → key_of_label s label ≡ Some key → key.age ≡ Old → r.name ≡ csnbmkp_set
+    → IsSome (verdict s random r)
 unfolding cell_of
-set_waits s label r key is old set = by_verdict (verdict s r) refl
+set_waits s random label r key is old set = by_verdict (verdict s random r) refl
   where
-    by_verdict : (v : Option Refusal) → verdict s r ≡ v → IsSome v
+    by_verdict : (v : Option Refusal) → verdict s random r ≡ v → IsSome v
     by_verdict (Some refusal) permits = refl
     by_verdict None permits =
-        let none : any_old s.labels ≡ false = set_passes s r r.name set (permitted s r permits).verb in
+        let none : any_old s.labels ≡ false = set_passes s r r.name set (permitted s random r permits).verb in
         absurd (true≢false (sym (old_there label s.labels key (sym (key_is label s.labels) ∙ is) old) ∙ none))

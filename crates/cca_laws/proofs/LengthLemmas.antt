@@ -1,6 +1,6 @@
 -- How long lists of bytes are at most: digits, texts that are enciphered and deciphered, control vectors and key tokens.
-use Rattle.std.proofs.Common.{◌≡◌, ℕ, zero, suc, ◌+◌, ◌-◌, ◌*◌, ◌/◌, ◌%◌, ◌<◌, ◌≤◌, ◌==◌, Bool, true, false, List, [], ◌∷◌, ◌++◌, length, take, replicate, Option, None, Some, Result, Ok, Err, refl, ap, arith, decimal, option_map, unwrap_or, bit_xor, slice_index, length-append, length-set, length-take}
-use Rattle.std.specs.Prelude.{if◌then◌else◌}
+use Rattle.std.proofs.Common.{◌≡◌, ℕ, zero, suc, ◌+◌, ◌-◌, ◌*◌, ◌/◌, ◌%◌, ◌<◌, ◌≤◌, ◌==◌, Bool, true, false, List, [], ◌∷◌, ◌++◌, length, take, replicate, Option, None, Some, Result, Ok, Err, refl, ap, arith, decimal, unwrap_or, bit_xor, slice_index, length-append, length-set, length-take}
+use Rattle.std.specs.Prelude.{IfSome, if◌then◌else◌}
 use Rattle.std.specs.Fmt.{digits, digits_onto, digit_glyph}
 use Rattle.std.specs.Int.{to_be_bytes, w32}
 use Rattle.std.specs.Result.{result_unwrap_or}
@@ -10,12 +10,13 @@ use Rattle.hex.specs.declared.error.FromHexError.{FromHexError}
 use Rattle.hex.proofs.HexLemmas.{decode_of-ok}
 use Rattle.byte_lists.specs.Bytes.{is_zero, xor}
 use Rattle.cca_vectors.specs.Closing.{closed_half, closed_to_export, closed_zero}
-use Rattle.cca_vectors.specs.DefaultVectors.{double_default, single_default, vector_with}
+use Rattle.cca_vectors.specs.DefaultVectors.{default_for}
 use Rattle.cca_vectors.specs.PartVectors.{as_part, part_half, with_bit_changed}
 use Rattle.cca_vectors.specs.Permissions.{is_exportable}
-use Rattle.cca_vectors.specs.Vectors.{left_of, length_of, right_of}
+use Rattle.cca_vectors.specs.Vectors.{IsValid, left_of, length_of, right_of}
+use Rattle.cca_vectors.specs.declared.key_length.Length.{Length}
 use Rattle.cca_vectors.specs.declared.key_type.KeyType.{KeyType}
-use Rattle.cca_vectors.specs.declared.key_type.KeyType.TheVariants.{Data}
+use Rattle.cca_vectors.proofs.DefaultLemmas.{default_for_valid}
 use Rattle.des_core.specs.Modes.{added, blocks, cbc, e, joined, last_block, pad, uncbc, une, unpad, is_padded, pad_count}
 use Rattle.des_core.specs.Texts.{cbc_text, uncbc_text}
 use Rattle.des_core.proofs.BitLemmas.{length-pieces}
@@ -32,7 +33,7 @@ use Rattle.verb_rules.specs.Keys.{keys_of, master_key, master_under, sealed_toke
 use Rattle.verb_rules.specs.declared.lengths.MacRule.{MacRule}
 use Rattle.verb_rules.specs.declared.lengths.MacRule.TheVariants.{X99, X919}
 use Rattle.verb_script.specs.Values.{hex_value}
-use Rattle.key_transport.specs.Generated.{vector_for}
+use Rattle.key_transport.specs.Generated.{generated_vector}
 use Rattle.key_transport.specs.Tokens.{as_current, changed_token, external_token, full_bytes, new_token}
 use Rattle.key_transport.specs.declared.changing.Target.{Target}
 use Rattle.key_transport.specs.declared.changing.Target.TheVariants.{Current, New}
@@ -229,22 +230,13 @@ part_short vector =
       length-slice_range_le vector 8 16,
     )
 
-double_short : (kind : KeyType) → length (unwrap_or (double_default kind) []) ≤ 16
-double_short Data = omega arith
-double_short _ = omega arith
+-- a vector that is valid, where there is one
+valid_short : (o : Option (List ℕ)) → IfSome o IsValid → length (unwrap_or o []) ≤ 16
+valid_short None valid = omega arith
+valid_short (Some vector) valid = omega (arith, valid.whole)
 
-pub vector_short : (kind : KeyType) (size : ℕ) → length (vector_for kind size) ≤ 16
-vector_short kind size = by_tests (size == 8) (size == 16)
-  where
-    single : (o : Option ℕ) → length (unwrap_or (option_map (λ left. vector_with left 0) o) []) ≤ 16
-    single None = omega arith
-    single (Some left) = omega arith
-
-    by_tests : (one two : Bool)
-        → length (unwrap_or (if one then option_map (λ left. vector_with left 0) (single_default kind) else if two then double_default kind else None) []) ≤ 16
-    by_tests true two = single (single_default kind)
-    by_tests false true = double_short kind
-    by_tests false false = omega arith
+pub vector_short : (kind : KeyType) (key_length : Length) → length (generated_vector kind key_length) ≤ 16
+vector_short kind key_length = valid_short (default_for kind key_length) (default_for_valid kind key_length)
 
 -- ---- key tokens
 

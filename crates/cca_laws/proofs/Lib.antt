@@ -4,6 +4,7 @@ pub mod CleanLaws
 pub mod DiskLaws
 pub mod EffectLaws
 pub mod ExportLaws
+pub mod HalfLaws
 pub mod LabelLaws
 pub mod LabelLists
 pub mod LengthLemmas

@@ -114,10 +114,10 @@ module _ (s : State) (w : Move) (p : IsPermittedMove s w) where
         ∙ transport_passes
 
     -- it is refused by the rule that keeps the label back
-    pub refused_as_kept : verdict s (export_request w label)
+    pub refused_as_kept : (random : List ℕ) → verdict s random (export_request w label)
         ≡ option_map (λ rule. refusal rule (codes "key")) (first_failing (export_checks (key_of_label s label)))
-    refused_as_kept =
-        verdict_is s (export_request w label) (or_refused (first_failing (export_checks (key_of_label s label))) (codes "key") None)
+    refused_as_kept random =
+        verdict_is s random (export_request w label) (or_refused (first_failing (export_checks (key_of_label s label))) (codes "key") None) refl
         (fewer_points (points_of w.role s.roles) (is_none s.registers.current) role_passes)
         (key_alone _ _ _ key_is transport_is)
         ∙ refused_is (first_failing (export_checks (key_of_label s label)))
@@ -141,8 +141,8 @@ module _ (s : State) (w : Move) (p : IsPermittedMove s w) where
   unfolding performed
   replied drawn label moved =
       let free : first_failing (export_checks (key_of_label s label)) ≡ None = moved_checks (bytes_eq label w.transport_there) _ moved.free in
-      let permitted : verdict s (export_request w label) ≡ None =
-      refused_as_kept label moved.cell moved.held ∙ ap (option_map (λ rule. refusal rule (codes "key"))) free in
+      let permitted : verdict s drawn (export_request w label) ≡ None =
+      refused_as_kept label moved.cell moved.held drawn ∙ ap (option_map (λ rule. refusal rule (codes "key"))) free in
       ap (λ (v : Option Refusal). (or_act v s drawn (export_request w label)).reply) permitted
       ∙ ap (λ bytes. Done (Hex (codes "token") bytes ∷ warning (any_old s (listed (operands (export_request w label))))))
       (token_is label moved.cell moved.held)

@@ -43,13 +43,15 @@ use Rattle.verb_script.specs.Grammar.{Request, csnbkim, csnbkrc}
 use Rattle.verb_script.specs.Named.{label_named}
 use Rattle.verb_script.specs.Requests.{request_of}
 use Rattle.verb_script.specs.Values.{hex_value}
-use Rattle.cca_machine.specs.Act.{delivered_with, draws, or_act, performed, state_after, written_in}
+use Rattle.cca_machine.specs.Act.{delivered_with, or_act, performed, state_after, written_in}
 use Rattle.cca_machine.specs.Keys.{cell_with, imported, key_in_field, key_named, key_of_label, or_no_clear, or_no_key, what_at}
-use Rattle.cca_machine.specs.Lines.{drawn_where, line_outcome}
+use Rattle.cca_machine.specs.Draws.{draws_random}
+use Rattle.cca_machine.specs.Lines.{line_outcome, taken_by}
 use Rattle.cca_machine.specs.Operands.{every_class, external_key, transport_key}
 use Rattle.cca_machine.specs.Points.{point}
 use Rattle.cca_machine.specs.State.{State}
 use Rattle.cca_machine.specs.Verdict.{Refusal, bytes_in, first_refusal, general_checks, held_points, key_questions, lacks, needed_points, operands_verdict, or_refused, or_then, points_for, questions, record_checks, target_checks, verb_verdict, verdict}
+use Rattle.cca_machine.proofs.DrawLaws.{undrawing_takes, verdict_undrawing}
 use Rattle.cca_machine.proofs.LineLaws.{line-request}
 use Rattle.move_file.specs.Moves.{clear_of, create_line, import_line, token_of_label}
 use Rattle.move_file.specs.declared.moves.Move.{Move}
@@ -76,31 +78,29 @@ pub record IsReady (w : Move) (t u : State) : Type 0 where
 
 -- ---- a line that draws no random byte
 
-nothing_drawn : (v : Option Refusal) → drawn_where v 0 ≡ 0
-nothing_drawn None = refl
-nothing_drawn (Some r) = refl
-
 drop_none : (n : ℕ) (random : List ℕ) → n ≡ 0 → drop n random ≡ random
 drop_none n random is = ap (λ k. drop k random) is
 
 -- the state after it, by the verdict
 line_leaves : (u : State) (random line : List ℕ) (r : Request) (v : Option Refusal) (after : State) → length line ≤ line_limit → request_of line ≡ Some r
-    → draws r.name r ≡ 0 → verdict u r ≡ v → ((drawn : List ℕ) → (or_act v u drawn r).state ≡ after)
+    → draws_random r ≡ false → ((drawn : List ℕ) → verdict u drawn r ≡ v) → ((drawn : List ℕ) → (or_act v u drawn r).state ≡ after)
     → ((line_outcome u random line).state ≡ after) × ((line_outcome u random line).random ≡ random)
 unfolding performed
 line_leaves u random line r v after short spelled draws_none is leaves =
     let whole = line-request u random line r short spelled in
-    let count : ℕ = drawn_where (verdict u r) (draws r.name r) in
-    let none : count ≡ 0 = ap (drawn_where (verdict u r)) draws_none ∙ nothing_drawn (verdict u r) in (
-      ap (λ o. o.state) whole ∙ (ap (λ (x : Option Refusal). (or_act x u (take count random) r).state) is ∙ leaves (take count random)),
-      ap (λ o. o.random) whole ∙ drop_none count random none,
+    let count : ℕ = taken_by u random r in
+    let drawn : List ℕ = take count random in (
+      ap (λ o. o.state) whole ∙ (ap (λ (x : Option Refusal). (or_act x u drawn r).state) (is drawn) ∙ leaves drawn),
+      ap (λ o. o.random) whole ∙ drop_none count random (undrawing_takes u random r draws_none),
     )
 
--- the verdict, where the rules of the request as a whole pass
-pub verdict_is : (u : State) (r : Request) (o : Option Refusal) → first_failing (general_checks u r) ≡ None → operands_verdict u r ≡ o → verdict u r ≡ or_then o (verb_verdict u r)
-verdict_is u r o general operands_are =
-    ap (λ (f : Option ℕ). or_refused f (codes "-") (or_then (operands_verdict u r) (verb_verdict u r))) general
-    ∙ ap (λ (x : Option Refusal). or_then x (verb_verdict u r)) operands_are
+-- its verdict, where the rules of the request as a whole pass
+pub verdict_is : (u : State) (random : List ℕ) (r : Request) (o : Option Refusal) → draws_random r ≡ false → first_failing (general_checks u r) ≡ None
+    → operands_verdict u r ≡ o → verdict u random r ≡ or_then o (verb_verdict u r)
+verdict_is u random r o draws_none general operands_are =
+    verdict_undrawing u random r draws_none
+    ∙ (ap (λ (f : Option ℕ). or_refused f (codes "-") (or_then (operands_verdict u r) (verb_verdict u r))) general
+    ∙ ap (λ (x : Option Refusal). or_then x (verb_verdict u r)) operands_are)
 
 -- the rules of the request as a whole
 general_passes : (h : Option ℕ) (held needed : ℕ) (empty : Bool) → h ≡ Some held → includes held needed ≡ true → empty ≡ false
@@ -206,7 +206,7 @@ module _ (w : Move) (t u : State) (random label : List ℕ) (role : IsRoleName w
       let known : Bool = is_some (cell_with u label) in
       line_leaves u random (create_line w label) creation (create_refusal full known) (record u { labels = after_create label u.labels })
       (create_line_short w role transport label well) (create_line_is w role transport label well) refl
-      (verdict_is u creation None create_general create_operands)
+      (λ drawn. verdict_is u drawn creation None refl create_general create_operands)
       (create_leaves full known)
 
   -- ---- CSNBKIM
@@ -285,7 +285,7 @@ module _ (w : Move) (t u : State) (random label : List ℕ) (role : IsRoleName w
         (record u { labels = after_import label (as_current clear) u.labels })
         (import_line_short w role transport label well token (out_long under clear whole) (out_fits under clear whole))
         (import_line_is w role transport label well token (out_long under clear whole) (out_fits under clear whole)) refl
-        (verdict_is u importing (target_refusal (cell_with u label)) import_general import_operands)
+        (λ drawn. verdict_is u drawn importing (target_refusal (cell_with u label)) refl import_general import_operands)
         (import_leaves (cell_with u label) refl)
 
 -- ---- a label that is moved

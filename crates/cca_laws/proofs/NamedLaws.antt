@@ -38,12 +38,19 @@ use Rattle.cca_machine.specs.Keys.{any_old, cell_with, imported, is_old, is_old_
 use Rattle.cca_machine.specs.Operands.{Operand, five_classes, internal_key, listed, operands, operands_of}
 use Rattle.cca_vectors.specs.declared.key_class.Class.TheVariants.{Data, Cipher, Mac}
 use Rattle.cca_vectors.specs.declared.key_usage.Usage.TheVariants.{Encipher, Decipher, MacGenerate, MacVerify}
+use Rattle.cca_machine.specs.Draws.{draw_of, length_in}
 use Rattle.cca_machine.specs.State.{State}
-use Rattle.cca_machine.specs.Verdict.{Refusal, Questions, chain_in, chain_questions, code_key_questions, code_rule, further_part_questions, last_segment_questions, last_text_questions, middle_questions, part_in, part_size, segment_questions, action_questions, bytes_in, change_questions, decipher_questions, first_refusal, general_checks, held_checks, held_points, key_questions, label_check, lacks, mac_questions, needed_points, needs_master, operand_checks, operand_questions, or_refused, or_then, questions, record_checks, target_checks, text_size, verb_questions, verdict}
+use Rattle.cca_machine.specs.Verdict.{Refusal, Questions, chain_in, chain_questions, code_key_questions, code_rule, further_part_questions, last_segment_questions, last_text_questions, middle_questions, part_in, part_size, segment_questions, action_questions, bytes_in, change_questions, decipher_questions, draw_verdict, first_refusal, general_checks, held_checks, held_points, key_questions, label_check, lacks, mac_questions, needed_points, needs_master, operand_checks, operand_questions, or_last, or_refused, or_then, questions, record_checks, target_checks, text_size, verb_questions, verdict, whole_verb_verdict}
 use Rattle.cca_machine.specs.declared.asking.Ask.{Ask}
 use Rattle.cca_machine.specs.declared.asking.Ask.TheVariants.{AnyToken, Key, Token, External, Record, Held, NewLabel, Target as GoesTo, Nothing}
 use Rattle.cca_laws.specs.MasterBytes.{asks_by_name, asks_new_key, is_new, uses_text_key, with_new}
 use Rattle.cca_laws.specs.NamedLabels.{SameLabel, SameNamed, is_of_store, label_of}
+
+-- the verdict, by the rules that are asked of the operands and those of the verb
+abbrev by_questions : State → List ℕ → Request → List Questions → List Questions → Option Refusal
+by_questions s random r operand verb =
+    or_refused (first_failing (general_checks s r)) (codes "-")
+    (or_then (first_refusal operand) (or_last (first_refusal verb) (draw_verdict (draw_of r.name r) random)))
 
 -- ---- how full the new register is
 
@@ -215,10 +222,10 @@ module _ (s : State) (new : NewRegister) (others : List (Option Entry)) (same_st
   verb_same csnbmkp_set r elsewhere known = cc elsewhere
   verb_same _ r elsewhere known = refl
 
-  pub verdict_same : (r : Request) → SameNamed s with_others (listed (operands r)) → verb_questions with_others r.name r ≡ verb_questions s r.name r
-      → verdict with_others r ≡ verdict s r
-  verdict_same r known verbs =
-      ap₂ (λ (ops verb : List Questions). or_refused (first_failing (general_checks s r)) (codes "-") (or_then (first_refusal ops) (first_refusal verb)))
+  pub verdict_same : (drawn : List ℕ) (r : Request) → SameNamed s with_others (listed (operands r)) → verb_questions with_others r.name r ≡ verb_questions s r.name r
+      → verdict with_others drawn r ≡ verdict s drawn r
+  verdict_same drawn r known verbs =
+      ap₂ (λ (operand verb : List Questions). by_questions s drawn r operand verb)
       (questions_same (listed (operands r)) known) verbs
 
   -- ---- the fields of the reply
@@ -292,11 +299,11 @@ module _ (s : State) (new : NewRegister) (others : List (Option Entry)) (same_st
   fields_same drawn csnbkgn_op r elsewhere known keys = delivered_same _ (label_named (value_of r (codes "to"))) _ _
   fields_same drawn csnbkgn_pair r elsewhere known keys =
       delivered_same _ (label_named (value_of r (codes "to"))) _ _
-      ∙ ap (λ (key : ClearKey). fields_after s (delivered_with s (codes "token1") (label_named (value_of r (codes "to"))) (as_current (generated_key (type1_of r) drawn))
-      (Hex (codes "token2") (external_token key.key (generated_key (type2_of r) drawn)) ∷ [])))
+      ∙ ap (λ (key : ClearKey). fields_after s (delivered_with s (codes "token1") (label_named (value_of r (codes "to"))) (as_current (generated_key (type1_of r) (length_in r) drawn))
+      (Hex (codes "token2") (external_token key.key (generated_key (type2_of r) (length_in r) drawn)) ∷ [])))
       (field_same r (codes "transport2") known.0)
   fields_same drawn csnbkgn_out r elsewhere known keys =
-      ap₂ (λ (one two : ClearKey). let fs : List Field = Hex (codes "token1") (external_token one.key (generated_key (type1_of r) drawn)) ∷ Hex (codes "token2") (external_token two.key (generated_key (type2_of r) drawn)) ∷ [] in fs)
+      ap₂ (λ (one two : ClearKey). let fs : List Field = Hex (codes "token1") (external_token one.key (generated_key (type1_of r) (length_in r) drawn)) ∷ Hex (codes "token2") (external_token two.key (generated_key (type2_of r) (length_in r) drawn)) ∷ [] in fs)
       (field_same r (codes "transport1") known.0) (field_same r (codes "transport2") known.1.0)
   fields_same drawn csnbkim r elsewhere known keys =
       delivered_same _ (label_named (value_of r (codes "to"))) _ _
@@ -337,8 +344,8 @@ module _ (s : State) (new : NewRegister) (others : List (Option Entry)) (same_st
       → fields_of with_others drawn r.name r ≡ fields_of s drawn r.name r → (performed with_others drawn r).reply ≡ (performed s drawn r).reply
   unfolding performed
   replies_same drawn r known verbs fields =
-      ap (λ (v : Option Refusal). (or_act v with_others drawn r).reply) (verdict_same r known verbs)
-      ∙ reply_by drawn r (verdict s r) fields (any_same (listed (operands r)) known)
+      ap (λ (v : Option Refusal). (or_act v with_others drawn r).reply) (verdict_same drawn r known verbs)
+      ∙ reply_by drawn r (verdict s drawn r) fields (any_same (listed (operands r)) known)
 
 -- ---- other labels
 
@@ -524,11 +531,11 @@ module _ (s : State) (m : Masters) (same : is_none m.current ≡ is_none s.regis
     text_old csnbkyt uses = ap (λ (key : Option Denoted). is_old key || false) (labelled_key (value_of r (codes "key")) label named)
     text_old _ uses = cc uses
 
-    text_verdict : uses_text_key r.name ≡ true → verdict with_masters r ≡ verdict s r
+    text_verdict : uses_text_key r.name ≡ true → verdict with_masters drawn r ≡ verdict s drawn r
     text_verdict uses =
         ap (λ (empty : Bool). or_refused (first_failing (general_by r empty)) (codes "-")
-        (or_then (first_refusal (operand_questions with_masters (listed (operands r)))) (first_refusal (verb_questions with_masters r.name r)))) same
-        ∙ ap₂ (λ (ops verb : List Questions). or_refused (first_failing (general_checks s r)) (codes "-") (or_then (first_refusal ops) (first_refusal verb)))
+        (or_then (first_refusal (operand_questions with_masters (listed (operands r)))) (whole_verb_verdict with_masters drawn r))) same
+        ∙ ap₂ (λ (operand verb : List Questions). by_questions s drawn r operand verb)
         (text_operands r.name uses) (text_verb r.name uses)
 
     text_by : (v : Option Refusal) → uses_text_key r.name ≡ true → (or_act v with_masters drawn r).reply ≡ (or_act v s drawn r).reply
@@ -537,7 +544,7 @@ module _ (s : State) (m : Masters) (same : is_none m.current ≡ is_none s.regis
 
     labelled_reply : uses_text_key r.name ≡ true → (performed with_masters drawn r).reply ≡ (performed s drawn r).reply
     unfolding performed
-    labelled_reply uses = ap (λ (v : Option Refusal). (or_act v with_masters drawn r).reply) (text_verdict uses) ∙ text_by (verdict s r) uses
+    labelled_reply uses = ap (λ (v : Option Refusal). (or_act v with_masters drawn r).reply) (text_verdict uses) ∙ text_by (verdict s drawn r) uses
 
 pub same_by_label : (s : State) (m : Masters) (drawn label : List ℕ) (r : Request) → uses_text_key r.name ≡ true → label_named (value_of r (codes "key")) ≡ Some label
     → is_none m.current ≡ is_none s.registers.current → (performed (record s { registers = m }) drawn r).reply ≡ (performed s drawn r).reply

@@ -44,7 +44,7 @@ use Rattle.cca_machine.specs.Choices.{is_last_part, or_data, type_in}
 use Rattle.cca_machine.specs.Keys.{cell_with, key_named, key_of_label, key_of_request, or_no_key, what_at, what_in}
 use Rattle.cca_machine.specs.Operands.{Operand}
 use Rattle.cca_machine.specs.State.{State}
-use Rattle.cca_machine.specs.Verdict.{Refusal, first_refusal, held_checks, key_questions, operand_checks, operand_questions, operands_verdict, or_refused, or_then, refusal, target_checks, verb_verdict, verdict}
+use Rattle.cca_machine.specs.Verdict.{Refusal, first_refusal, held_checks, key_questions, operand_checks, operand_questions, operands_verdict, or_refused, or_then, refusal, target_checks, verdict, whole_verb_verdict}
 use Rattle.cca_machine.specs.declared.asking.Ask.{Ask}
 use Rattle.cca_laws.specs.KeyInParts.{AreCarriedOut, AsksWhole, BroughtIn, Custodian, IsPermitted, IsReached, SameRecord, by_label, bytes_of, first_request, further_request, parts_of, size_of}
 use Rattle.cca_laws.proofs.LabelLists.{Alike, Same, alike_set, key_is, keys_compare, label_kept, name_of_entry, place_other}
@@ -151,7 +151,7 @@ part_bytes digits is = by_first (is_hex 16 digits) refl
 
 -- ---- one request
 
-done : (s : State) (r : Request) → verdict s r ≡ None → (performed s [] r).state ≡ after s [] r
+done : (s : State) (r : Request) → verdict s [] r ≡ None → (performed s [] r).state ≡ after s [] r
 unfolding performed
 done s r is = ap (λ (v : Option Refusal). (or_act v s [] r).state) is
 
@@ -174,7 +174,7 @@ record IsBegun (s : State) (label : List ℕ) (kind : KeyType) (c : Custodian) :
 begun : (s : State) (label : List ℕ) (kind : KeyType) (c : Custodian) → IsPermitted s (first_request label kind c) → IsBegun s label kind c
 begun s label kind c is =
     let r : Request = first_request label kind c in
-    let p = permitted s r is.permitted in
+    let p = permitted s [] r is.permitted in
     let names : label_named (by_label label) ≡ Some label = named label is.spelled.1.1.1.1.0 in
     let ops = (refused_none (first_failing (target_checks s (label_named (by_label label)))) (codes "to") _ p.operands).0 in
     let there : Stands s label = stands s label (sym (ap (λ (o : Option (List ℕ)). first_failing (target_checks s o)) names) ∙ ops) in
@@ -201,7 +201,7 @@ module _ (s : State) (label : List ℕ) (cell : ℕ) (held : cell_with s label �
   combined rule clear c long is =
       let t : State = with_key s cell (as_current clear) in
       let r : Request = further_request label rule c in
-      let p = permitted t r is.permitted in
+      let p = permitted t [] r is.permitted in
       let found : key_of_request t r ≡ clear =
       ap (λ (o : Option (List ℕ)). (or_no_key (key_named t o (by_label label))).clear) names ∙ ap (λ (k : Option Denoted). (or_no_key k).clear) (key_found s label cell held (as_current clear)) in
       let verb = (refused_none (first_failing (check 32 (not (length c.part / 2 == length_of (key_of_request t r).vector)) ∷ [])) (codes "part") _ p.verb).0 in
@@ -308,12 +308,12 @@ reached t (p ∷ ps) after_ o rule earlier fails =
     let both = refused_none (first_failing (operand_checks t p.text p.ask)) p.name (first_refusal (operand_questions t ps)) earlier in
     ap (λ (f : Option ℕ). or_refused f p.name (first_refusal (operand_questions t (ps ++ o ∷ after_)))) both.0 ∙ reached t ps after_ o rule both.1 fails
 
-operand_refused : (t : State) (r : Request) (o : Operand) (rule : ℕ) → IsReached t r o → first_failing (operand_checks t o.text o.ask) ≡ Some rule
-    → verdict t r ≡ Some (refusal rule o.name)
-operand_refused t r o rule is fails =
-    ap (λ (f : Option ℕ). or_refused f (codes "-") (or_then (operands_verdict t r) (verb_verdict t r))) is.general
-    ∙ (ap (λ (os : List Operand). or_then (first_refusal (operand_questions t os)) (verb_verdict t r)) is.among
-    ∙ ap (λ (v : Option Refusal). or_then v (verb_verdict t r)) (reached t is.before is.after o rule is.earlier fails))
+operand_refused : (t : State) (random : List ℕ) (r : Request) (o : Operand) (rule : ℕ) → IsReached t r o → first_failing (operand_checks t o.text o.ask) ≡ Some rule
+    → verdict t random r ≡ Some (refusal rule o.name)
+operand_refused t random r o rule is fails =
+    ap (λ (f : Option ℕ). or_refused f (codes "-") (or_then (operands_verdict t r) (whole_verb_verdict t random r))) is.general
+    ∙ (ap (λ (os : List Operand). or_then (first_refusal (operand_questions t os)) (whole_verb_verdict t random r)) is.among
+    ∙ ap (λ (v : Option Refusal). or_then v (whole_verb_verdict t random r)) (reached t is.before is.after o rule is.earlier fails))
 
 -- ---- the law
 
@@ -341,13 +341,14 @@ module _ (s : State) (label : List ℕ) (kind : KeyType) (b : BroughtIn label ki
   pub still_part : (key : Denoted) × (key_of_label b.before_last label ≡ Some key) × (is_part_of key.clear.vector ≡ true)
   still_part = let m = made s label kind b in (as_current m.part, found_part m, m.is_part)
 
-  pub part_refused : (r : Request) (o : Operand) → IsReached b.before_last r o → AsksWhole label o → verdict b.before_last r ≡ Some (refusal 17 o.name)
-  part_refused r o is asks =
+  pub part_refused : (random : List ℕ) (r : Request) (o : Operand) → IsReached b.before_last r o → AsksWhole label o
+      → verdict b.before_last random r ≡ Some (refusal 17 o.name)
+  part_refused random r o is asks =
       let m = made s label kind b in
       let t : State = b.before_last in
       let held : cell_with t label ≡ Some m.label_.cell =
       ap (λ (x : State). cell_with x label) m.before ∙ (cells_stay s label m.label_.cell m.label_.held (as_current m.part) label ∙ m.label_.held) in
-      operand_refused t r o 17 is
+      operand_refused t random r o 17 is
       (ap (λ (a : Ask). first_failing (operand_checks t o.text a)) asks.asks
       ∙ (ap (λ text. first_failing (key_questions t asks.need (label_named text) text)) asks.text
       ∙ (ap (λ (l : Option (List ℕ)). first_failing (key_questions t asks.need l (by_label label))) m.names

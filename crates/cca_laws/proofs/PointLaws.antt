@@ -26,20 +26,21 @@ use Rattle.cca_laws.proofs.LineCases.{Always, after, always, over_lines, permitt
 
 -- ---- the refusals
 
-unheld : (s : State) (r : Request) → held_points s r ≡ None → verdict s r ≡ Some (refusal 3 (codes "-"))
-unheld s r none = rw none refl
+unheld : (s : State) (random : List ℕ) (r : Request) → held_points s r ≡ None → verdict s random r ≡ Some (refusal 3 (codes "-"))
+unheld s random r none = rw none refl
 
-lacking_one : (s : State) (r : Request) (held : ℕ) → held_points s r ≡ Some held → includes held (needed_points r.name r) ≡ false → verdict s r ≡ Some (refusal 4 (codes "-"))
-lacking_one s r held is lacking = rw (is, lacking) refl
+lacking_one : (s : State) (random : List ℕ) (r : Request) (held : ℕ) → held_points s r ≡ Some held → includes held (needed_points r.name r) ≡ false
+    → verdict s random r ≡ Some (refusal 4 (codes "-"))
+lacking_one s random r held is lacking = rw (is, lacking) refl
 
 pub no_role : (s : State) (drawn : List ℕ) (r : Request) → held_points s r ≡ None → performed s drawn r ≡ refused s (refusal 3 (codes "-"))
 unfolding performed
-no_role s drawn r none = ap (λ (v : Option Refusal). or_act v s drawn r) (unheld s r none)
+no_role s drawn r none = ap (λ (v : Option Refusal). or_act v s drawn r) (unheld s drawn r none)
 
 pub no_point : (s : State) (drawn : List ℕ) (r : Request) (held : ℕ) → held_points s r ≡ Some held → includes held (needed_points r.name r) ≡ false
     → performed s drawn r ≡ refused s (refusal 4 (codes "-"))
 unfolding performed
-no_point s drawn r held is lacking = ap (λ (v : Option Refusal). or_act v s drawn r) (lacking_one s r held is lacking)
+no_point s drawn r held is lacking = ap (λ (v : Option Refusal). or_act v s drawn r) (lacking_one s drawn r held is lacking)
 
 -- ---- the points that an effect needs
 
@@ -144,34 +145,35 @@ labels_need s drawn _ r = tt
 -- ---- what stays
 
 -- a role that holds none of some points lacks those that a permitted request needs
-pub lacks_them : (points : ℕ) (s : State) (r : Request) → HoldsNone points s r → verdict s r ≡ None → bit_and (needed_points r.name r) points ≡ 0
-lacks_them points s r none permits =
-    let p = permitted s r permits in shares_none p.held (needed_points r.name r) points p.points (none p.held p.role)
+pub lacks_them : (points : ℕ) (s : State) (random : List ℕ) (r : Request) → HoldsNone points s r → verdict s random r ≡ None
+    → bit_and (needed_points r.name r) points ≡ 0
+lacks_them points s random r none permits =
+    let p = permitted s random r permits in shares_none p.held (needed_points r.name r) points p.points (none p.held p.role)
 
-pub roles_stay : (s : State) (drawn : List ℕ) (r : Request) → HoldsNone role_point s r → verdict s r ≡ None → (after s drawn r).roles ≡ s.roles
+pub roles_stay : (s : State) (drawn : List ℕ) (r : Request) → HoldsNone role_point s r → verdict s drawn r ≡ None → (after s drawn r).roles ≡ s.roles
 roles_stay s drawn r none permits = by_effect (effect s drawn r.name r) (roles_need s drawn r.name r)
   where
     refuses : Needs (needed_points r.name r) role_point → ⊥
-    refuses = never (needed_points r.name r) role_point (lacks_them role_point s r none permits)
+    refuses = never (needed_points r.name r) role_point (lacks_them role_point s drawn r none permits)
 
     by_effect : (e : Effect) → RolesNeed e (needed_points r.name r) → (after_effect s e).roles ≡ s.roles
     by_effect (DefineRole name points) needs = absurd (refuses needs)
     by_effect (RemoveRole name) needs = absurd (refuses needs)
     by_effect _ needs = refl
 
-pub registers_stay : (s : State) (drawn : List ℕ) (r : Request) → HoldsNone ceremony_points s r → verdict s r ≡ None
+pub registers_stay : (s : State) (drawn : List ℕ) (r : Request) → HoldsNone ceremony_points s r → verdict s drawn r ≡ None
     → (after s drawn r).registers ≡ s.registers
 registers_stay s drawn r none permits = by_effect (effect s drawn r.name r) (registers_need s drawn r.name r)
   where
     by_effect : (e : Effect) → RegistersNeed s e (needed_points r.name r) → (after_effect s e).registers ≡ s.registers
-    by_effect (Become m labels) needs = absurd (never (needed_points r.name r) ceremony_points (lacks_them ceremony_points s r none permits) needs)
+    by_effect (Become m labels) needs = absurd (never (needed_points r.name r) ceremony_points (lacks_them ceremony_points s drawn r none permits) needs)
     by_effect _ needs = refl
 
-pub labels_stay : (s : State) (drawn : List ℕ) (r : Request) → HoldsNone label_points s r → verdict s r ≡ None → (after s drawn r).labels ≡ s.labels
+pub labels_stay : (s : State) (drawn : List ℕ) (r : Request) → HoldsNone label_points s r → verdict s drawn r ≡ None → (after s drawn r).labels ≡ s.labels
 labels_stay s drawn r none permits = by_effect (effect s drawn r.name r) (labels_need s drawn r.name r)
   where
     refuses : Needs (needed_points r.name r) label_points → ⊥
-    refuses = never (needed_points r.name r) label_points (lacks_them label_points s r none permits)
+    refuses = never (needed_points r.name r) label_points (lacks_them label_points s drawn r none permits)
 
     by_effect : (e : Effect) → LabelsNeed s e (needed_points r.name r) → (after_effect s e).labels ≡ s.labels
     by_effect (Become m labels) needs = ⊎_elim (λ (same : labels ≡ s.labels). same) (λ (n : Needs (needed_points r.name r) label_points). absurd (refuses n)) needs

@@ -15,7 +15,6 @@ use Rattle.byte_lists.specs.Characters.{is_label_byte}
 use Rattle.cca_vectors.specs.Checks.{Check, first_failing}
 use Rattle.cca_vectors.specs.Classes.{class_of}
 use Rattle.cca_vectors.specs.declared.key_class.Class.{Class}
-use Rattle.cca_vectors.specs.declared.key_type.KeyType.{KeyType}
 use Rattle.cca_vectors.specs.declared.key_class.Class.TheVariants.{Data, Cipher, Mac, Exporter, Importer, Other}
 use Rattle.cipher_verbs.specs.CipherTexts.{deciphered_text}
 use Rattle.cipher_verbs.specs.Imported.{data_vector}
@@ -29,7 +28,6 @@ use Rattle.key_tokens.specs.Denotes.{ClearKey, Denoted, MasterKeys}
 use Rattle.key_tokens.specs.Fields.{token_of}
 use Rattle.key_tokens.specs.declared.key_token.Kind.{Kind}
 use Rattle.key_tokens.specs.declared.key_token.Kind.TheVariants.{Internal, External}
-use Rattle.key_transport.specs.Generated.{generated_key}
 use Rattle.key_transport.specs.declared.changing.Target.{Target}
 use Rattle.key_transport.specs.declared.changing.Target.TheVariants.{Current, New}
 use Rattle.mac_verbs.specs.Codes.{is_code}
@@ -50,13 +48,15 @@ use Rattle.cca_machine.specs.Keys.{any_old, cell_with, imported, key_bytes, key_
 use Rattle.cca_machine.specs.Lines.{line_checks, line_outcome, outcome_by, taken_by}
 use Rattle.cca_machine.specs.Listing.{ascending, beginning, first_label, has_rank, label_fields, nth_label, with_commas}
 use Rattle.cca_machine.specs.Operands.{Operand, listed, operands, operands_of}
+use Rattle.cca_machine.specs.Draws.{length_in}
 use Rattle.cca_machine.specs.State.{State, IsStoreOf}
 use Rattle.cca_machine.specs.Verdict.{Questions, Refusal, bytes_in, chain_in, change_questions, code_rule, first_refusal, general_checks, key_questions, operand_checks, operand_questions, operands_verdict, or_refused, or_then, part_in, target_checks, verb_questions, verb_verdict, verdict}
 use Rattle.cca_machine.specs.declared.asking.Ask.{Ask}
 use Rattle.cca_machine.specs.declared.asking.Ask.TheVariants as ask
 use Rattle.verb_rules.specs.declared.needs.Need.{Need}
 use Rattle.cca_laws.specs.ReplyLines.{IsPrintableLine}
-use Rattle.cca_laws.proofs.ByteLaws.{AreSome, Bytes, HasBytes, HasClearVector, HasVector, IsByte, bytes_chain, bytes_changed_token, bytes_closed, bytes_code_of, bytes_deciphered, bytes_enciphered, bytes_external, bytes_form, bytes_front, bytes_hex, bytes_last_code, bytes_last_text, bytes_part, bytes_segment, bytes_token, bytes_vector_for, drops, either, literal, none, slices, takes, vector_denoted, vector_under, vector_where, zeros}
+use Rattle.cca_laws.proofs.LineCases.{of_verdict}
+use Rattle.cca_laws.proofs.ByteLaws.{AreSome, Bytes, HasBytes, HasClearVector, HasVector, IsByte, bytes_chain, bytes_changed_token, bytes_closed, bytes_code_of, bytes_deciphered, bytes_enciphered, bytes_external, bytes_form, bytes_front, bytes_generated, bytes_hex, bytes_last_code, bytes_last_text, bytes_part, bytes_segment, bytes_token, bytes_vector_for, drops, either, literal, none, slices, takes, vector_denoted, vector_under, vector_where, zeros}
 use Rattle.cca_laws.proofs.CleanLaws.{both, first_of_both, second_of_both, true_of}
 use Rattle.cca_laws.proofs.ReplyLaws.{AreLabels, HasLabels, store_labels}
 
@@ -381,9 +381,6 @@ module _ (s : State) (vectors : HasVectors s.labels) where
   out_fits r field clear vector = bytes_external clear vector (key_in_field s r field).key
 
   module _ (labels : HasLabels s) (drawn : List ℕ) (are : Bytes drawn) where
-    generated_vector : (kind : KeyType) → Bytes (generated_key kind drawn).vector
-    generated_vector kind = bytes_vector_for kind (length drawn)
-
     effect_fits : (name : RequestName) (r : Request) → IsFitEffect (effect s drawn name r)
     effect_fits csnbktp r = (
       (tt, kind_prints (token_of (bytes_in r (codes "token"))).kind),
@@ -439,12 +436,13 @@ module _ (s : State) (vectors : HasVectors s.labels) where
     effect_fits csnbkyt r = ((tt, bytes_front 4 (key_of_request s r).key zero_block), tt)
     effect_fits csnbcki r = delivered_fits r (codes "token") _ [] tt (literal data_vector refl) tt
     effect_fits csnbrng r = ((tt, bytes_form (form_named (value_of r (codes "form"))) drawn are), tt)
-    effect_fits csnbkgn_op r = delivered_fits r (codes "token1") _ [] tt (generated_vector (type1_of r)) tt
+    effect_fits csnbkgn_op r = delivered_fits r (codes "token1") _ [] tt (bytes_generated (type1_of r) (length_in r)) tt
     effect_fits csnbkgn_pair r =
-        delivered_fits r (codes "token1") _ _ tt (generated_vector (type1_of r)) ((tt, out_fits r (codes "transport2") _ (generated_vector (type2_of r))), tt)
+        delivered_fits r (codes "token1") _ _ tt (bytes_generated (type1_of r) (length_in r))
+        ((tt, out_fits r (codes "transport2") _ (bytes_generated (type2_of r) (length_in r))), tt)
     effect_fits csnbkgn_out r = (
-      (tt, out_fits r (codes "transport1") _ (generated_vector (type1_of r))),
-      ((tt, out_fits r (codes "transport2") _ (generated_vector (type2_of r))), tt),
+      (tt, out_fits r (codes "transport1") _ (bytes_generated (type1_of r) (length_in r))),
+      ((tt, out_fits r (codes "transport2") _ (bytes_generated (type2_of r) (length_in r))), tt),
     )
     effect_fits csnbkim r = delivered_fits r (codes "token") _ [] tt (import_vector (key_in_field s r (codes "transport")) r) tt
     effect_fits csnbkex r = ((tt, out_fits r (codes "transport") (key_of_request s r) (request_vector r)), tt)
@@ -571,12 +569,13 @@ then_fits : (a b : Option Refusal) → IsFitRefusal a → IsFitRefusal b → IsF
 then_fits None b first second = second
 then_fits (Some r) b first second = first
 
-verdict_fits : (s : State) (r : Request) → IsFitRefusal (verdict s r)
-verdict_fits s r =
-    refused_fits (first_failing (general_checks s r)) (codes "-") (or_then (operands_verdict s r) (verb_verdict s r)) (failing_ruled (general_checks s r) tt) tt
+verdict_fits : (s : State) (random : List ℕ) (r : Request) → IsFitRefusal (verdict s random r)
+verdict_fits s random r =
+    of_verdict IsFitRefusal (omega arith, tt) s random r
+    (refused_fits (first_failing (general_checks s r)) (codes "-") (or_then (operands_verdict s r) (verb_verdict s r)) (failing_ruled (general_checks s r) tt) tt
     (then_fits (operands_verdict s r) (verb_verdict s r)
     (questions_fit (operand_questions s (listed (operands r))) (asked_sound s (listed (operands r)) (operands_named s r.name r)))
-    (questions_fit (verb_questions s r.name r) (verb_sound s r.name r)))
+    (questions_fit (verb_questions s r.name r) (verb_sound s r.name r))))
 
 -- ---- each reply
 
@@ -591,7 +590,9 @@ module _ (s : State) (labels : HasLabels s) (vectors : HasVectors s.labels) wher
   unfolding performed
   by_checks random are (Some rule) ruled q = (ruled, tt)
   by_checks random are None ruled None = (omega arith, tt)
-  by_checks random are None ruled (Some r) = by_verdict (take (taken_by s r) random) (takes (taken_by s r) random are) r (verdict s r) (verdict_fits s r)
+  by_checks random are None ruled (Some r) =
+      let count : ℕ = taken_by s random r in
+      let drawn : List ℕ = take count random in by_verdict drawn (takes count random are) r (verdict s drawn r) (verdict_fits s drawn r)
 
   reply_prints : (random line : List ℕ) → Bytes random → IsPrintableLine (spelled (line_outcome s random line).reply)
   unfolding line_outcome

@@ -46,7 +46,7 @@ use Rattle.cca_laws.specs.ReplyLines.{IsOneLine}
 use Rattle.cca_laws.proofs.CleanLaws.{append_clean, are_clean, are_clean-append, both, byte_clean, first_of_both, is_clean, is_clean_byte, is_clean_reply, one_line, second_of_both, truth}
 use Rattle.cca_laws.proofs.EffectLaws.{Fits, effect_fits}
 use Rattle.cca_laws.proofs.LabelLists.{label_kept}
-use Rattle.cca_laws.proofs.LineCases.{by_line}
+use Rattle.cca_laws.proofs.LineCases.{by_line, of_verdict}
 
 -- ---- labels
 
@@ -317,12 +317,13 @@ then_clean : (a b : Option Refusal) → IsCleanRefusal a → IsCleanRefusal b �
 then_clean None b first second = second
 then_clean (Some r) b first second = first
 
-verdict_clean : (s : State) (r : Request) → IsCleanRefusal (verdict s r)
-verdict_clean s r =
-    refused_clean (first_failing (general_checks s r)) (codes "-") (or_then (operands_verdict s r) (verb_verdict s r)) tt
+verdict_clean : (s : State) (random : List ℕ) (r : Request) → IsCleanRefusal (verdict s random r)
+verdict_clean s random r =
+    of_verdict IsCleanRefusal tt s random r
+    (refused_clean (first_failing (general_checks s r)) (codes "-") (or_then (operands_verdict s r) (verb_verdict s r)) tt
     (then_clean (operands_verdict s r) (verb_verdict s r)
     (questions_clean (operand_questions s (listed (operands r))) (operand_clean s r.name r))
-    (questions_clean (verb_questions s r.name r) (verb_clean s r.name r)))
+    (questions_clean (verb_questions s r.name r) (verb_clean s r.name r))))
 
 -- ---- each reply
 
@@ -337,7 +338,8 @@ module _ (s : State) (are : HasLabels s) where
   unfolding performed
   by_checks random (Some rule) q = tt
   by_checks random None None = tt
-  by_checks random None (Some r) = by_verdict (take (taken_by s r) random) r (verdict s r) (verdict_clean s r)
+  by_checks random None (Some r) =
+      let drawn : List ℕ = take (taken_by s random r) random in by_verdict drawn r (verdict s drawn r) (verdict_clean s drawn r)
 
   reply_clean : (random line : List ℕ) → IsOneLine (spelled (line_outcome s random line).reply)
   unfolding line_outcome

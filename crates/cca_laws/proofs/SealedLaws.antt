@@ -54,7 +54,7 @@ unfolding IsApart HasApart
 line_apart s random line now =
     by_line IsApart s now random line
     (λ drawn r is permits.
-    registers_after HasApart step_apart s (effect s drawn r.name r) (needed_points r.name r) now (becomes s drawn r.name r (permitted s r permits).verb))
+    registers_after HasApart step_apart s (effect s drawn r.name r) (needed_points r.name r) now (becomes s drawn r.name r (permitted s drawn r permits).verb))
 
 -- of each state that the lines lead through
 along_apart : (s : State) (random : List ℕ) (lines : List (List ℕ)) → IsApart s → (k : ℕ) (d : State) → k < length (states_along s random lines)

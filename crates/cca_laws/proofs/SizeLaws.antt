@@ -66,17 +66,18 @@ use Rattle.verb_script.specs.Grammar.{AreValues, FieldForm, IsValue, Request, Re
 use Rattle.verb_script.specs.Named.{label_named}
 use Rattle.verb_script.specs.Requests.{request_of}
 use Rattle.verb_script.proofs.GrammarLaws.{request_of-sound, spelled_values}
-use Rattle.cca_machine.specs.Act.{Effect, Show, Become, Write, Reencipher, class_name, code_segment_fields, delivered_with, draws, effect, fields_after, kind_name, last_text_fields, new_name, or_act, or_empty, performed, segment_fields, shown_vector, token_fields, token_out, type1_of, type2_of, yes_or_no}
+use Rattle.cca_machine.specs.Act.{Effect, Show, Become, Write, Reencipher, class_name, code_segment_fields, delivered_with, effect, fields_after, kind_name, last_text_fields, new_name, or_act, or_empty, performed, segment_fields, shown_vector, token_fields, token_out, type1_of, type2_of, yes_or_no}
 use Rattle.cca_machine.specs.Choices.{form_named, is_last_part, mac_length_named, mac_rule_named, pad_named, target_named, type_in}
 use Rattle.cca_machine.specs.Keys.{any_old, cell_with, imported, key_bytes, key_in_field, key_in_text, key_named, key_of_label, key_of_request, key_of_token, or_no_clear, or_no_key, warning, what_at, what_in}
+use Rattle.cca_machine.specs.Draws.{bytes_drawn, draw_of, length_in}
 use Rattle.cca_machine.specs.Lines.{drawn_where, line_checks, line_outcome, outcome_by, taken_by}
 use Rattle.cca_machine.specs.Listing.{ascending, beginning, first_label, has_rank, label_fields, nth_label, with_commas}
 use Rattle.cca_machine.specs.Operands.{Operand, Operands, listed, operands, operands_of}
 use Rattle.cca_machine.specs.State.{State, IsStoreOf}
-use Rattle.cca_machine.specs.Verdict.{Questions, Refusal, bytes_in, chain_in, change_questions, code_rule, first_refusal, general_checks, last_questions, middle_questions, operand_checks, operand_questions, operands_verdict, or_refused, or_then, part_in, segment_questions, target_checks, text_size, verb_questions, verb_verdict, verdict}
+use Rattle.cca_machine.specs.Verdict.{Questions, Refusal, bytes_in, chain_in, change_questions, code_rule, early_verdict, first_refusal, general_checks, last_questions, middle_questions, operand_checks, operand_questions, operands_verdict, or_refused, or_then, part_in, segment_questions, target_checks, text_size, verb_questions, verb_verdict, verdict}
 use Rattle.cca_laws.proofs.CleanLaws.{first_of_both, second_of_both, true_of}
 use Rattle.cca_laws.proofs.LengthLemmas.{chain_short, changed_short, closed_short, decimal_short, deciphered_short, either_short, enciphered_short, external_short, last_short, part_short, segment_short, take_short, token_short, value_short, vector_short}
-use Rattle.cca_laws.proofs.LineCases.{permitted, refused_none}
+use Rattle.cca_laws.proofs.LineCases.{of_verdict, permitted, refused_none}
 
 -- ---- fields
 
@@ -504,92 +505,92 @@ module _ (s : State) (image : List ℕ) (stands : IsStoreOf s image) where
   second_token_out r clear vector =
       hex_more (codes "token2") (token_out s r (codes "transport2") clear) [] 64 0 200 (token_out_short r (codes "transport2") clear vector) (omega arith) (omega arith)
 
-  fields_short : (drawn : List ℕ) (name : RequestName) (r : Request) → length drawn ≤ draws name r → length (bytes_in r (codes "iv")) ≤ 8
+  fields_short : (drawn ahead : List ℕ) (name : RequestName) (r : Request) → length drawn ≤ bytes_drawn (draw_of name r) ahead → length (bytes_in r (codes "iv")) ≤ 8
       → first_refusal (operand_questions s (listed (operands_of name r))) ≡ None → first_refusal (verb_questions s name r) ≡ None
       → IsShortEffect (effect s drawn name r)
-  fields_short drawn csnbktp r drawn_few start ops verb = token_fields_short (bytes_in r (codes "token"))
-  fields_short drawn csnbenc r drawn_few start ops verb =
+  fields_short drawn ahead csnbktp r drawn_few start ops verb = token_fields_short (bytes_in r (codes "token"))
+  fields_short drawn ahead csnbenc r drawn_few start ops verb =
       let padding = pad_named (value_of r (codes "pad")) in
       let text = bytes_in r (codes "text") in
       one_hex (codes "text") (enciphered_text (key_of_request s r) (bytes_in r (codes "iv")) padding text) (omega arith)
       (omega (arith, enciphered_short (key_of_request s r) (bytes_in r (codes "iv")) padding text, text_short (enciphering padding) r (refused_none _ _ _ verb).0))
-  fields_short drawn csnbenc_first r drawn_few start ops verb = first_segment mode.Encipher r start verb
-  fields_short drawn csnbenc_middle r drawn_few start ops verb = middle_segment mode.Encipher r verb
-  fields_short drawn csnbenc_last r drawn_few start ops verb = last_segment mode.Encipher r verb
-  fields_short drawn csnbdec r drawn_few start ops verb =
+  fields_short drawn ahead csnbenc_first r drawn_few start ops verb = first_segment mode.Encipher r start verb
+  fields_short drawn ahead csnbenc_middle r drawn_few start ops verb = middle_segment mode.Encipher r verb
+  fields_short drawn ahead csnbenc_last r drawn_few start ops verb = last_segment mode.Encipher r verb
+  fields_short drawn ahead csnbdec r drawn_few start ops verb =
       let padding = pad_named (value_of r (codes "pad")) in
       let text = bytes_in r (codes "text") in
       one_hex (codes "text") (or_empty (deciphered_text (key_of_request s r) (bytes_in r (codes "iv")) padding text)) (omega arith)
       (omega (arith, deciphered_short (key_of_request s r) (bytes_in r (codes "iv")) padding text, text_short Decipher r (refused_none _ _ _ verb).0))
-  fields_short drawn csnbdec_first r drawn_few start ops verb = first_segment mode.Decipher r start verb
-  fields_short drawn csnbdec_middle r drawn_few start ops verb = middle_segment mode.Decipher r verb
-  fields_short drawn csnbdec_last r drawn_few start ops verb = last_segment mode.Decipher r verb
-  fields_short drawn csnbmgn r drawn_few start ops verb =
+  fields_short drawn ahead csnbdec_first r drawn_few start ops verb = first_segment mode.Decipher r start verb
+  fields_short drawn ahead csnbdec_middle r drawn_few start ops verb = middle_segment mode.Decipher r verb
+  fields_short drawn ahead csnbdec_last r drawn_few start ops verb = last_segment mode.Decipher r verb
+  fields_short drawn ahead csnbmgn r drawn_few start ops verb =
       code_short (code_of (mac_rule_named (value_of r (codes "rule"))) (key_of_request s r) (bytes_in r (codes "text"))) (value_of r (codes "length"))
-  fields_short drawn csnbmgn_first r drawn_few start ops verb = code_segment r (first_chain zero_block) (omega arith)
-  fields_short drawn csnbmgn_middle r drawn_few start ops verb = code_segment r (chain_in r) (take_short 8 (bytes_in r (codes "chain")))
-  fields_short drawn csnbmgn_last r drawn_few start ops verb =
+  fields_short drawn ahead csnbmgn_first r drawn_few start ops verb = code_segment r (first_chain zero_block) (omega arith)
+  fields_short drawn ahead csnbmgn_middle r drawn_few start ops verb = code_segment r (chain_in r) (take_short 8 (bytes_in r (codes "chain")))
+  fields_short drawn ahead csnbmgn_last r drawn_few start ops verb =
       code_short (last_code (key_of_request s r) (code_rule r) (chain_in r) (bytes_in r (codes "text"))) (value_of r (codes "length"))
-  fields_short drawn csnbmvr r drawn_few start ops verb =
+  fields_short drawn ahead csnbmvr r drawn_few start ops verb =
       match_short (is_code (mac_rule_named (value_of r (codes "rule"))) (key_of_request s r) (bytes_in r (codes "text")) (bytes_in r (codes "mac")))
-  fields_short drawn csnbmvr_first r drawn_few start ops verb = code_segment r (first_chain zero_block) (omega arith)
-  fields_short drawn csnbmvr_middle r drawn_few start ops verb = code_segment r (chain_in r) (take_short 8 (bytes_in r (codes "chain")))
-  fields_short drawn csnbmvr_last r drawn_few start ops verb =
+  fields_short drawn ahead csnbmvr_first r drawn_few start ops verb = code_segment r (first_chain zero_block) (omega arith)
+  fields_short drawn ahead csnbmvr_middle r drawn_few start ops verb = code_segment r (chain_in r) (take_short 8 (bytes_in r (codes "chain")))
+  fields_short drawn ahead csnbmvr_last r drawn_few start ops verb =
       match_short (bytes_eq (bytes_in r (codes "mac"))
       (take (length (bytes_in r (codes "mac"))) (last_code (key_of_request s r) (code_rule r) (chain_in r) (bytes_in r (codes "text")))))
-  fields_short drawn csnbkyt r drawn_few start ops verb =
+  fields_short drawn ahead csnbkyt r drawn_few start ops verb =
       one_hex (codes "value") (test_value (key_of_request s r)) (omega arith) (omega (arith, take_short 4 (e (key_of_request s r).key zero_block)))
-  fields_short drawn csnbcki r drawn_few start ops verb =
+  fields_short drawn ahead csnbcki r drawn_few start ops verb =
       goes r (codes "token") (imported_key (bytes_in r (codes "clear"))) [] (omega arith) (omega arith) (pass_each s (operands_of csnbcki r) ops).0 (omega arith)
-  fields_short drawn csnbrng r drawn_few start ops verb =
+  fields_short drawn ahead csnbrng r drawn_few start ops verb =
       let form = form_named (value_of r (codes "form")) in
       one_hex (codes "random") (in_form form drawn) (omega arith) (omega (arith, form_short form drawn drawn_few))
-  fields_short drawn csnbkgn_op r drawn_few start ops verb =
-      goes r (codes "token1") (as_current (generated_key (type1_of r) drawn)) [] (omega arith) (vector_short (type1_of r) (length drawn))
+  fields_short drawn ahead csnbkgn_op r drawn_few start ops verb =
+      goes r (codes "token1") (as_current (generated_key (type1_of r) (length_in r) drawn)) [] (omega arith) (vector_short (type1_of r) (length_in r))
       (pass_each s (operands_of csnbkgn_op r) ops).0 (omega arith)
-  fields_short drawn csnbkgn_pair r drawn_few start ops verb =
-      let second = generated_key (type2_of r) drawn in
-      goes r (codes "token1") (as_current (generated_key (type1_of r) drawn)) (Hex (codes "token2") (token_out s r (codes "transport2") second) ∷ []) (omega arith)
-      (vector_short (type1_of r) (length drawn)) (pass_each s (operands_of csnbkgn_pair r) ops).1
-      (second_token_out r second (vector_short (type2_of r) (length drawn)))
-  fields_short drawn csnbkgn_out r drawn_few start ops verb =
-      let first = generated_key (type1_of r) drawn in
-      let second = generated_key (type2_of r) drawn in
+  fields_short drawn ahead csnbkgn_pair r drawn_few start ops verb =
+      let second = generated_key (type2_of r) (length_in r) drawn in
+      goes r (codes "token1") (as_current (generated_key (type1_of r) (length_in r) drawn)) (Hex (codes "token2") (token_out s r (codes "transport2") second) ∷ []) (omega arith)
+      (vector_short (type1_of r) (length_in r)) (pass_each s (operands_of csnbkgn_pair r) ops).1
+      (second_token_out r second (vector_short (type2_of r) (length_in r)))
+  fields_short drawn ahead csnbkgn_out r drawn_few start ops verb =
+      let first = generated_key (type1_of r) (length_in r) drawn in
+      let second = generated_key (type2_of r) (length_in r) drawn in
       hex_more (codes "token1") (token_out s r (codes "transport1") first) (Hex (codes "token2") (token_out s r (codes "transport2") second) ∷ []) 64 200 room
-      (token_out_short r (codes "transport1") first (vector_short (type1_of r) (length drawn)))
-      (second_token_out r second (vector_short (type2_of r) (length drawn))) (omega arith)
-  fields_short drawn csnbkim r drawn_few start ops verb =
+      (token_out_short r (codes "transport1") first (vector_short (type1_of r) (length_in r)))
+      (second_token_out r second (vector_short (type2_of r) (length_in r))) (omega arith)
+  fields_short drawn ahead csnbkim r drawn_few start ops verb =
       let clear = imported (key_in_field s r (codes "transport")) (bytes_in r (codes "token")) in
       goes r (codes "token") (as_current clear) [] (omega arith) (imported_short (key_in_field s r (codes "transport")) (bytes_in r (codes "token")))
       (pass_each s (operands_of csnbkim r) ops).2 (omega arith)
-  fields_short drawn csnbkex r drawn_few start ops verb = one_token_out r (codes "transport") (key_of_request s r) (request_key_short r)
-  fields_short drawn csnbpex r drawn_few start ops verb =
+  fields_short drawn ahead csnbkex r drawn_few start ops verb = one_token_out r (codes "transport") (key_of_request s r) (request_key_short r)
+  fields_short drawn ahead csnbpex r drawn_few start ops verb =
       goes r (codes "token") (as_current (closed_key (key_of_request s r))) [] (omega arith) (closed_short (key_of_request s r).vector (request_key_short r))
       (pass_each s (operands_of csnbpex r) ops).1 (omega arith)
-  fields_short drawn csnbktc r drawn_few start ops verb =
+  fields_short drawn ahead csnbktc r drawn_few start ops verb =
       let target = target_named (value_of r (codes "rule")) in
       let clear = (or_no_key (key_of_token s (bytes_in r (codes "token")))).clear in
       one_hex (codes "token") (changed_token s.registers target clear) (omega arith)
       (omega (arith, changed_short s.registers target clear (key_of_token_short (bytes_in r (codes "token")))))
-  fields_short drawn csnbkpi_first r drawn_few start ops verb =
+  fields_short drawn ahead csnbkpi_first r drawn_few start ops verb =
       let kind = type_in (value_of r (codes "type")) in
       goes r (codes "token") (as_current (first_key kind (part_in r))) [] (omega arith) (part_short (vector_for kind (length (part_in r))))
       (pass_each s (operands_of csnbkpi_first r) ops).0 (omega arith)
-  fields_short drawn csnbkpi_middle r drawn_few start ops verb =
+  fields_short drawn ahead csnbkpi_middle r drawn_few start ops verb =
       let last = is_last_part (value_of r (codes "rule")) in
       goes r (codes "token") (as_current (combined_key last (key_of_request s r) (part_in r))) [] (omega arith)
       (combined_short last (key_of_request s r) (part_in r) (request_key_short r)) (pass_each s (operands_of csnbkpi_middle r) ops).1 (omega arith)
-  fields_short drawn csnbktr r drawn_few start ops verb =
+  fields_short drawn ahead csnbktr r drawn_few start ops verb =
       let clear = imported (key_in_field s r (codes "transport1")) (bytes_in r (codes "token")) in
       one_token_out r (codes "transport2") clear (imported_short (key_in_field s r (codes "transport1")) (bytes_in r (codes "token")))
-  fields_short drawn csnbkrw r drawn_few start ops verb = omega arith
-  fields_short drawn csnbkrr r drawn_few start ops verb =
+  fields_short drawn ahead csnbkrw r drawn_few start ops verb = omega arith
+  fields_short drawn ahead csnbkrr r drawn_few start ops verb =
       let key = or_no_key (key_of_label s (value_of r (codes "label"))) in
       one_hex (codes "token") (token_for (keys_of s.registers) key) (omega arith)
       (omega (arith, token_short s.registers key (key_short (key_of_label s (value_of r (codes "label"))) (label_key_short (value_of r (codes "label"))))))
-  fields_short drawn csnbkrl r drawn_few start ops verb =
+  fields_short drawn ahead csnbkrl r drawn_few start ops verb =
       listing_short (value_of r (codes "prefix")) (directory s.labels) (labels_short s.labels place_short) (omega (arith, length-map s.labels entry_label, stands.size))
-  fields_short drawn _ r drawn_few start ops verb = tt
+  fields_short drawn ahead _ r drawn_few start ops verb = tt
 
 new_short : (new : NewRegister) → length (new_name new) ≤ 7
 new_short Empty = omega arith
@@ -645,12 +646,13 @@ then_short : (a b : Option Refusal) → IsShortRefusal a → IsShortRefusal b �
 then_short None b first second = second
 then_short (Some r) b first second = first
 
-verdict_short : (s : State) (r : Request) → IsShortRefusal (verdict s r)
-verdict_short s r =
-    refused_short (first_failing (general_checks s r)) (codes "-") (or_then (operands_verdict s r) (verb_verdict s r)) tt
+verdict_short : (s : State) (random : List ℕ) (r : Request) → IsShortRefusal (verdict s random r)
+verdict_short s random r =
+    of_verdict IsShortRefusal tt s random r
+    (refused_short (first_failing (general_checks s r)) (codes "-") (or_then (operands_verdict s r) (verb_verdict s r)) tt
     (then_short (operands_verdict s r) (verb_verdict s r)
     (questions_short (operand_questions s (listed (operands r))) (operands_short s r.name r))
-    (questions_short (verb_questions s r.name r) (verb_short s r.name r)))
+    (questions_short (verb_questions s r.name r) (verb_short s r.name r))))
 
 -- ---- each reply
 
@@ -677,21 +679,29 @@ both_short fs gs first second =
     let parts : size_of (fs ++ gs) ≡ size_of fs + size_of gs = ap length (flat_map-append field_text fs gs) ∙ length-append (fields_text fs) (fields_text gs) in
     omega (arith, parts, first, second)
 
+some_drawn : (v : Option Refusal) (count : ℕ) → drawn_where v count ≤ count
+some_drawn None count = omega arith
+some_drawn (Some refused) count = omega arith
+
 module _ (s : State) (image : List ℕ) (stands : IsStoreOf s image) where
-  by_verdict : (drawn : List ℕ) (r : Request) (v : Option Refusal) → verdict s r ≡ v → IsShortRefusal v → length drawn ≤ drawn_where v (draws r.name r)
-      → length (bytes_in r (codes "iv")) ≤ 8 → IsShortReply (or_act v s drawn r).reply
-  by_verdict drawn r (Some refused) is short few start = short
-  by_verdict drawn r None is short few start =
-      let p = permitted s r is in
+  by_verdict : (drawn ahead : List ℕ) (r : Request) (v : Option Refusal) → verdict s drawn r ≡ v → IsShortRefusal v
+      → length drawn ≤ bytes_drawn (draw_of r.name r) ahead → length (bytes_in r (codes "iv")) ≤ 8 → IsShortReply (or_act v s drawn r).reply
+  by_verdict drawn ahead r (Some refused) is short few start = short
+  by_verdict drawn ahead r None is short few start =
+      let p = permitted s drawn r is in
       both_short (fields_after s (effect s drawn r.name r)) (warning (any_old s (listed (operands r))))
-      (after_short s (effect s drawn r.name r) (fields_short s image stands drawn r.name r few start p.operands p.verb)) (warning_short (any_old s (listed (operands r))))
+      (after_short s (effect s drawn r.name r) (fields_short s image stands drawn ahead r.name r few start p.operands p.verb)) (warning_short (any_old s (listed (operands r))))
 
   by_checks : (random line : List ℕ) (o : Option ℕ) (q : Option Request) → request_of line ≡ q → IsShortReply (outcome_by o s random q).reply
   unfolding performed
   by_checks random line (Some rule) q is = tt
   by_checks random line None None is = tt
   by_checks random line None (Some r) is =
-      by_verdict (take (taken_by s r) random) r (verdict s r) refl (verdict_short s r) (take_short (taken_by s r) random) (start_short line r is)
+      let count : ℕ = taken_by s random r in
+      let drawn : List ℕ = take count random in
+      let few : length drawn ≤ bytes_drawn (draw_of r.name r) random =
+      omega (arith, take_short count random, some_drawn (early_verdict s r) (bytes_drawn (draw_of r.name r) random)) in
+      by_verdict drawn random r (verdict s drawn r) refl (verdict_short s drawn r) few (start_short line r is)
 
   short_reply : (random line : List ℕ) → length (spelled (line_outcome s random line).reply) ≤ reply_limit
   unfolding line_outcome

@@ -13,7 +13,7 @@ use Rattle.cca_vectors.specs.Closing.{closed_half, closed_to_export, closed_zero
 use Rattle.cca_vectors.specs.PartVectors.{as_part, part_half, with_bit_changed}
 use Rattle.cca_vectors.specs.Permissions.{is_exportable}
 use Rattle.cca_vectors.specs.VectorChecks.{has_form, is_anti_variant, is_even, right_half_for, vector_checks}
-use Rattle.cca_vectors.specs.Vectors.{form_of, left_of, length_of, right_of}
+use Rattle.cca_vectors.specs.Vectors.{form_of, left_of, left_of_double, left_of_unique, length_of, right_of, right_of_double, right_of_unique, single_length}
 use Rattle.cca_vectors.proofs.Judging.{passes_first, passes_rest}
 use Rattle.key_tokens.specs.Denotes.{ClearKey}
 use Rattle.key_tokens.specs.Fields.{vector_bytes_of}
@@ -178,7 +178,14 @@ half_bit : (left : List ℕ) → is_anti_variant left ≡ true → is_zero left 
 half_bit left variant some =
     (and_parts (bit left 30 == 0) (bit left 38 == 1) (sym (ap (λ t. t || (bit left 30 == 0 && bit left 38 == 1)) some) ∙ variant)).1
 
-or_first : (b : Bool) → (b || false) ≡ true → b ≡ true
+-- whether a half of a form has this right half beside it
+abbrev by_form : List ℕ → List ℕ → ℕ → Bool
+by_form left right form =
+    (form == single_length && is_zero right)
+    || (form == left_of_double && bytes_eq right (right_half_for right_of_double left))
+    || (form == left_of_unique && bytes_eq right (right_half_for right_of_unique left))
+
+or_first : (b : Bool) → (b || false || false) ≡ true → b ≡ true
 or_first true is = refl
 or_first false is = is
 
@@ -186,7 +193,7 @@ or_first false is = is
 zero_right : (left right : List ℕ) → is_zero left ≡ true → has_form left right ≡ true → is_zero right ≡ true
 zero_right left right zeros form =
     let none : form_of left ≡ 0 = ap (λ b. 4 * bit_at b 7 + 2 * bit_at b 6 + bit_at b 5) (zero_at left 5 zeros) in
-    or_first (is_zero right) (sym (ap (λ f. (f == 0 && is_zero right) || (f == 2 && bytes_eq right (right_half_for left))) none) ∙ form)
+    or_first (is_zero right) (sym (ap (by_form left right) none) ∙ form)
 
 -- both halves are anti-variant, and have a key form
 abbrev are_anti : List ℕ → Bool

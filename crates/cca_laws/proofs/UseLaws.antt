@@ -156,25 +156,25 @@ pub first_passes : (s : State) (o : Operand) (os : List Operand) → first_refus
     → (first_failing (operand_checks s o.text o.ask) ≡ None) × (first_refusal (operand_questions s os) ≡ None)
 first_passes s o os is = refused_none (first_failing (operand_checks s o.text o.ask)) o.name (first_refusal (operand_questions s os)) is
 
-module _ (s : State) (r : Request) (permits_it : verdict s r ≡ None) where
+module _ (s : State) (random : List ℕ) (r : Request) (permits_it : verdict s random r ≡ None) where
   Passes : Operand → Type 0
   Passes o = first_failing (operand_checks s o.text o.ask) ≡ None
 
   one_passes : (o : Operand) → IsOperandOf r o → Passes o
   unfolding Passes
   one_passes o is =
-      let one = first_passes s (operands r).first ((operands r).second ∷ (operands r).third ∷ []) (permitted s r permits_it).operands in
+      let one = first_passes s (operands r).first ((operands r).second ∷ (operands r).third ∷ []) (permitted s random r permits_it).operands in
       let two = first_passes s (operands r).second ((operands r).third ∷ []) one.1 in
       let three = first_passes s (operands r).third [] two.1 in
       ⊎_elim (λ (e : o ≡ (operands r).first). subst Passes (sym e) one.0)
       (λ (later : (o ≡ (operands r).second) ⊎ (o ≡ (operands r).third)). ⊎_elim (λ (e : o ≡ (operands r).second). subst Passes (sym e) two.0) (λ (e : o ≡ (operands r).third). subst Passes (sym e) three.0) later)
       is
 
-pub operand_allows : (s : State) (r : Request) (o : Operand) (need : Need) (key : Denoted) → verdict s r ≡ None → IsOperandOf r o → o.ask ≡ ask.Key need
+pub operand_allows : (s : State) (random : List ℕ) (r : Request) (o : Operand) (need : Need) (key : Denoted) → verdict s random r ≡ None → IsOperandOf r o → o.ask ≡ ask.Key need
     → key_in_text s o.text ≡ Some key → Allows need key.clear.vector
 unfolding Passes
-operand_allows s r o need key permits_it is asks stands =
-    let passes : first_failing (operand_checks s o.text o.ask) ≡ None = one_passes s r permits_it o is in
+operand_allows s random r o need key permits_it is asks stands =
+    let passes : first_failing (operand_checks s o.text o.ask) ≡ None = one_passes s random r permits_it o is in
     key_allows s need o.text key (label_named o.text) stands (subst (λ (a : Ask). first_failing (operand_checks s o.text a) ≡ None) asks passes)
 
 -- ---- verb by verb
@@ -233,11 +233,13 @@ module _ (s : State) (r : Request) (key : Denoted) where
       let a = of_second (transport_key Importer Transport) (operands_of csnbkim r).first (codes "transport") (value_of r (codes "transport")) ((operands_of csnbkim r).third ∷ []) ops stands in (a.class, a.usage Transport refl, a.double refl)
   carry_allows _ ops stands = tt
 
-pub text_key : (s : State) (r : Request) (key : Denoted) → verdict s r ≡ None → key_in_text s (value_of r (codes "key")) ≡ Some key → MayWork r.name key.clear.vector
-text_key s r key permits_it stands = text_allows s r key r.name (permitted s r permits_it).operands stands
+pub text_key : (s : State) (random : List ℕ) (r : Request) (key : Denoted) → verdict s random r ≡ None → key_in_text s (value_of r (codes "key")) ≡ Some key
+    → MayWork r.name key.clear.vector
+text_key s random r key permits_it stands = text_allows s r key r.name (permitted s random r permits_it).operands stands
 
-pub carrying_key : (s : State) (r : Request) (key : Denoted) → verdict s r ≡ None → key_in_text s (value_of r (codes "transport")) ≡ Some key → MayCarry r.name key.clear.vector
-carrying_key s r key permits_it stands = carry_allows s r key r.name (permitted s r permits_it).operands stands
+pub carrying_key : (s : State) (random : List ℕ) (r : Request) (key : Denoted) → verdict s random r ≡ None
+    → key_in_text s (value_of r (codes "transport")) ≡ Some key → MayCarry r.name key.clear.vector
+carrying_key s random r key permits_it stands = carry_allows s r key r.name (permitted s random r permits_it).operands stands
 
 -- ---- external tokens
 
@@ -279,7 +281,7 @@ internal s drawn _ r none = tt
 
 pub shows_no_external : (s : State) (drawn : List ℕ) (r : Request) → gives_external r.name ≡ false → ShowsNoExternal (performed s drawn r).reply
 unfolding performed
-shows_no_external s drawn r none = by_verdict (verdict s r)
+shows_no_external s drawn r none = by_verdict (verdict s drawn r)
   where
     by_verdict : (v : Option Refusal) → ShowsNoExternal (or_act v s drawn r).reply
     by_verdict (Some refusal) = tt

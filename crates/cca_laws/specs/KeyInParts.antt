@@ -18,7 +18,7 @@ use Rattle.cca_machine.specs.declared.asking.Ask.TheVariants.{Key}
 -- a line may spell the request, and no rule refuses it
 pub record IsPermitted (s : State) (request : Request) : Type 0 where
   pub spelled : AreValues (row_of request.name).fields request.values
-  pub permitted : verdict s request ≡ None
+  pub permitted : verdict s [] request ≡ None
 
 -- the requests are carried out, one after another, from one state to another
 abbrev pub AreCarriedOut : State → List Request → State → Type 0

@@ -11,4 +11,5 @@ pub mod ReplyLines
 pub mod ReplyTokens
 pub mod Sealed
 pub mod Targets
+pub mod UniqueKeys
 pub mod Uses

@@ -23,7 +23,7 @@ pub fn no_key_is_lost()
     ensures ages { (s : State) (drawn label : List ℕ) (r : Request)
         → changes_ages r.name ≡ true
         → clear_of_label (performed s drawn r).state label ≡ clear_of_label s label }
-    ensures set { (s : State) (label : List ℕ) (r : Request) (key : Denoted)
+    ensures set { (s : State) (random label : List ℕ) (r : Request) (key : Denoted)
         → key_of_label s label ≡ Some key → key.age ≡ Old → r.name ≡ csnbmkp_set
-        → IsSome (verdict s r) }
+        → IsSome (verdict s random r) }
 {}

@@ -3,6 +3,7 @@
 #![tactic(auto)]
 
 mod duties;
+mod halves;
 mod keeping;
 mod labels;
 mod masters;
@@ -16,6 +17,7 @@ mod sealing;
 mod usage;
 
 pub use duties::separate_duties;
+pub use halves::generated_halves_are_unique;
 pub use keeping::no_key_is_lost;
 pub use labels::labels_are_apart;
 pub use masters::replies_and_master_keys;

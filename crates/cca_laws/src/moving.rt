@@ -30,8 +30,9 @@ pub fn a_store_is_moved()
         ≡ state_after t random (moving_requests s w) }
     ensures lines { (s : State) (w : Move) → IsPermittedMove s w
         → lines (move_file s w) ≡ moving_requests s w }
-    ensures kept { (s : State) (w : Move) (label : List ℕ) (cell : ℕ) → IsPermittedMove s w
-        → cell_with s label ≡ Some cell → verdict s (export_request w label)
+    ensures kept { (s : State) (w : Move) (random label : List ℕ) (cell : ℕ)
+        → IsPermittedMove s w → cell_with s label ≡ Some cell
+        → verdict s random (export_request w label)
         ≡ option_map (λ rule. refusal rule (codes "key"))
         (first_failing (export_checks (key_of_label s label))) }
     ensures tokens { (s : State) (w : Move) (drawn label : List ℕ) → IsPermittedMove s w

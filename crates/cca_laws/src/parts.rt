@@ -37,6 +37,6 @@ pub fn a_key_from_its_parts()
         → (key : Denoted) × (key_of_label b.before_last label ≡ Some key)
         × (is_part_of key.clear.vector ≡ true) }
     ensures refused { (s : State) (label : List ℕ) (kind : KeyType) (b : BroughtIn label kind s)
-        → (r : Request) (o : Operand) → IsReached b.before_last r o → AsksWhole label o
-        → verdict b.before_last r ≡ Some (refusal 17 o.name) }
+        → (random : List ℕ) (r : Request) (o : Operand) → IsReached b.before_last r o
+        → AsksWhole label o → verdict b.before_last random r ≡ Some (refusal 17 o.name) }
 {}

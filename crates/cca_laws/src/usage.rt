@@ -22,13 +22,15 @@ ghost use Rattle.cca_laws.specs.Uses.{Allows, IsOperandOf, MayWork, MayCarry, Sh
 /// and its control vector forbids export. Where a request passes on a key whose control vector forbids export, so does
 /// that of each token in its reply, and that of the key in the record that it writes.
 pub fn keys_are_used_as_permitted()
-    ensures operands { (s : State) (r : Request) (o : Operand) (need : Need) (key : Denoted)
-        → verdict s r ≡ None → IsOperandOf r o → o.ask ≡ ask.Key need
+    ensures operands { (s : State) (random : List ℕ) (r : Request) (o : Operand) (need : Need)
+        (key : Denoted) → verdict s random r ≡ None → IsOperandOf r o → o.ask ≡ ask.Key need
         → key_in_text s o.text ≡ Some key → Allows need key.clear.vector }
-    ensures texts { (s : State) (r : Request) (key : Denoted) → verdict s r ≡ None
+    ensures texts { (s : State) (random : List ℕ) (r : Request) (key : Denoted)
+        → verdict s random r ≡ None
         → key_in_text s (value_of r (codes "key")) ≡ Some key
         → MayWork r.name key.clear.vector }
-    ensures transport { (s : State) (r : Request) (key : Denoted) → verdict s r ≡ None
+    ensures transport { (s : State) (random : List ℕ) (r : Request) (key : Denoted)
+        → verdict s random r ≡ None
         → key_in_text s (value_of r (codes "transport")) ≡ Some key
         → MayCarry r.name key.clear.vector }
     ensures external { (s : State) (drawn : List ℕ) (r : Request) → gives_external r.name ≡ false
@@ -36,6 +38,6 @@ pub fn keys_are_used_as_permitted()
     ensures closed { (clear : ClearKey) → IsValid clear.vector
         → ((closed_key clear).key ≡ clear.key) × (is_exportable (closed_key clear).vector ≡ false) }
     ensures still { (s : State) (image drawn vector : List ℕ) (r : Request) → IsStoreOf s image
-        → verdict s r ≡ None → passed_vector s r ≡ Some vector → is_exportable vector ≡ false
+        → verdict s drawn r ≡ None → passed_vector s r ≡ Some vector → is_exportable vector ≡ false
         → StaysUnexportable r (performed s drawn r) }
 {}

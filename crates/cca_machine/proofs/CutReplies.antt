@@ -1,10 +1,10 @@
 -- What segments reply is what their requests' definitions give, and each goes on from the chain that the one before replied.
-use Rattle.std.proofs.Common.{◌≡◌, ℕ, ◌+◌, ◌-◌, ◌/◌, Bool, true, false, not, List, [], ◌∷◌, ◌++◌, length, take, drop, get_or, map, replicate, Option, None, Some, refl, sym, ap, ◌∙◌, subst, codes}
+use Rattle.std.proofs.Common.{◌≡◌, ℕ, ◌+◌, ◌-◌, ◌/◌, Bool, true, false, List, [], ◌∷◌, ◌++◌, length, take, drop, get_or, replicate, Option, None, Some, refl, sym, ap, ◌∙◌, subst, codes}
 use Rattle.std.proofs.Math.Seq.{take-append_seam, get_or-append_seam, drop-append-add}
 use Rattle.std.specs.Prelude.{is_none, option_map}
 use Rattle.std.specs.Str.{bytes_eq}
-use Rattle.cca_vectors.specs.Checks.{Check, check, first_failing}
-use Rattle.des_core.specs.Modes.{blocks, cbc, e, joined, last_block, zero_block}
+use Rattle.cca_vectors.specs.Checks.{check, first_failing}
+use Rattle.des_core.specs.Modes.{blocks, cbc, e, joined, zero_block}
 use Rattle.des_core.specs.TripleDes.{enciphered}
 use Rattle.des_core.proofs.ValueLemmas.{bytes-enciphered}
 use Rattle.key_tokens.specs.Denotes.{ClearKey}
@@ -17,19 +17,19 @@ use Rattle.text_segments.specs.declared.modes.Mode.{Mode}
 use Rattle.text_segments.specs.declared.modes.Mode.TheVariants.{Encipher, Decipher, Mac}
 use Rattle.text_segments.proofs.BlockLemmas.{blocks-eight, cbc-eight, last_block_length}
 use Rattle.text_segments.proofs.CutLaws.{cut_codes, cut_texts, e_length}
-use Rattle.cipher_verbs.specs.declared.padding.Pad.{Pad}
 use Rattle.verb_rules.specs.LengthChecks.{text_checks}
 use Rattle.verb_rules.specs.declared.lengths.MacRule.{MacRule}
 use Rattle.verb_rules.specs.declared.lengths.MacRule.TheVariants.{X99, X919}
 use Rattle.verb_script.specs.Grammar.{AreValues, Request, row_of}
 use Rattle.verb_script.specs.Values.{hex_value}
-use Rattle.cca_machine.specs.Act.{Effect, Outcome, Show, code_segment_fields, effect, effected, last_code_fields, last_match_fields, last_text_fields, or_act, or_empty, performed, segment_fields, yes_or_no}
+use Rattle.cca_machine.specs.Act.{Effect, Show, code_segment_fields, effect, effected, last_code_fields, last_match_fields, last_text_fields, or_act, or_empty, performed, segment_fields, yes_or_no}
 use Rattle.cca_machine.specs.Choices.{mac_length_named, mac_rule_named, pad_named}
 use Rattle.cca_machine.specs.CutRequests.{Answers, AreAnswered, AreCoded, CodeSegment, CutCode, CutText, RepliedCodesAreWhole, RepliedTextsAreWhole, CutCodesAreVerified, Segment, Sender, clear_of, first_code_request, first_code_row, first_request, first_row, given_code_texts, given_texts, last_chain, last_code_chain, last_making_request, last_request, last_row, last_verifying_request, middle_code_request, middle_code_row, middle_request, middle_row, replied_texts, whole_code, whole_given, whole_replied}
 use Rattle.cca_machine.specs.Keys.{any_old, warning}
 use Rattle.cca_machine.specs.Operands.{operands, listed}
 use Rattle.cca_machine.specs.State.{State}
-use Rattle.cca_machine.specs.Verdict.{Questions, Refusal, first_refusal, general_checks, last_text_questions, operands_verdict, or_refused, or_then, verb_verdict, verdict}
+use Rattle.cca_machine.specs.Verdict.{Refusal, general_checks, operands_verdict, or_refused, or_then, verb_verdict, verdict}
+use Rattle.cca_machine.proofs.DrawLaws.{early_none}
 use Rattle.cca_machine.proofs.HexTexts.{block_length, text_length}
 
 -- ---- chains
@@ -101,10 +101,10 @@ none_of : (x : Option ℕ) (operand : List ℕ) (others : Option Refusal) → or
 none_of None operand others is = (refl, is)
 none_of (Some rule) operand others is = cc is
 
-verb_permits : (s : State) (request : Request) → verdict s request ≡ None → verb_verdict s request ≡ None
+verb_permits : (s : State) (request : Request) → verdict s [] request ≡ None → verb_verdict s request ≡ None
 verb_permits s request is =
     none_after (operands_verdict s request) (verb_verdict s request)
-    (none_of (first_failing (general_checks s request)) (codes "-") (or_then (operands_verdict s request) (verb_verdict s request)) is).1
+    (none_of (first_failing (general_checks s request)) (codes "-") (or_then (operands_verdict s request) (verb_verdict s request)) (early_none s [] request is)).1
 
 passes_pad : (o : Option (List ℕ)) → first_failing (check 31 (is_none o) ∷ []) ≡ None → o ≡ Some (or_empty o)
 passes_pad None is = cc is

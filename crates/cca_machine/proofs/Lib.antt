@@ -1,4 +1,5 @@
 mod CutReplies
+pub mod DrawLaws
 mod HexTexts
 pub mod LineLaws
 mod PairLaws

@@ -1,5 +1,5 @@
 -- What comes of a line, by what the line is.
-use Rattle.std.proofs.Common.{◌≡◌, ℕ, ◌<◌, ◌≤◌, true, false, List, [], ◌∷◌, ◌++◌, length, take, drop, Option, None, Some, codes, refl, sym, ap, ◌∙◌, arith}
+use Rattle.std.proofs.Common.{◌≡◌, ℕ, ◌<◌, ◌≤◌, true, false, List, [], ◌∷◌, ◌++◌, length, take, drop, Option, None, Some, codes, refl, ap, ◌∙◌, arith}
 use Rattle.std.specs.Prelude.{nat_le, nat_lt}
 use Rattle.std.proofs.lemmas.Bool.Decides.{nat_tests}
 use Rattle.cca_vectors.specs.Checks.{first_failing}
@@ -10,6 +10,7 @@ use Rattle.verb_script.specs.Requests.{request_of}
 use Rattle.cca_machine.specs.State.{State}
 use Rattle.cca_machine.specs.Act.{Outcome, performed}
 use Rattle.cca_machine.specs.Lines.{LineOutcome, line_checks, taken_by, request_outcome, outcome_by, line_outcome}
+use Rattle.cca_machine.proofs.DrawLaws.{front_taken}
 
 within : (n : ℕ) → n ≤ 9216 → (nat_le n 9216 ≡ true) × (nat_lt 9216 n ≡ false)
 within n h = (grind (arith, nat_tests), grind (arith, nat_tests))
@@ -67,11 +68,11 @@ with_rest o rest = record { state = o.state; reply = o.reply; random = rest }
 
 -- with exactly the random bytes that the request takes, whatever follows them
 pub line-drawn : (s : State) (drawn rest line : List ℕ) (request : Request) → length line ≤ line_limit → request_of line ≡ Some request
-    → length drawn ≡ taken_by s request
+    → length drawn ≡ taken_by s drawn request
     → line_outcome s (drawn ++ rest) line
     ≡ record { state = (performed s drawn request).state; reply = (performed s drawn request).reply; random = rest }
 line-drawn s drawn rest line request short spelled size =
     line-request s (drawn ++ rest) line request short spelled
-    ∙ (ap (λ (n : ℕ). with_bytes s request n (drawn ++ rest)) (sym size)
+    ∙ (ap (λ (n : ℕ). with_bytes s request n (drawn ++ rest)) (front_taken s drawn rest request size)
     ∙ (ap (λ (ds : List ℕ). with_rest (performed s ds request) (drop (length drawn) (drawn ++ rest))) (takes drawn rest)
     ∙ ap (λ (left : List ℕ). with_rest (performed s drawn request) left) (drops drawn rest)))

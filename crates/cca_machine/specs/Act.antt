@@ -27,8 +27,9 @@ use Rattle.cca_machine.specs.State.{State}
 use Rattle.cca_machine.specs.Actions.{part_action}
 use Rattle.master_registers.specs.Actions.{after_action}
 use Rattle.master_registers.specs.declared.actions.Action.TheVariants.{Clear, Set}
-use Rattle.cca_machine.specs.Choices.{pad_named, mac_rule_named, mac_length_named, form_named, key_length_named, type_in, target_named, is_last_part}
+use Rattle.cca_machine.specs.Choices.{pad_named, mac_rule_named, mac_length_named, form_named, type_in, target_named, is_last_part}
 use Rattle.cca_machine.specs.Ageing.{aged}
+use Rattle.cca_machine.specs.Draws.{length_in}
 use Rattle.cca_machine.specs.Keys.{key_in_field, imported, key_of_request, key_of_token, key_of_label, cell_with, or_no_key, any_old, warning}
 use Rattle.cca_machine.specs.Listing.{label_fields}
 use Rattle.cca_machine.specs.Operands.{operands, listed}
@@ -175,7 +176,7 @@ abbrev pub shown_code_segment : State → Chain → Request → Effect
 shown_code_segment s chain r =
     Show (code_segment_fields (key_of_request s r) (code_rule r) chain (bytes_in r (codes "text")))
 
--- ---- with the random bytes that it draws
+-- ---- with the random bytes that are drawn for it
 
 abbrev pub effect : State → List ℕ → RequestName → Request → Effect
 effect s drawn csnbktp r = Show (token_fields (token_of (bytes_in r (codes "token"))))
@@ -221,15 +222,17 @@ effect s drawn csnbrng r =
     Show (Hex (codes "random") (in_form (form_named (value_of r (codes "form"))) drawn) ∷ [])
 effect s drawn csnbkgn_op r =
     delivered s (codes "token1") (label_named (value_of r (codes "to")))
-    (as_current (generated_key (type1_of r) drawn))
+    (as_current (generated_key (type1_of r) (length_in r) drawn))
 effect s drawn csnbkgn_pair r =
     delivered_with s (codes "token1") (label_named (value_of r (codes "to")))
-    (as_current (generated_key (type1_of r) drawn))
+    (as_current (generated_key (type1_of r) (length_in r) drawn))
     (Hex (codes "token2")
-    (token_out s r (codes "transport2") (generated_key (type2_of r) drawn)) ∷ [])
+    (token_out s r (codes "transport2") (generated_key (type2_of r) (length_in r) drawn)) ∷ [])
 effect s drawn csnbkgn_out r = Show (
-    Hex (codes "token1") (token_out s r (codes "transport1") (generated_key (type1_of r) drawn))
-    ∷ Hex (codes "token2") (token_out s r (codes "transport2") (generated_key (type2_of r) drawn))
+    Hex (codes "token1")
+    (token_out s r (codes "transport1") (generated_key (type1_of r) (length_in r) drawn))
+    ∷ Hex (codes "token2")
+    (token_out s r (codes "transport2") (generated_key (type2_of r) (length_in r) drawn))
     ∷ [])
 effect s drawn csnbkim r =
     delivered s (codes "token") (label_named (value_of r (codes "to")))
@@ -272,50 +275,6 @@ effect s drawn csnbmkp_set r = Become (after_action Set [] s.registers) (aged s.
 effect s drawn csuaaci_define r = DefineRole (value_of r (codes "name")) (points_in r)
 effect s drawn csuaaci_remove r = RemoveRole (value_of r (codes "name"))
 effect s drawn reencipher r = Reencipher
-
--- how many random bytes a permitted request draws
-abbrev pub draws : RequestName → Request → ℕ
-draws csnbktp r = 0
-draws csnbenc r = 0
-draws csnbenc_first r = 0
-draws csnbenc_middle r = 0
-draws csnbenc_last r = 0
-draws csnbdec r = 0
-draws csnbdec_first r = 0
-draws csnbdec_middle r = 0
-draws csnbdec_last r = 0
-draws csnbmgn r = 0
-draws csnbmgn_first r = 0
-draws csnbmgn_middle r = 0
-draws csnbmgn_last r = 0
-draws csnbmvr r = 0
-draws csnbmvr_first r = 0
-draws csnbmvr_middle r = 0
-draws csnbmvr_last r = 0
-draws csnbkyt r = 0
-draws csnbcki r = 0
-draws csnbrng r = 8
-draws csnbkgn_op r = key_length_named (value_of r (codes "length"))
-draws csnbkgn_pair r = key_length_named (value_of r (codes "length"))
-draws csnbkgn_out r = key_length_named (value_of r (codes "length"))
-draws csnbkim r = 0
-draws csnbkex r = 0
-draws csnbpex r = 0
-draws csnbktc r = 0
-draws csnbkpi_first r = 0
-draws csnbkpi_middle r = 0
-draws csnbktr r = 0
-draws csnbkrc r = 0
-draws csnbkrw r = 0
-draws csnbkrr r = 0
-draws csnbkrd r = 0
-draws csnbkrl r = 0
-draws csnbmkp_part r = 0
-draws csnbmkp_clear r = 0
-draws csnbmkp_set r = 0
-draws csuaaci_define r = 0
-draws csuaaci_remove r = 0
-draws reencipher r = 0
 
 -- ---- what comes of it
 
@@ -430,6 +389,6 @@ abbrev pub or_act : Option Refusal → State → List ℕ → Request → Outcom
 or_act (Some r) s drawn request = refused s r
 or_act None s drawn request = effected s request (effect s drawn request.name request)
 
--- what comes of a request, with the random bytes that it draws
+-- what comes of a request, with the random bytes that it takes
 unfoldable pub performed : State → List ℕ → Request → Outcome
-performed s drawn request = or_act (verdict s request) s drawn request
+performed s drawn request = or_act (verdict s drawn request) s drawn request

@@ -6,6 +6,8 @@ use Rattle.cipher_verbs.specs.declared.padding.Pad.TheVariants as padding
 use Rattle.cipher_verbs.specs.declared.random.RandomForm.{RandomForm}
 use Rattle.cipher_verbs.specs.declared.random.RandomForm.TheVariants.{Random, Odd, Even}
 use Rattle.cca_vectors.specs.KeyTypes.{type_named}
+use Rattle.cca_vectors.specs.declared.key_length.Length.{Length}
+use Rattle.cca_vectors.specs.declared.key_length.Length.TheVariants.{Eight, Sixteen, Unique}
 use Rattle.cca_vectors.specs.declared.key_type.KeyType.{KeyType}
 use Rattle.cca_vectors.specs.declared.key_type.KeyType.TheVariants as kind
 use Rattle.key_transport.specs.declared.changing.Target.{Target}
@@ -35,9 +37,12 @@ form_named text =
     else if bytes_eq text (codes "ODD") then Odd
     else Even
 
--- 8 or 16 bytes
-abbrev pub key_length_named : List ℕ → ℕ
-key_length_named text = if bytes_eq text (codes "8") then 8 else 16
+-- 8, 16 or DOUBLE-O
+abbrev pub key_length_named : List ℕ → Length
+key_length_named text =
+    if bytes_eq text (codes "8") then Eight
+    else if bytes_eq text (codes "16") then Sixteen
+    else Unique
 
 -- OPEX or OPIM
 abbrev pub pair_form_named : List ℕ → Form

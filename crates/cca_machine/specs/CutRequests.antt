@@ -10,7 +10,6 @@ use Rattle.text_segments.specs.Cuttings.{uncut_text}
 use Rattle.text_segments.specs.Segments.{IsCipher}
 use Rattle.text_segments.specs.declared.modes.Mode.{Mode}
 use Rattle.text_segments.specs.declared.modes.Mode.TheVariants.{Encipher, Decipher, Mac}
-use Rattle.verb_rules.specs.declared.lengths.MacRule.{MacRule}
 use Rattle.verb_script.specs.Grammar.{Request, RequestName, row_of, AreValues, csnbenc_first, csnbenc_middle, csnbenc_last, csnbdec_first, csnbdec_middle, csnbdec_last, csnbmgn_first, csnbmgn_middle, csnbmgn_last, csnbmvr_first, csnbmvr_middle, csnbmvr_last}
 use Rattle.verb_script.specs.Values.{hex_value}
 use Rattle.cca_machine.specs.Act.{performed, yes_or_no}
@@ -23,7 +22,7 @@ use Rattle.cca_machine.specs.Verdict.{verdict}
 -- a line may spell the request, no rule refuses it, and its reply has these fields
 pub record Answers (s : State) (request : Request) (fields : List Field) : Type 0 where
   pub spelled : AreValues (row_of request.name).fields request.values
-  pub permitted : verdict s request ≡ None
+  pub permitted : verdict s [] request ≡ None
   pub reply : (performed s [] request).reply
       ≡ Done (fields ++ warning (any_old s (listed (operands request))))
 

@@ -4,6 +4,7 @@ pub mod Ageing
 pub mod Broken
 pub mod Choices
 pub mod CutRequests
+pub mod Draws
 pub mod Keys
 pub mod Lines
 pub mod Listing
@@ -14,5 +15,6 @@ pub mod Reruns
 pub mod Session
 pub mod State
 pub mod Verdict
+pub mod WorkedHalves
 pub mod WorkedRoles
 pub mod WorkedTokens

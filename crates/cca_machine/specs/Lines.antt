@@ -1,13 +1,14 @@
 -- What comes of a line.
-use Rattle.std.specs.Prelude.{ℕ, ◌&&◌, nat_le, nat_lt, is_none, List, [], ◌∷◌, length, take, drop, codes, Option, Some, None}
+use Rattle.std.specs.Prelude.{◌≡◌, ℕ, true, ◌&&◌, nat_le, nat_lt, is_none, List, [], ◌∷◌, length, take, drop, codes, Option, Some, None}
 use Rattle.cca_vectors.specs.Checks.{Check, check, first_failing}
 use Rattle.script_buffers.specs.Reading.{line_limit}
 use Rattle.script_buffers.specs.Replies.{Reply, Refused}
 use Rattle.verb_script.specs.Grammar.{Request}
 use Rattle.verb_script.specs.Requests.{request_of}
 use Rattle.cca_machine.specs.State.{State}
-use Rattle.cca_machine.specs.Verdict.{Refusal, verdict}
-use Rattle.cca_machine.specs.Act.{draws, performed}
+use Rattle.cca_machine.specs.Verdict.{Refusal, early_verdict}
+use Rattle.cca_machine.specs.Act.{performed}
+use Rattle.cca_machine.specs.Draws.{bytes_drawn, draw_of, draws_random}
 
 -- the state after a line, the reply to it, and the random bytes that are left
 pub record LineOutcome : Type 0 where
@@ -22,18 +23,24 @@ line_checks line request =
     ∷ check 2 (nat_lt line_limit (length line))
     ∷ []
 
--- a refusal takes no random byte
+-- no byte, where a rule fails that is asked before one is drawn
 abbrev pub drawn_where : Option Refusal → ℕ → ℕ
 drawn_where (Some r) count = 0
 drawn_where None count = count
 
--- how many random bytes a request takes
-abbrev pub taken_by : State → Request → ℕ
-taken_by s request = drawn_where (verdict s request) (draws request.name request)
+-- how many of the random bytes to come a request takes
+abbrev pub taken_by : State → List ℕ → Request → ℕ
+taken_by s random request =
+    drawn_where (early_verdict s request) (bytes_drawn (draw_of request.name request) random)
+
+-- a request draws random bytes, and no rule that is asked before refuses it
+pub record MayDraw (s : State) (request : Request) : Type 0 where
+  pub drawing : draws_random request ≡ true
+  pub permitted : early_verdict s request ≡ None
 
 abbrev pub request_outcome : State → List ℕ → Request → LineOutcome
 request_outcome s random request =
-    let count = taken_by s request in
+    let count = taken_by s random request in
     let o = performed s (take count random) request in
     record { state = o.state; reply = o.reply; random = drop count random }
 

@@ -18,3 +18,7 @@ replies s random lines = (outcome_of_lines line_step s random lines).reply
 -- the state after the lines
 abbrev pub state_after : State → List ℕ → List (List ℕ) → State
 state_after s random lines = (outcome_of_lines line_step s random lines).state
+
+-- the random bytes that are left after them
+abbrev pub random_after : State → List ℕ → List (List ℕ) → List ℕ
+random_after s random lines = (outcome_of_lines line_step s random lines).random

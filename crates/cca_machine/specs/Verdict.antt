@@ -1,6 +1,7 @@
 -- The verdict on a request: the first rule that it breaks, with the operand that breaks it. The rules stand in tables, and
--- each is asked as the tables say. A rule that needs an earlier one doesn't fail where that one does.
-use Rattle.std.specs.Prelude.{ℕ, ◌/◌, ◌==◌, bit_or, Bool, true, false, not, ◌&&◌, is_none, is_some, List, [], ◌∷◌, ◌++◌, length, codes, Option, Some, None}
+-- each is asked as the tables say. A rule that needs an earlier one doesn't fail where that one does. Rule 34 alone asks
+-- the random bytes to come.
+use Rattle.std.specs.Prelude.{ℕ, ◌/◌, ◌==◌, bit_or, Bool, true, false, not, ◌&&◌, is_none, is_some, if◌then◌else◌, List, [], ◌∷◌, ◌++◌, length, codes, Option, Some, None}
 use Rattle.cca_vectors.specs.Checks.{Check, check, first_failing}
 use Rattle.cca_roles.specs.Points.{includes}
 use Rattle.cca_roles.specs.Roles.{points_of, define_refused, remove_refused}
@@ -11,6 +12,7 @@ use Rattle.verb_script.specs.Grammar.{Request, RequestName, csnbktp, csnbenc, cs
 use Rattle.verb_script.specs.Named.{label_named}
 use Rattle.verb_script.specs.Values.{hex_value}
 use Rattle.cca_vectors.specs.Vectors.{length_of}
+use Rattle.cca_vectors.specs.declared.key_length.Length.{Length}
 use Rattle.cca_vectors.specs.declared.key_type.KeyType.{KeyType}
 use Rattle.cipher_verbs.specs.CipherTexts.{enciphering, pad_checks}
 use Rattle.cipher_verbs.specs.declared.padding.Pad.{Pad}
@@ -23,13 +25,14 @@ use Rattle.key_tokens.specs.Denotes.{ClearKey}
 use Rattle.master_registers.specs.Loaded.{registers_of}
 use Rattle.verb_rules.specs.KeyChecks.{key_checks, use_checks}
 use Rattle.verb_rules.specs.LengthChecks.{text_checks, mac_checks}
-use Rattle.verb_rules.specs.TypeChecks.{pair_checks, length_checks}
+use Rattle.verb_rules.specs.TypeChecks.{pair_checks, length_checks, size_checks}
 use Rattle.verb_rules.specs.PartChecks.{part_length_checks, whole_key_checks}
 use Rattle.text_segments.specs.Chains.{chain_checks, chain_of}
 use Rattle.text_segments.specs.Segments.{last_use, last_checks}
 use Rattle.text_segments.specs.declared.chains.Chain.{Chain}
 use Rattle.text_segments.specs.declared.modes.Mode.{Mode}
 use Rattle.text_segments.specs.declared.modes.Mode.TheVariants.{Encipher, Decipher, Mac}
+use Rattle.key_transport.specs.UniqueHalves.{repeats}
 use Rattle.key_transport.specs.declared.changing.Target.{Target}
 use Rattle.key_transport.specs.declared.changing.Target.TheVariants.{Current, New}
 use Rattle.master_registers.specs.Masters.{set_refused}
@@ -37,7 +40,8 @@ use Rattle.verb_rules.specs.declared.lengths.MacRule.{MacRule}
 use Rattle.verb_rules.specs.declared.needs.Need.{Need}
 use Rattle.verb_rules.specs.declared.lengths.TextUse.TheVariants as use_of
 use Rattle.cca_machine.specs.State.{State}
-use Rattle.cca_machine.specs.Choices.{pad_named, mac_rule_named, key_length_named, type_in, target_named}
+use Rattle.cca_machine.specs.Choices.{pad_named, mac_rule_named, type_in, target_named}
+use Rattle.cca_machine.specs.Draws.{Draw, NoBytes, EightBytes, KeyBytes, draw_of, length_in}
 use Rattle.cca_machine.specs.Keys.{key_bytes, key_of_request, key_of_label, cell_with, or_no_key}
 use Rattle.cca_machine.specs.Operands.{Operand, operands, listed}
 use Rattle.cca_machine.specs.Actions.{part_action, action_checks}
@@ -369,7 +373,7 @@ last_code_questions s r =
 
 -- rule 32 of the first part of a key: the key's type doesn't have this length
 abbrev pub first_part_questions : KeyType → ℕ → List Questions
-first_part_questions kind length = questions (codes "part") (length_checks kind length) ∷ []
+first_part_questions kind size = questions (codes "part") (size_checks kind size) ∷ []
 
 -- rule 32 of a further part: it hasn't the key's length; rule 35: the key is whole
 abbrev pub further_part_questions : List ℕ → ℕ → List Questions
@@ -391,27 +395,27 @@ code_questions s r =
     mac_questions (mac_rule_named (value_of r (codes "rule"))) (text_size r) (key_of_request s r)
 
 -- rule 32 of the length of one generated key
-abbrev pub generate_questions : KeyType → ℕ → List Questions
-generate_questions kind length = questions (codes "length") (length_checks kind length) ∷ []
+abbrev pub generate_questions : KeyType → Length → List Questions
+generate_questions kind key_length =
+    questions (codes "length") (length_checks kind key_length) ∷ []
 
 -- rule 24 of the types of two, and rule 32 of their length
-abbrev pub pair_questions : KeyType → KeyType → ℕ → List Questions
-pair_questions first second length =
+abbrev pub pair_questions : KeyType → KeyType → Length → List Questions
+pair_questions first second key_length =
     questions (codes "type2") (pair_checks first second)
-    ∷ questions (codes "length") (length_checks first length)
-    ∷ questions (codes "length") (length_checks second length)
+    ∷ questions (codes "length") (length_checks first key_length)
+    ∷ questions (codes "length") (length_checks second key_length)
     ∷ []
 
 -- the types and the length that a request's fields name
 abbrev pub asked_of_one : Request → List Questions
 asked_of_one r =
-    generate_questions (type_in (value_of r (codes "type1")))
-    (key_length_named (value_of r (codes "length")))
+    generate_questions (type_in (value_of r (codes "type1"))) (length_in r)
 
 abbrev pub asked_of_two : Request → List Questions
 asked_of_two r =
     pair_questions (type_in (value_of r (codes "type1"))) (type_in (value_of r (codes "type2")))
-    (key_length_named (value_of r (codes "length")))
+    (length_in r)
 
 -- rule 25 of a token that is changed to the new master key: the new register isn't full
 abbrev pub change_questions : State → Target → List Questions
@@ -465,13 +469,39 @@ verb_questions s csuaaci_define r = define_questions s (value_of r (codes "name"
 verb_questions s csuaaci_remove r = remove_questions s (value_of r (codes "name"))
 verb_questions s reencipher r = []
 
+-- the rules of the verb that are asked before a random byte is drawn
 abbrev pub verb_verdict : State → Request → Option Refusal
 verb_verdict s request = first_refusal (verb_questions s request.name request)
+
+-- rule 34, which is asked last: no key with unique halves can be made of the random bytes to come
+abbrev pub draw_verdict : Draw → List ℕ → Option Refusal
+draw_verdict NoBytes random = None
+draw_verdict EightBytes random = None
+draw_verdict (KeyBytes key_length) random =
+    if repeats key_length random then Some (refusal 34 (codes "length")) else None
+
+-- where the last rule doesn't fail, those before it decide
+abbrev pub or_last : Option Refusal → Option Refusal → Option Refusal
+or_last before None = before
+or_last before (Some last) = or_then before (Some last)
+
+-- all the rules of the verb
+abbrev pub whole_verb_verdict : State → List ℕ → Request → Option Refusal
+whole_verb_verdict s random request =
+    or_last (verb_verdict s request) (draw_verdict (draw_of request.name request) random)
 
 -- ---- the verdict
 
 -- the rules of the request as a whole, then those of its operands in their order, then those of its verb
-abbrev pub verdict : State → Request → Option Refusal
-verdict s request =
+abbrev pub verdict_by : State → Request → Option Refusal → Option Refusal
+verdict_by s request verb =
     or_refused (first_failing (general_checks s request)) (codes "-")
-    (or_then (operands_verdict s request) (verb_verdict s request))
+    (or_then (operands_verdict s request) verb)
+
+-- of the rules that are asked before a random byte is drawn
+abbrev pub early_verdict : State → Request → Option Refusal
+early_verdict s request = verdict_by s request (verb_verdict s request)
+
+-- of all the rules, with the random bytes to come
+abbrev pub verdict : State → List ℕ → Request → Option Refusal
+verdict s random request = verdict_by s request (whole_verb_verdict s random request)

@@ -2,22 +2,27 @@
 //! crate of definitions, in `specs/`, and of laws over them.
 #![tactic(auto)]
 
-ghost use Rattle.std.specs.Prelude.{◌≡◌, ℕ, List, [], ◌∷◌, ◌++◌, ◌<◌, ◌≤◌, length, codes, Option, None, Some};
+ghost use Rattle.std.specs.Prelude.{◌≡◌, ℕ, List, [], ◌∷◌, ◌++◌, ◌<◌, ◌≤◌, length, take, replicate, codes, None, Some};
 ghost use Rattle.script_buffers.specs.Reading.{line_limit};
 ghost use Rattle.script_buffers.specs.Replies.{Refused, Done, Number};
 ghost use Rattle.slot_disk.specs.Cells.{body};
 ghost use Rattle.verb_script.specs.Requests.{request_of};
 ghost use Rattle.verb_script.specs.Grammar.{Request};
+ghost use Rattle.cca_vectors.specs.DefaultVectors.{vector_with};
+ghost use Rattle.cca_vectors.specs.declared.key_length.Length.TheVariants.{Unique};
+ghost use Rattle.cca_vectors.specs.declared.key_type.KeyType.TheVariants.{Data};
 ghost use Rattle.key_tokens.specs.Denotes.{HaveDistinctPatterns};
+ghost use Rattle.key_transport.specs.Generated.{generated_key};
 ghost use Rattle.reencipher.specs.Further.{reruns, old_count};
 ghost use Rattle.verb_rules.specs.Keys.{keys_of};
 ghost use Rattle.cca_machine.specs.State.{State, IsStoreOf, blank_state};
 ghost use Rattle.cca_machine.specs.Act.{performed};
 ghost use Rattle.cca_machine.specs.CutRequests.{RepliedTextsAreWhole, RepliedCodesAreWhole, CutCodesAreVerified};
 ghost use Rattle.cca_machine.specs.Lines.{line_outcome, taken_by};
-ghost use Rattle.cca_machine.specs.Verdict.{verdict};
+ghost use Rattle.cca_machine.specs.Verdict.{Refusal, early_verdict, refusal, verdict};
 ghost use Rattle.cca_machine.specs.Reruns.{reencipher_for, stopped};
-ghost use Rattle.cca_machine.specs.Session.{replies};
+ghost use Rattle.cca_machine.specs.Session.{random_after, replies};
+ghost use Rattle.cca_machine.specs.WorkedHalves.{one_key, worked_ceremony, worked_halves, worked_refusals};
 ghost use Rattle.cca_machine.specs.WorkedRoles.{worked_roles, worked_role_table, lines_of, replies_of};
 ghost use Rattle.cca_machine.specs.WorkedTokens.{TokensAnswered, worked_tokens};
 
@@ -39,7 +44,22 @@ pub fn worked_requests_on_roles()
         ≡ replies_of worked_role_table }
 {}
 
-/// What comes of a line, by what the line is. A request takes its random bytes whatever follows them.
+/// The same of requests for a key with unique halves. Of a left half, one that is the same but for the low-order bits and
+/// one that differs, the key is the first and the last, and no random byte is left.
+pub fn worked_requests_for_unique_halves()
+    ensures refusals { replies blank_state (replicate 72 0) (lines_of worked_refusals)
+        ≡ replies_of worked_refusals }
+    ensures taken { random_after blank_state worked_halves
+        (lines_of worked_ceremony ++ one_key (codes "DATA") ∷ []) ≡ [] }
+    ensures key { generated_key Data Unique worked_halves ≡ record {
+      key = replicate 8 1 ++ replicate 8 2;
+      vector = vector_with 0x00007D0003C00000 0x00007D0003A00000;
+    } }
+{}
+
+/// What comes of a line, by what the line is. A request takes its random bytes whatever follows them, and the bytes that it
+/// takes give the verdict that all the bytes to come give. Where a rule fails that doesn't ask them, it is the verdict
+/// whatever they are, and none is taken. Rule 34 takes 72.
 pub fn outcomes_of_lines()
     ensures no_request { (s : State) (random line : List ℕ) → length line ≤ line_limit
         → request_of line ≡ None
@@ -50,12 +70,22 @@ pub fn outcomes_of_lines()
         ≡ record { state = s; reply = Refused 2 (codes "-"); random = random } }
     ensures request { (s : State) (drawn rest line : List ℕ) (request : Request)
         → length line ≤ line_limit
-        → request_of line ≡ Some request → length drawn ≡ taken_by s request
+        → request_of line ≡ Some request → length drawn ≡ taken_by s drawn request
         → line_outcome s (drawn ++ rest) line ≡ record {
           state = (performed s drawn request).state;
           reply = (performed s drawn request).reply;
           random = rest;
         } }
+    ensures verdict { (s : State) (random : List ℕ) (request : Request)
+        → verdict s (take (taken_by s random request) random) request
+        ≡ verdict s random request }
+    ensures early { (s : State) (random : List ℕ) (request : Request) (refused : Refusal)
+        → early_verdict s request ≡ Some refused → verdict s random request ≡ Some refused }
+    ensures untaken { (s : State) (random : List ℕ) (request : Request) (refused : Refusal)
+        → early_verdict s request ≡ Some refused → taken_by s random request ≡ 0 }
+    ensures repeated { (s : State) (random : List ℕ) (request : Request)
+        → verdict s random request ≡ Some (refusal 34 (codes "length"))
+        → early_verdict s request ≡ None → taken_by s random request ≡ 72 }
 {}
 
 /// A text of any length goes through CSNBENC or CSNBDEC in segments, each given the chain that the one before replied. Where
@@ -76,23 +106,23 @@ pub fn segments_reply_the_whole_code()
 /// store the same selected bytes; and the next run finds no label under the old master key.
 pub fn stopped_runs_end_as_one_run()
     ensures stop { (s : State) (drawn role : List ℕ) (cell : ℕ)
-        → verdict s (reencipher_for role) ≡ None
+        → verdict s [] (reencipher_for role) ≡ None
         → (performed s drawn (reencipher_for role)).between cell ≡ stopped s (cell ∷ []) }
     ensures verdict { (s : State) (role stops : List ℕ)
-        → verdict (stopped s stops) (reencipher_for role) ≡ verdict s (reencipher_for role) }
+        → verdict (stopped s stops) [] (reencipher_for role) ≡ verdict s [] (reencipher_for role) }
     ensures state { (s : State) (role stops : List ℕ) → length s.labels ≤ 1024
-        → verdict s (reencipher_for role) ≡ None
+        → verdict s [] (reencipher_for role) ≡ None
         → (performed (stopped s stops) [] (reencipher_for role)).state
         ≡ (performed s [] (reencipher_for role)).state }
-    ensures changed { (s : State) (role stops : List ℕ) → verdict s (reencipher_for role) ≡ None
+    ensures changed { (s : State) (role stops : List ℕ) → verdict s [] (reencipher_for role) ≡ None
         → (performed (stopped s stops) [] (reencipher_for role)).reply
         ≡ Done (Number (codes "changed") (old_count (reruns s.labels stops)) ∷ []) }
     ensures none_left { (s : State) (role : List ℕ) → length s.labels ≤ 1024
-        → verdict s (reencipher_for role) ≡ None
+        → verdict s [] (reencipher_for role) ≡ None
         → (performed (performed s [] (reencipher_for role)).state [] (reencipher_for role)).reply
         ≡ Done (Number (codes "changed") 0 ∷ []) }
     ensures bytes { (s : State) (role stops one other : List ℕ) (cell : ℕ)
-        → HaveDistinctPatterns (keys_of s.registers) → verdict s (reencipher_for role) ≡ None
+        → HaveDistinctPatterns (keys_of s.registers) → verdict s [] (reencipher_for role) ≡ None
         → IsStoreOf (performed s [] (reencipher_for role)).state one
         → IsStoreOf (performed (stopped s stops) [] (reencipher_for role)).state other
         → cell < 1024 → body one cell ≡ body other cell }

@@ -5,8 +5,9 @@ use Rattle.key_cells.specs.Bench.{Bench}
 use Rattle.verb_script.specs.Grammar.{Request}
 use Rattle.verb_script.specs.Values.{hex_value}
 use Rattle.cca_machine.specs.State.{State}
-use Rattle.cca_machine.specs.Verdict.{Refusal, refusal, or_then, or_refused, general_checks, operands_verdict, verb_verdict, verdict}
-use Rattle.cca_machine.specs.Act.{Show, draws, effect}
+use Rattle.cca_machine.specs.Verdict.{Refusal, draw_verdict, refusal, or_last, or_then, or_refused, general_checks, operands_verdict, verb_verdict, verdict_by, whole_verb_verdict}
+use Rattle.cca_machine.specs.Act.{Show, effect}
+use Rattle.cca_machine.specs.Draws.{Draw, NoBytes, EightBytes, KeyBytes, bytes_drawn, draw_of, draws_random, is_drawing}
 use Rattle.std.specs.Prelude.{◌||◌, IsSome, option_map, bytes_eq, if◌then◌else◌}
 use Rattle.std.proofs.KnownBytes.{Consumes-nil}
 use Rattle.key_tokens.specs.Denotes.{Denoted}
@@ -31,13 +32,15 @@ use Rattle.cca_requests.specs.Deciding.{LosesNone, labels_after, ShowsOr, IsDeci
 
 -- ---- the verdict
 
-pub verdict_general : (s : State) (request : Request) (n : ℕ) → first_failing (general_checks s request) ≡ Some n → verdict s request ≡ Some (refusal n (codes "-"))
-verdict_general s request n is = ap (λ (v : Option ℕ). or_refused v (codes "-") (or_then (operands_verdict s request) (verb_verdict s request))) is
+-- whatever the rules of the verb say
+pub verdict_general : (s : State) (request : Request) (n : ℕ) → first_failing (general_checks s request) ≡ Some n
+    → (verb : Option Refusal) → verdict_by s request verb ≡ Some (refusal n (codes "-"))
+verdict_general s request n is verb = ap (λ (v : Option ℕ). or_refused v (codes "-") (or_then (operands_verdict s request) verb)) is
 
 pub verdict_operands : (s : State) (request : Request) (v : Option Refusal) → first_failing (general_checks s request) ≡ None → operands_verdict s request ≡ v
-    → verdict s request ≡ or_then v (verb_verdict s request)
-verdict_operands s request v none is =
-    ap (λ (x : Option ℕ). or_refused x (codes "-") (or_then (operands_verdict s request) (verb_verdict s request))) none ∙ ap (λ (x : Option Refusal). or_then x (verb_verdict s request)) is
+    → (verb : Option Refusal) → verdict_by s request verb ≡ or_then v verb
+verdict_operands s request v none is verb =
+    ap (λ (x : Option ℕ). or_refused x (codes "-") (or_then (operands_verdict s request) verb)) none ∙ ap (λ (x : Option Refusal). or_then x verb) is
 
 -- ---- keys
 
@@ -93,23 +96,38 @@ any_old_are s bench os g granted =
 
 -- ---- what a verb decided
 
-pub drawn_zero : (v : Option Refusal) (n : ℕ) → n ≡ 0 → 0 ≡ drawn_where v n
-drawn_zero (Some r) n zero = refl
-drawn_zero None n zero = sym zero
+pub drawn_zero : (v : Option Refusal) (draw : Draw) (ahead : List ℕ) → is_drawing draw ≡ false → 0 ≡ drawn_where v (bytes_drawn draw ahead)
+drawn_zero (Some r) draw ahead none = refl
+drawn_zero None NoBytes ahead none = refl
+drawn_zero None EightBytes ahead none = cc none
+drawn_zero None (KeyBytes key_length) ahead none = cc none
+
+undrawn_last : (draw : Draw) (random : List ℕ) → is_drawing draw ≡ false → draw_verdict draw random ≡ None
+undrawn_last NoBytes random none = refl
+undrawn_last EightBytes random none = refl
+undrawn_last (KeyBytes key_length) random none = cc none
+
+-- where no random byte is drawn, the rule on them refuses nothing
+pub undrawn_verdict : (s : State) (random : List ℕ) (request : Request) → draws_random request ≡ false
+    → whole_verb_verdict s random request ≡ verb_verdict s request
+undrawn_verdict s random request none = ap (or_last (verb_verdict s request)) (undrawn_last (draw_of request.name request) random none)
 
 -- a verb that shows some fields, or is refused
 pub shows_or : (s : State) (bench : Bench) (request : Request) (v : Option Refusal) (fields : List Field) (e : CodeEffect) (reply : List ℕ) (left : Option (List ℕ))
-    → draws request.name request ≡ 0 → verb_verdict s request ≡ v → effect s [] request.name request ≡ Show fields → ShowsOr v fields e reply
+    → draws_random request ≡ false → verb_verdict s request ≡ v → effect s [] request.name request ≡ Show fields → ShowsOr v fields e reply
     → Decides s bench request e reply left left
-shows_or s bench request v fields e reply left count verdict is shown = record {
+shows_or s bench request v fields e reply left none verdict is shown = record {
   drawn = [];
   decided = by_effect e shown;
-  random = record { consumed = Consumes-nil left; size = drawn_zero (verb_verdict s request) (draws request.name request) count };
+  random = record { consumed = Consumes-nil left; size = drawn_zero (verb_verdict s request) (draw_of request.name request) [] none };
 }
   where
+    whole : whole_verb_verdict s [] request ≡ v
+    whole = undrawn_verdict s [] request none ∙ verdict
+
     by_effect : (e : CodeEffect) → ShowsOr v fields e reply → IsDecided s bench [] request e reply
-    by_effect (code.Refused _ name) shown = verdict ∙ shown
-    by_effect code.Shown shown = (verdict ∙ shown.0, record { fields = fields; is = is; reply_is = shown.1 })
+    by_effect (code.Refused _ name) shown = whole ∙ shown
+    by_effect code.Shown shown = (whole ∙ shown.0, record { fields = fields; is = is; reply_is = shown.1 })
     by_effect (code.Change action) shown = absurd shown
     by_effect (code.DefineRole name points) shown = absurd shown
     by_effect (code.RemoveRole name) shown = absurd shown
@@ -120,11 +138,11 @@ shows_or s bench request v fields e reply left count verdict is shown = record {
 
 -- what was decided without random bytes
 pub decides : (s : State) (bench : Bench) (request : Request) (e : CodeEffect) (reply : List ℕ) (left : Option (List ℕ))
-    → draws request.name request ≡ 0 → IsDecided s bench [] request e reply → Decides s bench request e reply left left
-decides s bench request e reply left count decided = record {
+    → draws_random request ≡ false → IsDecided s bench [] request e reply → Decides s bench request e reply left left
+decides s bench request e reply left none decided = record {
   drawn = [];
   decided = decided;
-  random = record { consumed = Consumes-nil left; size = drawn_zero (verb_verdict s request) (draws request.name request) count };
+  random = record { consumed = Consumes-nil left; size = drawn_zero (verb_verdict s request) (draw_of request.name request) [] none };
 }
 
 -- ---- keys of tokens and records

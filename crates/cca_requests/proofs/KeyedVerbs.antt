@@ -1,38 +1,45 @@
 -- Verbs that draw nothing: what they show over the clear key of a token that was judged, and a key that they deliver.
-use Rattle.std.proofs.Common.{◌≡◌, ℕ, List, [], Option, sym, subst}
-use Rattle.std.proofs.KnownBytes.{Consumes-nil}
+use Rattle.std.proofs.Common.{◌≡◌, ℕ, List, [], Option, None, false, sym, subst}
 use Rattle.key_cells.specs.Bench.{Bench}
 use Rattle.key_tokens.specs.Denotes.{ClearKey}
 use Rattle.script_buffers.specs.Replies.{Field}
 use Rattle.verb_script.specs.Grammar.{Request}
-use Rattle.cca_machine.specs.Act.{Show, draws, effect}
+use Rattle.cca_machine.specs.Act.{Show, effect}
+use Rattle.cca_machine.specs.Draws.{draws_random}
 use Rattle.cca_machine.specs.Keys.{key_of_request}
 use Rattle.cca_machine.specs.State.{State}
-use Rattle.cca_machine.specs.Verdict.{Refusal, verb_verdict}
-use Rattle.cca_requests.specs.Deciding.{Decides, ShowsOr}
+use Rattle.cca_machine.specs.Verdict.{Refusal, verb_verdict, whole_verb_verdict}
+use Rattle.cca_requests.specs.Deciding.{Decides, IsDelivered, ShowsOr}
 use Rattle.cca_requests.specs.Drawing.{IsDeliveredOr}
 use Rattle.cca_requests.specs.declared.effects.Effect.{Effect as CodeEffect}
-use Rattle.cca_requests.proofs.Acting.{drawn_zero, shows_or}
-use Rattle.cca_requests.proofs.Generating.{generated_decides}
+use Rattle.cca_requests.proofs.Acting.{decides, shows_or, undrawn_verdict}
+use Rattle.cca_requests.proofs.Generating.{delivered_or, left_of}
 
 -- a verb that shows some fields over the key of the request, or is refused
 pub keyed_shows : (s : State) (bench : Bench) (request : Request) (clear : ClearKey) (v : ClearKey → Option Refusal) (fields : ClearKey → List Field)
     (e : CodeEffect) (reply : List ℕ) (left : Option (List ℕ))
-    → draws request.name request ≡ 0 → verb_verdict s request ≡ v (key_of_request s request)
+    → draws_random request ≡ false → verb_verdict s request ≡ v (key_of_request s request)
     → effect s [] request.name request ≡ Show (fields (key_of_request s request))
     → key_of_request s request ≡ clear → ShowsOr (v clear) (fields clear) e reply
     → Decides s bench request e reply left left
-keyed_shows s bench request clear v fields e reply left count verdict is key shown =
-    shows_or s bench request (v (key_of_request s request)) (fields (key_of_request s request)) e reply left count verdict is
+keyed_shows s bench request clear v fields e reply left none verdict is key shown =
+    shows_or s bench request (v (key_of_request s request)) (fields (key_of_request s request)) e reply left none verdict is
     (subst (λ (k : ClearKey). ShowsOr (v k) (fields k) e reply) (sym key) shown)
 
 -- a verb that delivers a key, or is refused
 pub delivered_or_decides : (s : State) (bench : Bench) (request : Request) (e : CodeEffect) (reply : List ℕ) (left : Option (List ℕ))
-    → draws request.name request ≡ 0 → IsDeliveredOr s (verb_verdict s request) (effect s [] request.name request) e reply
+    → draws_random request ≡ false → IsDeliveredOr s (verb_verdict s request) (effect s [] request.name request) e reply
     → Decides s bench request e reply left left
-delivered_or_decides s bench request e reply left count delivered =
-    generated_decides s bench request left left reply e (record {
-      drawn = [];
-      left = delivered;
-      random = record { consumed = Consumes-nil left; size = drawn_zero (verb_verdict s request) (draws request.name request) count };
-    })
+delivered_or_decides s bench request e reply left none delivered =
+    let made = effect s [] request.name request in
+    decides s bench request e reply left none
+    (left_of s bench request (whole_verb_verdict s [] request) made e reply
+    (subst (λ (v : Option Refusal). IsDeliveredOr s v made e reply) (sym (undrawn_verdict s [] request none)) delivered))
+
+-- a verb that delivers a key
+pub delivered_decides : (s : State) (bench : Bench) (request : Request) (e : CodeEffect) (reply : List ℕ) (left : Option (List ℕ))
+    → draws_random request ≡ false → verb_verdict s request ≡ None → IsDelivered s (effect s [] request.name request) e reply
+    → Decides s bench request e reply left left
+delivered_decides s bench request e reply left none permitted delivered =
+    delivered_or_decides s bench request e reply left none
+    (delivered_or s (verb_verdict s request) (effect s [] request.name request) e reply permitted delivered)

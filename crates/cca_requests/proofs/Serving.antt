@@ -13,9 +13,10 @@ use Rattle.line_service.specs.declared.stops.Stop.{Stop}
 use Rattle.verb_rules.specs.Keys.{keys_of}
 use Rattle.verb_script.specs.Grammar.{Request}
 use Rattle.cca_machine.specs.State.{State, IsModuleOf, IsStoreOf}
-use Rattle.cca_machine.specs.Verdict.{Refusal, verdict}
-use Rattle.cca_machine.specs.Act.{Outcome, Cells, NoCell, OneCell, OldCells, draws, or_act, performed}
-use Rattle.cca_machine.specs.Lines.{drawn_where, taken_by}
+use Rattle.cca_machine.specs.Verdict.{Refusal, early_verdict, verb_verdict, verdict, verdict_by, whole_verb_verdict}
+use Rattle.cca_machine.specs.Act.{Outcome, Cells, NoCell, OneCell, OldCells, or_act, performed}
+use Rattle.cca_machine.specs.Draws.{bytes_drawn, draw_of}
+use Rattle.cca_machine.specs.Lines.{MayDraw, drawn_where, taken_by}
 use Rattle.line_service.specs.declared.stops.Stop.TheVariants.{EntropyFault}
 use Rattle.line_service.specs.Answering.{Holds, Unwritten}
 use Rattle.line_service.specs.Machine.{world}
@@ -285,21 +286,22 @@ module _ (o : Outcome) (s : State) (result : Result (Unit {0}) Stop) (reply : Li
 -- ---- a request
 
 -- by the verdict that is known
-pub performed_by : (s : State) (drawn : List ℕ) (request : Request) (v : Option Refusal) → verdict s request ≡ v
+pub performed_by : (s : State) (drawn : List ℕ) (request : Request) (v : Option Refusal) → verdict s drawn request ≡ v
     → performed s drawn request ≡ or_act v s drawn request
 unfolding performed
 performed_by s drawn request v is = ap (λ (x : Option Refusal). or_act x s drawn request) is
 
-taken_for : (s : State) (request : Request) (v : Option Refusal) → verdict s request ≡ v → taken_by s request ≡ drawn_where v (draws request.name request)
-taken_for s request v is = ap (λ (x : Option Refusal). drawn_where x (draws request.name request)) is
+pub taken_for : (s : State) (drawn : List ℕ) (request : Request) (v : Option Refusal) → early_verdict s request ≡ v
+    → taken_by s drawn request ≡ drawn_where v (bytes_drawn (draw_of request.name request) drawn)
+taken_for s drawn request v is = ap (λ (x : Option Refusal). drawn_where x (bytes_drawn (draw_of request.name request) drawn)) is
 
--- a refusal: no random byte is drawn, and at most the store was read
+-- a refusal, whatever the verb's rules say: no random byte is drawn, and at most the store was read
 pub refused_serves : (s : State) (request : Request) (r : Refusal) (reply : List ℕ) (t : Tables) (m d0 d1 : Medium) (left : Option (List ℕ))
-    → verdict s request ≡ Some r → reply ≡ spelled (Refused r.rule r.operand) → IsSettled m → IsSettled d0 → Keeps d0 d1 → Stands s t m d0
+    → ((v : Option Refusal) → verdict_by s request v ≡ Some r) → reply ≡ spelled (Refused r.rule r.operand) → IsSettled m → IsSettled d0 → Keeps d0 d1 → Stands s t m d0
     → Serves s request (Ok tt) reply t (world m d0 left) (world m d1 left)
 refused_serves s request r reply t m d0 d1 left is text settled_module settled_store keeps stands =
     let o : Outcome = performed s [] request in
-    let by = performed_by s [] request (Some r) is in
+    let by = performed_by s [] request (Some r) (is (whole_verb_verdict s [] request)) in
     let carries : Carries o s (Ok tt) reply t m m d0 d1 =
     carries_after_reads o s (Ok tt) reply t t m m m d0 d1 d1 settled_module settled_store stands (keeps_still m) keeps
     (still_carries o s (Ok tt) reply t m d1 (ap (λ (x : Outcome). x.state) by) (text ∙ ap (λ (x : Outcome). spelled x.reply) (sym by)) tt
@@ -308,7 +310,7 @@ refused_serves s request r reply t m d0 d1 left is text settled_module settled_s
       drawn = [];
       carries = carries;
       pairs = pairs_of o s (Ok tt) reply t m m d0 d1 carries;
-      random = inl (record { consumed = Consumes-nil left; size = sym (taken_for s request (Some r) is) });
+      random = inl (record { consumed = Consumes-nil left; size = sym (taken_for s [] request (Some r) (is (verb_verdict s request))) });
       permitted = λ fault. cc fault;
       undrawn = λ fault. cc fault;
     }
@@ -321,7 +323,7 @@ same_stop a b is = cc is
 
 -- a fault of a device, before anything was written
 pub stopped_serves : (s : State) (request : Request) (stop : Stop) (reply : List ℕ) (before t : Tables) (m0 m1 d0 d1 : Medium) (left now : Option (List ℕ))
-    → IsFault stop → (stop ≡ EntropyFault → 0 < taken_by s request) → IsSettled m0 → IsSettled d0 → Keeps m0 m1 → Keeps d0 d1 → Stands s before m0 d0
+    → IsFault stop → (stop ≡ EntropyFault → MayDraw s request) → IsSettled m0 → IsSettled d0 → Keeps m0 m1 → Keeps d0 d1 → Stands s before m0 d0
     → Serves s request (Err stop) reply t (world m0 d0 left) (world m1 d1 now)
 stopped_serves s request stop reply before t m0 m1 d0 d1 left now fault permitted settled_module settled_store keeps_module keeps_store stands =
     let o : Outcome = performed s [] request in
@@ -351,7 +353,7 @@ stopped_serves s request stop reply before t m0 m1 d0 d1 left now fault permitte
 
 -- it was carried out, with these random bytes; the random source didn't fail
 pub drawn_serves : (s : State) (request : Request) (drawn : List ℕ) (result : Result (Unit {0}) Stop) (reply : List ℕ) (t : Tables) (m0 m1 d0 d1 : Medium)
-    (left now : Option (List ℕ)) → Carries (performed s drawn request) s result reply t m0 m1 d0 d1 → HasDrawn drawn (taken_by s request) left now
+    (left now : Option (List ℕ)) → Carries (performed s drawn request) s result reply t m0 m1 d0 d1 → HasDrawn drawn (taken_by s drawn request) left now
     → (result ≡ Err EntropyFault → ⊥) → Serves s request result reply t (world m0 d0 left) (world m1 d1 now)
 drawn_serves s request drawn result reply t m0 m1 d0 d1 left now carries random never = record {
   drawn = drawn;
@@ -386,7 +388,7 @@ serves_after_reads s request result reply before t m0 m1 m2 d0 d1 d2 left now se
     }
 
 -- a refusal writes no cell
-pub refused_cells : (s : State) (drawn : List ℕ) (request : Request) (r : Refusal) → verdict s request ≡ Some r
+pub refused_cells : (s : State) (drawn : List ℕ) (request : Request) (r : Refusal) → verdict s drawn request ≡ Some r
     → ((performed s drawn request).module_cells ≡ NoCell) × ((performed s drawn request).store_cells ≡ NoCell)
 refused_cells s drawn request r is =
     let by = performed_by s drawn request (Some r) is in

@@ -1,5 +1,5 @@
 -- What a verb decided: what is still to be carried out.
-use Rattle.std.specs.Prelude.{◌≡◌, ◌≢◌, ◌≤◌, ◌<◌, false, ⊤, IsSome, ℕ, List, [], ◌∷◌, length, codes, Option, Some, None, Result, Ok, Err}
+use Rattle.std.specs.Prelude.{◌≡◌, ◌≢◌, ◌≤◌, ◌<◌, true, false, ⊤, IsSome, ℕ, List, [], ◌∷◌, length, codes, Option, Some, None, Result, Ok, Err}
 use Rattle.cca_roles.specs.RoleNames.{default_name}
 use Rattle.key_records.specs.Ages.{any_old as any_old_label}
 use Rattle.key_records.specs.Directory.{label_at}
@@ -30,13 +30,14 @@ use Rattle.line_service.specs.declared.stops.Stop.{Stop}
 use Rattle.line_service.specs.declared.stops.Stop.TheVariants.{ModuleFault, StoreFault}
 use Rattle.cca_machine.specs.Ageing.{aged}
 use Rattle.cca_machine.specs.Keys.{any_old, cell_with}
+use Rattle.cca_machine.specs.Draws.{bytes_drawn, draw_of, draws_random}
 use Rattle.cca_machine.specs.Lines.{drawn_where}
 use Rattle.cca_machine.specs.Operands.{operands, listed}
 use Rattle.verb_rules.specs.Keys.{keys_of}
 use Rattle.verb_rules.specs.Rules.{rule_number}
 use Rattle.cca_machine.specs.State.{State, module_size, store_size}
-use Rattle.cca_machine.specs.Verdict.{Questions, Refusal, refusal, first_refusal, action_questions, set_questions, create_questions, define_questions, remove_questions, verb_verdict}
-use Rattle.cca_machine.specs.Act.{Effect, Show, Become, DefineRole, RemoveRole, Create, Write, Delete, Reencipher, Outcome, effect, draws, state_after, state_between, fields_after, module_cells_after, store_cells_after, refused}
+use Rattle.cca_machine.specs.Verdict.{Questions, Refusal, refusal, first_refusal, action_questions, set_questions, create_questions, define_questions, remove_questions, verb_verdict, whole_verb_verdict}
+use Rattle.cca_machine.specs.Act.{Effect, Show, Become, DefineRole, RemoveRole, Create, Write, Delete, Reencipher, Outcome, effect, state_after, state_between, fields_after, module_cells_after, store_cells_after, refused}
 use Rattle.cca_requests.specs.Serving.{Tables, StandsInModule, StandsInStore, Stands, HasDrawn}
 use Rattle.cca_requests.specs.declared.effects.Effect.{Effect as CodeEffect}
 use Rattle.cca_requests.specs.declared.effects.Effect.TheVariants as code
@@ -136,18 +137,18 @@ IsLeft s bench request v e code.Reencipher reply = (v ≡ None) × (e ≡ Reenci
 
 -- it gives the verdict and the effect of the verb, with these random bytes
 abbrev pub IsDecided : State → Bench → List ℕ → Request → CodeEffect → List ℕ → Type 0
-IsDecided s bench drawn request e reply = IsLeft s bench request (verb_verdict s request) (effect s drawn request.name request) e reply
+IsDecided s bench drawn request e reply = IsLeft s bench request (whole_verb_verdict s drawn request) (effect s drawn request.name request) e reply
 
 -- with the random bytes that were drawn, what is still to be carried out is the verb's
 pub record Decides (s : State) (bench : Bench) (request : Request) (e : CodeEffect) (reply : List ℕ) (before now : Option (List ℕ)) : Type 0 where
   pub drawn : List ℕ
   pub decided : IsDecided s bench drawn request e reply
-  pub random : HasDrawn drawn (drawn_where (verb_verdict s request) (draws request.name request)) before now
+  pub random : HasDrawn drawn (drawn_where (verb_verdict s request) (bytes_drawn (draw_of request.name request) drawn)) before now
 
--- the same, or the random source failed, and no rule refuses the request
+-- the same, or the random source failed, and no rule that is asked before refuses the request
 abbrev pub MayDecide : State → Bench → Request → Result CodeEffect Stop → List ℕ → Option (List ℕ) → Option (List ℕ) → Type 0
 MayDecide s bench request (Ok e) reply before now = Decides s bench request e reply before now
-MayDecide s bench request (Err stop) reply before now = (verb_verdict s request ≡ None) × (0 < draws request.name request)
+MayDecide s bench request (Err stop) reply before now = (verb_verdict s request ≡ None) × (draws_random request ≡ true)
 
 -- a key goes into a record, or into the reply
 abbrev pub IsDelivered : State → Effect → CodeEffect → List ℕ → Type 0

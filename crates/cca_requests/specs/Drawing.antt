@@ -1,15 +1,18 @@
 -- Random bytes that a verb drew, and what it leaves with them.
 use Rattle.std.specs.Prelude.{◌≡◌, ℕ, List, [], ◌∷◌, length, codes, Option, Some, None, ⊤}
 use Rattle.std.specs.Io.KnownBytes.{Consumes}
+use Rattle.cca_vectors.specs.declared.key_length.Length.{Length}
 use Rattle.key_records.specs.declared.rows.Row.{Row}
+use Rattle.key_transport.specs.UniqueHalves.{key_taken}
 use Rattle.script_buffers.specs.Replies.{written, Hex}
 use Rattle.cipher_verbs.specs.RandomBytes.{in_form}
 use Rattle.cipher_verbs.specs.declared.random.RandomForm.{RandomForm}
 use Rattle.verb_rules.specs.Rules.{rule_number}
 use Rattle.cca_machine.specs.Act.{Effect}
+use Rattle.cca_machine.specs.Draws.{KeyBytes}
 use Rattle.cca_machine.specs.Lines.{drawn_where}
 use Rattle.cca_machine.specs.State.{State}
-use Rattle.cca_machine.specs.Verdict.{Refusal, refusal}
+use Rattle.cca_machine.specs.Verdict.{Refusal, draw_verdict, or_last, refusal}
 use Rattle.cca_requests.specs.Deciding.{IsHeldAt, IsShown, IsWritten}
 use Rattle.cca_requests.specs.Serving.{HasDrawn}
 use Rattle.cca_requests.specs.declared.effects.Effect.{Effect as CodeEffect}
@@ -44,8 +47,9 @@ IsDeliveredOr s v e (code.Write place token) reply = (v ≡ None) × IsWritten s
 IsDeliveredOr s v e (code.Delete place) reply = ⊥
 IsDeliveredOr s v e code.Reencipher reply = ⊥
 
--- random bytes are drawn where no rule of the verb refuses the request, and the effect that is left is made with them
-pub record LeavesDrawn (s : State) (v : Option Refusal) (make : List ℕ → Effect) (count : ℕ) (before now : Option (List ℕ)) (reply : List ℕ) (e : CodeEffect) : Type 0 where
+-- The random bytes of a key are drawn where no rule of the verb that is asked before refuses the request. The last rule
+-- refuses it by them, or the effect that is left is made with them.
+pub record LeavesDrawn (s : State) (v : Option Refusal) (make : List ℕ → Effect) (key_length : Length) (before now : Option (List ℕ)) (reply : List ℕ) (e : CodeEffect) : Type 0 where
   pub drawn : List ℕ
-  pub left : IsDeliveredOr s v (make drawn) e reply
-  pub random : HasDrawn drawn (drawn_where v count) before now
+  pub left : IsDeliveredOr s (or_last v (draw_verdict (KeyBytes key_length) drawn)) (make drawn) e reply
+  pub random : HasDrawn drawn (drawn_where v (key_taken key_length drawn)) before now

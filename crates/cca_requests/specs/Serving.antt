@@ -1,5 +1,5 @@
 -- What a request leaves of the disks, in a few records.
-use Rattle.std.specs.Prelude.{◌≡◌, ◌≢◌, ◌⊎◌, ◌≤◌, ◌<◌, ◌*◌, ℕ, List, [], length, slice_index, false, Option, Result, Err, OnOk, OnErr, IfErr, IsOk, IsSome, IsTrue, ⊤}
+use Rattle.std.specs.Prelude.{◌≡◌, ◌≢◌, ◌⊎◌, ◌≤◌, ◌<◌, ◌*◌, ℕ, List, [], length, slice_index, true, false, Option, Result, Err, OnOk, OnErr, IfErr, IsOk, IsSome, IsTrue, ⊤}
 use Rattle.slot_disk.specs.Cells.{body, IsUntouched}
 use Rattle.slot_disk.specs.Medium.{Medium, Told, Keeps, From, Becomes, EachImage, EachPair}
 use Rattle.slot_disk.specs.Ranges.{SameOutside}
@@ -25,8 +25,10 @@ use Rattle.verb_script.specs.Grammar.{Request, Spells}
 use Rattle.cca_machine.specs.State.{State, IsModuleOf, IsStoreOf}
 use Rattle.cca_machine.specs.Operands.{needs_store}
 use Rattle.cca_requests.specs.Judging.{IsStoreStop}
-use Rattle.cca_machine.specs.Act.{Outcome, Cells, NoCell, OneCell, OldCells, performed, draws}
-use Rattle.cca_machine.specs.Lines.{taken_by}
+use Rattle.cca_machine.specs.Act.{Outcome, Cells, NoCell, OneCell, OldCells, performed}
+use Rattle.cca_machine.specs.Draws.{draws_random}
+use Rattle.cca_machine.specs.Lines.{MayDraw, taken_by}
+use Rattle.cca_machine.specs.Verdict.{early_verdict}
 use Rattle.std.specs.Io.KnownBytes.{Consumes}
 
 -- some line spells the request
@@ -169,10 +171,10 @@ pub record Serves (s : State) (request : Request) (result : Result (Unit {0}) St
   pub pairs : EachPair old.module_ new.module_ old.store new.store
       (ArePair s (performed s drawn request))
   -- they were drawn; or it stopped before, and nothing was written
-  pub random : HasDrawn drawn (taken_by s request) old.random new.random
+  pub random : HasDrawn drawn (taken_by s drawn request) old.random new.random
       ⊎ (OnOk result ⊥ × Unwritten old new)
   -- the random source fails only where the machine takes random bytes, and nothing is written then
-  pub permitted : result ≡ Err EntropyFault → 0 < taken_by s request
+  pub permitted : result ≡ Err EntropyFault → MayDraw s request
   pub undrawn : result ≡ Err EntropyFault → Unwritten old new
 
 -- ---- what is certain whatever the disks hold
@@ -261,14 +263,14 @@ pub record SparesStore {D : Type 0} (request : Request) (result : Result (Unit {
   pub named : result ≡ Err StoreFault → IsTrue (needs_store request)
   pub spared : needs_store request ≡ false → store1 ≡ store0
 
--- Random bytes are taken only where the machine takes some, from a state that has P, and where the request draws some;
--- the random source fails only there too.
+-- Random bytes are taken only where no rule that is asked before refuses the request, from a state that has P, and where
+-- the request draws some; the random source fails only there too.
 pub record DrawsOnly {E : Type 0} (P : State → Type 0) (request : Request)
     (result : Result (Unit {0}) Stop) (entropy0 entropy1 : E) (before now : ℕ) : Type 0 where
   pub entropy : TellsFault before now (result ≡ Err EntropyFault)
-  pub untouched : (s : State) → P s → taken_by s request ≡ 0 → entropy1 ≡ entropy0
-  pub undrawn : draws request.name request ≡ 0 → entropy1 ≡ entropy0
-  pub drawing : result ≡ Err EntropyFault → 0 < draws request.name request
+  pub untouched : (s : State) → P s → IsSome (early_verdict s request) → entropy1 ≡ entropy0
+  pub undrawn : draws_random request ≡ false → entropy1 ≡ entropy0
+  pub drawing : result ≡ Err EntropyFault → draws_random request ≡ true
 
 -- each disk that tells its bytes holds what the memory has of it
 pub record AreRemembered (t : Tables) (m d : Medium) : Type 0 where

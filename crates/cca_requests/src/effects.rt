@@ -6,7 +6,7 @@ ghost use Rattle.cca_machine.specs.State.{State};
 ghost use Rattle.cca_machine.specs.Keys.{any_old};
 ghost use Rattle.cca_machine.specs.Operands.{operands, listed};
 ghost use Rattle.cca_machine.specs.Act.{or_act};
-ghost use Rattle.cca_machine.specs.Verdict.{verb_verdict};
+ghost use Rattle.cca_machine.specs.Verdict.{whole_verb_verdict};
 ghost use Rattle.cca_requests.specs.Serving.{Carries, Leaves, IsLoadedStop, tables};
 ghost use Rattle.cca_requests.specs.Deciding.{HasLoaded, HasStore, At, IsDecided, IsReady, WritesStore, GoesThrough};
 
@@ -67,7 +67,7 @@ pub(crate) fn carry<M: Disk, D: Disk>(
         (M.medium «module».old) (D.medium store.old)
         → any_old s (listed (operands request)) ≡ warns
         → IsDecided s (bench_of lease.old) drawn request effect.now reply.old
-        → Carries (or_act (verb_verdict s request) s drawn request) s result reply.new
+        → Carries (or_act (whole_verb_verdict s drawn request) s drawn request) s result reply.new
         (tables roles.new records.new)
         (M.medium «module».old) (M.medium «module».new) (D.medium store.old) (D.medium store.new) }
     ensures left { Leaves result reply.new (⟦<(M, D) as Shown>⟧.between

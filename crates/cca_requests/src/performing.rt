@@ -1,5 +1,5 @@
 //! A request, judged and carried out.
-ghost use Rattle.std.specs.Prelude.{◌≡◌, ◌<◌, ◌⊎◌, ℕ, true, false, List, [], None, Err, OnErr, IfErr, IfOk, IsSome, IsNone, IsTrue, Some, codes};
+ghost use Rattle.std.specs.Prelude.{◌≡◌, ◌⊎◌, ℕ, true, false, List, [], Option, None, Err, OnErr, IfErr, IfOk, IsSome, IsNone, IsTrue, Some, codes};
 ghost use Rattle.std.specs.Option.{option_map};
 ghost use Rattle.cca_vectors.specs.Checks.{first_failing};
 ghost use Rattle.key_cells.specs.Bench.{Bench, blank_bench};
@@ -9,15 +9,15 @@ ghost use Rattle.master_registers.specs.Loaded.{Loaded, IsLoaded};
 ghost use Rattle.master_registers.specs.Masters.{Masters};
 ghost use Rattle.line_service.specs.Devices.{AreSettled, TellsFault};
 ghost use Rattle.verb_rules.specs.Keys.{HasHalves, IsDouble};
-ghost use Rattle.cca_machine.specs.Lines.{drawn_where, taken_by};
 ghost use Rattle.verb_rules.specs.Rules.{rule_number};
 ghost use Rattle.verb_rules.specs.declared.needs.Need.{Need};
 ghost use Rattle.verb_script.specs.Grammar.{value_of};
 ghost use Rattle.verb_script.specs.Parsed.{seen};
 ghost use Rattle.cca_machine.specs.State.{State, module_size, store_size};
 ghost use Rattle.cca_machine.specs.Operands.{operands, needs_store, is_reencipher};
-ghost use Rattle.cca_machine.specs.Verdict.{action_points, target_points, change_points, needed_points, needs_master, general_checks, verdict, verb_verdict};
-ghost use Rattle.cca_machine.specs.Act.{performed, draws};
+ghost use Rattle.cca_machine.specs.Verdict.{Refusal, action_points, target_points, change_points, needed_points, needs_master, general_checks, verdict_by, verb_verdict};
+ghost use Rattle.cca_machine.specs.Act.{performed};
+ghost use Rattle.cca_machine.specs.Draws.{draws_random};
 ghost use Rattle.cca_requests.specs.Serving.{IsSpelled, IsRequestStop, IsLoadedStop, Stands, Serves, Leaves, FindsDamage, SparesStore, DrawsOnly, AreRemembered, tables};
 ghost use Rattle.cca_requests.specs.Judging.{IsAccepted, HasJudged, HasJudgedExternal, HasSomeJudged, HaveShapes, AreGranted, AreKeyed, is_old_key, any_old_key};
 ghost use Rattle.cca_requests.specs.Deciding.{HasLoaded, HasStore, At, IsRecorded, MayDecide, IsReady, WritesStore, GoesThrough, with_places};
@@ -66,7 +66,8 @@ use verb_script::{ReplyBuffer, Request};
 ///
 /// A refusal is `Ok` with its reply. After a stop the reply buffer is empty, and the session is to be begun again.
 ///
-/// Random bytes are drawn once no rule refuses the request, and by one call.
+/// Random bytes are drawn once no rule that is asked before refuses the request: by one call, and by further ones while the
+/// halves of a key that are to be unique are repeated.
 ///
 /// Each request reads the module twice, and for each label of a key one cell of the store. A change of a disk reads
 /// it once more at most, and writes and syncs it twice. Re-enciphering goes through the store cell by cell: it costs two
@@ -195,22 +196,21 @@ fn act<M: Disk, D: Disk, E: Entropy>(
     ensures serves { (s : State) → At s held.now (bench_of lease.old) (tables roles.old records.old)
         (M.medium «module».old) (D.medium store.old)
         → AreGranted s (bench_of lease.old) (operands (seen request.now)) granted.now
-        → verdict s (seen request.now) ≡ verb_verdict s (seen request.now)
+        → ((v : Option Refusal) → verdict_by s (seen request.now) v ≡ v)
         → Serves s (seen request.now) result reply.new (tables roles.new records.new)
         (world (M.medium «module».old) (D.medium store.old) (E.left entropy.old))
         (world (M.medium «module».new) (D.medium store.new) (E.left entropy.new)) }
     ensures entropy { TellsFault (E.faults entropy.old) (E.faults entropy.new)
         (result ≡ Err Stop.EntropyFault) }
     ensures untouched { (s : State)
-        → verdict s (seen request.now) ≡ verb_verdict s (seen request.now)
+        → ((v : Option Refusal) → verdict_by s (seen request.now) v ≡ v)
         → AreGranted s (bench_of lease.old) (operands (seen request.now)) granted.now
         → At s held.now (bench_of lease.old) (tables roles.old records.old)
         (M.medium «module».old) (D.medium store.old)
-        → taken_by s (seen request.now) ≡ 0 → entropy.new ≡ entropy.old }
-    ensures undrawn { draws (seen request.now).name (seen request.now) ≡ 0
-        → entropy.new ≡ entropy.old }
+        → IsSome (verb_verdict s (seen request.now)) → entropy.new ≡ entropy.old }
+    ensures undrawn { draws_random (seen request.now) ≡ false → entropy.new ≡ entropy.old }
     ensures drawing { result ≡ Err Stop.EntropyFault
-        → 0 < draws (seen request.now).name (seen request.now) }
+        → draws_random (seen request.now) ≡ true }
     ensures left { Leaves result reply.new (⟦<(M, D) as Shown>⟧.between
         («module».old, store.old) («module».new, store.new))
         (tables roles.old records.old) (tables roles.new records.new) }
@@ -271,12 +271,9 @@ fn decide<E: Entropy>(
     ensures untouched { (s : State) → Loaded s.registers held.now (bench_of lease.old)
         → IsRecorded s records.now
         → AreGranted s (bench_of lease.old) (operands (seen request.now)) granted.now
-        → drawn_where (verb_verdict s (seen request.now))
-        (draws (seen request.now).name (seen request.now)) ≡ 0
-        → entropy.new ≡ entropy.old }
-    ensures undrawn { draws (seen request.now).name (seen request.now) ≡ 0
-        → entropy.new ≡ entropy.old }
-    ensures drawing { OnErr result (0 < draws (seen request.now).name (seen request.now)) }
+        → IsSome (verb_verdict s (seen request.now)) → entropy.new ≡ entropy.old }
+    ensures undrawn { draws_random (seen request.now) ≡ false → entropy.new ≡ entropy.old }
+    ensures drawing { OnErr result (draws_random (seen request.now) ≡ true) }
     ensures stops { IfErr result (λ stop. stop ≡ Stop.EntropyFault) }
     ensures places { lease.new ≡ holding lease.old
         (with_places (bench_of lease.old) (bench_of lease.new)) }

@@ -1,5 +1,5 @@
 -- What a stop on the way through a request may leave.
-use Rattle.std.proofs.Common.{◌≡◌, ℕ, ◌≤◌, List, Option, None, Some, refl, inl, inr, ⊎_elim}
+use Rattle.std.proofs.Common.{◌≡◌, ℕ, ◌≤◌, List, Option, None, Some, refl, ◌∙◌, inl, inr, ⊎_elim}
 use Rattle.std.specs.Prelude.{◌⊎◌}
 use Rattle.key_tokens.specs.Denotes.{Denoted}
 use Rattle.reencipher.specs.Further.{further}
@@ -8,6 +8,7 @@ use Rattle.verb_script.specs.Grammar.{Request, RequestName, csnbktp, csnbenc, cs
 use Rattle.cca_machine.specs.State.{State}
 use Rattle.cca_machine.specs.Verdict.{Refusal, verdict}
 use Rattle.cca_machine.specs.Act.{effect, state_between, delivered_with, or_act, performed}
+use Rattle.cca_machine.proofs.DrawLaws.{early_none, verdict_empty}
 use Rattle.cca_tool.specs.Coprocessor.{IsRenewing}
 
 -- a key that is delivered changes one cell
@@ -69,7 +70,7 @@ abbrev MayLeave : State → List ℕ → State → Type 0
 MayLeave s line t = (t ≡ s) ⊎ IsRenewing s line t
 
 by_verdict : (s : State) (line : List ℕ) (r : Request) (drawn : List ℕ) (cell : ℕ) → cell ≤ 1024 → Spells r line
-    → (v : Option Refusal) → verdict s r ≡ v → MayLeave s line ((or_act v s drawn r).between cell)
+    → (v : Option Refusal) → verdict s drawn r ≡ v → MayLeave s line ((or_act v s drawn r).between cell)
 by_verdict s line r drawn cell within found (Some refusal) is = inl refl
 by_verdict s line r drawn cell within found None is = ⊎_elim
     (λ stays. inl stays)
@@ -77,7 +78,7 @@ by_verdict s line r drawn cell within found None is = ⊎_elim
       request = r;
       spelled = found;
       is = renews.0;
-      permitted = is;
+      permitted = verdict_empty s r ∙ early_none s drawn r is;
       cells = cell;
       within = within;
       state_is = renews.1;
@@ -87,4 +88,4 @@ by_verdict s line r drawn cell within found None is = ⊎_elim
 pub between_is : (s : State) (line : List ℕ) (r : Request) (drawn : List ℕ) (cell : ℕ) → cell ≤ 1024 → Spells r line
     → MayLeave s line ((performed s drawn r).between cell)
 unfolding performed
-between_is s line r drawn cell within found = by_verdict s line r drawn cell within found (verdict s r) refl
+between_is s line r drawn cell within found = by_verdict s line r drawn cell within found (verdict s drawn r) refl

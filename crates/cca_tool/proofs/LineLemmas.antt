@@ -1,6 +1,8 @@
 -- What comes of one line.
-use Rattle.std.proofs.Common.{◌≡◌, ℕ, ◌<◌, ◌≤◌, List, [], length, take, Option, None, Some, Result, Ok, Err, codes, refl, sym, ap, ◌∙◌, subst, inl, inr, ⊎_elim, arith}
+use Rattle.std.proofs.Common.{◌≡◌, ℕ, ◌<◌, ◌≤◌, List, [], length, take, Option, None, Some, Result, Ok, Err, codes, refl, sym, ap, ◌∙◌, subst, inl, inr, ⊎_elim}
 use Rattle.std.specs.Prelude.{⊤, ◌⊎◌, OnOk, IfErr, IsTrue}
+use Rattle.std.proofs.lemmas.List.{append-nil}
+use Rattle.std.proofs.Math.Seq.{take-nil}
 use Rattle.slot_disk.specs.Medium.{Medium, IsSettled, From, Becomes, EachImage}
 use Rattle.slot_disk.specs.SpareBytes.{Turned}
 use Rattle.slot_disk.proofs.Media.{each_weaker, image_now}
@@ -11,8 +13,9 @@ use Rattle.verb_script.specs.Requests.{request_of}
 use Rattle.cca_machine.specs.State.{State, IsModuleOf, IsStoreOf}
 use Rattle.cca_machine.specs.Operands.{needs_store}
 use Rattle.cca_machine.specs.Verdict.{Refusal, verdict}
-use Rattle.cca_machine.specs.Act.{Cells, NoCell, Outcome, draws, or_act, performed}
-use Rattle.cca_machine.specs.Lines.{LineOutcome, drawn_where, taken_by, line_outcome}
+use Rattle.cca_machine.specs.Act.{Cells, NoCell, Outcome, or_act, performed}
+use Rattle.cca_machine.specs.Lines.{LineOutcome, MayDraw, taken_by, line_outcome}
+use Rattle.cca_machine.proofs.DrawLaws.{early_some, verdict_empty}
 use Rattle.cca_machine.proofs.LineLaws.{line-no_request, line-too_long, line-request, line-drawn}
 use Rattle.cca_requests.specs.Serving.{Tables, Stands as StandsFor, Serves as Performs, HasDrawn, IsDone, IsAround, IsEither, IsFault, SameBut}
 use Rattle.line_service.specs.Answering.{Holds, Stands, Steps, Around, Both, Moves, Stays, Serves, Unwritten, WritesWithin, Turns}
@@ -22,7 +25,7 @@ use Rattle.line_service.specs.declared.stops.Device.TheVariants.{Store}
 use Rattle.line_service.specs.declared.stops.Stop.{Stop}
 use Rattle.line_service.specs.declared.stops.Stop.TheVariants.{ReadFault, WriteFault, EntropyFault, ModuleFault, StoreFault, Damaged, InputLimit}
 use Rattle.line_service.proofs.LineLemmas.{refused_serves, still_has}
-use Rattle.cca_tool.specs.Coprocessor.{cca, IsRefusal, DrawsRandom, MayFail, remembers}
+use Rattle.cca_tool.specs.Coprocessor.{cca, IsRefusal, MayFail, remembers}
 use Rattle.cca_tool.proofs.BetweenLemmas.{between_is}
 use Rattle.cca_tool.proofs.KnownLemmas.{stands_as}
 
@@ -47,17 +50,27 @@ unspelled_serves s K line reply m d e short none is stands settled_m settled_d =
 
 -- ---- requests
 
--- a refused request writes no cell, whatever random bytes come
+-- a refused request writes no cell
 abbrev WritesNone : Outcome → Type 0
 WritesNone o = (o.module_cells ≡ NoCell) × (o.store_cells ≡ NoCell)
 
-refusal_writes : (o : Option Refusal) (s : State) (r : Request) (drawn other : List ℕ) → IsRefusal (or_act o s drawn r).reply → WritesNone (or_act o s other r)
-refusal_writes (Some refusal) s r drawn other is = (refl, refl)
-refusal_writes None s r drawn other is = absurd is
+refused_by : (o : Option Refusal) (s : State) (r : Request) (drawn : List ℕ) → IsRefusal (or_act o s drawn r).reply → (refusal : Refusal) × (o ≡ Some refusal)
+refused_by (Some refusal) s r drawn is = (refusal, refl)
+refused_by None s r drawn is = absurd is
 
-performed_writes : (s : State) (r : Request) (drawn other : List ℕ) → IsRefusal (performed s drawn r).reply → WritesNone (performed s other r)
+refused_verdict : (s : State) (r : Request) (drawn : List ℕ) → IsRefusal (performed s drawn r).reply → (refusal : Refusal) × (verdict s drawn r ≡ Some refusal)
 unfolding performed
-performed_writes s r drawn other is = refusal_writes (verdict s r) s r drawn other is
+refused_verdict s r drawn is = refused_by (verdict s drawn r) s r drawn is
+
+refusal_writes : (s : State) (r : Request) (drawn : List ℕ) (refusal : Refusal) → verdict s drawn r ≡ Some refusal → WritesNone (performed s drawn r)
+unfolding performed
+refusal_writes s r drawn refusal is = subst (λ (v : Option Refusal). WritesNone (or_act v s drawn r)) (sym is) (refl, refl)
+
+-- what is refused though no random byte comes is refused whatever random bytes come
+always_refused : (s : State) (r : Request) (n : ℕ) (drawn : List ℕ) → IsRefusal (performed s (take n []) r).reply → WritesNone (performed s drawn r)
+always_refused s r n drawn is =
+    let here = refused_verdict s r [] (subst (λ (bytes : List ℕ). IsRefusal (performed s bytes r).reply) (take-nil n) is) in
+    refusal_writes s r drawn here.0 (early_some s drawn r here.0 (sym (verdict_empty s r) ∙ here.1))
 
 -- a disk of which no cell is written
 kept_images : (cells : Cells) (m0 m1 : Medium) → cells ≡ NoCell → EachImage m0 m1 (From (SameBut cells) m0) → EachImage m0 m1 m0.images
@@ -65,25 +78,22 @@ kept_images cells m0 m1 none outside =
     each_weaker m0 m1 (From (SameBut NoCell) m0) m0.images (subst (λ (x : Cells). EachImage m0 m1 (From (SameBut x) m0)) none outside)
     (λ c from. subst m0.images (sym from.2) (m0.is_image from.0 from.1))
 
--- a request that takes random bytes is one that draws them, and isn't refused
-drawn_where_permitted : (o : Option Refusal) (count : ℕ) → 0 < drawn_where o count → (0 < count) × (o ≡ None)
-drawn_where_permitted (Some r) count some = absurd (omega (arith, some))
-drawn_where_permitted None count some = (some, refl)
-
-pub draws_random : (s : State) (line : List ℕ) (r : Request) → Spells r line → 0 < taken_by s r → DrawsRandom s line
-draws_random s line r spells some =
-    let is = drawn_where_permitted (verdict s r) (draws r.name r) some in
-    record { request = r; spelled = spells; draws = is.0; permitted = is.1 }
-
 module _ (s : State) (line : List ℕ) (r : Request) (short : length line ≤ line_limit) (spells : request_of line ≡ Some r) where
-  steps : (drawn : List ℕ) → length drawn ≡ taken_by s r → Steps cca s line drawn (performed s drawn r).state (spelled (performed s drawn r).reply)
+  steps : (drawn : List ℕ) → length drawn ≡ taken_by s drawn r → Steps cca s line drawn (performed s drawn r).state (spelled (performed s drawn r).reply)
   steps drawn size = λ rest.
       ap (λ (o : LineOutcome). record { state = o.state; reply = spelled o.reply; random = o.random }) (line-drawn s drawn rest line r short spells size)
 
-  refused_writes : (drawn : List ℕ) → IsRefusal (line_outcome s [] line).reply → WritesNone (performed s drawn r)
-  refused_writes drawn refuses =
-      performed_writes s r (take (taken_by s r) []) drawn
-      (subst (λ (o : LineOutcome). IsRefusal o.reply) (line-request s [] line r short spells) refuses)
+  undrawn_writes : (drawn : List ℕ) → IsRefusal (line_outcome s [] line).reply → WritesNone (performed s drawn r)
+  undrawn_writes drawn refuses =
+      always_refused s r (taken_by s [] r) drawn (subst (λ (o : LineOutcome). IsRefusal o.reply) (line-request s [] line r short spells) refuses)
+
+  -- refused with exactly the random bytes that it took
+  refused_writes : (drawn : List ℕ) → length drawn ≡ taken_by s drawn r → IsRefusal (line_outcome s drawn line).reply → WritesNone (performed s drawn r)
+  refused_writes drawn size refuses =
+      let here = refused_verdict s r drawn
+      (subst (λ (o : LineOutcome). IsRefusal o.reply) (line-drawn s drawn [] line r short spells size)
+      (subst (λ (bytes : List ℕ). IsRefusal (line_outcome s bytes line).reply) (sym (append-nil drawn)) refuses)) in
+      refusal_writes s r drawn here.0 here.1
 
   -- a state before a request or after it, or one on the way of a permitted REENCIPHER
   around : Spells r line → (drawn : List ℕ) (P : State → Type 0) → IsAround s (performed s drawn r) P → Around cca s line (performed s drawn r).state P
@@ -95,17 +105,17 @@ module _ (s : State) (line : List ℕ) (r : Request) (short : length line ≤ li
       (between_is s line r drawn between.0 between.1 found)
 
   -- the stops of a request over disks that stand for a state
-  of_stop : (stop : Stop) → IsFault stop → Spells r line → (stop ≡ EntropyFault → 0 < taken_by s r)
+  of_stop : (stop : Stop) → IsFault stop → Spells r line → (stop ≡ EntropyFault → MayDraw s r)
       → (stop ≡ StoreFault → IsTrue (needs_store r)) → IsLineStop stop × MayFail stop s line
   of_stop ModuleFault fault found draws names = (tt, (r, found))
   of_stop StoreFault fault found draws names = (tt, record { request = r; spelled = found; needs = names refl })
-  of_stop EntropyFault fault found draws names = (tt, draws_random s line r found (draws refl))
+  of_stop EntropyFault fault found draws names = (tt, record { request = r; spelled = found; draws = draws refl })
   of_stop ReadFault fault found draws names = absurd fault
   of_stop WriteFault fault found draws names = absurd fault
   of_stop InputLimit fault found draws names = absurd fault
   of_stop (Damaged device cell) fault found draws names = absurd fault
 
-  line_stop : (u : Result (Unit {0}) Stop) → IfErr u IsFault → Spells r line → (u ≡ Err EntropyFault → 0 < taken_by s r)
+  line_stop : (u : Result (Unit {0}) Stop) → IfErr u IsFault → Spells r line → (u ≡ Err EntropyFault → MayDraw s r)
       → (u ≡ Err StoreFault → IsTrue (needs_store r)) → IfErr u (λ stop. IsLineStop stop × MayFail stop s line)
   line_stop (Ok done) faults found draws names = tt
   line_stop (Err stop) faults found draws names = of_stop stop faults found (λ is. draws (ap Err is)) (λ is. names (ap Err is))
@@ -130,7 +140,16 @@ module _ (s : State) (line : List ℕ) (r : Request) (short : length line ≤ li
       on_store = stays_of d0 d1 (IsStoreOf s) settled_d standing.disks.in_store unwritten.on_store;
     }
 
-    moves : Spells r line → (performs : Performs s r result reply after (world m0 d0 e0) (world m1 d1 e1)) → HasDrawn performs.drawn (taken_by s r) e0 e1
+    -- of a request that is refused no cell is written
+    unwritten : (o : Outcome) → WritesNone o → EachImage m0 m1 (From (SameBut o.module_cells) m0) → EachImage d0 d1 (From (SameBut o.store_cells) d0)
+        → Unwritten (world m0 d0 e0) (world m1 d1 e1)
+    unwritten o none on_module on_store = record {
+      on_module = kept_images o.module_cells m0 m1 none.0 on_module;
+      on_store = kept_images o.store_cells d0 d1 none.1 on_store;
+    }
+
+    moves : Spells r line → (performs : Performs s r result reply after (world m0 d0 e0) (world m1 d1 e1))
+        → HasDrawn performs.drawn (taken_by s performs.drawn r) e0 e1
         → Moves cca s (remembers after) line result reply (world m0 d0 e0) (world m1 d1 e1)
     moves found performs random =
         let o = performed s performs.drawn r in
@@ -150,10 +169,11 @@ module _ (s : State) (line : List ℕ) (r : Request) (short : length line ≤ li
             later2 = performs.pairs.later2;
             each = λ c d first second. around found performs.drawn (Both cca c d) (performs.pairs.each c d first second);
           };
+          unwritten = λ refuses. unwritten o (refused_writes performs.drawn random.size refuses) carries.module_outside carries.store_outside;
         }
 
     served : Spells r line → (performs : Performs s r result reply after (world m0 d0 e0) (world m1 d1 e1))
-        → HasDrawn performs.drawn (taken_by s r) e0 e1 ⊎ (OnOk result ⊥ × Unwritten (world m0 d0 e0) (world m1 d1 e1))
+        → HasDrawn performs.drawn (taken_by s performs.drawn r) e0 e1 ⊎ (OnOk result ⊥ × Unwritten (world m0 d0 e0) (world m1 d1 e1))
         → Moves cca s (remembers after) line result reply (world m0 d0 e0) (world m1 d1 e1) ⊎ (OnOk result ⊥ × Stays cca s (world m0 d0 e0) (world m1 d1 e1))
     served found performs (inl random) = inl (moves found performs random)
     served found performs (inr stopped) = inr (stopped.0, stays stopped.1)
@@ -179,10 +199,7 @@ module _ (s : State) (line : List ℕ) (r : Request) (short : length line ≤ li
       stops = line_stop result performs.carries.stops found performs.permitted names;
       undrawn = λ h. stays (performs.undrawn h);
       unwritten = λ refuses.
-          let none = refused_writes performs.drawn refuses in record {
-            on_module = kept_images (performed s performs.drawn r).module_cells m0 m1 none.0 performs.carries.module_outside;
-            on_store = kept_images (performed s performs.drawn r).store_cells d0 d1 none.1 performs.carries.store_outside;
-          };
+          unwritten (performed s performs.drawn r) (undrawn_writes performs.drawn refuses) performs.carries.module_outside performs.carries.store_outside;
     }
 
 -- a request that was answered leads to disks that stand for the state after it
@@ -222,5 +239,6 @@ silent_serves s K line stop reply other old new serves = record {
       on_module = moves.on_module;
       on_store = moves.on_store;
       pairs = moves.pairs;
+      unwritten = moves.unwritten;
     })
     by_case (inr stays) = inr stays

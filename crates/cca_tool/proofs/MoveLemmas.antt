@@ -1,7 +1,6 @@
 -- How the status of a move tells of disks, of the move's words, and of what was told.
-use Rattle.std.proofs.Common.{◌≡◌, ◌∙◌, ℕ, List, [], ◌∷◌, codes, Option, None, Some, Result, Ok, Err, refl, sym, ap, subst, inl, inr}
-use Rattle.std.specs.Prelude.{◌⊎◌, ◌≤◌, ◌<◌, IfSome, IsOk}
-use Rattle.cca_vectors.specs.Checks.{first_failing}
+use Rattle.std.proofs.Common.{◌≡◌, ◌∙◌, ℕ, List, Option, Result, Ok, Err, refl, sym, ap, subst, inl, inr}
+use Rattle.std.specs.Prelude.{◌<◌, IfSome, IsOk}
 use Rattle.slot_disk.specs.Medium.{Medium, Told}
 use Rattle.slot_disk.proofs.Media.{told_at, told_from}
 use Rattle.key_records.specs.declared.faults.RecordFault.{RecordFault}
@@ -15,7 +14,7 @@ use Rattle.line_service.specs.declared.stops.Stop.TheVariants as stop
 use Rattle.cca_machine.specs.State.{State, IsModuleOf, IsStoreOf}
 use Rattle.move_file.specs.Judging.{IsStoreFault}
 use Rattle.move_file.specs.declared.moves.Move.{Move}
-use Rattle.cca_tool.specs.Coprocessor.{IsBrokenStore, IsCell, cca}
+use Rattle.cca_tool.specs.Coprocessor.{IsCell, cca}
 use Rattle.cca_tool.specs.Statuses.{status_of_lem}
 use Rattle.cca_tool.specs.Unloading.{AreWordsOf, IsLabelStatus, MoveTold, TellsLabels, disk_stop, status_stop, store_status_of}
 use Rattle.cca_tool.specs.declared.command.Status.{Status}

@@ -5,23 +5,23 @@ use Rattle.slot_disk.specs.Cells.{body}
 use Rattle.slot_disk.specs.SpareBytes.{SameSpare}
 use Rattle.slot_disk.proofs.SpareLemmas.{same_spare}
 use Rattle.master_registers.specs.Masters.{Masters}
-use Rattle.master_registers.specs.RegisterBody.{StandsForMasters, IsDamaged}
+use Rattle.master_registers.specs.RegisterBody.{StandsForMasters}
 use Rattle.master_registers.proofs.BodyLaws.{reads_one}
 use Rattle.script_buffers.specs.Replies.{Reply, Refused, Done}
 use Rattle.verb_rules.specs.Keys.{keys_of}
 use Rattle.verb_script.specs.Grammar.{Request, reencipher, Spells}
-use Rattle.cca_roles.specs.RolesStand.{StandsForRoles, IsFirstDamaged}
+use Rattle.cca_roles.specs.RolesStand.{StandsForRoles}
 use Rattle.cca_roles.specs.declared.roles.Role.{Role}
 use Rattle.cca_roles.proofs.StandLaws.{stands_undamaged}
-use Rattle.key_records.specs.StoreStands.{StandsForLabels, Agrees, IsFirstDamaged as IsFirstDamagedRecord}
+use Rattle.key_records.specs.StoreStands.{StandsForLabels, Agrees}
 use Rattle.key_records.proofs.OpeningLaws.{stands_undamaged as labels_undamaged}
 use Rattle.cca_machine.specs.State.{State, IsModuleOf, IsStoreOf, module_size, store_size}
 pub use Rattle.cca_machine.specs.Broken.{IsBrokenModule, IsBrokenStore}
 use Rattle.reencipher.specs.Further.{further}
 use Rattle.cca_machine.specs.Operands.{needs_store}
 use Rattle.cca_machine.specs.Verdict.{verdict}
-use Rattle.cca_machine.specs.Act.{Outcome, Cells, draws, performed}
-use Rattle.cca_machine.specs.Lines.{line_outcome}
+use Rattle.cca_machine.specs.Act.{Outcome, Cells, performed}
+use Rattle.cca_machine.specs.Lines.{MayDraw, line_outcome}
 use Rattle.cca_machine.specs.Session.{line_step}
 use Rattle.cca_requests.specs.Serving.{Tables, SameBut}
 use Rattle.cca_requests.proofs.Serving.{same_but_spare}
@@ -46,12 +46,11 @@ pub record NeedsStore (line : List ℕ) : Type 0 where
   pub spelled : Spells request line
   pub needs : IsTrue (needs_store request)
 
--- the line spells a request that draws random bytes, and that no rule refuses from this state
+-- the line spells a request that draws random bytes, and that no rule that is asked before refuses from this state
 pub record DrawsRandom (s : State) (line : List ℕ) : Type 0 where
   pub request : Request
   pub spelled : Spells request line
-  pub draws : 0 < draws request.name request
-  pub permitted : verdict s request ≡ None
+  pub draws : MayDraw s request
 
 -- The line spells REENCIPHER, which no rule refuses from this state. A stop on its way leaves a state in which every
 -- label in a cell below some number is current.
@@ -59,7 +58,7 @@ pub record IsRenewing (s : State) (line : List ℕ) (t : State) : Type 0 where
   pub request : Request
   pub spelled : Spells request line
   pub is : request.name ≡ reencipher
-  pub permitted : verdict s request ≡ None
+  pub permitted : verdict s [] request ≡ None
   pub cells : ℕ
   pub within : cells ≤ 1024
   pub state_is : t ≡ record s { labels = further s.labels cells }
@@ -125,7 +124,7 @@ abbrev pub cca : Machine
 cca = record {
   State = State;
   step = line_step;
-  Refuses = λ s line. IsRefusal (line_outcome s [] line).reply;
+  Refuses = λ s random line. IsRefusal (line_outcome s random line).reply;
   InModule = IsModuleOf;
   InStore = IsStoreOf;
   Between = IsRenewing;

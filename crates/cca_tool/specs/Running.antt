@@ -1,5 +1,5 @@
 -- What a run leaves, in a few records.
-use Rattle.std.specs.Prelude.{◌≡◌, ◌≢◌, ◌⊎◌, ℕ, List, None, Result, Err, IsOk}
+use Rattle.std.specs.Prelude.{◌≡◌, ◌≢◌, ◌⊎◌, ℕ, None, Result, Err, IsOk}
 use Rattle.slot_disk.specs.Faults.{Rose}
 use Rattle.slot_disk.specs.Medium.{EachImage, Keeps}
 use Rattle.slot_disk.specs.WhereTold.{WhereTold}

@@ -1,5 +1,5 @@
 -- What a session holds in memory, and how it takes a line.
-use Rattle.std.specs.Prelude.{⊤, ◌≡◌, ◌⊎◌, ◌↔◌, ◌+◌, ◌<◌, ◌≤◌, ◌++◌, ℕ, List, [], length, Option, Some, None, IsTrue, IfOk, IfSome, OnErr, replicate, Result, Ok, Err}
+use Rattle.std.specs.Prelude.{⊤, ◌≡◌, ◌⊎◌, ◌↔◌, ◌+◌, ◌<◌, ◌≤◌, ◌++◌, ℕ, List, [], length, Option, Some, None, IsTrue, IfOk, OnErr, replicate, Result, Ok, Err}
 use Rattle.std.specs.Io.KnownBytes.{IsAtEnd}
 use Rattle.slot_disk.specs.Medium.{Medium, Told}
 use Rattle.slot_disk.specs.WhereTold.{WhereTold}

@@ -1,5 +1,5 @@
 //! The top call that moves a store to another module.
-ghost use Rattle.std.specs.Prelude.{◌≡◌, ◌↔◌, ℕ, Err, IfErr, IsOk};
+ghost use Rattle.std.specs.Prelude.{◌≡◌, ◌↔◌, Err};
 ghost use Rattle.key_cells.specs.Bench.{blank_bench};
 ghost use Rattle.key_cells.specs.Lease.{bench_of, loan_of};
 ghost use Rattle.key_records.specs.StoreStands.{HoldsRows};

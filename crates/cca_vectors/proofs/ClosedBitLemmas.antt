@@ -1,5 +1,5 @@
 -- Which bits change where a vector is made one that forbids export.
-use Rattle.std.proofs.Common.{◌≡◌, ◌≢◌, ◌⊎◌, ℕ, ◌+◌, ◌-◌, ◌*◌, ◌/◌, ◌%◌, ◌<◌, Bool, true, false, ◌||◌, List, length, get_or, replicate, eqb, refl, sym, ap, ◌∙◌, subst, inl, inr, ⊎_elim, arith}
+use Rattle.std.proofs.Common.{◌≡◌, ◌≢◌, ◌⊎◌, ℕ, ◌+◌, ◌-◌, ◌*◌, ◌/◌, ◌%◌, ◌<◌, Bool, true, false, ◌||◌, List, length, get_or, eqb, refl, sym, ap, ◌∙◌, subst, inl, inr, ⊎_elim, arith}
 use Rattle.std.specs.Prelude.{count_ones, if◌then◌else◌}
 use Rattle.std.specs.Int.{bit_at}
 use Rattle.std.proofs.lemmas.Bool.{cases_eq}
@@ -9,8 +9,8 @@ use Rattle.cca_vectors.specs.Bits.{bit}
 use Rattle.cca_vectors.specs.ClosedBits.{HasClosed}
 use Rattle.cca_vectors.specs.Closing.{closed_byte, closed_half, closed_to_export, closed_zero}
 use Rattle.cca_vectors.specs.Permissions.{is_exportable}
-use Rattle.cca_vectors.specs.Vectors.{left_of, right_of, form_of, IsEven, IsRightHalfFor, HasKeyForm, IsValid}
-use Rattle.cca_vectors.proofs.ClosingLemmas.{closed_bit, closed_as_is, other_byte, second_byte, zero_test, not_zero, left_half, right_half, left_is, right_is, left_counts, closed, closing_valid}
+use Rattle.cca_vectors.specs.Vectors.{left_of, right_of, right_of_double, right_of_unique, IsEven, IsRightHalfFor, HasKeyForm, IsValid}
+use Rattle.cca_vectors.proofs.ClosingLemmas.{closed_bit, closed_as_is, other_byte, second_byte, left_half, right_half, left_is, right_is, left_counts, closed, closing_valid}
 
 -- ---- one byte
 
@@ -104,10 +104,14 @@ module _ (vector : List ℕ) (valid : IsValid vector) (some : is_zero vector ≡
   abbrev Both : List ℕ → Type 0
   Both new = HasClosed (left_of vector) (left_of new) × HasClosed (right_of vector) (right_of new)
 
+  same_bit : (form : ℕ) → IsRightHalfFor form (left_of vector) (right_of vector) → bit (right_of vector) 17 ≡ bit (left_of vector) 17
+  same_bit form right = right.others 17 (omega arith) (λ e. omega arith) (λ e. omega arith) (λ e. omega arith) (λ e. omega arith)
+
   -- the export bit of the right half is that of the left one, or off
   right_bit : bit (left_of vector) 17 ≡ 0 → HasKeyForm (left_of vector) (right_of vector) → bit (right_of vector) 17 ≡ 0
   right_bit off (inl (form, zeros)) = zero_bit (right_of vector) (right_half vector valid).size zeros
-  right_bit off (inr (form, right)) = right.others 17 (omega arith) (λ e. omega arith) (λ e. omega arith) (λ e. omega arith) (λ e. omega arith) ∙ off
+  right_bit off (inr (inl (double, right))) = same_bit right_of_double right ∙ off
+  right_bit off (inr (inr (unique, right))) = same_bit right_of_unique right ∙ off
 
   as_it_was : is_exportable vector ≡ false → Both vector
   as_it_was none =

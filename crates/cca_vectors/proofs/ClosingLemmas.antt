@@ -12,7 +12,7 @@ use Rattle.byte_lists.proofs.ByteLemmas.{is_zero-Decides, zeros_of}
 use Rattle.cca_vectors.specs.Bits.{bit, even_byte}
 use Rattle.cca_vectors.specs.Closing.{closed_byte, closed_half, closed_to_export, closed_zero}
 use Rattle.cca_vectors.specs.Permissions.{is_exportable}
-use Rattle.cca_vectors.specs.Vectors.{left_of, right_of, form_of, length_of, single_length, IsEven, IsAntiVariant, IsRightHalfFor, HasKeyForm, IsValid}
+use Rattle.cca_vectors.specs.Vectors.{left_of, right_of, form_of, length_of, single_length, right_of_double, right_of_unique, IsEven, IsAntiVariant, IsRightHalfFor, HasKeyForm, IsValid}
 use Rattle.cca_vectors.specs.VectorChecks.{right_half_for}
 use Rattle.cca_vectors.proofs.DefaultLemmas.{valid_by_tests}
 use Rattle.cca_vectors.proofs.Validity.{AreBytes, bytes_dropped, bytes_taken, even_byte_even, is_right_half, right_half_is}
@@ -112,32 +112,39 @@ not_zero half size ne =
     (λ (e : is_zero half ≡ false). e)
     (tested half)
 
-right_closed : (left right : List ℕ) → IsHalf left → IsHalf right → form_of left ≡ 2 → IsRightHalfFor left right → closed_half right ≡ right_half_for (closed_half left)
-right_closed left right l r two h =
-    closed_set right (not_zero right r.size (λ z. omega (arith, h.form, z)))
+-- the right half of a form belongs to the left half after both are closed, too
+right_closed : (form : ℕ) (left right : List ℕ) → IsHalf left → IsHalf right → form ≢ 0 → form_of left ≢ 0 → IsRightHalfFor form left right
+    → closed_half right ≡ right_half_for form (closed_half left)
+right_closed form left right l r some counted h =
+    closed_set right (not_zero right r.size (λ z. some (sym h.form ∙ z)))
     ∙ (ap (λ half. set half 2 (closed_byte (get_or half 2 0))) is
     ∙ (ap (λ b. set (set left 5 made) 2 (closed_byte b)) (get_or-set_other left 5 2 made 0 (omega arith))
     ∙ (set_comm left 5 2 made y (omega arith)
-    ∙ (ap (λ b. set (set left 2 y) 5 (even_byte (32 + b % 32))) (sym (get_or-set_other left 2 5 y 0 (omega arith)))
-    ∙ ap right_half_for (sym (closed_set left (not_zero left l.size (λ z. omega (arith, two, z)))))))))
+    ∙ (ap (λ b. set (set left 2 y) 5 (even_byte (32 * form + b % 32))) (sym (get_or-set_other left 2 5 y 0 (omega arith)))
+    ∙ ap (right_half_for form) (sym (closed_set left (not_zero left l.size counted)))))))
   where
     made : ℕ
-    made = even_byte (32 + get_or left 5 0 % 32)
+    made = even_byte (32 * form + get_or left 5 0 % 32)
 
     y : ℕ
     y = closed_byte (get_or left 2 0)
 
-    is : right ≡ right_half_for left
-    is = right_half_is left right l.size r.size l.bytes r.bytes h
+    is : right ≡ right_half_for form left
+    is = right_half_is form left right l.size r.size l.bytes r.bytes h
+
+belongs : (form : ℕ) (left right : List ℕ) → IsHalf left → IsHalf right → form < 8 → form ≢ 0 → form_of left ≢ 0 → IsRightHalfFor form left right
+    → IsRightHalfFor form (closed_half left) (closed_half right)
+belongs form left right l r three some counted h =
+    is_right_half form (closed_half left) (closed_half right) three (size_of_closed left ∙ l.size) (closed_is_half left l).bytes
+    (right_closed form left right l r some counted h)
 
 form_closed : (left right : List ℕ) → IsHalf left → IsHalf right → HasKeyForm left right → HasKeyForm (closed_half left) (closed_half right)
 form_closed left right l r (inl (single, zeros)) =
     inl (same_form left ∙ single, subst IsZero (sym (closed_as_is right (zero_test right zeros))) zeros)
-form_closed left right l r (inr (double, h)) =
-    inr (
-      same_form left ∙ double,
-      is_right_half (closed_half left) (closed_half right) (size_of_closed left ∙ l.size) (closed_is_half left l).bytes (right_closed left right l r double h),
-    )
+form_closed left right l r (inr (inl (double, h))) =
+    inr (inl (same_form left ∙ double, belongs right_of_double left right l r (omega arith) (omega arith) (λ z. omega (arith, double, z)) h))
+form_closed left right l r (inr (inr (unique, h))) =
+    inr (inr (same_form left ∙ unique, belongs right_of_unique left right l r (omega arith) (omega arith) (λ z. omega (arith, unique, z)) h))
 
 -- ---- the vector
 

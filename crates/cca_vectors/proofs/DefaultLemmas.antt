@@ -7,10 +7,12 @@ use Rattle.std.proofs.lemmas.Bool.{eqb-true}
 use borrow.Author.Tests.{ltb-true}
 use lib.Count.{ones}
 use Rattle.cca_vectors.specs.Checks.{first_failing}
-use Rattle.cca_vectors.specs.DefaultVectors.{default_vector, double_default, single_default, vector_with}
+use Rattle.cca_vectors.specs.DefaultVectors.{default_for, default_vector, double_default, single_default, size_of, vector_with, with_unique_halves}
 use Rattle.cca_vectors.specs.VectorChecks.{vector_checks, rule_of}
 use Rattle.cca_vectors.specs.Vectors.{IsValid, length_of}
 use Rattle.cca_vectors.specs.declared.control_vector.VectorFault.{VectorFault}
+use Rattle.cca_vectors.specs.declared.key_length.Length.{Length}
+use Rattle.cca_vectors.specs.declared.key_length.Length.TheVariants.{Eight, Sixteen, Unique}
 use Rattle.cca_vectors.specs.declared.key_type.KeyType.{KeyType}
 use Rattle.cca_vectors.specs.declared.key_type.KeyType.TheVariants.{Data, Datac, Datam, Datamv, Cipher, Encipher, Decipher, Mac, Macver, Exporter, Importer, Okeyxlat, Ikeyxlat}
 use Rattle.cca_vectors.proofs.Validity.{valid_from_none}
@@ -59,6 +61,22 @@ double_passes Importer = record { none = refl; whole = refl; bytes = refl; key =
 double_passes Okeyxlat = record { none = refl; whole = refl; bytes = refl; key = refl }
 double_passes Ikeyxlat = record { none = refl; whole = refl; bytes = refl; key = refl }
 
+unique_passes : (kind : KeyType) → IfSome (option_map with_unique_halves (double_default kind)) (Passes 16)
+unfolding ones
+unique_passes Data = record { none = refl; whole = refl; bytes = refl; key = refl }
+unique_passes Datac = record { none = refl; whole = refl; bytes = refl; key = refl }
+unique_passes Datam = record { none = refl; whole = refl; bytes = refl; key = refl }
+unique_passes Datamv = record { none = refl; whole = refl; bytes = refl; key = refl }
+unique_passes Cipher = tt
+unique_passes Encipher = tt
+unique_passes Decipher = tt
+unique_passes Mac = record { none = refl; whole = refl; bytes = refl; key = refl }
+unique_passes Macver = record { none = refl; whole = refl; bytes = refl; key = refl }
+unique_passes Exporter = record { none = refl; whole = refl; bytes = refl; key = refl }
+unique_passes Importer = record { none = refl; whole = refl; bytes = refl; key = refl }
+unique_passes Okeyxlat = record { none = refl; whole = refl; bytes = refl; key = refl }
+unique_passes Ikeyxlat = record { none = refl; whole = refl; bytes = refl; key = refl }
+
 by_length : (length : ℕ) (single double : Bool) (one two : Option (List ℕ)) → eqb length 8 ≡ single → eqb length 16 ≡ double
     → IfSome one (Passes 8) → IfSome two (Passes 16) → IfSome (if single then one else (if double then two else None)) (Passes length)
 by_length length true double one two is other h k = subst (λ n. IfSome one (Passes n)) (sym (eqb-true length 8 is)) h
@@ -69,6 +87,11 @@ pub default_passes : (kind : KeyType) (length : ℕ) → IfSome (default_vector 
 default_passes kind length =
     by_length length (eqb length 8) (eqb length 16) (option_map single_vector (single_default kind)) (double_default kind) refl refl
     (single_passes kind) (double_passes kind)
+
+pub default_for_passes : (kind : KeyType) (length : Length) → IfSome (default_for kind length) (Passes (size_of length))
+default_for_passes kind Eight = default_passes kind 8
+default_for_passes kind Sixteen = default_passes kind 16
+default_for_passes kind Unique = unique_passes kind
 
 -- ---- the facts
 
@@ -95,6 +118,15 @@ default_valid kind length =
 pub default_length : (kind : KeyType) (length : ℕ) → IfSome (default_vector kind length) (λ vector. length_of vector ≡ length)
 default_length kind length =
     if_some_gives (default_vector kind length) (Passes length) (λ vector. length_of vector ≡ length) (λ vector passes. passes.key) (default_passes kind length)
+
+pub default_for_valid : (kind : KeyType) (length : Length) → IfSome (default_for kind length) IsValid
+default_for_valid kind length =
+    if_some_gives (default_for kind length) (Passes (size_of length)) IsValid (valid_by_tests (size_of length)) (default_for_passes kind length)
+
+pub default_for_length : (kind : KeyType) (length : Length) → IfSome (default_for kind length) (λ vector. length_of vector ≡ size_of length)
+default_for_length kind length =
+    if_some_gives (default_for kind length) (Passes (size_of length)) (λ vector. length_of vector ≡ size_of length) (λ vector passes. passes.key)
+    (default_for_passes kind length)
 
 -- a vector that breaks no rule is accepted
 pub accepted : (vector : List ℕ) → first_failing (vector_checks vector) ≡ None → (r : Result (List ℕ) VectorFault) → IfOk r (λ v. v ≡ vector)

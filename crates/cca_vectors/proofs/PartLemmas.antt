@@ -1,8 +1,7 @@
 -- The vector of a key part and that of its key.
-use Rattle.std.proofs.Common.{◌≡◌, ◌≢◌, ◌⊎◌, ℕ, zero, suc, ◌+◌, ◌-◌, ◌*◌, ◌/◌, ◌%◌, ◌<◌, ◌≤◌, Bool, true, false, not, List, ◌++◌, length, get_or, set, take, drop, replicate, eqb, refl, sym, ap, ◌∙◌, subst, inl, inr, ⊎_elim, arith}
+use Rattle.std.proofs.Common.{◌≡◌, ◌≢◌, ℕ, zero, suc, ◌+◌, ◌-◌, ◌*◌, ◌/◌, ◌%◌, ◌<◌, ◌≤◌, true, false, not, List, ◌++◌, length, get_or, set, take, drop, replicate, eqb, refl, sym, ap, ◌∙◌, subst, inl, inr, ⊎_elim, arith}
 use Rattle.std.specs.Prelude.{bit_xor, count_ones, if◌then◌else◌}
 use Rattle.std.specs.Int.{bit_at}
-use Rattle.std.specs.List.{All}
 use Rattle.std.proofs.lemmas.Bool.{cases_eq, agree_below_at, eqb-true, eq-eqb}
 use Rattle.std.proofs.lemmas.List.{get_or-set_same, get_or-set_other, length-set, length-append, length-drop, take_at, drop_at, take_all, take-append-drop, set-set, set-get_or}
 use Rattle.std.proofs.lemmas.List.Elements.{All-append}
@@ -12,7 +11,7 @@ use Rattle.byte_lists.specs.Bytes.{is_zero, IsZero}
 use Rattle.byte_lists.proofs.ByteLemmas.{is_zero-Decides, zeros_of}
 use Rattle.cca_vectors.specs.Bits.{bit, even_byte}
 use Rattle.cca_vectors.specs.PartVectors.{as_part, part_half}
-use Rattle.cca_vectors.specs.Vectors.{left_of, right_of, form_of, length_of, is_part_of, single_length, IsEven, IsAntiVariant, IsRightHalfFor, HasKeyForm, IsValid}
+use Rattle.cca_vectors.specs.Vectors.{left_of, right_of, form_of, length_of, is_part_of, single_length, right_of_double, right_of_unique, IsEven, IsAntiVariant, IsRightHalfFor, HasKeyForm, IsValid}
 use Rattle.cca_vectors.specs.VectorChecks.{right_half_for}
 use Rattle.cca_vectors.proofs.ClosingLemmas.{IsHalf, all_from, left_half, not_zero, right_half, tested, zero_test}
 use Rattle.cca_vectors.proofs.Validity.{is_right_half, right_half_is}
@@ -39,12 +38,34 @@ turned_even byte fits even =
     agree_below_at (λ b. eqb (count_ones (turned b) % 2) 0) (λ b. eqb (count_ones b % 2) 0) 256 byte refl fits in
     eqb-true (count_ones (turned byte) % 2) 0 (agree ∙ eq-eqb (count_ones byte % 2) 0 even)
 
--- byte 5 of the right half goes with that of the left half
-turned_right : (byte : ℕ) → byte < 256 → turned (even_byte (32 + byte % 32)) ≡ even_byte (32 + turned byte % 32)
+-- the byte is turned before or after its last bit is chosen
+turned_chosen : (byte : ℕ) → byte < 256 → turned (even_byte byte) ≡ even_byte (turned byte)
 unfolding lib.Count.ones
-turned_right byte fits =
-    eqb-true (turned (even_byte (32 + byte % 32))) (even_byte (32 + turned byte % 32))
-    (agree_below_at (λ b. eqb (turned (even_byte (32 + b % 32))) (even_byte (32 + turned b % 32))) (λ b. true) 256 byte refl fits)
+turned_chosen byte fits =
+    eqb-true (turned (even_byte byte)) (even_byte (turned byte))
+    (agree_below_at (λ b. eqb (turned (even_byte b)) (even_byte (turned b))) (λ b. true) 256 byte refl fits)
+
+-- the first three bits stay, and the last five are turned by themselves
+turned_apart : (byte : ℕ) → byte < 256 → turned byte ≡ 32 * (byte / 32) + turned (byte % 32)
+turned_apart byte fits =
+    eqb-true (turned byte) (32 * (byte / 32) + turned (byte % 32))
+    (agree_below_at (λ b. eqb (turned b) (32 * (b / 32) + turned (b % 32))) (λ b. true) 256 byte refl fits)
+
+turned_last : (byte : ℕ) → byte < 256 → turned (byte % 32) ≡ turned byte % 32
+turned_last byte fits =
+    eqb-true (turned (byte % 32)) (turned byte % 32)
+    (agree_below_at (λ b. eqb (turned (b % 32)) (turned b % 32)) (λ b. true) 256 byte refl fits)
+
+-- byte 5 of the right half of a form goes with that of the left half
+turned_right : (form byte : ℕ) → form < 8 → byte < 256 → turned (even_byte (32 * form + byte % 32)) ≡ even_byte (32 * form + turned byte % 32)
+turned_right form byte three fits =
+    let front : (32 * form + byte % 32) / 32 ≡ form = omega arith in
+    let last : (32 * form + byte % 32) % 32 ≡ byte % 32 = omega arith in
+    turned_chosen (32 * form + byte % 32) (omega arith)
+    ∙ ap even_byte
+    (turned_apart (32 * form + byte % 32) (omega arith)
+    ∙ (ap (λ f. 32 * f + turned ((32 * form + byte % 32) % 32)) front
+    ∙ ap (λ rest. 32 * form + rest) (ap turned last ∙ turned_last byte fits)))
 
 -- bit 44 is bit 3 of its byte, and bit 47 bit 0
 turned_bit : (byte j : ℕ) → j ≢ 3 → j ≢ 0 → bit_at (turned byte) j ≡ bit_at byte j
@@ -171,40 +192,47 @@ half_twice half h =
 
 -- ---- two halves
 
-right_part : (left right : List ℕ) → IsHalf left → IsHalf right → form_of left ≡ 2 → IsRightHalfFor left right → part_half right ≡ right_half_for (part_half left)
-right_part left right l r two h =
-    turned_set right r.size (not_zero right r.size (λ z. omega (arith, h.form, z)))
+-- the right half of a form belongs to the left half after both are made those of a part, too
+right_part : (form : ℕ) (left right : List ℕ) → IsHalf left → IsHalf right → form < 8 → form ≢ 0 → form_of left ≢ 0 → IsRightHalfFor form left right
+    → part_half right ≡ right_half_for form (part_half left)
+right_part form left right l r three some left_some h =
+    turned_set right r.size (not_zero right r.size (λ z. some (sym h.form ∙ z)))
     ∙ (ap (λ half. set half 5 (turned (get_or half 5 0))) is
     ∙ (set-set left 5 made (turned (get_or (set left 5 made) 5 0))
     ∙ (ap (λ b. set left 5 (turned b)) (get_or-set_same left 5 made 0 (omega (arith, l.size)))
-    ∙ (ap (set left 5) (turned_right byte (l.bytes 5))
-    ∙ (sym (set-set left 5 (turned byte) (even_byte (32 + turned byte % 32)))
-    ∙ (ap (λ half. set half 5 (even_byte (32 + turned byte % 32))) (sym part)
-    ∙ ap (λ b. set (part_half left) 5 (even_byte (32 + b % 32))) (sym (fifth_byte left l.size counted))))))))
+    ∙ (ap (set left 5) (turned_right form byte three (l.bytes 5))
+    ∙ (sym (set-set left 5 (turned byte) (even_byte (32 * form + turned byte % 32)))
+    ∙ (ap (λ half. set half 5 (even_byte (32 * form + turned byte % 32))) (sym part)
+    ∙ ap (λ b. set (part_half left) 5 (even_byte (32 * form + b % 32))) (sym (fifth_byte left l.size counted))))))))
   where
     byte : ℕ
     byte = get_or left 5 0
 
     made : ℕ
-    made = even_byte (32 + byte % 32)
+    made = even_byte (32 * form + byte % 32)
 
     counted : is_zero left ≡ false
-    counted = not_zero left l.size (λ z. omega (arith, two, z))
+    counted = not_zero left l.size left_some
 
     part : part_half left ≡ set left 5 (turned byte)
     part = turned_set left l.size counted
 
-    is : right ≡ right_half_for left
-    is = right_half_is left right l.size r.size l.bytes r.bytes h
+    is : right ≡ right_half_for form left
+    is = right_half_is form left right l.size r.size l.bytes r.bytes h
+
+belongs : (form : ℕ) (left right : List ℕ) → IsHalf left → IsHalf right → form < 8 → form ≢ 0 → form_of left ≢ 0 → IsRightHalfFor form left right
+    → IsRightHalfFor form (part_half left) (part_half right)
+belongs form left right l r three some left_some h =
+    is_right_half form (part_half left) (part_half right) three (size_of_part left l.size) (part_is_half left l).bytes
+    (right_part form left right l r three some left_some h)
 
 form_part : (left right : List ℕ) → IsHalf left → IsHalf right → HasKeyForm left right → HasKeyForm (part_half left) (part_half right)
 form_part left right l r (inl (single, zeros)) =
     inl (same_form left l.size ∙ single, subst IsZero (sym (as_is right (zero_test right zeros))) zeros)
-form_part left right l r (inr (double, h)) =
-    inr (
-      same_form left l.size ∙ double,
-      is_right_half (part_half left) (part_half right) (size_of_part left l.size) (part_is_half left l).bytes (right_part left right l r double h),
-    )
+form_part left right l r (inr (inl (double, h))) =
+    inr (inl (same_form left l.size ∙ double, belongs right_of_double left right l r (omega arith) (omega arith) (λ z. omega (arith, double, z)) h))
+form_part left right l r (inr (inr (unique, h))) =
+    inr (inr (same_form left l.size ∙ unique, belongs right_of_unique left right l r (omega arith) (omega arith) (λ z. omega (arith, unique, z)) h))
 
 -- ---- the vector
 
@@ -275,7 +303,8 @@ module _ (vector : List ℕ) (valid : IsValid vector) where
           sym whole ∙ (ap (λ l. l ++ right_of vector) (zeros e) ∙ ap (λ r. replicate 8 0 ++ r) (zeros_of 8 (right_of vector) (right_half vector valid).size right)) in
           let none : is_zero vector ≡ true = ap is_zero all in
           cc
-      blank e (inr (double, h)) = let none : form_of (left_of vector) ≡ 0 = ap form_of (zeros e) in absurd (omega arith)
+      blank e (inr (inl (double, h))) = let none : form_of (left_of vector) ≡ 0 = ap form_of (zeros e) in absurd (omega arith)
+      blank e (inr (inr (unique, h))) = let none : form_of (left_of vector) ≡ 0 = ap form_of (zeros e) in absurd (omega arith)
 
   pub part_turned : is_zero vector ≡ false → is_part_of (as_part vector) ≡ not (is_part_of vector)
   part_turned some =

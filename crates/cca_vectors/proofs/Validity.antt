@@ -1,5 +1,5 @@
 -- A vector breaks no rule exactly where it is valid.
-use Rattle.std.proofs.Common.{◌≡◌, ◌≢◌, ◌⊎◌, ◌↔◌, ℕ, ◌+◌, ◌-◌, ◌*◌, ◌/◌, ◌%◌, ◌<◌, ◌≤◌, Bool, true, false, not, ◌&&◌, List, [], ◌∷◌, None, length, get_or, take, drop, eqb, refl, sym, ap, ◌∙◌, subst, inl, inr, ⊎_elim, arith}
+use Rattle.std.proofs.Common.{◌≡◌, ◌≢◌, ◌⊎◌, ◌↔◌, ℕ, ◌+◌, ◌-◌, ◌*◌, ◌/◌, ◌%◌, ◌<◌, ◌≤◌, Bool, true, false, not, ◌&&◌, ◌||◌, List, [], ◌∷◌, None, length, get_or, take, drop, eqb, refl, sym, ap, ◌∙◌, subst, inl, inr, ⊎_elim, arith}
 use Rattle.std.specs.Prelude.{count_ones}
 use Rattle.std.specs.Int.{bit_at}
 use Rattle.std.specs.List.{All}
@@ -14,7 +14,7 @@ use Rattle.byte_lists.specs.Bytes.{is_zero}
 use Rattle.byte_lists.proofs.ByteLemmas.{is_zero-Decides}
 use Rattle.cca_vectors.specs.Bits.{bit, even_byte}
 use Rattle.cca_vectors.specs.Checks.{check, first_failing}
-use Rattle.cca_vectors.specs.Vectors.{left_of, right_of, form_of, single_length, left_of_double, IsEven, IsAntiVariant, IsRightHalfFor, HasKeyForm, IsValid}
+use Rattle.cca_vectors.specs.Vectors.{left_of, right_of, form_of, single_length, left_of_double, right_of_double, left_of_unique, right_of_unique, IsEven, IsAntiVariant, IsRightHalfFor, HasKeyForm, IsValid}
 use Rattle.cca_vectors.specs.VectorChecks.{is_even, is_anti_variant, right_half_for, has_form, vector_checks}
 
 -- ---- one byte
@@ -57,26 +57,28 @@ bit_in bytes i j within =
     let place : 7 - (8 * i + (7 - j)) % 8 ≡ j = omega arith in
     rw (byte, place) refl
 
--- a byte that begins with 001 and goes on as the last five bits of another, but for the last bit
-first_seven : (left right : ℕ) → left < 256 → right < 256
-    → 4 * (right / 128 % 2) + 2 * (right / 64 % 2) + right / 32 % 2 ≡ 1
+-- a byte that begins with a form and goes on as the last five bits of another, but for the last bit
+first_seven : (form left right : ℕ) → left < 256 → right < 256
+    → 4 * (right / 128 % 2) + 2 * (right / 64 % 2) + right / 32 % 2 ≡ form
     → right / 16 % 2 ≡ left / 16 % 2 → right / 8 % 2 ≡ left / 8 % 2 → right / 4 % 2 ≡ left / 4 % 2 → right / 2 % 2 ≡ left / 2 % 2
-    → right / 2 ≡ (32 + left % 32) / 2
-first_seven left right left_fits right_fits form b43 b44 b45 b46 = omega arith
+    → right / 2 ≡ (32 * form + left % 32) / 2
+first_seven form left right left_fits right_fits is b43 b44 b45 b46 = omega arith
 
-pub right_half_is : (left right : List ℕ) → length left ≡ 8 → length right ≡ 8 → AreBytes left → AreBytes right → IsRightHalfFor left right → right ≡ right_half_for left
-right_half_is left right long_left long_right left_fits right_fits h = ext_get_or 0 right (right_half_for left) same_length each
+pub right_half_is : (form : ℕ) (left right : List ℕ) → length left ≡ 8 → length right ≡ 8 → AreBytes left → AreBytes right
+    → IsRightHalfFor form left right → right ≡ right_half_for form left
+right_half_is form left right long_left long_right left_fits right_fits h =
+    ext_get_or 0 right (right_half_for form left) same_length each
   where
     made : ℕ
-    made = even_byte (32 + get_or left 5 0 % 32)
+    made = even_byte (32 * form + get_or left 5 0 % 32)
 
-    same_length : length right ≡ length (right_half_for left)
+    same_length : length right ≡ length (right_half_for form left)
     same_length = long_right ∙ sym long_left ∙ sym (length-set left 5 made)
 
     fifth : get_or right 5 0 ≡ made
     fifth =
-        let seven : get_or right 5 0 / 2 ≡ (32 + get_or left 5 0 % 32) / 2 =
-        first_seven (get_or left 5 0) (get_or right 5 0) (left_fits 5) (right_fits 5) h.form
+        let seven : get_or right 5 0 / 2 ≡ (32 * form + get_or left 5 0 % 32) / 2 =
+        first_seven form (get_or left 5 0) (get_or right 5 0) (left_fits 5) (right_fits 5) h.form
         (h.others 43 (omega arith) (omega arith) (omega arith) (omega arith) (omega arith))
         (h.others 44 (omega arith) (omega arith) (omega arith) (omega arith) (omega arith))
         (h.others 45 (omega arith) (omega arith) (omega arith) (omega arith) (omega arith))
@@ -90,7 +92,7 @@ right_half_is left right long_left long_right left_fits right_fits h = ext_get_o
         ∙ h.others (8 * i + (7 - j)) (omega arith) (omega arith) (omega arith) (omega arith) (omega arith)
         ∙ bit_in left i j inside)
 
-    each : (i : ℕ) → i < length right → get_or right i 0 ≡ get_or (right_half_for left) i 0
+    each : (i : ℕ) → i < length right → get_or right i 0 ≡ get_or (right_half_for form left) i 0
     each i within =
         let inside : i < 8 = omega arith in
         ⊎_elim (λ same. rw same (fifth ∙ sym (get_or-set_same left 5 made 0 (omega arith))))
@@ -105,15 +107,20 @@ in_four j low high =
     (cases_eq j 2)))
     (cases_eq j 1)
 
-pub is_right_half : (left right : List ℕ) → length left ≡ 8 → AreBytes left → right ≡ right_half_for left → IsRightHalfFor left right
-is_right_half left right long_left left_fits e = record {
-  form = rw fifth (omega arith);
-  even = rw fifth (even_byte_even (32 + get_or left 5 0 % 32) (omega arith));
+-- a byte that begins with a form has the form
+form_made : (form rest last : ℕ) → form < 8 → rest < 32 → last < 2
+    → 4 * (((32 * form + rest) / 2 * 2 + last) / 128 % 2) + 2 * (((32 * form + rest) / 2 * 2 + last) / 64 % 2) + ((32 * form + rest) / 2 * 2 + last) / 32 % 2 ≡ form
+form_made form rest last three five one = omega arith
+
+pub is_right_half : (form : ℕ) (left right : List ℕ) → form < 8 → length left ≡ 8 → AreBytes left → right ≡ right_half_for form left → IsRightHalfFor form left right
+is_right_half form left right three long_left left_fits e = record {
+  form = rw fifth (form_made form (get_or left 5 0 % 32) (count_ones ((32 * form + get_or left 5 0 % 32) / 2) % 2) three (omega arith) (omega arith));
+  even = rw fifth (even_byte_even (32 * form + get_or left 5 0 % 32) (omega arith));
   others = same;
 }
   where
     made : ℕ
-    made = even_byte (32 + get_or left 5 0 % 32)
+    made = even_byte (32 * form + get_or left 5 0 % 32)
 
     fifth : get_or right 5 0 ≡ made
     fifth = ap (λ half. get_or half 5 0) e ∙ get_or-set_same left 5 made 0 (omega arith)
@@ -134,14 +141,42 @@ is_right_half left right long_left left_fits e = record {
         (ap (λ half. get_or half (n / 8) 0) e ∙ get_or-set_other left 5 (n / 8) made 0 ne))
         (cases_eq (n / 8) 5)
 
+last_two : {A B C : Type 0} → (A ⊎ B) ⊎ C → A ⊎ (B ⊎ C)
+last_two (inl (inl a)) = inl a
+last_two (inl (inr b)) = inr (inl b)
+last_two (inr c) = inr (inr c)
+
+first_two : {A B C : Type 0} → A ⊎ (B ⊎ C) → (A ⊎ B) ⊎ C
+first_two (inl a) = inl (inl a)
+first_two (inr (inl b)) = inl (inr b)
+first_two (inr (inr c)) = inr c
+
+-- the left half has this form, and the right half is the one of the other form that belongs to it
+is_doubled-Decides : (of_left of_right : ℕ) (left right : List ℕ) → of_right < 8 → length left ≡ 8 → length right ≡ 8 → AreBytes left → AreBytes right
+    → Decides (eqb (form_of left) of_left && bytes_eq right (right_half_for of_right left)) ((form_of left ≡ of_left) × IsRightHalfFor of_right left right)
+is_doubled-Decides of_left of_right left right three long_left long_right left_fits right_fits =
+    Decides-and (eqb (form_of left) of_left) (bytes_eq right (right_half_for of_right left)) (Decides-eqb (form_of left) of_left)
+    (Decides-like (bytes_eq right (right_half_for of_right left)) (is_right_half of_right left right three long_left left_fits)
+    (right_half_is of_right left right long_left long_right left_fits right_fits)
+    (bytes_eq-Decides right (right_half_for of_right left)))
+
 pub has_form-Decides : (left right : List ℕ) → length left ≡ 8 → length right ≡ 8 → AreBytes left → AreBytes right → Decides (has_form left right) (HasKeyForm left right)
 has_form-Decides left right long_left long_right left_fits right_fits =
-    Decides-or (eqb (form_of left) single_length && is_zero right) (eqb (form_of left) left_of_double && bytes_eq right (right_half_for left))
+    Decides-like (single || double || unique) last_two first_two
+    (Decides-or (single || double) unique
+    (Decides-or single double
     (Decides-and (eqb (form_of left) single_length) (is_zero right) (Decides-eqb (form_of left) single_length) (is_zero-Decides right))
-    (Decides-and (eqb (form_of left) left_of_double) (bytes_eq right (right_half_for left)) (Decides-eqb (form_of left) left_of_double)
-    (Decides-like (bytes_eq right (right_half_for left)) (is_right_half left right long_left left_fits)
-    (right_half_is left right long_left long_right left_fits right_fits)
-    (bytes_eq-Decides right (right_half_for left))))
+    (is_doubled-Decides left_of_double right_of_double left right (omega arith) long_left long_right left_fits right_fits))
+    (is_doubled-Decides left_of_unique right_of_unique left right (omega arith) long_left long_right left_fits right_fits))
+  where
+    single : Bool
+    single = eqb (form_of left) single_length && is_zero right
+
+    double : Bool
+    double = eqb (form_of left) left_of_double && bytes_eq right (right_half_for right_of_double left)
+
+    unique : Bool
+    unique = eqb (form_of left) left_of_unique && bytes_eq right (right_half_for right_of_unique left)
 
 -- ---- the whole vector
 

@@ -1,6 +1,8 @@
 -- The control vectors that generated keys have, by type and length, and a vector made one that forbids export.
-use Rattle.std.specs.Prelude.{ℕ, List, ◌++◌, Option, None, Some, option_map, ◌==◌, if◌then◌else◌}
+use Rattle.std.specs.Prelude.{ℕ, List, ◌++◌, slice_set, Option, None, Some, option_map, ◌==◌, if◌then◌else◌}
 use Rattle.std.specs.Int.{to_be_bytes, w64}
+use Rattle.cca_vectors.specs.declared.key_length.Length.{Length}
+use Rattle.cca_vectors.specs.declared.key_length.Length.TheVariants.{Eight, Sixteen, Unique}
 use Rattle.cca_vectors.specs.declared.key_type.KeyType.{KeyType}
 use Rattle.cca_vectors.specs.declared.key_type.KeyType.TheVariants.{Data, Datac, Datam, Datamv, Cipher, Encipher, Decipher, Mac, Macver, Exporter, Importer, Okeyxlat, Ikeyxlat}
 
@@ -45,3 +47,19 @@ abbrev pub default_vector : KeyType → ℕ → Option (List ℕ)
 default_vector kind length =
     if length == 8 then option_map (λ left. vector_with left 0) (single_default kind) else
     if length == 16 then double_default kind else None
+
+-- how many bytes a key of a length has
+abbrev pub size_of : Length → ℕ
+size_of Eight = 8
+size_of Sixteen = 16
+size_of Unique = 16
+
+-- the vector of a double-length key made that of one whose halves are guaranteed unique: byte 5 of each half is changed
+abbrev pub with_unique_halves : List ℕ → List ℕ
+with_unique_halves vector = slice_set (slice_set vector 5 0xC0) 13 0xA0
+
+-- the vector of a type and a length
+abbrev pub default_for : KeyType → Length → Option (List ℕ)
+default_for kind Eight = default_vector kind 8
+default_for kind Sixteen = default_vector kind 16
+default_for kind Unique = option_map with_unique_halves (default_vector kind 16)

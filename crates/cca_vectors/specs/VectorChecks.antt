@@ -1,6 +1,6 @@
 -- The rules that a control vector can break, in their order, as tests. Each test is the fact of the same
 -- name in `Vectors`.
-use Rattle.std.specs.Prelude.{ℕ, ◌+◌, ◌%◌, Bool, not, ◌&&◌, ◌||◌, List, [], ◌∷◌, slice_index, slice_set, count_ones, ◌==◌}
+use Rattle.std.specs.Prelude.{ℕ, ◌+◌, ◌*◌, ◌%◌, Bool, not, ◌&&◌, ◌||◌, List, [], ◌∷◌, slice_index, slice_set, count_ones, ◌==◌}
 use Rattle.std.specs.List.{list_all}
 use Rattle.std.specs.Str.{bytes_eq}
 use Rattle.byte_lists.specs.Bytes.{is_zero}
@@ -8,7 +8,7 @@ use Rattle.cca_vectors.specs.declared.control_vector.VectorFault.{VectorFault}
 use Rattle.cca_vectors.specs.declared.control_vector.VectorFault.TheVariants.{Parity, AntiVariant, Form}
 use Rattle.cca_vectors.specs.Bits.{bit, even_byte}
 use Rattle.cca_vectors.specs.Checks.{Check, check}
-use Rattle.cca_vectors.specs.Vectors.{left_of, right_of, form_of, single_length, left_of_double}
+use Rattle.cca_vectors.specs.Vectors.{left_of, right_of, form_of, single_length, left_of_double, right_of_double, left_of_unique, right_of_unique}
 
 abbrev pub is_even : List ℕ → Bool
 is_even = list_all (λ byte. count_ones byte % 2 == 0)
@@ -16,14 +16,15 @@ is_even = list_all (λ byte. count_ones byte % 2 == 0)
 abbrev pub is_anti_variant : List ℕ → Bool
 is_anti_variant half = is_zero half || (bit half 30 == 0 && bit half 38 == 1)
 
--- the left half with 001 in bits 40 to 42, and with bit 47 as the parity of its byte asks
-abbrev pub right_half_for : List ℕ → List ℕ
-right_half_for left = slice_set left 5 (even_byte (32 + slice_index left 5 % 32))
+-- the left half with another form in bits 40 to 42, and with bit 47 as the parity of its byte asks
+abbrev pub right_half_for : ℕ → List ℕ → List ℕ
+right_half_for form left = slice_set left 5 (even_byte (32 * form + slice_index left 5 % 32))
 
 abbrev pub has_form : List ℕ → List ℕ → Bool
 has_form left right =
     (form_of left == single_length && is_zero right)
-    || (form_of left == left_of_double && bytes_eq right (right_half_for left))
+    || (form_of left == left_of_double && bytes_eq right (right_half_for right_of_double left))
+    || (form_of left == left_of_unique && bytes_eq right (right_half_for right_of_unique left))
 
 -- rule 14, parity; rule 15, anti-variant bits; rule 16, key form
 abbrev pub vector_checks : List ℕ → List Check

@@ -17,7 +17,8 @@ right_of vector = slice_range vector 8 16
 abbrev pub form_of : List ℕ → ℕ
 form_of half = 4 * bit half 40 + 2 * bit half 41 + bit half 42
 
--- the form 000, and the forms 010 and 001 of a double-length key's halves
+-- the form 000, the forms 010 and 001 of the halves of a double-length key, and the forms 110 and 101 of the halves of
+-- one whose halves are guaranteed unique
 abbrev pub single_length : ℕ
 single_length = 0
 
@@ -26,6 +27,12 @@ left_of_double = 2
 
 abbrev pub right_of_double : ℕ
 right_of_double = 1
+
+abbrev pub left_of_unique : ℕ
+left_of_unique = 6
+
+abbrev pub right_of_unique : ℕ
+right_of_unique = 5
 
 -- how many bytes the key has
 abbrev pub length_of : List ℕ → ℕ
@@ -43,18 +50,19 @@ IsEven byte = count_ones byte % 2 ≡ 0
 abbrev pub IsAntiVariant : List ℕ → Type 0
 IsAntiVariant half = IsZero half ⊎ ((bit half 30 ≡ 0) × (bit half 38 ≡ 1))
 
--- the right half that belongs to the left half of a double-length key: its form is 001, bit 47 is as the
--- parity of its byte asks, and all other bits are those of the left half
-pub record IsRightHalfFor (left right : List ℕ) : Type 0 where
-  pub form : form_of right ≡ right_of_double
+-- the right half of this form that belongs to a left half: bit 47 is as the parity of its byte asks, and all other bits
+-- but those of the form are those of the left half
+pub record IsRightHalfFor (right_form : ℕ) (left right : List ℕ) : Type 0 where
+  pub form : form_of right ≡ right_form
   pub even : IsEven (slice_index right 5)
   pub others : (n : ℕ) → n < 64 → n ≢ 40 → n ≢ 41 → n ≢ 42 → n ≢ 47 → bit right n ≡ bit left n
 
--- a single-length key with no right half, or a double-length key
+-- a single-length key with no right half, a double-length key, or one whose halves are guaranteed unique
 abbrev pub HasKeyForm : List ℕ → List ℕ → Type 0
 HasKeyForm left right =
     ((form_of left ≡ single_length) × IsZero right)
-    ⊎ ((form_of left ≡ left_of_double) × IsRightHalfFor left right)
+    ⊎ (((form_of left ≡ left_of_double) × IsRightHalfFor right_of_double left right)
+    ⊎ ((form_of left ≡ left_of_unique) × IsRightHalfFor right_of_unique left right))
 
 -- 16 bytes of even parity whose halves are anti-variant and have a key form
 pub record IsValid (vector : List ℕ) : Type 0 where

@@ -16,9 +16,20 @@ use byte_lists::is_zero;
 use std::marker::Model;
 use thiserror::Error;
 
+/// The key form 000, of a key that has no right half.
 const SINGLE_LENGTH: u8 = 0;
 
+/// The key form 010, of the left half of a double-length key.
 const LEFT_OF_DOUBLE: u8 = 2;
+
+/// The key form 001, of its right half.
+const RIGHT_OF_DOUBLE: u8 = 1;
+
+/// The key form 110, of the left half of a double-length key whose halves are guaranteed unique.
+const LEFT_OF_UNIQUE: u8 = 6;
+
+/// The key form 101, of its right half.
+const RIGHT_OF_UNIQUE: u8 = 5;
 
 /// The bit that permits export.
 const EXPORT: usize = 17;
@@ -27,7 +38,8 @@ const EXPORT: usize = 17;
 const ZERO_WITHOUT_EXPORT: [u8; 16] = [0, 0, 0x3c, 0, 3, 0, 0, 0, 0, 0, 0, 0, 0, 0, 0, 0];
 
 /// A valid control vector: 16 bytes, the first 8 for the left half of a key and the last 8 for its right
-/// half, which are zero for a key of single length.
+/// half, which are zero for a key of single length. A double-length key may have halves that are guaranteed unique, by a
+/// key form of their own.
 #[derive(Clone, Copy, Debug, PartialEq, Eq)]
 pub struct Vector {
     bytes: [u8; 16],
@@ -90,11 +102,12 @@ fn even_byte(byte: u8) -> u8
     seven * 2 + (seven.count_ones() % 2) as u8
 }
 
-fn right_half_for(left: &[u8; 8]) -> [u8; 8]
-    ensures { result ≡ right_half_for left.now }
+fn right_half_for(form: u8, left: &[u8; 8]) -> [u8; 8]
+    requires { form < 8 }
+    ensures { result ≡ right_half_for form left.now }
 {
     let mut right = *left;
-    right[5] = even_byte(32 + left[5] % 32);
+    right[5] = even_byte(32 * form + left[5] % 32);
     right
 }
 
@@ -103,7 +116,8 @@ fn has_form(left: &[u8; 8], right: &[u8; 8]) -> bool
 {
     match key_form(left) {
         SINGLE_LENGTH => is_zero(right),
-        LEFT_OF_DOUBLE => *right == right_half_for(left),
+        LEFT_OF_DOUBLE => *right == right_half_for(RIGHT_OF_DOUBLE, left),
+        LEFT_OF_UNIQUE => *right == right_half_for(RIGHT_OF_UNIQUE, left),
         _ => false,
     }
 }

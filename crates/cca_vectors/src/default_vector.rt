@@ -1,10 +1,12 @@
 //! The control vectors of keys that are generated.
 ghost use Rattle.std.specs.Prelude.{◌≡◌, IfSome, ℕ, List};
 ghost use Rattle.cca_vectors.specs.declared.key_type.KeyType.{KeyType};
-ghost use Rattle.cca_vectors.specs.DefaultVectors.{default_vector, double_default, single_default, vector_with};
+ghost use Rattle.cca_vectors.specs.declared.key_length.Length.{Length};
+ghost use Rattle.cca_vectors.specs.DefaultVectors.{default_for, default_vector, double_default, single_default, size_of, vector_with, with_unique_halves};
 ghost use Rattle.cca_vectors.specs.Vectors.{IsValid, length_of};
 
 use crate::control_vector::{Vector, vector_of};
+use crate::key_length::Length;
 use crate::key_type::KeyType;
 
 /// A control vector by its two halves.
@@ -71,13 +73,47 @@ fn default_bytes(kind: KeyType, length: usize) -> Option<[u8; 16]>
     }
 }
 
-/// The control vector that a key of this type and this length in bytes gets; none where the type doesn't have the
-/// length.
-pub fn default_of(kind: KeyType, length: usize) -> Option<Vector>
-    ensures vector { result ≡ default_vector kind length }
-    ensures length { IfSome result (λ vector. length_of vector ≡ length) }
+/// The control vector that a key of this type and of so many bytes gets; none where the type doesn't have the length.
+pub fn default_of_size(kind: KeyType, size: usize) -> Option<Vector>
+    ensures vector { result ≡ default_vector kind size }
+    ensures length { IfSome result (λ vector. length_of vector ≡ size) }
 {
-    match default_bytes(kind, length) {
+    match default_bytes(kind, size) {
+        Some(bytes) => vector_of(&bytes).ok(),
+        None => None,
+    }
+}
+
+/// The vector of a double-length key made that of one whose halves are guaranteed unique.
+fn with_unique_halves(bytes: &[u8; 16]) -> [u8; 16]
+    ensures { result ≡ with_unique_halves bytes.now }
+{
+    let mut unique = *bytes;
+    unique[5] = 0xc0;
+    unique[13] = 0xa0;
+    unique
+}
+
+/// The bytes of the control vector of a type and a length.
+fn bytes_for(kind: KeyType, length: Length) -> Option<[u8; 16]>
+    ensures { result ≡ default_for kind length }
+{
+    match length {
+        Length::Eight => default_bytes(kind, 8),
+        Length::Sixteen => default_bytes(kind, 16),
+        Length::Unique => match default_bytes(kind, 16) {
+            Some(bytes) => Some(with_unique_halves(&bytes)),
+            None => None,
+        },
+    }
+}
+
+/// The control vector that a generated key of this type and length gets; none where the type doesn't have the length.
+pub fn default_of(kind: KeyType, length: Length) -> Option<Vector>
+    ensures vector { result ≡ default_for kind length }
+    ensures length { IfSome result (λ vector. length_of vector ≡ size_of length) }
+{
+    match bytes_for(kind, length) {
         Some(bytes) => vector_of(&bytes).ok(),
         None => None,
     }
@@ -85,8 +121,11 @@ pub fn default_of(kind: KeyType, length: usize) -> Option<Vector>
 
 /// Each of these control vectors is valid, and is that of a key of its length.
 pub fn default_vectors_are_valid()
-    ensures valid { (kind : KeyType) (length : ℕ)
-        → IfSome (default_vector kind length) IsValid }
-    ensures length { (kind : KeyType) (length : ℕ)
-        → IfSome (default_vector kind length) (λ vector. length_of vector ≡ length) }
+    ensures valid { (kind : KeyType) (size : ℕ) → IfSome (default_vector kind size) IsValid }
+    ensures length { (kind : KeyType) (size : ℕ)
+        → IfSome (default_vector kind size) (λ vector. length_of vector ≡ size) }
+    ensures valid_for { (kind : KeyType) (length : Length)
+        → IfSome (default_for kind length) IsValid }
+    ensures length_for { (kind : KeyType) (length : Length)
+        → IfSome (default_for kind length) (λ vector. length_of vector ≡ size_of length) }
 {}

@@ -71,6 +71,18 @@ fn default_vectors_are_valid(rt: HostRuntime) {
             Class::Importer,
             16,
         ),
+        (
+            0x0000_7d00_03c0_0000,
+            0x0000_7d00_03a0_0000,
+            Class::Data,
+            16,
+        ),
+        (
+            0x0041_7d00_03c0_0000,
+            0x0041_7d00_03a0_0000,
+            Class::Exporter,
+            16,
+        ),
         (0x0006_7d00_0300_0000, 0, Class::Other, 8),
     ] {
         let vector = vector_of(&bytes_of(left, right)).expect(&rt, "a default vector");
@@ -139,6 +151,76 @@ fn each_fault_is_told(rt: HostRuntime) {
     }
 }
 
+/// A left half whose key form is that of unique halves, with right halves that don't belong to it, and the right half that
+/// does with other left halves.
+#[test]
+fn halves_that_do_not_belong_together(rt: HostRuntime) {
+    for (left, right, fault) in [
+        (0x0041_7d00_03c0_0000, 0, VectorFault::Form),
+        (
+            0x0041_7d00_03c0_0000,
+            0x0041_7d00_03c0_0000,
+            VectorFault::Form,
+        ),
+        (
+            0x0041_7d00_03c0_0000,
+            0x0041_7d00_0321_0000,
+            VectorFault::Form,
+        ),
+        (
+            0x0041_7d00_03c0_0000,
+            0x0041_7d00_0320_0000,
+            VectorFault::Parity,
+        ),
+        (
+            0x0041_7d00_03c0_0000,
+            0x0041_7d00_03a3_0000,
+            VectorFault::Form,
+        ),
+        (
+            0x0041_7d00_03c0_0000,
+            0x0042_7d00_03a0_0000,
+            VectorFault::Form,
+        ),
+        (
+            0x0041_7d00_0341_0000,
+            0x0041_7d00_03a0_0000,
+            VectorFault::Form,
+        ),
+        (
+            0x0041_7d00_0300_0000,
+            0x0041_7d00_03a0_0000,
+            VectorFault::Form,
+        ),
+    ] {
+        assert_eq!(rt;
+            vector_of(&bytes_of(left, right)),
+            Err(fault),
+            "at {left:x} {right:x}"
+        );
+    }
+}
+
+/// The forms 001, 011, 100, 101 and 111 are none of a left half.
+#[test]
+fn other_forms_are_refused(rt: HostRuntime) {
+    for left in [
+        0x0041_7d00_0321_0000,
+        0x0041_7d00_0360_0000,
+        0x0041_7d00_0381_0000,
+        0x0041_7d00_03a0_0000,
+        0x0041_7d00_03e1_0000,
+    ] {
+        for right in [0, 0x0041_7d00_0321_0000, 0x0041_7d00_03a0_0000] {
+            assert_eq!(rt;
+                vector_of(&bytes_of(left, right)),
+                Err(VectorFault::Form),
+                "at {left:x} {right:x}"
+            );
+        }
+    }
+}
+
 /// Which of the nine uses a vector permits, in the order of the enum, and whether the key may be exported.
 fn permissions(left: u64, right: u64) -> ([bool; 9], bool) {
     match vector_of(&bytes_of(left, right)) {
@@ -192,6 +274,8 @@ fn vectors_permit(rt: HostRuntime) {
         (0x0005_4400_0300_0000, 0, 0b00010, true),
         (0x0041_7d00_0341_0000, 0x0041_7d00_0321_0000, 0b11110, true),
         (0x0041_4200_0341_0000, 0x0041_4200_0321_0000, 0b00001, true),
+        (0x0041_7d00_03c0_0000, 0x0041_7d00_03a0_0000, 0b11110, true),
+        (0x0000_3c00_03c0_0000, 0x0000_3c00_03a0_0000, 0b11110, false),
     ] {
         assert_eq!(rt;
             permissions(left, right),
@@ -235,8 +319,8 @@ fn types_are_read_by_name(rt: HostRuntime) {
 }
 
 /// The halves of a default vector.
-fn default_halves(kind: KeyType, length: usize) -> Option<(u64, u64)> {
-    match default_of(kind, length) {
+fn halves_of(vector: Option<Vector>) -> Option<(u64, u64)> {
+    match vector {
         Some(vector) => Some((
             u64::from_be_bytes(vector.left()),
             u64::from_be_bytes(vector.right()),
@@ -303,11 +387,67 @@ fn default_vectors_by_type_and_length(rt: HostRuntime) {
             Some((0x0042_4200_0341_0000, 0x0042_4200_0321_0000)),
         ),
     ] {
-        assert_eq!(rt; default_halves(kind, 8), single.map(|left| (left, 0)));
-        assert_eq!(rt; default_halves(kind, 16), double);
-        for length in [0, 7, 9, 24] {
-            assert_eq!(rt; default_halves(kind, length), None);
+        let single = single.map(|left| (left, 0));
+        assert_eq!(rt; halves_of(default_of(kind, Length::Eight)), single);
+        assert_eq!(rt; halves_of(default_of(kind, Length::Sixteen)), double);
+        assert_eq!(rt; halves_of(default_of_size(kind, 8)), single);
+        assert_eq!(rt; halves_of(default_of_size(kind, 16)), double);
+        for size in [0, 7, 9, 24] {
+            assert_eq!(rt; halves_of(default_of_size(kind, size)), None);
         }
+    }
+}
+
+/// The default vectors of keys whose halves are guaranteed unique.
+#[test]
+fn default_vectors_with_unique_halves(rt: HostRuntime) {
+    assert_eq!(rt; Length::Unique.size(), 16);
+    for (kind, halves) in [
+        (
+            KeyType::Data,
+            Some((0x0000_7d00_03c0_0000u64, 0x0000_7d00_03a0_0000u64)),
+        ),
+        (
+            KeyType::Datac,
+            Some((0x0000_7100_03c0_0000, 0x0000_7100_03a0_0000)),
+        ),
+        (
+            KeyType::Datam,
+            Some((0x0000_4d00_03c0_0000, 0x0000_4d00_03a0_0000)),
+        ),
+        (
+            KeyType::Datamv,
+            Some((0x0000_4400_03c0_0000, 0x0000_4400_03a0_0000)),
+        ),
+        (KeyType::Cipher, None),
+        (KeyType::Encipher, None),
+        (KeyType::Decipher, None),
+        (
+            KeyType::Mac,
+            Some((0x0005_4d00_03c0_0000, 0x0005_4d00_03a0_0000)),
+        ),
+        (
+            KeyType::Macver,
+            Some((0x0005_4400_03c0_0000, 0x0005_4400_03a0_0000)),
+        ),
+        (
+            KeyType::Exporter,
+            Some((0x0041_7d00_03c0_0000, 0x0041_7d00_03a0_0000)),
+        ),
+        (
+            KeyType::Importer,
+            Some((0x0042_7d00_03c0_0000, 0x0042_7d00_03a0_0000)),
+        ),
+        (
+            KeyType::Okeyxlat,
+            Some((0x0041_4200_03c0_0000, 0x0041_4200_03a0_0000)),
+        ),
+        (
+            KeyType::Ikeyxlat,
+            Some((0x0042_4200_03c0_0000, 0x0042_4200_03a0_0000)),
+        ),
+    ] {
+        assert_eq!(rt; halves_of(default_of(kind, Length::Unique)), halves);
     }
 }
 
@@ -370,6 +510,12 @@ fn export_is_forbidden(rt: HostRuntime) {
             0x0041_0300_0341_0000,
             0x0041_0300_0321_0000,
         ),
+        (
+            0x0041_7d00_03c0_0000,
+            0x0041_7d00_03a0_0000,
+            0x0041_3c00_03c0_0000,
+            0x0041_3c00_03a0_0000,
+        ),
     ] {
         let vector = vector_of(&bytes_of(left, right)).expect(&rt, "a control vector");
         let closed = vector.without_export();
@@ -397,6 +543,12 @@ fn vectors_of_parts(rt: HostRuntime) {
             0x0041_7d00_0321_0000,
             0x0041_7d00_0348_0000,
             0x0041_7d00_0328_0000,
+        ),
+        (
+            0x0041_7d00_03c0_0000,
+            0x0041_7d00_03a0_0000,
+            0x0041_7d00_03c9_0000,
+            0x0041_7d00_03a9_0000,
         ),
     ] {
         let whole = vector_of(&bytes_of(left, right)).expect(&rt, "a control vector");

@@ -8,7 +8,7 @@ use cca_vectors::Class;
 use key_cells::{KeyPlace, Lease, MasterPlace, Workbench};
 use master_registers::{NewState, Registers, pattern_of};
 use std::process::Abort;
-use verb_rules::{Asked, Classes, Judged, KeyType, Need, judge_key, judge_length};
+use verb_rules::{Asked, Classes, Judged, KeyType, Need, judge_key, judge_size};
 
 /// A part, and the token of the key so far after it. The last eight bytes of the place count for a double-length key alone.
 struct Step {
@@ -341,7 +341,7 @@ fn put_part(lease: &mut Lease, part: &[u64; 2]) {
 fn begun(lease: &mut Lease, held: &Registers, kind: KeyType, length: usize) -> [u8; 64]
     requires { IsSome held.now.current_pattern }
 {
-    match judge_length(kind, length) {
+    match judge_size(kind, length) {
         Ok(()) => first_part(lease, held, kind, length),
         Err(_) => [0; 64],
     }

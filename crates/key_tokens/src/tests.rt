@@ -41,6 +41,26 @@ const EXPORTER_TOKEN: [u32; 16] = [
     0x6f4c_2066,
 ];
 
+/// The same with halves that are guaranteed unique.
+const UNIQUE_TOKEN: [u32; 16] = [
+    0x0200_0000,
+    0x0000_c000,
+    0,
+    0,
+    0x1111_1111,
+    0x1111_1111,
+    0x2222_2222,
+    0x2222_2222,
+    0x0041_7d00,
+    0x03c0_0000,
+    0x0041_7d00,
+    0x03a0_0000,
+    0,
+    0,
+    0,
+    0x704a_2066,
+];
+
 fn bytes_of(words: &[u32; 16]) -> [u8; 64] {
     let mut bytes = [0; 64];
     for i in 0..16 {
@@ -69,23 +89,23 @@ fn tokens_are_read(rt: HostRuntime) {
     assert_eq!(rt; token.vector.class(), Class::Data);
     assert_eq!(rt; token.vector.length(), 8);
 
-    let token = read_token(&bytes_of(&EXPORTER_TOKEN), Asked::Either).expect(
-        &rt,
-        "an EXPORTER token",
-    );
-    assert_eq!(rt; token.kind, Kind::External);
-    assert_eq!(rt; token.sealed.left, [0x11; 8]);
-    assert_eq!(rt; token.sealed.right, [0x22; 8]);
-    assert_eq!(rt;
-        token.vector.left(),
-        [0x00, 0x41, 0x7d, 0x00, 0x03, 0x41, 0x00, 0x00]
-    );
-    assert_eq!(rt;
-        token.vector.right(),
-        [0x00, 0x41, 0x7d, 0x00, 0x03, 0x21, 0x00, 0x00]
-    );
-    assert_eq!(rt; token.vector.class(), Class::Exporter);
-    assert_eq!(rt; token.vector.length(), 16);
+    for (words, left, right) in [(EXPORTER_TOKEN, 0x41, 0x21), (UNIQUE_TOKEN, 0xc0, 0xa0)] {
+        let token = read_token(&bytes_of(&words), Asked::Either).expect(&rt, "an EXPORTER token");
+        assert_eq!(rt; token.kind, Kind::External);
+        assert_eq!(rt; token.pattern, [0; 8]);
+        assert_eq!(rt; token.sealed.left, [0x11; 8]);
+        assert_eq!(rt; token.sealed.right, [0x22; 8]);
+        assert_eq!(rt;
+            token.vector.left(),
+            [0x00, 0x41, 0x7d, 0x00, 0x03, left, 0x00, 0x00]
+        );
+        assert_eq!(rt;
+            token.vector.right(),
+            [0x00, 0x41, 0x7d, 0x00, 0x03, right, 0x00, 0x00]
+        );
+        assert_eq!(rt; token.vector.class(), Class::Exporter);
+        assert_eq!(rt; token.vector.length(), 16);
+    }
 }
 
 /// An internal token keeps the pattern of its master key, and no kind is read where the other is asked for.
@@ -221,7 +241,7 @@ fn one_bit_of_the_vector_changed(rt: HostRuntime) {
     }
 }
 
-/// The EXPORTER token, and the DATA token with both of its flags, as they are written.
+/// The EXPORTER tokens, and the DATA token with both of its flags, as they are written.
 #[test]
 fn tokens_are_written(rt: HostRuntime) {
     let mut short = DATA_TOKEN;
@@ -229,6 +249,7 @@ fn tokens_are_written(rt: HostRuntime) {
     short[15] = 0x5057_f190;
     for (words, written) in [
         (EXPORTER_TOKEN, EXPORTER_TOKEN),
+        (UNIQUE_TOKEN, UNIQUE_TOKEN),
         (DATA_TOKEN, DATA_TOKEN),
         (short, DATA_TOKEN),
     ] {

@@ -1,2 +1,4 @@
 pub mod PlaceLemmas
+pub mod HalfLemmas
+pub mod DrawLaws
 pub mod GeneratedLemmas

@@ -1,9 +1,10 @@
 -- Generated keys: made of random bytes, with the control vector of their type, and given out as tokens by form.
 use Rattle.std.specs.Prelude.{◌≡◌, ℕ, Bool, true, false, List, [], length, map, Option, None, Some, take, unwrap_or, ⊤}
 use Rattle.std.specs.Io.KnownBytes.{Consumes}
+use Rattle.cca_vectors.specs.declared.key_length.Length.{Length}
 use Rattle.cca_vectors.specs.declared.key_type.KeyType.{KeyType}
 use Rattle.cca_vectors.specs.Checks.{first_failing}
-use Rattle.cca_vectors.specs.DefaultVectors.{default_vector}
+use Rattle.cca_vectors.specs.DefaultVectors.{default_for, default_vector, size_of}
 use Rattle.clear_keys.specs.Parity.{odd_byte}
 use Rattle.key_cells.specs.Bench.{Bench}
 use Rattle.key_tokens.specs.Denotes.{ClearKey, denoted}
@@ -11,22 +12,27 @@ use Rattle.master_registers.specs.Loaded.{Loaded}
 use Rattle.master_registers.specs.Masters.{Masters}
 use Rattle.master_registers.specs.declared.registers.Registers.{Registers}
 use Rattle.verb_rules.specs.Keys.{IsDouble, keys_of, opened}
-use Rattle.verb_rules.specs.TypeChecks.{length_checks}
+use Rattle.verb_rules.specs.TypeChecks.{length_checks, size_checks}
 use Rattle.verb_rules.specs.declared.judging.Judged.{Judged}
+use Rattle.key_transport.specs.UniqueHalves.{key_taken, key_drawn, repeats}
 use Rattle.key_transport.specs.Tokens.{as_current, current_token, external_token}
 use Rattle.key_transport.specs.declared.generating.Form.{Form}
 use Rattle.key_transport.specs.declared.generating.Form.TheVariants.{Op, Opex, Opim, Imex, Exex, Imim}
 use Rattle.key_transport.specs.declared.generating.Generated.{Generated}
 
--- the control vector of a type that has this length
+-- the control vector of a type that has so many bytes
 abbrev pub vector_for : KeyType → ℕ → List ℕ
 vector_for kind size = unwrap_or (default_vector kind size) []
 
--- the key of a type that random bytes make: each byte with odd parity by its low-order bit
-abbrev pub generated_key : KeyType → List ℕ → ClearKey
-generated_key kind drawn = record {
-  key = map odd_byte drawn;
-  vector = vector_for kind (length drawn);
+-- the control vector of a type that has this length
+abbrev pub generated_vector : KeyType → Length → List ℕ
+generated_vector kind key_length = unwrap_or (default_for kind key_length) []
+
+-- the key of a type and a length that random bytes make: each byte with odd parity by its low-order bit
+abbrev pub generated_key : KeyType → Length → List ℕ → ClearKey
+generated_key kind key_length drawn = record {
+  key = map odd_byte (key_drawn key_length drawn);
+  vector = generated_vector kind key_length;
 }
 
 -- the first key of a form is internal; else it is external under the first transport key
@@ -84,37 +90,58 @@ AreGiven Imex one two = IsGiven one × IsGiven two
 AreGiven Exex one two = IsGiven one × IsGiven two
 AreGiven Imim one two = IsGiven one × IsGiven two
 
--- a type has a length: rule 32
+-- a type has so many bytes: rule 32
 abbrev pub HasLength : KeyType → ℕ → Type 0
-HasLength kind length = first_failing (length_checks kind length) ≡ None
+HasLength kind size = first_failing (size_checks kind size) ≡ None
+
+-- a type has a length: rule 32
+abbrev pub HasKeyLength : KeyType → Length → Type 0
+HasKeyLength kind key_length = first_failing (length_checks kind key_length) ≡ None
 
 -- the types of a form have the length
-abbrev pub HaveLength : Form → KeyType → KeyType → ℕ → Type 0
-HaveLength Op first second length = HasLength first length
-HaveLength Opex first second length = HasLength first length × HasLength second length
-HaveLength Opim first second length = HasLength first length × HasLength second length
-HaveLength Imex first second length = HasLength first length × HasLength second length
-HaveLength Exex first second length = HasLength first length × HasLength second length
-HaveLength Imim first second length = HasLength first length × HasLength second length
+abbrev pub HaveLength : Form → KeyType → KeyType → Length → Type 0
+HaveLength Op first second key_length = HasKeyLength first key_length
+HaveLength Opex first second key_length =
+    HasKeyLength first key_length × HasKeyLength second key_length
+HaveLength Opim first second key_length =
+    HasKeyLength first key_length × HasKeyLength second key_length
+HaveLength Imex first second key_length =
+    HasKeyLength first key_length × HasKeyLength second key_length
+HaveLength Exex first second key_length =
+    HasKeyLength first key_length × HasKeyLength second key_length
+HaveLength Imim first second key_length =
+    HasKeyLength first key_length × HasKeyLength second key_length
 
 -- ---- what is drawn and written
 
--- the first bytes of a place are the next so many bytes of a random source, with odd parity
-pub record DrawsKey (size : ℕ) (before after : Option (List ℕ)) (place : List ℕ) : Type 0 where
+-- the bytes of a random source that a key of this length takes, of which none can be made, or one
+pub record Draws (key_length : Length) (before after : Option (List ℕ)) (repeated : Bool)
+    : Type 0 where
   pub drawn : List ℕ
-  pub size_of : length drawn ≡ size
+  pub size : length drawn ≡ key_taken key_length drawn
   pub consumed : Consumes before after drawn
-  pub key : take size place ≡ map odd_byte drawn
+  pub is_repeated : repeats key_length drawn ≡ repeated
 
--- the tokens are those of keys that the next so many bytes of a random source make
-pub record Generates (held : Registers) (bench : Bench) (form : Form) (size : ℕ)
+-- the first bytes of a place are those of a key that random bytes make
+pub record DrawsBytes (key_length : Length) (before after : Option (List ℕ)) (place : List ℕ)
+    : Type 0 where
+  pub draw : Draws key_length before after false
+  pub bytes : take (size_of key_length) place ≡ key_drawn key_length draw.drawn
+
+-- the first bytes of a place are the key that random bytes make, with odd parity
+pub record DrawsKey (key_length : Length) (before after : Option (List ℕ)) (place : List ℕ)
+    : Type 0 where
+  pub draw : Draws key_length before after false
+  pub key : take (size_of key_length) place ≡ map odd_byte (key_drawn key_length draw.drawn)
+
+-- the tokens are those of keys that random bytes make
+pub record Generates (held : Registers) (bench : Bench) (form : Form) (key_length : Length)
     (first second : KeyType) (one two : Option Judged)
     (before after : Option (List ℕ)) (result : Generated) : Type 0 where
-  pub drawn : List ℕ
-  pub size_of : length drawn ≡ size
-  pub consumed : Consumes before after drawn
+  pub draw : Draws key_length before after false
   pub tokens : (m : Masters) → Loaded m held bench
       → result ≡ generated_tokens m form (transport_key bench one) (transport_key bench two)
-      (generated_key first drawn) (generated_key second drawn)
+      (generated_key first key_length draw.drawn) (generated_key second key_length draw.drawn)
   pub operational : (m : Masters) → Loaded m held bench → is_operational form ≡ true
-      → denoted (keys_of m) result.first ≡ Some (as_current (generated_key first drawn))
+      → denoted (keys_of m) result.first
+      ≡ Some (as_current (generated_key first key_length draw.drawn))

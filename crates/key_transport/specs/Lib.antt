@@ -1,5 +1,6 @@
 pub mod Tokens
 pub mod Changes
+pub mod UniqueHalves
 pub mod Generated
 pub use Rattle.cca_vectors.specs.Closing
 pub use Rattle.cca_vectors.specs.DefaultVectors

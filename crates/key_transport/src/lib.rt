@@ -11,7 +11,7 @@ mod writing;
 
 pub use changing::{Target, a_new_token_is_current_once_set, token_change};
 pub use exporting::export;
-pub use generating::{Form, Generated, generate, vector_for};
+pub use generating::{Form, GenerateFault, Generated, generate, vector_for};
 pub use importing::import;
 pub use prohibiting::prohibit_export;
 pub use writing::write_under;

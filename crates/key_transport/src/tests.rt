@@ -3,8 +3,10 @@
 ghost use Rattle.std.specs.Prelude.{◌≡◌, ◌≢◌, ◌<◌, IsSome};
 ghost use Rattle.verb_rules.specs.Keys.{HasHalves, IsDouble};
 
+mod unique_halves;
+
 use super::*;
-use cca_vectors::Class;
+use cca_vectors::{Class, Length};
 use key_cells::{Lease, MasterPlace, Workbench};
 use master_registers::{NewState, Registers, pattern_of};
 use slot_disk::MemoryEntropy;
@@ -522,7 +524,7 @@ fn one_key_is_generated(rt: HostRuntime) -> Result<(), Fail> {
         &mut lease,
         &held,
         Form::Op,
-        16,
+        Length::Sixteen,
         KeyType::Importer,
         KeyType::Cipher,
         None,
@@ -564,7 +566,7 @@ fn one_key_is_generated(rt: HostRuntime) -> Result<(), Fail> {
             &mut lease,
             &held,
             Form::Op,
-            8,
+            Length::Eight,
             KeyType::Data,
             KeyType::Data,
             None,
@@ -601,7 +603,7 @@ fn pairs_with_an_operational_key(rt: HostRuntime) -> Result<(), Fail> {
         &mut lease,
         &held,
         Form::Opex,
-        16,
+        Length::Sixteen,
         KeyType::Mac,
         KeyType::Macver,
         None,
@@ -615,7 +617,7 @@ fn pairs_with_an_operational_key(rt: HostRuntime) -> Result<(), Fail> {
         &mut lease,
         &held,
         Form::Opim,
-        8,
+        Length::Eight,
         KeyType::Encipher,
         KeyType::Decipher,
         None,
@@ -640,7 +642,7 @@ fn pairs_without_an_operational_key(rt: HostRuntime) -> Result<(), Fail> {
         &mut lease,
         &held,
         Form::Imex,
-        16,
+        Length::Sixteen,
         KeyType::Macver,
         KeyType::Mac,
         Some(&importer),
@@ -654,7 +656,7 @@ fn pairs_without_an_operational_key(rt: HostRuntime) -> Result<(), Fail> {
         &mut lease,
         &held,
         Form::Exex,
-        8,
+        Length::Eight,
         KeyType::Data,
         KeyType::Data,
         Some(&exporter),
@@ -668,7 +670,7 @@ fn pairs_without_an_operational_key(rt: HostRuntime) -> Result<(), Fail> {
         &mut lease,
         &held,
         Form::Imim,
-        8,
+        Length::Eight,
         KeyType::Decipher,
         KeyType::Encipher,
         Some(&importer),

@@ -96,6 +96,7 @@ module _ (A : Machine) (s : A.State) (K : A.State → Type 0) where
           on_module = each_weaker w.module_ w.module_ _ _ stays.on_module (λ c h. inl h);
           on_store = each_weaker w.store w.store _ _ stays.on_store (λ c h. inl h);
           pairs = each_pair w.module_ w.module_ w.store w.store _ _ _ stays.on_module stays.on_store (λ c e h k. inl (h, k));
+          unwritten = λ h. unwritten_still w;
         });
         stops = tt;
         undrawn = λ h. absurd (cc h);
@@ -282,7 +283,7 @@ module _ (A : Machine) (s : A.State) (K : A.State → Type 0) where
             consumed = moves.consumed;
             held = subst (λ (bytes : List ℕ). WhereTold p q (λ x y. y ≡ x ++ bytes)) moves.reply_is sent;
             stands = moves.stands;
-            unwritten = served.unwritten;
+            unwritten = moves.unwritten;
           })
           takes;
       cut = λ h. absurd (cc h);
@@ -317,7 +318,7 @@ module _ (A : Machine) (s : A.State) (K : A.State → Type 0) where
             consumed = moves.consumed;
             got = subst (λ (bytes : List ℕ). WhereTold p q (λ x y. GotPart x y bytes)) moves.reply_is sent;
             stands = moves.stands;
-            unwritten = served.unwritten;
+            unwritten = moves.unwritten;
           })
           takes;
       lost = λ stop kind h. absurd (no_line stop kind h);

@@ -1,5 +1,5 @@
 -- What answering one line leaves.
-use Rattle.std.specs.Prelude.{◌≡◌, ◌⊎◌, ℕ, List, ◌++◌, Some, Result, Err, OnOk, IfErr}
+use Rattle.std.specs.Prelude.{◌≡◌, ◌⊎◌, ℕ, List, [], ◌++◌, Some, Result, Err, OnOk, IfErr}
 use Rattle.std.specs.Io.KnownBytes.{Consumes}
 use Rattle.slot_disk.specs.Medium.{Medium, Told, From, Becomes, EachImage, EachPair}
 use Rattle.slot_disk.specs.SpareBytes.{Turned}
@@ -69,6 +69,7 @@ pub record Moves (A : Machine) (s : A.State) (K : A.State → Type 0) (line : Li
   pub on_store : EachImage old.store new.store (λ d. Around A s line next (λ t. A.InStore t d))
   pub pairs : EachPair old.module_ new.module_ old.store new.store
       (λ c d. Around A s line next (Both A c d))
+  pub unwritten : A.Refuses s drawn line → Unwritten old new
 
 -- each image of a disk at a moment is one that a stop on the way through the line may leave
 pub record WritesWithin (A : Machine) (s : A.State) (line : List ℕ) (old new : World)
@@ -88,6 +89,7 @@ pub record Serves (A : Machine) (s : A.State) (K : A.State → Type 0) (line : L
   pub served : Moves A s K line result reply old new ⊎ (OnOk result ⊥ × Stays A s old new)
   pub stops : IfErr result (λ stop. IsLineStop stop × A.MayStop stop s line)
   pub undrawn : result ≡ Err EntropyFault → Stays A s old new
-  pub unwritten : A.Refuses s line → Unwritten old new
+  -- no random byte is needed to refuse it
+  pub unwritten : A.Refuses s [] line → Unwritten old new
   pub within : WritesWithin A s line old new
   pub turns : OnOk result (Turns A old new)

@@ -25,8 +25,8 @@ pub record Machine : Type 1 where
   pub State : Type 0
   -- what a line comes to, in a state and with some random bytes
   pub step : State → List ℕ → List ℕ → Outcome State
-  -- the line is refused from the state
-  pub Refuses : State → List ℕ → Type 0
+  -- the line is refused from the state, with these random bytes to come
+  pub Refuses : State → List ℕ → List ℕ → Type 0
   -- the content of a disk stands for the state
   pub InModule : State → List ℕ → Type 0
   pub InStore : State → List ℕ → Type 0

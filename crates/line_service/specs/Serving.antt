@@ -98,7 +98,7 @@ pub record AnswersLine (A : Machine) (s : A.State) (K : A.State → Type 0) (old
   pub consumed : Consumes old.random new.random drawn
   pub held : WhereTold before now (λ x y. y ≡ x ++ reply)
   pub stands : Stands A next K new.module_ new.store
-  pub unwritten : A.Refuses s line → Unwritten old new
+  pub unwritten : A.Refuses s drawn line → Unwritten old new
 
 -- the same, but that the sink didn't get all of the reply
 pub record CutsReply (A : Machine) (s : A.State) (K : A.State → Type 0) (old new : World)
@@ -112,7 +112,7 @@ pub record CutsReply (A : Machine) (s : A.State) (K : A.State → Type 0) (old n
   pub consumed : Consumes old.random new.random drawn
   pub got : WhereTold before now (λ x y. GotPart x y reply)
   pub stands : Stands A next K new.module_ new.store
-  pub unwritten : A.Refuses s line → Unwritten old new
+  pub unwritten : A.Refuses s drawn line → Unwritten old new
 
 -- one line, at which the device may fail, was taken from the bytes ahead, and the device failed
 pub record LosesLine (A : Machine) (stop : Stop) (s : A.State) (old new : World)
@@ -122,7 +122,7 @@ pub record LosesLine (A : Machine) (stop : Stop) (s : A.State) (old new : World)
   pub may_stop : A.MayStop stop s line
   pub left : EachPairStands A s new ⊎ StandsAround A s line old.random [] new
   pub undrawn : stop ≡ EntropyFault → EachPairStands A s new
-  pub unwritten : A.Refuses s line → Unwritten old new
+  pub unwritten : A.Refuses s [] line → Unwritten old new
 
 -- a line leads to this state, by random bytes that the source had
 pub record LeadsOne (A : Machine) (s : A.State) (random : Option (List ℕ)) (line : List ℕ)

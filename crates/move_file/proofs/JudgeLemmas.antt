@@ -1,6 +1,6 @@
 -- The transport key of a move is the key of its label.
-use Rattle.std.proofs.Common.{◌≡◌, ◌∙◌, ℕ, Bool, true, false, List, [], ◌∷◌, ◌++◌, Option, None, Some, Result, Ok, Err, refl, sym, ap, subst}
-use Rattle.std.specs.Prelude.{is_none, not, option_map, IfOk, MatchResult}
+use Rattle.std.proofs.Common.{◌≡◌, ◌∙◌, ℕ, Bool, false, List, [], ◌∷◌, ◌++◌, Option, None, Some, Result, Ok, Err, refl, sym, ap}
+use Rattle.std.specs.Prelude.{is_none, not, option_map, IfOk}
 use Rattle.cca_vectors.specs.Checks.{Check, check, first_failing}
 use Rattle.cca_vectors.proofs.Judging.{passed_over, stopped_in}
 use Rattle.key_cells.specs.Bench.{Bench}
@@ -11,14 +11,13 @@ use Rattle.key_records.specs.StoreStands.{Agrees, KeepsLabels, entry_at}
 use Rattle.key_records.proofs.StoreLaws.{told_both, told_map}
 use Rattle.key_records.specs.declared.faults.RecordFault.{RecordFault}
 use Rattle.key_records.specs.declared.rows.Row.{Row}
-use Rattle.key_tokens.specs.Denotes.{ClearKey, Denoted}
+use Rattle.key_tokens.specs.Denotes.{Denoted}
 use Rattle.key_tokens.specs.declared.key_token.Age.{Age}
 use Rattle.slot_disk.specs.Medium.{Medium, Told}
 use Rattle.slot_disk.proofs.Media.{told_from}
-use Rattle.store_move.specs.Exports.{IsTransport, exporter, held_in, transport_checks, vector_in}
+use Rattle.store_move.specs.Exports.{IsTransport, exporter, held_in, transport_checks}
 use Rattle.verb_rules.specs.KeyChecks.{use_checks}
-use Rattle.verb_rules.specs.Keys.{keys_of, opened, opened_key}
-use Rattle.verb_rules.specs.Rules.{rule_number}
+use Rattle.verb_rules.specs.Keys.{keys_of, opened}
 use Rattle.verb_rules.specs.declared.judging.Judged.{Judged}
 use Rattle.verb_rules.specs.declared.rules.Rule.{Rule}
 use Rattle.cca_machine.specs.Keys.{cell_with, key_of_label, or_no_key, what_at, what_in}

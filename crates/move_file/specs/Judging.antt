@@ -1,5 +1,5 @@
 -- What judging a move comes to, before a label is read.
-use Rattle.std.specs.Prelude.{◌≡◌, ◌≤◌, ◌<◌, ◌⊎◌, ℕ, None, Some, Result, Err, IfErr, MatchResult}
+use Rattle.std.specs.Prelude.{◌≡◌, ◌<◌, ◌⊎◌, ℕ, None, Some, Result, MatchResult}
 use Rattle.cca_vectors.specs.Checks.{first_failing}
 use Rattle.key_cells.specs.Bench.{Bench}
 use Rattle.key_records.specs.declared.faults.RecordFault.{RecordFault}

@@ -8,7 +8,7 @@ use Rattle.cca_vectors.specs.declared.key_usage.Usage.TheVariants.{Transport}
 use Rattle.key_cells.specs.Bench.{Bench}
 use Rattle.key_cells.specs.Lease.{bench_of, holding}
 use Rattle.key_cells.specs.declared.leases.Lease.{Lease}
-use Rattle.key_tokens.specs.Denotes.{ClearKey, Denoted}
+use Rattle.key_tokens.specs.Denotes.{Denoted}
 use Rattle.key_tokens.specs.declared.key_token.Asked.TheVariants.{Internal}
 use Rattle.key_transport.specs.Tokens.{external_token}
 use Rattle.key_records.specs.Entries.{Entry}

@@ -17,7 +17,7 @@ pub use key_tokens::{Age, Asked};
 pub use lengths::{MacRule, TextUse, judge_mac, judge_text};
 pub use needs::Need;
 pub use rules::Rule;
-pub use types::{judge_length, judge_pair};
+pub use types::{judge_length, judge_pair, judge_size};
 
 #[cfg(test)]
 mod tests;

@@ -70,6 +70,8 @@ pub enum Rule {
     PadCount,
     /// 32: The key, or its type, doesn't have this length.
     KeyLength,
+    /// 34: Each right half that was drawn is the same as the left half, the low-order bit of each byte aside.
+    UniqueHalves,
     /// 35: The key is whole, where a key part is combined with another.
     WholeKey,
     /// 36: The chain isn't one that a segment gives.
@@ -77,7 +79,7 @@ pub enum Rule {
 }
 
 impl Rule {
-    /// The rule's number: 1 to 32, 35 or 36.
+    /// The rule's number: 1 to 32, or 34 to 36.
     pub fn number(self) -> u8
         ensures number { result ≡ rule_number self }
         ensures two_digits { result < 100 }
@@ -115,6 +117,7 @@ impl Rule {
             Rule::RoleTable => 30,
             Rule::PadCount => 31,
             Rule::KeyLength => 32,
+            Rule::UniqueHalves => 34,
             Rule::WholeKey => 35,
             Rule::Chain => 36,
         }

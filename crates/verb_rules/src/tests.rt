@@ -1,6 +1,6 @@
 //! Tables of tokens, of lengths and of classes, with the rule that each breaks first.
 use super::*;
-use cca_vectors::{Class, vector_of};
+use cca_vectors::{Class, Length, vector_of};
 use key_tokens::{Sealed, Token, tvv};
 use master_registers::{NewState, Pattern, Registers};
 
@@ -368,17 +368,60 @@ fn pairs_of_types(rt: HostRuntime) {
     }
 }
 
+/// Each type, and whether it has keys of 8 bytes, keys of 16 bytes, and keys whose halves are guaranteed unique.
+const LENGTHS: [(KeyType, bool, bool, bool); 13] = [
+    (KeyType::Data, true, true, true),
+    (KeyType::Datac, false, true, true),
+    (KeyType::Datam, false, true, true),
+    (KeyType::Datamv, false, true, true),
+    (KeyType::Cipher, true, false, false),
+    (KeyType::Encipher, true, false, false),
+    (KeyType::Decipher, true, false, false),
+    (KeyType::Mac, true, true, true),
+    (KeyType::Macver, true, true, true),
+    (KeyType::Exporter, false, true, true),
+    (KeyType::Importer, false, true, true),
+    (KeyType::Okeyxlat, false, true, true),
+    (KeyType::Ikeyxlat, false, true, true),
+];
+
+fn judged_length(had: bool) -> Result<(), Rule> {
+    if had { Ok(()) } else { Err(Rule::KeyLength) }
+}
+
 #[test]
 fn lengths_of_types(rt: HostRuntime) {
-    for (kind, length, wanted) in [
-        (KeyType::Data, 8, Ok(())),
-        (KeyType::Data, 16, Ok(())),
-        (KeyType::Data, 24, Err(Rule::KeyLength)),
-        (KeyType::Cipher, 16, Err(Rule::KeyLength)),
-        (KeyType::Exporter, 8, Err(Rule::KeyLength)),
-        (KeyType::Exporter, 16, Ok(())),
-    ] {
-        assert_eq!(rt; judge_length(kind, length), wanted, "{kind:?} {length}");
+    for (kind, eight, sixteen, unique) in LENGTHS {
+        for (length, had) in [
+            (Length::Eight, eight),
+            (Length::Sixteen, sixteen),
+            (Length::Unique, unique),
+        ] {
+            assert_eq!(rt;
+                judge_length(kind, length),
+                judged_length(had),
+                "{kind:?} {length:?}"
+            );
+        }
+    }
+}
+
+#[test]
+fn sizes_of_types(rt: HostRuntime) {
+    for (kind, eight, sixteen, _) in LENGTHS {
+        for (size, had) in [
+            (0, false),
+            (8, eight),
+            (12, false),
+            (16, sixteen),
+            (24, false),
+        ] {
+            assert_eq!(rt;
+                judge_size(kind, size),
+                judged_length(had),
+                "{kind:?} {size}"
+            );
+        }
     }
 }
 
@@ -403,6 +446,13 @@ fn parts_that_are_combined(rt: HostRuntime) {
             16,
             Err(Rule::WholeKey),
         ),
+        (0x0041_7d00_03c9_0000, 0x0041_7d00_03a9_0000, 16, Ok(())),
+        (
+            0x0041_7d00_03c0_0000,
+            0x0041_7d00_03a0_0000,
+            16,
+            Err(Rule::WholeKey),
+        ),
     ] {
         let mut bytes = [0; 16];
         bytes[..8].copy_from_slice(&left.to_be_bytes());
@@ -423,6 +473,7 @@ fn parts_that_are_combined(rt: HostRuntime) {
         assert_eq!(rt; judge_part(&key, length), wanted, "{left:x} {length}");
     }
     assert_eq!(rt; Rule::KeyLength.number(), 32);
+    assert_eq!(rt; Rule::UniqueHalves.number(), 34);
     assert_eq!(rt; Rule::WholeKey.number(), 35);
     assert_eq!(rt; Rule::Chain.number(), 36);
 }

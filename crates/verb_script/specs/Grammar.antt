@@ -124,9 +124,9 @@ prefix_field = record { name = codes "prefix"; values = prefix_text }
 abbrev pub transport_field : List ℕ → FieldForm
 transport_field name = record { name = name; values = key_text }
 
--- a key's length in bytes
+-- a generated key's length: 8 or 16 bytes, or 16 whose halves are unique
 abbrev pub length_field : FieldForm
-length_field = word_field (codes "length") (codes "8" ∷ codes "16" ∷ [])
+length_field = word_field (codes "length") (codes "8" ∷ codes "16" ∷ codes "DOUBLE-O" ∷ [])
 
 abbrev pub type_field : List ℕ → FieldForm
 type_field name = record { name = name; values = type_text }

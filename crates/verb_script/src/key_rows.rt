@@ -16,7 +16,7 @@ fn csnbkgn_op<'a>(mut words: Words<'a>) -> Option<Request<'a>>
 {
     let role = words.role(b"role=")?;
     let form = words.choice(b"form=", &[b"OP"])?;
-    let length = words.choice(b"length=", &[b"8", b"16"])?;
+    let length = words.choice(b"length=", &[b"8", b"16", b"DOUBLE-O"])?;
     let type1 = words.key_type(b"type1=")?;
     let to = words.to(b"to=")?;
     words.end()?;
@@ -35,7 +35,7 @@ fn csnbkgn_pair<'a>(mut words: Words<'a>) -> Option<Request<'a>>
 {
     let role = words.role(b"role=")?;
     let form = words.choice(b"form=", &[b"OPEX", b"OPIM"])?;
-    let length = words.choice(b"length=", &[b"8", b"16"])?;
+    let length = words.choice(b"length=", &[b"8", b"16", b"DOUBLE-O"])?;
     let type1 = words.key_type(b"type1=")?;
     let type2 = words.key_type(b"type2=")?;
     let transport2 = words.key(b"transport2=")?;
@@ -58,7 +58,7 @@ fn csnbkgn_out<'a>(mut words: Words<'a>) -> Option<Request<'a>>
 {
     let role = words.role(b"role=")?;
     let form = words.choice(b"form=", &[b"IMEX", b"EXEX", b"IMIM"])?;
-    let length = words.choice(b"length=", &[b"8", b"16"])?;
+    let length = words.choice(b"length=", &[b"8", b"16", b"DOUBLE-O"])?;
     let type1 = words.key_type(b"type1=")?;
     let type2 = words.key_type(b"type2=")?;
     let transport1 = words.key(b"transport1=")?;

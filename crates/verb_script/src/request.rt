@@ -176,7 +176,7 @@ pub enum Request<'a> {
         role: RoleName,
         form: &'a [u8],
     },
-    /// Key_Generate OP: a key for here, of 8 or 16 bytes.
+    /// Key_Generate OP: a key for here, of 8 or 16 bytes, or DOUBLE-O, of 16 whose halves are unique.
     CsnbkgnOp {
         role: RoleName,
         form: &'a [u8],

@@ -158,7 +158,7 @@ fn lines_over_labels_are_parsed(rt: HostRuntime) {
 #[test]
 fn lines_that_make_and_move_keys_are_parsed(rt: HostRuntime) {
     let role = RoleName::default_role();
-    let lines: [(&[u8], Request); 9] = [
+    let lines: [(&[u8], Request); 12] = [
         (
             b"CSNBKGN role=DEFAULT form=OP length=8 type1=DATA to=-",
             Request::CsnbkgnOp {
@@ -203,6 +203,40 @@ fn lines_that_make_and_move_keys_are_parsed(rt: HostRuntime) {
                 type2: KeyType::Okeyxlat,
                 transport1: b"L:IMP",
                 transport2: b"L:EXP",
+            },
+        ),
+        (
+            b"CSNBKGN role=DEFAULT form=OP length=DOUBLE-O type1=DATA to=-",
+            Request::CsnbkgnOp {
+                role,
+                form: b"OP",
+                length: b"DOUBLE-O",
+                type1: KeyType::Data,
+                to: b"-",
+            },
+        ),
+        (
+            b"CSNBKGN role=DEFAULT form=OPIM length=DOUBLE-O type1=MAC type2=MACVER transport2=L:IMP to=L:M2",
+            Request::CsnbkgnPair {
+                role,
+                form: b"OPIM",
+                length: b"DOUBLE-O",
+                type1: KeyType::Mac,
+                type2: KeyType::Macver,
+                transport2: b"L:IMP",
+                to: b"L:M2",
+            },
+        ),
+        (
+            b"CSNBKGN role=DEFAULT form=EXEX length=DOUBLE-O type1=EXPORTER type2=IMPORTER transport1=L:E transport2=L:F",
+            Request::CsnbkgnOut {
+                role,
+                form: b"EXEX",
+                length: b"DOUBLE-O",
+                type1: KeyType::Exporter,
+                type2: KeyType::Importer,
+                transport1: b"L:E",
+                transport2: b"L:F",
             },
         ),
         (
@@ -548,9 +582,12 @@ fn other_lines_over_labels_are_no_requests(rt: HostRuntime) {
 
 #[test]
 fn other_lines_of_keys_are_no_requests(rt: HostRuntime) {
-    let lines: [&[u8]; 14] = [
+    let lines: [&[u8]; 17] = [
         b"CSNBKGN role=DEFAULT form=OP length=8 type1=DATA",
         b"CSNBKGN role=DEFAULT form=OP length=24 type1=DATA to=-",
+        b"CSNBKGN role=DEFAULT form=OP length=DOUBLE type1=DATA to=-",
+        b"CSNBKGN role=DEFAULT form=OPEX length=double-o type1=MAC type2=MACVER transport2=L:EXP to=-",
+        b"CSNBMGN role=DEFAULT key=L:K rule=X9.19OPT length=DOUBLE-O text=",
         b"CSNBKGN role=DEFAULT form=OP length=8 type1=OTHER to=-",
         b"CSNBKGN role=DEFAULT form=OP length=8 type1=data to=-",
         b"CSNBKGN role=DEFAULT form=OP length=8 DATA to=-",

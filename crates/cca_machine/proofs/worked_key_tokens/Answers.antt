@@ -13,4 +13,4 @@ use Rattle.cca_machine.proofs.worked_key_tokens.Goals as goal
 
 pub returns : goal.returns
 unfolding line_outcome performed tvv_of request_of decode_pairs encode_with hex_field text_field number_field field_name ok_text refusal digits ones is_role_name
-returns c = (refl, (refl, (refl, (refl, (refl, (refl, (refl, (refl, (refl, (refl, (refl, (refl, (tt)))))))))))))
+returns c = (refl, (refl, (refl, (refl, (refl, (refl, (refl, (refl, (refl, (refl, (refl, (refl, (refl, (tt))))))))))))))

@@ -22,13 +22,13 @@ ghost use Rattle.cca_requests.specs.Judging.{IsPlaceFor, target_cell};
 use crate::effects::Effect;
 use crate::refusals::Refusal;
 use crate::verbs::delivering::{deliver, show_second};
-use cca_vectors::KeyType;
+use cca_vectors::{KeyType, Length};
 use key_cells::Lease;
 use key_records::Place;
-use key_transport::{Form, generate};
+use key_transport::{Form, GenerateFault, generate};
 use master_registers::Registers;
 use slot_disk::{Entropy, Failed};
-use verb_rules::{Judged, judge_length, judge_pair};
+use verb_rules::{Judged, Rule, judge_length, judge_pair};
 use verb_script::ReplyBuffer;
 
 /// The form that the field names, of those with one internal and one external key.
@@ -55,15 +55,21 @@ pub(crate) fn out_form(form: &[u8]) -> Form
     }
 }
 
-/// The length that the field names, in bytes.
-fn key_length(length: &[u8]) -> usize
+/// The length that the field names.
+fn key_length(length: &[u8]) -> Length
     ensures { result ≡ key_length_named length.now }
 {
-    if length == b"8".as_slice() { 8 } else { 16 }
+    if length == b"8".as_slice() {
+        Length::Eight
+    } else if length == b"16".as_slice() {
+        Length::Sixteen
+    } else {
+        Length::Unique
+    }
 }
 
 /// Rule 32 of one key.
-fn judge_one(kind: KeyType, length: usize) -> Option<Refusal>
+fn judge_one(kind: KeyType, length: Length) -> Option<Refusal>
     ensures { HasRefused (first_refusal (generate_questions kind length)) result }
 {
     match judge_length(kind, length) {
@@ -76,7 +82,7 @@ fn judge_one(kind: KeyType, length: usize) -> Option<Refusal>
 }
 
 /// Rule 24 of two keys, and then rule 32 of each.
-fn judge_two(first: KeyType, second: KeyType, length: usize) -> Option<Refusal>
+fn judge_two(first: KeyType, second: KeyType, length: Length) -> Option<Refusal>
     ensures { HasRefused (first_refusal (pair_questions first second length)) result }
 {
     if let Err(rule) = judge_pair(first, second) {
@@ -91,7 +97,8 @@ fn judge_two(first: KeyType, second: KeyType, length: usize) -> Option<Refusal>
     judge_one(second, length)
 }
 
-/// Generates a key for here, and delivers it. A type that hasn't the length is refused, before a byte is drawn.
+/// Generates a key for here, and delivers it. A type that hasn't the length is refused before a byte is drawn, and a key
+/// whose halves are repeated after.
 pub(crate) fn generate_one<E: Entropy>(
     length: &[u8],
     kind: KeyType,
@@ -111,7 +118,7 @@ pub(crate) fn generate_one<E: Entropy>(
         → IfOk result (LeavesDrawn s
         (first_refusal (generate_questions kind (key_length_named length.now)))
         (λ (drawn : List ℕ). delivered s (codes "token1") (label_named to.now)
-        (as_current (generated_key kind drawn)))
+        (as_current (generated_key kind (key_length_named length.now) drawn)))
         (key_length_named length.now) (E.left entropy.old) (E.left entropy.new) reply.new) }
     ensures permitted { OnErr result
         (first_refusal (generate_questions kind (key_length_named length.now)) ≡ None) }
@@ -132,7 +139,7 @@ pub(crate) fn generate_one<E: Entropy>(
     if let Some(refusal) = judge_one(kind, length) {
         return Ok(Effect::Refused(refusal.rule, refusal.operand));
     }
-    let keys = generate(
+    match generate(
         lease,
         held,
         Form::Op,
@@ -142,8 +149,11 @@ pub(crate) fn generate_one<E: Entropy>(
         None,
         None,
         entropy,
-    )?;
-    Ok(deliver("token1", &keys.first, None, to, place, reply))
+    ) {
+        Ok(keys) => Ok(deliver("token1", &keys.first, None, to, place, reply)),
+        Err(GenerateFault::Repeated) => Ok(Effect::Refused(Rule::UniqueHalves, "length")),
+        Err(GenerateFault::Failed) => Err(Failed),
+    }
 }
 
 /// Generates a key for here and the same key for elsewhere, and delivers the first. Types that aren't a pair are refused,
@@ -171,9 +181,9 @@ pub(crate) fn generate_pair<E: Entropy>(
         → IfOk result (LeavesDrawn s
         (first_refusal (pair_questions first second (key_length_named length.now)))
         (λ (drawn : List ℕ). delivered_with s (codes "token1") (label_named to.now)
-        (as_current (generated_key first drawn))
+        (as_current (generated_key first (key_length_named length.now) drawn))
         (Hex (codes "token2") (external_token (opened (bench_of lease.old) transport.now).key
-        (generated_key second drawn)) ∷ []))
+        (generated_key second (key_length_named length.now) drawn)) ∷ []))
         (key_length_named length.now) (E.left entropy.old) (E.left entropy.new) reply.new) }
     ensures permitted { OnErr result
         (first_refusal (pair_questions first second (key_length_named length.now)) ≡ None) }
@@ -194,7 +204,7 @@ pub(crate) fn generate_pair<E: Entropy>(
     if let Some(refusal) = judge_two(first, second, length) {
         return Ok(Effect::Refused(refusal.rule, refusal.operand));
     }
-    let keys = generate(
+    match generate(
         lease,
         held,
         pair_form(form),
@@ -204,8 +214,11 @@ pub(crate) fn generate_pair<E: Entropy>(
         None,
         Some(transport),
         entropy,
-    )?;
-    Ok(deliver("token1", &keys.first, keys.second, to, place, reply))
+    ) {
+        Ok(keys) => Ok(deliver("token1", &keys.first, keys.second, to, place, reply)),
+        Err(GenerateFault::Repeated) => Ok(Effect::Refused(Rule::UniqueHalves, "length")),
+        Err(GenerateFault::Failed) => Err(Failed),
+    }
 }
 
 /// Generates a key for elsewhere twice, and shows both tokens. Types that aren't a pair are refused, and a type that
@@ -231,9 +244,9 @@ pub(crate) fn generate_out<E: Entropy>(
         (first_refusal (pair_questions first second (key_length_named length.now)))
         (λ (drawn : List ℕ). Show (
         Hex (codes "token1")
-        (external_token (opened (bench_of lease.old) one.now).key (generated_key first drawn))
+        (external_token (opened (bench_of lease.old) one.now).key (generated_key first (key_length_named length.now) drawn))
         ∷ Hex (codes "token2")
-        (external_token (opened (bench_of lease.old) two.now).key (generated_key second drawn))
+        (external_token (opened (bench_of lease.old) two.now).key (generated_key second (key_length_named length.now) drawn))
         ∷ []))
         (key_length_named length.now) (E.left entropy.old) (E.left entropy.new) reply.new) }
     ensures permitted { OnErr result
@@ -253,7 +266,7 @@ pub(crate) fn generate_out<E: Entropy>(
     if let Some(refusal) = judge_two(first, second, length) {
         return Ok(Effect::Refused(refusal.rule, refusal.operand));
     }
-    let keys = generate(
+    match generate(
         lease,
         held,
         out_form(form),
@@ -263,9 +276,14 @@ pub(crate) fn generate_out<E: Entropy>(
         Some(one),
         Some(two),
         entropy,
-    )?;
-    reply.ok();
-    reply.hex("token1", &keys.first);
-    show_second(keys.second, reply);
-    Ok(Effect::Shown)
+    ) {
+        Ok(keys) => {
+            reply.ok();
+            reply.hex("token1", &keys.first);
+            show_second(keys.second, reply);
+            Ok(Effect::Shown)
+        }
+        Err(GenerateFault::Repeated) => Ok(Effect::Refused(Rule::UniqueHalves, "length")),
+        Err(GenerateFault::Failed) => Err(Failed),
+    }
 }

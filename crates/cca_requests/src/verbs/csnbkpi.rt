@@ -27,7 +27,7 @@ use key_cells::{KeyPlace, Lease};
 use key_parts::{combine_part, first_part};
 use key_records::Place;
 use master_registers::Registers;
-use verb_rules::{Judged, judge_length, judge_part};
+use verb_rules::{Judged, judge_part, judge_size};
 use verb_script::{ReplyBuffer, decode};
 
 /// Whether the part is the last one.
@@ -86,7 +86,7 @@ pub(crate) fn first(
         (with_places (bench_of lease.old) (bench_of lease.new)) }
 {
     let length = part.len() / 2;
-    if let Err(rule) = judge_length(kind, length) {
+    if let Err(rule) = judge_size(kind, length) {
         return Effect::Refused(rule, "part");
     }
     put_part(part, lease);

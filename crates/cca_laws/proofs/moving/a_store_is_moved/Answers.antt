@@ -15,7 +15,7 @@ pub returns-clause-lines : goal.returns-clause-lines
 returns-clause-lines c s w permitted = lines_are s w permitted
 
 pub returns-clause-kept : goal.returns-clause-kept
-returns-clause-kept c s w label cell permitted held = refused_as_kept s w permitted label cell held
+returns-clause-kept c s w random label cell permitted held = refused_as_kept s w permitted label cell held random
 
 pub returns-clause-tokens : goal.returns-clause-tokens
 returns-clause-tokens c s w drawn label permitted moved = replied s w permitted drawn label moved

@@ -6,7 +6,7 @@ use Rattle.script_buffers.specs.Replies.{Done, spelled}
 use Rattle.verb_rules.specs.Rules.{rule_number}
 use Rattle.cca_machine.specs.Act.{Outcome, Show, Become, DefineRole, RemoveRole, Create, Reencipher, effect, effected, refused}
 use Rattle.cca_machine.specs.Keys.{warning}
-use Rattle.cca_machine.specs.Verdict.{refusal, first_refusal, action_questions, create_questions, define_questions, remove_questions, verb_verdict}
+use Rattle.cca_machine.specs.Verdict.{refusal, first_refusal, action_questions, create_questions, define_questions, remove_questions, whole_verb_verdict}
 use Rattle.cca_requests.specs.Serving.{Carries, tables}
 use Rattle.cca_requests.specs.Deciding.{IsDecided, labels_after}
 use Rattle.cca_requests.proofs.Carrying.{outcome_is, refused_is, shown_is, action_carries, define_carries, remove_carries, create_carries, write_carries, delete_carries, renew_carries}
@@ -24,7 +24,7 @@ returns-in-Refused-clause-carries g c = λ s request drawn at old decided.
     let t = tables c.args.roles.now c.args.records.now in
     let m = g.M.Disk.medium c.args.module.now in
     let d = g.D.Disk.medium c.args.store.now in
-    subst (λ (o : Outcome). Carries o s (Ok tt) c.refuse.new.reply t m m d d) (sym (refused_is (verb_verdict s request) r s drawn request left))
+    subst (λ (o : Outcome). Carries o s (Ok tt) c.refuse.new.reply t m m d d) (sym (refused_is (whole_verb_verdict s drawn request) r s drawn request left))
     (still_carries (refused s r) s (Ok tt) c.refuse.new.reply t m d refl c.refuse.ensures tt c.requires.at.settled c.requires.store.settled at.stands)
 
 pub returns-in-Shown-clause-carries : goal.returns-in-Shown-clause-carries
@@ -35,7 +35,7 @@ returns-in-Shown-clause-carries g c = λ s request drawn at old decided.
     let m = g.M.Disk.medium c.args.module.now in
     let d = g.D.Disk.medium c.args.store.now in
     subst (λ (o : Outcome). Carries o s (Ok tt) c.finish.new.reply t m m d d)
-    (sym (shown_is (verb_verdict s request) s drawn request (Show fields) left.0 left.1.is))
+    (sym (shown_is (whole_verb_verdict s drawn request) s drawn request (Show fields) left.0 left.1.is))
     (still_carries (effected s request (Show fields)) s (Ok tt) c.finish.new.reply t m d refl
     (c.finish.ensures fields left.1.reply_is ∙ ap (λ (b : Bool). spelled (Done (fields ++ warning b))) (sym old)) tt c.requires.at.settled c.requires.store.settled at.stands)
 
@@ -44,7 +44,7 @@ returns-in-Change-clause-carries g c = λ s request drawn at old decided.
     let bench = bench_of c.args.lease.now in
     let action = c.in-Change.action in
     let left = subst (λ e. IsDecided s bench drawn request e c.args.reply.now) c.in-Change.is decided in
-    let is = outcome_is (verb_verdict s request) (first_refusal (action_questions s action)) s drawn request
+    let is = outcome_is (whole_verb_verdict s drawn request) (first_refusal (action_questions s action)) s drawn request
     (Become (after_action action bench.part s.registers) (labels_after action s.labels)) left.0 left.1 left.3 in
     let m0 = g.M.Disk.medium c.args.module.now in
     let m1 = g.M.Disk.medium c.change_registers.new.module in
@@ -59,7 +59,7 @@ returns-in-DefineRole-clause-carries g c = λ s request drawn at old decided.
     let name = c.in-DefineRole.name in
     let points = c.in-DefineRole.points in
     let left = subst (λ e. IsDecided s (bench_of c.args.lease.now) drawn request e c.args.reply.now) c.in-DefineRole.is decided in
-    let is = outcome_is (verb_verdict s request) (first_refusal (define_questions s name)) s drawn request (DefineRole name points) left.0 left.1 left.2 in
+    let is = outcome_is (whole_verb_verdict s drawn request) (first_refusal (define_questions s name)) s drawn request (DefineRole name points) left.0 left.1 left.2 in
     let m0 = g.M.Disk.medium c.args.module.now in
     let m1 = g.M.Disk.medium c.define_role.new.module in
     let d = g.D.Disk.medium c.args.store.now in
@@ -72,7 +72,7 @@ pub returns-in-RemoveRole-clause-carries : goal.returns-in-RemoveRole-clause-car
 returns-in-RemoveRole-clause-carries g c = λ s request drawn at old decided.
     let name = c.in-RemoveRole.name in
     let left = subst (λ e. IsDecided s (bench_of c.args.lease.now) drawn request e c.args.reply.now) c.in-RemoveRole.is decided in
-    let is = outcome_is (verb_verdict s request) (first_refusal (remove_questions s name)) s drawn request (RemoveRole name) left.0 left.1 left.2 in
+    let is = outcome_is (whole_verb_verdict s drawn request) (first_refusal (remove_questions s name)) s drawn request (RemoveRole name) left.0 left.1 left.2 in
     let m0 = g.M.Disk.medium c.args.module.now in
     let m1 = g.M.Disk.medium c.remove_role.new.module in
     let d = g.D.Disk.medium c.args.store.now in
@@ -85,7 +85,7 @@ pub returns-in-Create-clause-carries : goal.returns-in-Create-clause-carries
 returns-in-Create-clause-carries g c = λ s request drawn at old decided.
     let label = c.in-Create.label in
     let left = subst (λ e. IsDecided s (bench_of c.args.lease.now) drawn request e c.args.reply.now) c.in-Create.is decided in
-    let is = outcome_is (verb_verdict s request) (first_refusal (create_questions s label)) s drawn request (Create label) left.0 left.1 left.2 in
+    let is = outcome_is (whole_verb_verdict s drawn request) (first_refusal (create_questions s label)) s drawn request (Create label) left.0 left.1 left.2 in
     let m = g.M.Disk.medium c.args.module.now in
     let d0 = g.D.Disk.medium c.args.store.now in
     let d1 = g.D.Disk.medium c.create.new.store in
@@ -101,7 +101,7 @@ returns-in-Write-clause-carries g c = λ s request drawn at old decided.
     let d0 = g.D.Disk.medium c.args.store.now in
     let d1 = g.D.Disk.medium c.write.new.store in
     subst (λ (o : Outcome). Carries o s c.write.result c.write.new.reply (tables c.args.roles.now c.write.new.records) m m d0 d1)
-    (sym (shown_is (verb_verdict s request) s drawn request e left.0 refl))
+    (sym (shown_is (whole_verb_verdict s drawn request) s drawn request e left.0 refl))
     (write_carries s c.args.roles.now c.write.new.records m d0 d1 c.write.result c.write.new.reply c.requires.at.settled at.stands.on_module
     request e c.in-Write.place c.in-Write.token c.args.reply.now left.1
     (c.write.ensures.carries s request e (record { loaded = at.loaded; stands = at.stands.on_store }) old left.1))
@@ -114,7 +114,7 @@ returns-in-Delete-clause-carries g c = λ s request drawn at old decided.
     let d0 = g.D.Disk.medium c.args.store.now in
     let d1 = g.D.Disk.medium c.delete.new.store in
     subst (λ (o : Outcome). Carries o s c.delete.result c.delete.new.reply (tables c.args.roles.now c.delete.new.records) m m d0 d1)
-    (sym (outcome_is (verb_verdict s request) None s drawn request e left.0 refl left.2))
+    (sym (outcome_is (whole_verb_verdict s drawn request) None s drawn request e left.0 refl left.2))
     (delete_carries s c.args.roles.now c.delete.new.records m d0 d1 c.delete.result c.delete.new.reply c.requires.at.settled at.stands.on_module
     e c.in-Delete.place left.1
     (c.delete.ensures.carries s c.args.held.now e (record { loaded = at.loaded; stands = at.stands.on_store }) left.1))
@@ -126,7 +126,7 @@ returns-in-Reencipher-clause-carries g c = λ s request drawn at old decided.
     let d0 = g.D.Disk.medium c.args.store.now in
     let d1 = g.D.Disk.medium c.renew.new.store in
     subst (λ (o : Outcome). Carries o s c.renew.result c.renew.new.reply (tables c.args.roles.now c.renew.new.records) m m d0 d1)
-    (sym (outcome_is (verb_verdict s request) None s drawn request Reencipher left.0 left.1 left.2))
+    (sym (outcome_is (whole_verb_verdict s drawn request) None s drawn request Reencipher left.0 left.1 left.2))
     (renew_carries s c.args.roles.now c.renew.new.records m d0 d1 c.renew.result c.renew.new.reply c.requires.at.settled at.stands.on_module
     (c.renew.ensures.carries s (record { loaded = at.loaded; stands = at.stands.on_store })))
 

@@ -1,16 +1,15 @@
-use Rattle.std.proofs.Common.{◌≡◌, ◌∙◌, ◌<◌, Option, sym, ap, subst}
+use Rattle.std.proofs.Common.{◌∙◌, sym, ap, subst}
 use Rattle.key_cells.specs.Lease.{bench_of}
 use Rattle.master_registers.specs.Loaded.{Loaded}
 use Rattle.slot_disk.proofs.Media.{keeps_still}
 use Rattle.verb_script.specs.Parsed.{seen}
-use Rattle.cca_machine.specs.Act.{Outcome, draws}
-use Rattle.cca_machine.specs.Lines.{drawn_where}
+use Rattle.cca_machine.specs.Act.{Outcome}
 use Rattle.cca_machine.specs.Operands.{operands}
-use Rattle.cca_machine.specs.Verdict.{Refusal, verb_verdict}
+use Rattle.cca_machine.specs.Verdict.{verb_verdict, whole_verb_verdict}
 use Rattle.cca_requests.specs.Serving.{tables, Carries, IsFault}
 use Rattle.cca_requests.proofs.Acting.{any_old_are}
 use Rattle.cca_requests.proofs.Registers.{loaded_places}
-use Rattle.cca_requests.proofs.Serving.{performed_by, drawn_serves, stopped_serves}
+use Rattle.cca_requests.proofs.Serving.{performed_by, taken_for, drawn_serves, stopped_serves}
 use Rattle.cca_requests.proofs.Storing.{recorded}
 use Rattle.cca_requests.proofs.performing.act.Goals as goal
 
@@ -29,12 +28,12 @@ returns-in-Ok-clause-serves g c = λ s at granted is.
     subst (λ b. Loaded s.registers c.args.held.now b) (sym (ap bench_of c.decide.ensures.places)) (loaded_places s.registers c.args.held.now bench other at.loaded) in
     drawn_serves s request decides.drawn c.carry.result c.carry.new.reply t m0 m1 d0 d1 (g.E.Entropy.left c.args.entropy.now) (g.E.Entropy.left c.decide.new.entropy)
     (subst (λ (x : Outcome). Carries x s c.carry.result c.carry.new.reply t m0 m1 d0 d1)
-    (sym (performed_by s decides.drawn request (verb_verdict s request) is))
+    (sym (performed_by s decides.drawn request (whole_verb_verdict s decides.drawn request) (is (whole_verb_verdict s decides.drawn request))))
     (c.carry.ensures.carries s request decides.drawn (record { loaded = loaded; stands = at.stands })
     (any_old_are s bench (operands request) c.args.granted.now granted ∙ sym c.is_old.ensures) decides.decided))
     (record {
       consumed = decides.random.consumed;
-      size = decides.random.size ∙ ap (λ (v : Option Refusal). drawn_where v (draws request.name request)) (sym is);
+      size = decides.random.size ∙ sym (taken_for s decides.drawn request (verb_verdict s request) (is (verb_verdict s request)));
     })
     c.carry.ensures.entropy
 
@@ -45,23 +44,18 @@ returns-in-Err-clause-serves g c = λ s at granted is.
     let m = g.M.Disk.medium c.args.module.now in
     let d = g.D.Disk.medium c.args.store.now in
     let may = c.in-Err.ensures.decides s at.loaded (recorded s c.args.records.now d at.stands.on_store) granted in
-    let count = draws request.name request in
     stopped_serves s request c.in-Err.stop c.decide.new.reply t t m m d d (g.E.Entropy.left c.args.entropy.now) (g.E.Entropy.left c.decide.new.entropy)
     (subst IsFault (sym c.in-Err.ensures.stops) tt)
-    (λ fault. subst (λ (v : Option Refusal). 0 < drawn_where v count) (sym (is ∙ may.0)) may.1)
+    (λ fault. record { drawing = may.1; permitted = is (verb_verdict s request) ∙ may.0 })
     c.requires.at.settled c.requires.store.settled (keeps_still m) (keeps_still d) at.stands
 
 pub returns-in-Ok-clause-untouched : goal.returns-in-Ok-clause-untouched
-returns-in-Ok-clause-untouched g c = λ s is granted at none.
-    let request = seen c.args.request.now in
-    c.decide.ensures.untouched s at.loaded (recorded s c.args.records.now (g.D.Disk.medium c.args.store.now) at.stands.on_store) granted
-    (subst (λ (v : Option Refusal). drawn_where v (draws request.name request) ≡ 0) is none)
+returns-in-Ok-clause-untouched g c = λ s is granted at refused.
+    c.decide.ensures.untouched s at.loaded (recorded s c.args.records.now (g.D.Disk.medium c.args.store.now) at.stands.on_store) granted refused
 
 pub returns-in-Err-clause-untouched : goal.returns-in-Err-clause-untouched
-returns-in-Err-clause-untouched g c = λ s is granted at none.
-    let request = seen c.args.request.now in
-    c.decide.ensures.untouched s at.loaded (recorded s c.args.records.now (g.D.Disk.medium c.args.store.now) at.stands.on_store) granted
-    (subst (λ (v : Option Refusal). drawn_where v (draws request.name request) ≡ 0) is none)
+returns-in-Err-clause-untouched g c = λ s is granted at refused.
+    c.decide.ensures.untouched s at.loaded (recorded s c.args.records.now (g.D.Disk.medium c.args.store.now) at.stands.on_store) granted refused
 
 pub returns-in-Ok-clause-drawing : goal.returns-in-Ok-clause-drawing
 returns-in-Ok-clause-drawing g c = λ fault. absurd (c.carry.ensures.entropy fault)

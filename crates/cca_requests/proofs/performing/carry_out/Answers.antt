@@ -1,5 +1,5 @@
 use Rattle.std.proofs.Common.{◌≡◌, ◌∙◌, false, None, Some, Result, Err, refl, sym, ap, subst, codes, arith, rules}
-use Rattle.std.specs.Prelude.{IsTrue}
+use Rattle.std.specs.Prelude.{IsSome, IsTrue}
 use Rattle.std.proofs.lemmas.Bool.{or_parts}
 use Rattle.std.specs.Option.{option_map}
 use Rattle.cca_vectors.specs.Checks.{first_failing}
@@ -11,7 +11,7 @@ use Rattle.verb_rules.specs.Rules.{rule_number}
 use Rattle.verb_script.specs.Grammar.{Request}
 use Rattle.verb_script.specs.Parsed.{seen}
 use Rattle.cca_machine.specs.Operands.{Operands, operands, listed, names_label, is_reencipher, needs_store}
-use Rattle.cca_machine.specs.Verdict.{refusal, general_checks}
+use Rattle.cca_machine.specs.Verdict.{refusal, general_checks, verb_verdict}
 use Rattle.cca_requests.specs.Judging.{IsJudged}
 use Rattle.cca_requests.specs.declared.judging.Verdict.TheVariants as code
 use Rattle.cca_requests.specs.Serving.{tables, IsFault}
@@ -77,7 +77,7 @@ returns-in-Ok-Granted-clause-serves g c = λ s at.
 pub returns-in-Ok-Granted-clause-random : goal.returns-in-Ok-Granted-clause-random
 returns-in-Ok-Granted-clause-random g c = record {
   entropy = c.act.ensures.entropy;
-  untouched = λ s at none_taken.
+  untouched = λ s at refused.
       let request = seen c.args.request.now in
       let bench = bench_of c.args.lease.now in
       let t = tables c.args.roles.now c.args.records.now in
@@ -90,12 +90,13 @@ returns-in-Ok-Granted-clause-random g c = record {
       (c.in-Ok-Granted.ensures.judged s (record { loaded = at.loaded; stands = at.stands.on_store })) in
       let granted : IsJudged s bench (operands request) (code.Granted c.in-Ok-Granted.granted) =
       subst (λ v. IsJudged s bench (operands request) v) c.in-Ok-Granted.field-0-is judged in
-      c.act.ensures.untouched s (verdict_operands s request None passes granted.0)
+      let verb = verdict_operands s request None passes granted.0 in
+      c.act.ensures.untouched s verb
       (grants_kept s c.args.lease.now c.judge.new.lease (operands request) c.in-Ok-Granted.granted c.judge.ensures.rest granted.1)
       (record {
         loaded = loaded_kept s.registers c.args.held.now c.args.lease.now c.judge.new.lease c.judge.ensures.rest at.loaded;
         stands = stands_kept s t m m d0 d1 (keeps_still m) c.judge.ensures.keeps at.stands;
-      }) none_taken;
+      }) (subst IsSome (verb (verb_verdict s request)) refused);
   undrawn = c.act.ensures.undrawn;
   drawing = c.act.ensures.drawing;
 }

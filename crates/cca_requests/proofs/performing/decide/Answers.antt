@@ -1,17 +1,17 @@
-use Rattle.cca_requests.proofs.Generating.{delivered_decides, generated_decides, pair_taken, pair_types, some_length, type_is}
-use Rattle.cca_requests.proofs.KeyedVerbs.{delivered_or_decides, keyed_shows}
+use Rattle.cca_requests.proofs.Generating.{generated_decides, one_refused, pair_refused, pair_types, type_is}
+use Rattle.cca_requests.proofs.KeyedVerbs.{delivered_decides, delivered_or_decides, keyed_shows}
 use Rattle.cca_requests.specs.Drawing.{IsDeliveredOr, LeavesDrawn}
 use Rattle.key_parts.specs.Parts.{combined_key, first_key}
 use Rattle.des_core.specs.Modes.{zero_block}
 use Rattle.cipher_verbs.specs.declared.padding.Pad.TheVariants as padding
 use Rattle.text_segments.specs.Chains.{chain_of, first_chain}
 use Rattle.text_segments.specs.declared.modes.Mode.TheVariants as mode
-use Rattle.cca_machine.specs.Lines.{drawn_where}
+use Rattle.cca_machine.specs.Draws.{NoBytes, draws_random}
 use Rattle.key_transport.specs.Tokens.{as_current, changed_token, closed_key, external_token, transported_key}
 use Rattle.key_transport.specs.Generated.{generated_key}
 use Rattle.cca_vectors.specs.declared.key_type.KeyType.{KeyType}
 use Rattle.cca_vectors.specs.KeyTypes.{type_name}
-use Rattle.std.proofs.Common.{◌≡◌, ◌≤◌, ◌∙◌, [], ◌∷◌, Option, None, refl, sym, ap, subst, codes, ℕ, List, ◌<◌, false, arith}
+use Rattle.std.proofs.Common.{◌≡◌, ◌≤◌, ◌∙◌, [], ◌∷◌, Option, None, refl, sym, ap, subst, codes, ℕ, List, true, false}
 use Rattle.std.specs.Prelude.{◌/◌, IsSome, length, take, IsTrue, is_some, ◌||◌}
 use Rattle.std.specs.Int.{to_be_bytes, w32}
 use Rattle.std.proofs.KnownBytes.{Consumes-nil}
@@ -32,7 +32,7 @@ use Rattle.verb_script.specs.Parsed.{seen}
 use Rattle.verb_script.specs.Values.{hex_value}
 use Rattle.master_registers.specs.Actions.{after_action}
 use Rattle.cca_machine.specs.Actions.{part_action}
-use Rattle.cca_machine.specs.Act.{Become, DefineRole, or_empty, yes_or_no, token_fields, Show, delivered, delivered_with, draws, segment_fields, last_text_fields, code_segment_fields, last_code_fields, last_match_fields}
+use Rattle.cca_machine.specs.Act.{Become, DefineRole, or_empty, yes_or_no, token_fields, Show, delivered, delivered_with, segment_fields, last_text_fields, code_segment_fields, last_code_fields, last_match_fields}
 use Rattle.cca_machine.specs.Choices.{pad_named, mac_rule_named, mac_length_named, key_length_named, target_named, type_in, is_last_part}
 use Rattle.cca_machine.specs.Keys.{key_in_text, key_of_label, key_of_request, or_no_key, imported, key_in_field, key_of_token, or_no_clear}
 use Rattle.cca_machine.specs.Listing.{label_fields}
@@ -137,7 +137,7 @@ returns-in-CsuaaciDefine-clause-decides g c = λ s loaded recorded granted.
       drawn = [];
       decided = subst (λ e. IsDecided s bench [] request e c.args.reply.now) (sym c.define.ensures.effect)
           (refl, ap (DefineRole name) c.define.ensures.number, refl);
-      random = record { consumed = Consumes-nil left; size = drawn_zero (first_refusal (define_questions s name)) 0 refl };
+      random = record { consumed = Consumes-nil left; size = drawn_zero (first_refusal (define_questions s name)) NoBytes [] refl };
     })
 
 pub returns-in-Csnbcki-clause-ready : goal.returns-in-Csnbcki-clause-ready
@@ -257,15 +257,15 @@ returns-in-Ok-generate_one-clause-decides g c = λ s loaded recorded granted.
     let now = g.E.Entropy.left c.generate_one.new.entropy in
     let reply = c.generate_one.new.reply in
     let row = c.in-CsnbkgnOp in
-    let size = key_length_named row.length.now in
+    let key_length = key_length_named row.length.now in
     let request : Request =
     record { name = csnbkgn_op; values = row.role ∷ row.form.now ∷ row.length.now ∷ type_name row.type1 ∷ row.to.now ∷ [] } in
     let is = ap seen row.is in
     let has = subst (λ (r : Request). AreGranted s bench (operands r) c.args.granted.now) is granted in
     subst (λ (r : Request). Decides s later r c.in-Ok-generate_one.effect reply before now) (sym is)
-    (generated_decides s later request before now reply c.in-Ok-generate_one.effect
-    (subst (λ (k : KeyType). LeavesDrawn s (first_refusal (generate_questions k size))
-    (λ (drawn : List ℕ). delivered s (codes "token1") (label_named row.to.now) (as_current (generated_key k drawn))) size before now reply c.in-Ok-generate_one.effect)
+    (generated_decides s later request key_length before now reply c.in-Ok-generate_one.effect refl
+    (subst (λ (k : KeyType). LeavesDrawn s (first_refusal (generate_questions k key_length))
+    (λ (drawn : List ℕ). delivered s (codes "token1") (label_named row.to.now) (as_current (generated_key k key_length drawn))) key_length before now reply c.in-Ok-generate_one.effect)
     (sym (type_is row.type1)) (c.in-Ok-generate_one.ensures.generated s loaded has.0.0)))
 
 pub returns-in-Ok-generate_pair-clause-decides : goal.returns-in-Ok-generate_pair-clause-decides
@@ -276,7 +276,7 @@ returns-in-Ok-generate_pair-clause-decides g c = λ s loaded recorded granted.
     let now = g.E.Entropy.left c.generate_pair.new.entropy in
     let reply = c.generate_pair.new.reply in
     let row = c.in-CsnbkgnPair in
-    let size = key_length_named row.length.now in
+    let key_length = key_length_named row.length.now in
     let request : Request = record {
       name = csnbkgn_pair;
       values = row.role ∷ row.form.now ∷ row.length.now ∷ type_name row.type1 ∷ type_name row.type2 ∷ row.transport2.now ∷ row.to.now ∷ [];
@@ -286,11 +286,11 @@ returns-in-Ok-generate_pair-clause-decides g c = λ s loaded recorded granted.
     let judged = c.key_in-in-CsnbkgnPair.result.now in
     let key : key_in_field s request (codes "transport2") ≡ opened bench judged =
     key_is bench (key_in_text s row.transport2.now) c.args.granted.now.first judged has.0 c.key_in-in-CsnbkgnPair.ensures.key c.key_in-in-CsnbkgnPair.ensures.under in
-    let made = λ (one two : KeyType) (transport : ClearKey). LeavesDrawn s (first_refusal (pair_questions one two size))
-    (λ (drawn : List ℕ). delivered_with s (codes "token1") (label_named row.to.now) (as_current (generated_key one drawn))
-    (Hex (codes "token2") (external_token transport.key (generated_key two drawn)) ∷ [])) size before now reply c.in-Ok-generate_pair.effect in
+    let made = λ (one two : KeyType) (transport : ClearKey). LeavesDrawn s (first_refusal (pair_questions one two key_length))
+    (λ (drawn : List ℕ). delivered_with s (codes "token1") (label_named row.to.now) (as_current (generated_key one key_length drawn))
+    (Hex (codes "token2") (external_token transport.key (generated_key two key_length drawn)) ∷ [])) key_length before now reply c.in-Ok-generate_pair.effect in
     subst (λ (r : Request). Decides s later r c.in-Ok-generate_pair.effect reply before now) (sym is)
-    (generated_decides s later request before now reply c.in-Ok-generate_pair.effect
+    (generated_decides s later request key_length before now reply c.in-Ok-generate_pair.effect refl
     (subst (λ (k : ClearKey). made (type_in (type_name row.type1)) (type_in (type_name row.type2)) k) (sym key)
     (subst (λ (k : KeyType). made (type_in (type_name row.type1)) k (opened bench judged)) (sym (type_is row.type2))
     (subst (λ (k : KeyType). made k row.type2 (opened bench judged)) (sym (type_is row.type1)) (c.in-Ok-generate_pair.ensures.generated s loaded has.1.0)))))
@@ -303,7 +303,7 @@ returns-in-Ok-generate_out-clause-decides g c = λ s loaded recorded granted.
     let now = g.E.Entropy.left c.generate_out.new.entropy in
     let reply = c.generate_out.new.reply in
     let row = c.in-CsnbkgnOut in
-    let size = key_length_named row.length.now in
+    let key_length = key_length_named row.length.now in
     let request : Request = record {
       name = csnbkgn_out;
       values = row.role ∷ row.form.now ∷ row.length.now ∷ type_name row.type1 ∷ type_name row.type2 ∷ row.transport1.now ∷ row.transport2.now ∷ [];
@@ -316,15 +316,27 @@ returns-in-Ok-generate_out-clause-decides g c = λ s loaded recorded granted.
     key_is bench (key_in_text s row.transport1.now) c.args.granted.now.first one has.0 c.key_in-in-CsnbkgnOut.ensures.key c.key_in-in-CsnbkgnOut.ensures.under in
     let other : key_in_field s request (codes "transport2") ≡ opened bench two =
     key_is bench (key_in_text s row.transport2.now) c.args.granted.now.second two has.1 c.key_in-in-CsnbkgnOut-2.ensures.key c.key_in-in-CsnbkgnOut-2.ensures.under in
-    let made = λ (first second : KeyType) (a b : ClearKey). LeavesDrawn s (first_refusal (pair_questions first second size))
-    (λ (drawn : List ℕ). Show (Hex (codes "token1") (external_token a.key (generated_key first drawn))
-    ∷ Hex (codes "token2") (external_token b.key (generated_key second drawn)) ∷ [])) size before now reply c.in-Ok-generate_out.effect in
+    let made = λ (first second : KeyType) (a b : ClearKey). LeavesDrawn s (first_refusal (pair_questions first second key_length))
+    (λ (drawn : List ℕ). Show (Hex (codes "token1") (external_token a.key (generated_key first key_length drawn))
+    ∷ Hex (codes "token2") (external_token b.key (generated_key second key_length drawn)) ∷ [])) key_length before now reply c.in-Ok-generate_out.effect in
     subst (λ (r : Request). Decides s later r c.in-Ok-generate_out.effect reply before now) (sym is)
-    (generated_decides s later request before now reply c.in-Ok-generate_out.effect
+    (generated_decides s later request key_length before now reply c.in-Ok-generate_out.effect refl
     (subst (λ (k : ClearKey). made (type_in (type_name row.type1)) (type_in (type_name row.type2)) k (key_in_field s request (codes "transport2"))) (sym key)
     (subst (λ (k : ClearKey). made (type_in (type_name row.type1)) (type_in (type_name row.type2)) (opened bench one) k) (sym other)
     (subst (λ (k : KeyType). made (type_in (type_name row.type1)) k (opened bench one) (opened bench two)) (sym (type_is row.type2))
     (subst (λ (k : KeyType). made k row.type2 (opened bench one) (opened bench two)) (sym (type_is row.type1)) (c.in-Ok-generate_out.ensures.generated s))))))
+
+pub returns-in-Ok-generate_one-clause-untouched : goal.returns-in-Ok-generate_one-clause-untouched
+returns-in-Ok-generate_one-clause-untouched g c = λ s loaded recorded granted refused.
+    let row = c.in-CsnbkgnOp in
+    c.generate_one.ensures.untouched (one_refused row.type1 (key_length_named row.length.now)
+    (subst (λ (r : Request). IsSome (verb_verdict s r)) (ap seen row.is) refused))
+
+pub returns-in-Err-generate_one-clause-untouched : goal.returns-in-Err-generate_one-clause-untouched
+returns-in-Err-generate_one-clause-untouched g c = λ s loaded recorded granted refused.
+    let row = c.in-CsnbkgnOp in
+    c.generate_one.ensures.untouched (one_refused row.type1 (key_length_named row.length.now)
+    (subst (λ (r : Request). IsSome (verb_verdict s r)) (ap seen row.is) refused))
 
 pub returns-in-Ok-generate_pair-clause-ready : goal.returns-in-Ok-generate_pair-clause-ready
 returns-in-Ok-generate_pair-clause-ready g c =
@@ -340,52 +352,52 @@ returns-in-Ok-generate_pair-clause-named g c = λ writes.
     (either_right (is_some (label_named row.transport2.now)) (to || false) (either_left to false (c.in-Ok-generate_pair.ensures.named writes)))
 
 pub returns-in-Ok-generate_pair-clause-untouched : goal.returns-in-Ok-generate_pair-clause-untouched
-returns-in-Ok-generate_pair-clause-untouched g c = λ s loaded recorded granted none.
+returns-in-Ok-generate_pair-clause-untouched g c = λ s loaded recorded granted refused.
     let row = c.in-CsnbkgnPair in
-    c.generate_pair.ensures.untouched (pair_taken row.type1 row.type2 row.length.now
-    (subst (λ (r : Request). drawn_where (verb_verdict s r) (draws r.name r) ≡ 0) (ap seen row.is) none))
+    c.generate_pair.ensures.untouched (pair_refused row.type1 row.type2 (key_length_named row.length.now)
+    (subst (λ (r : Request). IsSome (verb_verdict s r)) (ap seen row.is) refused))
 
 pub returns-in-Err-generate_pair-clause-untouched : goal.returns-in-Err-generate_pair-clause-untouched
-returns-in-Err-generate_pair-clause-untouched g c = λ s loaded recorded granted none.
+returns-in-Err-generate_pair-clause-untouched g c = λ s loaded recorded granted refused.
     let row = c.in-CsnbkgnPair in
-    c.generate_pair.ensures.untouched (pair_taken row.type1 row.type2 row.length.now
-    (subst (λ (r : Request). drawn_where (verb_verdict s r) (draws r.name r) ≡ 0) (ap seen row.is) none))
+    c.generate_pair.ensures.untouched (pair_refused row.type1 row.type2 (key_length_named row.length.now)
+    (subst (λ (r : Request). IsSome (verb_verdict s r)) (ap seen row.is) refused))
 
 pub returns-in-Err-generate_pair-clause-decides : goal.returns-in-Err-generate_pair-clause-decides
 returns-in-Err-generate_pair-clause-decides g c = λ s loaded recorded granted.
     let row = c.in-CsnbkgnPair in
-    subst (λ (r : Request). (verb_verdict s r ≡ None) × (0 < draws r.name r)) (sym (ap seen row.is))
-    (ap first_refusal (pair_types row.type1 row.type2 (key_length_named row.length.now)) ∙ c.in-Err-generate_pair.ensures.permitted, some_length row.length.now)
+    subst (λ (r : Request). (verb_verdict s r ≡ None) × (draws_random r ≡ true)) (sym (ap seen row.is))
+    (ap first_refusal (pair_types row.type1 row.type2 (key_length_named row.length.now)) ∙ c.in-Err-generate_pair.ensures.permitted, refl)
 
 pub returns-in-Ok-generate_out-clause-untouched : goal.returns-in-Ok-generate_out-clause-untouched
-returns-in-Ok-generate_out-clause-untouched g c = λ s loaded recorded granted none.
+returns-in-Ok-generate_out-clause-untouched g c = λ s loaded recorded granted refused.
     let row = c.in-CsnbkgnOut in
-    c.generate_out.ensures.untouched (pair_taken row.type1 row.type2 row.length.now
-    (subst (λ (r : Request). drawn_where (verb_verdict s r) (draws r.name r) ≡ 0) (ap seen row.is) none))
+    c.generate_out.ensures.untouched (pair_refused row.type1 row.type2 (key_length_named row.length.now)
+    (subst (λ (r : Request). IsSome (verb_verdict s r)) (ap seen row.is) refused))
 
 pub returns-in-Err-generate_out-clause-untouched : goal.returns-in-Err-generate_out-clause-untouched
-returns-in-Err-generate_out-clause-untouched g c = λ s loaded recorded granted none.
+returns-in-Err-generate_out-clause-untouched g c = λ s loaded recorded granted refused.
     let row = c.in-CsnbkgnOut in
-    c.generate_out.ensures.untouched (pair_taken row.type1 row.type2 row.length.now
-    (subst (λ (r : Request). drawn_where (verb_verdict s r) (draws r.name r) ≡ 0) (ap seen row.is) none))
+    c.generate_out.ensures.untouched (pair_refused row.type1 row.type2 (key_length_named row.length.now)
+    (subst (λ (r : Request). IsSome (verb_verdict s r)) (ap seen row.is) refused))
 
 pub returns-in-Err-generate_out-clause-decides : goal.returns-in-Err-generate_out-clause-decides
 returns-in-Err-generate_out-clause-decides g c = λ s loaded recorded granted.
     let row = c.in-CsnbkgnOut in
-    subst (λ (r : Request). (verb_verdict s r ≡ None) × (0 < draws r.name r)) (sym (ap seen row.is))
-    (ap first_refusal (pair_types row.type1 row.type2 (key_length_named row.length.now)) ∙ c.in-Err-generate_out.ensures.permitted, some_length row.length.now)
+    subst (λ (r : Request). (verb_verdict s r ≡ None) × (draws_random r ≡ true)) (sym (ap seen row.is))
+    (ap first_refusal (pair_types row.type1 row.type2 (key_length_named row.length.now)) ∙ c.in-Err-generate_out.ensures.permitted, refl)
 
 pub returns-in-Err-generate_one-clause-drawing : goal.returns-in-Err-generate_one-clause-drawing
 returns-in-Err-generate_one-clause-drawing g c =
-    subst (λ (r : Request). 0 < draws r.name r) (sym (ap seen c.in-CsnbkgnOp.is)) (some_length c.in-CsnbkgnOp.length.now)
+    subst (λ (r : Request). draws_random r ≡ true) (sym (ap seen c.in-CsnbkgnOp.is)) refl
 
 pub returns-in-Err-generate_pair-clause-drawing : goal.returns-in-Err-generate_pair-clause-drawing
 returns-in-Err-generate_pair-clause-drawing g c =
-    subst (λ (r : Request). 0 < draws r.name r) (sym (ap seen c.in-CsnbkgnPair.is)) (some_length c.in-CsnbkgnPair.length.now)
+    subst (λ (r : Request). draws_random r ≡ true) (sym (ap seen c.in-CsnbkgnPair.is)) refl
 
 pub returns-in-Err-generate_out-clause-drawing : goal.returns-in-Err-generate_out-clause-drawing
 returns-in-Err-generate_out-clause-drawing g c =
-    subst (λ (r : Request). 0 < draws r.name r) (sym (ap seen c.in-CsnbkgnOut.is)) (some_length c.in-CsnbkgnOut.length.now)
+    subst (λ (r : Request). draws_random r ≡ true) (sym (ap seen c.in-CsnbkgnOut.is)) refl
 
 -- ---- keys that are moved
 
@@ -812,37 +824,37 @@ returns-in-Csnbktr-clause-decides g c = λ s loaded recorded granted.
 -- ---- keys that are generated draw some bytes
 
 pub returns-in-Ok-generate_one-clause-undrawn : goal.returns-in-Ok-generate_one-clause-undrawn
-returns-in-Ok-generate_one-clause-undrawn g c = λ zero.
+returns-in-Ok-generate_one-clause-undrawn g c = λ none.
     let row = c.in-CsnbkgnOp in
-    let none : key_length_named row.length.now ≡ 0 = subst (λ (r : Request). draws r.name r ≡ 0) (ap seen row.is) zero in
-    absurd (omega (arith, some_length row.length.now, none))
+    let no : true ≡ false = subst (λ (r : Request). draws_random r ≡ false) (ap seen row.is) none in
+    cc no
 
 pub returns-in-Ok-generate_pair-clause-undrawn : goal.returns-in-Ok-generate_pair-clause-undrawn
-returns-in-Ok-generate_pair-clause-undrawn g c = λ zero.
+returns-in-Ok-generate_pair-clause-undrawn g c = λ none.
     let row = c.in-CsnbkgnPair in
-    let none : key_length_named row.length.now ≡ 0 = subst (λ (r : Request). draws r.name r ≡ 0) (ap seen row.is) zero in
-    absurd (omega (arith, some_length row.length.now, none))
+    let no : true ≡ false = subst (λ (r : Request). draws_random r ≡ false) (ap seen row.is) none in
+    cc no
 
 pub returns-in-Ok-generate_out-clause-undrawn : goal.returns-in-Ok-generate_out-clause-undrawn
-returns-in-Ok-generate_out-clause-undrawn g c = λ zero.
+returns-in-Ok-generate_out-clause-undrawn g c = λ none.
     let row = c.in-CsnbkgnOut in
-    let none : key_length_named row.length.now ≡ 0 = subst (λ (r : Request). draws r.name r ≡ 0) (ap seen row.is) zero in
-    absurd (omega (arith, some_length row.length.now, none))
+    let no : true ≡ false = subst (λ (r : Request). draws_random r ≡ false) (ap seen row.is) none in
+    cc no
 
 pub returns-in-Err-generate_one-clause-undrawn : goal.returns-in-Err-generate_one-clause-undrawn
-returns-in-Err-generate_one-clause-undrawn g c = λ zero.
+returns-in-Err-generate_one-clause-undrawn g c = λ none.
     let row = c.in-CsnbkgnOp in
-    let none : key_length_named row.length.now ≡ 0 = subst (λ (r : Request). draws r.name r ≡ 0) (ap seen row.is) zero in
-    absurd (omega (arith, some_length row.length.now, none))
+    let no : true ≡ false = subst (λ (r : Request). draws_random r ≡ false) (ap seen row.is) none in
+    cc no
 
 pub returns-in-Err-generate_pair-clause-undrawn : goal.returns-in-Err-generate_pair-clause-undrawn
-returns-in-Err-generate_pair-clause-undrawn g c = λ zero.
+returns-in-Err-generate_pair-clause-undrawn g c = λ none.
     let row = c.in-CsnbkgnPair in
-    let none : key_length_named row.length.now ≡ 0 = subst (λ (r : Request). draws r.name r ≡ 0) (ap seen row.is) zero in
-    absurd (omega (arith, some_length row.length.now, none))
+    let no : true ≡ false = subst (λ (r : Request). draws_random r ≡ false) (ap seen row.is) none in
+    cc no
 
 pub returns-in-Err-generate_out-clause-undrawn : goal.returns-in-Err-generate_out-clause-undrawn
-returns-in-Err-generate_out-clause-undrawn g c = λ zero.
+returns-in-Err-generate_out-clause-undrawn g c = λ none.
     let row = c.in-CsnbkgnOut in
-    let none : key_length_named row.length.now ≡ 0 = subst (λ (r : Request). draws r.name r ≡ 0) (ap seen row.is) zero in
-    absurd (omega (arith, some_length row.length.now, none))
+    let no : true ≡ false = subst (λ (r : Request). draws_random r ≡ false) (ap seen row.is) none in
+    cc no

@@ -9,10 +9,9 @@ use Rattle.line_service.specs.Devices.{DiskLeft}
 use Rattle.line_service.specs.Machine.{world}
 use Rattle.line_service.specs.declared.stops.Stop.{Stop}
 use Rattle.line_service.specs.declared.stops.Stop.TheVariants.{ReadFault, WriteFault, EntropyFault, ModuleFault, StoreFault, InputLimit}
-use Rattle.cca_tool.specs.Coprocessor.{cca}
 use Rattle.cca_tool.specs.Statuses.{status_of_lem}
 use Rattle.cca_tool.specs.declared.command.Status.TheVariants as status
-use Rattle.cca_tool.proofs.StatusLemmas.{as_told, ended_as, no_memory_ended}
+use Rattle.cca_tool.proofs.StatusLemmas.{as_told, ended_as}
 use Rattle.cca_tool.proofs.DemoRunLemmas.{never_rose, never_usage, short, within_limit, moments_of, at_rest_of, lost_of, summary_sent, summary_cut, summary_sound, summary_damage, summary_left, sound_at, damage_at}
 use Rattle.cca_tool.proofs.demo.serve_demo.Goals as goal
 

@@ -1,5 +1,5 @@
 -- The words ask for one move.
-use Rattle.std.proofs.Common.{sym, subst}
+use Rattle.std.proofs.Common.{subst}
 use Rattle.move_file.specs.declared.moves.Move.{Move}
 use Rattle.cca_tool.specs.Unloading.{MoveTold, Still}
 use Rattle.cca_tool.proofs.MoveLemmas.{one_move}

@@ -6,7 +6,7 @@ use Rattle.key_cells.specs.Lease.{bench_of}
 use Rattle.master_registers.specs.Loaded.{Loaded}
 use Rattle.master_registers.specs.Masters.{Masters}
 use Rattle.key_transport.specs.Tokens.{as_current, key_with}
-use Rattle.key_transport.specs.Generated.{HasLength, generated_key, generated_tokens, transport_key, vector_for}
+use Rattle.key_transport.specs.Generated.{HasKeyLength, generated_key, generated_tokens, generated_vector, transport_key}
 use Rattle.key_transport.proofs.GeneratedLemmas.{first_has, key_is_generated, same_tokens, transport_stays}
 use Rattle.key_transport.proofs.PlaceLemmas.{still_loaded}
 use Rattle.key_transport.proofs.generating.generate.Goals as goal
@@ -16,28 +16,28 @@ returns-clause-generated g c =
     let d = c.in_ok-draw_key.ensures.drawn in
     let old : Bench = bench_of c.args.lease.now in
     let new : Bench = bench_of c.draw_key.new.lease in
-    let size = c.args.length in
+    let key_length = c.args.length in
     let one = option_copied c.args.one in
     let two = option_copied c.args.two in
     let put : new ≡ record old { key = new.key } = ap bench_of c.in_ok-draw_key.ensures.stays in
     let loaded : (m : Masters) → Loaded m c.args.held.now old → Loaded m c.args.held.now new =
     (λ m. still_loaded m c.args.held.now old new (ap (λ b. b.coming) put) (ap (λ b. b.current) put) (ap (λ b. b.former) put)) in
-    let key : (kind : KeyType) → HasLength kind size → key_with new (vector_for kind size) ≡ generated_key kind d.drawn =
-    (λ kind. key_is_generated kind size new d.drawn d.size_of d.key) in
+    let key : (kind : KeyType) → HasKeyLength kind key_length → key_with new (generated_vector kind key_length) ≡ generated_key kind key_length d.draw.drawn =
+    (λ kind. key_is_generated kind key_length new d.draw.drawn d.key) in
     let first : transport_key new one ≡ transport_key old one = ap (λ b. transport_key b one) put ∙ transport_stays old new.key one in
     let second : transport_key new two ≡ transport_key old two = ap (λ b. transport_key b two) put ∙ transport_stays old new.key two in
+    let first_key = key_with new (generated_vector c.args.first key_length) in
+    let second_key = key_with new (generated_vector c.args.second key_length) in
     record {
-      drawn = d.drawn;
-      size_of = d.size_of;
-      consumed = d.consumed;
+      draw = d.draw;
       tokens = λ m has.
           c.write_tokens.ensures.tokens m (loaded m has)
-          ∙ (ap (λ t. generated_tokens m c.args.form t (transport_key new two) (key_with new (vector_for c.args.first size)) (key_with new (vector_for c.args.second size))) first
-          ∙ (ap (λ t. generated_tokens m c.args.form (transport_key old one) t (key_with new (vector_for c.args.first size)) (key_with new (vector_for c.args.second size))) second
-          ∙ same_tokens m c.args.form c.args.first c.args.second size (transport_key old one) (transport_key old two)
-          (key_with new (vector_for c.args.first size)) (key_with new (vector_for c.args.second size))
-          (generated_key c.args.first d.drawn) (generated_key c.args.second d.drawn) c.requires.lengths (key c.args.first) (key c.args.second)));
+          ∙ (ap (λ t. generated_tokens m c.args.form t (transport_key new two) first_key second_key) first
+          ∙ (ap (λ t. generated_tokens m c.args.form (transport_key old one) t first_key second_key) second
+          ∙ same_tokens m c.args.form c.args.first c.args.second key_length (transport_key old one) (transport_key old two) first_key second_key
+          (generated_key c.args.first key_length d.draw.drawn) (generated_key c.args.second key_length d.draw.drawn)
+          c.requires.lengths (key c.args.first) (key c.args.second)));
       operational = λ m has op.
           c.write_tokens.ensures.operational m (loaded m has) op
-          ∙ ap (λ k. Some (as_current k)) (key c.args.first (first_has c.args.form c.args.first c.args.second size c.requires.lengths));
+          ∙ ap (λ k. Some (as_current k)) (key c.args.first (first_has c.args.form c.args.first c.args.second key_length c.requires.lengths));
     }

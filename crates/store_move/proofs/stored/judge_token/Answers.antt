@@ -1,4 +1,4 @@
-use Rattle.std.proofs.Common.{◌≡◌, ◌∙◌, Some, sym, ap}
+use Rattle.std.proofs.Common.{◌≡◌, ◌∙◌, sym, ap}
 use Rattle.key_tokens.specs.declared.key_token.Asked.TheVariants.{Internal}
 use Rattle.verb_rules.specs.declared.needs.Need.{Need}
 use Rattle.store_move.proofs.StoredLemmas.{not_refused, stored_use}

@@ -1,6 +1,5 @@
 -- What opening the disks comes to, told as its stops alone.
-use Rattle.std.proofs.Common.{◌∙◌, Ok, Err, refl, rules, sym}
-use Rattle.std.specs.Prelude.{IsOk}
+use Rattle.std.proofs.Common.{rules}
 use Rattle.cca_requests.specs.Serving.{tables}
 use Rattle.cca_tool.proofs.KnownLemmas.{known_remembers, known_sound}
 use Rattle.cca_tool.proofs.OpeningLemmas.{damage_as, left_as}

@@ -1,0 +1,9 @@
+use Rattle.verb_rules.specs.Rules.{rule_number}
+use Rattle.cca_machine.specs.Verdict.{refusal}
+use Rattle.cca_requests.proofs.Generating.{first_refused}
+use Rattle.cca_requests.proofs.verbs.csnbkgn.judge_two.Goals as goal
+
+pub returns-in-Some : goal.returns-in-Some
+returns-in-Some c =
+    let refused = c.in-Some.refusal in
+    first_refused c.args.first c.args.second c.args.length (refusal (rule_number refused.rule) refused.operand.now) c.in_default.ensures c.in-Some.ensures
