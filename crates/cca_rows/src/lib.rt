@@ -35,6 +35,8 @@ mod tables;
 #[cfg(test)]
 mod tokens;
 #[cfg(test)]
+mod unique_halves;
+#[cfg(test)]
 mod unloading;
 
 /// The machine gives the replies to two key ceremonies that are known from outside: the definitions compute them.

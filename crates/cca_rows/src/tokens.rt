@@ -15,6 +15,23 @@ const TOKEN: [u8; 64] = [
 const SHOWN: &str =
     "OK kind=external class=EXPORTER length=16 vector=00417d000341000000417d0003210000 pattern=0000000000000000";
 
+const UNIQUE_SHOWN: &str =
+    "OK kind=external class=EXPORTER length=16 vector=00417d0003c0000000417d0003a00000 pattern=0000000000000000";
+
+// The token with other key forms in its two control vectors, each with bit 47 as the parity of its byte asks.
+fn with_forms(left: u8, right: u8) -> [u8; 64] {
+    let mut token = TOKEN;
+    token[37] = form_byte(left);
+    token[45] = form_byte(right);
+    token
+}
+
+// Byte 5 of a control vector: bits 40 to 42, and bit 47.
+fn form_byte(form: u8) -> u8 {
+    let bits = (form % 8) * 32;
+    bits + (bits.count_ones() % 2) as u8
+}
+
 // The validation value: the sum of the fifteen words before it.
 fn validation_value(token: &[u8; 64]) -> u32 {
     let mut sum: u32 = 0;
@@ -58,27 +75,58 @@ fn digit(value: u8) -> char {
 }
 
 // What a token is answered whose byte of this number is complemented.
-fn reply_for(at: usize) -> &'static str {
+fn reply_for(at: usize, shown: &'static str) -> &'static str {
     match at {
         0 => "NO 09 token",
         4 => "NO 11 token",
         6 => "NO 12 token",
         1..16 | 48..60 => "NO 13 token",
-        16..32 => SHOWN,
+        16..32 => shown,
         35 | 36 | 43 | 44 => "NO 15 token",
         _ => "NO 16 token",
     }
 }
 
+// Asks for a token, and then for the same with each of its bytes complemented.
+fn ask_each_byte(
+    whole: &[u8; 64],
+    shown: &'static str,
+    requests: &mut String,
+    replies: &mut String,
+) -> Result<(), Fail> {
+    ask(whole, true, shown, requests, replies)?;
+    for at in 0..60 {
+        let mut token = *whole;
+        token[at] = !token[at];
+        ask(&token, true, reply_for(at, shown), requests, replies)?;
+    }
+    Ok(())
+}
+
+// Of a double-length key, and of one whose halves are guaranteed unique.
 #[test]
 fn each_byte_of_a_token_has_its_rule(rt: HostRuntime) -> Result<(), Fail> {
     let mut requests = String::new(rt.alloc());
     let mut replies = String::new(rt.alloc());
-    ask(&TOKEN, true, SHOWN, &mut requests, &mut replies)?;
-    for at in 0..60 {
-        let mut token = TOKEN;
-        token[at] = !token[at];
-        ask(&token, true, reply_for(at), &mut requests, &mut replies)?;
+    ask_each_byte(&TOKEN, SHOWN, &mut requests, &mut replies)?;
+    let unique = with_forms(6, 5);
+    ask_each_byte(&unique, UNIQUE_SHOWN, &mut requests, &mut replies)?;
+    expect_replies(&rt, rt.alloc(), &requests, &replies, &[])
+}
+
+// Each form of a left half beside each of a right one.
+#[test]
+fn the_key_forms_of_two_halves_belong_together(rt: HostRuntime) -> Result<(), Fail> {
+    let mut requests = String::new(rt.alloc());
+    let mut replies = String::new(rt.alloc());
+    for forms in 0..64u8 {
+        let token = with_forms(forms / 8, forms % 8);
+        let reply = match (forms / 8, forms % 8) {
+            (2, 1) => SHOWN,
+            (6, 5) => UNIQUE_SHOWN,
+            _ => "NO 16 token",
+        };
+        ask(&token, true, reply, &mut requests, &mut replies)?;
     }
     expect_replies(&rt, rt.alloc(), &requests, &replies, &[])
 }

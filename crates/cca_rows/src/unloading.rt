@@ -38,7 +38,7 @@ const FILE: [&str; 4] = [
 const REPORT: &str = "kept IMP target\n";
 
 // The transport key at the other module.
-const IMPORTER: &[(&str, &str)] = &[
+pub(crate) const IMPORTER: &[(&str, &str)] = &[
     ("CSNBKRC role=DEFAULT label=IMP", "OK"),
     (
         "CSNBKGN role=DEFAULT form=OP length=16 type1=IMPORTER to=L:IMP",
@@ -47,7 +47,7 @@ const IMPORTER: &[(&str, &str)] = &[
 ];
 
 // Another master key.
-const NEXT_MASTER_KEY: &[(&str, &str)] = &[
+pub(crate) const NEXT_MASTER_KEY: &[(&str, &str)] = &[
     (
         "CSNBMKP role=DEFAULT action=FIRST part=ffffffffffffffffffffffffffffffffffffffffffffffff",
         "OK new=partial",
