@@ -92,6 +92,11 @@ def closed(vector):
     return changed(vector, bytes([0, 0, 0x41, 0, 0, 0, 0, 0]))
 
 
+def unique(vector):
+    """The vector of a double-length key made that of one whose halves are guaranteed unique: key forms 110 and 101."""
+    return vector[:5] + b"\xc0" + vector[6:13] + b"\xa0" + vector[14:]
+
+
 def types():
     """The key types of docs/VERBS.md, each with its vector for each length that it has."""
     page = (TOP / "docs" / "VERBS.md").read_text()
