@@ -22,7 +22,7 @@ fn is_entry(entry: &Entry, rule: u8, role: &[u8], verb: &[u8], label: &[u8]) -> 
 
 #[test]
 fn entries_of_lines(rt: HostRuntime) {
-    let lines: [(&[u8], &[u8], u8, &[u8], &[u8], &[u8]); 9] = [
+    let lines: [(&[u8], &[u8], u8, &[u8], &[u8], &[u8]); 10] = [
         (
             b"CSNBKRC role=DEFAULT label=PAY",
             b"OK\n",
@@ -44,6 +44,14 @@ fn entries_of_lines(rt: HostRuntime) {
             b"NO 30 -\n",
             30,
             b"R2345678",
+            b"REENCIPHER",
+            b"",
+        ),
+        (
+            b"REENCIPHER role=R1 action=AHEAD",
+            b"OK changed=3\n",
+            0,
+            b"R1",
             b"REENCIPHER",
             b"",
         ),

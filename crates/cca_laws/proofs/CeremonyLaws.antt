@@ -97,7 +97,7 @@ registers_after P step s (RemoveRole name) needed now is = now
 registers_after P step s (Create label) needed now is = now
 registers_after P step s (Write label key fields) needed now is = now
 registers_after P step s (Delete label) needed now is = now
-registers_after P step s Reencipher needed now is = now
+registers_after P step s (Reencipher a) needed now is = now
 
 -- a property of the registers that lasts over each step but those that need one of the points
 module _ (points : ℕ) (P : Masters → Type 0)
@@ -112,7 +112,7 @@ module _ (points : ℕ) (P : Masters → Type 0)
   by_effect s (Create label) needed none now is = now
   by_effect s (Write label key fields) needed none now is = now
   by_effect s (Delete label) needed none now is = now
-  by_effect s Reencipher needed none now is = now
+  by_effect s (Reencipher a) needed none now is = now
 
   pub over_steps : (s : State) (random : List ℕ) (lines : List (List ℕ)) → P s.registers → EachRequest (HoldsNone points) s random lines
       → P (state_after s random lines).registers

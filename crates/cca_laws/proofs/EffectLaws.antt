@@ -4,12 +4,13 @@ use Rattle.std.specs.Prelude.{⊤, is_some}
 use Rattle.byte_lists.proofs.DirectoryLaws.{none_of}
 use Rattle.key_records.specs.Entries.{Entry}
 use Rattle.key_records.specs.Labels.{IsLabel, is_label}
+use Rattle.key_records.specs.Turning.{aged}
 use Rattle.key_tokens.specs.Denotes.{Denoted}
 use Rattle.script_buffers.specs.Replies.{Field}
 use Rattle.verb_script.specs.Grammar.{Request, RequestName, csnbcki, csnbkgn_op, csnbkgn_pair, csnbkim, csnbpex, csnbkpi_first, csnbkpi_middle, csnbkrc, csnbkrw, csnbkrd, csnbmkp_part, csnbmkp_clear, csnbmkp_set, value_of}
 use Rattle.verb_script.specs.Named.{label_named}
 use Rattle.cca_machine.specs.Act.{Effect, Show, Become, DefineRole, RemoveRole, Create, Write, Delete, Reencipher, delivered_with, effect}
-use Rattle.cca_machine.specs.Ageing.{aged}
+use Rattle.verb_rules.specs.Keys.{keys_of}
 use Rattle.cca_machine.specs.Keys.{cell_with}
 use Rattle.cca_machine.specs.Operands.{Operand, listed, operands_of}
 use Rattle.cca_machine.specs.State.{State}
@@ -24,9 +25,9 @@ pub record IsNewLabel (s : State) (name : RequestName) (r : Request) (label : Li
   pub verb : name ≡ csnbkrc
   pub named : label ≡ value_of r (codes "label")
 
--- the labels stay, or each has its key under the old master key
-abbrev pub StayOrAge : List (Option Entry) → List (Option Entry) → Type 0
-StayOrAge before now = (now ≡ before) ⊎ (now ≡ aged before)
+-- the labels stay, or are what SET makes of them
+abbrev pub StayOrAge : State → List (Option Entry) → Type 0
+StayOrAge s now = (now ≡ s.labels) ⊎ (now ≡ aged (keys_of s.registers) s.labels)
 
 -- the label is one that an operand gives to be written or deleted
 abbrev pub IsGiven : List ℕ → List Operand → Type 0
@@ -34,13 +35,13 @@ IsGiven label os = (other : List ℕ) → AreOther other os → label ≢ other
 
 abbrev pub Fits : State → RequestName → Request → Effect → Type 0
 Fits s name r (Show fields) = ⊤
-Fits s name r (Become m labels) = StayOrAge s.labels labels
+Fits s name r (Become m labels) = StayOrAge s labels
 Fits s name r (DefineRole role points) = ⊤
 Fits s name r (RemoveRole role) = ⊤
 Fits s name r (Create label) = IsNewLabel s name r label
 Fits s name r (Write label key fields) = IsGiven label (listed (operands_of name r))
 Fits s name r (Delete label) = IsGiven label (listed (operands_of name r))
-Fits s name r Reencipher = ⊤
+Fits s name r (Reencipher a) = ⊤
 
 -- ---- what passed
 

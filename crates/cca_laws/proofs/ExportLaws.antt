@@ -59,8 +59,9 @@ labelled : (s : State) (image : List ℕ) (e : Option Entry) (bytes : List ℕ) 
 unfolding kept
 labelled s image None bytes key reads is = cc is
 labelled s image (Some e) bytes key reads is =
-    let what : ReadsWhat (keys_of s.registers) bytes e.label (Some key) = subst (ReadsWhat (keys_of s.registers) bytes e.label) is reads.1 in
-    record { bytes = what.0; stands = by_flag (slice_index what.0 6 == 0xc0) what.3 }
+    let what : ReadsWhat (keys_of s.registers) bytes e.label (Some key) e.ahead e.unused =
+    subst (λ (o : Option Denoted). ReadsWhat (keys_of s.registers) bytes e.label o e.ahead e.unused) is reads.1 in
+    record { bytes = what.token; stands = by_flag (slice_index what.token 6 == 0xc0) what.is_kept }
   where
     by_flag : {o : Option Denoted} (t : Bool) → (if t then o else None) ≡ Some key → o ≡ Some key
     by_flag true same = same

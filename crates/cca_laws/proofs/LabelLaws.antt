@@ -7,13 +7,14 @@ use Rattle.key_records.specs.Directory.{cell_of, free_cell}
 use Rattle.key_records.specs.Changes.{null_entry, with_what}
 use Rattle.key_records.specs.Entries.{Entry, directory, entry_label}
 use Rattle.key_records.specs.StoreStands.{entry_at}
+use Rattle.key_records.specs.Turning.{aged}
 use Rattle.key_tokens.specs.Denotes.{ClearKey, Denoted}
 use Rattle.key_tokens.specs.declared.key_token.Age.TheVariants.{Old}
 use Rattle.script_buffers.specs.Replies.{Field}
-use Rattle.verb_script.specs.Grammar.{Request, RequestName, csnbcki, csnbkgn_op, csnbkgn_pair, csnbkim, csnbpex, csnbkpi_first, csnbkpi_middle, csnbkrc, csnbmkp_part, csnbmkp_clear, csnbmkp_set, reencipher, value_of}
+use Rattle.verb_script.specs.Grammar.{Request, RequestName, csnbcki, csnbkgn_op, csnbkgn_pair, csnbkim, csnbpex, csnbkpi_first, csnbkpi_middle, csnbkrc, csnbmkp_part, csnbmkp_clear, csnbmkp_set, reencipher, reencipher_ahead, reencipher_drop, value_of}
 use Rattle.verb_script.specs.Named.{label_named}
+use Rattle.verb_rules.specs.Keys.{keys_of}
 use Rattle.cca_machine.specs.Act.{Effect, Show, Become, DefineRole, RemoveRole, Create, Write, Delete, Reencipher, delivered_with, effect, state_after as after_effect, or_act, performed, written_in, deleted_in}
-use Rattle.cca_machine.specs.Ageing.{aged}
 use Rattle.cca_machine.specs.Keys.{cell_with, key_of_label, what_at, what_in}
 use Rattle.cca_machine.specs.Operands.{listed, operands_of}
 use Rattle.cca_machine.specs.Session.{state_after}
@@ -22,7 +23,7 @@ use Rattle.cca_machine.specs.Verdict.{Refusal, first_refusal, verb_questions, ve
 use Rattle.cca_laws.specs.EachLine.{EachRequest}
 use Rattle.cca_laws.specs.Targets.{AreOther, Spares, changes_ages, clear_of_label}
 use Rattle.cca_laws.proofs.EffectLaws.{Fits, effect_fits, third_passed}
-use Rattle.cca_laws.proofs.LabelLists.{Alike, Compare, Same, SameClear, alike_aged, alike_further, alike_itself, alike_set, as_clear, clear_in, has_other, key_for, key_is, keys_compare, label_kept, place_free, place_other, same_cell}
+use Rattle.cca_laws.proofs.LabelLists.{Alike, Compare, KeepsKeys, Same, SameClear, SameKey, alike_aged, alike_further, alike_itself, alike_set, as_clear, as_key, clear_in, entries_compare, entry_for, has_other, key_is, keys_further, label_kept, place_free, place_other, same_cell}
 use Rattle.cca_laws.proofs.LineCases.{after, over_lines, permitted, refused_none}
 
 -- ---- one effect
@@ -38,7 +39,7 @@ module _ (s : State) (label : List ℕ) where
   -- no key changes its age
   abbrev pub IsAgeless : Effect → Type 0
   IsAgeless (Become m labels) = labels ≡ s.labels
-  IsAgeless Reencipher = ⊥
+  IsAgeless (Reencipher a) = KeepsKeys a
   IsAgeless _ = ⊤
 
   created_alike : (other : List ℕ) → other ≢ label → Alike label Same s.labels (after_effect s (Create other)).labels
@@ -65,28 +66,34 @@ module _ (s : State) (label : List ℕ) where
         by_cell None is = alike_itself label s.labels
         by_cell (Some n) is = alike_set label s.labels n None (place_other label other s.labels n (apart n is) is) refl
 
-  pub same_alike : (e : Effect) → IsElsewhere e → IsAgeless e → Alike label Same s.labels (after_effect s e).labels
-  same_alike (Become m labels) elsewhere ageless = subst (λ (ls : List (Option Entry)). Alike label Same s.labels ls) (sym ageless) (alike_itself label s.labels)
-  same_alike (Create other) elsewhere ageless = created_alike other elsewhere
-  same_alike (Write other key fields) elsewhere ageless = written_alike other elsewhere key fields
-  same_alike (Delete other) elsewhere ageless = deleted_alike other elsewhere
-  same_alike Reencipher elsewhere ageless = absurd ageless
-  same_alike (Show fields) elsewhere ageless = alike_itself label s.labels
-  same_alike (DefineRole name points) elsewhere ageless = alike_itself label s.labels
-  same_alike (RemoveRole name) elsewhere ageless = alike_itself label s.labels
+  -- an effect that changes no age leaves the key of every other label, under the master key that it is under
+  key_alike : (e : Effect) → IsElsewhere e → IsAgeless e → Alike label SameKey s.labels (after_effect s e).labels
+  key_alike (Become m labels) elsewhere ageless =
+      subst (λ (ls : List (Option Entry)). Alike label SameKey s.labels ls) (sym ageless) (as_key label s.labels s.labels (alike_itself label s.labels))
+  key_alike (Create other) elsewhere ageless = as_key label s.labels _ (created_alike other elsewhere)
+  key_alike (Write other key fields) elsewhere ageless = as_key label s.labels _ (written_alike other elsewhere key fields)
+  key_alike (Delete other) elsewhere ageless = as_key label s.labels _ (deleted_alike other elsewhere)
+  key_alike (Reencipher a) elsewhere ageless = keys_further label a ageless s.labels 1024
+  key_alike (Show fields) elsewhere ageless = as_key label s.labels s.labels (alike_itself label s.labels)
+  key_alike (DefineRole name points) elsewhere ageless = as_key label s.labels s.labels (alike_itself label s.labels)
+  key_alike (RemoveRole name) elsewhere ageless = as_key label s.labels s.labels (alike_itself label s.labels)
 
   pub clear_alike : (name : RequestName) (r : Request) (e : Effect) → Fits s name r e → IsElsewhere e → Alike label SameClear s.labels (after_effect s e).labels
   clear_alike name r (Become m labels) fits elsewhere = ⊎_elim
-      (λ (same : labels ≡ s.labels). as_clear label s.labels labels (same_alike (Become m labels) tt same))
-      (λ (age : labels ≡ aged s.labels). subst (λ (ls : List (Option Entry)). Alike label SameClear s.labels ls) (sym age) (alike_aged label s.labels))
+      (λ (same : labels ≡ s.labels). subst (λ (ls : List (Option Entry)). Alike label SameClear s.labels ls) (sym same) all_same)
+      (λ (age : labels ≡ aged (keys_of s.registers) s.labels). subst (λ (ls : List (Option Entry)). Alike label SameClear s.labels ls) (sym age)
+      (alike_aged (keys_of s.registers) label s.labels))
       fits
-  clear_alike name r Reencipher fits elsewhere = alike_further label s.labels 1024
-  clear_alike name r (Create other) fits elsewhere = as_clear label s.labels _ (same_alike (Create other) elsewhere tt)
-  clear_alike name r (Write other key fields) fits elsewhere = as_clear label s.labels _ (same_alike (Write other key fields) elsewhere tt)
-  clear_alike name r (Delete other) fits elsewhere = as_clear label s.labels _ (same_alike (Delete other) elsewhere tt)
-  clear_alike name r (Show fields) fits elsewhere = as_clear label s.labels _ (same_alike (Show fields) elsewhere tt)
-  clear_alike name r (DefineRole role points) fits elsewhere = as_clear label s.labels _ (same_alike (DefineRole role points) elsewhere tt)
-  clear_alike name r (RemoveRole role) fits elsewhere = as_clear label s.labels _ (same_alike (RemoveRole role) elsewhere tt)
+    where
+      all_same : Alike label SameClear s.labels s.labels
+      all_same = as_clear label s.labels s.labels (alike_itself label s.labels)
+  clear_alike name r (Reencipher a) fits elsewhere = alike_further label a s.labels 1024
+  clear_alike name r (Create other) fits elsewhere = as_clear label s.labels _ (created_alike other elsewhere)
+  clear_alike name r (Write other key fields) fits elsewhere = as_clear label s.labels _ (written_alike other elsewhere key fields)
+  clear_alike name r (Delete other) fits elsewhere = as_clear label s.labels _ (deleted_alike other elsewhere)
+  clear_alike name r (Show fields) fits elsewhere = as_clear label s.labels s.labels (alike_itself label s.labels)
+  clear_alike name r (DefineRole role points) fits elsewhere = as_clear label s.labels s.labels (alike_itself label s.labels)
+  clear_alike name r (RemoveRole role) fits elsewhere = as_clear label s.labels s.labels (alike_itself label s.labels)
 
   -- ---- where an effect is elsewhere
 
@@ -119,11 +126,11 @@ module _ (s : State) (label : List ℕ) where
   pub clear_kept : (t : State) → Alike label SameClear s.labels t.labels → clear_of_label t label ≡ clear_of_label s label
   unfolding cell_of
   clear_kept t alike =
-      ap clear_in (key_is label t.labels) ∙ (keys_compare label SameClear refl s.labels t.labels alike ∙ ap clear_in (sym (key_is label s.labels)))
+      ap clear_in (key_is label t.labels) ∙ (entries_compare label SameClear refl s.labels t.labels alike ∙ ap clear_in (sym (key_is label s.labels)))
 
-  pub key_kept : (t : State) → Alike label Same s.labels t.labels → key_of_label t label ≡ key_of_label s label
+  pub key_kept : (t : State) → Alike label SameKey s.labels t.labels → key_of_label t label ≡ key_of_label s label
   unfolding cell_of
-  key_kept t alike = key_is label t.labels ∙ (sym (keys_compare label Same refl s.labels t.labels alike) ∙ sym (key_is label s.labels))
+  key_kept t alike = key_is label t.labels ∙ (entries_compare label SameKey refl s.labels t.labels alike ∙ sym (key_is label s.labels))
 
 -- ---- each request
 
@@ -143,6 +150,8 @@ ageless s drawn l csnbmkp_part r keeps = refl
 ageless s drawn l csnbmkp_clear r keeps = refl
 ageless s drawn l csnbmkp_set r keeps = cc keeps
 ageless s drawn l reencipher r keeps = cc keeps
+ageless s drawn l reencipher_ahead r keeps = tt
+ageless s drawn l reencipher_drop r keeps = tt
 ageless s drawn l _ r keeps = tt
 
 by_performed : (P : State → Type 0) (s : State) (drawn : List ℕ) (r : Request) → P s → (verdict s drawn r ≡ None → P (after s drawn r)) → P (performed s drawn r).state
@@ -172,7 +181,7 @@ module _ (s : State) (drawn label : List ℕ) (r : Request) where
       by_performed (λ (t : State). key_of_label t label ≡ key_of_label s label) s drawn r refl
       (λ permits. let fits = effect_fits s drawn r permits in
       key_kept s label (after s drawn r)
-      (same_alike s label (effect s drawn r.name r) (held_elsewhere s label cell r.name r held spared (effect s drawn r.name r) fits)
+      (key_alike s label (effect s drawn r.name r) (held_elsewhere s label cell r.name r held spared (effect s drawn r.name r) fits)
       (ageless s drawn label r.name r keeps)))
 
   pub stays_free : cell_with s label ≡ None → (r.name ≡ csnbkrc → value_of r (codes "label") ≢ label) → cell_with (performed s drawn r).state label ≡ None
@@ -216,11 +225,11 @@ aging_keeps s drawn label r is =
 
 -- ---- SET
 
-or_true : (b : Bool) → (b || true) ≡ true
+pub or_true : (b : Bool) → (b || true) ≡ true
 or_true true = refl
 or_true false = refl
 
-old_there : (label : List ℕ) (es : List (Option Entry)) (key : Denoted) → key_for label es ≡ Some key → key.age ≡ Old → any_old es ≡ true
+pub old_there : (label : List ℕ) (es : List (Option Entry)) (key : Denoted) → what_in (entry_for label es) ≡ Some key → key.age ≡ Old → any_old es ≡ true
 old_there label [] key is old = cc is
 old_there label (e ∷ es) key is old = by_test (has_name label (entry_label e)) is (old_there label es key)
   where
@@ -228,7 +237,7 @@ old_there label (e ∷ es) key is old = by_test (has_name label (entry_label e))
     old_here None same = cc same
     old_here (Some x) same = ap has_old_key same ∙ ap is_old old
 
-    by_test : (t : Bool) → (if t then what_in e else key_for label es) ≡ Some key → (key_for label es ≡ Some key → key.age ≡ Old → any_old es ≡ true)
+    by_test : (t : Bool) → what_in (if t then e else entry_for label es) ≡ Some key → (what_in (entry_for label es) ≡ Some key → key.age ≡ Old → any_old es ≡ true)
         → any_old (e ∷ es) ≡ true
     by_test true here later = ap (λ b. b || any_old es) (old_here e here)
     by_test false there later = ap (λ b. is_old_entry e || b) (later there old) ∙ or_true (is_old_entry e)

@@ -6,17 +6,25 @@ use Rattle.byte_lists.proofs.DirectoryLaws.{has_name_is, held_at}
 use Rattle.key_records.specs.Changes.{with_what}
 use Rattle.key_records.specs.Entries.{Entry, directory, entry_label}
 use Rattle.key_records.specs.StoreStands.{entry_at}
-use Rattle.key_tokens.specs.Denotes.{ClearKey, Denoted}
-use Rattle.reencipher.specs.Further.{current_entry, further, under_current}
-use Rattle.cca_machine.specs.Ageing.{aged, aged_entry, aged_key}
+use Rattle.key_records.specs.Turning.{aged, aged_entry, aged_key}
+use Rattle.key_tokens.specs.Denotes.{ClearKey, Denoted, MasterKeys}
+use Rattle.reencipher.specs.Further.{changed_entry, further, made_by, under_current}
+use Rattle.reencipher.specs.declared.actions.StoreAction.{StoreAction}
+use Rattle.reencipher.specs.declared.actions.StoreAction.TheVariants.{Renew, Ahead, Drop}
 use Rattle.cca_machine.specs.Keys.{what_at, what_in}
+use Rattle.cca_machine.proofs.RerunLaws.{by_change}
 
 -- ---- the first place with a label
 
--- the key in the first of these places that has the label
-abbrev pub key_for : List ℕ → List (Option Entry) → Option Denoted
-key_for label [] = None
-key_for label (e ∷ es) = if has_name label (entry_label e) then what_in e else key_for label es
+-- what is in the first of these places that has the label
+abbrev pub entry_for : List ℕ → List (Option Entry) → Option Entry
+entry_for label [] = None
+entry_for label (e ∷ es) = if has_name label (entry_label e) then e else entry_for label es
+
+-- what is in a place, where there is one
+abbrev pub entry_where : List (Option Entry) → Option ℕ → Option Entry
+entry_where es None = None
+entry_where es (Some n) = entry_at es n
 
 next : ℕ → ℕ
 next n = n + 1
@@ -31,36 +39,43 @@ place_next label (n ∷ ns) at = by_test (has_name label n) (place_next label ns
     by_test true later = refl
     by_test false later = later
 
-what_next : (e : Option Entry) (es : List (Option Entry)) (o : Option ℕ) → what_at (e ∷ es) (option_map next o) ≡ what_at es o
+entry_next : (e : Option Entry) (es : List (Option Entry)) (o : Option ℕ) → entry_where (e ∷ es) (option_map next o) ≡ entry_where es o
 unfolding next
-what_next e es None = refl
-what_next e es (Some n) = ap (λ k. what_in (entry_at (e ∷ es) k)) (add-one n)
+entry_next e es None = refl
+entry_next e es (Some n) = ap (λ k. entry_at (e ∷ es) k) (add-one n)
 
 -- what a label finds by its place
-pub key_is : (label : List ℕ) (es : List (Option Entry)) → what_at es (place_of label (directory es)) ≡ key_for label es
+pub entry_is : (label : List ℕ) (es : List (Option Entry)) → entry_where es (place_of label (directory es)) ≡ entry_for label es
 unfolding place_of
-key_is label [] = refl
-key_is label (e ∷ es) = by_test (has_name label (entry_label e)) (what_at_next ∙ key_is label es)
+entry_is label [] = refl
+entry_is label (e ∷ es) = by_test (has_name label (entry_label e)) (where_next ∙ entry_is label es)
   where
-    what_at_next : what_at (e ∷ es) (place_from 1 label (directory es)) ≡ what_at es (place_of label (directory es))
-    what_at_next = ap (what_at (e ∷ es)) (place_next label (directory es) 0) ∙ what_next e es (place_from 0 label (directory es))
+    where_next : entry_where (e ∷ es) (place_from 1 label (directory es)) ≡ entry_where es (place_of label (directory es))
+    where_next = ap (entry_where (e ∷ es)) (place_next label (directory es) 0) ∙ entry_next e es (place_from 0 label (directory es))
 
-    by_test : (t : Bool) → what_at (e ∷ es) (place_from 1 label (directory es)) ≡ key_for label es
-        → what_at (e ∷ es) (if t then Some 0 else place_from 1 label (directory es)) ≡ (if t then what_in e else key_for label es)
+    by_test : (t : Bool) → entry_where (e ∷ es) (place_from 1 label (directory es)) ≡ entry_for label es
+        → entry_where (e ∷ es) (if t then Some 0 else place_from 1 label (directory es)) ≡ (if t then e else entry_for label es)
     by_test true later = refl
     by_test false later = later
 
+pub what_where : (es : List (Option Entry)) (o : Option ℕ) → what_at es o ≡ what_in (entry_where es o)
+what_where es None = refl
+what_where es (Some n) = refl
+
+pub key_is : (label : List ℕ) (es : List (Option Entry)) → what_at es (place_of label (directory es)) ≡ what_in (entry_for label es)
+key_is label es = what_where es (place_of label (directory es)) ∙ ap what_in (entry_is label es)
+
 -- ---- two lists that are alike for a label
 
--- how two keys compare
+-- how two entries compare
 abbrev pub Compare : Type 1
-Compare = Option Denoted → Option Denoted → Type 0
+Compare = Option Entry → Option Entry → Type 0
 
 abbrev pub AreAlike : List ℕ → Compare → Option Entry → Option Entry → Type 0
 AreAlike label R a b =
-    (has_name label (entry_label b) ≡ has_name label (entry_label a)) × (has_name label (entry_label a) ≡ true → R (what_in a) (what_in b))
+    (has_name label (entry_label b) ≡ has_name label (entry_label a)) × (has_name label (entry_label a) ≡ true → R a b)
 
--- place by place the label stands in both or in neither, and its keys compare
+-- place by place the label stands in both or in neither, and its entries compare
 abbrev pub Alike : List ℕ → Compare → List (Option Entry) → List (Option Entry) → Type 0
 Alike label R [] [] = ⊤
 Alike label R [] (b ∷ bs) = ⊥
@@ -80,16 +95,16 @@ pub same_cell : (label : List ℕ) (R : Compare) (es fs : List (Option Entry)) �
 unfolding place_of
 same_cell label R es fs alike = same_place label R es fs 0 alike
 
-pub keys_compare : (label : List ℕ) (R : Compare) → R None None → (es fs : List (Option Entry)) → Alike label R es fs → R (key_for label es) (key_for label fs)
-keys_compare label R none [] [] alike = none
-keys_compare label R none [] (f ∷ fs) alike = absurd alike
-keys_compare label R none (e ∷ es) [] alike = absurd alike
-keys_compare label R none (e ∷ es) (f ∷ fs) alike =
-    subst (λ t. R (key_for label (e ∷ es)) (if t then what_in f else key_for label fs)) (sym alike.0.0)
-    (by_test (has_name label (entry_label e)) alike.0.1 (keys_compare label R none es fs alike.1))
+pub entries_compare : (label : List ℕ) (R : Compare) → R None None → (es fs : List (Option Entry)) → Alike label R es fs → R (entry_for label es) (entry_for label fs)
+entries_compare label R none [] [] alike = none
+entries_compare label R none [] (f ∷ fs) alike = absurd alike
+entries_compare label R none (e ∷ es) [] alike = absurd alike
+entries_compare label R none (e ∷ es) (f ∷ fs) alike =
+    subst (λ t. R (entry_for label (e ∷ es)) (if t then f else entry_for label fs)) (sym alike.0.0)
+    (by_test (has_name label (entry_label e)) alike.0.1 (entries_compare label R none es fs alike.1))
   where
-    by_test : (t : Bool) → (t ≡ true → R (what_in e) (what_in f)) → R (key_for label es) (key_for label fs)
-        → R (if t then what_in e else key_for label es) (if t then what_in f else key_for label fs)
+    by_test : (t : Bool) → (t ≡ true → R e f) → R (entry_for label es) (entry_for label fs)
+        → R (if t then e else entry_for label es) (if t then f else entry_for label fs)
     by_test true here later = here refl
     by_test false here later = later
 
@@ -112,37 +127,84 @@ alike_set label (x ∷ xs) (suc n) e before now = ((refl, λ has. refl), alike_s
 abbrev pub clear_in : Option Denoted → Option ClearKey
 clear_in o = option_map (λ key. key.clear) o
 
+-- the same key, under the same master key
+abbrev pub SameKey : Compare
+SameKey a b = what_in b ≡ what_in a
+
 abbrev pub SameClear : Compare
-SameClear a b = clear_in b ≡ clear_in a
+SameClear a b = clear_in (what_in b) ≡ clear_in (what_in a)
 
-aged_clear : (o : Option Denoted) → clear_in (aged_key o) ≡ clear_in o
-aged_clear None = refl
-aged_clear (Some key) = refl
+aged_clear : (o : Option Denoted) (ahead : Bool) → clear_in (aged_key o ahead) ≡ clear_in o
+aged_clear None ahead = refl
+aged_clear (Some key) true = refl
+aged_clear (Some key) false = refl
 
-alike_aged_entry : (label : List ℕ) (e : Option Entry) → AreAlike label SameClear e (aged_entry e)
-alike_aged_entry label None = (refl, λ has. refl)
-alike_aged_entry label (Some e) = (refl, λ has. aged_clear e.what)
+alike_aged_entry : (masters : MasterKeys) (label : List ℕ) (e : Option Entry) → AreAlike label SameClear e (aged_entry masters e)
+alike_aged_entry masters label None = (refl, λ has. refl)
+alike_aged_entry masters label (Some e) = (refl, λ has. aged_clear e.what e.ahead)
 
-pub alike_aged : (label : List ℕ) (es : List (Option Entry)) → Alike label SameClear es (aged es)
-alike_aged label [] = tt
-alike_aged label (e ∷ es) = (alike_aged_entry label e, alike_aged label es)
+pub alike_aged : (masters : MasterKeys) (label : List ℕ) (es : List (Option Entry)) → Alike label SameClear es (aged masters es)
+alike_aged masters label [] = tt
+alike_aged masters label (e ∷ es) = (alike_aged_entry masters label e, alike_aged masters label es)
+
+-- ---- what an action of REENCIPHER makes of them
 
 current_clear : (o : Option Denoted) → clear_in (under_current o) ≡ clear_in o
 current_clear None = refl
 current_clear (Some key) = refl
 
-alike_current : (label : List ℕ) (e : Option Entry) → AreAlike label SameClear e (current_entry e)
-alike_current label None = (refl, λ has. refl)
-alike_current label (Some e) = (refl, λ has. current_clear e.what)
+made_label : (a : StoreAction) (e : Entry) → (made_by a e).label ≡ e.label
+made_label Renew e = refl
+made_label Ahead e = refl
+made_label Drop e = refl
 
-alike_clear : (label : List ℕ) (es : List (Option Entry)) → Alike label SameClear es es
-alike_clear label [] = tt
-alike_clear label (e ∷ es) = ((refl, λ has. refl), alike_clear label es)
+made_clear : (a : StoreAction) (e : Entry) → clear_in (made_by a e).what ≡ clear_in e.what
+made_clear Renew e = current_clear e.what
+made_clear Ahead e = refl
+made_clear Drop e = refl
 
-pub alike_further : (label : List ℕ) (es : List (Option Entry)) (n : ℕ) → Alike label SameClear es (further es n)
-alike_further label [] n = tt
-alike_further label (e ∷ es) zero = alike_clear label (e ∷ es)
-alike_further label (e ∷ es) (suc n) = (alike_current label e, alike_further label es n)
+pub changed_label : (a : StoreAction) (e : Option Entry) → entry_label (changed_entry a e) ≡ entry_label e
+changed_label a None = refl
+changed_label a (Some e) = ap (λ l. Some l) (by_change (λ f. f.label ≡ e.label) a e (made_label a e) refl)
+
+-- AHEAD and DROP change no key, and no master key that one is under
+abbrev pub KeepsKeys : StoreAction → Type 0
+KeepsKeys Renew = ⊥
+KeepsKeys Ahead = ⊤
+KeepsKeys Drop = ⊤
+
+made_key : (a : StoreAction) (e : Entry) → KeepsKeys a → (made_by a e).what ≡ e.what
+made_key Renew e keeps = absurd keeps
+made_key Ahead e keeps = refl
+made_key Drop e keeps = refl
+
+changed_clear : (a : StoreAction) (e : Option Entry) → SameClear e (changed_entry a e)
+changed_clear a None = refl
+changed_clear a (Some e) = by_change (λ f. clear_in f.what ≡ clear_in e.what) a e (made_clear a e) refl
+
+changed_key : (a : StoreAction) → KeepsKeys a → (e : Option Entry) → SameKey e (changed_entry a e)
+changed_key a keeps None = refl
+changed_key a keeps (Some e) = by_change (λ f. f.what ≡ e.what) a e (made_key a e keeps) refl
+
+-- where each entry compares with what the action makes of it
+alike_further_by : (label : List ℕ) (R : Compare) (a : StoreAction) → ((e : Option Entry) → R e e) → ((e : Option Entry) → R e (changed_entry a e))
+    → (es : List (Option Entry)) (n : ℕ) → Alike label R es (further a es n)
+alike_further_by label R a same made es n = by_place es n
+  where
+    itself : (es : List (Option Entry)) → Alike label R es es
+    itself [] = tt
+    itself (e ∷ es) = ((refl, λ has. same e), itself es)
+
+    by_place : (es : List (Option Entry)) (n : ℕ) → Alike label R es (further a es n)
+    by_place [] n = tt
+    by_place (e ∷ es) zero = itself (e ∷ es)
+    by_place (e ∷ es) (suc n) = ((ap (has_name label) (changed_label a e), λ has. made e), by_place es n)
+
+pub alike_further : (label : List ℕ) (a : StoreAction) (es : List (Option Entry)) (n : ℕ) → Alike label SameClear es (further a es n)
+alike_further label a = alike_further_by label SameClear a (λ e. refl) (changed_clear a)
+
+pub keys_further : (label : List ℕ) (a : StoreAction) → KeepsKeys a → (es : List (Option Entry)) (n : ℕ) → Alike label SameKey es (further a es n)
+keys_further label a keeps = alike_further_by label SameKey a (λ e. refl) (changed_key a keeps)
 
 -- ---- places
 
@@ -189,12 +251,15 @@ label_kept key None = refl
 label_kept key (Some e) = refl
 
 -- a comparison that is weaker
-alike_weaker : (label : List ℕ) (R S : Compare) → ((a b : Option Denoted) → R a b → S a b) → (es fs : List (Option Entry)) → Alike label R es fs → Alike label S es fs
+alike_weaker : (label : List ℕ) (R S : Compare) → ((a b : Option Entry) → R a b → S a b) → (es fs : List (Option Entry)) → Alike label R es fs → Alike label S es fs
 alike_weaker label R S weaker [] [] alike = tt
 alike_weaker label R S weaker [] (f ∷ fs) alike = absurd alike
 alike_weaker label R S weaker (e ∷ es) [] alike = absurd alike
 alike_weaker label R S weaker (e ∷ es) (f ∷ fs) alike =
-    ((alike.0.0, λ has. weaker (what_in e) (what_in f) (alike.0.1 has)), alike_weaker label R S weaker es fs alike.1)
+    ((alike.0.0, λ has. weaker e f (alike.0.1 has)), alike_weaker label R S weaker es fs alike.1)
+
+pub as_key : (label : List ℕ) (es fs : List (Option Entry)) → Alike label Same es fs → Alike label SameKey es fs
+as_key label es fs alike = alike_weaker label Same SameKey (λ a b same. ap what_in (sym same)) es fs alike
 
 pub as_clear : (label : List ℕ) (es fs : List (Option Entry)) → Alike label Same es fs → Alike label SameClear es fs
-as_clear label es fs alike = alike_weaker label Same SameClear (λ a b same. ap clear_in (sym same)) es fs alike
+as_clear label es fs alike = alike_weaker label Same SameClear (λ a b same. ap (λ e. clear_in (what_in e)) (sym same)) es fs alike

@@ -1,3 +1,4 @@
+pub mod AheadLaws
 pub mod ByteLaws
 pub mod CeremonyLaws
 pub mod CleanLaws
@@ -28,4 +29,5 @@ pub mod SealedLaws
 pub mod SizeLaws
 pub mod TokenFields
 pub mod TokenVectors
+pub mod UnusedLaws
 pub mod UseLaws

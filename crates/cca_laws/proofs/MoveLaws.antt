@@ -30,7 +30,7 @@ use Rattle.move_file.specs.Moves.{clear_of, create_line, import_line, labels_of,
 use Rattle.move_file.specs.declared.moves.Move.{Move}
 use Rattle.cca_laws.specs.KeyInParts.{SameRecord}
 use Rattle.cca_laws.specs.Moving.{IsMovedLabel, IsPermittedMove, IsReceived, Receives, run_again}
-use Rattle.cca_laws.proofs.MoveLists.{Finds}
+use Rattle.cca_laws.proofs.MoveLists.{Finds, finds_key, key_found}
 use Rattle.cca_laws.proofs.MoveRoom.{HasRoom}
 use Rattle.cca_laws.proofs.MoveRuns.{Step, Creates, Imports, IsSettled, Settle, again, all_again, all_move, carried, carried_all, import_among, label_of, reruns_are_one, settled_then, step_elsewhere, steps_by, steps_elsewhere, steps_for, steps_stay, they_settle}
 use Rattle.cca_laws.proofs.MoveSteps.{IsReady, create_step, import_step}
@@ -163,7 +163,7 @@ module _ (s : State) (w : Move) where
           record {
             roles = ready.roles;
             registers = ready.registers;
-            transport = (step_elsewhere new_key w.transport_there x u.labels apart).key ∙ ready.transport;
+            transport = finds_key w.transport_there u.labels _ (step_elsewhere new_key w.transport_there x u.labels apart) ∙ ready.transport;
           }
 
       -- ---- all requests
@@ -213,12 +213,13 @@ module _ (s : State) (w : Move) where
       unmoved : (label : List ℕ) → (IsMovedLabel s w label → ⊥) → SameRecord t after label
       unmoved label stays =
           let finds : Finds label t.labels after.labels = steps_elsewhere new_key label all_steps t.labels (other_label label stays all_steps each_moves) in
-          record { cell = finds.cell; key = finds.key }
+          record { cell = finds.cell; key = finds_key label t.labels after.labels finds }
 
       received_after : IsReceived s w t after
       received_after = record {
-        moved = λ label is. import_among moves (IsSettled new_key after.labels) (labels_of s) label (label_moves label is) (listed label is)
-            (settled_then new_key all_steps t.labels settle);
+        moved = λ label is. key_found label after.labels _
+            (import_among moves (IsSettled new_key after.labels) (labels_of s) label (label_moves label is) (listed label is)
+            (settled_then new_key all_steps t.labels settle));
         others = unmoved;
         cells = λ label cell held. steps_stay new_key label cell all_steps t.labels held;
         roles = refl;

@@ -7,39 +7,50 @@ use Rattle.byte_lists.specs.Directory.{has_name, name_at, free_from}
 use Rattle.byte_lists.proofs.DirectoryLaws.{has_name_is, has_name_not, held_at, held_nowhere, none_some, place_found}
 use Rattle.key_records.specs.Changes.{created, null_entry, with_what}
 use Rattle.key_records.specs.Directory.{cell_of, free_cell, held_count}
-use Rattle.key_records.specs.Entries.{Entry, directory, entry_label}
+use Rattle.key_records.specs.Entries.{Entry, directory, entry, entry_label}
 use Rattle.key_records.specs.StoreStands.{entry_at}
 use Rattle.key_tokens.specs.Denotes.{Denoted}
 use Rattle.cca_machine.specs.Act.{written_in}
 use Rattle.cca_machine.specs.Keys.{what_at, what_in}
-use Rattle.cca_laws.proofs.LabelLists.{Alike, Same, alike_itself, alike_set, free_has_none, has_other, key_is, keys_compare, label_kept, name_of_entry, place_free, place_other, same_cell}
+use Rattle.cca_laws.proofs.LabelLists.{Alike, Same, alike_itself, alike_set, entries_compare, entry_is, entry_where, free_has_none, has_other, label_kept, name_of_entry, place_free, place_other, same_cell, what_where}
 use Rattle.cca_laws.proofs.MoveSteps.{after_create, after_import}
 
 -- ---- what a label finds
+
+-- the entry that a label finds
+abbrev pub entry_found : List ℕ → List (Option Entry) → Option Entry
+entry_found label es = entry_where es (cell_of label (directory es))
 
 -- the key that a label finds
 abbrev pub found : List ℕ → List (Option Entry) → Option Denoted
 found label es = what_at es (cell_of label (directory es))
 
+pub key_found : (label : List ℕ) (es : List (Option Entry)) (e : Option Entry) → entry_found label es ≡ e → found label es ≡ what_in e
+key_found label es e is = what_where es (cell_of label (directory es)) ∙ ap what_in is
+
 abbrev pub IsHeld : List ℕ → List (Option Entry) → Type 0
 IsHeld label es = is_some (cell_of label (directory es)) ≡ true
 
--- two lists in which the label stands in one cell and finds one key
+-- two lists in which the label stands in one cell and finds the same
 pub record Finds (label : List ℕ) (es fs : List (Option Entry)) : Type 0 where
   pub cell : cell_of label (directory fs) ≡ cell_of label (directory es)
-  pub key : found label fs ≡ found label es
+  pub same : entry_found label fs ≡ entry_found label es
 
 pub finds_itself : (label : List ℕ) (es : List (Option Entry)) → Finds label es es
-finds_itself label es = record { cell = refl; key = refl }
+finds_itself label es = record { cell = refl; same = refl }
+
+-- and one key
+pub finds_key : (label : List ℕ) (es fs : List (Option Entry)) → Finds label es fs → found label fs ≡ found label es
+finds_key label es fs finds = key_found label fs (entry_found label es) finds.same ∙ sym (key_found label es (entry_found label es) refl)
 
 pub finds_further : (label : List ℕ) (es fs gs : List (Option Entry)) → Finds label es fs → Finds label fs gs → Finds label es gs
-finds_further label es fs gs one two = record { cell = two.cell ∙ one.cell; key = two.key ∙ one.key }
+finds_further label es fs gs one two = record { cell = two.cell ∙ one.cell; same = two.same ∙ one.same }
 
 finds_alike : (label : List ℕ) (es fs : List (Option Entry)) → Alike label Same es fs → Finds label es fs
 unfolding cell_of
 finds_alike label es fs alike = record {
   cell = same_cell label Same es fs alike;
-  key = key_is label fs ∙ (sym (keys_compare label Same refl es fs alike) ∙ sym (key_is label es));
+  same = entry_is label fs ∙ (sym (entries_compare label Same refl es fs alike) ∙ sym (entry_is label es));
 }
 
 pub same_or_other : (a b : List ℕ) → (a ≡ b) ⊎ (a ≢ b)
@@ -55,10 +66,10 @@ same_or_other a b = by_test (has_name b (Some a)) refl
 pub held_from : (o : Option ℕ) (cell : ℕ) → o ≡ Some cell → is_some o ≡ true
 held_from o cell is = ap (λ p. is_some p) is
 
-pub held_with_key : (label : List ℕ) (es : List (Option Entry)) (k : Denoted) → found label es ≡ Some k → IsHeld label es
-held_with_key label es k is = by_cell (cell_of label (directory es)) is
+pub held_with_entry : (label : List ℕ) (es : List (Option Entry)) (e : Entry) → entry_found label es ≡ Some e → IsHeld label es
+held_with_entry label es e is = by_cell (cell_of label (directory es)) is
   where
-    by_cell : (o : Option ℕ) → what_at es o ≡ Some k → is_some o ≡ true
+    by_cell : (o : Option ℕ) → entry_where es o ≡ Some e → is_some o ≡ true
     by_cell None is = cc
     by_cell (Some n) is = refl
 
@@ -150,37 +161,37 @@ import_elsewhere label other key es apart = finds_alike label es (after_import o
         alike_set label es n (with_what key (entry_at es n)) before (ap (has_name label) (label_kept key (entry_at es n)) ∙ before)
 
 -- the entry in the cell of a label
-entry_there : (label : List ℕ) (es : List (Option Entry)) (n : ℕ) → cell_of label (directory es) ≡ Some n → (e : Entry) × (entry_at es n ≡ Some e) × (n < length es)
+entry_there : (label : List ℕ) (es : List (Option Entry)) (n : ℕ) → cell_of label (directory es) ≡ Some n
+    → (e : Entry) × (entry_at es n ≡ Some e) × (e.label ≡ label) × (n < length es)
 unfolding cell_of
 entry_there label es n is =
     let place = place_found label (directory es) 0 n is in
     let at : n ≡ place.0 = omega (arith, place.1) in
     let e = entry_of (entry_at es n) (sym (name_of_entry es n) ∙ held_at label (directory es) n is) in
-    (e.0, e.1, omega (arith, place.2, at, length-map es entry_label))
+    (e.0, e.1.0, e.1.1, omega (arith, place.2, at, length-map es entry_label))
   where
-    entry_of : (o : Option Entry) → entry_label o ≡ Some label → (e : Entry) × (o ≡ Some e)
-    entry_of None named = absurd (none_some label named)
-    entry_of (Some e) named = (e, refl)
+    same_some : (a b : List ℕ) → Some a ≡ Some b → a ≡ b
+    same_some a b is = cc
 
--- the label has the key afterwards, where it is held
-pub import_gives : (label : List ℕ) (key : Denoted) (es : List (Option Entry)) → IsHeld label es → found label (after_import label key es) ≡ Some key
+    entry_of : (o : Option Entry) → entry_label o ≡ Some label → (e : Entry) × ((o ≡ Some e) × (e.label ≡ label))
+    entry_of None named = absurd (none_some label named)
+    entry_of (Some e) named = (e, (refl, same_some e.label label named))
+
+-- the label has the key afterwards, where it is held, and nothing else
+pub import_gives : (label : List ℕ) (key : Denoted) (es : List (Option Entry)) → IsHeld label es → entry_found label (after_import label key es) ≡ Some (entry label (Some key))
 import_gives label key es held =
-    ap (λ d. what_at (after_import label key es) (cell_of label d)) (import_directory label key es) ∙ by_cell (cell_of label (directory es)) refl held
+    ap (λ d. entry_where (after_import label key es) (cell_of label d)) (import_directory label key es) ∙ by_cell (cell_of label (directory es)) refl held
   where
-    by_cell : (o : Option ℕ) → cell_of label (directory es) ≡ o → is_some o ≡ true → what_at (written_in o key es) o ≡ Some key
+    by_cell : (o : Option ℕ) → cell_of label (directory es) ≡ o → is_some o ≡ true → entry_where (written_in o key es) o ≡ Some (entry label (Some key))
     by_cell None is some = cc
     by_cell (Some n) is some =
         let e = entry_there label es n is in
-        ap what_in (get_or-set_same es n (with_what key (entry_at es n)) None e.2 ∙ ap (with_what key) e.1)
+        get_or-set_same es n (with_what key (entry_at es n)) None e.3 ∙ (ap (with_what key) e.1 ∙ ap (λ l. Some (entry l (Some key))) e.2)
 
--- nothing changes where it has it already
-pub import_again : (label : List ℕ) (key : Denoted) (es : List (Option Entry)) → found label es ≡ Some key → after_import label key es ≡ es
-import_again label key es has = by_cell (cell_of label (directory es)) refl has
+-- nothing changes where it has it already, and nothing else
+pub import_again : (label : List ℕ) (key : Denoted) (es : List (Option Entry)) → entry_found label es ≡ Some (entry label (Some key)) → after_import label key es ≡ es
+import_again label key es has = by_cell (cell_of label (directory es)) has
   where
-    same_entry : (o : Option Entry) → what_in o ≡ Some key → with_what key o ≡ o
-    same_entry None is = refl
-    same_entry (Some e) is = ap (λ w. Some (record { label = e.label; what = w })) (sym is)
-
-    by_cell : (o : Option ℕ) → cell_of label (directory es) ≡ o → what_at es o ≡ Some key → written_in o key es ≡ es
-    by_cell None is has = refl
-    by_cell (Some n) is has = ap (set es n) (same_entry (entry_at es n) has) ∙ set-get_or es n None
+    by_cell : (o : Option ℕ) → entry_where es o ≡ Some (entry label (Some key)) → written_in o key es ≡ es
+    by_cell None has = refl
+    by_cell (Some n) has = ap (set es n) (ap (with_what key) has ∙ sym has) ∙ set-get_or es n None

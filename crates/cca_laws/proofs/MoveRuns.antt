@@ -5,9 +5,9 @@ use Rattle.std.specs.Prelude.{⊤, Contains, is_some}
 use Rattle.std.specs.List.{AllByRecursion, flat_map}
 use Rattle.std.proofs.lemmas.List.{take-append-drop}
 use Rattle.key_records.specs.Directory.{cell_of}
-use Rattle.key_records.specs.Entries.{Entry, directory}
+use Rattle.key_records.specs.Entries.{Entry, directory, entry}
 use Rattle.key_tokens.specs.Denotes.{Denoted}
-use Rattle.cca_laws.proofs.MoveLists.{Finds, IsHeld, create_elsewhere, create_held, create_stays, finds_further, finds_itself, found, held_with_key, import_again, import_directory, import_elsewhere, import_gives, same_or_other}
+use Rattle.cca_laws.proofs.MoveLists.{Finds, IsHeld, create_elsewhere, create_held, create_stays, entry_found, finds_further, finds_itself, held_with_entry, import_again, import_directory, import_elsewhere, import_gives, same_or_other}
 use Rattle.cca_laws.proofs.MoveRoom.{HasRoom, held_after, room_created, room_imported}
 use Rattle.cca_laws.proofs.MoveSteps.{after_create, after_import}
 
@@ -118,10 +118,10 @@ module _ (key : List ℕ → Denoted) where
 
   -- ---- a step that is settled
 
-  -- it changes nothing: the label is held, or has its key
+  -- it changes nothing: the label is held, or has its key and nothing else
   abbrev pub IsSettled : List (Option Entry) → Step → Type 0
   IsSettled es (Creates label) = IsHeld label es
-  IsSettled es (Imports label) = found label es ≡ Some (key label)
+  IsSettled es (Imports label) = entry_found label es ≡ Some (entry label (Some (key label)))
 
   settled_still : (x : Step) (es : List (Option Entry)) → IsSettled es x → carried x es ≡ es
   settled_still (Creates label) es settled = create_held label es settled
@@ -131,10 +131,10 @@ module _ (key : List ℕ → Denoted) where
   settled_stays : (x y : Step) (es : List (Option Entry)) → IsSettled es x → IsSettled (carried y es) x
   settled_stays (Creates label) (Creates other) es settled = ap is_some (create_stays label other es settled).cell ∙ settled
   settled_stays (Creates label) (Imports other) es settled = ap (λ d. is_some (cell_of label d)) (import_directory other (key other) es) ∙ settled
-  settled_stays (Imports label) (Creates other) es settled = (create_stays label other es (held_with_key label es (key label) settled)).key ∙ settled
+  settled_stays (Imports label) (Creates other) es settled = (create_stays label other es (held_with_entry label es (entry label (Some (key label))) settled)).same ∙ settled
   settled_stays (Imports label) (Imports other) es settled = ⊎_elim
-      (λ (same : other ≡ label). ap (λ l. found label (after_import l (key l) es)) same ∙ (ap (found label) (import_again label (key label) es settled) ∙ settled))
-      (λ (apart : other ≢ label). (import_elsewhere label other (key other) es apart).key ∙ settled)
+      (λ (same : other ≡ label). ap (λ l. entry_found label (after_import l (key l) es)) same ∙ (ap (entry_found label) (import_again label (key label) es settled) ∙ settled))
+      (λ (apart : other ≢ label). (import_elsewhere label other (key other) es apart).same ∙ settled)
       (same_or_other other label)
 
   stays_along : (x : Step) (xs : List Step) (es : List (Option Entry)) → IsSettled es x → IsSettled (carried_all xs es) x

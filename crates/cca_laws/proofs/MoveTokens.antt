@@ -63,8 +63,9 @@ of_entry : (masters : MasterKeys) (bytes : List ℕ) (e : Option Entry) (key : D
 unfolding kept
 of_entry masters bytes None key reads is = cc is
 of_entry masters bytes (Some e) key reads is =
-    let what : ReadsWhat masters bytes e.label (Some key) = subst (ReadsWhat masters bytes e.label) is reads.1 in
-    record { bytes = what.0; are = what.1; stands = by_flag (slice_index what.0 6 == 0xc0) what.3 }
+    let what : ReadsWhat masters bytes e.label (Some key) e.ahead e.unused =
+    subst (λ (o : Option Denoted). ReadsWhat masters bytes e.label o e.ahead e.unused) is reads.1 in
+    record { bytes = what.token; are = what.are; stands = by_flag (slice_index what.token 6 == 0xc0) what.is_kept }
   where
     by_flag : {o : Option Denoted} (t : Bool) → (if t then o else None) ≡ Some key → o ≡ Some key
     by_flag true same = same

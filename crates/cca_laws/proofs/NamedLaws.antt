@@ -1,5 +1,5 @@
 -- The reply to a request depends on no label but those that it names, and on no byte of the new master key register.
-use Rattle.std.proofs.Common.{◌≡◌, ℕ, Bool, true, false, not, List, [], ◌∷◌, ◌++◌, take, Option, None, Some, refl, sym, ap, ap₂, ◌∙◌, codes, ◌||◌, ◌&&◌, true≢false}
+use Rattle.std.proofs.Common.{◌≡◌, ℕ, Bool, true, false, not, List, [], ◌∷◌, ◌++◌, take, Option, None, Some, refl, sym, ap, ap₂, subst, ◌∙◌, codes, ◌||◌, ◌&&◌, true≢false}
 use Rattle.std.specs.Prelude.{is_none, ⊤, if◌then◌else◌}
 use Rattle.std.specs.Str.{bytes_eq}
 use Rattle.cipher_verbs.specs.declared.padding.Pad.TheVariants as padding
@@ -8,9 +8,10 @@ use Rattle.key_parts.specs.Parts.{combined_key}
 use Rattle.text_segments.specs.Chains.{first_chain}
 use Rattle.text_segments.specs.declared.modes.Mode.TheVariants as mode
 use Rattle.cca_vectors.specs.Checks.{Check, check, first_failing}
+use Rattle.key_records.specs.Ages.{any_ahead_entry}
 use Rattle.key_records.specs.Directory.{cell_of}
 use Rattle.key_records.specs.Entries.{Entry, directory}
-use Rattle.key_tokens.specs.Denotes.{ClearKey, Denoted}
+use Rattle.key_tokens.specs.Denotes.{ClearKey, Denoted, denoted}
 use Rattle.key_transport.specs.Generated.{generated_key}
 use Rattle.key_transport.specs.Tokens.{as_current, changed_token, closed_key, external_token, new_token}
 use Rattle.key_transport.specs.declared.changing.Target.{Target}
@@ -28,7 +29,7 @@ use Rattle.script_buffers.specs.Replies.{Field, Hex, Text, Done}
 use Rattle.verb_rules.specs.Keys.{keys_of, token_for}
 use Rattle.verb_rules.specs.KeyChecks.{key_checks, use_checks}
 use Rattle.verb_rules.specs.declared.needs.Need.{Need}
-use Rattle.verb_script.specs.Grammar.{Request, RequestName, csnbenc, csnbenc_first, csnbenc_middle, csnbenc_last, csnbdec, csnbdec_first, csnbdec_middle, csnbdec_last, csnbmgn, csnbmgn_first, csnbmgn_middle, csnbmgn_last, csnbmvr, csnbmvr_first, csnbmvr_middle, csnbmvr_last, csnbkyt, csnbcki, csnbkgn_op, csnbkgn_pair, csnbkgn_out, csnbkim, csnbkex, csnbpex, csnbktc, csnbkpi_first, csnbkpi_middle, csnbktr, csnbkrc, csnbkrr, csnbkrl, csnbmkp_part, csnbmkp_set, reencipher, value_of}
+use Rattle.verb_script.specs.Grammar.{Request, RequestName, csnbenc, csnbenc_first, csnbenc_middle, csnbenc_last, csnbdec, csnbdec_first, csnbdec_middle, csnbdec_last, csnbmgn, csnbmgn_first, csnbmgn_middle, csnbmgn_last, csnbmvr, csnbmvr_first, csnbmvr_middle, csnbmvr_last, csnbkyt, csnbcki, csnbkgn_op, csnbkgn_pair, csnbkgn_out, csnbkim, csnbkex, csnbpex, csnbktc, csnbkpi_first, csnbkpi_middle, csnbktr, csnbkrc, csnbkrr, csnbkrl, csnbmkp_part, csnbmkp_clear, csnbmkp_set, reencipher, reencipher_ahead, reencipher_drop, value_of}
 use Rattle.verb_script.specs.Named.{label_named}
 use Rattle.verb_script.specs.Values.{hex_value}
 use Rattle.cca_machine.specs.Act.{Become, code_segment_fields, last_code_fields, last_match_fields, last_text_fields, segment_fields, delivered_with, effect, fields_after, or_act, or_empty, performed, type1_of, type2_of, yes_or_no}
@@ -87,6 +88,15 @@ module _ (s : State) (new : NewRegister) (others : List (Option Entry)) (same_st
       ap (λ (n : NewState). let held : Registers = record { new_state = n; current_pattern = pattern_in s.registers.current; old_pattern = pattern_in s.registers.former } in held)
       same_state
 
+  -- a token stands for the same key, and a key has the same token
+  denoted_same : (bytes : List ℕ) → key_of_token with_others bytes ≡ key_of_token s bytes
+  unfolding denoted
+  denoted_same bytes = refl
+
+  token_same : (key : Denoted) → token_for (keys_of with_others.registers) key ≡ token_for (keys_of s.registers) key
+  unfolding token_for
+  token_same key = refl
+
   -- what is known of an operand
   abbrev Known : List ℕ → Ask → Type 0
   Known text ask = (label : List ℕ) → label_of text ask ≡ Some label → SameLabel s with_others label
@@ -139,7 +149,7 @@ module _ (s : State) (new : NewRegister) (others : List (Option Entry)) (same_st
 
   named_same : (text : List ℕ) (named : Option (List ℕ)) → ((label : List ℕ) → named ≡ Some label → SameLabel s with_others label)
       → key_named with_others named text ≡ key_named s named text
-  named_same text None known = refl
+  named_same text None known = denoted_same (key_bytes text)
   named_same text (Some label) known = (known label refl).key
 
   -- the same is known of the label that a text names
@@ -160,7 +170,7 @@ module _ (s : State) (new : NewRegister) (others : List (Option Entry)) (same_st
   old_same : (text : List ℕ) (ask : Ask) → Known text ask → is_old_operand with_others text ask ≡ is_old_operand s text ask
   old_same text AnyToken known = refl
   old_same text (Key need) known = ap is_old (text_same text known)
-  old_same text (Token need) known = refl
+  old_same text (Token need) known = ap is_old (denoted_same (hex_value text))
   old_same text (External need) known = refl
   old_same text Record known = ap is_old (known text refl).key
   old_same text Held known = refl
@@ -219,7 +229,9 @@ module _ (s : State) (new : NewRegister) (others : List (Option Entry)) (same_st
   verb_same csnbktc r elsewhere known = change_same (target_named (value_of r (codes "rule")))
   verb_same csnbmkp_part r elsewhere known = part_same (value_of r (codes "action"))
   verb_same csnbkrc r elsewhere known = cc elsewhere
+  verb_same csnbmkp_clear r elsewhere known = cc elsewhere
   verb_same csnbmkp_set r elsewhere known = cc elsewhere
+  verb_same reencipher_ahead r elsewhere known = cc elsewhere
   verb_same _ r elsewhere known = refl
 
   pub verdict_same : (drawn : List ℕ) (r : Request) → SameNamed s with_others (listed (operands r)) → verb_questions with_others r.name r ≡ verb_questions s r.name r
@@ -235,7 +247,7 @@ module _ (s : State) (new : NewRegister) (others : List (Option Entry)) (same_st
 
   delivered_same : (field : List ℕ) (to : Option (List ℕ)) (key : Denoted) (fields : List Field)
       → fields_after with_others (delivered_with with_others field to key fields) ≡ fields_after s (delivered_with s field to key fields)
-  delivered_same field None key fields = refl
+  delivered_same field None key fields = ap (λ (token : List ℕ). let fs : List Field = Hex field token ∷ fields in fs) (token_same key)
   delivered_same field (Some label) key fields = refl
 
   -- a token is changed to the new master key only where the new register is the same
@@ -244,7 +256,7 @@ module _ (s : State) (new : NewRegister) (others : List (Option Entry)) (same_st
   SameIfNew _ r = ⊤
 
   changed_same : (t : Target) (clear : ClearKey) → (is_new t ≡ true → new ≡ s.registers.coming) → changed_token with_others.registers t clear ≡ changed_token s.registers t clear
-  changed_same Current clear same = refl
+  changed_same Current clear same = token_same (as_current clear)
   changed_same New clear same = ap (λ (c : NewRegister). new_token (record s.registers { coming = c }) clear) (same refl)
 
   pub fields_same : (drawn : List ℕ) (name : RequestName) (r : Request) → is_of_store name ≡ false → SameNamed s with_others (listed (operands_of name r)) → SameIfNew name r
@@ -318,18 +330,23 @@ module _ (s : State) (new : NewRegister) (others : List (Option Entry)) (same_st
       (field_same r (codes "key") known.0)
   fields_same drawn csnbktc r elsewhere known keys =
       ap (λ (token : List ℕ). let fs : List Field = Hex (codes "token") token ∷ [] in fs)
-      (changed_same (target_named (value_of r (codes "rule"))) (or_no_key (key_of_token s (bytes_in r (codes "token")))).clear keys)
+      (ap (λ (key : Option Denoted). changed_token with_others.registers (target_named (value_of r (codes "rule"))) (or_no_key key).clear)
+      (denoted_same (bytes_in r (codes "token")))
+      ∙ changed_same (target_named (value_of r (codes "rule"))) (or_no_key (key_of_token s (bytes_in r (codes "token")))).clear keys)
   fields_same drawn csnbmkp_part r elsewhere known keys =
       part_cases
       (λ (a : Action). fields_after with_others (Become (after_action a (bytes_in r (codes "part")) with_others.registers) others)
       ≡ fields_after s (Become (after_action a (bytes_in r (codes "part")) s.registers) s.labels))
       refl refl refl (value_of r (codes "action"))
   fields_same drawn csnbkrr r elsewhere known keys =
-      ap (λ (key : Option Denoted). let fs : List Field = Hex (codes "token") (token_for (keys_of s.registers) (or_no_key key)) ∷ [] in fs)
-      (known.0 (value_of r (codes "label")) refl).key
+      ap (λ (token : List ℕ). let fs : List Field = Hex (codes "token") token ∷ [] in fs)
+      (token_same (or_no_key (key_of_label with_others (value_of r (codes "label"))))
+      ∙ ap (λ (key : Option Denoted). token_for (keys_of s.registers) (or_no_key key)) (known.0 (value_of r (codes "label")) refl).key)
   fields_same drawn csnbkrl r elsewhere known keys = cc elsewhere
   fields_same drawn csnbmkp_set r elsewhere known keys = cc elsewhere
   fields_same drawn reencipher r elsewhere known keys = cc elsewhere
+  fields_same drawn reencipher_ahead r elsewhere known keys = cc elsewhere
+  fields_same drawn reencipher_drop r elsewhere known keys = cc elsewhere
   fields_same drawn _ r elsewhere known keys = refl
 
   -- ---- the reply
@@ -359,6 +376,27 @@ same_reply s others drawn r elsewhere known =
     replies_same s s.registers.coming others refl drawn r known (verb_same s s.registers.coming others refl r.name r elsewhere known)
     (fields_same s s.registers.coming others refl drawn r.name r elsewhere known (not_new s others r.name r))
 
+abbrev with_labels : State → List (Option Entry) → State
+with_labels s others = record s { labels = others }
+
+-- CLEAR looks at no label, but for whether one is ahead
+pub same_clear : (s : State) (others : List (Option Entry)) (drawn : List ℕ) (r : Request) → r.name ≡ csnbmkp_clear → any_ahead_entry others ≡ any_ahead_entry s.labels
+    → (performed (record s { labels = others }) drawn r).reply ≡ (performed s drawn r).reply
+same_clear s others drawn r is ahead =
+    replies_same s s.registers.coming others refl drawn r
+    (subst (λ (n : RequestName). SameNamed s (with_labels s others) (listed (operands_of n r))) (sym is) names_none)
+    (subst (λ (n : RequestName). verb_questions (with_labels s others) n r ≡ verb_questions s n r) (sym is) clear_verb)
+    (subst (λ (n : RequestName). fields_after (with_labels s others) (effect (with_labels s others) drawn n r) ≡ fields_after s (effect s drawn n r)) (sym is) refl)
+  where
+    no_label : (label : List ℕ) → None ≡ Some label → SameLabel s (with_labels s others) label
+    no_label label is = cc is
+
+    names_none : SameNamed s (with_labels s others) (listed (operands_of csnbmkp_clear r))
+    names_none = (no_label, (no_label, (no_label, tt)))
+
+    clear_verb : verb_questions (with_labels s others) csnbmkp_clear r ≡ verb_questions s csnbmkp_clear r
+    clear_verb = ap (λ (b : Bool). let qs : List Questions = questions (codes "-") (check 25 false ∷ check 26 false ∷ check 33 b ∷ []) ∷ [] in qs) ahead
+
 -- ---- another new register
 
 same_named : (s t : State) → t.labels ≡ s.labels → (os : List Operand) → SameNamed s t os
@@ -386,6 +424,9 @@ module _ (s : State) (one other : NewRegister) (same : state_of other ≡ state_
   new_verb csnbkrc r asks known = refl
   new_verb csnbkrl r asks known = refl
   new_verb reencipher r asks known = refl
+  new_verb reencipher_ahead r asks known = cc asks
+  new_verb reencipher_drop r asks known = refl
+  new_verb csnbmkp_clear r asks known = refl
   new_verb csnbmkp_set r asks known = cc asks
   new_verb name r asks known = verb_same first other s.labels same name r refl known
 
@@ -397,6 +438,9 @@ module _ (s : State) (one other : NewRegister) (same : state_of other ≡ state_
   new_fields drawn csnbkrc r asks known = refl
   new_fields drawn csnbkrl r asks known = refl
   new_fields drawn reencipher r asks known = refl
+  new_fields drawn reencipher_ahead r asks known = cc asks
+  new_fields drawn reencipher_drop r asks known = refl
+  new_fields drawn csnbmkp_clear r asks known = refl
   new_fields drawn csnbmkp_set r asks known = cc asks
   new_fields drawn csnbktc r asks known =
       fields_same first other s.labels same drawn csnbktc r refl known (never_new (target_named (value_of r (codes "rule"))) asks)

@@ -47,7 +47,7 @@ use Rattle.cca_machine.specs.State.{State}
 use Rattle.cca_machine.specs.Verdict.{Refusal, first_refusal, held_checks, key_questions, operand_checks, operand_questions, operands_verdict, or_refused, or_then, refusal, target_checks, verdict, whole_verb_verdict}
 use Rattle.cca_machine.specs.declared.asking.Ask.{Ask}
 use Rattle.cca_laws.specs.KeyInParts.{AreCarriedOut, AsksWhole, BroughtIn, Custodian, IsPermitted, IsReached, SameRecord, by_label, bytes_of, first_request, further_request, parts_of, size_of}
-use Rattle.cca_laws.proofs.LabelLists.{Alike, Same, alike_set, key_is, keys_compare, label_kept, name_of_entry, place_other}
+use Rattle.cca_laws.proofs.LabelLists.{Alike, Same, alike_set, entries_compare, key_is, label_kept, name_of_entry, place_other}
 use Rattle.cca_laws.proofs.LineCases.{after, permitted, refused_none}
 
 -- ---- a key that is written into a place with a label
@@ -93,7 +93,8 @@ module _ (s : State) (label : List ℕ) (cell : ℕ) (held : cell_with s label �
       let before : has_name other (entry_label (entry_at s.labels cell)) ≡ false = place_other other label s.labels cell (λ same. apart (sym same)) held in
       let alike : Alike other Same s.labels (written cell d s.labels) =
       alike_set other s.labels cell (with_what d (entry_at s.labels cell)) before (ap (has_name other) (label_kept d (entry_at s.labels cell)) ∙ before) in
-      key_is other (written cell d s.labels) ∙ (sym (keys_compare other Same refl s.labels (written cell d s.labels) alike) ∙ sym (key_is other s.labels))
+      key_is other (written cell d s.labels)
+      ∙ (ap what_in (sym (entries_compare other Same refl s.labels (written cell d s.labels) alike)) ∙ sym (key_is other s.labels))
 
 -- ---- what has passed
 

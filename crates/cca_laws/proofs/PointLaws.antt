@@ -75,7 +75,7 @@ LabelsNeed s (Become m labels) needed = (labels ≡ s.labels) ⊎ Needs needed l
 LabelsNeed s (Create label) needed = Needs needed label_points
 LabelsNeed s (Write label key fields) needed = Needs needed label_points
 LabelsNeed s (Delete label) needed = Needs needed label_points
-LabelsNeed s Reencipher needed = Needs needed label_points
+LabelsNeed s (Reencipher a) needed = Needs needed label_points
 LabelsNeed s _ needed = ⊤
 
 -- ---- each request needs them
@@ -180,7 +180,7 @@ labels_stay s drawn r none permits = by_effect (effect s drawn r.name r) (labels
     by_effect (Create label) needs = absurd (refuses needs)
     by_effect (Write label key fields) needs = absurd (refuses needs)
     by_effect (Delete label) needs = absurd (refuses needs)
-    by_effect Reencipher needs = absurd (refuses needs)
+    by_effect (Reencipher a) needs = absurd (refuses needs)
     by_effect _ needs = refl
 
 -- ---- over lines

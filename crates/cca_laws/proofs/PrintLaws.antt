@@ -262,9 +262,9 @@ entry_vector masters bytes (Some e) reads = by_what e.what reads.1
     kept_vector : (token : List ℕ) → Bytes token → HasVector (kept masters token)
     kept_vector token are = vector_where _ _ (vector_denoted token are masters)
 
-    by_what : (o : Option Denoted) → ReadsWhat masters bytes e.label o → HasVector o
+    by_what : (o : Option Denoted) → ReadsWhat masters bytes e.label o e.ahead e.unused → HasVector o
     by_what None what = tt
-    by_what (Some key) what = subst HasVector what.3 (kept_vector what.0 what.1.each)
+    by_what (Some key) what = subst HasVector what.is_kept (kept_vector what.token what.are.each)
 
 store_vectors : (s : State) (image : List ℕ) → IsStoreOf s image → HasVectors s.labels
 store_vectors s image stands n = ⊎_elim
@@ -477,7 +477,7 @@ after_fits : (s : State) (e : Effect) → IsFitEffect e → AreFit (fields_after
 after_fits s (Become m labels) fits = ((tt, state_prints m.coming), tt)
 after_fits s (Show fields) fits = fits
 after_fits s (Write label key fields) fits = fits
-after_fits s Reencipher fits = (tt, tt)
+after_fits s (Reencipher a) fits = (tt, tt)
 after_fits s _ fits = tt
 
 warning_fits : (b : Bool) → AreFit (warning b)

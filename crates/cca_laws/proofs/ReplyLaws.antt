@@ -14,6 +14,7 @@ use Rattle.key_records.specs.Entries.{Entry, directory, entry_label}
 use Rattle.key_records.specs.Labels.{IsLabel, is_label, starts_label}
 use Rattle.key_records.specs.RecordBody.{ReadsEntry}
 use Rattle.key_records.specs.StoreStands.{entry_at}
+use Rattle.key_records.specs.Turning.{aged, aged_entry}
 use Rattle.key_tokens.specs.Denotes.{Denoted, MasterKeys}
 use Rattle.key_tokens.specs.Fields.{token_of}
 use Rattle.key_tokens.specs.declared.key_token.Kind.{Kind}
@@ -21,7 +22,8 @@ use Rattle.key_tokens.specs.declared.key_token.Kind.TheVariants.{Internal, Exter
 use Rattle.key_transport.specs.declared.changing.Target.{Target}
 use Rattle.key_transport.specs.declared.changing.Target.TheVariants.{Current, New}
 use Rattle.master_registers.specs.Masters.{NewRegister, Empty, Partial, Full}
-use Rattle.reencipher.specs.Further.{current_entry, further}
+use Rattle.reencipher.specs.Further.{further}
+use Rattle.reencipher.specs.declared.actions.StoreAction.{StoreAction}
 use Rattle.script_buffers.specs.Lines.{lines, newline}
 use Rattle.script_buffers.proofs.LineLemmas.{lines-nil, lines-whole}
 use Rattle.script_buffers.specs.Replies.{Field, spelled}
@@ -33,7 +35,6 @@ use Rattle.mac_verbs.specs.Codes.{is_code}
 use Rattle.std.specs.Str.{bytes_eq}
 use Rattle.text_segments.specs.Segments.{last_code}
 use Rattle.cca_machine.specs.Act.{Effect, Show, Become, DefineRole, RemoveRole, Create, Write, Delete, Reencipher, class_name, deleted_in, delivered_with, effect, fields_after, kind_name, new_name, or_act, performed, state_after as after_effect, written_in, yes_or_no}
-use Rattle.cca_machine.specs.Ageing.{aged, aged_entry}
 use Rattle.cca_machine.specs.Choices.{mac_rule_named, target_named}
 use Rattle.cca_machine.specs.Keys.{any_old, cell_with, key_of_request, warning}
 use Rattle.cca_machine.specs.Lines.{line_checks, line_outcome, outcome_by, taken_by}
@@ -45,7 +46,7 @@ use Rattle.cca_machine.specs.Verdict.{Questions, Refusal, bytes_in, chain_in, ch
 use Rattle.cca_laws.specs.ReplyLines.{IsOneLine}
 use Rattle.cca_laws.proofs.CleanLaws.{append_clean, are_clean, are_clean-append, both, byte_clean, first_of_both, is_clean, is_clean_byte, is_clean_reply, one_line, second_of_both, truth}
 use Rattle.cca_laws.proofs.EffectLaws.{Fits, effect_fits}
-use Rattle.cca_laws.proofs.LabelLists.{label_kept}
+use Rattle.cca_laws.proofs.LabelLists.{changed_label, label_kept}
 use Rattle.cca_laws.proofs.LineCases.{by_line, of_verdict}
 
 -- ---- labels
@@ -112,22 +113,18 @@ set_labels (x ∷ xs) zero e is are =
 set_labels (x ∷ xs) (suc n) e is are =
     with_one (entry_label x) (directory (set xs n e)) (first_one (entry_label x) (directory xs) are) (set_labels xs n e is (other_ones (entry_label x) (directory xs) are))
 
-aged_label : (e : Option Entry) → entry_label (aged_entry e) ≡ entry_label e
-aged_label None = refl
-aged_label (Some e) = refl
+pub aged_label : (masters : MasterKeys) (e : Option Entry) → entry_label (aged_entry masters e) ≡ entry_label e
+aged_label masters None = refl
+aged_label masters (Some e) = refl
 
-aged_labels : (es : List (Option Entry)) → directory (aged es) ≡ directory es
-aged_labels [] = refl
-aged_labels (e ∷ es) = ap₂ (λ (l : Option (List ℕ)) (d : List (Option (List ℕ))). l ∷ d) (aged_label e) (aged_labels es)
+aged_labels : (masters : MasterKeys) (es : List (Option Entry)) → directory (aged masters es) ≡ directory es
+aged_labels masters [] = refl
+aged_labels masters (e ∷ es) = ap₂ (λ (l : Option (List ℕ)) (d : List (Option (List ℕ))). l ∷ d) (aged_label masters e) (aged_labels masters es)
 
-current_label : (e : Option Entry) → entry_label (current_entry e) ≡ entry_label e
-current_label None = refl
-current_label (Some e) = refl
-
-further_labels : (es : List (Option Entry)) (n : ℕ) → directory (further es n) ≡ directory es
-further_labels [] n = refl
-further_labels (e ∷ es) zero = refl
-further_labels (e ∷ es) (suc n) = ap₂ (λ (l : Option (List ℕ)) (d : List (Option (List ℕ))). l ∷ d) (current_label e) (further_labels es n)
+further_labels : (a : StoreAction) (es : List (Option Entry)) (n : ℕ) → directory (further a es n) ≡ directory es
+further_labels a [] n = refl
+further_labels a (e ∷ es) zero = refl
+further_labels a (e ∷ es) (suc n) = ap₂ (λ (l : Option (List ℕ)) (d : List (Option (List ℕ))). l ∷ d) (changed_label a e) (further_labels a es n)
 
 written_labels : (es : List (Option Entry)) (o : Option ℕ) (key : Denoted) → AreLabels (directory es) → AreLabels (directory (written_in o key es))
 written_labels es None key are = are
@@ -144,12 +141,12 @@ HasLabels s = AreLabels (directory s.labels)
 labels_stay : (s : State) (name : RequestName) (r : Request) (e : Effect) → HasLabels s → Fits s name r e → HasLabels (after_effect s e)
 labels_stay s name r (Become m labels) are fits = ⊎_elim
     (λ (same : labels ≡ s.labels). subst (λ (ls : List (Option Entry)). AreLabels (directory ls)) (sym same) are)
-    (λ (age : labels ≡ aged s.labels). subst AreLabels (sym (ap (λ (ls : List (Option Entry)). directory ls) age ∙ aged_labels s.labels)) are)
+    (λ (age : labels ≡ aged (keys_of s.registers) s.labels). subst AreLabels (sym (ap (λ (ls : List (Option Entry)). directory ls) age ∙ aged_labels (keys_of s.registers) s.labels)) are)
     fits
 labels_stay s name r (Create label) are fits = set_labels s.labels _ (Some (null_entry label)) (λ is. fits.well) are
 labels_stay s name r (Write label key fields) are fits = written_labels s.labels (cell_with s label) key are
 labels_stay s name r (Delete label) are fits = deleted_labels s.labels (cell_with s label) are
-labels_stay s name r Reencipher are fits = subst AreLabels (sym (further_labels s.labels 1024)) are
+labels_stay s name r (Reencipher a) are fits = subst AreLabels (sym (further_labels a s.labels 1024)) are
 labels_stay s name r (Show fields) are fits = are
 labels_stay s name r (DefineRole role points) are fits = are
 labels_stay s name r (RemoveRole role) are fits = are

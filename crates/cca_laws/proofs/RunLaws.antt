@@ -157,14 +157,14 @@ module _ (s : State) (random input : List ℕ) (old new : World) (drawn_from : o
     ended (inr (inr (inl limit))) = let whole = where_told rest _ input (served.stopped (inr limit)) in whole_last whole.0 before now whole.1
     ended (inr (inr (inr write))) = let cut = where_told rest _ input (served.cut write) in cut_last before now cut.1
 
-    sealed_end : (c : List ℕ) → IsModuleOf s c → Told old.store IsBlankStore → AnswersLines result → Told new.store (IsSealed all_along)
-    sealed_end c stands blank answers =
+    sealed_end : (c : List ℕ) → IsModuleOf s c → Told old.store (IsStoreOf s) → Told old.store IsBlankStore → AnswersLines result → Told new.store (IsSealed all_along)
+    sealed_end c stands store blank answers =
         let rest_ = where_told rest _ input (served.at_rest answers) in
         let becomes : Becomes (Rests cca IsStoreOf 1024 s (Some random) (lines input)) old.store new.store =
         subst (λ (o : Option (List ℕ)). Becomes (Rests cca IsStoreOf 1024 s o (lines input)) old.store new.store) drawn_from rest_.1.on_store in
         told_from new.store.content (IsSealed all_along) (λ image is.
         let from = becomes.told image is in
-        sealed s c random from.0 image (lines input) stands (told_at old.store.content IsBlankStore from.0 from.1 blank)
+        sealed s c random from.0 image (lines input) stands (told_at old.store.content (IsStoreOf s) from.0 from.1 store) (told_at old.store.content IsBlankStore from.0 from.1 blank)
         (at_rest s random (lines input) from.0 image from.2 (told_at new.store.content (IsLast s random (lines input)) image is (ended answers))))
 
 pub run_sealed : (s : State) (outcome : Result (Unit {0}) Stop) (random input : List ℕ) (o : Span Outside)
@@ -174,4 +174,4 @@ pub run_sealed : (s : State) (outcome : Result (Unit {0}) Stop) (random input : 
 run_sealed s outcome random input o disks served answers blank told drawn_from =
     sealed_end s random input o.old.devices.world o.new.devices.world drawn_from outcome o.new.input o.old.output o.new.output
     (subst (λ (i : Option (List ℕ)). RunServed cca s outcome o.old.devices.world o.new.devices.world i o.new.input o.old.output o.new.output) told served.serves)
-    disks.in_module.image disks.in_module.has blank answers
+    disks.in_module.image disks.in_module.has (subst (λ (i : Option (List ℕ)). IfSome i (IsStoreOf s)) (sym disks.in_store.told) disks.in_store.has) blank answers

@@ -23,6 +23,7 @@ use Rattle.cca_machine.specs.Verdict.{needed_points}
 use Rattle.cca_laws.specs.Sealed.{IsAtRest, IsBlankStore, IsSealed, IsSealedBody, WasSelected, states_along}
 use Rattle.cca_laws.proofs.CeremonyLaws.{becomes, registers_after}
 use Rattle.cca_laws.proofs.LineCases.{by_line, permitted}
+use Rattle.cca_laws.proofs.UnusedLaws.{AreSealedTokens, along_sealed, blank_sealed}
 
 -- ---- the current and the old master key have different patterns, in every state
 
@@ -99,9 +100,36 @@ zero_list (suc n) [] size zeros = absurd (omega (arith, size))
 zero_list (suc n) (x ∷ xs) size zeros =
     ap₂ (λ (y : ℕ) (ys : List ℕ). y ∷ ys) (zeros 0 (omega arith)) (zero_list n xs (omega (arith, size)) (λ k within. zeros (suc k) (omega (arith, within))))
 
-module _ (s : State) (random : List ℕ) (lines : List (List ℕ)) (apart : IsApart s) where
+-- each byte of a cell is zero
+abbrev IsZeroCell : ℕ → List ℕ → Type 0
+IsZeroCell n image = (j : ℕ) → j < 1536 → get_or image (1536 * n + j) 0 ≡ 0
+
+zero_body : (image : List ℕ) (n side : ℕ) → n < 1024 → side < 2 → length image ≡ 1572864 → IsZeroCell n image → body_at image n side ≡ blank_body
+unfolding blank_body
+zero_body image n side within low size zeros =
+    zero_list 192 (body_at image n side)
+    (length-range image (body_place n side) 192 ∙ omega (arith, size))
+    (λ k inside. get_or-range image (body_place n side) 192 k inside ∙ (ap (λ i. get_or image i 0) (place k) ∙ zeros (512 * (1 + side) + k) (omega arith)))
+  where
+    place : (k : ℕ) → body_place n side + k ≡ 1536 * n + (512 * (1 + side) + k)
+    place k = omega arith
+
+selected_low : (image : List ℕ) (n : ℕ) → selected image n < 2
+unfolding selected
+selected_low image n = omega arith
+
+blank_selects : (image : List ℕ) → IsBlankStore image → (n : ℕ) → n < 1024 → body image n ≡ blank_body
+unfolding body
+blank_selects image blank n within =
+    zero_body image n (selected image n) within (selected_low image n) blank.size (λ j inside. blank.zeros (1536 * n + j))
+
+module _ (s : State) (random : List ℕ) (lines : List (List ℕ)) (apart : IsApart s) (tokens : AreSealedTokens (states_along s random lines) s.labels) where
   abbrev along : List State
   along = states_along s random lines
+
+  tokens_among : (u : State) → Contains along u → AreSealedTokens along u.labels
+  tokens_among u among =
+      subst (λ (t : State). AreSealedTokens along t.labels) among.2 (along_sealed along s random lines (λ t there. there) tokens among.0 u among.1)
 
   apart_among : (u : State) → Contains along u → IsApart u
   apart_among u among = subst IsApart among.2 (along_apart s random lines apart among.0 u among.1)
@@ -114,33 +142,23 @@ module _ (s : State) (random : List ℕ) (lines : List (List ℕ)) (apart : IsAp
     among = among;
     entry = entry_at u.labels n;
     is = sym is ∙ one_body (keys_of u.registers) (distinct u (apart_among u among)) (body content n) (entry_at u.labels n) (stands.reads n within);
+    unused = tokens_among u among n;
   }
 
   module _ (old new : List ℕ) (blank : IsBlankStore old) (rest : IsAtRest along old new) where
-    selected_low : (n : ℕ) → selected new n < 2
-    unfolding selected
-    selected_low n = omega arith
-
     -- a cell that is as it was is blank
     blank_at : (n side : ℕ) → n < 1024 → side < 2 → SameCell n old new → IsSealedBody along (body_at new n side)
-    unfolding blank_body
     blank_at n side within low same = record {
       state = s;
       among = first_along s random lines;
       entry = None;
-      is = zero_list 192 (body_at new n side)
-          (length-range new (body_place n side) 192 ∙ omega (arith, rest.same.size, blank.size))
-          (λ k inside. get_or-range new (body_place n side) 192 k inside
-          ∙ (ap (λ i. get_or new i 0) (place k)
-          ∙ (same (512 * (1 + side) + k) (omega arith) ∙ blank.zeros (1536 * n + (512 * (1 + side) + k)))));
+      is = zero_body new n side within low (rest.same.size ∙ blank.size) (λ j inside. same j inside ∙ blank.zeros (1536 * n + j));
+      unused = λ token none. cc none;
     }
-      where
-        place : (k : ℕ) → body_place n side + k ≡ 1536 * n + (512 * (1 + side) + k)
-        place k = omega arith
 
     turned_body : (n side : ℕ) → n < 1024 → side < 2 → WasSelected along n (other_body new n) → IsSealedBody along (body_at new n side)
     unfolding body other_body
-    turned_body n side within low was = by_side (selected new n) refl (selected_low n) side low
+    turned_body n side within low was = by_side (selected new n) refl (selected_low new n) side low
       where
         by_side : (t : ℕ) → selected new n ≡ t → t < 2 → (x : ℕ) → x < 2 → IsSealedBody along (body_at new n x)
         by_side t is below x small = ⊎_elim
@@ -174,6 +192,7 @@ module _ (s : State) (random : List ℕ) (lines : List (List ℕ)) (apart : IsAp
       others = λ k spare. rest.same.spare k spare ∙ blank.zeros k;
     }
 
-pub sealed : (s : State) (c random old new : List ℕ) (lines : List (List ℕ)) → IsModuleOf s c → IsBlankStore old → IsAtRest (states_along s random lines) old new
-    → IsSealed (states_along s random lines) new
-sealed s c random old new lines stands blank rest = sealed_along s random lines (module_apart s c stands) old new blank rest
+pub sealed : (s : State) (c random old new : List ℕ) (lines : List (List ℕ)) → IsModuleOf s c → IsStoreOf s old → IsBlankStore old
+    → IsAtRest (states_along s random lines) old new → IsSealed (states_along s random lines) new
+sealed s c random old new lines stands store blank rest =
+    sealed_along s random lines (module_apart s c stands) (blank_sealed (states_along s random lines) s old (blank_selects old blank) store) old new blank rest

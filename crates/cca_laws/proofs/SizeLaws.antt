@@ -48,7 +48,7 @@ use Rattle.key_transport.specs.declared.changing.Target.TheVariants.{Current, Ne
 use Rattle.mac_verbs.specs.Codes.{code_of, is_code}
 use Rattle.master_registers.specs.Masters.{NewRegister, Empty, Partial, Full}
 use Rattle.multi_encipher.specs.Bundles.{transport_bundle}
-use Rattle.reencipher.specs.Further.{old_count}
+use Rattle.reencipher.specs.Further.{changed_count}
 use Rattle.script_buffers.specs.Lines.{newline}
 use Rattle.script_buffers.specs.Replies.{Field, Hex, Text, Number, Reply, Refused, Done, field_name, field_text, fields_text, hex_field, number_field, ok_text, refusal, reply_limit, spelled, text_field, two_digits, written}
 use Rattle.script_buffers.proofs.PartLemmas.{length-slice_range_le}
@@ -270,13 +270,14 @@ abbrev IsShortEntry : Option Entry → Type 0
 IsShortEntry None = ⊤
 IsShortEntry (Some e) = (length e.label ≤ 64) × IsShortKey e.what
 
-what_short : (masters : MasterKeys) (bytes label : List ℕ) (what : Option Denoted) → ReadsWhat masters bytes label what → IsShortKey what
-what_short masters bytes label None reads = tt
-what_short masters bytes label (Some key) reads = subst IsShortKey reads.3 (kept_short masters reads.0)
+what_short : (masters : MasterKeys) (bytes label : List ℕ) (what : Option Denoted) (ahead : Bool) (unused : Option (List ℕ))
+    → ReadsWhat masters bytes label what ahead unused → IsShortKey what
+what_short masters bytes label None ahead unused reads = tt
+what_short masters bytes label (Some key) ahead unused reads = subst IsShortKey reads.is_kept (kept_short masters reads.token)
 
 entry_short : (masters : MasterKeys) (bytes : List ℕ) (e : Option Entry) → ReadsEntry masters bytes e → IsShortEntry e
 entry_short masters bytes None reads = tt
-entry_short masters bytes (Some e) reads = (label_short e.label reads.0, what_short masters bytes e.label e.what reads.1)
+entry_short masters bytes (Some e) reads = (label_short e.label reads.0, what_short masters bytes e.label e.what e.ahead e.unused reads.1)
 
 abbrev AreShortLabels : List (Option (List ℕ)) → Type 0
 AreShortLabels [] = ⊤
@@ -601,7 +602,7 @@ after_short : (s : State) (e : Effect) → IsShortEffect e → size_of (fields_a
 after_short s (Show fields) short = short
 after_short s (Become m labels) short = text_more (codes "new") (new_name m.coming) [] 7 0 room (new_short m.coming) (omega arith) (omega arith)
 after_short s (Write label key fields) short = short
-after_short s Reencipher short = number_more (codes "changed") (old_count s.labels) [] 0 room (omega arith) (omega arith)
+after_short s (Reencipher a) short = number_more (codes "changed") (changed_count a s.labels) [] 0 room (omega arith) (omega arith)
 after_short s _ short = omega arith
 
 warning_short : (b : Bool) → size_of (warning b) ≤ 100

@@ -7,6 +7,7 @@ pub mod Moving
 pub mod NamedLabels
 pub mod Passing
 pub mod Points
+pub mod Prepared
 pub mod ReplyLines
 pub mod ReplyTokens
 pub mod Sealed

@@ -3,7 +3,7 @@ use Rattle.std.specs.Prelude.{ℕ, Bool, true, false, List, codes}
 use Rattle.key_transport.specs.declared.changing.Target.{Target}
 use Rattle.key_transport.specs.declared.changing.Target.TheVariants.{Current, New}
 use Rattle.master_registers.specs.Masters.{NewRegister}
-use Rattle.verb_script.specs.Grammar.{Request, RequestName, csnbenc, csnbenc_first, csnbenc_middle, csnbenc_last, csnbdec, csnbdec_first, csnbdec_middle, csnbdec_last, csnbmgn, csnbmgn_first, csnbmgn_middle, csnbmgn_last, csnbmvr, csnbmvr_first, csnbmvr_middle, csnbmvr_last, csnbkyt, csnbktc, csnbmkp_set, value_of}
+use Rattle.verb_script.specs.Grammar.{Request, RequestName, csnbenc, csnbenc_first, csnbenc_middle, csnbenc_last, csnbdec, csnbdec_first, csnbdec_middle, csnbdec_last, csnbmgn, csnbmgn_first, csnbmgn_middle, csnbmgn_last, csnbmvr, csnbmvr_first, csnbmvr_middle, csnbmvr_last, csnbkyt, csnbktc, csnbmkp_set, reencipher_ahead, value_of}
 use Rattle.cca_machine.specs.Choices.{target_named}
 use Rattle.cca_machine.specs.State.{State}
 
@@ -18,9 +18,10 @@ is_new New = true
 abbrev pub asks_by_name : RequestName → List ℕ → Bool
 asks_by_name csnbktc rule = is_new (target_named rule)
 asks_by_name csnbmkp_set rule = true
+asks_by_name reencipher_ahead rule = true
 asks_by_name _ rule = false
 
--- SET, and CSNBKTC to the new master key
+-- SET and AHEAD, and CSNBKTC to the new master key
 abbrev pub asks_new_key : Request → Bool
 asks_new_key request = asks_by_name request.name (value_of request (codes "rule"))
 

@@ -1,6 +1,6 @@
 -- Two states that know the same of the labels that a request names.
 use Rattle.std.specs.Prelude.{◌≡◌, ℕ, Bool, true, false, List, [], ◌∷◌, Option, None, Some, ⊤, is_none}
-use Rattle.verb_script.specs.Grammar.{RequestName, csnbkrc, csnbkrl, csnbmkp_set, reencipher}
+use Rattle.verb_script.specs.Grammar.{RequestName, csnbkrc, csnbkrl, csnbmkp_clear, csnbmkp_set, reencipher, reencipher_ahead, reencipher_drop}
 use Rattle.verb_script.specs.Named.{label_named}
 use Rattle.cca_machine.specs.Keys.{cell_with, key_of_label}
 use Rattle.cca_machine.specs.Operands.{Operand}
@@ -32,10 +32,13 @@ SameNamed s t (o ∷ os) =
     ((label : List ℕ) → label_of o.text o.ask ≡ Some label → SameLabel s t label)
     × SameNamed s t os
 
--- the request is about the store as a whole: a free cell, all labels, or their master keys
+-- the request is about the store as a whole: a free cell, all labels, their master keys, or whether one is ahead
 abbrev pub is_of_store : RequestName → Bool
 is_of_store csnbkrc = true
 is_of_store csnbkrl = true
+is_of_store csnbmkp_clear = true
 is_of_store csnbmkp_set = true
 is_of_store reencipher = true
+is_of_store reencipher_ahead = true
+is_of_store reencipher_drop = true
 is_of_store _ = false

@@ -1,9 +1,11 @@
 -- A store at rest, after lines that began with a blank one.
-use Rattle.std.specs.Prelude.{◌≡◌, ◌⊎◌, ◌<◌, ◌*◌, ℕ, List, [], ◌∷◌, Contains, Option, length, slice_index}
+use Rattle.std.specs.Prelude.{◌≡◌, ◌⊎◌, ◌<◌, ◌*◌, ℕ, List, [], ◌∷◌, Contains, Option, None, Some, length, slice_index}
 use Rattle.slot_disk.specs.Cells.{body, body_at, other_body}
 use Rattle.slot_disk.specs.SpareBytes.{IsSpare, SameSpare, SameCell}
 use Rattle.key_records.specs.Entries.{Entry}
-use Rattle.key_records.specs.Written.{written_body}
+use Rattle.key_records.specs.Written.{register_of, token_bytes, written_body}
+use Rattle.key_tokens.specs.Denotes.{ClearKey}
+use Rattle.key_tokens.specs.declared.key_token.Age.{Age}
 use Rattle.verb_rules.specs.Keys.{keys_of}
 use Rattle.cca_machine.specs.Lines.{line_outcome}
 use Rattle.cca_machine.specs.State.{State, IsStoreOf, store_size}
@@ -38,13 +40,27 @@ pub record IsAtRest (states : List State) (old new : List ℕ) : Type 0 where
   pub each : (n : ℕ) → n < 1024 → SameCell n old new
       ⊎ ((slice_index new (1536 * n) < 2) × WasSelected states n (other_body new n))
 
--- the body is blank, or that of a label's record in one of the states: null, or with the label's
--- key enciphered under a master key of that state
+-- the token is that of some key, enciphered under the current or the old master key of one of the states
+pub record IsSealedToken (states : List State) (bytes : List ℕ) : Type 0 where
+  pub state : State
+  pub among : Contains states state
+  pub age : Age
+  pub clear : ClearKey
+  pub is : bytes ≡ token_bytes (register_of (keys_of state.registers) age) clear
+
+abbrev pub unused_in : Option Entry → Option (List ℕ)
+unused_in None = None
+unused_in (Some e) = e.unused
+
+-- The body is blank, or that of a label's record in one of the states: null, or with the label's
+-- key enciphered under a master key of that state. A token that is no longer used is one of an
+-- earlier state.
 pub record IsSealedBody (states : List State) (bytes : List ℕ) : Type 0 where
   pub state : State
   pub among : Contains states state
   pub entry : Option Entry
   pub is : bytes ≡ written_body (keys_of state.registers) entry
+  pub unused : (token : List ℕ) → unused_in entry ≡ Some token → IsSealedToken states token
 
 -- each selector is 0 or 1, both bodies of each cell are sealed, and every other byte is zero
 pub record IsSealed (states : List State) (image : List ℕ) : Type 0 where

@@ -35,7 +35,7 @@ Spares label request = AreOther label (listed (operands request))
 abbrev pub clear_of_label : State → List ℕ → Option ClearKey
 clear_of_label s label = option_map (λ key. key.clear) (key_of_label s label)
 
--- the request changes the master keys that labels are under: SET or REENCIPHER
+-- the request changes the master keys that labels are under: SET, or REENCIPHER without an action
 abbrev pub changes_ages : RequestName → Bool
 changes_ages csnbmkp_set = true
 changes_ages reencipher = true

@@ -13,8 +13,9 @@ ghost use Rattle.cca_laws.specs.EachLine.{EachRequest};
 ghost use Rattle.cca_laws.specs.Targets.{Spares, changes_ages, clear_of_label};
 
 /// A label that holds a key holds that key with its control vector after any lines of which none names the label by
-/// `to`, and none is CSNBKRW or CSNBKRD of it, whatever is done to the master keys. SET and REENCIPHER change the master
-/// keys that labels are under, and no key. While a label is under the old master key no SET is carried out.
+/// `to`, and none is CSNBKRW or CSNBKRD of it, whatever is done to the master keys. SET and REENCIPHER without an action
+/// change the master keys that labels are under, and no key. While a label is under the old master key no SET is carried
+/// out.
 pub fn no_key_is_lost()
     ensures kept { (s : State) (random label : List ℕ) (lines : List (List ℕ)) (key : ClearKey)
         → EachRequest (λ _ r. Spares label r) s random lines

@@ -9,9 +9,9 @@ ghost use Rattle.verb_script.specs.Named.{label_named};
 ghost use Rattle.cca_laws.specs.MasterBytes.{asks_new_key, uses_text_key, with_new};
 
 /// Two states that differ in the bytes of the new master key register alone, and not in how full it is, give the same
-/// replies; SET, which compares patterns, and CSNBKTC to the new master key aside. The replies to CSNBENC, CSNBDEC,
-/// CSNBMGN and CSNBMVR, also of a text in segments, and to CSNBKYT, with a key by its label, depend on no byte of a
-/// master key.
+/// replies; SET and AHEAD, which compare patterns, and CSNBKTC to the new master key aside. The replies to CSNBENC,
+/// CSNBDEC, CSNBMGN and CSNBMVR, also of a text in segments, and to CSNBKYT, with a key by its label, depend on no byte of
+/// a master key.
 pub fn replies_and_master_keys()
     ensures coming { (s : State) (one other : NewRegister) (drawn : List ℕ) (r : Request)
         → state_of one ≡ state_of other → asks_new_key r ≡ false

@@ -3,4 +3,4 @@ pub mod DrawLaws
 mod HexTexts
 pub mod LineLaws
 mod PairLaws
-mod RerunLaws
+pub mod RerunLaws

@@ -14,21 +14,23 @@ use Rattle.master_registers.specs.Masters.{NewRegister, Empty, Partial, Full, Ma
 use Rattle.key_records.specs.Changes.{created, written, deleted}
 use Rattle.key_records.specs.Directory.{free_cell}
 use Rattle.key_records.specs.Entries.{Entry, directory}
+use Rattle.key_records.specs.Turning.{aged}
 use Rattle.key_tokens.specs.Denotes.{ClearKey, Denoted}
 use Rattle.cca_vectors.specs.declared.key_type.KeyType.{KeyType}
 use Rattle.key_parts.specs.Parts.{first_key, combined_key}
 use Rattle.key_transport.specs.Generated.{generated_key}
 use Rattle.key_transport.specs.Tokens.{as_current, closed_key, changed_token, external_token}
 use Rattle.verb_script.specs.Named.{label_named}
-use Rattle.verb_script.specs.Grammar.{Request, RequestName, csnbktp, csnbenc, csnbenc_first, csnbenc_middle, csnbenc_last, csnbdec, csnbdec_first, csnbdec_middle, csnbdec_last, csnbmgn, csnbmgn_first, csnbmgn_middle, csnbmgn_last, csnbmvr, csnbmvr_first, csnbmvr_middle, csnbmvr_last, csnbkyt, csnbcki, csnbrng, csnbkgn_op, csnbkgn_pair, csnbkgn_out, csnbkim, csnbkex, csnbpex, csnbktc, csnbkpi_first, csnbkpi_middle, csnbktr, csnbkrc, csnbkrw, csnbkrr, csnbkrd, csnbkrl, csnbmkp_part, csnbmkp_clear, csnbmkp_set, csuaaci_define, csuaaci_remove, reencipher, value_of}
+use Rattle.verb_script.specs.Grammar.{Request, RequestName, csnbktp, csnbenc, csnbenc_first, csnbenc_middle, csnbenc_last, csnbdec, csnbdec_first, csnbdec_middle, csnbdec_last, csnbmgn, csnbmgn_first, csnbmgn_middle, csnbmgn_last, csnbmvr, csnbmvr_first, csnbmvr_middle, csnbmvr_last, csnbkyt, csnbcki, csnbrng, csnbkgn_op, csnbkgn_pair, csnbkgn_out, csnbkim, csnbkex, csnbpex, csnbktc, csnbkpi_first, csnbkpi_middle, csnbktr, csnbkrc, csnbkrw, csnbkrr, csnbkrd, csnbkrl, csnbmkp_part, csnbmkp_clear, csnbmkp_set, csuaaci_define, csuaaci_remove, reencipher, value_of, reencipher_ahead, reencipher_drop}
 use Rattle.cca_roles.specs.Roles.{define_place, after_define, remove_place, after_remove}
-use Rattle.reencipher.specs.Further.{further, old_count}
+use Rattle.reencipher.specs.Further.{further, changed_count}
+use Rattle.reencipher.specs.declared.actions.StoreAction.{StoreAction}
+use Rattle.reencipher.specs.declared.actions.StoreAction.TheVariants.{Renew, Ahead, Drop}
 use Rattle.cca_machine.specs.State.{State}
 use Rattle.cca_machine.specs.Actions.{part_action}
 use Rattle.master_registers.specs.Actions.{after_action}
 use Rattle.master_registers.specs.declared.actions.Action.TheVariants.{Clear, Set}
 use Rattle.cca_machine.specs.Choices.{pad_named, mac_rule_named, mac_length_named, form_named, type_in, target_named, is_last_part}
-use Rattle.cca_machine.specs.Ageing.{aged}
 use Rattle.cca_machine.specs.Draws.{length_in}
 use Rattle.cca_machine.specs.Keys.{key_in_field, imported, key_of_request, key_of_token, key_of_label, cell_with, or_no_key, any_old, warning}
 use Rattle.cca_machine.specs.Listing.{label_fields}
@@ -65,8 +67,8 @@ pub data Effect : Type 0 where
   Write : List ℕ → Denoted → List Field → Effect
   -- the label is no longer held
   Delete : List ℕ → Effect
-  -- every label under the old master key has the same key under the current one
-  Reencipher : Effect
+  -- every label is what the action makes of it
+  Reencipher : StoreAction → Effect
 
 -- ---- the reply to CSNBKTP
 
@@ -271,10 +273,12 @@ effect s drawn csnbmkp_part r =
     (bytes_in r (codes "part")) s.registers)
     s.labels
 effect s drawn csnbmkp_clear r = Become (after_action Clear [] s.registers) s.labels
-effect s drawn csnbmkp_set r = Become (after_action Set [] s.registers) (aged s.labels)
+effect s drawn csnbmkp_set r = Become (after_action Set [] s.registers) (aged (keys_of s.registers) s.labels)
 effect s drawn csuaaci_define r = DefineRole (value_of r (codes "name")) (points_in r)
 effect s drawn csuaaci_remove r = RemoveRole (value_of r (codes "name"))
-effect s drawn reencipher r = Reencipher
+effect s drawn reencipher r = Reencipher Renew
+effect s drawn reencipher_ahead r = Reencipher Ahead
+effect s drawn reencipher_drop r = Reencipher Drop
 
 -- ---- what comes of it
 
@@ -282,8 +286,8 @@ effect s drawn reencipher r = Reencipher
 pub data Cells : Type 0 where
   NoCell : Cells
   OneCell : ℕ → Cells
-  -- of the cells of these labels those that hold a label under the old master key
-  OldCells : List (Option Entry) → Cells
+  -- of the cells of these labels those whose label the action changes
+  ChangedCells : StoreAction → List (Option Entry) → Cells
 
 pub record Outcome : Type 0 where
   pub state : State
@@ -316,9 +320,9 @@ state_after s (Create label) = record s { labels = created label s.labels }
 state_after s (Write label key fields) =
     record s { labels = written_in (cell_with s label) key s.labels }
 state_after s (Delete label) = record s { labels = deleted_in (cell_with s label) s.labels }
-state_after s Reencipher = record s { labels = further s.labels 1024 }
+state_after s (Reencipher a) = record s { labels = further a s.labels 1024 }
 
--- the state once the labels in the cells below this one are current
+-- the state once the labels in the cells below this one are what the action makes of them
 abbrev pub state_between : State → Effect → ℕ → State
 state_between s (Show fields) cell = s
 state_between s (Become m labels) cell = s
@@ -327,7 +331,7 @@ state_between s (RemoveRole name) cell = s
 state_between s (Create label) cell = s
 state_between s (Write label key fields) cell = s
 state_between s (Delete label) cell = s
-state_between s Reencipher cell = record s { labels = further s.labels cell }
+state_between s (Reencipher a) cell = record s { labels = further a s.labels cell }
 
 abbrev pub fields_after : State → Effect → List Field
 fields_after s (Show fields) = fields
@@ -337,7 +341,7 @@ fields_after s (RemoveRole name) = []
 fields_after s (Create label) = []
 fields_after s (Write label key fields) = fields
 fields_after s (Delete label) = []
-fields_after s Reencipher = Number (codes "changed") (old_count s.labels) ∷ []
+fields_after s (Reencipher a) = Number (codes "changed") (changed_count a s.labels) ∷ []
 
 -- the registers stand in cell 0, the roles in the cells behind it
 abbrev pub module_cells_after : State → Effect → Cells
@@ -348,7 +352,7 @@ module_cells_after s (RemoveRole name) = OneCell (remove_place name s.roles + 1)
 module_cells_after s (Create label) = NoCell
 module_cells_after s (Write label key fields) = NoCell
 module_cells_after s (Delete label) = NoCell
-module_cells_after s Reencipher = NoCell
+module_cells_after s (Reencipher a) = NoCell
 
 abbrev pub cell_or_none : Option ℕ → Cells
 cell_or_none None = NoCell
@@ -363,7 +367,7 @@ store_cells_after s (RemoveRole name) = NoCell
 store_cells_after s (Create label) = OneCell (free_cell (directory s.labels))
 store_cells_after s (Write label key fields) = cell_or_none (cell_with s label)
 store_cells_after s (Delete label) = cell_or_none (cell_with s label)
-store_cells_after s Reencipher = OldCells s.labels
+store_cells_after s (Reencipher a) = ChangedCells a s.labels
 
 -- the reply ends with the warning
 abbrev pub effected : State → Request → Effect → Outcome

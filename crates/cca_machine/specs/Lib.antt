@@ -1,6 +1,5 @@
 pub mod Act
 pub mod Actions
-pub mod Ageing
 pub mod Broken
 pub mod Choices
 pub mod CutRequests

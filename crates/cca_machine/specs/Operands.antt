@@ -1,6 +1,6 @@
 -- The operands of a request that name a key or a label, as a table.
 use Rattle.std.specs.Prelude.{ℕ, Bool, true, false, ◌||◌, is_some, List, [], ◌∷◌, codes, Option, None, Some}
-use Rattle.verb_script.specs.Grammar.{Request, RequestName, csnbktp, csnbenc, csnbenc_first, csnbenc_middle, csnbenc_last, csnbdec, csnbdec_first, csnbdec_middle, csnbdec_last, csnbmgn, csnbmgn_first, csnbmgn_middle, csnbmgn_last, csnbmvr, csnbmvr_first, csnbmvr_middle, csnbmvr_last, csnbkyt, csnbcki, csnbrng, csnbkgn_op, csnbkgn_pair, csnbkgn_out, csnbkim, csnbkex, csnbpex, csnbktc, csnbkpi_first, csnbkpi_middle, csnbktr, csnbkrc, csnbkrw, csnbkrr, csnbkrd, csnbkrl, csnbmkp_part, csnbmkp_clear, csnbmkp_set, csuaaci_define, csuaaci_remove, reencipher, value_of}
+use Rattle.verb_script.specs.Grammar.{Request, RequestName, csnbktp, csnbenc, csnbenc_first, csnbenc_middle, csnbenc_last, csnbdec, csnbdec_first, csnbdec_middle, csnbdec_last, csnbmgn, csnbmgn_first, csnbmgn_middle, csnbmgn_last, csnbmvr, csnbmvr_first, csnbmvr_middle, csnbmvr_last, csnbkyt, csnbcki, csnbrng, csnbkgn_op, csnbkgn_pair, csnbkgn_out, csnbkim, csnbkex, csnbpex, csnbktc, csnbkpi_first, csnbkpi_middle, csnbktr, csnbkrc, csnbkrw, csnbkrr, csnbkrd, csnbkrl, csnbmkp_part, csnbmkp_clear, csnbmkp_set, csuaaci_define, csuaaci_remove, reencipher, value_of, reencipher_ahead, reencipher_drop}
 use Rattle.cca_vectors.specs.declared.key_class.Class.{Class}
 use Rattle.cca_vectors.specs.declared.key_class.Class.TheVariants.{Data, Cipher, Mac, Exporter, Importer, Other}
 use Rattle.cca_vectors.specs.declared.key_usage.Usage.{Usage}
@@ -199,6 +199,8 @@ operands_of csnbmkp_set r = no_operands
 operands_of csuaaci_define r = no_operands
 operands_of csuaaci_remove r = no_operands
 operands_of reencipher r = no_operands
+operands_of reencipher_ahead r = no_operands
+operands_of reencipher_drop r = no_operands
 
 abbrev pub operands : Request → Operands
 operands request = operands_of request.name request
@@ -226,6 +228,8 @@ names_label (o ∷ os) = is_named_by o.text o.ask || names_label os
 -- the request goes through every label of the store
 abbrev pub is_reencipher : RequestName → Bool
 is_reencipher reencipher = true
+is_reencipher reencipher_ahead = true
+is_reencipher reencipher_drop = true
 is_reencipher _ = false
 
 -- the request needs the store: one of its operands is a label, or it goes through every label

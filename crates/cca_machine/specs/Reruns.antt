@@ -1,13 +1,26 @@
 -- Runs of REENCIPHER that are stopped, and run again.
-use Rattle.std.specs.Prelude.{ℕ, List, [], ◌∷◌}
+use Rattle.std.specs.Prelude.{ℕ, List, [], ◌∷◌, codes}
 use Rattle.reencipher.specs.Further.{reruns}
-use Rattle.verb_script.specs.Grammar.{Request, reencipher}
+use Rattle.reencipher.specs.declared.actions.StoreAction.{StoreAction}
+use Rattle.reencipher.specs.declared.actions.StoreAction.TheVariants.{Renew, Ahead, Drop}
+use Rattle.verb_script.specs.Grammar.{Request, RequestName, reencipher, reencipher_ahead, reencipher_drop}
 use Rattle.cca_machine.specs.State.{State}
 
--- REENCIPHER for a role
-abbrev pub reencipher_for : List ℕ → Request
-reencipher_for role = record { name = reencipher; values = role ∷ [] }
+-- the row of REENCIPHER with an action
+abbrev pub row_with : StoreAction → RequestName
+row_with Renew = reencipher
+row_with Ahead = reencipher_ahead
+row_with Drop = reencipher_drop
+
+abbrev pub action_values : StoreAction → List (List ℕ)
+action_values Renew = []
+action_values Ahead = codes "AHEAD" ∷ []
+action_values Drop = codes "DROP" ∷ []
+
+-- REENCIPHER with an action, for a role
+abbrev pub reencipher_for : StoreAction → List ℕ → Request
+reencipher_for a role = record { name = row_with a; values = role ∷ action_values a }
 
 -- the state after runs that were stopped at these cells, one after another
-abbrev pub stopped : State → List ℕ → State
-stopped s stops = record s { labels = reruns s.labels stops }
+abbrev pub stopped : StoreAction → State → List ℕ → State
+stopped a s stops = record s { labels = reruns a s.labels stops }

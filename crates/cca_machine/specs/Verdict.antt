@@ -1,14 +1,14 @@
 -- The verdict on a request: the first rule that it breaks, with the operand that breaks it. The rules stand in tables, and
 -- each is asked as the tables say. A rule that needs an earlier one doesn't fail where that one does. Rule 34 alone asks
 -- the random bytes to come.
-use Rattle.std.specs.Prelude.{ℕ, ◌/◌, ◌==◌, bit_or, Bool, true, false, not, ◌&&◌, is_none, is_some, if◌then◌else◌, List, [], ◌∷◌, ◌++◌, length, codes, Option, Some, None}
+use Rattle.std.specs.Prelude.{ℕ, ◌/◌, ◌==◌, bit_or, Bool, true, false, not, ◌&&◌, ◌||◌, is_none, is_some, if◌then◌else◌, List, [], ◌∷◌, ◌++◌, length, codes, Option, Some, None}
 use Rattle.cca_vectors.specs.Checks.{Check, check, first_failing}
 use Rattle.cca_roles.specs.Points.{includes}
 use Rattle.cca_roles.specs.Roles.{points_of, define_refused, remove_refused}
 use Rattle.cca_machine.specs.Points.{point}
 use Rattle.key_tokens.specs.TokenChecks.{token_checks}
 use Rattle.key_tokens.specs.declared.key_token.Asked.TheVariants.{Either}
-use Rattle.verb_script.specs.Grammar.{Request, RequestName, csnbktp, csnbenc, csnbenc_first, csnbenc_middle, csnbenc_last, csnbdec, csnbdec_first, csnbdec_middle, csnbdec_last, csnbmgn, csnbmgn_first, csnbmgn_middle, csnbmgn_last, csnbmvr, csnbmvr_first, csnbmvr_middle, csnbmvr_last, csnbkyt, csnbcki, csnbrng, csnbkgn_op, csnbkgn_pair, csnbkgn_out, csnbkim, csnbkex, csnbpex, csnbktc, csnbkpi_first, csnbkpi_middle, csnbktr, csnbkrc, csnbkrw, csnbkrr, csnbkrd, csnbkrl, csnbmkp_part, csnbmkp_clear, csnbmkp_set, csuaaci_define, csuaaci_remove, reencipher, value_of}
+use Rattle.verb_script.specs.Grammar.{Request, RequestName, csnbktp, csnbenc, csnbenc_first, csnbenc_middle, csnbenc_last, csnbdec, csnbdec_first, csnbdec_middle, csnbdec_last, csnbmgn, csnbmgn_first, csnbmgn_middle, csnbmgn_last, csnbmvr, csnbmvr_first, csnbmvr_middle, csnbmvr_last, csnbkyt, csnbcki, csnbrng, csnbkgn_op, csnbkgn_pair, csnbkgn_out, csnbkim, csnbkex, csnbpex, csnbktc, csnbkpi_first, csnbkpi_middle, csnbktr, csnbkrc, csnbkrw, csnbkrr, csnbkrd, csnbkrl, csnbmkp_part, csnbmkp_clear, csnbmkp_set, csuaaci_define, csuaaci_remove, reencipher, value_of, reencipher_ahead, reencipher_drop}
 use Rattle.verb_script.specs.Named.{label_named}
 use Rattle.verb_script.specs.Values.{hex_value}
 use Rattle.cca_vectors.specs.Vectors.{length_of}
@@ -17,7 +17,7 @@ use Rattle.cca_vectors.specs.declared.key_type.KeyType.{KeyType}
 use Rattle.cipher_verbs.specs.CipherTexts.{enciphering, pad_checks}
 use Rattle.cipher_verbs.specs.declared.padding.Pad.{Pad}
 use Rattle.cipher_verbs.specs.declared.padding.Pad.TheVariants as padding
-use Rattle.key_records.specs.Ages.{any_old as any_old_label}
+use Rattle.key_records.specs.Ages.{any_old as any_old_label, any_ahead_entry}
 use Rattle.key_records.specs.Directory.{free_cell}
 use Rattle.key_records.specs.Entries.{directory}
 use Rattle.key_records.specs.Labels.{is_label}
@@ -35,7 +35,7 @@ use Rattle.text_segments.specs.declared.modes.Mode.TheVariants.{Encipher, Deciph
 use Rattle.key_transport.specs.UniqueHalves.{repeats}
 use Rattle.key_transport.specs.declared.changing.Target.{Target}
 use Rattle.key_transport.specs.declared.changing.Target.TheVariants.{Current, New}
-use Rattle.master_registers.specs.Masters.{set_refused}
+use Rattle.master_registers.specs.Masters.{Masters, set_refused, has_pattern_of}
 use Rattle.verb_rules.specs.declared.lengths.MacRule.{MacRule}
 use Rattle.verb_rules.specs.declared.needs.Need.{Need}
 use Rattle.verb_rules.specs.declared.lengths.TextUse.TheVariants as use_of
@@ -125,6 +125,8 @@ needs_master csnbmkp_set = false
 needs_master csuaaci_define = false
 needs_master csuaaci_remove = false
 needs_master reencipher = true
+needs_master reencipher_ahead = true
+needs_master reencipher_drop = true
 
 -- the access control points that a request needs
 abbrev pub action_points : Action → ℕ
@@ -193,6 +195,8 @@ needed_points csnbmkp_set r = action_points Set
 needed_points csuaaci_define r = point (codes "ROLES")
 needed_points csuaaci_remove r = point (codes "ROLES")
 needed_points reencipher r = point (codes "REENC")
+needed_points reencipher_ahead r = point (codes "REENC")
+needed_points reencipher_drop r = point (codes "REENC")
 
 -- a role that is held lacks a point
 abbrev pub lacks : Option ℕ → ℕ → Bool
@@ -279,6 +283,25 @@ abbrev pub set_questions : State → List Questions
 set_questions s =
     questions (codes "-")
     (action_checks Set s.registers ++ (check 27 (any_old_label s.labels) ∷ [])) ∷ []
+
+-- of CLEAR rule 33: a label is ahead
+abbrev pub clear_questions : State → List Questions
+clear_questions s =
+    questions (codes "-")
+    (action_checks Clear s.registers ++ (check 33 (any_ahead_entry s.labels) ∷ [])) ∷ []
+
+-- Rule 25: the new register isn't full. Rule 26: it has the pattern of the current or of a full old one. Rule 27: a label
+-- is under the old master key.
+abbrev pub ahead_checks : Masters → Bool → List Check
+ahead_checks m old =
+    check 25 (set_refused m)
+    ∷ check 26 (has_pattern_of m.coming m.current || has_pattern_of m.coming m.former)
+    ∷ check 27 old
+    ∷ []
+
+abbrev pub ahead_questions : State → List Questions
+ahead_questions s =
+    questions (codes "-") (ahead_checks s.registers (any_old_label s.labels)) ∷ []
 
 -- rule 28: every cell holds a label; rule 29: the label is held
 abbrev pub create_questions : State → List ℕ → List Questions
@@ -463,11 +486,13 @@ verb_questions s csnbkrr r = []
 verb_questions s csnbkrd r = []
 verb_questions s csnbkrl r = []
 verb_questions s csnbmkp_part r = action_questions s (part_action (value_of r (codes "action")))
-verb_questions s csnbmkp_clear r = action_questions s Clear
+verb_questions s csnbmkp_clear r = clear_questions s
 verb_questions s csnbmkp_set r = set_questions s
 verb_questions s csuaaci_define r = define_questions s (value_of r (codes "name"))
 verb_questions s csuaaci_remove r = remove_questions s (value_of r (codes "name"))
 verb_questions s reencipher r = []
+verb_questions s reencipher_ahead r = ahead_questions s
+verb_questions s reencipher_drop r = []
 
 -- the rules of the verb that are asked before a random byte is drawn
 abbrev pub verb_verdict : State → Request → Option Refusal

@@ -13,7 +13,8 @@ ghost use Rattle.cca_vectors.specs.declared.key_length.Length.TheVariants.{Uniqu
 ghost use Rattle.cca_vectors.specs.declared.key_type.KeyType.TheVariants.{Data};
 ghost use Rattle.key_tokens.specs.Denotes.{HaveDistinctPatterns};
 ghost use Rattle.key_transport.specs.Generated.{generated_key};
-ghost use Rattle.reencipher.specs.Further.{reruns, old_count};
+ghost use Rattle.reencipher.specs.Further.{reruns, changed_count};
+ghost use Rattle.reencipher.specs.declared.actions.StoreAction.{StoreAction};
 ghost use Rattle.verb_rules.specs.Keys.{keys_of};
 ghost use Rattle.cca_machine.specs.State.{State, IsStoreOf, blank_state};
 ghost use Rattle.cca_machine.specs.Act.{performed};
@@ -101,29 +102,33 @@ pub fn segments_reply_the_whole_code()
     ensures verified { CutCodesAreVerified }
 {}
 
-/// REENCIPHER is stopped at some cell, begun again and stopped again, any number of times. It is then permitted exactly
-/// where it was. A run that isn't stopped leaves the state that one run from the start leaves, and in each cell of the
-/// store the same selected bytes; and the next run finds no label under the old master key.
+/// REENCIPHER with an action is stopped at some cell, begun again and stopped again, any number of times. It is then
+/// permitted exactly where it was. A run that isn't stopped leaves the state that one run from the start leaves, and in each
+/// cell of the store the same selected bytes; and the next run finds no label that the action changes.
 pub fn stopped_runs_end_as_one_run()
-    ensures stop { (s : State) (drawn role : List ℕ) (cell : ℕ)
-        → verdict s [] (reencipher_for role) ≡ None
-        → (performed s drawn (reencipher_for role)).between cell ≡ stopped s (cell ∷ []) }
-    ensures verdict { (s : State) (role stops : List ℕ)
-        → verdict (stopped s stops) [] (reencipher_for role) ≡ verdict s [] (reencipher_for role) }
-    ensures state { (s : State) (role stops : List ℕ) → length s.labels ≤ 1024
-        → verdict s [] (reencipher_for role) ≡ None
-        → (performed (stopped s stops) [] (reencipher_for role)).state
-        ≡ (performed s [] (reencipher_for role)).state }
-    ensures changed { (s : State) (role stops : List ℕ) → verdict s [] (reencipher_for role) ≡ None
-        → (performed (stopped s stops) [] (reencipher_for role)).reply
-        ≡ Done (Number (codes "changed") (old_count (reruns s.labels stops)) ∷ []) }
-    ensures none_left { (s : State) (role : List ℕ) → length s.labels ≤ 1024
-        → verdict s [] (reencipher_for role) ≡ None
-        → (performed (performed s [] (reencipher_for role)).state [] (reencipher_for role)).reply
+    ensures stop { (a : StoreAction) (s : State) (drawn role : List ℕ) (cell : ℕ)
+        → verdict s [] (reencipher_for a role) ≡ None
+        → (performed s drawn (reencipher_for a role)).between cell ≡ stopped a s (cell ∷ []) }
+    ensures verdict { (a : StoreAction) (s : State) (role stops : List ℕ)
+        → verdict (stopped a s stops) [] (reencipher_for a role)
+        ≡ verdict s [] (reencipher_for a role) }
+    ensures state { (a : StoreAction) (s : State) (role stops : List ℕ) → length s.labels ≤ 1024
+        → verdict s [] (reencipher_for a role) ≡ None
+        → (performed (stopped a s stops) [] (reencipher_for a role)).state
+        ≡ (performed s [] (reencipher_for a role)).state }
+    ensures changed { (a : StoreAction) (s : State) (role stops : List ℕ)
+        → verdict s [] (reencipher_for a role) ≡ None
+        → (performed (stopped a s stops) [] (reencipher_for a role)).reply
+        ≡ Done (Number (codes "changed") (changed_count a (reruns a s.labels stops)) ∷ []) }
+    ensures none_left { (a : StoreAction) (s : State) (role : List ℕ) → length s.labels ≤ 1024
+        → verdict s [] (reencipher_for a role) ≡ None
+        → (performed (performed s [] (reencipher_for a role)).state []
+        (reencipher_for a role)).reply
         ≡ Done (Number (codes "changed") 0 ∷ []) }
-    ensures bytes { (s : State) (role stops one other : List ℕ) (cell : ℕ)
-        → HaveDistinctPatterns (keys_of s.registers) → verdict s [] (reencipher_for role) ≡ None
-        → IsStoreOf (performed s [] (reencipher_for role)).state one
-        → IsStoreOf (performed (stopped s stops) [] (reencipher_for role)).state other
+    ensures bytes { (a : StoreAction) (s : State) (role stops one other : List ℕ) (cell : ℕ)
+        → HaveDistinctPatterns (keys_of s.registers)
+        → verdict s [] (reencipher_for a role) ≡ None
+        → IsStoreOf (performed s [] (reencipher_for a role)).state one
+        → IsStoreOf (performed (stopped a s stops) [] (reencipher_for a role)).state other
         → cell < 1024 → body one cell ≡ body other cell }
 {}

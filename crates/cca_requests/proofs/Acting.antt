@@ -25,7 +25,6 @@ use Rattle.cca_requests.specs.declared.judging.Grant.{Grant}
 use Rattle.cca_requests.specs.declared.judging.Granted.{Granted}
 use Rattle.cca_requests.specs.declared.effects.Effect.{Effect as CodeEffect}
 use Rattle.cca_requests.specs.declared.effects.Effect.TheVariants as code
-use Rattle.key_records.specs.Entries.{Entry}
 use Rattle.master_registers.specs.declared.actions.Action.TheVariants.{First, Middle, Last}
 use Rattle.cca_machine.specs.Actions.{part_action}
 use Rattle.cca_requests.specs.Deciding.{LosesNone, labels_after, ShowsOr, IsDecided, Decides}
@@ -134,7 +133,7 @@ shows_or s bench request v fields e reply left none verdict is shown = record {
     by_effect (code.Create label) shown = absurd shown
     by_effect (code.Write place token) shown = absurd shown
     by_effect (code.Delete place) shown = absurd shown
-    by_effect code.Reencipher shown = absurd shown
+    by_effect (code.Reencipher a) shown = absurd shown
 
 -- what was decided without random bytes
 pub decides : (s : State) (bench : Bench) (request : Request) (e : CodeEffect) (reply : List ℕ) (left : Option (List ℕ))
@@ -160,10 +159,10 @@ opens bench j under = by_age j.age refl under
 
 -- ---- actions
 
-pub labels_kept : (text : List ℕ) (labels : List (Option Entry)) → labels_after (part_action text) labels ≡ labels
-labels_kept text labels = by_tests (bytes_eq text (codes "FIRST")) (bytes_eq text (codes "MIDDLE"))
+pub labels_kept : (text : List ℕ) (s : State) → labels_after (part_action text) s ≡ s.labels
+labels_kept text s = by_tests (bytes_eq text (codes "FIRST")) (bytes_eq text (codes "MIDDLE"))
   where
-    by_tests : (a b : Bool) → labels_after (if a then First else if b then Middle else Last) labels ≡ labels
+    by_tests : (a b : Bool) → labels_after (if a then First else if b then Middle else Last) s ≡ s.labels
     by_tests true b = refl
     by_tests false true = refl
     by_tests false false = refl

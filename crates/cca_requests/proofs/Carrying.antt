@@ -1,27 +1,33 @@
 -- What a verb left to be done, carried out on two disks.
-use Rattle.std.proofs.Common.{◌≡◌, ℕ, Bool, true, false, ◌++◌, List, [], ◌∷◌, Option, None, Some, Result, codes, refl, ap, ◌∙◌}
+use Rattle.std.proofs.Common.{◌≡◌, ℕ, Bool, true, false, ◌++◌, List, [], ◌∷◌, Option, None, Some, Result, Ok, Err, codes, refl, sym, ap, subst, ◌∙◌}
+use Rattle.std.specs.Prelude.{not, OnOk}
 use Rattle.std.proofs.lemmas.List.{append-nil}
+use Rattle.std.proofs.lemmas.Result.{on_ok_weaker}
 use Rattle.slot_disk.specs.Medium.{Medium, IsSettled}
 use Rattle.cca_roles.specs.declared.roles.Role.{Role}
 use Rattle.clear_keys.proofs.TokenLemmas.{keys_apart}
 use Rattle.cca_vectors.specs.Checks.{check}
+use Rattle.key_records.specs.Ages.{any_ahead_entry}
 use Rattle.key_records.specs.StoreStands.{Agrees}
+use Rattle.key_records.proofs.TurningLaws.{store_stays, memory_stays}
+use Rattle.reencipher.specs.declared.actions.StoreAction.{StoreAction}
 use Rattle.key_records.specs.declared.rows.Row.{Row}
 use Rattle.line_service.specs.declared.stops.Stop.{Stop}
 use Rattle.master_registers.specs.Actions.{after_action}
-use Rattle.master_registers.specs.Masters.{IsMasters, set_refused, same_pattern}
+use Rattle.master_registers.specs.Masters.{NewRegister, Empty, Partial, Full, Masters, IsMasters, is_empty, is_partial, first_refused, combine_refused, set_refused, same_pattern}
 use Rattle.master_registers.specs.declared.actions.Action.{Action}
 use Rattle.master_registers.specs.declared.actions.Action.TheVariants.{First, Middle, Last, Clear, Set}
 use Rattle.script_buffers.specs.Replies.{Field, Done}
-use Rattle.verb_rules.specs.Keys.{keys_of}
+use Rattle.verb_rules.specs.Keys.{keys_of, master_key, new_key}
 use Rattle.verb_script.specs.Grammar.{Request}
 use Rattle.cca_machine.specs.Keys.{warning}
 use Rattle.cca_machine.specs.State.{State, IsStoreOf}
 use Rattle.cca_machine.specs.Verdict.{Questions, Refusal, questions, first_refusal, action_questions, create_questions}
 use Rattle.cca_machine.specs.Act.{Effect, Show, Become, DefineRole, RemoveRole, Create, Write, Delete, Reencipher, Outcome, effect, state_after, fields_after, state_between, module_cells_after, store_cells_after, effected, refused, or_act}
 use Rattle.cca_requests.specs.Serving.{tables, StandsInModule, StandsInStore, CarriesModule, CarriesStore, Carries}
-use Rattle.cca_requests.specs.Deciding.{WarnsNot, plainly, or_effected, labels_after, LosesNone, action_outcome, role_outcome, create_outcome, IsWritten, IsDeleted}
-use Rattle.cca_requests.proofs.Ageing.{set_apart, store_ages, memory_ages}
+use Rattle.cca_requests.specs.Deciding.{WarnsNot, plainly, or_effected, labels_after, rows_after, IsTurnedBy, LosesNone, action_outcome, role_outcome, create_outcome, IsWritten, IsDeleted}
+use Rattle.cca_requests.proofs.Ageing.{store_ages, memory_ages, none_ahead}
+use Rattle.cca_requests.proofs.Leaving.{ok_always}
 use Rattle.cca_requests.proofs.Serving.{module_carries, store_carries}
 
 -- ---- what the machine makes of it
@@ -64,53 +70,104 @@ shown_is v s drawn request e none is = ap (λ (x : Option Refusal). or_act x s d
 
 -- ---- a change of the module
 
+-- the new register isn't full
+first_none : (m : Masters) → first_refused m ≡ false → new_key m.coming ≡ None
+first_none m state = by_coming m.coming state
+  where
+    by_coming : (coming : NewRegister) → not (is_empty coming) ≡ false → new_key coming ≡ None
+    by_coming Empty state = refl
+    by_coming (Partial bytes) state = refl
+    by_coming (Full bytes) state = let wrong : true ≡ false = state in absurd (cc wrong)
+
+combine_none : (m : Masters) → combine_refused m ≡ false → new_key m.coming ≡ None
+combine_none m state = by_coming m.coming state
+  where
+    by_coming : (coming : NewRegister) → not (is_partial coming) ≡ false → new_key coming ≡ None
+    by_coming Empty state = refl
+    by_coming (Partial bytes) state = refl
+    by_coming (Full bytes) state = let wrong : true ≡ false = state in absurd (cc wrong)
+
 module _ (s : State) (roles later : List (Option Role)) (rows : List (Option Row)) (m0 m1 d : Medium) (result : Result (Unit {0}) Stop) (reply : List ℕ)
     (settled : IsSettled d) (stands : StandsInStore s rows d) where
   -- what stood for the labels does so after it, and the memory knows them
+  abbrev GoesTo : List (Option Row) → Outcome → Type 0
+  GoesTo now o = ((c : List ℕ) → IsStoreOf s c → IsStoreOf o.state c) × ((cell : ℕ) → o.between cell ≡ s) × OnOk result (Agrees (keys_of o.state.registers) now o.state.labels)
+
   abbrev Goes : Outcome → Type 0
-  Goes o = ((c : List ℕ) → IsStoreOf s c → IsStoreOf o.state c) × ((cell : ℕ) → o.between cell ≡ s) × Agrees (keys_of o.state.registers) rows o.state.labels
+  Goes o = GoesTo rows o
 
   or_goes : (v : Option Refusal) (e : Effect) → (v ≡ None → Goes (plainly s e)) → Goes (or_effected v s e)
   or_goes None e goes = goes refl
-  or_goes (Some r) e goes = (λ c p. p, λ cell. refl, stands.agrees)
+  or_goes (Some r) e goes = (λ c p. p, λ cell. refl, ok_always result stands.agrees)
 
-  by_goes : (o : Outcome) → Goes o → CarriesModule o s result reply later m0 m1 → Carries o s result reply (tables later rows) m0 m1 d d
-  by_goes o goes carries = module_carries o s result reply later rows m0 m1 d carries goes.0 goes.1 goes.2 settled stands
+  by_goes : (now : List (Option Row)) (o : Outcome) → GoesTo now o → CarriesModule o s result reply later m0 m1 → Carries o s result reply (tables later now) m0 m1 d d
+  by_goes now o goes carries = module_carries o s result reply later rows now m0 m1 d carries goes.0 goes.1 goes.2 settled stands
 
   rules_kept : (wrong same : Bool) → first_refusal (questions (codes "-") (check 25 wrong ∷ check 26 same ∷ []) ∷ []) ≡ None → (wrong ≡ false) × (same ≡ false)
   rules_kept true same is = cc is
   rules_kept false true is = cc is
   rules_kept false false is = (refl, refl)
 
+  -- the new register changes, and no label is ahead
+  new_goes : (next : Masters) → next.current ≡ s.registers.current → next.former ≡ s.registers.former → any_ahead_entry s.labels ≡ false → Goes (plainly s (Become next s.labels))
+  new_goes next current former none = (
+    λ c p. store_stays (keys_of s.registers) (keys_of next) (ap master_key current) (ap master_key former) c s.labels none p,
+    λ cell. refl,
+    ok_always result (memory_stays (keys_of s.registers) (keys_of next) (ap master_key current) (ap master_key former) rows s.labels none stands.agrees),
+  )
+
+  behind : new_key s.registers.coming ≡ None → any_ahead_entry s.labels ≡ false
+  behind none = none_ahead (keys_of s.registers) stands.in_store.image s.labels none stands.in_store.has
+
   action_goes : (action : Action) (part : List ℕ) → IsMasters s.registers → LosesNone action s → first_refusal (action_questions s action) ≡ None
-      → Goes (plainly s (Become (after_action action part s.registers) (labels_after action s.labels)))
-  action_goes First part valid lost none = (λ c p. p, λ cell. refl, stands.agrees)
-  action_goes Middle part valid lost none = (λ c p. p, λ cell. refl, stands.agrees)
-  action_goes Last part valid lost none = (λ c p. p, λ cell. refl, stands.agrees)
-  action_goes Clear part valid lost none = (λ c p. p, λ cell. refl, stands.agrees)
+      → GoesTo (rows_after action rows) (plainly s (Become (after_action action part s.registers) (labels_after action s)))
+  action_goes First part valid lost none = new_goes (after_action First part s.registers) refl refl (behind (first_none s.registers (rules_kept (first_refused s.registers) false none).0))
+  action_goes Middle part valid lost none = new_goes (after_action Middle part s.registers) refl refl (behind (combine_none s.registers (rules_kept (combine_refused s.registers) false none).0))
+  action_goes Last part valid lost none = new_goes (after_action Last part s.registers) refl refl (behind (combine_none s.registers (rules_kept (combine_refused s.registers) false none).0))
+  action_goes Clear part valid lost none = new_goes (after_action Clear part s.registers) refl refl lost
   action_goes Set part valid lost none =
-      let kept = rules_kept (set_refused s.registers) (same_pattern s.registers) none in (
-        λ c p. store_ages s.registers c s.labels (keys_apart s.registers valid) (set_apart s.registers kept.0 kept.1) lost p,
+      let kept = rules_kept (set_refused s.registers) (same_pattern s.registers) none in
+      let apart = keys_apart s.registers valid in (
+        λ c p. store_ages s.registers kept.0 kept.1 apart c s.labels lost p,
         λ cell. refl,
-        memory_ages s.registers rows s.labels lost stands.agrees,
+        ok_always result (memory_ages s.registers kept.0 kept.1 apart rows stands.in_store.image s.labels lost (record { stands = stands.in_store.has; agrees = stands.agrees })),
       )
 
-  pub action_carries : (action : Action) (part : List ℕ) → IsMasters s.registers → LosesNone action s
+  on_both : {P Q R : Type 0} (r : Result (Unit {0}) Stop) → (P → Q → R) → OnOk r P → OnOk r Q → OnOk r R
+  on_both (Ok u) f p q = f p q
+  on_both (Err stop) f p q = tt
+
+  turned_goes : (action : Action) (part : List ℕ) (now : List (Option Row)) → IsMasters s.registers → LosesNone action s → IsTurnedBy s action result rows now
+      → (v : Option Refusal) → first_refusal (action_questions s action) ≡ v
+      → GoesTo now (or_effected v s (Become (after_action action part s.registers) (labels_after action s)))
+  turned_goes action part now valid lost turned None is =
+      let goes = action_goes action part valid lost is in (
+        goes.0,
+        goes.1,
+        on_both result (λ agrees same. subst (λ (x : List (Option Row)). Agrees (keys_of (after_action action part s.registers)) x (labels_after action s)) (sym same) agrees)
+            goes.2 (turned.0 is),
+      )
+  turned_goes action part now valid lost turned (Some r) is = (
+    λ c p. p,
+    λ cell. refl,
+    on_ok_weaker result (λ same. subst (λ (x : List (Option Row)). Agrees (keys_of s.registers) x s.labels) (sym same) stands.agrees) (turned.1 r is),
+  )
+
+  pub action_carries : (action : Action) (part : List ℕ) (now : List (Option Row)) → IsMasters s.registers → LosesNone action s → IsTurnedBy s action result rows now
       → CarriesModule (action_outcome s action part) s result reply later m0 m1
-      → Carries (action_outcome s action part) s result reply (tables later rows) m0 m1 d d
-  action_carries action part valid lost =
-      by_goes (action_outcome s action part)
-      (or_goes (first_refusal (action_questions s action)) (Become (after_action action part s.registers) (labels_after action s.labels)) (action_goes action part valid lost))
+      → Carries (action_outcome s action part) s result reply (tables later now) m0 m1 d d
+  action_carries action part now valid lost turned =
+      by_goes now (action_outcome s action part) (turned_goes action part now valid lost turned (first_refusal (action_questions s action)) refl)
 
   pub define_carries : (asked : List Questions) (name : List ℕ) (points : ℕ) → CarriesModule (role_outcome asked s (DefineRole name points)) s result reply later m0 m1
       → Carries (role_outcome asked s (DefineRole name points)) s result reply (tables later rows) m0 m1 d d
   define_carries asked name points =
-      by_goes (role_outcome asked s (DefineRole name points)) (or_goes (first_refusal asked) (DefineRole name points) (λ none. (λ c p. p, λ cell. refl, stands.agrees)))
+      by_goes rows (role_outcome asked s (DefineRole name points)) (or_goes (first_refusal asked) (DefineRole name points) (λ none. (λ c p. p, λ cell. refl, ok_always result stands.agrees)))
 
   pub remove_carries : (asked : List Questions) (name : List ℕ) → CarriesModule (role_outcome asked s (RemoveRole name)) s result reply later m0 m1
       → Carries (role_outcome asked s (RemoveRole name)) s result reply (tables later rows) m0 m1 d d
   remove_carries asked name =
-      by_goes (role_outcome asked s (RemoveRole name)) (or_goes (first_refusal asked) (RemoveRole name) (λ none. (λ c p. p, λ cell. refl, stands.agrees)))
+      by_goes rows (role_outcome asked s (RemoveRole name)) (or_goes (first_refusal asked) (RemoveRole name) (λ none. (λ c p. p, λ cell. refl, ok_always result stands.agrees)))
 
 -- ---- a change of the store
 
@@ -136,7 +193,7 @@ between_alike s (RemoveRole name) cell = (refl, refl)
 between_alike s (Create label) cell = (refl, refl)
 between_alike s (Write label key fields) cell = (refl, refl)
 between_alike s (Delete label) cell = (refl, refl)
-between_alike s Reencipher cell = (refl, refl)
+between_alike s (Reencipher a) cell = (refl, refl)
 
 module _ (s : State) (roles : List (Option Role)) (rows : List (Option Row)) (m d0 d1 : Medium) (result : Result (Unit {0}) Stop) (reply : List ℕ)
     (settled : IsSettled m) (stands : StandsInModule s roles m) where
@@ -159,7 +216,7 @@ module _ (s : State) (roles : List (Option Role)) (rows : List (Option Row)) (m 
       store_carries (plainly s e) s result reply roles rows m d0 d1 carries
       (ap (λ (x : Effect). (state_after s x).registers) gone.is) (ap (λ (x : Effect). (state_after s x).roles) gone.is) (between_alike s e) settled stands
 
-  pub renew_carries : CarriesStore (plainly s Reencipher) s result reply rows d0 d1
-      → Carries (plainly s Reencipher) s result reply (tables roles rows) m m d0 d1
-  renew_carries carries =
-      store_carries (plainly s Reencipher) s result reply roles rows m d0 d1 carries refl refl (between_alike s Reencipher) settled stands
+  pub renew_carries : (a : StoreAction) → CarriesStore (plainly s (Reencipher a)) s result reply rows d0 d1
+      → Carries (plainly s (Reencipher a)) s result reply (tables roles rows) m m d0 d1
+  renew_carries a carries =
+      store_carries (plainly s (Reencipher a)) s result reply roles rows m d0 d1 carries refl refl (between_alike s (Reencipher a)) settled stands

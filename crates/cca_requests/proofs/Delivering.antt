@@ -53,7 +53,7 @@ module _ (rows : List (Option Row)) (place : Option ℕ) (token : List ℕ) (hel
     size,
   )
   delivery_ready held bench (code.Delete other) reply delivery key size = absurd delivery
-  delivery_ready held bench code.Reencipher reply delivery key size = absurd delivery
+  delivery_ready held bench (code.Reencipher a) reply delivery key size = absurd delivery
 
 pub either_left : (a b : Bool) → IsTrue a → IsTrue (a || b)
 either_left true b is = refl

@@ -25,7 +25,7 @@ use Rattle.cca_machine.specs.Choices.{out_form_named, pair_form_named, type_in}
 use Rattle.cca_machine.specs.Draws.{Draw, KeyBytes, bytes_drawn, draw_of}
 use Rattle.cca_machine.specs.Lines.{drawn_where}
 use Rattle.cca_machine.specs.State.{State}
-use Rattle.cca_machine.specs.Verdict.{Questions, Refusal, draw_verdict, refusal, first_refusal, generate_questions, or_last, or_refused, or_then, pair_questions, verb_verdict}
+use Rattle.cca_machine.specs.Verdict.{Questions, Refusal, draw_verdict, refusal, first_refusal, generate_questions, or_last, or_refused, pair_questions, verb_verdict}
 use Rattle.cca_requests.specs.Deciding.{Decides, IsDelivered, IsLeft}
 use Rattle.cca_requests.specs.Drawing.{IsDeliveredOr, LeavesDrawn}
 use Rattle.cca_requests.specs.Serving.{HasDrawn}
@@ -150,7 +150,7 @@ delivered_or s v e (code.RemoveRole name) reply none delivered = absurd delivere
 delivered_or s v e (code.Create label) reply none delivered = absurd delivered
 delivered_or s v e (code.Write place token) reply none delivered = (none, delivered)
 delivered_or s v e (code.Delete place) reply none delivered = absurd delivered
-delivered_or s v e code.Reencipher reply none delivered = absurd delivered
+delivered_or s v e (code.Reencipher a) reply none delivered = absurd delivered
 
 -- a rule that is asked before refuses the request
 refused_before : (r : Refusal) (last : Option Refusal) → or_last (Some r) last ≡ Some r
@@ -206,7 +206,7 @@ left_of s bench request v e (code.RemoveRole name) reply left = absurd left
 left_of s bench request v e (code.Create label) reply left = absurd left
 left_of s bench request v e (code.Write place token) reply left = left
 left_of s bench request v e (code.Delete place) reply left = absurd left
-left_of s bench request v e code.Reencipher reply left = absurd left
+left_of s bench request v e (code.Reencipher a) reply left = absurd left
 
 -- a verb that generates keys
 pub generated_decides : (s : State) (bench : Bench) (request : Request) (key_length : Length) (before now : Option (List ℕ)) (reply : List ℕ) (e : CodeEffect)

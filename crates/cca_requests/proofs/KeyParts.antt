@@ -1,5 +1,5 @@
 -- The rules of a key part that is combined with a further part, and the operand that breaks one.
-use Rattle.std.proofs.Common.{◌≡◌, ℕ, Bool, true, false, not, [], ◌∷◌, codes, Option, None, Some, refl, ap}
+use Rattle.std.proofs.Common.{◌≡◌, ℕ, Bool, true, false, not, [], ◌∷◌, codes, None, Some, refl, ap}
 use Rattle.std.specs.Prelude.{if◌then◌else◌}
 use Rattle.cca_vectors.specs.Checks.{check, first_failing}
 use Rattle.cca_machine.specs.Verdict.{first_refusal, questions, refusal}

@@ -1,12 +1,14 @@
 -- What a call leaves of both disks, of the reply and of the memory, whatever the disks hold.
 use Rattle.std.proofs.Common.{◌≡◌, ℕ, List, Option, None, Result, Ok, Err, refl, sym, ap, ◌∙◌, subst, arith}
 use Rattle.std.specs.Prelude.{◌≤◌, IsOk, IsSome, OnOk, OnErr, IfErr}
+use Rattle.std.proofs.lemmas.Result.{on_err_weaker}
 use Rattle.slot_disk.specs.Medium.{Medium, Told, IsSettled, Becomes, Keeps}
 use Rattle.slot_disk.specs.SpareBytes.{Turned}
-use Rattle.slot_disk.proofs.Media.{becomes_same}
+use Rattle.slot_disk.proofs.Media.{becomes_same, told_from, told_at}
 use Rattle.slot_disk.proofs.SpareLemmas.{turned_same}
 use Rattle.slot_disk.proofs.WhereToldLemmas.{rose_wider}
 use Rattle.cca_roles.specs.declared.roles.Role.{Role}
+use Rattle.key_records.specs.Entries.{row_directory}
 use Rattle.key_records.specs.StoreStands.{HoldsRows}
 use Rattle.key_records.specs.declared.rows.Row.{Row}
 use Rattle.line_service.specs.Devices.{DiskLeft, devices}
@@ -16,7 +18,7 @@ use Rattle.line_service.specs.declared.stops.Stop.TheVariants.{ReadFault, WriteF
 use Rattle.cca_requests.specs.Judging.{IsStoreStop}
 use Rattle.cca_requests.specs.Serving.{Tables, tables, IsSound, IsLoadedStop, LeavesModule, LeavesStore, Leaves}
 
-ok_always : {P : Type 0} (result : Result (Unit {0}) Stop) → P → OnOk result P
+pub ok_always : {P : Type 0} (result : Result (Unit {0}) Stop) → P → OnOk result P
 ok_always (Ok u) p = p
 ok_always (Err stop) p = tt
 
@@ -116,6 +118,25 @@ module _ (result : Result (Unit {0}) Stop) (reply : List ℕ) where
     silent = left.silent;
     roles = left.memory;
     labels = err_always result refl;
+  }
+
+  -- of the registers, where the memory changes
+  pub registers_left : (m0 m1 d : Medium) (before now count : ℕ) (roles later : List (Option Role)) (rows next : List (Option Row))
+      → LeavesModule m0 m1 before now result reply roles later → IsSettled d → Told d (HoldsRows rows)
+      → ((image : List ℕ) → HoldsRows rows image → HoldsRows next image) → OnErr result (next ≡ rows)
+      → Leaves result reply (record { old = devices m0 before d count None 0; new = devices m1 now d count None 0 }) (tables roles rows) (tables later next)
+  registers_left m0 m1 d before now count roles later rows next left settled holds turns kept = record {
+    module_disk = left.disk;
+    store_disk = untouched_left d count result StoreFault settled (never_store result left.stops);
+    module_told = left.told;
+    store_told = λ some. some;
+    module_turned = left.turned;
+    store_turned = ok_always result (still_turned 1024 d d refl refl);
+    sound = left.sound;
+    holds = ok_always result (told_from d.content (HoldsRows next) (λ c is. turns c (told_at d.content (HoldsRows rows) c is holds)));
+    silent = left.silent;
+    roles = left.memory;
+    labels = on_err_weaker result (λ is. ap row_directory is) kept;
   }
 
   -- of the store alone

@@ -23,3 +23,4 @@ mod Storing
 mod Texts
 mod TokenReply
 mod TokensAgain
+mod TurnedRows

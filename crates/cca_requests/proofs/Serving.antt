@@ -1,7 +1,7 @@
 -- How what is said of the disks is carried from call to call.
-use Rattle.std.proofs.Common.{◌≡◌, ℕ, List, [], Option, None, Some, Result, Ok, Err, refl, sym, ap, ◌∙◌, subst, inl, inr, ⊎_elim}
-use Rattle.std.specs.Prelude.{◌<◌, OnOk, IfErr, IfSome, IsSome}
-use Rattle.slot_disk.specs.Medium.{Medium, Told, IsSettled, From, Becomes, EachImage, EachPair, Keeps}
+use Rattle.std.proofs.Common.{◌≡◌, ℕ, List, [], Option, Some, Result, Ok, Err, refl, sym, ap, ◌∙◌, subst, inl, inr, ⊎_elim}
+use Rattle.std.specs.Prelude.{OnOk, IfErr, IfSome, IsSome}
+use Rattle.slot_disk.specs.Medium.{Medium, Told, IsSettled, From, EachImage, EachPair, Keeps}
 use Rattle.slot_disk.specs.SpareBytes.{SameSpare}
 use Rattle.slot_disk.proofs.SpareLemmas.{same_spare, change_spare, spare_untouched}
 use Rattle.slot_disk.proofs.Media.{goes_on, settled_image, each_weaker, each_pair, keeps_still, settled_kept}
@@ -14,7 +14,7 @@ use Rattle.verb_rules.specs.Keys.{keys_of}
 use Rattle.verb_script.specs.Grammar.{Request}
 use Rattle.cca_machine.specs.State.{State, IsModuleOf, IsStoreOf}
 use Rattle.cca_machine.specs.Verdict.{Refusal, early_verdict, verb_verdict, verdict, verdict_by, whole_verb_verdict}
-use Rattle.cca_machine.specs.Act.{Outcome, Cells, NoCell, OneCell, OldCells, or_act, performed}
+use Rattle.cca_machine.specs.Act.{Outcome, Cells, NoCell, OneCell, or_act, performed, ChangedCells}
 use Rattle.cca_machine.specs.Draws.{bytes_drawn, draw_of}
 use Rattle.cca_machine.specs.Lines.{MayDraw, drawn_where, taken_by}
 use Rattle.line_service.specs.declared.stops.Stop.TheVariants.{EntropyFault}
@@ -45,14 +45,14 @@ same_but_cell cell c = record {
 same_but : (cells : Cells) (c : List ℕ) → SameBut cells c c
 same_but NoCell c = refl
 same_but (OneCell cell) c = same_but_cell cell c
-same_but (OldCells labels) c = record { size = refl; same = λ k h. refl }
+same_but (ChangedCells a labels) c = record { size = refl; same = λ k h. refl }
 
 -- where no other cells change, no byte changes outside selectors and bodies
 pub same_but_spare : (cells : Cells) (old new : List ℕ) → SameBut cells old new → SameSpare old new
 same_but_spare NoCell old new same = subst (SameSpare old) (sym same) (same_spare old)
 same_but_spare (OneCell cell) old new same = change_spare cell old new same.outside same.untouched
-same_but_spare (OldCells labels) old new same =
-    record { size = same.size; spare = λ k is. same.same k (λ n below old_label. spare_untouched old n k is) }
+same_but_spare (ChangedCells a labels) old new same =
+    record { size = same.size; spare = λ k is. same.same k (λ n below changed. spare_untouched old n k is) }
 
 -- a call that only reads a settled disk which holds P
 pub read_images : (m0 m1 : Medium) (P Q : List ℕ → Type 0) → IsSettled m0 → Holds m0 P → Keeps m0 m1 → ((c : List ℕ) → P c → Q c) → EachImage m0 m1 Q
@@ -162,11 +162,11 @@ module _ (o : Outcome) (s : State) (result : Result (Unit {0}) Stop) (reply : Li
       done_at (Err stop) says = tt
 
   -- the module alone was written: what stood for the labels still does
-  pub module_carries : (roles : List (Option Role)) (rows : List (Option Row)) (m0 m1 d : Medium) → CarriesModule o s result reply roles m0 m1
-      → ((c : List ℕ) → IsStoreOf s c → IsStoreOf o.state c) → ((cell : ℕ) → o.between cell ≡ s) → Agrees (keys_of o.state.registers) rows o.state.labels
-      → IsSettled d → StandsInStore s rows d → Carries o s result reply (tables roles rows) m0 m1 d d
-  module_carries roles rows m0 m1 d carries goes between agrees settled stands = record {
-    done = done_at result carries.done;
+  pub module_carries : (roles : List (Option Role)) (rows now : List (Option Row)) (m0 m1 d : Medium) → CarriesModule o s result reply roles m0 m1
+      → ((c : List ℕ) → IsStoreOf s c → IsStoreOf o.state c) → ((cell : ℕ) → o.between cell ≡ s) → OnOk result (Agrees (keys_of o.state.registers) now o.state.labels)
+      → IsSettled d → StandsInStore s rows d → Carries o s result reply (tables roles now) m0 m1 d d
+  module_carries roles rows now m0 m1 d carries goes between agrees settled stands = record {
+    done = done_at result carries.done agrees;
     on_module = carries.moments;
     on_store = still_images d (IsStoreOf s) (IsEither IsStoreOf s o) settled stands.in_store (λ c p. inl p);
     one_disk = inr (inl (
@@ -178,8 +178,9 @@ module _ (o : Outcome) (s : State) (result : Result (Unit {0}) Stop) (reply : Li
     stops = carries.stops;
   }
     where
-      done_at : (r : Result (Unit {0}) Stop) → OnOk r (IsDoneInModule o reply roles m1) → OnOk r (IsDone o reply (tables roles rows) m1 d)
-      done_at (Ok u) done = record {
+      done_at : (r : Result (Unit {0}) Stop) → OnOk r (IsDoneInModule o reply roles m1) → OnOk r (Agrees (keys_of o.state.registers) now o.state.labels)
+          → OnOk r (IsDone o reply (tables roles now) m1 d)
+      done_at (Ok u) done agrees = record {
         reply_is = done.reply_is;
         stands = record {
           on_module = done.stands;
@@ -189,7 +190,7 @@ module _ (o : Outcome) (s : State) (result : Result (Unit {0}) Stop) (reply : Li
           };
         };
       }
-      done_at (Err stop) done = tt
+      done_at (Err stop) done agrees = tt
 
   -- the store alone was written: what stood for the registers and the roles still does
   pub store_carries : (roles : List (Option Role)) (rows : List (Option Row)) (m d0 d1 : Medium) → CarriesStore o s result reply rows d0 d1

@@ -2,7 +2,7 @@
 use Rattle.std.proofs.Common.{◌≡◌, ◌≤◌, ℕ, true, false, None, refl, arith}
 use Rattle.std.proofs.lemmas.Bool.{and_parts}
 use Rattle.std.proofs.lemmas.Bool.Decides.{nat_tests}
-use Rattle.std.specs.Prelude.{Bool, not, ◌%◌, ◌==◌, nat_le, ◌&&◌, [], ◌∷◌}
+use Rattle.std.specs.Prelude.{Bool, not, nat_le, [], ◌∷◌}
 use Rattle.cca_vectors.specs.Checks.{check, first_failing}
 use Rattle.verb_rules.specs.LengthChecks.{text_checks, has_length, is_segment, is_whole}
 use Rattle.verb_rules.specs.declared.lengths.TextUse.{TextUse}

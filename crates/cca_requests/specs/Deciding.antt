@@ -1,10 +1,11 @@
 -- What a verb decided: what is still to be carried out.
-use Rattle.std.specs.Prelude.{◌≡◌, ◌≢◌, ◌≤◌, ◌<◌, true, false, ⊤, IsSome, ℕ, List, [], ◌∷◌, length, codes, Option, Some, None, Result, Ok, Err}
+use Rattle.std.specs.Prelude.{◌≡◌, ◌≢◌, ◌≤◌, ◌<◌, true, false, ⊤, IsSome, ℕ, List, [], ◌∷◌, length, codes, Option, Some, None, Result, Ok, Err, map, OnOk}
 use Rattle.cca_roles.specs.RoleNames.{default_name}
-use Rattle.key_records.specs.Ages.{any_old as any_old_label}
+use Rattle.key_records.specs.Ages.{any_old as any_old_label, any_ahead_entry}
 use Rattle.key_records.specs.Directory.{label_at}
-use Rattle.key_records.specs.Entries.{Entry, row_directory}
+use Rattle.key_records.specs.Entries.{Entry, row_directory, turned}
 use Rattle.key_records.specs.StoreStands.{HoldsRows, KeepsLabels}
+use Rattle.key_records.specs.Turning.{aged}
 use Rattle.key_records.specs.declared.faults.RecordFault.{RecordFault}
 use Rattle.key_records.specs.declared.faults.RecordFault.TheVariants as record_fault
 use Rattle.key_records.specs.declared.rows.Row.{Row}
@@ -28,7 +29,8 @@ use Rattle.slot_disk.specs.Medium.{Medium, Told, IsSettled}
 use Rattle.verb_script.specs.Grammar.{Request}
 use Rattle.line_service.specs.declared.stops.Stop.{Stop}
 use Rattle.line_service.specs.declared.stops.Stop.TheVariants.{ModuleFault, StoreFault}
-use Rattle.cca_machine.specs.Ageing.{aged}
+use Rattle.reencipher.specs.Tokens.{IsReadyFor}
+use Rattle.reencipher.specs.declared.actions.StoreAction.TheVariants.{Ahead}
 use Rattle.cca_machine.specs.Keys.{any_old, cell_with}
 use Rattle.cca_machine.specs.Draws.{bytes_drawn, draw_of, draws_random}
 use Rattle.cca_machine.specs.Lines.{drawn_where}
@@ -36,7 +38,7 @@ use Rattle.cca_machine.specs.Operands.{operands, listed}
 use Rattle.verb_rules.specs.Keys.{keys_of}
 use Rattle.verb_rules.specs.Rules.{rule_number}
 use Rattle.cca_machine.specs.State.{State, module_size, store_size}
-use Rattle.cca_machine.specs.Verdict.{Questions, Refusal, refusal, first_refusal, action_questions, set_questions, create_questions, define_questions, remove_questions, verb_verdict, whole_verb_verdict}
+use Rattle.cca_machine.specs.Verdict.{Questions, Refusal, refusal, first_refusal, action_questions, set_questions, create_questions, define_questions, remove_questions, verb_verdict, whole_verb_verdict, clear_questions, ahead_questions}
 use Rattle.cca_machine.specs.Act.{Effect, Show, Become, DefineRole, RemoveRole, Create, Write, Delete, Reencipher, Outcome, effect, state_after, state_between, fields_after, module_cells_after, store_cells_after, refused}
 use Rattle.cca_requests.specs.Serving.{Tables, StandsInModule, StandsInStore, Stands, HasDrawn}
 use Rattle.cca_requests.specs.declared.effects.Effect.{Effect as CodeEffect}
@@ -86,20 +88,20 @@ pub record IsShown (e : Effect) (reply : List ℕ) : Type 0 where
 abbrev pub WarnsNot : State → Request → Type 0
 WarnsNot s request = any_old s (listed (operands request)) ≡ false
 
--- what an action makes of the labels: SET makes their keys old
-abbrev pub labels_after : Action → List (Option Entry) → List (Option Entry)
-labels_after First labels = labels
-labels_after Middle labels = labels
-labels_after Last labels = labels
-labels_after Clear labels = labels
-labels_after Set labels = aged labels
+-- what an action makes of the labels: SET makes those that are ahead current, and every other key old
+abbrev pub labels_after : Action → State → List (Option Entry)
+labels_after First s = s.labels
+labels_after Middle s = s.labels
+labels_after Last s = s.labels
+labels_after Clear s = s.labels
+labels_after Set s = aged (keys_of s.registers) s.labels
 
--- the action loses no key: of SET that no label is under the old master key
+-- the action loses no key: of CLEAR that no label is ahead, and of SET that none is under the old master key
 abbrev pub LosesNone : Action → State → Type 0
 LosesNone First s = ⊤
 LosesNone Middle s = ⊤
 LosesNone Last s = ⊤
-LosesNone Clear s = ⊤
+LosesNone Clear s = any_ahead_entry s.labels ≡ false
 LosesNone Set s = any_old_label s.labels ≡ false
 
 -- the effect gives the label at this place the key of a token, and the reply has its fields
@@ -123,7 +125,8 @@ abbrev pub IsLeft : State → Bench → Request → Option Refusal → Effect �
 IsLeft s bench request v e (code.Refused rule name) reply = v ≡ Some (refusal (rule_number rule) name.now)
 IsLeft s bench request v e code.Shown reply = (v ≡ None) × IsShown e reply
 IsLeft s bench request v e (code.Change action) reply =
-    (v ≡ first_refusal (action_questions s action)) × (e ≡ Become (after_action action bench.part s.registers) (labels_after action s.labels))
+    (v ≡ first_refusal (action_questions s action))
+    × (e ≡ Become (after_action action bench.part s.registers) (labels_after action s))
     × LosesNone action s × WarnsNot s request
 IsLeft s bench request v e (code.DefineRole name points) reply =
     (v ≡ first_refusal (define_questions s name)) × (e ≡ DefineRole name points) × WarnsNot s request
@@ -133,7 +136,8 @@ IsLeft s bench request v e (code.Create label) reply =
     (v ≡ first_refusal (create_questions s label)) × (e ≡ Create label) × WarnsNot s request
 IsLeft s bench request v e (code.Write place token) reply = (v ≡ None) × IsWritten s e place token reply
 IsLeft s bench request v e (code.Delete place) reply = (v ≡ None) × IsDeleted s e place × WarnsNot s request
-IsLeft s bench request v e code.Reencipher reply = (v ≡ None) × (e ≡ Reencipher) × WarnsNot s request
+IsLeft s bench request v e (code.Reencipher a) reply =
+    (v ≡ None) × (e ≡ Reencipher a) × WarnsNot s request
 
 -- it gives the verdict and the effect of the verb, with these random bytes
 abbrev pub IsDecided : State → Bench → List ℕ → Request → CodeEffect → List ℕ → Type 0
@@ -160,7 +164,7 @@ IsDelivered s e (code.RemoveRole name) reply = ⊥
 IsDelivered s e (code.Create label) reply = ⊥
 IsDelivered s e (code.Write place token) reply = IsWritten s e place token reply
 IsDelivered s e (code.Delete place) reply = ⊥
-IsDelivered s e code.Reencipher reply = ⊥
+IsDelivered s e (code.Reencipher a) reply = ⊥
 
 -- the token of a second key, where there is one
 abbrev pub token2_fields : Option (List ℕ) → List Field
@@ -177,7 +181,7 @@ IsDelivery token place (code.RemoveRole name) = ⊥
 IsDelivery token place (code.Create label) = ⊥
 IsDelivery token place (code.Write other bytes) = (place ≡ Some other) × (bytes ≡ token)
 IsDelivery token place (code.Delete other) = ⊥
-IsDelivery token place code.Reencipher = ⊥
+IsDelivery token place (code.Reencipher a) = ⊥
 
 -- SET is left to be carried out, or a rule refuses it
 abbrev pub IsSetDecided : State → CodeEffect → Type 0
@@ -189,7 +193,36 @@ IsSetDecided s (code.RemoveRole name) = ⊥
 IsSetDecided s (code.Create label) = ⊥
 IsSetDecided s (code.Write place token) = ⊥
 IsSetDecided s (code.Delete place) = ⊥
-IsSetDecided s code.Reencipher = ⊥
+IsSetDecided s (code.Reencipher a) = ⊥
+
+-- the same of CLEAR
+abbrev pub IsClearDecided : State → CodeEffect → Type 0
+IsClearDecided s (code.Refused rule name) =
+    (first_refusal (clear_questions s) ≡ Some (refusal (rule_number rule) (codes "-")))
+    × (name.now ≡ codes "-")
+IsClearDecided s code.Shown = ⊥
+IsClearDecided s (code.Change action) =
+    (action ≡ Clear) × (first_refusal (clear_questions s) ≡ None)
+IsClearDecided s (code.DefineRole name points) = ⊥
+IsClearDecided s (code.RemoveRole name) = ⊥
+IsClearDecided s (code.Create label) = ⊥
+IsClearDecided s (code.Write place token) = ⊥
+IsClearDecided s (code.Delete place) = ⊥
+IsClearDecided s (code.Reencipher a) = ⊥
+
+-- and of AHEAD
+abbrev pub IsAheadDecided : State → CodeEffect → Type 0
+IsAheadDecided s (code.Refused rule name) =
+    (first_refusal (ahead_questions s) ≡ Some (refusal (rule_number rule) (codes "-")))
+    × (name.now ≡ codes "-")
+IsAheadDecided s code.Shown = ⊥
+IsAheadDecided s (code.Change action) = ⊥
+IsAheadDecided s (code.DefineRole name points) = ⊥
+IsAheadDecided s (code.RemoveRole name) = ⊥
+IsAheadDecided s (code.Create label) = ⊥
+IsAheadDecided s (code.Write place token) = ⊥
+IsAheadDecided s (code.Delete place) = ⊥
+IsAheadDecided s (code.Reencipher a) = (a ≡ Ahead) × (first_refusal (ahead_questions s) ≡ None)
 
 -- a verb that shows these fields, or is refused with this verdict
 abbrev pub ShowsOr : Option Refusal → List Field → CodeEffect → List ℕ → Type 0
@@ -201,7 +234,7 @@ ShowsOr v fields (code.RemoveRole name) reply = ⊥
 ShowsOr v fields (code.Create label) reply = ⊥
 ShowsOr v fields (code.Write place token) reply = ⊥
 ShowsOr v fields (code.Delete place) reply = ⊥
-ShowsOr v fields code.Reencipher reply = ⊥
+ShowsOr v fields (code.Reencipher a) reply = ⊥
 
 -- the memory knows the label at this place
 abbrev pub IsHeldAt : List (Option Row) → ℕ → Type 0
@@ -218,7 +251,8 @@ IsReady held bench rows (code.Create label) reply = reply ≡ []
 IsReady held bench rows (code.Write place token) reply =
     IsHeldAt rows place × IsSome (denoted (keys_of (masters_in held bench)) token) × (length reply ≤ 69000)
 IsReady held bench rows (code.Delete place) reply = (reply ≡ []) × IsHeldAt rows place
-IsReady held bench rows code.Reencipher reply = (reply ≡ []) × IsSome held.current_pattern
+IsReady held bench rows (code.Reencipher a) reply =
+    (reply ≡ []) × IsSome held.current_pattern × IsReadyFor a held bench
 
 -- the effect writes the store
 abbrev pub WritesStore : CodeEffect → Type 0
@@ -230,7 +264,7 @@ WritesStore (code.RemoveRole name) = ⊥
 WritesStore (code.Create label) = ⊤
 WritesStore (code.Write place token) = ⊤
 WritesStore (code.Delete place) = ⊤
-WritesStore code.Reencipher = ⊤
+WritesStore (code.Reencipher a) = ⊤
 
 -- the effect goes through every label of the store
 abbrev pub GoesThrough : CodeEffect → Type 0
@@ -242,7 +276,7 @@ GoesThrough (code.RemoveRole name) = ⊥
 GoesThrough (code.Create label) = ⊥
 GoesThrough (code.Write place token) = ⊥
 GoesThrough (code.Delete place) = ⊥
-GoesThrough code.Reencipher = ⊤
+GoesThrough (code.Reencipher a) = ⊤
 
 -- what comes of an effect without a warning
 abbrev pub plainly : State → Effect → Outcome
@@ -261,7 +295,8 @@ or_effected None s e = plainly s e
 -- what comes of an action with this key part
 abbrev pub action_outcome : State → Action → List ℕ → Outcome
 action_outcome s action part =
-    or_effected (first_refusal (action_questions s action)) s (Become (after_action action part s.registers) (labels_after action s.labels))
+    or_effected (first_refusal (action_questions s action)) s
+    (Become (after_action action part s.registers) (labels_after action s))
 
 -- the bench with the places that a verb may write as they are in another one
 abbrev pub with_places : Bench → Bench → Bench
@@ -287,6 +322,27 @@ change_reply (Ok held) = Done (Text (codes "new") (state_name held.new_state) �
 change_reply (Err fault.DiskFault) = Done []
 change_reply (Err fault.RegisterState) = Refused 25 (codes "-")
 change_reply (Err fault.SamePattern) = Refused 26 (codes "-")
+
+-- what an action makes of the rows of the memory: SET turns them
+abbrev pub rows_after : Action → List (Option Row) → List (Option Row)
+rows_after First rows = rows
+rows_after Middle rows = rows
+rows_after Last rows = rows
+rows_after Clear rows = rows
+rows_after Set rows = map turned rows
+
+-- where it fails they stay
+abbrev pub rows_by : Result Registers RegisterFault → Action → List (Option Row) → List (Option Row)
+rows_by (Ok held) action rows = rows_after action rows
+rows_by (Err cause) action rows = rows
+
+-- where no rule refuses the action, the memory has the rows after it; and else those before
+abbrev pub IsTurnedBy : State → Action → Result (Unit {0}) Stop
+    → List (Option Row) → List (Option Row) → Type 0
+IsTurnedBy s action result rows now =
+    (first_refusal (action_questions s action) ≡ None → OnOk result (now ≡ rows_after action rows))
+    × ((r : Refusal) → first_refusal (action_questions s action) ≡ Some r
+    → OnOk result (now ≡ rows))
 
 -- ---- a change of the roles
 

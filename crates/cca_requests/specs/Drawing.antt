@@ -45,7 +45,7 @@ IsDeliveredOr s v e (code.RemoveRole name) reply = ⊥
 IsDeliveredOr s v e (code.Create label) reply = ⊥
 IsDeliveredOr s v e (code.Write place token) reply = (v ≡ None) × IsWritten s e place token reply
 IsDeliveredOr s v e (code.Delete place) reply = ⊥
-IsDeliveredOr s v e code.Reencipher reply = ⊥
+IsDeliveredOr s v e (code.Reencipher a) reply = ⊥
 
 -- The random bytes of a key are drawn where no rule of the verb that is asked before refuses the request. The last rule
 -- refuses it by them, or the effect that is left is made with them.

@@ -25,7 +25,7 @@ use Rattle.verb_script.specs.Grammar.{Request, Spells}
 use Rattle.cca_machine.specs.State.{State, IsModuleOf, IsStoreOf}
 use Rattle.cca_machine.specs.Operands.{needs_store}
 use Rattle.cca_requests.specs.Judging.{IsStoreStop}
-use Rattle.cca_machine.specs.Act.{Outcome, Cells, NoCell, OneCell, OldCells, performed}
+use Rattle.cca_machine.specs.Act.{Outcome, Cells, NoCell, OneCell, performed, ChangedCells}
 use Rattle.cca_machine.specs.Draws.{draws_random}
 use Rattle.cca_machine.specs.Lines.{MayDraw, taken_by}
 use Rattle.cca_machine.specs.Verdict.{early_verdict}
@@ -60,7 +60,8 @@ pub record Stands (s : State) (t : Tables) (m d : Medium) : Type 0 where
 
 -- ---- an outcome, carried out
 
--- P holds of the state before or after, or of one between: where the labels below some cell are current
+-- P holds of the state before or after, or of one between: where the labels below some cell are what the action makes of
+-- them
 abbrev pub IsAround : State → Outcome → (State → Type 0) → Type 0
 IsAround s o P = P s ⊎ (P o.state ⊎ ((cell : ℕ) × (cell ≤ 1024) × P (o.between cell)))
 
@@ -83,7 +84,7 @@ pub record SameButCell (cell : ℕ) (old new : List ℕ) : Type 0 where
 abbrev pub SameBut : Cells → List ℕ → List ℕ → Type 0
 SameBut NoCell old new = new ≡ old
 SameBut (OneCell cell) old new = SameButCell cell old new
-SameBut (OldCells labels) old new = LeavesRest labels 1024 old new
+SameBut (ChangedCells a labels) old new = LeavesRest a labels 1024 old new
 
 -- a device failed
 abbrev pub IsFault : Stop → Type 0

@@ -1,18 +1,20 @@
 //! Changes of the registers and of the roles, with their replies.
 ghost use Rattle.cca_roles.specs.RoleNames.{default_name};
-ghost use Rattle.std.specs.Prelude.{◌≡◌, ◌≢◌, ◌≤◌, [], None, OnOk, OnErr, length};
+ghost use Rattle.key_records.specs.StoreStands.{HoldsRows};
+ghost use Rattle.std.specs.Prelude.{ℕ, List, ◌≡◌, ◌≢◌, ◌≤◌, [], None, OnOk, OnErr, length};
 ghost use Rattle.key_cells.specs.Lease.{bench_of, loan_of};
 ghost use Rattle.script_buffers.specs.Replies.{spelled};
 ghost use Rattle.cca_machine.specs.State.{State};
 ghost use Rattle.cca_machine.specs.Act.{NoCell, DefineRole, RemoveRole};
 ghost use Rattle.cca_machine.specs.Verdict.{define_questions, remove_questions};
 ghost use Rattle.cca_requests.specs.Serving.{CarriesModule, LeavesModule};
-ghost use Rattle.cca_requests.specs.Deciding.{HasLoaded, AtModule, action_outcome, state_name, change_stop, change_reply, role_outcome, role_stop, role_reply};
+ghost use Rattle.cca_requests.specs.Deciding.{HasLoaded, AtModule, IsTurnedBy, rows_by, action_outcome, state_name, change_stop, change_reply, role_outcome, role_stop, role_reply};
 
 use crate::endings::end;
 use crate::refusals::refuse;
 use cca_roles::{AccessPoints, RoleFault, RoleName, Roles};
 use key_cells::Lease;
+use key_records::Records;
 use line_service::Stop;
 use master_registers::{Action, NewState, RegisterFault, Registers, change};
 use slot_disk::Disk;
@@ -59,13 +61,23 @@ fn answer_change(
     }
 }
 
-/// Carries out an action on the registers.
+/// After SET the labels that were ahead are under their second tokens.
+fn turn_after(action: Action, outcome: &Result<Registers, RegisterFault>, records: &mut Records)
+    ensures { records.new ≡ rows_by outcome.now action records.old }
+{
+    if outcome.is_ok() && action == Action::Set {
+        records.turn();
+    }
+}
+
+/// Carries out an action on the registers. After SET the memory is turned.
 pub(crate) fn change_registers<M: Disk>(
     action: Action,
     module: &mut M,
     lease: &mut Lease,
     held: &Registers,
     roles: &Roles,
+    records: &mut Records,
     reply: &mut ReplyBuffer,
 ) -> Result<(), Stop>
     requires at { HasLoaded held.now (bench_of lease.old) roles.now (M.medium «module».old) }
@@ -81,9 +93,14 @@ pub(crate) fn change_registers<M: Disk>(
         → «module».new ≡ «module».old }
     ensures left { LeavesModule (M.medium «module».old) (M.medium «module».new)
         (M.faults «module».old) (M.faults «module».new) result reply.new roles.now roles.now }
+    ensures turned { (s : State) → AtModule s held.now (bench_of lease.old) roles.now
+        (M.medium «module».old) → IsTurnedBy s action result records.old records.new }
+    ensures rows { (image : List ℕ) → HoldsRows records.old image → HoldsRows records.new image }
+    ensures memory { OnErr result (records.new ≡ records.old) }
     ensures loan { loan_of lease.new ≡ loan_of lease.old }
 {
     let outcome = change(action, module, lease, held);
+    turn_after(action, &outcome, records);
     answer_change(outcome, reply)
 }
 

@@ -5,6 +5,7 @@ ghost use Rattle.master_registers.specs.Loaded.{IsLoaded};
 ghost use Rattle.master_registers.specs.declared.registers.Registers.{Registers as HeldRegisters};
 ghost use Rattle.script_buffers.specs.Replies.{spelled};
 ghost use Rattle.verb_script.specs.Grammar.{Request};
+ghost use Rattle.reencipher.specs.Tokens.{IsReadyFor};
 ghost use Rattle.cca_machine.specs.State.{State};
 ghost use Rattle.cca_machine.specs.Keys.{any_old};
 ghost use Rattle.cca_machine.specs.Operands.{operands, listed};
@@ -20,7 +21,7 @@ use key_cells::Lease;
 use key_records::{Label, Place, RecordFault, Records};
 use line_service::Stop;
 use master_registers::Registers;
-use reencipher::reencipher;
+use reencipher::{StoreAction, run_action};
 use slot_disk::Disk;
 use verb_rules::Rule;
 use verb_script::ReplyBuffer;
@@ -143,8 +144,9 @@ pub(crate) fn delete<D: Disk>(
     }
 }
 
-/// Brings every label under the old master key under the current one, and says how many there were.
+/// Makes every label what the action makes of it, and says how many it changed.
 pub(crate) fn renew<D: Disk>(
+    action: StoreAction,
     store: &mut D,
     lease: &mut Lease,
     held: &Registers,
@@ -154,16 +156,17 @@ pub(crate) fn renew<D: Disk>(
     requires store { HasStore records.old (D.medium store.old) }
     requires loaded { IsLoaded held.now (bench_of lease.old) }
     requires current { IsSome held.now.current_pattern }
+    requires ready { IsReadyFor action held.now (bench_of lease.old) }
     requires empty { reply.old ≡ [] }
     ensures carries { (s : State)
         → AtStore s held.now (bench_of lease.old) records.old (D.medium store.old)
-        → CarriesStore (plainly s Reencipher) s result reply.new records.new
+        → CarriesStore (plainly s (Reencipher action)) s result reply.new records.new
         (D.medium store.old) (D.medium store.new) }
     ensures left { LeavesStore (D.medium store.old) (D.medium store.new)
         (D.faults store.old) (D.faults store.new) result reply.new records.old records.new }
     ensures loan { loan_of lease.new ≡ loan_of lease.old }
 {
-    match reencipher(lease, held, store, records) {
+    match run_action(action, lease, held, store, records) {
         Ok(changed) => {
             reply.ok();
             reply.number("changed", changed);

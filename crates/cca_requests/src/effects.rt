@@ -19,6 +19,7 @@ use key_cells::Lease;
 use key_records::{Label, Place, Records};
 use line_service::{Shown, Stop};
 use master_registers::{Action, Registers};
+use reencipher::StoreAction;
 use slot_disk::Disk;
 use verb_rules::Rule;
 use verb_script::ReplyBuffer;
@@ -42,8 +43,8 @@ pub(crate) enum Effect {
     Write(Place, [u8; 64]),
     /// The label at this place is no longer held.
     Delete(Place),
-    /// Every label under the old master key is brought under the current one.
-    Reencipher,
+    /// Every label becomes what the action makes of it.
+    Reencipher(StoreAction),
 }
 
 /// Does what a verb left to be done. A change reads a disk once at most, and writes and syncs it twice; re-enciphering
@@ -89,7 +90,9 @@ pub(crate) fn carry<M: Disk, D: Disk>(
             finish(warns, reply);
             Ok(())
         }
-        Effect::Change(action) => change_registers(*action, module, lease, held, roles, reply),
+        Effect::Change(action) => {
+            change_registers(*action, module, lease, held, roles, records, reply)
+        }
         Effect::DefineRole(name, points) => {
             define_role(name, *points, module, lease, held, roles, reply)
         }
@@ -99,6 +102,6 @@ pub(crate) fn carry<M: Disk, D: Disk>(
             write(*place, token, warns, store, lease, held, records, reply)
         }
         Effect::Delete(place) => delete(*place, store, lease, records, reply),
-        Effect::Reencipher => renew(store, lease, held, records, reply),
+        Effect::Reencipher(action) => renew(*action, store, lease, held, records, reply),
     }
 }

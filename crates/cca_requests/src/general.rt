@@ -114,6 +114,8 @@ fn needed_points(request: &Request) -> AccessPoints
         Request::CsuaaciDefine { .. } => AccessPoints::ROLES,
         Request::CsuaaciRemove { .. } => AccessPoints::ROLES,
         Request::Reencipher { .. } => AccessPoints::REENC,
+        Request::ReencipherAhead { .. } => AccessPoints::REENC,
+        Request::ReencipherDrop { .. } => AccessPoints::REENC,
     }
 }
 
@@ -163,5 +165,7 @@ fn needs_master(request: &Request) -> bool
         Request::CsuaaciDefine { .. } => false,
         Request::CsuaaciRemove { .. } => false,
         Request::Reencipher { .. } => true,
+        Request::ReencipherAhead { .. } => true,
+        Request::ReencipherDrop { .. } => true,
     }
 }

@@ -154,6 +154,8 @@ pub(crate) fn operands_of<'a>(request: &Request<'a>) -> Operands<'a>
         Request::CsuaaciDefine { action, .. } => no_operands(action),
         Request::CsuaaciRemove { action, .. } => no_operands(action),
         Request::Reencipher { .. } => no_operands(b""),
+        Request::ReencipherAhead { action, .. } => no_operands(action),
+        Request::ReencipherDrop { action, .. } => no_operands(action),
     }
 }
 

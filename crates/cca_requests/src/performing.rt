@@ -27,6 +27,7 @@ use crate::general::general_rule;
 use crate::judging::{Grant, Granted, Verdict, judge};
 use crate::operands::operands_of;
 use crate::refusals::refuse;
+use crate::verbs::ahead::ahead;
 use crate::verbs::code_segments::{
     first_code_segment, last_code_segment, last_match_segment, middle_code_segment,
 };
@@ -57,6 +58,7 @@ use key_records::{Place, Records};
 use key_tokens::{Age, Token};
 use line_service::{Device, Shown, Stop};
 use master_registers::{Action, LoadFault, Registers, load};
+use reencipher::StoreAction;
 use slot_disk::{Disk, Entropy};
 use text_segments::Mode;
 use verb_rules::{Judged, Rule};
@@ -71,8 +73,8 @@ use verb_script::{ReplyBuffer, Request};
 ///
 /// Each request reads the module twice, and for each label of a key one cell of the store. A change of a disk reads
 /// it once more at most, and writes and syncs it twice. Re-enciphering goes through the store cell by cell: it costs two
-/// reads for each label, and a change of its cell where it is under the old master key. After a stop on its way the
-/// memory is to be opened again; what it holds is still which labels there are, and in which cells.
+/// reads for each label, and a change of its cell where it changes the label. After a stop on its way the memory is to be
+/// opened again; what it holds is still which labels there are, and in which cells.
 pub fn perform<M: Disk, D: Disk, E: Entropy>(
     request: &Request,
     bench: &mut Workbench,
@@ -562,11 +564,13 @@ fn decide<E: Entropy>(
             put_part(part, lease);
             Ok(Effect::Change(part_action(action)))
         }
-        Request::CsnbmkpClear { .. } => Ok(Effect::Change(Action::Clear)),
+        Request::CsnbmkpClear { .. } => Ok(csnbmkp::clear(records)),
         Request::CsnbmkpSet { .. } => Ok(csnbmkp::set(lease, held, records)),
         Request::CsuaaciDefine { name, points, .. } => Ok(csuaaci::define(name, points)),
         Request::CsuaaciRemove { name, .. } => Ok(Effect::RemoveRole(*name)),
-        Request::Reencipher { .. } => Ok(Effect::Reencipher),
+        Request::Reencipher { .. } => Ok(Effect::Reencipher(StoreAction::Renew)),
+        Request::ReencipherAhead { .. } => Ok(ahead(lease, held, records)),
+        Request::ReencipherDrop { .. } => Ok(Effect::Reencipher(StoreAction::Drop)),
     }
 }
 

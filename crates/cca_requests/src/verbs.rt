@@ -1,5 +1,6 @@
 //! What each verb decides, over what its operands stand for. No verb sees a disk.
 
+pub(crate) mod ahead;
 pub(crate) mod code_segments;
 pub(crate) mod csnbcki;
 pub(crate) mod csnbdec;

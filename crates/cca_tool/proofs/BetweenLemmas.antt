@@ -3,8 +3,11 @@ use Rattle.std.proofs.Common.{◌≡◌, ℕ, ◌≤◌, List, Option, None, Som
 use Rattle.std.specs.Prelude.{◌⊎◌}
 use Rattle.key_tokens.specs.Denotes.{Denoted}
 use Rattle.reencipher.specs.Further.{further}
+use Rattle.reencipher.specs.declared.actions.StoreAction.{StoreAction}
+use Rattle.reencipher.specs.declared.actions.StoreAction.TheVariants.{Renew, Ahead, Drop}
 use Rattle.script_buffers.specs.Replies.{Field}
-use Rattle.verb_script.specs.Grammar.{Request, RequestName, csnbktp, csnbenc, csnbdec, csnbmgn, csnbmvr, csnbenc_first, csnbenc_middle, csnbenc_last, csnbdec_first, csnbdec_middle, csnbdec_last, csnbmgn_first, csnbmgn_middle, csnbmgn_last, csnbmvr_first, csnbmvr_middle, csnbmvr_last, csnbkyt, csnbcki, csnbrng, csnbkgn_op, csnbkgn_pair, csnbkgn_out, csnbkpi_first, csnbkpi_middle, csnbkim, csnbkex, csnbktr, csnbpex, csnbktc, csnbkrc, csnbkrw, csnbkrr, csnbkrd, csnbkrl, csnbmkp_part, csnbmkp_clear, csnbmkp_set, csuaaci_define, csuaaci_remove, reencipher, Spells}
+use Rattle.verb_script.specs.Grammar.{Request, RequestName, csnbktp, csnbenc, csnbdec, csnbmgn, csnbmvr, csnbenc_first, csnbenc_middle, csnbenc_last, csnbdec_first, csnbdec_middle, csnbdec_last, csnbmgn_first, csnbmgn_middle, csnbmgn_last, csnbmvr_first, csnbmvr_middle, csnbmvr_last, csnbkyt, csnbcki, csnbrng, csnbkgn_op, csnbkgn_pair, csnbkgn_out, csnbkpi_first, csnbkpi_middle, csnbkim, csnbkex, csnbktr, csnbpex, csnbktc, csnbkrc, csnbkrw, csnbkrr, csnbkrd, csnbkrl, csnbmkp_part, csnbmkp_clear, csnbmkp_set, csuaaci_define, csuaaci_remove, reencipher, reencipher_ahead, reencipher_drop, Spells}
+use Rattle.cca_machine.specs.Reruns.{row_with}
 use Rattle.cca_machine.specs.State.{State}
 use Rattle.cca_machine.specs.Verdict.{Refusal, verdict}
 use Rattle.cca_machine.specs.Act.{effect, state_between, delivered_with, or_act, performed}
@@ -20,7 +23,8 @@ delivered_between s field (Some label) key fields cell = refl
 abbrev StaysOrRenews : State → List ℕ → RequestName → Request → ℕ → Type 0
 StaysOrRenews s drawn name r cell =
     (state_between s (effect s drawn name r) cell ≡ s)
-    ⊎ ((name ≡ reencipher) × (state_between s (effect s drawn name r) cell ≡ record s { labels = further s.labels cell }))
+    ⊎ ((a : StoreAction) × (name ≡ row_with a)
+    × (state_between s (effect s drawn name r) cell ≡ record s { labels = further a s.labels cell }))
 
 by_name : (s : State) (drawn : List ℕ) (name : RequestName) (r : Request) (cell : ℕ) → StaysOrRenews s drawn name r cell
 by_name s drawn csnbktp r cell = inl refl
@@ -63,7 +67,9 @@ by_name s drawn csnbmkp_clear r cell = inl refl
 by_name s drawn csnbmkp_set r cell = inl refl
 by_name s drawn csuaaci_define r cell = inl refl
 by_name s drawn csuaaci_remove r cell = inl refl
-by_name s drawn reencipher r cell = inr (refl, refl)
+by_name s drawn reencipher r cell = inr (Renew, refl, refl)
+by_name s drawn reencipher_ahead r cell = inr (Ahead, refl, refl)
+by_name s drawn reencipher_drop r cell = inr (Drop, refl, refl)
 
 -- the state before it, or one on the way of a permitted REENCIPHER
 abbrev MayLeave : State → List ℕ → State → Type 0
@@ -77,11 +83,12 @@ by_verdict s line r drawn cell within found None is = ⊎_elim
     (λ renews. inr (record {
       request = r;
       spelled = found;
-      is = renews.0;
+      action = renews.0;
+      is = renews.1;
       permitted = verdict_empty s r ∙ early_none s drawn r is;
       cells = cell;
       within = within;
-      state_is = renews.1;
+      state_is = renews.2;
     }))
     (by_name s drawn r.name r cell)
 

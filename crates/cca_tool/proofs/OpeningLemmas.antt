@@ -16,7 +16,7 @@ use Rattle.cca_roles.specs.RolesStand.{StandsForRoles, IsFirstDamaged}
 use Rattle.cca_roles.specs.declared.roles.Role.{Role}
 use Rattle.cca_roles.proofs.StandLaws.{stands_one as stands_roles}
 use Rattle.verb_rules.specs.Keys.{keys_of}
-use Rattle.key_records.specs.Changes.{KeepsAllButBody}
+use Rattle.key_records.specs.Changes.{ChangesKeyAndBody}
 use Rattle.key_records.specs.Entries.{Entry}
 use Rattle.key_records.specs.StoreStands.{KeepsLabels, labels_in, IsFirstDamaged as IsFirstDamagedRecord}
 use Rattle.key_records.specs.declared.rows.Row.{Row}
@@ -208,8 +208,9 @@ module _ {T U : Type 0} (r : Result T Stop) (q : Result U Stop) (d : Span Device
 
 -- ---- what was opened
 
--- registers that are loaded stay so while the body of the bench changes
-loaded_after : (m : Masters) (held : Registers) (old new : Bench) → new ≡ record old { body = new.body } → Loaded m held old → Loaded m held new
+-- registers that are loaded stay so while the key, the schedules and the body of the bench change
+loaded_after : (m : Masters) (held : Registers) (old new : Bench)
+    → new ≡ record old { key = new.key; schedules = new.schedules; body = new.body } → Loaded m held old → Loaded m held new
 loaded_after m held old new is loaded = record {
   valid = loaded.valid;
   placed = record {
@@ -225,7 +226,7 @@ pub opened_as : (s : State) (held : Registers) (first last : Lease) (roles : Lis
     → OnDisks cca s m0 d0 → m1.content ≡ m0.content → d1.content ≡ d0.content
     → IsLoaded held (bench_of first) → Told m1 (StandsForLoaded held (bench_of first)) → Told m1 (λ image. StandsForRoles image roles)
     → Told d1 (λ image. KeepsLabels (keys_of (masters_in held (bench_of first))) rows (labels_in (keys_of (masters_in held (bench_of first))) image) image)
-    → KeepsAllButBody first last → IsOpened s held (bench_of last) (tables roles rows) d1
+    → ChangesKeyAndBody first last → IsOpened s held (bench_of last) (tables roles rows) d1
 opened_as s held first last roles rows m0 m1 d0 d1 disks same_m same_d loaded registers opened kept rest =
     let c = disks.in_module.image in
     let e = disks.in_store.image in

@@ -9,7 +9,7 @@ use Rattle.master_registers.specs.RegisterBody.{StandsForMasters}
 use Rattle.master_registers.proofs.BodyLaws.{reads_one}
 use Rattle.script_buffers.specs.Replies.{Reply, Refused, Done}
 use Rattle.verb_rules.specs.Keys.{keys_of}
-use Rattle.verb_script.specs.Grammar.{Request, reencipher, Spells}
+use Rattle.verb_script.specs.Grammar.{Request, Spells}
 use Rattle.cca_roles.specs.RolesStand.{StandsForRoles}
 use Rattle.cca_roles.specs.declared.roles.Role.{Role}
 use Rattle.cca_roles.proofs.StandLaws.{stands_undamaged}
@@ -18,6 +18,8 @@ use Rattle.key_records.proofs.OpeningLaws.{stands_undamaged as labels_undamaged}
 use Rattle.cca_machine.specs.State.{State, IsModuleOf, IsStoreOf, module_size, store_size}
 pub use Rattle.cca_machine.specs.Broken.{IsBrokenModule, IsBrokenStore}
 use Rattle.reencipher.specs.Further.{further}
+use Rattle.reencipher.specs.declared.actions.StoreAction.{StoreAction}
+use Rattle.cca_machine.specs.Reruns.{row_with}
 use Rattle.cca_machine.specs.Operands.{needs_store}
 use Rattle.cca_machine.specs.Verdict.{verdict}
 use Rattle.cca_machine.specs.Act.{Outcome, Cells, performed}
@@ -52,16 +54,17 @@ pub record DrawsRandom (s : State) (line : List ℕ) : Type 0 where
   pub spelled : Spells request line
   pub draws : MayDraw s request
 
--- The line spells REENCIPHER, which no rule refuses from this state. A stop on its way leaves a state in which every
--- label in a cell below some number is current.
+-- The line spells REENCIPHER with or without an action, which no rule refuses from this state. A stop on its way leaves a
+-- state in which every label in a cell below some number is what the action makes of it.
 pub record IsRenewing (s : State) (line : List ℕ) (t : State) : Type 0 where
   pub request : Request
   pub spelled : Spells request line
-  pub is : request.name ≡ reencipher
+  pub action : StoreAction
+  pub is : request.name ≡ row_with action
   pub permitted : verdict s [] request ≡ None
   pub cells : ℕ
   pub within : cells ≤ 1024
-  pub state_is : t ≡ record s { labels = further s.labels cells }
+  pub state_is : t ≡ record s { labels = further action s.labels cells }
 
 -- The module may fail at a request, the store where an operand is a label and at REENCIPHER, the random source where
 -- random bytes are drawn, and no other device at any line.

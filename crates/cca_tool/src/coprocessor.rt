@@ -8,7 +8,7 @@ ghost use Rattle.script_buffers.specs.Replies.{Refused, spelled};
 ghost use Rattle.verb_rules.specs.Keys.{keys_of};
 ghost use Rattle.cca_roles.specs.RolesStand.{StandsForRoles};
 ghost use Rattle.key_records.specs.StoreStands.{KeepsLabels, HoldsRows, IsFirstDamaged, labels_in};
-ghost use Rattle.key_records.specs.Changes.{KeepsAllButBody};
+ghost use Rattle.key_records.specs.Changes.{ChangesKeyAndBody};
 ghost use Rattle.line_service.specs.Answering.{OnDisks};
 ghost use Rattle.line_service.specs.Devices.{DamageTold, DiskLeft, HaveSizes, OpeningLeft};
 ghost use Rattle.line_service.specs.Stops.{IsOpeningStop};
@@ -188,7 +188,7 @@ fn open_store<D: Disk>(
         (D.faults store.old) (D.faults store.new)
         (IsOk result) (result ≡ Err Stop.StoreFault) }
     ensures stops { IfErr result IsStoreStop }
-    ensures rest { KeepsAllButBody lease.old lease.new }
+    ensures rest { ChangesKeyAndBody lease.old lease.new }
 {
     if settle(store).is_err() {
         return Err(Stop::StoreFault);

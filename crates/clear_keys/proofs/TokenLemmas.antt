@@ -19,7 +19,7 @@ use Rattle.verb_rules.specs.Keys.{keys_of, master_key, sealed_token, token_for}
 pub keys_apart : (m : Masters) → IsMasters m → HaveDistinctPatterns (keys_of m)
 keys_apart m valid = apart_by m.current m.former valid.apart
   where
-    apart_by : (current former : Option (List ℕ)) → AreApart current former → HaveDistinctPatterns (record { current = master_key current; former = master_key former })
+    apart_by : (current former : Option (List ℕ)) → AreApart current former → HaveDistinctPatterns (record { current = master_key current; former = master_key former; coming = None })
     apart_by None former h = λ c f is other. cc is
     apart_by (Some x) None h = λ c f is other. cc other
     apart_by (Some x) (Some y) h = λ c f is other. let one : pattern_of_master x ≡ c.pattern = cc in let two : pattern_of_master y ≡ f.pattern = cc in λ same. h (one ∙ same ∙ sym two)

@@ -56,9 +56,9 @@ module _ (masters : MasterKeys) (apart : HaveDistinctPatterns masters) (former :
   entry_under bytes None reads = refl
   entry_under bytes (Some e) reads = by_what e.what reads.1
     where
-      by_what : (what : Option Denoted) → ReadsWhat masters bytes e.label what → is_under old_pattern (remembered masters (Some (record { label = e.label; what = what }))) ≡ has_old_key what
+      by_what : (what : Option Denoted) → ReadsWhat masters bytes e.label what e.ahead e.unused → is_under old_pattern (remembered masters (Some (record { label = e.label; what = what; ahead = e.ahead; unused = e.unused }))) ≡ has_old_key what
       by_what None is = refl
-      by_what (Some key) is = key_under is.0 key is.1 is.3
+      by_what (Some key) is = key_under is.token key is.are is.is_kept
 
   pub old_labels : (rows : List (Option Row)) (s : List (Option Entry)) (image : List ℕ) → KeepsLabels masters rows s image → any_under old_pattern rows ≡ any_old s
   old_labels rows s image keeps =
@@ -81,9 +81,9 @@ module _ (masters : MasterKeys) (apart : HaveDistinctPatterns masters) (none : m
   entry_not_old bytes None reads = refl
   entry_not_old bytes (Some e) reads = by_what e.what reads.1
     where
-      by_what : (what : Option Denoted) → ReadsWhat masters bytes e.label what → has_old_key what ≡ false
+      by_what : (what : Option Denoted) → ReadsWhat masters bytes e.label what e.ahead e.unused → has_old_key what ≡ false
       by_what None is = refl
-      by_what (Some key) is = not_old is.0 key is.1 is.3
+      by_what (Some key) is = not_old is.token key is.are is.is_kept
 
   none_old : (s : List (Option Entry)) → ((n : ℕ) → n < length s → is_old_entry (get_or s n None) ≡ false) → any_old s ≡ false
   none_old [] each = refl

@@ -6,7 +6,7 @@ use Rattle.std.proofs.lemmas.Bool.Decides.{Decides-eqb}
 use Rattle.std.proofs.lemmas.Slice.Eq.{bytes_eq-Decides}
 use Rattle.cca_vectors.specs.Checks.{first_failing}
 use Rattle.key_tokens.specs.Denotes.{MasterKey, MasterKeys, Denoted, denoted, denoted_or, is_token, clear_of}
-use Rattle.key_tokens.specs.Fields.{pattern_of_token, token_of}
+use Rattle.key_tokens.specs.Fields.{pattern_of_token, token_of, vector_bytes_of}
 use Rattle.key_tokens.specs.declared.key_token.Token.{Token}
 use Rattle.multi_encipher.specs.Seals.{unseal}
 use Rattle.key_tokens.specs.TokenChecks.{token_checks}
@@ -17,9 +17,10 @@ use Rattle.master_registers.specs.Loaded.{pattern_in}
 use Rattle.master_registers.specs.Masters.{Masters, pattern_of_master}
 use Rattle.master_registers.specs.declared.patterns.Pattern.{Pattern}
 use Rattle.verb_rules.specs.Keys.{keys_of, master_key}
-use Rattle.key_records.specs.Entries.{Entry, remembered, pattern_for, pattern_under, pattern_or}
+use Rattle.key_records.specs.Entries.{Entry, remembered, pattern_for, pattern_under, pattern_or, pattern_ahead}
 use Rattle.byte_lists.specs.Bytes.{AreBytes}
-use Rattle.key_records.specs.RecordBody.{kept, IsKept, ReadsEntry, ReadsWhat, ReadsRow, ReadsPattern}
+use Rattle.key_records.specs.RecordBody.{kept, IsKept, IsFirst, IsAhead, HasToken, StandsAs, ReadsEntry, ReadsWhat, ReadsRow, ReadsPattern}
+use Rattle.key_records.specs.declared.rows.Second.{Second}
 use Rattle.byte_lists.proofs.DirectoryLaws.{none_some}
 
 pub kept_flag : (masters : MasterKeys) (token : List ℕ) → slice_index token 6 ≢ 0xc0 → kept masters token ≡ None
@@ -108,6 +109,30 @@ denoted_pattern masters token key is = by_test (is_token asked.Internal token) i
     by_test true is = or_pattern masters token masters.current Current (denoted_or masters.former Old token None) key refl (λ rest. or_pattern masters token masters.former Old None key refl none_key rest) is
     by_test false is = none_key is
 
+or_vector : (token : List ℕ) (register : Option MasterKey) (age : Age) (other : Option Denoted) (key : Denoted) → (other ≡ Some key → key.clear.vector ≡ vector_bytes_of token)
+    → denoted_or register age token other ≡ Some key → key.clear.vector ≡ vector_bytes_of token
+or_vector token None age other key rest is = rest is
+or_vector token (Some master) age other key rest is = by_test (bytes_eq (pattern_of_token token) master.pattern) is
+  where
+    by_test : (t : Bool) → (if t then Some (record { clear = clear_of master.key token; age = age }) else other) ≡ Some key → key.clear.vector ≡ vector_bytes_of token
+    by_test true is = ap (λ (d : Denoted). d.clear.vector) (sym (some_one is))
+      where
+        some_one : {x y : Denoted} → Some x ≡ Some y → x ≡ y
+        some_one is = cc is
+    by_test false is = rest is
+
+-- the key of a token has its vector
+pub denoted_vector : (masters : MasterKeys) (token : List ℕ) (key : Denoted) → denoted masters token ≡ Some key → key.clear.vector ≡ vector_bytes_of token
+unfolding denoted
+denoted_vector masters token key is = by_test (is_token asked.Internal token) is
+  where
+    none_key : None ≡ Some key → key.clear.vector ≡ vector_bytes_of token
+    none_key none = cc none
+
+    by_test : (t : Bool) → (if t then denoted_or masters.current Current token (denoted_or masters.former Old token None) else None) ≡ Some key → key.clear.vector ≡ vector_bytes_of token
+    by_test true is = or_vector token masters.current Current (denoted_or masters.former Old token None) key (λ rest. or_vector token masters.former Old None key none_key rest) is
+    by_test false is = none_key is
+
 -- ---- a token written anew
 
 abbrev or_of : Option MasterKey → Age → Token → Option Denoted → Option Denoted
@@ -143,10 +168,34 @@ kept_known masters token key are is = ⊎_elim
     (λ (other : slice_index token 6 ≡ 0xc0 → ⊥). absurd (none_some key (sym (kept_flag masters token other) ∙ is)))
     (cases_eq (slice_index token 6) 0xc0)
 
+pub kept_first : (masters : MasterKeys) (token : List ℕ) (key : Denoted) → AreBytes 64 token → kept masters token ≡ Some key → IsFirst token
+kept_first masters token key are is =
+    let known = kept_known masters token key are is in
+    record { bytes = known.bytes; sound = known.sound; flag = known.flag }
+
+-- where the token stands, as the memory knows it
+pub stands_as : (masters : MasterKeys) (bytes label token : List ℕ) (key : Denoted) (ahead : Bool) (unused : Option (List ℕ)) → HasToken masters bytes label token key ahead unused
+    → StandsAs bytes label token (pattern_ahead masters ahead)
+stands_as masters bytes label token key false unused (inl body) = inl body.0
+stands_as masters bytes label token key false unused (inr turned) = inr turned.0
+stands_as masters bytes label token key true unused is =
+    let a : IsAhead masters bytes label token key = is.0 in
+    record {
+      second = a.second;
+      is_second = a.is_second;
+      beside = ap (λ (s : Second). s.pattern) a.sealed ∙ ap pattern_or (sym a.is_coming);
+      body = a.body;
+    }
+
 pub row_reads : (masters : MasterKeys) (bytes : List ℕ) (e : Option Entry) → ReadsEntry masters bytes e → ReadsRow bytes (remembered masters e)
 row_reads masters bytes None reads = reads
-row_reads masters bytes (Some e) reads = (reads.0, by_what e.what reads.1)
+row_reads masters bytes (Some e) reads = (reads.0, by_what e.what e.ahead e.unused reads.1)
   where
-    by_what : (what : Option Denoted) → ReadsWhat masters bytes e.label what → ReadsPattern bytes e.label (option_map (pattern_for masters) what)
-    by_what None is = is
-    by_what (Some key) is = (is.0, kept_known masters is.0 key is.1 is.3, is.2)
+    by_what : (what : Option Denoted) (ahead : Bool) (unused : Option (List ℕ)) → ReadsWhat masters bytes e.label what ahead unused
+        → ReadsPattern bytes e.label (option_map (pattern_for masters) what) (pattern_ahead masters ahead)
+    by_what None ahead unused is = (is.0, ap (pattern_ahead masters) is.1)
+    by_what (Some key) ahead unused is = record {
+      token = is.token;
+      is_kept = kept_known masters is.token key is.are is.is_kept;
+      body = stands_as masters bytes e.label is.token key ahead unused is.body;
+    }

@@ -1,5 +1,10 @@
 pub mod BodyLaws
 pub mod KeptLaws
+pub mod SecondLaws
+pub mod PairLaws
+pub mod TurnedLaws
+pub mod TurningLaws
+pub mod RowTurns
 pub mod TokenLaws
 pub mod OneBody
 pub mod OpeningLaws

@@ -45,3 +45,7 @@ held_within rows cell label are held =
     ⊎_elim (λ (within : cell < 1024). within)
     (λ (past : 1024 ≤ cell). absurd (none_some label (sym (get_or_past (row_directory rows) cell None (omega (arith, length-map rows row_label, are.size))) ∙ held)))
     (cases_lt cell 1024)
+
+-- a vector whose slice was written
+pub sliced : {A : Type 0} (items new : List A) (len : ℕ) → length new ≡ length items → len ≡ length items → take len (new ++ drop (length new) items) ≡ new
+sliced items new len same long = take_at new (drop (length new) items) len (same ∙ sym long)

@@ -24,7 +24,7 @@ not_itself : (a b : List ℕ) → a ≡ b → IsBefore a b → ⊥
 not_itself a b same before = let wrong : Equal ≡ Less = sym (tied_itself nat_list_cmp_total a) ∙ ap (slice_cmp nat_cmp a) same ∙ before in cc
 
 pub blank_slot : Slot
-blank_slot = record { row = record { label = []; pattern = None }; cell = 0 }
+blank_slot = record { row = record { label = []; pattern = None; ahead = None }; cell = 0 }
 
 pub cell_low : (slots : List Slot) (at : ℕ) (d : Slot) → AreCells slots → at < length slots → (get_or slots at d).cell < 1024
 cell_low [] at d cells within = absurd (omega arith)

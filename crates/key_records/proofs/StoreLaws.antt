@@ -6,10 +6,10 @@ use Rattle.std.proofs.lemmas.List.{get_or-set_same, get_or-set_other, length-set
 use Rattle.slot_disk.specs.Cells.{body, IsReplaced, IsReplacing}
 use Rattle.slot_disk.specs.Medium.{Medium, Told, From, Becomes, Keeps}
 use Rattle.slot_disk.proofs.Media.{told_from, told_at, becomes_told, each_weaker}
-use Rattle.key_tokens.specs.Denotes.{MasterKeys, Denoted}
-use Rattle.key_records.specs.Changes.{HoldsEither, ReplacesBody, ChangesLabels, null_entry, created, written, with_what}
+use Rattle.key_tokens.specs.Denotes.{ClearKey, MasterKeys, Denoted}
+use Rattle.key_records.specs.Changes.{HoldsEither, ReplacesBody, ChangesLabels, null_entry, created, written, with_what, ahead_entry, with_both, written_ahead}
 use Rattle.key_records.specs.Directory.{AreApart, label_at, free_cell}
-use Rattle.key_records.specs.Entries.{Entry, directory, entry_label, row_directory, row_label, remembered}
+use Rattle.key_records.specs.Entries.{Entry, entry, directory, entry_label, row_directory, row_label, remembered}
 use Rattle.key_records.specs.RecordBody.{ReadsEntry, ReadsRow}
 use Rattle.key_records.specs.StoreStands.{StandsForLabels, KeepsLabels, HoldsRows, Agrees, entry_at}
 use Rattle.key_records.specs.declared.faults.RecordFault.{RecordFault}
@@ -129,12 +129,19 @@ module _ (n : ℕ) (bytes : List ℕ) (row : Option Row) (rows : List (Option Ro
 pub created_is : (masters : MasterKeys) (rows : List (Option Row)) (s : List (Option Entry)) (label : List ℕ) (cell : ℕ) → cell ≡ free_cell (row_directory rows) → Agrees masters rows s → created label s ≡ set s cell (Some (null_entry label))
 created_is masters rows s label cell free agrees = ap (λ (c : ℕ). set s c (Some (null_entry label))) (ap free_cell (same_directory masters rows s agrees) ∙ sym free)
 
-pub written_is : (masters : MasterKeys) (rows : List (Option Row)) (s : List (Option Entry)) (label : List ℕ) (cell : ℕ) (key : Denoted) → label_at (row_directory rows) cell ≡ Some label → Agrees masters rows s → written cell key s ≡ set s cell (Some (record { label = label; what = Some key }))
+pub written_is : (masters : MasterKeys) (rows : List (Option Row)) (s : List (Option Entry)) (label : List ℕ) (cell : ℕ) (key : Denoted) → label_at (row_directory rows) cell ≡ Some label → Agrees masters rows s → written cell key s ≡ set s cell (Some (entry label (Some key)))
 written_is masters rows s label cell key held agrees = ap (set s cell) (with_label (entry_at s cell) (sym (label_of_entry s cell) ∙ ap (λ d. label_at d cell) (same_directory masters rows s agrees) ∙ held))
   where
-    with_label : (o : Option Entry) → entry_label o ≡ Some label → with_what key o ≡ Some (record { label = label; what = Some key })
+    with_label : (o : Option Entry) → entry_label o ≡ Some label → with_what key o ≡ Some (entry label (Some key))
     with_label None is = absurd (none_some label is)
-    with_label (Some e) is = let same : e.label ≡ label = cc is in ap (λ l. Some (record { label = l; what = Some key })) same
+    with_label (Some e) is = let same : e.label ≡ label = cc is in ap (λ l. Some (entry l (Some key))) same
+
+pub written_ahead_is : (masters : MasterKeys) (rows : List (Option Row)) (s : List (Option Entry)) (label : List ℕ) (cell : ℕ) (clear : ClearKey) → label_at (row_directory rows) cell ≡ Some label → Agrees masters rows s → written_ahead cell clear s ≡ set s cell (Some (ahead_entry label clear))
+written_ahead_is masters rows s label cell clear held agrees = ap (set s cell) (with_label (entry_at s cell) (sym (label_of_entry s cell) ∙ ap (λ d. label_at d cell) (same_directory masters rows s agrees) ∙ held))
+  where
+    with_label : (o : Option Entry) → entry_label o ≡ Some label → with_both clear o ≡ Some (ahead_entry label clear)
+    with_label None is = absurd (none_some label is)
+    with_label (Some e) is = let same : e.label ≡ label = cc is in ap (λ l. Some (ahead_entry l clear)) same
 
 -- ---- what a disk tells
 

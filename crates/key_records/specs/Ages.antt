@@ -1,4 +1,4 @@
--- Which labels are under the old master key.
+-- Which labels are under the old master key, and which are ahead.
 use Rattle.std.specs.Prelude.{Bool, true, false, List, Option, None, Some}
 use Rattle.std.specs.List.{list_any}
 use Rattle.key_tokens.specs.Denotes.{Denoted}
@@ -21,3 +21,11 @@ is_old_entry (Some e) = has_old_key e.what
 -- some label has a key under the old master key
 abbrev pub any_old : List (Option Entry) → Bool
 any_old s = list_any (λ e. is_old_entry e) s
+
+abbrev pub is_ahead_entry : Option Entry → Bool
+is_ahead_entry None = false
+is_ahead_entry (Some e) = e.ahead
+
+-- some label is ahead
+abbrev pub any_ahead_entry : List (Option Entry) → Bool
+any_ahead_entry s = list_any (λ e. is_ahead_entry e) s

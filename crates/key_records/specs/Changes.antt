@@ -1,6 +1,6 @@
 -- What a change of one record does to the store and to the memory, and when each answer comes.
 use Rattle.std.specs.Prelude.{◌≡◌, ◌≢◌, ◌≤◌, ◌⊎◌, ◌*◌, ℕ, List, Option, None, Some, set, slice_index}
-use Rattle.std.specs.Prelude.{Result, Err, OnOk, OnErr, is_some, Bool, false, bytes_eq}
+use Rattle.std.specs.Prelude.{Result, Err, OnOk, OnErr, is_some, Bool, true, false, bytes_eq}
 use Rattle.std.specs.List.{list_any}
 use Rattle.key_cells.specs.Lease.{bench_of, holding}
 use Rattle.key_cells.specs.declared.leases.Lease.{Lease}
@@ -8,20 +8,22 @@ use Rattle.slot_disk.specs.Cells.{cell_size, body, IsReplaced, IsReplacing, IsUn
 use Rattle.slot_disk.specs.Faults.{Rose}
 use Rattle.slot_disk.specs.Medium.{Medium, IsSettled, Told, From, Becomes, EachImage}
 use Rattle.slot_disk.specs.Ranges.{SameOutside}
-use Rattle.key_tokens.specs.Denotes.{MasterKeys, Denoted}
+use Rattle.key_tokens.specs.Denotes.{ClearKey, MasterKey, MasterKeys, Denoted, denoted}
+use Rattle.key_tokens.specs.declared.key_token.Age.TheVariants.{Current}
 use Rattle.master_registers.specs.declared.patterns.Pattern.{Pattern}
 use Rattle.key_records.specs.Directory.{free_cell}
-use Rattle.key_records.specs.Entries.{Entry, directory}
-use Rattle.key_records.specs.RecordBody.{kept, null_kind, key_kind}
+use Rattle.key_records.specs.Entries.{Entry, entry, directory}
+use Rattle.key_records.specs.RecordBody.{kept, second_of}
 use Rattle.key_records.specs.StoreStands.{StandsForLabels, KeepsLabels, entry_at}
 use Rattle.key_records.specs.declared.faults.RecordFault.{RecordFault}
 use Rattle.key_records.specs.declared.faults.RecordFault.TheVariants.{DiskFault}
 use Rattle.key_records.specs.declared.rows.Row.{Row}
+use Rattle.key_records.specs.declared.rows.Second.{Second}
 
 -- ---- the changes
 
 abbrev pub null_entry : List ℕ → Entry
-null_entry label = record { label = label; what = None }
+null_entry label = entry label None
 
 -- the label is held, null, in the lowest cell that no label has
 abbrev pub created : List ℕ → List (Option Entry) → List (Option Entry)
@@ -29,11 +31,28 @@ created label s = set s (free_cell (directory s)) (Some (null_entry label))
 
 abbrev pub with_what : Denoted → Option Entry → Option Entry
 with_what key None = None
-with_what key (Some e) = Some (record { label = e.label; what = Some key })
+with_what key (Some e) = Some (entry e.label (Some key))
 
 -- the label of a cell has this key
 abbrev pub written : ℕ → Denoted → List (Option Entry) → List (Option Entry)
 written cell key s = set s cell (with_what key (entry_at s cell))
+
+-- the key under the current master key, and ahead
+abbrev pub ahead_entry : List ℕ → ClearKey → Entry
+ahead_entry label clear = record {
+  label = label;
+  what = Some (record { clear = clear; age = Current });
+  ahead = true;
+  unused = None;
+}
+
+abbrev pub with_both : ClearKey → Option Entry → Option Entry
+with_both clear None = None
+with_both clear (Some e) = Some (ahead_entry e.label clear)
+
+-- the label of a cell has this key, and is ahead
+abbrev pub written_ahead : ℕ → ClearKey → List (Option Entry) → List (Option Entry)
+written_ahead cell clear s = set s cell (with_both clear (entry_at s cell))
 
 -- the label of a cell is no longer held
 abbrev pub deleted : ℕ → List (Option Entry) → List (Option Entry)
@@ -87,6 +106,27 @@ pub record HasRecordCause (before now : ℕ) (result : Result (Unit {0}) RecordF
 abbrev pub KeepsAllButBody : Lease → Lease → Type 0
 KeepsAllButBody old new = new ≡ holding old (record (bench_of old) { body = (bench_of new).body })
 
+-- of what a lease holds the place `Key`, the schedules and the body may have changed, and nothing else
+abbrev pub ChangesKeyAndBody : Lease → Lease → Type 0
+ChangesKeyAndBody old new = new ≡ holding old (record (bench_of old) {
+  key = (bench_of new).key;
+  schedules = (bench_of new).schedules;
+  body = (bench_of new).body;
+})
+
+-- A token under the current master key, and the second token of the same key under a full new register, whose
+-- pattern is neither that of the current nor that of the old one.
+pub record AreBoth (masters : MasterKeys) (token : List ℕ) (second : Second) (clear : ClearKey)
+    : Type 0 where
+  pub first : denoted masters token ≡ Some (record { clear = clear; age = Current })
+  pub coming : MasterKey
+  pub is_coming : masters.coming ≡ Some coming
+  pub is_second : second ≡ second_of coming clear
+  pub other : (current : MasterKey) → masters.current ≡ Some current
+      → coming.pattern ≢ current.pattern
+  pub others : (former : MasterKey) → masters.former ≡ Some former
+      → coming.pattern ≢ former.pattern
+
 -- ---- what is read
 
 -- what is read of an entry: its token, which stands for its key, or that it is null
@@ -99,14 +139,22 @@ abbrev pub has_key : Option Row → Bool
 has_key None = false
 has_key (Some r) = is_some r.pattern
 
+abbrev pub ahead_at : Option Row → Option Pattern
+ahead_at None = None
+ahead_at (Some r) = r.ahead
+
 pub record HasReadCause (before now : ℕ) (result : Result Bool RecordFault) : Type 0 where
   pub later : before ≤ now
   pub failed : result ≡ Err DiskFault → Rose before now
 
--- what byte 0 of the body of a row is
-abbrev pub row_kind : Option Pattern → ℕ
-row_kind None = null_kind
-row_kind (Some pattern) = key_kind
+-- the label of a row is ahead
+abbrev pub is_ahead_row : Option Row → Bool
+is_ahead_row None = false
+is_ahead_row (Some r) = is_some r.ahead
+
+-- some label is ahead
+abbrev pub any_ahead : List (Option Row) → Bool
+any_ahead rows = list_any (λ row. is_ahead_row row) rows
 
 abbrev pub has_pattern : Pattern → Option Pattern → Bool
 has_pattern pattern None = false

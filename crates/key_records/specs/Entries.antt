@@ -1,5 +1,5 @@
 -- The labels of a state with their clear keys, and what the memory knows of them.
-use Rattle.std.specs.Prelude.{ℕ, List, [], Option, None, Some, map, option_map}
+use Rattle.std.specs.Prelude.{ℕ, Bool, true, false, List, [], Option, None, Some, map, option_map}
 use Rattle.key_tokens.specs.Denotes.{MasterKey, MasterKeys, Denoted}
 use Rattle.key_tokens.specs.Fields.{pattern_of_token}
 use Rattle.key_tokens.specs.declared.key_token.Age.{Age}
@@ -7,10 +7,18 @@ use Rattle.key_tokens.specs.declared.key_token.Age.TheVariants.{Current, Old}
 use Rattle.master_registers.specs.declared.patterns.Pattern.{Pattern}
 use Rattle.key_records.specs.declared.rows.Row.{Row}
 
--- a label with its clear key and the register that it is under; None for a null record
+-- A label with its clear key and the register that it is under; None for a null record. Ahead is a label that
+-- has the same key under a full new register besides. Of a label that has come under its second token the first
+-- one is unused: it stands in the store until the label is written again, and no rule and no reply looks at it.
 pub record Entry : Type 0 where
   pub label : List ℕ
   pub what : Option Denoted
+  pub ahead : Bool
+  pub unused : Option (List ℕ)
+
+-- a label that has one token, or none
+abbrev pub entry : List ℕ → Option Denoted → Entry
+entry label what = record { label = label; what = what; ahead = false; unused = None }
 
 -- ---- the labels of a state: 1,024 places, one for each cell
 
@@ -42,11 +50,19 @@ pattern_under masters Old = pattern_or masters.former
 abbrev pub pattern_for : MasterKeys → Denoted → Pattern
 pattern_for masters d = pattern_under masters d.age
 
--- a label with the pattern of the register that it is under
+-- the pattern of the new register, for a label that is ahead
+abbrev pub pattern_ahead : MasterKeys → Bool → Option Pattern
+pattern_ahead masters false = None
+pattern_ahead masters true = Some (pattern_or masters.coming)
+
+-- a label with the pattern of the register that it is under and, where it is ahead, that of the new one
 abbrev pub remembered : MasterKeys → Option Entry → Option Row
 remembered masters None = None
-remembered masters (Some e) =
-    Some (record { label = e.label; pattern = option_map (pattern_for masters) e.what })
+remembered masters (Some e) = Some (record {
+  label = e.label;
+  pattern = option_map (pattern_for masters) e.what;
+  ahead = pattern_ahead masters e.ahead;
+})
 
 abbrev pub label_or : Option Row → List ℕ
 label_or None = []
@@ -54,11 +70,32 @@ label_or (Some r) = r.label
 
 -- a null record
 abbrev pub null_row : List ℕ → Row
-null_row label = record { label = label; pattern = None }
+null_row label = record { label = label; pattern = None; ahead = None }
 
 -- a record with a token
 abbrev pub key_row : List ℕ → List ℕ → Row
 key_row label token = record {
   label = label;
   pattern = Some (record { bytes = pattern_of_token token });
+  ahead = None;
 }
+
+-- a record with two tokens, of which the second has this pattern
+abbrev pub both_row : List ℕ → List ℕ → Pattern → Row
+both_row label token pattern = record {
+  label = label;
+  pattern = Some (record { bytes = pattern_of_token token });
+  ahead = Some pattern;
+}
+
+-- where the new register becomes the current one, a label that is ahead is under its second token
+abbrev pub turned_by : Option Pattern → Option Pattern → Option Pattern
+turned_by None pattern = pattern
+turned_by (Some ahead) pattern = Some ahead
+
+abbrev pub turned_row : Row → Row
+turned_row r = record { label = r.label; pattern = turned_by r.ahead r.pattern; ahead = None }
+
+abbrev pub turned : Option Row → Option Row
+turned None = None
+turned (Some r) = Some (turned_row r)

@@ -12,6 +12,7 @@ pub mod Changes
 pub mod Ages
 pub mod Opening
 pub mod Written
+pub mod Turning
 pub use Rattle.key_cells.specs.Bench
 pub use Rattle.key_cells.specs.Lease
 pub use Rattle.key_tokens.specs.Denotes

@@ -3,12 +3,16 @@ use Rattle.std.specs.Prelude.{◌≡◌, ◌≤◌, ◌<◌, ℕ, ◌==◌, List
 use Rattle.std.specs.List.{range_with_len}
 use Rattle.key_records.specs.declared.rows.Row.{Row}
 use Rattle.key_records.specs.Ascending.{AreAscending, slot_label}
+use Rattle.key_records.specs.Entries.{turned_row}
 use Rattle.key_records.specs.declared.rows.Slot.{Slot}
 
 -- the row of a cell, where a slot has this cell
 abbrev pub row_in : List Slot → ℕ → Option Row
 row_in [] n = None
 row_in (s ∷ slots) n = if n == s.cell then Some s.row else row_in slots n
+
+abbrev pub turned_slot : Slot → Slot
+turned_slot s = record { row = turned_row s.row; cell = s.cell }
 
 unfoldable pub placed : List Slot → List (Option Row)
 placed slots = map (λ n. row_in slots n) (range_with_len 0 1024)

@@ -18,7 +18,7 @@ pub record StandsForLabels (masters : MasterKeys) (image : List ℕ) (s : List (
   pub reads : (n : ℕ) → n < 1024 → ReadsEntry masters (body image n) (entry_at s n)
   pub apart : AreApart (directory s)
 
--- the memory knows the labels, null marks and patterns of a state
+-- the memory knows the labels, null marks, patterns and marks of being ahead of a state
 abbrev pub Agrees : MasterKeys → List (Option Row) → List (Option Entry) → Type 0
 Agrees masters rows s = rows ≡ map (remembered masters) s
 
@@ -28,7 +28,7 @@ pub record KeepsLabels (masters : MasterKeys) (rows : List (Option Row)) (s : Li
   pub stands : StandsForLabels masters image s
   pub agrees : Agrees masters rows s
 
--- the memory knows the label, the null mark and the pattern of each cell
+-- the memory knows the label, the null mark and the patterns of each cell
 pub record HoldsRows (rows : List (Option Row)) (image : List ℕ) : Type 0 where
   pub reads : (n : ℕ) → n < 1024 → ReadsRow (body image n) (get_or rows n None)
 

@@ -1,36 +1,58 @@
 //! A record as the body of a cell.
-ghost use Rattle.std.specs.Prelude.{◌≡◌, ◌≢◌, ◌↔◌, ◌≤◌, ◌<◌, Option, None, Some, IfSome, IsSome, IsNone, IsTrue};
-ghost use Rattle.std.specs.Prelude.{option_map, slice_range};
+ghost use Rattle.std.specs.Prelude.{◌≡◌, ◌≢◌, ◌↔◌, ◌+◌, ◌≤◌, ◌<◌, Option, None, Some, IfSome, IsSome, IsNone, IsTrue};
+ghost use Rattle.std.specs.Prelude.{option_map, slice_range, is_some};
 ghost use Rattle.byte_lists.specs.Bytes.{AreBytes};
 ghost use Rattle.cca_vectors.specs.Checks.{first_failing};
 ghost use Rattle.key_tokens.specs.Denotes.{MasterKeys, denoted};
-ghost use Rattle.key_tokens.specs.Fields.{pattern_of_token};
+ghost use Rattle.key_tokens.specs.Fields.{pattern_of_token, token_of};
 ghost use Rattle.key_tokens.specs.TokenChecks.{token_checks};
-ghost use Rattle.key_records.specs.Entries.{Entry, pattern_for, remembered};
-ghost use Rattle.key_records.specs.RecordBody.{record_body, blank_body, no_token, renewed, kept, IsKept};
-ghost use Rattle.key_records.specs.RecordBody.{ReadsEntry, entry_in, label_in, IsWhat, what_of};
+ghost use Rattle.key_records.specs.Entries.{Entry, pattern_for};
+ghost use Rattle.key_records.specs.RecordBody.{record_body, blank_body, no_token, no_second, renewed, kept, IsKept};
+ghost use Rattle.key_records.specs.RecordBody.{label_in, second_in, second_token, IsFirst, IsSecond, held_token};
 ghost use Rattle.key_records.specs.Labels.{IsLabel};
 ghost use Rattle.master_registers.specs.Loaded.{registers_of};
 ghost use Rattle.master_registers.specs.Masters.{Masters};
 ghost use Rattle.verb_rules.specs.Keys.{keys_of};
 
 use crate::labels::Label;
-use crate::rows::Row;
+use crate::rows::Second;
 use byte_lists::is_zero;
-use key_tokens::{Asked, read_token, write_token};
+use key_tokens::{Asked, Kind, Token, read_token, write_token};
 use master_registers::{Pattern, Registers};
+use multi_encipher::Sealed;
 
-/// What byte 0 of a null record is, and of a key.
+/// What byte 0 of a null record is, of a key, and of a key with two tokens.
 pub(crate) const NULL: u8 = 1;
 
 pub(crate) const KEY: u8 = 2;
 
+pub(crate) const BOTH: u8 = 3;
+
 /// The flag of a token as it is kept.
 const KEY_AND_VECTOR: u8 = 0xc0;
 
+/// What stands in the place of a second token where there is none.
+pub(crate) fn no_second() -> Second
+    ensures { result ≡ no_second }
+{
+    Second {
+        pattern: Pattern { bytes: [0; 8] },
+        sealed: Sealed {
+            left: [0; 8],
+            right: [0; 8],
+        },
+    }
+}
+
 /// Writes the body of a record.
-pub(crate) fn write_record(body: &mut [u8; 192], kind: u8, label: &Label, token: &[u8; 64])
-    ensures body { body.new ≡ record_body kind label.now token.now }
+pub(crate) fn write_record(
+    body: &mut [u8; 192],
+    kind: u8,
+    label: &Label,
+    token: &[u8; 64],
+    second: &Second,
+)
+    ensures body { body.new ≡ record_body kind label.now token.now second.now }
     ensures label { IsLabel label.now }
 {
     body.fill(0);
@@ -38,6 +60,9 @@ pub(crate) fn write_record(body: &mut [u8; 192], kind: u8, label: &Label, token:
     body[1] = label.length();
     body[2..66].copy_from_slice(label.filled());
     body[66..130].copy_from_slice(token);
+    body[130..138].copy_from_slice(&second.pattern.bytes);
+    body[138..146].copy_from_slice(&second.sealed.left);
+    body[146..154].copy_from_slice(&second.sealed.right);
 }
 
 /// Writes the body of a cell that holds no record.
@@ -48,31 +73,60 @@ pub(crate) fn write_blank(body: &mut [u8; 192])
 }
 
 /// Whether the body is that of a record.
-pub(crate) fn is_record(body: &[u8; 192], kind: u8, label: &Label, token: &[u8; 64]) -> bool
-    ensures { IsTrue result ↔ (body.now ≡ record_body kind label.now token.now) }
+pub(crate) fn is_record(
+    body: &[u8; 192],
+    kind: u8,
+    label: &Label,
+    token: &[u8; 64],
+    second: &Second,
+) -> bool
+    ensures { IsTrue result ↔ (body.now ≡ record_body kind label.now token.now second.now) }
 {
     let mut spelled = [0; 192];
-    write_record(&mut spelled, kind, label, token);
+    write_record(&mut spelled, kind, label, token, second);
     *body == spelled
 }
 
-fn are_bytes(token: &[u8; 64])
+pub(crate) fn are_bytes(token: &[u8; 64])
     ensures { AreBytes 64 token.now }
 {
     let _zero = is_zero(token);
 }
 
+fn are_eight(bytes: &[u8; 8])
+    ensures { AreBytes 8 bytes.now }
+{
+    let _zero = is_zero(bytes);
+}
+
+/// The bytes of a second token are below 256: a fact that contracts use.
+pub(crate) fn are_second(second: &Second)
+    ensures pattern { AreBytes 8 second.now.pattern.bytes }
+    ensures left { AreBytes 8 second.now.sealed.left }
+    ensures right { AreBytes 8 second.now.sealed.right }
+{
+    are_eight(&second.pattern.bytes);
+    are_eight(&second.sealed.left);
+    are_eight(&second.sealed.right);
+}
+
 /// Whether every byte is zero.
-fn is_blank(body: &[u8; 192]) -> bool
+pub(crate) fn is_blank(body: &[u8; 192]) -> bool
     ensures { IsTrue result ↔ (body.now ≡ blank_body) }
 {
     is_zero(body)
 }
 
-fn has_no_token(token: &[u8; 64]) -> bool
+pub(crate) fn has_no_token(token: &[u8; 64]) -> bool
     ensures { IsTrue result ↔ (token.now ≡ no_token) }
 {
     is_zero(token)
+}
+
+pub(crate) fn has_no_second(second: &Second) -> bool
+    ensures { IsTrue result ↔ (second.now ≡ no_second) }
+{
+    *second == no_second()
 }
 
 /// The token that stands in a body.
@@ -86,15 +140,42 @@ pub(crate) fn token_in(body: &[u8; 192]) -> [u8; 64]
     token
 }
 
+fn eight_in(body: &[u8; 192], at: usize) -> [u8; 8]
+    requires { at + 8 ≤ 192 }
+    ensures eight { result ≡ slice_range body.now at (at + 8) }
+    ensures bytes { AreBytes 8 result }
+{
+    let mut bytes = [0; 8];
+    bytes.copy_from_slice(&body[at..at + 8]);
+    are_eight(&bytes);
+    bytes
+}
+
+/// The second token that stands in a body.
+pub(crate) fn second_in(body: &[u8; 192]) -> Second
+    ensures second { result ≡ second_in body.now }
+    ensures pattern { AreBytes 8 result.pattern.bytes }
+    ensures left { AreBytes 8 result.sealed.left }
+    ensures right { AreBytes 8 result.sealed.right }
+{
+    let bytes = eight_in(body, 130);
+    let left = eight_in(body, 138);
+    let right = eight_in(body, 146);
+    Second {
+        pattern: Pattern { bytes },
+        sealed: Sealed { left, right },
+    }
+}
+
 /// Whether a register has this pattern.
-fn is_pattern(register: Option<Pattern>, pattern: &Pattern) -> bool
+pub(crate) fn is_pattern(register: Option<Pattern>, pattern: &Pattern) -> bool
     ensures { IsTrue result ↔ (register ≡ Some pattern.now) }
 {
     register == Some(*pattern)
 }
 
 /// The pattern of a token that is kept for a key.
-fn kept_pattern(token: &[u8; 64], held: &Registers) -> Option<Pattern>
+pub(crate) fn kept_pattern(token: &[u8; 64], held: &Registers) -> Option<Pattern>
     ghost m: { Masters }
     requires { held.now ≡ registers_of m }
     ensures { result ≡ option_map (pattern_for (keys_of m)) (kept (keys_of m) token.now) }
@@ -125,7 +206,7 @@ pub(crate) fn pattern_in(token: &[u8; 64]) -> Pattern
 }
 
 /// The label that stands in a body.
-fn label_in(body: &[u8; 192]) -> Option<Label>
+pub(crate) fn label_in(body: &[u8; 192]) -> Option<Label>
     ensures found { IfSome result (λ label. label ≡ label_in body.now) }
     ensures label { IfSome result IsLabel }
     ensures none { IsNone result → IsLabel (label_in body.now) → ⊥ }
@@ -137,79 +218,11 @@ fn label_in(body: &[u8; 192]) -> Option<Label>
     Label::read(&body[2..2 + length])
 }
 
-/// What the memory knows of the record whose body this is. The outer answer is none where the body reads as
-/// nothing.
-pub(crate) fn read_row(body: &[u8; 192], held: &Registers) -> Option<Option<Row>>
-    ghost m: { Masters }
-    requires { held.now ≡ registers_of m }
-    ensures reads { IsSome result
-        → ReadsEntry (keys_of m) body.now (entry_in (keys_of m) body.now) }
-    ensures row { IfSome result (λ row. row
-        ≡ remembered (keys_of m) (entry_in (keys_of m) body.now)) }
-    ensures none { IsNone result → (e : Option Entry) → ReadsEntry (keys_of m) body.now e → ⊥ }
-{
-    if is_blank(body) {
-        return Some(None);
-    }
-    read_record(body, held)
-}
-
-/// The same of a body that isn't blank.
-fn read_record(body: &[u8; 192], held: &Registers) -> Option<Option<Row>>
-    ghost m: { Masters }
-    requires told { held.now ≡ registers_of m }
-    requires some { body.now ≢ blank_body }
-    ensures reads { IsSome result
-        → ReadsEntry (keys_of m) body.now (entry_in (keys_of m) body.now) }
-    ensures row { IfSome result (λ row. row
-        ≡ remembered (keys_of m) (entry_in (keys_of m) body.now)) }
-    ensures none { IsNone result → (e : Option Entry) → ReadsEntry (keys_of m) body.now e → ⊥ }
-{
-    let label = match label_in(body) {
-        Some(label) => label,
-        None => return None,
-    };
-    let token = token_in(body);
-    if !is_record(body, body[0], &label, &token) {
-        return None;
-    }
-    let pattern = match what_in(body[0], &token, held) {
-        Some(pattern) => pattern,
-        None => return None,
-    };
-    Some(Some(Row { label, pattern }))
-}
-
-/// The pattern of the token of a record of this kind; none where the record is null. The outer answer is none
-/// where there is no such record.
-fn what_in(kind: u8, token: &[u8; 64], held: &Registers) -> Option<Option<Pattern>>
-    ghost m: { Masters }
-    requires { held.now ≡ registers_of m }
-    ensures none { IsNone result → IsWhat (keys_of m) kind token.now → ⊥ }
-    ensures some { IsSome result → IsWhat (keys_of m) kind token.now }
-    ensures pattern { IfSome result (λ pattern. pattern
-        ≡ option_map (pattern_for (keys_of m)) (what_of (keys_of m) kind token.now)) }
-{
-    if kind == NULL {
-        return if has_no_token(token) {
-            Some(None)
-        } else {
-            None
-        };
-    }
-    if kind != KEY {
-        return None;
-    }
-    match kept_pattern(token, held) {
-        Some(pattern) => Some(Some(pattern)),
-        None => None,
-    }
-}
-
 /// The token as it is kept: with flag C0, and its validation value made anew.
 pub(crate) fn kept_token(token: &[u8; 64]) -> [u8; 64]
     requires { first_failing (token_checks Asked.Internal token.now) ≡ None }
     ensures renewed { result ≡ renewed token.now }
+    ensures fields { token_of result ≡ token_of token.now }
     ensures kept { (masters : MasterKeys) → kept masters result ≡ denoted masters token.now }
     ensures known { IsKept result (record { bytes = pattern_of_token token.now }) }
 {
@@ -220,5 +233,55 @@ pub(crate) fn kept_token(token: &[u8; 64]) -> [u8; 64]
             written
         }
         Err(_) => unreachable!(),
+    }
+}
+
+/// The 64 bytes of a second token; none where the first isn't one that is kept, or where the second has a right half
+/// that its length doesn't have.
+pub(crate) fn second_token(token: &[u8; 64], second: &Second) -> Option<[u8; 64]>
+    ensures none { IsNone result → IsFirst token.now → IsSecond token.now second.now → ⊥ }
+    ensures found { IfSome result (λ found. found ≡ second_token token.now second.now) }
+    ensures first { IsSome result → IsFirst token.now }
+    ensures second { IsSome result → IsSecond token.now second.now }
+    ensures sound { IfSome result (λ found. IsKept found second.now.pattern) }
+{
+    if token[6] != KEY_AND_VECTOR {
+        return None;
+    }
+    are_bytes(token);
+    are_second(second);
+    match read_token(token, Asked::Internal) {
+        Ok(first) => {
+            if first.vector.length() == 8 && !is_zero(&second.sealed.right) {
+                return None;
+            }
+            let written = write_token(&Token {
+                kind: Kind::Internal,
+                pattern: second.pattern.bytes,
+                sealed: second.sealed,
+                vector: first.vector,
+            });
+            are_bytes(&written);
+            Some(written)
+        }
+        Err(_) => None,
+    }
+}
+
+/// The token that a label is under, of a record with this kind and these tokens.
+pub(crate) fn held_token(
+    ahead: bool,
+    kind: u8,
+    token: &[u8; 64],
+    second: &Second,
+) -> Option<[u8; 64]>
+    ensures found { IfSome result (λ found.
+        found ≡ held_token ahead kind token.now second.now) }
+    ensures none { IsNone result → IsFirst token.now → IsSecond token.now second.now → ⊥ }
+{
+    if kind == BOTH && !ahead {
+        second_token(token, second)
+    } else {
+        Some(*token)
     }
 }

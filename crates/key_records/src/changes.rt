@@ -3,22 +3,24 @@
 ghost use Rattle.std.specs.Prelude.{◌≡◌, ◌≢◌, ◌↔◌, ◌⊎◌, ◌+◌, ◌*◌, ◌≤◌, ◌<◌, ℕ, List, Option, None, Some};
 ghost use Rattle.std.specs.Prelude.{Result, Ok, Err, set, get_or, IfErr, OnOk, OnErr, IsSome};
 ghost use Rattle.key_cells.specs.Lease.{bench_of};
-ghost use Rattle.key_tokens.specs.Denotes.{MasterKeys, Denoted, denoted};
+ghost use Rattle.key_tokens.specs.Denotes.{ClearKey, MasterKeys, Denoted, denoted};
 ghost use Rattle.key_records.specs.Changes.{ReplacesBody, ChangesLabels, Remembers, HasRecordCause};
-ghost use Rattle.key_records.specs.Changes.{KeepsAllButBody, created, deleted, written};
+ghost use Rattle.key_records.specs.Changes.{KeepsAllButBody, AreBoth, created, deleted, written, written_ahead};
 ghost use Rattle.key_records.specs.Directory.{free_cell, cell_of, AreApart, label_at};
-ghost use Rattle.key_records.specs.Entries.{Entry, row_directory, row_label, label_or, null_row, key_row};
-ghost use Rattle.key_records.specs.RecordBody.{record_body, null_kind, key_kind, no_token, blank_body, renewed, ReadsRow};
+ghost use Rattle.key_records.specs.Entries.{Entry, row_directory, row_label, label_or, null_row, key_row, both_row};
+ghost use Rattle.key_records.specs.RecordBody.{null_body, key_body, both_body, blank_body, renewed, ReadsRow};
 ghost use Rattle.key_records.specs.StoreStands.{KeepsLabels, HoldsRows};
 ghost use Rattle.master_registers.specs.Loaded.{IsLoaded, masters_in};
 ghost use Rattle.slot_disk.specs.Medium.{Told, IsSettled};
 ghost use Rattle.verb_rules.specs.Keys.{keys_of};
 
-use crate::bodies::{KEY, NULL, kept_token, pattern_in, write_blank, write_record};
+use crate::bodies::{
+    BOTH, KEY, NULL, are_second, kept_token, no_second, pattern_in, write_blank, write_record,
+};
 use crate::faults::RecordFault;
 use crate::labels::Label;
 use crate::records::{Place, Records, STORE_LEN};
-use crate::rows::Row;
+use crate::rows::{Row, Second};
 use key_cells::Lease;
 use master_registers::Registers;
 use slot_disk::{Cell, Disk, Steps, replace_cell};
@@ -37,7 +39,7 @@ impl Records {
         requires holds { Told (D.medium store.old) (HoldsRows self.old) }
 
         ensures cell { ReplacesBody (free_cell (row_directory self.old))
-            (record_body null_kind label.now no_token)
+            (null_body label.now)
             (D.medium store.old) (D.medium store.new) result }
         ensures labels { (masters : MasterKeys) (s : List (Option Entry))
             → Told (D.medium store.old) (KeepsLabels masters self.old s)
@@ -69,10 +71,11 @@ impl Records {
         if self.find(label, &mut steps).is_some() {
             return Err(RecordFault::Exists);
         }
-        write_record(lease.body_mut(), NULL, label, &[0; 64]);
+        write_record(lease.body_mut(), NULL, label, &[0; 64], &no_second());
         let row = Row {
             label: *label,
             pattern: None,
+            ahead: None,
         };
         self.change(store, cell, lease.body(), Some(row))
     }
@@ -125,7 +128,7 @@ impl Records {
             (denoted (keys_of (masters_in held.now (bench_of lease.old))) token.now) }
 
         ensures cell { ReplacesBody place
-            (record_body key_kind (label_or (get_or self.old place None)) (renewed token.now))
+            (key_body (label_or (get_or self.old place None)) (renewed token.now))
             (D.medium store.old) (D.medium store.new) result }
         ensures labels { (masters : MasterKeys) (s : List (Option Entry)) (key : Denoted)
             → Told (D.medium store.old) (KeepsLabels masters self.old s)
@@ -144,10 +147,62 @@ impl Records {
         let label = self.label(place);
         let pattern = pattern_in(token);
         let token = kept_token(token);
-        write_record(lease.body_mut(), KEY, &label, &token);
+        write_record(lease.body_mut(), KEY, &label, &token, &no_second());
         let row = Row {
             label,
             pattern: Some(pattern),
+            ahead: None,
+        };
+        self.change(store, cell, lease.body(), Some(row))
+    }
+
+    /// Gives a held label two tokens of one key: one under the current master key, which is written as `write`
+    /// writes it, and one under a full new register. The label is then ahead. After `DiskFault` the records are to
+    /// be opened again.
+    pub fn write_both<D: Disk>(
+        &mut self,
+        store: &mut D,
+        lease: &mut Lease,
+        held: &Registers,
+        place: Place,
+        token: &[u8; 64],
+        second: &Second,
+    ) -> Result<(), RecordFault>
+        requires held { IsSome (label_at (row_directory self.old) place) }
+        requires size { (D.medium store.old).size ≡ STORE_LEN }
+        requires settled { IsSettled (D.medium store.old) }
+        requires holds { Told (D.medium store.old) (HoldsRows self.old) }
+        requires loaded { IsLoaded held.now (bench_of lease.old) }
+        requires both { (clear : ClearKey)
+            × AreBoth (keys_of (masters_in held.now (bench_of lease.old)))
+            token.now second.now clear }
+
+        ensures cell { ReplacesBody place
+            (both_body (label_or (get_or self.old place None)) (renewed token.now) second.now)
+            (D.medium store.old) (D.medium store.new) result }
+        ensures labels { (masters : MasterKeys) (s : List (Option Entry)) (clear : ClearKey)
+            → Told (D.medium store.old) (KeepsLabels masters self.old s)
+            → AreBoth masters token.now second.now clear
+            → ChangesLabels masters place s (written_ahead place clear s)
+            self.new (D.medium store.old) (D.medium store.new) result }
+        ensures memory { Remembers self.old (set self.old place
+            (Some (both_row (label_or (get_or self.old place None)) token.now second.now.pattern)))
+            self.new result }
+        ensures holds { OnOk result (Told (D.medium store.new) (HoldsRows self.new)) }
+        ensures rest { KeepsAllButBody lease.old lease.new }
+        ensures cause { HasRecordCause (D.faults store.old) (D.faults store.new) result }
+        ensures faults { IfErr result (λ fault. fault ≡ RecordFault.DiskFault) }
+    {
+        let cell = self.cell(place);
+        let label = self.label(place);
+        let pattern = pattern_in(token);
+        let token = kept_token(token);
+        are_second(second);
+        write_record(lease.body_mut(), BOTH, &label, &token, second);
+        let row = Row {
+            label,
+            pattern: Some(pattern),
+            ahead: Some(second.pattern),
         };
         self.change(store, cell, lease.body(), Some(row))
     }

@@ -3,14 +3,14 @@ ghost use Rattle.std.specs.Prelude.{◌≡◌, ◌≢◌, ◌==◌, if◌then◌
 ghost use Rattle.std.specs.Prelude.{List, Option, None, Some, length, map, set, IfOk};
 ghost use Rattle.std.specs.Vec.{vec_capacity};
 ghost use Rattle.key_records.specs.Directory.{AreApart, cell_of, held_count};
-ghost use Rattle.key_records.specs.Entries.{row_directory, row_label};
-ghost use Rattle.key_records.specs.Placed.{placed, row_in, AreSlots};
+ghost use Rattle.key_records.specs.Entries.{row_directory, row_label, turned};
+ghost use Rattle.key_records.specs.Placed.{placed, row_in, turned_slot, AreSlots};
 ghost use Rattle.key_records.specs.Rank.{IsNth};
 ghost use Rattle.key_records.specs.Ascending.{text_at, slot_label};
 
 use crate::halving::search;
 use crate::labels::Label;
-use crate::rows::{Row, Slot};
+use crate::rows::{Row, Slot, turned_row};
 use slot_disk::{NoMemory, Steps};
 use std::alloc::Global;
 use std::marker::Model;
@@ -83,11 +83,26 @@ impl Directory {
         }
     }
 
+    /// Makes every label that is ahead one that is under its second token.
+    pub(crate) fn turn(&mut self)
+        ensures { self.new ≡ map turned self.old }
+    {
+        turn_slots(self.slots.as_mut_slice());
+    }
+
     /// No labels.
     pub(crate) fn clear(&mut self)
         ensures { self.new ≡ placed [] }
     {
         self.slots.clear();
+    }
+}
+
+fn turn_slots(slots: &mut [Slot])
+    ensures { slots.new ≡ map turned_slot slots.old }
+{
+    for slot in slots.iter_mut() {
+        slot.row = turned_row(&slot.row);
     }
 }
 

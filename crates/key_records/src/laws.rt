@@ -1,15 +1,18 @@
 //! What a store can stand for, and that each place in the order of labels has one.
-ghost use Rattle.std.specs.Prelude.{◌≡◌, ◌<◌, ◌⊎◌, ℕ, false, List, Option, None, Some};
+ghost use Rattle.std.specs.Prelude.{◌≡◌, ◌<◌, ◌⊎◌, ℕ, false, List, Option, None, Some, map};
 ghost use Rattle.byte_lists.specs.Bytes.{AreBytes};
 ghost use Rattle.key_tokens.specs.Denotes.{HaveDistinctPatterns, MasterKey, MasterKeys};
-ghost use Rattle.slot_disk.specs.Cells.{body};
-ghost use Rattle.key_records.specs.Ages.{any_old};
-ghost use Rattle.key_records.specs.Changes.{any_under};
+ghost use Rattle.key_records.specs.Ages.{any_old, any_ahead_entry};
+ghost use Rattle.key_records.specs.Changes.{any_under, any_ahead};
 ghost use Rattle.key_records.specs.Directory.{held_count};
-ghost use Rattle.key_records.specs.Entries.{Entry, row_directory};
+ghost use Rattle.key_records.specs.Entries.{Entry, row_directory, turned};
 ghost use Rattle.key_records.specs.Rank.{IsNth};
+ghost use Rattle.key_records.specs.RecordBody.{ReadsEntry};
 ghost use Rattle.key_records.specs.Rows.{AreRows};
-ghost use Rattle.key_records.specs.StoreStands.{StandsForLabels, KeepsLabels, IsDamagedCell, IsFirstDamaged, labels_in};
+ghost use Rattle.key_records.specs.StoreStands.{StandsForLabels, Agrees, HoldsRows, KeepsLabels, IsDamagedCell, IsFirstDamaged, labels_in};
+ghost use Rattle.key_records.specs.Turning.{aged, after_turn};
+ghost use Rattle.key_records.specs.Written.{written_body};
+ghost use Rattle.slot_disk.specs.Cells.{body};
 ghost use Rattle.key_records.specs.declared.records.TheConstants.{STORE_LEN};
 ghost use Rattle.key_records.specs.declared.rows.Row.{Row};
 
@@ -25,13 +28,16 @@ pub fn a_store_stands_for_one_state()
         ⊎ ((n : ℕ) × IsFirstDamaged masters image n) }
 {}
 
-/// A store's selected bytes are a function of what it stands for, where the patterns of the registers
-/// differ.
+/// What a label stands for has one body, where the patterns of the registers differ: two stores that stand for the same
+/// labels select the same bytes in each cell.
 pub fn a_state_has_one_store()
-    ensures { (masters : MasterKeys) → HaveDistinctPatterns masters
-        → (a b : List ℕ) (s : List (Option Entry)) (n : ℕ)
-        → StandsForLabels masters a s → StandsForLabels masters b s → n < 1024
-        → body a n ≡ body b n }
+    ensures body { (masters : MasterKeys) → HaveDistinctPatterns masters
+        → (bytes : List ℕ) (e : Option Entry) → ReadsEntry masters bytes e
+        → bytes ≡ written_body masters e }
+    ensures store { (masters : MasterKeys) → HaveDistinctPatterns masters
+        → (one other : List ℕ) (s : List (Option Entry)) (n : ℕ)
+        → StandsForLabels masters one s → StandsForLabels masters other s → n < 1024
+        → body one n ≡ body other n }
 {}
 
 /// For each index below the count there is a label.
@@ -53,4 +59,39 @@ pub fn labels_under_the_old_master_key()
         → HaveDistinctPatterns masters → masters.former ≡ None
         → (rows : List (Option Row)) (s : List (Option Entry)) (image : List ℕ)
         → KeepsLabels masters rows s image → any_old s ≡ false }
+{}
+
+/// The memory knows which labels are ahead.
+pub fn labels_that_are_ahead()
+    ensures { (masters : MasterKeys) (rows : List (Option Row)) (s : List (Option Entry))
+        → Agrees masters rows s → any_ahead rows ≡ any_ahead_entry s }
+{}
+
+/// SET writes no byte of the store. Where no label is under the old master key, what stood for the labels stands for
+/// them afterwards: a label that was ahead is current, and every other one old. The memory knows them once it is
+/// turned.
+pub fn labels_after_set()
+    ensures store { (masters : MasterKeys) → HaveDistinctPatterns masters
+        → HaveDistinctPatterns (after_turn masters)
+        → (image : List ℕ) (s : List (Option Entry)) → any_old s ≡ false
+        → StandsForLabels masters image s
+        → StandsForLabels (after_turn masters) image (aged masters s) }
+    ensures memory { (masters : MasterKeys) (rows : List (Option Row)) (image : List ℕ)
+        (s : List (Option Entry)) → any_old s ≡ false → KeepsLabels masters rows s image
+        → Agrees (after_turn masters) (map turned rows) (aged masters s) }
+    ensures rows { (rows : List (Option Row)) (image : List ℕ)
+        → HoldsRows rows image → HoldsRows (map turned rows) image }
+{}
+
+/// While no label is ahead, the new register may change: the store stands for the same labels, and the memory knows
+/// them.
+pub fn labels_while_none_is_ahead()
+    ensures store { (masters next : MasterKeys) → next.current ≡ masters.current
+        → next.former ≡ masters.former
+        → (image : List ℕ) (s : List (Option Entry)) → any_ahead_entry s ≡ false
+        → StandsForLabels masters image s → StandsForLabels next image s }
+    ensures memory { (masters next : MasterKeys) → next.current ≡ masters.current
+        → next.former ≡ masters.former
+        → (rows : List (Option Row)) (s : List (Option Entry)) → any_ahead_entry s ≡ false
+        → Agrees masters rows s → Agrees next rows s }
 {}

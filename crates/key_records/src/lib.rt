@@ -9,6 +9,7 @@ mod halving;
 mod labels;
 mod laws;
 mod opening;
+mod parsing;
 mod reading;
 mod records;
 mod rows;
@@ -16,12 +17,12 @@ mod rows;
 pub use faults::RecordFault;
 pub use labels::Label;
 pub use laws::{
-    a_state_has_one_store, a_store_stands_for_one_state, each_index_has_a_label,
-    labels_under_the_old_master_key,
+    a_state_has_one_store, a_store_stands_for_one_state, each_index_has_a_label, labels_after_set,
+    labels_that_are_ahead, labels_under_the_old_master_key, labels_while_none_is_ahead,
 };
 pub use opening::open_records;
 pub use records::{Place, Records, STORE_LEN};
-pub use rows::Row;
+pub use rows::{Row, Second};
 
 #[cfg(test)]
 mod tests;

@@ -1,26 +1,27 @@
 //! Opening a store: its cells are read upwards, each once.
 ghost use Rattle.std.specs.Prelude.{◌≡◌, ◌+◌, ◌*◌, ◌≤◌, ◌<◌, ◌⊎◌, ℕ, None, replicate, Result, Err, OnOk, OnErr, IfErr};
 ghost use Rattle.key_cells.specs.Lease.{bench_of};
-ghost use Rattle.key_records.specs.Changes.{HasRecordCause, KeepsAllButBody};
-ghost use Rattle.key_records.specs.Opening.{Opens, IsRefused};
+ghost use Rattle.key_records.specs.Changes.{HasRecordCause, ChangesKeyAndBody};
+ghost use Rattle.key_records.specs.Opening.{Opens, IsRefused, pattern_coming};
 ghost use Rattle.key_records.specs.Rows.{AreRows};
 ghost use Rattle.key_records.specs.StoreStands.{KeepsLabels, HoldsRows, labels_in, IsFirstDamaged};
-ghost use Rattle.master_registers.specs.Loaded.{IsLoaded, Loaded, masters_in, registers_of};
+ghost use Rattle.master_registers.specs.Loaded.{IsLoaded, Loaded, masters_in};
 ghost use Rattle.master_registers.specs.Masters.{Masters};
 ghost use Rattle.slot_disk.specs.Cells.{body};
 ghost use Rattle.slot_disk.specs.Faults.{Rose};
 ghost use Rattle.slot_disk.specs.Medium.{Told, Keeps};
 ghost use Rattle.verb_rules.specs.Keys.{keys_of};
 
-use crate::bodies::read_row;
 use crate::faults::RecordFault;
+use crate::parsing::{coming_pattern, read_row};
 use crate::records::{CELLS, Records, STORE_LEN};
 use key_cells::Lease;
-use master_registers::Registers;
+use master_registers::{Pattern, Registers};
 use slot_disk::{Cell, Disk, read_cell};
 
 /// Reads each cell of the store once, upwards. Damaged names the first cell that reads as no record under the
-/// current and the old master key, or whose label a lower cell holds. After an error no label is known.
+/// current and the old master key, or whose label a lower cell holds. Of a label that is ahead the two tokens are
+/// compared with the masters in the lease. After an error no label is known.
 pub fn open_records<D: Disk>(
     store: &mut D,
     lease: &mut Lease,
@@ -46,9 +47,10 @@ pub fn open_records<D: Disk>(
         ⊎ ((cell : ℕ) × (cell < 1024) × (fault ≡ RecordFault.Damaged cell))) }
     ensures keeps { Keeps (D.medium store.old) (D.medium store.new) }
     ensures cause { HasRecordCause (D.faults store.old) (D.faults store.new) result }
-    ensures rest { KeepsAllButBody lease.old lease.new }
+    ensures rest { ChangesKeyAndBody lease.old lease.new }
 {
-    match open_cells(store, lease, held, records) {
+    let coming = coming_pattern(lease, held);
+    match open_cells(store, lease, held, coming, records) {
         Ok(()) => Ok(()),
         Err(fault) => {
             records.clear();
@@ -62,11 +64,13 @@ fn open_cells<D: Disk>(
     store: &mut D,
     lease: &mut Lease,
     held: &Registers,
+    coming: Option<Pattern>,
     records: &mut Records,
 ) -> Result<(), RecordFault>
     ghost m: { Masters }
     requires size { (D.medium store.old).size ≡ STORE_LEN }
-    requires told { held.now ≡ registers_of m }
+    requires loaded { Loaded m held.now (bench_of lease.old) }
+    requires coming { coming ≡ pattern_coming (keys_of m) }
     ensures stands { OnOk result (Told (D.medium store.old) (λ image.
         KeepsLabels (keys_of m) records.new (labels_in (keys_of m) image) image)) }
     ensures damaged { (n : ℕ) → result ≡ Err (RecordFault.Damaged n)
@@ -78,11 +82,11 @@ fn open_cells<D: Disk>(
         ⊎ ((cell : ℕ) × (cell < 1024) × (fault ≡ RecordFault.Damaged cell))) }
     ensures keeps { Keeps (D.medium store.old) (D.medium store.new) }
     ensures cause { HasRecordCause (D.faults store.old) (D.faults store.new) result }
-    ensures rest { KeepsAllButBody lease.old lease.new }
+    ensures rest { ChangesKeyAndBody lease.old lease.new }
 {
     records.clear();
     for cell in 0..1024 {
-        match open_cell(store, lease, held, records, cell) {
+        match open_cell(store, lease, held, coming, records, cell) {
             Ok(()) => {}
             Err(fault) => return Err(fault),
         }
@@ -95,13 +99,15 @@ fn open_cell<D: Disk>(
     store: &mut D,
     lease: &mut Lease,
     held: &Registers,
+    coming: Option<Pattern>,
     records: &mut Records,
     cell: u16,
 ) -> Result<(), RecordFault>
     ghost m: { Masters }
     requires size { (D.medium store.old).size ≡ STORE_LEN }
     requires below { cell < 1024 }
-    requires told { held.now ≡ registers_of m }
+    requires loaded { Loaded m held.now (bench_of lease.old) }
+    requires coming { coming ≡ pattern_coming (keys_of m) }
     requires rows { AreRows records.old }
     ensures opened { OnOk result (Told (D.medium store.old) (λ image.
         Opens (keys_of m) (body image cell) cell records.old records.new)) }
@@ -113,12 +119,12 @@ fn open_cell<D: Disk>(
         (fault ≡ RecordFault.DiskFault) ⊎ (fault ≡ RecordFault.Damaged cell)) }
     ensures keeps { Keeps (D.medium store.old) (D.medium store.new) }
     ensures cause { HasRecordCause (D.faults store.old) (D.faults store.new) result }
-    ensures rest { KeepsAllButBody lease.old lease.new }
+    ensures rest { ChangesKeyAndBody lease.old lease.new }
 {
     if read_cell(store, Cell::new(cell), lease.body_mut()).is_err() {
         return Err(RecordFault::DiskFault);
     }
-    match read_row(lease.body(), held) {
+    match read_row(lease, held, coming) {
         Some(row) => {
             if records.put(cell, row) {
                 Ok(())

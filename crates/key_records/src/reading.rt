@@ -2,15 +2,15 @@
 ghost use Rattle.std.specs.Prelude.{◌≡◌, ◌≢◌, ◌⊎◌, ◌+◌, ◌*◌, ◌≤◌, ◌<◌, ℕ, List, Bool, true, Option, None, Some};
 ghost use Rattle.std.specs.Prelude.{Result, Ok, Err, get_or, IfErr, IfOk, IsSome};
 ghost use Rattle.key_tokens.specs.Denotes.{MasterKeys};
-ghost use Rattle.key_records.specs.Changes.{ReadsToken, HasReadCause, KeepsAllButBody, has_key, row_kind};
+ghost use Rattle.key_records.specs.Changes.{ReadsToken, HasReadCause, KeepsAllButBody, has_key, ahead_at};
 ghost use Rattle.key_records.specs.Directory.{label_at};
 ghost use Rattle.key_records.specs.Entries.{Entry, row_directory, label_or};
-ghost use Rattle.key_records.specs.RecordBody.{record_body, key_kind};
+ghost use Rattle.key_records.specs.RecordBody.{StandsAs, has_kind};
 ghost use Rattle.key_records.specs.StoreStands.{KeepsLabels, HoldsRows, entry_at};
 ghost use Rattle.slot_disk.specs.Cells.{body};
 ghost use Rattle.slot_disk.specs.Medium.{Told, Keeps};
 
-use crate::bodies::{KEY, NULL, is_record, token_in};
+use crate::bodies::{BOTH, KEY, NULL, held_token, is_record, second_in, token_in};
 use crate::faults::RecordFault;
 use crate::records::{Place, Records, STORE_LEN};
 use crate::rows::Row;
@@ -18,7 +18,7 @@ use key_cells::Lease;
 use slot_disk::{Cell, Disk, read_cell};
 
 impl Records {
-    /// The token of a label, or false where the record is null. The token is written into `out`, which is
+    /// The token that a label is under, or false where the record is null. The token is written into `out`, which is
     /// untouched by any other answer. Damaged comes where the body that was read isn't that of the record.
     pub fn read<D: Disk>(
         &self,
@@ -36,8 +36,9 @@ impl Records {
             → Told (D.medium store.old) (KeepsLabels masters self.now s)
             → IfOk result (λ found. Told (D.medium store.old)
             (λ _. ReadsToken masters (entry_at s place) found out.new)) }
-        ensures bytes { result ≡ Ok true → Told (D.medium store.old) (λ image. body image place
-            ≡ record_body key_kind (label_or (get_or self.now place None)) out.new) }
+        ensures bytes { result ≡ Ok true → Told (D.medium store.old) (λ image.
+            StandsAs (body image place) (label_or (get_or self.now place None)) out.new
+            (ahead_at (get_or self.now place None))) }
         ensures untouched { result ≢ Ok true → out.new ≡ out.old }
         ensures damaged { (n : ℕ) → result ≡ Err (RecordFault.Damaged n)
             → (n ≡ place) × Told (D.medium store.old) (λ _. ⊥) }
@@ -52,24 +53,33 @@ impl Records {
             return Err(RecordFault::DiskFault);
         }
         let row = self.row(place);
+        let kind = lease.body()[0];
         let token = token_in(lease.body());
-        if !is_record(lease.body(), kind_of(&row), &row.label, &token) {
+        let second = second_in(lease.body());
+        if !has_kind(&row, kind) {
+            return Err(RecordFault::Damaged(cell));
+        }
+        if !is_record(lease.body(), kind, &row.label, &token, &second) {
             return Err(RecordFault::Damaged(cell));
         }
         if row.pattern.is_none() {
             return Ok(false);
         }
-        *out = token;
+        let found = match held_token(row.ahead.is_some(), kind, &token, &second) {
+            Some(found) => found,
+            None => return Err(RecordFault::Damaged(cell)),
+        };
+        *out = found;
         Ok(true)
     }
 }
 
-/// What byte 0 of the body of a record is.
-fn kind_of(row: &Row) -> u8
-    ensures { result ≡ row_kind row.now.pattern }
+/// Whether the record of a row has a body of this kind.
+fn has_kind(row: &Row, kind: u8) -> bool
+    ensures { result ≡ has_kind row.now kind }
 {
     match row.pattern {
-        Some(_) => KEY,
-        None => NULL,
+        Some(_) => kind == BOTH || (row.ahead.is_none() && kind == KEY),
+        None => kind == NULL,
     }
 }

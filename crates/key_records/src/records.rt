@@ -1,15 +1,15 @@
 //! The labels that are held, as the memory knows them.
 ghost use Rattle.std.specs.Prelude.{◌≡◌, ◌+◌, ◌-◌, ◌*◌, ◌^◌, ◌≤◌, ◌<◌, ℕ, List, Option, None, Some};
-ghost use Rattle.std.specs.Prelude.{length, replicate, set, get_or, IfOk, IfSome, IsSome, IsNone, IsTrue, IsFalse};
-ghost use Rattle.key_records.specs.Changes.{any_under, is_under};
+ghost use Rattle.std.specs.Prelude.{length, map, replicate, set, get_or, IfOk, IfSome, IsSome, IsNone, IsTrue, IsFalse};
+ghost use Rattle.key_records.specs.Changes.{any_under, is_under, any_ahead, is_ahead_row};
 ghost use Rattle.key_records.specs.Directory.{cell_of, free_cell, held_count, AreApart, label_at, IsFresh};
-ghost use Rattle.key_records.specs.Entries.{row_directory, row_label, label_or};
+ghost use Rattle.key_records.specs.Entries.{row_directory, row_label, label_or, turned};
 ghost use Rattle.key_records.specs.Rank.{IsNth};
 ghost use Rattle.key_records.specs.Rows.{AreRows};
 
 use crate::directory::Directory;
 use crate::labels::Label;
-use crate::rows::Row;
+use crate::rows::{Row, turned_row};
 use master_registers::Pattern;
 use slot_disk::{NoMemory, Steps};
 use std::alloc::Global;
@@ -132,6 +132,30 @@ impl Records {
         self.rows.iter().any(|row| is_under(row, pattern))
     }
 
+    /// Whether a label that is held is ahead: its key is sealed under a full new register besides.
+    pub fn is_ahead(&self, place: Place) -> bool
+        requires { IsSome (label_at (row_directory self.now) place) }
+        ensures { result ≡ is_ahead_row (get_or self.now place None) }
+    {
+        self.row(place).ahead.is_some()
+    }
+
+    /// Whether some label is ahead.
+    pub fn any_ahead(&self) -> bool
+        ensures { result ≡ any_ahead self.now }
+    {
+        self.rows.iter().any(is_ahead_row)
+    }
+
+    /// Makes every label that is ahead one that is under its second token, and not ahead: the new master key has become
+    /// the current one. No device is called.
+    pub fn turn(&mut self)
+        ensures { self.new ≡ map turned self.old }
+    {
+        turn_rows(self.rows.as_mut_slice());
+        self.directory.turn();
+    }
+
     /// The lowest cell that holds no label.
     pub(crate) fn free_cell(&self) -> Option<u16>
         ensures none { IsNone result → free_cell (row_directory self.now) ≡ 1024 }
@@ -252,6 +276,34 @@ fn is_under(row: &Option<Row>, pattern: &Pattern) -> bool
             None => false,
         },
         None => false,
+    }
+}
+
+/// Whether the label of a row is ahead.
+fn is_ahead_row(row: &Option<Row>) -> bool
+    ensures { result ≡ is_ahead_row row.now }
+{
+    match row {
+        Some(row) => row.ahead.is_some(),
+        None => false,
+    }
+}
+
+/// A row whose label is under its second token, where it was ahead.
+fn turned(row: &Option<Row>) -> Option<Row>
+    ensures { result ≡ turned row.now }
+{
+    match row {
+        Some(row) => Some(turned_row(row)),
+        None => None,
+    }
+}
+
+fn turn_rows(rows: &mut [Option<Row>])
+    ensures { rows.new ≡ map turned rows.old }
+{
+    for row in rows.iter_mut() {
+        *row = turned(row);
     }
 }
 

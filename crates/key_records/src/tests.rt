@@ -7,6 +7,8 @@ ghost use Rattle.key_records.specs.StoreStands.{HoldsRows};
 ghost use Rattle.master_registers.specs.Loaded.{IsLoaded};
 ghost use Rattle.slot_disk.specs.Medium.{Told, IsSettled, Keeps};
 
+mod second_form;
+
 use crate::*;
 use cca_vectors::Class;
 use key_cells::{Lease, Workbench};
@@ -76,6 +78,7 @@ fn order_of_labels(rt: HostRuntime) -> Result<(), Fail> {
 enum Change {
     Create(Label),
     Write(Label, [u8; 64]),
+    Both(Label, [u8; 64], Second),
     Delete(Label),
 }
 
@@ -158,11 +161,11 @@ fn any_internal() -> Need
     }
 }
 
-/// The master keys of the module of these tests.
-fn load_masters(alloc: Global, lease: &mut Lease) -> Result<Registers, Stop>
+/// The master keys of a module.
+fn load_masters(alloc: Global, module: &[u8; 1536], lease: &mut Lease) -> Result<Registers, Stop>
     ensures { IfOk result (λ held. IsLoaded held (bench_of lease.new)) }
 {
-    let Ok(mut module) = MemoryDisk::from_image(alloc, &module_image(), 0) else {
+    let Ok(mut module) = MemoryDisk::from_image(alloc, module, 0) else {
         return Err(Stop::Memory);
     };
     match load(&mut module, lease) {
@@ -172,12 +175,17 @@ fn load_masters(alloc: Global, lease: &mut Lease) -> Result<Registers, Stop>
 }
 
 /// The records of a store, as they are opened.
-fn opened<D: Disk>(alloc: Global, store: &mut D, lease: &mut Lease) -> Result<Records, Stop>
+fn opened<D: Disk>(
+    alloc: Global,
+    module: &[u8; 1536],
+    store: &mut D,
+    lease: &mut Lease,
+) -> Result<Records, Stop>
     requires size { (D.medium store.old).size ≡ STORE_LEN }
     ensures holds { IfOk result (λ records. Told (D.medium store.new) (HoldsRows records)) }
     ensures keeps { Keeps (D.medium store.old) (D.medium store.new) }
 {
-    let held = load_masters(alloc, lease)?;
+    let held = load_masters(alloc, module, lease)?;
     let Ok(mut records) = Records::new(alloc) else {
         return Err(Stop::Memory);
     };
@@ -187,8 +195,19 @@ fn opened<D: Disk>(alloc: Global, store: &mut D, lease: &mut Lease) -> Result<Re
     }
 }
 
-/// Settles a store, opens its records and changes one.
 fn carry_out<D: Disk>(alloc: Global, store: &mut D, change: Change) -> Result<Records, Stop>
+    requires { (D.medium store.old).size ≡ STORE_LEN }
+{
+    carry_out_under(alloc, &module_image(), store, change)
+}
+
+/// Settles a store, opens its records and changes one.
+fn carry_out_under<D: Disk>(
+    alloc: Global,
+    module: &[u8; 1536],
+    store: &mut D,
+    change: Change,
+) -> Result<Records, Stop>
     requires { (D.medium store.old).size ≡ STORE_LEN }
 {
     if settle(store).is_err() {
@@ -196,8 +215,8 @@ fn carry_out<D: Disk>(alloc: Global, store: &mut D, change: Change) -> Result<Re
     }
     let mut bench = Workbench::new();
     let mut lease = Lease::open(&mut bench);
-    let mut records = opened(alloc, store, &mut lease)?;
-    let held = load_masters(alloc, &mut lease)?;
+    let mut records = opened(alloc, module, store, &mut lease)?;
+    let held = load_masters(alloc, module, &mut lease)?;
     make(store, &mut lease, &held, &mut records, change)?;
     Ok(records)
 }
@@ -219,6 +238,10 @@ fn make<D: Disk>(
         Change::Write(label, token) => {
             let place = place_of(records, &label)?;
             write(store, lease, held, records, place, &token)
+        }
+        Change::Both(label, token, second) => {
+            let place = place_of(records, &label)?;
+            second_form::write_both(store, lease, held, records, place, &token, &second)
         }
         Change::Delete(label) => {
             let place = place_of(records, &label)?;
@@ -280,7 +303,7 @@ fn shown<D: Disk>(
 {
     let mut bench = Workbench::new();
     let mut lease = Lease::open(&mut bench);
-    let records = opened(alloc, store, &mut lease)?;
+    let records = opened(alloc, &module_image(), store, &mut lease)?;
     let place = place_of(&records, label)?;
     let mut token = [0xff; 64];
     match records.read(store, &mut lease, place, &mut token) {
@@ -409,7 +432,9 @@ fn labels_in_order(rt: HostRuntime) -> Result<(), Fail> {
     let mut bench = Workbench::new();
     let mut lease = Lease::open(&mut bench);
     assert!(rt; store.size() == STORE_LEN);
-    let records = opened(alloc, &mut store, &mut lease).or_else(|_| Err("not opened"))?;
+    let records = opened(alloc, &module_image(), &mut store, &mut lease).or_else(|_| Err(
+        "not opened",
+    ))?;
     assert_eq!(rt; records.count(), 1024);
     assert_eq!(rt; records.label_in(2), Some(&label(b"L0778")?));
     assert_eq!(rt; Records::new(alloc)?.label_in(2), None);
@@ -516,7 +541,7 @@ fn damaged_cells(rt: HostRuntime) -> Result<(), Fail> {
         let mut bench = Workbench::new();
         let mut lease = Lease::open(&mut bench);
         assert!(rt; store.size() == STORE_LEN);
-        let found = opened(alloc, &mut store, &mut lease).map(|_| ());
+        let found = opened(alloc, &module_image(), &mut store, &mut lease).map(|_| ());
         assert!(rt; found == wanted, "{first:?}");
     }
     Ok(())

@@ -24,10 +24,12 @@ pub record MasterKey : Type 0 where
   pub key : List ℕ
   pub pattern : List ℕ
 
--- the master keys of the current and the old register; None where a register is empty
+-- the master keys of the current and the old register; None where a register is empty. And that of the new one, where
+-- it is full: no token stands for a key under it yet.
 pub record MasterKeys : Type 0 where
   pub current : Option MasterKey
   pub former : Option MasterKey
+  pub coming : Option MasterKey
 
 -- ---- as a relation
 

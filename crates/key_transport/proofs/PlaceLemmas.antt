@@ -41,7 +41,7 @@ still_loaded m held old new coming current former loaded = record {
 -- ---- external tokens
 
 abbrev no_masters : MasterKeys
-no_masters = record { current = None; former = None }
+no_masters = record { current = None; former = None; coming = None }
 
 none_apart : HaveDistinctPatterns no_masters
 none_apart = λ current former is other. cc

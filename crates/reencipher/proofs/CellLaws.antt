@@ -7,12 +7,12 @@ use Rattle.slot_disk.specs.Cells.{selected, body_place, body_at, body, other_bod
 use Rattle.slot_disk.specs.SpareBytes.{Turned}
 use Rattle.slot_disk.proofs.CellSteps.{length-range, get_or-range, selected_below}
 use Rattle.slot_disk.proofs.SpareLemmas.{same_spare_then, spare_untouched}
-use Rattle.key_records.specs.Ages.{is_old_entry}
 use Rattle.key_records.specs.Entries.{Entry}
 use Rattle.key_tokens.specs.Denotes.{MasterKeys}
-use Rattle.reencipher.specs.Further.{further}
-use Rattle.reencipher.specs.Runs.{IsOld, LeavesCells, LeavesRest, LeavesOld}
+use Rattle.reencipher.specs.Further.{further, is_changed}
+use Rattle.reencipher.specs.Runs.{IsChanged, LeavesCells, LeavesRest, LeavesOld}
 use Rattle.reencipher.specs.Turns.{HoldsTurn, LeavesOther, LeavesCell, StaysOrTurns}
+use Rattle.reencipher.specs.declared.actions.StoreAction.{StoreAction}
 use Rattle.reencipher.proofs.FurtherLaws.{further_here}
 
 -- ---- a cell whose bytes stay
@@ -57,8 +57,8 @@ untouched_by side n k = (k ≢ 1536 * n) × ((k < 1536 * n + 512 * (1 + (1 - sid
 pub leaves_none : (P : ℕ → Type 0) (image : List ℕ) → LeavesCells P 0 image image
 leaves_none P image = record { size = refl; same = λ k untouched. refl }
 
-pub leaves_no_old : (s : List (Option Entry)) (image : List ℕ) → LeavesOld s 0 image image
-leaves_no_old s image n below = absurd (omega (arith, below))
+pub leaves_no_old : (a : StoreAction) (s : List (Option Entry)) (image : List ℕ) → LeavesOld a s 0 image image
+leaves_no_old a s image n below = absurd (omega (arith, below))
 
 -- a run so far, and one cell's turn
 module _ (P : ℕ → Type 0) (cell : ℕ) (b c d : List ℕ) (first : LeavesCells P cell b c) (turn : LeavesCell (P cell) cell c d) where
@@ -101,23 +101,23 @@ module _ (P : ℕ → Type 0) (cell : ℕ) (b c d : List ℕ) (first : LeavesCel
 pub leaves_weaker : (P Q : Type 0) (cell : ℕ) (old new : List ℕ) → (P → Q) → LeavesCell P cell old new → LeavesCell Q cell old new
 leaves_weaker P Q cell old new weaker leaves = record { size = leaves.size; same = λ k untouched. leaves.same k (λ p. untouched (weaker p)) }
 
-module _ (masters : MasterKeys) (s : List (Option Entry)) (cell : ℕ) (b c d : List ℕ) (first : LeavesRest s cell b c) (turn : HoldsTurn masters cell (further s cell) c d) where
+module _ (a : StoreAction) (masters : MasterKeys) (s : List (Option Entry)) (cell : ℕ) (b c d : List ℕ) (first : LeavesRest a s cell b c) (turn : HoldsTurn a masters cell (further a s cell) c d) where
   in_cell : (k : ℕ) → 1536 * cell ≤ k → k < 1536 * cell + 1536 → slice_index c k ≡ slice_index b k
   in_cell k at below = first.same k (λ n under old. lower_cells b cell n k under at)
 
-  pub leaves_more : LeavesRest s (cell + 1) b d
-  leaves_more = leaves_next (IsOld s) cell b c d first (record {
+  pub leaves_more : LeavesRest a s (cell + 1) b d
+  leaves_more = leaves_next (IsChanged a s) cell b c d first (record {
     size = turn.size;
-    same = λ k untouched. turn.same k (λ old. untouched (sym (ap is_old_entry (further_here s cell)) ∙ old));
+    same = λ k untouched. turn.same k (λ old. untouched (sym (ap (is_changed a) (further_here a s cell)) ∙ old));
   })
 
-  pub leaves_more_old : LeavesOld s cell b c → LeavesOther cell (further s cell) c d → LeavesOld s (cell + 1) b d
+  pub leaves_more_old : LeavesOld a s cell b c → LeavesOther a cell (further a s cell) c d → LeavesOld a s (cell + 1) b d
   leaves_more_old so_far here n below old = ⊎_elim
       (λ (under : n < cell). stays_other c d n turn.size (λ k at within. turn.same k (λ now. higher_cells c cell n k under within)) ∙ so_far n under old)
       (λ (above : cell ≤ n).
       let is : n ≡ cell = omega (arith, below, above) in
       subst (λ i. other_body d i ≡ body b i) (sym is)
-      (here (ap is_old_entry (further_here s cell) ∙ subst (IsOld s) is old) ∙ stays_body b c cell first.size in_cell))
+      (here (ap (is_changed a) (further_here a s cell) ∙ subst (IsChanged a s) is old) ∙ stays_body b c cell first.size in_cell))
       (cases_lt n cell)
 
 pub leaves_all : (P : ℕ → Type 0) (cells : ℕ) (old new : List ℕ) → cells ≤ 1024 → LeavesCells P cells old new → LeavesCells P 1024 old new

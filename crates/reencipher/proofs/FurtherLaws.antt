@@ -1,118 +1,124 @@
 -- Runs that are stopped and run again end as one that isn't.
-use Rattle.std.proofs.Common.{◌≡◌, ◌≤◌, ◌<◌, ℕ, zero, suc, ◌+◌, List, [], ◌∷◌, length, set, max, Option, None, Some, true, false, cond, refl, sym, ap, ◌∙◌, arith}
-use Rattle.std.proofs.lemmas.List.{set-get_or}
+use Rattle.std.proofs.Common.{◌≡◌, ◌≤◌, ◌<◌, ℕ, zero, suc, ◌+◌, Bool, List, [], ◌∷◌, length, set, max, Option, None, Some, true, false, cond, refl, sym, ap, ◌∙◌, arith}
+use Rattle.std.specs.Prelude.{◌&&◌, if◌then◌else◌}
 use Rattle.std.proofs.lemmas.Grind.{common_steps}
-use Rattle.key_tokens.specs.Denotes.{Denoted}
-use Rattle.key_tokens.specs.declared.key_token.Age.{Age}
-use Rattle.key_tokens.specs.declared.key_token.Age.TheVariants.{Current, Old}
+use Rattle.key_tokens.specs.Denotes.{Denoted, MasterKeys}
 use Rattle.key_records.specs.Entries.{Entry}
-use Rattle.key_tokens.specs.Denotes.{MasterKeys}
 use Rattle.key_records.specs.StoreStands.{StandsForLabels, entry_at}
-use Rattle.key_records.specs.Ages.{is_old, has_old_key, is_old_entry}
-use Rattle.reencipher.specs.Further.{under_current, current_entry, further, reruns, old_count}
+use Rattle.key_records.specs.Ages.{has_old_key}
+use Rattle.reencipher.specs.Further.{under_current, has_current_key, changed, changed_entry, is_changed, is_changed_by, made_by, further, reruns, changed_count}
+use Rattle.reencipher.specs.declared.actions.StoreAction.{StoreAction}
+use Rattle.reencipher.specs.declared.actions.StoreAction.TheVariants.{Renew, Ahead, Drop}
 
-pub renewed_twice : (e : Option Entry) → current_entry (current_entry e) ≡ current_entry e
-renewed_twice None = refl
-renewed_twice (Some e) = ap (λ w. Some (record { label = e.label; what = w })) (twice e.what)
+-- ---- whether an action changes what it made of a label
+
+pub and_false : (b : Bool) → (b && false) ≡ false
+and_false true = refl
+and_false false = refl
+
+not_old : (w : Option Denoted) → has_old_key (under_current w) ≡ false
+not_old None = refl
+not_old (Some d) = refl
+
+made_stays : (a : StoreAction) (e : Entry) → is_changed_by a (made_by a e) ≡ false
+made_stays Renew e = not_old e.what
+made_stays Ahead e = and_false (has_current_key e.what)
+made_stays Drop e = refl
+
+unchanged : (a : StoreAction) (e : Entry) → is_changed_by a (changed a e) ≡ false
+unchanged a e = by_change (is_changed_by a e) refl
   where
-    twice : (w : Option Denoted) → under_current (under_current w) ≡ under_current w
-    twice None = refl
-    twice (Some d) = refl
+    by_change : (b : Bool) → is_changed_by a e ≡ b → is_changed_by a (if b then made_by a e else e) ≡ false
+    by_change true is = made_stays a e
+    by_change false is = is
 
-pub further_none : (s : List (Option Entry)) → further s 0 ≡ s
-further_none [] = refl
-further_none (e ∷ s) = refl
+still : (a : StoreAction) (e : Entry) → is_changed_by a e ≡ false → changed a e ≡ e
+still a e is = ap (λ b. if b then made_by a e else e) is
 
-pub length-further : (s : List (Option Entry)) (n : ℕ) → length (further s n) ≡ length s
-length-further [] n = refl
-length-further (e ∷ s) zero = refl
-length-further (e ∷ s) (suc n) = ap suc (length-further s n)
+pub changed_is : (a : StoreAction) (e : Entry) → is_changed_by a e ≡ true → changed a e ≡ made_by a e
+changed_is a e is = ap (λ b. if b then made_by a e else e) is
 
-pub further_twice : (s : List (Option Entry)) (a b : ℕ) → further (further s a) b ≡ further s (max a b)
-further_twice [] a b = refl
-further_twice (e ∷ s) zero b = let b_is : b ≡ max zero b = omega arith in ap (further (e ∷ s)) b_is
-further_twice (e ∷ s) (suc a) zero = let a_is : suc a ≡ max (suc a) zero = omega arith in further_none (further (e ∷ s) (suc a)) ∙ ap (further (e ∷ s)) a_is
-further_twice (e ∷ s) (suc a) (suc b) =
-    let both : max (suc a) (suc b) ≡ suc (max a b) = omega arith in
-    ap (λ x. x ∷ further (further s a) b) (renewed_twice e) ∙ ap (λ r. current_entry e ∷ r) (further_twice s a b) ∙ ap (further (e ∷ s)) (sym both)
+pub not_changed : (a : StoreAction) (e : Option Entry) → is_changed a (changed_entry a e) ≡ false
+not_changed a None = refl
+not_changed a (Some e) = unchanged a e
+
+pub changed_same : (a : StoreAction) (e : Option Entry) → is_changed a e ≡ false → changed_entry a e ≡ e
+changed_same a None is = refl
+changed_same a (Some e) is = ap (λ x. Some x) (still a e is)
+
+pub changed_twice : (a : StoreAction) (e : Option Entry) → changed_entry a (changed_entry a e) ≡ changed_entry a e
+changed_twice a e = changed_same a (changed_entry a e) (not_changed a e)
+
+pub further_none : (a : StoreAction) (s : List (Option Entry)) → further a s 0 ≡ s
+further_none a [] = refl
+further_none a (e ∷ s) = refl
+
+pub length-further : (a : StoreAction) (s : List (Option Entry)) (n : ℕ) → length (further a s n) ≡ length s
+length-further a [] n = refl
+length-further a (e ∷ s) zero = refl
+length-further a (e ∷ s) (suc n) = ap suc (length-further a s n)
+
+pub further_twice : (a : StoreAction) (s : List (Option Entry)) (m n : ℕ) → further a (further a s m) n ≡ further a s (max m n)
+further_twice a [] m n = refl
+further_twice a (e ∷ s) zero n = let n_is : n ≡ max zero n = omega arith in ap (further a (e ∷ s)) n_is
+further_twice a (e ∷ s) (suc m) zero = let m_is : suc m ≡ max (suc m) zero = omega arith in further_none a (further a (e ∷ s) (suc m)) ∙ ap (further a (e ∷ s)) m_is
+further_twice a (e ∷ s) (suc m) (suc n) =
+    let both : max (suc m) (suc n) ≡ suc (max m n) = omega arith in
+    ap (λ x. x ∷ further a (further a s m) n) (changed_twice a e) ∙ ap (λ r. changed_entry a e ∷ r) (further_twice a s m n) ∙ ap (further a (e ∷ s)) (sym both)
 
 -- past the last cell
-pub further_all : (s : List (Option Entry)) (a b : ℕ) → length s ≤ a → length s ≤ b → further s a ≡ further s b
-further_all [] a b past too = refl
-further_all (e ∷ s) zero b past too = absurd (omega arith)
-further_all (e ∷ s) (suc a) zero past too = absurd (omega arith)
-further_all (e ∷ s) (suc a) (suc b) past too = ap (λ r. current_entry e ∷ r) (further_all s a b (omega arith) (omega arith))
+pub further_all : (a : StoreAction) (s : List (Option Entry)) (m n : ℕ) → length s ≤ m → length s ≤ n → further a s m ≡ further a s n
+further_all a [] m n past too = refl
+further_all a (e ∷ s) zero n past too = absurd (omega arith)
+further_all a (e ∷ s) (suc m) zero past too = absurd (omega arith)
+further_all a (e ∷ s) (suc m) (suc n) past too = ap (λ r. changed_entry a e ∷ r) (further_all a s m n (omega arith) (omega arith))
 
-pub rerun : (s : List (Option Entry)) (stops : List ℕ) (all : ℕ) → length s ≤ all → further (reruns s stops) all ≡ further s all
-rerun s [] all whole = refl
-rerun s (n ∷ stops) all whole =
-    rerun (further s n) stops all (omega (arith, length-further s n)) ∙ further_twice s n all ∙ further_all s (max n all) all (omega arith) whole
+pub rerun : (a : StoreAction) (s : List (Option Entry)) (stops : List ℕ) (all : ℕ) → length s ≤ all → further a (reruns a s stops) all ≡ further a s all
+rerun a s [] all whole = refl
+rerun a s (n ∷ stops) all whole =
+    rerun a (further a s n) stops all (omega (arith, length-further a s n)) ∙ further_twice a s n all ∙ further_all a s (max n all) all (omega arith) whole
 
 -- one cell more
-pub further_next : (s : List (Option Entry)) (n : ℕ) → further s (n + 1) ≡ set (further s n) n (current_entry (entry_at (further s n) n))
-further_next s n = let more : n + 1 ≡ suc n = omega arith in ap (further s) more ∙ next s n
+pub further_next : (a : StoreAction) (s : List (Option Entry)) (n : ℕ) → further a s (n + 1) ≡ set (further a s n) n (changed_entry a (entry_at (further a s n) n))
+further_next a s n = let more : n + 1 ≡ suc n = omega arith in ap (further a s) more ∙ next s n
   where
-    next : (s : List (Option Entry)) (n : ℕ) → further s (suc n) ≡ set (further s n) n (current_entry (entry_at (further s n) n))
+    next : (s : List (Option Entry)) (n : ℕ) → further a s (suc n) ≡ set (further a s n) n (changed_entry a (entry_at (further a s n) n))
     next [] n = refl
-    next (e ∷ s) zero = ap (λ r. current_entry e ∷ r) (further_none s)
-    next (e ∷ s) (suc n) = ap (λ r. current_entry e ∷ r) (next s n)
+    next (e ∷ s) zero = ap (λ r. changed_entry a e ∷ r) (further_none a s)
+    next (e ∷ s) (suc n) = ap (λ r. changed_entry a e ∷ r) (next s n)
 
--- a cell that stays
-pub further_same : (s : List (Option Entry)) (n : ℕ) → current_entry (entry_at (further s n) n) ≡ entry_at (further s n) n → further s (n + 1) ≡ further s n
-further_same s n same = further_next s n ∙ ap (set (further s n) n) same ∙ set-get_or (further s n) n None
+-- ---- how many an action changes
 
--- ---- how many are old
+count_more : (a : StoreAction) (e : Option Entry) (s : List (Option Entry)) → changed_count a (e ∷ s) ≡ changed_count a s + cond (is_changed a e) 1 0
+count_more a e s = grind (arith, common_steps)
 
-count_more : (e : Option Entry) (s : List (Option Entry)) → old_count (e ∷ s) ≡ old_count s + cond (is_old_entry e) 1 0
-count_more e s = grind (arith, common_steps)
+pub changed_all : (a : StoreAction) (s : List (Option Entry)) (all : ℕ) → length s ≤ all → changed_count a (further a s all) ≡ 0
+changed_all a [] all whole = refl
+changed_all a (e ∷ s) zero whole = absurd (omega arith)
+changed_all a (e ∷ s) (suc all) whole =
+    count_more a (changed_entry a e) (further a s all) ∙ ap (λ t. changed_count a (further a s all) + cond t 1 0) (not_changed a e) ∙ omega (arith, changed_all a s all (omega arith))
 
-not_old : (e : Option Entry) → is_old_entry (current_entry e) ≡ false
-not_old None = refl
-not_old (Some e) = what e.what
-  where
-    what : (w : Option Denoted) → has_old_key (under_current w) ≡ false
-    what None = refl
-    what (Some d) = refl
-
-pub renewed_current : (e : Option Entry) → is_old_entry e ≡ false → current_entry e ≡ e
-renewed_current None is = refl
-renewed_current (Some e) is = ap (λ w. Some (record { label = e.label; what = w })) (what e.what is)
-  where
-    of_age : (d : Denoted) (a : Age) → d.age ≡ a → is_old a ≡ false → Current ≡ d.age
-    of_age d Current is current = sym is
-    of_age d Old is current = let wrong : true ≡ false = current in cc
-
-    what : (w : Option Denoted) → has_old_key w ≡ false → under_current w ≡ w
-    what None is = refl
-    what (Some d) is = ap (λ a. Some (record { clear = d.clear; age = a })) (of_age d d.age refl is)
-
-pub old_all : (s : List (Option Entry)) (all : ℕ) → length s ≤ all → old_count (further s all) ≡ 0
-old_all [] all whole = refl
-old_all (e ∷ s) zero whole = absurd (omega arith)
-old_all (e ∷ s) (suc all) whole =
-    count_more (current_entry e) (further s all) ∙ ap (λ t. old_count (further s all) + cond t 1 0) (not_old e) ∙ omega (arith, old_all s all (omega arith))
-
-pub old_step : (s : List (Option Entry)) (n : ℕ) → n < length s → old_count (further s (n + 1)) + cond (is_old_entry (entry_at (further s n) n)) 1 0 ≡ old_count (further s n)
-old_step s n within =
+pub changed_step : (a : StoreAction) (s : List (Option Entry)) (n : ℕ) → n < length s → changed_count a (further a s (n + 1)) + cond (is_changed a (entry_at (further a s n) n)) 1 0 ≡ changed_count a (further a s n)
+changed_step a s n within =
     let more : n + 1 ≡ suc n = omega arith in
-    ap (λ k. old_count (further s k) + cond (is_old_entry (entry_at (further s n) n)) 1 0) more ∙ step s n within
+    ap (λ k. changed_count a (further a s k) + cond (is_changed a (entry_at (further a s n) n)) 1 0) more ∙ step s n within
   where
-    step : (s : List (Option Entry)) (n : ℕ) → n < length s → old_count (further s (suc n)) + cond (is_old_entry (entry_at (further s n) n)) 1 0 ≡ old_count (further s n)
+    step : (s : List (Option Entry)) (n : ℕ) → n < length s → changed_count a (further a s (suc n)) + cond (is_changed a (entry_at (further a s n) n)) 1 0 ≡ changed_count a (further a s n)
     step [] n within = absurd (omega arith)
     step (e ∷ s) zero within =
-        ap (λ k. k + cond (is_old_entry e) 1 0) (count_more (current_entry e) (further s 0) ∙ ap (λ t. old_count (further s 0) + cond t 1 0) (not_old e))
-        ∙ ap (λ r. old_count r + 0 + cond (is_old_entry e) 1 0) (further_none s)
-        ∙ omega (arith, count_more e s)
+        ap (λ k. k + cond (is_changed a e) 1 0) (count_more a (changed_entry a e) (further a s 0) ∙ ap (λ t. changed_count a (further a s 0) + cond t 1 0) (not_changed a e))
+        ∙ ap (λ r. changed_count a r + 0 + cond (is_changed a e) 1 0) (further_none a s)
+        ∙ omega (arith, count_more a e s)
     step (e ∷ s) (suc n) within =
         let rest = step s n (omega arith) in
-        omega (arith, rest, count_more (current_entry e) (further s (suc n)), count_more (current_entry e) (further s n))
+        omega (arith, rest, count_more a (changed_entry a e) (further a s (suc n)), count_more a (changed_entry a e) (further a s n))
 
 -- the label of a cell that wasn't reached
-pub further_here : (s : List (Option Entry)) (n : ℕ) → entry_at (further s n) n ≡ entry_at s n
-further_here [] n = refl
-further_here (e ∷ s) zero = refl
-further_here (e ∷ s) (suc n) = further_here s n
+pub further_here : (a : StoreAction) (s : List (Option Entry)) (n : ℕ) → entry_at (further a s n) n ≡ entry_at s n
+further_here a [] n = refl
+further_here a (e ∷ s) zero = refl
+further_here a (e ∷ s) (suc n) = further_here a s n
 
 -- a store stands for as many labels as it has cells
-pub whole : (masters : MasterKeys) (image : List ℕ) (s : List (Option Entry)) → StandsForLabels masters image (further s 1024) → length s ≤ 1024
-whole masters image s stands = omega (arith, stands.size, length-further s 1024)
+pub whole : (a : StoreAction) (masters : MasterKeys) (image : List ℕ) (s : List (Option Entry)) → StandsForLabels masters image (further a s 1024) → length s ≤ 1024
+whole a masters image s stands = omega (arith, stands.size, length-further a s 1024)

@@ -1,57 +1,117 @@
--- What a run leaves of the cells and the rows of labels that aren't under the old master key.
-use Rattle.std.proofs.Common.{◌≡◌, ◌≢◌, ◌≤◌, ◌<◌, ◌+◌, ℕ, List, length, get_or, Option, None, Some, Result, Ok, Err, Bool, true, false, refl, sym, ap, subst, ◌∙◌, inl, inr, ⊎_elim, arith}
-use Rattle.std.specs.Prelude.{IsSome, is_some, OnOk}
+-- What a run leaves of the cells and the rows of labels that the action doesn't change.
+use Rattle.std.proofs.Common.{◌≡◌, ◌≢◌, ◌≤◌, ◌<◌, ◌+◌, ℕ, suc, List, length, get_or, cond, Option, None, Some, Result, Ok, Err, Bool, true, false, refl, sym, ap, subst, ◌∙◌, inl, inr, ⊎_elim, arith}
+use Rattle.std.specs.Prelude.{IsSome, is_some, ◌&&◌, slice_index, OnOk}
 use Rattle.std.proofs.lemmas.Bool.{cases_eq}
-use Rattle.slot_disk.specs.Cells.{body, IsReplacing, IsReplaced}
+use Rattle.slot_disk.specs.Cells.{body, IsReplacing}
 use Rattle.slot_disk.specs.Medium.{Medium, Told, IsSettled, From, Becomes, EachImage, Keeps}
 use Rattle.slot_disk.specs.SpareBytes.{Turned}
 use Rattle.slot_disk.proofs.Media.{told_from, told_at, each_weaker, each_still, goes_on, becomes_same, becomes_weaker, becomes_both, becomes_then, from_then}
 use Rattle.slot_disk.proofs.SpareLemmas.{turned_same}
+use Rattle.byte_lists.proofs.DirectoryLaws.{none_some}
+use Rattle.cca_vectors.specs.Checks.{first_failing}
+use Rattle.key_cells.specs.Bench.{Bench}
+use Rattle.key_tokens.specs.Denotes.{denoted}
 use Rattle.key_tokens.specs.Fields.{pattern_of_token}
-use Rattle.key_records.specs.Changes.{ReplacesBody, has_key}
-use Rattle.key_records.specs.Entries.{label_or}
-use Rattle.key_records.specs.RecordBody.{record_body, token_in, key_kind, ReadsRow, ReadsPattern}
+use Rattle.key_tokens.specs.TokenChecks.{token_checks}
+use Rattle.key_tokens.specs.declared.key_token.Asked.TheVariants as asked
+use Rattle.key_records.specs.Changes.{ReplacesBody, has_key, ahead_at, is_ahead_row}
+use Rattle.key_records.specs.Entries.{label_or, row_label}
+use Rattle.key_records.specs.Labels.{IsLabel}
+use Rattle.key_records.specs.RecordBody.{token_in, second_in, second_token, held_token, no_second, key_kind, both_kind, StandsAs, ReadsRow, ReadsPattern}
 use Rattle.key_records.specs.StoreStands.{HoldsRows}
 use Rattle.key_records.specs.declared.faults.RecordFault.{RecordFault}
 use Rattle.key_records.specs.declared.rows.Row.{Row}
-use Rattle.key_records.proofs.BodyLaws.{token_again, label_short}
+use Rattle.key_records.proofs.BodyLaws.{kind_again, token_again, second_again, label_short}
+use Rattle.key_records.proofs.SecondLaws.{second_long}
 use Rattle.key_records.proofs.StoreLaws.{told_both}
+use Rattle.master_registers.specs.Loaded.{Loaded}
+use Rattle.master_registers.specs.Masters.{Masters}
 use Rattle.master_registers.specs.declared.patterns.Pattern.{Pattern}
 use Rattle.master_registers.specs.declared.registers.Registers.{Registers}
-use Rattle.reencipher.specs.Runs.{LeavesCells, IsOldRow, TurnsCells}
+use Rattle.verb_rules.specs.Keys.{keys_of}
+use Rattle.reencipher.specs.Runs.{LeavesCells, IsChangedRow, TurnsCells, changed_rows, changes_age, changes_row, known_age}
+use Rattle.reencipher.specs.Tokens.{changes_key, may_change}
 use Rattle.reencipher.specs.Turns.{LeavesCell, StaysOrTurns, TurnsCell}
+use Rattle.reencipher.specs.declared.actions.StoreAction.{StoreAction}
+use Rattle.reencipher.specs.declared.actions.StoreAction.TheVariants.{Renew, Ahead, Drop}
+use Rattle.reencipher.proofs.FurtherLaws.{and_false}
+use Rattle.reencipher.proofs.TokenLaws.{by_register}
 use Rattle.reencipher.proofs.RunLaws.{told_later}
 use Rattle.reencipher.proofs.CellLaws.{leaves_none, leaves_next, leaves_weaker, leaves_all, turned_next}
 
 -- ---- the row of a token that was read
 
--- the row remembers the pattern of the token that its body has
-row_pattern : (bytes token : List ℕ) (row : Row) → ReadsRow bytes (Some row) → bytes ≡ record_body key_kind row.label token → length token ≡ 64 → true ≡ is_some row.pattern
-    → row.pattern ≡ Some (record { bytes = pattern_of_token token })
-row_pattern bytes token row reads is long some = by_pattern row.pattern reads.1 some
+-- the one token that stands in a body of this kind, by whether the label is ahead
+one_held : (bytes label token : List ℕ) (ahead : Option Pattern) → IsLabel label → length token ≡ 64 → StandsAs bytes label token ahead → held_token (is_some ahead) (slice_index bytes 0) (token_in bytes) (second_in bytes) ≡ token
+one_held bytes label token None is_label long (inl is) =
+    ap (λ k. held_token false k (token_in bytes) (second_in bytes)) (ap (λ b. slice_index b 0) is ∙ kind_again key_kind label token no_second)
+    ∙ ap token_in is
+    ∙ token_again key_kind label token no_second (label_short label is_label) long
+one_held bytes label token None is_label long (inr t) =
+    ap (λ k. held_token false k (token_in bytes) (second_in bytes)) (ap (λ b. slice_index b 0) t.body ∙ kind_again both_kind label t.first t.second)
+    ∙ ap (λ f. second_token f (second_in bytes)) (ap token_in t.body ∙ token_again both_kind label t.first t.second (label_short label is_label) t.is_first.bytes.size)
+    ∙ ap (second_token t.first) (ap second_in t.body ∙ second_again both_kind label t.first t.second (label_short label is_label) t.is_first.bytes.size (second_long t.first t.second t.is_second))
+    ∙ sym t.under
+one_held bytes label token (Some pattern) is_label long b =
+    ap (λ k. held_token true k (token_in bytes) (second_in bytes)) (ap (λ c. slice_index c 0) b.body ∙ kind_again both_kind label token b.second)
+    ∙ ap token_in b.body
+    ∙ token_again both_kind label token b.second (label_short label is_label) long
+
+-- the row remembers the pattern of the token that its body has, which breaks no rule
+record IsKnown (token : List ℕ) (pattern : Option Pattern) : Type 0 where
+  pub under : pattern ≡ Some (record { bytes = pattern_of_token token })
+  pub sound : first_failing (token_checks asked.Internal token) ≡ None
+
+row_known : (bytes token : List ℕ) (row : Row) → ReadsRow bytes (Some row) → StandsAs bytes row.label token row.ahead → length token ≡ 64 → true ≡ is_some row.pattern → IsKnown token row.pattern
+row_known bytes token row reads stands long some = by_pattern row.pattern reads.1 some
   where
-    same_token : (other : List ℕ) → length other ≡ 64 → bytes ≡ record_body key_kind row.label other → other ≡ token
-    same_token other size body_is =
-        sym (token_again key_kind row.label other (label_short row.label reads.0) size)
-        ∙ ap token_in (sym body_is ∙ is)
-        ∙ token_again key_kind row.label token (label_short row.label reads.0) long
-
-    by_pattern : (pattern : Option Pattern) → ReadsPattern bytes row.label pattern → true ≡ is_some pattern → pattern ≡ Some (record { bytes = pattern_of_token token })
+    by_pattern : (pattern : Option Pattern) → ReadsPattern bytes row.label pattern row.ahead → true ≡ is_some pattern → IsKnown token pattern
     by_pattern None reads_none wrong = cc wrong
-    by_pattern (Some pattern) kept one = ap (λ b. let p : Pattern = record { bytes = b } in Some p)
-        (sym kept.1.under ∙ ap pattern_of_token (same_token kept.0 kept.1.bytes.size kept.2))
+    by_pattern (Some pattern) holds one =
+        let same : holds.token ≡ token =
+        sym (one_held bytes row.label holds.token row.ahead reads.0 holds.is_kept.bytes.size holds.body) ∙ one_held bytes row.label token row.ahead reads.0 long stands in
+        record {
+          under = ap (λ b. let p : Pattern = record { bytes = b } in Some p) (sym holds.is_kept.under ∙ ap pattern_of_token same);
+          sound = subst (λ (t : List ℕ). first_failing (token_checks asked.Internal t) ≡ None) same holds.is_kept.sound;
+        }
 
-module _ (held : Registers) (rows : List (Option Row)) (place : ℕ) (token : List ℕ) where
-  pub old_row : (image : List ℕ) → HoldsRows rows image → place < 1024 → true ≡ has_key (get_or rows place None) → length token ≡ 64
-      → body image place ≡ record_body key_kind (label_or (get_or rows place None)) token
-      → held.old_pattern ≡ Some (record { bytes = pattern_of_token token }) → IsOldRow held rows place
-  old_row image holds within some long read under = by_row (get_or rows place None) refl (holds.reads place within) some read
+module _ (a : StoreAction) (held : Registers) where
+  pub no_row_stays : (o : Option Row) → row_label o ≡ None → changes_row a held o ≡ false
+  no_row_stays None is = refl
+  no_row_stays (Some row) is = absurd (none_some row.label (sym is))
+
+  -- a label that the memory knows to be null, and one whose mark forbids the change
+  pub null_row_stays : (o : Option Row) → has_key o ≡ false → changes_row a held o ≡ false
+  null_row_stays None is = refl
+  null_row_stays (Some row) is = ap (λ b. b && may_change a (is_some row.ahead)) (by_pattern row.pattern is)
     where
-      by_row : (o : Option Row) → get_or rows place None ≡ o → ReadsRow (body image place) o → true ≡ has_key o → body image place ≡ record_body key_kind (label_or o) token → IsOldRow held rows place
-      by_row None is reads wrong body_is = cc wrong
-      by_row (Some row) is reads one body_is =
-          let pattern = row_pattern (body image place) token row reads body_is long one in
-          (row, is, sym one, pattern ∙ sym under)
+      of_none : (a : StoreAction) → changes_age a None ≡ false
+      of_none Renew = refl
+      of_none Ahead = refl
+      of_none Drop = refl
+
+      by_pattern : (pattern : Option Pattern) → is_some pattern ≡ false → changes_age a (known_age held pattern) ≡ false
+      by_pattern None is = of_none a
+      by_pattern (Some pattern) is = let wrong : true ≡ false = is in absurd (cc)
+
+  pub marked_row_stays : (o : Option Row) → may_change a (is_ahead_row o) ≡ false → changes_row a held o ≡ false
+  marked_row_stays None is = refl
+  marked_row_stays (Some row) is = ap (λ b. changes_age a (known_age held row.pattern) && b) is ∙ and_false (changes_age a (known_age held row.pattern))
+
+  -- the row of a token that was read
+  module _ (m : Masters) (bench : Bench) (loaded : Loaded m held bench) (rows : List (Option Row)) (place : ℕ) (token : List ℕ) where
+    pub row_changes : (image : List ℕ) → HoldsRows rows image → place < 1024 → true ≡ has_key (get_or rows place None) → length token ≡ 64
+        → StandsAs (body image place) (label_or (get_or rows place None)) token (ahead_at (get_or rows place None))
+        → changes_row a held (get_or rows place None) ≡ (changes_key a (denoted (keys_of m) token) && may_change a (is_ahead_row (get_or rows place None)))
+    row_changes image holds within some long read = by_row (get_or rows place None) (holds.reads place within) some read
+      where
+        by_row : (o : Option Row) → ReadsRow (body image place) o → true ≡ has_key o → StandsAs (body image place) (label_or o) token (ahead_at o)
+            → changes_row a held o ≡ (changes_key a (denoted (keys_of m) token) && may_change a (is_ahead_row o))
+        by_row None reads wrong stands = cc wrong
+        by_row (Some row) reads one stands =
+            let known = row_known (body image place) token row reads stands long one in
+            ap (λ p. changes_age a (known_age held p) && may_change a (is_some row.ahead)) known.under
+            ∙ ap (λ b. b && may_change a (is_some row.ahead)) (sym (by_register a m held bench token loaded known.sound))
 
 -- ---- one cell that was read at most
 
@@ -108,84 +168,98 @@ module _ (P : Type 0) (cell : ℕ) where
 
 -- ---- a run
 
-module _ (held : Registers) (before : List (Option Row)) where
-  abbrev Old : ℕ → Type 0
-  Old n = IsOldRow held before n
+module _ (a : StoreAction) (held : Registers) (before : List (Option Row)) where
+  abbrev Changed : ℕ → Type 0
+  Changed n = IsChangedRow a held before n
 
   abbrev SoFar : ℕ → List ℕ → List ℕ → Type 0
-  SoFar cell old new = LeavesCells Old cell old new × Turned cell old new
+  SoFar cell old new = LeavesCells Changed cell old new × Turned cell old new
 
   -- a run has come as far as a cell
-  pub record HasTurnedTo (cell : ℕ) (now : List (Option Row)) (m0 m1 : Medium) : Type 0 where
+  pub record HasTurnedTo (cell changed : ℕ) (now : List (Option Row)) (m0 m1 : Medium) : Type 0 where
     pub cells : Becomes (SoFar cell) m0 m1
-    pub moments : EachImage m0 m1 (From (LeavesCells Old 1024) m0)
-    pub ahead : (n : ℕ) → cell ≤ n → get_or now n None ≡ get_or before n None
-    pub rows : Told m0 (λ _. (n : ℕ) → (Old n → ⊥) → get_or now n None ≡ get_or before n None)
+    pub moments : EachImage m0 m1 (From (LeavesCells Changed 1024) m0)
+    pub above : (n : ℕ) → cell ≤ n → get_or now n None ≡ get_or before n None
+    pub rows : Told m0 (λ _. (n : ℕ) → (Changed n → ⊥) → get_or now n None ≡ get_or before n None)
+    pub count : Told m0 (λ _. changed ≡ changed_rows a held before cell)
 
-  pub turned_start : (m : Medium) → IsSettled m → HasTurnedTo 0 before m m
+  pub turned_start : (m : Medium) → IsSettled m → HasTurnedTo 0 0 before m m
   turned_start m settled = record {
-    cells = becomes_same m m (SoFar 0) refl refl (λ c. (leaves_none Old c, turned_same 0 c));
-    moments = each_weaker m m m.images (From (LeavesCells Old 1024) m) (each_still m)
-        (λ c image. (c, settled.only c image, leaves_all Old 0 c c (omega arith) (leaves_none Old c)));
-    ahead = λ n at. refl;
-    rows = told_from m.content (λ _. (n : ℕ) → (Old n → ⊥) → get_or before n None ≡ get_or before n None) (λ c is n none. refl);
+    cells = becomes_same m m (SoFar 0) refl refl (λ c. (leaves_none Changed c, turned_same 0 c));
+    moments = each_weaker m m m.images (From (LeavesCells Changed 1024) m) (each_still m)
+        (λ c image. (c, settled.only c image, leaves_all Changed 0 c c (omega arith) (leaves_none Changed c)));
+    above = λ n at. refl;
+    rows = told_from m.content (λ _. (n : ℕ) → (Changed n → ⊥) → get_or before n None ≡ get_or before n None) (λ c is n none. refl);
+    count = told_from m.content (λ _. 0 ≡ changed_rows a held before 0) (λ c is. refl);
   }
 
-  module _ (cell : ℕ) (now next : List (Option Row)) (m0 m1 m2 : Medium) (within : cell < 1024) (so_far : HasTurnedTo cell now m0 m1)
+  module _ (cell changed : ℕ) (now next : List (Option Row)) (m0 m1 m2 : Medium) (within : cell < 1024) (so_far : HasTurnedTo cell changed now m0 m1)
       (others : (n : ℕ) → n ≢ cell → get_or next n None ≡ get_or now n None)
-      (row : Told m1 (λ _. (IsOldRow held now cell → ⊥) → get_or next cell None ≡ get_or now cell None)) where
+      (row : Told m1 (λ _. (IsChangedRow a held now cell → ⊥) → get_or next cell None ≡ get_or now cell None)) where
     abbrev Now : Type 0
-    Now = IsOldRow held now cell
+    Now = IsChangedRow a held now cell
 
-    was_old : Now → Old cell
-    was_old is = (is.0, sym (so_far.ahead cell (omega arith)) ∙ is.1, is.2, is.3)
+    was_changed : Now → Changed cell
+    was_changed is = ap (changes_row a held) (sym (so_far.above cell (omega arith))) ∙ is
 
-    leaf : (c d : List ℕ) → LeavesCell Now cell c d → LeavesCell (Old cell) cell c d
-    leaf c d leaves = leaves_weaker Now (Old cell) cell c d was_old leaves
+    leaf : (c d : List ℕ) → LeavesCell Now cell c d → LeavesCell (Changed cell) cell c d
+    leaf c d leaves = leaves_weaker Now (Changed cell) cell c d was_changed leaves
 
-    step_from : (b c d : List ℕ) → SoFar cell b c → LeavesCell Now cell c d → LeavesCells Old 1024 b d
-    step_from b c d first leaves = leaves_all Old (cell + 1) b d (omega (arith, within)) (leaves_next Old cell b c d first.0 (leaf c d leaves))
+    step_from : (b c d : List ℕ) → SoFar cell b c → LeavesCell Now cell c d → LeavesCells Changed 1024 b d
+    step_from b c d first leaves = leaves_all Changed (cell + 1) b d (omega (arith, within)) (leaves_next Changed cell b c d first.0 (leaf c d leaves))
 
-    moments_next : (r : Result Bool RecordFault) → TurnsCell Now cell m1 m2 r → EachImage m0 m2 (From (LeavesCells Old 1024) m0)
+    moments_next : (r : Result Bool RecordFault) → TurnsCell Now cell m1 m2 r → EachImage m0 m2 (From (LeavesCells Changed 1024) m0)
     moments_next r turn =
-        goes_on m0 m1 m2 (From (LeavesCells Old 1024) m0) (From (LeavesCell Now cell) m1) (From (LeavesCells Old 1024) m0) so_far.moments turn.moments (λ c p. p)
-        (from_then m0 m1 (SoFar cell) (LeavesCell Now cell) (LeavesCells Old 1024) so_far.cells step_from)
+        goes_on m0 m1 m2 (From (LeavesCells Changed 1024) m0) (From (LeavesCell Now cell) m1) (From (LeavesCells Changed 1024) m0) so_far.moments turn.moments (λ c p. p)
+        (from_then m0 m1 (SoFar cell) (LeavesCell Now cell) (LeavesCells Changed 1024) so_far.cells step_from)
 
-    row_now : ((n : ℕ) → (Old n → ⊥) → get_or now n None ≡ get_or before n None) → ((Now → ⊥) → get_or next cell None ≡ get_or now cell None)
-        → (n : ℕ) → (Old n → ⊥) → get_or next n None ≡ get_or before n None
+    row_now : ((n : ℕ) → (Changed n → ⊥) → get_or now n None ≡ get_or before n None) → ((Now → ⊥) → get_or next cell None ≡ get_or now cell None)
+        → (n : ℕ) → (Changed n → ⊥) → get_or next n None ≡ get_or before n None
     row_now rows here n none = ⊎_elim
-        (λ (is : n ≡ cell). ap (λ k. get_or next k None) is ∙ here (λ old. none (subst Old (sym is) (was_old old))) ∙ ap (λ k. get_or now k None) (sym is) ∙ rows n none)
+        (λ (is : n ≡ cell). ap (λ k. get_or next k None) is ∙ here (λ is_changed. none (subst Changed (sym is) (was_changed is_changed))) ∙ ap (λ k. get_or now k None) (sym is) ∙ rows n none)
         (λ (other : n ≢ cell). others n other ∙ rows n none)
         (cases_eq n cell)
 
-    rows_next : Told m0 (λ _. (n : ℕ) → (Old n → ⊥) → get_or next n None ≡ get_or before n None)
-    rows_next = told_both m0 (λ _. (n : ℕ) → (Old n → ⊥) → get_or now n None ≡ get_or before n None) (λ _. (Now → ⊥) → get_or next cell None ≡ get_or now cell None)
-        (λ _. (n : ℕ) → (Old n → ⊥) → get_or next n None ≡ get_or before n None) so_far.rows
+    rows_next : Told m0 (λ _. (n : ℕ) → (Changed n → ⊥) → get_or next n None ≡ get_or before n None)
+    rows_next = told_both m0 (λ _. (n : ℕ) → (Changed n → ⊥) → get_or now n None ≡ get_or before n None) (λ _. (Now → ⊥) → get_or next cell None ≡ get_or now cell None)
+        (λ _. (n : ℕ) → (Changed n → ⊥) → get_or next n None ≡ get_or before n None) so_far.rows
         (told_later m0 m1 ((Now → ⊥) → get_or next cell None ≡ get_or now cell None) so_far.cells.still row)
         (λ c rows here. row_now rows here)
 
-    pub turned_on : (renewed : Bool) → TurnsCell Now cell m1 m2 (Ok renewed) → HasTurnedTo (cell + 1) next m0 m2
-    turned_on renewed turn = record {
+    counted : (done : Bool) → changed ≡ changed_rows a held before cell → done ≡ changes_row a held (get_or now cell None) → changed + cond done 1 0 ≡ changed_rows a held before (cell + 1)
+    counted done so_many is =
+        let more : cell + 1 ≡ suc cell = omega arith in
+        ap (λ n. n + cond done 1 0) so_many
+        ∙ ap (λ b. changed_rows a held before cell + cond b 1 0) (is ∙ ap (changes_row a held) (so_far.above cell (omega arith)))
+        ∙ ap (changed_rows a held before) (sym more)
+
+    pub turned_on : (done : Bool) → TurnsCell Now cell m1 m2 (Ok done) → Told m1 (λ _. done ≡ changes_row a held (get_or now cell None)) → HasTurnedTo (cell + 1) (changed + cond done 1 0) next m0 m2
+    turned_on done turn count = record {
       cells = becomes_then m0 m1 m2 (SoFar cell) (λ c d. LeavesCell Now cell c d × StaysOrTurns cell c d) (SoFar (cell + 1)) so_far.cells
           (becomes_both m1 m2 (LeavesCell Now cell) (StaysOrTurns cell) turn.either turn.turned)
-          (λ b c d first both. (leaves_next Old cell b c d first.0 (leaf c d both.0), turned_next Old cell b c d first.0 (leaf c d both.0) first.1 both.1));
-      moments = moments_next (Ok renewed) turn;
-      ahead = λ n at. others n (λ is. omega (arith, is, at)) ∙ so_far.ahead n (omega (arith, at));
+          (λ b c d first both. (leaves_next Changed cell b c d first.0 (leaf c d both.0), turned_next Changed cell b c d first.0 (leaf c d both.0) first.1 both.1));
+      moments = moments_next (Ok done) turn;
+      above = λ n at. others n (λ is. omega (arith, is, at)) ∙ so_far.above n (omega (arith, at));
       rows = rows_next;
+      count = told_both m0 (λ _. changed ≡ changed_rows a held before cell) (λ _. done ≡ changes_row a held (get_or now cell None)) (λ _. changed + cond done 1 0 ≡ changed_rows a held before (cell + 1)) so_far.count
+          (told_later m0 m1 (done ≡ changes_row a held (get_or now cell None)) so_far.cells.still count)
+          (λ c so_many is. counted done so_many is);
     }
 
-    pub turns_ended : (fault : RecordFault) → TurnsCell Now cell m1 m2 (Err fault) → TurnsCells held before next m0 m2 (Err fault)
+    pub turns_ended : (fault : RecordFault) → TurnsCell Now cell m1 m2 (Err fault) → TurnsCells a held before next m0 m2 (Err fault)
     turns_ended fault turn = record {
       turned = tt;
-      either = becomes_then m0 m1 m2 (SoFar cell) (LeavesCell Now cell) (LeavesCells Old 1024) so_far.cells turn.either step_from;
+      either = becomes_then m0 m1 m2 (SoFar cell) (LeavesCell Now cell) (LeavesCells Changed 1024) so_far.cells turn.either step_from;
       moments = moments_next (Err fault) turn;
       rows = rows_next;
+      count = tt;
     }
 
-  pub turns_whole : (cell count : ℕ) (now : List (Option Row)) (m0 m1 : Medium) → cell ≡ 1024 → HasTurnedTo cell now m0 m1 → TurnsCells held before now m0 m1 (Ok count)
+  pub turns_whole : (cell count : ℕ) (now : List (Option Row)) (m0 m1 : Medium) → cell ≡ 1024 → HasTurnedTo cell count now m0 m1 → TurnsCells a held before now m0 m1 (Ok count)
   turns_whole cell count now m0 m1 all so_far = record {
     turned = becomes_weaker m0 m1 (SoFar cell) (Turned 1024) so_far.cells (λ b c both. subst (λ n. Turned n b c) all both.1);
-    either = becomes_weaker m0 m1 (SoFar cell) (LeavesCells Old 1024) so_far.cells (λ b c both. leaves_all Old cell b c (omega (arith, all)) both.0);
+    either = becomes_weaker m0 m1 (SoFar cell) (LeavesCells Changed 1024) so_far.cells (λ b c both. leaves_all Changed cell b c (omega (arith, all)) both.0);
     moments = so_far.moments;
     rows = so_far.rows;
+    count = subst (λ n. Told m0 (λ _. count ≡ changed_rows a held before n)) all so_far.count;
   }

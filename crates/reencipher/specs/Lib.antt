@@ -1,5 +1,6 @@
 pub mod Further
 pub mod Runs
+pub mod Tokens
 pub mod Turns
 pub use Rattle.key_cells.specs.Bench
 pub use Rattle.key_cells.specs.Lease

@@ -3,21 +3,22 @@ ghost use Rattle.std.specs.Prelude.{◌≡◌, ◌≤◌, ◌<◌, ℕ, List, Op
 ghost use Rattle.key_records.specs.Entries.{Entry};
 ghost use Rattle.key_records.specs.StoreStands.{StandsForLabels};
 ghost use Rattle.key_tokens.specs.Denotes.{HaveDistinctPatterns, MasterKeys};
-ghost use Rattle.reencipher.specs.Further.{further, reruns, old_count};
+ghost use Rattle.reencipher.specs.declared.actions.StoreAction.{StoreAction as Action};
+ghost use Rattle.reencipher.specs.Further.{further, reruns, changed_count};
 ghost use Rattle.slot_disk.specs.Cells.{body};
 
-/// Whatever cells runs are stopped at, a run that isn't stopped then leaves the labels that one run from the start
-/// leaves, and the same selected bytes in each cell; no label is old then.
+/// Whatever cells runs of an action are stopped at, a run that isn't stopped then leaves the labels that one run from
+/// the start leaves, and the same selected bytes in each cell; the next one changes none.
 pub fn reruns_end_as_one_run()
-    ensures twice { (s : List (Option Entry)) (a b : ℕ)
-        → further (further s a) b ≡ further s (max a b) }
-    ensures reruns { (s : List (Option Entry)) (stops : List ℕ) → length s ≤ 1024
-        → further (reruns s stops) 1024 ≡ further s 1024 }
-    ensures done { (s : List (Option Entry)) → length s ≤ 1024
-        → old_count (further s 1024) ≡ 0 }
-    ensures bytes { (masters : MasterKeys) → HaveDistinctPatterns masters
+    ensures twice { (a : Action) (s : List (Option Entry)) (m n : ℕ)
+        → further a (further a s m) n ≡ further a s (max m n) }
+    ensures reruns { (a : Action) (s : List (Option Entry)) (stops : List ℕ) → length s ≤ 1024
+        → further a (reruns a s stops) 1024 ≡ further a s 1024 }
+    ensures done { (a : Action) (s : List (Option Entry)) → length s ≤ 1024
+        → changed_count a (further a s 1024) ≡ 0 }
+    ensures bytes { (a : Action) (masters : MasterKeys) → HaveDistinctPatterns masters
         → (s : List (Option Entry)) (stops : List ℕ) (one other : List ℕ) (n : ℕ)
-        → StandsForLabels masters one (further s 1024)
-        → StandsForLabels masters other (further (reruns s stops) 1024)
+        → StandsForLabels masters one (further a s 1024)
+        → StandsForLabels masters other (further a (reruns a s stops) 1024)
         → n < 1024 → body one n ≡ body other n }
 {}

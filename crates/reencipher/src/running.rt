@@ -1,25 +1,27 @@
-//! The store under a new master key, cell by cell upwards.
+//! The store under a new master key, and ahead of one, cell by cell upwards.
 ghost use Rattle.std.specs.Prelude.{◌≡◌, ◌⊎◌, ◌<◌, ℕ, List, Option, Result, Err, IfErr, IsSome, OnOk};
 ghost use Rattle.key_cells.specs.Lease.{bench_of};
+ghost use Rattle.key_records.specs.Changes.{ChangesKeyAndBody};
 ghost use Rattle.key_records.specs.Entries.{Entry, row_directory};
 ghost use Rattle.key_records.specs.StoreStands.{HoldsRows, KeepsLabels};
 ghost use Rattle.key_records.specs.declared.records.TheConstants.{STORE_LEN};
 ghost use Rattle.master_registers.specs.Loaded.{IsLoaded, Loaded};
 ghost use Rattle.master_registers.specs.Masters.{Masters};
-ghost use Rattle.reencipher.specs.Runs.{Reenciphers, TurnsCells, HasRunCause, ChangesKeyAndBody};
+ghost use Rattle.reencipher.specs.Runs.{Reenciphers, TurnsCells, HasRunCause};
+ghost use Rattle.reencipher.specs.Tokens.{IsComing, IsReadyAhead, IsReadyFor};
 ghost use Rattle.slot_disk.specs.Medium.{Told, IsSettled};
 ghost use Rattle.verb_rules.specs.Keys.{keys_of};
 
-use crate::turns::renew_cell;
-use key_cells::Lease;
+use crate::actions::StoreAction;
+use crate::turns::turn_cell;
+use key_cells::{Lease, MasterPlace};
 use key_records::{RecordFault, Records};
-use master_registers::Registers;
+use master_registers::{Pattern, Registers, pattern_of};
 use slot_disk::Disk;
 
 /// Makes each label under the old master key the same key with the same control vector under the current one, and
-/// answers how many there were. It goes once through the 1,024 cells upwards: a cell without a label costs nothing, a
-/// label at most 11 comparisons and two reads, and one under the old master key a change of its cell besides. A label
-/// that is current, null or under neither register is not written.
+/// answers how many there were. It goes once through the 1,024 cells upwards. A label that is current, null or under
+/// neither register is not written.
 ///
 /// `DiskFault` comes only where the disk's count of faults rose, and `Damaged`, which names the cell whose body isn't
 /// that of its record, only over a disk that doesn't tell its bytes. After an error the records are to be opened again.
@@ -39,11 +41,186 @@ pub fn reencipher<D: Disk>(
     ensures labels { (m : Masters) (s : List (Option Entry))
         → Loaded m held.now (bench_of lease.old)
         → Told (D.medium store.old) (KeepsLabels (keys_of m) records.old s)
-        → Reenciphers (keys_of m) s records.new
+        → Reenciphers StoreAction.Renew (keys_of m) s records.new
         (D.medium store.old) (D.medium store.new) result }
 
     // the labels that the memory knows, also those under neither register
-    ensures cells { TurnsCells held.now records.old records.new
+    ensures cells { TurnsCells StoreAction.Renew held.now records.old records.new
+        (D.medium store.old) (D.medium store.new) result }
+
+    // whatever the store holds
+    ensures size { (D.medium store.new).size ≡ STORE_LEN }
+    ensures settled { OnOk result (IsSettled (D.medium store.new)) }
+    ensures still { IsSome (D.medium store.old).content → IsSome (D.medium store.new).content }
+    ensures told { IsSome (D.medium store.new).content → IsSome (D.medium store.old).content }
+    ensures holds { OnOk result (Told (D.medium store.new) (HoldsRows records.new)) }
+    ensures directory { row_directory records.new ≡ row_directory records.old }
+    ensures damaged { (n : ℕ) → result ≡ Err (RecordFault.Damaged n)
+        → Told (D.medium store.old) (λ _. ⊥) }
+    ensures faults { IfErr result (λ fault. (fault ≡ RecordFault.DiskFault)
+        ⊎ ((cell : ℕ) × (cell < 1024) × (fault ≡ RecordFault.Damaged cell))) }
+    ensures cause { HasRunCause (D.faults store.old) (D.faults store.new) result }
+    ensures rest { ChangesKeyAndBody lease.old lease.new }
+{
+    run_action(StoreAction::Renew, lease, held, store, records)
+}
+
+/// Seals the key of each label that is under the current master key, and not ahead, under the full new one besides, and
+/// answers how many there were. It goes upwards, and answers faults as `reencipher` does.
+pub fn ahead<D: Disk>(
+    lease: &mut Lease,
+    held: &Registers,
+    store: &mut D,
+    records: &mut Records,
+) -> Result<u32, RecordFault>
+    requires size { (D.medium store.old).size ≡ STORE_LEN }
+    requires settled { IsSettled (D.medium store.old) }
+    requires holds { Told (D.medium store.old) (HoldsRows records.old) }
+    requires loaded { IsLoaded held.now (bench_of lease.old) }
+    requires current { IsSome held.now.current_pattern }
+    requires ready { IsReadyAhead held.now (bench_of lease.old) }
+
+    // the labels of a state, where the store stands for them and the memory knows them
+    ensures labels { (m : Masters) (s : List (Option Entry))
+        → Loaded m held.now (bench_of lease.old)
+        → Told (D.medium store.old) (KeepsLabels (keys_of m) records.old s)
+        → Reenciphers StoreAction.Ahead (keys_of m) s records.new
+        (D.medium store.old) (D.medium store.new) result }
+
+    // the labels that the memory knows, also those under neither register
+    ensures cells { TurnsCells StoreAction.Ahead held.now records.old records.new
+        (D.medium store.old) (D.medium store.new) result }
+
+    // whatever the store holds
+    ensures size { (D.medium store.new).size ≡ STORE_LEN }
+    ensures settled { OnOk result (IsSettled (D.medium store.new)) }
+    ensures still { IsSome (D.medium store.old).content → IsSome (D.medium store.new).content }
+    ensures told { IsSome (D.medium store.new).content → IsSome (D.medium store.old).content }
+    ensures holds { OnOk result (Told (D.medium store.new) (HoldsRows records.new)) }
+    ensures directory { row_directory records.new ≡ row_directory records.old }
+    ensures damaged { (n : ℕ) → result ≡ Err (RecordFault.Damaged n)
+        → Told (D.medium store.old) (λ _. ⊥) }
+    ensures faults { IfErr result (λ fault. (fault ≡ RecordFault.DiskFault)
+        ⊎ ((cell : ℕ) × (cell < 1024) × (fault ≡ RecordFault.Damaged cell))) }
+    ensures cause { HasRunCause (D.faults store.old) (D.faults store.new) result }
+    ensures rest { ChangesKeyAndBody lease.old lease.new }
+{
+    run_action(StoreAction::Ahead, lease, held, store, records)
+}
+
+/// Takes the second token of each label that is ahead away again, and answers how many there were. It goes upwards, and
+/// answers faults as `reencipher` does.
+pub fn drop_ahead<D: Disk>(
+    lease: &mut Lease,
+    held: &Registers,
+    store: &mut D,
+    records: &mut Records,
+) -> Result<u32, RecordFault>
+    requires size { (D.medium store.old).size ≡ STORE_LEN }
+    requires settled { IsSettled (D.medium store.old) }
+    requires holds { Told (D.medium store.old) (HoldsRows records.old) }
+    requires loaded { IsLoaded held.now (bench_of lease.old) }
+    requires current { IsSome held.now.current_pattern }
+
+    // the labels of a state, where the store stands for them and the memory knows them
+    ensures labels { (m : Masters) (s : List (Option Entry))
+        → Loaded m held.now (bench_of lease.old)
+        → Told (D.medium store.old) (KeepsLabels (keys_of m) records.old s)
+        → Reenciphers StoreAction.Drop (keys_of m) s records.new
+        (D.medium store.old) (D.medium store.new) result }
+
+    // the labels that the memory knows, also those under neither register
+    ensures cells { TurnsCells StoreAction.Drop held.now records.old records.new
+        (D.medium store.old) (D.medium store.new) result }
+
+    // whatever the store holds
+    ensures size { (D.medium store.new).size ≡ STORE_LEN }
+    ensures settled { OnOk result (IsSettled (D.medium store.new)) }
+    ensures still { IsSome (D.medium store.old).content → IsSome (D.medium store.new).content }
+    ensures told { IsSome (D.medium store.new).content → IsSome (D.medium store.old).content }
+    ensures holds { OnOk result (Told (D.medium store.new) (HoldsRows records.new)) }
+    ensures directory { row_directory records.new ≡ row_directory records.old }
+    ensures damaged { (n : ℕ) → result ≡ Err (RecordFault.Damaged n)
+        → Told (D.medium store.old) (λ _. ⊥) }
+    ensures faults { IfErr result (λ fault. (fault ≡ RecordFault.DiskFault)
+        ⊎ ((cell : ℕ) × (cell < 1024) × (fault ≡ RecordFault.Damaged cell))) }
+    ensures cause { HasRunCause (D.faults store.old) (D.faults store.new) result }
+    ensures rest { ChangesKeyAndBody lease.old lease.new }
+{
+    run_action(StoreAction::Drop, lease, held, store, records)
+}
+
+/// Makes every label what an action makes of it, and answers how many it changed. It goes upwards, and answers faults
+/// as `reencipher` does.
+pub fn run_action<D: Disk>(
+    action: StoreAction,
+    lease: &mut Lease,
+    held: &Registers,
+    store: &mut D,
+    records: &mut Records,
+) -> Result<u32, RecordFault>
+    requires size { (D.medium store.old).size ≡ STORE_LEN }
+    requires settled { IsSettled (D.medium store.old) }
+    requires holds { Told (D.medium store.old) (HoldsRows records.old) }
+    requires loaded { IsLoaded held.now (bench_of lease.old) }
+    requires current { IsSome held.now.current_pattern }
+    requires ready { IsReadyFor action held.now (bench_of lease.old) }
+
+    // the labels of a state, where the store stands for them and the memory knows them
+    ensures labels { (m : Masters) (s : List (Option Entry))
+        → Loaded m held.now (bench_of lease.old)
+        → Told (D.medium store.old) (KeepsLabels (keys_of m) records.old s)
+        → Reenciphers action (keys_of m) s records.new
+        (D.medium store.old) (D.medium store.new) result }
+
+    // the labels that the memory knows, also those under neither register
+    ensures cells { TurnsCells action held.now records.old records.new
+        (D.medium store.old) (D.medium store.new) result }
+
+    // whatever the store holds
+    ensures size { (D.medium store.new).size ≡ STORE_LEN }
+    ensures settled { OnOk result (IsSettled (D.medium store.new)) }
+    ensures still { IsSome (D.medium store.old).content → IsSome (D.medium store.new).content }
+    ensures told { IsSome (D.medium store.new).content → IsSome (D.medium store.old).content }
+    ensures holds { OnOk result (Told (D.medium store.new) (HoldsRows records.new)) }
+    ensures directory { row_directory records.new ≡ row_directory records.old }
+    ensures damaged { (n : ℕ) → result ≡ Err (RecordFault.Damaged n)
+        → Told (D.medium store.old) (λ _. ⊥) }
+    ensures faults { IfErr result (λ fault. (fault ≡ RecordFault.DiskFault)
+        ⊎ ((cell : ℕ) × (cell < 1024) × (fault ≡ RecordFault.Damaged cell))) }
+    ensures cause { HasRunCause (D.faults store.old) (D.faults store.new) result }
+    ensures rest { ChangesKeyAndBody lease.old lease.new }
+{
+    let coming = pattern_of(lease, MasterPlace::New);
+    run(action, coming, lease, held, store, records)
+}
+
+/// Makes every label what an action makes of it.
+fn run<D: Disk>(
+    action: StoreAction,
+    coming: Pattern,
+    lease: &mut Lease,
+    held: &Registers,
+    store: &mut D,
+    records: &mut Records,
+) -> Result<u32, RecordFault>
+    requires size { (D.medium store.old).size ≡ STORE_LEN }
+    requires settled { IsSettled (D.medium store.old) }
+    requires holds { Told (D.medium store.old) (HoldsRows records.old) }
+    requires loaded { IsLoaded held.now (bench_of lease.old) }
+    requires current { IsSome held.now.current_pattern }
+    requires coming { IsComing coming (bench_of lease.old) }
+    requires ready { IsReadyFor action held.now (bench_of lease.old) }
+
+    // the labels of a state, where the store stands for them and the memory knows them
+    ensures labels { (m : Masters) (s : List (Option Entry))
+        → Loaded m held.now (bench_of lease.old)
+        → Told (D.medium store.old) (KeepsLabels (keys_of m) records.old s)
+        → Reenciphers action (keys_of m) s records.new
+        (D.medium store.old) (D.medium store.new) result }
+
+    // the labels that the memory knows, also those under neither register
+    ensures cells { TurnsCells action held.now records.old records.new
         (D.medium store.old) (D.medium store.new) result }
 
     // whatever the store holds
@@ -62,8 +239,8 @@ pub fn reencipher<D: Disk>(
 {
     let mut changed = 0;
     for cell in 0..1024 {
-        let renewed = renew_cell(lease, held, store, records, cell)?;
-        changed += u32::from(renewed);
+        let done = turn_cell(action, coming, lease, held, store, records, cell)?;
+        changed += u32::from(done);
     }
     Ok(changed)
 }

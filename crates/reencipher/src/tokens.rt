@@ -1,24 +1,37 @@
-//! The token of a key under the current master key in place of the old one.
+//! The tokens that an action makes of a token.
 ghost use Rattle.std.specs.Prelude.{◌≡◌, IfSome, IsSome, Some, is_some};
+ghost use Rattle.byte_lists.specs.Bytes.{AreBytes};
 ghost use Rattle.key_cells.specs.declared.places.KeyPlace.{KeyPlace};
 ghost use Rattle.key_cells.specs.Bench.{Bench};
 ghost use Rattle.key_cells.specs.Lease.{bench_of};
 ghost use Rattle.key_records.specs.Ages.{has_old_key};
 ghost use Rattle.key_tokens.specs.Denotes.{denoted};
-ghost use Rattle.key_tokens.specs.Fields.{pattern_of_token};
 ghost use Rattle.key_tokens.specs.declared.key_token.Age.{Age};
-ghost use Rattle.master_registers.specs.Loaded.{Loaded};
+ghost use Rattle.master_registers.specs.Loaded.{IsLoaded, Loaded};
 ghost use Rattle.master_registers.specs.Masters.{Masters};
 ghost use Rattle.multi_encipher.specs.Bundles.{ChangesKeyAt};
-ghost use Rattle.reencipher.specs.Further.{under_current};
+ghost use Rattle.reencipher.specs.Further.{under_current, has_current_key};
+ghost use Rattle.reencipher.specs.Tokens.{AreMade, AreSecond, IsComing, IsReadyAhead, IsReadyFor, changes_key};
 ghost use Rattle.verb_rules.specs.KeyChecks.{has_pattern};
 ghost use Rattle.verb_rules.specs.Keys.{HasHalves, keys_of, opened_key};
 
+use crate::actions::StoreAction;
+use crate::writing::Tokens;
+use byte_lists::is_zero;
 use clear_keys::{open_key, write_current};
 use key_cells::{KeyPlace, Lease};
+use key_records::Second;
 use key_tokens::{Age, Asked, read_token};
 use master_registers::{Pattern, Registers};
+use multi_encipher::{Under, seal};
 use verb_rules::Judged;
+
+/// 64 bytes are below 256: a fact that contracts use.
+fn are_bytes(token: &[u8; 64])
+    ensures { AreBytes 64 token.now }
+{
+    let _zero = is_zero(token);
+}
 
 /// The parts of a token that is under the old master key. The current register is asked first.
 fn old_key(token: &[u8; 64], held: &Registers) -> Option<Judged>
@@ -28,8 +41,6 @@ fn old_key(token: &[u8; 64], held: &Registers) -> Option<Judged>
         → IfSome result (λ key. denoted (keys_of m) token.now ≡ opened_key bench key) }
     ensures old { (m : Masters) (bench : Bench) → Loaded m held.now bench
         → is_some result ≡ has_old_key (denoted (keys_of m) token.now) }
-    ensures pattern { IfSome result (λ _.
-        held.now.old_pattern ≡ Some (record { bytes = pattern_of_token token.now })) }
 {
     let token = match read_token(token, Asked::Internal) {
         Ok(token) => token,
@@ -47,8 +58,30 @@ fn old_key(token: &[u8; 64], held: &Registers) -> Option<Judged>
     Some(Judged { token, age })
 }
 
+/// The parts of a token that is under the current master key.
+fn current_key(token: &[u8; 64], held: &Registers) -> Option<Judged>
+    ensures halves { IfSome result HasHalves }
+    ensures age { IfSome result (λ key. key.age ≡ Some Age.Current) }
+    ensures key { (m : Masters) (bench : Bench) → Loaded m held.now bench
+        → IfSome result (λ key. denoted (keys_of m) token.now ≡ opened_key bench key) }
+    ensures current { (m : Masters) (bench : Bench) → Loaded m held.now bench
+        → is_some result ≡ has_current_key (denoted (keys_of m) token.now) }
+{
+    let token = match read_token(token, Asked::Internal) {
+        Ok(token) => token,
+        Err(_) => return None,
+    };
+    let bytes = token.pattern;
+    let pattern = Pattern { bytes };
+    if !is_pattern(held.current_pattern, &pattern) {
+        return None;
+    }
+    let age = Some(Age::Current);
+    Some(Judged { token, age })
+}
+
 /// Whether a register has this pattern.
-fn is_pattern(register: Option<Pattern>, pattern: &Pattern) -> bool
+pub(crate) fn is_pattern(register: Option<Pattern>, pattern: &Pattern) -> bool
     ensures { result ≡ has_pattern register pattern.now.bytes }
 {
     register == Some(*pattern)
@@ -56,19 +89,13 @@ fn is_pattern(register: Option<Pattern>, pattern: &Pattern) -> bool
 
 /// The token of the same key under the current master key, where the token is under the old one. The clear key
 /// stands in the place `Key` alone.
-pub(crate) fn renewed_token(
-    lease: &mut Lease,
-    held: &Registers,
-    token: &[u8; 64],
-) -> Option<[u8; 64]>
+fn renewed_token(lease: &mut Lease, held: &Registers, token: &[u8; 64]) -> Option<[u8; 64]>
     requires { IsSome held.now.current_pattern }
     ensures key { (m : Masters) → Loaded m held.now (bench_of lease.old)
         → IfSome result (λ new.
         denoted (keys_of m) new ≡ under_current (denoted (keys_of m) token.now)) }
     ensures old { (m : Masters) → Loaded m held.now (bench_of lease.old)
         → is_some result ≡ has_old_key (denoted (keys_of m) token.now) }
-    ensures pattern { IfSome result (λ _.
-        held.now.old_pattern ≡ Some (record { bytes = pattern_of_token token.now })) }
     ensures stays { ChangesKeyAt KeyPlace.Key lease.old lease.new }
 {
     let key = match old_key(token, held) {
@@ -77,4 +104,103 @@ pub(crate) fn renewed_token(
     };
     open_key(lease, &key, KeyPlace::Key);
     Some(write_current(lease, held, &key.token.vector))
+}
+
+/// The second token of the same key under the new master key, where the token is under the current one. The clear key
+/// stands in the place `Key` alone.
+fn second_token(
+    lease: &mut Lease,
+    held: &Registers,
+    coming: Pattern,
+    token: &[u8; 64],
+) -> Option<Second>
+    requires coming { IsComing coming (bench_of lease.old) }
+    requires ready { IsReadyAhead held.now (bench_of lease.old) }
+    ensures second { (m : Masters) → Loaded m held.now (bench_of lease.old)
+        → IfSome result (λ second. AreSecond (keys_of m) token.now second) }
+    ensures current { (m : Masters) → Loaded m held.now (bench_of lease.old)
+        → is_some result ≡ has_current_key (denoted (keys_of m) token.now) }
+    ensures stays { ChangesKeyAt KeyPlace.Key lease.old lease.new }
+{
+    let first = match current_key(token, held) {
+        Some(key) => key,
+        None => return None,
+    };
+    open_key(lease, &first, KeyPlace::Key);
+    let sealed = seal(lease, Under::New, &first.token.vector);
+    Some(Second {
+        pattern: coming,
+        sealed,
+    })
+}
+
+/// The tokens that an action makes of the token of a label; none where it doesn't change a label with this key.
+pub(crate) fn made_tokens(
+    action: StoreAction,
+    lease: &mut Lease,
+    held: &Registers,
+    coming: Pattern,
+    token: &[u8; 64],
+) -> Option<Tokens>
+    requires current { IsSome held.now.current_pattern }
+    requires coming { IsComing coming (bench_of lease.old) }
+    requires ready { IsReadyFor action held.now (bench_of lease.old) }
+    ensures made { (m : Masters) → Loaded m held.now (bench_of lease.old)
+        → IfSome result (λ tokens. AreMade action (keys_of m) token.now tokens) }
+    ensures some { (m : Masters) → Loaded m held.now (bench_of lease.old)
+        → is_some result ≡ changes_key action (denoted (keys_of m) token.now) }
+    ensures stays { ChangesKeyAt KeyPlace.Key lease.old lease.new }
+{
+    match action {
+        StoreAction::Renew => renewed(lease, held, token),
+        StoreAction::Ahead => ahead(lease, held, coming, token),
+        StoreAction::Drop => dropped(held, token),
+    }
+}
+
+fn renewed(lease: &mut Lease, held: &Registers, token: &[u8; 64]) -> Option<Tokens>
+    requires { IsSome held.now.current_pattern }
+    ensures made { (m : Masters) → Loaded m held.now (bench_of lease.old)
+        → IfSome result (λ tokens. AreMade StoreAction.Renew (keys_of m) token.now tokens) }
+    ensures some { (m : Masters) → Loaded m held.now (bench_of lease.old)
+        → is_some result ≡ has_old_key (denoted (keys_of m) token.now) }
+    ensures stays { ChangesKeyAt KeyPlace.Key lease.old lease.new }
+{
+    let new = match renewed_token(lease, held, token) {
+        Some(new) => new,
+        None => return None,
+    };
+    are_bytes(&new);
+    Some(Tokens::One(new))
+}
+
+fn ahead(lease: &mut Lease, held: &Registers, coming: Pattern, token: &[u8; 64]) -> Option<Tokens>
+    requires coming { IsComing coming (bench_of lease.old) }
+    requires ready { IsReadyAhead held.now (bench_of lease.old) }
+    ensures made { (m : Masters) → Loaded m held.now (bench_of lease.old)
+        → IfSome result (λ tokens. AreMade StoreAction.Ahead (keys_of m) token.now tokens) }
+    ensures some { (m : Masters) → Loaded m held.now (bench_of lease.old)
+        → is_some result ≡ has_current_key (denoted (keys_of m) token.now) }
+    ensures stays { ChangesKeyAt KeyPlace.Key lease.old lease.new }
+{
+    let second = match second_token(lease, held, coming, token) {
+        Some(second) => second,
+        None => return None,
+    };
+    are_bytes(token);
+    Some(Tokens::Two(*token, second))
+}
+
+fn dropped(held: &Registers, token: &[u8; 64]) -> Option<Tokens>
+    ensures made { (m : Masters) (bench : Bench) → Loaded m held.now bench
+        → IfSome result (λ tokens. AreMade StoreAction.Drop (keys_of m) token.now tokens) }
+    ensures some { (m : Masters) (bench : Bench) → Loaded m held.now bench
+        → is_some result ≡ has_current_key (denoted (keys_of m) token.now) }
+{
+    let _key = match current_key(token, held) {
+        Some(key) => key,
+        None => return None,
+    };
+    are_bytes(token);
+    Some(Tokens::One(*token))
 }

@@ -55,7 +55,7 @@ read_key masters None token reads = absurd reads
 read_key masters (Some e) token reads = by_what e.what reads.0 reads.1
   where
     by_what : (what : Option Denoted) → true ≡ is_some what → ((key : Denoted) → what ≡ Some key → kept masters token ≡ Some key)
-        → HasRead masters (Some (record { label = e.label; what = what })) token
+        → HasRead masters (Some (record e { what = what })) token
     by_what None found keeps = cc found
     by_what (Some key) found keeps = record { key = key; is = refl; denotes = kept_denotes masters token key (keeps key refl) }
 

@@ -32,13 +32,16 @@ enum Stop {
     Refused(Rule),
 }
 
-/// The cell of a module whose current master key is the bytes 01 to 18 and whose old one is 41 to 58.
+/// The cell of a module whose current master key is the bytes 01 to 18, whose old one is 41 to 58, and whose new register
+/// is full with 81 to 98.
 fn module_image() -> [u8; 1536] {
     let mut image = [0; 1536];
     image[512] = 1;
+    image[513] = 2;
     image[514] = 1;
     image[515] = 1;
     for at in 0..24 {
+        image[520 + at] = 0x81 + at as u8;
         image[544 + at] = 0x01 + at as u8;
         image[568 + at] = 0x41 + at as u8;
     }
@@ -88,10 +91,15 @@ fn place_of(records: &Records, label: u8) -> Result<Place, Stop>
     }
 }
 
-/// The verification patterns of the two master keys.
+/// The verification patterns of the master keys.
 const CURRENT: u64 = 0x083b_f102_5be3_4c44;
 
 const OLD: u64 = 0x440b_0b63_ce6d_6e33;
+
+const NEW: u64 = 0xbf2f_b683_1696_e60e;
+
+/// The halves of the key of A under the new master key, enciphered by python's cryptography.
+const UNDER_NEW: [u64; 2] = [0x71fe_d5c2_b0f6_a7af, 0x97fe_397f_6b75_77d6];
 
 /// A label with the pattern of its master key, the enciphered halves of its key, its control vector and its
 /// validation value.
@@ -277,6 +285,16 @@ fn body_of(kind: u8, label: u8, token: &[u8; 64]) -> [u8; 192] {
     body
 }
 
+/// The body of a record with two tokens.
+fn both_body_of(label: u8, first: &[u8; 64], pattern: u64, sealed: [u64; 2]) -> [u8; 192] {
+    let mut body = body_of(3, label, first);
+    let words = [pattern, sealed[0], sealed[1]];
+    for at in 0..3 {
+        body[130 + 8 * at..138 + 8 * at].copy_from_slice(&words[at].to_be_bytes());
+    }
+    body
+}
+
 /// Puts a body where the first selector points.
 fn put_body(image: &mut [u8], cell: usize, body: &[u8; 192])
     requires { cell < 1024 }
@@ -287,7 +305,8 @@ fn put_body(image: &mut [u8], cell: usize, body: &[u8; 192])
     }
 }
 
-/// A store of the keys above, each in its cell, and of a null record N behind them.
+/// A store of the keys above, each in its cell. Behind them stand a null record N, and the key of A twice more: R is ahead,
+/// and S has come under its second token, which that of C stands before.
 fn store_of(alloc: Global) -> Result<MemoryDisk, Fail> {
     let mut image = vec![in alloc; 0u8; STORE_LEN as usize]?;
     let keys = keys();
@@ -300,6 +319,10 @@ fn store_of(alloc: Global) -> Result<MemoryDisk, Fail> {
         );
     }
     put_body(&mut image, KEYS, &body_of(1, b'N', &[0; 64]));
+    let ahead = both_body_of(b'R', &internal_token(&keys[0]), NEW, UNDER_NEW);
+    put_body(&mut image, KEYS + 1, &ahead);
+    let turned = both_body_of(b'S', &internal_token(&keys[2]), CURRENT, keys[0].sealed);
+    put_body(&mut image, KEYS + 2, &turned);
     Ok(MemoryDisk::from_image(alloc, &image, 0)?)
 }
 
@@ -337,7 +360,8 @@ fn moved<D: Disk>(alloc: Global, store: &mut D, transport: u8, label: u8) -> Res
     unload_label(&mut lease, store, &records, place, &judged, &held).map_err(Stop::Read)
 }
 
-/// Keys of both lengths, of each class and under either master key go out; rule 17 is judged before rule 21.
+/// Keys of both lengths, of each class and under either master key go out, with one token or with two; rule 17 is judged
+/// before rule 21.
 #[test]
 fn what_comes_of_a_label(rt: HostRuntime) -> Result<(), Fail> {
     let double = out_token(
@@ -391,6 +415,8 @@ fn what_comes_of_a_label(rt: HostRuntime) -> Result<(), Fail> {
                 0x924b_82f4,
             )),
         ),
+        (b'R', Moved::Token(double)),
+        (b'S', Moved::Token(double)),
         (b'N', Moved::Kept(Rule::Null)),
         (b'P', Moved::Kept(Rule::KeyPart)),
         (b'Q', Moved::Kept(Rule::KeyPart)),

@@ -8,7 +8,7 @@ use Rattle.key_tokens.specs.declared.key_token.Age.TheVariants.{Current, Old}
 use Rattle.key_tokens.specs.declared.key_token.Kind.TheVariants.{Internal}
 use Rattle.key_tokens.specs.Layout.{made}
 use Rattle.key_tokens.specs.Denotes.{ClearKey, Denoted, MasterKey, MasterKeys}
-use Rattle.master_registers.specs.Masters.{Masters, pattern_of_master}
+use Rattle.master_registers.specs.Masters.{NewRegister, Empty, Partial, Full, Masters, pattern_of_master}
 use Rattle.multi_encipher.specs.Bundles.{transport_bundle}
 use Rattle.multi_encipher.specs.Seals.{seal, unseal}
 use Rattle.verb_rules.specs.declared.judging.Judged.{Judged}
@@ -18,9 +18,19 @@ abbrev pub master_key : Option (List ℕ) → Option MasterKey
 master_key None = None
 master_key (Some bytes) = Some (record { key = bytes; pattern = pattern_of_master bytes })
 
--- the master keys under which tokens stand: of the current and the old register
+-- the master key of a full new register
+abbrev pub new_key : NewRegister → Option MasterKey
+new_key Empty = None
+new_key (Partial bytes) = None
+new_key (Full bytes) = master_key (Some bytes)
+
+-- the master keys under which tokens stand: of the current and the old register, and of a full new one
 abbrev pub keys_of : Masters → MasterKeys
-keys_of m = record { current = master_key m.current; former = master_key m.former }
+keys_of m = record {
+  current = master_key m.current;
+  former = master_key m.former;
+  coming = new_key m.coming;
+}
 
 -- of the current and the old master key the one that a token is under: the old one, where it is under that
 abbrev pub master_for : List ℕ → List ℕ → Option Age → List ℕ

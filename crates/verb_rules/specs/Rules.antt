@@ -37,6 +37,7 @@ rule_number rule.LabelExists = 29
 rule_number rule.RoleTable = 30
 rule_number rule.PadCount = 31
 rule_number rule.KeyLength = 32
+rule_number rule.Ahead = 33
 rule_number rule.UniqueHalves = 34
 rule_number rule.WholeKey = 35
 rule_number rule.Chain = 36

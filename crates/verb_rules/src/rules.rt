@@ -56,7 +56,7 @@ pub enum Rule {
     Pair,
     /// 25: The new master key register isn't in the state that the step needs.
     RegisterState,
-    /// 26: The new and the current master key have one pattern.
+    /// 26: The new master key has the pattern of the current one, or for AHEAD of the old one.
     SamePattern,
     /// 27: A label is under the old master key.
     OldLabels,
@@ -70,6 +70,8 @@ pub enum Rule {
     PadCount,
     /// 32: The key, or its type, doesn't have this length.
     KeyLength,
+    /// 33: A label is ahead.
+    Ahead,
     /// 34: Each right half that was drawn is the same as the left half, the low-order bit of each byte aside.
     UniqueHalves,
     /// 35: The key is whole, where a key part is combined with another.
@@ -79,7 +81,7 @@ pub enum Rule {
 }
 
 impl Rule {
-    /// The rule's number: 1 to 32, or 34 to 36.
+    /// The rule's number, 1 to 36.
     pub fn number(self) -> u8
         ensures number { result ≡ rule_number self }
         ensures two_digits { result < 100 }
@@ -117,6 +119,7 @@ impl Rule {
             Rule::RoleTable => 30,
             Rule::PadCount => 31,
             Rule::KeyLength => 32,
+            Rule::Ahead => 33,
             Rule::UniqueHalves => 34,
             Rule::WholeKey => 35,
             Rule::Chain => 36,

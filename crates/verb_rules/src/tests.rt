@@ -473,6 +473,7 @@ fn parts_that_are_combined(rt: HostRuntime) {
         assert_eq!(rt; judge_part(&key, length), wanted, "{left:x} {length}");
     }
     assert_eq!(rt; Rule::KeyLength.number(), 32);
+    assert_eq!(rt; Rule::Ahead.number(), 33);
     assert_eq!(rt; Rule::UniqueHalves.number(), 34);
     assert_eq!(rt; Rule::WholeKey.number(), 35);
     assert_eq!(rt; Rule::Chain.number(), 36);

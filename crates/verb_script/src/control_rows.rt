@@ -1,7 +1,7 @@
 //! The rows of master keys, of roles, and of the store as a whole.
 ghost use Rattle.std.specs.Prelude.{◌≡◌, Some, None, [], ◌∷◌, ◌++◌, codes};
 ghost use Rattle.verb_script.specs.Grammar.{control_requests};
-ghost use Rattle.verb_script.specs.Grammar.{csnbmkp_part as row_csnbmkp_part, csnbmkp_clear as row_csnbmkp_clear, csnbmkp_set as row_csnbmkp_set, csuaaci_define as row_csuaaci_define, csuaaci_remove as row_csuaaci_remove, reencipher as row_reencipher};
+ghost use Rattle.verb_script.specs.Grammar.{csnbmkp_part as row_csnbmkp_part, csnbmkp_clear as row_csnbmkp_clear, csnbmkp_set as row_csnbmkp_set, csuaaci_define as row_csuaaci_define, csuaaci_remove as row_csuaaci_remove, reencipher as row_reencipher, reencipher_ahead as row_reencipher_ahead, reencipher_drop as row_reencipher_drop};
 ghost use Rattle.verb_script.specs.Parsed.{seen_option};
 ghost use Rattle.verb_script.specs.Requests.{row_request, first_request};
 ghost use Rattle.verb_script.specs.Words.{unread};
@@ -96,13 +96,48 @@ fn csuaaci<'a>(words: Words<'a>) -> Option<Request<'a>>
     csuaaci_remove(words)
 }
 
-/// The request of the row REENCIPHER, whose fields the words are.
-fn reencipher<'a>(mut words: Words<'a>) -> Option<Request<'a>>
+/// The request of the row REENCIPHER without an action, whose fields the words are.
+fn reencipher_old<'a>(mut words: Words<'a>) -> Option<Request<'a>>
     ensures { seen_option result ≡ row_request row_reencipher (unread words.entry) }
 {
     let role = words.role(b"role=")?;
     words.end()?;
     Some(Request::Reencipher { role })
+}
+
+/// The request of the row REENCIPHER with AHEAD, whose fields the words are.
+fn reencipher_ahead<'a>(mut words: Words<'a>) -> Option<Request<'a>>
+    ensures { seen_option result ≡ row_request row_reencipher_ahead (unread words.entry) }
+{
+    let role = words.role(b"role=")?;
+    let action = words.choice(b"action=", &[b"AHEAD"])?;
+    words.end()?;
+    Some(Request::ReencipherAhead { role, action })
+}
+
+/// The request of the row REENCIPHER with DROP, whose fields the words are.
+fn reencipher_drop<'a>(mut words: Words<'a>) -> Option<Request<'a>>
+    ensures { seen_option result ≡ row_request row_reencipher_drop (unread words.entry) }
+{
+    let role = words.role(b"role=")?;
+    let action = words.choice(b"action=", &[b"DROP"])?;
+    words.end()?;
+    Some(Request::ReencipherDrop { role, action })
+}
+
+/// The request of the first of REENCIPHER's rows whose fields the words are.
+fn reencipher<'a>(words: Words<'a>) -> Option<Request<'a>>
+    ensures { seen_option result ≡ first_request
+        (row_reencipher ∷ row_reencipher_ahead ∷ row_reencipher_drop ∷ [])
+        (codes "REENCIPHER" ∷ unread words.entry) }
+{
+    if let Some(request) = reencipher_old(words) {
+        return Some(request);
+    }
+    if let Some(request) = reencipher_ahead(words) {
+        return Some(request);
+    }
+    reencipher_drop(words)
 }
 
 /// The request of this verb of master keys, of roles or of the whole store, whose fields the words are.

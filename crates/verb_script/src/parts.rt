@@ -59,7 +59,9 @@ impl<'a> Request<'a> {
             | Request::CsnbmkpClear { .. }
             | Request::CsnbmkpSet { .. } => "CSNBMKP",
             Request::CsuaaciDefine { .. } | Request::CsuaaciRemove { .. } => "CSUAACI",
-            Request::Reencipher { .. } => "REENCIPHER",
+            Request::Reencipher { .. }
+            | Request::ReencipherAhead { .. }
+            | Request::ReencipherDrop { .. } => "REENCIPHER",
         }
     }
 
@@ -117,6 +119,8 @@ impl<'a> Request<'a> {
             Request::CsuaaciDefine { role, .. } => role,
             Request::CsuaaciRemove { role, .. } => role,
             Request::Reencipher { role } => role,
+            Request::ReencipherAhead { role, .. } => role,
+            Request::ReencipherDrop { role, .. } => role,
         }
     }
 
@@ -176,6 +180,8 @@ impl<'a> Request<'a> {
             Request::CsuaaciDefine { .. } => None,
             Request::CsuaaciRemove { .. } => None,
             Request::Reencipher { .. } => None,
+            Request::ReencipherAhead { .. } => None,
+            Request::ReencipherDrop { .. } => None,
         }
     }
 }

@@ -311,6 +311,16 @@ pub enum Request<'a> {
     Reencipher {
         role: RoleName,
     },
+    /// Every label under the current master key is sealed under the new one besides.
+    ReencipherAhead {
+        role: RoleName,
+        action: &'a [u8],
+    },
+    /// Of every label that is ahead the second token is taken away again.
+    ReencipherDrop {
+        role: RoleName,
+        action: &'a [u8],
+    },
 }
 
 /// The request that the line spells.

@@ -7,12 +7,13 @@ ghost use Rattle.key_cells.specs.Lease.{bench_of, holding};
 ghost use Rattle.verb_script.specs.Grammar.{is_hex};
 ghost use Rattle.verb_script.specs.Values.{hex_value};
 ghost use Rattle.master_registers.specs.Loaded.{Loaded};
+ghost use Rattle.master_registers.specs.declared.registers.Registers.{Registers as HeldRegisters};
 ghost use Rattle.master_registers.specs.Masters.{Masters};
 ghost use Rattle.verb_rules.specs.Rules.{rule_number};
 ghost use Rattle.key_records.specs.Ages.{any_old};
 ghost use Rattle.cca_machine.specs.Actions.{action_checks, part_action as named};
 ghost use Rattle.cca_machine.specs.State.{State};
-ghost use Rattle.cca_requests.specs.Deciding.{IsReady, IsRecorded, IsSetDecided, WritesStore};
+ghost use Rattle.cca_requests.specs.Deciding.{IsReady, IsRecorded, IsSetDecided, IsClearDecided, WritesStore};
 
 use crate::effects::Effect;
 use key_cells::{Lease, MasterPlace};
@@ -44,7 +45,7 @@ pub(crate) fn put_part(digits: &[u8], lease: &mut Lease)
 }
 
 /// Whether a label is under the old master key. It goes over the labels once.
-fn any_old(held: &Registers, records: &Records) -> bool
+pub(crate) fn any_old(held: &Registers, records: &Records) -> bool
     ensures old { (s : State) (bench : Bench) → Loaded s.registers held.now bench
         → IsRecorded s records.now → result ≡ any_old s.labels }
 {
@@ -80,5 +81,19 @@ pub(crate) fn set(lease: &Lease, held: &Registers, records: &Records) -> Effect
         Some(rule) => Effect::Refused(rule, "-"),
         None if any_old(held, records) => Effect::Refused(Rule::OldLabels, "-"),
         None => Effect::Change(Action::Set),
+    }
+}
+
+/// Leaves CLEAR to be carried out, or refuses it where a label is ahead. It goes over the labels once.
+pub(crate) fn clear(records: &Records) -> Effect
+    ensures decided { (s : State) → IsRecorded s records.now → IsClearDecided s result }
+    ensures ready { (held : HeldRegisters) (bench : Bench)
+        → IsReady held bench records.now result [] }
+    ensures spares { WritesStore result → ⊥ }
+{
+    if records.any_ahead() {
+        Effect::Refused(Rule::Ahead, "-")
+    } else {
+        Effect::Change(Action::Clear)
     }
 }

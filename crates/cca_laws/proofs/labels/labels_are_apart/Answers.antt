@@ -1,5 +1,5 @@
 use Rattle.cca_laws.proofs.LabelLaws.{others_kept, ages_kept, stays_free}
-use Rattle.cca_laws.proofs.NamedLaws.{same_reply}
+use Rattle.cca_laws.proofs.NamedLaws.{same_clear, same_reply}
 use Rattle.cca_laws.proofs.labels.labels_are_apart.Goals as goal
 
 pub returns-clause-others : goal.returns-clause-others
@@ -13,3 +13,6 @@ returns-clause-created c = stays_free
 
 pub returns-clause-replies : goal.returns-clause-replies
 returns-clause-replies c = same_reply
+
+pub returns-clause-clears : goal.returns-clause-clears
+returns-clause-clears c = same_clear

@@ -8,7 +8,9 @@ use Rattle.master_registers.specs.Loaded.{Loaded, masters_in}
 use Rattle.master_registers.specs.declared.faults.RegisterFault.TheVariants.{RegisterState, SamePattern}
 use Rattle.script_buffers.specs.Replies.{spelled}
 use Rattle.cca_requests.specs.Serving.{CarriesModule, LeavesModule}
-use Rattle.cca_requests.specs.Deciding.{action_outcome, labels_after, change_reply}
+use Rattle.key_records.specs.StoreStands.{HoldsRows}
+use Rattle.cca_requests.specs.Deciding.{IsTurnedBy, action_outcome, labels_after, change_reply, change_stop, rows_by}
+use Rattle.cca_requests.proofs.TurnedRows.{is_turned, err_kept, held_after}
 use Rattle.cca_requests.proofs.Registers.{masters_are}
 use Rattle.cca_requests.proofs.Changing.{changes_as, still_as, left_as}
 use Rattle.cca_requests.proofs.changing_module.change_registers.Goals as goal
@@ -24,7 +26,7 @@ returns-clause-carries g c = λ s at.
     let is = sym (masters_are s.registers c.args.held.now bench at.loaded) in
     subst (λ r. CarriesModule (action_outcome s action bench.part) s r
     c.answer_change.new.reply c.args.roles.now old new) (sym c.answer_change.ensures.stop)
-    (changes_as g.M.Disk.medium c.args.module.now c.change-outcome.new.module s c.args.roles.now (after_action action bench.part s.registers) (labels_after action s.labels) later
+    (changes_as g.M.Disk.medium c.args.module.now c.change-outcome.new.module s c.args.roles.now (after_action action bench.part s.registers) (labels_after action s) later
     c.requires.at.settled at.stands (has_wrong_state action s.registers) (repeats_pattern action s.registers) result c.answer_change.new.reply
     (subst (λ (m : Masters). (result ≡ Err RegisterState) ↔ IsTrue (has_wrong_state action m)) is c.change-outcome.ensures.cause.state)
     (subst (λ (m : Masters). (result ≡ Err SamePattern) ↔ IsTrue (repeats_pattern action m)) is c.change-outcome.ensures.cause.same)
@@ -39,7 +41,7 @@ returns-clause-still g c = λ s at none.
     let action = c.args.action in
     let result = c.change-outcome.result in
     let is = sym (masters_are s.registers c.args.held.now bench at.loaded) in
-    still_as g.M.Disk.medium c.args.module.now c.change-outcome.new.module s c.args.roles.now (after_action action bench.part s.registers) (labels_after action s.labels) bench
+    still_as g.M.Disk.medium c.args.module.now c.change-outcome.new.module s c.args.roles.now (after_action action bench.part s.registers) (labels_after action s) bench
     c.requires.at.settled at.stands (has_wrong_state action s.registers) (repeats_pattern action s.registers) result
     (subst (λ (m : Masters). (result ≡ Err RegisterState) ↔ IsTrue (has_wrong_state action m)) is c.change-outcome.ensures.cause.state)
     (subst (λ (m : Masters). (result ≡ Err SamePattern) ↔ IsTrue (repeats_pattern action m)) is c.change-outcome.ensures.cause.same)
@@ -57,3 +59,25 @@ returns-clause-left g c =
     (subst (λ r. OnErr r (c.answer_change.new.reply ≡ [])) c.answer_change.ensures.stop c.answer_change.ensures.silent) in
     subst (λ r. LeavesModule (g.M.Disk.medium c.args.module.now) (g.M.Disk.medium c.change-outcome.new.module) (faults c.args.module.now) (faults c.change-outcome.new.module)
     r c.answer_change.new.reply c.args.roles.now c.args.roles.now) (sym c.answer_change.ensures.stop) left
+
+pub returns-clause-turned : goal.returns-clause-turned
+returns-clause-turned g c = λ s at.
+    let action = c.args.action in
+    let rows = c.args.records.now in
+    let result = c.change-outcome.result in
+    let is = sym (masters_are s.registers c.args.held.now (bench_of c.args.lease.now) at.loaded) in
+    let turned : IsTurnedBy s action (change_stop result) rows (rows_by result action rows) =
+    is_turned s action rows result
+    (subst (λ (m : Masters). (result ≡ Err RegisterState) ↔ IsTrue (has_wrong_state action m)) is c.change-outcome.ensures.cause.state)
+    (subst (λ (m : Masters). (result ≡ Err SamePattern) ↔ IsTrue (repeats_pattern action m)) is c.change-outcome.ensures.cause.same) in
+    subst (λ r. IsTurnedBy s action r rows c.turn_after.new.records) (sym c.answer_change.ensures.stop)
+    (subst (λ now. IsTurnedBy s action (change_stop result) rows now) (sym c.turn_after.ensures) turned)
+
+pub returns-clause-rows : goal.returns-clause-rows
+returns-clause-rows g c = λ image holds.
+    subst (λ now. HoldsRows now image) (sym c.turn_after.ensures) (held_after c.args.action c.change-outcome.result c.args.records.now image holds)
+
+pub returns-clause-memory : goal.returns-clause-memory
+returns-clause-memory g c =
+    subst (λ r. OnErr r (c.turn_after.new.records ≡ c.args.records.now)) (sym c.answer_change.ensures.stop)
+    (subst (λ now. OnErr (change_stop c.change-outcome.result) (now ≡ c.args.records.now)) (sym c.turn_after.ensures) (err_kept c.args.action c.args.records.now c.change-outcome.result))

@@ -2,7 +2,7 @@ use Rattle.std.proofs.Common.{◌≡◌, [], Some, OnOk, sym, subst}
 use Rattle.std.specs.Prelude.{◌==◌, OnErr, is_some, set}
 use Rattle.key_records.specs.Directory.{free_cell, cell_of}
 use Rattle.key_records.specs.Entries.{directory, row_directory, null_row}
-use Rattle.key_records.specs.RecordBody.{record_body, null_kind, no_token}
+use Rattle.key_records.specs.RecordBody.{null_body}
 use Rattle.script_buffers.specs.Replies.{spelled}
 use Rattle.verb_rules.specs.Keys.{keys_of}
 use Rattle.cca_requests.specs.Serving.{CarriesStore, LeavesStore}
@@ -43,7 +43,7 @@ returns-clause-left g c =
     subst (λ x. LeavesStore (medium c.args.store.now) (medium c.create-outcome.new.store) (faults c.args.store.now) (faults c.create-outcome.new.store)
     x c.answer_create.new.reply rows now) (sym c.answer_create.ensures.stop)
     (create_left_as medium faults c.args.store.now c.create-outcome.new.store rows now (set rows cell (Some (null_row label))) c.answer_create.new.reply
-    cell (record_body null_kind label no_token) c.requires.store.settled c.requires.store.holds r
+    cell (null_body label) c.requires.store.settled c.requires.store.holds r
     c.create-outcome.ensures.cell c.create-outcome.ensures.undamaged c.create-outcome.ensures.untouched c.create-outcome.ensures.memory
     c.create-outcome.ensures.holds c.create-outcome.ensures.cause
     (subst (λ x. OnErr x (c.answer_create.new.reply ≡ [])) c.answer_create.ensures.stop c.answer_create.ensures.silent))

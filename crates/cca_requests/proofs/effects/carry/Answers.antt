@@ -11,7 +11,7 @@ use Rattle.cca_requests.specs.Serving.{Carries, tables}
 use Rattle.cca_requests.specs.Deciding.{IsDecided, labels_after}
 use Rattle.cca_requests.proofs.Carrying.{outcome_is, refused_is, shown_is, action_carries, define_carries, remove_carries, create_carries, write_carries, delete_carries, renew_carries}
 use Rattle.cca_requests.proofs.Contents.{sound}
-use Rattle.cca_requests.proofs.Leaving.{still_left, module_left, store_left}
+use Rattle.cca_requests.proofs.Leaving.{still_left, module_left, registers_left, store_left}
 use Rattle.cca_requests.proofs.Serving.{still_carries}
 use Rattle.cca_requests.proofs.effects.carry.Goals as goal
 
@@ -45,13 +45,14 @@ returns-in-Change-clause-carries g c = λ s request drawn at old decided.
     let action = c.in-Change.action in
     let left = subst (λ e. IsDecided s bench drawn request e c.args.reply.now) c.in-Change.is decided in
     let is = outcome_is (whole_verb_verdict s drawn request) (first_refusal (action_questions s action)) s drawn request
-    (Become (after_action action bench.part s.registers) (labels_after action s.labels)) left.0 left.1 left.3 in
+    (Become (after_action action bench.part s.registers) (labels_after action s)) left.0 left.1 left.3 in
     let m0 = g.M.Disk.medium c.args.module.now in
     let m1 = g.M.Disk.medium c.change_registers.new.module in
     let d = g.D.Disk.medium c.args.store.now in
-    subst (λ (o : Outcome). Carries o s c.change_registers.result c.change_registers.new.reply (tables c.args.roles.now c.args.records.now) m0 m1 d d) (sym is)
+    subst (λ (o : Outcome). Carries o s c.change_registers.result c.change_registers.new.reply (tables c.args.roles.now c.change_registers.new.records) m0 m1 d d) (sym is)
     (action_carries s c.args.roles.now c.args.roles.now c.args.records.now m0 m1 d c.change_registers.result c.change_registers.new.reply
-    c.requires.store.settled at.stands.on_store action bench.part at.loaded.valid left.2
+    c.requires.store.settled at.stands.on_store action bench.part c.change_registers.new.records at.loaded.valid left.2
+    (c.change_registers.ensures.turned s (record { loaded = at.loaded; stands = at.stands.on_module }))
     (c.change_registers.ensures.carries s (record { loaded = at.loaded; stands = at.stands.on_module })))
 
 pub returns-in-DefineRole-clause-carries : goal.returns-in-DefineRole-clause-carries
@@ -126,8 +127,8 @@ returns-in-Reencipher-clause-carries g c = λ s request drawn at old decided.
     let d0 = g.D.Disk.medium c.args.store.now in
     let d1 = g.D.Disk.medium c.renew.new.store in
     subst (λ (o : Outcome). Carries o s c.renew.result c.renew.new.reply (tables c.args.roles.now c.renew.new.records) m m d0 d1)
-    (sym (outcome_is (whole_verb_verdict s drawn request) None s drawn request Reencipher left.0 left.1 left.2))
-    (renew_carries s c.args.roles.now c.renew.new.records m d0 d1 c.renew.result c.renew.new.reply c.requires.at.settled at.stands.on_module
+    (sym (outcome_is (whole_verb_verdict s drawn request) None s drawn request (Reencipher c.in-Reencipher.action) left.0 left.1 left.2))
+    (renew_carries s c.args.roles.now c.renew.new.records m d0 d1 c.renew.result c.renew.new.reply c.requires.at.settled at.stands.on_module c.in-Reencipher.action
     (c.renew.ensures.carries s (record { loaded = at.loaded; stands = at.stands.on_store })))
 
 -- ---- whatever the disks hold
@@ -148,9 +149,10 @@ returns-in-Shown-clause-left g c =
 
 pub returns-in-Change-clause-left : goal.returns-in-Change-clause-left
 returns-in-Change-clause-left g c =
-    module_left c.change_registers.result c.change_registers.new.reply (g.M.Disk.medium c.args.module.now) (g.M.Disk.medium c.change_registers.new.module) (g.D.Disk.medium c.args.store.now)
+    registers_left c.change_registers.result c.change_registers.new.reply (g.M.Disk.medium c.args.module.now) (g.M.Disk.medium c.change_registers.new.module) (g.D.Disk.medium c.args.store.now)
     (g.M.Disk.faults c.args.module.now) (g.M.Disk.faults c.change_registers.new.module) (g.D.Disk.faults c.args.store.now)
-    c.args.roles.now c.args.roles.now c.args.records.now c.change_registers.ensures.left c.requires.store.settled c.requires.store.holds
+    c.args.roles.now c.args.roles.now c.args.records.now c.change_registers.new.records c.change_registers.ensures.left c.requires.store.settled c.requires.store.holds
+    c.change_registers.ensures.rows c.change_registers.ensures.memory
 
 pub returns-in-DefineRole-clause-left : goal.returns-in-DefineRole-clause-left
 returns-in-DefineRole-clause-left g c =

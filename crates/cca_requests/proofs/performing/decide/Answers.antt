@@ -27,7 +27,7 @@ use Rattle.verb_rules.specs.KeyChecks.{age_of}
 use Rattle.verb_rules.specs.Keys.{keys_of, opened, opened_key, token_for, opened_under}
 use Rattle.verb_rules.specs.declared.judging.Judged.{Judged}
 use Rattle.verb_script.specs.Named.{label_named}
-use Rattle.verb_script.specs.Grammar.{Request, csnbktp, csnbenc, csnbdec, csnbmgn, csnbmvr, csnbkrr, csnbkrd, csnbkrl, csnbmkp_part, csnbmkp_set, csuaaci_define, csnbkgn_op, csnbkgn_pair, csnbkgn_out, csnbkim, csnbkex, csnbpex, csnbktc, csnbkpi_first, csnbkpi_middle, csnbktr, csnbenc_first, csnbenc_middle, csnbenc_last, csnbdec_first, csnbdec_middle, csnbdec_last, csnbmgn_first, csnbmgn_middle, csnbmgn_last, csnbmvr_first, csnbmvr_middle, csnbmvr_last}
+use Rattle.verb_script.specs.Grammar.{Request, csnbktp, csnbenc, csnbdec, csnbmgn, csnbmvr, csnbkrr, csnbkrd, csnbkrl, csnbmkp_part, csnbmkp_set, csuaaci_define, csnbkgn_op, csnbkgn_pair, csnbkgn_out, csnbkim, csnbkex, csnbpex, csnbktc, csnbkpi_first, csnbkpi_middle, csnbktr, csnbenc_first, csnbenc_middle, csnbenc_last, csnbdec_first, csnbdec_middle, csnbdec_last, csnbmgn_first, csnbmgn_middle, csnbmgn_last, csnbmvr_first, csnbmvr_middle, csnbmvr_last, csnbmkp_clear, reencipher_ahead}
 use Rattle.verb_script.specs.Parsed.{seen}
 use Rattle.verb_script.specs.Values.{hex_value}
 use Rattle.master_registers.specs.Actions.{after_action}
@@ -44,7 +44,7 @@ use Rattle.cca_requests.specs.Deciding.{IsDecided, Decides, IsReady, ShowsOr, la
 use Rattle.cca_requests.specs.Judging.{AreGranted, AreKeyed, HaveShapes}
 use Rattle.cca_requests.specs.declared.effects.Effect.TheVariants as code
 use Rattle.cca_requests.proofs.Acting.{decides, drawn_zero, key_is, labels_kept, none_lost, opens, or_none_is, shows_or}
-use Rattle.cca_requests.proofs.SetRules.{set_decided}
+use Rattle.cca_requests.proofs.SetRules.{set_decided, clear_decided, ahead_decided}
 use Rattle.cca_requests.proofs.Delivering.{delivery_ready, held_at, no_fields_short, some_of, target_place, either_left, either_right}
 use Rattle.cca_requests.proofs.performing.decide.Goals as goal
 
@@ -230,9 +230,9 @@ returns-in-CsnbmkpPart-clause-decides g c = λ s loaded recorded granted.
     let effect = code.Change (part_action action) in
     let part : bench.part ≡ hex_value c.in-CsnbmkpPart.part.now = ap (λ l. (bench_of l).part) c.put_part.ensures in
     let becomes : Become (after_action (part_action action) (hex_value c.in-CsnbmkpPart.part.now) s.registers) s.labels
-    ≡ Become (after_action (part_action action) bench.part s.registers) (labels_after (part_action action) s.labels) =
+    ≡ Become (after_action (part_action action) bench.part s.registers) (labels_after (part_action action) s) =
     ap (λ p. Become (after_action (part_action action) p s.registers) s.labels) (sym part)
-    ∙ ap (Become (after_action (part_action action) bench.part s.registers)) (sym (labels_kept action s.labels)) in
+    ∙ ap (Become (after_action (part_action action) bench.part s.registers)) (sym (labels_kept action s)) in
     subst (λ (r : Request). Decides s bench r (code.Change c.part_action.result) c.args.reply.now left left) (sym (ap seen c.in-CsnbmkpPart.is))
     (subst (λ a. Decides s bench request (code.Change a) c.args.reply.now left left) (sym c.part_action.ensures)
     (decides s bench request effect c.args.reply.now left refl (refl, becomes, none_lost action s, refl)))
@@ -246,6 +246,38 @@ returns-in-CsnbmkpSet-clause-decides g c = λ s loaded recorded granted.
     subst (λ (r : Request). Decides s bench r c.set.result c.args.reply.now left left) (sym (ap seen c.in-CsnbmkpSet.is))
     (decides s bench request c.set.result c.args.reply.now left refl
     (set_decided s bench values c.set.result c.args.reply.now (c.set.ensures.decided s loaded recorded)))
+
+pub returns-in-CsnbmkpClear-clause-ready : goal.returns-in-CsnbmkpClear-clause-ready
+returns-in-CsnbmkpClear-clause-ready g c =
+    let bench = bench_of c.args.lease.now in
+    subst (λ r. IsReady c.args.held.now bench c.args.records.now c.clear.result r) (sym c.requires.empty) (c.clear.ensures.ready c.args.held.now bench)
+
+pub returns-in-CsnbmkpClear-clause-named : goal.returns-in-CsnbmkpClear-clause-named
+returns-in-CsnbmkpClear-clause-named g c = λ writes. absurd (c.clear.ensures.spares writes)
+
+pub returns-in-CsnbmkpClear-clause-decides : goal.returns-in-CsnbmkpClear-clause-decides
+returns-in-CsnbmkpClear-clause-decides g c = λ s loaded recorded granted.
+    let bench = bench_of c.args.lease.now in
+    let left = g.E.Entropy.left c.args.entropy.now in
+    let values = c.in-CsnbmkpClear.role ∷ c.in-CsnbmkpClear.action.now ∷ [] in
+    let request : Request = record { name = csnbmkp_clear; values = values } in
+    subst (λ (r : Request). Decides s bench r c.clear.result c.args.reply.now left left) (sym (ap seen c.in-CsnbmkpClear.is))
+    (decides s bench request c.clear.result c.args.reply.now left refl
+    (clear_decided s bench values c.clear.result c.args.reply.now (c.clear.ensures.decided s recorded)))
+
+pub returns-in-ReencipherAhead-clause-ready : goal.returns-in-ReencipherAhead-clause-ready
+returns-in-ReencipherAhead-clause-ready g c =
+    subst (λ r. IsReady c.args.held.now (bench_of c.args.lease.now) c.args.records.now c.ahead.result r) (sym c.requires.empty) c.ahead.ensures.ready
+
+pub returns-in-ReencipherAhead-clause-decides : goal.returns-in-ReencipherAhead-clause-decides
+returns-in-ReencipherAhead-clause-decides g c = λ s loaded recorded granted.
+    let bench = bench_of c.args.lease.now in
+    let left = g.E.Entropy.left c.args.entropy.now in
+    let values = c.in-ReencipherAhead.role ∷ c.in-ReencipherAhead.action.now ∷ [] in
+    let request : Request = record { name = reencipher_ahead; values = values } in
+    subst (λ (r : Request). Decides s bench r c.ahead.result c.args.reply.now left left) (sym (ap seen c.in-ReencipherAhead.is))
+    (decides s bench request c.ahead.result c.args.reply.now left refl
+    (ahead_decided s bench values c.ahead.result c.args.reply.now (c.ahead.ensures.decided s loaded recorded)))
 
 -- ---- keys generated
 

@@ -40,7 +40,7 @@ loop-cell-preserved g c =
       rows = c.open_cell.ensures.rows;
       keeps = keeps_then (g.D.Disk.medium c.args.store.now) (g.D.Disk.medium c.loop-cell.store) (g.D.Disk.medium c.open_cell.new.store) c.loop-cell.invariant.keeps c.open_cell.ensures.keeps;
       later = omega (arith, c.loop-cell.invariant.later, c.open_cell.ensures.cause.later);
-      rest = c.open_cell.ensures.rest ∙ ap (λ l. holding l (record (bench_of l) { body = (bench_of c.open_cell.new.lease).body })) c.loop-cell.invariant.rest;
+      rest = c.open_cell.ensures.rest ∙ ap (λ l. holding l (record (bench_of l) { key = (bench_of c.open_cell.new.lease).key; schedules = (bench_of c.open_cell.new.lease).schedules; body = (bench_of c.open_cell.new.lease).body })) c.loop-cell.invariant.rest;
     }
 
 pub returns-clause-stands : goal.returns-clause-stands

@@ -1,6 +1,6 @@
 -- The memory knows the labels of the cells before, and no others.
-use Rattle.std.proofs.Common.{◌≡◌, ◌≤◌}
-use Rattle.key_cells.specs.Lease.{bench_of, holding}
+use Rattle.std.proofs.Common.{◌≤◌}
+use Rattle.key_records.specs.Changes.{ChangesKeyAndBody}
 use Rattle.slot_disk.specs.Medium.{Told, Keeps}
 use Rattle.verb_rules.specs.Keys.{keys_of}
 use Rattle.key_records.specs.Opening.{OpenedTo}
@@ -16,5 +16,5 @@ invariant-loop-cell g l = record {
   rows : AreRows l.records;
   keeps : Keeps (g.D.Disk.medium l.fn.store) (g.D.Disk.medium l.store);
   later : g.D.Disk.faults l.fn.store ≤ g.D.Disk.faults l.store;
-  rest : l.lease ≡ holding l.fn.lease (record (bench_of l.fn.lease) { body = (bench_of l.lease).body });
+  rest : ChangesKeyAndBody l.fn.lease l.lease;
 }

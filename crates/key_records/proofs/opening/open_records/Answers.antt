@@ -8,7 +8,7 @@ use Rattle.key_records.proofs.StoreLaws.{told_map, told_still}
 use Rattle.key_records.proofs.opening.open_records.Goals as goal
 
 pub open_cells-requires : goal.open_cells-requires
-open_cells-requires g c κs within = (within, (c.requires.size, c.requires.loaded.told))
+open_cells-requires g c κs within = (within, (c.requires.size, (c.requires.loaded, c.coming_pattern-coming.ensures)))
 
 pub returns-in-Ok-clause-stands : goal.returns-in-Ok-clause-stands
 returns-in-Ok-clause-stands g c =

@@ -1,11 +1,9 @@
 use Rattle.std.proofs.Common.{None, Some, true, false, sym, ap, ◌∙◌}
-use Rattle.key_tokens.specs.declared.key_token.Token.{Token}
-use Rattle.master_registers.specs.declared.patterns.Pattern.{Pattern}
 use Rattle.key_tokens.specs.declared.key_token.Age.TheVariants.{Current, Old}
 use Rattle.key_records.specs.Ages.{has_old_key}
 use Rattle.verb_rules.proofs.DenotedLemmas.{denoted_refused}
 use Rattle.key_tokens.specs.TokenChecks.{rule_of}
-use Rattle.reencipher.proofs.TokenLaws.{pattern_is, register_current, register_old, denoted_for, age_for}
+use Rattle.reencipher.proofs.TokenLaws.{register_current, register_old, denoted_for, age_for}
 use Rattle.reencipher.proofs.tokens.old_key.Goals as goal
 
 pub returns-in-Err-clause-old : goal.returns-in-Err-clause-old
@@ -29,8 +27,3 @@ returns-clause-key c m bench loaded =
 
 pub returns-clause-old : goal.returns-clause-old
 returns-clause-old c m bench loaded = sym (ap has_old_key (returns-clause-key c m bench loaded))
-
-pub returns-clause-pattern : goal.returns-clause-pattern
-returns-clause-pattern c =
-    pattern_is c.args.held.now.old_pattern c.in-Ok.token.pattern (sym c.is_pattern-2.ensures ∙ c.if-not-is_pattern.false)
-    ∙ ap (λ (t : Token). let p : Pattern = record { bytes = t.pattern } in Some p) c.in-Ok.ensures.token

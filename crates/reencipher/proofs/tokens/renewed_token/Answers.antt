@@ -1,10 +1,11 @@
 use Rattle.std.proofs.Common.{List, ℕ, Some, sym, ap, ◌∙◌}
 use Rattle.key_cells.specs.Lease.{bench_of}
-use Rattle.key_tokens.specs.declared.key_token.Age.TheVariants.{Current}
+use Rattle.key_tokens.specs.declared.key_token.Age.TheVariants.{Current, Old}
 use Rattle.verb_rules.specs.Keys.{opened}
 use Rattle.reencipher.specs.Further.{under_current}
 use Rattle.multi_encipher.specs.Bundles.{key_in}
-use Rattle.reencipher.proofs.TokenLaws.{key_again, key_at_age, opened_old, loaded_after}
+use Rattle.key_records.proofs.PairLaws.{key_again}
+use Rattle.reencipher.proofs.TokenLaws.{key_at_age, opened_at, loaded_after}
 use Rattle.reencipher.proofs.tokens.renewed_token.Goals as goal
 
 pub returns-in-None-clause-old : goal.returns-in-None-clause-old
@@ -18,7 +19,7 @@ returns-clause-key c m loaded =
     let stands = ap (key_in vector) c.open_key.ensures.key ∙ key_again vector key c.open_key.ensures.length in
     c.write_current.ensures.denoted m (loaded_after m c.args.held.now c.args.lease.now c.open_key.new.lease loaded c.open_key.ensures.stays)
     ∙ ap (λ k. Some (key_at_age (record { key = k; vector = vector }) Current)) stands
-    ∙ sym (ap under_current (c.in-Some.ensures.key m bench loaded ∙ opened_old bench c.in-Some.key c.in-Some.ensures.age))
+    ∙ sym (ap under_current (c.in-Some.ensures.key m bench loaded ∙ opened_at bench c.in-Some.key Old c.in-Some.ensures.age))
 
 pub returns-clause-old : goal.returns-clause-old
 returns-clause-old c m loaded = c.in-Some.ensures.old m (bench_of c.args.lease.now) loaded

@@ -1,5 +1,5 @@
 -- The same of the last segment.
-use Rattle.std.proofs.Common.{◌≡◌, subst}
+use Rattle.std.proofs.Common.{subst}
 use Rattle.std.specs.Prelude.{◌/◌, length}
 use Rattle.key_cells.specs.Lease.{bench_of}
 use Rattle.text_segments.specs.Chains.{chain_of}
@@ -10,7 +10,7 @@ use Rattle.cipher_verbs.specs.declared.padding.Pad.TheVariants as padding
 use Rattle.text_segments.specs.declared.modes.Mode.TheVariants.{Mac}
 use Rattle.verb_rules.specs.declared.lengths.MacRule.{MacRule}
 use Rattle.cca_machine.specs.Act.{last_match_fields}
-use Rattle.cca_machine.specs.Choices.{mac_length_named, mac_rule_named}
+use Rattle.cca_machine.specs.Choices.{mac_rule_named}
 use Rattle.cca_machine.specs.Verdict.{first_refusal, code_key_questions, last_segment_questions}
 use Rattle.cca_requests.specs.Deciding.{ShowsOr}
 use Rattle.cca_requests.proofs.SegmentRules.{chain_refused, given_chain, no_chain, shows_after}

@@ -1,5 +1,5 @@
 -- A chain that a segment gives is the one that its bytes are.
-use Rattle.std.proofs.Common.{◌≡◌, subst}
+use Rattle.std.proofs.Common.{subst}
 use Rattle.std.specs.Prelude.{◌/◌, length}
 use Rattle.key_cells.specs.Lease.{bench_of}
 use Rattle.text_segments.specs.Chains.{chain_of}

@@ -1,5 +1,5 @@
 -- The same of the last segment.
-use Rattle.std.proofs.Common.{◌≡◌, subst}
+use Rattle.std.proofs.Common.{subst}
 use Rattle.std.specs.Prelude.{◌/◌, length}
 use Rattle.cipher_verbs.specs.declared.padding.Pad.{Pad}
 use Rattle.key_cells.specs.Lease.{bench_of}

@@ -1,42 +1,113 @@
-use Rattle.std.proofs.Common.{◌≡◌, ℕ, List, Bool, true, false, Some, None, get_or, sym, ap, subst, ◌∙◌}
-use Rattle.std.specs.Prelude.{is_some, not}
+use Rattle.std.proofs.Common.{◌≡◌, ◌<◌, ℕ, List, Bool, true, false, Option, Some, None, get_or, refl, sym, ap, subst, ◌∙◌}
+use Rattle.std.specs.Prelude.{is_some, not, slice_index}
 use Rattle.slot_disk.specs.Cells.{body}
-use Rattle.key_records.specs.Changes.{ReadsToken}
-use Rattle.key_records.specs.RecordBody.{record_body, token_in, ReadsRow}
+use Rattle.slot_disk.specs.Medium.{Medium, Told}
+use Rattle.key_records.specs.Changes.{ReadsToken, ahead_at}
+use Rattle.key_records.specs.Entries.{label_or}
+use Rattle.key_records.specs.RecordBody.{record_body, token_in, second_in, held_token, IsFirst, IsSecond, StandsAs, ReadsRow}
 use Rattle.key_records.specs.StoreStands.{KeepsLabels, HoldsRows, entry_at}
 use Rattle.key_records.specs.declared.rows.Row.{Row}
-use Rattle.key_records.proofs.ReadLaws.{row_body, read_token}
+use Rattle.key_records.specs.declared.rows.Second.{Second}
+use Rattle.key_records.proofs.ReadLaws.{row_body, row_has_kind, row_pair, row_stands, read_token}
 use Rattle.key_records.proofs.StoreLaws.{told_both, unless_err}
 use Rattle.key_records.proofs.records.Records.read.Goals as goal
 
 not_true : (b : Bool) → b ≡ false → b ≡ true → ⊥
 not_true b is holds = let both : true ≡ false = sym holds ∙ is in cc
 
+-- a told disk, whose cell was read
+module _ (m : Medium) (rows : List (Option Row)) (cell : ℕ) (row : Row) (bytes : List ℕ) (within : cell < 1024) (held : get_or rows cell None ≡ Some row) where
+  reads : (image : List ℕ) → HoldsRows rows image → bytes ≡ body image cell → ReadsRow bytes (Some row)
+  reads image holds here = subst (λ (b : List ℕ). ReadsRow b (Some row)) (sym here) (subst (ReadsRow (body image cell)) held (holds.reads cell within))
+
+  -- what contradicts the row is told of no disk
+  never : (out : List ℕ) → Told m (HoldsRows rows) → Told m (λ image. out ≡ body image cell) → bytes ≡ out → (ReadsRow bytes (Some row) → ⊥) → Told m (λ _. ⊥)
+  never out holds read is contradicts = told_both m (HoldsRows rows) (λ image. out ≡ body image cell) (λ _. ⊥) holds read (λ image h r. contradicts (reads image h (is ∙ r)))
+
+-- the pieces of a body
+module _ (bytes token : List ℕ) (second : Second) (is_token : token ≡ token_in bytes) (is_second : second ≡ second_in bytes) where
+  pieces : (label : List ℕ) → bytes ≡ record_body (slice_index bytes 0) label (token_in bytes) (second_in bytes) → bytes ≡ record_body (slice_index bytes 0) label token second
+  pieces label is = is ∙ ap (λ t. record_body (slice_index bytes 0) label t (second_in bytes)) (sym is_token) ∙ ap (record_body (slice_index bytes 0) label token) (sym is_second)
+
+  held_is : (ahead : Bool) → held_token ahead (slice_index bytes 0) token second ≡ held_token ahead (slice_index bytes 0) (token_in bytes) (second_in bytes)
+  held_is ahead = ap (λ t. held_token ahead (slice_index bytes 0) t second) is_token ∙ ap (held_token ahead (slice_index bytes 0) (token_in bytes)) is_second
+
+  pair_is : IsFirst (token_in bytes) × IsSecond (token_in bytes) (second_in bytes) → IsFirst token × IsSecond token second
+  pair_is pair = (subst IsFirst (sym is_token) pair.0, subst (λ (t : List ℕ). IsSecond t second) (sym is_token) (subst (IsSecond (token_in bytes)) (sym is_second) pair.1))
+
+pub returns-then-not-has_kind-clause-damaged : goal.returns-then-not-has_kind-clause-damaged
+returns-then-not-has_kind-clause-damaged g c n is =
+    let row : Row = c.row-row.result in
+    let bytes : List ℕ = c.body.result.now in
+    let held : get_or c.args.self.now c.cell-cell.result None ≡ Some row = ap (λ k. get_or c.args.self.now k None) c.cell-cell.ensures.cell ∙ c.row-row.ensures in
+    let read = subst (λ k. Told (g.D.Disk.medium c.args.store.now) (λ image. c.read_cell.new.out ≡ body image k)) c.new.ensures (unless_err c.read_cell.result (sym c.is_err.ensures.value ∙ c.if-is_err.false) c.read_cell.ensures.bytes) in (
+      sym (cc is) ∙ c.cell-cell.ensures.cell,
+      never (g.D.Disk.medium c.args.store.now) c.args.self.now c.cell-cell.result row bytes c.cell-cell.ensures.within held c.read_cell.new.out c.requires.holds read c.body.ensures
+          (λ reads. not_true c.has_kind.result c.if-not-has_kind.true (c.has_kind.ensures ∙ row_has_kind bytes row reads)),
+    )
+
 pub returns-then-not-is_record-clause-damaged : goal.returns-then-not-is_record-clause-damaged
 returns-then-not-is_record-clause-damaged g c n is =
     let row : Row = c.row-row.result in
-    let bytes : List ℕ = c.body-2.result.now in
-    let held : get_or c.args.self.now c.cell-cell.result None ≡ Some row = ap (λ k. get_or c.args.self.now k None) c.cell-cell.ensures.cell ∙ c.row-row.ensures in (
+    let bytes : List ℕ = c.body.result.now in
+    let held : get_or c.args.self.now c.cell-cell.result None ≡ Some row = ap (λ k. get_or c.args.self.now k None) c.cell-cell.ensures.cell ∙ c.row-row.ensures in
+    let read = subst (λ k. Told (g.D.Disk.medium c.args.store.now) (λ image. c.read_cell.new.out ≡ body image k)) c.new.ensures (unless_err c.read_cell.result (sym c.is_err.ensures.value ∙ c.if-is_err.false) c.read_cell.ensures.bytes) in
+    let token : c.token_in-token.result ≡ token_in bytes = c.token_in-token.ensures.token ∙ ap token_in (c.body-2.ensures ∙ sym c.body.ensures) in
+    let second : c.second_in-second.result ≡ second_in bytes = c.second_in-second.ensures.second ∙ ap second_in (c.body-3.ensures ∙ sym c.body.ensures) in (
       sym (cc is) ∙ c.cell-cell.ensures.cell,
-      told_both (g.D.Disk.medium c.args.store.now) (HoldsRows c.args.self.now) (λ image. c.read_cell.new.out ≡ body image c.new.result) (λ _. ⊥) c.requires.holds
-          (unless_err c.read_cell.result (sym c.is_err.ensures.value ∙ c.if-is_err.false) c.read_cell.ensures.bytes)
-          (λ image holds read.
-          let here : bytes ≡ body image c.cell-cell.result = c.body-2.ensures ∙ read ∙ ap (body image) c.new.ensures in
-          let reads : ReadsRow bytes (Some row) = subst (λ (b : List ℕ). ReadsRow b (Some row)) (sym here) (subst (ReadsRow (body image c.cell-cell.result)) held (holds.reads c.cell-cell.result c.cell-cell.ensures.within)) in
-          not_true c.is_record.result c.if-not-is_record.true (c.is_record.ensures.1
-          (row_body bytes row reads ∙ ap (λ k. record_body k row.label (token_in bytes)) (sym c.kind_of.ensures) ∙ ap (record_body c.kind_of.result row.label) (ap token_in (c.body-2.ensures ∙ sym c.body.ensures) ∙ sym c.token_in-token.ensures.token)))),
+      never (g.D.Disk.medium c.args.store.now) c.args.self.now c.cell-cell.result row bytes c.cell-cell.ensures.within held c.read_cell.new.out c.requires.holds read c.body.ensures
+          (λ reads. not_true c.is_record.result c.if-not-is_record.true (c.is_record.ensures.1 (c.body-4.ensures ∙ sym c.body.ensures ∙ pieces bytes c.token_in-token.result c.second_in-second.result token second row.label (row_body bytes row reads)))),
+    )
+
+pub returns-in-None-clause-damaged : goal.returns-in-None-clause-damaged
+returns-in-None-clause-damaged g c n is =
+    let row : Row = c.row-row.result in
+    let bytes : List ℕ = c.body.result.now in
+    let held : get_or c.args.self.now c.cell-cell.result None ≡ Some row = ap (λ k. get_or c.args.self.now k None) c.cell-cell.ensures.cell ∙ c.row-row.ensures in
+    let read = subst (λ k. Told (g.D.Disk.medium c.args.store.now) (λ image. c.read_cell.new.out ≡ body image k)) c.new.ensures (unless_err c.read_cell.result (sym c.is_err.ensures.value ∙ c.if-is_err.false) c.read_cell.ensures.bytes) in
+    let token : c.token_in-token.result ≡ token_in bytes = c.token_in-token.ensures.token ∙ ap token_in (c.body-2.ensures ∙ sym c.body.ensures) in
+    let second : c.second_in-second.result ≡ second_in bytes = c.second_in-second.ensures.second ∙ ap second_in (c.body-3.ensures ∙ sym c.body.ensures) in
+    let some : is_some row.pattern ≡ true = c.is_none.ensures ∙ ap not c.if-is_none.false in (
+      sym (cc is) ∙ c.cell-cell.ensures.cell,
+      never (g.D.Disk.medium c.args.store.now) c.args.self.now c.cell-cell.result row bytes c.cell-cell.ensures.within held c.read_cell.new.out c.requires.holds read c.body.ensures
+          (λ reads. let pair = pair_is bytes c.token_in-token.result c.second_in-second.result token second (row_pair bytes row reads some) in c.in-None.ensures.none refl pair.0 pair.1),
     )
 
 pub returns-clause-token : goal.returns-clause-token
 returns-clause-token g c masters s start =
     let row : Row = c.row-row.result in
+    let bytes : List ℕ = c.body.result.now in
     let held : get_or c.args.self.now c.cell-cell.result None ≡ Some row = ap (λ k. get_or c.args.self.now k None) c.cell-cell.ensures.cell ∙ c.row-row.ensures in
+    let read = subst (λ k. Told (g.D.Disk.medium c.args.store.now) (λ image. c.read_cell.new.out ≡ body image k)) c.new.ensures (unless_err c.read_cell.result (sym c.is_err.ensures.value ∙ c.if-is_err.false) c.read_cell.ensures.bytes) in
+    let token : c.token_in-token.result ≡ token_in bytes = c.token_in-token.ensures.token ∙ ap token_in (c.body-2.ensures ∙ sym c.body.ensures) in
+    let second : c.second_in-second.result ≡ second_in bytes = c.second_in-second.ensures.second ∙ ap second_in (c.body-3.ensures ∙ sym c.body.ensures) in
     let some : is_some row.pattern ≡ true = c.is_none.ensures ∙ ap not c.if-is_none.false in
-    told_both (g.D.Disk.medium c.args.store.now) (KeepsLabels masters c.args.self.now s) (λ image. c.read_cell.new.out ≡ body image c.new.result) (λ _. ReadsToken masters (entry_at s c.args.place) true c.token_in-token.result) start
-    (unless_err c.read_cell.result (sym c.is_err.ensures.value ∙ c.if-is_err.false) c.read_cell.ensures.bytes)
-    (λ image keeps read.
-    let here : token_in (body image c.cell-cell.result) ≡ c.token_in-token.result = ap token_in (ap (body image) (sym c.new.ensures) ∙ sym read ∙ sym c.body.ensures) ∙ sym c.token_in-token.ensures.token in
-    subst (λ (n : ℕ). ReadsToken masters (entry_at s n) true c.token_in-token.result) c.cell-cell.ensures.cell
-    (subst (λ (b : Bool). ReadsToken masters (entry_at s c.cell-cell.result) b c.token_in-token.result) some
-    (subst (λ (t : List ℕ). ReadsToken masters (entry_at s c.cell-cell.result) (is_some row.pattern) t) here
+    let found : held_token (is_some row.ahead) (slice_index bytes 0) (token_in bytes) (second_in bytes) ≡ c.in-Some.found =
+    sym (c.in-Some.ensures.found ∙ ap (λ b. held_token b (slice_index bytes 0) c.token_in-token.result c.second_in-second.result) c.is_some.ensures ∙ held_is bytes c.token_in-token.result c.second_in-second.result token second (is_some row.ahead)) in
+    told_both (g.D.Disk.medium c.args.store.now) (KeepsLabels masters c.args.self.now s) (λ image. c.read_cell.new.out ≡ body image c.cell-cell.result) (λ _. ReadsToken masters (entry_at s c.args.place) true c.in-Some.found) start read
+    (λ image keeps here.
+    subst (λ (n : ℕ). ReadsToken masters (entry_at s n) true c.in-Some.found) c.cell-cell.ensures.cell
+    (subst (λ (b : Bool). ReadsToken masters (entry_at s c.cell-cell.result) b c.in-Some.found) some
+    (subst (λ (t : List ℕ). ReadsToken masters (entry_at s c.cell-cell.result) (is_some row.pattern) t)
+    (ap (λ b. held_token (is_some row.ahead) (slice_index b 0) (token_in b) (second_in b)) (sym (c.body.ensures ∙ here)) ∙ found)
     (read_token masters c.args.self.now s image c.cell-cell.result row keeps held c.cell-cell.ensures.within))))
+
+pub returns-clause-bytes : goal.returns-clause-bytes
+returns-clause-bytes g c _ =
+    let row : Row = c.row-row.result in
+    let bytes : List ℕ = c.body.result.now in
+    let held : get_or c.args.self.now c.cell-cell.result None ≡ Some row = ap (λ k. get_or c.args.self.now k None) c.cell-cell.ensures.cell ∙ c.row-row.ensures in
+    let read = subst (λ k. Told (g.D.Disk.medium c.args.store.now) (λ image. c.read_cell.new.out ≡ body image k)) c.new.ensures (unless_err c.read_cell.result (sym c.is_err.ensures.value ∙ c.if-is_err.false) c.read_cell.ensures.bytes) in
+    let token : c.token_in-token.result ≡ token_in bytes = c.token_in-token.ensures.token ∙ ap token_in (c.body-2.ensures ∙ sym c.body.ensures) in
+    let second : c.second_in-second.result ≡ second_in bytes = c.second_in-second.ensures.second ∙ ap second_in (c.body-3.ensures ∙ sym c.body.ensures) in
+    let some : is_some row.pattern ≡ true = c.is_none.ensures ∙ ap not c.if-is_none.false in
+    let found : held_token (is_some row.ahead) (slice_index bytes 0) (token_in bytes) (second_in bytes) ≡ c.in-Some.found =
+    sym (c.in-Some.ensures.found ∙ ap (λ b. held_token b (slice_index bytes 0) c.token_in-token.result c.second_in-second.result) c.is_some.ensures ∙ held_is bytes c.token_in-token.result c.second_in-second.result token second (is_some row.ahead)) in
+    told_both (g.D.Disk.medium c.args.store.now) (HoldsRows c.args.self.now) (λ image. c.read_cell.new.out ≡ body image c.cell-cell.result)
+    (λ image. StandsAs (body image c.args.place) (label_or (get_or c.args.self.now c.args.place None)) c.in-Some.found (ahead_at (get_or c.args.self.now c.args.place None))) c.requires.holds read
+    (λ image holds here.
+    subst (λ (n : ℕ). StandsAs (body image n) (label_or (get_or c.args.self.now n None)) c.in-Some.found (ahead_at (get_or c.args.self.now n None))) c.cell-cell.ensures.cell
+    (subst (λ (o : Option Row). StandsAs (body image c.cell-cell.result) (label_or o) c.in-Some.found (ahead_at o)) (sym held)
+    (subst (λ (b : List ℕ). StandsAs b row.label c.in-Some.found row.ahead) (c.body.ensures ∙ here)
+    (subst (λ (t : List ℕ). StandsAs bytes row.label t row.ahead) found
+    (row_stands bytes row (reads (g.D.Disk.medium c.args.store.now) c.args.self.now c.cell-cell.result row bytes c.cell-cell.ensures.within held image holds (c.body.ensures ∙ here)) some)))))

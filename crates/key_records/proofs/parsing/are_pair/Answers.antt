@@ -1,0 +1,43 @@
+use Rattle.std.proofs.Common.{◌≡◌, ◌∙◌, true, false, List, ℕ, Some, refl, sym, ap}
+use Rattle.key_cells.specs.Lease.{bench_of}
+use Rattle.key_cells.specs.declared.leases.Lease.{Lease}
+use Rattle.key_tokens.specs.Fields.{token_of}
+use Rattle.key_tokens.specs.declared.key_token.Age.TheVariants.{Current}
+use Rattle.key_tokens.specs.declared.key_token.Token.{Token}
+use Rattle.multi_encipher.specs.Bundles.{key_in}
+use Rattle.multi_encipher.specs.Seals.{seal}
+use Rattle.verb_rules.specs.Keys.{opened}
+use Rattle.verb_rules.proofs.DenotedLemmas.{judged_with}
+use Rattle.key_records.proofs.KeptLaws.{pattern}
+use Rattle.key_records.proofs.PairLaws.{under_current, pair_of, of_pair, key_again}
+use Rattle.key_records.proofs.parsing.are_pair.Goals as goal
+
+no_test : {P : Type 0} → false ≡ true → P
+no_test is = absurd (cc is)
+
+pub returns-then-not-is_pattern-clause-pair : goal.returns-then-not-is_pattern-clause-pair
+returns-then-not-is_pattern-clause-pair g c = (
+  λ no. no_test no,
+  λ pair.
+      let has = under_current g.m c.args.held.now (bench_of c.args.lease.now) c.args.token.now c.requires.0 c.requires.1.1 pair.key pair.is_kept pair.current in
+      c.if-not-is_pattern.ensures.1 (has ∙ ap (λ (t : Token). Some (pattern t.pattern)) (sym c.in-Ok.ensures.token)),
+)
+
+pub returns-clause-pair : goal.returns-clause-pair
+returns-clause-pair g c =
+    let bench = bench_of c.args.lease.now in
+    let token : List ℕ = c.args.token.now in
+    let vector : List ℕ = c.in-Ok.first.vector in
+    let has = c.is_pattern.ensures.0 c.if-not-is_pattern.false ∙ ap (λ (t : Token). Some (pattern t.pattern)) c.in-Ok.ensures.token in
+    let coming = sym c.requires.1.0 ∙ c.if-not-is_pattern-2.ensures.0 refl in
+    let key : key_in vector (bench_of c.open_key.new.lease).key ≡ (opened bench (judged_with c.in-Ok.first (Some Current))).key =
+    ap (key_in vector) c.open_key.ensures.key ∙ key_again vector (opened bench (judged_with c.in-Ok.first (Some Current))).key c.open_key.ensures.length in
+    let sealed : c.seal-sealed.result ≡ seal bench.coming (opened bench (judged_with (token_of token) (Some Current))).vector (opened bench (judged_with (token_of token) (Some Current))).key =
+    c.seal-sealed.ensures.sealed
+    ∙ ap (λ (l : Lease). seal (bench_of l).coming vector (key_in vector (bench_of c.open_key.new.lease).key)) c.open_key.ensures.stays
+    ∙ ap (seal bench.coming vector) key
+    ∙ ap (λ (t : Token). seal bench.coming (opened bench (judged_with t (Some Current))).vector (opened bench (judged_with t (Some Current))).key) c.in-Ok.ensures.token in
+    let pairs = c.are_same.ensures in (
+      λ same. pair_of g.m c.args.held.now bench token c.args.second.now c.seal-sealed.result c.requires.0 c.requires.1.1 has coming sealed (pairs.0 same),
+      λ pair. pairs.1 (of_pair g.m c.args.held.now bench token c.args.second.now c.seal-sealed.result c.requires.0 c.requires.1.1 has coming sealed pair),
+    )

@@ -1,0 +1,68 @@
+//! The tokens that an action puts into a record.
+ghost use Rattle.std.specs.Prelude.{◌≡◌, ◌≢◌, ◌<◌, ℕ, List, Option, None, Some, Result, Err, IfErr, OnOk, OnErr, IsSome, get_or};
+ghost use Rattle.key_cells.specs.Lease.{bench_of};
+ghost use Rattle.key_records.specs.Changes.{ReplacesBody, ChangesLabels, HasRecordCause, KeepsAllButBody};
+ghost use Rattle.key_records.specs.Directory.{label_at};
+ghost use Rattle.key_records.specs.Entries.{Entry, row_directory, label_or};
+ghost use Rattle.key_records.specs.StoreStands.{HoldsRows, KeepsLabels};
+ghost use Rattle.key_records.specs.declared.records.TheConstants.{STORE_LEN};
+ghost use Rattle.key_tokens.specs.Denotes.{Denoted, MasterKeys};
+ghost use Rattle.master_registers.specs.Loaded.{IsLoaded, masters_in};
+ghost use Rattle.reencipher.specs.Tokens.{CanBeWritten, StandFor, body_of, put_in};
+ghost use Rattle.slot_disk.specs.Medium.{Told, IsSettled};
+ghost use Rattle.verb_rules.specs.Keys.{keys_of};
+
+use key_cells::Lease;
+use key_records::{Place, RecordFault, Records, Second};
+use master_registers::Registers;
+use slot_disk::Disk;
+
+/// The tokens that are put into a record.
+#[derive(Clone, Copy)]
+pub(crate) enum Tokens {
+    /// One token.
+    One([u8; 64]),
+    /// A token under the current master key, and a second one under the new one.
+    Two([u8; 64], Second),
+}
+
+/// Puts tokens into the record of a label that is held.
+pub(crate) fn put<D: Disk>(
+    tokens: &Tokens,
+    lease: &mut Lease,
+    held: &Registers,
+    store: &mut D,
+    records: &mut Records,
+    place: Place,
+) -> Result<(), RecordFault>
+    requires held { IsSome (label_at (row_directory records.old) place) }
+    requires size { (D.medium store.old).size ≡ STORE_LEN }
+    requires settled { IsSettled (D.medium store.old) }
+    requires holds { Told (D.medium store.old) (HoldsRows records.old) }
+    requires loaded { IsLoaded held.now (bench_of lease.old) }
+    requires ready { CanBeWritten (keys_of (masters_in held.now (bench_of lease.old))) tokens.now }
+
+    ensures cell { ReplacesBody place
+        (body_of (label_or (get_or records.old place None)) tokens.now)
+        (D.medium store.old) (D.medium store.new) result }
+    ensures labels { (masters : MasterKeys) (s : List (Option Entry)) (key : Denoted)
+        → Told (D.medium store.old) (KeepsLabels masters records.old s)
+        → StandFor masters tokens.now key
+        → ChangesLabels masters place s (put_in tokens.now place key s)
+        records.new (D.medium store.old) (D.medium store.new) result }
+    ensures directory { OnOk result (row_directory records.new ≡ row_directory records.old) }
+    ensures kept { OnErr result (records.new ≡ records.old) }
+    ensures others { (n : ℕ) → n ≢ place
+        → get_or records.new n None ≡ get_or records.old n None }
+    ensures holds { OnOk result (Told (D.medium store.new) (HoldsRows records.new)) }
+    ensures rest { KeepsAllButBody lease.old lease.new }
+    ensures cause { HasRecordCause (D.faults store.old) (D.faults store.new) result }
+    ensures faults { IfErr result (λ fault. fault ≡ RecordFault.DiskFault) }
+{
+    match tokens {
+        Tokens::One(token) => records.write(store, lease, held, place, token),
+        Tokens::Two(token, second) => {
+            records.write_both(store, lease, held, place, token, second)
+        }
+    }
+}
