@@ -18,7 +18,7 @@ const CALLS: u64 = 200;
 const ROOM: usize = 20_000;
 
 // A master key, and keys under labels.
-const LABELLED: &[(&str, &str)] = &[
+pub(crate) const LABELLED: &[(&str, &str)] = &[
     (
         "CSNBMKP role=DEFAULT action=FIRST part=0102030405060708090a0b0c0d0e0f101112131415161718",
         "OK new=partial",
@@ -41,7 +41,7 @@ const LABELLED: &[(&str, &str)] = &[
 ];
 
 // Texts, a code and a test value under keys that labels name.
-const USED: &[(&str, &str)] = &[
+pub(crate) const USED: &[(&str, &str)] = &[
     (
         "CSNBENC role=DEFAULT key=L:K iv=1234567890abcdef pad=NONE text=4e6f77206973207468652074696d6520666f7220616c6c20",
         "OK text=e5c7cdde872bf27c43e934008c389c0f683788499a7c05f6",

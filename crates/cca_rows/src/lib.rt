@@ -5,6 +5,12 @@
 ghost use Rattle.cca_rows.specs.WorkedCeremonies.{CeremoniesAnswered};
 
 #[cfg(test)]
+mod ahead;
+#[cfg(test)]
+mod ahead_bodies;
+#[cfg(test)]
+mod ahead_stops;
+#[cfg(test)]
 mod audits;
 #[cfg(test)]
 mod cuts;
@@ -22,6 +28,8 @@ mod labels;
 mod masters;
 #[cfg(test)]
 mod moves;
+#[cfg(test)]
+mod pairs;
 #[cfg(test)]
 mod roles;
 #[cfg(test)]

@@ -152,20 +152,29 @@ CSNBMKP role=DEFAULT action=LAST part=000000000000000000000000000000000000000000
 CSNBMKP role=DEFAULT action=SET
 ";
 
-// The keys after it: each is what it was, and no longer under the old master key.
-const USED_KEYS: &[u8] = b"\
+// A request that changes three labels, and requests after it with their replies.
+pub(crate) struct Renewal {
+    pub(crate) line: &'static str,
+    pub(crate) used: &'static str,
+    pub(crate) values: &'static str,
+}
+
+// The keys after REENCIPHER: each is what it was, and no longer under the old master key.
+const RE_ENCIPHERED: Renewal = Renewal {
+    line: "REENCIPHER role=DEFAULT\n",
+    used: "\
 REENCIPHER role=DEFAULT
 CSNBKYT role=DEFAULT key=L:A
 CSNBKYT role=DEFAULT key=L:NONE
 CSNBKYT role=DEFAULT key=L:B
 CSNBKYT role=DEFAULT key=L:C
-";
+",
+    values: "OK changed=0\nOK value=d5d44ff7\nNO 08 key\nOK value=d5d44ff7\nOK value=d5d44ff7\n",
+};
 
-const USED_VALUES: &str =
-    "OK changed=0\nOK value=d5d44ff7\nNO 08 key\nOK value=d5d44ff7\nOK value=d5d44ff7\n";
-
-// Runs REENCIPHER over the store, and gives the store that it leaves, with the calls that it noted.
-fn re_enciphered(
+// Runs the request over the store, and gives the store that it leaves, with the calls that it noted.
+fn renewed(
+    renewal: &Renewal,
     alloc: Global,
     module: &MemoryDisk,
     store: &MemoryDisk,
@@ -176,7 +185,7 @@ fn re_enciphered(
     if module.size() != MODULE_SIZE || store.size() != STORE_SIZE {
         return Err(Fail::from("another size"));
     }
-    let ended = run_on(alloc, b"REENCIPHER role=DEFAULT\n", &mut module, &mut store)?;
+    let ended = run_on(alloc, renewal.line.as_bytes(), &mut module, &mut store)?;
     if ended.status != Status::Done {
         return Err(Fail::from("not done"));
     }
@@ -208,8 +217,9 @@ pub(crate) fn have_same_bodies(
     Ok(true)
 }
 
-// Whether the store has the bodies of another, and all its keys are usable and current.
+// Whether the store has the bodies of another, and its keys answer as they must.
 fn is_whole(
+    renewal: &Renewal,
     alloc: Global,
     module: &MemoryDisk,
     store: &MemoryDisk,
@@ -223,8 +233,8 @@ fn is_whole(
     if module.size() != MODULE_SIZE || store.size() != STORE_SIZE {
         return Err(Fail::from("another size"));
     }
-    let ended = run_on(alloc, USED_KEYS, &mut module, &mut store)?;
-    Ok(ended.replies.as_slice() == USED_VALUES.as_bytes())
+    let ended = run_on(alloc, renewal.used.as_bytes(), &mut module, &mut store)?;
+    Ok(ended.replies.as_slice() == renewal.values.as_bytes())
 }
 
 // The module and the store of OLD_KEYS.
@@ -240,7 +250,7 @@ fn old_keys(alloc: Global, module: &mut MemoryDisk, store: &mut MemoryDisk) -> R
     }
 }
 
-// How many labels are left to change, once REENCIPHER is stopped so late: it writes a body, syncs, writes the selector
+// How many labels are left to change, once the request is stopped so late: it writes a body, syncs, writes the selector
 // and syncs, for each of three labels, behind the sync that opens the store.
 fn changed_after(noted: u64, torn: Torn) -> u64 {
     let selected = match torn {
@@ -257,24 +267,26 @@ fn changed_after(noted: u64, torn: Torn) -> u64 {
     }
 }
 
-#[test]
-fn re_enciphering_stopped_at_a_call_and_run_again(rt: HostRuntime) -> Result<(), Fail> {
-    let alloc = rt.alloc();
-    let mut module = MemoryDisk::new(alloc, MODULE_SIZE, CALLS)?;
-    let mut store = MemoryDisk::new(alloc, STORE_SIZE, CALLS)?;
-    old_keys(alloc, &mut module, &mut store)?;
+// Stops the request at each of its calls, and asserts that a second run ends as one run does.
+pub(crate) fn expect_second_runs(
+    rt: &impl Abort,
+    renewal: &Renewal,
+    alloc: Global,
+    module: &MemoryDisk,
+    store: &MemoryDisk,
+) -> Result<(), Fail> {
     let mut replies = Vec::new(alloc);
-    let whole = re_enciphered(alloc, &module, &store, &mut replies)?;
+    let whole = renewed(renewal, alloc, module, store, &mut replies)?;
     assert_eq!(rt; replies.as_slice(), b"OK changed=3\n".as_slice());
     assert_eq!(rt; whole.noted(), 13);
-    // A store whose labels are current is opened with a sync, and not written.
-    let still = re_enciphered(alloc, &module, &whole, &mut replies)?;
+    // A store in which no label is left to change is opened with a sync, and not written.
+    let still = renewed(renewal, alloc, module, &whole, &mut replies)?;
     assert_eq!(rt; replies.as_slice(), b"OK changed=0\n".as_slice());
     assert_eq!(rt; still.noted(), 1);
     for noted in 0..14 {
         for torn in TEARS {
             let stopped = left(alloc, &whole, noted, torn)?;
-            let again = re_enciphered(alloc, &module, &stopped, &mut replies)?;
+            let again = renewed(renewal, alloc, module, &stopped, &mut replies)?;
             let changed = 3u64.saturating_sub(changed_after(noted, torn));
             let wanted = format!(in alloc; "OK changed={changed}\n")?;
             assert_eq!(rt;
@@ -283,7 +295,7 @@ fn re_enciphering_stopped_at_a_call_and_run_again(rt: HostRuntime) -> Result<(),
                 "{torn:?} at {noted}"
             );
             assert!(rt;
-                is_whole(alloc, &module, &again, &whole)?,
+                is_whole(renewal, alloc, module, &again, &whole)?,
                 "{torn:?} at {noted}"
             );
         }
@@ -294,6 +306,7 @@ fn re_enciphering_stopped_at_a_call_and_run_again(rt: HostRuntime) -> Result<(),
 // Stops the second run at each of its calls too, and asserts that a third one ends as one run does.
 fn expect_third_runs(
     rt: &impl Abort,
+    renewal: &Renewal,
     alloc: Global,
     module: &MemoryDisk,
     again: &MemoryDisk,
@@ -304,14 +317,45 @@ fn expect_third_runs(
     for noted in 0..CALLS {
         if noted <= again.noted() {
             let stopped = left(alloc, again, noted, torn)?;
-            let third = re_enciphered(alloc, module, &stopped, &mut replies)?;
+            let third = renewed(renewal, alloc, module, &stopped, &mut replies)?;
             assert!(rt;
-                is_whole(alloc, module, &third, whole)?,
+                is_whole(renewal, alloc, module, &third, whole)?,
                 "{torn:?} at {noted}"
             );
         }
     }
     Ok(())
+}
+
+// Chains of two stops.
+pub(crate) fn expect_chains(
+    rt: &impl Abort,
+    renewal: &Renewal,
+    alloc: Global,
+    module: &MemoryDisk,
+    store: &MemoryDisk,
+) -> Result<(), Fail> {
+    let mut replies = Vec::new(alloc);
+    let whole = renewed(renewal, alloc, module, store, &mut replies)?;
+    for noted in 0..CALLS {
+        for torn in TEARS {
+            if noted <= whole.noted() {
+                let stopped = left(alloc, &whole, noted, torn)?;
+                let again = renewed(renewal, alloc, module, &stopped, &mut replies)?;
+                expect_third_runs(rt, renewal, alloc, module, &again, &whole, torn)?;
+            }
+        }
+    }
+    Ok(())
+}
+
+#[test]
+fn re_enciphering_stopped_at_a_call_and_run_again(rt: HostRuntime) -> Result<(), Fail> {
+    let alloc = rt.alloc();
+    let mut module = MemoryDisk::new(alloc, MODULE_SIZE, CALLS)?;
+    let mut store = MemoryDisk::new(alloc, STORE_SIZE, CALLS)?;
+    old_keys(alloc, &mut module, &mut store)?;
+    expect_second_runs(&rt, &RE_ENCIPHERED, alloc, &module, &store)
 }
 
 #[test]
@@ -320,16 +364,5 @@ fn re_enciphering_stopped_twice_and_run_again(rt: HostRuntime) -> Result<(), Fai
     let mut module = MemoryDisk::new(alloc, MODULE_SIZE, CALLS)?;
     let mut store = MemoryDisk::new(alloc, STORE_SIZE, CALLS)?;
     old_keys(alloc, &mut module, &mut store)?;
-    let mut replies = Vec::new(alloc);
-    let whole = re_enciphered(alloc, &module, &store, &mut replies)?;
-    for noted in 0..CALLS {
-        for torn in TEARS {
-            if noted <= whole.noted() {
-                let stopped = left(alloc, &whole, noted, torn)?;
-                let again = re_enciphered(alloc, &module, &stopped, &mut replies)?;
-                expect_third_runs(&rt, alloc, &module, &again, &whole, torn)?;
-            }
-        }
-    }
-    Ok(())
+    expect_chains(&rt, &RE_ENCIPHERED, alloc, &module, &store)
 }

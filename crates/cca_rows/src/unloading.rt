@@ -2,12 +2,13 @@
 //! how it ends where a device fails or a disk is damaged. The tokens here were made by another program's triple DES and
 //! SHA-1 from the clear keys, after the definition of a token; each key that is drawn has the bytes 01.
 
-use crate::disks::{CALLS, copy_of, run_on};
+use crate::ahead::{AHEAD, NEXT};
+use crate::disks::{CALLS, copy_of};
 use crate::keys::MASTER_KEY;
 use crate::moves::TRANSPORT;
+use crate::pairs::{Pair, after, blank, with};
 use crate::rows::{MODULE_SIZE, STORE_SIZE, words_of};
 use crate::stops::have_same_bodies;
-use crate::tables::lines_of;
 use cca_tool::{Device, MoveStatus, Status, unload};
 use key_cells::Workbench;
 use slot_disk::{Disk, MemoryDisk, MemorySink, Torn};
@@ -70,13 +71,6 @@ const EXPORTED: &[(&str, &str)] = &[(
     "OK token=020000000000c00000000000000000008ca64de9c1b123a700000000000000000000000000000000000000000000000000000000000000000000000050583190",
 )];
 
-// A module and its store, with nothing noted.
-#[derive(Drop)]
-struct Pair {
-    module: MemoryDisk,
-    store: MemoryDisk,
-}
-
 // The device that fails.
 #[derive(Clone, Copy, Debug, PartialEq, Eq)]
 enum Failing {
@@ -93,47 +87,6 @@ struct Unloaded {
     status: MoveStatus,
     file: Vec<u8>,
     report: Vec<u8>,
-}
-
-// A pair that has served no request.
-fn blank(alloc: Global) -> Result<Pair, Fail> {
-    Ok(Pair {
-        module: MemoryDisk::new(alloc, MODULE_SIZE, CALLS)?,
-        store: MemoryDisk::new(alloc, STORE_SIZE, CALLS)?,
-    })
-}
-
-// The pair after some requests, of which each must get its reply.
-fn after(
-    rt: &impl Abort,
-    alloc: Global,
-    pair: &Pair,
-    requests: &[u8],
-    replies: &[u8],
-) -> Result<Pair, Fail> {
-    let mut module = copy_of(alloc, &pair.module)?;
-    let mut store = copy_of(alloc, &pair.store)?;
-    if module.size() != MODULE_SIZE || store.size() != STORE_SIZE {
-        return Err(Fail::from("another size"));
-    }
-    let ended = run_on(alloc, requests, &mut module, &mut store)?;
-    assert_eq!(rt; ended.status, Status::Done);
-    assert_eq!(rt; ended.replies.as_slice(), replies);
-    Ok(Pair {
-        module: copy_of(alloc, &module)?,
-        store: copy_of(alloc, &store)?,
-    })
-}
-
-// The same for the requests of some tables.
-fn with(
-    rt: &impl Abort,
-    alloc: Global,
-    pair: &Pair,
-    tables: &[&[(&str, &str)]],
-) -> Result<Pair, Fail> {
-    let (requests, replies) = lines_of(alloc, tables)?;
-    after(rt, alloc, pair, requests.as_bytes(), replies.as_bytes())
 }
 
 // The store of these tests: EXP, IMP and ZERO.
@@ -322,11 +275,14 @@ CSNBKIM role=MOVER token=020000000000c00000000000000000008ca64de9c1b123a70000000
     expect(&rt, alloc, &from, &words, DONE, file, report)
 }
 
-// The key of EXP is exported under itself, and keys under the old master key are moved as others are.
+// The key of EXP is exported under itself, and keys that are ahead and keys under the old master key are moved as others
+// are.
 #[test]
 fn the_file_depends_on_no_master_key(rt: HostRuntime) -> Result<(), Fail> {
     let alloc = rt.alloc();
     let file = joined(alloc, &FILE, FILE.len())?;
+    let from = with(&rt, alloc, &here(&rt, alloc)?, &[NEXT, AHEAD])?;
+    expect(&rt, alloc, &from, &MOVE, DONE, file.as_str(), REPORT)?;
     let from = with(&rt, alloc, &here(&rt, alloc)?, &[NEXT_MASTER_KEY])?;
     expect(&rt, alloc, &from, &MOVE, DONE, file.as_str(), REPORT)?;
     let renewed: &[(&str, &str)] = &[("REENCIPHER role=DEFAULT", "OK changed=3")];
