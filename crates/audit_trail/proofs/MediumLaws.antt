@@ -4,8 +4,8 @@ use Rattle.std.specs.Prelude.{OnOk}
 use Rattle.std.proofs.lemmas.List.{length-append}
 use Rattle.std.proofs.lemmas.Option.{same_Some}
 use Rattle.slot_disk.specs.Cells.{body, IsReplaced, IsReplacing}
-use Rattle.slot_disk.specs.Medium.{Medium, IsSettled, Told, From, Becomes, EachImage, Keeps}
-use Rattle.slot_disk.proofs.Media.{told_from, told_at, becomes_told, each_weaker}
+use Rattle.slot_disk.specs.Medium.{Medium, IsSettled, Told, From, Becomes, EachImage}
+use Rattle.slot_disk.proofs.Media.{told_from, told_at, becomes_told, each_weaker, told_joined, told_map}
 use Rattle.audit_trail.specs.Changes.{Appending, AppendsEntry}
 use Rattle.audit_trail.specs.Entries.{IsEntry}
 use Rattle.audit_trail.specs.RecordBody.{record_body}
@@ -16,22 +16,6 @@ use Rattle.audit_trail.specs.declared.faults.TrailFault.TheVariants.{DiskFault, 
 use Rattle.audit_trail.proofs.TrailLaws.{appending, number_is, appended}
 use Rattle.audit_trail.proofs.OpeningLaws.{first_one}
 
-pub told_map : (m : Medium) (P Q : List ℕ → Type 0) → Told m P → ((c : List ℕ) → P c → Q c) → Told m Q
-told_map m P Q told weaker = told_from m.content Q (λ c is. weaker c (told_at m.content P c is told))
-
-pub told_both : (m : Medium) (P Q R : List ℕ → Type 0) → Told m P → Told m Q → ((c : List ℕ) → P c → Q c → R c) → Told m R
-told_both m P Q R first second both = told_from m.content R (λ c is. both c (told_at m.content P c is first) (told_at m.content Q c is second))
-
--- what is told of a disk that was read, with what was told before
-pub told_next : (m0 m1 : Medium) (P Q R : List ℕ → Type 0) → Keeps m0 m1 → Told m0 P → Told m1 Q → ((c : List ℕ) → P c → Q c → R c) → Told m0 R
-told_next m0 m1 P Q R keeps before then both = told_from m0.content R (λ c is. both c (told_at m0.content P c is before) (told_at m1.content Q c (keeps.content ∙ is) then))
-
-pub told_before : (m0 m1 : Medium) (P : List ℕ → Type 0) → m1.content ≡ m0.content → Told m1 P → Told m0 P
-told_before m0 m1 P same told = told_from m0.content P (λ c is. told_at m1.content P c (same ∙ is) told)
-
-pub told_after : (m0 m1 : Medium) (P : List ℕ → Type 0) → m1.content ≡ m0.content → Told m0 P → Told m1 P
-told_after m0 m1 P same told = told_from m1.content P (λ c is. told_at m0.content P c (sym same ∙ is) told)
-
 module _ (next : ℕ) (e : Entry) (is : IsEntry e) (low : next < 2 ^ 63) (m0 m1 : Medium) (start : Told m0 (λ c. StandsForTrail c next)) where
   from : (c : List ℕ) → From (IsReplacing (next % 4096) (record_body next e)) m0 c → From (Appending next e) m0 c
   from c f = (f.0, f.1, appending next e f.0 c is low (told_at m0.content (λ c. StandsForTrail c next) f.0 f.1 start) f.2)
@@ -39,7 +23,7 @@ module _ (next : ℕ) (e : Entry) (is : IsEntry e) (low : next < 2 ^ 63) (m0 m1 
   entry_more : (es : List Entry) → Becomes (IsReplaced (next % 4096) (record_body next e)) m0 m1 → Told m0 (λ c. IsTrail c es) → Told m1 (λ c. IsTrail c (es ++ e ∷ []))
   entry_more es becomes trail =
       becomes_told m0 m1 (IsReplaced (next % 4096) (record_body next e)) (λ c. StandsForTrail c next × IsTrail c es) (λ c. IsTrail c (es ++ e ∷ [])) becomes
-      (told_both m0 (λ c. StandsForTrail c next) (λ c. IsTrail c es) (λ c. StandsForTrail c next × IsTrail c es) start trail (λ c x y. (x, y)))
+      (told_joined m0 (λ c. StandsForTrail c next) (λ c. IsTrail c es) (λ c. StandsForTrail c next × IsTrail c es) start trail (λ c x y. (x, y)))
       (λ d c both replaced.
       let number : length es ≡ next = number_is d next es both.0 both.1 in
       appended es e is d c both.1 (omega (arith, number, low))

@@ -17,12 +17,11 @@ use Rattle.line_service.specs.Running.{NoneFailed, LinesServed, InputTaken}
 use Rattle.line_service.specs.Serving.{LineLost, Unopened, PrefixSent, RunServed}
 use Rattle.line_service.specs.declared.stops.Stop.{Stop}
 use Rattle.line_service.specs.declared.stops.Stop.TheVariants.{ReadFault, InputLimit}
-use Rattle.line_service.proofs.RunLemmas.{prefix_none, prefix_sent, completes, limit_is}
+use Rattle.line_service.proofs.RunLemmas.{NoStop, prefix_none, prefix_sent, completes, limit_is}
 use Rattle.audited_service.specs.Answers.{run_part}
 use Rattle.audited_service.specs.Noting.{Noted, noting, Recorded, RecordedEither}
 use Rattle.audited_service.specs.Recording.{ReplyUnsent, RunRecorded}
 use Rattle.audited_service.proofs.PlainLemmas.{run_plain, prefix_plain}
-use Rattle.audited_service.proofs.RunLemmas.{NoStop}
 
 module _ (A : Machine) (entry : List ℕ → List ℕ → Entry) (s : Noted A.State) (old new : World) (t0 t1 : Medium) (a b p q : Option (List ℕ)) where
   -- all that a run leaves
@@ -110,8 +109,5 @@ lines_served A entry s o t0 t1 (Ok r) recorded still taken =
     record {
       serves = run;
       prefix = prefix_sent A s.state old new o.old.input o.new.input o.old.output o.new.output r run;
-      complete = λ none.
-          let not_stopped = still none in
-          completes A s.state old new o.old.input o.new.input o.old.output o.new.output r run
-          not_stopped.reads not_stopped.writes not_stopped.on_module not_stopped.on_store not_stopped.draws taken.limit;
+      complete = λ none. completes A s.state old new o.old.input o.new.input o.old.output o.new.output r run (still none) taken.limit;
     }

@@ -21,13 +21,13 @@ use Rattle.line_service.specs.declared.stops.Stop.{Stop}
 use Rattle.line_service.specs.declared.stops.Stop.TheVariants.{ReadFault, WriteFault, EntropyFault, ModuleFault, StoreFault, Damaged, InputLimit}
 use Rattle.line_service.specs.Serving.{Runs}
 use Rattle.line_service.proofs.SessionLemmas.{HasServed, ahead_lines, step_on}
+use Rattle.line_service.proofs.RunLemmas.{NoStop}
 use Rattle.audited_service.specs.Noting.{Noted, noting, entries_of}
 use Rattle.audited_service.specs.Answers.{run_part, AuditsLines}
 use Rattle.audited_service.specs.Auditing.{IsUnsoundTrail}
 use Rattle.audited_service.specs.Recording.{RunRecorded}
 use Rattle.audited_service.specs.EachLine.{Agrees, IsAppendFault, LineUnsent, RecordedBy}
 use Rattle.audited_service.proofs.NotingLemmas.{notes_lines}
-use Rattle.audited_service.proofs.RunLemmas.{NoStop}
 
 -- a trail that tells its bytes has as many entries as the memory counts
 told_number : (t : Medium) (n : ℕ) (es : List Entry) → IsSome t.content → Told t (λ c. StandsForTrail c n) → Told t (λ c. IsTrail c es) → length es ≡ n

@@ -6,3 +6,4 @@ pub mod RunLemmas
 pub mod FullLemmas
 pub mod OpeningLemmas
 pub mod EndingLemmas
+pub mod CourseLemmas

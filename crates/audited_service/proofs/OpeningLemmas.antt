@@ -1,8 +1,8 @@
 -- A run from the disks and the trail as they were before they were opened.
-use Rattle.std.proofs.Common.{◌≡◌, ℕ, List, Option, Result, Ok, Err, refl, sym, ◌∙◌, subst, inl, inr}
+use Rattle.std.proofs.Common.{◌≡◌, ℕ, List, Option, Result, Ok, Err, refl, subst, inl, inr}
 use Rattle.std.specs.Prelude.{◌⊎◌}
 use Rattle.slot_disk.specs.Medium.{Medium, Told, Keeps}
-use Rattle.slot_disk.proofs.Media.{goes_on, each_weaker, keeps_then, told_from, told_at}
+use Rattle.slot_disk.proofs.Media.{goes_on, each_weaker, keeps_then, told_still}
 use Rattle.slot_disk.proofs.WhereToldLemmas.{told_same, told_weaker}
 use Rattle.audit_trail.specs.TrailStands.{IsTrail}
 use Rattle.audit_trail.specs.declared.entries.Entry.{Entry}
@@ -23,9 +23,6 @@ use Rattle.audited_service.specs.Recording.{RunRecorded}
 use Rattle.audited_service.specs.EachLine.{Agrees}
 use Rattle.audited_service.proofs.NotingLemmas.{on_disks}
 use Rattle.audited_service.proofs.RunLemmas.{fault_is}
-
-told_still : (t0 t : Medium) (P : List ℕ → Type 0) → Keeps t0 t → Told t0 P → Told t P
-told_still t0 t P kept told = told_from t.content P (λ c is. told_at t0.content P c (sym kept.content ∙ is) told)
 
 stop_is : (a b : Stop) → ◌≡◌ {A = Result (Result (Unit {0}) Stop) TrailFault} (Ok (Err a)) (Ok (Err b)) → a ≡ b
 stop_is a b is = cc

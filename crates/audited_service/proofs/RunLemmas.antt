@@ -17,7 +17,7 @@ use Rattle.line_service.specs.Stops.{IsLineStop}
 use Rattle.line_service.specs.Serving.{IsOnTheWay, IsAroundLine, CutsReply, LosesLine, LineServed, AllAnswered, WholeLinesAnswered, ReplyCut, LineLost, AtRest}
 use Rattle.line_service.specs.declared.serving.Served.{Served}
 use Rattle.line_service.specs.declared.stops.Stop.{Stop}
-use Rattle.line_service.specs.declared.stops.Stop.TheVariants.{ReadFault, WriteFault, EntropyFault, ModuleFault, StoreFault}
+use Rattle.line_service.specs.declared.stops.Stop.TheVariants.{WriteFault}
 use Rattle.line_service.proofs.SessionLemmas.{IsServed, HasServed, leads_now, on_the_way, ahead_lines, at_start, step_on, module_on, store_on, rests_on, served_whole, served_cut, served_lost}
 use Rattle.audited_service.specs.Noting.{Noted, noting, Recorded}
 use Rattle.audited_service.specs.Recording.{ReplyUnsent}
@@ -180,9 +180,6 @@ module _ (A : Machine) (entry : List ℕ → List ℕ → Entry) (s : Noted A.St
 
 -- ---- answers
 
-pub same_trail : {T : Type 0} (f : T → Medium) (P : Medium → Type 0) (x y : T) → y ≡ x → P (f x) → P (f y)
-same_trail f P x y same has = subst (λ (z : _). P (f z)) (sym same) has
-
 pub on_ok : {T E P : Type 0} (r : Result T E) (x : T) → r ≡ Ok x → OnOk r P → P
 on_ok (Ok y) x is holds = holds
 on_ok (Err e) x is holds = absurd (cc is)
@@ -204,11 +201,3 @@ fault_not_run fault a is = cc is
 
 pub done_not_stop : (stop : Stop) → ◌≡◌ {A = Result (Result (Unit {0}) Stop) TrailFault} (Ok (Ok tt)) (Ok (Err stop)) → ⊥
 done_not_stop stop is = cc is
-
--- the run wasn't stopped by a device that failed
-pub record NoStop (r : Result (Unit {0}) Stop) : Type 0 where
-  pub reads : r ≡ Err ReadFault → ⊥
-  pub writes : r ≡ Err WriteFault → ⊥
-  pub on_module : r ≡ Err ModuleFault → ⊥
-  pub on_store : r ≡ Err StoreFault → ⊥
-  pub draws : r ≡ Err EntropyFault → ⊥

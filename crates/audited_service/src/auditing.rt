@@ -53,6 +53,7 @@ pub(crate) fn audit_one<
     requires trail { IsSettledTrail TRAIL_LEN (T.medium trail.old) }
     requires ready { A.ready desk.old (M.medium «module».old) (D.medium store.old) }
     requires held { Told (T.medium trail.old) (λ image. StandsForTrail image held.old) }
+    requires bench { bench.old ≡ blank_bench }
 
     // What the line comes to, from the state for which the disks stand and the entries for which the trail stands.
     ensures serves { (s : Noted A.machine.State)
@@ -97,7 +98,6 @@ pub(crate) fn audit_one<
     ensures kinds { IfErr result IsAppendFault }
     ensures bench { bench.new ≡ blank_bench }
 {
-    bench.wipe();
     match read_line(source, lines) {
         Ok(taken) => match taken {
             Taken::End => Ok(Ok(Served::Ended)),

@@ -50,6 +50,7 @@ fn audit_all<A: Desk, W: Scribe, S: Source, K: Sink, M: Disk, D: Disk, E: Entrop
     requires trail { IsSettledTrail TRAIL_LEN (T.medium trail.old) }
     requires ready { A.ready desk.old (M.medium «module».old) (D.medium store.old) }
     requires held { Told (T.medium trail.old) (λ image. StandsForTrail image held.old) }
+    requires bench { bench.old ≡ blank_bench }
 
     ensures serves { (s : Noted A.machine.State)
         → Stands (noting A.machine W.entry_of) s (Agrees (A.knows desk.old) (T.medium trail.old))
@@ -124,6 +125,7 @@ pub fn serve_audited<A: Desk, W: Scribe, S: Source, K: Sink, M: Disk, D: Disk, E
     requires disks { HaveSizes A.machine.module_size A.machine.store_size
         (⟦<(M, D) as Shown>⟧.shown («module».old, store.old)) }
     requires trail { (T.medium trail.old).size ≡ TRAIL_LEN }
+    requires bench { bench.old ≡ blank_bench }
 
     // What the lines come to, from the state for which the disks stand and the entries for which the trail stands.
     ensures lines { (s : A.machine.State) (es : List AnyEntry)

@@ -5,6 +5,7 @@ use Rattle.key_tokens.specs.declared.key_token.Age.TheVariants.{Current, Old}
 use Rattle.key_tokens.specs.Denotes.{ClearKey, Denoted, denoted, denoted_under}
 use Rattle.key_records.specs.Directory.{cell_of}
 use Rattle.key_records.specs.Entries.{Entry, directory}
+pub use Rattle.key_records.specs.Entries.{what_in}
 use Rattle.key_records.specs.StoreStands.{entry_at}
 use Rattle.script_buffers.specs.Replies.{Field, Text}
 use Rattle.verb_rules.specs.Keys.{keys_of}
@@ -27,10 +28,6 @@ key_of_token s bytes = denoted (keys_of s.registers) bytes
 -- the cell of a label, where it is held
 abbrev pub cell_with : State → List ℕ → Option ℕ
 cell_with s label = cell_of label (directory s.labels)
-
-abbrev pub what_in : Option Entry → Option Denoted
-what_in None = None
-what_in (Some e) = e.what
 
 abbrev pub what_at : List (Option Entry) → Option ℕ → Option Denoted
 what_at labels None = None

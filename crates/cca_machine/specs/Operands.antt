@@ -2,7 +2,7 @@
 use Rattle.std.specs.Prelude.{ℕ, Bool, true, false, ◌||◌, is_some, List, [], ◌∷◌, codes, Option, None, Some}
 use Rattle.verb_script.specs.Grammar.{Request, RequestName, csnbktp, csnbenc, csnbenc_first, csnbenc_middle, csnbenc_last, csnbdec, csnbdec_first, csnbdec_middle, csnbdec_last, csnbmgn, csnbmgn_first, csnbmgn_middle, csnbmgn_last, csnbmvr, csnbmvr_first, csnbmvr_middle, csnbmvr_last, csnbkyt, csnbcki, csnbrng, csnbkgn_op, csnbkgn_pair, csnbkgn_out, csnbkim, csnbkex, csnbpex, csnbktc, csnbkpi_first, csnbkpi_middle, csnbktr, csnbkrc, csnbkrw, csnbkrr, csnbkrd, csnbkrl, csnbmkp_part, csnbmkp_clear, csnbmkp_set, csuaaci_define, csuaaci_remove, reencipher, value_of, reencipher_ahead, reencipher_drop}
 use Rattle.cca_vectors.specs.declared.key_class.Class.{Class}
-use Rattle.cca_vectors.specs.declared.key_class.Class.TheVariants.{Data, Cipher, Mac, Exporter, Importer, Other}
+use Rattle.cca_vectors.specs.declared.key_class.Class.TheVariants.{Data, Cipher, Mac, Exporter, Importer}
 use Rattle.cca_vectors.specs.declared.key_usage.Usage.{Usage}
 use Rattle.cca_vectors.specs.declared.key_usage.Usage.TheVariants.{Encipher, Decipher, MacGenerate, MacVerify, Transport, Translate, PairOperational, PairImportExport, PairSame}
 use Rattle.key_tokens.specs.declared.key_token.Asked.TheVariants.{Internal, External}
@@ -10,6 +10,7 @@ use Rattle.key_transport.specs.declared.generating.Form.{Form}
 use Rattle.key_transport.specs.declared.generating.Form.TheVariants.{Op, Opex, Opim, Imex, Exex, Imim}
 use Rattle.verb_script.specs.Named.{label_named}
 use Rattle.verb_rules.specs.Classes.{classes_of}
+pub use Rattle.verb_rules.specs.Needs.{any_key, every_class, exported_key, transport_key}
 use Rattle.verb_rules.specs.declared.needs.Need.{Need}
 use Rattle.cca_machine.specs.Choices.{pair_form_named, out_form_named}
 use Rattle.cca_machine.specs.declared.asking.Ask.{Ask}
@@ -60,20 +61,6 @@ internal_key classes usage = record {
 abbrev pub five_classes : List Class
 five_classes = Data ∷ Cipher ∷ Mac ∷ Exporter ∷ Importer ∷ []
 
-abbrev pub every_class : List Class
-every_class = Data ∷ Cipher ∷ Mac ∷ Exporter ∷ Importer ∷ Other ∷ []
-
--- any internal key, also one that is a part
-abbrev pub any_key : Need
-any_key = record {
-  asked = Internal;
-  classes = classes_of every_class;
-  usage = None;
-  export = false;
-  double = false;
-  parts = true;
-}
-
 -- an internal key that may be a part, of every class but OTHER
 abbrev pub part_key : Need
 part_key = record {
@@ -85,17 +72,6 @@ part_key = record {
   parts = true;
 }
 
--- an internal key of any class that may be exported
-abbrev pub exported_key : Need
-exported_key = record {
-  asked = Internal;
-  classes = classes_of every_class;
-  usage = None;
-  export = true;
-  double = false;
-  parts = false;
-}
-
 -- an external token of any class
 abbrev pub external_key : Need
 external_key = record {
@@ -104,17 +80,6 @@ external_key = record {
   usage = None;
   export = false;
   double = false;
-  parts = false;
-}
-
--- a transport key of double length: of this class, and permitted for this use
-abbrev pub transport_key : Class → Usage → Need
-transport_key class use_of = record {
-  asked = Internal;
-  classes = classes_of (class ∷ []);
-  usage = Some use_of;
-  export = false;
-  double = true;
   parts = false;
 }
 

@@ -95,7 +95,7 @@ any_old_are s bench os g granted =
 
 -- ---- what a verb decided
 
-pub drawn_zero : (v : Option Refusal) (draw : Draw) (ahead : List ℕ) → is_drawing draw ≡ false → 0 ≡ drawn_where v (bytes_drawn draw ahead)
+drawn_zero : (v : Option Refusal) (draw : Draw) (ahead : List ℕ) → is_drawing draw ≡ false → 0 ≡ drawn_where v (bytes_drawn draw ahead)
 drawn_zero (Some r) draw ahead none = refl
 drawn_zero None NoBytes ahead none = refl
 drawn_zero None EightBytes ahead none = cc none

@@ -1,6 +1,6 @@
 -- An action on the registers is what the machine makes of it.
 use Rattle.std.proofs.Common.{◌≡◌, ℕ, Bool, true, false, List, [], ◌∷◌, Option, Result, Ok, Err, codes, refl, sym, ap, ◌∙◌, subst, inl, inr, ⊎_elim}
-use Rattle.std.specs.Prelude.{◌⊎◌, ◌↔◌, ◌≤◌, IsTrue, IfOk, OnOk, OnErr, IsSome}
+use Rattle.std.specs.Prelude.{◌↔◌, ◌≤◌, IsTrue, IfOk, OnOk, OnErr}
 use Rattle.slot_disk.specs.Medium.{Medium, Told, IsSettled, EachImage, From}
 use Rattle.slot_disk.specs.Faults.{Rose}
 use Rattle.slot_disk.proofs.Media.{each_weaker, becomes_told, told_before}
@@ -20,12 +20,12 @@ use Rattle.script_buffers.specs.Replies.{Done, Text, spelled}
 use Rattle.cca_machine.specs.State.{State, IsModuleOf}
 use Rattle.cca_machine.specs.Verdict.{questions, first_refusal}
 use Rattle.cca_machine.specs.Act.{Outcome, NoCell, OneCell, Become, new_name}
-use Rattle.cca_requests.specs.Serving.{StandsInModule, IsEither, SameBut, CarriesModule, IsSound, LeavesModule}
+use Rattle.cca_requests.specs.Serving.{StandsInModule, IsEither, SameBut, CarriesModule, LeavesModule}
 use Rattle.cca_requests.specs.Deciding.{plainly, or_effected, state_name, change_stop, change_reply}
 use Rattle.slot_disk.proofs.SpareLemmas.{becomes_turned}
-use Rattle.cca_requests.proofs.Leaving.{still_turned}
-use Rattle.cca_requests.proofs.Contents.{at_content, holds_at, roles_alike, sound}
-use Rattle.cca_requests.proofs.Serving.{still_module, told_some}
+use Rattle.cca_requests.proofs.Leaving.{still_module_left}
+use Rattle.cca_requests.proofs.Contents.{at_content, becomes_holds, roles_alike, sound}
+use Rattle.cca_requests.proofs.Serving.{still_module}
 
 named_alike : (r : NewRegister) → state_name (state_of r) ≡ new_name r
 named_alike Empty = refl
@@ -70,18 +70,9 @@ module _ {A : Type 0} (medium : A → Medium) (old new : A) (s : State) (roles :
           ∙ (ap (λ (h : Registers). spelled (Done (Text (codes "new") (state_name h.new_state) ∷ []))) loaded.told
           ∙ ap (λ name. spelled (Done (Text (codes "new") name ∷ []))) (named_alike next.coming));
       stands = record {
-        in_module =
-            let holds = holds_at (medium new).content (medium new) (λ c. StandsForMasters c next) refl
-            (changes.either.still (told_some (medium old) stands.in_module.image stands.in_module.told)) changes.stands in
-            let from = changes.either.told holds.image holds.told in
-            record {
-              image = holds.image;
-              told = holds.told;
-              has = record {
-                registers = holds.has;
-                roles = roles_alike from.0 holds.image s.roles from.2.others (at_content (medium old) (IsModuleOf s) stands.in_module from.0 from.1).roles;
-              };
-            };
+        in_module = becomes_holds (medium old) (medium new) (HoldsEither s.registers next) (IsModuleOf s) (λ c. StandsForMasters c next) (IsModuleOf after.state)
+            changes.either stands.in_module changes.stands
+            (λ d c was by has. record { registers = has; roles = roles_alike d c s.roles by.others was.roles });
         memory = stands.memory;
       };
     };
@@ -136,23 +127,10 @@ module _ {A : Type 0} (medium : A → Medium) (old new : A) (s : State) (roles :
 module _ {A : Type 0} (medium : A → Medium) (faults : A → ℕ) (old new : A) (m next : Masters) (roles : List (Option Role))
     (settled : IsSettled (medium old)) (stands : Told (medium old) (λ image. StandsForMasters image m))
     (also : Told (medium old) (λ image. StandsForRoles image roles)) (later : faults old ≤ faults new) where
-  refused_left : (reply : List ℕ) → new ≡ old → ChangesModule m next (medium old) (medium new) (Err RegisterState) ⊎ ChangesModule m next (medium old) (medium new) (Err SamePattern)
-      → LeavesModule (medium old) (medium new) (faults old) (faults new) (Ok tt) reply roles roles
-  refused_left reply untouched changes = record {
-    disk = record {
-      size = ap (λ x. (medium x).size) untouched;
-      still = λ some. subst (λ x. IsSome (medium x).content) (sym untouched) some;
-      settled = λ ok. subst (λ x. IsSettled (medium x)) (sym untouched) settled;
-      later = later;
-      fault = λ is. cc is;
-    };
-    told = λ some. subst (λ x. IsSome (medium x).content) untouched some;
-    turned = still_turned 33 (medium old) (medium new) (ap (λ x. (medium x).size) untouched) (ap (λ x. (medium x).content) untouched);
-    sound = subst (λ x. Told (medium x) (IsSound roles)) (sym untouched) (sound (medium old) m roles stands also);
-    silent = tt;
-    memory = tt;
-    stops = tt;
-  }
+  refused_left : (reply : List ℕ) → new ≡ old → LeavesModule (medium old) (medium new) (faults old) (faults new) (Ok tt) reply roles roles
+  refused_left reply untouched =
+      subst (λ x. LeavesModule (medium old) (medium x) (faults old) (faults x) (Ok tt) reply roles roles) (sym untouched)
+      (still_module_left (medium old) (faults old) reply roles settled (sound (medium old) m roles stands also))
 
   -- what an action leaves
   pub left_as : (r : Result Registers RegisterFault) (reply : List ℕ) → ChangesModule m next (medium old) (medium new) r → WhenRefused r (new ≡ old)
@@ -178,5 +156,5 @@ module _ {A : Type 0} (medium : A → Medium) (faults : A → ℕ) (old new : A)
     memory = refl;
     stops = refl;
   }
-  left_as (Err RegisterState) reply changes untouched cause silent = refused_left reply untouched (inl changes)
-  left_as (Err SamePattern) reply changes untouched cause silent = refused_left reply untouched (inr changes)
+  left_as (Err RegisterState) reply changes untouched cause silent = refused_left reply untouched
+  left_as (Err SamePattern) reply changes untouched cause silent = refused_left reply untouched

@@ -1,8 +1,8 @@
 -- What stands in the cells that a change leaves alone.
-use Rattle.std.proofs.Common.{◌≡◌, ◌≢◌, ◌+◌, ℕ, List, Option, None, Some, sym, subst, arith}
+use Rattle.std.proofs.Common.{◌≡◌, ◌≢◌, ◌+◌, ℕ, List, Option, None, Some, refl, sym, subst, arith}
 use Rattle.std.specs.Prelude.{IsSome}
 use Rattle.slot_disk.specs.Cells.{body}
-use Rattle.slot_disk.specs.Medium.{Medium, Told}
+use Rattle.slot_disk.specs.Medium.{Becomes, Medium, Told}
 use Rattle.slot_disk.proofs.Media.{told_at, told_from}
 use Rattle.cca_roles.specs.RoleBody.{ReadsPlace}
 use Rattle.cca_roles.specs.Roles.{role_at}
@@ -21,6 +21,14 @@ at_content m P holds d is = let same : holds.image ≡ d = cc (holds.told, is) i
 pub holds_at : (content : Option (List ℕ)) (m : Medium) (P : List ℕ → Type 0) → m.content ≡ content → IsSome content → Told m P → Holds m P
 holds_at None m P is some told = cc some
 holds_at (Some c) m P is some told = record { image = c; told = is; has = told_at m.content P c is told }
+
+-- what a disk holds after a change, by what it held before
+pub becomes_holds : (old new : Medium) (step : List ℕ → List ℕ → Type 0) (P Q R : List ℕ → Type 0) → Becomes step old new → Holds old P → Told new Q
+    → ((d c : List ℕ) → P d → step d c → Q c → R c) → Holds new R
+becomes_holds old new step P Q R becomes held told gives =
+    let holds = holds_at new.content new Q refl (becomes.still (subst IsSome (sym held.told) refl)) told in
+    let from = becomes.told holds.image holds.told in
+    record { image = holds.image; told = holds.told; has = gives from.0 holds.image (at_content old P held from.0 from.1) from.2 holds.has }
 
 pub not_first : (n : ℕ) → n + 1 ≢ 0
 not_first n h = omega arith

@@ -1,17 +1,20 @@
 -- A key that is delivered, and a key that goes into a record.
-use Rattle.std.proofs.Common.{◌≡◌, ◌≤◌, ℕ, true, false, List, [], length, Option, None, Some, refl, sym, ap, subst, arith}
-use Rattle.std.specs.Prelude.{Bool, IsSome, IsTrue, ◌||◌}
+use Rattle.std.proofs.Common.{◌≡◌, ◌≤◌, ◌∙◌, ℕ, true, false, List, [], length, Option, None, Some, refl, sym, ap, subst, arith}
+use Rattle.std.specs.Prelude.{Bool, IsSome, IsTrue, is_some, ◌||◌}
 use Rattle.key_cells.specs.Bench.{Bench}
+use Rattle.key_cells.specs.Lease.{bench_of, holding}
+use Rattle.key_cells.specs.declared.leases.Lease.{Lease}
 use Rattle.key_records.proofs.BodyLaws.{label_short}
 use Rattle.key_records.specs.Directory.{label_at}
 use Rattle.key_records.specs.Entries.{row_directory}
 use Rattle.key_records.specs.declared.rows.Row.{Row}
-use Rattle.key_tokens.specs.Denotes.{denoted}
-use Rattle.master_registers.specs.Loaded.{masters_in}
+use Rattle.key_tokens.specs.Denotes.{Denoted, denoted}
+use Rattle.master_registers.specs.Loaded.{IsLoaded, Loaded, masters_in}
+use Rattle.master_registers.specs.Masters.{Masters}
 use Rattle.master_registers.specs.declared.registers.Registers.{Registers}
 use Rattle.script_buffers.specs.Replies.{ok_text, written}
 use Rattle.verb_rules.specs.Keys.{keys_of}
-use Rattle.cca_requests.specs.Deciding.{IsDelivery, IsHeldAt, IsReady}
+use Rattle.cca_requests.specs.Deciding.{GoesThrough, IsDelivery, IsHeldAt, IsReady, WritesStore, with_places}
 use Rattle.cca_requests.specs.Drawing.{IsHeldPlace}
 use Rattle.cca_requests.specs.Judging.{HasPlace, HasTarget, IsPlaceFor}
 use Rattle.cca_requests.specs.declared.effects.Effect.{Effect as CodeEffect}
@@ -67,3 +70,46 @@ either_right false b is = is
 pub no_fields_short : length (written []) ≤ 69000
 unfolding ok_text
 no_fields_short = omega arith
+
+-- ---- a key that is delivered under the current master key
+
+-- it goes into a record only where a label is named
+pub delivery_named : (named : Option (List ℕ)) (place : Option ℕ) (token : List ℕ) (e : CodeEffect)
+    → IsPlaceFor named place → IsDelivery token place e → WritesStore e → IsTrue (is_some named)
+delivery_named named place token (code.Refused _ name) target delivery writes = absurd writes
+delivery_named named place token code.Shown target delivery writes = absurd writes
+delivery_named named place token (code.Change action) target delivery writes = absurd writes
+delivery_named named place token (code.DefineRole name points) target delivery writes = absurd writes
+delivery_named named place token (code.RemoveRole name) target delivery writes = absurd writes
+delivery_named named place token (code.Create label) target delivery writes = absurd delivery
+delivery_named None place token (code.Write other bytes) target delivery writes =
+    let no : None ≡ Some other = sym target ∙ delivery.0 in
+    cc no
+delivery_named (Some label) place token (code.Write other bytes) target delivery writes = refl
+delivery_named named place token (code.Delete other) target delivery writes = absurd delivery
+delivery_named named place token (code.Reencipher a) target delivery writes = absurd delivery
+
+pub delivery_single : (place : Option ℕ) (token : List ℕ) (e : CodeEffect) → IsDelivery token place e → GoesThrough e → ⊥
+delivery_single place token (code.Refused _ name) delivery through = absurd through
+delivery_single place token code.Shown delivery through = absurd through
+delivery_single place token (code.Change action) delivery through = absurd through
+delivery_single place token (code.DefineRole name points) delivery through = absurd through
+delivery_single place token (code.RemoveRole name) delivery through = absurd through
+delivery_single place token (code.Create label) delivery through = absurd through
+delivery_single place token (code.Write other bytes) delivery through = absurd through
+delivery_single place token (code.Delete other) delivery through = absurd through
+delivery_single place token (code.Reencipher a) delivery through = absurd delivery
+
+-- and it is one under the master keys of the bench
+pub key_ready : (rows : List (Option Row)) (named : Option (List ℕ)) (grant : Grant) (token : List ℕ) (e : CodeEffect) (reply : List ℕ)
+    {held : Registers} {lease0 lease1 : Lease} {key : Denoted}
+    → HasTarget rows named grant
+    → lease1 ≡ holding lease0 (with_places (bench_of lease0) (bench_of lease1))
+    → IsLoaded held (bench_of lease0)
+    → ((m : Masters) → Loaded m held (bench_of lease0) → denoted (keys_of m) token ≡ Some key)
+    → IsDelivery token grant.place e → length reply ≤ 69000 → IsReady held (bench_of lease1) rows e reply
+key_ready rows named grant token e reply {held} {lease0} {lease1} {key} target places loaded stands delivery size =
+    let old = bench_of lease0 in
+    let same : masters_in held (bench_of lease1) ≡ masters_in held old = ap (λ (l : Lease). masters_in held (bench_of l)) places in
+    delivery_ready rows grant.place token (target_place rows named grant target) held (bench_of lease1) e reply delivery
+    (subst (λ (m : Masters). IsSome (denoted (keys_of m) token)) (sym same) (some_of _ key (stands (masters_in held old) loaded))) size

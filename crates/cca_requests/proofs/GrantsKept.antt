@@ -4,7 +4,7 @@ use Rattle.key_cells.specs.Bench.{Bench}
 use Rattle.key_cells.specs.Lease.{bench_of}
 use Rattle.key_cells.specs.declared.leases.Lease.{Lease}
 use Rattle.key_records.specs.Changes.{KeepsAllButBody}
-use Rattle.master_registers.specs.Loaded.{Loaded, masters_in}
+use Rattle.master_registers.specs.Loaded.{Loaded}
 use Rattle.master_registers.specs.Masters.{Masters}
 use Rattle.master_registers.specs.declared.registers.Registers.{Registers}
 use Rattle.cca_machine.specs.Operands.{Operands}
@@ -47,7 +47,3 @@ loaded_kept m held old new keeps loaded = subst (λ (b : Bench). Loaded m held b
   placed = record { coming = loaded.placed.coming; current = loaded.placed.current; former = loaded.placed.former };
   told = loaded.told;
 })
-
--- the registers in the bench are those that were loaded
-pub masters_kept : (held : Registers) (old new : Lease) → KeepsAllButBody old new → masters_in held (bench_of new) ≡ masters_in held (bench_of old)
-masters_kept held old new keeps = ap (λ (b : Bench). masters_in held b) (bench_is old new keeps)

@@ -1,5 +1,5 @@
 -- Verbs that draw nothing: what they show over the clear key of a token that was judged, and a key that they deliver.
-use Rattle.std.proofs.Common.{◌≡◌, ℕ, List, [], Option, None, false, sym, subst}
+use Rattle.std.proofs.Common.{◌≡◌, ℕ, List, [], Option, false, sym, subst}
 use Rattle.key_cells.specs.Bench.{Bench}
 use Rattle.key_tokens.specs.Denotes.{ClearKey}
 use Rattle.script_buffers.specs.Replies.{Field}
@@ -9,11 +9,11 @@ use Rattle.cca_machine.specs.Draws.{draws_random}
 use Rattle.cca_machine.specs.Keys.{key_of_request}
 use Rattle.cca_machine.specs.State.{State}
 use Rattle.cca_machine.specs.Verdict.{Refusal, verb_verdict, whole_verb_verdict}
-use Rattle.cca_requests.specs.Deciding.{Decides, IsDelivered, ShowsOr}
+use Rattle.cca_requests.specs.Deciding.{Decides, ShowsOr}
 use Rattle.cca_requests.specs.Drawing.{IsDeliveredOr}
 use Rattle.cca_requests.specs.declared.effects.Effect.{Effect as CodeEffect}
 use Rattle.cca_requests.proofs.Acting.{decides, shows_or, undrawn_verdict}
-use Rattle.cca_requests.proofs.Generating.{delivered_or, left_of}
+use Rattle.cca_requests.proofs.Generating.{left_of}
 
 -- a verb that shows some fields over the key of the request, or is refused
 pub keyed_shows : (s : State) (bench : Bench) (request : Request) (clear : ClearKey) (v : ClearKey → Option Refusal) (fields : ClearKey → List Field)
@@ -35,11 +35,3 @@ delivered_or_decides s bench request e reply left none delivered =
     decides s bench request e reply left none
     (left_of s bench request (whole_verb_verdict s [] request) made e reply
     (subst (λ (v : Option Refusal). IsDeliveredOr s v made e reply) (sym (undrawn_verdict s [] request none)) delivered))
-
--- a verb that delivers a key
-pub delivered_decides : (s : State) (bench : Bench) (request : Request) (e : CodeEffect) (reply : List ℕ) (left : Option (List ℕ))
-    → draws_random request ≡ false → verb_verdict s request ≡ None → IsDelivered s (effect s [] request.name request) e reply
-    → Decides s bench request e reply left left
-delivered_decides s bench request e reply left none permitted delivered =
-    delivered_or_decides s bench request e reply left none
-    (delivered_or s (verb_verdict s request) (effect s [] request.name request) e reply permitted delivered)

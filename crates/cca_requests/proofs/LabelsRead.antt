@@ -1,11 +1,8 @@
 -- The key that is read of a label's record is the machine's.
-use Rattle.std.proofs.Common.{◌≡◌, ◌∙◌, ℕ, Bool, true, false, not, List, [], ◌∷◌, ◌++◌, drop, Option, None, Some, refl, sym, ap, subst}
-use Rattle.std.specs.Prelude.{◌==◌, ◌||◌, if◌then◌else◌, is_none, is_some, option_map, IfSome, IsSome, slice_index}
+use Rattle.std.proofs.Common.{◌≡◌, ◌∙◌, ℕ, Bool, true, false, List, [], ◌∷◌, ◌++◌, drop, Option, None, Some, refl, sym, ap, subst}
+use Rattle.std.specs.Prelude.{◌||◌, if◌then◌else◌, is_none, option_map, IfOk, IfSome, IsSome, IsTrue, Result, Ok, Err, slice_index}
 use Rattle.std.proofs.lemmas.Bool.{eqb-true}
 use Rattle.cca_vectors.specs.Checks.{Check, check, first_failing}
-use Rattle.cca_vectors.specs.Classes.{class_of}
-use Rattle.cca_vectors.specs.declared.key_class.Class.{Class}
-use Rattle.cca_vectors.specs.declared.key_class.Class.TheVariants as class
 use Rattle.cca_vectors.proofs.Judging.{none_in_first, passed_over, passes_first, stopped_in}
 use Rattle.key_cells.specs.Bench.{Bench}
 use Rattle.key_cells.specs.Lease.{bench_of}
@@ -16,31 +13,30 @@ use Rattle.key_records.specs.Entries.{Entry, row_directory}
 use Rattle.key_records.specs.RecordBody.{kept}
 use Rattle.key_records.specs.StoreStands.{Agrees, KeepsLabels, entry_at}
 use Rattle.key_records.specs.declared.rows.Row.{Row}
-use Rattle.key_records.proofs.KeptLaws.{denoted_sound}
+use Rattle.key_records.proofs.ReadKeys.{HasRead, read_key, read_null}
 use Rattle.key_records.proofs.OpeningLaws.{directory_remembered}
-use Rattle.key_tokens.specs.Denotes.{ClearKey, Denoted, MasterKeys, denoted}
+use Rattle.key_tokens.specs.Denotes.{Denoted, denoted, denoted_under}
 use Rattle.key_tokens.specs.Fields.{kind_of, pattern_of_token, token_of}
 use Rattle.key_tokens.specs.Kinds.{is_asked, kind_at}
 use Rattle.key_tokens.specs.TokenChecks.{token_checks}
-use Rattle.key_tokens.specs.declared.key_token.Age.{Age}
-use Rattle.key_tokens.specs.declared.key_token.Asked.TheVariants.{Internal}
 use Rattle.key_tokens.specs.declared.key_token.Asked.TheVariants as asked
-use Rattle.key_tokens.specs.declared.key_token.Kind.{Kind}
 use Rattle.key_tokens.specs.declared.key_token.Kind.TheVariants as kind
 use Rattle.master_registers.specs.Loaded.{Loaded, registers_of}
 use Rattle.master_registers.specs.Masters.{Masters}
 use Rattle.master_registers.specs.declared.registers.Registers.{Registers}
 use Rattle.slot_disk.specs.Medium.{Keeps, Medium, Told}
 use Rattle.slot_disk.proofs.Media.{told_at}
-use Rattle.verb_rules.specs.Classes.{classes_of, has}
-use Rattle.verb_rules.specs.KeyChecks.{age_in, age_of, is_under_none, key_checks, read_checks, register_with, use_checks, vector_use_checks}
-use Rattle.verb_rules.specs.Keys.{keys_of, opened, opened_key}
-use Rattle.verb_rules.specs.Rules.{rule_number}
+use Rattle.verb_rules.specs.Classes.{has}
+use Rattle.verb_rules.specs.KeyChecks.{age_in, age_of, key_checks, read_checks, use_checks}
+use Rattle.verb_rules.specs.Keys.{HasHalves, IsDouble, keys_of, opened_key, opened_under}
+use Rattle.verb_rules.specs.Rules.{Judges}
+use Rattle.verb_rules.specs.StoredKeys.{IsRead, IsStoredUse, IsUse}
 use Rattle.verb_rules.specs.declared.judging.Judged.{Judged}
 use Rattle.verb_rules.specs.declared.needs.Need.{Need}
-use Rattle.verb_rules.proofs.DenotedLemmas.{denoted_by_age}
+use Rattle.verb_rules.specs.declared.rules.Rule.{Rule}
+use Rattle.verb_rules.proofs.NeedLemmas.{any_use}
 use Rattle.cca_machine.specs.Keys.{cell_with, key_in_text, key_named, key_of_label, key_of_token, or_no_key, what_at, what_in}
-use Rattle.cca_machine.specs.Operands.{Operands, any_key, every_class}
+use Rattle.cca_machine.specs.Operands.{Operands, any_key}
 use Rattle.cca_machine.specs.State.{State}
 use Rattle.cca_machine.specs.Verdict.{held_checks, key_questions, label_check, record_checks, target_checks}
 use Rattle.cca_machine.specs.declared.asking.Ask.{Ask}
@@ -48,8 +44,8 @@ use Rattle.cca_machine.specs.declared.asking.Ask.TheVariants.{AnyToken, External
 use Rattle.verb_script.specs.Named.{label_named}
 use Rattle.verb_script.specs.Values.{hex_value}
 use Rattle.cca_requests.specs.Deciding.{AtStore}
-use Rattle.cca_requests.specs.Judging.{HasKey, IsAsked, IsGranted, HasStoredKey, IsJudged, target_cell}
-use Rattle.cca_requests.specs.Stored.{IsFound, IsLabelAsked, IsStoredUse, IsUsed, find_checks, label_key_checks}
+use Rattle.cca_requests.specs.Judging.{HasKey, IsAsked, IsGranted, HasStoredKey, IsJudged, IsKeyedAnswer, IsShaped, answered, target_cell}
+use Rattle.cca_requests.specs.Stored.{IsFound, IsLabelAsked, find_checks, label_key_checks}
 use Rattle.cca_requests.specs.declared.judging.Answer.{Answer}
 use Rattle.cca_requests.specs.declared.judging.Answer.TheVariants as answer
 use Rattle.cca_requests.specs.declared.judging.Grant.{Grant}
@@ -81,36 +77,11 @@ module _ (s : State) (held : Registers) (bench : Bench) (rows : List (Option Row
       subst (λ (b : Bool). ReadsToken (keys_of s.registers) (entry_at s.labels place) b token) is
       (told_at m.content (λ _. ReadsToken (keys_of s.registers) (entry_at s.labels place) found token) at.stands.in_store.image at.stands.in_store.told (told s.labels told_labels))
 
--- the token of a record stands for its key
-pub record HasRead (masters : MasterKeys) (entry : Option Entry) (token : List ℕ) : Type 0 where
-  pub key : Denoted
-  pub is : what_in entry ≡ Some key
-  pub denotes : denoted masters token ≡ Some key
-
-kept_denotes : (masters : MasterKeys) (token : List ℕ) (key : Denoted) → kept masters token ≡ Some key → denoted masters token ≡ Some key
-unfolding kept
-kept_denotes masters token key is = by_flag (slice_index token 6 == 0xc0) is
-  where
-    by_flag : (flag : Bool) → (if flag then denoted masters token else None) ≡ Some key → denoted masters token ≡ Some key
-    by_flag true is = is
-    by_flag false is = cc is
-
-pub read_key : (masters : MasterKeys) (entry : Option Entry) (token : List ℕ) → ReadsToken masters entry true token → HasRead masters entry token
-read_key masters None token reads = absurd reads
-read_key masters (Some e) token reads = by_what e.what reads.0 reads.1
-  where
-    by_what : (what : Option Denoted) → true ≡ is_some what → ((key : Denoted) → what ≡ Some key → kept masters token ≡ Some key)
-        → HasRead masters (Some (record { label = e.label; what = what; ahead = e.ahead; unused = e.unused })) token
-    by_what None found keeps = cc found
-    by_what (Some key) found keeps = record { key = key; is = refl; denotes = kept_denotes masters token key (keeps key refl) }
-
-pub read_null : (masters : MasterKeys) (entry : Option Entry) (token : List ℕ) → ReadsToken masters entry false token → what_in entry ≡ None
-read_null masters None token reads = refl
-read_null masters (Some e) token reads = by_what e.what reads.0
-  where
-    by_what : (what : Option Denoted) → false ≡ is_some what → what ≡ None
-    by_what None found = refl
-    by_what (Some key) found = cc found
+  -- the key of the record whose token was read
+  pub key_read : (place : ℕ) (found : Bool) (token : List ℕ) → found ≡ true
+      → ((labels : List (Option Entry)) → Told m (KeepsLabels (keys_of s.registers) rows labels) → Told m (λ _. ReadsToken (keys_of s.registers) (entry_at labels place) found token))
+      → HasRead (keys_of s.registers) (entry_at s.labels place) token
+  key_read place found token is told = read_key (keys_of s.registers) (entry_at s.labels place) token (reads_at place found true token is told)
 
 -- ---- a label whose key is asked for
 
@@ -133,60 +104,98 @@ module _ (s : State) (rows : List (Option Row)) (agrees : Agrees (keys_of s.regi
     pub null_asked : (token : List ℕ) → ReadsToken (keys_of s.registers) (entry_at s.labels place) false token → first_failing (label_key_checks s need label) ≡ Some 8
     null_asked token reads = checks_of None (read_null (keys_of s.registers) (entry_at s.labels place) token reads)
 
-    pub key_asked : (bench : Bench) (token : List ℕ) (a : Answer) (read : HasRead (keys_of s.registers) (entry_at s.labels place) token)
-        → IsStoredUse s.registers bench need read.key (Some a) → IsLabelAsked s bench need label a
-    key_asked bench token (answer.Refused _) read used = checks_of (Some read.key) read.is ∙ used
-    key_asked bench token (answer.Granted grant) read used = (
-      checks_of (Some read.key) read.is ∙ used.0,
-      subst (λ (o : Option Denoted). HasStoredKey s.registers bench o grant) (sym (what_is ∙ read.is)) used.1,
+    pub key_asked : (bench : Bench) (held : Registers) (token : List ℕ) (r : Result Judged Rule) → Loaded s.registers held bench
+        → HasRead (keys_of s.registers) (entry_at s.labels place) token → IsStoredUse bench need (denoted (keys_of s.registers) token) (Some r)
+        → IfOk r (IsRead held token) → IsLabelAsked s bench need label (answered r)
+    key_asked bench held token r loaded read used found =
+        by_result r (subst (λ (what : Option Denoted). IsStoredUse bench need what (Some r)) read.denotes used) found
+      where
+        by_result : (r : Result Judged Rule) → IsUse bench need read.key r → IfOk r (IsRead held token) → IsLabelAsked s bench need label (answered r)
+        by_result (Err _) used found = checks_of (Some read.key) read.is ∙ used
+        by_result (Ok judged) used found = (
+          checks_of (Some read.key) read.is ∙ used.0,
+          subst (λ (o : Option Denoted). HasStoredKey s.registers bench o (record { token = None; key = Some judged; place = None })) (sym (what_is ∙ read.is))
+              (record {
+                has = record { judged = judged; is = refl; key_is = sym used.1 };
+                age = found.age ∙ ap (λ (h : Registers). age_of h judged.token) loaded.told;
+              }),
+        )
+
+-- ---- what is answered of a key that was judged
+
+-- what is certain of it in every state
+pub judged_shape : (need : Need) (r : Result Judged Rule) → IfOk r HasHalves → IfOk r (λ judged. IsSome judged.age) → (IsTrue need.double → IfOk r IsDouble)
+    → IsShaped [] [] (Key need) (answered r)
+judged_shape need (Err _) halves under double = tt
+judged_shape need (Ok judged) halves under double = record { judged = judged; is = refl; halves = halves; under = under; double = λ is. double is }
+
+pub key_shaped : (need : Need) (held : Registers) (token : List ℕ) (r : Result Judged Rule) → IfOk r (IsRead held token) → (IsTrue need.double → IfOk r IsDouble)
+    → IsShaped [] [] (Key need) (answered r)
+key_shaped need held token (Err _) found double = tt
+key_shaped need held token (Ok judged) found double = judged_shape need (Ok judged) found.halves found.under double
+
+pub external_shape : (need : Need) (r : Result Judged Rule) → IfOk r HasHalves → IsShaped [] [] (External need) (answered r)
+external_shape need (Err _) halves = tt
+external_shape need (Ok judged) halves = record { judged = judged; is = refl; halves = halves }
+
+-- an external token is under no register
+
+external_kind : (bytes : List ℕ) → first_failing (token_checks asked.External bytes) ≡ None → kind_of bytes ≡ kind.External
+external_kind bytes passes =
+    let byte : slice_index bytes 0 ≡ 2 =
+    eqb-true (slice_index bytes 0) 2 (passes_first 9 (is_asked asked.External (slice_index bytes 0)) (drop 1 (token_checks asked.External bytes)) passes) in
+    ap kind_at byte
+
+external_ageless : (held : Registers) (need : Need) (bytes : List ℕ) (judged : Judged) → need.asked ≡ asked.External
+    → first_failing (key_checks need held bytes) ≡ None → judged.age ≡ age_of held (token_of bytes) → judged.age ≡ None
+external_ageless held need bytes judged external passes age =
+    let token : first_failing (token_checks asked.External bytes) ≡ None =
+    subst (λ a. first_failing (token_checks a bytes) ≡ None) external
+    (none_in_first (token_checks need.asked bytes) (read_checks need held (token_of bytes)) passes) in
+    age ∙ ap (λ k. age_in held k (pattern_of_token bytes)) (external_kind bytes token)
+
+some_by : {A B : Type 0} (f : A → B) (o : Option A) → IsSome o → IsSome (option_map f o)
+some_by f None some = some
+some_by f (Some x) some = some
+
+some_opened : (bench : Bench) (judged : Judged) → IsSome judged.age → IsSome (opened_key bench judged)
+some_opened bench judged some = some_by _ judged.age some
+
+module _ (digits bytes : List ℕ) (spelled : bytes ≡ hex_value digits) (need : Need) (held : Registers) where
+  module _ (s : State) (bench : Bench) (loaded : Loaded s.registers held bench) where
+    checks_are : first_failing (key_checks need (registers_of s.registers) (hex_value digits)) ≡ first_failing (key_checks need held bytes)
+    checks_are =
+        ap (λ (h : Registers). first_failing (key_checks need h (hex_value digits))) (sym loaded.told)
+        ∙ ap (λ b. first_failing (key_checks need held b)) (sym spelled)
+
+    pub token_asked : (r : Result Judged Rule) → Judges (key_checks need held bytes) r → IfOk r (λ judged. denoted (keys_of s.registers) bytes ≡ opened_key bench judged)
+        → IsAsked s bench digits (Token need) (answered r)
+    token_asked (Err _) judges opens = checks_are ∙ judges
+    token_asked (Ok judged) judges opens = (
+      checks_are ∙ judges,
+      record { judged = judged; is = refl; key_is = ap (denoted (keys_of s.registers)) (sym spelled) ∙ opens },
     )
 
--- ---- a token that stands for a key breaks no rule of any key
+    pub external_asked : (r : Result Judged Rule) → need.asked ≡ asked.External → Judges (key_checks need held bytes) r
+        → IfOk r (λ judged. judged.age ≡ age_of held (token_of bytes))
+        → ((transport : List ℕ) → IfOk r (λ judged. denoted_under transport bytes ≡ Some (opened_under transport judged)))
+        → IsAsked s bench digits (External need) (answered r)
+    external_asked (Err _) external judges age opens = checks_are ∙ judges
+    external_asked (Ok judged) external judges age opens = (
+      checks_are ∙ judges,
+      record {
+        judged = judged;
+        is = refl;
+        opens = λ transport. ap (denoted_under transport) (sym spelled) ∙ opens transport;
+        ageless = external_ageless held need bytes judged external judges age;
+      },
+    )
 
-every_has : (c : Class) → has (classes_of every_class) c ≡ true
-every_has class.Data = refl
-every_has class.Cipher = refl
-every_has class.Mac = refl
-every_has class.Exporter = refl
-every_has class.Importer = refl
-every_has class.Other = refl
-
-pub any_use : (vector : List ℕ) → first_failing (use_checks any_key vector) ≡ None
-any_use vector = ap (λ (b : Bool). if not b then Some 19 else None) (every_has (class_of vector))
-
-some_register : {A B : Type 0} (f : A → B) (o : Option A) (x : B) → option_map f o ≡ Some x → is_none o ≡ false
-some_register f None x is = cc is
-some_register f (Some a) x is = refl
-
-under_some : (held : Registers) (k : Kind) (pattern : List ℕ) → is_none (register_with held pattern) ≡ false → is_under_none held k pattern ≡ false
-under_some held kind.Internal pattern some = some
-under_some held kind.External pattern some = refl
-
-pub never_refused : (m : Masters) (held : Registers) (bench : Bench) (token : List ℕ) (key : Denoted) → Loaded m held bench → denoted (keys_of m) token ≡ Some key
-    → first_failing (key_checks any_key held token) ≡ None
-never_refused m held bench token key loaded denotes =
-    let sound : first_failing (token_checks Internal token) ≡ None = denoted_sound (keys_of m) token key denotes in
-    let some : is_none (register_with held (pattern_of_token token)) ≡ false =
-    some_register _ (register_with held (pattern_of_token token)) key (sym (denoted_by_age m held bench token loaded sound) ∙ denotes) in
-    passed_over (token_checks Internal token) (read_checks any_key held (token_of token)) sound
-    ∙ ap (λ (b : Bool). if b then Some 18 else first_failing (vector_use_checks any_key (token_of token).vector))
-    (under_some held (token_of token).kind (pattern_of_token token) some)
-    ∙ any_use (token_of token).vector
-
--- ---- the key that was judged is the one that the token stands for
-
-same_clear : (clear : ClearKey) (age : Option Age) (key : Denoted) → option_map (λ a. record { clear = clear; age = a }) age ≡ Some key → clear ≡ key.clear
-same_clear clear None key is = cc is
-same_clear clear (Some a) key is = cc is
-
-pub stored_use : (m : Masters) (bench : Bench) (need : Need) (judged : Judged) (key : Denoted) (a : Answer) → opened_key bench judged ≡ Some key
-    → judged.age ≡ age_of (registers_of m) judged.token → IsUsed need judged a → IsStoredUse m bench need key (Some a)
-stored_use m bench need judged key (answer.Refused rule) is age used =
-    subst (λ (clear : ClearKey). first_failing (use_checks need clear.vector) ≡ Some (rule_number rule)) (same_clear (opened bench judged) judged.age key is) used
-stored_use m bench need judged key (answer.Granted grant) is age used = (
-  subst (λ (clear : ClearKey). first_failing (use_checks need clear.vector) ≡ None) (same_clear (opened bench judged) judged.age key is) used.0,
-  record { has = record { judged = judged; is = ap (λ (g : Grant). g.key) used.1; key_is = sym is }; age = age },
-)
+  pub token_keyed : (m : Masters) (bench : Bench) (r : Result Judged Rule) → IfOk r (λ judged. IsSome judged.age)
+      → IfOk r (λ judged. denoted (keys_of m) bytes ≡ opened_key bench judged) → IsKeyedAnswer m digits (Token need) (answered r)
+  token_keyed m bench (Err _) under opens = tt
+  token_keyed m bench (Ok judged) under opens =
+      subst IsSome (sym (ap (denoted (keys_of m)) (sym spelled) ∙ opens)) (some_opened bench judged under)
 
 -- ---- the rules of an operand that names a label
 
@@ -226,30 +235,7 @@ record_asked s bench label (answer.Granted grant) says = (
   says.1,
 )
 
--- ---- an external token is under no register
-
-external_kind : (bytes : List ℕ) → first_failing (token_checks asked.External bytes) ≡ None → kind_of bytes ≡ kind.External
-external_kind bytes passes =
-    let byte : slice_index bytes 0 ≡ 2 =
-    eqb-true (slice_index bytes 0) 2 (passes_first 9 (is_asked asked.External (slice_index bytes 0)) (drop 1 (token_checks asked.External bytes)) passes) in
-    ap kind_at byte
-
-pub external_ageless : (held : Registers) (need : Need) (bytes : List ℕ) (judged : Judged) → need.asked ≡ asked.External
-    → first_failing (key_checks need held bytes) ≡ None → judged.age ≡ age_of held (token_of bytes) → judged.age ≡ None
-external_ageless held need bytes judged external passes age =
-    let token : first_failing (token_checks asked.External bytes) ≡ None =
-    subst (λ a. first_failing (token_checks a bytes) ≡ None) external
-    (none_in_first (token_checks need.asked bytes) (read_checks need held (token_of bytes)) passes) in
-    age ∙ ap (λ k. age_in held k (pattern_of_token bytes)) (external_kind bytes token)
-
 -- ---- what was judged stays so where the store is read
-
-some_by : {A B : Type 0} (f : A → B) (o : Option A) → IsSome o → IsSome (option_map f o)
-some_by f None some = some
-some_by f (Some x) some = some
-
-pub some_opened : (bench : Bench) (judged : Judged) → IsSome judged.age → IsSome (opened_key bench judged)
-some_opened bench judged some = some_by _ judged.age some
 
 has_key_before : (bench : Bench) (b : List ℕ) (key : Option Denoted) (grant : Grant) → HasKey (record bench { body = b }) key grant → HasKey bench key grant
 has_key_before bench b key grant has = record { judged = has.judged; is = has.is; key_is = has.key_is }

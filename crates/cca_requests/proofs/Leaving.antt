@@ -12,9 +12,9 @@ use Rattle.key_records.specs.Entries.{row_directory}
 use Rattle.key_records.specs.StoreStands.{HoldsRows}
 use Rattle.key_records.specs.declared.rows.Row.{Row}
 use Rattle.line_service.specs.Devices.{DiskLeft, devices}
-use Rattle.line_service.specs.declared.stops.Device.TheVariants.{Module, Store}
+use Rattle.line_service.specs.declared.stops.Device.TheVariants.{Module}
 use Rattle.line_service.specs.declared.stops.Stop.{Stop}
-use Rattle.line_service.specs.declared.stops.Stop.TheVariants.{ReadFault, WriteFault, EntropyFault, ModuleFault, StoreFault, Damaged, InputLimit}
+use Rattle.line_service.specs.declared.stops.Stop.TheVariants.{ModuleFault, StoreFault, Damaged}
 use Rattle.cca_requests.specs.Judging.{IsStoreStop}
 use Rattle.cca_requests.specs.Serving.{Tables, tables, IsSound, IsLoadedStop, LeavesModule, LeavesStore, Leaves}
 
@@ -51,11 +51,35 @@ untouched_left m count result stop settled never = record {
   fault = λ is. absurd (never is);
 }
 
+pub still_module_left : (m : Medium) (count : ℕ) (reply : List ℕ) (roles : List (Option Role)) → IsSettled m → Told m (IsSound roles)
+    → LeavesModule m m count count (Ok tt) reply roles roles
+still_module_left m count reply roles settled sound = record {
+  disk = untouched_left m count (Ok tt) ModuleFault settled (λ is. cc is);
+  told = λ some. some;
+  turned = still_turned 33 m m refl refl;
+  sound = sound;
+  silent = tt;
+  memory = tt;
+  stops = tt;
+}
+
+pub still_store_left : (d : Medium) (count : ℕ) (reply : List ℕ) (rows : List (Option Row)) → IsSettled d → Told d (HoldsRows rows)
+    → LeavesStore d d count count (Ok tt) reply rows rows
+still_store_left d count reply rows settled holds = record {
+  disk = untouched_left d count (Ok tt) StoreFault settled (λ is. cc is);
+  told = λ some. some;
+  turned = still_turned 1024 d d refl refl;
+  holds = holds;
+  silent = tt;
+  memory = tt;
+  stops = tt;
+}
+
 -- what a call leaves that writes nothing
-pub still_left : (m d : Medium) (m_count d_count : ℕ) (reply : List ℕ) (t : Tables) → IsSettled m → IsSettled d
+pub still_left : {m d : Medium} {m_count d_count : ℕ} {reply : List ℕ} {t : Tables} → IsSettled m → IsSettled d
     → Told m (IsSound t.roles) → Told d (HoldsRows t.rows)
     → Leaves (Ok tt) reply (record { old = devices m m_count d d_count None 0; new = devices m m_count d d_count None 0 }) t t
-still_left m d m_count d_count reply t settled_module settled_store sound holds = record {
+still_left {m} {d} {m_count} {d_count} {reply} {t} settled_module settled_store sound holds = record {
   module_disk = untouched_left m m_count (Ok tt) ModuleFault settled_module (λ is. cc is);
   store_disk = untouched_left d d_count (Ok tt) StoreFault settled_store (λ is. cc is);
   module_told = λ some. some;
@@ -79,53 +103,17 @@ never_store (Err stop) stops is = let no : error ModuleFault ≡ Err StoreFault 
 never_module : (result : Result (Unit {0}) Stop) → IfErr result IsStoreStop → result ≡ Err ModuleFault → ⊥
 never_module result stops is = subst (λ (r : Result (Unit {0}) Stop). IfErr r IsStoreStop) is stops
 
-pub module_stop : (result : Result (Unit {0}) Stop) → IfErr result (λ stop. stop ≡ ModuleFault) → IfErr result IsLoadedStop
-module_stop (Ok u) stops = tt
-module_stop (Err stop) stops = subst IsLoadedStop (sym stops) tt
-
-loaded_stop : (stop : Stop) → IsStoreStop stop → IsLoadedStop stop
-loaded_stop StoreFault stops = tt
-loaded_stop (Damaged Store cell) stops = stops
-loaded_stop (Damaged Module cell) stops = absurd stops
-loaded_stop EntropyFault stops = absurd stops
-loaded_stop ModuleFault stops = absurd stops
-loaded_stop ReadFault stops = absurd stops
-loaded_stop WriteFault stops = absurd stops
-loaded_stop InputLimit stops = absurd stops
-
-pub store_stop : (result : Result (Unit {0}) Stop) → IfErr result IsStoreStop → IfErr result IsLoadedStop
-store_stop (Ok u) stops = tt
-store_stop (Err stop) stops = loaded_stop stop stops
-
 err_always : {P : Type 0} (result : Result (Unit {0}) Stop) → P → OnErr result P
 err_always (Ok u) p = tt
 err_always (Err stop) p = p
 
-module _ (result : Result (Unit {0}) Stop) (reply : List ℕ) where
-  -- of the module alone
-  pub module_left : (m0 m1 d : Medium) (before now count : ℕ) (roles later : List (Option Role)) (rows : List (Option Row))
-      → LeavesModule m0 m1 before now result reply roles later → IsSettled d → Told d (HoldsRows rows)
-      → Leaves result reply (record { old = devices m0 before d count None 0; new = devices m1 now d count None 0 }) (tables roles rows) (tables later rows)
-  module_left m0 m1 d before now count roles later rows left settled holds = record {
-    module_disk = left.disk;
-    store_disk = untouched_left d count result StoreFault settled (never_store result left.stops);
-    module_told = left.told;
-    store_told = λ some. some;
-    module_turned = left.turned;
-    store_turned = ok_always result (still_turned 1024 d d refl refl);
-    sound = left.sound;
-    holds = ok_always result holds;
-    silent = left.silent;
-    roles = left.memory;
-    labels = err_always result refl;
-  }
-
+module _ {result : Result (Unit {0}) Stop} {reply : List ℕ} where
   -- of the registers, where the memory changes
-  pub registers_left : (m0 m1 d : Medium) (before now count : ℕ) (roles later : List (Option Role)) (rows next : List (Option Row))
+  pub registers_left : {m0 m1 d : Medium} {before now count : ℕ} {roles later : List (Option Role)} {rows next : List (Option Row)}
       → LeavesModule m0 m1 before now result reply roles later → IsSettled d → Told d (HoldsRows rows)
       → ((image : List ℕ) → HoldsRows rows image → HoldsRows next image) → OnErr result (next ≡ rows)
       → Leaves result reply (record { old = devices m0 before d count None 0; new = devices m1 now d count None 0 }) (tables roles rows) (tables later next)
-  registers_left m0 m1 d before now count roles later rows next left settled holds turns kept = record {
+  registers_left {m0} {m1} {d} {before} {now} {count} {roles} {later} {rows} {next} left settled holds turns kept = record {
     module_disk = left.disk;
     store_disk = untouched_left d count result StoreFault settled (never_store result left.stops);
     module_told = left.told;
@@ -139,11 +127,17 @@ module _ (result : Result (Unit {0}) Stop) (reply : List ℕ) where
     labels = on_err_weaker result (λ is. ap row_directory is) kept;
   }
 
+  -- of the module alone
+  pub module_left : {m0 m1 d : Medium} {before now count : ℕ} {roles later : List (Option Role)} {rows : List (Option Row)}
+      → LeavesModule m0 m1 before now result reply roles later → IsSettled d → Told d (HoldsRows rows)
+      → Leaves result reply (record { old = devices m0 before d count None 0; new = devices m1 now d count None 0 }) (tables roles rows) (tables later rows)
+  module_left left settled holds = registers_left left settled holds (λ image h. h) (err_always result refl)
+
   -- of the store alone
-  pub store_left : (m d0 d1 : Medium) (count before now : ℕ) (roles : List (Option Role)) (rows later : List (Option Row))
+  pub store_left : {m d0 d1 : Medium} {count before now : ℕ} {roles : List (Option Role)} {rows later : List (Option Row)}
       → LeavesStore d0 d1 before now result reply rows later → IsSettled m → Told m (IsSound roles)
       → Leaves result reply (record { old = devices m count d0 before None 0; new = devices m count d1 now None 0 }) (tables roles rows) (tables roles later)
-  store_left m d0 d1 count before now roles rows later left settled sound = record {
+  store_left {m} {d0} {d1} {count} {before} {now} {roles} {rows} {later} left settled sound = record {
     module_disk = untouched_left m count result ModuleFault settled (never_module result left.stops);
     store_disk = left.disk;
     module_told = λ some. some;
@@ -168,11 +162,11 @@ disk_after m0 m1 m2 before mid now done failed keeps later left = record {
 }
 
 -- what is left after a call that reads both disks, and another behind it
-pub leaves_after_reads : (result : Result (Unit {0}) Stop) (reply : List ℕ) (m0 m1 m2 d0 d1 d2 : Medium) (m_before m_mid m_now d_before d_mid d_now : ℕ) (t later : Tables)
+pub leaves_after_reads : {result : Result (Unit {0}) Stop} {reply : List ℕ} {m0 m1 m2 d0 d1 d2 : Medium} {m_before m_mid m_now d_before d_mid d_now : ℕ} {t later : Tables}
     → Keeps m0 m1 → m_before ≤ m_mid → Keeps d0 d1 → d_before ≤ d_mid
     → Leaves result reply (record { old = devices m1 m_mid d1 d_mid None 0; new = devices m2 m_now d2 d_now None 0 }) t later
     → Leaves result reply (record { old = devices m0 m_before d0 d_before None 0; new = devices m2 m_now d2 d_now None 0 }) t later
-leaves_after_reads result reply m0 m1 m2 d0 d1 d2 m_before m_mid m_now d_before d_mid d_now t later keeps_m later_m keeps_d later_d left = record {
+leaves_after_reads {result} {reply} {m0} {m1} {m2} {d0} {d1} {d2} {m_before} {m_mid} {m_now} {d_before} {d_mid} {d_now} {t} {later} keeps_m later_m keeps_d later_d left = record {
   module_disk = disk_after m0 m1 m2 m_before m_mid m_now (IsOk result) (result ≡ Err ModuleFault) keeps_m later_m left.module_disk;
   store_disk = disk_after d0 d1 d2 d_before d_mid d_now (IsOk result) (result ≡ Err StoreFault) keeps_d later_d left.store_disk;
   module_told = λ some. subst IsSome keeps_m.content (left.module_told some);

@@ -7,11 +7,13 @@ mod Delivering
 mod Fields
 mod Generating
 mod GrantsKept
+mod KeyDigits
 mod KeyParts
 mod KeyedVerbs
 pub mod LabelsRead
 mod Leaving
 pub mod ListedLabels
+mod OperandsJudged
 mod Points
 mod Registers
 mod Renewing
@@ -19,6 +21,7 @@ mod RoleChanging
 pub mod Serving
 mod SegmentRules
 mod SetRules
+mod Settling
 mod Storing
 mod Texts
 mod TokenReply

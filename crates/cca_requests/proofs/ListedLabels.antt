@@ -7,8 +7,8 @@ use Rattle.std.specs.Ordering.{nat_cmp, is_lt, ordering_reverse}
 use Rattle.std.proofs.lemmas.Bool.{cases_lt, eq-eqb, eqb-true}
 use Rattle.std.proofs.lemmas.Cmp.{nat_list_cmp_total, tied_itself}
 use Rattle.std.proofs.lemmas.List.{get_or_past, append_assoc, append-nil, length-append}
-use Rattle.std.proofs.lemmas.List.FromFn.{filter_of_map_range_with_len_more, length-map-range_with_len}
-use Rattle.std.proofs.lemmas.List.Sums.{sum_by-cons, length-filter, count_by-le-length}
+use Rattle.std.proofs.lemmas.List.FromFn.{filter_of_map_range_with_len_more}
+use Rattle.std.proofs.lemmas.List.Sums.{sum_by-cons}
 use Rattle.key_records.specs.Directory.{label_at}
 use Rattle.key_records.specs.Rank.{is_smaller, smaller_count, IsNth}
 use Rattle.key_records.proofs.HalvingLaws.{equal_same}
@@ -120,15 +120,6 @@ module _ (prefix : List ℕ) (d : List (Option (List ℕ))) (index : ℕ) (label
 
   pub count_one : starts_with nat_eq label prefix ≡ true → length (so_far prefix d (index + 1)) ≡ length (so_far prefix d index) + 1
   count_one holds = ap length (with_one holds) ∙ length-append (so_far prefix d index) (label ∷ [])
-
-pub at_most : (prefix : List ℕ) (d : List (Option (List ℕ))) (index : ℕ) → length (so_far prefix d index) ≤ index
-at_most prefix d index =
-    omega (
-      arith,
-      length-filter (λ l. starts_with nat_eq l prefix) (map (nth_label d) (range_with_len 0 index)),
-      count_by-le-length (λ l. starts_with nat_eq l prefix) (map (nth_label d) (range_with_len 0 index)),
-      length-map-range_with_len (nth_label d) 0 index,
-    )
 
 -- ---- commas
 

@@ -21,9 +21,9 @@ use Rattle.cca_machine.specs.Act.{Effect, NoCell, OneCell, Outcome}
 use Rattle.cca_requests.specs.Serving.{StandsInModule, IsEither, SameBut, CarriesModule, IsSound, LeavesModule}
 use Rattle.cca_requests.specs.Deciding.{plainly, role_outcome, role_stop, role_reply}
 use Rattle.slot_disk.proofs.SpareLemmas.{changed_turned}
-use Rattle.cca_requests.proofs.Leaving.{still_turned}
-use Rattle.cca_requests.proofs.Contents.{at_content, holds_at, registers_alike, sound}
-use Rattle.cca_requests.proofs.Serving.{still_module, told_some}
+use Rattle.cca_requests.proofs.Leaving.{still_module_left}
+use Rattle.cca_requests.proofs.Contents.{at_content, becomes_holds, registers_alike, sound}
+use Rattle.cca_requests.proofs.Serving.{still_module}
 
 -- what comes of a change of one place that no rule refuses
 abbrev pub changed_outcome : State → ℕ → List (Option Role) → Outcome
@@ -77,19 +77,9 @@ module _ {A : Type 0} (medium : A → Medium) (old new : A) (s : State) (before 
     done = record {
       reply_is = text;
       stands = record {
-        in_module =
-            let holds = holds_at (medium new).content (medium new) (λ c. StandsForRoles c next) refl
-            (changes.either.still (told_some (medium old) stands.in_module.image stands.in_module.told)) changes.stands in
-            let from = changes.either.told holds.image holds.told in
-            record {
-              image = holds.image;
-              told = holds.told;
-              has = record {
-                registers = registers_alike from.0 holds.image s.registers place from.2.others
-                    (at_content (medium old) (IsModuleOf s) stands.in_module from.0 from.1).registers;
-                roles = holds.has;
-              };
-            };
+        in_module = becomes_holds (medium old) (medium new) (HoldsEither (place + 1) s.roles next) (IsModuleOf s) (λ c. StandsForRoles c next) (IsModuleOf after.state)
+            changes.either stands.in_module changes.stands
+            (λ d c was by has. record { registers = registers_alike d c s.registers place by.others was.registers; roles = has });
         memory = memory;
       };
     };
@@ -135,13 +125,21 @@ module _ {A : Type 0} (medium : A → Medium) (old new : A) (s : State) (before 
         told : reply ≡ spelled (role_reply (Err full))
         told = told_of (role_stop (Err full)) (role_reply (Err full)) refusing.stop (subst (λ f. OnOk (role_stop (Err f)) (reply ≡ spelled (role_reply (Err f)))) is text)
 
-    pub role_changes_as : (refuses : Bool) (r : Result (Unit {0}) RoleFault) → ((r ≡ Err full) ↔ IsTrue refuses)
+    changes_by : (refuses : Bool) (r : Result (Unit {0}) RoleFault) → ((r ≡ Err full) ↔ IsTrue refuses)
         → IfErr r (λ fault. (fault ≡ DiskFault) ⊎ (fault ≡ full)) → ChangesRoles place s.roles next (medium old) (medium new) r
         → (r ≡ Err full → new ≡ old) → Remembers before next now r → OnOk (role_stop r) (reply ≡ spelled (role_reply r)) → Answers refuses r reply
-    role_changes_as true (Ok u) rule faults changes untouched memory text = let no = rule.1 refl in cc no
-    role_changes_as false (Ok u) rule faults changes untouched memory text =
+    changes_by true (Ok u) rule faults changes untouched memory text = let no = rule.1 refl in cc no
+    changes_by false (Ok u) rule faults changes untouched memory text =
         subst (λ (o : Outcome). CarriesModule o s (Ok tt) reply now (medium old) (medium new)) (sym e_is) (done u reply changes memory.done text)
-    role_changes_as refuses (Err fault) rule faults changes untouched memory text = by_fault refuses fault rule faults changes untouched memory.kept text
+    changes_by refuses (Err fault) rule faults changes untouched memory text = by_fault refuses fault rule faults changes untouched memory.kept text
+
+    pub role_changes_as : (refuses : Bool) (r : Result (Unit {0}) RoleFault) (result : Result (Unit {0}) Stop) → result ≡ role_stop r → ((r ≡ Err full) ↔ IsTrue refuses)
+        → IfErr r (λ fault. (fault ≡ DiskFault) ⊎ (fault ≡ full)) → ChangesRoles place s.roles next (medium old) (medium new) r
+        → (r ≡ Err full → new ≡ old) → Remembers before next now r → OnOk result (reply ≡ spelled (role_reply r))
+        → CarriesModule (outcome_by refuses s e) s result reply now (medium old) (medium new)
+    role_changes_as refuses r result is rule faults changes untouched memory text =
+        subst (λ x. CarriesModule (outcome_by refuses s e) s x reply now (medium old) (medium new)) (sym is)
+        (changes_by refuses r rule faults changes untouched memory (subst (λ x. OnOk x (reply ≡ spelled (role_reply r))) is text))
 
   -- where no cell is written, no device is called
   pub role_still_as : (refuses : Bool) (r : Result (Unit {0}) RoleFault) → ((r ≡ Err full) ↔ IsTrue refuses) → (r ≡ Err full → new ≡ old)
@@ -172,28 +170,17 @@ module _ {A : Type 0} (medium : A → Medium) (faults : A → ℕ) (old new : A)
     stops = refl;
   })
   left_by fault (inr is) changes untouched memory cause silent =
-      let same = untouched (ap error is) in
-      subst (λ f. Left (role_stop (Err f))) (sym is) (subst (λ x. Left x) (sym refusing.stop) (record {
-        disk = record {
-          size = changes.either.size;
-          still = changes.either.still;
-          settled = λ ok. subst (λ x. IsSettled (medium x)) (sym same) settled;
-          later = later;
-          fault = λ no. cc no;
-        };
-        told = told_before (HoldsEither (place + 1) before next) (medium old) (medium new) changes.either;
-        turned = still_turned 33 (medium old) (medium new) (ap (λ x. (medium x).size) same) (ap (λ x. (medium x).content) same);
-        sound = subst (λ x. Told (medium x) (IsSound now)) (sym same) (subst (λ rs. Told (medium old) (IsSound rs)) (sym memory) (sound (medium old) m before stands also));
-        silent = tt;
-        memory = tt;
-        stops = tt;
-      }))
+      subst (λ f. Left (role_stop (Err f))) (sym is)
+      (subst (λ x. Left x) (sym refusing.stop)
+      (subst (λ x. LeavesModule (medium old) (medium x) (faults old) (faults x) (Ok tt) reply before now) (sym (untouched (ap error is)))
+      (subst (λ rs. LeavesModule (medium old) (medium old) (faults old) (faults old) (Ok tt) reply before rs) (sym memory)
+      (still_module_left (medium old) (faults old) reply before settled (sound (medium old) m before stands also)))))
 
   -- what a change leaves
-  pub role_left_as : (r : Result (Unit {0}) RoleFault) → IfErr r (λ fault. (fault ≡ DiskFault) ⊎ (fault ≡ full))
+  left_of : (r : Result (Unit {0}) RoleFault) → IfErr r (λ fault. (fault ≡ DiskFault) ⊎ (fault ≡ full))
       → ChangesRoles place before next (medium old) (medium new) r → (r ≡ Err full → new ≡ old) → Remembers before next now r
       → (r ≡ Err DiskFault → Rose (faults old) (faults new)) → OnErr (role_stop r) (reply ≡ []) → Left (role_stop r)
-  role_left_as (Ok u) each changes untouched memory cause silent = record {
+  left_of (Ok u) each changes untouched memory cause silent = record {
     disk = record { size = changes.either.size; still = changes.either.still; settled = λ ok. changes.settled; later = later; fault = λ is. cc is };
     told = told_before (HoldsEither (place + 1) before next) (medium old) (medium new) changes.either;
     turned = changed_turned (place + 1) 33 (medium old) (medium new) (HoldsEither (place + 1) before next) changes.either changes.turned
@@ -206,4 +193,10 @@ module _ {A : Type 0} (medium : A → Medium) (faults : A → ℕ) (old new : A)
     memory = tt;
     stops = tt;
   }
-  role_left_as (Err fault) each changes untouched memory cause silent = left_by fault each changes untouched memory.kept cause silent
+  left_of (Err fault) each changes untouched memory cause silent = left_by fault each changes untouched memory.kept cause silent
+
+  pub role_left_as : (r : Result (Unit {0}) RoleFault) (result : Result (Unit {0}) Stop) → result ≡ role_stop r → IfErr r (λ fault. (fault ≡ DiskFault) ⊎ (fault ≡ full))
+      → ChangesRoles place before next (medium old) (medium new) r → (r ≡ Err full → new ≡ old) → Remembers before next now r
+      → (r ≡ Err DiskFault → Rose (faults old) (faults new)) → OnErr result (reply ≡ []) → Left result
+  role_left_as r result is each changes untouched memory cause silent =
+      subst Left (sym is) (left_of r each changes untouched memory cause (subst (λ x. OnErr x (reply ≡ [])) is silent))

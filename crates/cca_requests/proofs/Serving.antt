@@ -21,7 +21,7 @@ use Rattle.line_service.specs.declared.stops.Stop.TheVariants.{EntropyFault}
 use Rattle.line_service.specs.Answering.{Holds, Unwritten}
 use Rattle.line_service.specs.Machine.{world}
 use Rattle.std.proofs.KnownBytes.{Consumes-nil}
-use Rattle.cca_requests.specs.Serving.{Tables, tables, StandsInModule, StandsInStore, Stands, IsEither, ArePair, SameButCell, SameBut, IsFault, IsDoneInModule, CarriesModule, IsDoneInStore, CarriesStore, IsDone, Carries, HasDrawn, Serves, HasTold}
+use Rattle.cca_requests.specs.Serving.{Tables, tables, StandsInModule, StandsInStore, Stands, IsEither, ArePair, SameButCell, SameBut, IsFault, IsDoneInModule, CarriesModule, IsDoneInStore, CarriesStore, IsDone, Carries, HasDrawn, Serves}
 
 -- ---- one disk
 
@@ -30,10 +30,6 @@ holds_told m P holds = subst (λ (o : Option (List ℕ)). IfSome o P) (sym holds
 
 pub told_some : (m : Medium) (image : List ℕ) → m.content ≡ Some image → IsSome m.content
 told_some m image told = subst IsSome (sym told) refl
-
--- a disk that was read tells its content where it told it before
-pub told_kept : (m0 m1 : Medium) → Keeps m0 m1 → HasTold m0 m1
-told_kept m0 m1 keeps = λ some. subst IsSome keeps.content some
 
 same_but_cell : (cell : ℕ) (c : List ℕ) → SameButCell cell c c
 same_but_cell cell c = record {
@@ -83,14 +79,6 @@ outside_after_read cells m0 m1 m2 settled keeps outside =
 
 unwritten_after_read : (m0 m1 m2 : Medium) → Keeps m0 m1 → EachImage m1 m2 m1.images → EachImage m0 m2 m0.images
 unwritten_after_read m0 m1 m2 keeps later = goes_on m0 m1 m2 m0.images m1.images m0.images keeps.moments later (λ c p. p) (λ c p. keeps.images c p)
-
--- where no cell is written, nothing is
-pub unwritten : (cells : Cells) (m0 m1 : Medium) → cells ≡ NoCell → EachImage m0 m1 (From (SameBut cells) m0) → EachImage m0 m1 m0.images
-unwritten cells m0 m1 none outside =
-    each_weaker m0 m1 (From (SameBut cells) m0) m0.images outside
-    (λ c from.
-    let same : c ≡ from.0 = subst (λ (n : Cells). SameBut n from.0 c) none from.2 in
-    subst m0.images (sym same) (m0.is_image from.0 from.1))
 
 -- ---- what stands
 
@@ -387,10 +375,3 @@ serves_after_reads s request result reply before t m0 m1 m2 d0 d1 d2 left now se
       on_module = unwritten_after_read m0 m1 m2 keeps_module nothing.on_module;
       on_store = unwritten_after_read d0 d1 d2 keeps_store nothing.on_store;
     }
-
--- a refusal writes no cell
-pub refused_cells : (s : State) (drawn : List ℕ) (request : Request) (r : Refusal) → verdict s drawn request ≡ Some r
-    → ((performed s drawn request).module_cells ≡ NoCell) × ((performed s drawn request).store_cells ≡ NoCell)
-refused_cells s drawn request r is =
-    let by = performed_by s drawn request (Some r) is in
-    (ap (λ (o : Outcome). o.module_cells) by, ap (λ (o : Outcome). o.store_cells) by)

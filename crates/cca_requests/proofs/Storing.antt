@@ -1,6 +1,6 @@
 -- A change of the records is what the machine makes of it.
 use Rattle.std.proofs.Common.{◌≡◌, ◌≢◌, ℕ, Bool, true, false, List, [], ◌∷◌, Option, None, Some, Result, Ok, Err, codes, refl, sym, ap, ◌∙◌, subst, inl, inr, ⊎_elim}
-use Rattle.std.specs.Prelude.{◌⊎◌, ◌↔◌, ◌≤◌, ◌==◌, IsTrue, IsSome, IfErr, OnOk, OnErr, is_some}
+use Rattle.std.specs.Prelude.{◌⊎◌, ◌↔◌, ◌≤◌, ◌==◌, IsTrue, IfErr, OnOk, OnErr, is_some}
 use Rattle.std.proofs.lemmas.Bool.{false_from_ne_true}
 use Rattle.std.proofs.lemmas.Bool.Decides.{Decides-eqb}
 use Rattle.slot_disk.specs.Cells.{IsReplacing}
@@ -8,7 +8,7 @@ use Rattle.slot_disk.specs.Faults.{Rose}
 use Rattle.slot_disk.specs.Medium.{Medium, Told, IsSettled, From}
 use Rattle.slot_disk.proofs.Media.{each_weaker, told_from, told_before}
 use Rattle.cca_vectors.specs.Checks.{check}
-use Rattle.key_records.specs.Changes.{HoldsEither, ReplacesBody, ChangesLabels, Remembers, HasRecordCause, created}
+use Rattle.key_records.specs.Changes.{HoldsEither, ReplacesBody, ChangesLabels, Remembers, HasRecordCause, created, deleted, written}
 use Rattle.key_records.specs.Directory.{free_cell, cell_of}
 use Rattle.key_records.specs.Entries.{Entry, directory, row_directory}
 use Rattle.key_records.specs.StoreStands.{KeepsLabels, HoldsRows}
@@ -16,16 +16,18 @@ use Rattle.key_records.specs.declared.faults.RecordFault.{RecordFault}
 use Rattle.key_records.specs.declared.faults.RecordFault.TheVariants.{DiskFault, Damaged, Full, Exists}
 use Rattle.key_records.specs.declared.rows.Row.{Row}
 use Rattle.key_records.proofs.StoreLaws.{same_directory}
-use Rattle.script_buffers.specs.Replies.{Refused, spelled}
+use Rattle.script_buffers.specs.Replies.{Done, Refused, spelled}
+use Rattle.line_service.specs.declared.stops.Stop.{Stop}
 use Rattle.line_service.specs.declared.stops.Stop.TheVariants.{StoreFault}
 use Rattle.verb_rules.specs.Keys.{keys_of}
 use Rattle.cca_machine.specs.State.{State, IsStoreOf}
 use Rattle.cca_machine.specs.Verdict.{refusal, questions, first_refusal}
-use Rattle.cca_machine.specs.Act.{Create, Cells, OneCell, Outcome, refused}
+use Rattle.verb_script.specs.Grammar.{Request}
+use Rattle.cca_machine.specs.Act.{Effect, Create, Delete, Write, Cells, OneCell, Outcome, cell_or_none, deleted_in, effected, refused, written_in}
 use Rattle.cca_requests.specs.Serving.{StandsInStore, IsEither, SameBut, CarriesStore, LeavesStore}
-use Rattle.cca_requests.specs.Deciding.{IsRecorded, or_effected, record_stop, record_reply}
+use Rattle.cca_requests.specs.Deciding.{IsDeleted, IsRecorded, IsWritten, or_effected, plainly, record_stop, record_reply}
 use Rattle.slot_disk.proofs.SpareLemmas.{becomes_turned}
-use Rattle.cca_requests.proofs.Leaving.{still_turned}
+use Rattle.cca_requests.proofs.Leaving.{still_store_left}
 use Rattle.cca_requests.proofs.Contents.{at_content, holds_at}
 use Rattle.cca_requests.proofs.Serving.{still_store, told_some}
 
@@ -87,6 +89,33 @@ module _ (d0 d1 : Medium) (s : State) (rows later : List (Option Row)) (stands :
     outside = each_weaker d0 d1 (From (HoldsEither (keys_of s.registers) cell s.labels next) d0) (From (SameBut o.store_cells) d0) changes.moments outside;
     stops = tt;
   }
+
+-- a change of one record that no rule refuses: the store fails, or the labels become others
+abbrev changed_stop : Result (Unit {0}) RecordFault → Result (Unit {0}) Stop
+changed_stop (Ok done) = Ok tt
+changed_stop (Err fault) = Err StoreFault
+
+module _ (d0 d1 : Medium) (s : State) (rows later : List (Option Row)) (stands : StandsInStore s rows d0) (cell : ℕ) (reply : List ℕ) where
+  changed : (next : List (Option Entry)) (o : Outcome) → o.state ≡ record s { labels = next } → o.store_cells ≡ OneCell cell → (r : Result (Unit {0}) RecordFault)
+      → ChangesLabels (keys_of s.registers) cell s.labels next later d0 d1 r → OnOk r (reply ≡ spelled o.reply) → CarriesStore o s (changed_stop r) reply later d0 d1
+  changed next o state_is cell_is (Ok u) changes text = stored d0 d1 s rows later stands cell next o state_is cell_is u reply changes text
+  changed next o state_is cell_is (Err fault) changes text = failed d0 d1 s rows later stands cell next o state_is cell_is fault reply changes
+
+  pub deletes_as : (e : Effect) → IsDeleted s e cell → (r : Result (Unit {0}) RecordFault)
+      → ChangesLabels (keys_of s.registers) cell s.labels (deleted cell s.labels) later d0 d1 r → OnOk r (reply ≡ spelled (Done []))
+      → CarriesStore (plainly s e) s (changed_stop r) reply later d0 d1
+  deletes_as e gone r changes text =
+      subst (λ (x : Effect). CarriesStore (plainly s x) s (changed_stop r) reply later d0 d1) (sym gone.is)
+      (changed (deleted cell s.labels) (plainly s (Delete gone.label))
+      (ap (λ (n : Option ℕ). let later : State = record s { labels = deleted_in n s.labels } in later) gone.placed) (ap cell_or_none gone.placed) r changes text)
+
+  pub writes_as : (request : Request) (e : Effect) (token before : List ℕ) (goes : IsWritten s e cell token before) → (r : Result (Unit {0}) RecordFault)
+      → ChangesLabels (keys_of s.registers) cell s.labels (written cell goes.key s.labels) later d0 d1 r
+      → OnOk r (reply ≡ spelled (effected s request (Write goes.label goes.key goes.fields)).reply) → CarriesStore (effected s request e) s (changed_stop r) reply later d0 d1
+  writes_as request e token before goes r changes text =
+      subst (λ (x : Effect). CarriesStore (effected s request x) s (changed_stop r) reply later d0 d1) (sym goes.is)
+      (changed (written cell goes.key s.labels) (effected s request (Write goes.label goes.key goes.fields))
+      (ap (λ (n : Option ℕ). let later : State = record s { labels = written_in n goes.key s.labels } in later) goes.placed) (ap cell_or_none goes.placed) r changes text)
 
 -- ---- another label
 
@@ -195,22 +224,11 @@ module _ (d0 d1 : Medium) (before now : ℕ) (rows later : List (Option Row)) (r
 
 module _ {A : Type 0} (medium : A → Medium) (faults : A → ℕ) (old new : A) (rows later next : List (Option Row)) (reply : List ℕ) (cell : ℕ) (bytes : List ℕ)
     (settled : IsSettled (medium old)) (holds : Told (medium old) (HoldsRows rows)) where
-  refused_left : new ≡ old → later ≡ rows → faults old ≤ faults new → LeavesStore (medium old) (medium new) (faults old) (faults new) (Ok tt) reply rows later
-  refused_left untouched memory count = record {
-    disk = record {
-      size = ap (λ x. (medium x).size) untouched;
-      still = λ some. subst (λ x. IsSome (medium x).content) (sym untouched) some;
-      settled = λ ok. subst (λ x. IsSettled (medium x)) (sym untouched) settled;
-      later = count;
-      fault = λ is. cc is;
-    };
-    told = λ some. subst (λ x. IsSome (medium x).content) untouched some;
-    turned = still_turned 1024 (medium old) (medium new) (ap (λ x. (medium x).size) untouched) (ap (λ x. (medium x).content) untouched);
-    holds = subst (λ x. Told (medium x) (HoldsRows later)) (sym untouched) (subst (λ rs. Told (medium old) (HoldsRows rs)) (sym memory) holds);
-    silent = tt;
-    memory = tt;
-    stops = tt;
-  }
+  refused_left : new ≡ old → later ≡ rows → LeavesStore (medium old) (medium new) (faults old) (faults new) (Ok tt) reply rows later
+  refused_left untouched memory =
+      subst (λ x. LeavesStore (medium old) (medium x) (faults old) (faults x) (Ok tt) reply rows later) (sym untouched)
+      (subst (λ rs. LeavesStore (medium old) (medium old) (faults old) (faults old) (Ok tt) reply rows rs) (sym memory)
+      (still_store_left (medium old) (faults old) reply rows settled holds))
 
   -- what holding another label leaves
   pub create_left_as : (r : Result (Unit {0}) RecordFault) → ReplacesBody cell bytes (medium old) (medium new) r → IfErr r (λ fault. (n : ℕ) → fault ≢ Damaged n)
@@ -222,5 +240,5 @@ module _ {A : Type 0} (medium : A → Medium) (faults : A → ℕ) (old new : A)
   create_left_as (Err DiskFault) replaces undamaged untouched memory holds_now cause silent =
       failed_left (medium old) (medium new) (faults old) (faults new) rows later reply cell bytes DiskFault replaces memory.kept cause.later (cause.failed refl) silent
   create_left_as (Err (Damaged n)) replaces undamaged untouched memory holds_now cause silent = absurd (undamaged n refl)
-  create_left_as (Err Full) replaces undamaged untouched memory holds_now cause silent = refused_left (untouched (inl refl)) memory.kept cause.later
-  create_left_as (Err Exists) replaces undamaged untouched memory holds_now cause silent = refused_left (untouched (inr refl)) memory.kept cause.later
+  create_left_as (Err Full) replaces undamaged untouched memory holds_now cause silent = refused_left (untouched (inl refl)) memory.kept
+  create_left_as (Err Exists) replaces undamaged untouched memory holds_now cause silent = refused_left (untouched (inr refl)) memory.kept

@@ -1,17 +1,12 @@
 -- The reply to CSNBKTP.
-use Rattle.std.proofs.Common.{◌≡◌, ℕ, ◌≤◌, ◌++◌, ◌-◌, List, [], length, take, drop, sym, ap, ◌∙◌, append_assoc, arith}
+use Rattle.std.proofs.Common.{◌≡◌, ℕ, ◌≤◌, ◌++◌, ◌-◌, List, length, take, drop, sym, ap, ◌∙◌, arith}
 use Rattle.std.specs.Prelude.{decimal}
 use Rattle.cca_vectors.specs.Vectors.{left_of, right_of}
-use Rattle.std.proofs.lemmas.List.{append-nil, take-append-drop, take_rest}
+use Rattle.std.proofs.lemmas.List.{take-append-drop, take_rest}
 use Rattle.std.proofs.lemmas.Fmt.{length-decimal-le_succ}
 
 pub decimal_size : (n : ℕ) → n ≤ 16 → length (decimal n) ≤ 17
 decimal_size n small = omega (arith, length-decimal-le_succ n (omega arith))
-
--- five fields and a newline, as they are written and as they are spelled
-pub five_fields : (ok a b c d e end : List ℕ)
-    → ((((((([] ++ ok) ++ a) ++ b) ++ c) ++ d) ++ e) ++ end) ≡ (ok ++ (a ++ (b ++ (c ++ (d ++ (e ++ [])))))) ++ end
-five_fields ok a b c d e end = simp (append_assoc, append-nil)
 
 -- a control vector is its two halves
 pub halves : (vector : List ℕ) → length vector ≡ 16 → left_of vector ++ right_of vector ≡ vector

@@ -10,13 +10,13 @@ use Rattle.key_tokens.specs.declared.key_token.Age.TheVariants.{Current, Old}
 use Rattle.key_tokens.specs.declared.key_token.Kind.{Kind}
 use Rattle.key_tokens.specs.declared.key_token.Kind.TheVariants.{Internal, External}
 use Rattle.key_tokens.specs.declared.key_token.Token.{Token}
-use Rattle.master_registers.specs.Loaded.{Loaded, pattern_in, registers_of}
+use Rattle.master_registers.specs.Loaded.{Loaded, has_pattern, pattern_in, registers_of}
 use Rattle.master_registers.specs.Masters.{Masters, kept_bytes, pattern_of_master}
 use Rattle.master_registers.specs.declared.registers.Registers.{Registers}
 use Rattle.multi_encipher.specs.Seals.{IsSealed}
 use Rattle.multi_encipher.specs.declared.halves.Sealed.{Sealed}
 use Rattle.multi_encipher.proofs.SealLaws.{one_to_one}
-use Rattle.verb_rules.specs.KeyChecks.{age_in, age_of, has_pattern, register_with}
+use Rattle.verb_rules.specs.KeyChecks.{age_in, age_of, register_with}
 use Rattle.verb_rules.specs.Keys.{keys_of, master_for, master_key, master_under, opened, opened_by, opened_key, sealed_token, token_for}
 use Rattle.verb_rules.specs.declared.judging.Judged.{Judged}
 

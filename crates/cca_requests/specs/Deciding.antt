@@ -4,7 +4,8 @@ use Rattle.cca_roles.specs.RoleNames.{default_name}
 use Rattle.key_records.specs.Ages.{any_old as any_old_label, any_ahead_entry}
 use Rattle.key_records.specs.Directory.{label_at}
 use Rattle.key_records.specs.Entries.{Entry, row_directory, turned}
-use Rattle.key_records.specs.StoreStands.{HoldsRows, KeepsLabels}
+pub use Rattle.key_records.specs.StoreStands.{HasStore}
+use Rattle.key_records.specs.StoreStands.{KeepsLabels}
 use Rattle.key_records.specs.Turning.{aged}
 use Rattle.key_records.specs.declared.faults.RecordFault.{RecordFault}
 use Rattle.key_records.specs.declared.faults.RecordFault.TheVariants as record_fault
@@ -37,7 +38,7 @@ use Rattle.cca_machine.specs.Lines.{drawn_where}
 use Rattle.cca_machine.specs.Operands.{operands, listed}
 use Rattle.verb_rules.specs.Keys.{keys_of}
 use Rattle.verb_rules.specs.Rules.{rule_number}
-use Rattle.cca_machine.specs.State.{State, module_size, store_size}
+use Rattle.cca_machine.specs.State.{State, module_size}
 use Rattle.cca_machine.specs.Verdict.{Questions, Refusal, refusal, first_refusal, action_questions, set_questions, create_questions, define_questions, remove_questions, verb_verdict, whole_verb_verdict, clear_questions, ahead_questions}
 use Rattle.cca_machine.specs.Act.{Effect, Show, Become, DefineRole, RemoveRole, Create, Write, Delete, Reencipher, Outcome, effect, state_after, state_between, fields_after, module_cells_after, store_cells_after, refused}
 use Rattle.cca_requests.specs.Serving.{Tables, StandsInModule, StandsInStore, Stands, HasDrawn}
@@ -51,12 +52,6 @@ pub record HasLoaded (held : Registers) (bench : Bench) (roles : List (Option Ro
   pub loaded : IsLoaded held bench
   pub stands : Told module_ (StandsForLoaded held bench)
   pub remembered : Told module_ (λ image. StandsForRoles image roles)
-
--- of the store nothing is unsynced, and the memory knows its labels
-pub record HasStore (rows : List (Option Row)) (store : Medium) : Type 0 where
-  pub size : store.size ≡ store_size
-  pub settled : IsSettled store
-  pub holds : Told store (HoldsRows rows)
 
 -- the module stands for the state, whose registers are in the bench and whose roles the memory has
 pub record AtModule (s : State) (held : Registers) (bench : Bench) (roles : List (Option Role)) (module_ : Medium) : Type 0 where

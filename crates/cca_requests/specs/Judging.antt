@@ -1,5 +1,5 @@
 -- What the operands of a request stand for, and the first rule that one of them breaks.
-use Rattle.std.specs.Prelude.{◌≡◌, ◌<◌, ◌||◌, ℕ, Bool, true, false, List, length, Option, Some, None, IsTrue, IsSome, ⊤}
+use Rattle.std.specs.Prelude.{◌≡◌, ◌<◌, ◌||◌, ℕ, Bool, true, false, List, length, Option, Some, None, IsTrue, IsSome, ⊤, Result, Ok, Err}
 use Rattle.key_records.specs.Directory.{label_at}
 use Rattle.key_records.specs.Entries.{row_directory}
 use Rattle.key_records.specs.Labels.{IsLabel}
@@ -16,6 +16,7 @@ use Rattle.verb_rules.specs.KeyChecks.{age_of}
 use Rattle.verb_rules.specs.Keys.{HasHalves, IsDouble, keys_of, opened_key, opened_under}
 use Rattle.verb_rules.specs.declared.judging.Judged.{Judged}
 use Rattle.verb_rules.specs.declared.needs.Need.{Need}
+use Rattle.verb_rules.specs.declared.rules.Rule.{Rule}
 use Rattle.cca_machine.specs.Keys.{key_in_text, key_of_token, key_of_label, cell_with, is_old_age}
 use Rattle.key_tokens.specs.Fields.{token_of}
 use Rattle.verb_rules.specs.Rules.{rule_number}
@@ -66,6 +67,11 @@ IsFit o = IsText o.text o.ask × (length o.name < 100)
 
 abbrev pub AreFit : Operands → Type 0
 AreFit os = IsFit os.first × IsFit os.second × IsFit os.third
+
+-- what is answered of a key that was judged
+abbrev pub answered : Result Judged Rule → Answer
+answered (Ok judged) = answer.Granted (record { token = None; key = Some judged; place = None })
+answered (Err broken) = answer.Refused broken
 
 -- the key of a grant is this one, under a master key of the bench
 pub record HasKey (bench : Bench) (key : Option Denoted) (grant : Grant) : Type 0 where
@@ -133,6 +139,12 @@ pub record HasJudged (need : Need) (grant : Grant) : Type 0 where
 pub record HasSomeJudged (grant : Grant) : Type 0 where
   pub need : Need
   pub has : HasJudged need grant
+
+-- the same of one that has two halves
+pub record HasDoubleKey (grant : Grant) : Type 0 where
+  pub need : Need
+  pub has : HasJudged need grant
+  pub double : need.double ≡ true
 
 -- an external token that was judged
 pub record HasJudgedExternal (grant : Grant) : Type 0 where

@@ -1,3 +1,5 @@
+pub mod Changes
+pub mod Decided
 pub mod Deciding
 pub mod Drawing
 pub mod Judging

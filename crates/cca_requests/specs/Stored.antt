@@ -8,14 +8,11 @@ use Rattle.key_records.specs.Labels.{IsLabel}
 use Rattle.key_records.specs.declared.faults.RecordFault.{RecordFault}
 use Rattle.key_records.specs.declared.faults.RecordFault.TheVariants as record_fault
 use Rattle.key_records.specs.declared.rows.Row.{Row}
-use Rattle.key_tokens.specs.Denotes.{Denoted}
 use Rattle.line_service.specs.declared.stops.Device.TheVariants.{Store}
 use Rattle.line_service.specs.declared.stops.Stop.{Stop}
 use Rattle.line_service.specs.declared.stops.Stop.TheVariants.{StoreFault, Damaged}
-use Rattle.master_registers.specs.Masters.{Masters}
 use Rattle.verb_rules.specs.KeyChecks.{use_checks}
 use Rattle.verb_rules.specs.Rules.{rule_number}
-use Rattle.verb_rules.specs.declared.judging.Judged.{Judged}
 use Rattle.verb_rules.specs.declared.needs.Need.{Need}
 use Rattle.verb_rules.specs.declared.rules.Rule.{Rule}
 use Rattle.cca_machine.specs.Keys.{key_of_label, or_no_key}
@@ -41,19 +38,6 @@ pub record IsFound (rows : List (Option Row)) (label : List ℕ) (place : ℕ) :
 abbrev pub Finds : List (Option Row) → List ℕ → Result ℕ Rule → Type 0
 Finds rows label result =
     MatchResult result (IsFound rows label) (λ rule. first_failing (find_checks rows label) ≡ Some (rule_number rule))
-
--- a key that was read, by the rules on its use
-abbrev pub IsUsed : Need → Judged → Answer → Type 0
-IsUsed need judged (answer.Refused rule) = first_failing (use_checks need judged.token.vector) ≡ Some (rule_number rule)
-IsUsed need judged (answer.Granted grant) =
-    (first_failing (use_checks need judged.token.vector) ≡ None) × (grant ≡ record { token = None; key = Some judged; place = None })
-
--- the key of a record, by the rules on its use; the token of a record is one
-abbrev pub IsStoredUse : Masters → Bench → Need → Denoted → Option Answer → Type 0
-IsStoredUse m bench need key None = ⊥
-IsStoredUse m bench need key (Some (answer.Refused rule)) = first_failing (use_checks need key.clear.vector) ≡ Some (rule_number rule)
-IsStoredUse m bench need key (Some (answer.Granted grant)) =
-    (first_failing (use_checks need key.clear.vector) ≡ None) × HasStoredKey m bench (Some key) grant
 
 -- the rules of a label whose key is asked for
 abbrev pub label_key_checks : State → Need → List ℕ → List Check

@@ -1,15 +1,17 @@
 //! Changes of the registers and of the roles, with their replies.
 ghost use Rattle.cca_roles.specs.RoleNames.{default_name};
 ghost use Rattle.key_records.specs.StoreStands.{HoldsRows};
-ghost use Rattle.std.specs.Prelude.{ℕ, List, ◌≡◌, ◌≢◌, ◌≤◌, [], None, OnOk, OnErr, length};
+ghost use Rattle.std.specs.Prelude.{ℕ, List, ◌≡◌, ◌≢◌, ◌≤◌, [], OnOk, OnErr, length, codes};
 ghost use Rattle.key_cells.specs.Lease.{bench_of, loan_of};
 ghost use Rattle.script_buffers.specs.Replies.{spelled};
 ghost use Rattle.cca_machine.specs.State.{State};
 ghost use Rattle.cca_machine.specs.Act.{NoCell, DefineRole, RemoveRole};
 ghost use Rattle.cca_machine.specs.Verdict.{define_questions, remove_questions};
 ghost use Rattle.cca_requests.specs.Serving.{CarriesModule, LeavesModule};
+ghost use Rattle.cca_requests.specs.Changes.{made_reply, made_stop};
 ghost use Rattle.cca_requests.specs.Deciding.{HasLoaded, AtModule, IsTurnedBy, rows_by, action_outcome, state_name, change_stop, change_reply, role_outcome, role_stop, role_reply};
 
+use crate::changes::{Unmade, answer};
 use crate::endings::end;
 use crate::refusals::refuse;
 use cca_roles::{AccessPoints, RoleFault, RoleName, Roles};
@@ -104,6 +106,20 @@ pub(crate) fn change_registers<M: Disk>(
     answer_change(outcome, reply)
 }
 
+/// Why the roles aren't changed.
+fn roles_made(outcome: Result<(), RoleFault>) -> Result<(), Unmade>
+    ensures stop { made_stop result ≡ role_stop outcome }
+    ensures reply { made_reply (codes "name") result ≡ role_reply outcome }
+{
+    match outcome {
+        Ok(()) => Ok(()),
+        Err(RoleFault::DiskFault) => Err(Unmade::Stopped(Stop::ModuleFault)),
+        Err(RoleFault::Damaged(_)) => Err(Unmade::Stopped(Stop::ModuleFault)),
+        Err(RoleFault::TableFull) => Err(Unmade::Refused(Rule::RoleTable)),
+        Err(RoleFault::Unknown) => Err(Unmade::Refused(Rule::RoleTable)),
+    }
+}
+
 /// Says that the roles are changed, or which rule refused the change.
 fn answer_roles(outcome: Result<(), RoleFault>, reply: &mut ReplyBuffer) -> Result<(), Stop>
     requires { reply.old ≡ [] }
@@ -111,23 +127,7 @@ fn answer_roles(outcome: Result<(), RoleFault>, reply: &mut ReplyBuffer) -> Resu
     ensures reply { OnOk result (reply.new ≡ spelled (role_reply outcome)) }
     ensures silent { OnErr result (reply.new ≡ []) }
 {
-    match outcome {
-        Ok(()) => {
-            reply.ok();
-            end(reply);
-            Ok(())
-        }
-        Err(RoleFault::DiskFault) => Err(Stop::ModuleFault),
-        Err(RoleFault::Damaged(_)) => Err(Stop::ModuleFault),
-        Err(RoleFault::TableFull) => {
-            refuse(reply, Rule::RoleTable, "name");
-            Ok(())
-        }
-        Err(RoleFault::Unknown) => {
-            refuse(reply, Rule::RoleTable, "name");
-            Ok(())
-        }
-    }
+    answer(roles_made(outcome), "name", reply)
 }
 
 /// Gives a role these access control points.

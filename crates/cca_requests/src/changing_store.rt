@@ -1,5 +1,5 @@
 //! Changes of the records, with their replies.
-ghost use Rattle.std.specs.Prelude.{◌≡◌, [], IsSome, OnOk, OnErr};
+ghost use Rattle.std.specs.Prelude.{◌≡◌, [], IsSome, OnOk, OnErr, codes};
 ghost use Rattle.key_cells.specs.Lease.{bench_of, loan_of};
 ghost use Rattle.master_registers.specs.Loaded.{IsLoaded};
 ghost use Rattle.master_registers.specs.declared.registers.Registers.{Registers as HeldRegisters};
@@ -12,10 +12,11 @@ ghost use Rattle.cca_machine.specs.Operands.{operands, listed};
 ghost use Rattle.cca_machine.specs.Act.{Effect as MachineEffect, Reencipher, effected};
 ghost use Rattle.cca_requests.specs.declared.effects.Effect.TheVariants as code;
 ghost use Rattle.cca_requests.specs.Serving.{CarriesStore, LeavesStore};
+ghost use Rattle.cca_requests.specs.Changes.{made_reply, made_stop};
 ghost use Rattle.cca_requests.specs.Deciding.{HasStore, AtStore, IsReady, IsHeldAt, IsWritten, IsDeleted, plainly, create_outcome, record_stop, record_reply};
 
+use crate::changes::{Unmade, answer};
 use crate::endings::{end, finish};
-use crate::refusals::refuse;
 use crate::stored::stop_of;
 use key_cells::Lease;
 use key_records::{Label, Place, RecordFault, Records};
@@ -26,6 +27,20 @@ use slot_disk::Disk;
 use verb_rules::Rule;
 use verb_script::ReplyBuffer;
 
+/// Why a label isn't held.
+fn label_made(outcome: Result<(), RecordFault>) -> Result<(), Unmade>
+    ensures stop { made_stop result ≡ record_stop outcome }
+    ensures reply { made_reply (codes "label") result ≡ record_reply outcome }
+{
+    match outcome {
+        Ok(()) => Ok(()),
+        Err(RecordFault::DiskFault) => Err(Unmade::Stopped(Stop::StoreFault)),
+        Err(RecordFault::Damaged(_)) => Err(Unmade::Stopped(Stop::StoreFault)),
+        Err(RecordFault::Full) => Err(Unmade::Refused(Rule::StoreFull)),
+        Err(RecordFault::Exists) => Err(Unmade::Refused(Rule::LabelExists)),
+    }
+}
+
 /// Says that a label is held, or which rule refused it.
 fn answer_create(outcome: Result<(), RecordFault>, reply: &mut ReplyBuffer) -> Result<(), Stop>
     requires { reply.old ≡ [] }
@@ -33,23 +48,7 @@ fn answer_create(outcome: Result<(), RecordFault>, reply: &mut ReplyBuffer) -> R
     ensures reply { OnOk result (reply.new ≡ spelled (record_reply outcome)) }
     ensures silent { OnErr result (reply.new ≡ []) }
 {
-    match outcome {
-        Ok(()) => {
-            reply.ok();
-            end(reply);
-            Ok(())
-        }
-        Err(RecordFault::DiskFault) => Err(Stop::StoreFault),
-        Err(RecordFault::Damaged(_)) => Err(Stop::StoreFault),
-        Err(RecordFault::Full) => {
-            refuse(reply, Rule::StoreFull, "label");
-            Ok(())
-        }
-        Err(RecordFault::Exists) => {
-            refuse(reply, Rule::LabelExists, "label");
-            Ok(())
-        }
-    }
+    answer(label_made(outcome), "label", reply)
 }
 
 /// Holds a label, with nothing in its record.

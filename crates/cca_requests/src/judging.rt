@@ -3,33 +3,31 @@ ghost use Rattle.std.specs.Prelude.{◌≡◌, [], Some, None, Err, IfOk, IfErr,
 ghost use Rattle.key_cells.specs.Bench.{Bench};
 ghost use Rattle.key_cells.specs.Lease.{bench_of};
 ghost use Rattle.key_records.specs.Changes.{KeepsAllButBody};
-ghost use Rattle.key_tokens.specs.TokenChecks.{rule_of};
 ghost use Rattle.key_tokens.specs.declared.key_token.Asked.TheVariants.{Internal, External};
 ghost use Rattle.line_service.specs.Devices.{DiskLeft};
 ghost use Rattle.master_registers.specs.Loaded.{Loaded};
 ghost use Rattle.master_registers.specs.Masters.{Masters};
 ghost use Rattle.slot_disk.specs.Medium.{Keeps};
-ghost use Rattle.verb_rules.specs.Rules.{rule_number};
 ghost use Rattle.verb_script.specs.Grammar.{is_hex, accepts, key_text};
 ghost use Rattle.verb_script.specs.Named.{label_named};
 ghost use Rattle.verb_script.specs.Values.{hex_value};
 ghost use Rattle.cca_machine.specs.Operands.{is_named_by, names_label, listed};
 ghost use Rattle.cca_machine.specs.State.{State};
 ghost use Rattle.cca_requests.specs.Deciding.{AtStore, HasStore};
-ghost use Rattle.cca_requests.specs.Judging.{IsText, AreFit, seen_operands};
+ghost use Rattle.cca_requests.specs.Judging.{IsText, AreFit, answered, seen_operands};
 ghost use Rattle.cca_requests.specs.Judging.{IsAsked, IsShaped, IsKeyedAnswer, IsStoreStop};
 ghost use Rattle.cca_requests.specs.Judging.{IsJudged, AreShaped, AreKeyedOperands};
 
-use crate::operands::{Operand, Operands, any_key};
+use crate::operands::{Operand, Operands};
 use crate::stored::{judge_held, judge_label, judge_new_label, judge_target};
 use cca_machine::Ask;
 use key_cells::Lease;
 use key_records::{Place, Records};
-use key_tokens::{Asked, Token, TokenFault, read_token};
+use key_tokens::{Asked, Token, read_token};
 use line_service::Stop;
 use master_registers::Registers;
 use slot_disk::Disk;
-use verb_rules::{Judged, Need, Rule, judge_key};
+use verb_rules::{Judged, Need, Rule, any_key, judge_key, token_rule};
 use verb_script::{decode, named_label};
 
 /// What an operand stands for, where it breaks no rule.
@@ -64,22 +62,6 @@ pub(crate) enum Answer {
 pub(crate) enum Verdict {
     Refused(Rule, &'static str),
     Granted(Granted),
-}
-
-/// The rule that a fault of a token says is broken.
-fn token_rule(fault: TokenFault) -> Rule
-    ensures { rule_number result ≡ rule_of fault }
-{
-    match fault {
-        TokenFault::Kind => Rule::Kind,
-        TokenFault::Tvv => Rule::Tvv,
-        TokenFault::Version => Rule::Version,
-        TokenFault::Flag => Rule::Flag,
-        TokenFault::Reserved => Rule::Reserved,
-        TokenFault::Parity => Rule::Parity,
-        TokenFault::AntiVariant => Rule::AntiVariant,
-        TokenFault::Form => Rule::KeyForm,
-    }
 }
 
 /// The bytes of a key token that 128 hexadecimal digits spell.
@@ -134,6 +116,18 @@ impl Grant {
     }
 }
 
+impl Answer {
+    /// What is answered of a key that was judged.
+    pub(crate) fn of(judged: Result<Judged, Rule>) -> Answer
+        ensures { result ≡ answered judged }
+    {
+        match judged {
+            Ok(key) => Answer::Granted(Grant::of_key(key)),
+            Err(rule) => Answer::Refused(rule),
+        }
+    }
+}
+
 /// Judges a key token of either kind.
 fn judge_any_token(digits: &[u8]) -> Answer
     requires { IsTrue (is_hex 128 digits.now) }
@@ -166,10 +160,7 @@ fn judge_token(digits: &[u8], need: &Need, held: &Registers) -> Answer
     ensures keyed { (m : Masters) (bench : Bench) → Loaded m held.now bench
         → IsKeyedAnswer m digits.now (Ask.Token need.now) result }
 {
-    match judge_key(&token_bytes(digits), need, held) {
-        Ok(judged) => Answer::Granted(Grant::of_key(judged)),
-        Err(rule) => Answer::Refused(rule),
-    }
+    Answer::of(judge_key(&token_bytes(digits), need, held))
 }
 
 /// Judges an external token that 128 digits spell.
@@ -180,10 +171,7 @@ fn judge_external(digits: &[u8], need: &Need, held: &Registers) -> Answer
         → IsAsked s bench digits.now (Ask.External need.now) result }
     ensures shaped { IsShaped [] digits.now (Ask.External need.now) result }
 {
-    match judge_key(&token_bytes(digits), need, held) {
-        Ok(judged) => Answer::Granted(Grant::of_key(judged)),
-        Err(rule) => Answer::Refused(rule),
-    }
+    Answer::of(judge_key(&token_bytes(digits), need, held))
 }
 
 /// Judges one operand. A label costs at most 11 comparisons, and that of a key one read of a cell.

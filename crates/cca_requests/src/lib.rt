@@ -5,11 +5,14 @@
 //! of these writes a disk.
 #![tactic(auto)]
 
+mod changes;
 mod changing_module;
 mod changing_store;
+mod deciding;
 mod effects;
 mod endings;
 mod general;
+mod grants;
 mod judging;
 mod operands;
 mod performing;

@@ -3,8 +3,9 @@ ghost use Rattle.std.specs.Prelude.{◌≡◌, ◌∷◌, [], Some, codes};
 ghost use Rattle.verb_script.specs.Parsed.{seen};
 ghost use Rattle.cca_machine.specs.Operands.{operands, no_operands};
 ghost use Rattle.cca_machine.specs.Operands.{one_operand, two_operands, three_operands};
-ghost use Rattle.cca_machine.specs.Operands.{internal_key, any_key, part_key, exported_key, external_key};
-ghost use Rattle.cca_machine.specs.Operands.{transport_key, first_transport, second_transport};
+ghost use Rattle.verb_rules.specs.Needs.{any_key, exported_key, transport_key};
+ghost use Rattle.cca_machine.specs.Operands.{internal_key, part_key, external_key};
+ghost use Rattle.cca_machine.specs.Operands.{first_transport, second_transport};
 ghost use Rattle.cca_machine.specs.Operands.{five_classes};
 ghost use Rattle.cca_requests.specs.Judging.{IsAccepted, seen_operand, seen_operands, AreFit};
 
@@ -12,7 +13,7 @@ use crate::verbs::csnbkgn::{out_form, pair_form};
 use cca_machine::Ask;
 use cca_vectors::Class;
 use key_transport::Form;
-use verb_rules::{Asked, Classes, Need, Usage};
+use verb_rules::{Asked, Classes, EVERY_CLASS, Need, Usage, any_key, exported_key, transport_key};
 use verb_script::Request;
 
 /// The name of a field, its text, and what is asked of it.
@@ -94,38 +95,38 @@ pub(crate) fn operands_of<'a>(request: &Request<'a>) -> Operands<'a>
 {
     match request {
         Request::Csnbktp { token, .. } => one_operand("token", token, Ask::AnyToken),
-        Request::Csnbenc { key, .. } => csnbenc_key(key),
-        Request::CsnbencFirst { key, .. } => csnbenc_key(key),
-        Request::CsnbencMiddle { key, .. } => csnbenc_key(key),
-        Request::CsnbencLast { key, .. } => csnbenc_key(key),
-        Request::Csnbdec { key, .. } => csnbdec_key(key),
-        Request::CsnbdecFirst { key, .. } => csnbdec_key(key),
-        Request::CsnbdecMiddle { key, .. } => csnbdec_key(key),
-        Request::CsnbdecLast { key, .. } => csnbdec_key(key),
-        Request::Csnbmgn { key, .. } => csnbmgn_key(key),
-        Request::CsnbmgnFirst { key, .. } => csnbmgn_key(key),
-        Request::CsnbmgnMiddle { key, .. } => csnbmgn_key(key),
-        Request::CsnbmgnLast { key, .. } => csnbmgn_key(key),
-        Request::Csnbmvr { key, .. } => csnbmvr_key(key),
-        Request::CsnbmvrFirst { key, .. } => csnbmvr_key(key),
-        Request::CsnbmvrMiddle { key, .. } => csnbmvr_key(key),
-        Request::CsnbmvrLast { key, .. } => csnbmvr_key(key),
+        Request::Csnbenc { key, .. } => cipher_key(key, Usage::Encipher),
+        Request::CsnbencFirst { key, .. } => cipher_key(key, Usage::Encipher),
+        Request::CsnbencMiddle { key, .. } => cipher_key(key, Usage::Encipher),
+        Request::CsnbencLast { key, .. } => cipher_key(key, Usage::Encipher),
+        Request::Csnbdec { key, .. } => cipher_key(key, Usage::Decipher),
+        Request::CsnbdecFirst { key, .. } => cipher_key(key, Usage::Decipher),
+        Request::CsnbdecMiddle { key, .. } => cipher_key(key, Usage::Decipher),
+        Request::CsnbdecLast { key, .. } => cipher_key(key, Usage::Decipher),
+        Request::Csnbmgn { key, .. } => code_key(key, Usage::MacGenerate),
+        Request::CsnbmgnFirst { key, .. } => code_key(key, Usage::MacGenerate),
+        Request::CsnbmgnMiddle { key, .. } => code_key(key, Usage::MacGenerate),
+        Request::CsnbmgnLast { key, .. } => code_key(key, Usage::MacGenerate),
+        Request::Csnbmvr { key, .. } => code_key(key, Usage::MacVerify),
+        Request::CsnbmvrFirst { key, .. } => code_key(key, Usage::MacVerify),
+        Request::CsnbmvrMiddle { key, .. } => code_key(key, Usage::MacVerify),
+        Request::CsnbmvrLast { key, .. } => code_key(key, Usage::MacVerify),
         Request::Csnbkyt { key, .. } => key_operand(key, &FIVE_CLASSES, None),
         Request::Csnbcki { to, .. } => one_operand("to", to, Ask::Target),
-        Request::Csnbrng { form, .. } => no_operands(form),
+        Request::Csnbrng { .. } => no_operands(b""),
         Request::CsnbkgnOp { to, .. } => one_operand("to", to, Ask::Target),
         Request::CsnbkgnPair {
             form,
             transport2,
             to,
             ..
-        } => csnbkgn_pair(pair_form(form), transport2, to),
+        } => csnbkgn_pair(pair_form(*form), transport2, to),
         Request::CsnbkgnOut {
             form,
             transport1,
             transport2,
             ..
-        } => csnbkgn_out(out_form(form), transport1, transport2),
+        } => csnbkgn_out(out_form(*form), transport1, transport2),
         Request::Csnbkim {
             token,
             transport,
@@ -148,14 +149,14 @@ pub(crate) fn operands_of<'a>(request: &Request<'a>) -> Operands<'a>
         Request::Csnbkrr { label, .. } => one_operand("label", label, Ask::Record),
         Request::Csnbkrd { label, .. } => one_operand("label", label, Ask::Held),
         Request::Csnbkrl { prefix, .. } => no_operands(prefix),
-        Request::CsnbmkpPart { action, .. } => no_operands(action),
-        Request::CsnbmkpClear { action, .. } => no_operands(action),
-        Request::CsnbmkpSet { action, .. } => no_operands(action),
-        Request::CsuaaciDefine { action, .. } => no_operands(action),
-        Request::CsuaaciRemove { action, .. } => no_operands(action),
+        Request::CsnbmkpPart { .. } => no_operands(b""),
+        Request::CsnbmkpClear { .. } => no_operands(b""),
+        Request::CsnbmkpSet { .. } => no_operands(b""),
+        Request::CsuaaciDefine { .. } => no_operands(b""),
+        Request::CsuaaciRemove { .. } => no_operands(b""),
         Request::Reencipher { .. } => no_operands(b""),
-        Request::ReencipherAhead { action, .. } => no_operands(action),
-        Request::ReencipherDrop { action, .. } => no_operands(action),
+        Request::ReencipherAhead { .. } => no_operands(b""),
+        Request::ReencipherDrop { .. } => no_operands(b""),
     }
 }
 
@@ -276,48 +277,26 @@ fn csnbpex<'a>(key: &'a [u8], to: &'a [u8]) -> Operands<'a>
     )
 }
 
-/// A key that enciphers texts.
-fn csnbenc_key<'a>(key: &'a [u8]) -> Operands<'a>
+/// A key that enciphers or deciphers texts.
+fn cipher_key<'a>(key: &'a [u8], usage: Usage) -> Operands<'a>
     ensures { seen_operands result ≡ one_operand (record {
       name = codes "key";
       text = key.now;
-      ask = Ask.Key (internal_key (Class.Data ∷ Class.Cipher ∷ []) (Some Usage.Encipher));
+      ask = Ask.Key (internal_key (Class.Data ∷ Class.Cipher ∷ []) (Some usage));
     }) }
 {
-    key_operand(key, &[Class::Data, Class::Cipher], Some(Usage::Encipher))
+    key_operand(key, &[Class::Data, Class::Cipher], Some(usage))
 }
 
-/// A key that deciphers texts.
-fn csnbdec_key<'a>(key: &'a [u8]) -> Operands<'a>
+/// A key that makes or verifies codes.
+fn code_key<'a>(key: &'a [u8], usage: Usage) -> Operands<'a>
     ensures { seen_operands result ≡ one_operand (record {
       name = codes "key";
       text = key.now;
-      ask = Ask.Key (internal_key (Class.Data ∷ Class.Cipher ∷ []) (Some Usage.Decipher));
+      ask = Ask.Key (internal_key (Class.Data ∷ Class.Mac ∷ []) (Some usage));
     }) }
 {
-    key_operand(key, &[Class::Data, Class::Cipher], Some(Usage::Decipher))
-}
-
-/// A key that makes codes.
-fn csnbmgn_key<'a>(key: &'a [u8]) -> Operands<'a>
-    ensures { seen_operands result ≡ one_operand (record {
-      name = codes "key";
-      text = key.now;
-      ask = Ask.Key (internal_key (Class.Data ∷ Class.Mac ∷ []) (Some Usage.MacGenerate));
-    }) }
-{
-    key_operand(key, &[Class::Data, Class::Mac], Some(Usage::MacGenerate))
-}
-
-/// A key that verifies codes.
-fn csnbmvr_key<'a>(key: &'a [u8]) -> Operands<'a>
-    ensures { seen_operands result ≡ one_operand (record {
-      name = codes "key";
-      text = key.now;
-      ask = Ask.Key (internal_key (Class.Data ∷ Class.Mac ∷ []) (Some Usage.MacVerify));
-    }) }
-{
-    key_operand(key, &[Class::Data, Class::Mac], Some(Usage::MacVerify))
+    key_operand(key, &[Class::Data, Class::Mac], Some(usage))
 }
 
 /// The key part that a further part is combined with, and where the key goes.
@@ -362,20 +341,6 @@ fn csnbktr<'a>(token: &'a [u8], transport1: &'a [u8], transport2: &'a [u8]) -> O
     }
 }
 
-/// A transport key of double length: of this class, and permitted for this use.
-fn transport_key(class: Class, usage: Usage) -> Need
-    ensures { result ≡ transport_key class usage }
-{
-    Need {
-        asked: Asked::Internal,
-        classes: Classes::of(&[class]),
-        usage: Some(usage),
-        export: false,
-        double: true,
-        parts: false,
-    }
-}
-
 /// The transport key of the first of two generated keys.
 fn first_transport(form: Form) -> Need
     ensures { result ≡ first_transport form }
@@ -402,20 +367,6 @@ fn second_transport(form: Form) -> Need
     }
 }
 
-/// An internal key of any class that may be exported.
-fn exported_key() -> Need
-    ensures { result ≡ exported_key }
-{
-    Need {
-        asked: Asked::Internal,
-        classes: Classes::of(&EVERY_CLASS),
-        usage: None,
-        export: true,
-        double: false,
-        parts: false,
-    }
-}
-
 /// An external token of any class.
 fn external_key() -> Need
     ensures { result ≡ external_key }
@@ -438,29 +389,6 @@ const FIVE_CLASSES: [Class; 5] = [
     Class::Exporter,
     Class::Importer,
 ];
-
-const EVERY_CLASS: [Class; 6] = [
-    Class::Data,
-    Class::Cipher,
-    Class::Mac,
-    Class::Exporter,
-    Class::Importer,
-    Class::Other,
-];
-
-/// Any internal key, also one that is a part.
-pub(crate) fn any_key() -> Need
-    ensures { result ≡ any_key }
-{
-    Need {
-        asked: Asked::Internal,
-        classes: Classes::of(&EVERY_CLASS),
-        usage: None,
-        export: false,
-        double: false,
-        parts: true,
-    }
-}
 
 /// An internal key that may be a part, of every class but OTHER.
 fn part_key() -> Need

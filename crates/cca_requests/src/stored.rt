@@ -1,30 +1,27 @@
 //! Labels, judged by what the memory knows of them, and the keys in their records. It is the only
 //! place that reads the store.
-ghost use Rattle.std.specs.Prelude.{◌≡◌, [], Some, Err, IfOk, IfErr, IfSome, IsOk, IsSome};
+ghost use Rattle.std.specs.Prelude.{◌≡◌, [], Some, Err, IfOk, IfErr, IsOk};
 ghost use Rattle.key_cells.specs.Bench.{Bench};
 ghost use Rattle.key_cells.specs.Lease.{bench_of};
 ghost use Rattle.key_records.specs.Changes.{KeepsAllButBody};
 ghost use Rattle.key_records.specs.StoreStands.{Agrees};
-ghost use Rattle.key_tokens.specs.Denotes.{Denoted, denoted};
 ghost use Rattle.line_service.specs.Devices.{DiskLeft};
-ghost use Rattle.master_registers.specs.Loaded.{Loaded};
 ghost use Rattle.slot_disk.specs.Medium.{Keeps};
-ghost use Rattle.verb_rules.specs.Keys.{HasHalves, keys_of};
+ghost use Rattle.verb_rules.specs.Keys.{keys_of};
 ghost use Rattle.cca_machine.specs.State.{State};
 ghost use Rattle.cca_requests.specs.Deciding.{AtStore, HasStore};
 ghost use Rattle.cca_requests.specs.Judging.{IsAsked, IsShaped, IsStoreStop};
-ghost use Rattle.cca_requests.specs.Stored.{Finds, IsUsed, IsStoredUse, IsLabelAsked};
+ghost use Rattle.cca_requests.specs.Stored.{Finds, IsLabelAsked};
 ghost use Rattle.cca_requests.specs.Stored.{IsReadFault, read_stop};
 
 use crate::judging::{Answer, Grant};
-use crate::operands::any_key;
 use cca_machine::Ask;
 use key_cells::Lease;
 use key_records::{Label, Place, RecordFault, Records};
 use line_service::{Device, Stop};
 use master_registers::Registers;
 use slot_disk::{Disk, Steps};
-use verb_rules::{Judged, Need, Rule, judge_key, judge_use};
+use verb_rules::{Need, Rule, judge_stored};
 use verb_script::named_label;
 
 /// The place of a label that is held, by rules 06 and 07. It costs at most 11 comparisons.
@@ -78,32 +75,6 @@ pub(crate) fn judge_new_label(text: &[u8]) -> Answer
     }
 }
 
-/// Judges a key whose token was read, by rules 17 and 19 to 22.
-fn judge_again(judged: &Judged, need: &Need) -> Answer
-    requires halves { HasHalves judged.now }
-    requires under { IsSome judged.now.age }
-    ensures used { IsUsed need.now judged.now result }
-    ensures shaped { IsShaped [] [] (Ask.Key need.now) result }
-{
-    match judge_use(&judged.token, judged.age, need) {
-        Ok(judged) => Answer::Granted(Grant::of_key(judged)),
-        Err(rule) => Answer::Refused(rule),
-    }
-}
-
-/// Judges the token of a record. None where it is no internal token under one of the registers.
-fn judge_stored(token: &[u8; 64], need: &Need, held: &Registers) -> Option<Answer>
-    ensures used { (s : State) (bench : Bench) (key : Denoted) → Loaded s.registers held.now bench
-        → denoted (keys_of s.registers) token.now ≡ Some key
-        → IsStoredUse s.registers bench need.now key result }
-    ensures shaped { IfSome result (IsShaped [] [] (Ask.Key need.now)) }
-{
-    match judge_key(token, &any_key(), held) {
-        Ok(judged) => Some(judge_again(&judged, need)),
-        Err(_) => None,
-    }
-}
-
 /// Why a record wasn't read, or a label not brought under another master key.
 pub(crate) fn stop_of(fault: RecordFault) -> Stop
     requires { IsReadFault fault }
@@ -147,7 +118,7 @@ pub(crate) fn judge_label<D: Disk>(
     let mut token = [0; 64];
     match records.read(store, lease, place, &mut token) {
         Ok(true) => match judge_stored(&token, need, held) {
-            Some(answer) => Ok(answer),
+            Some(judged) => Ok(Answer::of(judged)),
             None => Err(Stop::Damaged(Device::Store, place.cell())),
         },
         Ok(false) => Ok(Answer::Refused(Rule::Null)),

@@ -136,11 +136,6 @@ pub reads_none : (n : ℕ) (bytes : List ℕ) → n ≢ 0 → bytes ≡ blank_bo
 reads_none zero bytes later is = absurd (later refl)
 reads_none (suc n) bytes later is = is
 
--- the first place may hold DEFAULT alone
-pub reads_role : (n : ℕ) (bytes : List ℕ) (r : Role) → (n ≡ 0 → r.name ≡ default_name) → ReadsRole bytes r → ReadsPlace n bytes (Some r)
-reads_role zero bytes r first reads = (first refl, inr reads)
-reads_role (suc n) bytes r first reads = reads
-
 -- a body that isn't blank and is no role's
 pub reads_nothing : (n : ℕ) (bytes : List ℕ) → bytes ≢ blank_body → ReadsNoRole bytes → ReadsNothing n bytes
 reads_nothing zero bytes some none None reads = reads

@@ -5,9 +5,9 @@ use Rattle.std.proofs.lemmas.Bool.{cases_eq, cases_lt}
 use Rattle.std.proofs.lemmas.List.{get_or-set_same, get_or-set_other, length-set, ext_get_or}
 use Rattle.std.proofs.lemmas.List.FromFn.{length-map-range_with_len, get_or-map-range_with_len}
 use Rattle.slot_disk.specs.Cells.{body, IsReplaced, IsReplacing}
-use Rattle.slot_disk.specs.Medium.{Medium, Told, From, Becomes, EachImage, Keeps, IsSettled}
+use Rattle.slot_disk.specs.Medium.{Medium, Told, From, Becomes, EachImage, IsSettled}
 use Rattle.slot_disk.specs.SpareBytes.{HasTurned}
-use Rattle.slot_disk.proofs.Media.{told_from, told_at, becomes_told, becomes_weaker, each_weaker, each_still}
+use Rattle.slot_disk.proofs.Media.{told_at, becomes_told, becomes_weaker, each_weaker, each_still}
 use Rattle.slot_disk.proofs.CellSteps.{outside_same}
 use Rattle.cca_roles.specs.Changes.{HoldsEither}
 use Rattle.byte_lists.specs.Directory.{name_at, AreApart}
@@ -125,14 +125,3 @@ unless_err (Err e) is holds = let wrong : true ≡ false = is in absurd (cc)
 pub handed_on : {T E : Type 0} (r : Result T E) (fault : E) → IsErrAnd r (λ e. e ≡ fault) → r ≡ Err fault
 handed_on (Ok x) fault is = absurd is
 handed_on (Err e) fault is = ap (λ f. Err f) is
-
-pub told_map : (m : Medium) (P Q : List ℕ → Type 0) → Told m P → ((c : List ℕ) → P c → Q c) → Told m Q
-told_map m P Q told weaker = told_from m.content Q (λ c is. weaker c (told_at m.content P c is told))
-
--- what is told of a disk that was read, with what was told before
-pub told_next : (m0 m1 : Medium) (P Q R : List ℕ → Type 0) → Keeps m0 m1 → Told m0 P → Told m1 Q → ((c : List ℕ) → P c → Q c → R c) → Told m0 R
-told_next m0 m1 P Q R keeps before then both = told_from m0.content R (λ c is. both c (told_at m0.content P c is before) (told_at m1.content Q c (keeps.content ∙ is) then))
-
--- what was told of a disk is told of it after calls that keep it
-pub told_kept : (m0 m1 : Medium) (P : List ℕ → Type 0) → Keeps m0 m1 → Told m0 P → Told m1 P
-told_kept m0 m1 P keeps told = told_from m1.content P (λ c is. told_at m0.content P c (sym keeps.content ∙ is) told)

@@ -3,15 +3,14 @@
 //! the definition of a token.
 ghost use Rattle.std.specs.Prelude.{◌≡◌};
 
-use crate::disks::status_over;
 use crate::keys::MASTER_KEY;
 use crate::labels::{LABELLED, USED};
 use crate::moves::TRANSPORT;
 use crate::pairs::{blank, line_by_line};
-use crate::rows::{MODULE_SIZE, STORE_SIZE, words_of};
+use crate::runs::{MODULE_SIZE, STORE_SIZE, expect_over};
 use crate::tables::{expect, lines_of};
 use cca_tool::Status;
-use slot_disk::{Disk, MemoryDisk, MemorySink, MemorySource};
+use slot_disk::{Disk, MemoryDisk};
 use std::alloc::Global;
 use std::process::Abort;
 use std::test::Fail;
@@ -111,24 +110,21 @@ pub(crate) const REFUSED: &[(&str, &str)] = &[
 
 const CLEARED: &[(&str, &str)] = &[("CSNBMKP role=DEFAULT action=CLEAR", "OK new=empty")];
 
+const WHOLE: [&[(&str, &str)]; 9] = [
+    MASTER_KEY,
+    KEYS,
+    NEXT,
+    CURRENT_AT_ONCE,
+    OLD_AGAIN,
+    REFUSED,
+    AHEAD,
+    DROP,
+    CLEARED,
+];
+
 #[test]
 fn labels_that_are_ahead_are_current_at_once(rt: HostRuntime) -> Result<(), Fail> {
-    expect(
-        &rt,
-        rt.alloc(),
-        &[
-            MASTER_KEY,
-            KEYS,
-            NEXT,
-            CURRENT_AT_ONCE,
-            OLD_AGAIN,
-            REFUSED,
-            AHEAD,
-            DROP,
-            CLEARED,
-        ],
-        &[],
-    )
+    expect(&rt, rt.alloc(), &WHOLE, &[])
 }
 
 // A run for each line, so that the disks are opened again after each.
@@ -136,17 +132,7 @@ fn labels_that_are_ahead_are_current_at_once(rt: HostRuntime) -> Result<(), Fail
 fn labels_that_are_ahead_outlive_runs(rt: HostRuntime) -> Result<(), Fail> {
     let alloc = rt.alloc();
     let mut pair = blank(alloc)?;
-    for table in [
-        MASTER_KEY,
-        KEYS,
-        NEXT,
-        CURRENT_AT_ONCE,
-        OLD_AGAIN,
-        REFUSED,
-        AHEAD,
-        DROP,
-        CLEARED,
-    ] {
+    for table in WHOLE {
         pair = line_by_line(&rt, alloc, &pair, table)?;
     }
     Ok(())
@@ -381,9 +367,6 @@ const LABELS: u32 = 1_024;
 // The writes and syncs that the disk of a full store notes: twelve for each label, and one for each run.
 const ALL_CALLS: u64 = 13_000;
 
-// The room of a sink: more than the replies of a run over all labels need.
-const ALL_ROOM: usize = 40_000;
-
 // The token that each label gets.
 const TOKEN: &str =
     " token=010000000000c000083bf1025be34c448292d66fa813459c000000000000000000007d0003000000000000000000000000000000000000000000000092c69651";
@@ -421,15 +404,8 @@ fn run_all(
     ensures module { (⟦<MemoryDisk as Disk>⟧.medium «module».new).size ≡ 50688 }
     ensures store { (⟦<MemoryDisk as Disk>⟧.medium store.new).size ≡ 1572864 }
 {
-    let words = words_of(alloc, &["run"])?;
-    let mut source = MemorySource::new(alloc, lines.0.as_bytes(), 1_000)?;
-    let mut sink = MemorySink::new(alloc, ALL_ROOM)?;
-    let status = status_over(alloc, &words, &mut source, &mut sink, module, store);
-    assert!(rt; status == Status::Done);
-    assert!(rt; module.size() == MODULE_SIZE);
-    assert!(rt; store.size() == STORE_SIZE);
-    assert_eq!(rt; sink.bytes(), lines.1.as_bytes());
-    Ok(())
+    let want = (Status::Done, lines.1.as_str());
+    expect_over(rt, alloc, module, store, lines.0.as_str(), want)
 }
 
 // Each run opens the full store again.

@@ -6,7 +6,7 @@ use crate::ahead::{AHEAD, KEYS, NEXT, SET};
 use crate::disks::{CALLS, copy_of, run_on};
 use crate::keys::MASTER_KEY;
 use crate::pairs::{Pair, blank, with};
-use crate::rows::{MODULE_SIZE, STORE_SIZE};
+use crate::runs::{MODULE_SIZE, STORE_SIZE};
 use cca_tool::{Device, Status};
 use hex::FromHex;
 use slot_disk::{Disk, MemoryDisk};

@@ -1,7 +1,7 @@
 //! Audited runs: the records beside the replies, with a call of each device failing, and after a stop.
 
 use crate::disks::TEARS;
-use crate::rows::{MODULE_SIZE, STORE_SIZE, words_of};
+use crate::runs::{Failing, MODULE_SIZE, STORE_SIZE, words_of};
 use audit_trail::TRAIL_LEN;
 use cca_tool::{AuditStatus, Status, run_audited, show_trail};
 use key_cells::Workbench;
@@ -21,18 +21,6 @@ const CALLS: u64 = 100;
 
 // The room of a sink: more than the replies here need.
 const ROOM: usize = 4_096;
-
-// The device that fails.
-#[derive(Clone, Copy, Debug, PartialEq, Eq)]
-enum Failing {
-    None,
-    Source,
-    Sink,
-    Entropy,
-    Module,
-    Store,
-    Trail,
-}
 
 // How a call ended, and what its sink got.
 #[derive(Drop)]

@@ -1,7 +1,7 @@
 //! An input cut after each of its bytes.
 
 use crate::disks::{CALLS, run_on};
-use crate::rows::{MODULE_SIZE, STORE_SIZE};
+use crate::runs::{MODULE_SIZE, STORE_SIZE};
 use cca_tool::Status;
 use slot_disk::{Disk, MemoryDisk};
 use std::alloc::Global;

@@ -1,48 +1,26 @@
 //! Demos: lines that are made up are served, and one line tells how they were answered.
 
-use crate::rows::{MODULE_SIZE, ROOM, STORE_SIZE, words_of};
-use cca_tool::{Status, run};
-use key_cells::Workbench;
-use slot_disk::{BlankEntropy, MemoryDisk, MemorySink, MemorySource};
+use crate::runs::{Failing, Trial, has_ended, run_new};
+use cca_tool::Status;
 use std::alloc::Global;
 use std::process::Abort;
 use std::test::Fail;
 
-// The writes and syncs that a test disk notes.
-const CALLS: u64 = 1_000;
-
-// Runs a demo over blank disks, of which the store fails at one call and the sink at one write.
+// Runs a demo over blank disks with the call of a device failing, and asserts how it ends.
 fn expect_demo(
     rt: &impl Abort,
     alloc: Global,
     number: &str,
-    faults: (Option<u64>, Option<u64>),
+    failing: (Failing, u64),
     want: (Status, &[u8]),
 ) -> Result<(), Fail> {
-    let words = words_of(alloc, &["demo", number])?;
-    let mut bench = Workbench::new();
-    let mut source = MemorySource::new(alloc, b"x\n", 1)?;
-    let mut sink = MemorySink::new(alloc, ROOM)?;
-    let mut module = MemoryDisk::new(alloc, MODULE_SIZE, CALLS)?;
-    let mut store = MemoryDisk::new(alloc, STORE_SIZE, CALLS)?;
-    if let Some(call) = faults.0 {
-        store.fail_at(call);
-    }
-    if let Some(call) = faults.1 {
-        sink.fail_at(call);
-    }
-    let status = run(
-        alloc,
-        &words,
-        &mut bench,
-        &mut source,
-        &mut sink,
-        &mut module,
-        &mut store,
-        &mut BlankEntropy::new(),
-    );
-    assert_eq!(rt; status, want.0);
-    assert_eq!(rt; sink.bytes(), want.1);
+    let trial = Trial {
+        words: &["demo", number],
+        failing: failing.0,
+        call: failing.1,
+        ..Trial::of(b"x\n", &[])
+    };
+    has_ended(rt, &run_new(alloc, &trial)?, want.0, want.1);
     Ok(())
 }
 
@@ -52,14 +30,14 @@ fn a_demo_tells_how_its_lines_were_answered(rt: HostRuntime) -> Result<(), Fail>
         &rt,
         rt.alloc(),
         "1",
-        (None, None),
+        (Failing::None, 0),
         (Status::Done, b"demo 1: lines=15 ok=14 refused=1 old=1\n"),
     )?;
     expect_demo(
         &rt,
         rt.alloc(),
         "3",
-        (None, None),
+        (Failing::None, 0),
         (Status::Done, b"demo 3: lines=24 ok=23 refused=1 old=1\n"),
     )
 }
@@ -70,7 +48,7 @@ fn a_demo_whose_store_fails_sends_nothing(rt: HostRuntime) -> Result<(), Fail> {
         &rt,
         rt.alloc(),
         "3",
-        (Some(9), None),
+        (Failing::Store, 9),
         (Status::StoreFault, b""),
     )
 }
@@ -81,7 +59,7 @@ fn a_demo_whose_sink_fails_tells_it(rt: HostRuntime) -> Result<(), Fail> {
         &rt,
         rt.alloc(),
         "3",
-        (None, Some(0)),
+        (Failing::Sink, 0),
         (Status::WriteFault, b""),
     )
 }

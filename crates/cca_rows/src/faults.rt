@@ -1,30 +1,12 @@
 //! A morning's lines with one call of one device failing, for each call.
 
 use crate::moves::MORNING;
-use crate::rows::{MODULE_SIZE, STORE_SIZE, words_of};
+use crate::runs::{Ended, Failing, Trial, run_new};
 use crate::tables::lines_of;
-use cca_tool::{Status, run};
-use key_cells::Workbench;
-use slot_disk::{MemoryDisk, MemoryEntropy, MemorySink, MemorySource};
+use cca_tool::Status;
 use std::alloc::Global;
 use std::process::Abort;
 use std::test::Fail;
-
-// The device that fails.
-#[derive(Clone, Copy, Debug, PartialEq, Eq)]
-enum Failing {
-    Source,
-    Sink,
-    Entropy,
-    Module,
-    Store,
-}
-
-// The writes and syncs that a test disk here notes.
-const CALLS: u64 = 200;
-
-// The room of a sink: more than the replies of a morning need.
-const ROOM: usize = 4_096;
 
 // Runs the requests with the call of this number failing.
 fn run_failing(
@@ -32,34 +14,13 @@ fn run_failing(
     requests: &String,
     failing: Failing,
     call: u64,
-    replies: &mut Vec<u8>,
-) -> Result<Status, Fail> {
-    let words = words_of(alloc, &["run"])?;
-    let mut source = MemorySource::new(alloc, requests.as_bytes(), 1_000)?;
-    let mut sink = MemorySink::new(alloc, ROOM)?;
-    let mut module = MemoryDisk::new(alloc, MODULE_SIZE, CALLS)?;
-    let mut store = MemoryDisk::new(alloc, STORE_SIZE, CALLS)?;
-    let mut entropy = MemoryEntropy::new(alloc, &[0; 100])?;
-    match failing {
-        Failing::Source => source.fail_at(call),
-        Failing::Sink => sink.fail_at(call),
-        Failing::Entropy => entropy.fail_at(call),
-        Failing::Module => module.fail_at(call),
-        Failing::Store => store.fail_at(call),
-    }
-    let status = run(
-        alloc,
-        &words,
-        &mut Workbench::new(),
-        &mut source,
-        &mut sink,
-        &mut module,
-        &mut store,
-        &mut entropy,
-    );
-    replies.clear();
-    replies.extend_from_slice(sink.bytes())?;
-    Ok(status)
+) -> Result<Ended, Fail> {
+    let trial = Trial {
+        failing,
+        call,
+        ..Trial::of(requests.as_bytes(), &[0; 100])
+    };
+    run_new(alloc, &trial)
 }
 
 // Fails each call of a device, upwards until a run meets none that fails, and answers how many did.
@@ -70,16 +31,15 @@ fn calls_that_fail(
     fault: Status,
 ) -> Result<u64, Fail> {
     let (requests, whole) = lines_of(alloc, &[MORNING])?;
-    let mut replies = Vec::new(alloc);
     for call in 0..10_000 {
-        let status = run_failing(alloc, &requests, failing, call, &mut replies)?;
-        if status == Status::Done {
-            assert_eq!(rt; replies.as_slice(), whole.as_bytes());
+        let ended = run_failing(alloc, &requests, failing, call)?;
+        if ended.status == Status::Done {
+            assert_eq!(rt; ended.replies.as_slice(), whole.as_bytes());
             return Ok(call);
         }
-        assert_eq!(rt; status, fault, "{failing:?} at {call}");
+        assert_eq!(rt; ended.status, fault, "{failing:?} at {call}");
         assert!(rt;
-            whole.as_bytes().starts_with(replies.as_slice()),
+            whole.as_bytes().starts_with(ended.replies.as_slice()),
             "{failing:?} at {call}"
         );
     }

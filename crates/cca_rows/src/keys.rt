@@ -1,11 +1,9 @@
 //! Verbs over keys that are given as tokens: runs of the top call. The tokens here were made by OpenSSL's triple DES and
 //! SHA-1 from the clear keys, after the definition of a token.
 
-use crate::rows::{CALLS, MODULE_SIZE, ROOM, STORE_SIZE, words_of};
+use crate::runs::{Failing, Trial, has_ended, run_new};
 use crate::tables::{expect, expect_replies, lines_of};
-use cca_tool::{Status, run};
-use key_cells::Workbench;
-use slot_disk::{MemoryDisk, MemoryEntropy, MemorySink, MemorySource};
+use cca_tool::Status;
 use std::alloc::Global;
 use std::test::Fail;
 
@@ -354,29 +352,16 @@ fn random_bytes_have_the_parity_that_is_asked(rt: HostRuntime) -> Result<(), Fai
 
 #[test]
 fn a_fault_of_the_random_source_ends_the_run(rt: HostRuntime) -> Result<(), Fail> {
-    let alloc = rt.alloc();
-    let words = words_of(alloc, &["run"])?;
-    let mut bench = Workbench::new();
-    let mut source = MemorySource::new(alloc, b"CSNBRNG role=DEFAULT form=RANDOM\n", 100)?;
-    let mut sink = MemorySink::new(alloc, ROOM)?;
-    let mut module = MemoryDisk::new(alloc, MODULE_SIZE, CALLS)?;
-    let mut store = MemoryDisk::new(alloc, STORE_SIZE, CALLS)?;
-    let mut entropy = MemoryEntropy::new(alloc, &[0; 8])?;
-    entropy.fail_at(0);
-    assert_eq!(rt;
-        run(
-            alloc,
-            &words,
-            &mut bench,
-            &mut source,
-            &mut sink,
-            &mut module,
-            &mut store,
-            &mut entropy
-        ),
-        Status::EntropyFault
+    let trial = Trial {
+        failing: Failing::Entropy,
+        ..Trial::of(b"CSNBRNG role=DEFAULT form=RANDOM\n", &[0; 8])
+    };
+    has_ended(
+        &rt,
+        &run_new(rt.alloc(), &trial)?,
+        Status::EntropyFault,
+        b"",
     );
-    assert!(rt; sink.bytes().is_empty());
     Ok(())
 }
 

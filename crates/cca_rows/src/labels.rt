@@ -2,20 +2,12 @@
 //! SHA-1 from the clear keys, after the definition of a token.
 ghost use Rattle.std.specs.Prelude.{◌≡◌};
 
-use crate::disks::status_over;
-use crate::rows::{MODULE_SIZE, STORE_SIZE, words_of};
+use crate::runs::{CALLS, MODULE_SIZE, STORE_SIZE, expect_over};
 use crate::tables::{expect, lines_of};
 use cca_tool::{Device, Status};
-use slot_disk::{Disk, MemoryDisk, MemorySink, MemorySource};
+use slot_disk::{Disk, MemoryDisk};
 use std::alloc::Global;
-use std::process::Abort;
 use std::test::Fail;
-
-// The writes and syncs that a test disk notes here: four for each change.
-const CALLS: u64 = 200;
-
-// The room of a sink: more than the replies here need.
-const ROOM: usize = 20_000;
 
 // A master key, and keys under labels.
 pub(crate) const LABELLED: &[(&str, &str)] = &[
@@ -236,31 +228,6 @@ const ROLES: &[(&str, &str)] = &[
     ("REENCIPHER role=CLERK", "OK changed=0"),
 ];
 
-// Runs an input over the disks, and asserts the status and the replies.
-fn run_over(
-    rt: &impl Abort,
-    alloc: Global,
-    module: &mut MemoryDisk,
-    store: &mut MemoryDisk,
-    input: &str,
-    want: (Status, &str),
-) -> Result<(), Fail>
-    requires module { (⟦<MemoryDisk as Disk>⟧.medium «module».old).size ≡ 50688 }
-    requires store { (⟦<MemoryDisk as Disk>⟧.medium store.old).size ≡ 1572864 }
-    ensures module { (⟦<MemoryDisk as Disk>⟧.medium «module».new).size ≡ 50688 }
-    ensures store { (⟦<MemoryDisk as Disk>⟧.medium store.new).size ≡ 1572864 }
-{
-    let words = words_of(alloc, &["run"])?;
-    let mut source = MemorySource::new(alloc, input.as_bytes(), 1_000)?;
-    let mut sink = MemorySink::new(alloc, ROOM)?;
-    let status = status_over(alloc, &words, &mut source, &mut sink, module, store);
-    assert!(rt; status == want.0);
-    assert!(rt; module.size() == MODULE_SIZE);
-    assert!(rt; store.size() == STORE_SIZE);
-    assert_eq!(rt; sink.bytes(), want.1.as_bytes());
-    Ok(())
-}
-
 #[test]
 fn labels_name_keys(rt: HostRuntime) -> Result<(), Fail> {
     expect(&rt, rt.alloc(), &[LABELLED, USED], &[])
@@ -287,7 +254,7 @@ fn labels_outlive_runs(rt: HostRuntime) -> Result<(), Fail> {
     let mut module = MemoryDisk::new(alloc, MODULE_SIZE, CALLS)?;
     let mut store = MemoryDisk::new(alloc, STORE_SIZE, CALLS)?;
     let (requests, replies) = lines_of(alloc, &[LABELLED])?;
-    run_over(
+    expect_over(
         &rt,
         alloc,
         &mut module,
@@ -296,7 +263,7 @@ fn labels_outlive_runs(rt: HostRuntime) -> Result<(), Fail> {
         (Status::Done, replies.as_str()),
     )?;
     let (requests, replies) = lines_of(alloc, &[USED])?;
-    run_over(
+    expect_over(
         &rt,
         alloc,
         &mut module,
@@ -313,7 +280,7 @@ fn a_damaged_cell_of_the_store_is_named(rt: HostRuntime) -> Result<(), Fail> {
     let mut store = MemoryDisk::new(alloc, STORE_SIZE, CALLS)?;
     // Body A of cell 5, which a selector of 0 selects, begins with 07.
     assert!(rt; store.write(8_192, &[7]).is_ok());
-    run_over(
+    expect_over(
         &rt,
         alloc,
         &mut module,
@@ -340,7 +307,7 @@ fn a_fault_of_the_store_ends_the_run(rt: HostRuntime) -> Result<(), Fail> {
         let mut module = MemoryDisk::new(alloc, MODULE_SIZE, CALLS)?;
         let mut store = MemoryDisk::new(alloc, STORE_SIZE, CALLS)?;
         store.fail_at(call);
-        run_over(
+        expect_over(
             &rt,
             alloc,
             &mut module,

@@ -2,10 +2,9 @@
 ghost use Rattle.std.specs.Prelude.{◌≡◌};
 ghost use Rattle.slot_disk.specs.LogMedium.{log_medium};
 
-use crate::disks::status_over;
-use crate::rows::{CALLS, MODULE_SIZE, ROOM, STORE_SIZE, words_of};
+use crate::runs::{CALLS, MODULE_SIZE, STORE_SIZE, expect_over};
 use cca_tool::{Device, Status};
-use slot_disk::{Disk, MemoryDisk, MemorySink, MemorySource};
+use slot_disk::{Disk, MemoryDisk};
 use std::alloc::Global;
 use std::process::Abort;
 use std::test::Fail;
@@ -19,7 +18,7 @@ CSNBMKP role=DEFAULT action=SET
 const CEREMONY_REPLIES: &str = "OK new=partial\nOK new=full\nOK new=empty\n";
 
 // Runs an input over the module and a blank store, and asserts the status and the replies.
-pub(crate) fn run_over(
+pub(crate) fn expect_masters(
     rt: &impl Abort,
     alloc: Global,
     module: &mut MemoryDisk,
@@ -29,22 +28,15 @@ pub(crate) fn run_over(
     requires { (⟦<MemoryDisk as Disk>⟧.medium «module».old).size ≡ 50688 }
     ensures { (⟦<MemoryDisk as Disk>⟧.medium «module».new).size ≡ 50688 }
 {
-    let words = words_of(alloc, &["run"])?;
-    let mut source = MemorySource::new(alloc, input.as_bytes(), 100)?;
-    let mut sink = MemorySink::new(alloc, ROOM)?;
     let mut store = MemoryDisk::new(alloc, STORE_SIZE, CALLS)?;
-    let status = status_over(alloc, &words, &mut source, &mut sink, module, &mut store);
-    assert!(rt; status == want.0);
-    assert!(rt; module.size() == MODULE_SIZE);
-    assert_eq!(rt; sink.bytes(), want.1.as_bytes());
-    Ok(())
+    expect_over(rt, alloc, module, &mut store, input, want)
 }
 
 #[test]
 fn a_ceremony_outlives_its_runs(rt: HostRuntime) -> Result<(), Fail> {
     let alloc = rt.alloc();
     let mut module = MemoryDisk::new(alloc, MODULE_SIZE, CALLS)?;
-    run_over(
+    expect_masters(
         &rt,
         alloc,
         &mut module,
@@ -52,14 +44,14 @@ fn a_ceremony_outlives_its_runs(rt: HostRuntime) -> Result<(), Fail> {
         (Status::Done, CEREMONY_REPLIES),
     )?;
     // The same key once more, its parts in two further runs.
-    run_over(
+    expect_masters(
         &rt,
         alloc,
         &mut module,
         "CSNBMKP role=DEFAULT action=FIRST part=000000000000000000000000000000000000000000000000\n",
         (Status::Done, "OK new=partial\n"),
     )?;
-    run_over(
+    expect_masters(
         &rt,
         alloc,
         &mut module,
@@ -67,7 +59,7 @@ fn a_ceremony_outlives_its_runs(rt: HostRuntime) -> Result<(), Fail> {
         (Status::Done, "OK new=full\nNO 26 -\n"),
     )?;
     // Another one is set.
-    run_over(
+    expect_masters(
         &rt,
         alloc,
         &mut module,
@@ -96,7 +88,7 @@ CSNBMKP role=NOBODY action=CLEAR
 CSNBMKP role=DEFAULT action=CLEAR part=00
 ";
     let replies = "NO 25 -\nOK new=partial\nNO 25 -\nOK new=empty\nNO 25 -\nNO 03 -\nNO 01 -\n";
-    run_over(&rt, alloc, &mut module, input, (Status::Done, replies))
+    expect_masters(&rt, alloc, &mut module, input, (Status::Done, replies))
 }
 
 #[test]
@@ -105,7 +97,7 @@ fn a_damaged_module_is_told(rt: HostRuntime) -> Result<(), Fail> {
     let mut module = MemoryDisk::new(alloc, MODULE_SIZE, CALLS)?;
     // Cell 0 has selector 0, and the body that it selects begins with 07.
     module.write(512, &[7])?;
-    run_over(
+    expect_masters(
         &rt,
         alloc,
         &mut module,
@@ -123,7 +115,7 @@ fn run_failing(
 ) -> Result<(), Fail> {
     let mut module = MemoryDisk::new(alloc, MODULE_SIZE, CALLS)?;
     module.fail_at(call);
-    run_over(rt, alloc, &mut module, CEREMONY, want)
+    expect_masters(rt, alloc, &mut module, CEREMONY, want)
 }
 
 #[test]

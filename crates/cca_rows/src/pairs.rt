@@ -1,7 +1,7 @@
 //! A module with its store, through runs in which each request must get its reply.
 
 use crate::disks::{CALLS, copy_of, run_on};
-use crate::rows::{MODULE_SIZE, STORE_SIZE};
+use crate::runs::{MODULE_SIZE, STORE_SIZE};
 use crate::tables::lines_of;
 use cca_tool::Status;
 use slot_disk::{Disk, MemoryDisk};

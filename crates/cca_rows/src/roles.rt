@@ -1,7 +1,7 @@
 //! Roles and their access control points: runs of the top call over one module.
 
-use crate::masters::run_over;
-use crate::rows::MODULE_SIZE;
+use crate::masters::expect_masters;
+use crate::runs::MODULE_SIZE;
 use cca_tool::Status;
 use slot_disk::MemoryDisk;
 use std::alloc::Global;
@@ -25,7 +25,7 @@ CSUAACI role=DEFAULT action=DEFINE name=TELLER points=00F00000
 CSNBMKP role=TELLER action=CLEAR
 ";
     let replies = "OK\nNO 04 -\nNO 03 -\nOK\nNO 03 -\nNO 01 -\nOK\nOK new=empty\n";
-    run_over(&rt, alloc, &mut module, input, (Status::Done, replies))
+    expect_masters(&rt, alloc, &mut module, input, (Status::Done, replies))
 }
 
 // The lines that define 31 roles, R10 to R40, and the replies to them.
@@ -47,7 +47,7 @@ fn a_module_holds_31_roles_beside_default(rt: HostRuntime) -> Result<(), Fail> {
     let alloc = rt.alloc();
     let mut module = MemoryDisk::new(alloc, MODULE_SIZE, CALLS)?;
     let (lines, replies) = definitions(alloc)?;
-    run_over(
+    expect_masters(
         &rt,
         alloc,
         &mut module,
@@ -63,7 +63,7 @@ CSUAACI role=DEFAULT action=REMOVE name=DEFAULT
 CSUAACI role=DEFAULT action=REMOVE name=R25
 CSUAACI role=DEFAULT action=DEFINE name=R41 points=00000000
 ";
-    run_over(
+    expect_masters(
         &rt,
         alloc,
         &mut module,
@@ -83,7 +83,7 @@ fn default_can_lose_the_point_of_roles(rt: HostRuntime) -> Result<(), Fail> {
 CSUAACI role=DEFAULT action=DEFINE name=DEFAULT points=02ffffff
 CSUAACI role=DEFAULT action=DEFINE name=TELLER points=00000000
 ";
-    run_over(
+    expect_masters(
         &rt,
         alloc,
         &mut module,
@@ -95,7 +95,7 @@ CSUAACI role=DEFAULT action=DEFINE name=TELLER points=00000000
 CSUAACI role=DEFAULT action=DEFINE name=DEFAULT points=03ffffff
 CSNBMKP role=DEFAULT action=CLEAR
 ";
-    run_over(
+    expect_masters(
         &rt,
         alloc,
         &mut module,

@@ -1,9 +1,8 @@
 //! Runs of the top call over sources and sinks in memory.
 ghost use Rattle.std.specs.Prelude.{◌<◌};
 
-use cca_tool::{Status, Words, run};
-use key_cells::Workbench;
-use slot_disk::{BlankEntropy, MemoryDisk, MemorySink, MemorySource};
+use crate::runs::{Ended, Failing, Trial, has_ended, run_new};
+use cca_tool::Status;
 use std::alloc::Global;
 use std::process::Abort;
 use std::test::Fail;
@@ -13,25 +12,6 @@ const DATA_TOKEN: &str =
 
 const DATA_REPLY: &str =
     "OK kind=external class=DATA length=8 vector=0000000000000000 pattern=0000000000000000\n";
-
-// The room of a sink: more than any reply here needs.
-pub(crate) const ROOM: usize = 4_096;
-
-// The bytes of a module, and the writes and syncs that its test disk notes.
-pub(crate) const MODULE_SIZE: u64 = 50_688;
-
-// The bytes of a store.
-pub(crate) const STORE_SIZE: u64 = 1_572_864;
-
-pub(crate) const CALLS: u64 = 100;
-
-pub(crate) fn words_of(alloc: Global, list: &[&str]) -> Result<Words, Fail> {
-    let mut words = Words::new(alloc);
-    for word in list {
-        words.push(word)?;
-    }
-    Ok(words)
-}
 
 // Runs the words over an input in pieces of this size, and asserts the status and what the sink got.
 fn expect_run(
@@ -44,26 +24,12 @@ fn expect_run(
 ) -> Result<(), Fail>
     requires { 0 < piece }
 {
-    let words = words_of(alloc, words)?;
-    let mut bench = Workbench::new();
-    let mut source = MemorySource::new(alloc, input, piece)?;
-    let mut sink = MemorySink::new(alloc, ROOM)?;
-    let mut module = MemoryDisk::new(alloc, MODULE_SIZE, CALLS)?;
-    let mut store = MemoryDisk::new(alloc, STORE_SIZE, CALLS)?;
-    assert_eq!(rt;
-        run(
-            alloc,
-            &words,
-            &mut bench,
-            &mut source,
-            &mut sink,
-            &mut module,
-            &mut store,
-            &mut BlankEntropy::new()
-        ),
-        want.0
-    );
-    assert_eq!(rt; sink.bytes(), want.1);
+    let trial = Trial {
+        words,
+        piece,
+        ..Trial::of(input, &[])
+    };
+    has_ended(rt, &run_new(alloc, &trial)?, want.0, want.1);
     Ok(())
 }
 
@@ -216,59 +182,34 @@ fn other_words_are_a_faulty_command_line(rt: HostRuntime) -> Result<(), Fail> {
     Ok(())
 }
 
-// Runs the input with the call of a number failing on the source or on the sink.
-fn run_failing(
-    alloc: Global,
-    input: &[u8],
-    source_call: Option<u64>,
-    sink_call: Option<u64>,
-    replies: &mut Vec<u8>,
-) -> Result<Status, Fail> {
-    let words = words_of(alloc, &["run"])?;
-    let mut bench = Workbench::new();
-    let mut source = MemorySource::new(alloc, input, 50)?;
-    let mut sink = MemorySink::new(alloc, ROOM)?;
-    if let Some(call) = source_call {
-        source.fail_at(call);
-    }
-    if let Some(call) = sink_call {
-        sink.fail_at(call);
-    }
-    let mut module = MemoryDisk::new(alloc, MODULE_SIZE, CALLS)?;
-    let mut store = MemoryDisk::new(alloc, STORE_SIZE, CALLS)?;
-    let status = run(
-        alloc,
-        &words,
-        &mut bench,
-        &mut source,
-        &mut sink,
-        &mut module,
-        &mut store,
-        &mut BlankEntropy::new(),
-    );
-    replies.clear();
-    replies.extend_from_slice(sink.bytes())?;
-    Ok(status)
+// Runs the input, in pieces of 50 bytes, with the call of a number failing on a stream.
+fn run_failing(alloc: Global, input: &[u8], failing: Failing, call: u64) -> Result<Ended, Fail> {
+    let trial = Trial {
+        piece: 50,
+        failing,
+        call,
+        ..Trial::of(input, &[])
+    };
+    run_new(alloc, &trial)
 }
 
 #[test]
 fn a_fault_at_any_call_ends_the_run(rt: HostRuntime) -> Result<(), Fail> {
     let input = request(rt.alloc(), DATA_TOKEN)?;
-    let mut replies = Vec::new(rt.alloc());
-    // Four reads of up to 50 bytes, and one that shows the end.
-    for call in 0..5 {
-        let status = run_failing(rt.alloc(), input.as_bytes(), Some(call), None, &mut replies)?;
-        assert_eq!(rt; status, Status::ReadFault, "source call {call}");
-        let whole = if call < 4 { "" } else { DATA_REPLY };
-        assert_eq!(rt; replies.as_slice(), whole.as_bytes(), "source call {call}");
+    // Four reads of up to 50 bytes, and one that shows the end; one write.
+    let table = [
+        (Failing::Source, 0, Status::ReadFault, ""),
+        (Failing::Source, 1, Status::ReadFault, ""),
+        (Failing::Source, 2, Status::ReadFault, ""),
+        (Failing::Source, 3, Status::ReadFault, ""),
+        (Failing::Source, 4, Status::ReadFault, DATA_REPLY),
+        (Failing::Source, 5, Status::Done, DATA_REPLY),
+        (Failing::Sink, 0, Status::WriteFault, ""),
+        (Failing::Sink, 1, Status::Done, DATA_REPLY),
+    ];
+    for (failing, call, status, replies) in table {
+        let ended = run_failing(rt.alloc(), input.as_bytes(), failing, call)?;
+        has_ended(&rt, &ended, status, replies.as_bytes());
     }
-    let status = run_failing(rt.alloc(), input.as_bytes(), Some(5), None, &mut replies)?;
-    assert_eq!(rt; status, Status::Done);
-    let status = run_failing(rt.alloc(), input.as_bytes(), None, Some(0), &mut replies)?;
-    assert_eq!(rt; status, Status::WriteFault);
-    assert_eq!(rt; replies.as_slice(), b"".as_slice());
-    let status = run_failing(rt.alloc(), input.as_bytes(), None, Some(1), &mut replies)?;
-    assert_eq!(rt; status, Status::Done);
-    assert_eq!(rt; replies.as_slice(), DATA_REPLY.as_bytes());
     Ok(())
 }

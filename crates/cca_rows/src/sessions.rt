@@ -1,6 +1,6 @@
 //! Sessions, as a program that serves lines one by one would use them.
 
-use crate::rows::{CALLS, MODULE_SIZE, ROOM, STORE_SIZE};
+use crate::runs::{CALLS, MODULE_SIZE, ROOM, STORE_SIZE};
 use cca_tool::{Served, Session, Stop, Taken};
 use key_cells::Workbench;
 use slot_disk::{BlankEntropy, MemoryDisk, MemoryEntropy, MemorySink, MemorySource};

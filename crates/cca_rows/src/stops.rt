@@ -2,7 +2,7 @@
 ghost use Rattle.std.specs.Prelude.{◌≡◌};
 
 use crate::disks::{CALLS, TEARS, copy_of, left, run_on};
-use crate::rows::{MODULE_SIZE, STORE_SIZE};
+use crate::runs::{MODULE_SIZE, STORE_SIZE};
 use cca_tool::Status;
 use slot_disk::{Cell, Disk, MemoryDisk, Torn, read_cell};
 use std::alloc::Global;

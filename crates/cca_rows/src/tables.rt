@@ -1,19 +1,11 @@
 //! Tables of rows, each a request line and the reply to it, and runs of the top call over them.
 ghost use Rattle.std.specs.Prelude.{◌<◌};
 
-use crate::rows::{MODULE_SIZE, STORE_SIZE, words_of};
-use cca_tool::{Status, run};
-use key_cells::Workbench;
-use slot_disk::{MemoryDisk, MemoryEntropy, MemorySink, MemorySource};
+use crate::runs::{Trial, has_ended, run_new};
+use cca_tool::Status;
 use std::alloc::Global;
 use std::process::Abort;
 use std::test::Fail;
-
-// The writes and syncs that a test disk notes here: four for each change.
-const CALLS: u64 = 200;
-
-// The room of a sink: more than the replies of a table need.
-const ROOM: usize = 40_000;
 
 // The request lines of some tables, and the replies to them.
 pub(crate) fn lines_of(
@@ -60,27 +52,16 @@ pub(crate) fn expect_in_pieces(
 ) -> Result<(), Fail>
     requires { 0 < piece }
 {
-    let words = words_of(alloc, &["run"])?;
-    let mut bench = Workbench::new();
-    let mut source = MemorySource::new(alloc, requests, piece)?;
-    let mut sink = MemorySink::new(alloc, ROOM)?;
-    let mut module = MemoryDisk::new(alloc, MODULE_SIZE, CALLS)?;
-    let mut store = MemoryDisk::new(alloc, STORE_SIZE, CALLS)?;
-    let mut entropy = MemoryEntropy::new(alloc, random)?;
-    assert_eq!(rt;
-        run(
-            alloc,
-            &words,
-            &mut bench,
-            &mut source,
-            &mut sink,
-            &mut module,
-            &mut store,
-            &mut entropy
-        ),
-        Status::Done
+    let trial = Trial {
+        piece,
+        ..Trial::of(requests, random)
+    };
+    has_ended(
+        rt,
+        &run_new(alloc, &trial)?,
+        Status::Done,
+        replies.as_bytes(),
     );
-    assert_eq!(rt; sink.bytes(), replies.as_bytes());
     Ok(())
 }
 

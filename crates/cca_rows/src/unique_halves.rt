@@ -4,21 +4,13 @@
 
 use crate::keys::MASTER_KEY;
 use crate::moves::TRANSPORT;
-use crate::rows::{MODULE_SIZE, STORE_SIZE, words_of};
+use crate::runs::{Ended, Failing, Trial, run_new};
 use crate::tables::{expect, expect_replies, lines_of};
 use crate::unloading::{IMPORTER, NEXT_MASTER_KEY};
-use cca_tool::{Status, run};
-use key_cells::Workbench;
-use slot_disk::{MemoryDisk, MemoryEntropy, MemorySink, MemorySource};
+use cca_tool::Status;
 use std::alloc::Global;
 use std::process::Abort;
 use std::test::Fail;
-
-// The writes and syncs that a test disk notes here: four for each change.
-const CALLS: u64 = 100;
-
-// The room of a sink: more than the replies of a run need.
-const ROOM: usize = 4_096;
 
 // The random bytes of the two transport keys.
 const TRANSPORT_BYTES: [u8; 32] = [0; 32];
@@ -293,15 +285,6 @@ fn low_order_bits_make_no_half_unique(rt: HostRuntime) -> Result<(), Fail> {
 
 // ---- a random source that fails, and what takes no byte
 
-// How a run ended, what its sink got, and how many writes and syncs the disks noted.
-#[derive(Drop)]
-struct Ended {
-    status: Status,
-    replies: Vec<u8>,
-    module_calls: u64,
-    store_calls: u64,
-}
-
 // Runs requests over blank disks, with the fill of this number failing.
 fn run_failing(
     alloc: Global,
@@ -309,31 +292,16 @@ fn run_failing(
     random: &[u8],
     fill: Option<u64>,
 ) -> Result<Ended, Fail> {
-    let words = words_of(alloc, &["run"])?;
-    let mut source = MemorySource::new(alloc, requests.as_bytes(), 1_000)?;
-    let mut sink = MemorySink::new(alloc, ROOM)?;
-    let mut module = MemoryDisk::new(alloc, MODULE_SIZE, CALLS)?;
-    let mut store = MemoryDisk::new(alloc, STORE_SIZE, CALLS)?;
-    let mut entropy = MemoryEntropy::new(alloc, random)?;
-    if let Some(number) = fill {
-        entropy.fail_at(number);
-    }
-    let status = run(
-        alloc,
-        &words,
-        &mut Workbench::new(),
-        &mut source,
-        &mut sink,
-        &mut module,
-        &mut store,
-        &mut entropy,
-    );
-    Ok(Ended {
-        status,
-        replies: Vec::from_slice(alloc, sink.bytes())?,
-        module_calls: module.noted(),
-        store_calls: store.noted(),
-    })
+    let (failing, call) = match fill {
+        Some(number) => (Failing::Entropy, number),
+        None => (Failing::None, 0),
+    };
+    let trial = Trial {
+        failing,
+        call,
+        ..Trial::of(requests.as_bytes(), random)
+    };
+    run_new(alloc, &trial)
 }
 
 // Asserts that the random source ended a run at its last request, which left no reply and wrote nothing.

@@ -7,7 +7,7 @@ use crate::disks::{CALLS, copy_of};
 use crate::keys::MASTER_KEY;
 use crate::moves::TRANSPORT;
 use crate::pairs::{Pair, after, blank, with};
-use crate::rows::{MODULE_SIZE, STORE_SIZE, words_of};
+use crate::runs::{MODULE_SIZE, STORE_SIZE, words_of};
 use crate::stops::have_same_bodies;
 use cca_tool::{Device, MoveStatus, Status, unload};
 use key_cells::Workbench;

@@ -25,9 +25,6 @@ abbrev whole : List ℕ → List ℕ → List (List ℕ)
 whole p [] = []
 whole p (b ∷ bs) = if b == newline then p ∷ whole [] bs else whole (p ++ b ∷ []) bs
 
-whole-newline : (p bs : List ℕ) → whole p (newline ∷ bs) ≡ p ∷ whole [] bs
-whole-newline p bs = refl
-
 whole-other : (p : List ℕ) (b : ℕ) (bs : List ℕ) → b ≢ newline → whole p (b ∷ bs) ≡ whole (p ++ b ∷ []) bs
 whole-other p b bs other = ap (λ t. cond t (p ∷ whole [] bs) (whole (p ++ b ∷ []) bs)) (ne_eqb b newline other)
 

@@ -24,10 +24,6 @@ unfolding joined
 joined-append [] b = refl
 joined-append (l ∷ ls) b = ap (λ x. (l ++ newline ∷ []) ++ x) (joined-append ls b) ∙ sym (append_assoc (l ++ newline ∷ []) (joined ls) (joined b))
 
-pub joined-one : (l : List ℕ) → joined (l ∷ []) ≡ l ++ newline ∷ []
-unfolding joined
-joined-one l = append-nil (l ++ newline ∷ [])
-
 pub joined-nil : joined [] ≡ []
 unfolding joined
 joined-nil = refl

@@ -5,12 +5,12 @@ use Rattle.key_cells.specs.Bench.{Bench}
 use Rattle.key_cells.specs.Lease.{bench_of}
 use Rattle.key_cells.specs.declared.leases.Lease.{Lease}
 use Rattle.slot_disk.specs.Cells.{body}
-use Rattle.slot_disk.specs.Medium.{Medium, Told, EachImage, Keeps}
-use Rattle.slot_disk.proofs.Media.{image_now, told_from, told_at}
+use Rattle.slot_disk.specs.Medium.{Medium, Told}
+use Rattle.slot_disk.proofs.Media.{told_from, told_at, told_earlier, told_joined, told_map}
 use Rattle.master_registers.specs.Loaded.{IsLoaded, Loaded, StandsForLoaded, masters_in}
 use Rattle.master_registers.specs.Masters.{Masters}
 use Rattle.master_registers.specs.declared.registers.Registers.{Registers}
-use Rattle.master_registers.specs.RegisterBody.{StandsForMasters, IsDamaged}
+use Rattle.master_registers.specs.RegisterBody.{StandsForMasters}
 use Rattle.master_registers.proofs.BodyLaws.{reads_one}
 use Rattle.cca_roles.specs.RolesStand.{StandsForRoles, IsFirstDamaged}
 use Rattle.cca_roles.specs.declared.roles.Role.{Role}
@@ -33,63 +33,41 @@ use Rattle.cca_tool.specs.Coprocessor.{cca, IsBrokenModule, IsBrokenStore, IsMod
 
 -- ---- what is told
 
-pub settled_keeps : (m0 m1 : Medium) → m1.content ≡ m0.content → EachImage m0 m1 m0.images → Keeps m0 m1
-settled_keeps m0 m1 same moments =
-    record { content = same; images = λ c image. image_now m0 m1 m0.images moments c image; moments = moments }
-
--- what is told now was told before
-pub told_before : (m0 m1 : Medium) (P Q : List ℕ → Type 0) → m1.content ≡ m0.content → ((c : List ℕ) → P c → Q c) → Told m1 P → Told m0 Q
-told_before m0 m1 P Q same weaker told = told_from m0.content Q (λ c is. weaker c (told_at m1.content P c (same ∙ is) told))
-
-pub told_after : (m0 m1 : Medium) (P Q : List ℕ → Type 0) → m1.content ≡ m0.content → ((c : List ℕ) → P c → Q c) → Told m0 P → Told m1 Q
-told_after m0 m1 P Q same weaker told = told_from m1.content Q (λ c is. weaker c (told_at m0.content P c (sym same ∙ is) told))
-
-pub told_both : (m : Medium) (P Q R : List ℕ → Type 0) → ((c : List ℕ) → P c → Q c → R c) → Told m P → Told m Q → Told m R
-told_both m P Q R joined first second = told_from m.content R (λ c is. joined c (told_at m.content P c is first) (told_at m.content Q c is second))
+-- what follows from what is told now was told before
+pub told_earlier_as : (m0 m1 : Medium) (P Q : List ℕ → Type 0) → m1.content ≡ m0.content → ((c : List ℕ) → P c → Q c) → Told m1 P → Told m0 Q
+told_earlier_as m0 m1 P Q same weaker told = told_map m0 P Q (told_earlier m0 m1 P same told) weaker
 
 -- ---- the module
-
-pub broken_registers : (m0 m1 : Medium) (cell : ℕ) → m1.content ≡ m0.content → cell ≡ 0 → Told m1 IsDamaged → Told m0 (IsBrokenModule cell)
-broken_registers m0 m1 cell same is told = told_before m0 m1 IsDamaged (IsBrokenModule cell) same (λ c damaged. inl (is, damaged)) told
 
 -- the registers were loaded, and a cell behind them is damaged
 pub broken_role : (m0 m1 : Medium) (cell : ℕ) (registers : Masters) → m1.content ≡ m0.content → Told m1 (λ image. StandsForMasters image registers)
     → Told m1 (λ image. IsFirstDamaged image cell) → Told m0 (IsBrokenModule cell)
 broken_role m0 m1 cell registers same loaded damaged =
-    told_before m0 m1 (IsBrokenModule cell) (IsBrokenModule cell) same (λ c broken. broken)
-    (told_both m1 (λ image. StandsForMasters image registers) (λ image. IsFirstDamaged image cell) (IsBrokenModule cell)
-    (λ c stands first. inr (λ never. never registers stands, first)) loaded damaged)
+    told_earlier_as m0 m1 (IsBrokenModule cell) (IsBrokenModule cell) same (λ c broken. broken)
+    (told_joined m1 (λ image. StandsForMasters image registers) (λ image. IsFirstDamaged image cell) (IsBrokenModule cell)
+    loaded damaged (λ c stands first. inr (λ never. never registers stands, first)))
 
 -- registers that were loaded aren't broken: a broken cell is one of a role
 pub judged_role : (m0 m1 : Medium) (registers : Masters) (X : ℕ → Type 0) → m1.content ≡ m0.content → Told m1 (λ image. StandsForMasters image registers)
     → Told m1 (λ image. (cell : ℕ) → IsFirstDamaged image cell → X cell) → Told m0 (λ image. (cell : ℕ) → IsBrokenModule cell image → X cell)
 judged_role m0 m1 registers X same loaded judged =
-    told_before m0 m1 _ _ same (λ c here. here)
-    (told_both m1 (λ image. StandsForMasters image registers) (λ image. (cell : ℕ) → IsFirstDamaged image cell → X cell)
-    (λ image. (cell : ℕ) → IsBrokenModule cell image → X cell) (λ c stands each cell broken. by_case c stands each cell broken) loaded judged)
+    told_earlier_as m0 m1 _ _ same (λ c here. here)
+    (told_joined m1 (λ image. StandsForMasters image registers) (λ image. (cell : ℕ) → IsFirstDamaged image cell → X cell)
+    (λ image. (cell : ℕ) → IsBrokenModule cell image → X cell) loaded judged (λ c stands each cell broken. by_case c stands each cell broken))
   where
     by_case : (c : List ℕ) → StandsForMasters c registers → ((cell : ℕ) → IsFirstDamaged c cell → X cell) → (cell : ℕ) → IsBrokenModule cell c → X cell
     by_case c stands each cell (inl damaged) = absurd (damaged.1 registers stands)
     by_case c stands each cell (inr first) = each cell first.1
-
--- damaged registers are cell 0
-pub judged_registers : (m0 m1 : Medium) (X : ℕ → Type 0) → m1.content ≡ m0.content → Told m1 IsDamaged → X 0 → Told m0 (λ image. (cell : ℕ) → IsBrokenModule cell image → X cell)
-judged_registers m0 m1 X same damaged here =
-    told_before m0 m1 IsDamaged _ same (λ c never cell broken. by_case c never cell broken) damaged
-  where
-    by_case : (c : List ℕ) → IsDamaged c → (cell : ℕ) → IsBrokenModule cell c → X cell
-    by_case c never cell (inl damaged) = subst X (sym damaged.0) here
-    by_case c never cell (inr first) = absurd (first.0 never)
 
 -- what stands for registers and roles isn't broken
 pub stands_unbroken : (m0 m1 : Medium) (registers : Masters) (roles : List (Option Role)) (X : ℕ → Type 0) → m1.content ≡ m0.content
     → Told m1 (λ image. StandsForMasters image registers) → Told m1 (λ image. StandsForRoles image roles)
     → Told m0 (λ image. (cell : ℕ) → IsBrokenModule cell image → X cell)
 stands_unbroken m0 m1 registers roles X same loaded opened =
-    told_before m0 m1 _ _ same (λ c here. here)
-    (told_both m1 (λ image. StandsForMasters image registers) (λ image. StandsForRoles image roles)
-    (λ image. (cell : ℕ) → IsBrokenModule cell image → X cell)
-    (λ c in_registers in_roles cell broken. absurd (module_stands cell c registers roles broken in_registers in_roles)) loaded opened)
+    told_earlier_as m0 m1 _ _ same (λ c here. here)
+    (told_joined m1 (λ image. StandsForMasters image registers) (λ image. StandsForRoles image roles)
+    (λ image. (cell : ℕ) → IsBrokenModule cell image → X cell) loaded opened
+    (λ c in_registers in_roles cell broken. absurd (module_stands cell c registers roles broken in_registers in_roles)))
 
 -- ---- the store beside it
 
@@ -138,7 +116,7 @@ pub kept_undamaged : (d0 d1 : Medium) (registers : Masters) (rows : List (Option
     → Told d0 (λ image. (cell : ℕ) → IsFirstDamagedRecord (keys_of registers) image cell → X cell)
 kept_undamaged d0 d1 registers rows X same kept =
     let keys = keys_of registers in
-    told_before d0 d1 (λ image. KeepsLabels keys rows (labels_in keys image) image) _ same
+    told_earlier_as d0 d1 (λ image. KeepsLabels keys rows (labels_in keys image) image) _ same
     (λ d keeps cell first. absurd (labels_undamaged keys d (labels_in keys d) cell keeps.stands first.within first.damaged)) kept
 
 -- a stop that is handed on
@@ -146,7 +124,7 @@ pub handed_judged : (U : Type 0) {T : Type 0} (r : Result T Stop) (stop : Stop) 
     → Told m (λ image. (cell : ℕ) → IsBrokenModule cell image → r ≡ Err (Damaged Module cell))
     → Told m (λ image. (cell : ℕ) → IsBrokenModule cell image → ◌≡◌ {A = Result U Stop} (Err stop) (Err (Damaged Module cell)))
 handed_judged U r stop is m judged =
-    told_before m m _ _ refl (λ c each cell broken. same_stop r stop (Damaged Module cell) is (each cell broken)) judged
+    told_earlier_as m m _ _ refl (λ c each cell broken. same_stop r stop (Damaged Module cell) is (each cell broken)) judged
   where
     same_stop : {T : Type 0} (u : Result T Stop) (a b : Stop) → u ≡ Err a → u ≡ Err b → ◌≡◌ {A = Result U Stop} (Err a) (Err b)
     same_stop u a b first second = cc (first, second)
@@ -159,13 +137,13 @@ pub handed_record : (U : Type 0) {T : Type 0} (r : Result T Stop) (stop : Stop) 
     → Told m (λ image. (cell : ℕ) → P image cell → r ≡ Err (Damaged Store cell))
     → Told m (λ image. (cell : ℕ) → P image cell → ◌≡◌ {A = Result U Stop} (Err stop) (Err (Damaged Store cell)))
 handed_record U r stop is m P judged =
-    told_before m m _ _ refl (λ c each cell broken. cc (is, each cell broken)) judged
+    told_earlier_as m m _ _ refl (λ c each cell broken. cc (is, each cell broken)) judged
 
 pub never_judged : {T : Type 0} (r : Result T Stop) (done : T) → r ≡ Ok done → (m : Medium) (P X : List ℕ → ℕ → Type 0)
     → Told m (λ image. (cell : ℕ) → P image cell → r ≡ Err (Damaged Store cell))
     → Told m (λ image. (cell : ℕ) → P image cell → X image cell)
 never_judged r done is m P X judged =
-    told_before m m _ _ refl (λ c each cell broken. absurd (cc (is, each cell broken))) judged
+    told_earlier_as m m _ _ refl (λ c each cell broken. absurd (cc (is, each cell broken))) judged
 
 -- ---- one answer for another with the same stops
 
@@ -176,11 +154,11 @@ module _ {T U : Type 0} (r : Result T Stop) (q : Result U Stop) (d : Span Device
     module_damaged = λ cell h. told.module_damaged cell (back (Damaged Module cell) h);
     store_damaged = λ cell h. told.store_damaged cell (back (Damaged Store cell) h);
     module_judged = λ still.
-        told_before d.old.world.module_ d.old.world.module_ _ _ refl
+        told_earlier_as d.old.world.module_ d.old.world.module_ _ _ refl
         (λ c each cell broken. onto (Damaged Module cell) (each cell broken)) (told.module_judged still);
     store_judged = λ still_m still_d.
-        told_before d.old.world.module_ d.old.world.module_ _ _ refl
-        (λ c inner. told_before d.old.world.store d.old.world.store _ _ refl
+        told_earlier_as d.old.world.module_ d.old.world.module_ _ _ refl
+        (λ c inner. told_earlier_as d.old.world.store d.old.world.store _ _ refl
         (λ e each cell broken. onto (Damaged Store cell) (each cell broken)) inner)
         (told.store_judged still_m still_d);
     cells = λ device cell h. told.cells device cell (back (Damaged device cell) h);

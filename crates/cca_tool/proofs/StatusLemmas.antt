@@ -1,19 +1,16 @@
 -- The status of a run tells how its lines ended.
 use Rattle.std.proofs.Common.{◌≡◌, ℕ, ◌+◌, List, length, Option, Result, Ok, Err, refl, sym, ap, ◌∙◌, subst, inl, inr}
 use Rattle.std.specs.Prelude.{◌⊎◌, ◌↔◌, ◌<◌, IsOk}
-use Rattle.slot_disk.specs.Medium.{Medium, Told, EachImage}
+use Rattle.slot_disk.specs.Medium.{Medium, Told}
 use Rattle.slot_disk.specs.WhereTold.{WhereTold}
-use Rattle.slot_disk.proofs.Media.{each_weaker, each_still, told_from, told_at}
-use Rattle.slot_disk.proofs.WhereToldLemmas.{told_weaker, told_same}
+use Rattle.slot_disk.proofs.Media.{told_from, told_at}
+use Rattle.slot_disk.proofs.WhereToldLemmas.{told_weaker}
 use Rattle.script_buffers.specs.Reading.{input_limit}
 use Rattle.line_service.specs.Stops.{AnswersLines, IsFaultless as IsFaultlessOutcome}
-use Rattle.line_service.specs.Serving.{PrefixSent, IsOnTheWay}
-use Rattle.line_service.proofs.RunLemmas.{prefix_none}
 use Rattle.line_service.specs.declared.stops.Device.TheVariants.{Module, Store}
 use Rattle.line_service.specs.declared.stops.Stop.{Stop}
 use Rattle.line_service.specs.declared.stops.Stop.TheVariants.{ReadFault, WriteFault, EntropyFault, ModuleFault, StoreFault, Damaged, InputLimit}
-use Rattle.cca_machine.specs.State.{State}
-use Rattle.cca_tool.specs.Coprocessor.{cca, IsBrokenModule, IsBrokenStore}
+use Rattle.cca_tool.specs.Coprocessor.{IsBrokenModule, IsBrokenStore}
 use Rattle.cca_tool.specs.Running.{Ended}
 use Rattle.cca_tool.specs.Statuses.{status_of_lem, CallsNone, ServesLines, IsFaultless}
 use Rattle.cca_tool.specs.declared.command.Status.{Status}
@@ -103,13 +100,6 @@ module _ (r : Result (Unit {0}) Stop) (outcome : Status) (is : outcome ≡ statu
   complete_as a b complete = told_weaker a b _ _ (λ i s h short. inl (is ∙ ap status_of_lem (h short))) complete
 
 -- ---- where no device was called
-
-pub prefix_still : (s : State) (random a p : Option (List ℕ)) → WhereTold a a (λ i r. PrefixSent cca s random i p p)
-prefix_still s random a p = told_same a _ (λ x. prefix_none cca s random x p p (told_same p (λ y z. z ≡ y) (λ y. refl)))
-
-pub moments_still : (s : State) (random : Option (List ℕ)) (Of : State → List ℕ → Type 0) (m : Medium) (a : Option (List ℕ))
-    → WhereTold a a (λ i r. EachImage m m (λ image. m.images image ⊎ IsOnTheWay cca s random i (λ t. Of t image)))
-moments_still s random Of m a = told_same a _ (λ x. each_weaker m m _ _ (each_still m) (λ c h. inl h))
 
 -- ---- what holds of the outcome of which a status tells
 

@@ -1,5 +1,5 @@
 -- The stops of a session.
-use Rattle.std.proofs.Common.{◌≡◌, ℕ, List, Result, Ok, Err, refl, ap, ◌∙◌, subst}
+use Rattle.std.proofs.Common.{◌≡◌, ℕ, List, Result, Err, refl, ap, ◌∙◌, subst}
 use Rattle.std.specs.Prelude.{IfErr}
 use Rattle.line_service.specs.declared.stops.Device.{Device}
 use Rattle.line_service.specs.declared.stops.Device.TheVariants.{Module}
@@ -21,11 +21,6 @@ of_stop EntropyFault cells = tt
 of_stop ModuleFault cells = tt
 of_stop StoreFault cells = tt
 of_stop (Damaged device cell) cells = cells device cell refl
-
-pub stops_are : {T : Type 0} (result : Result T Stop)
-    → ((device : Device) (cell : ℕ) → result ≡ Err (Damaged device cell) → IsCell device cell) → IfErr result IsStop
-stops_are (Ok done) cells = tt
-stops_are (Err stop) cells = of_stop stop (λ device cell h. cells device cell (ap Err h))
 
 -- of the module's cells, cell 0 alone is found damaged
 pub cell_zero : (r : Result (Unit {0}) Stop) (cell : ℕ) → IfErr r IsRequestStop → r ≡ Err (Damaged Module cell) → r ≡ Err (Damaged Module 0)

@@ -1,5 +1,5 @@
 -- Which words are a command.
-use Rattle.std.proofs.Common.{◌≡◌, ◌≢◌, ℕ, ◌<◌, ◌≤◌, List, [], ◌∷◌, length, get_or, map, Option, None, Some, Result, Ok, Err, codes, decimal, sym, ap, ◌∙◌, subst, arith}
+use Rattle.std.proofs.Common.{◌≡◌, ℕ, ◌<◌, ◌≤◌, List, [], ◌∷◌, length, get_or, map, Option, None, Some, Result, Ok, Err, codes, decimal, sym, ap, ◌∙◌, subst, arith}
 use Rattle.std.specs.Prelude.{◌↔◌}
 use Rattle.std.specs.Str.Parse.{ParsesUnsigned}
 use Rattle.std.proofs.lemmas.Fmt.{parse-decimal}
@@ -37,8 +37,6 @@ module _ {E : Type 0} (word : List ℕ) (r : Result ℕ E) (parses : ParsesUnsig
       (λ h. absurd (no_some n h), λ small. absurd (large (subst (IsSmall word) (sym (same_ok m n (sym is ∙ parsed n small))) small)))
 
 -- two words
-first_of : (a b c d : List ℕ) → a ∷ b ∷ [] ≡ c ∷ d ∷ [] → a ≡ c
-first_of a b c d h = cc h
 
 second_of : (a b c d : List ℕ) → a ∷ b ∷ [] ≡ c ∷ d ∷ [] → b ≡ d
 second_of a b c d h = cc h
@@ -52,12 +50,6 @@ two_words word number r demo is n = (
     few = small.2;
   },
   λ demo_is. (is n).1 (second_of word number (codes "demo") (decimal n) demo_is.words_are, demo_is.some, demo_is.few),
-)
-
-pub other_word : (word number : List ℕ) → word ≢ codes "demo" → (n : ℕ) → (None ≡ Some n) ↔ IsDemo n (word ∷ number ∷ [])
-other_word word number other n = (
-  λ h. absurd (no_some n h),
-  λ demo. absurd (other (first_of word number (codes "demo") (decimal n) demo.words_are)),
 )
 
 -- a list of two texts

@@ -81,7 +81,6 @@ impl Desk for Coprocessor {
                 reply,
             ),
             Err(_) => {
-                bench.wipe();
                 refuse_line(reply, 1);
                 Ok(())
             }

@@ -94,6 +94,7 @@ impl Session {
         ensures stops { IfErr result IsOpeningStop }
         ensures bench { bench.new ≡ blank_bench }
     {
+        bench.wipe();
         self.forget_lines();
         self.desk.open(bench, module, store)
     }
@@ -146,6 +147,7 @@ impl Session {
         ensures idle { self.new.waiting ≡ None }
         ensures bench { bench.new ≡ blank_bench }
     {
+        bench.wipe();
         serve_one(
             &mut self.desk,
             &mut self.lines,
@@ -232,6 +234,7 @@ impl Session {
         ensures stops { IfErr result IsDeskStop }
         ensures bench { bench.new ≡ blank_bench }
     {
+        bench.wipe();
         let Some(taken) = self.waiting.take() else {
             unreachable!()
         };
@@ -298,6 +301,7 @@ impl Session {
         ensures stops { IfErr result IsStop }
         ensures bench { bench.new ≡ blank_bench }
     {
+        bench.wipe();
         self.forget_lines();
         serve(
             &mut self.desk,

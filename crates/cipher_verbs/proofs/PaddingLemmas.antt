@@ -1,8 +1,7 @@
 -- Padding at the end of a text, and a text that is cleared.
 use Rattle.std.proofs.Common.{◌≡◌, ◌∙◌, ℕ, ◌+◌, ◌-◌, ◌<◌, List, [], ◌∷◌, ◌++◌, length, set, take, drop, replicate, refl, sym, ap, arith, append_assoc, length-append, length-drop}
 use Rattle.std.proofs.lemmas.List.{length-take-le, length-replicate}
-use Rattle.std.proofs.Math.Seq.{set-append_seam, drop-append_seam}
-use Rattle.key_cells.specs.Bench.{Text, with_text}
+use Rattle.std.proofs.Math.Seq.{set-append_seam}
 use Rattle.cipher_verbs.specs.CipherTexts.{cleared}
 
 one_left : (xs : List ℕ) → length xs ≡ 1 → (y : ℕ) × (xs ≡ y ∷ [])
@@ -26,9 +25,3 @@ padded_end text zeros at few last value within count end is =
     ap (λ z. set (take at text ++ (z ++ drop few (drop at text))) last value) is
     ∙ (ap (λ r. set (take at text ++ (replicate few 0 ++ r)) last value) one.1
     ∙ set_last (take at text) (replicate few 0) one.0 value last (omega (arith, within, count, end, front, length-replicate {A = ℕ} few 0)))
-
--- another text of the same length is cleared to the same
-pub cleared_same : (place : Text) (text : List ℕ) → length text ≡ place.size → cleared (with_text place text) ≡ cleared place
-cleared_same place text size =
-    ap (λ rest. record { bytes = replicate place.size 0 ++ rest; size = 0 })
-    (ap (λ n. drop n (text ++ drop place.size place.bytes)) (sym size) ∙ drop-append_seam text (drop place.size place.bytes))

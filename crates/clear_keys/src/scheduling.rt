@@ -1,7 +1,6 @@
 //! The schedules of the clear key of a judged token.
 ghost use Rattle.std.specs.Prelude.{◌≡◌, ◌+◌, ◌≤◌, ◌<◌, slice_range, slice_set, if◌then◌else◌};
 ghost use Rattle.key_cells.specs.Lease.{bench_of};
-ghost use Rattle.key_cells.specs.Secret.{bytes_of};
 ghost use Rattle.des_core.specs.Schedules.{AreOf, IsOf, schedule_at};
 ghost use Rattle.multi_encipher.specs.Bundles.{ChangesKeyAt, ChangesSchedules};
 ghost use Rattle.multi_encipher.specs.Seals.{IsKey};
@@ -9,24 +8,14 @@ ghost use Rattle.verb_rules.specs.Keys.{HasHalves, opened};
 ghost use Rattle.clear_keys.specs.Scheduled.{HoldKey};
 
 use crate::opening::open_key;
-use des_core::schedule;
 use key_cells::{KeyPlace, Lease, Schedule, Secret};
+use multi_encipher::put_schedule;
 use verb_rules::Judged;
 
 /// Where a half of a key begins in 16 bytes.
 const LEFT: usize = 0;
 
 const RIGHT: usize = 8;
-
-/// Puts the round keys of a key into one of three schedules.
-fn put_schedule(key: &Secret<'_, 8>, schedules: &mut [Schedule; 3], number: usize)
-    requires { number < 3 }
-    ensures made { IsOf (schedule_at schedules.new number) (bytes_of key.now) }
-    ensures others { schedules.new
-        ≡ slice_set schedules.old number (schedule_at schedules.new number) }
-{
-    schedule(key, &mut schedules[number]);
-}
 
 /// Makes one of three schedules the same as another.
 fn copy_schedule(schedules: &mut [Schedule; 3], from: usize, to: usize)

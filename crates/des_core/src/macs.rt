@@ -8,15 +8,8 @@ ghost use Rattle.des_core.specs.Texts.{fill_block};
 
 use crate::blocks::{decipher_block, encipher_block, encipher_word};
 use crate::words::word_at;
+use byte_lists::put_front;
 use key_cells::Schedule;
-
-/// Puts some bytes at the front of a block.
-fn put_front(block: &mut [u8; 8], bytes: &[u8])
-    requires { length bytes.now ≤ 8 }
-    ensures { block.new ≡ bytes.now ++ drop (length bytes.now) block.old }
-{
-    block[..bytes.len()].copy_from_slice(bytes);
-}
 
 /// The bytes of the last block of a text, fewer than eight, and zeros, as a word.
 fn filled_word(bytes: &[u8]) -> u64

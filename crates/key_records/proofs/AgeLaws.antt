@@ -20,7 +20,7 @@ use Rattle.key_records.specs.declared.rows.Row.{Row}
 use Rattle.byte_lists.proofs.DirectoryLaws.{none_some}
 use Rattle.key_records.proofs.KeptLaws.{kept_flag, kept_with_flag}
 
-kept_denoted : (masters : MasterKeys) (token : List ℕ) (key : Denoted) → kept masters token ≡ Some key → denoted masters token ≡ Some key
+pub kept_denoted : (masters : MasterKeys) (token : List ℕ) (key : Denoted) → kept masters token ≡ Some key → denoted masters token ≡ Some key
 kept_denoted masters token key is = ⊎_elim
     (λ (flag : slice_index token 6 ≡ 0xc0). sym (kept_with_flag masters token flag) ∙ is)
     (λ (other : slice_index token 6 ≡ 0xc0 → ⊥). absurd (none_some key (sym (kept_flag masters token other) ∙ is)))

@@ -18,3 +18,4 @@ pub mod SortedLaws
 pub mod RankLaws
 pub mod EveryDirectory
 pub mod AgeLaws
+pub mod ReadKeys

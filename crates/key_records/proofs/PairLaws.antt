@@ -11,14 +11,14 @@ use Rattle.key_tokens.specs.Fields.{pattern_of_token, token_of}
 use Rattle.key_tokens.specs.declared.key_token.Age.{Age}
 use Rattle.key_tokens.specs.declared.key_token.Age.TheVariants.{Current, Old}
 use Rattle.key_tokens.specs.declared.key_token.Token.{Token}
-use Rattle.master_registers.specs.Loaded.{Loaded}
+use Rattle.master_registers.specs.Loaded.{Loaded, has_pattern}
 use Rattle.master_registers.specs.Masters.{NewRegister, Empty, Partial, Full, Masters, new_bytes}
 use Rattle.master_registers.specs.declared.patterns.Pattern.{Pattern}
 use Rattle.master_registers.specs.declared.registers.Registers.{Registers}
 use Rattle.multi_encipher.specs.Bundles.{key_in, with_zeros}
 use Rattle.multi_encipher.specs.Seals.{IsKey, seal}
 use Rattle.multi_encipher.specs.declared.halves.Sealed.{Sealed}
-use Rattle.verb_rules.specs.KeyChecks.{has_pattern, register_with}
+use Rattle.verb_rules.specs.KeyChecks.{register_with}
 use Rattle.verb_rules.specs.Keys.{keys_of, new_key, opened, opened_key}
 use Rattle.verb_rules.proofs.DenotedLemmas.{denoted_opened, judged_with}
 use Rattle.key_records.specs.Entries.{pattern_for, pattern_or, pattern_ahead}

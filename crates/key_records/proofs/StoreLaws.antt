@@ -4,7 +4,7 @@ use Rattle.std.specs.Prelude.{OnOk, is_err}
 use Rattle.std.proofs.lemmas.Bool.{cases_eq}
 use Rattle.std.proofs.lemmas.List.{get_or-set_same, get_or-set_other, length-set, map-set}
 use Rattle.slot_disk.specs.Cells.{body, IsReplaced, IsReplacing}
-use Rattle.slot_disk.specs.Medium.{Medium, Told, From, Becomes, Keeps}
+use Rattle.slot_disk.specs.Medium.{Medium, Told, From, Becomes}
 use Rattle.slot_disk.proofs.Media.{told_from, told_at, becomes_told, each_weaker}
 use Rattle.key_tokens.specs.Denotes.{ClearKey, MasterKeys, Denoted}
 use Rattle.key_records.specs.Changes.{HoldsEither, ReplacesBody, ChangesLabels, null_entry, created, written, with_what, ahead_entry, with_both, written_ahead}
@@ -43,9 +43,6 @@ module _ (masters : MasterKeys) (n : ℕ) (bytes : List ℕ) (slot : Option Entr
   }
 
 -- ---- and the memory knows it
-
-pub told_map : (m : Medium) (P Q : List ℕ → Type 0) → Told m P → ((c : List ℕ) → P c → Q c) → Told m Q
-told_map m P Q told weaker = told_from m.content Q (λ c is. weaker c (told_at m.content P c is told))
 
 pub agrees_set : (masters : MasterKeys) (rows : List (Option Row)) (s : List (Option Entry)) (n : ℕ) (entry : Option Entry) → Agrees masters rows s → Agrees masters (set rows n (remembered masters entry)) (set s n entry)
 agrees_set masters rows s n entry agrees = ap (λ r. set r n (remembered masters entry)) agrees ∙ sym (map-set (remembered masters) s n entry)
@@ -148,17 +145,6 @@ written_ahead_is masters rows s label cell clear held agrees = ap (set s cell) (
 -- what holds of every image is told of any disk
 pub told_all : (m : Medium) (P : List ℕ → Type 0) → ((c : List ℕ) → P c) → Told m P
 told_all m P all = told_from m.content P (λ c is. all c)
-
--- what is told of a disk that was read, with what was told before
-pub told_next : (m0 m1 : Medium) (P Q R : List ℕ → Type 0) → Keeps m0 m1 → Told m0 P → Told m1 Q → ((c : List ℕ) → P c → Q c → R c) → Told m0 R
-told_next m0 m1 P Q R keeps before then both = told_from m0.content R (λ c is. both c (told_at m0.content P c is before) (told_at m1.content Q c (keeps.content ∙ is) then))
-
--- what was told of a disk is told of it after calls that keep it
-pub told_still : (m0 m1 : Medium) (P : List ℕ → Type 0) → Keeps m0 m1 → Told m0 P → Told m1 P
-told_still m0 m1 P keeps told = told_from m1.content P (λ c is. told_at m0.content P c (sym keeps.content ∙ is) told)
-
-pub told_both : (m : Medium) (P Q R : List ℕ → Type 0) → Told m P → Told m Q → ((c : List ℕ) → P c → Q c → R c) → Told m R
-told_both m P Q R first second both = told_from m.content R (λ c is. both c (told_at m.content P c is first) (told_at m.content Q c is second))
 
 -- the same change of the same cell
 pub replaces_is : (m0 m1 : Medium) (result : Result (Unit {0}) RecordFault) (n k : ℕ) (a b : List ℕ) → n ≡ k → a ≡ b → ReplacesBody n a m0 m1 result → ReplacesBody k b m0 m1 result

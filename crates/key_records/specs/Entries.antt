@@ -20,6 +20,11 @@ pub record Entry : Type 0 where
 abbrev pub entry : List ℕ → Option Denoted → Entry
 entry label what = record { label = label; what = what; ahead = false; unused = None }
 
+-- the key that the record of a label holds
+abbrev pub what_in : Option Entry → Option Denoted
+what_in None = None
+what_in (Some e) = e.what
+
 -- ---- the labels of a state: 1,024 places, one for each cell
 
 abbrev pub entry_label : Option Entry → Option (List ℕ)

@@ -2,6 +2,7 @@
 use Rattle.std.specs.Prelude.{◌≡◌, ◌<◌, ◌⊎◌, ℕ, List, length, map, get_or, Option, None, Some}
 use Rattle.std.specs.List.{range_with_len}
 use Rattle.slot_disk.specs.Cells.{body}
+use Rattle.slot_disk.specs.Medium.{Medium, IsSettled, Told}
 use Rattle.key_tokens.specs.Denotes.{MasterKeys}
 use Rattle.key_records.specs.Directory.{AreApart}
 use Rattle.key_records.specs.Entries.{Entry, directory, remembered}
@@ -31,6 +32,12 @@ pub record KeepsLabels (masters : MasterKeys) (rows : List (Option Row)) (s : Li
 -- the memory knows the label, the null mark and the patterns of each cell
 pub record HoldsRows (rows : List (Option Row)) (image : List ℕ) : Type 0 where
   pub reads : (n : ℕ) → n < 1024 → ReadsRow (body image n) (get_or rows n None)
+
+-- of a store of 1,024 cells nothing is unsynced, and the memory knows its labels
+pub record HasStore (rows : List (Option Row)) (store : Medium) : Type 0 where
+  pub size : store.size ≡ 1572864
+  pub settled : IsSettled store
+  pub holds : Told store (HoldsRows rows)
 
 -- the labels that a store stands for, if it stands for any
 unfoldable pub labels_in : MasterKeys → List ℕ → List (Option Entry)

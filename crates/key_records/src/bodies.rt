@@ -18,7 +18,7 @@ use crate::labels::Label;
 use crate::rows::Second;
 use byte_lists::is_zero;
 use key_tokens::{Asked, Kind, Token, read_token, write_token};
-use master_registers::{Pattern, Registers};
+use master_registers::{Pattern, Registers, has_pattern};
 use multi_encipher::Sealed;
 
 /// What byte 0 of a null record is, of a key, and of a key with two tokens.
@@ -167,13 +167,6 @@ pub(crate) fn second_in(body: &[u8; 192]) -> Second
     }
 }
 
-/// Whether a register has this pattern.
-pub(crate) fn is_pattern(register: Option<Pattern>, pattern: &Pattern) -> bool
-    ensures { IsTrue result ↔ (register ≡ Some pattern.now) }
-{
-    register == Some(*pattern)
-}
-
 /// The pattern of a token that is kept for a key.
 pub(crate) fn kept_pattern(token: &[u8; 64], held: &Registers) -> Option<Pattern>
     ghost m: { Masters }
@@ -187,10 +180,10 @@ pub(crate) fn kept_pattern(token: &[u8; 64], held: &Registers) -> Option<Pattern
         return None;
     }
     let pattern = pattern_in(token);
-    if is_pattern(held.current_pattern, &pattern) {
+    if has_pattern(held.current_pattern, &pattern) {
         return Some(pattern);
     }
-    if is_pattern(held.old_pattern, &pattern) {
+    if has_pattern(held.old_pattern, &pattern) {
         return Some(pattern);
     }
     None

@@ -23,6 +23,3 @@ pub use laws::{
 pub use opening::open_records;
 pub use records::{Place, Records, STORE_LEN};
 pub use rows::{Row, Second};
-
-#[cfg(test)]
-mod tests;

@@ -12,15 +12,15 @@ ghost use Rattle.master_registers.specs.Masters.{Masters};
 ghost use Rattle.verb_rules.specs.Keys.{keys_of};
 
 use crate::bodies::{
-    BOTH, KEY, NULL, has_no_second, has_no_token, is_blank, is_pattern, is_record, kept_pattern,
-    label_in, second_in, second_token, token_in,
+    BOTH, KEY, NULL, has_no_second, has_no_token, is_blank, is_record, kept_pattern, label_in,
+    second_in, second_token, token_in,
 };
 use crate::labels::Label;
 use crate::rows::{Row, Second};
 use clear_keys::open_key;
 use key_cells::{KeyPlace, Lease, MasterPlace};
 use key_tokens::{Age, Asked, read_token};
-use master_registers::{NewState, Pattern, Registers, pattern_of};
+use master_registers::{NewState, Pattern, Registers, has_pattern, pattern_of};
 use multi_encipher::{Sealed, Under, seal};
 use verb_rules::Judged;
 
@@ -218,7 +218,7 @@ fn both_in(
 
 /// Whether the first token is under the current master key, and the second one the same key under the new one. The
 /// clear key stands in the place `Key` alone.
-pub(crate) fn are_pair(
+fn are_pair(
     lease: &mut Lease,
     held: &Registers,
     coming: Option<Pattern>,
@@ -238,10 +238,10 @@ pub(crate) fn are_pair(
     };
     let bytes = first.pattern;
     let pattern = Pattern { bytes };
-    if !is_pattern(held.current_pattern, &pattern) {
+    if !has_pattern(held.current_pattern, &pattern) {
         return false;
     }
-    if !is_pattern(coming, &second.pattern) {
+    if !has_pattern(coming, &second.pattern) {
         return false;
     }
     let key = Judged {

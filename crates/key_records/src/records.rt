@@ -21,7 +21,7 @@ pub const STORE_LEN: u64 = 1_572_864;
 /// How many cells a store has.
 pub(crate) const CELLS: usize = 1024;
 
-/// Where a label is held. `find` alone makes one.
+/// Where a label is held. `find` and `place_in` alone make one.
 #[derive(Clone, Copy, Debug, PartialEq, Eq)]
 pub struct Place {
     cell: u16,
@@ -93,19 +93,17 @@ impl Records {
         }
     }
 
-    /// The label of a cell, where the cell holds one. It takes no comparison and no memory.
-    pub fn label_in(&self, cell: u16) -> Option<&Label>
+    /// The place of the label of a cell, where the cell holds one. It takes no comparison and no memory.
+    pub fn place_in(&self, cell: u16) -> Option<Place>
         requires { cell < 1024 }
-        ensures label { IfSome result (λ label.
-            label_at (row_directory self.now) cell ≡ Some label.now) }
-        ensures found { IfSome result (λ label.
-            cell_of label.now (row_directory self.now) ≡ Some cell) }
+        ensures place { IfSome result (λ place. place ≡ cell) }
+        ensures held { IfSome result (λ place. IsSome (label_at (row_directory self.now) place)) }
         ensures none { IsNone result → label_at (row_directory self.now) cell ≡ None }
     {
-        match &self.rows[cell as usize] {
-            Some(row) => Some(&row.label),
-            None => None,
+        if self.rows[cell as usize].is_some() {
+            return Some(Place { cell });
         }
+        None
     }
 
     /// How many labels are held.

@@ -5,3 +5,4 @@ pub mod SpareLaws
 pub mod StopLemmas
 pub mod OpeningLemmas
 pub mod RunLemmas
+pub mod CourseLemmas

@@ -14,7 +14,7 @@ use Rattle.script_buffers.specs.declared.lines.Taken.TheVariants.{Line, TooLong,
 use Rattle.line_service.specs.Machine.{Machine, World}
 use Rattle.line_service.specs.Sending.{GotPart}
 use Rattle.line_service.specs.Stops.{IsLineStop, IsDeskStop}
-use Rattle.line_service.specs.Answering.{Holds, Stands, Steps, Around, Both, Stays, Unwritten, Moves, WritesWithin, Turns, Serves}
+use Rattle.line_service.specs.Answering.{Holds, Stands, Steps, Around, Both, Stays, Unwritten, Moves, Turns, Serves}
 use Rattle.line_service.specs.Serving.{IsTheLine, IsFrontOf, EachPairStands, StandsAround, LeadsOne, LosesLine, IsAroundLine, IsWithinLine, KeepsSpare, LineServed}
 use Rattle.line_service.specs.declared.serving.Served.{Served}
 use Rattle.line_service.specs.declared.serving.Served.TheVariants.{Replied, Ended}

@@ -1,19 +1,25 @@
 -- A run from the disks as they were before they were opened.
-use Rattle.std.proofs.Common.{◌≡◌, ℕ, List, Option, IsSome, Result, Err, refl, sym, ◌∙◌, subst, inl, inr}
-use Rattle.std.specs.Prelude.{◌⊎◌}
+use Rattle.std.proofs.Common.{◌≡◌, ℕ, List, Option, IsSome, Result, Err, refl, sym, ◌∙◌, subst, inl, inr, arith}
+use Rattle.std.specs.Prelude.{◌⊎◌, ◌↔◌, ◌+◌, ◌≤◌, IsOk, length}
 use Rattle.slot_disk.specs.Medium.{Medium, Told, From, Becomes, Keeps}
+use Rattle.slot_disk.specs.WhereTold.{WhereTold}
 use Rattle.slot_disk.specs.SpareBytes.{SameSpare}
 use Rattle.slot_disk.proofs.Media.{goes_on, each_weaker, keeps_then, told_from, told_at}
-use Rattle.slot_disk.proofs.WhereToldLemmas.{told_same, told_weaker}
+use Rattle.slot_disk.proofs.WhereToldLemmas.{told_same, told_weaker, rose_wider}
+use Rattle.script_buffers.specs.Reading.{input_limit}
 use Rattle.line_service.specs.Machine.{Machine, World, world}
-use Rattle.line_service.specs.Stops.{IsOpeningStop}
+use Rattle.line_service.specs.Stops.{IsOpeningStop, IsFaultless}
 use Rattle.line_service.specs.Answering.{Holds, OnDisks, Stands, IsSound}
+use Rattle.line_service.specs.Devices.{Span, Devices, Outside, ModuleLeft, StoreLeft, DamageTold, OutsideLeft, Undamaged, behind}
+use Rattle.line_service.specs.Running.{NoneFailed, InputTaken, ServesSound}
+use Rattle.line_service.specs.Sending.{Grows}
 use Rattle.line_service.specs.Serving.{LineLost, Unopened, RunServed}
 use Rattle.line_service.specs.declared.stops.Device.{Device}
 use Rattle.line_service.specs.declared.stops.Device.TheVariants.{Module, Store}
 use Rattle.line_service.specs.declared.stops.Stop.{Stop}
-use Rattle.line_service.specs.declared.stops.Stop.TheVariants.{ReadFault, WriteFault, InputLimit, Damaged}
-use Rattle.line_service.proofs.RunLemmas.{no_opening_draw, no_opening_answer}
+use Rattle.line_service.specs.declared.stops.Stop.TheVariants.{ReadFault, WriteFault, ModuleFault, StoreFault, InputLimit, Damaged}
+use Rattle.line_service.proofs.RunLemmas.{NoStop, no_limit, no_opening_read, no_opening_write, no_opening_draw, no_opening_answer}
+use Rattle.line_service.proofs.StopLemmas.{grows_none}
 
 pub holds_still : (m0 m : Medium) (P : List ℕ → Type 0) → Keeps m0 m → Holds m0 P → Holds m P
 holds_still m0 m P kept holds = record { image = holds.image; told = kept.content ∙ holds.told; has = holds.has }
@@ -137,3 +143,72 @@ module _ (A : Machine) (m0 m d0 d : Medium) (random : Option (List ℕ)) (kept_m
 
       no_cut : (stop : Stop) → IsOpeningStop stop → ◌≡◌ {A = Result (Unit {0}) Stop} (Err stop) (Err WriteFault) → ⊥
       no_cut stop kind h = let same : stop ≡ WriteFault = cc h in subst IsOpeningStop same kind
+
+-- ---- all that is outside, opening and run together
+
+-- a run isn't stopped where no device has failed since before opening
+pub not_stopped : (A : Machine) (result : Result (Unit {0}) Stop) (start : Outside) (o : Span Outside) → OutsideLeft A result o → NoneFailed A (record { old = start; new = o.new })
+    → start.source_faults ≤ o.old.source_faults → start.sink_faults ≤ o.old.sink_faults → start.devices.module_faults ≤ o.old.devices.module_faults
+    → start.devices.store_faults ≤ o.old.devices.store_faults → start.devices.entropy_faults ≤ o.old.devices.entropy_faults → NoStop result
+not_stopped A result start o left none reads writes on_module on_store draws = record {
+  reads = λ h. none.reads (rose_wider _ _ _ _ reads left.source_left.later (omega arith) (left.source_left.fault h));
+  writes = λ h. none.writes (rose_wider _ _ _ _ writes left.sink_left.later (omega arith) (left.sink_left.fault h));
+  on_module = λ h. none.on_module (rose_wider _ _ _ _ on_module left.devices_left.module_left.later (omega arith) (left.devices_left.module_left.fault h));
+  on_store = λ h. none.on_store (rose_wider _ _ _ _ on_store left.devices_left.store_left.later (omega arith) (left.devices_left.store_left.fault h));
+  draws = λ h. none.draws (left.devices_left.draws h) (rose_wider _ _ _ _ draws left.devices_left.entropy_left.later (omega arith) (left.devices_left.entropy_left.fault h));
+}
+
+-- disks that were opened told no damage, and a run over them tells none
+pub opened_damage : {T : Type 0} (A : Machine) (result : Result T Stop) (d : Span Devices) (now : Devices) → Keeps d.old.world.module_ now.world.module_ → Keeps d.old.world.store now.world.store
+    → IsSound A d.old.world.module_ d.old.world.store → Undamaged A result now → DamageTold A result d
+opened_damage A result d now kept_m kept_d sound after = record {
+  module_damaged = λ cell h. never_told d.old.world.module_ now.world.module_ (A.IsBrokenModule cell) kept_m (after.module_sound cell h);
+  store_damaged = λ cell h. never_both d.old.world.module_ now.world.module_ d.old.world.store now.world.store (A.IsBrokenStore cell) kept_m kept_d (after.store_sound cell h);
+  module_judged = λ still. module_unbroken A d.old.world.module_ d.old.world.store _ sound;
+  store_judged = λ still_m still_d. store_unbroken A d.old.world.module_ d.old.world.store _ sound;
+  cells = after.cells;
+}
+
+-- disks that weren't opened: no other device was called
+pub unopened_left : (A : Machine) (stop : Stop) (o : Span Outside) → IsOpeningStop stop
+    → ModuleLeft (behind o) (IsOk {T = Unit {0}} (Err stop)) (◌≡◌ {A = Result (Unit {0}) Stop} (Err stop) (Err ModuleFault))
+    → StoreLeft (behind o) (IsOk {T = Unit {0}} (Err stop)) (◌≡◌ {A = Result (Unit {0}) Stop} (Err stop) (Err StoreFault))
+    → o.new.source_faults ≡ o.old.source_faults → o.new.sink_faults ≡ o.old.sink_faults → o.new.devices.entropy_faults ≡ o.old.devices.entropy_faults → o.new.output ≡ o.old.output
+    → OutsideLeft {T = Unit {0}} A (Err stop) o
+unopened_left A stop o kind module_left store_left source sink entropy held = record {
+  devices_left = record {
+    module_left = module_left;
+    store_left = store_left;
+    entropy_left = record { later = omega (arith, entropy); fault = λ h. absurd (no_opening_draw stop kind h) };
+    draws = λ h. absurd (no_opening_draw stop kind h);
+  };
+  source_left = record { later = omega (arith, source); fault = λ h. absurd (no_opening_read stop kind h) };
+  sink_left = record { later = omega (arith, sink); fault = λ h. absurd (no_opening_write stop kind h) };
+  sink_grows = subst (λ (x : Option (List ℕ)). WhereTold o.old.output x Grows) (sym held) (grows_none o.old.output);
+}
+
+-- no input was taken
+pub unopened_taken : (stop : Stop) (o : Span Outside) → IsOpeningStop stop → o.new.input ≡ o.old.input → InputTaken (Err stop) o
+unopened_taken stop o kind same = record {
+  at_end = λ ok. absurd (cc ok);
+  limit = subst (λ (x : Option (List ℕ)). WhereTold o.old.input x (λ i r. ◌≡◌ {A = Result (Unit {0}) Stop} (Err stop) (Err InputLimit) ↔ ((length i ≡ length r + input_limit) × IsFaultless (Err stop)))) (sym same)
+      (no_limit stop o.old.input kind);
+  within = subst (λ (x : Option (List ℕ)). WhereTold o.old.input x (λ i r. length i ≤ length r + input_limit)) (sym same) (told_same o.old.input _ (λ x. omega arith));
+}
+
+-- no line was served
+pub unopened_sound : (A : Machine) (stop : Stop) (d : Span Devices) → IsOpeningStop stop → ServesSound A (Err stop) d
+unopened_sound A stop d kind = record {
+  sound = λ h. absurd (no_opening_answer stop kind h);
+  settled = λ h. absurd (no_opening_answer stop kind h);
+}
+
+-- it stopped at a disk, or not by a failure
+pub unopened_no_stop : (stop : Stop) → IsOpeningStop stop → (◌≡◌ {A = Result (Unit {0}) Stop} (Err stop) (Err ModuleFault) → ⊥) → (◌≡◌ {A = Result (Unit {0}) Stop} (Err stop) (Err StoreFault) → ⊥) → NoStop (Err stop)
+unopened_no_stop stop kind on_module on_store = record {
+  reads = no_opening_read stop kind;
+  writes = no_opening_write stop kind;
+  on_module = on_module;
+  on_store = on_store;
+  draws = no_opening_draw stop kind;
+}

@@ -15,6 +15,14 @@ use Rattle.line_service.proofs.LineLemmas.{front_of}
 use Rattle.line_service.proofs.SessionLemmas.{leads_none, runs_push}
 use Rattle.line_service.specs.Stops.{AnswersLines, IsOpeningStop, IsFaultless}
 
+-- the run wasn't stopped by a device that failed
+pub record NoStop (r : Result (Unit {0}) Stop) : Type 0 where
+  pub reads : r ≡ Err ReadFault → ⊥
+  pub writes : r ≡ Err WriteFault → ⊥
+  pub on_module : r ≡ Err ModuleFault → ⊥
+  pub on_store : r ≡ Err StoreFault → ⊥
+  pub draws : r ≡ Err EntropyFault → ⊥
+
 module _ (A : Machine) (s : A.State) (random : Option (List ℕ)) where
   pub led_leads : (new : World) (ls : List (List ℕ)) (sent : List ℕ) → (led : Led A s random new ls sent) → Leads A s random ls led.last sent
   led_leads new ls sent led = record { drawn = led.drawn; front = front_of random new.random led.drawn led.consumed; runs = led.runs }
@@ -110,17 +118,17 @@ module _ (A : Machine) (s : A.State) (old new : World) (a b p q : Option (List �
   too_long n m limit is short = omega (arith, is, short)
 
   pub completes : (result : Result (Unit {0}) Stop) → RunServed A s result old new a b p q
-      → (result ≡ Err ReadFault → ⊥) → (result ≡ Err WriteFault → ⊥) → (result ≡ Err ModuleFault → ⊥) → (result ≡ Err StoreFault → ⊥) → (result ≡ Err EntropyFault → ⊥)
+      → NoStop result
       → WhereTold a b (λ i r. (result ≡ Err InputLimit) ↔ ((length i ≡ length r + input_limit) × IsFaultless result))
       → WhereTold a b (λ i r. length i < input_limit → result ≡ Ok tt)
-  completes (Ok done) run read write module_ store entropy limit = told_weaker a b _ _ (λ i r h short. refl) limit
-  completes (Err ReadFault) run read write module_ store entropy limit = absurd (read refl)
-  completes (Err WriteFault) run read write module_ store entropy limit = absurd (write refl)
-  completes (Err ModuleFault) run read write module_ store entropy limit = absurd (module_ refl)
-  completes (Err StoreFault) run read write module_ store entropy limit = absurd (store refl)
-  completes (Err EntropyFault) run read write module_ store entropy limit = absurd (entropy refl)
-  completes (Err (Damaged device cell)) run read write module_ store entropy limit = absurd (run.undamaged device cell refl)
-  completes (Err InputLimit) run read write module_ store entropy limit =
+  completes (Ok done) run none limit = told_weaker a b _ _ (λ i r h short. refl) limit
+  completes (Err ReadFault) run none limit = absurd (none.reads refl)
+  completes (Err WriteFault) run none limit = absurd (none.writes refl)
+  completes (Err ModuleFault) run none limit = absurd (none.on_module refl)
+  completes (Err StoreFault) run none limit = absurd (none.on_store refl)
+  completes (Err EntropyFault) run none limit = absurd (none.draws refl)
+  completes (Err (Damaged device cell)) run none limit = absurd (run.undamaged device cell refl)
+  completes (Err InputLimit) run none limit =
       told_weaker a b _ _ (λ i r told short. absurd (too_long (length i) (length r) input_limit (told.0 refl).0 short)) limit
 
 -- ---- exactly where the input is too long

@@ -1,8 +1,8 @@
 -- What lines leave of the bytes of a disk that no state looks at.
-use Rattle.std.proofs.Common.{◌≡◌, ◌≤◌, ◌<◌, inl, inr, ⊎_elim, ℕ, ◌+◌, ◌-◌, ◌*◌, ◌%◌, min, List, ◌++◌, length, get_or, slice_range, Option, Some, refl, sym, ◌∙◌, ap, subst, arith}
+use Rattle.std.proofs.Common.{◌≡◌, ◌<◌, inl, inr, ⊎_elim, ℕ, ◌+◌, ◌-◌, ◌*◌, ◌%◌, min, List, ◌++◌, length, get_or, slice_range, Option, Some, refl, sym, ◌∙◌, ap, subst, arith}
 use Rattle.std.specs.Prelude.{◌⊎◌}
 use Rattle.std.proofs.lemmas.Grind.{same_number_lists}
-use Rattle.slot_disk.specs.Cells.{selected, body_place, body_at, body, other_body}
+use Rattle.slot_disk.specs.Cells.{selected, body_place, body_at, other_body}
 use Rattle.slot_disk.specs.Medium.{Medium, IsSettled, From, Becomes, EachImage}
 use Rattle.slot_disk.specs.SpareBytes.{SameSpare, SameCell, HasTurned, Turned}
 use Rattle.slot_disk.proofs.CellSteps.{length-range, get_or-range}

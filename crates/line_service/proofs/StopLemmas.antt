@@ -5,7 +5,7 @@ use Rattle.slot_disk.specs.Medium.{Medium, Told, IsSettled}
 use Rattle.slot_disk.specs.WhereTold.{WhereTold}
 use Rattle.slot_disk.proofs.WhereToldLemmas.{told_weaker, told_then, told_same}
 use Rattle.std.proofs.lemmas.List.{append-nil}
-use Rattle.line_service.specs.Machine.{Machine, World, world}
+use Rattle.line_service.specs.Machine.{Machine}
 use Rattle.line_service.specs.Sending.{Grows}
 use Rattle.line_service.specs.declared.serving.Served.{Served}
 use Rattle.line_service.specs.declared.serving.Served.TheVariants.{Replied, Ended}
@@ -44,18 +44,6 @@ pub not_ended : (a b : Option (List ℕ)) (before now : Bool) (pending : List �
     → WhereTold a b (λ input rest. IsTrue before → pending ++ input ≢ [])
 not_ended a b before now pending r stop is still ended =
     told_weaker a b _ _ (λ i x both was none. let at_end : r ≡ Ok Ended = both.1 (still was, none) in cc (at_end, is)) ended
-
--- no device was called
-pub same_world : {M D E : Type 0} (fm : M → Medium) (fd : D → Medium) (fe : E → Option (List ℕ)) (P : World → Type 0)
-    (m m1 : M) (d d1 : D) (e e1 : E) → m1 ≡ m → d1 ≡ d → e1 ≡ e
-    → P (world (fm m) (fd d) (fe e)) → P (world (fm m1) (fd d1) (fe e1))
-same_world fm fd fe P m m1 d d1 e e1 on_m on_d on_e has =
-    subst (λ (x : _). P (world (fm x) (fd d1) (fe e1))) (sym on_m)
-    (subst (λ (x : _). P (world (fm m) (fd x) (fe e1))) (sym on_d)
-    (subst (λ (x : _). P (world (fm m) (fd d) (fe x))) (sym on_e) has))
-
-pub same_held : {K : Type 0} (held : K → Option (List ℕ)) (P : Option (List ℕ) → Type 0) (k k1 : K) → k1 ≡ k → P (held k) → P (held k1)
-same_held held P k k1 same has = subst (λ (x : _). P (held x)) (sym same) has
 
 -- a disk that told its content still tells it
 pub told_back : (old new : Medium) → (IsSome old.content → IsSome new.content) → Told new (λ c. ⊥) → Told old (λ c. ⊥)

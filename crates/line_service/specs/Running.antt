@@ -1,8 +1,8 @@
 -- What a call that serves lines leaves, in a few records.
-use Rattle.std.specs.Prelude.{◌≡◌, ◌⊎◌, ◌↔◌, ◌+◌, ◌<◌, ◌≤◌, ◌++◌, ℕ, [], length, IsTrue, Result, Ok, Err, IsOk}
+use Rattle.std.specs.Prelude.{◌≡◌, ◌⊎◌, ◌↔◌, ◌+◌, ◌<◌, ◌≤◌, ◌++◌, [], length, IsTrue, Result, Ok, Err, IsOk}
 use Rattle.std.specs.Io.KnownBytes.{IsAtEnd}
 use Rattle.slot_disk.specs.Faults.{Rose}
-use Rattle.slot_disk.specs.Medium.{Medium, Keeps}
+use Rattle.slot_disk.specs.Medium.{Keeps}
 use Rattle.slot_disk.specs.WhereTold.{WhereTold}
 use Rattle.script_buffers.specs.Lines.{NoNewline}
 use Rattle.script_buffers.specs.Reading.{Reading, given, input_limit, LosesPart, bytes_ahead}

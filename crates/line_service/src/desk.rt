@@ -33,8 +33,9 @@ pub trait Desk {
         module: &mut M,
         store: &mut D,
     ) -> Result<(), Stop>
-        requires { HaveSizes machine.module_size machine.store_size
+        requires disks { HaveSizes machine.module_size machine.store_size
             (⟦<(M, D) as Shown>⟧.shown («module».old, store.old)) }
+        requires bench { bench.old ≡ blank_bench }
 
         // It succeeds only where the disks stand for a state, and memory then agrees with it.
         ensures sound { OnOk result (IsSound machine (M.medium «module».old) (D.medium store.old)) }
@@ -69,6 +70,7 @@ pub trait Desk {
         requires disks { AreSettled machine.module_size machine.store_size
             (⟦<(M, D) as Shown>⟧.shown («module».old, store.old)) }
         requires ready { ready self.old (M.medium «module».old) (D.medium store.old) }
+        requires bench { bench.old ≡ blank_bench }
 
         ensures serves { (s : machine.State)
             → Stands machine s (knows self.old) (M.medium «module».old) (D.medium store.old)

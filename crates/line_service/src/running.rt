@@ -35,6 +35,7 @@ fn serve_all<A: Desk, S: Source, K: Sink, M: Disk, D: Disk, E: Entropy>(
     requires disks { AreSettled A.machine.module_size A.machine.store_size
         (⟦<(M, D) as Shown>⟧.shown («module».old, store.old)) }
     requires ready { A.ready desk.old (M.medium «module».old) (D.medium store.old) }
+    requires bench { bench.old ≡ blank_bench }
 
     ensures serves { (s : A.machine.State)
         → Stands A.machine s (A.knows desk.old) (M.medium «module».old) (D.medium store.old)
@@ -82,8 +83,9 @@ pub fn serve<A: Desk, S: Source, K: Sink, M: Disk, D: Disk, E: Entropy>(
     store: &mut D,
     entropy: &mut E,
 ) -> Result<(), Stop>
-    requires { HaveSizes A.machine.module_size A.machine.store_size
+    requires disks { HaveSizes A.machine.module_size A.machine.store_size
         (⟦<(M, D) as Shown>⟧.shown («module».old, store.old)) }
+    requires bench { bench.old ≡ blank_bench }
 
     // What the lines come to, from the state for which the disks stand.
     ensures lines { (s : A.machine.State)

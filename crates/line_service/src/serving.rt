@@ -44,6 +44,7 @@ pub fn answer_taken<A: Desk, M: Disk, D: Disk, E: Entropy>(
     requires disks { AreSettled A.machine.module_size A.machine.store_size
         (⟦<(M, D) as Shown>⟧.shown («module».old, store.old)) }
     requires ready { A.ready desk.old (M.medium «module».old) (D.medium store.old) }
+    requires bench { bench.old ≡ blank_bench }
 
     ensures serves { (s : A.machine.State)
         → Stands A.machine s (A.knows desk.old) (M.medium «module».old) (D.medium store.old)
@@ -62,14 +63,10 @@ pub fn answer_taken<A: Desk, M: Disk, D: Disk, E: Entropy>(
     match taken {
         Taken::Line => desk.answer(lines.line(), reply, bench, module, store, entropy),
         Taken::TooLong => {
-            bench.wipe();
             desk.too_long(reply);
             Ok(())
         }
-        Taken::End => {
-            bench.wipe();
-            Ok(())
-        }
+        Taken::End => Ok(()),
     }
 }
 
@@ -92,6 +89,7 @@ pub fn serve_one<A: Desk, S: Source, K: Sink, M: Disk, D: Disk, E: Entropy>(
     requires disks { AreSettled A.machine.module_size A.machine.store_size
         (⟦<(M, D) as Shown>⟧.shown («module».old, store.old)) }
     requires ready { A.ready desk.old (M.medium «module».old) (D.medium store.old) }
+    requires bench { bench.old ≡ blank_bench }
 
     // What the line comes to, from the state for which the disks stand.
     ensures serves { (s : A.machine.State)
@@ -121,7 +119,6 @@ pub fn serve_one<A: Desk, S: Source, K: Sink, M: Disk, D: Disk, E: Entropy>(
         (⟦<(M, D) as Shown>⟧.shown («module».new, store.new)) }
     ensures bench { bench.new ≡ blank_bench }
 {
-    bench.wipe();
     match read_line(source, lines) {
         Ok(taken) => match taken {
             Taken::End => Ok(Served::Ended),

@@ -1,12 +1,14 @@
 -- What a change of the registers does to the module, and when each answer comes.
 use Rattle.std.specs.Prelude.{◌≡◌, ◌≢◌, ◌≤◌, ◌⊎◌, ◌↔◌, ℕ, List, slice_index, Result, Ok, Err, OnOk, IfOk, IsTrue, ⊤}
 use Rattle.key_cells.specs.Bench.{Bench}
+use Rattle.key_cells.specs.Lease.{bench_of}
+use Rattle.key_cells.specs.declared.leases.Lease.{Lease}
 use Rattle.slot_disk.specs.Cells.{body, IsReplaced, IsUntouched}
 use Rattle.slot_disk.specs.Faults.{Rose}
 use Rattle.slot_disk.specs.Medium.{Medium, IsSettled, Told, From, Becomes, EachImage}
 use Rattle.slot_disk.specs.Ranges.{SameOutside}
 use Rattle.master_registers.specs.Actions.{after_action, has_wrong_state, repeats_pattern}
-use Rattle.master_registers.specs.Loaded.{Loaded, ArePlaced, masters_in}
+use Rattle.master_registers.specs.Loaded.{Loaded, IsLoaded, ArePlaced, KeepsRest, StandsForLoaded, masters_in}
 use Rattle.master_registers.specs.Masters.{Masters}
 use Rattle.master_registers.specs.RegisterBody.{registers_body, StandsForMasters}
 use Rattle.master_registers.specs.declared.actions.Action.{Action}
@@ -61,6 +63,24 @@ pub record HasChangeCause (action : Action) (m : Masters) (before now : ℕ)
   pub failed : result ≡ Err register_fault.DiskFault → Rose before now
   pub state : (result ≡ Err register_fault.RegisterState) ↔ IsTrue (has_wrong_state action m)
   pub same : (result ≡ Err register_fault.SamePattern) ↔ IsTrue (repeats_pattern action m)
+
+-- A bench holds the registers of a module, of which nothing is unsynced.
+pub record IsLoadedFrom (from : Medium) (held : Registers) (bench : Bench) : Type 0 where
+  pub within : 1536 ≤ from.size
+  pub settled : IsSettled from
+  pub loaded : IsLoaded held bench
+  pub stands : Told from (StandsForLoaded held bench)
+
+-- An action on the registers that a lease holds of a module, which shows a medium and a count of faults.
+pub record CarriesOut {M : Type 0} (medium : M → Medium) (faults : M → ℕ) (action : Action) (held : Registers)
+    (lease later : Lease) (old new : M) (result : Result Registers RegisterFault) : Type 0 where
+  pub change : ChangesRegisters action held (bench_of lease) (bench_of later) (medium old) (medium new) result
+  -- of the lease the places of the registers and the body may have changed
+  pub rest : KeepsRest lease later
+  pub cause : HasChangeCause action (masters_in held (bench_of lease)) (faults old) (faults new) result
+  -- a refusal by a rule calls no device, and writes no place
+  pub untouched : WhenRefused result (new ≡ old)
+  pub lease_untouched : WhenRefused result (later ≡ lease)
 
 -- a disk's fault is answered only where the disk's count rose
 pub record HasDiskCause (before now : ℕ) (result : Result Registers RegisterFault) : Type 0 where

@@ -1,5 +1,6 @@
 -- The registers in the workbench, and what the code knows of them beside it.
-use Rattle.std.specs.Prelude.{◌≡◌, ℕ, List, Option, None, Some}
+use Rattle.std.specs.Prelude.{◌≡◌, ℕ, Bool, false, List, Option, None, Some}
+use Rattle.std.specs.Str.{bytes_eq}
 use Rattle.key_cells.specs.Bench.{Bench}
 use Rattle.key_cells.specs.Lease.{bench_of, holding}
 use Rattle.key_cells.specs.declared.leases.Lease.{Lease}
@@ -15,6 +16,11 @@ use Rattle.master_registers.specs.declared.patterns.Pattern.{Pattern}
 abbrev pub pattern_in : Option (List ℕ) → Option Pattern
 pattern_in None = None
 pattern_in (Some bytes) = Some (record { bytes = pattern_of_master bytes })
+
+-- a register is full and has the pattern of these bytes
+abbrev pub has_pattern : Option Pattern → List ℕ → Bool
+has_pattern None bytes = false
+has_pattern (Some pattern) bytes = bytes_eq bytes pattern.bytes
 
 -- how full the new register is, and the patterns of the others
 abbrev pub registers_of : Masters → Registers

@@ -3,8 +3,8 @@
 ghost use Rattle.std.specs.Prelude.{◌≡◌, ◌≤◌, IfOk, Result};
 ghost use Rattle.slot_disk.specs.Medium.{Told, IsSettled};
 ghost use Rattle.key_cells.specs.Lease.{bench_of, holding};
-ghost use Rattle.master_registers.specs.Changes.{ChangesModule, ChangesRegisters, HasChangeCause, HasDiskCause, WhenRefused};
-ghost use Rattle.master_registers.specs.Loaded.{IsLoaded, KeepsRest, StandsForLoaded, masters_in};
+ghost use Rattle.master_registers.specs.Changes.{CarriesOut, ChangesModule, HasDiskCause, IsLoadedFrom, WhenRefused};
+ghost use Rattle.master_registers.specs.Loaded.{IsLoaded, masters_in};
 ghost use Rattle.master_registers.specs.Masters.{Masters};
 ghost use Rattle.master_registers.specs.RegisterBody.{registers_body, StandsForMasters};
 
@@ -24,17 +24,9 @@ pub fn first<M: Disk>(
     lease: &mut Lease,
     held: &Registers,
 ) -> Result<Registers, RegisterFault>
-    requires within { 1536 ≤ (M.medium «module».old).size }
-    requires settled { IsSettled (M.medium «module».old) }
-    requires loaded { IsLoaded held.now (bench_of lease.old) }
-    requires stands { Told (M.medium «module».old) (StandsForLoaded held.now (bench_of lease.old)) }
-    ensures change { ChangesRegisters Action.First held.now (bench_of lease.old)
-        (bench_of lease.new) (M.medium «module».old) (M.medium «module».new) result }
-    ensures rest { KeepsRest lease.old lease.new }
-    ensures cause { HasChangeCause Action.First (masters_in held.now (bench_of lease.old))
-        (M.faults «module».old) (M.faults «module».new) result }
-    ensures untouched { WhenRefused result («module».new ≡ «module».old) }
-    ensures lease_untouched { WhenRefused result (lease.new ≡ lease.old) }
+    requires { IsLoadedFrom (M.medium «module».old) held.now (bench_of lease.old) }
+    ensures { CarriesOut M.medium M.faults Action.First held.now
+        lease.old lease.new «module».old «module».new result }
 {
     change(Action::First, module, lease, held)
 }
@@ -47,17 +39,9 @@ pub fn middle<M: Disk>(
     lease: &mut Lease,
     held: &Registers,
 ) -> Result<Registers, RegisterFault>
-    requires within { 1536 ≤ (M.medium «module».old).size }
-    requires settled { IsSettled (M.medium «module».old) }
-    requires loaded { IsLoaded held.now (bench_of lease.old) }
-    requires stands { Told (M.medium «module».old) (StandsForLoaded held.now (bench_of lease.old)) }
-    ensures change { ChangesRegisters Action.Middle held.now (bench_of lease.old)
-        (bench_of lease.new) (M.medium «module».old) (M.medium «module».new) result }
-    ensures rest { KeepsRest lease.old lease.new }
-    ensures cause { HasChangeCause Action.Middle (masters_in held.now (bench_of lease.old))
-        (M.faults «module».old) (M.faults «module».new) result }
-    ensures untouched { WhenRefused result («module».new ≡ «module».old) }
-    ensures lease_untouched { WhenRefused result (lease.new ≡ lease.old) }
+    requires { IsLoadedFrom (M.medium «module».old) held.now (bench_of lease.old) }
+    ensures { CarriesOut M.medium M.faults Action.Middle held.now
+        lease.old lease.new «module».old «module».new result }
 {
     change(Action::Middle, module, lease, held)
 }
@@ -70,17 +54,9 @@ pub fn last<M: Disk>(
     lease: &mut Lease,
     held: &Registers,
 ) -> Result<Registers, RegisterFault>
-    requires within { 1536 ≤ (M.medium «module».old).size }
-    requires settled { IsSettled (M.medium «module».old) }
-    requires loaded { IsLoaded held.now (bench_of lease.old) }
-    requires stands { Told (M.medium «module».old) (StandsForLoaded held.now (bench_of lease.old)) }
-    ensures change { ChangesRegisters Action.Last held.now (bench_of lease.old)
-        (bench_of lease.new) (M.medium «module».old) (M.medium «module».new) result }
-    ensures rest { KeepsRest lease.old lease.new }
-    ensures cause { HasChangeCause Action.Last (masters_in held.now (bench_of lease.old))
-        (M.faults «module».old) (M.faults «module».new) result }
-    ensures untouched { WhenRefused result («module».new ≡ «module».old) }
-    ensures lease_untouched { WhenRefused result (lease.new ≡ lease.old) }
+    requires { IsLoadedFrom (M.medium «module».old) held.now (bench_of lease.old) }
+    ensures { CarriesOut M.medium M.faults Action.Last held.now
+        lease.old lease.new «module».old «module».new result }
 {
     change(Action::Last, module, lease, held)
 }
@@ -94,17 +70,9 @@ pub fn clear<M: Disk>(
     lease: &mut Lease,
     held: &Registers,
 ) -> Result<Registers, RegisterFault>
-    requires within { 1536 ≤ (M.medium «module».old).size }
-    requires settled { IsSettled (M.medium «module».old) }
-    requires loaded { IsLoaded held.now (bench_of lease.old) }
-    requires stands { Told (M.medium «module».old) (StandsForLoaded held.now (bench_of lease.old)) }
-    ensures change { ChangesRegisters Action.Clear held.now (bench_of lease.old)
-        (bench_of lease.new) (M.medium «module».old) (M.medium «module».new) result }
-    ensures rest { KeepsRest lease.old lease.new }
-    ensures cause { HasChangeCause Action.Clear (masters_in held.now (bench_of lease.old))
-        (M.faults «module».old) (M.faults «module».new) result }
-    ensures untouched { WhenRefused result («module».new ≡ «module».old) }
-    ensures lease_untouched { WhenRefused result (lease.new ≡ lease.old) }
+    requires { IsLoadedFrom (M.medium «module».old) held.now (bench_of lease.old) }
+    ensures { CarriesOut M.medium M.faults Action.Clear held.now
+        lease.old lease.new «module».old «module».new result }
 {
     change(Action::Clear, module, lease, held)
 }
@@ -119,17 +87,9 @@ pub fn set<M: Disk>(
     lease: &mut Lease,
     held: &Registers,
 ) -> Result<Registers, RegisterFault>
-    requires within { 1536 ≤ (M.medium «module».old).size }
-    requires settled { IsSettled (M.medium «module».old) }
-    requires loaded { IsLoaded held.now (bench_of lease.old) }
-    requires stands { Told (M.medium «module».old) (StandsForLoaded held.now (bench_of lease.old)) }
-    ensures change { ChangesRegisters Action.Set held.now (bench_of lease.old)
-        (bench_of lease.new) (M.medium «module».old) (M.medium «module».new) result }
-    ensures rest { KeepsRest lease.old lease.new }
-    ensures cause { HasChangeCause Action.Set (masters_in held.now (bench_of lease.old))
-        (M.faults «module».old) (M.faults «module».new) result }
-    ensures untouched { WhenRefused result («module».new ≡ «module».old) }
-    ensures lease_untouched { WhenRefused result (lease.new ≡ lease.old) }
+    requires { IsLoadedFrom (M.medium «module».old) held.now (bench_of lease.old) }
+    ensures { CarriesOut M.medium M.faults Action.Set held.now
+        lease.old lease.new «module».old «module».new result }
 {
     change(Action::Set, module, lease, held)
 }
@@ -144,17 +104,9 @@ pub fn change<M: Disk>(
     lease: &mut Lease,
     held: &Registers,
 ) -> Result<Registers, RegisterFault>
-    requires within { 1536 ≤ (M.medium «module».old).size }
-    requires settled { IsSettled (M.medium «module».old) }
-    requires loaded { IsLoaded held.now (bench_of lease.old) }
-    requires stands { Told (M.medium «module».old) (StandsForLoaded held.now (bench_of lease.old)) }
-    ensures change { ChangesRegisters action held.now (bench_of lease.old)
-        (bench_of lease.new) (M.medium «module».old) (M.medium «module».new) result }
-    ensures rest { KeepsRest lease.old lease.new }
-    ensures cause { HasChangeCause action (masters_in held.now (bench_of lease.old))
-        (M.faults «module».old) (M.faults «module».new) result }
-    ensures untouched { WhenRefused result («module».new ≡ «module».old) }
-    ensures lease_untouched { WhenRefused result (lease.new ≡ lease.old) }
+    requires { IsLoadedFrom (M.medium «module».old) held.now (bench_of lease.old) }
+    ensures { CarriesOut M.medium M.faults action held.now
+        lease.old lease.new «module».old «module».new result }
 {
     let next = prepare(action, lease, held)?;
     store(module, lease, next)

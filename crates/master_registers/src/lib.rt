@@ -20,7 +20,7 @@ pub use actions::Action;
 pub use changes::{change, clear, first, last, middle, set};
 pub use faults::{LoadFault, RegisterFault};
 pub use loading::{a_body_reads_as_one, load};
-pub use patterns::{Pattern, pattern_of};
+pub use patterns::{Pattern, has_pattern, pattern_of};
 pub use registers::{NewState, Registers};
 
 #[cfg(test)]

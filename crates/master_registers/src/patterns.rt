@@ -1,7 +1,8 @@
 //! Verification patterns of master keys.
-ghost use Rattle.std.specs.Prelude.{◌≡◌};
+ghost use Rattle.std.specs.Prelude.{◌≡◌, ◌↔◌, Some, IsTrue};
 ghost use Rattle.key_cells.specs.Bench.{master_of};
 ghost use Rattle.key_cells.specs.Lease.{bench_of};
+ghost use Rattle.master_registers.specs.Loaded.{has_pattern};
 ghost use Rattle.master_registers.specs.Masters.{pattern_of_master};
 
 use key_cells::{Lease, MasterPlace};
@@ -11,6 +12,14 @@ use sha1::Sha1;
 #[derive(Clone, Copy, Debug, PartialEq, Eq)]
 pub struct Pattern {
     pub bytes: [u8; 8],
+}
+
+/// Whether a register is full and has this pattern.
+pub fn has_pattern(register: Option<Pattern>, pattern: &Pattern) -> bool
+    ensures tells { result ≡ has_pattern register pattern.now.bytes }
+    ensures held { IsTrue result ↔ (register ≡ Some pattern.now) }
+{
+    register == Some(*pattern)
 }
 
 /// The pattern of the 24 bytes in a place.

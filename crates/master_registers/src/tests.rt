@@ -1,9 +1,8 @@
 //! Patterns and bodies from outside, the steps of ceremonies, and a fault at each call of the disk.
 ghost use Rattle.std.specs.Prelude.{◌≡◌, ◌≤◌};
-ghost use Rattle.slot_disk.specs.Medium.{Told, IsSettled};
 ghost use Rattle.key_cells.specs.Bench.{master_of, with_master};
 ghost use Rattle.key_cells.specs.Lease.{bench_of, holding};
-ghost use Rattle.master_registers.specs.Loaded.{IsLoaded, StandsForLoaded};
+ghost use Rattle.master_registers.specs.Changes.{IsLoadedFrom};
 
 use crate::*;
 use key_cells::{Lease, MasterPlace, Workbench};
@@ -55,10 +54,7 @@ fn act<M: Disk>(
     lease: &mut Lease,
     held: &Registers,
 ) -> Result<Registers, RegisterFault>
-    requires within { 1536 ≤ (M.medium «module».old).size }
-    requires settled { IsSettled (M.medium «module».old) }
-    requires loaded { IsLoaded held.now (bench_of lease.old) }
-    requires stands { Told (M.medium «module».old) (StandsForLoaded held.now (bench_of lease.old)) }
+    requires { IsLoadedFrom (M.medium «module».old) held.now (bench_of lease.old) }
 {
     match action {
         Action::First => first(module, lease, held),

@@ -8,13 +8,12 @@ use Rattle.key_records.specs.Directory.{cell_of}
 use Rattle.key_records.specs.Entries.{Entry, row_directory}
 use Rattle.key_records.specs.Labels.{IsLabel, is_label}
 use Rattle.key_records.specs.StoreStands.{Agrees, KeepsLabels, entry_at}
-use Rattle.key_records.proofs.StoreLaws.{told_both, told_map}
 use Rattle.key_records.specs.declared.faults.RecordFault.{RecordFault}
 use Rattle.key_records.specs.declared.rows.Row.{Row}
 use Rattle.key_tokens.specs.Denotes.{Denoted}
 use Rattle.key_tokens.specs.declared.key_token.Age.{Age}
 use Rattle.slot_disk.specs.Medium.{Medium, Told}
-use Rattle.slot_disk.proofs.Media.{told_from}
+use Rattle.slot_disk.proofs.Media.{told_from, told_joined, told_map}
 use Rattle.store_move.specs.Exports.{IsTransport, exporter, held_in, transport_checks}
 use Rattle.verb_rules.specs.KeyChecks.{use_checks}
 use Rattle.verb_rules.specs.Keys.{keys_of, opened}
@@ -119,7 +118,7 @@ module _ (s : State) (w : Move) (rows : List (Option Row)) (m : Medium) (bench :
       → IfOk r (λ judged. Told m (λ _. IsTransport bench (held_in (entry_at s.labels place)) judged))
       → IfOk r (λ judged. Told m (λ _. IsJudged s w bench judged))
   label_judged place (Ok judged) found told =
-      told_both m (KeepsLabels (keys_of s.registers) rows s.labels) (λ _. IsTransport bench (held_in (entry_at s.labels place)) judged)
+      told_joined m (KeepsLabels (keys_of s.registers) rows s.labels) (λ _. IsTransport bench (held_in (entry_at s.labels place)) judged)
       (λ _. IsJudged s w bench judged) keeps told
       (λ c here is. judged_as s w label bench place judged role (cell_is s rows here.agrees w.transport ∙ found) (key_at s rows here.agrees w.transport place found) is)
   label_judged place (Err fault) found told = tt

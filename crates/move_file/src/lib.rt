@@ -11,6 +11,3 @@ mod writing;
 pub use judging::judge_move;
 pub use moves::Move;
 pub use writing::{MoveFault, write_move};
-
-#[cfg(test)]
-mod tests;

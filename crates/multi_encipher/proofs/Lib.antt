@@ -1,3 +1,2 @@
-pub mod BundleLemmas
 pub mod SealLaws
 pub mod BenchLemmas

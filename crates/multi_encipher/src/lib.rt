@@ -7,6 +7,7 @@ mod mixing;
 mod sealing;
 
 pub use halves::{Sealed, Under};
+pub use mixing::put_schedule;
 pub use sealing::{seal, seal_is_one_to_one, unseal};
 
 #[cfg(test)]

@@ -45,7 +45,7 @@ fn put_variant(lease: &Lease, under: Under, number: usize, vector: &[u8; 8], out
 }
 
 /// Puts the round keys of a key into one of three schedules.
-fn put_schedule(key: &Secret<'_, 8>, schedules: &mut [Schedule; 3], number: usize)
+pub fn put_schedule(key: &Secret<'_, 8>, schedules: &mut [Schedule; 3], number: usize)
     requires { number < 3 }
     ensures made { IsOf (schedule_at schedules.new number) (bytes_of key.now) }
     ensures others { schedules.new

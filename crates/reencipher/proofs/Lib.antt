@@ -1,5 +1,6 @@
 pub mod CellLaws
 pub mod FurtherLaws
+pub mod LeftLaws
 pub mod RowLaws
 pub mod RunLaws
 pub mod TokenLaws

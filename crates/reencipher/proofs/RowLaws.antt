@@ -5,7 +5,7 @@ use Rattle.std.proofs.lemmas.Bool.{cases_eq}
 use Rattle.slot_disk.specs.Cells.{body, IsReplacing}
 use Rattle.slot_disk.specs.Medium.{Medium, Told, IsSettled, From, Becomes, EachImage, Keeps}
 use Rattle.slot_disk.specs.SpareBytes.{Turned}
-use Rattle.slot_disk.proofs.Media.{told_from, told_at, each_weaker, each_still, goes_on, becomes_same, becomes_weaker, becomes_both, becomes_then, from_then}
+use Rattle.slot_disk.proofs.Media.{told_from, told_at, each_weaker, each_still, goes_on, becomes_same, becomes_weaker, becomes_both, becomes_then, from_then, told_joined}
 use Rattle.slot_disk.proofs.SpareLemmas.{turned_same}
 use Rattle.byte_lists.proofs.DirectoryLaws.{none_some}
 use Rattle.cca_vectors.specs.Checks.{first_failing}
@@ -23,7 +23,6 @@ use Rattle.key_records.specs.declared.faults.RecordFault.{RecordFault}
 use Rattle.key_records.specs.declared.rows.Row.{Row}
 use Rattle.key_records.proofs.BodyLaws.{kind_again, token_again, second_again, label_short}
 use Rattle.key_records.proofs.SecondLaws.{second_long}
-use Rattle.key_records.proofs.StoreLaws.{told_both}
 use Rattle.master_registers.specs.Loaded.{Loaded}
 use Rattle.master_registers.specs.Masters.{Masters}
 use Rattle.master_registers.specs.declared.patterns.Pattern.{Pattern}
@@ -221,7 +220,7 @@ module _ (a : StoreAction) (held : Registers) (before : List (Option Row)) where
         (cases_eq n cell)
 
     rows_next : Told m0 (λ _. (n : ℕ) → (Changed n → ⊥) → get_or next n None ≡ get_or before n None)
-    rows_next = told_both m0 (λ _. (n : ℕ) → (Changed n → ⊥) → get_or now n None ≡ get_or before n None) (λ _. (Now → ⊥) → get_or next cell None ≡ get_or now cell None)
+    rows_next = told_joined m0 (λ _. (n : ℕ) → (Changed n → ⊥) → get_or now n None ≡ get_or before n None) (λ _. (Now → ⊥) → get_or next cell None ≡ get_or now cell None)
         (λ _. (n : ℕ) → (Changed n → ⊥) → get_or next n None ≡ get_or before n None) so_far.rows
         (told_later m0 m1 ((Now → ⊥) → get_or next cell None ≡ get_or now cell None) so_far.cells.still row)
         (λ c rows here. row_now rows here)
@@ -241,7 +240,7 @@ module _ (a : StoreAction) (held : Registers) (before : List (Option Row)) where
       moments = moments_next (Ok done) turn;
       above = λ n at. others n (λ is. omega (arith, is, at)) ∙ so_far.above n (omega (arith, at));
       rows = rows_next;
-      count = told_both m0 (λ _. changed ≡ changed_rows a held before cell) (λ _. done ≡ changes_row a held (get_or now cell None)) (λ _. changed + cond done 1 0 ≡ changed_rows a held before (cell + 1)) so_far.count
+      count = told_joined m0 (λ _. changed ≡ changed_rows a held before cell) (λ _. done ≡ changes_row a held (get_or now cell None)) (λ _. changed + cond done 1 0 ≡ changed_rows a held before (cell + 1)) so_far.count
           (told_later m0 m1 (done ≡ changes_row a held (get_or now cell None)) so_far.cells.still count)
           (λ c so_many is. counted done so_many is);
     }

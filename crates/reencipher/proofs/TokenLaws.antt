@@ -11,7 +11,7 @@ use Rattle.key_tokens.specs.Denotes.{ClearKey, Denoted, denoted}
 use Rattle.key_tokens.specs.Fields.{pattern_of_token, token_of}
 use Rattle.key_tokens.specs.TokenChecks.{token_checks}
 use Rattle.key_records.specs.Ages.{has_old_key}
-use Rattle.master_registers.specs.Loaded.{Loaded}
+use Rattle.master_registers.specs.Loaded.{Loaded, has_pattern}
 use Rattle.master_registers.specs.Masters.{Masters, NewRegister, Empty, Partial, Full, new_bytes, pattern_of_master, state_of}
 use Rattle.master_registers.specs.declared.patterns.Pattern.{Pattern}
 use Rattle.master_registers.specs.declared.registers.NewState.TheVariants as state
@@ -24,7 +24,7 @@ use Rattle.master_registers.specs.declared.registers.Registers.{Registers}
 use Rattle.multi_encipher.specs.Bundles.{ChangesKeyAt, key_in, with_zeros}
 use Rattle.multi_encipher.specs.Seals.{IsKey, seal}
 use Rattle.multi_encipher.specs.declared.halves.Sealed.{Sealed}
-use Rattle.verb_rules.specs.KeyChecks.{has_pattern, register_with}
+use Rattle.verb_rules.specs.KeyChecks.{register_with}
 use Rattle.verb_rules.specs.Keys.{keys_of, new_key, opened, opened_key}
 use Rattle.verb_rules.specs.declared.judging.Judged.{Judged}
 use Rattle.key_cells.specs.Lease.{bench_of}

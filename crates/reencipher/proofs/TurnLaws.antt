@@ -8,7 +8,7 @@ use Rattle.key_cells.specs.Lease.{bench_of, holding}
 use Rattle.key_cells.specs.declared.leases.Lease.{Lease}
 use Rattle.slot_disk.specs.Cells.{body}
 use Rattle.slot_disk.specs.Medium.{Medium, Told, IsSettled, From, Becomes, EachImage, Keeps}
-use Rattle.slot_disk.proofs.Media.{told_from, told_at, each_weaker, goes_on}
+use Rattle.slot_disk.proofs.Media.{told_from, told_at, each_weaker, goes_on, told_joined, told_map, told_still}
 use Rattle.key_tokens.specs.Denotes.{ClearKey, Denoted, MasterKeys, denoted}
 use Rattle.key_tokens.specs.declared.key_token.Age.TheVariants.{Current}
 use Rattle.key_records.specs.Ages.{is_old, has_old_key, is_ahead_entry}
@@ -21,7 +21,6 @@ use Rattle.key_records.specs.declared.faults.RecordFault.{RecordFault}
 use Rattle.key_records.specs.declared.rows.Row.{Row}
 use Rattle.key_records.proofs.OpeningLaws.{label_of_row}
 use Rattle.key_records.proofs.ReadLaws.{row_of_entry}
-use Rattle.key_records.proofs.StoreLaws.{told_map, told_both, told_still}
 use Rattle.master_registers.specs.Loaded.{Loaded, ArePlaced}
 use Rattle.master_registers.specs.Masters.{Masters}
 use Rattle.master_registers.specs.declared.registers.Registers.{Registers}
@@ -265,7 +264,7 @@ module _ (a : StoreAction) (masters : MasterKeys) (cell : ℕ) (s : List (Option
   pub changes_none : Told m0 (λ _. is_changed a (entry_at s cell) ≡ false) → ChangesCell a masters cell s rows rows m0 m1 (Ok false)
   changes_none stays = record {
     keeps = told_still m0 m1 (KeepsLabels masters rows (changed_at a cell s)) keeps
-        (told_both m0 (KeepsLabels masters rows s) (λ _. is_changed a (entry_at s cell) ≡ false) (KeepsLabels masters rows (changed_at a cell s)) told stays
+        (told_joined m0 (KeepsLabels masters rows s) (λ _. is_changed a (entry_at s cell) ≡ false) (KeepsLabels masters rows (changed_at a cell s)) told stays
         (λ c keeps is. subst (λ (t : List (Option Entry)). KeepsLabels masters rows t c) (sym (turned_same a s cell is)) keeps));
     other = record {
       size = keeps.moments.size;

@@ -1,18 +1,20 @@
 -- What a run does to a store and to the memory, and when each answer comes.
-use Rattle.std.specs.Prelude.{◌≡◌, ◌≤◌, ◌<◌, ◌+◌, ◌&&◌, ℕ, zero, suc, Bool, true, false, not, cond, List, Option, None, Some, is_some, get_or, slice_index, length}
-use Rattle.std.specs.Prelude.{Result, Err, OnOk, OnErr, IfOk}
+use Rattle.std.specs.Prelude.{◌≡◌, ◌≤◌, ◌<◌, ◌+◌, ◌⊎◌, ◌&&◌, ℕ, zero, suc, Bool, true, false, not, cond, List, Option, None, Some, is_some, get_or, slice_index, length}
+use Rattle.std.specs.Prelude.{Result, Err, OnOk, OnErr, IfOk, IfErr, IsSome}
+use Rattle.key_cells.specs.declared.leases.Lease.{Lease}
 use Rattle.slot_disk.specs.Cells.{body, other_body, IsUntouched}
 use Rattle.slot_disk.specs.Faults.{Rose}
-use Rattle.slot_disk.specs.Medium.{Medium, Told, From, Becomes, EachImage}
+use Rattle.slot_disk.specs.Medium.{Medium, IsSettled, Told, From, Becomes, EachImage}
 use Rattle.slot_disk.specs.SpareBytes.{Turned}
 use Rattle.key_tokens.specs.Denotes.{MasterKeys}
 use Rattle.key_tokens.specs.declared.key_token.Age.{Age}
 use Rattle.key_records.specs.Ages.{is_old}
-use Rattle.key_records.specs.Entries.{Entry}
-use Rattle.key_records.specs.StoreStands.{StandsForLabels, KeepsLabels, Agrees, entry_at}
+use Rattle.key_records.specs.Changes.{ChangesKeyAndBody}
+use Rattle.key_records.specs.Entries.{Entry, row_directory}
+use Rattle.key_records.specs.StoreStands.{StandsForLabels, KeepsLabels, HoldsRows, Agrees, entry_at}
 use Rattle.key_records.specs.Written.{written_body}
 use Rattle.key_records.specs.declared.faults.RecordFault.{RecordFault}
-use Rattle.key_records.specs.declared.faults.RecordFault.TheVariants.{DiskFault}
+use Rattle.key_records.specs.declared.faults.RecordFault.TheVariants.{DiskFault, Damaged}
 use Rattle.key_records.specs.declared.rows.Row.{Row}
 use Rattle.master_registers.specs.declared.patterns.Pattern.{Pattern}
 use Rattle.master_registers.specs.declared.registers.Registers.{Registers}
@@ -124,3 +126,29 @@ pub record TurnsCells (a : StoreAction) (held : Registers) (before now : List (O
 pub record HasRunCause {T : Type 0} (before now : ℕ) (result : Result T RecordFault) : Type 0 where
   pub later : before ≤ now
   pub failed : result ≡ Err DiskFault → Rose before now
+
+-- ---- what it leaves whatever the store holds
+
+abbrev pub IsCell : ℕ → Type 0
+IsCell n = n < 1024
+
+-- Of a store that shows a medium and a count of faults, whose cells of which Looked holds are read.
+pub record LeavesAnyStore {D T : Type 0} (medium : D → Medium) (faults : D → ℕ) (Looked : ℕ → Type 0)
+    (lease later : Lease) (before now : List (Option Row)) (old new : D)
+    (result : Result T RecordFault) : Type 0 where
+  pub size : (medium new).size ≡ 1572864
+  -- after Ok nothing is unsynced, and the memory knows the labels
+  pub settled : OnOk result (IsSettled (medium new))
+  pub holds : OnOk result (Told (medium new) (HoldsRows now))
+  -- a disk tells its bytes afterwards exactly where it told them before
+  pub still : IsSome (medium old).content → IsSome (medium new).content
+  pub told : IsSome (medium new).content → IsSome (medium old).content
+  -- no label comes, goes or moves
+  pub directory : row_directory now ≡ row_directory before
+  -- a cell is damaged only on a disk that doesn't tell its bytes
+  pub damaged : (n : ℕ) → result ≡ Err (Damaged n) → Told (medium old) (λ _. ⊥)
+  pub fault : IfErr result (λ fault. (fault ≡ DiskFault)
+      ⊎ ((cell : ℕ) × Looked cell × (fault ≡ Damaged cell)))
+  pub cause : HasRunCause (faults old) (faults new) result
+  -- of the lease the place Key, the schedules and the body may have changed
+  pub rest : ChangesKeyAndBody lease later

@@ -6,9 +6,8 @@ ghost use Rattle.master_registers.specs.Masters.{Masters, has_pattern_of};
 ghost use Rattle.master_registers.specs.declared.registers.NewState.{NewState};
 ghost use Rattle.reencipher.specs.Tokens.{IsReadyAhead};
 
-use crate::tokens::is_pattern;
 use key_cells::{Lease, MasterPlace};
-use master_registers::{Registers, pattern_of};
+use master_registers::{Registers, has_pattern, pattern_of};
 
 /// Whether the full new master key has the pattern of the current one or of a full old one.
 pub fn is_taken(lease: &Lease, held: &Registers) -> bool
@@ -19,5 +18,5 @@ pub fn is_taken(lease: &Lease, held: &Registers) -> bool
         → IsReadyAhead held.now (bench_of lease.now) }
 {
     let coming = pattern_of(lease, MasterPlace::New);
-    is_pattern(held.current_pattern, &coming) || is_pattern(held.old_pattern, &coming)
+    has_pattern(held.current_pattern, &coming) || has_pattern(held.old_pattern, &coming)
 }

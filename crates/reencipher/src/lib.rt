@@ -13,6 +13,3 @@ pub use actions::StoreAction;
 pub use judging::is_taken;
 pub use laws::reruns_end_as_one_run;
 pub use running::{ahead, drop_ahead, reencipher, run_action};
-
-#[cfg(test)]
-mod tests;

@@ -1,15 +1,13 @@
 //! The store under a new master key, and ahead of one, cell by cell upwards.
-ghost use Rattle.std.specs.Prelude.{◌≡◌, ◌⊎◌, ◌<◌, ℕ, List, Option, Result, Err, IfErr, IsSome, OnOk};
+ghost use Rattle.std.specs.Prelude.{List, Option, IsSome};
 ghost use Rattle.key_cells.specs.Lease.{bench_of};
-ghost use Rattle.key_records.specs.Changes.{ChangesKeyAndBody};
-ghost use Rattle.key_records.specs.Entries.{Entry, row_directory};
-ghost use Rattle.key_records.specs.StoreStands.{HoldsRows, KeepsLabels};
-ghost use Rattle.key_records.specs.declared.records.TheConstants.{STORE_LEN};
+ghost use Rattle.key_records.specs.Entries.{Entry};
+ghost use Rattle.key_records.specs.StoreStands.{HasStore, KeepsLabels};
 ghost use Rattle.master_registers.specs.Loaded.{IsLoaded, Loaded};
 ghost use Rattle.master_registers.specs.Masters.{Masters};
-ghost use Rattle.reencipher.specs.Runs.{Reenciphers, TurnsCells, HasRunCause};
+ghost use Rattle.reencipher.specs.Runs.{IsCell, LeavesAnyStore, Reenciphers, TurnsCells};
 ghost use Rattle.reencipher.specs.Tokens.{IsComing, IsReadyAhead, IsReadyFor};
-ghost use Rattle.slot_disk.specs.Medium.{Told, IsSettled};
+ghost use Rattle.slot_disk.specs.Medium.{Told};
 ghost use Rattle.verb_rules.specs.Keys.{keys_of};
 
 use crate::actions::StoreAction;
@@ -31,9 +29,7 @@ pub fn reencipher<D: Disk>(
     store: &mut D,
     records: &mut Records,
 ) -> Result<u32, RecordFault>
-    requires size { (D.medium store.old).size ≡ STORE_LEN }
-    requires settled { IsSettled (D.medium store.old) }
-    requires holds { Told (D.medium store.old) (HoldsRows records.old) }
+    requires store { HasStore records.old (D.medium store.old) }
     requires loaded { IsLoaded held.now (bench_of lease.old) }
     requires current { IsSome held.now.current_pattern }
 
@@ -49,18 +45,8 @@ pub fn reencipher<D: Disk>(
         (D.medium store.old) (D.medium store.new) result }
 
     // whatever the store holds
-    ensures size { (D.medium store.new).size ≡ STORE_LEN }
-    ensures settled { OnOk result (IsSettled (D.medium store.new)) }
-    ensures still { IsSome (D.medium store.old).content → IsSome (D.medium store.new).content }
-    ensures told { IsSome (D.medium store.new).content → IsSome (D.medium store.old).content }
-    ensures holds { OnOk result (Told (D.medium store.new) (HoldsRows records.new)) }
-    ensures directory { row_directory records.new ≡ row_directory records.old }
-    ensures damaged { (n : ℕ) → result ≡ Err (RecordFault.Damaged n)
-        → Told (D.medium store.old) (λ _. ⊥) }
-    ensures faults { IfErr result (λ fault. (fault ≡ RecordFault.DiskFault)
-        ⊎ ((cell : ℕ) × (cell < 1024) × (fault ≡ RecordFault.Damaged cell))) }
-    ensures cause { HasRunCause (D.faults store.old) (D.faults store.new) result }
-    ensures rest { ChangesKeyAndBody lease.old lease.new }
+    ensures left { LeavesAnyStore D.medium D.faults IsCell lease.old lease.new
+        records.old records.new store.old store.new result }
 {
     run_action(StoreAction::Renew, lease, held, store, records)
 }
@@ -73,9 +59,7 @@ pub fn ahead<D: Disk>(
     store: &mut D,
     records: &mut Records,
 ) -> Result<u32, RecordFault>
-    requires size { (D.medium store.old).size ≡ STORE_LEN }
-    requires settled { IsSettled (D.medium store.old) }
-    requires holds { Told (D.medium store.old) (HoldsRows records.old) }
+    requires store { HasStore records.old (D.medium store.old) }
     requires loaded { IsLoaded held.now (bench_of lease.old) }
     requires current { IsSome held.now.current_pattern }
     requires ready { IsReadyAhead held.now (bench_of lease.old) }
@@ -92,18 +76,8 @@ pub fn ahead<D: Disk>(
         (D.medium store.old) (D.medium store.new) result }
 
     // whatever the store holds
-    ensures size { (D.medium store.new).size ≡ STORE_LEN }
-    ensures settled { OnOk result (IsSettled (D.medium store.new)) }
-    ensures still { IsSome (D.medium store.old).content → IsSome (D.medium store.new).content }
-    ensures told { IsSome (D.medium store.new).content → IsSome (D.medium store.old).content }
-    ensures holds { OnOk result (Told (D.medium store.new) (HoldsRows records.new)) }
-    ensures directory { row_directory records.new ≡ row_directory records.old }
-    ensures damaged { (n : ℕ) → result ≡ Err (RecordFault.Damaged n)
-        → Told (D.medium store.old) (λ _. ⊥) }
-    ensures faults { IfErr result (λ fault. (fault ≡ RecordFault.DiskFault)
-        ⊎ ((cell : ℕ) × (cell < 1024) × (fault ≡ RecordFault.Damaged cell))) }
-    ensures cause { HasRunCause (D.faults store.old) (D.faults store.new) result }
-    ensures rest { ChangesKeyAndBody lease.old lease.new }
+    ensures left { LeavesAnyStore D.medium D.faults IsCell lease.old lease.new
+        records.old records.new store.old store.new result }
 {
     run_action(StoreAction::Ahead, lease, held, store, records)
 }
@@ -116,9 +90,7 @@ pub fn drop_ahead<D: Disk>(
     store: &mut D,
     records: &mut Records,
 ) -> Result<u32, RecordFault>
-    requires size { (D.medium store.old).size ≡ STORE_LEN }
-    requires settled { IsSettled (D.medium store.old) }
-    requires holds { Told (D.medium store.old) (HoldsRows records.old) }
+    requires store { HasStore records.old (D.medium store.old) }
     requires loaded { IsLoaded held.now (bench_of lease.old) }
     requires current { IsSome held.now.current_pattern }
 
@@ -134,18 +106,8 @@ pub fn drop_ahead<D: Disk>(
         (D.medium store.old) (D.medium store.new) result }
 
     // whatever the store holds
-    ensures size { (D.medium store.new).size ≡ STORE_LEN }
-    ensures settled { OnOk result (IsSettled (D.medium store.new)) }
-    ensures still { IsSome (D.medium store.old).content → IsSome (D.medium store.new).content }
-    ensures told { IsSome (D.medium store.new).content → IsSome (D.medium store.old).content }
-    ensures holds { OnOk result (Told (D.medium store.new) (HoldsRows records.new)) }
-    ensures directory { row_directory records.new ≡ row_directory records.old }
-    ensures damaged { (n : ℕ) → result ≡ Err (RecordFault.Damaged n)
-        → Told (D.medium store.old) (λ _. ⊥) }
-    ensures faults { IfErr result (λ fault. (fault ≡ RecordFault.DiskFault)
-        ⊎ ((cell : ℕ) × (cell < 1024) × (fault ≡ RecordFault.Damaged cell))) }
-    ensures cause { HasRunCause (D.faults store.old) (D.faults store.new) result }
-    ensures rest { ChangesKeyAndBody lease.old lease.new }
+    ensures left { LeavesAnyStore D.medium D.faults IsCell lease.old lease.new
+        records.old records.new store.old store.new result }
 {
     run_action(StoreAction::Drop, lease, held, store, records)
 }
@@ -159,9 +121,7 @@ pub fn run_action<D: Disk>(
     store: &mut D,
     records: &mut Records,
 ) -> Result<u32, RecordFault>
-    requires size { (D.medium store.old).size ≡ STORE_LEN }
-    requires settled { IsSettled (D.medium store.old) }
-    requires holds { Told (D.medium store.old) (HoldsRows records.old) }
+    requires store { HasStore records.old (D.medium store.old) }
     requires loaded { IsLoaded held.now (bench_of lease.old) }
     requires current { IsSome held.now.current_pattern }
     requires ready { IsReadyFor action held.now (bench_of lease.old) }
@@ -178,18 +138,8 @@ pub fn run_action<D: Disk>(
         (D.medium store.old) (D.medium store.new) result }
 
     // whatever the store holds
-    ensures size { (D.medium store.new).size ≡ STORE_LEN }
-    ensures settled { OnOk result (IsSettled (D.medium store.new)) }
-    ensures still { IsSome (D.medium store.old).content → IsSome (D.medium store.new).content }
-    ensures told { IsSome (D.medium store.new).content → IsSome (D.medium store.old).content }
-    ensures holds { OnOk result (Told (D.medium store.new) (HoldsRows records.new)) }
-    ensures directory { row_directory records.new ≡ row_directory records.old }
-    ensures damaged { (n : ℕ) → result ≡ Err (RecordFault.Damaged n)
-        → Told (D.medium store.old) (λ _. ⊥) }
-    ensures faults { IfErr result (λ fault. (fault ≡ RecordFault.DiskFault)
-        ⊎ ((cell : ℕ) × (cell < 1024) × (fault ≡ RecordFault.Damaged cell))) }
-    ensures cause { HasRunCause (D.faults store.old) (D.faults store.new) result }
-    ensures rest { ChangesKeyAndBody lease.old lease.new }
+    ensures left { LeavesAnyStore D.medium D.faults IsCell lease.old lease.new
+        records.old records.new store.old store.new result }
 {
     let coming = pattern_of(lease, MasterPlace::New);
     run(action, coming, lease, held, store, records)
@@ -204,9 +154,7 @@ fn run<D: Disk>(
     store: &mut D,
     records: &mut Records,
 ) -> Result<u32, RecordFault>
-    requires size { (D.medium store.old).size ≡ STORE_LEN }
-    requires settled { IsSettled (D.medium store.old) }
-    requires holds { Told (D.medium store.old) (HoldsRows records.old) }
+    requires store { HasStore records.old (D.medium store.old) }
     requires loaded { IsLoaded held.now (bench_of lease.old) }
     requires current { IsSome held.now.current_pattern }
     requires coming { IsComing coming (bench_of lease.old) }
@@ -224,18 +172,8 @@ fn run<D: Disk>(
         (D.medium store.old) (D.medium store.new) result }
 
     // whatever the store holds
-    ensures size { (D.medium store.new).size ≡ STORE_LEN }
-    ensures settled { OnOk result (IsSettled (D.medium store.new)) }
-    ensures still { IsSome (D.medium store.old).content → IsSome (D.medium store.new).content }
-    ensures told { IsSome (D.medium store.new).content → IsSome (D.medium store.old).content }
-    ensures holds { OnOk result (Told (D.medium store.new) (HoldsRows records.new)) }
-    ensures directory { row_directory records.new ≡ row_directory records.old }
-    ensures damaged { (n : ℕ) → result ≡ Err (RecordFault.Damaged n)
-        → Told (D.medium store.old) (λ _. ⊥) }
-    ensures faults { IfErr result (λ fault. (fault ≡ RecordFault.DiskFault)
-        ⊎ ((cell : ℕ) × (cell < 1024) × (fault ≡ RecordFault.Damaged cell))) }
-    ensures cause { HasRunCause (D.faults store.old) (D.faults store.new) result }
-    ensures rest { ChangesKeyAndBody lease.old lease.new }
+    ensures left { LeavesAnyStore D.medium D.faults IsCell lease.old lease.new
+        records.old records.new store.old store.new result }
 {
     let mut changed = 0;
     for cell in 0..1024 {

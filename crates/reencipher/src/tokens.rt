@@ -12,7 +12,6 @@ ghost use Rattle.master_registers.specs.Masters.{Masters};
 ghost use Rattle.multi_encipher.specs.Bundles.{ChangesKeyAt};
 ghost use Rattle.reencipher.specs.Further.{under_current, has_current_key};
 ghost use Rattle.reencipher.specs.Tokens.{AreMade, AreSecond, IsComing, IsReadyAhead, IsReadyFor, changes_key};
-ghost use Rattle.verb_rules.specs.KeyChecks.{has_pattern};
 ghost use Rattle.verb_rules.specs.Keys.{HasHalves, keys_of, opened_key};
 
 use crate::actions::StoreAction;
@@ -22,7 +21,7 @@ use clear_keys::{open_key, write_current};
 use key_cells::{KeyPlace, Lease};
 use key_records::Second;
 use key_tokens::{Age, Asked, read_token};
-use master_registers::{Pattern, Registers};
+use master_registers::{Pattern, Registers, has_pattern};
 use multi_encipher::{Under, seal};
 use verb_rules::Judged;
 
@@ -48,10 +47,10 @@ fn old_key(token: &[u8; 64], held: &Registers) -> Option<Judged>
     };
     let bytes = token.pattern;
     let pattern = Pattern { bytes };
-    if is_pattern(held.current_pattern, &pattern) {
+    if has_pattern(held.current_pattern, &pattern) {
         return None;
     }
-    if !is_pattern(held.old_pattern, &pattern) {
+    if !has_pattern(held.old_pattern, &pattern) {
         return None;
     }
     let age = Some(Age::Old);
@@ -73,18 +72,11 @@ fn current_key(token: &[u8; 64], held: &Registers) -> Option<Judged>
     };
     let bytes = token.pattern;
     let pattern = Pattern { bytes };
-    if !is_pattern(held.current_pattern, &pattern) {
+    if !has_pattern(held.current_pattern, &pattern) {
         return None;
     }
     let age = Some(Age::Current);
     Some(Judged { token, age })
-}
-
-/// Whether a register has this pattern.
-pub(crate) fn is_pattern(register: Option<Pattern>, pattern: &Pattern) -> bool
-    ensures { result ≡ has_pattern register pattern.now.bytes }
-{
-    register == Some(*pattern)
 }
 
 /// The token of the same key under the current master key, where the token is under the old one. The clear key

@@ -13,6 +13,28 @@ told_from (Some c) P each = each c refl
 pub told_at : (content : Option (List ℕ)) (P : List ℕ → Type 0) (c : List ℕ) → content ≡ Some c → IfSome content P → P c
 told_at content P c is told = subst (λ (o : Option (List ℕ)). IfSome o P) is told
 
+pub told_map : (m : Medium) (P Q : List ℕ → Type 0) → Told m P → ((c : List ℕ) → P c → Q c) → Told m Q
+told_map m P Q told weaker = told_from m.content Q (λ c is. weaker c (told_at m.content P c is told))
+
+-- what is told by two facts together
+pub told_joined : (m : Medium) (P Q R : List ℕ → Type 0) → Told m P → Told m Q → ((c : List ℕ) → P c → Q c → R c) → Told m R
+told_joined m P Q R first second both = told_from m.content R (λ c is. both c (told_at m.content P c is first) (told_at m.content Q c is second))
+
+-- what was told of a disk is told of it after calls that keep it
+pub told_still : (m0 m1 : Medium) (P : List ℕ → Type 0) → Keeps m0 m1 → Told m0 P → Told m1 P
+told_still m0 m1 P keeps told = told_from m1.content P (λ c is. told_at m0.content P c (sym keeps.content ∙ is) told)
+
+-- what is told of a disk that was read, with what was told before
+pub told_next : (m0 m1 : Medium) (P Q R : List ℕ → Type 0) → Keeps m0 m1 → Told m0 P → Told m1 Q → ((c : List ℕ) → P c → Q c → R c) → Told m0 R
+told_next m0 m1 P Q R keeps before then both = told_from m0.content R (λ c is. both c (told_at m0.content P c is before) (told_at m1.content Q c (keeps.content ∙ is) then))
+
+-- disks with the same content tell the same
+pub told_earlier : (m0 m1 : Medium) (P : List ℕ → Type 0) → m1.content ≡ m0.content → Told m1 P → Told m0 P
+told_earlier m0 m1 P same told = told_from m0.content P (λ c is. told_at m1.content P c (same ∙ is) told)
+
+pub told_after : (m0 m1 : Medium) (P : List ℕ → Type 0) → m1.content ≡ m0.content → Told m0 P → Told m1 P
+told_after m0 m1 P same told = told_earlier m1 m0 P (sym same) told
+
 -- a disk that tells its content after a step told it before
 pub told_before : (step : List ℕ → List ℕ → Type 0) (m0 m1 : Medium) → Becomes step m0 m1
     → IsSome m1.content → IsSome m0.content

@@ -1,5 +1,5 @@
 -- The keys of a store that may be moved to another module, and the transport key under which they go.
-use Rattle.std.specs.Prelude.{◌≡◌, ℕ, false, true, not, List, [], ◌∷◌, is_none, Option, None, Some, Result, MatchResult}
+use Rattle.std.specs.Prelude.{◌≡◌, ℕ, not, List, [], ◌∷◌, is_none, Option, None, Some, Result, MatchResult}
 use Rattle.cca_vectors.specs.Checks.{Check, check, first_failing}
 use Rattle.cca_vectors.specs.Permissions.{is_exportable}
 use Rattle.cca_vectors.specs.Vectors.{is_part_of}
@@ -9,23 +9,17 @@ use Rattle.key_cells.specs.Bench.{Bench}
 use Rattle.key_cells.specs.Lease.{bench_of, holding}
 use Rattle.key_cells.specs.declared.leases.Lease.{Lease}
 use Rattle.key_tokens.specs.Denotes.{Denoted}
-use Rattle.key_tokens.specs.declared.key_token.Asked.TheVariants.{Internal}
 use Rattle.key_transport.specs.Tokens.{external_token}
-use Rattle.key_records.specs.Entries.{Entry}
-use Rattle.verb_rules.specs.Classes.{classes_of}
+pub use Rattle.key_records.specs.Entries.{what_in as held_in}
 use Rattle.verb_rules.specs.KeyChecks.{use_checks}
 use Rattle.verb_rules.specs.Keys.{opened_key}
+use Rattle.verb_rules.specs.Needs.{transport_key}
 use Rattle.verb_rules.specs.Rules.{rule_number}
 use Rattle.verb_rules.specs.declared.judging.Judged.{Judged}
 use Rattle.verb_rules.specs.declared.needs.Need.{Need}
 use Rattle.verb_rules.specs.declared.rules.Rule.{Rule}
 use Rattle.store_move.specs.declared.moving.Moved.{Moved}
 use Rattle.store_move.specs.declared.moving.Moved.TheVariants.{Token, Kept}
-
--- what the record of a label holds
-abbrev pub held_in : Option Entry → Option Denoted
-held_in None = None
-held_in (Some e) = e.what
 
 -- the control vector of what it holds
 abbrev pub vector_in : Option Denoted → List ℕ
@@ -42,14 +36,7 @@ export_checks what =
 
 -- a transport key under which keys are exported
 abbrev pub exporter : Need
-exporter = record {
-  asked = Internal;
-  classes = classes_of (Exporter ∷ []);
-  usage = Some Transport;
-  export = false;
-  double = true;
-  parts = false;
-}
+exporter = transport_key Exporter Transport
 
 -- Rule 08: the record is null. Rules 17 and 19 to 22: its key is no transport key under which keys are exported.
 abbrev pub transport_checks : Option Denoted → List Check

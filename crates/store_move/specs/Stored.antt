@@ -1,12 +1,8 @@
 -- The key of a record, by what is needed of it.
-use Rattle.std.specs.Prelude.{◌≡◌, false, true, List, [], ◌∷◌, is_none, Option, None, Some, Result, MatchResult}
+use Rattle.std.specs.Prelude.{◌≡◌, List, ◌∷◌, is_none, Option, None, Some, Result, MatchResult}
 use Rattle.cca_vectors.specs.Checks.{Check, check, first_failing}
-use Rattle.cca_vectors.specs.declared.key_class.Class.{Class}
-use Rattle.cca_vectors.specs.declared.key_class.Class.TheVariants.{Data, Cipher, Mac, Exporter, Importer, Other}
 use Rattle.key_cells.specs.Bench.{Bench}
 use Rattle.key_tokens.specs.Denotes.{Denoted}
-use Rattle.key_tokens.specs.declared.key_token.Asked.TheVariants.{Internal}
-use Rattle.verb_rules.specs.Classes.{classes_of}
 use Rattle.verb_rules.specs.KeyChecks.{use_checks}
 use Rattle.verb_rules.specs.Keys.{opened_key}
 use Rattle.verb_rules.specs.Rules.{rule_number}
@@ -14,31 +10,6 @@ use Rattle.verb_rules.specs.declared.judging.Judged.{Judged}
 use Rattle.verb_rules.specs.declared.needs.Need.{Need}
 use Rattle.verb_rules.specs.declared.rules.Rule.{Rule}
 use Rattle.store_move.specs.Exports.{vector_in}
-
-abbrev pub every_class : List Class
-every_class = Data ∷ Cipher ∷ Mac ∷ Exporter ∷ Importer ∷ Other ∷ []
-
--- any internal key, also one that is a part
-abbrev pub any_key : Need
-any_key = record {
-  asked = Internal;
-  classes = classes_of every_class;
-  usage = None;
-  export = false;
-  double = false;
-  parts = true;
-}
-
--- an internal key of any class that may be exported
-abbrev pub exported : Need
-exported = record {
-  asked = Internal;
-  classes = classes_of every_class;
-  usage = None;
-  export = true;
-  double = false;
-  parts = false;
-}
 
 -- Rule 08: the record is null. Rules 17 and 19 to 22: its key is not what is needed.
 abbrev pub stored_checks : Need → Option Denoted → List Check

@@ -2,12 +2,8 @@
 #![tactic(auto)]
 
 mod moving;
-mod needs;
 mod stored;
 mod transport;
 
 pub use moving::{Moved, unload_label};
 pub use transport::judge_transport;
-
-#[cfg(test)]
-mod tests;

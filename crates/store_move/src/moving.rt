@@ -2,23 +2,22 @@
 ghost use Rattle.std.specs.Prelude.{◌≡◌, ℕ, List, Option, Err, IfOk, IsSome};
 ghost use Rattle.key_cells.specs.Lease.{bench_of};
 ghost use Rattle.key_records.specs.Directory.{label_at};
-ghost use Rattle.key_records.specs.Entries.{Entry, row_directory};
+ghost use Rattle.key_records.specs.Entries.{Entry, row_directory, what_in};
 ghost use Rattle.key_records.specs.StoreStands.{HoldsRows, KeepsLabels, entry_at};
 ghost use Rattle.master_registers.specs.Loaded.{Loaded};
 ghost use Rattle.master_registers.specs.Masters.{Masters};
 ghost use Rattle.slot_disk.specs.Medium.{Keeps, Told};
 ghost use Rattle.verb_rules.specs.Keys.{IsDouble, keys_of, opened};
-ghost use Rattle.store_move.specs.Exports.{ChangesWork, IsMoved, held_in};
+ghost use Rattle.store_move.specs.Exports.{ChangesWork, IsMoved};
 ghost use Rattle.store_move.specs.Reading.{FailsAt};
 
-use crate::needs::exported;
-use crate::stored::judge_stored;
+use crate::stored::judge_record;
 use key_cells::Lease;
 use key_records::{Place, RecordFault, Records, STORE_LEN};
 use key_transport::export;
 use master_registers::Registers;
 use slot_disk::Disk;
-use verb_rules::{Judged, Rule};
+use verb_rules::{Judged, Rule, exported_key};
 
 /// What comes of a label whose key is to be moved.
 #[derive(Clone, Copy, Debug, PartialEq, Eq)]
@@ -51,7 +50,7 @@ pub fn unload_label<D: Disk>(
         → Told (D.medium store.old) (KeepsLabels (keys_of m) records.now s)
         → IfOk result (λ moved. Told (D.medium store.old)
         (λ _. IsMoved (opened (bench_of lease.old) transport.now).key
-        (held_in (entry_at s place)) moved)) }
+        (what_in (entry_at s place)) moved)) }
     ensures damaged { (m : Masters) (s : List (Option Entry)) → Loaded m held.now (bench_of lease.old)
         → Told (D.medium store.old) (KeepsLabels (keys_of m) records.now s)
         → (cell : ℕ) → result ≡ Err (RecordFault.Damaged cell) → Told (D.medium store.old) (λ _. ⊥) }
@@ -59,7 +58,7 @@ pub fn unload_label<D: Disk>(
     ensures keeps { Keeps (D.medium store.old) (D.medium store.new) }
     ensures rest { ChangesWork lease.old lease.new }
 {
-    match judge_stored(lease, store, records, place, &exported(), held) {
+    match judge_record(lease, store, records, place, &exported_key(), held) {
         Ok(Ok(key)) => Ok(Moved::Token(export(lease, &key, transport))),
         Ok(Err(rule)) => Ok(Moved::Kept(rule)),
         Err(fault) => Err(fault),

@@ -1,53 +1,28 @@
 //! The key in a record, judged by what is needed of it. It is the only place that reads the store.
-ghost use Rattle.std.specs.Prelude.{◌≡◌, ℕ, List, Option, Some, Err, IfErr, IfOk, IsSome, IsTrue, MatchResult};
-ghost use Rattle.key_cells.specs.Bench.{Bench};
+ghost use Rattle.std.specs.Prelude.{◌≡◌, ℕ, List, Option, Err, IfOk, IsSome, IsTrue};
 ghost use Rattle.key_cells.specs.Lease.{bench_of};
 ghost use Rattle.key_records.specs.Changes.{KeepsAllButBody};
 ghost use Rattle.key_records.specs.Directory.{label_at};
-ghost use Rattle.key_records.specs.Entries.{Entry, row_directory};
+ghost use Rattle.key_records.specs.Entries.{Entry, row_directory, what_in};
 ghost use Rattle.key_records.specs.StoreStands.{HoldsRows, KeepsLabels, entry_at};
-ghost use Rattle.key_tokens.specs.Denotes.{Denoted, denoted};
 ghost use Rattle.master_registers.specs.Loaded.{Loaded};
 ghost use Rattle.master_registers.specs.Masters.{Masters};
 ghost use Rattle.slot_disk.specs.Medium.{Keeps, Told};
 ghost use Rattle.verb_rules.specs.Keys.{HasHalves, IsDouble, keys_of};
-ghost use Rattle.store_move.specs.Exports.{held_in};
 ghost use Rattle.store_move.specs.Reading.{FailsAt};
 ghost use Rattle.store_move.specs.Stored.{IsStored};
 
-use crate::needs::any_key;
 use key_cells::Lease;
 use key_records::{Place, RecordFault, Records, STORE_LEN};
 use master_registers::Registers;
 use slot_disk::Disk;
-use verb_rules::{Judged, Need, Rule, judge_key, judge_use};
-
-/// Judges the token in the record of a cell by rules 17 and 19 to 22. The cell is damaged where the token is no internal
-/// token under one of the registers.
-fn judge_token(
-    token: &[u8; 64],
-    cell: u16,
-    need: &Need,
-    held: &Registers,
-) -> Result<Result<Judged, Rule>, RecordFault>
-    ensures stored { (m : Masters) (bench : Bench) (key : Denoted) → Loaded m held.now bench
-        → denoted (keys_of m) token.now ≡ Some key
-        → MatchResult result (IsStored bench need.now (Some key)) (λ _. ⊥) }
-    ensures halves { IfOk result (λ judged. IfOk judged HasHalves) }
-    ensures double { IsTrue need.now.double → IfOk result (λ judged. IfOk judged IsDouble) }
-    ensures faults { IfErr result (λ fault. fault ≡ RecordFault.Damaged cell) }
-{
-    match judge_key(token, &any_key(), held) {
-        Ok(judged) => Ok(judge_use(&judged.token, judged.age, need)),
-        Err(_) => Err(RecordFault::Damaged(cell)),
-    }
-}
+use verb_rules::{Judged, Need, Rule, judge_stored};
 
 /// The key of a record, by what is needed of it; or the first of rules 08, 17 and 19 to 22 that it breaks. One cell is
 /// read, and nothing is written.
 ///
 /// Damaged comes where the body that was read isn't that of the record, or has a token under neither register.
-pub(crate) fn judge_stored<D: Disk>(
+pub(crate) fn judge_record<D: Disk>(
     lease: &mut Lease,
     store: &mut D,
     records: &Records,
@@ -62,7 +37,7 @@ pub(crate) fn judge_stored<D: Disk>(
     ensures stored { (m : Masters) (s : List (Option Entry)) → Loaded m held.now (bench_of lease.old)
         → Told (D.medium store.old) (KeepsLabels (keys_of m) records.now s)
         → IfOk result (λ judged. Told (D.medium store.old)
-        (λ _. IsStored (bench_of lease.old) need.now (held_in (entry_at s place)) judged)) }
+        (λ _. IsStored (bench_of lease.old) need.now (what_in (entry_at s place)) judged)) }
     ensures halves { IfOk result (λ judged. IfOk judged HasHalves) }
     ensures double { IsTrue need.now.double → IfOk result (λ judged. IfOk judged IsDouble) }
     ensures damaged { (m : Masters) (s : List (Option Entry)) → Loaded m held.now (bench_of lease.old)
@@ -74,7 +49,10 @@ pub(crate) fn judge_stored<D: Disk>(
 {
     let mut token = [0; 64];
     match records.read(store, lease, place, &mut token) {
-        Ok(true) => judge_token(&token, place.cell(), need, held),
+        Ok(true) => match judge_stored(&token, need, held) {
+            Some(judged) => Ok(judged),
+            None => Err(RecordFault::Damaged(place.cell())),
+        },
         Ok(false) => Ok(Err(Rule::Null)),
         Err(fault) => Err(fault),
     }

@@ -3,22 +3,29 @@ ghost use Rattle.std.specs.Prelude.{◌≡◌, ℕ, List, Option, Err, IfOk, IsS
 ghost use Rattle.key_cells.specs.Lease.{bench_of};
 ghost use Rattle.key_records.specs.Changes.{KeepsAllButBody};
 ghost use Rattle.key_records.specs.Directory.{label_at};
-ghost use Rattle.key_records.specs.Entries.{Entry, row_directory};
+ghost use Rattle.key_records.specs.Entries.{Entry, row_directory, what_in};
 ghost use Rattle.key_records.specs.StoreStands.{HoldsRows, KeepsLabels, entry_at};
 ghost use Rattle.master_registers.specs.Loaded.{Loaded};
 ghost use Rattle.master_registers.specs.Masters.{Masters};
 ghost use Rattle.slot_disk.specs.Medium.{Keeps, Told};
 ghost use Rattle.verb_rules.specs.Keys.{IsDouble, keys_of};
-ghost use Rattle.store_move.specs.Exports.{IsTransport, held_in};
+ghost use Rattle.store_move.specs.Exports.{IsTransport, exporter};
 ghost use Rattle.store_move.specs.Reading.{FailsAt};
 
-use crate::needs::exporter;
-use crate::stored::judge_stored;
+use crate::stored::judge_record;
+use cca_vectors::Class;
 use key_cells::Lease;
 use key_records::{Place, RecordFault, Records, STORE_LEN};
 use master_registers::Registers;
 use slot_disk::Disk;
-use verb_rules::{Judged, Rule};
+use verb_rules::{Judged, Need, Rule, Usage, transport_key};
+
+/// A transport key under which keys are exported.
+fn exporter() -> Need
+    ensures { result ≡ exporter }
+{
+    transport_key(Class::Exporter, Usage::Transport)
+}
 
 /// The key of a label, as the transport key under which keys are exported; or the first of rules 08, 17 and 19 to 22
 /// that it breaks. One cell is read, and nothing is written.
@@ -36,7 +43,7 @@ pub fn judge_transport<D: Disk>(
     ensures judged { (m : Masters) (s : List (Option Entry)) → Loaded m held.now (bench_of lease.old)
         → Told (D.medium store.old) (KeepsLabels (keys_of m) records.now s)
         → IfOk result (λ judged. Told (D.medium store.old)
-        (λ _. IsTransport (bench_of lease.old) (held_in (entry_at s place)) judged)) }
+        (λ _. IsTransport (bench_of lease.old) (what_in (entry_at s place)) judged)) }
     ensures double { IfOk result (λ judged. IfOk judged IsDouble) }
     ensures damaged { (m : Masters) (s : List (Option Entry)) → Loaded m held.now (bench_of lease.old)
         → Told (D.medium store.old) (KeepsLabels (keys_of m) records.now s)
@@ -45,5 +52,5 @@ pub fn judge_transport<D: Disk>(
     ensures keeps { Keeps (D.medium store.old) (D.medium store.new) }
     ensures rest { KeepsAllButBody lease.old lease.new }
 {
-    judge_stored(lease, store, records, place, &exporter(), held)
+    judge_record(lease, store, records, place, &exporter(), held)
 }

@@ -1,6 +1,6 @@
 -- What the lengths of segments say, and the place of the text.
 use Rattle.std.proofs.Common.{◌≡◌, ◌∙◌, ◌==◌, ℕ, ◌+◌, ◌-◌, ◌%◌, ◌≤◌, Bool, true, false, ◌&&◌, nat_le, List, [], ◌++◌, drop, replicate, refl, sym, ap, arith, None}
-use Rattle.std.proofs.lemmas.Bool.{eqb-true, le-leb, leb-true}
+use Rattle.std.proofs.lemmas.Bool.{eqb-true, leb-true}
 use Rattle.std.proofs.lemmas.List.{drop-drop}
 use Rattle.cca_vectors.specs.Checks.{first_failing}
 use Rattle.cca_vectors.proofs.Judging.{passes, passes_first}
@@ -9,7 +9,7 @@ use Rattle.cipher_verbs.specs.CipherTexts.{cleared}
 use Rattle.text_segments.specs.Segments.{spent}
 use Rattle.verb_rules.specs.LengthChecks.{are_blocks, has_length, is_segment, text_checks}
 use Rattle.verb_rules.specs.declared.lengths.TextUse.{TextUse}
-use Rattle.verb_rules.specs.declared.lengths.TextUse.TheVariants.{LastDecipher, LastMac, LastPlain, Mac, Segment}
+use Rattle.verb_rules.specs.declared.lengths.TextUse.TheVariants.{LastDecipher, LastMac}
 
 first_holds : (p q : Bool) → (p && q) ≡ true → p ≡ true
 first_holds true q is = refl
@@ -22,9 +22,6 @@ second_holds false q is = cc
 -- a text that breaks no rule has a length of its use
 pub has_its_length : (use_of : TextUse) (size : ℕ) → first_failing (text_checks use_of size) ≡ None → has_length use_of size ≡ true
 has_its_length use_of size passes = passes_first 23 (has_length use_of size) [] passes
-
-pub segment_length : (size : ℕ) → first_failing (text_checks Segment size) ≡ None → size ≤ 4088
-segment_length size passes = leb-true size 4088 (has_its_length Segment size passes)
 
 -- the lengths of two pieces that are whole blocks together
 pub record Blocks (size carried : ℕ) : Type 0 where
@@ -43,9 +40,6 @@ blocks_of size carried is =
       some = omega arith;
     }
 
-pub plain_lengths : (carried size : ℕ) → first_failing (text_checks (LastPlain carried) size) ≡ None → Blocks size carried
-plain_lengths carried size passes = blocks_of size carried (has_its_length (LastPlain carried) size passes)
-
 pub decipher_lengths : (carried size : ℕ) → first_failing (text_checks (LastDecipher carried) size) ≡ None → Blocks size carried
 decipher_lengths carried size passes = blocks_of size carried (has_its_length (LastDecipher carried) size passes)
 
@@ -57,11 +51,6 @@ mac_lengths carried size passes =
     let both = has_its_length (LastMac carried) size passes in
     let some : 1 ≤ size + carried = leb-true 1 (size + carried) (second_holds (is_segment size) (nat_le 1 (size + carried)) both) in
     (leb-true size 4088 (first_holds (is_segment size) (nat_le 1 (size + carried)) both), omega arith)
-
--- a text that isn't empty may have a code
-pub mac_passes : (size : ℕ) → 1 ≤ size → size ≤ 4096 → first_failing (text_checks Mac size) ≡ None
-mac_passes size some room =
-    passes 23 (has_length Mac size) [] (ap (λ b. b && nat_le size 4096) (le-leb 1 size some) ∙ le-leb size 4096 room) refl
 
 -- the place of a text of this length, cleared
 pub cleared_is : (old new : Text) (size : ℕ) → new.size ≡ size → drop size new.bytes ≡ drop size old.bytes → cleared new ≡ spent size old

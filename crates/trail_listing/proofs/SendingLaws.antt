@@ -37,9 +37,6 @@ told_entry m next number e P held stands spells holds =
 
 -- ---- each list of entries for which a trail stands
 
-pub told_earlier : (m0 m1 : Medium) (P : List ℕ → Type 0) → m1.content ≡ m0.content → Told m1 P → Told m0 P
-told_earlier m0 m1 P same told = told_from m0.content P (λ image is. told_at m1.content P image (same ∙ is) told)
-
 -- P holds of each list of entries
 abbrev pub OfEntries : Medium → (List Entry → Type 0) → Type 0
 OfEntries m P = Told m (λ image. (es : List Entry) → IsTrail image es → P es)

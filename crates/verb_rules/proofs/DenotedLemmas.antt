@@ -14,10 +14,10 @@ use Rattle.key_tokens.specs.Denotes.{Denoted, clear_of, denoted, denoted_or, den
 use Rattle.key_tokens.specs.Fields.{token_of, pattern_of_token}
 use Rattle.key_tokens.specs.TokenChecks.{token_checks}
 use Rattle.master_registers.specs.Masters.{Masters, kept_bytes, pattern_of_master}
-use Rattle.master_registers.specs.Loaded.{Loaded, pattern_in}
+use Rattle.master_registers.specs.Loaded.{Loaded, has_pattern, pattern_in}
 use Rattle.master_registers.specs.declared.registers.Registers.{Registers}
 use Rattle.multi_encipher.specs.Bundles.{transport_bundle}
-use Rattle.verb_rules.specs.KeyChecks.{age_in, age_of, has_pattern, register_with}
+use Rattle.verb_rules.specs.KeyChecks.{age_in, age_of, register_with}
 use Rattle.verb_rules.specs.Keys.{keys_of, master_key, opened, opened_key, opened_under}
 use Rattle.verb_rules.specs.declared.judging.Judged.{Judged}
 

@@ -1,2 +1,4 @@
 pub mod DenotedLemmas
 pub mod JudgeLemmas
+pub mod StoredLemmas
+pub mod NeedLemmas

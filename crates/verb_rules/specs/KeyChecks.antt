@@ -1,7 +1,6 @@
 -- The rules that a key operand can break, in their order, as tests: of the bytes of its token, of the registers'
 -- patterns, and of its control vector.
 use Rattle.std.specs.Prelude.{ℕ, Bool, false, not, ◌&&◌, List, [], ◌∷◌, ◌++◌, Option, None, Some, is_none, ◌==◌, if◌then◌else◌}
-use Rattle.std.specs.Str.{bytes_eq}
 use Rattle.cca_vectors.specs.declared.key_usage.Usage.{Usage}
 use Rattle.cca_vectors.specs.Checks.{Check, check}
 use Rattle.cca_vectors.specs.Classes.{class_of}
@@ -14,15 +13,10 @@ use Rattle.key_tokens.specs.declared.key_token.Kind.TheVariants.{Internal, Exter
 use Rattle.key_tokens.specs.declared.key_token.Token.{Token}
 use Rattle.key_tokens.specs.Fields.{token_of}
 use Rattle.key_tokens.specs.TokenChecks.{token_checks}
-use Rattle.master_registers.specs.declared.patterns.Pattern.{Pattern}
+use Rattle.master_registers.specs.Loaded.{has_pattern}
 use Rattle.master_registers.specs.declared.registers.Registers.{Registers}
 use Rattle.verb_rules.specs.declared.needs.Need.{Need}
 use Rattle.verb_rules.specs.Classes.{has}
-
--- a full register has this pattern
-abbrev pub has_pattern : Option Pattern → List ℕ → Bool
-has_pattern None bytes = false
-has_pattern (Some pattern) bytes = bytes_eq bytes pattern.bytes
 
 -- the register that has this pattern
 abbrev pub register_with : Registers → List ℕ → Option Age

@@ -5,3 +5,5 @@ pub mod Keys
 pub mod LengthChecks
 pub mod TypeChecks
 pub mod PartChecks
+pub mod Needs
+pub mod StoredKeys

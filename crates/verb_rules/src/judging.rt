@@ -8,15 +8,16 @@ ghost use Rattle.key_tokens.specs.Fields.{token_of};
 ghost use Rattle.key_tokens.specs.TokenChecks.{rule_of};
 ghost use Rattle.master_registers.specs.Loaded.{Loaded};
 ghost use Rattle.master_registers.specs.Masters.{Masters};
-ghost use Rattle.verb_rules.specs.KeyChecks.{age_of, has_pattern, is_forbidden, key_checks, part_check, read_checks, register_with, use_checks, vector_use_checks};
+ghost use Rattle.verb_rules.specs.KeyChecks.{age_of, is_forbidden, key_checks, part_check, read_checks, register_with, use_checks, vector_use_checks};
 ghost use Rattle.verb_rules.specs.Keys.{HasHalves, IsDouble, keys_of, opened_key, opened_under};
 ghost use Rattle.verb_rules.specs.Rules.{Judges, rule_number};
+ghost use Rattle.verb_rules.specs.StoredKeys.{IfAnswered, IsRead, IsStoredUse};
 
 use crate::needs::Need;
 use crate::rules::Rule;
 use cca_vectors::{Usage, Vector};
 use key_tokens::{Age, Asked, Kind, Token, TokenFault, read_token};
-use master_registers::{Pattern, Registers};
+use master_registers::{Pattern, Registers, has_pattern};
 
 /// A key token that passed the rules of an operand.
 #[derive(Clone, Copy, Debug, PartialEq, Eq)]
@@ -27,7 +28,7 @@ pub struct Judged {
 }
 
 /// The rule that a fault of a token is.
-fn token_rule(fault: TokenFault) -> Rule
+pub fn token_rule(fault: TokenFault) -> Rule
     ensures { rule_number result ≡ rule_of fault }
 {
     match fault {
@@ -42,18 +43,9 @@ fn token_rule(fault: TokenFault) -> Rule
     }
 }
 
-fn has_pattern(register: Option<Pattern>, pattern: &[u8; 8]) -> bool
-    ensures { result ≡ has_pattern register pattern.now }
-{
-    match register {
-        Some(held) => *pattern == held.bytes,
-        None => false,
-    }
-}
-
 /// The register that has this pattern.
-fn register_with(held: &Registers, pattern: &[u8; 8]) -> Option<Age>
-    ensures { result ≡ register_with held.now pattern.now }
+fn register_with(held: &Registers, pattern: &Pattern) -> Option<Age>
+    ensures { result ≡ register_with held.now pattern.now.bytes }
 {
     if has_pattern(held.current_pattern, pattern) {
         return Some(Age::Current);
@@ -102,7 +94,7 @@ fn vector_fault(need: &Need, vector: &Vector) -> Option<Rule>
 
 /// Judges a key whose token was read before, and that is under this register, by rules 17 and 19 to 22: the first
 /// that it breaks.
-pub fn judge_use(token: &Token, age: Option<Age>, need: &Need) -> Result<Judged, Rule>
+pub(crate) fn judge_use(token: &Token, age: Option<Age>, need: &Need) -> Result<Judged, Rule>
     ensures judges { Judges (use_checks need.now token.now.vector) result }
     ensures judged { IfOk result (λ judged. judged ≡ record { token = token.now; age = age }) }
     ensures double { IsTrue need.now.double → IfOk result IsDouble }
@@ -128,7 +120,12 @@ fn judge_read(token: &Token, need: &Need, held: &Registers) -> Result<Judged, Ru
         return Err(Rule::KeyPart);
     }
     let age = match token.kind {
-        Kind::Internal => register_with(held, &token.pattern),
+        Kind::Internal => register_with(
+            held,
+            &Pattern {
+                bytes: token.pattern,
+            },
+        ),
         Kind::External => None,
     };
     if token.kind == Kind::Internal && age.is_none() {
@@ -137,6 +134,28 @@ fn judge_read(token: &Token, need: &Need, held: &Registers) -> Result<Judged, Ru
     match vector_fault(need, &token.vector) {
         Some(rule) => Err(rule),
         None => Ok(Judged { token: *token, age }),
+    }
+}
+
+/// Judges the 64 bytes that are stored as the token of a key by rules 17 and 19 to 22: the first that they break, or
+/// else the token and the register that it is under. None where the bytes are no internal token under one of the
+/// registers.
+pub fn judge_stored(token: &[u8; 64], need: &Need, held: &Registers) -> Option<Result<Judged, Rule>>
+    ensures stored { (m : Masters) (bench : Bench) → Loaded m held.now bench
+        → IsStoredUse bench need.now (denoted (keys_of m) token.now) result }
+    ensures read { IfAnswered result (IsRead held.now token.now) }
+    ensures double { IsTrue need.now.double → IfAnswered result IsDouble }
+{
+    let read = match read_token(token, Asked::Internal) {
+        Ok(read) => read,
+        Err(_) => return None,
+    };
+    let pattern = Pattern {
+        bytes: read.pattern,
+    };
+    match register_with(held, &pattern) {
+        Some(age) => Some(judge_use(&read, Some(age), need)),
+        None => None,
     }
 }
 

@@ -1,7 +1,9 @@
 //! What an operand asks of a key.
+ghost use Rattle.std.specs.Prelude.{◌≡◌};
+ghost use Rattle.verb_rules.specs.Needs.{any_key, exported_key, transport_key};
 
 use crate::classes::Classes;
-use cca_vectors::Usage;
+use cca_vectors::{Class, Usage};
 use key_tokens::Asked;
 
 /// What an operand asks of the key that is given for it.
@@ -19,4 +21,56 @@ pub struct Need {
     pub double: bool,
     /// Whether it may be a key part.
     pub parts: bool,
+}
+
+/// Every class of keys.
+pub const EVERY_CLASS: [Class; 6] = [
+    Class::Data,
+    Class::Cipher,
+    Class::Mac,
+    Class::Exporter,
+    Class::Importer,
+    Class::Other,
+];
+
+/// Any internal key, also one that is a part.
+pub fn any_key() -> Need
+    ensures { result ≡ any_key }
+{
+    Need {
+        asked: Asked::Internal,
+        classes: Classes::of(&EVERY_CLASS),
+        usage: None,
+        export: false,
+        double: false,
+        parts: true,
+    }
+}
+
+/// An internal key of any class that may be exported.
+pub fn exported_key() -> Need
+    ensures { result ≡ exported_key }
+{
+    Need {
+        asked: Asked::Internal,
+        classes: Classes::of(&EVERY_CLASS),
+        usage: None,
+        export: true,
+        double: false,
+        parts: false,
+    }
+}
+
+/// A transport key of double length: of this class, and permitted for this use.
+pub fn transport_key(class: Class, usage: Usage) -> Need
+    ensures { result ≡ transport_key class usage }
+{
+    Need {
+        asked: Asked::Internal,
+        classes: Classes::of(&[class]),
+        usage: Some(usage),
+        export: false,
+        double: true,
+        parts: false,
+    }
 }

@@ -1,5 +1,6 @@
 //! Tables of tokens, of lengths and of classes, with the rule that each breaks first.
 use super::*;
+use crate::judging::judge_use;
 use cca_vectors::{Class, Length, vector_of};
 use key_tokens::{Sealed, Token, tvv};
 use master_registers::{NewState, Pattern, Registers};
@@ -222,6 +223,30 @@ fn ages(rt: HostRuntime) {
         assert_eq!(rt; judged.age, age);
         assert_eq!(rt; judged.token.sealed.left, [0x11; 8]);
         assert_eq!(rt; judged.token.vector.class(), Class::Importer);
+    }
+}
+
+/// The rule that a stored key breaks, where the bytes are one.
+fn stored_rule(token: &[u8; 64], need: &Need) -> Option<Option<Rule>> {
+    match judge_stored(token, need, &registers()) {
+        Some(Ok(_)) => Some(None),
+        Some(Err(rule)) => Some(Some(rule)),
+        None => None,
+    }
+}
+
+#[test]
+fn keys_that_are_stored(rt: HostRuntime) {
+    let need = importer_need();
+    assert_eq!(rt; stored_rule(&broken(&[]), &need), Some(None));
+    for rule in RULES {
+        let wanted = match rule {
+            Rule::KeyPart | Rule::Class | Rule::Usage | Rule::Export | Rule::TransportLength => {
+                Some(Some(rule))
+            }
+            _ => None,
+        };
+        assert_eq!(rt; stored_rule(&broken(&[rule]), &need), wanted, "{rule:?}");
     }
 }
 

@@ -3,7 +3,6 @@ pub mod FieldLaws
 pub mod GrammarLaws
 pub mod PlainRows
 pub mod PointLemmas
-pub mod RowReading
 pub mod RowsApart
 pub mod TypeLaws
 pub mod WordLemmas

@@ -1,7 +1,9 @@
+pub mod Choices
 pub mod Grammar
 pub mod Named
 pub mod Parsed
 pub mod Parts
 pub mod Requests
+pub mod Rows
 pub mod Values
 pub mod Words

@@ -1,90 +1,135 @@
 //! The rows of texts that are enciphered and deciphered, whole and in segments.
 ghost use Rattle.std.specs.Prelude.{◌≡◌, Some, None, [], ◌∷◌, ◌++◌, codes};
-ghost use Rattle.verb_script.specs.Grammar.{cipher_requests, code_requests, use_requests, key_requests, record_requests, control_requests};
+ghost use Rattle.verb_script.specs.Grammar.{row_of, cipher_requests, code_requests, use_requests, key_requests, record_requests, control_requests};
 ghost use Rattle.verb_script.specs.Grammar.{csnbenc as row_csnbenc, csnbenc_first as row_csnbenc_first, csnbenc_middle as row_csnbenc_middle, csnbenc_last as row_csnbenc_last, csnbdec as row_csnbdec, csnbdec_first as row_csnbdec_first, csnbdec_middle as row_csnbdec_middle, csnbdec_last as row_csnbdec_last};
 ghost use Rattle.verb_script.specs.Parsed.{seen_option};
-ghost use Rattle.verb_script.specs.Requests.{row_request, first_request};
+ghost use Rattle.verb_script.specs.Requests.{first_request, request_with, values_in};
+ghost use Rattle.verb_script.specs.Rows.{whole_row, first_row, middle_row, last_row};
 ghost use Rattle.verb_script.specs.Words.{unread};
 
 use crate::code_rows::code_request;
 use crate::request::Request;
 use crate::words::Words;
 
-/// The request of the row CSNBENC of a whole text, whose fields the words are.
-fn csnbenc_whole<'a>(mut words: Words<'a>) -> Option<Request<'a>>
-    ensures { seen_option result ≡ row_request row_csnbenc (unread words.entry) }
+/// Which way the texts of a row go.
+#[derive(Clone, Copy)]
+enum Direction {
+    /// CSNBENC.
+    Encipher,
+    /// CSNBDEC.
+    Decipher,
+}
+
+/// The request of a row of a whole text, whose fields the words are.
+fn whole_text<'a>(direction: Direction, mut words: Words<'a>) -> Option<Request<'a>>
+    ensures { seen_option result ≡ request_with (whole_row direction)
+        (values_in (row_of row_csnbenc).fields (unread words.entry)) }
 {
     let role = words.role(b"role=")?;
     let key = words.key(b"key=")?;
     let iv = words.hex(b"iv=", 16)?;
-    let pad = words.choice(b"pad=", &[b"NONE", b"X9.23"])?;
+    let pad = words.padding()?;
     let text = words.text(b"text=")?;
     words.end()?;
-    Some(Request::Csnbenc {
-        role,
-        key,
-        iv,
-        pad,
-        text,
+    Some(match direction {
+        Direction::Encipher => Request::Csnbenc {
+            role,
+            key,
+            iv,
+            pad,
+            text,
+        },
+        Direction::Decipher => Request::Csnbdec {
+            role,
+            key,
+            iv,
+            pad,
+            text,
+        },
     })
 }
 
-/// The request of the row CSNBENC with FIRST, whose fields the words are.
-fn csnbenc_first<'a>(mut words: Words<'a>) -> Option<Request<'a>>
-    ensures { seen_option result ≡ row_request row_csnbenc_first (unread words.entry) }
+/// The request of a row of a text in segments with FIRST, whose fields the words are.
+fn first_segment<'a>(direction: Direction, mut words: Words<'a>) -> Option<Request<'a>>
+    ensures { seen_option result ≡ request_with (first_row direction)
+        (values_in (row_of row_csnbenc_first).fields (unread words.entry)) }
 {
     let role = words.role(b"role=")?;
     let key = words.key(b"key=")?;
-    let segment = words.choice(b"segment=", &[b"FIRST"])?;
+    words.word(b"segment=", b"FIRST")?;
     let iv = words.hex(b"iv=", 16)?;
     let text = words.text(b"text=")?;
     words.end()?;
-    Some(Request::CsnbencFirst {
-        role,
-        key,
-        segment,
-        iv,
-        text,
+    Some(match direction {
+        Direction::Encipher => Request::CsnbencFirst {
+            role,
+            key,
+            iv,
+            text,
+        },
+        Direction::Decipher => Request::CsnbdecFirst {
+            role,
+            key,
+            iv,
+            text,
+        },
     })
 }
 
-/// The request of the row CSNBENC with MIDDLE, whose fields the words are.
-fn csnbenc_middle<'a>(mut words: Words<'a>) -> Option<Request<'a>>
-    ensures { seen_option result ≡ row_request row_csnbenc_middle (unread words.entry) }
+/// The request of a row of a text in segments with MIDDLE, whose fields the words are.
+fn middle_segment<'a>(direction: Direction, mut words: Words<'a>) -> Option<Request<'a>>
+    ensures { seen_option result ≡ request_with (middle_row direction)
+        (values_in (row_of row_csnbenc_middle).fields (unread words.entry)) }
 {
     let role = words.role(b"role=")?;
     let key = words.key(b"key=")?;
-    let segment = words.choice(b"segment=", &[b"MIDDLE"])?;
+    words.word(b"segment=", b"MIDDLE")?;
     let chain = words.hex(b"chain=", 32)?;
     let text = words.text(b"text=")?;
     words.end()?;
-    Some(Request::CsnbencMiddle {
-        role,
-        key,
-        segment,
-        chain,
-        text,
+    Some(match direction {
+        Direction::Encipher => Request::CsnbencMiddle {
+            role,
+            key,
+            chain,
+            text,
+        },
+        Direction::Decipher => Request::CsnbdecMiddle {
+            role,
+            key,
+            chain,
+            text,
+        },
     })
 }
 
-/// The request of the row CSNBENC with LAST, whose fields the words are.
-fn csnbenc_last<'a>(mut words: Words<'a>) -> Option<Request<'a>>
-    ensures { seen_option result ≡ row_request row_csnbenc_last (unread words.entry) }
+/// The request of a row of a text in segments with LAST, whose fields the words are.
+fn last_segment<'a>(direction: Direction, mut words: Words<'a>) -> Option<Request<'a>>
+    ensures { seen_option result ≡ request_with (last_row direction)
+        (values_in (row_of row_csnbenc_last).fields (unread words.entry)) }
 {
     let role = words.role(b"role=")?;
     let key = words.key(b"key=")?;
-    let segment = words.choice(b"segment=", &[b"LAST"])?;
+    words.word(b"segment=", b"LAST")?;
     let chain = words.hex(b"chain=", 32)?;
-    let pad = words.choice(b"pad=", &[b"NONE", b"X9.23"])?;
+    let pad = words.padding()?;
     let text = words.text(b"text=")?;
     words.end()?;
-    Some(Request::CsnbencLast {
-        role,
-        key,
-        segment,
-        chain,
-        pad,
-        text,
+    Some(match direction {
+        Direction::Encipher => Request::CsnbencLast {
+            role,
+            key,
+            chain,
+            pad,
+            text,
+        },
+        Direction::Decipher => Request::CsnbdecLast {
+            role,
+            key,
+            chain,
+            pad,
+            text,
+        },
     })
 }
 
@@ -95,94 +140,16 @@ fn csnbenc<'a>(words: Words<'a>) -> Option<Request<'a>>
         (row_csnbenc ∷ row_csnbenc_first ∷ row_csnbenc_middle ∷ row_csnbenc_last ∷ [])
         (codes "CSNBENC" ∷ unread words.entry) }
 {
-    if let Some(request) = csnbenc_whole(words) {
+    if let Some(request) = whole_text(Direction::Encipher, words) {
         return Some(request);
     }
-    if let Some(request) = csnbenc_first(words) {
+    if let Some(request) = first_segment(Direction::Encipher, words) {
         return Some(request);
     }
-    if let Some(request) = csnbenc_middle(words) {
+    if let Some(request) = middle_segment(Direction::Encipher, words) {
         return Some(request);
     }
-    csnbenc_last(words)
-}
-
-/// The request of the row CSNBDEC of a whole text, whose fields the words are.
-fn csnbdec_whole<'a>(mut words: Words<'a>) -> Option<Request<'a>>
-    ensures { seen_option result ≡ row_request row_csnbdec (unread words.entry) }
-{
-    let role = words.role(b"role=")?;
-    let key = words.key(b"key=")?;
-    let iv = words.hex(b"iv=", 16)?;
-    let pad = words.choice(b"pad=", &[b"NONE", b"X9.23"])?;
-    let text = words.text(b"text=")?;
-    words.end()?;
-    Some(Request::Csnbdec {
-        role,
-        key,
-        iv,
-        pad,
-        text,
-    })
-}
-
-/// The request of the row CSNBDEC with FIRST, whose fields the words are.
-fn csnbdec_first<'a>(mut words: Words<'a>) -> Option<Request<'a>>
-    ensures { seen_option result ≡ row_request row_csnbdec_first (unread words.entry) }
-{
-    let role = words.role(b"role=")?;
-    let key = words.key(b"key=")?;
-    let segment = words.choice(b"segment=", &[b"FIRST"])?;
-    let iv = words.hex(b"iv=", 16)?;
-    let text = words.text(b"text=")?;
-    words.end()?;
-    Some(Request::CsnbdecFirst {
-        role,
-        key,
-        segment,
-        iv,
-        text,
-    })
-}
-
-/// The request of the row CSNBDEC with MIDDLE, whose fields the words are.
-fn csnbdec_middle<'a>(mut words: Words<'a>) -> Option<Request<'a>>
-    ensures { seen_option result ≡ row_request row_csnbdec_middle (unread words.entry) }
-{
-    let role = words.role(b"role=")?;
-    let key = words.key(b"key=")?;
-    let segment = words.choice(b"segment=", &[b"MIDDLE"])?;
-    let chain = words.hex(b"chain=", 32)?;
-    let text = words.text(b"text=")?;
-    words.end()?;
-    Some(Request::CsnbdecMiddle {
-        role,
-        key,
-        segment,
-        chain,
-        text,
-    })
-}
-
-/// The request of the row CSNBDEC with LAST, whose fields the words are.
-fn csnbdec_last<'a>(mut words: Words<'a>) -> Option<Request<'a>>
-    ensures { seen_option result ≡ row_request row_csnbdec_last (unread words.entry) }
-{
-    let role = words.role(b"role=")?;
-    let key = words.key(b"key=")?;
-    let segment = words.choice(b"segment=", &[b"LAST"])?;
-    let chain = words.hex(b"chain=", 32)?;
-    let pad = words.choice(b"pad=", &[b"NONE", b"X9.23"])?;
-    let text = words.text(b"text=")?;
-    words.end()?;
-    Some(Request::CsnbdecLast {
-        role,
-        key,
-        segment,
-        chain,
-        pad,
-        text,
-    })
+    last_segment(Direction::Encipher, words)
 }
 
 /// The request of the first of CSNBDEC's rows whose fields the words are. A row that the words aren't is
@@ -192,16 +159,16 @@ fn csnbdec<'a>(words: Words<'a>) -> Option<Request<'a>>
         (row_csnbdec ∷ row_csnbdec_first ∷ row_csnbdec_middle ∷ row_csnbdec_last ∷ [])
         (codes "CSNBDEC" ∷ unread words.entry) }
 {
-    if let Some(request) = csnbdec_whole(words) {
+    if let Some(request) = whole_text(Direction::Decipher, words) {
         return Some(request);
     }
-    if let Some(request) = csnbdec_first(words) {
+    if let Some(request) = first_segment(Direction::Decipher, words) {
         return Some(request);
     }
-    if let Some(request) = csnbdec_middle(words) {
+    if let Some(request) = middle_segment(Direction::Decipher, words) {
         return Some(request);
     }
-    csnbdec_last(words)
+    last_segment(Direction::Decipher, words)
 }
 
 /// The request of this verb of texts, or of a verb further down, whose fields the words are. It costs at most a

@@ -1,14 +1,81 @@
 //! The rows of message authentication codes, of whole texts and of texts in segments.
 ghost use Rattle.std.specs.Prelude.{◌≡◌, Some, None, [], ◌∷◌, ◌++◌, codes};
-ghost use Rattle.verb_script.specs.Grammar.{code_requests, use_requests, key_requests, record_requests, control_requests};
+ghost use Rattle.verb_script.specs.Grammar.{row_of, code_requests, use_requests, key_requests, record_requests, control_requests};
 ghost use Rattle.verb_script.specs.Grammar.{csnbmgn as row_csnbmgn, csnbmgn_first as row_csnbmgn_first, csnbmgn_middle as row_csnbmgn_middle, csnbmgn_last as row_csnbmgn_last, csnbmvr as row_csnbmvr, csnbmvr_first as row_csnbmvr_first, csnbmvr_middle as row_csnbmvr_middle, csnbmvr_last as row_csnbmvr_last};
 ghost use Rattle.verb_script.specs.Parsed.{seen_option};
-ghost use Rattle.verb_script.specs.Requests.{row_request, first_request};
+ghost use Rattle.verb_script.specs.Requests.{first_request, request_with, row_request, values_in};
+ghost use Rattle.verb_script.specs.Rows.{first_code_row, middle_code_row};
 ghost use Rattle.verb_script.specs.Words.{unread};
 
 use crate::request::Request;
 use crate::use_rows::use_request;
 use crate::words::Words;
+
+/// What the code of a text is for.
+#[derive(Clone, Copy)]
+enum Purpose {
+    /// CSNBMGN.
+    Generate,
+    /// CSNBMVR.
+    Verify,
+}
+
+/// The request of a row of a text in segments with FIRST, whose fields the words are.
+fn first_segment<'a>(purpose: Purpose, mut words: Words<'a>) -> Option<Request<'a>>
+    ensures { seen_option result ≡ request_with (first_code_row purpose)
+        (values_in (row_of row_csnbmgn_first).fields (unread words.entry)) }
+{
+    let role = words.role(b"role=")?;
+    let key = words.key(b"key=")?;
+    let rule = words.code_rule()?;
+    words.word(b"segment=", b"FIRST")?;
+    let text = words.text(b"text=")?;
+    words.end()?;
+    Some(match purpose {
+        Purpose::Generate => Request::CsnbmgnFirst {
+            role,
+            key,
+            rule,
+            text,
+        },
+        Purpose::Verify => Request::CsnbmvrFirst {
+            role,
+            key,
+            rule,
+            text,
+        },
+    })
+}
+
+/// The request of a row of a text in segments with MIDDLE, whose fields the words are.
+fn middle_segment<'a>(purpose: Purpose, mut words: Words<'a>) -> Option<Request<'a>>
+    ensures { seen_option result ≡ request_with (middle_code_row purpose)
+        (values_in (row_of row_csnbmgn_middle).fields (unread words.entry)) }
+{
+    let role = words.role(b"role=")?;
+    let key = words.key(b"key=")?;
+    let rule = words.code_rule()?;
+    words.word(b"segment=", b"MIDDLE")?;
+    let chain = words.hex(b"chain=", 32)?;
+    let text = words.text(b"text=")?;
+    words.end()?;
+    Some(match purpose {
+        Purpose::Generate => Request::CsnbmgnMiddle {
+            role,
+            key,
+            rule,
+            chain,
+            text,
+        },
+        Purpose::Verify => Request::CsnbmvrMiddle {
+            role,
+            key,
+            rule,
+            chain,
+            text,
+        },
+    })
+}
 
 /// The request of the row CSNBMGN of a whole text, whose fields the words are.
 fn csnbmgn_whole<'a>(mut words: Words<'a>) -> Option<Request<'a>>
@@ -16,8 +83,8 @@ fn csnbmgn_whole<'a>(mut words: Words<'a>) -> Option<Request<'a>>
 {
     let role = words.role(b"role=")?;
     let key = words.key(b"key=")?;
-    let rule = words.choice(b"rule=", &[b"X9.9-1", b"X9.19OPT"])?;
-    let length = words.choice(b"length=", &[b"4", b"6", b"8"])?;
+    let rule = words.code_rule()?;
+    let length = words.code_length()?;
     let text = words.text(b"text=")?;
     words.end()?;
     Some(Request::Csnbmgn {
@@ -29,55 +96,15 @@ fn csnbmgn_whole<'a>(mut words: Words<'a>) -> Option<Request<'a>>
     })
 }
 
-/// The request of the row CSNBMGN with FIRST, whose fields the words are.
-fn csnbmgn_first<'a>(mut words: Words<'a>) -> Option<Request<'a>>
-    ensures { seen_option result ≡ row_request row_csnbmgn_first (unread words.entry) }
-{
-    let role = words.role(b"role=")?;
-    let key = words.key(b"key=")?;
-    let rule = words.choice(b"rule=", &[b"X9.9-1", b"X9.19OPT"])?;
-    let segment = words.choice(b"segment=", &[b"FIRST"])?;
-    let text = words.text(b"text=")?;
-    words.end()?;
-    Some(Request::CsnbmgnFirst {
-        role,
-        key,
-        rule,
-        segment,
-        text,
-    })
-}
-
-/// The request of the row CSNBMGN with MIDDLE, whose fields the words are.
-fn csnbmgn_middle<'a>(mut words: Words<'a>) -> Option<Request<'a>>
-    ensures { seen_option result ≡ row_request row_csnbmgn_middle (unread words.entry) }
-{
-    let role = words.role(b"role=")?;
-    let key = words.key(b"key=")?;
-    let rule = words.choice(b"rule=", &[b"X9.9-1", b"X9.19OPT"])?;
-    let segment = words.choice(b"segment=", &[b"MIDDLE"])?;
-    let chain = words.hex(b"chain=", 32)?;
-    let text = words.text(b"text=")?;
-    words.end()?;
-    Some(Request::CsnbmgnMiddle {
-        role,
-        key,
-        rule,
-        segment,
-        chain,
-        text,
-    })
-}
-
 /// The request of the row CSNBMGN with LAST, whose fields the words are.
 fn csnbmgn_last<'a>(mut words: Words<'a>) -> Option<Request<'a>>
     ensures { seen_option result ≡ row_request row_csnbmgn_last (unread words.entry) }
 {
     let role = words.role(b"role=")?;
     let key = words.key(b"key=")?;
-    let rule = words.choice(b"rule=", &[b"X9.9-1", b"X9.19OPT"])?;
-    let segment = words.choice(b"segment=", &[b"LAST"])?;
-    let length = words.choice(b"length=", &[b"4", b"6", b"8"])?;
+    let rule = words.code_rule()?;
+    words.word(b"segment=", b"LAST")?;
+    let length = words.code_length()?;
     let chain = words.hex(b"chain=", 32)?;
     let text = words.text(b"text=")?;
     words.end()?;
@@ -85,7 +112,6 @@ fn csnbmgn_last<'a>(mut words: Words<'a>) -> Option<Request<'a>>
         role,
         key,
         rule,
-        segment,
         length,
         chain,
         text,
@@ -102,10 +128,10 @@ fn csnbmgn<'a>(words: Words<'a>) -> Option<Request<'a>>
     if let Some(request) = csnbmgn_whole(words) {
         return Some(request);
     }
-    if let Some(request) = csnbmgn_first(words) {
+    if let Some(request) = first_segment(Purpose::Generate, words) {
         return Some(request);
     }
-    if let Some(request) = csnbmgn_middle(words) {
+    if let Some(request) = middle_segment(Purpose::Generate, words) {
         return Some(request);
     }
     csnbmgn_last(words)
@@ -117,7 +143,7 @@ fn csnbmvr_whole<'a>(mut words: Words<'a>) -> Option<Request<'a>>
 {
     let role = words.role(b"role=")?;
     let key = words.key(b"key=")?;
-    let rule = words.choice(b"rule=", &[b"X9.9-1", b"X9.19OPT"])?;
+    let rule = words.code_rule()?;
     let mac = words.mac(b"mac=")?;
     let text = words.text(b"text=")?;
     words.end()?;
@@ -130,54 +156,14 @@ fn csnbmvr_whole<'a>(mut words: Words<'a>) -> Option<Request<'a>>
     })
 }
 
-/// The request of the row CSNBMVR with FIRST, whose fields the words are.
-fn csnbmvr_first<'a>(mut words: Words<'a>) -> Option<Request<'a>>
-    ensures { seen_option result ≡ row_request row_csnbmvr_first (unread words.entry) }
-{
-    let role = words.role(b"role=")?;
-    let key = words.key(b"key=")?;
-    let rule = words.choice(b"rule=", &[b"X9.9-1", b"X9.19OPT"])?;
-    let segment = words.choice(b"segment=", &[b"FIRST"])?;
-    let text = words.text(b"text=")?;
-    words.end()?;
-    Some(Request::CsnbmvrFirst {
-        role,
-        key,
-        rule,
-        segment,
-        text,
-    })
-}
-
-/// The request of the row CSNBMVR with MIDDLE, whose fields the words are.
-fn csnbmvr_middle<'a>(mut words: Words<'a>) -> Option<Request<'a>>
-    ensures { seen_option result ≡ row_request row_csnbmvr_middle (unread words.entry) }
-{
-    let role = words.role(b"role=")?;
-    let key = words.key(b"key=")?;
-    let rule = words.choice(b"rule=", &[b"X9.9-1", b"X9.19OPT"])?;
-    let segment = words.choice(b"segment=", &[b"MIDDLE"])?;
-    let chain = words.hex(b"chain=", 32)?;
-    let text = words.text(b"text=")?;
-    words.end()?;
-    Some(Request::CsnbmvrMiddle {
-        role,
-        key,
-        rule,
-        segment,
-        chain,
-        text,
-    })
-}
-
 /// The request of the row CSNBMVR with LAST, whose fields the words are.
 fn csnbmvr_last<'a>(mut words: Words<'a>) -> Option<Request<'a>>
     ensures { seen_option result ≡ row_request row_csnbmvr_last (unread words.entry) }
 {
     let role = words.role(b"role=")?;
     let key = words.key(b"key=")?;
-    let rule = words.choice(b"rule=", &[b"X9.9-1", b"X9.19OPT"])?;
-    let segment = words.choice(b"segment=", &[b"LAST"])?;
+    let rule = words.code_rule()?;
+    words.word(b"segment=", b"LAST")?;
     let mac = words.mac(b"mac=")?;
     let chain = words.hex(b"chain=", 32)?;
     let text = words.text(b"text=")?;
@@ -186,7 +172,6 @@ fn csnbmvr_last<'a>(mut words: Words<'a>) -> Option<Request<'a>>
         role,
         key,
         rule,
-        segment,
         mac,
         chain,
         text,
@@ -203,10 +188,10 @@ fn csnbmvr<'a>(words: Words<'a>) -> Option<Request<'a>>
     if let Some(request) = csnbmvr_whole(words) {
         return Some(request);
     }
-    if let Some(request) = csnbmvr_first(words) {
+    if let Some(request) = first_segment(Purpose::Verify, words) {
         return Some(request);
     }
-    if let Some(request) = csnbmvr_middle(words) {
+    if let Some(request) = middle_segment(Purpose::Verify, words) {
         return Some(request);
     }
     csnbmvr_last(words)

@@ -14,7 +14,7 @@ fn csnbmkp_part<'a>(mut words: Words<'a>) -> Option<Request<'a>>
     ensures { seen_option result ≡ row_request row_csnbmkp_part (unread words.entry) }
 {
     let role = words.role(b"role=")?;
-    let action = words.choice(b"action=", &[b"FIRST", b"MIDDLE", b"LAST"])?;
+    let action = words.part_action()?;
     let part = words.hex(b"part=", 48)?;
     words.end()?;
     Some(Request::CsnbmkpPart { role, action, part })
@@ -25,9 +25,9 @@ fn csnbmkp_clear<'a>(mut words: Words<'a>) -> Option<Request<'a>>
     ensures { seen_option result ≡ row_request row_csnbmkp_clear (unread words.entry) }
 {
     let role = words.role(b"role=")?;
-    let action = words.choice(b"action=", &[b"CLEAR"])?;
+    words.word(b"action=", b"CLEAR")?;
     words.end()?;
-    Some(Request::CsnbmkpClear { role, action })
+    Some(Request::CsnbmkpClear { role })
 }
 
 /// The request of the row CSNBMKP with SET, whose fields the words are.
@@ -35,9 +35,9 @@ fn csnbmkp_set<'a>(mut words: Words<'a>) -> Option<Request<'a>>
     ensures { seen_option result ≡ row_request row_csnbmkp_set (unread words.entry) }
 {
     let role = words.role(b"role=")?;
-    let action = words.choice(b"action=", &[b"SET"])?;
+    words.word(b"action=", b"SET")?;
     words.end()?;
-    Some(Request::CsnbmkpSet { role, action })
+    Some(Request::CsnbmkpSet { role })
 }
 
 /// The request of the first of CSNBMKP's rows whose fields the words are. A row that the words aren't is
@@ -61,16 +61,11 @@ fn csuaaci_define<'a>(mut words: Words<'a>) -> Option<Request<'a>>
     ensures { seen_option result ≡ row_request row_csuaaci_define (unread words.entry) }
 {
     let role = words.role(b"role=")?;
-    let action = words.choice(b"action=", &[b"DEFINE"])?;
+    words.word(b"action=", b"DEFINE")?;
     let name = words.role(b"name=")?;
     let points = words.points(b"points=")?;
     words.end()?;
-    Some(Request::CsuaaciDefine {
-        role,
-        action,
-        name,
-        points,
-    })
+    Some(Request::CsuaaciDefine { role, name, points })
 }
 
 /// The request of the row CSUAACI with REMOVE, whose fields the words are.
@@ -78,10 +73,10 @@ fn csuaaci_remove<'a>(mut words: Words<'a>) -> Option<Request<'a>>
     ensures { seen_option result ≡ row_request row_csuaaci_remove (unread words.entry) }
 {
     let role = words.role(b"role=")?;
-    let action = words.choice(b"action=", &[b"REMOVE"])?;
+    words.word(b"action=", b"REMOVE")?;
     let name = words.other_role(b"name=")?;
     words.end()?;
-    Some(Request::CsuaaciRemove { role, action, name })
+    Some(Request::CsuaaciRemove { role, name })
 }
 
 /// The request of the first of CSUAACI's rows whose fields the words are.
@@ -110,9 +105,9 @@ fn reencipher_ahead<'a>(mut words: Words<'a>) -> Option<Request<'a>>
     ensures { seen_option result ≡ row_request row_reencipher_ahead (unread words.entry) }
 {
     let role = words.role(b"role=")?;
-    let action = words.choice(b"action=", &[b"AHEAD"])?;
+    words.word(b"action=", b"AHEAD")?;
     words.end()?;
-    Some(Request::ReencipherAhead { role, action })
+    Some(Request::ReencipherAhead { role })
 }
 
 /// The request of the row REENCIPHER with DROP, whose fields the words are.
@@ -120,9 +115,9 @@ fn reencipher_drop<'a>(mut words: Words<'a>) -> Option<Request<'a>>
     ensures { seen_option result ≡ row_request row_reencipher_drop (unread words.entry) }
 {
     let role = words.role(b"role=")?;
-    let action = words.choice(b"action=", &[b"DROP"])?;
+    words.word(b"action=", b"DROP")?;
     words.end()?;
-    Some(Request::ReencipherDrop { role, action })
+    Some(Request::ReencipherDrop { role })
 }
 
 /// The request of the first of REENCIPHER's rows whose fields the words are.

@@ -15,14 +15,13 @@ fn csnbkgn_op<'a>(mut words: Words<'a>) -> Option<Request<'a>>
     ensures { seen_option result ≡ row_request row_csnbkgn_op (unread words.entry) }
 {
     let role = words.role(b"role=")?;
-    let form = words.choice(b"form=", &[b"OP"])?;
-    let length = words.choice(b"length=", &[b"8", b"16", b"DOUBLE-O"])?;
+    words.word(b"form=", b"OP")?;
+    let length = words.key_length()?;
     let type1 = words.key_type(b"type1=")?;
     let to = words.to(b"to=")?;
     words.end()?;
     Some(Request::CsnbkgnOp {
         role,
-        form,
         length,
         type1,
         to,
@@ -34,8 +33,8 @@ fn csnbkgn_pair<'a>(mut words: Words<'a>) -> Option<Request<'a>>
     ensures { seen_option result ≡ row_request row_csnbkgn_pair (unread words.entry) }
 {
     let role = words.role(b"role=")?;
-    let form = words.choice(b"form=", &[b"OPEX", b"OPIM"])?;
-    let length = words.choice(b"length=", &[b"8", b"16", b"DOUBLE-O"])?;
+    let form = words.pair_form()?;
+    let length = words.key_length()?;
     let type1 = words.key_type(b"type1=")?;
     let type2 = words.key_type(b"type2=")?;
     let transport2 = words.key(b"transport2=")?;
@@ -57,8 +56,8 @@ fn csnbkgn_out<'a>(mut words: Words<'a>) -> Option<Request<'a>>
     ensures { seen_option result ≡ row_request row_csnbkgn_out (unread words.entry) }
 {
     let role = words.role(b"role=")?;
-    let form = words.choice(b"form=", &[b"IMEX", b"EXEX", b"IMIM"])?;
-    let length = words.choice(b"length=", &[b"8", b"16", b"DOUBLE-O"])?;
+    let form = words.out_form()?;
+    let length = words.key_length()?;
     let type1 = words.key_type(b"type1=")?;
     let type2 = words.key_type(b"type2=")?;
     let transport1 = words.key(b"transport1=")?;
@@ -139,7 +138,7 @@ fn csnbktc<'a>(mut words: Words<'a>) -> Option<Request<'a>>
     ensures { seen_option result ≡ row_request row_csnbktc (unread words.entry) }
 {
     let role = words.role(b"role=")?;
-    let rule = words.choice(b"rule=", &[b"RTCMK", b"RTNMK"])?;
+    let rule = words.change_to()?;
     let token = words.hex(b"token=", 128)?;
     words.end()?;
     Some(Request::Csnbktc { role, rule, token })
@@ -150,14 +149,13 @@ fn csnbkpi_first<'a>(mut words: Words<'a>) -> Option<Request<'a>>
     ensures { seen_option result ≡ row_request row_csnbkpi_first (unread words.entry) }
 {
     let role = words.role(b"role=")?;
-    let rule = words.choice(b"rule=", &[b"FIRST"])?;
+    words.word(b"rule=", b"FIRST")?;
     let kind = words.key_type(b"type=")?;
     let part = words.part(b"part=")?;
     let to = words.to(b"to=")?;
     words.end()?;
     Some(Request::CsnbkpiFirst {
         role,
-        rule,
         kind,
         part,
         to,
@@ -169,7 +167,7 @@ fn csnbkpi_middle<'a>(mut words: Words<'a>) -> Option<Request<'a>>
     ensures { seen_option result ≡ row_request row_csnbkpi_middle (unread words.entry) }
 {
     let role = words.role(b"role=")?;
-    let rule = words.choice(b"rule=", &[b"MIDDLE", b"LAST"])?;
+    let rule = words.part_rule()?;
     let key = words.key(b"key=")?;
     let part = words.part(b"part=")?;
     let to = words.to(b"to=")?;

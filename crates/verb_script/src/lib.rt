@@ -1,6 +1,7 @@
 //! Request lines: the grammar of the verbs, and the request that a line spells.
 #![tactic(auto)]
 
+mod choices;
 mod cipher_rows;
 mod code_rows;
 mod control_rows;
@@ -15,6 +16,10 @@ mod use_rows;
 mod values;
 mod words;
 
+pub use choices::{
+    ChangeTo, CodeLength, CodeRule, KeyLength, NumberForm, OutForm, Padding, PairForm, PartAction,
+    PartRule,
+};
 pub use digits::decode;
 pub use labels::named_label;
 pub use laws::a_line_spells_one_request;
@@ -22,6 +27,3 @@ pub use request::{FormFault, Request, parse_request};
 pub use script_buffers::{
     LINE_LIMIT, LineBuffer, LineFault, REPLY_ROOM, ReplyBuffer, Taken, read_line,
 };
-
-#[cfg(test)]
-mod tests;

@@ -5,6 +5,10 @@ ghost use Rattle.verb_script.specs.Parsed.{answered, seen, seen_option};
 ghost use Rattle.verb_script.specs.Requests.{request_of};
 ghost use Rattle.verb_script.specs.Words.{unread};
 
+use crate::choices::{
+    ChangeTo, CodeLength, CodeRule, KeyLength, NumberForm, OutForm, Padding, PairForm, PartAction,
+    PartRule,
+};
 use crate::cipher_rows::cipher_request;
 use crate::words::Words;
 use cca_roles::{AccessPoints, RoleName};
@@ -14,7 +18,7 @@ use cca_vectors::KeyType;
 #[derive(Debug, Clone, Copy, PartialEq, Eq)]
 pub struct FormFault;
 
-/// A request. A field that is a slice is the part of the line that holds its value. A `key` is `T:` and the 128
+/// A request. A field that is a slice is the part of the line that holds its value; a word that the row fixes is no field. A `key` is `T:` and the 128
 /// hexadecimal digits of a token, or `L:` and a label. Where a label is wanted, one or more characters from X'21' to
 /// X'7E' stand, which needn't be a label.
 #[derive(Debug, Clone, Copy, PartialEq, Eq)]
@@ -29,14 +33,13 @@ pub enum Request<'a> {
         role: RoleName,
         key: &'a [u8],
         iv: &'a [u8],
-        pad: &'a [u8],
+        pad: Padding,
         text: &'a [u8],
     },
     /// Encipher FIRST: the first segment of a text, enciphered in a chain of blocks from `iv`.
     CsnbencFirst {
         role: RoleName,
         key: &'a [u8],
-        segment: &'a [u8],
         iv: &'a [u8],
         text: &'a [u8],
     },
@@ -44,7 +47,6 @@ pub enum Request<'a> {
     CsnbencMiddle {
         role: RoleName,
         key: &'a [u8],
-        segment: &'a [u8],
         chain: &'a [u8],
         text: &'a [u8],
     },
@@ -52,9 +54,8 @@ pub enum Request<'a> {
     CsnbencLast {
         role: RoleName,
         key: &'a [u8],
-        segment: &'a [u8],
         chain: &'a [u8],
-        pad: &'a [u8],
+        pad: Padding,
         text: &'a [u8],
     },
     /// Decipher: the inverse of Encipher.
@@ -62,14 +63,13 @@ pub enum Request<'a> {
         role: RoleName,
         key: &'a [u8],
         iv: &'a [u8],
-        pad: &'a [u8],
+        pad: Padding,
         text: &'a [u8],
     },
     /// Decipher FIRST: the first segment of an enciphered text.
     CsnbdecFirst {
         role: RoleName,
         key: &'a [u8],
-        segment: &'a [u8],
         iv: &'a [u8],
         text: &'a [u8],
     },
@@ -77,7 +77,6 @@ pub enum Request<'a> {
     CsnbdecMiddle {
         role: RoleName,
         key: &'a [u8],
-        segment: &'a [u8],
         chain: &'a [u8],
         text: &'a [u8],
     },
@@ -85,33 +84,30 @@ pub enum Request<'a> {
     CsnbdecLast {
         role: RoleName,
         key: &'a [u8],
-        segment: &'a [u8],
         chain: &'a [u8],
-        pad: &'a [u8],
+        pad: Padding,
         text: &'a [u8],
     },
     /// MAC_Generate: the message authentication code of a text, 4, 6 or 8 bytes of it.
     Csnbmgn {
         role: RoleName,
         key: &'a [u8],
-        rule: &'a [u8],
-        length: &'a [u8],
+        rule: CodeRule,
+        length: CodeLength,
         text: &'a [u8],
     },
     /// MAC_Generate FIRST: the first segment of a text.
     CsnbmgnFirst {
         role: RoleName,
         key: &'a [u8],
-        rule: &'a [u8],
-        segment: &'a [u8],
+        rule: CodeRule,
         text: &'a [u8],
     },
     /// MAC_Generate MIDDLE: a further segment, from the chain that the segment before left.
     CsnbmgnMiddle {
         role: RoleName,
         key: &'a [u8],
-        rule: &'a [u8],
-        segment: &'a [u8],
+        rule: CodeRule,
         chain: &'a [u8],
         text: &'a [u8],
     },
@@ -119,9 +115,8 @@ pub enum Request<'a> {
     CsnbmgnLast {
         role: RoleName,
         key: &'a [u8],
-        rule: &'a [u8],
-        segment: &'a [u8],
-        length: &'a [u8],
+        rule: CodeRule,
+        length: CodeLength,
         chain: &'a [u8],
         text: &'a [u8],
     },
@@ -129,7 +124,7 @@ pub enum Request<'a> {
     Csnbmvr {
         role: RoleName,
         key: &'a [u8],
-        rule: &'a [u8],
+        rule: CodeRule,
         mac: &'a [u8],
         text: &'a [u8],
     },
@@ -137,16 +132,14 @@ pub enum Request<'a> {
     CsnbmvrFirst {
         role: RoleName,
         key: &'a [u8],
-        rule: &'a [u8],
-        segment: &'a [u8],
+        rule: CodeRule,
         text: &'a [u8],
     },
     /// MAC_Verify MIDDLE: a further segment, from the chain that the segment before left.
     CsnbmvrMiddle {
         role: RoleName,
         key: &'a [u8],
-        rule: &'a [u8],
-        segment: &'a [u8],
+        rule: CodeRule,
         chain: &'a [u8],
         text: &'a [u8],
     },
@@ -154,8 +147,7 @@ pub enum Request<'a> {
     CsnbmvrLast {
         role: RoleName,
         key: &'a [u8],
-        rule: &'a [u8],
-        segment: &'a [u8],
+        rule: CodeRule,
         mac: &'a [u8],
         chain: &'a [u8],
         text: &'a [u8],
@@ -174,21 +166,20 @@ pub enum Request<'a> {
     /// Random_Number_Generate: eight random bytes.
     Csnbrng {
         role: RoleName,
-        form: &'a [u8],
+        form: NumberForm,
     },
     /// Key_Generate OP: a key for here, of 8 or 16 bytes, or DOUBLE-O, of 16 whose halves are unique.
     CsnbkgnOp {
         role: RoleName,
-        form: &'a [u8],
-        length: &'a [u8],
+        length: KeyLength,
         type1: KeyType,
         to: &'a [u8],
     },
     /// Key_Generate OPEX or OPIM: a key for here, and the same key for elsewhere under a transport key.
     CsnbkgnPair {
         role: RoleName,
-        form: &'a [u8],
-        length: &'a [u8],
+        form: PairForm,
+        length: KeyLength,
         type1: KeyType,
         type2: KeyType,
         transport2: &'a [u8],
@@ -197,8 +188,8 @@ pub enum Request<'a> {
     /// Key_Generate IMEX, EXEX or IMIM: a key for elsewhere, twice, each time under a transport key.
     CsnbkgnOut {
         role: RoleName,
-        form: &'a [u8],
-        length: &'a [u8],
+        form: OutForm,
+        length: KeyLength,
         type1: KeyType,
         type2: KeyType,
         transport1: &'a [u8],
@@ -226,13 +217,12 @@ pub enum Request<'a> {
     /// Key_Token_Change: a token, in 128 hexadecimal digits, brought under the current or the new master key.
     Csnbktc {
         role: RoleName,
-        rule: &'a [u8],
+        rule: ChangeTo,
         token: &'a [u8],
     },
     /// Key_Part_Import FIRST: the first part of a key of this type, in 16 or 32 hexadecimal digits.
     CsnbkpiFirst {
         role: RoleName,
-        rule: &'a [u8],
         kind: KeyType,
         part: &'a [u8],
         to: &'a [u8],
@@ -240,7 +230,7 @@ pub enum Request<'a> {
     /// Key_Part_Import MIDDLE or LAST: a further part, as long as the key.
     CsnbkpiMiddle {
         role: RoleName,
-        rule: &'a [u8],
+        rule: PartRule,
         key: &'a [u8],
         part: &'a [u8],
         to: &'a [u8],
@@ -281,30 +271,26 @@ pub enum Request<'a> {
     /// Master_Key_Process FIRST, MIDDLE or LAST: a part of the new master key, in 48 hexadecimal digits.
     CsnbmkpPart {
         role: RoleName,
-        action: &'a [u8],
+        action: PartAction,
         part: &'a [u8],
     },
     /// Master_Key_Process CLEAR: the new master key register is emptied.
     CsnbmkpClear {
         role: RoleName,
-        action: &'a [u8],
     },
     /// Master_Key_Process SET: the new master key becomes the current one.
     CsnbmkpSet {
         role: RoleName,
-        action: &'a [u8],
     },
     /// Access_Control_Initialization DEFINE: a role gets these access control points.
     CsuaaciDefine {
         role: RoleName,
-        action: &'a [u8],
         name: RoleName,
         points: AccessPoints,
     },
     /// Access_Control_Initialization REMOVE: the role is no longer held.
     CsuaaciRemove {
         role: RoleName,
-        action: &'a [u8],
         name: RoleName,
     },
     /// Every label under the old master key is brought under the current one.
@@ -314,12 +300,10 @@ pub enum Request<'a> {
     /// Every label under the current master key is sealed under the new one besides.
     ReencipherAhead {
         role: RoleName,
-        action: &'a [u8],
     },
     /// Of every label that is ahead the second token is taken away again.
     ReencipherDrop {
         role: RoleName,
-        action: &'a [u8],
     },
 }
 

@@ -46,7 +46,7 @@ fn csnbrng<'a>(mut words: Words<'a>) -> Option<Request<'a>>
     ensures { seen_option result ≡ row_request row_csnbrng (unread words.entry) }
 {
     let role = words.role(b"role=")?;
-    let form = words.choice(b"form=", &[b"RANDOM", b"ODD", b"EVEN"])?;
+    let form = words.number_form()?;
     words.end()?;
     Some(Request::Csnbrng { role, form })
 }

@@ -4,9 +4,7 @@ ghost use Rattle.byte_lists.specs.Characters.{is_label_byte};
 ghost use Rattle.verb_script.specs.Grammar.{accepts, key_text, hex_text, mac_text, part_text, to_text, prefix_text};
 ghost use Rattle.verb_script.specs.Named.{is_visible, is_label_text, is_token_text};
 ghost use Rattle.verb_script.specs.Values.{is_hex};
-ghost use Rattle.std.specs.List.{list_all, list_any};
-ghost use Rattle.std.specs.Str.{bytes_eq};
-ghost use Rattle.verb_script.specs.Words.{texts};
+ghost use Rattle.std.specs.List.{list_all};
 ghost use Rattle.hex.specs.Hex.{is_hex_digit};
 
 use crate::labels::named_label;
@@ -106,17 +104,4 @@ pub(crate) fn is_prefix(text: &[u8]) -> bool
     ensures { result ≡ accepts prefix_text text.now }
 {
     text.len() <= 64 && are_label_bytes(text)
-}
-
-fn has_same(text: &[u8], choices: &[&[u8]]) -> bool
-    ensures { result ≡ list_any (λ choice. bytes_eq text.now choice.now) choices.now }
-{
-    choices.iter().any(|choice| text == *choice)
-}
-
-/// Whether the text is one of the choices.
-pub(crate) fn is_one_of(text: &[u8], choices: &[&[u8]]) -> bool
-    ensures { result ≡ list_any (bytes_eq text.now) (texts choices.now) }
-{
-    has_same(text, choices)
 }

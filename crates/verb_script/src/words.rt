@@ -1,5 +1,5 @@
 //! The words of a request line, and the fields in them.
-ghost use Rattle.std.specs.Prelude.{◌≡◌, ◌<◌, ℕ, get_or, IsTrue, ◌==◌, nat_eq, [], ◌∷◌, drop, length, Some, None, option_copied, MatchOption, is_some, position, if◌then◌else◌};
+ghost use Rattle.std.specs.Prelude.{◌≡◌, ◌<◌, ℕ, get_or, IsTrue, ◌==◌, nat_eq, [], ◌∷◌, drop, length, Some, None, option_copied, MatchOption, is_some, position, codes, if◌then◌else◌};
 ghost use Rattle.std.specs.List.{position_or_len, starts_with};
 ghost use Rattle.std.specs.Int.{to_be_bytes, from_be_bytes, w32};
 ghost use Rattle.std.specs.Option.{option_map};
@@ -8,13 +8,18 @@ ghost use Rattle.cca_roles.specs.Points.{are_points};
 ghost use Rattle.cca_roles.specs.RoleNames.{default_name};
 ghost use Rattle.cca_vectors.specs.KeyTypes.{type_name, type_named};
 ghost use Rattle.verb_script.specs.Grammar.{role_name, other_role, points, hex_digits, one_of, key_text, hex_text, mac_text, part_text, label_text, to_text, prefix_text, type_text};
+ghost use Rattle.verb_script.specs.Choices.{padding_word, code_rule_word, code_length_word, number_form_word, key_length_word, pair_form_word, out_form_word, change_word, part_rule_word, part_action_word};
 ghost use Rattle.verb_script.specs.Values.{is_hex, hex_value};
 ghost use Rattle.verb_script.specs.Requests.{words, value_after, first_value, at_end};
-ghost use Rattle.verb_script.specs.Words.{words_left, unread, texts};
+ghost use Rattle.verb_script.specs.Words.{words_left, unread};
 
+use crate::choices::{
+    ChangeTo, CodeLength, CodeRule, KeyLength, NumberForm, OutForm, Padding, PairForm, PartAction,
+    PartRule, is_word,
+};
 use crate::digits::decode;
 use crate::values::{
-    is_hex_of, is_hex_text, is_key, is_label_text, is_mac, is_one_of, is_part, is_prefix, is_to,
+    is_hex_of, is_hex_text, is_key, is_label_text, is_mac, is_part, is_prefix, is_to,
 };
 use cca_roles::{AccessPoints, RoleName};
 use cca_vectors::KeyType;
@@ -116,12 +121,13 @@ fn hex_in<'a>(word: &'a [u8], prefix: &[u8], digits: usize) -> Option<&'a [u8]>
     }
 }
 
-/// The choice in a word that is the prefix and one of the choices.
-fn choice_in<'a>(word: &'a [u8], prefix: &[u8], choices: &[&[u8]]) -> Option<&'a [u8]>
-    ensures { option_copied result ≡ value_after prefix.now (one_of (texts choices.now)) word.now }
+/// Some where the word is the prefix and this value.
+fn word_in(word: &[u8], prefix: &[u8], wanted: &[u8]) -> Option<()>
+    ensures { option_map (λ _. wanted.now) result
+        ≡ value_after prefix.now (one_of (wanted.now ∷ [])) word.now }
 {
     match after(word, prefix) {
-        Some(value) if is_one_of(value, choices) => Some(value),
+        Some(value) if is_word(value, wanted) => Some(()),
         _ => None,
     }
 }
@@ -336,13 +342,117 @@ impl<'a> Words<'a> {
         key_type_in(self.next()?, prefix)
     }
 
-    /// The choice in the next word, which is the prefix and one of the choices.
-    pub(crate) fn choice(&mut self, prefix: &[u8], choices: &[&[u8]]) -> Option<&'a [u8]>
-        ensures value { option_copied result
-            ≡ first_value prefix.now (one_of (texts choices.now)) (unread self.old) }
+    /// Some where the next word is the prefix and this value.
+    pub(crate) fn word(&mut self, prefix: &[u8], wanted: &[u8]) -> Option<()>
+        ensures value { option_map (λ _. wanted.now) result
+            ≡ first_value prefix.now (one_of (wanted.now ∷ [])) (unread self.old) }
         ensures rest { unread self.new ≡ drop 1 (unread self.old) }
     {
-        choice_in(self.next()?, prefix, choices)
+        word_in(self.next()?, prefix, wanted)
+    }
+
+    /// The choice in the next word of the field `pad`: how a text is padded to whole blocks.
+    pub(crate) fn padding(&mut self) -> Option<Padding>
+        ensures value { option_map padding_word result
+            ≡ first_value (codes "pad=")
+            (one_of (codes "NONE" ∷ codes "X9.23" ∷ [])) (unread self.old) }
+        ensures rest { unread self.new ≡ drop 1 (unread self.old) }
+    {
+        Padding::read(after(self.next()?, b"pad=")?)
+    }
+
+    /// The choice in the next word of the field `rule`: how a message authentication code is made.
+    pub(crate) fn code_rule(&mut self) -> Option<CodeRule>
+        ensures value { option_map code_rule_word result
+            ≡ first_value (codes "rule=")
+            (one_of (codes "X9.9-1" ∷ codes "X9.19OPT" ∷ [])) (unread self.old) }
+        ensures rest { unread self.new ≡ drop 1 (unread self.old) }
+    {
+        CodeRule::read(after(self.next()?, b"rule=")?)
+    }
+
+    /// The choice in the next word, of the field `length`:
+    /// how many bytes of a message authentication code are given.
+    pub(crate) fn code_length(&mut self) -> Option<CodeLength>
+        ensures value { option_map code_length_word result
+            ≡ first_value (codes "length=")
+            (one_of (codes "4" ∷ codes "6" ∷ codes "8" ∷ [])) (unread self.old) }
+        ensures rest { unread self.new ≡ drop 1 (unread self.old) }
+    {
+        CodeLength::read(after(self.next()?, b"length=")?)
+    }
+
+    /// The choice in the next word of the field `form`: the form of a random number.
+    pub(crate) fn number_form(&mut self) -> Option<NumberForm>
+        ensures value { option_map number_form_word result
+            ≡ first_value (codes "form=")
+            (one_of (codes "RANDOM" ∷ codes "ODD" ∷ codes "EVEN" ∷ [])) (unread self.old) }
+        ensures rest { unread self.new ≡ drop 1 (unread self.old) }
+    {
+        NumberForm::read(after(self.next()?, b"form=")?)
+    }
+
+    /// The choice in the next word of the field `length`: the length of a generated key.
+    pub(crate) fn key_length(&mut self) -> Option<KeyLength>
+        ensures value { option_map key_length_word result
+            ≡ first_value (codes "length=")
+            (one_of (codes "8" ∷ codes "16" ∷ codes "DOUBLE-O" ∷ [])) (unread self.old) }
+        ensures rest { unread self.new ≡ drop 1 (unread self.old) }
+    {
+        KeyLength::read(after(self.next()?, b"length=")?)
+    }
+
+    /// The choice in the next word, of the field `form`:
+    /// for whom a key is generated that is used here and elsewhere.
+    pub(crate) fn pair_form(&mut self) -> Option<PairForm>
+        ensures value { option_map pair_form_word result
+            ≡ first_value (codes "form=")
+            (one_of (codes "OPEX" ∷ codes "OPIM" ∷ [])) (unread self.old) }
+        ensures rest { unread self.new ≡ drop 1 (unread self.old) }
+    {
+        PairForm::read(after(self.next()?, b"form=")?)
+    }
+
+    /// The choice in the next word, of the field `form`:
+    /// for whom a key is generated that isn't used here.
+    pub(crate) fn out_form(&mut self) -> Option<OutForm>
+        ensures value { option_map out_form_word result
+            ≡ first_value (codes "form=")
+            (one_of (codes "IMEX" ∷ codes "EXEX" ∷ codes "IMIM" ∷ [])) (unread self.old) }
+        ensures rest { unread self.new ≡ drop 1 (unread self.old) }
+    {
+        OutForm::read(after(self.next()?, b"form=")?)
+    }
+
+    /// The choice in the next word, of the field `rule`:
+    /// the master key under which a token is brought.
+    pub(crate) fn change_to(&mut self) -> Option<ChangeTo>
+        ensures value { option_map change_word result
+            ≡ first_value (codes "rule=")
+            (one_of (codes "RTCMK" ∷ codes "RTNMK" ∷ [])) (unread self.old) }
+        ensures rest { unread self.new ≡ drop 1 (unread self.old) }
+    {
+        ChangeTo::read(after(self.next()?, b"rule=")?)
+    }
+
+    /// The choice in the next word of the field `rule`: which further part of a key this is.
+    pub(crate) fn part_rule(&mut self) -> Option<PartRule>
+        ensures value { option_map part_rule_word result
+            ≡ first_value (codes "rule=")
+            (one_of (codes "MIDDLE" ∷ codes "LAST" ∷ [])) (unread self.old) }
+        ensures rest { unread self.new ≡ drop 1 (unread self.old) }
+    {
+        PartRule::read(after(self.next()?, b"rule=")?)
+    }
+
+    /// The choice in the next word of the field `action`: which part of a master key this is.
+    pub(crate) fn part_action(&mut self) -> Option<PartAction>
+        ensures value { option_map part_action_word result
+            ≡ first_value (codes "action=")
+            (one_of (codes "FIRST" ∷ codes "MIDDLE" ∷ codes "LAST" ∷ [])) (unread self.old) }
+        ensures rest { unread self.new ≡ drop 1 (unread self.old) }
+    {
+        PartAction::read(after(self.next()?, b"action=")?)
     }
 
     /// Some where no word is left.

@@ -17,6 +17,7 @@ ghost use Rattle.text_segments.specs.Segments.{last_code};
 ghost use Rattle.text_segments.specs.declared.modes.Mode.TheVariants.{Mac};
 ghost use Rattle.verb_rules.specs.Keys.{HasHalves, opened};
 ghost use Rattle.verb_rules.specs.LengthChecks.{mac_checks, text_checks};
+ghost use Rattle.verb_script.specs.Choices.{code_length_word, code_rule_word};
 ghost use Rattle.verb_script.specs.Grammar.{accepts, hex_text, is_hex, mac_text};
 ghost use Rattle.verb_script.specs.Values.{hex_value};
 ghost use Rattle.cca_machine.specs.Act.{code_segment_fields, last_code_fields, last_match_fields};
@@ -28,11 +29,11 @@ use crate::effects::Effect;
 use crate::verbs::csnbmgn::{count_of, show_code};
 use crate::verbs::csnbmvr::{put_code, show_match};
 use crate::verbs::segments::chain_in;
-use crate::verbs::texts::{judge_digits, mac_rule_of, put_text};
+use crate::verbs::texts::{judge_code, mac_rule_of, put_text};
 use key_cells::Lease;
 use text_segments::{Chain, Mode, last_mac, segment};
-use verb_rules::{Judged, MacRule, Rule, TextUse, judge_mac};
-use verb_script::ReplyBuffer;
+use verb_rules::{Judged, MacRule, Rule, TextUse};
+use verb_script::{CodeLength, CodeRule, ReplyBuffer};
 
 /// Shows a chain.
 fn show_chain(chain: &Chain, reply: &mut ReplyBuffer)
@@ -66,11 +67,8 @@ fn go_on(
     ensures places { lease.new ≡ holding lease.old
         (with_places (bench_of lease.old) (bench_of lease.new)) }
 {
-    if let Err(broken) = judge_digits(TextUse::Segment, text) {
-        return Effect::Refused(broken, "text");
-    }
-    if let Err(broken) = judge_mac(method, key.token.vector.length()) {
-        return Effect::Refused(broken, "key");
+    if let Err(broken) = judge_code(TextUse::Segment, text, method, key) {
+        return Effect::Refused(broken.rule, broken.operand);
     }
     put_text(text, lease);
     let next = segment(lease, key, Mode::Mac(method), chain);
@@ -82,7 +80,7 @@ fn go_on(
 /// and a key that the rule doesn't take.
 pub(crate) fn first_code_segment(
     key: &Judged,
-    rule: &[u8],
+    rule: CodeRule,
     text: &[u8],
     lease: &mut Lease,
     reply: &mut ReplyBuffer,
@@ -91,7 +89,7 @@ pub(crate) fn first_code_segment(
     requires text { IsTrue (accepts hex_text text.now) }
     requires empty { reply.old ≡ [] }
     ensures shows { let clear = opened (bench_of lease.old) key.now in
-        let method = mac_rule_named rule.now in
+        let method = mac_rule_named (code_rule_word rule) in
         ShowsOr (first_refusal (code_key_questions method clear
         (segment_questions (length text.now / 2))))
         (code_segment_fields clear method (first_chain zero_block) (hex_value text.now))
@@ -115,7 +113,7 @@ pub(crate) fn first_code_segment(
 /// that the rule doesn't take.
 pub(crate) fn middle_code_segment(
     key: &Judged,
-    rule: &[u8],
+    rule: CodeRule,
     chain: &[u8],
     text: &[u8],
     lease: &mut Lease,
@@ -126,7 +124,7 @@ pub(crate) fn middle_code_segment(
     requires text { IsTrue (accepts hex_text text.now) }
     requires empty { reply.old ≡ [] }
     ensures shows { let clear = opened (bench_of lease.old) key.now in
-        let method = mac_rule_named rule.now in
+        let method = mac_rule_named (code_rule_word rule) in
         let before = hex_value chain.now in
         ShowsOr (first_refusal (code_key_questions method clear
         (chain_questions before (segment_questions (length text.now / 2)))))
@@ -148,7 +146,7 @@ fn end_code(
     key: &Judged,
     method: MacRule,
     chain: &Chain,
-    count: &[u8],
+    count: CodeLength,
     text: &[u8],
     lease: &mut Lease,
     reply: &mut ReplyBuffer,
@@ -159,7 +157,8 @@ fn end_code(
     ensures shows { let clear = opened (bench_of lease.old) key.now in
         ShowsOr (first_refusal (code_key_questions method clear
         (last_segment_questions (Mac method) Pad.None chain.now (length text.now / 2))))
-        (last_code_fields clear method chain.now (mac_length_named count.now) (hex_value text.now))
+        (last_code_fields clear method chain.now (mac_length_named (code_length_word count))
+        (hex_value text.now))
         result reply.new }
     ensures ready { (held : Registers) (bench : Bench) (rows : List (Option Row))
         → IsReady held bench rows result reply.new }
@@ -167,11 +166,8 @@ fn end_code(
         (with_places (bench_of lease.old) (bench_of lease.new)) }
 {
     let carried = chain.carried.bytes().len();
-    if let Err(broken) = judge_digits(TextUse::LastMac { carried }, text) {
-        return Effect::Refused(broken, "text");
-    }
-    if let Err(broken) = judge_mac(method, key.token.vector.length()) {
-        return Effect::Refused(broken, "key");
+    if let Err(broken) = judge_code(TextUse::LastMac { carried }, text, method, key) {
+        return Effect::Refused(broken.rule, broken.operand);
     }
     put_text(text, lease);
     show_code(&last_mac(lease, key, method, chain), count_of(count), reply);
@@ -182,9 +178,9 @@ fn end_code(
 /// refused, a text of a wrong length, and a key that the rule doesn't take.
 pub(crate) fn last_code_segment(
     key: &Judged,
-    rule: &[u8],
+    rule: CodeRule,
     chain: &[u8],
-    count: &[u8],
+    count: CodeLength,
     text: &[u8],
     lease: &mut Lease,
     reply: &mut ReplyBuffer,
@@ -194,12 +190,13 @@ pub(crate) fn last_code_segment(
     requires text { IsTrue (accepts hex_text text.now) }
     requires empty { reply.old ≡ [] }
     ensures shows { let clear = opened (bench_of lease.old) key.now in
-        let method = mac_rule_named rule.now in
+        let method = mac_rule_named (code_rule_word rule) in
         let before = hex_value chain.now in
         ShowsOr (first_refusal (code_key_questions method clear
         (chain_questions before (last_segment_questions (Mac method) Pad.None (chain_of before)
         (length text.now / 2)))))
-        (last_code_fields clear method (chain_of before) (mac_length_named count.now) (hex_value text.now))
+        (last_code_fields clear method (chain_of before)
+        (mac_length_named (code_length_word count)) (hex_value text.now))
         result reply.new }
     ensures ready { (held : Registers) (bench : Bench) (rows : List (Option Row))
         → IsReady held bench rows result reply.new }
@@ -265,11 +262,8 @@ fn end_match(
         (with_places (bench_of lease.old) (bench_of lease.new)) }
 {
     let carried = chain.carried.bytes().len();
-    if let Err(broken) = judge_digits(TextUse::LastMac { carried }, text) {
-        return Effect::Refused(broken, "text");
-    }
-    if let Err(broken) = judge_mac(method, key.token.vector.length()) {
-        return Effect::Refused(broken, "key");
+    if let Err(broken) = judge_code(TextUse::LastMac { carried }, text, method, key) {
+        return Effect::Refused(broken.rule, broken.operand);
     }
     put_text(text, lease);
     show_match(has_code(lease, key, method, chain, mac), reply);
@@ -280,7 +274,7 @@ fn end_match(
 /// gives is refused, a text of a wrong length, and a key that the rule doesn't take.
 pub(crate) fn last_match_segment(
     key: &Judged,
-    rule: &[u8],
+    rule: CodeRule,
     chain: &[u8],
     mac: &[u8],
     text: &[u8],
@@ -293,7 +287,7 @@ pub(crate) fn last_match_segment(
     requires text { IsTrue (accepts hex_text text.now) }
     requires empty { reply.old ≡ [] }
     ensures shows { let clear = opened (bench_of lease.old) key.now in
-        let method = mac_rule_named rule.now in
+        let method = mac_rule_named (code_rule_word rule) in
         let before = hex_value chain.now in
         ShowsOr (first_refusal (code_key_questions method clear
         (chain_questions before (last_segment_questions (Mac method) Pad.None (chain_of before)

@@ -6,6 +6,7 @@ ghost use Rattle.key_records.specs.declared.rows.Row.{Row};
 ghost use Rattle.master_registers.specs.declared.registers.Registers.{Registers};
 ghost use Rattle.script_buffers.specs.Replies.{Hex};
 ghost use Rattle.verb_rules.specs.Keys.{HasHalves, opened};
+ghost use Rattle.verb_script.specs.Choices.{padding_word};
 ghost use Rattle.verb_script.specs.Grammar.{accepts, hex_text, is_hex};
 ghost use Rattle.verb_script.specs.Values.{hex_value};
 ghost use Rattle.cca_machine.specs.Choices.{pad_named};
@@ -19,14 +20,14 @@ use crate::verbs::texts::{block_of, judge_digits, pad_of, put_text, show_text};
 use cipher_verbs::decipher;
 use key_cells::Lease;
 use verb_rules::{Judged, TextUse};
-use verb_script::ReplyBuffer;
+use verb_script::{Padding, ReplyBuffer};
 
 /// Shows the text deciphered under the key in a chain from `iv`, without its padding. A text of a wrong length is
 /// refused, and one whose last byte is no count of padding.
 pub(crate) fn csnbdec(
     key: &Judged,
     iv: &[u8],
-    pad: &[u8],
+    pad: Padding,
     text: &[u8],
     lease: &mut Lease,
     reply: &mut ReplyBuffer,
@@ -36,7 +37,7 @@ pub(crate) fn csnbdec(
     requires text { IsTrue (accepts hex_text text.now) }
     requires empty { reply.old ≡ [] }
     ensures shows { let clear = opened (bench_of lease.old) key.now in
-        let padding = pad_named pad.now in
+        let padding = pad_named (padding_word pad) in
         ShowsOr (first_refusal (decipher_questions (length text.now / 2) clear
         (hex_value iv.now) padding (hex_value text.now)))
         (Hex (codes "text") (or_empty (deciphered_text clear (hex_value iv.now) padding

@@ -6,6 +6,7 @@ ghost use Rattle.key_records.specs.declared.rows.Row.{Row};
 ghost use Rattle.master_registers.specs.declared.registers.Registers.{Registers};
 ghost use Rattle.script_buffers.specs.Replies.{Hex};
 ghost use Rattle.verb_rules.specs.Keys.{HasHalves, opened};
+ghost use Rattle.verb_script.specs.Choices.{padding_word};
 ghost use Rattle.verb_script.specs.Grammar.{accepts, hex_text, is_hex};
 ghost use Rattle.verb_script.specs.Values.{hex_value};
 ghost use Rattle.cca_machine.specs.Choices.{pad_named};
@@ -18,13 +19,13 @@ use crate::verbs::texts::{block_of, enciphering, judge_digits, pad_of, put_text,
 use cipher_verbs::encipher;
 use key_cells::Lease;
 use verb_rules::Judged;
-use verb_script::ReplyBuffer;
+use verb_script::{Padding, ReplyBuffer};
 
 /// Shows the text enciphered under the key in a chain from `iv`. A text of a wrong length is refused.
 pub(crate) fn csnbenc(
     key: &Judged,
     iv: &[u8],
-    pad: &[u8],
+    pad: Padding,
     text: &[u8],
     lease: &mut Lease,
     reply: &mut ReplyBuffer,
@@ -34,8 +35,9 @@ pub(crate) fn csnbenc(
     requires text { IsTrue (accepts hex_text text.now) }
     requires empty { reply.old ≡ [] }
     ensures shows { let clear = opened (bench_of lease.old) key.now in
-        ShowsOr (first_refusal (encipher_questions (pad_named pad.now) (length text.now / 2)))
-        (Hex (codes "text") (enciphered_text clear (hex_value iv.now) (pad_named pad.now)
+        let padding = pad_named (padding_word pad) in
+        ShowsOr (first_refusal (encipher_questions padding (length text.now / 2)))
+        (Hex (codes "text") (enciphered_text clear (hex_value iv.now) padding
         (hex_value text.now)) ∷ [])
         result reply.new }
     ensures ready { (held : Registers) (bench : Bench) (rows : List (Option Row))

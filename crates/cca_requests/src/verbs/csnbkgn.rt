@@ -10,6 +10,7 @@ ghost use Rattle.master_registers.specs.Loaded.{Loaded, IsLoaded};
 ghost use Rattle.script_buffers.specs.Replies.{Hex};
 ghost use Rattle.slot_disk.specs.Faults.{HasCause};
 ghost use Rattle.verb_rules.specs.Keys.{IsDouble, opened};
+ghost use Rattle.verb_script.specs.Choices.{key_length_word, out_form_word, pair_form_word};
 ghost use Rattle.verb_script.specs.Named.{label_named};
 ghost use Rattle.cca_machine.specs.Act.{Show, delivered, delivered_with};
 ghost use Rattle.cca_machine.specs.Choices.{key_length_named, out_form_named, pair_form_named};
@@ -29,42 +30,37 @@ use key_transport::{Form, GenerateFault, generate};
 use master_registers::Registers;
 use slot_disk::{Entropy, Failed};
 use verb_rules::{Judged, Rule, judge_length, judge_pair};
-use verb_script::ReplyBuffer;
+use verb_script::{KeyLength, OutForm, PairForm, ReplyBuffer};
 
 /// The form that the field names, of those with one internal and one external key.
-pub(crate) fn pair_form(form: &[u8]) -> Form
-    ensures { result ≡ pair_form_named form.now }
+pub(crate) fn pair_form(form: PairForm) -> Form
+    ensures { result ≡ pair_form_named (pair_form_word form) }
 {
-    if form == b"OPEX".as_slice() {
-        Form::Opex
-    } else {
-        Form::Opim
+    match form {
+        PairForm::Opex => Form::Opex,
+        PairForm::Opim => Form::Opim,
     }
 }
 
 /// The form that the field names, of those with two external keys.
-pub(crate) fn out_form(form: &[u8]) -> Form
-    ensures { result ≡ out_form_named form.now }
+pub(crate) fn out_form(form: OutForm) -> Form
+    ensures { result ≡ out_form_named (out_form_word form) }
 {
-    if form == b"IMEX".as_slice() {
-        Form::Imex
-    } else if form == b"EXEX".as_slice() {
-        Form::Exex
-    } else {
-        Form::Imim
+    match form {
+        OutForm::Imex => Form::Imex,
+        OutForm::Exex => Form::Exex,
+        OutForm::Imim => Form::Imim,
     }
 }
 
 /// The length that the field names.
-fn key_length(length: &[u8]) -> Length
-    ensures { result ≡ key_length_named length.now }
+fn key_length(length: KeyLength) -> Length
+    ensures { result ≡ key_length_named (key_length_word length) }
 {
-    if length == b"8".as_slice() {
-        Length::Eight
-    } else if length == b"16".as_slice() {
-        Length::Sixteen
-    } else {
-        Length::Unique
+    match length {
+        KeyLength::Eight => Length::Eight,
+        KeyLength::Sixteen => Length::Sixteen,
+        KeyLength::DoubleO => Length::Unique,
     }
 }
 
@@ -100,7 +96,7 @@ fn judge_two(first: KeyType, second: KeyType, length: Length) -> Option<Refusal>
 /// Generates a key for here, and delivers it. A type that hasn't the length is refused before a byte is drawn, and a key
 /// whose halves are repeated after.
 pub(crate) fn generate_one<E: Entropy>(
-    length: &[u8],
+    length: KeyLength,
     kind: KeyType,
     to: &[u8],
     place: Option<Place>,
@@ -116,14 +112,16 @@ pub(crate) fn generate_one<E: Entropy>(
     ensures generated { (s : State) → Loaded s.registers held.now (bench_of lease.old)
         → place ≡ target_cell s (label_named to.now)
         → IfOk result (LeavesDrawn s
-        (first_refusal (generate_questions kind (key_length_named length.now)))
+        (first_refusal (generate_questions kind (key_length_named (key_length_word length))))
         (λ (drawn : List ℕ). delivered s (codes "token1") (label_named to.now)
-        (as_current (generated_key kind (key_length_named length.now) drawn)))
-        (key_length_named length.now) (E.left entropy.old) (E.left entropy.new) reply.new) }
+        (as_current (generated_key kind (key_length_named (key_length_word length)) drawn)))
+        (key_length_named (key_length_word length)) (E.left entropy.old) (E.left entropy.new)
+        reply.new) }
     ensures permitted { OnErr result
-        (first_refusal (generate_questions kind (key_length_named length.now)) ≡ None) }
+        (first_refusal (generate_questions kind (key_length_named (key_length_word length)))
+        ≡ None) }
     ensures untouched { IsSome (first_refusal
-        (generate_questions kind (key_length_named length.now)))
+        (generate_questions kind (key_length_named (key_length_word length))))
         → entropy.new ≡ entropy.old }
     ensures ready { (rows : List (Option Row)) → IsHeldPlace rows place
         → IfOk result (λ effect. IsReady held.now (bench_of lease.new) rows effect reply.new) }
@@ -159,8 +157,8 @@ pub(crate) fn generate_one<E: Entropy>(
 /// Generates a key for here and the same key for elsewhere, and delivers the first. Types that aren't a pair are refused,
 /// and a type that hasn't the length, before a byte is drawn.
 pub(crate) fn generate_pair<E: Entropy>(
-    form: &[u8],
-    length: &[u8],
+    form: PairForm,
+    length: KeyLength,
     first: KeyType,
     second: KeyType,
     transport: &Judged,
@@ -179,16 +177,18 @@ pub(crate) fn generate_pair<E: Entropy>(
     ensures generated { (s : State) → Loaded s.registers held.now (bench_of lease.old)
         → place ≡ target_cell s (label_named to.now)
         → IfOk result (LeavesDrawn s
-        (first_refusal (pair_questions first second (key_length_named length.now)))
+        (first_refusal (pair_questions first second (key_length_named (key_length_word length))))
         (λ (drawn : List ℕ). delivered_with s (codes "token1") (label_named to.now)
-        (as_current (generated_key first (key_length_named length.now) drawn))
+        (as_current (generated_key first (key_length_named (key_length_word length)) drawn))
         (Hex (codes "token2") (external_token (opened (bench_of lease.old) transport.now).key
-        (generated_key second (key_length_named length.now) drawn)) ∷ []))
-        (key_length_named length.now) (E.left entropy.old) (E.left entropy.new) reply.new) }
+        (generated_key second (key_length_named (key_length_word length)) drawn)) ∷ []))
+        (key_length_named (key_length_word length)) (E.left entropy.old) (E.left entropy.new)
+        reply.new) }
     ensures permitted { OnErr result
-        (first_refusal (pair_questions first second (key_length_named length.now)) ≡ None) }
+        (first_refusal (pair_questions first second (key_length_named (key_length_word length)))
+        ≡ None) }
     ensures untouched { IsSome (first_refusal
-        (pair_questions first second (key_length_named length.now)))
+        (pair_questions first second (key_length_named (key_length_word length))))
         → entropy.new ≡ entropy.old }
     ensures ready { (rows : List (Option Row)) → IsHeldPlace rows place
         → IfOk result (λ effect. IsReady held.now (bench_of lease.new) rows effect reply.new) }
@@ -224,8 +224,8 @@ pub(crate) fn generate_pair<E: Entropy>(
 /// Generates a key for elsewhere twice, and shows both tokens. Types that aren't a pair are refused, and a type that
 /// hasn't the length, before a byte is drawn.
 pub(crate) fn generate_out<E: Entropy>(
-    form: &[u8],
-    length: &[u8],
+    form: OutForm,
+    length: KeyLength,
     first: KeyType,
     second: KeyType,
     one: &Judged,
@@ -241,18 +241,22 @@ pub(crate) fn generate_out<E: Entropy>(
     requires loaded { IsLoaded held.now (bench_of lease.old) }
     requires empty { reply.old ≡ [] }
     ensures generated { (s : State) → IfOk result (LeavesDrawn s
-        (first_refusal (pair_questions first second (key_length_named length.now)))
+        (first_refusal (pair_questions first second (key_length_named (key_length_word length))))
         (λ (drawn : List ℕ). Show (
         Hex (codes "token1")
-        (external_token (opened (bench_of lease.old) one.now).key (generated_key first (key_length_named length.now) drawn))
+        (external_token (opened (bench_of lease.old) one.now).key
+        (generated_key first (key_length_named (key_length_word length)) drawn))
         ∷ Hex (codes "token2")
-        (external_token (opened (bench_of lease.old) two.now).key (generated_key second (key_length_named length.now) drawn))
+        (external_token (opened (bench_of lease.old) two.now).key
+        (generated_key second (key_length_named (key_length_word length)) drawn))
         ∷ []))
-        (key_length_named length.now) (E.left entropy.old) (E.left entropy.new) reply.new) }
+        (key_length_named (key_length_word length)) (E.left entropy.old) (E.left entropy.new)
+        reply.new) }
     ensures permitted { OnErr result
-        (first_refusal (pair_questions first second (key_length_named length.now)) ≡ None) }
+        (first_refusal (pair_questions first second (key_length_named (key_length_word length)))
+        ≡ None) }
     ensures untouched { IsSome (first_refusal
-        (pair_questions first second (key_length_named length.now)))
+        (pair_questions first second (key_length_named (key_length_word length))))
         → entropy.new ≡ entropy.old }
     ensures ready { (bench : Bench) (rows : List (Option Row))
         → IfOk result (λ effect. IsReady held.now bench rows effect reply.new) }

@@ -8,6 +8,7 @@ ghost use Rattle.key_records.specs.declared.rows.Row.{Row};
 ghost use Rattle.key_transport.specs.Tokens.{as_current};
 ghost use Rattle.master_registers.specs.Loaded.{Loaded, IsLoaded};
 ghost use Rattle.verb_rules.specs.Keys.{HasHalves, opened};
+ghost use Rattle.verb_script.specs.Choices.{part_rule_word};
 ghost use Rattle.verb_script.specs.Grammar.{accepts, part_text};
 ghost use Rattle.verb_script.specs.Named.{label_named};
 ghost use Rattle.verb_script.specs.Values.{hex_value};
@@ -22,27 +23,23 @@ ghost use Rattle.cca_requests.specs.Judging.{IsPlaceFor, target_cell};
 use crate::effects::Effect;
 use crate::refusals::Refusal;
 use crate::verbs::delivering::deliver;
+use crate::verbs::key_digits::put_key;
 use cca_vectors::KeyType;
 use key_cells::{KeyPlace, Lease};
 use key_parts::{combine_part, first_part};
 use key_records::Place;
 use master_registers::Registers;
 use verb_rules::{Judged, judge_part, judge_size};
-use verb_script::{ReplyBuffer, decode};
+use verb_script::{PartRule, ReplyBuffer};
 
 /// Whether the part is the last one.
-fn is_last(rule: &[u8]) -> bool
-    ensures { result ≡ is_last_part rule.now }
+fn is_last(rule: PartRule) -> bool
+    ensures { result ≡ is_last_part (part_rule_word rule) }
 {
-    rule == b"LAST".as_slice()
-}
-
-/// Puts the bytes that the digits spell to the front of others.
-fn put_front(digits: &[u8], room: &mut [u8; 16])
-    requires { IsTrue (accepts part_text digits.now) }
-    ensures { take (length digits.now / 2) room.new ≡ hex_value digits.now }
-{
-    decode(digits, &mut room[..digits.len() / 2]);
+    match rule {
+        PartRule::Middle => false,
+        PartRule::Last => true,
+    }
 }
 
 /// Puts the part of a key that the digits spell into the workbench.
@@ -54,7 +51,7 @@ fn put_part(digits: &[u8], lease: &mut Lease)
         ≡ holding lease.old (with_key (bench_of lease.old) KeyPlace.Fresh
         (key_of (bench_of lease.new) KeyPlace.Fresh)) }
 {
-    put_front(digits, lease.key_mut(KeyPlace::Fresh));
+    put_key(digits, KeyPlace::Fresh, lease);
 }
 
 /// Delivers the first part of a key of this type, as a key part. A part of a length that the type hasn't is refused.
@@ -124,7 +121,7 @@ fn judge(key: &Judged, length: usize) -> Option<Refusal>
 /// length is refused, and a key that is no part.
 pub(crate) fn further(
     key: &Judged,
-    rule: &[u8],
+    rule: PartRule,
     part: &[u8],
     to: &[u8],
     place: Option<Place>,
@@ -143,7 +140,7 @@ pub(crate) fn further(
         → let clear = opened (bench_of lease.old) key.now in
         IsDeliveredOr s (first_refusal (further_part_questions clear.vector (length part.now / 2)))
         (delivered s (codes "token") (label_named to.now)
-        (as_current (combined_key (is_last_part rule.now) clear (hex_value part.now))))
+        (as_current (combined_key (is_last_part (part_rule_word rule)) clear (hex_value part.now))))
         result reply.new }
     ensures ready { (rows : List (Option Row)) → IsHeldPlace rows place
         → IsReady held.now (bench_of lease.new) rows result reply.new }

@@ -5,6 +5,7 @@ ghost use Rattle.key_transport.specs.Tokens.{changed_token};
 ghost use Rattle.master_registers.specs.Loaded.{Loaded};
 ghost use Rattle.script_buffers.specs.Replies.{Hex};
 ghost use Rattle.verb_rules.specs.Keys.{HasHalves, opened};
+ghost use Rattle.verb_script.specs.Choices.{change_word};
 ghost use Rattle.cca_machine.specs.Choices.{target_named};
 ghost use Rattle.cca_machine.specs.State.{State};
 ghost use Rattle.cca_machine.specs.Verdict.{first_refusal, change_questions};
@@ -17,23 +18,22 @@ use key_cells::Lease;
 use key_transport::{Target, token_change};
 use master_registers::{NewState, Registers};
 use verb_rules::{Judged, Rule};
-use verb_script::ReplyBuffer;
+use verb_script::{ChangeTo, ReplyBuffer};
 
 /// The master key that the field names: RTCMK the current one, RTNMK the new one.
-pub(crate) fn target(rule: &[u8]) -> Target
-    ensures { result ≡ target_named rule.now }
+pub(crate) fn target(rule: ChangeTo) -> Target
+    ensures { result ≡ target_named (change_word rule) }
 {
-    if rule == b"RTCMK".as_slice() {
-        Target::Current
-    } else {
-        Target::New
+    match rule {
+        ChangeTo::Current => Target::Current,
+        ChangeTo::New => Target::New,
     }
 }
 
 /// Shows the token of a key under another master key, or is refused where that is the new one and its register isn't full.
 pub(crate) fn csnbktc(
     token: &Judged,
-    rule: &[u8],
+    rule: ChangeTo,
     lease: &mut Lease,
     held: &Registers,
     reply: &mut ReplyBuffer,
@@ -42,8 +42,8 @@ pub(crate) fn csnbktc(
     requires master { IsSome held.now.current_pattern }
     requires empty { reply.old ≡ [] }
     ensures shows { (s : State) → Loaded s.registers held.now (bench_of lease.old)
-        → ShowsOr (first_refusal (change_questions s (target_named rule.now)))
-        (Hex (codes "token") (changed_token s.registers (target_named rule.now)
+        → ShowsOr (first_refusal (change_questions s (target_named (change_word rule))))
+        (Hex (codes "token") (changed_token s.registers (target_named (change_word rule))
         (opened (bench_of lease.old) token.now)) ∷ []) result reply.new }
     ensures ready { (bench : Bench) (rows : List (Option Row))
         → IsReady held.now bench rows result reply.new }

@@ -4,6 +4,7 @@ ghost use Rattle.std.specs.Option.{option_map};
 ghost use Rattle.cca_vectors.specs.Checks.{first_failing};
 ghost use Rattle.key_cells.specs.Bench.{Bench, with_master};
 ghost use Rattle.key_cells.specs.Lease.{bench_of, holding};
+ghost use Rattle.verb_script.specs.Choices.{part_action_word};
 ghost use Rattle.verb_script.specs.Grammar.{is_hex};
 ghost use Rattle.verb_script.specs.Values.{hex_value};
 ghost use Rattle.master_registers.specs.Loaded.{Loaded};
@@ -20,18 +21,16 @@ use key_cells::{Lease, MasterPlace};
 use key_records::Records;
 use master_registers::{Action, NewState, Registers, pattern_of};
 use verb_rules::Rule;
-use verb_script::decode;
+use verb_script::{PartAction, decode};
 
 /// The action that the field names, of those that take a key part.
-pub(crate) fn part_action(action: &[u8]) -> Action
-    ensures { result ≡ named action.now }
+pub(crate) fn part_action(action: PartAction) -> Action
+    ensures { result ≡ named (part_action_word action) }
 {
-    if action == b"FIRST".as_slice() {
-        Action::First
-    } else if action == b"MIDDLE".as_slice() {
-        Action::Middle
-    } else {
-        Action::Last
+    match action {
+        PartAction::First => Action::First,
+        PartAction::Middle => Action::Middle,
+        PartAction::Last => Action::Last,
     }
 }
 

@@ -10,6 +10,7 @@ ghost use Rattle.key_records.specs.declared.rows.Row.{Row};
 ghost use Rattle.master_registers.specs.declared.registers.Registers.{Registers};
 ghost use Rattle.script_buffers.specs.Replies.{Text, written};
 ghost use Rattle.verb_rules.specs.Keys.{HasHalves, opened};
+ghost use Rattle.verb_script.specs.Choices.{code_rule_word};
 ghost use Rattle.verb_script.specs.Grammar.{accepts, hex_text, mac_text};
 ghost use Rattle.verb_script.specs.Values.{hex_value};
 ghost use Rattle.cca_machine.specs.Choices.{mac_rule_named};
@@ -19,11 +20,11 @@ ghost use Rattle.cca_machine.specs.Act.{yes_or_no};
 ghost use Rattle.mac_verbs.specs.Codes.{is_code};
 
 use crate::effects::Effect;
-use crate::verbs::texts::{judge_digits, mac_rule_of, put_text};
+use crate::verbs::texts::{judge_code, mac_rule_of, put_text};
 use key_cells::{KeyPlace, Lease};
 use mac_verbs::mac_verify;
-use verb_rules::{Judged, MacRule, TextUse, judge_mac};
-use verb_script::{ReplyBuffer, decode};
+use verb_rules::{Judged, MacRule, TextUse};
+use verb_script::{CodeRule, ReplyBuffer, decode};
 
 /// Puts the bytes of a code that the digits spell, and tells how many they are.
 pub(super) fn put_code(digits: &[u8], bytes: &mut [u8; 8]) -> usize
@@ -69,7 +70,7 @@ fn has_code(lease: &mut Lease, key: &Judged, method: MacRule, digits: &[u8]) -> 
 /// doesn't take.
 pub(crate) fn csnbmvr(
     key: &Judged,
-    rule: &[u8],
+    rule: CodeRule,
     mac: &[u8],
     text: &[u8],
     lease: &mut Lease,
@@ -80,7 +81,7 @@ pub(crate) fn csnbmvr(
     requires text { IsTrue (accepts hex_text text.now) }
     requires empty { reply.old ≡ [] }
     ensures shows { let clear = opened (bench_of lease.old) key.now in
-        let method = mac_rule_named rule.now in
+        let method = mac_rule_named (code_rule_word rule) in
         ShowsOr (first_refusal (mac_questions method (length text.now / 2) clear))
         (Text (codes "match") (yes_or_no
         (is_code method clear (hex_value text.now) (hex_value mac.now))) ∷ [])
@@ -91,11 +92,8 @@ pub(crate) fn csnbmvr(
         (with_places (bench_of lease.old) (bench_of lease.new)) }
 {
     let method = mac_rule_of(rule);
-    if let Err(broken) = judge_digits(TextUse::Mac, text) {
-        return Effect::Refused(broken, "text");
-    }
-    if let Err(broken) = judge_mac(method, key.token.vector.length()) {
-        return Effect::Refused(broken, "key");
+    if let Err(broken) = judge_code(TextUse::Mac, text, method, key) {
+        return Effect::Refused(broken.rule, broken.operand);
     }
     put_text(text, lease);
     show_match(has_code(lease, key, method, mac), reply);

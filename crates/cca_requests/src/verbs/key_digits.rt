@@ -9,7 +9,7 @@ use key_cells::{KeyPlace, Lease};
 use verb_script::decode;
 
 /// Puts the bytes that the digits spell before the others.
-fn put_front(digits: &[u8], key: &mut [u8; 16])
+fn put_digits(digits: &[u8], key: &mut [u8; 16])
     requires digits { IsTrue (accepts hex_text digits.now) }
     requires room { length digits.now ≤ 32 }
     ensures key { key.new ≡ hex_value digits.now ++ drop (length digits.now / 2) key.old }
@@ -27,5 +27,5 @@ pub(super) fn put_key(digits: &[u8], place: KeyPlace, lease: &mut Lease)
         (hex_value digits.now ++ drop (length digits.now / 2) (key_of (bench_of lease.old) place))) }
     ensures size { length (hex_value digits.now) ≡ length digits.now / 2 }
 {
-    put_front(digits, lease.key_mut(place));
+    put_digits(digits, lease.key_mut(place));
 }

@@ -10,6 +10,7 @@ ghost use Rattle.script_buffers.specs.Replies.{Hex, written};
 ghost use Rattle.text_segments.specs.Chains.{chain_bytes, chain_checks, chain_of, first_chain};
 ghost use Rattle.text_segments.specs.Segments.{IsCipher};
 ghost use Rattle.verb_rules.specs.Keys.{HasHalves, opened};
+ghost use Rattle.verb_script.specs.Choices.{padding_word};
 ghost use Rattle.verb_script.specs.Grammar.{accepts, hex_text, is_hex};
 ghost use Rattle.verb_script.specs.Values.{hex_value};
 ghost use Rattle.cca_machine.specs.Act.{last_text_fields, segment_fields};
@@ -23,7 +24,7 @@ use cipher_verbs::Pad;
 use key_cells::Lease;
 use text_segments::{Chain, Mode, last_text, segment};
 use verb_rules::{Judged, Rule, TextUse};
-use verb_script::{ReplyBuffer, decode};
+use verb_script::{Padding, ReplyBuffer, decode};
 
 /// The 16 bytes that 32 digits spell.
 fn bytes_of(digits: &[u8]) -> [u8; 16]
@@ -193,7 +194,7 @@ pub(crate) fn last_segment(
     mode: Mode,
     key: &Judged,
     chain: &[u8],
-    pad: &[u8],
+    pad: Padding,
     text: &[u8],
     lease: &mut Lease,
     reply: &mut ReplyBuffer,
@@ -205,7 +206,7 @@ pub(crate) fn last_segment(
     requires empty { reply.old ≡ [] }
     ensures shows { let clear = opened (bench_of lease.old) key.now in
         let before = hex_value chain.now in
-        let padding = pad_named pad.now in
+        let padding = pad_named (padding_word pad) in
         ShowsOr (first_refusal (chain_questions before
         (last_text_questions mode clear (chain_of before) padding (length text.now / 2)
         (hex_value text.now))))

@@ -1,28 +1,32 @@
 //! Texts and chaining values in the fields of a request, and the words that say how they are worked on.
-ghost use Rattle.std.specs.Prelude.{◌≡◌, ◌≤◌, ◌/◌, ◌∷◌, [], OnOk, IsTrue, codes, length};
+ghost use Rattle.std.specs.Prelude.{◌≡◌, ◌≤◌, ◌<◌, ◌/◌, ◌∷◌, [], None, Some, OnOk, IfErr, IsTrue, codes, length};
+ghost use Rattle.cca_vectors.specs.Checks.{first_failing};
+ghost use Rattle.cca_vectors.specs.Vectors.{length_of};
 ghost use Rattle.key_cells.specs.Bench.{text_of};
 ghost use Rattle.key_cells.specs.Lease.{bench_of, holding};
 ghost use Rattle.script_buffers.specs.Replies.{Hex, written};
-ghost use Rattle.verb_rules.specs.LengthChecks.{text_checks};
-ghost use Rattle.verb_rules.specs.Rules.{Judges};
+ghost use Rattle.verb_rules.specs.LengthChecks.{mac_checks, text_checks};
+ghost use Rattle.verb_rules.specs.Rules.{Judges, rule_number};
+ghost use Rattle.verb_script.specs.Choices.{code_rule_word, padding_word};
 ghost use Rattle.verb_script.specs.Grammar.{accepts, hex_text, is_hex};
 ghost use Rattle.verb_script.specs.Values.{hex_value};
 ghost use Rattle.cca_machine.specs.Choices.{pad_named, mac_rule_named};
+ghost use Rattle.cca_machine.specs.Verdict.{first_refusal, questions, refusal};
 ghost use Rattle.cipher_verbs.specs.CipherTexts.{enciphering};
 
+use crate::refusals::Refusal;
 use cipher_verbs::Pad;
 use key_cells::Lease;
-use verb_rules::{MacRule, Rule, TextUse, judge_text};
-use verb_script::{ReplyBuffer, decode};
+use verb_rules::{Judged, MacRule, Rule, TextUse, judge_mac, judge_text};
+use verb_script::{CodeRule, Padding, ReplyBuffer, decode};
 
 /// How the text is padded.
-pub(super) fn pad_of(pad: &[u8]) -> Pad
-    ensures { result ≡ pad_named pad.now }
+pub(super) fn pad_of(padding: Padding) -> Pad
+    ensures { result ≡ pad_named (padding_word padding) }
 {
-    if pad == b"NONE".as_slice() {
-        Pad::None
-    } else {
-        Pad::X923
+    match padding {
+        Padding::None => Pad::None,
+        Padding::X923 => Pad::X923,
     }
 }
 
@@ -37,13 +41,12 @@ pub(super) fn enciphering(padding: Pad) -> TextUse
 }
 
 /// How a message authentication code is made.
-pub(super) fn mac_rule_of(rule: &[u8]) -> MacRule
-    ensures { result ≡ mac_rule_named rule.now }
+pub(super) fn mac_rule_of(rule: CodeRule) -> MacRule
+    ensures { result ≡ mac_rule_named (code_rule_word rule) }
 {
-    if rule == b"X9.9-1".as_slice() {
-        MacRule::X99
-    } else {
-        MacRule::X919
+    match rule {
+        CodeRule::X99 => MacRule::X99,
+        CodeRule::X919 => MacRule::X919,
     }
 }
 
@@ -54,6 +57,38 @@ pub(super) fn judge_digits(use_of: TextUse, digits: &[u8]) -> Result<(), Rule>
     ensures room { OnOk result (length digits.now / 2 ≤ 4096) }
 {
     judge_text(use_of, digits.len() / 2)
+}
+
+/// Rule 23 of the text that the digits spell, whose code is asked for, and then rule 32 of the key.
+pub(super) fn judge_code(
+    use_of: TextUse,
+    digits: &[u8],
+    method: MacRule,
+    key: &Judged,
+) -> Result<(), Refusal>
+    ensures refused { IfErr result (λ r. first_refusal (
+        questions (codes "text") (text_checks use_of (length digits.now / 2))
+        ∷ questions (codes "key") (mac_checks method (length_of key.now.token.vector)) ∷ [])
+        ≡ Some (refusal (rule_number r.rule) r.operand.now)) }
+    ensures short { IfErr result (λ r. length r.operand.now < 100) }
+    ensures text { OnOk result (first_failing (text_checks use_of (length digits.now / 2)) ≡ None) }
+    ensures key { OnOk result
+        (first_failing (mac_checks method (length_of key.now.token.vector)) ≡ None) }
+    ensures room { OnOk result (length digits.now / 2 ≤ 4096) }
+{
+    if let Err(rule) = judge_digits(use_of, digits) {
+        return Err(Refusal {
+            rule,
+            operand: "text",
+        });
+    }
+    match judge_mac(method, key.token.vector.length()) {
+        Ok(()) => Ok(()),
+        Err(rule) => Err(Refusal {
+            rule,
+            operand: "key",
+        }),
+    }
 }
 
 /// Puts the text that the digits spell into the workbench.

@@ -1,10 +1,11 @@
 use Rattle.std.proofs.Common.{ℕ, Option, None, Some, Err, inl, inr, sym, ap, subst, ◌∙◌, arith}
+use Rattle.slot_disk.proofs.Media.{told_after, told_earlier, told_joined, told_map}
 use Rattle.slot_disk.specs.Medium.{Told}
 use Rattle.slot_disk.proofs.WhereToldLemmas.{rose_wider}
 use Rattle.audit_trail.specs.Opening.{Scanned, Checked}
 use Rattle.audit_trail.specs.TrailStands.{StandsForTrail, IsFirstStray, IsFirstStale, IsFirstDamaged}
 use Rattle.audit_trail.specs.declared.faults.TrailFault.TheVariants.{Damaged}
-use Rattle.audit_trail.proofs.MediumLaws.{told_map, told_both, told_before, told_after, same_fault, exact_by}
+use Rattle.audit_trail.proofs.MediumLaws.{same_fault, exact_by}
 use Rattle.audit_trail.proofs.OpeningLaws.{stands_blank, blank_undamaged, stands_checked, checked_undamaged}
 use Rattle.audit_trail.proofs.opening.open_trail.Goals as goal
 
@@ -19,7 +20,7 @@ pub returns-in-Ok-None-clause-exact : goal.returns-in-Ok-None-clause-exact
 returns-in-Ok-None-clause-exact g c fell =
     let m1 = g.T.Disk.medium c.settle.new.disk in
     let scanned = subst (λ (o : Option ℕ). Told m1 (λ image. Scanned image 4096 o)) c.in-Ok-None.field-0-is c.in-Ok-None.ensures.scanned in
-    told_before (g.T.Disk.medium c.args.trail.now) m1 _ c.settle.ensures.content
+    told_earlier (g.T.Disk.medium c.args.trail.now) m1 _ c.settle.ensures.content
     (told_map m1 (λ image. Scanned image 4096 None) _ scanned (λ image s cell damaged. absurd (blank_undamaged image s cell damaged)))
 
 pub returns-in-Ok-clause-stands : goal.returns-in-Ok-clause-stands
@@ -35,17 +36,17 @@ returns-in-Ok-clause-exact g c fell =
     let m2 = g.T.Disk.medium c.scan_cells.new.trail in
     let last : ℕ = c.in-Ok-Some.last in
     let scanned = subst (λ (o : Option ℕ). Told m1 (λ image. Scanned image 4096 o)) c.in-Ok-Some.field-0-is c.in-Ok-Some.ensures.scanned in
-    told_before (g.T.Disk.medium c.args.trail.now) m1 _ c.settle.ensures.content
-    (told_before m1 m2 _ c.scan_cells.ensures.keeps.content
-    (told_both m2 (λ image. Scanned image 4096 (Some last)) (λ image. Checked image last 4096) _
+    told_earlier (g.T.Disk.medium c.args.trail.now) m1 _ c.settle.ensures.content
+    (told_earlier m1 m2 _ c.scan_cells.ensures.keeps.content
+    (told_joined m2 (λ image. Scanned image 4096 (Some last)) (λ image. Checked image last 4096) _
     (told_after m1 m2 (λ image. Scanned image 4096 (Some last)) c.scan_cells.ensures.keeps.content scanned) c.in-Ok.ensures.checked
     (λ image s checked cell damaged. absurd (checked_undamaged image last s checked cell damaged))))
 
 pub returns-in-Err-check_cells-clause-damaged : goal.returns-in-Err-check_cells-clause-damaged
 returns-in-Err-check_cells-clause-damaged g c n is =
     let last : ℕ = c.in-Ok-Some.last in
-    told_before (g.T.Disk.medium c.args.trail.now) (g.T.Disk.medium c.settle.new.disk) (λ image. IsFirstDamaged image n) c.settle.ensures.content
-    (told_before (g.T.Disk.medium c.settle.new.disk) (g.T.Disk.medium c.scan_cells.new.trail) (λ image. IsFirstDamaged image n) c.scan_cells.ensures.keeps.content
+    told_earlier (g.T.Disk.medium c.args.trail.now) (g.T.Disk.medium c.settle.new.disk) (λ image. IsFirstDamaged image n) c.settle.ensures.content
+    (told_earlier (g.T.Disk.medium c.settle.new.disk) (g.T.Disk.medium c.scan_cells.new.trail) (λ image. IsFirstDamaged image n) c.scan_cells.ensures.keeps.content
     (told_map (g.T.Disk.medium c.scan_cells.new.trail) (λ image. IsFirstStale image last n) (λ image. IsFirstDamaged image n) (c.check_cells.ensures.damaged n (c.in-Err-check_cells.is ∙ is)) (λ image stale. inr (last, stale))))
 
 pub returns-in-Err-check_cells-clause-exact : goal.returns-in-Err-check_cells-clause-exact
@@ -57,7 +58,7 @@ returns-in-Err-check_cells-clause-exact g c fell =
 
 pub returns-in-Err-clause-damaged : goal.returns-in-Err-clause-damaged
 returns-in-Err-clause-damaged g c n is =
-    told_before (g.T.Disk.medium c.args.trail.now) (g.T.Disk.medium c.settle.new.disk) (λ image. IsFirstDamaged image n) c.settle.ensures.content
+    told_earlier (g.T.Disk.medium c.args.trail.now) (g.T.Disk.medium c.settle.new.disk) (λ image. IsFirstDamaged image n) c.settle.ensures.content
     (told_map (g.T.Disk.medium c.settle.new.disk) (λ image. IsFirstStray image n) (λ image. IsFirstDamaged image n)
     (c.scan_cells.ensures.damaged n (c.in-Err.is ∙ ap Err (same_fault c.in-Err.fault (Damaged n) is))) (λ image stray. inl stray))
 

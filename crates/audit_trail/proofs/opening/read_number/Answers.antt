@@ -1,8 +1,8 @@
 use Rattle.std.proofs.Common.{◌≡◌, ap, ◌∙◌}
 use Rattle.std.proofs.lemmas.Bool.{both_ways}
+use Rattle.slot_disk.proofs.Media.{told_map}
 use Rattle.slot_disk.specs.Cells.{body}
 use Rattle.audit_trail.specs.TrailStands.{IsStray}
-use Rattle.audit_trail.proofs.MediumLaws.{told_map}
 use Rattle.audit_trail.proofs.OpeningLaws.{stray_here}
 use Rattle.audit_trail.proofs.opening.read_number.Goals as goal
 

@@ -1,10 +1,9 @@
 use Rattle.std.proofs.Common.{◌+◌, ℕ, sym, subst, ◌∙◌, arith}
 use Rattle.slot_disk.specs.Medium.{Told}
-use Rattle.slot_disk.proofs.Media.{keeps_then}
+use Rattle.slot_disk.proofs.Media.{keeps_then, told_next}
 use Rattle.std.specs.Prelude.{Option, IfSome, ◌<◌, ◌^◌}
 use Rattle.audit_trail.specs.Opening.{CellReads, Scanned}
 use Rattle.audit_trail.specs.TrailStands.{IsStray, IsFirstStray}
-use Rattle.audit_trail.proofs.MediumLaws.{told_next}
 use Rattle.audit_trail.proofs.OpeningLaws.{scanned_more, stray_first, low_greater}
 use Rattle.audit_trail.proofs.opening.scan_cells.Goals as goal
 

@@ -1,20 +1,20 @@
 -- A run serves from the state of its disks and the entries of its trail.
-use Rattle.std.proofs.Common.{◌≡◌, Ok, Err, Option, List, ℕ, refl, sym, ap, ◌∙◌, subst, arith, rules}
+use Rattle.std.proofs.Common.{◌≡◌, Ok, Err, Option, List, ℕ, refl, sym, ap, ◌∙◌, subst, arith}
 use Rattle.std.specs.Prelude.{IsSome}
 use Rattle.slot_disk.proofs.Media.{keeps_still}
 use Rattle.slot_disk.proofs.WhereToldLemmas.{rose_wider, told_same}
 use Rattle.audit_trail.specs.declared.faults.TrailFault.TheVariants.{Damaged}
 use Rattle.line_service.specs.Machine.{world}
 use Rattle.line_service.specs.Running.{NoneFailed}
-use Rattle.line_service.proofs.OpeningLemmas.{unbroken, never_told, never_both, module_unbroken, store_unbroken}
-use Rattle.line_service.proofs.RunLemmas.{no_limit, no_opening_read, no_opening_write, no_opening_draw, no_opening_answer}
+use Rattle.line_service.proofs.OpeningLemmas.{unbroken, module_unbroken, store_unbroken, not_stopped, opened_damage, unopened_left, unopened_taken, unopened_sound, unopened_no_stop}
+use Rattle.line_service.proofs.RunLemmas.{NoStop, no_opening_answer}
 use Rattle.line_service.proofs.StopLemmas.{grows_none}
 use Rattle.audited_service.specs.Answers.{run_part}
 use Rattle.audited_service.specs.Noting.{noted}
 use Rattle.audited_service.specs.Recording.{RunRecorded}
 use Rattle.audited_service.proofs.EndingLemmas.{lines_served, prefix_left, taken_all}
 use Rattle.audited_service.proofs.FullLemmas.{completes, no_opening_stop, no_trail_fault, not_full, audits_full, damaged_within, stood_before, stood_for_some, told_on, append_undamaged}
-use Rattle.audited_service.proofs.RunLemmas.{NoStop, fault_is}
+use Rattle.audited_service.proofs.RunLemmas.{fault_is}
 use Rattle.audited_service.proofs.GrowingLemmas.{grows_kept, grows_then}
 use Rattle.audited_service.proofs.OpeningLemmas.{stands_all, opened_recorded, unopened_stop, unopened_fault}
 use Rattle.audited_service.proofs.running.serve_audited.Goals as goal
@@ -44,20 +44,15 @@ returns-in-Ok-open_trail-clause-lines g c = λ s es disks trail.
     let stands = stands_all A entry m0 m1 d0 d1 t0 t1 random kept_m kept_d kept_t s es (g.A.Desk.knows c.open.new.self) disks (c.in-Ok.ensures.knows s disks) trail in
     let recorded : RunRecorded A entry (noted s es) c.audit_all.result first last t0 t2 i0 i1 o0 o1 =
     opened_recorded A entry m0 m1 d0 d1 t0 t1 random kept_m kept_d kept_t (noted s es) c.audit_all.result last t2 i0 i1 o0 o1 (after.serves (noted s es) stands) in
-    let not_stopped : NoneFailed A _ → NoStop (run_part c.audit_all.result) = λ none. record {
-      reads = λ h. none.reads (after.left.source_left.fault h);
-      writes = λ h. none.writes (after.left.sink_left.fault h);
-      on_module = λ h. none.on_module (rose_wider _ _ _ _ c.open.ensures.left.module_left.later after.left.devices_left.module_left.later (omega arith) (after.left.devices_left.module_left.fault h));
-      on_store = λ h. none.on_store (rose_wider _ _ _ _ c.open.ensures.left.store_left.later after.left.devices_left.store_left.later (omega arith) (after.left.devices_left.store_left.fault h));
-      draws = λ h. none.draws (after.left.devices_left.draws h) (after.left.devices_left.entropy_left.fault h);
-    } in
+    let still : NoneFailed A _ → NoStop (run_part c.audit_all.result) = λ none.
+    not_stopped A (run_part c.audit_all.result) _ _ after.left none (omega arith) (omega arith) c.open.ensures.left.module_left.later c.open.ensures.left.store_left.later (omega arith) in
     record {
       recorded = recorded;
-      run = lines_served A entry (noted s es) _ t0 t2 c.audit_all.result recorded not_stopped (taken_all c.audit_all.result _ after.at_end after.limit after.short after.within);
+      run = lines_served A entry (noted s es) _ t0 t2 c.audit_all.result recorded still (taken_all c.audit_all.result _ after.at_end after.limit after.short after.within);
       prefix = prefix_left A entry (noted s es) first last t0 t2 i0 i1 o0 o1 c.audit_all.result recorded;
-      complete = λ none still some.
-          completes A entry (noted s es) es c.audit_all.result first last t0 t2 i0 i1 o0 o1 recorded (not_stopped none)
-          (λ h. still (rose_wider _ _ _ _ c.open_trail.ensures.left.later after.trail_left.later (omega arith) (after.trail_left.fault h)))
+      complete = λ none trail_still some.
+          completes A entry (noted s es) es c.audit_all.result first last t0 t2 i0 i1 o0 o1 recorded (still none)
+          (λ h. trail_still (rose_wider _ _ _ _ c.open_trail.ensures.left.later after.trail_left.later (omega arith) (after.trail_left.fault h)))
           after.kinds
           (λ h. after.full (noted s es) stands (subst (λ (o : Option (List ℕ)). IsSome o) (sym kept_t.content) some) h)
           after.limit;
@@ -94,11 +89,7 @@ returns-in-Err-open_trail-clause-lines g c = λ s es disks trail.
 
 pub returns-in-Err-clause-taken : goal.returns-in-Err-clause-taken
 returns-in-Err-clause-taken g c = record {
-  run = record {
-    at_end = search rules;
-    limit = no_limit c.in-Err.stop (g.S.Source.left c.args.source.now) c.in-Err.ensures.stops;
-    within = told_same (g.S.Source.left c.args.source.now) _ (λ x. omega arith);
-  };
+  run = unopened_taken c.in-Err.stop _ c.in-Err.ensures.stops refl;
   within = told_same (g.S.Source.left c.args.source.now) _ (λ x. omega arith);
 }
 
@@ -123,13 +114,9 @@ returns-in-Err-clause-lines g c = λ s es disks trail.
     record {
       recorded = recorded;
       run = lines_served A entry (noted s es) _ t0 t0 (Ok (Err stop)) recorded
-          (λ none. record {
-            reads = no_opening_read stop c.in-Err.ensures.stops;
-            writes = no_opening_write stop c.in-Err.ensures.stops;
-            on_module = λ h. none.on_module (c.open.ensures.left.module_left.fault (c.in-Err.is ∙ h));
-            on_store = λ h. none.on_store (c.open.ensures.left.store_left.fault (c.in-Err.is ∙ h));
-            draws = no_opening_draw stop c.in-Err.ensures.stops;
-          })
+          (λ none.
+          unopened_no_stop stop c.in-Err.ensures.stops (λ h. none.on_module (c.open.ensures.left.module_left.fault (c.in-Err.is ∙ h)))
+          (λ h. none.on_store (c.open.ensures.left.store_left.fault (c.in-Err.is ∙ h))))
           (returns-in-Err-clause-taken g c).run;
       prefix = prefix_left A entry (noted s es) (world m0 d0 random) (world m1 d1 random) t0 t0 i i o o (Ok (Err stop)) recorded;
       complete = λ none still some.
@@ -166,10 +153,7 @@ returns-in-Err-open_trail-clause-sound g c = record {
 
 pub returns-in-Err-clause-sound : goal.returns-in-Err-clause-sound
 returns-in-Err-clause-sound g c = record {
-  disks = record {
-    sound = λ h. absurd (no_opening_answer c.in-Err.stop c.in-Err.ensures.stops h);
-    settled = λ h. absurd (no_opening_answer c.in-Err.stop c.in-Err.ensures.stops h);
-  };
+  disks = unopened_sound g.A.Desk.machine c.in-Err.stop _ c.in-Err.ensures.stops;
   trail = λ h. absurd (no_opening_answer c.in-Err.stop c.in-Err.ensures.stops h);
 }
 
@@ -180,19 +164,7 @@ returns-in-Ok-open_trail-clause-unsound_trail g c = λ unsound.
 
 pub returns-in-Ok-open_trail-clause-damage : goal.returns-in-Ok-open_trail-clause-damage
 returns-in-Ok-open_trail-clause-damage g c =
-    let A = g.A.Desk.machine in
-    let m0 = g.M.Disk.medium c.args.module.now in
-    let m1 = g.M.Disk.medium c.open.new.module in
-    let d0 = g.D.Disk.medium c.args.store.now in
-    let d1 = g.D.Disk.medium c.open.new.store in
-    let after = c.audit_all.ensures.undamaged in
-    record {
-      module_damaged = λ cell h. never_told m0 m1 (A.IsBrokenModule cell) c.open.ensures.left.module_kept (after.module_sound cell h);
-      store_damaged = λ cell h. never_both m0 m1 d0 d1 (A.IsBrokenStore cell) c.open.ensures.left.module_kept c.open.ensures.left.store_kept (after.store_sound cell h);
-      module_judged = λ still. module_unbroken A m0 d0 _ c.in-Ok.ensures.sound;
-      store_judged = λ still_m still_d. store_unbroken A m0 d0 _ c.in-Ok.ensures.sound;
-      cells = after.cells;
-    }
+    opened_damage g.A.Desk.machine (run_part c.audit_all.result) _ _ c.open.ensures.left.module_kept c.open.ensures.left.store_kept c.in-Ok.ensures.sound c.audit_all.ensures.undamaged
 
 pub returns-in-Err-open_trail-clause-damage : goal.returns-in-Err-open_trail-clause-damage
 returns-in-Err-open_trail-clause-damage g c =
@@ -269,20 +241,7 @@ returns-in-Err-open_trail-clause-left g c = record {
 }
 
 pub returns-in-Err-clause-left : goal.returns-in-Err-clause-left
-returns-in-Err-clause-left g c =
-    let stop = c.in-Err.stop in
-    let kind = c.in-Err.ensures.stops in
-    record {
-      devices_left = record {
-        module_left = c.in-Err.ensures.left.module_left;
-        store_left = c.in-Err.ensures.left.store_left;
-        entropy_left = record { later = omega arith; fault = λ h. absurd (no_opening_draw stop kind h) };
-        draws = λ h. absurd (no_opening_draw stop kind h);
-      };
-      source_left = record { later = omega arith; fault = λ h. absurd (no_opening_read stop kind h) };
-      sink_left = record { later = omega arith; fault = λ h. absurd (no_opening_write stop kind h) };
-      sink_grows = grows_none (g.K.Sink.held c.args.sink.now);
-    }
+returns-in-Err-clause-left g c = unopened_left g.A.Desk.machine c.in-Err.stop _ c.in-Err.ensures.stops c.in-Err.ensures.left.module_left c.in-Err.ensures.left.store_left refl refl refl refl
 
 pub returns-in-Err-clause-trail_left : goal.returns-in-Err-clause-trail_left
 returns-in-Err-clause-trail_left g c = record {

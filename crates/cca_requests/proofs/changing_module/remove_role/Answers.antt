@@ -1,15 +1,11 @@
-use Rattle.std.proofs.Common.{◌≡◌, [], Err, OnOk, refl, sym, subst}
-use Rattle.std.specs.Prelude.{◌↔◌, IsTrue, OnErr}
+use Rattle.std.proofs.Common.{◌≡◌, Err, refl, subst}
+use Rattle.std.specs.Prelude.{◌↔◌, IsTrue}
 use Rattle.key_cells.specs.Lease.{bench_of}
 use Rattle.cca_roles.specs.Changes.{ChangesRoles, Remembers}
 use Rattle.cca_roles.specs.Roles.{remove_place, after_remove, remove_refused}
 use Rattle.cca_roles.specs.declared.faults.RoleFault.TheVariants.{Unknown}
 use Rattle.master_registers.specs.Loaded.{masters_in}
-use Rattle.script_buffers.specs.Replies.{spelled}
 use Rattle.cca_machine.specs.Act.{RemoveRole}
-use Rattle.cca_machine.specs.Verdict.{remove_questions}
-use Rattle.cca_requests.specs.Serving.{CarriesModule, LeavesModule}
-use Rattle.cca_requests.specs.Deciding.{role_outcome, role_reply}
 use Rattle.cca_requests.proofs.RoleChanging.{role_changes_as, role_still_as, role_left_as}
 use Rattle.cca_requests.proofs.changing_module.remove_role.Goals as goal
 
@@ -21,15 +17,14 @@ returns-clause-carries g c = λ s at.
     let new = g.M.Disk.medium c.remove-outcome.new.module in
     let now = c.remove-outcome.new.self in
     let is = at.stands.memory in
-    subst (λ x. CarriesModule (role_outcome (remove_questions s name) s (RemoveRole name)) s x c.answer_roles.new.reply now old new) (sym c.answer_roles.ensures.stop)
-    (role_changes_as g.M.Disk.medium c.args.module.now c.remove-outcome.new.module s c.args.roles.now now (remove_place name s.roles) (after_remove name s.roles) (RemoveRole name) refl
-    Unknown (record { stop = refl; reply = refl }) c.requires.at.settled at.stands c.answer_roles.new.reply (remove_refused name s.roles) r
+    role_changes_as g.M.Disk.medium c.args.module.now c.remove-outcome.new.module s c.args.roles.now now (remove_place name s.roles) (after_remove name s.roles) (RemoveRole name) refl
+    Unknown (record { stop = refl; reply = refl }) c.requires.at.settled at.stands c.answer_roles.new.reply (remove_refused name s.roles) r c.answer_roles.result c.answer_roles.ensures.stop
     (subst (λ rs. (r ≡ Err Unknown) ↔ IsTrue (remove_refused name rs)) is c.remove-outcome.ensures.unknown)
     c.remove-outcome.ensures.faults
     (subst (λ rs. ChangesRoles (remove_place name rs) rs (after_remove name rs) old new r) is c.remove-outcome.ensures.changed)
     c.remove-outcome.ensures.untouched
     (subst (λ rs. Remembers c.args.roles.now (after_remove name rs) now r) is c.remove-outcome.ensures.memory)
-    (subst (λ x. OnOk x (c.answer_roles.new.reply ≡ spelled (role_reply r))) c.answer_roles.ensures.stop c.answer_roles.ensures.reply))
+    c.answer_roles.ensures.reply
 
 pub returns-clause-still : goal.returns-clause-still
 returns-clause-still g c = λ s at none.
@@ -45,11 +40,9 @@ returns-clause-left g c =
     let name = c.args.name.now in
     let before = c.args.roles.now in
     let faults = g.M.Disk.faults in
-    let left = role_left_as g.M.Disk.medium faults c.args.module.now c.remove-outcome.new.module (masters_in c.args.held.now (bench_of c.args.lease.now))
+    role_left_as g.M.Disk.medium faults c.args.module.now c.remove-outcome.new.module (masters_in c.args.held.now (bench_of c.args.lease.now))
     before c.remove-outcome.new.self (remove_place name before) (after_remove name before) Unknown (record { stop = refl; reply = refl })
     c.requires.at.settled c.requires.at.stands c.requires.at.remembered c.remove-outcome.ensures.cause.later c.answer_roles.new.reply
-    c.remove-outcome.result c.remove-outcome.ensures.faults c.remove-outcome.ensures.changed c.remove-outcome.ensures.untouched
+    c.remove-outcome.result c.answer_roles.result c.answer_roles.ensures.stop c.remove-outcome.ensures.faults c.remove-outcome.ensures.changed c.remove-outcome.ensures.untouched
     c.remove-outcome.ensures.memory c.remove-outcome.ensures.cause.failed
-    (subst (λ x. OnErr x (c.answer_roles.new.reply ≡ [])) c.answer_roles.ensures.stop c.answer_roles.ensures.silent) in
-    subst (λ x. LeavesModule (g.M.Disk.medium c.args.module.now) (g.M.Disk.medium c.remove-outcome.new.module) (faults c.args.module.now) (faults c.remove-outcome.new.module)
-    x c.answer_roles.new.reply before c.remove-outcome.new.self) (sym c.answer_roles.ensures.stop) left
+    c.answer_roles.ensures.silent

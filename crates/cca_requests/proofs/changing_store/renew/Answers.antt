@@ -33,8 +33,8 @@ returns-in-Err-clause-carries g c = λ s at.
     (λ disk. subst (λ stop. CarriesStore (plainly s (Reencipher c.args.action)) s (Err stop) reply now old new) (sym (c.stop_of.ensures ∙ ap read_stop disk))
     (ended c.args.action old new s rows now at.stands _ runs reply))
     (λ damaged. absurd (told_at old.content (λ _. ⊥) at.stands.in_store.image at.stands.in_store.told
-    (c.run_action.ensures.damaged damaged.0 (c.in-Err.is ∙ ap Err damaged.2))))
-    c.in-Err.ensures.faults
+    (c.run_action.ensures.left.damaged damaged.0 (c.in-Err.is ∙ ap Err damaged.2))))
+    c.in-Err.ensures.left.fault
 
 pub number-requires : goal.number-requires
 number-requires g c = omega (arith, length-decimal-le 10 c.in-Ok.changed (omega arith) (omega arith) (omega arith), ap length c.requires.empty)

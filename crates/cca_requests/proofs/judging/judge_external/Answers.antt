@@ -1,28 +1,16 @@
-use Rattle.std.proofs.Common.{◌≡◌, ◌∙◌, None, sym, ap, subst}
-use Rattle.cca_vectors.specs.Checks.{first_failing}
-use Rattle.key_tokens.specs.Denotes.{denoted_under}
-use Rattle.key_tokens.specs.Fields.{token_of}
-use Rattle.master_registers.specs.declared.registers.Registers.{Registers}
-use Rattle.verb_rules.specs.KeyChecks.{age_of, key_checks}
-use Rattle.verb_script.specs.Values.{hex_value}
-use Rattle.cca_requests.specs.declared.judging.Grant.{Grant}
-use Rattle.cca_requests.proofs.LabelsRead.{external_ageless}
+use Rattle.std.proofs.Common.{[], sym, subst}
+use Rattle.cca_machine.specs.declared.asking.Ask.TheVariants.{External}
+use Rattle.cca_requests.specs.Judging.{IsAsked, IsShaped}
+use Rattle.cca_requests.proofs.LabelsRead.{external_asked, external_shape}
 use Rattle.cca_requests.proofs.judging.judge_external.Goals as goal
 
-pub returns-in-Ok-clause-asked : goal.returns-in-Ok-clause-asked
-returns-in-Ok-clause-asked c = λ s bench loaded.
-    let need = c.args.need.now in
-    let held = c.args.held.now in
-    let token = hex_value c.args.digits.now in
-    let passes : first_failing (key_checks need held token) ≡ None =
-    subst (λ bytes. first_failing (key_checks need held bytes) ≡ None) c.token_bytes.ensures c.in-Ok.ensures.judges in
-    let age : c.in-Ok.judged.age ≡ age_of held (token_of token) =
-    c.in-Ok.ensures.age ∙ ap (λ bytes. age_of held (token_of bytes)) c.token_bytes.ensures in (
-      subst (λ (h : Registers). first_failing (key_checks need h token) ≡ None) loaded.told passes,
-      record {
-        judged = c.in-Ok.judged;
-        is = ap (λ (g : Grant). g.key) c.of_key.ensures;
-        opens = λ transport. ap (denoted_under transport) (sym c.token_bytes.ensures) ∙ c.in-Ok.ensures.denoted_under transport c.requires.asked;
-        ageless = external_ageless held need token c.in-Ok.judged c.requires.asked passes age;
-      },
-    )
+pub returns-clause-asked : goal.returns-clause-asked
+returns-clause-asked c = λ s bench loaded.
+    subst (IsAsked s bench c.args.digits.now (External c.args.need.now)) (sym c.of.ensures)
+    (external_asked c.args.digits.now c.token_bytes.result c.token_bytes.ensures c.args.need.now c.args.held.now s bench loaded c.judge_key.result
+    c.requires.asked c.judge_key.ensures.judges c.judge_key.ensures.age (λ transport. c.judge_key.ensures.denoted_under transport c.requires.asked))
+
+pub returns-clause-shaped : goal.returns-clause-shaped
+returns-clause-shaped c =
+    subst (IsShaped [] c.args.digits.now (External c.args.need.now)) (sym c.of.ensures)
+    (external_shape c.args.need.now c.judge_key.result c.judge_key.ensures.halves)

@@ -1,4 +1,4 @@
-use Rattle.std.proofs.Common.{◌∙◌, sym, ap, subst}
+use Rattle.std.proofs.Common.{◌∙◌, Err, sym, ap, subst}
 use Rattle.key_cells.specs.Lease.{bench_of}
 use Rattle.master_registers.specs.Loaded.{Loaded}
 use Rattle.slot_disk.proofs.Media.{keeps_still}
@@ -10,6 +10,7 @@ use Rattle.cca_requests.specs.Serving.{tables, Carries, IsFault}
 use Rattle.cca_requests.proofs.Acting.{any_old_are}
 use Rattle.cca_requests.proofs.Registers.{loaded_places}
 use Rattle.cca_requests.proofs.Serving.{performed_by, taken_for, drawn_serves, stopped_serves}
+use Rattle.cca_requests.proofs.Settling.{takes_on}
 use Rattle.cca_requests.proofs.Storing.{recorded}
 use Rattle.cca_requests.proofs.performing.act.Goals as goal
 
@@ -23,7 +24,8 @@ returns-in-Ok-clause-serves g c = λ s at granted is.
     let m1 = g.M.Disk.medium c.carry.new.module in
     let d0 = g.D.Disk.medium c.args.store.now in
     let d1 = g.D.Disk.medium c.carry.new.store in
-    let decides = c.in-Ok.ensures.decides s at.loaded (recorded s c.args.records.now d0 at.stands.on_store) granted in
+    let decides = c.in-Ok.ensures.decision.decided.decides s
+    (record { loaded = at.loaded; recorded = recorded s c.args.records.now d0 at.stands.on_store; grants = granted }) in
     let loaded : Loaded s.registers c.args.held.now other =
     subst (λ b. Loaded s.registers c.args.held.now b) (sym (ap bench_of c.decide.ensures.places)) (loaded_places s.registers c.args.held.now bench other at.loaded) in
     drawn_serves s request decides.drawn c.carry.result c.carry.new.reply t m0 m1 d0 d1 (g.E.Entropy.left c.args.entropy.now) (g.E.Entropy.left c.decide.new.entropy)
@@ -43,22 +45,15 @@ returns-in-Err-clause-serves g c = λ s at granted is.
     let t = tables c.args.roles.now c.args.records.now in
     let m = g.M.Disk.medium c.args.module.now in
     let d = g.D.Disk.medium c.args.store.now in
-    let may = c.in-Err.ensures.decides s at.loaded (recorded s c.args.records.now d at.stands.on_store) granted in
+    let may = c.in-Err.ensures.decision.decided.decides s
+    (record { loaded = at.loaded; recorded = recorded s c.args.records.now d at.stands.on_store; grants = granted }) in
     stopped_serves s request c.in-Err.stop c.decide.new.reply t t m m d d (g.E.Entropy.left c.args.entropy.now) (g.E.Entropy.left c.decide.new.entropy)
-    (subst IsFault (sym c.in-Err.ensures.stops) tt)
+    (subst IsFault (sym c.in-Err.ensures.decision.decided.stops) tt)
     (λ fault. record { drawing = may.1; permitted = is (verb_verdict s request) ∙ may.0 })
     c.requires.at.settled c.requires.store.settled (keeps_still m) (keeps_still d) at.stands
 
-pub returns-in-Ok-clause-untouched : goal.returns-in-Ok-clause-untouched
-returns-in-Ok-clause-untouched g c = λ s is granted at refused.
-    c.decide.ensures.untouched s at.loaded (recorded s c.args.records.now (g.D.Disk.medium c.args.store.now) at.stands.on_store) granted refused
+pub returns-in-Ok-clause-takes : goal.returns-in-Ok-clause-takes
+returns-in-Ok-clause-takes g c = takes_on c.decide.ensures.decision.takes (λ is. absurd (c.carry.ensures.entropy is))
 
-pub returns-in-Err-clause-untouched : goal.returns-in-Err-clause-untouched
-returns-in-Err-clause-untouched g c = λ s is granted at refused.
-    c.decide.ensures.untouched s at.loaded (recorded s c.args.records.now (g.D.Disk.medium c.args.store.now) at.stands.on_store) granted refused
-
-pub returns-in-Ok-clause-drawing : goal.returns-in-Ok-clause-drawing
-returns-in-Ok-clause-drawing g c = λ fault. absurd (c.carry.ensures.entropy fault)
-
-pub returns-in-Err-clause-drawing : goal.returns-in-Err-clause-drawing
-returns-in-Err-clause-drawing g c = λ fault. c.in-Err.ensures.drawing
+pub returns-in-Err-clause-takes : goal.returns-in-Err-clause-takes
+returns-in-Err-clause-takes g c = takes_on c.decide.ensures.decision.takes (λ is. c.in-Err.is ∙ ap Err c.in-Err.ensures.decision.decided.stops)

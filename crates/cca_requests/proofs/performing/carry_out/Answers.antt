@@ -1,4 +1,4 @@
-use Rattle.std.proofs.Common.{◌≡◌, ◌∙◌, false, None, Some, Result, Err, refl, sym, ap, subst, codes, arith, rules}
+use Rattle.std.proofs.Common.{◌≡◌, ◌∙◌, false, Some, Result, Err, refl, sym, ap, subst, codes, arith, rules}
 use Rattle.std.specs.Prelude.{IsSome, IsTrue}
 use Rattle.std.proofs.lemmas.Bool.{or_parts}
 use Rattle.std.specs.Option.{option_map}
@@ -12,12 +12,11 @@ use Rattle.verb_script.specs.Grammar.{Request}
 use Rattle.verb_script.specs.Parsed.{seen}
 use Rattle.cca_machine.specs.Operands.{Operands, operands, listed, names_label, is_reencipher, needs_store}
 use Rattle.cca_machine.specs.Verdict.{refusal, general_checks, verb_verdict}
-use Rattle.cca_requests.specs.Judging.{IsJudged}
-use Rattle.cca_requests.specs.declared.judging.Verdict.TheVariants as code
 use Rattle.cca_requests.specs.Serving.{tables, IsFault}
-use Rattle.cca_requests.proofs.Acting.{verdict_general, verdict_operands}
+use Rattle.cca_requests.proofs.Acting.{verdict_general}
 use Rattle.cca_requests.proofs.Delivering.{either_right}
 use Rattle.cca_requests.proofs.GrantsKept.{grants_kept, loaded_kept}
+use Rattle.cca_requests.proofs.OperandsJudged.{operands_granted, operands_refused}
 use Rattle.cca_requests.proofs.Serving.{refused_serves, stopped_serves, serves_after_reads, stands_kept}
 use Rattle.cca_requests.proofs.Leaving.{still_turned, read_turned, leaves_after_reads}
 use Rattle.cca_requests.proofs.performing.carry_out.Goals as goal
@@ -41,14 +40,11 @@ returns-in-Ok-Refused-clause-serves g c = λ s at.
     let d0 = g.D.Disk.medium c.args.store.now in
     let d1 = g.D.Disk.medium c.judge.new.store in
     let r = refusal (rule_number c.in-Ok-Refused.rule) c.in-Ok-Refused.operand.now in
-    let passes : first_failing (general_checks s request) ≡ None =
-    sym (c.general_rule.ensures.rule s bench at.stands.on_module.memory at.loaded) ∙ ap (option_map rule_number) c.in_default.is in
-    let judged = subst (λ os. IsJudged s bench os c.in-Ok-Refused.field-0) c.operands_of.ensures.table
-    (c.in-Ok-Refused.ensures.judged s (record { loaded = at.loaded; stands = at.stands.on_store })) in
-    let fails : IsJudged s bench (operands request) (code.Refused c.in-Ok-Refused.rule c.in-Ok-Refused.operand) =
-    subst (λ v. IsJudged s bench (operands request) v) c.in-Ok-Refused.field-0-is judged in
+    let fails = operands_refused s bench request c.in-Ok-Refused.rule c.in-Ok-Refused.operand
+    (c.general_rule.ensures.rule s bench at.stands.on_module.memory at.loaded) c.in_default.is c.operands_of.ensures.table
+    (c.in-Ok-Refused.ensures.judged s (record { loaded = at.loaded; stands = at.stands.on_store })) c.in-Ok-Refused.field-0-is in
     refused_serves s request r c.refuse-in-Ok-Refused.new.reply t m d0 d1 (g.E.Entropy.left c.args.entropy.now)
-    (verdict_operands s request (Some r) passes fails) c.refuse-in-Ok-Refused.ensures c.requires.at.settled c.requires.store.settled c.judge.ensures.keeps at.stands
+    fails c.refuse-in-Ok-Refused.ensures c.requires.at.settled c.requires.store.settled c.judge.ensures.keeps at.stands
 
 pub returns-in-Ok-Granted-clause-serves : goal.returns-in-Ok-Granted-clause-serves
 returns-in-Ok-Granted-clause-serves g c = λ s at.
@@ -58,12 +54,9 @@ returns-in-Ok-Granted-clause-serves g c = λ s at.
     let m = g.M.Disk.medium c.args.module.now in
     let d0 = g.D.Disk.medium c.args.store.now in
     let d1 = g.D.Disk.medium c.judge.new.store in
-    let passes : first_failing (general_checks s request) ≡ None =
-    sym (c.general_rule.ensures.rule s bench at.stands.on_module.memory at.loaded) ∙ ap (option_map rule_number) c.in_default.is in
-    let judged = subst (λ os. IsJudged s bench os c.in-Ok-Granted.field-0) c.operands_of.ensures.table
-    (c.in-Ok-Granted.ensures.judged s (record { loaded = at.loaded; stands = at.stands.on_store })) in
-    let granted : IsJudged s bench (operands request) (code.Granted c.in-Ok-Granted.granted) =
-    subst (λ v. IsJudged s bench (operands request) v) c.in-Ok-Granted.field-0-is judged in
+    let granted = operands_granted s bench request c.in-Ok-Granted.granted
+    (c.general_rule.ensures.rule s bench at.stands.on_module.memory at.loaded) c.in_default.is c.operands_of.ensures.table
+    (c.in-Ok-Granted.ensures.judged s (record { loaded = at.loaded; stands = at.stands.on_store })) c.in-Ok-Granted.field-0-is in
     serves_after_reads s request c.act.result c.act.new.reply t (tables c.act.new.roles c.act.new.records)
     m m (g.M.Disk.medium c.act.new.module) d0 d1 (g.D.Disk.medium c.act.new.store)
     (g.E.Entropy.left c.args.entropy.now) (g.E.Entropy.left c.act.new.entropy)
@@ -71,34 +64,20 @@ returns-in-Ok-Granted-clause-serves g c = λ s at.
     (c.act.ensures.serves s (record {
       loaded = loaded_kept s.registers c.args.held.now c.args.lease.now c.judge.new.lease c.judge.ensures.rest at.loaded;
       stands = stands_kept s t m m d0 d1 (keeps_still m) c.judge.ensures.keeps at.stands;
-    }) (grants_kept s c.args.lease.now c.judge.new.lease (operands request) c.in-Ok-Granted.granted c.judge.ensures.rest granted.1)
-    (verdict_operands s request None passes granted.0))
+    }) (grants_kept s c.args.lease.now c.judge.new.lease (operands request) c.in-Ok-Granted.granted c.judge.ensures.rest granted.0)
+    granted.1)
 
 pub returns-in-Ok-Granted-clause-random : goal.returns-in-Ok-Granted-clause-random
 returns-in-Ok-Granted-clause-random g c = record {
-  entropy = c.act.ensures.entropy;
+  entropy = c.act.ensures.takes.entropy;
   untouched = λ s at refused.
       let request = seen c.args.request.now in
-      let bench = bench_of c.args.lease.now in
-      let t = tables c.args.roles.now c.args.records.now in
-      let m = g.M.Disk.medium c.args.module.now in
-      let d0 = g.D.Disk.medium c.args.store.now in
-      let d1 = g.D.Disk.medium c.judge.new.store in
-      let passes : first_failing (general_checks s request) ≡ None =
-      sym (c.general_rule.ensures.rule s bench at.stands.on_module.memory at.loaded) ∙ ap (option_map rule_number) c.in_default.is in
-      let judged = subst (λ os. IsJudged s bench os c.in-Ok-Granted.field-0) c.operands_of.ensures.table
-      (c.in-Ok-Granted.ensures.judged s (record { loaded = at.loaded; stands = at.stands.on_store })) in
-      let granted : IsJudged s bench (operands request) (code.Granted c.in-Ok-Granted.granted) =
-      subst (λ v. IsJudged s bench (operands request) v) c.in-Ok-Granted.field-0-is judged in
-      let verb = verdict_operands s request None passes granted.0 in
-      c.act.ensures.untouched s verb
-      (grants_kept s c.args.lease.now c.judge.new.lease (operands request) c.in-Ok-Granted.granted c.judge.ensures.rest granted.1)
-      (record {
-        loaded = loaded_kept s.registers c.args.held.now c.args.lease.now c.judge.new.lease c.judge.ensures.rest at.loaded;
-        stands = stands_kept s t m m d0 d1 (keeps_still m) c.judge.ensures.keeps at.stands;
-      }) (subst IsSome (verb (verb_verdict s request)) refused);
-  undrawn = c.act.ensures.undrawn;
-  drawing = c.act.ensures.drawing;
+      let granted = operands_granted s (bench_of c.args.lease.now) request c.in-Ok-Granted.granted
+      (c.general_rule.ensures.rule s (bench_of c.args.lease.now) at.stands.on_module.memory at.loaded) c.in_default.is c.operands_of.ensures.table
+      (c.in-Ok-Granted.ensures.judged s (record { loaded = at.loaded; stands = at.stands.on_store })) c.in-Ok-Granted.field-0-is in
+      c.act.ensures.takes.untouched s (subst IsSome (granted.1 (verb_verdict s request)) refused);
+  undrawn = c.act.ensures.takes.undrawn;
+  drawing = c.act.ensures.takes.drawing;
 }
 
 pub returns-in-Err-clause-serves : goal.returns-in-Err-clause-serves
@@ -184,9 +163,5 @@ returns-in-Ok-Refused-clause-left g c = record {
 pub returns-in-Ok-Granted-clause-left : goal.returns-in-Ok-Granted-clause-left
 returns-in-Ok-Granted-clause-left g c =
     let m = g.M.Disk.medium c.args.module.now in
-    leaves_after_reads c.act.result c.act.new.reply m m (g.M.Disk.medium c.act.new.module)
-    (g.D.Disk.medium c.args.store.now) (g.D.Disk.medium c.judge.new.store) (g.D.Disk.medium c.act.new.store)
-    (g.M.Disk.faults c.args.module.now) (g.M.Disk.faults c.args.module.now) (g.M.Disk.faults c.act.new.module)
-    (g.D.Disk.faults c.args.store.now) (g.D.Disk.faults c.judge.new.store) (g.D.Disk.faults c.act.new.store)
-    (tables c.args.roles.now c.args.records.now) (tables c.act.new.roles c.act.new.records)
+    leaves_after_reads
     (keeps_still m) (omega arith) c.judge.ensures.keeps c.judge.ensures.store.later c.act.ensures.left

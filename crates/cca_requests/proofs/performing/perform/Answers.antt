@@ -68,9 +68,5 @@ returns-in-Ok-clause-damage g c = λ is. absurd (no_damage c.carry_out.result 0 
 pub returns-in-Ok-clause-left : goal.returns-in-Ok-clause-left
 returns-in-Ok-clause-left g c =
     let d = g.D.Disk.medium c.args.store.now in
-    leaves_after_reads c.carry_out.result c.carry_out.new.reply
-    (g.M.Disk.medium c.args.module.now) (g.M.Disk.medium c.load.new.module) (g.M.Disk.medium c.carry_out.new.module) d d (g.D.Disk.medium c.carry_out.new.store)
-    (g.M.Disk.faults c.args.module.now) (g.M.Disk.faults c.load.new.module) (g.M.Disk.faults c.carry_out.new.module)
-    (g.D.Disk.faults c.args.store.now) (g.D.Disk.faults c.args.store.now) (g.D.Disk.faults c.carry_out.new.store)
-    (tables c.args.roles.now c.args.records.now) (tables c.carry_out.new.roles c.carry_out.new.records)
+    leaves_after_reads
     c.load.ensures.keeps c.load.ensures.cause.later (keeps_still d) (omega arith) c.carry_out.ensures.left

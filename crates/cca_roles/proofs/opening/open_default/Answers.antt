@@ -1,5 +1,6 @@
 use Rattle.std.proofs.Common.{◌≡◌, List, ℕ, Option, Some, sym, ap, subst, ◌∙◌}
 use Rattle.std.specs.Prelude.{set}
+use Rattle.slot_disk.proofs.Media.{told_map}
 use Rattle.slot_disk.specs.Cells.{body}
 use Rattle.byte_lists.specs.Directory.{AreApart}
 use Rattle.cca_roles.specs.Opening.{OpenedTo}
@@ -7,7 +8,7 @@ use Rattle.cca_roles.specs.RoleBody.{ReadsPlace, slot_in}
 use Rattle.cca_roles.specs.Roles.{AreRoles, names, name_of, blank_roles}
 use Rattle.cca_roles.specs.declared.roles.Role.{Role}
 use Rattle.cca_roles.proofs.OpeningLaws.{opened_first}
-use Rattle.cca_roles.proofs.StandLaws.{told_map, unless_err}
+use Rattle.cca_roles.proofs.StandLaws.{unless_err}
 use Rattle.cca_roles.proofs.TableLaws.{blank_table}
 use Rattle.cca_roles.proofs.TotalLaws.{default_read, default_apart}
 use Rattle.cca_roles.proofs.opening.open_default.Goals as goal

@@ -1,5 +1,6 @@
 use Rattle.std.proofs.Common.{◌≡◌, ◌+◌, ℕ, Result, Err, ◌⊎◌, inl, inr, ⊎_elim, sym, ap, subst, ◌∙◌, arith}
 use Rattle.std.specs.Prelude.{IfErr}
+use Rattle.slot_disk.proofs.Media.{told_map, told_next, told_still}
 use Rattle.slot_disk.specs.Cells.{body}
 use Rattle.slot_disk.specs.Medium.{Told}
 use Rattle.slot_disk.proofs.WhereToldLemmas.{rose_wider}
@@ -8,7 +9,7 @@ use Rattle.cca_roles.specs.declared.faults.RoleFault.TheVariants.{DiskFault, Dam
 use Rattle.cca_roles.specs.Opening.{OpenedTo, IsRefused}
 use Rattle.cca_roles.specs.RolesStand.{StandsForRoles, IsFirstDamaged, IsRoleCell}
 use Rattle.cca_roles.proofs.OpeningLaws.{opened_all, refused_damaged}
-use Rattle.cca_roles.proofs.StandLaws.{told_map, told_next, told_kept, handed_on, first_one, stands_undamaged}
+use Rattle.cca_roles.proofs.StandLaws.{handed_on, first_one, stands_undamaged}
 use Rattle.cca_roles.proofs.opening.open_roles.Goals as goal
 
 -- a fault of one cell that is handed on
@@ -55,7 +56,7 @@ returns-in_err-open_place-clause-exact g c fell =
 pub returns-clause-stands : goal.returns-clause-stands
 returns-clause-stands g c =
     let all : c.loop-place.place ≡ 32 = omega (arith, c.loop-place-test.false, c.loop-place.auto.place-end) in
-    told_kept (g.M.Disk.medium c.args.«module».now) (g.M.Disk.medium c.loop-place.«module») (λ image. StandsForRoles image c.loop-place.opened) c.loop-place.invariant.keeps
+    told_still (g.M.Disk.medium c.args.«module».now) (g.M.Disk.medium c.loop-place.«module») (λ image. StandsForRoles image c.loop-place.opened) c.loop-place.invariant.keeps
     (told_map (g.M.Disk.medium c.args.«module».now) (λ image. OpenedTo image c.loop-place.place c.loop-place.opened) (λ image. StandsForRoles image c.loop-place.opened) c.loop-place.invariant.opened
     (λ image opened. opened_all image c.loop-place.opened (subst (λ (n : ℕ). OpenedTo image n c.loop-place.opened) all opened) c.loop-place.invariant.roles))
 

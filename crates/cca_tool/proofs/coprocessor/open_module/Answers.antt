@@ -1,5 +1,6 @@
 -- A broken cell is the one that is named, and what stands for registers and roles has none.
 use Rattle.std.proofs.Common.{◌∙◌, ℕ, Err, sym, ap, subst, arith}
+use Rattle.slot_disk.proofs.Media.{told_after}
 use Rattle.slot_disk.specs.Medium.{Told}
 use Rattle.slot_disk.proofs.WhereToldLemmas.{rose_wider}
 use Rattle.key_cells.specs.Lease.{bench_of}
@@ -10,7 +11,7 @@ use Rattle.cca_roles.specs.RolesStand.{IsFirstDamaged}
 use Rattle.cca_roles.specs.declared.faults.RoleFault.TheVariants as role
 use Rattle.line_service.specs.declared.stops.Device.TheVariants.{Module}
 use Rattle.cca_tool.specs.Coprocessor.{IsBrokenModule}
-use Rattle.cca_tool.proofs.OpeningLemmas.{stands_unbroken, told_after, broken_role, judged_role}
+use Rattle.cca_tool.proofs.OpeningLemmas.{stands_unbroken, broken_role, judged_role}
 use Rattle.cca_tool.proofs.StopLemmas.{same_cell, same_role, named_cell}
 use Rattle.cca_tool.proofs.coprocessor.open_module.Goals as goal
 
@@ -20,7 +21,7 @@ returns-in-Ok-open_roles-clause-judged g c = λ still.
     let m1 = g.M.Disk.medium c.load.new.module in
     let m2 = g.M.Disk.medium c.open_roles.new.module in
     let registers = masters_in c.in-Ok.held (bench_of c.load.new.lease) in
-    let loaded = told_after m1 m2 (λ image. StandsForMasters image registers) (λ image. StandsForMasters image registers) c.open_roles.ensures.keeps.content (λ image stands. stands)
+    let loaded = told_after m1 m2 (λ image. StandsForMasters image registers) c.open_roles.ensures.keeps.content
     c.in-Ok.ensures.stands in
     stands_unbroken m0 m2 registers c.open_roles.new.roles _ (c.open_roles.ensures.keeps.content ∙ (c.load.ensures.keeps.content ∙ c.settle.ensures.content))
     loaded c.in-Ok-open_roles.ensures.stands

@@ -8,7 +8,7 @@ use Rattle.verb_rules.specs.Keys.{keys_of}
 use Rattle.key_records.specs.StoreStands.{IsFirstDamaged}
 use Rattle.key_records.specs.declared.faults.RecordFault.TheVariants as record_fault
 use Rattle.line_service.specs.declared.stops.Device.TheVariants.{Store}
-use Rattle.cca_tool.proofs.OpeningLemmas.{told_before, kept_undamaged}
+use Rattle.cca_tool.proofs.OpeningLemmas.{told_earlier_as, kept_undamaged}
 use Rattle.cca_tool.proofs.StopLemmas.{same_cell, same_record, named_cell}
 use Rattle.cca_tool.proofs.coprocessor.open_store.Goals as goal
 
@@ -23,7 +23,7 @@ returns-in-Err-Damaged-clause-damaged g c = λ cell h.
     let keys = keys_of (masters_in c.args.held.now (bench_of c.args.lease.now)) in
     let here = c.in-Err-Damaged in
     subst (λ (n : ℕ). Told d0 (λ image. IsFirstDamaged keys image n)) (same_cell Store here.cell cell h)
-    (told_before d0 (g.D.Disk.medium c.settle.new.disk) (λ image. IsFirstDamaged keys image here.cell) (λ image. IsFirstDamaged keys image here.cell)
+    (told_earlier_as d0 (g.D.Disk.medium c.settle.new.disk) (λ image. IsFirstDamaged keys image here.cell) (λ image. IsFirstDamaged keys image here.cell)
     c.settle.ensures.content (λ image first. first) (c.open_records.ensures.damaged here.cell (here.is ∙ ap Err here.field-0-is)))
 
 pub returns-in-Err-Damaged-clause-judged : goal.returns-in-Err-Damaged-clause-judged
@@ -31,7 +31,7 @@ returns-in-Err-Damaged-clause-judged g c = λ still.
     let d1 = g.D.Disk.medium c.settle.new.disk in
     let keys = keys_of (masters_in c.args.held.now (bench_of c.args.lease.now)) in
     let here = c.in-Err-Damaged in
-    told_before (g.D.Disk.medium c.args.store.now) d1 _ _ c.settle.ensures.content (λ image each. each)
+    told_earlier_as (g.D.Disk.medium c.args.store.now) d1 _ _ c.settle.ensures.content (λ image each. each)
     (named_cell (Unit {0}) Store record_fault.Damaged same_record (λ image n. IsFirstDamaged keys image n) c.open_records.result here.cell (here.is ∙ ap Err here.field-0-is) d1
     (c.open_records.ensures.exact (λ rose. still (rose_wider _ _ _ _ (omega (arith, c.settle.ensures.cause.later)) c.open_records.ensures.cause.later (omega arith) rose))))
 

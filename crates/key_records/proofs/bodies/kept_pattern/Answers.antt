@@ -30,24 +30,24 @@ returns-then-is_err g c =
     sym (ap (option_map (pattern_for (keys_of g.m))) (kept_with_flag (keys_of g.m) c.args.token.now c.if-token-ne-KEY_AND_VECTOR.false
     ∙ from_err c.read_token.result (first_failing (token_checks asked.Internal c.args.token.now)) (sym c.is_err.ensures.value ∙ c.if-is_err.true) c.read_token.ensures.refused (λ rule is. denoted_refused (keys_of g.m) c.args.token.now rule is)))
 
-pub returns-then-is_pattern : goal.returns-then-is_pattern
-returns-then-is_pattern g c =
+pub returns-then-has_pattern : goal.returns-then-has_pattern
+returns-then-has_pattern g c =
     sym (pattern_found g.m c.args.token.now c.pattern_in-pattern.result (ap pattern c.pattern_in-pattern.ensures) c.if-token-ne-KEY_AND_VECTOR.false
     (from_ok c.read_token.result (sym c.is_err.ensures.value ∙ c.if-is_err.false) c.read_token.ensures.accepted)
-    (inl (sym (ap (λ (r : Registers). r.current_pattern) c.requires) ∙ c.is_pattern.ensures.0 c.if-is_pattern.true)))
+    (inl (sym (ap (λ (r : Registers). r.current_pattern) c.requires) ∙ c.has_pattern.ensures.held.0 c.if-has_pattern.true)))
 
-pub returns-then-is_pattern-2 : goal.returns-then-is_pattern-2
-returns-then-is_pattern-2 g c =
+pub returns-then-has_pattern-2 : goal.returns-then-has_pattern-2
+returns-then-has_pattern-2 g c =
     sym (pattern_found g.m c.args.token.now c.pattern_in-pattern.result (ap pattern c.pattern_in-pattern.ensures) c.if-token-ne-KEY_AND_VECTOR.false
     (from_ok c.read_token.result (sym c.is_err.ensures.value ∙ c.if-is_err.false) c.read_token.ensures.accepted)
     (inr (
-      λ has. not_true c.is_pattern.result c.if-is_pattern.false (c.is_pattern.ensures.1 (ap (λ (r : Registers). r.current_pattern) c.requires ∙ has)),
-      sym (ap (λ (r : Registers). r.old_pattern) c.requires) ∙ c.is_pattern-2.ensures.0 c.if-is_pattern-2.true,
+      λ has. not_true c.has_pattern.result c.if-has_pattern.false (c.has_pattern.ensures.held.1 (ap (λ (r : Registers). r.current_pattern) c.requires ∙ has)),
+      sym (ap (λ (r : Registers). r.old_pattern) c.requires) ∙ c.has_pattern-2.ensures.held.0 c.if-has_pattern-2.true,
     )))
 
 pub returns : goal.returns
 returns g c =
     sym (pattern_missing g.m c.args.token.now c.pattern_in-pattern.result (ap pattern c.pattern_in-pattern.ensures) c.if-token-ne-KEY_AND_VECTOR.false
     (from_ok c.read_token.result (sym c.is_err.ensures.value ∙ c.if-is_err.false) c.read_token.ensures.accepted)
-    (λ has. not_true c.is_pattern.result c.if-is_pattern.false (c.is_pattern.ensures.1 (ap (λ (r : Registers). r.current_pattern) c.requires ∙ has)))
-    (λ has. not_true c.is_pattern-2.result c.if-is_pattern-2.false (c.is_pattern-2.ensures.1 (ap (λ (r : Registers). r.old_pattern) c.requires ∙ has))))
+    (λ has. not_true c.has_pattern.result c.if-has_pattern.false (c.has_pattern.ensures.held.1 (ap (λ (r : Registers). r.current_pattern) c.requires ∙ has)))
+    (λ has. not_true c.has_pattern-2.result c.if-has_pattern-2.false (c.has_pattern-2.ensures.held.1 (ap (λ (r : Registers). r.old_pattern) c.requires ∙ has))))

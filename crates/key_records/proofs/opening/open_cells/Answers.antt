@@ -5,11 +5,11 @@ use Rattle.slot_disk.specs.Medium.{Told}
 use Rattle.slot_disk.proofs.WhereToldLemmas.{rose_wider}
 use Rattle.verb_rules.specs.Keys.{keys_of}
 use Rattle.key_records.specs.declared.faults.RecordFault.TheVariants.{DiskFault, Damaged}
-use Rattle.slot_disk.proofs.Media.{keeps_still, keeps_then}
+use Rattle.slot_disk.proofs.Media.{keeps_still, keeps_then, told_map, told_next}
 use Rattle.key_records.specs.Opening.{OpenedTo, IsRefused, Opens}
 use Rattle.key_records.specs.StoreStands.{KeepsLabels, labels_in, IsFirstDamaged}
 use Rattle.key_records.proofs.OpeningLaws.{opened_none, opened_more, opened_all, refused_damaged, stands_undamaged, first_one}
-use Rattle.key_records.proofs.StoreLaws.{told_map, told_all, told_next}
+use Rattle.key_records.proofs.StoreLaws.{told_all}
 use Rattle.key_records.proofs.opening.open_cells.Goals as goal
 
 pub loop-cell-init : goal.loop-cell-init

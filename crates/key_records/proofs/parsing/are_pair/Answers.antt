@@ -15,12 +15,12 @@ use Rattle.key_records.proofs.parsing.are_pair.Goals as goal
 no_test : {P : Type 0} → false ≡ true → P
 no_test is = absurd (cc is)
 
-pub returns-then-not-is_pattern-clause-pair : goal.returns-then-not-is_pattern-clause-pair
-returns-then-not-is_pattern-clause-pair g c = (
+pub returns-then-not-has_pattern-clause-pair : goal.returns-then-not-has_pattern-clause-pair
+returns-then-not-has_pattern-clause-pair g c = (
   λ no. no_test no,
   λ pair.
       let has = under_current g.m c.args.held.now (bench_of c.args.lease.now) c.args.token.now c.requires.0 c.requires.1.1 pair.key pair.is_kept pair.current in
-      c.if-not-is_pattern.ensures.1 (has ∙ ap (λ (t : Token). Some (pattern t.pattern)) (sym c.in-Ok.ensures.token)),
+      c.if-not-has_pattern.ensures.held.1 (has ∙ ap (λ (t : Token). Some (pattern t.pattern)) (sym c.in-Ok.ensures.token)),
 )
 
 pub returns-clause-pair : goal.returns-clause-pair
@@ -28,8 +28,8 @@ returns-clause-pair g c =
     let bench = bench_of c.args.lease.now in
     let token : List ℕ = c.args.token.now in
     let vector : List ℕ = c.in-Ok.first.vector in
-    let has = c.is_pattern.ensures.0 c.if-not-is_pattern.false ∙ ap (λ (t : Token). Some (pattern t.pattern)) c.in-Ok.ensures.token in
-    let coming = sym c.requires.1.0 ∙ c.if-not-is_pattern-2.ensures.0 refl in
+    let has = c.has_pattern.ensures.held.0 c.if-not-has_pattern.false ∙ ap (λ (t : Token). Some (pattern t.pattern)) c.in-Ok.ensures.token in
+    let coming = sym c.requires.1.0 ∙ c.if-not-has_pattern-2.ensures.held.0 refl in
     let key : key_in vector (bench_of c.open_key.new.lease).key ≡ (opened bench (judged_with c.in-Ok.first (Some Current))).key =
     ap (key_in vector) c.open_key.ensures.key ∙ key_again vector (opened bench (judged_with c.in-Ok.first (Some Current))).key c.open_key.ensures.length in
     let sealed : c.seal-sealed.result ≡ seal bench.coming (opened bench (judged_with (token_of token) (Some Current))).vector (opened bench (judged_with (token_of token) (Some Current))).key =

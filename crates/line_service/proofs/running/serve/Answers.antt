@@ -1,11 +1,9 @@
 -- A run serves from the state of its disks.
-use Rattle.std.proofs.Common.{Err, ap, ◌∙◌, arith, rules}
+use Rattle.std.proofs.Common.{Err, ap, refl, ◌∙◌, arith}
 use Rattle.line_service.specs.Machine.{world}
 use Rattle.line_service.specs.Serving.{RunServed}
-use Rattle.line_service.proofs.OpeningLemmas.{stands_opened, opened, unopened, unbroken, never_told, never_both, module_unbroken, store_unbroken}
-use Rattle.line_service.proofs.RunLemmas.{prefix_sent, completes, limit_is, no_limit, no_opening_read, no_opening_write, no_opening_draw, no_opening_answer}
-use Rattle.line_service.proofs.StopLemmas.{grows_none}
-use Rattle.slot_disk.proofs.WhereToldLemmas.{rose_wider, told_same}
+use Rattle.line_service.proofs.OpeningLemmas.{stands_opened, opened, unopened, unbroken, not_stopped, opened_damage, unopened_left, unopened_taken, unopened_sound, unopened_no_stop}
+use Rattle.line_service.proofs.RunLemmas.{prefix_sent, completes, limit_is, no_limit}
 use Rattle.line_service.proofs.running.serve.Goals as goal
 
 pub returns-in-Ok-clause-lines : goal.returns-in-Ok-clause-lines
@@ -31,10 +29,7 @@ returns-in-Ok-clause-lines g c = λ s disks.
       serves = serves;
       prefix = prefix_sent A s first last i0 i1 o0 o1 c.serve_all.result serves;
       complete = λ none. completes A s first last i0 i1 o0 o1 c.serve_all.result serves
-          (λ h. none.reads (c.serve_all.ensures.left.source_left.fault h)) (λ h. none.writes (c.serve_all.ensures.left.sink_left.fault h))
-          (λ h. none.on_module (rose_wider _ _ _ _ c.open.ensures.left.module_left.later c.serve_all.ensures.left.devices_left.module_left.later (omega arith) (c.serve_all.ensures.left.devices_left.module_left.fault h)))
-          (λ h. none.on_store (rose_wider _ _ _ _ c.open.ensures.left.store_left.later c.serve_all.ensures.left.devices_left.store_left.later (omega arith) (c.serve_all.ensures.left.devices_left.store_left.fault h)))
-          (λ h. none.draws (c.serve_all.ensures.left.devices_left.draws h) (c.serve_all.ensures.left.devices_left.entropy_left.fault h))
+          (not_stopped A c.serve_all.result _ _ c.serve_all.ensures.left none (omega arith) (omega arith) c.open.ensures.left.module_left.later c.open.ensures.left.store_left.later (omega arith))
           (limit_is c.serve_all.result i0 i1 c.serve_all.ensures.limit c.serve_all.ensures.short);
     }
 
@@ -60,10 +55,8 @@ returns-in-Err-clause-lines g c = λ s disks.
       serves = serves;
       prefix = prefix_sent A s first last i i o o (Err stop) serves;
       complete = λ none. completes A s first last i i o o (Err stop) serves
-          (λ h. no_opening_read stop kind h) (λ h. no_opening_write stop kind h)
-          (λ h. none.on_module (c.open.ensures.left.module_left.fault (c.in-Err.is ∙ h)))
-          (λ h. none.on_store (c.open.ensures.left.store_left.fault (c.in-Err.is ∙ h)))
-          (λ h. no_opening_draw stop kind h) (no_limit stop i kind);
+          (unopened_no_stop stop kind (λ h. none.on_module (c.open.ensures.left.module_left.fault (c.in-Err.is ∙ h))) (λ h. none.on_store (c.open.ensures.left.store_left.fault (c.in-Err.is ∙ h))))
+          (no_limit stop i kind);
     }
 
 pub returns-in-Ok-clause-taken : goal.returns-in-Ok-clause-taken
@@ -74,46 +67,14 @@ returns-in-Ok-clause-taken g c = record {
 }
 
 pub returns-in-Err-clause-taken : goal.returns-in-Err-clause-taken
-returns-in-Err-clause-taken g c = record {
-  at_end = search rules;
-  limit = no_limit c.in-Err.stop (g.S.Source.left c.args.source.now) c.in-Err.ensures.stops;
-  within = told_same (g.S.Source.left c.args.source.now) _ (λ x. omega arith);
-}
+returns-in-Err-clause-taken g c = unopened_taken c.in-Err.stop _ c.in-Err.ensures.stops refl
 
 pub returns-in-Ok-clause-damage : goal.returns-in-Ok-clause-damage
 returns-in-Ok-clause-damage g c =
-    let A = g.A.Desk.machine in
-    let m0 = g.M.Disk.medium c.args.module.now in
-    let m1 = g.M.Disk.medium c.open.new.module in
-    let d0 = g.D.Disk.medium c.args.store.now in
-    let d1 = g.D.Disk.medium c.open.new.store in
-    let after = c.serve_all.ensures.undamaged in
-    record {
-      module_damaged = λ cell h. never_told m0 m1 (A.IsBrokenModule cell) c.open.ensures.left.module_kept (after.module_sound cell h);
-      store_damaged = λ cell h. never_both m0 m1 d0 d1 (A.IsBrokenStore cell) c.open.ensures.left.module_kept c.open.ensures.left.store_kept (after.store_sound cell h);
-      module_judged = λ still. module_unbroken A m0 d0 _ c.in-Ok.ensures.sound;
-      store_judged = λ still_m still_d. store_unbroken A m0 d0 _ c.in-Ok.ensures.sound;
-      cells = after.cells;
-    }
+    opened_damage g.A.Desk.machine c.serve_all.result _ _ c.open.ensures.left.module_kept c.open.ensures.left.store_kept c.in-Ok.ensures.sound c.serve_all.ensures.undamaged
 
 pub returns-in-Err-clause-sound : goal.returns-in-Err-clause-sound
-returns-in-Err-clause-sound g c = record {
-  sound = λ h. absurd (no_opening_answer c.in-Err.stop c.in-Err.ensures.stops h);
-  settled = λ h. absurd (no_opening_answer c.in-Err.stop c.in-Err.ensures.stops h);
-}
+returns-in-Err-clause-sound g c = unopened_sound g.A.Desk.machine c.in-Err.stop _ c.in-Err.ensures.stops
 
 pub returns-in-Err-clause-left : goal.returns-in-Err-clause-left
-returns-in-Err-clause-left g c =
-    let stop = c.in-Err.stop in
-    let kind = c.in-Err.ensures.stops in
-    record {
-      devices_left = record {
-        module_left = c.in-Err.ensures.left.module_left;
-        store_left = c.in-Err.ensures.left.store_left;
-        entropy_left = record { later = omega arith; fault = λ h. absurd (no_opening_draw stop kind h) };
-        draws = λ h. absurd (no_opening_draw stop kind h);
-      };
-      source_left = record { later = omega arith; fault = λ h. absurd (no_opening_read stop kind h) };
-      sink_left = record { later = omega arith; fault = λ h. absurd (no_opening_write stop kind h) };
-      sink_grows = grows_none (g.K.Sink.held c.args.sink.now);
-    }
+returns-in-Err-clause-left g c = unopened_left g.A.Desk.machine c.in-Err.stop _ c.in-Err.ensures.stops c.in-Err.ensures.left.module_left c.in-Err.ensures.left.store_left refl refl refl refl

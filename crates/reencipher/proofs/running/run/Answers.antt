@@ -1,11 +1,12 @@
-use Rattle.std.proofs.Common.{◌≡◌, ◌≤◌, ◌+◌, Err, Bool, true, false, cond, refl, sym, subst, ◌∙◌, arith, rules}
+use Rattle.std.proofs.Common.{◌≡◌, ◌≤◌, ◌+◌, ℕ, Err, Bool, true, false, cond, refl, sym, subst, ◌∙◌, arith, rules}
 use mir.Val.{bool_byte}
 use Rattle.clear_keys.proofs.TokenLemmas.{keys_apart}
 use Rattle.verb_rules.specs.Keys.{keys_of}
 use Rattle.reencipher.specs.Further.{further}
-use Rattle.reencipher.specs.Runs.{Reenciphers, TurnsCells}
+use Rattle.reencipher.specs.Runs.{IsCell, LeavesAnyStore, Reenciphers, TurnsCells}
+use Rattle.reencipher.proofs.LeftLaws.{left_start, left_on, left_failed}
 use Rattle.reencipher.proofs.RowLaws.{HasTurnedTo, turned_start, turned_on, turns_ended, turns_whole}
-use Rattle.reencipher.proofs.RunLaws.{Reaches, reaches_start, reaches_next, ends_at, ends_whole, changes_none, changes_more}
+use Rattle.reencipher.proofs.RunLaws.{Reaches, reaches_start, reaches_next, ends_at, ends_whole}
 use Rattle.reencipher.proofs.TurnLaws.{loaded_turn}
 use Rattle.reencipher.proofs.running.run.Goals as goal
 
@@ -19,17 +20,10 @@ byte_low false = omega arith
 
 pub loop-cell-init : goal.loop-cell-init
 loop-cell-init g c = record {
-  labels = λ m s loaded told. reaches_start c.args.action (keys_of m) (keys_apart m loaded.valid) s c.args.records.now (g.D.Disk.medium c.args.store.now) c.requires.settled told;
-  cells = turned_start c.args.action c.args.held.now c.args.records.now (g.D.Disk.medium c.args.store.now) c.requires.settled;
-  size = c.requires.size;
-  settled = c.requires.settled;
-  still = λ some. some;
-  told = λ some. some;
-  holds = c.requires.holds;
-  directory = refl;
+  labels = λ m s loaded told. reaches_start c.args.action (keys_of m) (keys_apart m loaded.valid) s c.args.records.now (g.D.Disk.medium c.args.store.now) c.requires.store.settled told;
+  cells = turned_start c.args.action c.args.held.now c.args.records.now (g.D.Disk.medium c.args.store.now) c.requires.store.settled;
+  left = left_start g.D.Disk.medium g.D.Disk.faults c.args.lease.now c.args.records.now c.args.store.now 0 c.requires.store;
   few = omega arith;
-  later = omega arith;
-  rest = changes_none c.args.lease.now;
 }
 
 pub returns-in_err-done-clause-labels : goal.returns-in_err-done-clause-labels
@@ -39,7 +33,7 @@ returns-in_err-done-clause-labels g c m s loaded told =
     let m1 = g.D.Disk.medium c.loop-cell.store in
     let m2 = g.D.Disk.medium c.turn_cell.new.store in
     let so_far = c.loop-cell.invariant.labels m s loaded told in
-    let now = loaded_turn m c.args.held.now c.args.lease.now c.loop-cell.lease loaded c.loop-cell.invariant.rest in
+    let now = loaded_turn m c.args.held.now c.args.lease.now c.loop-cell.lease loaded c.loop-cell.invariant.left.rest in
     let failed : c.from_residual.result ≡ Err c.in_err-done.field-0.0 = search rules in
     subst (λ r. Reenciphers c.args.action masters s c.turn_cell.new.records m0 m2 r) (sym failed)
     (ends_at c.args.action masters (keys_apart m loaded.valid) s c.loop-cell.cell c.loop-cell.changed c.loop-cell.records c.turn_cell.new.records m0 m1 m2 c.loop-cell-test.true so_far
@@ -49,7 +43,7 @@ pub loop-cell-preserved : goal.loop-cell-preserved
 loop-cell-preserved g c = record {
   labels = λ m s loaded told.
       let so_far = c.loop-cell.invariant.labels m s loaded told in
-      let now = loaded_turn m c.args.held.now c.args.lease.now c.loop-cell.lease loaded c.loop-cell.invariant.rest in
+      let now = loaded_turn m c.args.held.now c.args.lease.now c.loop-cell.lease loaded c.loop-cell.invariant.left.rest in
       let m0 = g.D.Disk.medium c.args.store.now in
       let m1 = g.D.Disk.medium c.loop-cell.store in
       let m2 = g.D.Disk.medium c.turn_cell.new.store in
@@ -63,15 +57,9 @@ loop-cell-preserved g c = record {
       (turned_on c.args.action c.args.held.now c.args.records.now c.loop-cell.cell c.loop-cell.changed c.loop-cell.records c.turn_cell.new.records
       (g.D.Disk.medium c.args.store.now) (g.D.Disk.medium c.loop-cell.store) (g.D.Disk.medium c.turn_cell.new.store) c.loop-cell-test.true c.loop-cell.invariant.cells
       c.turn_cell.ensures.others c.turn_cell.ensures.row c.in_ok-done.done c.in_ok-done.ensures.turns c.in_ok-done.ensures.count);
-  size = c.turn_cell.ensures.size;
-  settled = c.in_ok-done.ensures.settled;
-  still = λ some. c.turn_cell.ensures.still (c.loop-cell.invariant.still some);
-  told = λ some. c.loop-cell.invariant.told (c.turn_cell.ensures.told some);
-  holds = c.in_ok-done.ensures.holds;
-  directory = c.turn_cell.ensures.directory ∙ c.loop-cell.invariant.directory;
+  left = left_on g.D.Disk.medium g.D.Disk.faults c.args.lease.now c.loop-cell.lease c.turn_cell.new.lease c.args.records.now c.loop-cell.records c.turn_cell.new.records
+      c.args.store.now c.loop-cell.store c.turn_cell.new.store c.loop-cell.cell c.loop-cell.changed c.loop-cell-test.true c.in_ok-done.done _ c.loop-cell.invariant.left c.in_ok-done.ensures.left;
   few = omega (arith, c.loop-cell.invariant.few, c.from-changed.ensures, byte_low c.in_ok-done.done);
-  later = omega (arith, c.loop-cell.invariant.later, c.turn_cell.ensures.cause.later);
-  rest = changes_more c.args.lease.now c.loop-cell.lease c.turn_cell.new.lease c.loop-cell.invariant.rest c.turn_cell.ensures.rest;
 }
 
 pub returns-clause-labels : goal.returns-clause-labels
@@ -95,3 +83,10 @@ returns-clause-cells g c =
     let all : c.loop-cell.cell ≡ 1024 = search rules in
     turns_whole c.args.action c.args.held.now c.args.records.now c.loop-cell.cell c.loop-cell.changed c.loop-cell.records
     (g.D.Disk.medium c.args.store.now) (g.D.Disk.medium c.loop-cell.store) all c.loop-cell.invariant.cells
+
+pub returns-in_err-done-clause-left : goal.returns-in_err-done-clause-left
+returns-in_err-done-clause-left g c =
+    let failed : c.from_residual.result ≡ Err c.in_err-done.field-0.0 = search rules in
+    subst (λ r. LeavesAnyStore g.D.Disk.medium g.D.Disk.faults IsCell c.args.lease.now c.turn_cell.new.lease c.args.records.now c.turn_cell.new.records c.args.store.now c.turn_cell.new.store r) (sym failed)
+    (left_failed g.D.Disk.medium g.D.Disk.faults c.args.lease.now c.loop-cell.lease c.turn_cell.new.lease c.args.records.now c.loop-cell.records c.turn_cell.new.records
+    c.args.store.now c.loop-cell.store c.turn_cell.new.store c.loop-cell.cell c.loop-cell.changed c.loop-cell-test.true ℕ _ c.loop-cell.invariant.left c.in_err-done.ensures.left)

@@ -4,16 +4,16 @@ use Rattle.key_cells.specs.Bench.{Bench}
 use Rattle.key_cells.specs.Lease.{bench_of}
 use Rattle.slot_disk.specs.Cells.{body}
 use Rattle.slot_disk.specs.Medium.{Medium, Told}
-use Rattle.slot_disk.proofs.Media.{keeps_still, told_before, told_from}
+use Rattle.slot_disk.proofs.Media.{keeps_still, told_before, told_from, told_joined, told_map, told_still}
 use Rattle.key_tokens.specs.Denotes.{denoted}
 use Rattle.key_records.specs.Changes.{ReadsToken, ahead_at, has_key, is_ahead_row}
 use Rattle.key_records.specs.Directory.{label_at}
-use Rattle.key_records.specs.Entries.{label_or}
+use Rattle.key_records.specs.Entries.{Entry, label_or}
 use Rattle.key_records.specs.RecordBody.{StandsAs}
 use Rattle.key_records.specs.declared.rows.Row.{Row}
 use Rattle.key_records.specs.StoreStands.{HoldsRows, KeepsLabels, entry_at}
 use Rattle.key_records.proofs.OpeningLaws.{label_of_entry, label_of_row}
-use Rattle.key_records.proofs.StoreLaws.{same_directory, told_all, told_map, told_both, told_still}
+use Rattle.key_records.proofs.StoreLaws.{same_directory, told_all}
 use Rattle.master_registers.specs.Loaded.{Loaded, masters_in}
 use Rattle.master_registers.specs.Masters.{Masters}
 use Rattle.master_registers.specs.declared.registers.Registers.{Registers}
@@ -26,14 +26,15 @@ use Rattle.reencipher.specs.Turns.{ChangesCell, TurnsCell}
 use Rattle.reencipher.specs.declared.actions.StoreAction.{StoreAction}
 use Rattle.reencipher.proofs.RowLaws.{marked_row_stays, no_row_stays, null_row_stays, row_changes, turns_kept, turns_failed, turns_written}
 use Rattle.reencipher.proofs.TokenLaws.{loaded_after}
-use Rattle.reencipher.proofs.TurnLaws.{IsTurn, and_true, reads_what, reads_null, null_changes, no_label, may_not, does_not, is_turn, made_is, can_write, loaded_body, changes_none, changes_failed, changes_written}
+use Rattle.reencipher.proofs.TurnLaws.{IsMade, IsTurn, and_true, reads_what, reads_null, null_changes, no_label, may_not, does_not, is_turn, made_is, can_write, loaded_body, changes_none, changes_failed, changes_written}
 use Rattle.reencipher.proofs.turns.turn_cell.Goals as goal
+use Rattle.reencipher.proofs.turns.turn_cell.Goals.{After-made_tokens, In-Some-made_tokens}
 
 pub returns-in-None-clause-changes : goal.returns-in-None-clause-changes
 returns-in-None-clause-changes g c m s loaded told =
     let masters = keys_of m in
     let m0 = g.D.Disk.medium c.args.store.now in
-    changes_none c.args.action masters c.args.cell s m0 m0 c.args.records.now c.requires.settled (keeps_still m0) told
+    changes_none c.args.action masters c.args.cell s m0 m0 c.args.records.now c.requires.store.settled (keeps_still m0) told
     (told_map m0 (KeepsLabels masters c.args.records.now s) (λ _. is_changed c.args.action (entry_at s c.args.cell) ≡ false) told
     (λ image keeps. no_label c.args.action (entry_at s c.args.cell)
     (sym (label_of_entry s c.args.cell) ∙ ap (λ d. label_at d c.args.cell) (same_directory masters c.args.records.now s keeps.agrees) ∙ c.in-None.ensures.none refl)))
@@ -45,7 +46,7 @@ returns-then-not-may_change-clause-changes g c m s loaded told =
     let place : ℕ = c.in-Some.place in
     let within : place < 1024 = omega (arith, c.in-Some.ensures.place, c.requires.within) in
     subst (λ n. ChangesCell c.args.action masters n s c.args.records.now c.args.records.now m0 m0 (Ok false)) c.in-Some.ensures.place
-    (changes_none c.args.action masters place s m0 m0 c.args.records.now c.requires.settled (keeps_still m0) told
+    (changes_none c.args.action masters place s m0 m0 c.args.records.now c.requires.store.settled (keeps_still m0) told
     (told_map m0 (KeepsLabels masters c.args.records.now s) (λ _. is_changed c.args.action (entry_at s place) ≡ false) told
     (λ image keeps. may_not c.args.action masters c.args.records.now s place image keeps within (sym c.may_change.ensures ∙ c.if-not-may_change.true))))
 
@@ -61,8 +62,8 @@ returns-then-not-branch-clause-changes g c m s loaded told =
     let token : List ℕ = c.read.new.out in
     let read = subst (λ b. Told m0 (λ _. ReadsToken masters (entry_at s place) b token)) c.if-not-branch.true (c.in_ok-read.ensures.token masters s told) in
     subst (λ n. ChangesCell a masters n s rows rows m0 m1 (Ok false)) c.in-Some.ensures.place
-    (changes_none a masters place s m0 m1 rows c.requires.settled c.read.ensures.keeps told
-    (told_both m0 (KeepsLabels masters rows s) (λ _. ReadsToken masters (entry_at s place) false token) (λ _. is_changed a (entry_at s place) ≡ false) told read
+    (changes_none a masters place s m0 m1 rows c.requires.store.settled c.read.ensures.keeps told
+    (told_joined m0 (KeepsLabels masters rows s) (λ _. ReadsToken masters (entry_at s place) false token) (λ _. is_changed a (entry_at s place) ≡ false) told read
     (λ image keeps reads. does_not a masters rows s place image keeps within None (reads_null masters (entry_at s place) token reads) (null_changes a))))
 
 pub returns-in-None-made_tokens-clause-changes : goal.returns-in-None-made_tokens-clause-changes
@@ -79,78 +80,82 @@ returns-in-None-made_tokens-clause-changes g c m s loaded told =
     let now = loaded_body m c.args.held.now c.args.lease.now c.read.new.lease loaded c.read.ensures.rest in
     let none : false ≡ changes_key a (denoted masters token) = c.in-None-made_tokens.ensures.some m now in
     subst (λ n. ChangesCell a masters n s rows rows m0 m1 (Ok false)) c.in-Some.ensures.place
-    (changes_none a masters place s m0 m1 rows c.requires.settled c.read.ensures.keeps told
-    (told_both m0 (KeepsLabels masters rows s) (λ _. ReadsToken masters (entry_at s place) true token) (λ _. is_changed a (entry_at s place) ≡ false) told read
+    (changes_none a masters place s m0 m1 rows c.requires.store.settled c.read.ensures.keeps told
+    (told_joined m0 (KeepsLabels masters rows s) (λ _. ReadsToken masters (entry_at s place) true token) (λ _. is_changed a (entry_at s place) ≡ false) told read
     (λ image keeps reads. does_not a masters rows s place image keeps within (denoted masters token) (reads_what masters (entry_at s place) token reads) (sym none))))
+
+-- ---- the tokens that are put
+
+-- what they stand for
+made_at : (g : _) (c : In-Some-made_tokens g) (m : Masters) → Loaded m c.args.held.now (bench_of c.read.new.lease)
+    → IsMade c.args.action (keys_of m) c.read.new.out c.in-Some-made_tokens.tokens
+made_at g c m now =
+    made_is (keys_of m) c.read.new.out c.args.action c.in-Some-made_tokens.tokens (sym (c.in-Some-made_tokens.ensures.some m now)) (c.in-Some-made_tokens.ensures.made m now)
+
+-- the labels that they make
+abbrev next_at : (g : _) (c : In-Some-made_tokens g) (m : Masters) → Loaded m c.args.held.now (bench_of c.read.new.lease) → List (Option Entry) → List (Option Entry)
+next_at g c m now s = put_in c.in-Some-made_tokens.tokens c.in-Some.place (made_at g c m now).key s
+
+turn_at : (g : _) (c : In-Some-made_tokens g) (m : Masters) (now : Loaded m c.args.held.now (bench_of c.read.new.lease)) (s : List (Option Entry))
+    → Told (g.D.Disk.medium c.args.store.now) (KeepsLabels (keys_of m) c.args.records.now s)
+    → Told (g.D.Disk.medium c.args.store.now) (λ _. IsTurn c.args.action c.in-Some.place s (next_at g c m now s))
+turn_at g c m now s told =
+    let masters = keys_of m in
+    let a = c.args.action in
+    let m0 = g.D.Disk.medium c.args.store.now in
+    let place : ℕ = c.in-Some.place in
+    let rows : List (Option Row) = c.args.records.now in
+    let within : place < 1024 = omega (arith, c.in-Some.ensures.place, c.requires.within) in
+    let token : List ℕ = c.read.new.out in
+    let tokens = c.in-Some-made_tokens.tokens in
+    let read = subst (λ b. Told m0 (λ _. ReadsToken masters (entry_at s place) b token)) c.if-not-branch.false (c.in_ok-read.ensures.token masters s told) in
+    told_joined m0 (KeepsLabels masters rows s) (λ _. ReadsToken masters (entry_at s place) true token) (λ _. IsTurn a place s (next_at g c m now s)) told read
+    (λ image keeps reads. is_turn a masters rows s place image keeps within token tokens (made_at g c m now) reads (sym (c.in-Some-made_tokens.ensures.some m now))
+    (sym c.may_change.ensures ∙ c.if-not-may_change.false))
 
 pub put-requires-clause-ready : goal.put-requires-clause-ready
 put-requires-clause-ready g c =
     let held = c.args.held.now in
     let m = masters_in held (bench_of c.args.lease.now) in
-    let token : List ℕ = c.read.new.out in
     let tokens = c.in-Some-made_tokens.tokens in
     let now = loaded_body m held c.args.lease.now c.read.new.lease c.requires.loaded c.read.ensures.rest in
     let last = loaded_after m held c.read.new.lease c.made_tokens.new.lease now c.made_tokens.ensures.stays in
-    let made = made_is (keys_of m) token c.args.action tokens (sym (c.in-Some-made_tokens.ensures.some m now)) (c.in-Some-made_tokens.ensures.made m now) in
+    let made = made_at g (goal.at.put-requires-clause-ready g c).In-Some-made_tokens m now in
     subst (λ (n : Masters). CanBeWritten (keys_of n) tokens) (sym (loaded_one m held (bench_of c.made_tokens.new.lease) last)) (can_write (keys_of m) tokens made.key made.stand)
 
 pub returns-in_err-put-clause-changes : goal.returns-in_err-put-clause-changes
 returns-in_err-put-clause-changes g c m s loaded told =
+    let at = (goal.at.returns-in_err-put-clause-changes g c).In-Some-made_tokens in
     let masters = keys_of m in
     let a = c.args.action in
     let m0 = g.D.Disk.medium c.args.store.now in
     let m1 = g.D.Disk.medium c.read.new.store in
+    let m2 = g.D.Disk.medium c.put.new.store in
     let place : ℕ = c.in-Some.place in
     let rows : List (Option Row) = c.args.records.now in
-    let within : place < 1024 = omega (arith, c.in-Some.ensures.place, c.requires.within) in
-    let token : List ℕ = c.read.new.out in
-    let read = subst (λ b. Told m0 (λ _. ReadsToken masters (entry_at s place) b token)) c.if-not-branch.false (c.in_ok-read.ensures.token masters s told) in
     let now = loaded_body m c.args.held.now c.args.lease.now c.read.new.lease loaded c.read.ensures.rest in
-    let m2 = g.D.Disk.medium c.put.new.store in
-    let tokens = c.in-Some-made_tokens.tokens in
-    let changes : true ≡ changes_key a (denoted masters token) = c.in-Some-made_tokens.ensures.some m now in
-    let made = made_is masters token a tokens (sym changes) (c.in-Some-made_tokens.ensures.made m now) in
-    let may : may_change a (is_ahead_row (get_or rows place None)) ≡ true = sym c.may_change.ensures ∙ c.if-not-may_change.false in
-    let next = put_in tokens place made.key s in
-    let turn : Told m0 (λ _. IsTurn a place s next) = told_both m0 (KeepsLabels masters rows s) (λ _. ReadsToken masters (entry_at s place) true token) (λ _. IsTurn a place s next) told read
-    (λ image keeps reads. is_turn a masters rows s place image keeps within token tokens made reads (sym changes) may) in
+    let made = made_at g at m now in
     let failed : c.from_residual-in_err-put.result ≡ Err c.in_err-put.field-0.0 = search rules in
     subst (λ r. ChangesCell a masters c.args.cell s rows c.put.new.records m0 m2 r) (sym failed)
     (subst (λ n. ChangesCell a masters n s rows c.put.new.records m0 m2 (Err c.in_err-put.field-0.0)) c.in-Some.ensures.place
-    (changes_failed a masters place s next m0 m1 m2 rows c.put.new.records c.requires.settled c.read.ensures.keeps told turn c.in_err-put.field-0.0 c.in_err-put.ensures.kept
+    (changes_failed a masters place s (next_at g at m now s) m0 m1 m2 rows c.put.new.records c.requires.store.settled c.read.ensures.keeps told (turn_at g at m now s told) c.in_err-put.field-0.0 c.in_err-put.ensures.kept
     (c.in_err-put.ensures.labels masters s made.key (told_still m0 m1 (KeepsLabels masters rows s) c.read.ensures.keeps told) made.stand)))
 
 pub returns-clause-changes : goal.returns-clause-changes
 returns-clause-changes g c m s loaded told =
+    let at = (goal.at.returns-clause-changes g c).In-Some-made_tokens in
     let masters = keys_of m in
     let a = c.args.action in
     let m0 = g.D.Disk.medium c.args.store.now in
     let m1 = g.D.Disk.medium c.read.new.store in
+    let m2 = g.D.Disk.medium c.put.new.store in
     let place : ℕ = c.in-Some.place in
     let rows : List (Option Row) = c.args.records.now in
-    let within : place < 1024 = omega (arith, c.in-Some.ensures.place, c.requires.within) in
-    let token : List ℕ = c.read.new.out in
-    let read = subst (λ b. Told m0 (λ _. ReadsToken masters (entry_at s place) b token)) c.if-not-branch.false (c.in_ok-read.ensures.token masters s told) in
     let now = loaded_body m c.args.held.now c.args.lease.now c.read.new.lease loaded c.read.ensures.rest in
-    let m2 = g.D.Disk.medium c.put.new.store in
-    let tokens = c.in-Some-made_tokens.tokens in
-    let changes : true ≡ changes_key a (denoted masters token) = c.in-Some-made_tokens.ensures.some m now in
-    let made = made_is masters token a tokens (sym changes) (c.in-Some-made_tokens.ensures.made m now) in
-    let may : may_change a (is_ahead_row (get_or rows place None)) ≡ true = sym c.may_change.ensures ∙ c.if-not-may_change.false in
-    let next = put_in tokens place made.key s in
-    let turn : Told m0 (λ _. IsTurn a place s next) = told_both m0 (KeepsLabels masters rows s) (λ _. ReadsToken masters (entry_at s place) true token) (λ _. IsTurn a place s next) told read
-    (λ image keeps reads. is_turn a masters rows s place image keeps within token tokens made reads (sym changes) may) in
+    let made = made_at g at m now in
     subst (λ n. ChangesCell a masters n s rows c.put.new.records m0 m2 (Ok true)) c.in-Some.ensures.place
-    (changes_written a masters place s next m0 m1 m2 rows c.put.new.records c.requires.settled c.read.ensures.keeps told turn _ c.in_ok-put.ensures.cell
+    (changes_written a masters place s (next_at g at m now s) m0 m1 m2 rows c.put.new.records c.requires.store.settled c.read.ensures.keeps told (turn_at g at m now s told) _ c.in_ok-put.ensures.cell
     (c.in_ok-put.ensures.labels masters s made.key (told_still m0 m1 (KeepsLabels masters rows s) c.read.ensures.keeps told) made.stand))
-
-pub returns-in_err-put-clause-told : goal.returns-in_err-put-clause-told
-returns-in_err-put-clause-told g c = λ some.
-    subst IsSome c.read.ensures.keeps.content (told_before _ (g.D.Disk.medium c.read.new.store) (g.D.Disk.medium c.put.new.store) c.in_err-put.ensures.cell.replacing some)
-
-pub returns-clause-told : goal.returns-clause-told
-returns-clause-told g c = λ some.
-    subst IsSome c.read.ensures.keeps.content (told_before _ (g.D.Disk.medium c.read.new.store) (g.D.Disk.medium c.put.new.store) c.in_ok-put.ensures.cell.replacing some)
 
 -- ---- the bytes and the rows, whatever the labels stand for
 
@@ -161,7 +166,7 @@ row_kept m P before now n is = told_from m.content (λ _. (P → ⊥) → get_or
 pub returns-in-None-clause-turns : goal.returns-in-None-clause-turns
 returns-in-None-clause-turns g c =
     let m0 = g.D.Disk.medium c.args.store.now in
-    turns_kept (IsChangedRow c.args.action c.args.held.now c.args.records.now c.args.cell) c.args.cell m0 m0 c.requires.settled (keeps_still m0) (Ok false)
+    turns_kept (IsChangedRow c.args.action c.args.held.now c.args.records.now c.args.cell) c.args.cell m0 m0 c.requires.store.settled (keeps_still m0) (Ok false)
 
 pub returns-in-None-clause-row : goal.returns-in-None-clause-row
 returns-in-None-clause-row g c =
@@ -170,7 +175,7 @@ returns-in-None-clause-row g c =
 pub returns-then-not-may_change-clause-turns : goal.returns-then-not-may_change-clause-turns
 returns-then-not-may_change-clause-turns g c =
     let m0 = g.D.Disk.medium c.args.store.now in
-    turns_kept (IsChangedRow c.args.action c.args.held.now c.args.records.now c.args.cell) c.args.cell m0 m0 c.requires.settled (keeps_still m0) (Ok false)
+    turns_kept (IsChangedRow c.args.action c.args.held.now c.args.records.now c.args.cell) c.args.cell m0 m0 c.requires.store.settled (keeps_still m0) (Ok false)
 
 pub returns-then-not-may_change-clause-row : goal.returns-then-not-may_change-clause-row
 returns-then-not-may_change-clause-row g c =
@@ -179,7 +184,7 @@ returns-then-not-may_change-clause-row g c =
 pub returns-in-None-made_tokens-clause-turns : goal.returns-in-None-made_tokens-clause-turns
 returns-in-None-made_tokens-clause-turns g c =
     turns_kept (IsChangedRow c.args.action c.args.held.now c.args.records.now c.args.cell) c.args.cell
-    (g.D.Disk.medium c.args.store.now) (g.D.Disk.medium c.read.new.store) c.requires.settled c.read.ensures.keeps (Ok false)
+    (g.D.Disk.medium c.args.store.now) (g.D.Disk.medium c.read.new.store) c.requires.store.settled c.read.ensures.keeps (Ok false)
 
 pub returns-in-None-made_tokens-clause-row : goal.returns-in-None-made_tokens-clause-row
 returns-in-None-made_tokens-clause-row g c =
@@ -191,11 +196,27 @@ read_told : (a : StoreAction) (m : Masters) (held : Registers) (bench : Bench) (
     → Told d (λ image. StandsAs (body image place) (label_or (get_or rows place None)) token (ahead_at (get_or rows place None)))
     → may_change a (is_ahead_row (get_or rows place None)) ≡ true → done ≡ changes_key a (denoted (keys_of m) token) → Told d (λ _. done ≡ changes_row a held (get_or rows place None))
 read_told a m held bench rows place token d done loaded holds within some long read may is =
-    told_both d (HoldsRows rows) (λ image. StandsAs (body image place) (label_or (get_or rows place None)) token (ahead_at (get_or rows place None))) (λ _. done ≡ changes_row a held (get_or rows place None)) holds read
+    told_joined d (HoldsRows rows) (λ image. StandsAs (body image place) (label_or (get_or rows place None)) token (ahead_at (get_or rows place None))) (λ _. done ≡ changes_row a held (get_or rows place None)) holds read
     (λ image held_rows stands.
     is ∙ sym (and_true (changes_key a (denoted (keys_of m) token)))
     ∙ ap (λ b. changes_key a (denoted (keys_of m) token) && b) (sym may)
     ∙ sym (row_changes a held m bench loaded rows place token image held_rows within some long stands))
+
+-- the same after the token was read: `done` says whether its key is one that the action changes
+told_row : (g : _) (c : After-made_tokens g) (done : Bool)
+    → ((m : Masters) → Loaded m c.args.held.now (bench_of c.read.new.lease) → done ≡ changes_key c.args.action (denoted (keys_of m) c.read.new.out))
+    → Told (g.D.Disk.medium c.args.store.now) (λ _. done ≡ changes_row c.args.action c.args.held.now (get_or c.args.records.now c.in-Some.place None))
+told_row g c done made =
+    let m = masters_in c.args.held.now (bench_of c.args.lease.now) in
+    let rows : List (Option Row) = c.args.records.now in
+    let place : ℕ = c.in-Some.place in
+    let token : List ℕ = c.read.new.out in
+    let found : c.in_ok-read.field-0 ≡ true = c.if-not-branch.false in
+    let long : length token ≡ 64 = search rules in
+    let now = loaded_body m c.args.held.now c.args.lease.now c.read.new.lease c.requires.loaded c.read.ensures.rest in
+    read_told c.args.action m c.args.held.now (bench_of c.read.new.lease) rows place token (g.D.Disk.medium c.args.store.now) done now c.requires.store.holds
+    (omega (arith, c.in-Some.ensures.place, c.requires.within)) (sym found ∙ c.in_ok-read.ensures.null) long (c.in_ok-read.ensures.bytes (ap (λ b. Ok b) found))
+    (sym c.may_change.ensures ∙ c.if-not-may_change.false) (made m now)
 
 -- a label that is written is one that the action changes
 is_written : (a : StoreAction) (held : Registers) (rows : List (Option Row)) (place : ℕ) (m : Medium) → Told m (λ _. true ≡ changes_row a held (get_or rows place None)) → Told m (λ _. IsChangedRow a held rows place)
@@ -205,23 +226,15 @@ pub returns-in_err-put-clause-turns : goal.returns-in_err-put-clause-turns
 returns-in_err-put-clause-turns g c =
     let a = c.args.action in
     let held = c.args.held.now in
-    let m = masters_in held (bench_of c.args.lease.now) in
     let m0 = g.D.Disk.medium c.args.store.now in
+    let m2 = g.D.Disk.medium c.put.new.store in
     let rows : List (Option Row) = c.args.records.now in
     let place : ℕ = c.in-Some.place in
-    let token : List ℕ = c.read.new.out in
-    let found : c.in_ok-read.field-0 ≡ true = c.if-not-branch.false in
-    let long : length token ≡ 64 = search rules in
-    let within : place < 1024 = omega (arith, c.in-Some.ensures.place, c.requires.within) in
-    let may : may_change a (is_ahead_row (get_or rows place None)) ≡ true = sym c.may_change.ensures ∙ c.if-not-may_change.false in
-    let now = loaded_body m held c.args.lease.now c.read.new.lease c.requires.loaded c.read.ensures.rest in
-    let is : Told m0 (λ _. true ≡ changes_row a held (get_or rows place None)) =
-    read_told a m held (bench_of c.read.new.lease) rows place token m0 true now c.requires.holds within (sym found ∙ c.in_ok-read.ensures.null) long (c.in_ok-read.ensures.bytes (ap (λ b. Ok b) found)) may (c.in-Some-made_tokens.ensures.some m now) in
-    let m2 = g.D.Disk.medium c.put.new.store in
     let failed : c.from_residual-in_err-put.result ≡ Err c.in_err-put.field-0.0 = search rules in
     subst (λ r. TurnsCell (IsChangedRow a held rows c.args.cell) c.args.cell m0 m2 r) (sym failed)
     (subst (λ n. TurnsCell (IsChangedRow a held rows n) n m0 m2 (Err c.in_err-put.field-0.0)) c.in-Some.ensures.place
-    (turns_failed (IsChangedRow a held rows place) place m0 (g.D.Disk.medium c.read.new.store) c.requires.settled c.read.ensures.keeps m2 _ (is_written a held rows place m0 is)
+    (turns_failed (IsChangedRow a held rows place) place m0 (g.D.Disk.medium c.read.new.store) c.requires.store.settled c.read.ensures.keeps m2 _
+    (is_written a held rows place m0 (told_row g (goal.at.returns-in_err-put-clause-turns g c).After-made_tokens true c.in-Some-made_tokens.ensures.some))
     c.in_err-put.field-0.0 _ c.in_err-put.ensures.cell))
 
 pub returns-in_err-put-clause-row : goal.returns-in_err-put-clause-row
@@ -235,39 +248,23 @@ pub returns-clause-turns : goal.returns-clause-turns
 returns-clause-turns g c =
     let a = c.args.action in
     let held = c.args.held.now in
-    let m = masters_in held (bench_of c.args.lease.now) in
     let m0 = g.D.Disk.medium c.args.store.now in
+    let m2 = g.D.Disk.medium c.put.new.store in
     let rows : List (Option Row) = c.args.records.now in
     let place : ℕ = c.in-Some.place in
-    let token : List ℕ = c.read.new.out in
-    let found : c.in_ok-read.field-0 ≡ true = c.if-not-branch.false in
-    let long : length token ≡ 64 = search rules in
-    let within : place < 1024 = omega (arith, c.in-Some.ensures.place, c.requires.within) in
-    let may : may_change a (is_ahead_row (get_or rows place None)) ≡ true = sym c.may_change.ensures ∙ c.if-not-may_change.false in
-    let now = loaded_body m held c.args.lease.now c.read.new.lease c.requires.loaded c.read.ensures.rest in
-    let is : Told m0 (λ _. true ≡ changes_row a held (get_or rows place None)) =
-    read_told a m held (bench_of c.read.new.lease) rows place token m0 true now c.requires.holds within (sym found ∙ c.in_ok-read.ensures.null) long (c.in_ok-read.ensures.bytes (ap (λ b. Ok b) found)) may (c.in-Some-made_tokens.ensures.some m now) in
-    let m2 = g.D.Disk.medium c.put.new.store in
     subst (λ n. TurnsCell (IsChangedRow a held rows n) n m0 m2 (Ok true)) c.in-Some.ensures.place
-    (turns_written (IsChangedRow a held rows place) place m0 (g.D.Disk.medium c.read.new.store) c.requires.settled c.read.ensures.keeps m2 _ (is_written a held rows place m0 is) c.in_ok-put.ensures.cell)
+    (turns_written (IsChangedRow a held rows place) place m0 (g.D.Disk.medium c.read.new.store) c.requires.store.settled c.read.ensures.keeps m2 _
+    (is_written a held rows place m0 (told_row g (goal.at.returns-clause-turns g c).After-made_tokens true c.in-Some-made_tokens.ensures.some)) c.in_ok-put.ensures.cell)
 
 pub returns-clause-row : goal.returns-clause-row
 returns-clause-row g c =
     let a = c.args.action in
     let held = c.args.held.now in
-    let m = masters_in held (bench_of c.args.lease.now) in
     let m0 = g.D.Disk.medium c.args.store.now in
     let rows : List (Option Row) = c.args.records.now in
     let place : ℕ = c.in-Some.place in
-    let token : List ℕ = c.read.new.out in
-    let found : c.in_ok-read.field-0 ≡ true = c.if-not-branch.false in
-    let long : length token ≡ 64 = search rules in
-    let within : place < 1024 = omega (arith, c.in-Some.ensures.place, c.requires.within) in
-    let may : may_change a (is_ahead_row (get_or rows place None)) ≡ true = sym c.may_change.ensures ∙ c.if-not-may_change.false in
-    let now = loaded_body m held c.args.lease.now c.read.new.lease c.requires.loaded c.read.ensures.rest in
-    let is : Told m0 (λ _. true ≡ changes_row a held (get_or rows place None)) =
-    read_told a m held (bench_of c.read.new.lease) rows place token m0 true now c.requires.holds within (sym found ∙ c.in_ok-read.ensures.null) long (c.in_ok-read.ensures.bytes (ap (λ b. Ok b) found)) may (c.in-Some-made_tokens.ensures.some m now) in
-    told_map m0 (λ _. IsChangedRow a held rows place) (λ _. (IsChangedRow a held rows c.args.cell → ⊥) → get_or c.put.new.records c.args.cell None ≡ get_or rows c.args.cell None) (is_written a held rows place m0 is)
+    told_map m0 (λ _. IsChangedRow a held rows place) (λ _. (IsChangedRow a held rows c.args.cell → ⊥) → get_or c.put.new.records c.args.cell None ≡ get_or rows c.args.cell None)
+    (is_written a held rows place m0 (told_row g (goal.at.returns-clause-row g c).After-made_tokens true c.in-Some-made_tokens.ensures.some))
     (λ image changed none. absurd (none (subst (IsChangedRow a held rows) c.in-Some.ensures.place changed)))
 
 pub returns-clause-others : goal.returns-clause-others
@@ -299,36 +296,10 @@ returns-then-not-branch-clause-count g c =
 
 pub returns-in-None-made_tokens-clause-count : goal.returns-in-None-made_tokens-clause-count
 returns-in-None-made_tokens-clause-count g c =
-    let a = c.args.action in
-    let held = c.args.held.now in
-    let m = masters_in held (bench_of c.args.lease.now) in
-    let m0 = g.D.Disk.medium c.args.store.now in
-    let rows : List (Option Row) = c.args.records.now in
-    let place : ℕ = c.in-Some.place in
-    let token : List ℕ = c.read.new.out in
-    let found : c.in_ok-read.field-0 ≡ true = c.if-not-branch.false in
-    let long : length token ≡ 64 = search rules in
-    let within : place < 1024 = omega (arith, c.in-Some.ensures.place, c.requires.within) in
-    let may : may_change a (is_ahead_row (get_or rows place None)) ≡ true = sym c.may_change.ensures ∙ c.if-not-may_change.false in
-    let now = loaded_body m held c.args.lease.now c.read.new.lease c.requires.loaded c.read.ensures.rest in
-    let is : Told m0 (λ _. false ≡ changes_row a held (get_or rows place None)) =
-    read_told a m held (bench_of c.read.new.lease) rows place token m0 false now c.requires.holds within (sym found ∙ c.in_ok-read.ensures.null) long (c.in_ok-read.ensures.bytes (ap (λ b. Ok b) found)) may (c.in-None-made_tokens.ensures.some m now) in
-    subst (λ n. Told m0 (λ _. false ≡ changes_row a held (get_or rows n None))) c.in-Some.ensures.place is
+    subst (λ n. Told (g.D.Disk.medium c.args.store.now) (λ _. false ≡ changes_row c.args.action c.args.held.now (get_or c.args.records.now n None))) c.in-Some.ensures.place
+    (told_row g (goal.at.returns-in-None-made_tokens-clause-count g c).After-made_tokens false c.in-None-made_tokens.ensures.some)
 
 pub returns-clause-count : goal.returns-clause-count
 returns-clause-count g c =
-    let a = c.args.action in
-    let held = c.args.held.now in
-    let m = masters_in held (bench_of c.args.lease.now) in
-    let m0 = g.D.Disk.medium c.args.store.now in
-    let rows : List (Option Row) = c.args.records.now in
-    let place : ℕ = c.in-Some.place in
-    let token : List ℕ = c.read.new.out in
-    let found : c.in_ok-read.field-0 ≡ true = c.if-not-branch.false in
-    let long : length token ≡ 64 = search rules in
-    let within : place < 1024 = omega (arith, c.in-Some.ensures.place, c.requires.within) in
-    let may : may_change a (is_ahead_row (get_or rows place None)) ≡ true = sym c.may_change.ensures ∙ c.if-not-may_change.false in
-    let now = loaded_body m held c.args.lease.now c.read.new.lease c.requires.loaded c.read.ensures.rest in
-    let is : Told m0 (λ _. true ≡ changes_row a held (get_or rows place None)) =
-    read_told a m held (bench_of c.read.new.lease) rows place token m0 true now c.requires.holds within (sym found ∙ c.in_ok-read.ensures.null) long (c.in_ok-read.ensures.bytes (ap (λ b. Ok b) found)) may (c.in-Some-made_tokens.ensures.some m now) in
-    subst (λ n. Told m0 (λ _. true ≡ changes_row a held (get_or rows n None))) c.in-Some.ensures.place is
+    subst (λ n. Told (g.D.Disk.medium c.args.store.now) (λ _. true ≡ changes_row c.args.action c.args.held.now (get_or c.args.records.now n None))) c.in-Some.ensures.place
+    (told_row g (goal.at.returns-clause-count g c).After-made_tokens true c.in-Some-made_tokens.ensures.some)

@@ -1,5 +1,5 @@
 use Rattle.std.proofs.Common.{◌≡◌, ◌+◌, ℕ, List, Ok, Err, ap, arith}
-use Rattle.slot_disk.proofs.Media.{keeps_still, keeps_then}
+use Rattle.slot_disk.proofs.Media.{keeps_still, keeps_then, told_earlier}
 use Rattle.audit_trail.specs.Entries.{entry_at}
 use Rattle.audit_trail.specs.TrailStands.{IsTrail}
 use Rattle.audit_trail.specs.declared.entries.Entry.{Entry as AnyEntry}
@@ -8,7 +8,7 @@ use Rattle.trail_listing.specs.Lines.{record_line}
 use Rattle.trail_listing.specs.Listing.{Listed}
 use Rattle.trail_listing.specs.Sending.{SendsLine}
 use Rattle.trail_listing.specs.declared.listing.ListFault.TheVariants.{Trail}
-use Rattle.trail_listing.proofs.SendingLaws.{HasLinesBelow, told_earlier, of_each, of_both, of_none, no_line, one_line, listed_all, listed_part, grew, grew_none}
+use Rattle.trail_listing.proofs.SendingLaws.{HasLinesBelow, of_each, of_both, of_none, no_line, one_line, listed_all, listed_part, grew, grew_none}
 use Rattle.trail_listing.proofs.listing.send_records.Goals as goal
 
 pub loop-number-init : goal.loop-number-init

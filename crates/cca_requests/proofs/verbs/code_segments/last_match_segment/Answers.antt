@@ -5,6 +5,7 @@ use Rattle.key_cells.specs.Lease.{bench_of}
 use Rattle.text_segments.specs.Chains.{chain_of}
 use Rattle.text_segments.specs.declared.chains.Chain.{Chain}
 use Rattle.verb_rules.specs.Keys.{opened}
+use Rattle.verb_script.specs.Choices.{code_rule_word}
 use Rattle.verb_script.specs.Values.{hex_value}
 use Rattle.cipher_verbs.specs.declared.padding.Pad.TheVariants as padding
 use Rattle.text_segments.specs.declared.modes.Mode.TheVariants.{Mac}
@@ -21,8 +22,8 @@ returns-in-Some-clause-shows c =
     let bytes = hex_value c.args.chain.now in
     let clear = opened (bench_of c.args.lease.now) c.args.key.now in
     let given = given_chain c.chain_in.result c.in-Some.before bytes c.in-Some.is c.chain_in.ensures.judges c.chain_in.ensures.chain in
-    let others = λ (k : Chain). code_key_questions (mac_rule_named c.args.rule.now) clear (last_segment_questions (Mac (mac_rule_named c.args.rule.now)) padding.None k (length c.args.text.now / 2)) in
-    let fields = λ (k : Chain). last_match_fields clear (mac_rule_named c.args.rule.now) k (hex_value c.args.mac.now) (hex_value c.args.text.now) in
+    let others = λ (k : Chain). code_key_questions (mac_rule_named (code_rule_word c.args.rule)) clear (last_segment_questions (Mac (mac_rule_named (code_rule_word c.args.rule))) padding.None k (length c.args.text.now / 2)) in
+    let fields = λ (k : Chain). last_match_fields clear (mac_rule_named (code_rule_word c.args.rule)) k (hex_value c.args.mac.now) (hex_value c.args.text.now) in
     shows_after bytes (others (chain_of bytes)) (fields (chain_of bytes)) c.end_match.result c.end_match.new.reply given.0
     (subst (λ (k : Chain). ShowsOr (first_refusal (others k)) (fields k) c.end_match.result c.end_match.new.reply) given.1 (subst (λ (m : MacRule). ShowsOr (first_refusal (code_key_questions m clear (last_segment_questions (Mac m) padding.None c.in-Some.before (length c.args.text.now / 2)))) (last_match_fields clear m c.in-Some.before (hex_value c.args.mac.now) (hex_value c.args.text.now)) c.end_match.result c.end_match.new.reply) c.mac_rule_of.ensures c.end_match.ensures.shows))
 
@@ -30,4 +31,4 @@ pub returns-in-None-clause-shows : goal.returns-in-None-clause-shows
 returns-in-None-clause-shows c =
     let bytes = hex_value c.args.chain.now in
     let clear = opened (bench_of c.args.lease.now) c.args.key.now in
-    chain_refused bytes (code_key_questions (mac_rule_named c.args.rule.now) clear (last_segment_questions (Mac (mac_rule_named c.args.rule.now)) padding.None (chain_of bytes) (length c.args.text.now / 2))) (no_chain c.chain_in.result bytes c.in-None.is c.chain_in.ensures.judges)
+    chain_refused bytes (code_key_questions (mac_rule_named (code_rule_word c.args.rule)) clear (last_segment_questions (Mac (mac_rule_named (code_rule_word c.args.rule))) padding.None (chain_of bytes) (length c.args.text.now / 2))) (no_chain c.chain_in.result bytes c.in-None.is c.chain_in.ensures.judges)

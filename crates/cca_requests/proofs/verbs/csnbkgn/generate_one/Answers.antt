@@ -9,6 +9,7 @@ use Rattle.key_transport.specs.declared.generating.Generated.{Generated}
 use Rattle.master_registers.specs.Loaded.{masters_in}
 use Rattle.verb_rules.specs.Keys.{keys_of}
 use Rattle.verb_rules.specs.Rules.{rule_number}
+use Rattle.verb_script.specs.Choices.{key_length_word}
 use Rattle.verb_script.specs.Named.{label_named}
 use Rattle.cca_machine.specs.Act.{delivered}
 use Rattle.cca_machine.specs.Choices.{key_length_named}
@@ -21,7 +22,7 @@ use Rattle.cca_requests.proofs.verbs.csnbkgn.generate_one.Goals as goal
 pub returns-in-Some-clause-generated : goal.returns-in-Some-clause-generated
 returns-in-Some-clause-generated g c = λ s loaded placed.
     let refused = c.in-Some.refusal in
-    let named = key_length_named c.args.length.now in
+    let named = key_length_named (key_length_word c.args.length) in
     let rules = λ (n : Length). first_refusal (generate_questions c.args.kind n) in
     drawn_refusal s (rules named) _ named (g.E.Entropy.left c.args.entropy.now) c.args.reply.now refused.rule refused.operand
     (subst (λ (n : Length). rules n ≡ Some (refusal (rule_number refused.rule) refused.operand.now)) c.key_length-length.ensures c.in-Some.ensures)
@@ -44,7 +45,7 @@ returns-in-Ok-clause-generated g c = λ s loaded placed.
 pub returns-in-Err-Repeated-clause-generated : goal.returns-in-Err-Repeated-clause-generated
 returns-in-Err-Repeated-clause-generated g c = λ s loaded placed.
     let key_length = c.key_length-length.result in
-    let named = key_length_named c.args.length.now in
+    let named = key_length_named (key_length_word c.args.length) in
     let before = g.E.Entropy.left c.args.entropy.now in
     let now = g.E.Entropy.left c.generate.new.entropy in
     let rules = λ (n : Length). first_refusal (generate_questions c.args.kind n) in

@@ -9,6 +9,7 @@ use Rattle.master_registers.specs.Loaded.{masters_in}
 use Rattle.script_buffers.specs.Replies.{Hex, written}
 use Rattle.verb_rules.specs.Keys.{opened}
 use Rattle.verb_rules.specs.Rules.{rule_number}
+use Rattle.verb_script.specs.Choices.{key_length_word, out_form_word}
 use Rattle.cca_machine.specs.Act.{Show}
 use Rattle.cca_machine.specs.Choices.{key_length_named}
 use Rattle.cca_machine.specs.Verdict.{first_refusal, pair_questions, refusal}
@@ -22,7 +23,7 @@ use Rattle.cca_requests.proofs.verbs.csnbkgn.generate_out.Goals as goal
 pub returns-in-Some-clause-generated : goal.returns-in-Some-clause-generated
 returns-in-Some-clause-generated g c = λ s.
     let refused = c.in-Some.refusal in
-    let named = key_length_named c.args.length.now in
+    let named = key_length_named (key_length_word c.args.length) in
     let rules = λ (n : Length). first_refusal (pair_questions c.args.first c.args.second n) in
     drawn_refusal s (rules named) _ named (g.E.Entropy.left c.args.entropy.now) c.args.reply.now refused.rule refused.operand
     (subst (λ (n : Length). rules n ≡ Some (refusal (rule_number refused.rule) refused.operand.now)) c.key_length-length.ensures c.in-Some.ensures)
@@ -30,7 +31,7 @@ returns-in-Some-clause-generated g c = λ s.
 pub returns-in-Err-Repeated-clause-generated : goal.returns-in-Err-Repeated-clause-generated
 returns-in-Err-Repeated-clause-generated g c = λ s.
     let key_length = c.key_length-length.result in
-    let named = key_length_named c.args.length.now in
+    let named = key_length_named (key_length_word c.args.length) in
     let before = g.E.Entropy.left c.args.entropy.now in
     let now = g.E.Entropy.left c.generate.new.entropy in
     let rules = λ (n : Length). first_refusal (pair_questions c.args.first c.args.second n) in
@@ -44,14 +45,14 @@ generate-requires-clause-lengths g c =
     let key_length = c.key_length-length.result in
     let none = subst (HasRefused (first_refusal (pair_questions c.args.first c.args.second key_length))) c.in_default.is c.judge_two.ensures in
     subst (λ (f : Form). HaveLength f c.args.first c.args.second key_length) (sym c.out_form.ensures)
-    (out_lengths c.args.form.now c.args.first c.args.second key_length (two_lengths c.args.first c.args.second key_length none))
+    (out_lengths (out_form_word c.args.form) c.args.first c.args.second key_length (two_lengths c.args.first c.args.second key_length none))
 
 pub returns-in-Ok-clause-generated : goal.returns-in-Ok-clause-generated
 returns-in-Ok-clause-generated g c = λ s.
     let bench = bench_of c.args.lease.now in
     let m = masters_in c.args.held.now bench in
     let key_length = c.key_length-length.result in
-    let text = c.args.form.now in
+    let text = (out_form_word c.args.form) in
     let keys = c.in-Ok.keys in
     let made = c.in-Ok.ensures.generated in
     let before = g.E.Entropy.left c.args.entropy.now in

@@ -11,6 +11,7 @@ use Rattle.master_registers.specs.Loaded.{masters_in}
 use Rattle.script_buffers.specs.Replies.{Field, Hex}
 use Rattle.verb_rules.specs.Keys.{keys_of, opened}
 use Rattle.verb_rules.specs.Rules.{rule_number}
+use Rattle.verb_script.specs.Choices.{key_length_word, pair_form_word}
 use Rattle.verb_script.specs.Named.{label_named}
 use Rattle.cca_machine.specs.Act.{delivered_with}
 use Rattle.cca_machine.specs.Choices.{key_length_named}
@@ -24,7 +25,7 @@ use Rattle.cca_requests.proofs.verbs.csnbkgn.generate_pair.Goals as goal
 pub returns-in-Some-clause-generated : goal.returns-in-Some-clause-generated
 returns-in-Some-clause-generated g c = λ s loaded placed.
     let refused = c.in-Some.refusal in
-    let named = key_length_named c.args.length.now in
+    let named = key_length_named (key_length_word c.args.length) in
     let rules = λ (n : Length). first_refusal (pair_questions c.args.first c.args.second n) in
     drawn_refusal s (rules named) _ named (g.E.Entropy.left c.args.entropy.now) c.args.reply.now refused.rule refused.operand
     (subst (λ (n : Length). rules n ≡ Some (refusal (rule_number refused.rule) refused.operand.now)) c.key_length-length.ensures c.in-Some.ensures)
@@ -32,7 +33,7 @@ returns-in-Some-clause-generated g c = λ s loaded placed.
 pub returns-in-Err-Repeated-clause-generated : goal.returns-in-Err-Repeated-clause-generated
 returns-in-Err-Repeated-clause-generated g c = λ s loaded placed.
     let key_length = c.key_length-length.result in
-    let named = key_length_named c.args.length.now in
+    let named = key_length_named (key_length_word c.args.length) in
     let before = g.E.Entropy.left c.args.entropy.now in
     let now = g.E.Entropy.left c.generate.new.entropy in
     let rules = λ (n : Length). first_refusal (pair_questions c.args.first c.args.second n) in
@@ -46,12 +47,12 @@ generate-requires-clause-lengths g c =
     let key_length = c.key_length-length.result in
     let none = subst (HasRefused (first_refusal (pair_questions c.args.first c.args.second key_length))) c.in_default.is c.judge_two.ensures in
     subst (λ (f : Form). HaveLength f c.args.first c.args.second key_length) (sym c.pair_form.ensures)
-    (pair_lengths c.args.form.now c.args.first c.args.second key_length (two_lengths c.args.first c.args.second key_length none))
+    (pair_lengths (pair_form_word c.args.form) c.args.first c.args.second key_length (two_lengths c.args.first c.args.second key_length none))
 
 pub returns-in-Ok-clause-generated : goal.returns-in-Ok-clause-generated
 returns-in-Ok-clause-generated g c = λ s loaded placed.
     let key_length = c.key_length-length.result in
-    let text = c.args.form.now in
+    let text = (pair_form_word c.args.form) in
     let keys = c.in-Ok.keys in
     let made = c.in-Ok.ensures.generated in
     let before = g.E.Entropy.left c.args.entropy.now in
@@ -79,7 +80,7 @@ returns-in-Ok-clause-ready g c = λ rows held_place.
     let new = bench_of c.generate.new.lease in
     let token = c.in-Ok.keys.first in
     let same : masters_in held new ≡ masters_in held old = ap (λ l. masters_in held (bench_of l)) c.generate.ensures.stays in
-    let stands = c.in-Ok.ensures.generated.operational (masters_in held old) c.requires.loaded (ap is_operational c.pair_form.ensures ∙ pair_operational c.args.form.now) in
+    let stands = c.in-Ok.ensures.generated.operational (masters_in held old) c.requires.loaded (ap is_operational c.pair_form.ensures ∙ pair_operational (pair_form_word c.args.form)) in
     let key : IsSome (denoted (keys_of (masters_in held old)) token) = some_of _ _ stands in
     delivery_ready rows c.args.place token held_place held new c.deliver.result c.deliver.new.reply c.deliver.ensures.delivery
     (subst (λ m. IsSome (denoted (keys_of m) token)) (sym same) key) c.deliver.ensures.size

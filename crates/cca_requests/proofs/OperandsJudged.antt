@@ -1,0 +1,42 @@
+-- What follows for the verdict where the operands were judged.
+use Rattle.std.proofs.Common.{◌≡◌, ◌∙◌, ℕ, Option, None, Some, sym, ap, subst}
+use Rattle.std.specs.Borrow.{Bor}
+use Rattle.std.specs.Option.{option_map}
+use Rattle.std.specs.Prelude.{List}
+use Rattle.cca_vectors.specs.Checks.{first_failing}
+use Rattle.key_cells.specs.Bench.{Bench}
+use Rattle.verb_rules.specs.Rules.{rule_number}
+use Rattle.verb_rules.specs.declared.rules.Rule.{Rule}
+use Rattle.verb_script.specs.Grammar.{Request}
+use Rattle.cca_machine.specs.Operands.{Operands, operands}
+use Rattle.cca_machine.specs.State.{State}
+use Rattle.cca_machine.specs.Verdict.{Refusal, general_checks, or_then, refusal, verdict_by}
+use Rattle.cca_requests.specs.Judging.{AreGranted, IsJudged}
+use Rattle.cca_requests.specs.declared.judging.Granted.{Granted}
+use Rattle.cca_requests.specs.declared.judging.Verdict.{Verdict}
+use Rattle.cca_requests.specs.declared.judging.Verdict.TheVariants as code
+use Rattle.cca_requests.proofs.Acting.{verdict_operands}
+
+module _ (s : State) (bench : Bench) (request : Request) where
+  module _ {rule : Option Rule} {os : Operands} {judged : Verdict} where
+    -- a rule that an operand breaks is the verdict
+    pub operands_refused : (broken : Rule) (operand : Bor (List ℕ))
+        → option_map rule_number rule ≡ first_failing (general_checks s request) → rule ≡ None → os ≡ operands request
+        → IsJudged s bench os judged → judged ≡ code.Refused broken operand
+        → (verb : Option Refusal) → verdict_by s request verb ≡ or_then (Some (refusal (rule_number broken) operand.now)) verb
+    operands_refused broken operand general none table verdict is =
+        let passes : first_failing (general_checks s request) ≡ None = sym general ∙ ap (option_map rule_number) none in
+        let own = subst (λ (o : Operands). IsJudged s bench o judged) table verdict in
+        verdict_operands s request (Some (refusal (rule_number broken) operand.now)) passes
+        (subst (λ (v : Verdict). IsJudged s bench (operands request) v) is own)
+
+    -- where they break none the verdict is the verb's
+    pub operands_granted : (granted : Granted)
+        → option_map rule_number rule ≡ first_failing (general_checks s request) → rule ≡ None → os ≡ operands request
+        → IsJudged s bench os judged → judged ≡ code.Granted granted
+        → AreGranted s bench (operands request) granted × ((verb : Option Refusal) → verdict_by s request verb ≡ verb)
+    operands_granted granted general none table verdict is =
+        let passes : first_failing (general_checks s request) ≡ None = sym general ∙ ap (option_map rule_number) none in
+        let own = subst (λ (o : Operands). IsJudged s bench o judged) table verdict in
+        let grants : IsJudged s bench (operands request) (code.Granted granted) = subst (λ (v : Verdict). IsJudged s bench (operands request) v) is own in
+        (grants.1, verdict_operands s request None passes grants.0)

@@ -1,0 +1,206 @@
+-- From what a verb leaves to all that is said of its decision.
+use Rattle.std.proofs.Common.{◌≡◌, ℕ, List, [], Option, None, Some, false, refl, sym, subst, codes, arith, true, ◌∙◌}
+use Rattle.std.specs.Prelude.{◌≤◌, IsSome, IsTrue, Result, Ok, Err, length}
+use Rattle.key_cells.specs.Bench.{Bench}
+use Rattle.key_records.specs.declared.rows.Row.{Row}
+use Rattle.key_tokens.specs.Denotes.{ClearKey}
+use Rattle.line_service.specs.declared.stops.Stop.{Stop}
+use Rattle.line_service.specs.declared.stops.Stop.TheVariants.{EntropyFault}
+use Rattle.master_registers.specs.declared.registers.Registers.{Registers}
+use Rattle.script_buffers.specs.Replies.{Field, written}
+use Rattle.slot_disk.specs.Faults.{Rose}
+use Rattle.verb_rules.specs.Keys.{opened}
+use Rattle.verb_rules.specs.declared.judging.Judged.{Judged}
+use Rattle.verb_script.specs.Grammar.{Request, value_of}
+use Rattle.cca_machine.specs.Act.{Show, effect}
+use Rattle.cca_machine.specs.Draws.{draws_random}
+use Rattle.cca_machine.specs.Keys.{key_in_text, key_of_request}
+use Rattle.cca_machine.specs.Operands.{is_reencipher, needs_store, operands}
+use Rattle.cca_machine.specs.State.{State}
+use Rattle.cca_machine.specs.Verdict.{Refusal, verb_verdict}
+use Rattle.cca_requests.specs.Decided.{Decision, HasDecided, IsGrantedIn, Settles, Source, TakesOnly}
+use Rattle.cca_requests.specs.Deciding.{Decides, GoesThrough, IsDecided, IsDelivered, IsReady, ShowsOr, WritesStore}
+use Rattle.cca_requests.specs.Drawing.{IsDeliveredOr}
+use Rattle.cca_requests.specs.Judging.{HasKey, HaveShapes}
+use Rattle.cca_requests.specs.declared.effects.Effect.{Effect as CodeEffect}
+use Rattle.cca_requests.specs.declared.effects.Effect.TheVariants as code
+use Rattle.cca_requests.specs.declared.judging.Granted.{Granted}
+use Rattle.cca_requests.proofs.Acting.{decides, key_is, shows_or}
+use Rattle.cca_requests.proofs.Generating.{delivered_or}
+use Rattle.cca_requests.proofs.KeyedVerbs.{delivered_or_decides, keyed_shows}
+
+module _ {request : Request} {granted : Granted} {held : Registers} {rows : List (Option Row)} {old new : Bench} {e : CodeEffect} {reply : List ℕ} where
+  -- a verb that draws nothing
+  pub settles : (HaveShapes rows (operands request) granted → (s : State) → IsGrantedIn s request granted held rows old → (left : Option (List ℕ)) → Decides s new request e reply left left)
+      → (HaveShapes rows (operands request) granted → IsReady held new rows e reply)
+      → (WritesStore e → IsTrue (needs_store request))
+      → (GoesThrough e → IsTrue (is_reencipher request.name))
+      → Settles request granted held rows old new e reply
+  settles decides ready named through = λ shaped left. record {
+    decides = λ s is. decides shaped s is left;
+    ready = ready shaped;
+    named = named;
+    through = through;
+    silent = tt;
+    stops = tt;
+  }
+
+-- what is shown or refused writes nothing
+shown_spares : (v : Option Refusal) (fields : List Field) (e : CodeEffect) (reply : List ℕ) → ShowsOr v fields e reply → WritesStore e → ⊥
+shown_spares v fields (code.Refused _ name) reply shown writes = absurd writes
+shown_spares v fields code.Shown reply shown writes = absurd writes
+shown_spares v fields (code.Change action) reply shown writes = absurd shown
+shown_spares v fields (code.DefineRole name points) reply shown writes = absurd shown
+shown_spares v fields (code.RemoveRole name) reply shown writes = absurd shown
+shown_spares v fields (code.Create label) reply shown writes = absurd shown
+shown_spares v fields (code.Write place token) reply shown writes = absurd shown
+shown_spares v fields (code.Delete place) reply shown writes = absurd shown
+shown_spares v fields (code.Reencipher a) reply shown writes = absurd shown
+
+-- what goes through the store writes it
+pub through_writes : (e : CodeEffect) → GoesThrough e → WritesStore e
+through_writes (code.Refused _ name) through = absurd through
+through_writes code.Shown through = absurd through
+through_writes (code.Change action) through = absurd through
+through_writes (code.DefineRole name points) through = absurd through
+through_writes (code.RemoveRole name) through = absurd through
+through_writes (code.Create label) through = absurd through
+through_writes (code.Write place token) through = absurd through
+through_writes (code.Delete place) through = absurd through
+through_writes (code.Reencipher a) through = tt
+
+module _ {request : Request} {granted : Granted} {held : Registers} {rows : List (Option Row)} {old new : Bench} {e : CodeEffect} {reply : List ℕ} where
+  -- a verb that shows some fields over the key of its first operand, or is refused
+  pub keyed_settles : {judged : Judged} (v : ClearKey → Option Refusal) (fields : ClearKey → List Field)
+      → draws_random request ≡ false
+      → ((s : State) → IsGrantedIn s request granted held rows old → HasKey old (key_in_text s (value_of request (codes "key"))) granted.first)
+      → ((s : State) → verb_verdict s request ≡ v (key_of_request s request))
+      → ((s : State) → effect s [] request.name request ≡ Show (fields (key_of_request s request)))
+      → granted.first.key ≡ Some judged → IsSome judged.age
+      → ShowsOr (v (opened old judged)) (fields (opened old judged)) e reply
+      → IsReady held new rows e reply
+      → Settles request granted held rows old new e reply
+  keyed_settles {judged} v fields none has verdict makes is under shows ready =
+      let spares = shown_spares (v (opened old judged)) (fields (opened old judged)) e reply shows in
+      settles
+      (λ shaped s in_state left. keyed_shows s new request (opened old judged) v fields e reply left none (verdict s) (makes s)
+      (key_is old (key_in_text s (value_of request (codes "key"))) granted.first judged (has s in_state) is under) shows)
+      (λ shaped. ready) (λ writes. absurd (spares writes)) (λ through. absurd (spares (through_writes e through)))
+
+  -- a verb that draws nothing, and leaves this
+  pub left_settles : draws_random request ≡ false
+      → ((s : State) → IsGrantedIn s request granted held rows old → IsDecided s new [] request e reply)
+      → IsReady held new rows e reply
+      → (WritesStore e → IsTrue (needs_store request))
+      → (GoesThrough e → IsTrue (is_reencipher request.name))
+      → Settles request granted held rows old new e reply
+  left_settles none decided ready named through =
+      settles (λ shaped s in_state left. decides s new request e reply left none (decided s in_state)) (λ shaped. ready) named through
+
+  -- a verb that delivers a key, or is refused
+  pub delivered_or_settles : draws_random request ≡ false
+      → ((s : State) → IsGrantedIn s request granted held rows old → IsDeliveredOr s (verb_verdict s request) (effect s [] request.name request) e reply)
+      → (HaveShapes rows (operands request) granted → IsReady held new rows e reply)
+      → (WritesStore e → IsTrue (needs_store request))
+      → (GoesThrough e → ⊥)
+      → Settles request granted held rows old new e reply
+  delivered_or_settles none delivered ready named single =
+      settles (λ shaped s in_state left. delivered_or_decides s new request e reply left none (delivered s in_state))
+      ready named (λ through. absurd (single through))
+
+  -- a verb that delivers a key
+  pub delivered_settles : draws_random request ≡ false
+      → ((s : State) → verb_verdict s request ≡ None)
+      → ((s : State) → IsGrantedIn s request granted held rows old → IsDelivered s (effect s [] request.name request) e reply)
+      → (HaveShapes rows (operands request) granted → IsReady held new rows e reply)
+      → (WritesStore e → IsTrue (needs_store request))
+      → (GoesThrough e → ⊥)
+      → Settles request granted held rows old new e reply
+  delivered_settles none permitted delivered ready named single =
+      delivered_or_settles none
+      (λ s in_state. delivered_or s (verb_verdict s request) (effect s [] request.name request) e reply (permitted s) (delivered s in_state))
+      ready named single
+
+module _ {request : Request} {granted : Granted} {held : Registers} {rows : List (Option Row)} {old new : Bench} {reply : List ℕ} where
+  -- a verb that is refused by no rule of its own, and shows some fields
+  pub shown_settles : (fields : State → List Field)
+      → draws_random request ≡ false
+      → ((s : State) → verb_verdict s request ≡ None)
+      → ((s : State) → effect s [] request.name request ≡ Show (fields s))
+      → ((s : State) → IsGrantedIn s request granted held rows old → reply ≡ written (fields s))
+      → length reply ≤ 69000
+      → Settles request granted held rows old new code.Shown reply
+  shown_settles fields none permitted makes shows short =
+      settles (λ shaped s in_state left. shows_or s new request None (fields s) code.Shown reply left none (permitted s) (makes s) (refl, shows s in_state))
+      (λ shaped. short) (λ writes. absurd writes) (λ through. absurd through)
+
+-- ---- what is taken of the random source
+
+module _ {E T : Type 0} {request : Request} {before now : Source E} where
+  pub takes_drawn : {value : T} → before.faults ≤ now.faults → ((s : State) → IsSome (verb_verdict s request) → now.state ≡ before.state)
+      → draws_random request ≡ true → TakesOnly request (Ok value) before now
+  takes_drawn later untouched draws = record {
+    entropy = record { later = later; fault = λ is. cc is };
+    untouched = untouched;
+    undrawn = λ none. let no : true ≡ false = sym draws ∙ none in cc no;
+    drawing = λ is. cc is;
+  }
+
+  -- the same where the random source failed
+  pub takes_failed : before.faults ≤ now.faults → Rose before.faults now.faults → ((s : State) → IsSome (verb_verdict s request) → now.state ≡ before.state)
+      → draws_random request ≡ true → TakesOnly {T = T} request (Err EntropyFault) before now
+  takes_failed later rose untouched draws = record {
+    entropy = record { later = later; fault = λ is. rose };
+    untouched = untouched;
+    undrawn = λ none. let no : true ≡ false = sym draws ∙ none in cc no;
+    drawing = λ is. draws;
+  }
+
+-- a request that the random source stops
+pub stopped_decides : {request : Request} {granted : Granted} {held : Registers} {rows : List (Option Row)} {old new : Bench} {reply : List ℕ}
+    {before now : Option (List ℕ)} → ((s : State) → verb_verdict s request ≡ None) → draws_random request ≡ true → reply ≡ []
+    → HasDecided request granted held rows old new (Err EntropyFault) reply before now
+stopped_decides permitted draws silent = record {
+  decides = λ s is. (permitted s, draws);
+  ready = tt;
+  named = tt;
+  through = tt;
+  silent = silent;
+  stops = refl;
+}
+
+takes_nothing : {E T : Type 0} {request : Request} {value : T} {kept : Source E} → TakesOnly request (Ok value) kept kept
+takes_nothing = record {
+  entropy = record { later = omega arith; fault = λ is. cc is };
+  untouched = λ s refused. refl;
+  undrawn = λ none. refl;
+  drawing = λ is. cc is;
+}
+
+-- ---- from the request that a verb stands for to the one that was parsed
+
+module _ {E : Type 0} {request asked : Request} {granted : Granted} {held : Registers} {rows : List (Option Row)} {old new : Bench} {e : CodeEffect} {kept : Source E} where
+  pub handed_on : {reply : List ℕ} → request ≡ asked → Settles asked granted held rows old new e reply
+      → HaveShapes rows (operands request) granted → Decision request granted held rows old new (Ok e) reply kept kept
+  handed_on {reply} is settled shaped =
+      subst (λ (r : Request). Decision r granted held rows old new (Ok e) reply kept kept) (sym is) (record {
+        decided = settled (subst (λ (r : Request). HaveShapes rows (operands r) granted) is shaped) kept.left;
+        takes = takes_nothing;
+      })
+
+  -- the same of a verb that writes no reply
+  pub handed_on_silent : {reply : List ℕ} → request ≡ asked → reply ≡ [] → Settles asked granted held rows old new e []
+      → HaveShapes rows (operands request) granted → Decision request granted held rows old new (Ok e) reply kept kept
+  handed_on_silent {reply} is empty settled shaped =
+      subst (λ (r : List ℕ). Decision request granted held rows old new (Ok e) r kept kept) (sym empty) (handed_on is settled shaped)
+
+-- a call that draws nothing further, and doesn't fail by the random source
+pub takes_on : {E T U : Type 0} {request : Request} {first : Result T Stop} {later : Result U Stop} {before now : Source E}
+    → TakesOnly request first before now → (later ≡ Err EntropyFault → first ≡ Err EntropyFault)
+    → TakesOnly request later before now
+takes_on takes fails = record {
+  entropy = record { later = takes.entropy.later; fault = λ is. takes.entropy.fault (fails is) };
+  untouched = takes.untouched;
+  undrawn = takes.undrawn;
+  drawing = λ is. takes.drawing (fails is);
+}

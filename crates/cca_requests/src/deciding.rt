@@ -1,0 +1,231 @@
+//! What each verb decides, stated for its request: over the operands that were granted, in every state that the memory and
+//! the workbench stand for.
+ghost use Rattle.std.specs.Prelude.{◌≡◌, [], IsSome, IsTrue};
+ghost use Rattle.key_cells.specs.Lease.{bench_of, holding};
+ghost use Rattle.master_registers.specs.Loaded.{Loaded, IsLoaded};
+ghost use Rattle.master_registers.specs.Masters.{Masters};
+ghost use Rattle.verb_script.specs.Parsed.{seen};
+ghost use Rattle.cca_machine.specs.Operands.{operands};
+ghost use Rattle.cca_machine.specs.Verdict.{needs_master};
+ghost use Rattle.cca_requests.specs.Decided.{Decision, source};
+ghost use Rattle.cca_requests.specs.Deciding.{with_places};
+ghost use Rattle.cca_requests.specs.Judging.{IsAccepted, HaveShapes, AreKeyed};
+
+mod ciphers;
+mod codes;
+mod control;
+mod drawing;
+mod keys;
+mod records;
+
+use crate::effects::Effect;
+use crate::judging::Granted;
+use key_cells::Lease;
+use key_records::Records;
+use line_service::Stop;
+use master_registers::Registers;
+use slot_disk::Entropy;
+use text_segments::Mode;
+use verb_script::{ReplyBuffer, Request};
+
+/// What the verb decides, over what its operands stand for.
+pub(crate) fn decide<E: Entropy>(
+    request: &Request,
+    granted: &Granted,
+    entropy: &mut E,
+    lease: &mut Lease,
+    held: &Registers,
+    records: &Records,
+    reply: &mut ReplyBuffer,
+) -> Result<Effect, Stop>
+    requires accepted { IsAccepted (seen request.now) }
+    requires shaped { HaveShapes records.now (operands (seen request.now)) granted.now }
+    requires keyed { (m : Masters) → Loaded m held.now (bench_of lease.old)
+        → AreKeyed m (operands (seen request.now)) }
+    requires master { IsTrue (needs_master (seen request.now).name)
+        → IsSome held.now.current_pattern }
+    requires loaded { IsLoaded held.now (bench_of lease.old) }
+    requires empty { reply.old ≡ [] }
+    ensures decision { Decision (seen request.now) granted.now held.now records.now
+        (bench_of lease.old) (bench_of lease.new) result reply.new
+        (source entropy.old (E.left entropy.old) (E.faults entropy.old))
+        (source entropy.new (E.left entropy.new) (E.faults entropy.new)) }
+    ensures places { lease.new ≡ holding lease.old
+        (with_places (bench_of lease.old) (bench_of lease.new)) }
+{
+    match request {
+        Request::Csnbktp { .. } => Ok(keys::decide_csnbktp(granted, reply)),
+        Request::Csnbenc { iv, pad, text, .. } => Ok(ciphers::decide_csnbenc(
+            granted, iv, *pad, text, lease, reply,
+        )),
+        Request::CsnbencFirst { iv, text, .. } => Ok(ciphers::decide_first_segment(
+            Mode::Encipher,
+            granted,
+            iv,
+            text,
+            lease,
+            reply,
+        )),
+        Request::CsnbencMiddle { chain, text, .. } => Ok(ciphers::decide_middle_segment(
+            Mode::Encipher,
+            granted,
+            chain,
+            text,
+            lease,
+            reply,
+        )),
+        Request::CsnbencLast {
+            chain,
+            pad,
+            text,
+            ..
+        } => Ok(ciphers::decide_last_segment(
+            Mode::Encipher,
+            granted,
+            chain,
+            *pad,
+            text,
+            lease,
+            reply,
+        )),
+        Request::Csnbdec { iv, pad, text, .. } => Ok(ciphers::decide_csnbdec(
+            granted, iv, *pad, text, lease, reply,
+        )),
+        Request::CsnbdecFirst { iv, text, .. } => Ok(ciphers::decide_first_segment(
+            Mode::Decipher,
+            granted,
+            iv,
+            text,
+            lease,
+            reply,
+        )),
+        Request::CsnbdecMiddle { chain, text, .. } => Ok(ciphers::decide_middle_segment(
+            Mode::Decipher,
+            granted,
+            chain,
+            text,
+            lease,
+            reply,
+        )),
+        Request::CsnbdecLast {
+            chain,
+            pad,
+            text,
+            ..
+        } => Ok(ciphers::decide_last_segment(
+            Mode::Decipher,
+            granted,
+            chain,
+            *pad,
+            text,
+            lease,
+            reply,
+        )),
+        Request::Csnbmgn {
+            rule,
+            length,
+            text,
+            ..
+        } => Ok(codes::decide_csnbmgn(granted, *rule, *length, text, lease, reply)),
+        Request::CsnbmgnFirst { rule, text, .. } => Ok(codes::decide_first_code_segment(
+            granted, *rule, text, lease, reply,
+        )),
+        Request::CsnbmgnMiddle {
+            rule,
+            chain,
+            text,
+            ..
+        } => Ok(codes::decide_middle_code_segment(granted, *rule, chain, text, lease, reply)),
+        Request::CsnbmgnLast {
+            rule,
+            length,
+            chain,
+            text,
+            ..
+        } => Ok(codes::decide_last_code_segment(
+            granted, *rule, chain, *length, text, lease, reply,
+        )),
+        Request::Csnbmvr {
+            rule,
+            mac,
+            text,
+            ..
+        } => Ok(codes::decide_csnbmvr(granted, *rule, mac, text, lease, reply)),
+        Request::CsnbmvrFirst { rule, text, .. } => Ok(codes::decide_first_code_segment(
+            granted, *rule, text, lease, reply,
+        )),
+        Request::CsnbmvrMiddle {
+            rule,
+            chain,
+            text,
+            ..
+        } => Ok(codes::decide_middle_code_segment(granted, *rule, chain, text, lease, reply)),
+        Request::CsnbmvrLast {
+            rule,
+            mac,
+            chain,
+            text,
+            ..
+        } => Ok(codes::decide_last_match_segment(granted, *rule, chain, mac, text, lease, reply)),
+        Request::Csnbkyt { .. } => Ok(keys::decide_csnbkyt(granted, lease, reply)),
+        Request::Csnbcki { clear, to, .. } => Ok(keys::decide_csnbcki(
+            granted, clear, to, lease, held, reply,
+        )),
+        Request::Csnbrng { form, .. } => drawing::decide_csnbrng(*form, entropy, reply),
+        Request::CsnbkgnOp {
+            length,
+            type1,
+            to,
+            ..
+        } => drawing::decide_generate_one(
+            granted, *length, *type1, to, entropy, lease, held, reply,
+        ),
+        Request::CsnbkgnPair {
+            form,
+            length,
+            type1,
+            type2,
+            to,
+            ..
+        } => drawing::decide_generate_pair(
+            granted, *form, *length, *type1, *type2, to, entropy, lease, held, reply,
+        ),
+        Request::CsnbkgnOut {
+            form,
+            length,
+            type1,
+            type2,
+            ..
+        } => drawing::decide_generate_out(
+            granted, *form, *length, *type1, *type2, entropy, lease, held, reply,
+        ),
+        Request::Csnbkim { to, .. } => Ok(keys::decide_csnbkim(granted, to, lease, held, reply)),
+        Request::Csnbkex { .. } => Ok(keys::decide_csnbkex(granted, lease, reply)),
+        Request::Csnbpex { to, .. } => Ok(keys::decide_csnbpex(granted, to, lease, held, reply)),
+        Request::Csnbktc { rule, .. } => Ok(keys::decide_csnbktc(
+            granted, *rule, lease, held, reply,
+        )),
+        Request::CsnbkpiFirst { kind, part, to, .. } => Ok(keys::decide_first_part(
+            granted, *kind, part, to, lease, held, reply,
+        )),
+        Request::CsnbkpiMiddle { rule, part, to, .. } => Ok(keys::decide_further_part(
+            granted, *rule, part, to, lease, held, reply,
+        )),
+        Request::Csnbktr { .. } => Ok(keys::decide_csnbktr(granted, lease, reply)),
+        Request::Csnbkrc { label, .. } => Ok(records::decide_csnbkrc(label)),
+        Request::Csnbkrw { token, .. } => Ok(records::decide_csnbkrw(granted, token, reply)),
+        Request::Csnbkrr { .. } => Ok(records::decide_csnbkrr(granted, reply)),
+        Request::Csnbkrd { .. } => Ok(records::decide_csnbkrd(granted)),
+        Request::Csnbkrl { prefix, .. } => Ok(records::decide_csnbkrl(prefix, records, reply)),
+        Request::CsnbmkpPart { action, part, .. } => Ok(control::decide_key_part(
+            *action, part, lease,
+        )),
+        Request::CsnbmkpClear { .. } => Ok(control::decide_clear(records)),
+        Request::CsnbmkpSet { .. } => Ok(control::decide_set(lease, held, records)),
+        Request::CsuaaciDefine { name, points, .. } => Ok(control::decide_define(name, points)),
+        Request::CsuaaciRemove { name, .. } => Ok(control::decide_remove(name)),
+        Request::Reencipher { .. } => Ok(control::decide_renew()),
+        Request::ReencipherAhead { .. } => Ok(control::decide_ahead(lease, held, records)),
+        Request::ReencipherDrop { .. } => Ok(control::decide_drop()),
+    }
+}

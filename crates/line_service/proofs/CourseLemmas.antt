@@ -1,0 +1,178 @@
+-- How far a run has come, and what it leaves at its last line.
+use Rattle.std.proofs.Common.{◌≡◌, ◌+◌, ◌≤◌, ℕ, List, Option, Result, Ok, Err, length, ap, refl, sym, subst, ◌∙◌, inl, inr, arith}
+use Rattle.std.specs.Prelude.{◌⊎◌, IsTrue, IsSome, IsOk}
+use Rattle.std.specs.Io.KnownBytes.{IsAtEnd}
+use Rattle.slot_disk.specs.Medium.{Medium, IsSettled}
+use Rattle.slot_disk.specs.WhereTold.{WhereTold}
+use Rattle.slot_disk.proofs.WhereToldLemmas.{told_weaker}
+use Rattle.script_buffers.specs.Reading.{Reading, blank, input_limit}
+use Rattle.line_service.specs.Machine.{Machine, World, world}
+use Rattle.line_service.specs.Answering.{Stands}
+use Rattle.line_service.specs.Devices.{Span, Outside, OutsideLeft}
+use Rattle.line_service.specs.Running.{LineLeaves, LineTaken, Unmoved}
+use Rattle.line_service.specs.Sending.{Grows}
+use Rattle.line_service.specs.Serving.{AllAnswered, WholeLinesAnswered, LineLost, AtRest, SparesAlways, RunServed}
+use Rattle.line_service.specs.Stops.{IsLineStop, IsUnanswered}
+use Rattle.line_service.specs.declared.serving.Served.{Served}
+use Rattle.line_service.specs.declared.serving.Served.TheVariants.{Replied, Ended}
+use Rattle.line_service.specs.declared.stops.Stop.{Stop}
+use Rattle.line_service.specs.declared.stops.Stop.TheVariants.{ReadFault, WriteFault, EntropyFault, InputLimit, Damaged}
+use Rattle.line_service.proofs.SessionLemmas.{HasServed, has_served_all, has_served_whole, has_served_cut, has_served_lost, module_moments, store_moments, cut_at_rest, at_rest_now, counted_on, counted_nothing, blank_open, blank_within}
+use Rattle.line_service.proofs.SpareLaws.{SparesSo, spares_last, spares_always}
+use Rattle.line_service.proofs.StopLemmas.{by_answer, same_stop, stopped_as, no_stop, not_ended, grows_on, grows_none, not_replied, not_cut, line_not_cut, ended_unsent, ended_uncut}
+
+-- ---- whatever the disks hold
+
+-- how all that is outside has come from its start, beside the reading of lines
+pub record IsOnCourse (start now : Outside) (reading : Reading) : Type 0 where
+  pub module_settled : IsSettled now.devices.world.module_
+  pub store_settled : IsSettled now.devices.world.store
+  pub module_size : now.devices.world.module_.size ≡ start.devices.world.module_.size
+  pub store_size : now.devices.world.store.size ≡ start.devices.world.store.size
+  pub module_still : IsSome start.devices.world.module_.content → IsSome now.devices.world.module_.content
+  pub store_still : IsSome start.devices.world.store.content → IsSome now.devices.world.store.content
+  pub counted : WhereTold start.input now.input (λ input rest. reading.taken + length rest ≡ length input)
+  pub within : reading.taken ≤ input_limit
+  pub at_end : IsTrue reading.ended → IsAtEnd now.input
+  pub sink_grows : WhereTold start.output now.output Grows
+  pub reads_later : start.source_faults ≤ now.source_faults
+  pub writes_later : start.sink_faults ≤ now.sink_faults
+  pub module_later : start.devices.module_faults ≤ now.devices.module_faults
+  pub store_later : start.devices.store_faults ≤ now.devices.store_faults
+  pub entropy_later : start.devices.entropy_faults ≤ now.devices.entropy_faults
+
+pub course_begins : (now : Outside) (reading : Reading) → reading ≡ blank → IsSettled now.devices.world.module_ → IsSettled now.devices.world.store → IsOnCourse now now reading
+course_begins now reading fresh module_settled store_settled = record {
+  module_settled = module_settled;
+  store_settled = store_settled;
+  module_size = refl;
+  store_size = refl;
+  module_still = λ h. h;
+  store_still = λ h. h;
+  counted = counted_nothing now.input reading fresh;
+  within = blank_within reading fresh;
+  at_end = λ ended. absurd (blank_open reading fresh ended);
+  sink_grows = grows_none now.output;
+  reads_later = omega arith;
+  writes_later = omega arith;
+  module_later = omega arith;
+  store_later = omega arith;
+  entropy_later = omega arith;
+}
+
+module _ (A : Machine) (start : Outside) (o : Span Outside) (old : Reading) (course : IsOnCourse start o.old old) where
+  pub course_goes_on : (new : Reading) (result : Result Served Stop) → IsOk result → LineTaken result o old new → OutsideLeft A result o → IsOnCourse start o.new new
+  course_goes_on new result ok taken left = record {
+    module_settled = left.devices_left.module_left.settled ok;
+    store_settled = left.devices_left.store_left.settled ok;
+    module_size = left.devices_left.module_left.size ∙ course.module_size;
+    store_size = left.devices_left.store_left.size ∙ course.store_size;
+    module_still = λ h. left.devices_left.module_left.still (course.module_still h);
+    store_still = λ h. left.devices_left.store_left.still (course.store_still h);
+    counted = counted_on start.input o.old.input o.new.input old.taken new.taken course.counted taken.counted;
+    within = taken.within;
+    at_end = taken.at_end;
+    sink_grows = grows_on start.output o.old.output o.new.output course.sink_grows left.sink_grows;
+    reads_later = omega (arith, left.source_left.later, course.reads_later);
+    writes_later = omega (arith, left.sink_left.later, course.writes_later);
+    module_later = omega (arith, left.devices_left.module_left.later, course.module_later);
+    store_later = omega (arith, left.devices_left.store_left.later, course.store_later);
+    entropy_later = omega (arith, left.devices_left.entropy_left.later, course.entropy_later);
+  }
+
+-- ---- from the state for which the disks stand
+
+-- where no line was answered, disks and random source show what they did
+pub unmoved_world : {K M D E T : Type 0} (fm : M → Medium) (fd : D → Medium) (fe : E → Option (List ℕ)) (result : Result Served Stop)
+    (k k1 : K) (m m1 : M) (d d1 : D) (e e1 : E) (t t1 : T) → Unmoved result k k1 m m1 d d1 e e1 t t1
+    → IsUnanswered result → world (fm m1) (fd d1) (fe e1) ≡ world (fm m) (fd d) (fe e)
+unmoved_world fm fd fe result k k1 m m1 d d1 e e1 t t1 unmoved none =
+    ap (λ x. world (fm x) (fd d1) (fe e1)) (unmoved.module_unmoved none)
+    ∙ (ap (λ x. world (fm m) (fd x) (fe e1)) (unmoved.store_unmoved none) ∙ ap (λ x. world (fm m) (fd d) (fe x)) (unmoved.entropy_unmoved none))
+
+module _ (A : Machine) (s : A.State) (K K1 : A.State → Type 0) (start : Outside) (o : Span Outside) (old new : Reading) (result : Result Served Stop) where
+  abbrev w0 : World
+  w0 = start.devices.world
+
+  abbrev w : World
+  w = o.old.devices.world
+
+  abbrev w1 : World
+  w1 = o.new.devices.world
+
+  -- one line more, after those that were served since the start
+  pub record IsNextLine : Type 1 where
+    pub served : HasServed A s K w0 w start.input o.old.input start.output o.old.output old
+    pub spares : SparesSo w0 w
+    pub stands : (t : A.State) × Stands A t K w.module_ w.store
+    pub taken : LineTaken result o old new
+    pub leaves : (t : A.State) → Stands A t K w.module_ w.store → LineLeaves A t K1 result o old new
+    pub unanswered : IsUnanswered result → w1 ≡ w
+    pub unsent : (result ≡ Ok Replied → ⊥) → (result ≡ Err WriteFault → ⊥) → o.new.output ≡ o.old.output
+
+  module _ (next : IsNextLine) where
+    line_lost : (stop : Stop) → IsLineStop stop → result ≡ Err stop → WhereTold start.input o.new.input (λ i r. LineLost A stop s w0.random w1 i start.output o.new.output)
+    line_lost stop kind is =
+        subst (λ (x : Option (List ℕ)). WhereTold start.input o.new.input (λ i r. LineLost A stop s w0.random w1 i start.output x))
+        (sym (next.unsent (not_replied result stop is) (line_not_cut result stop kind is)))
+        (has_served_lost A s K K1 w0 w w1 start.input o.old.input o.new.input start.output o.old.output o.new.output old new _ result next.served next.taken.counted next.leaves stop kind is)
+
+    all_answered : result ≡ Ok Ended → WhereTold start.input o.new.input (λ i r. AllAnswered A s w0.random w1 i start.output o.new.output)
+    all_answered ended =
+        subst (λ (x : Option (List ℕ)). WhereTold start.input o.new.input (λ i r. AllAnswered A s w0.random w1 i start.output x))
+        (sym (next.unsent (ended_unsent result ended) (ended_uncut result ended)))
+        (subst (λ (x : World). WhereTold start.input o.new.input (λ i r. AllAnswered A s w0.random x i start.output o.old.output)) (sym (next.unanswered (inl ended)))
+        (has_served_all A s K w0 w start.input o.old.input o.new.input start.output o.old.output old new next.served (next.taken.all_taken ended)))
+
+    whole_answered : (stop : Stop) → result ≡ Err stop → (result ≡ Err ReadFault) ⊎ (result ≡ Err InputLimit)
+        → WhereTold start.input o.new.input (λ i r. WholeLinesAnswered A s w0.random w1 i r start.output o.new.output)
+    whole_answered stop is unread =
+        subst (λ (x : Option (List ℕ)). WhereTold start.input o.new.input (λ i r. WholeLinesAnswered A s w0.random w1 i r start.output x))
+        (sym (next.unsent (not_replied result stop is) (not_cut result unread)))
+        (subst (λ (x : World). WhereTold start.input o.new.input (λ i r. WholeLinesAnswered A s w0.random x i r start.output o.old.output)) (sym (next.unanswered (inr unread)))
+        (has_served_whole A s K w0 w start.input o.old.input o.new.input start.output o.old.output old next.served
+        (not_ended o.old.input o.new.input old.ended new.ended old.pending result stop is next.taken.still_ended next.taken.ended)
+        (next.taken.part_lost unread)))
+
+    pub unread_at_rest : IsUnanswered result → WhereTold start.input o.new.input (λ i r. AtRest A s w0.random i w0 w1)
+    unread_at_rest none =
+        subst (λ (x : World). WhereTold start.input o.new.input (λ i r. AtRest A s w0.random i w0 x)) (sym (next.unanswered none))
+        (at_rest_now A s K w0 w start.input o.old.input o.new.input start.output o.old.output old _ next.served next.taken.counted)
+
+    pub reply_cut_at_rest : result ≡ Err WriteFault → WhereTold start.input o.new.input (λ i r. AtRest A s w0.random i w0 w1)
+    reply_cut_at_rest =
+        cut_at_rest A s K K1 w0 w w1 start.input o.old.input o.new.input start.output o.old.output o.new.output old new _ result next.served next.taken.counted next.leaves
+
+    pub spares_now : SparesAlways w0 w1
+    spares_now = spares_always w0 w1 (spares_last w0 w w1 next.spares (next.leaves next.stands.0 next.stands.1).spare)
+
+    pub run_ended : result ≡ Ok Ended → RunServed A s (Ok tt) w0 w1 start.input o.new.input start.output o.new.output
+    run_ended ended = record {
+      done = λ h. all_answered ended;
+      stopped = λ h. absurd (no_stop h);
+      cut = λ h. absurd (cc h);
+      lost = λ stop kind h. absurd (cc h);
+      undrawn = λ h. absurd (cc h);
+      undamaged = λ device cell h. cc h;
+      on_module = module_moments A s K K1 w0 w w1 start.input o.old.input o.new.input start.output o.old.output o.new.output old new _ result next.served next.taken.counted next.leaves;
+      on_store = store_moments A s K K1 w0 w w1 start.input o.old.input o.new.input start.output o.old.output o.new.output old new _ result next.served next.taken.counted next.leaves;
+      spare = spares_now;
+      at_rest = λ answers. unread_at_rest (inl ended);
+    }
+
+    pub run_stopped : (stop : Stop) → result ≡ Err stop → RunServed A s (Err stop) w0 w1 start.input o.new.input start.output o.new.output
+    run_stopped stop is = record {
+      done = λ h. absurd (cc h);
+      stopped = λ h. whole_answered stop is (stopped_as result stop is h);
+      cut = λ h.
+          has_served_cut A s K K1 w0 w w1 start.input o.old.input o.new.input start.output o.old.output o.new.output old new _ result next.served next.taken.counted next.leaves
+          (same_stop result stop WriteFault is h);
+      lost = λ other kind h. told_weaker start.input o.new.input _ _ (λ i r x. inl x) (line_lost other kind (same_stop result stop other is h));
+      undrawn = λ h. line_lost EntropyFault tt (same_stop result stop EntropyFault is h);
+      undamaged = λ device cell h. (next.leaves next.stands.0 next.stands.1).undamaged device cell (same_stop result stop (Damaged device cell) is h);
+      on_module = module_moments A s K K1 w0 w w1 start.input o.old.input o.new.input start.output o.old.output o.new.output old new _ result next.served next.taken.counted next.leaves;
+      on_store = store_moments A s K K1 w0 w w1 start.input o.old.input o.new.input start.output o.old.output o.new.output old new _ result next.served next.taken.counted next.leaves;
+      spare = spares_now;
+      at_rest = λ answers.
+          by_answer result stop is (WhereTold start.input o.new.input (λ i r. AtRest A s w0.random i w0 w1)) answers (λ unread. unread_at_rest (inr unread)) reply_cut_at_rest;
+    }

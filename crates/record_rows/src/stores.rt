@@ -1,0 +1,119 @@
+//! Stores with records, and what is found in them.
+ghost use Rattle.std.specs.Prelude.{◌≡◌, ◌<◌, IfOk, IsSome};
+ghost use Rattle.key_records.specs.Directory.{label_at};
+ghost use Rattle.key_records.specs.Entries.{row_directory};
+ghost use Rattle.key_records.specs.StoreStands.{HoldsRows};
+ghost use Rattle.key_records.specs.declared.records.TheConstants.{STORE_LEN};
+ghost use Rattle.slot_disk.specs.Medium.{Keeps, Told};
+
+use crate::masters::load_masters;
+use key_cells::Lease;
+use key_records::{Label, Place, RecordFault, Records, STORE_LEN, open_records};
+use slot_disk::{Cell, Disk, MemoryDisk, Steps, read_cell, replace_cell, settle};
+use std::alloc::Global;
+use std::test::Fail;
+use verb_rules::Rule;
+
+/// Why a step before the one that is looked at, or this one itself, didn't come to its end.
+#[derive(Clone, Copy, Debug, PartialEq, Eq)]
+pub(crate) enum Stop {
+    Memory,
+    Settle,
+    Load,
+    Open(RecordFault),
+    /// No cell holds the label, or the text is no label.
+    Unknown,
+    /// The token is none that is kept.
+    Token,
+    Change(RecordFault),
+    /// The new master key isn't one that the store may be prepared for.
+    Taken,
+    Run(RecordFault),
+    Read(RecordFault),
+    Transport(Rule),
+    Kept(Rule),
+    Refused(Rule),
+}
+
+/// The records of a store, as they are opened.
+pub(crate) fn opened<D: Disk>(
+    alloc: Global,
+    module: &[u8; 1536],
+    store: &mut D,
+    lease: &mut Lease,
+) -> Result<Records, Stop>
+    requires size { (D.medium store.old).size ≡ STORE_LEN }
+    ensures holds { IfOk result (λ records. Told (D.medium store.new) (HoldsRows records)) }
+    ensures keeps { Keeps (D.medium store.old) (D.medium store.new) }
+{
+    let held = load_masters(alloc, module, lease)?;
+    let Ok(mut records) = Records::new(alloc) else {
+        return Err(Stop::Memory);
+    };
+    match open_records(store, lease, &held, &mut records) {
+        Ok(()) => Ok(records),
+        Err(fault) => Err(Stop::Open(fault)),
+    }
+}
+
+pub(crate) fn label(text: &[u8]) -> Result<Label, Stop> {
+    Label::read(text).ok_or(Stop::Unknown)
+}
+
+/// The label, in a test that ends where it is none.
+pub(crate) fn sure_label(text: &[u8]) -> Result<Label, Fail> {
+    Ok(Label::read(text).ok_or("no label")?)
+}
+
+/// Where a label is held.
+pub(crate) fn place_of(records: &Records, label: &Label) -> Result<Place, Stop>
+    ensures { IfOk result (λ place. IsSome (label_at (row_directory records.now) place)) }
+{
+    let mut steps: Steps<()> = Steps::new();
+    records.find(label, &mut steps).ok_or(Stop::Unknown)
+}
+
+/// A label of four digits.
+pub(crate) fn numbered(number: u16) -> [u8; 5] {
+    let digit = |place: u16| b'0' + (number / place % 10) as u8;
+    [b'L', digit(1000), digit(100), digit(10), digit(1)]
+}
+
+/// Puts a body where the first selector points.
+pub(crate) fn put_body(image: &mut [u8], cell: usize, body: &[u8; 192])
+    requires { cell < 1024 }
+{
+    let at = 1536 * cell + 512;
+    if at + 192 <= image.len() {
+        image[at..at + 192].copy_from_slice(body);
+    }
+}
+
+/// A store whose first cells have these bodies, with room to note so many writes and syncs.
+pub(crate) fn store_of(alloc: Global, bodies: &[[u8; 192]], room: u64) -> Result<MemoryDisk, Fail> {
+    let mut image = vec![in alloc; 0u8; STORE_LEN as usize]?;
+    for cell in 0..bodies.len().min(1024) {
+        put_body(&mut image, cell, &bodies[cell]);
+    }
+    Ok(MemoryDisk::from_image(alloc, &image, room)?)
+}
+
+/// Makes a body that of a cell.
+pub(crate) fn put(store: &mut MemoryDisk, cell: u16, body: &[u8; 192]) -> Result<(), Fail> {
+    if store.size() != STORE_LEN || cell > 1023 {
+        return Err(Fail::from("no such cell"));
+    }
+    settle(store).or_else(|_| Err("not settled"))?;
+    replace_cell(store, Cell::new(cell), body).or_else(|_| Err("not put"))?;
+    Ok(())
+}
+
+/// The selected body of a cell of a store.
+pub(crate) fn cell_body(store: &mut MemoryDisk, cell: u16) -> Result<[u8; 192], Fail> {
+    let mut found = [0xff; 192];
+    if store.size() != STORE_LEN || cell > 1023 {
+        return Err(Fail::from("no such cell"));
+    }
+    read_cell(store, Cell::new(cell), &mut found).or_else(|_| Err("not read"))?;
+    Ok(found)
+}

@@ -1,0 +1,21 @@
+//! Lines of each row of the grammar, the requests that they spell, and lines that are none. It is a crate of tests.
+#![tactic(auto)]
+
+#[cfg(test)]
+mod code_rows;
+#[cfg(test)]
+mod control_rows;
+#[cfg(test)]
+mod key_rows;
+#[cfg(test)]
+mod lines;
+#[cfg(test)]
+mod naming;
+#[cfg(test)]
+mod other_lines;
+#[cfg(test)]
+mod record_rows;
+#[cfg(test)]
+mod text_rows;
+#[cfg(test)]
+mod use_rows;

@@ -1,0 +1,27 @@
+use Rattle.key_cells.specs.Lease.{bench_of}
+use Rattle.key_records.specs.StoreStands.{entry_at}
+use Rattle.verb_rules.specs.Keys.{HasHalves, keys_of}
+use Rattle.verb_rules.specs.StoredKeys.{IsRead}
+use Rattle.verb_rules.proofs.JudgeLemmas.{if_ok_gives}
+use Rattle.store_move.proofs.StoredLemmas.{never_damaged, stored_key}
+use Rattle.store_move.proofs.stored.judge_record.Goals as goal
+
+pub returns-in-Some-clause-stored : goal.returns-in-Some-clause-stored
+returns-in-Some-clause-stored g c = λ m s loaded told.
+    let bench = bench_of c.args.lease.now in
+    let store = g.D.Disk.medium c.args.store.now in
+    stored_key store.content (keys_of m) (entry_at s c.args.place) bench c.args.need.now c.read.new.out
+    c.in-Ok-true.field-0 c.in-Ok-true.field-0-test (c.in-Ok-true.ensures.token (keys_of m) s told)
+    c.in-Some.judged (c.in-Some.ensures.stored m bench loaded)
+
+pub returns-in-Some-clause-halves : goal.returns-in-Some-clause-halves
+returns-in-Some-clause-halves g c =
+    if_ok_gives c.in-Some.judged (IsRead c.args.held.now c.read.new.out) HasHalves (λ judged read. read.halves) c.in-Some.ensures.read
+
+pub returns-in-None-clause-damaged : goal.returns-in-None-clause-damaged
+returns-in-None-clause-damaged g c = λ m s loaded told cell failed.
+    let bench = bench_of c.args.lease.now in
+    let store = g.D.Disk.medium c.args.store.now in
+    never_damaged store.content (keys_of m) (entry_at s c.args.place) bench c.args.need.now c.read.new.out
+    c.in-Ok-true.field-0 c.in-Ok-true.field-0-test (c.in-Ok-true.ensures.token (keys_of m) s told)
+    (c.in-None.ensures.stored m bench loaded)
