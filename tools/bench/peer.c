@@ -1,4 +1,4 @@
-/* Measures OpenSSL's DES on the operations of crates/bench, in the same lines: name, how many in a round, the
+/* Measures OpenSSL's DES on the operations of crates/des_speed, in the same lines: name, how many in a round, the
    nanoseconds of the fastest of many rounds. */
 #define OPENSSL_SUPPRESS_DEPRECATED
 #include <openssl/des.h>
