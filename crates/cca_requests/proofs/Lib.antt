@@ -9,6 +9,7 @@ mod Generating
 mod GrantsKept
 mod KeyDigits
 mod KeyParts
+mod KeyedRows
 mod KeyedVerbs
 pub mod LabelsRead
 mod Leaving

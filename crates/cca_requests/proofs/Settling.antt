@@ -14,20 +14,20 @@ use Rattle.verb_rules.specs.declared.judging.Judged.{Judged}
 use Rattle.verb_script.specs.Grammar.{Request, value_of}
 use Rattle.cca_machine.specs.Act.{Show, effect}
 use Rattle.cca_machine.specs.Draws.{draws_random}
-use Rattle.cca_machine.specs.Keys.{key_in_text, key_of_request}
+use Rattle.cca_machine.specs.Keys.{key_in_text}
 use Rattle.cca_machine.specs.Operands.{is_reencipher, needs_store, operands}
 use Rattle.cca_machine.specs.State.{State}
 use Rattle.cca_machine.specs.Verdict.{Refusal, verb_verdict}
 use Rattle.cca_requests.specs.Decided.{Decision, HasDecided, IsGrantedIn, Settles, Source, TakesOnly}
 use Rattle.cca_requests.specs.Deciding.{Decides, GoesThrough, IsDecided, IsDelivered, IsReady, ShowsOr, WritesStore}
 use Rattle.cca_requests.specs.Drawing.{IsDeliveredOr}
-use Rattle.cca_requests.specs.Judging.{HasKey, HaveShapes}
+use Rattle.cca_requests.specs.Judging.{HaveShapes}
 use Rattle.cca_requests.specs.declared.effects.Effect.{Effect as CodeEffect}
 use Rattle.cca_requests.specs.declared.effects.Effect.TheVariants as code
 use Rattle.cca_requests.specs.declared.judging.Granted.{Granted}
 use Rattle.cca_requests.proofs.Acting.{decides, key_is, shows_or}
 use Rattle.cca_requests.proofs.Generating.{delivered_or}
-use Rattle.cca_requests.proofs.KeyedVerbs.{delivered_or_decides, keyed_shows}
+use Rattle.cca_requests.proofs.KeyedVerbs.{IsKeyed, delivered_or_decides, keyed_shows}
 
 module _ {request : Request} {granted : Granted} {held : Registers} {rows : List (Option Row)} {old new : Bench} {e : CodeEffect} {reply : List ℕ} where
   -- a verb that draws nothing
@@ -57,6 +57,19 @@ shown_spares v fields (code.Write place token) reply shown writes = absurd shown
 shown_spares v fields (code.Delete place) reply shown writes = absurd shown
 shown_spares v fields (code.Reencipher a) reply shown writes = absurd shown
 
+-- and can be carried out
+shown_ready : (held : Registers) (bench : Bench) (rows : List (Option Row)) (v : Option Refusal) (fields : List Field)
+    (e : CodeEffect) (reply : List ℕ) → ShowsOr v fields e reply → IsReady held bench rows e reply
+shown_ready held bench rows v fields (code.Refused _ name) reply shown = (shown.1, shown.2)
+shown_ready held bench rows v fields code.Shown reply shown = shown.2
+shown_ready held bench rows v fields (code.Change action) reply shown = absurd shown
+shown_ready held bench rows v fields (code.DefineRole name points) reply shown = absurd shown
+shown_ready held bench rows v fields (code.RemoveRole name) reply shown = absurd shown
+shown_ready held bench rows v fields (code.Create label) reply shown = absurd shown
+shown_ready held bench rows v fields (code.Write place token) reply shown = absurd shown
+shown_ready held bench rows v fields (code.Delete place) reply shown = absurd shown
+shown_ready held bench rows v fields (code.Reencipher a) reply shown = absurd shown
+
 -- what goes through the store writes it
 pub through_writes : (e : CodeEffect) → GoesThrough e → WritesStore e
 through_writes (code.Refused _ name) through = absurd through
@@ -71,21 +84,17 @@ through_writes (code.Reencipher a) through = tt
 
 module _ {request : Request} {granted : Granted} {held : Registers} {rows : List (Option Row)} {old new : Bench} {e : CodeEffect} {reply : List ℕ} where
   -- a verb that shows some fields over the key of its first operand, or is refused
-  pub keyed_settles : {judged : Judged} (v : ClearKey → Option Refusal) (fields : ClearKey → List Field)
-      → draws_random request ≡ false
-      → ((s : State) → IsGrantedIn s request granted held rows old → HasKey old (key_in_text s (value_of request (codes "key"))) granted.first)
-      → ((s : State) → verb_verdict s request ≡ v (key_of_request s request))
-      → ((s : State) → effect s [] request.name request ≡ Show (fields (key_of_request s request)))
-      → granted.first.key ≡ Some judged → IsSome judged.age
+  pub keyed_settles : {judged : Judged} {v : ClearKey → Option Refusal} {fields : ClearKey → List Field}
+      → IsKeyed request v fields → granted.first.key ≡ Some judged → IsSome judged.age
       → ShowsOr (v (opened old judged)) (fields (opened old judged)) e reply
-      → IsReady held new rows e reply
       → Settles request granted held rows old new e reply
-  keyed_settles {judged} v fields none has verdict makes is under shows ready =
+  keyed_settles {judged} {v} {fields} keyed is under shows =
       let spares = shown_spares (v (opened old judged)) (fields (opened old judged)) e reply shows in
       settles
-      (λ shaped s in_state left. keyed_shows s new request (opened old judged) v fields e reply left none (verdict s) (makes s)
-      (key_is old (key_in_text s (value_of request (codes "key"))) granted.first judged (has s in_state) is under) shows)
-      (λ shaped. ready) (λ writes. absurd (spares writes)) (λ through. absurd (spares (through_writes e through)))
+      (λ shaped s in_state left. keyed_shows s new request (opened old judged) v fields e reply left keyed
+      (key_is old (key_in_text s (value_of request (codes "key"))) granted.first judged (keyed.has s old granted in_state.grants) is under) shows)
+      (λ shaped. shown_ready held new rows (v (opened old judged)) (fields (opened old judged)) e reply shows)
+      (λ writes. absurd (spares writes)) (λ through. absurd (spares (through_writes e through)))
 
   -- a verb that draws nothing, and leaves this
   pub left_settles : draws_random request ≡ false
@@ -131,7 +140,7 @@ module _ {request : Request} {granted : Granted} {held : Registers} {rows : List
       → length reply ≤ 69000
       → Settles request granted held rows old new code.Shown reply
   shown_settles fields none permitted makes shows short =
-      settles (λ shaped s in_state left. shows_or s new request None (fields s) code.Shown reply left none (permitted s) (makes s) (refl, shows s in_state))
+      settles (λ shaped s in_state left. shows_or s new request None (fields s) code.Shown reply left none (permitted s) (makes s) (refl, shows s in_state, short))
       (λ shaped. short) (λ writes. absurd writes) (λ through. absurd through)
 
 -- ---- what is taken of the random source

@@ -1,6 +1,8 @@
 -- What the verb of a request decided, whole: in every state that the memory and the bench stand for.
 use Rattle.std.specs.Prelude.{◌≡◌, true, false, IsTrue, IsSome, OnErr, IfErr, IfOk, ℕ, List, [], Option, Result, Ok, Err}
 use Rattle.key_cells.specs.Bench.{Bench}
+use Rattle.key_cells.specs.Lease.{bench_of}
+use Rattle.key_cells.specs.declared.leases.Lease.{Lease}
 use Rattle.key_records.specs.declared.rows.Row.{Row}
 use Rattle.line_service.specs.Devices.{TellsFault}
 use Rattle.line_service.specs.declared.stops.Stop.{Stop}
@@ -48,6 +50,12 @@ abbrev pub Settles : Request → Granted → Registers → List (Option Row) →
 Settles request granted held rows old new e reply =
     HaveShapes rows (operands request) granted → (left : Option (List ℕ))
     → HasDecided request granted held rows old new (Ok e) reply left left
+
+-- the same whatever the registers hold and the memory knows, over the bench of a lease
+abbrev pub SettlesOver : Request → Granted → Lease → Lease → CodeEffect → List ℕ → Type 0
+SettlesOver request granted old new e reply =
+    (held : Registers) (rows : List (Option Row))
+    → Settles request granted held rows (bench_of old) (bench_of new) e reply
 
 -- a random source, with the bytes that are left where they are known, and the count of its faults
 pub record Source (E : Type 0) : Type 0 where

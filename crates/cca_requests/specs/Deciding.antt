@@ -16,6 +16,8 @@ use Rattle.cca_roles.specs.declared.faults.RoleFault.{RoleFault}
 use Rattle.cca_roles.specs.declared.faults.RoleFault.TheVariants as role
 use Rattle.cca_roles.specs.declared.roles.Role.{Role}
 use Rattle.key_cells.specs.Bench.{Bench}
+use Rattle.key_cells.specs.Lease.{bench_of, holding}
+use Rattle.key_cells.specs.declared.leases.Lease.{Lease}
 use Rattle.master_registers.specs.Actions.{after_action}
 use Rattle.master_registers.specs.Loaded.{Loaded, IsLoaded, StandsForLoaded, masters_in}
 use Rattle.master_registers.specs.declared.actions.Action.{Action}
@@ -219,10 +221,13 @@ IsAheadDecided s (code.Write place token) = ⊥
 IsAheadDecided s (code.Delete place) = ⊥
 IsAheadDecided s (code.Reencipher a) = (a ≡ Ahead) × (first_refusal (ahead_questions s) ≡ None)
 
--- a verb that shows these fields, or is refused with this verdict
+-- a verb that shows these fields, or is refused with this verdict; it can be carried out in every
+-- state
 abbrev pub ShowsOr : Option Refusal → List Field → CodeEffect → List ℕ → Type 0
-ShowsOr v fields (code.Refused rule name) reply = v ≡ Some (refusal (rule_number rule) name.now)
-ShowsOr v fields code.Shown reply = (v ≡ None) × (reply ≡ written fields)
+ShowsOr v fields (code.Refused rule name) reply =
+    (v ≡ Some (refusal (rule_number rule) name.now)) × (reply ≡ []) × (length name.now < 100)
+ShowsOr v fields code.Shown reply =
+    (v ≡ None) × (reply ≡ written fields) × (length reply ≤ 69000)
 ShowsOr v fields (code.Change action) reply = ⊥
 ShowsOr v fields (code.DefineRole name points) reply = ⊥
 ShowsOr v fields (code.RemoveRole name) reply = ⊥
@@ -296,7 +301,19 @@ action_outcome s action part =
 -- the bench with the places that a verb may write as they are in another one
 abbrev pub with_places : Bench → Bench → Bench
 with_places bench other =
-    record bench { part = other.part; first = other.first; second = other.second; key = other.key; fresh = other.fresh; schedules = other.schedules; text = other.text }
+    record bench {
+      part = other.part;
+      first = other.first;
+      second = other.second;
+      key = other.key;
+      fresh = other.fresh;
+      schedules = other.schedules;
+      text = other.text;
+    }
+
+-- of a lease no more than these places may have changed
+abbrev pub ChangesPlaces : Lease → Lease → Type 0
+ChangesPlaces old new = new ≡ holding old (with_places (bench_of old) (bench_of new))
 
 -- ---- an action on the registers
 

@@ -5,3 +5,4 @@ pub mod Drawing
 pub mod Judging
 pub mod Serving
 pub mod Stored
+pub mod WholeTexts

@@ -1,5 +1,5 @@
-//! What each verb decides, stated for its request: over the operands that were granted, in every state that the memory and
-//! the workbench stand for.
+//! What each verb decides, stated for its request: over the operands that were granted, in every
+//! state that the memory and the workbench stand for.
 ghost use Rattle.std.specs.Prelude.{◌≡◌, [], IsSome, IsTrue};
 ghost use Rattle.key_cells.specs.Lease.{bench_of, holding};
 ghost use Rattle.master_registers.specs.Loaded.{Loaded, IsLoaded};
@@ -11,8 +11,6 @@ ghost use Rattle.cca_requests.specs.Decided.{Decision, source};
 ghost use Rattle.cca_requests.specs.Deciding.{with_places};
 ghost use Rattle.cca_requests.specs.Judging.{IsAccepted, HaveShapes, AreKeyed};
 
-mod ciphers;
-mod codes;
 mod control;
 mod drawing;
 mod keys;
@@ -20,6 +18,13 @@ mod records;
 
 use crate::effects::Effect;
 use crate::judging::Granted;
+use crate::verbs::code_segments::{
+    first_code_segment, last_code_segment, last_match_segment, middle_code_segment,
+};
+use crate::verbs::csnbmgn::csnbmgn;
+use crate::verbs::csnbmvr::csnbmvr;
+use crate::verbs::segments::{first_segment, last_segment, middle_segment};
+use crate::verbs::whole_texts::whole_text;
 use key_cells::Lease;
 use key_records::Records;
 use line_service::Stop;
@@ -55,10 +60,16 @@ pub(crate) fn decide<E: Entropy>(
 {
     match request {
         Request::Csnbktp { .. } => Ok(keys::decide_csnbktp(granted, reply)),
-        Request::Csnbenc { iv, pad, text, .. } => Ok(ciphers::decide_csnbenc(
-            granted, iv, *pad, text, lease, reply,
+        Request::Csnbenc { iv, pad, text, .. } => Ok(whole_text(
+            Mode::Encipher,
+            granted,
+            iv,
+            *pad,
+            text,
+            lease,
+            reply,
         )),
-        Request::CsnbencFirst { iv, text, .. } => Ok(ciphers::decide_first_segment(
+        Request::CsnbencFirst { iv, text, .. } => Ok(first_segment(
             Mode::Encipher,
             granted,
             iv,
@@ -66,7 +77,7 @@ pub(crate) fn decide<E: Entropy>(
             lease,
             reply,
         )),
-        Request::CsnbencMiddle { chain, text, .. } => Ok(ciphers::decide_middle_segment(
+        Request::CsnbencMiddle { chain, text, .. } => Ok(middle_segment(
             Mode::Encipher,
             granted,
             chain,
@@ -79,19 +90,17 @@ pub(crate) fn decide<E: Entropy>(
             pad,
             text,
             ..
-        } => Ok(ciphers::decide_last_segment(
-            Mode::Encipher,
+        } => Ok(last_segment(Mode::Encipher, granted, chain, *pad, text, lease, reply)),
+        Request::Csnbdec { iv, pad, text, .. } => Ok(whole_text(
+            Mode::Decipher,
             granted,
-            chain,
+            iv,
             *pad,
             text,
             lease,
             reply,
         )),
-        Request::Csnbdec { iv, pad, text, .. } => Ok(ciphers::decide_csnbdec(
-            granted, iv, *pad, text, lease, reply,
-        )),
-        Request::CsnbdecFirst { iv, text, .. } => Ok(ciphers::decide_first_segment(
+        Request::CsnbdecFirst { iv, text, .. } => Ok(first_segment(
             Mode::Decipher,
             granted,
             iv,
@@ -99,7 +108,7 @@ pub(crate) fn decide<E: Entropy>(
             lease,
             reply,
         )),
-        Request::CsnbdecMiddle { chain, text, .. } => Ok(ciphers::decide_middle_segment(
+        Request::CsnbdecMiddle { chain, text, .. } => Ok(middle_segment(
             Mode::Decipher,
             granted,
             chain,
@@ -112,22 +121,14 @@ pub(crate) fn decide<E: Entropy>(
             pad,
             text,
             ..
-        } => Ok(ciphers::decide_last_segment(
-            Mode::Decipher,
-            granted,
-            chain,
-            *pad,
-            text,
-            lease,
-            reply,
-        )),
+        } => Ok(last_segment(Mode::Decipher, granted, chain, *pad, text, lease, reply)),
         Request::Csnbmgn {
             rule,
             length,
             text,
             ..
-        } => Ok(codes::decide_csnbmgn(granted, *rule, *length, text, lease, reply)),
-        Request::CsnbmgnFirst { rule, text, .. } => Ok(codes::decide_first_code_segment(
+        } => Ok(csnbmgn(granted, *rule, *length, text, lease, reply)),
+        Request::CsnbmgnFirst { rule, text, .. } => Ok(first_code_segment(
             granted, *rule, text, lease, reply,
         )),
         Request::CsnbmgnMiddle {
@@ -135,23 +136,21 @@ pub(crate) fn decide<E: Entropy>(
             chain,
             text,
             ..
-        } => Ok(codes::decide_middle_code_segment(granted, *rule, chain, text, lease, reply)),
+        } => Ok(middle_code_segment(granted, *rule, chain, text, lease, reply)),
         Request::CsnbmgnLast {
             rule,
             length,
             chain,
             text,
             ..
-        } => Ok(codes::decide_last_code_segment(
-            granted, *rule, chain, *length, text, lease, reply,
-        )),
+        } => Ok(last_code_segment(granted, *rule, chain, *length, text, lease, reply)),
         Request::Csnbmvr {
             rule,
             mac,
             text,
             ..
-        } => Ok(codes::decide_csnbmvr(granted, *rule, mac, text, lease, reply)),
-        Request::CsnbmvrFirst { rule, text, .. } => Ok(codes::decide_first_code_segment(
+        } => Ok(csnbmvr(granted, *rule, mac, text, lease, reply)),
+        Request::CsnbmvrFirst { rule, text, .. } => Ok(first_code_segment(
             granted, *rule, text, lease, reply,
         )),
         Request::CsnbmvrMiddle {
@@ -159,14 +158,14 @@ pub(crate) fn decide<E: Entropy>(
             chain,
             text,
             ..
-        } => Ok(codes::decide_middle_code_segment(granted, *rule, chain, text, lease, reply)),
+        } => Ok(middle_code_segment(granted, *rule, chain, text, lease, reply)),
         Request::CsnbmvrLast {
             rule,
             mac,
             chain,
             text,
             ..
-        } => Ok(codes::decide_last_match_segment(granted, *rule, chain, mac, text, lease, reply)),
+        } => Ok(last_match_segment(granted, *rule, chain, mac, text, lease, reply)),
         Request::Csnbkyt { .. } => Ok(keys::decide_csnbkyt(granted, lease, reply)),
         Request::Csnbcki { clear, to, .. } => Ok(keys::decide_csnbcki(
             granted, clear, to, lease, held, reply,

@@ -3,8 +3,6 @@
 pub(crate) mod ahead;
 pub(crate) mod code_segments;
 pub(crate) mod csnbcki;
-pub(crate) mod csnbdec;
-pub(crate) mod csnbenc;
 pub(crate) mod csnbkex;
 pub(crate) mod csnbkgn;
 pub(crate) mod csnbkim;
@@ -27,3 +25,4 @@ pub(crate) mod delivering;
 mod key_digits;
 pub(crate) mod segments;
 mod texts;
+pub(crate) mod whole_texts;

@@ -1,25 +1,25 @@
 //! CSNBMVR: whether a text has a message authentication code.
-ghost use Rattle.std.specs.Prelude.{◌≡◌, ◌≤◌, ◌/◌, ◌∷◌, [], None, IsTrue, codes, length, take, List, Option};
+ghost use Rattle.std.specs.Prelude.{◌≡◌, ◌≤◌, ◌∷◌, [], ℕ, None, IsTrue, codes, length, take, List};
 ghost use Rattle.cca_vectors.specs.Checks.{first_failing};
 ghost use Rattle.cca_vectors.specs.Vectors.{length_of};
-ghost use Rattle.key_cells.specs.Bench.{Bench, text_of};
+ghost use Rattle.key_cells.specs.Bench.{text_of};
+ghost use Rattle.key_cells.specs.Lease.{bench_of};
+ghost use Rattle.mac_verbs.specs.Codes.{is_code};
 ghost use Rattle.multi_encipher.specs.Bundles.{ChangesKeyAt};
-ghost use Rattle.verb_rules.specs.LengthChecks.{mac_checks, text_checks};
-ghost use Rattle.key_cells.specs.Lease.{bench_of, holding};
-ghost use Rattle.key_records.specs.declared.rows.Row.{Row};
-ghost use Rattle.master_registers.specs.declared.registers.Registers.{Registers};
 ghost use Rattle.script_buffers.specs.Replies.{Text, written};
 ghost use Rattle.verb_rules.specs.Keys.{HasHalves, opened};
+ghost use Rattle.verb_rules.specs.LengthChecks.{mac_checks, text_checks};
 ghost use Rattle.verb_script.specs.Choices.{code_rule_word};
-ghost use Rattle.verb_script.specs.Grammar.{accepts, hex_text, mac_text};
+ghost use Rattle.verb_script.specs.Grammar.{accepts, hex_text, mac_text, csnbmvr as row};
 ghost use Rattle.verb_script.specs.Values.{hex_value};
-ghost use Rattle.cca_machine.specs.Choices.{mac_rule_named};
-ghost use Rattle.cca_machine.specs.Verdict.{first_refusal, mac_questions};
-ghost use Rattle.cca_requests.specs.Deciding.{ShowsOr, IsReady, with_places};
 ghost use Rattle.cca_machine.specs.Act.{yes_or_no};
-ghost use Rattle.mac_verbs.specs.Codes.{is_code};
+ghost use Rattle.cca_requests.specs.Decided.{SettlesOver, asked};
+ghost use Rattle.cca_requests.specs.Deciding.{ChangesPlaces};
+ghost use Rattle.cca_requests.specs.Judging.{HasSomeJudged};
 
 use crate::effects::Effect;
+use crate::grants::key_in;
+use crate::judging::Granted;
 use crate::verbs::texts::{judge_code, mac_rule_of, put_text};
 use key_cells::{KeyPlace, Lease};
 use mac_verbs::mac_verify;
@@ -66,31 +66,27 @@ fn has_code(lease: &mut Lease, key: &Judged, method: MacRule, digits: &[u8]) -> 
     mac_verify(lease, key, method, &bytes[..count])
 }
 
-/// Shows whether the text has this code under the key. A text of a wrong length is refused, and a key that the rule
-/// doesn't take.
+/// Shows whether the text has this code under the key. A text of a wrong length is refused, and a
+/// key that the rule doesn't take.
 pub(crate) fn csnbmvr(
-    key: &Judged,
+    granted: &Granted,
     rule: CodeRule,
     mac: &[u8],
     text: &[u8],
     lease: &mut Lease,
     reply: &mut ReplyBuffer,
 ) -> Effect
-    requires halves { HasHalves key.now }
+    requires key { HasSomeJudged granted.now.first }
     requires mac { IsTrue (accepts mac_text mac.now) }
     requires text { IsTrue (accepts hex_text text.now) }
     requires empty { reply.old ≡ [] }
-    ensures shows { let clear = opened (bench_of lease.old) key.now in
-        let method = mac_rule_named (code_rule_word rule) in
-        ShowsOr (first_refusal (mac_questions method (length text.now / 2) clear))
-        (Text (codes "match") (yes_or_no
-        (is_code method clear (hex_value text.now) (hex_value mac.now))) ∷ [])
-        result reply.new }
-    ensures ready { (held : Registers) (bench : Bench) (rows : List (Option Row))
-        → IsReady held bench rows result reply.new }
-    ensures places { lease.new ≡ holding lease.old
-        (with_places (bench_of lease.old) (bench_of lease.new)) }
+    ensures settles { (role key : List ℕ)
+        → SettlesOver (asked row
+        (role ∷ key ∷ code_rule_word rule ∷ mac.now ∷ text.now ∷ []))
+        granted.now lease.old lease.new result reply.new }
+    ensures places { ChangesPlaces lease.old lease.new }
 {
+    let key = key_in(&granted.first);
     let method = mac_rule_of(rule);
     if let Err(broken) = judge_code(TextUse::Mac, text, method, key) {
         return Effect::Refused(broken.rule, broken.operand);

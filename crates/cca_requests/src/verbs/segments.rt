@@ -1,24 +1,25 @@
 //! CSNBENC and CSNBDEC over a text in segments.
-ghost use Rattle.std.specs.Prelude.{◌≡◌, ◌≤◌, ◌/◌, ◌∷◌, [], IsTrue, MatchOption, Some, None, IfSome, codes, length, List, Option};
+ghost use Rattle.std.specs.Prelude.{◌≡◌, ◌≤◌, ◌/◌, ◌∷◌, [], ℕ, IsTrue, MatchOption, Some, None, IfSome, codes, length, List};
 ghost use Rattle.cca_vectors.specs.Checks.{first_failing};
 ghost use Rattle.des_core.specs.Texts.{text_in};
-ghost use Rattle.key_cells.specs.Bench.{Bench};
-ghost use Rattle.key_cells.specs.Lease.{bench_of, holding};
-ghost use Rattle.key_records.specs.declared.rows.Row.{Row};
-ghost use Rattle.master_registers.specs.declared.registers.Registers.{Registers};
+ghost use Rattle.key_cells.specs.Lease.{bench_of};
 ghost use Rattle.script_buffers.specs.Replies.{Hex, written};
-ghost use Rattle.text_segments.specs.Chains.{chain_bytes, chain_checks, chain_of, first_chain};
+ghost use Rattle.text_segments.specs.Chains.{chain_bytes, chain_checks, chain_of};
 ghost use Rattle.text_segments.specs.Segments.{IsCipher};
 ghost use Rattle.verb_rules.specs.Keys.{HasHalves, opened};
 ghost use Rattle.verb_script.specs.Choices.{padding_word};
 ghost use Rattle.verb_script.specs.Grammar.{accepts, hex_text, is_hex};
 ghost use Rattle.verb_script.specs.Values.{hex_value};
 ghost use Rattle.cca_machine.specs.Act.{last_text_fields, segment_fields};
-ghost use Rattle.cca_machine.specs.Choices.{pad_named};
-ghost use Rattle.cca_machine.specs.Verdict.{first_refusal, chain_questions, last_text_questions, segment_questions};
-ghost use Rattle.cca_requests.specs.Deciding.{ShowsOr, IsReady, with_places};
+ghost use Rattle.cca_machine.specs.CutRequests.{first_row, last_row, middle_row};
+ghost use Rattle.cca_machine.specs.Verdict.{first_refusal, last_text_questions, segment_questions};
+ghost use Rattle.cca_requests.specs.Decided.{SettlesOver, asked};
+ghost use Rattle.cca_requests.specs.Deciding.{ChangesPlaces, ShowsOr};
+ghost use Rattle.cca_requests.specs.Judging.{HasSomeJudged};
 
 use crate::effects::Effect;
+use crate::grants::key_in;
+use crate::judging::Granted;
 use crate::verbs::texts::{block_of, judge_digits, pad_of, put_text, show_text};
 use cipher_verbs::Pad;
 use key_cells::Lease;
@@ -52,7 +53,8 @@ fn show_segment(lease: &Lease, chain: &Chain, reply: &mut ReplyBuffer)
     requires room { (bench_of lease.now).text.size ≤ 4096 }
     requires empty { reply.old ≡ [] }
     ensures fields { reply.new ≡ written
-        (Hex (codes "text") (text_in lease.now) ∷ Hex (codes "chain") (chain_bytes chain.now) ∷ []) }
+        (Hex (codes "text") (text_in lease.now)
+        ∷ Hex (codes "chain") (chain_bytes chain.now) ∷ []) }
     ensures size { length reply.new ≤ 69000 }
 {
     reply.ok();
@@ -77,10 +79,7 @@ fn go_on(
         ShowsOr (first_refusal (segment_questions (length text.now / 2)))
         (segment_fields clear mode chain.now (hex_value text.now))
         result reply.new }
-    ensures ready { (held : Registers) (bench : Bench) (rows : List (Option Row))
-        → IsReady held bench rows result reply.new }
-    ensures places { lease.new ≡ holding lease.old
-        (with_places (bench_of lease.old) (bench_of lease.new)) }
+    ensures places { ChangesPlaces lease.old lease.new }
 {
     if let Err(rule) = judge_digits(TextUse::Segment, text) {
         return Effect::Refused(rule, "text");
@@ -91,59 +90,53 @@ fn go_on(
     Effect::Shown
 }
 
-/// Shows the text of the first segment, enciphered or deciphered under the key from `iv`, and the chain after it. A text
-/// that is too long is refused.
+/// Shows the text of the first segment, enciphered or deciphered under the key from `iv`, and the
+/// chain after it. A text that is too long is refused.
 pub(crate) fn first_segment(
     mode: Mode,
-    key: &Judged,
+    granted: &Granted,
     iv: &[u8],
     text: &[u8],
     lease: &mut Lease,
     reply: &mut ReplyBuffer,
 ) -> Effect
     requires mode { IsCipher mode }
-    requires halves { HasHalves key.now }
+    requires key { HasSomeJudged granted.now.first }
     requires iv { IsTrue (is_hex 16 iv.now) }
     requires text { IsTrue (accepts hex_text text.now) }
     requires empty { reply.old ≡ [] }
-    ensures shows { let clear = opened (bench_of lease.old) key.now in
-        ShowsOr (first_refusal (segment_questions (length text.now / 2)))
-        (segment_fields clear mode (first_chain (hex_value iv.now)) (hex_value text.now))
-        result reply.new }
-    ensures ready { (held : Registers) (bench : Bench) (rows : List (Option Row))
-        → IsReady held bench rows result reply.new }
-    ensures places { lease.new ≡ holding lease.old
-        (with_places (bench_of lease.old) (bench_of lease.new)) }
+    ensures settles { (role key segment : List ℕ)
+        → SettlesOver (asked (first_row mode)
+        (role ∷ key ∷ segment ∷ iv.now ∷ text.now ∷ []))
+        granted.now lease.old lease.new result reply.new }
+    ensures places { ChangesPlaces lease.old lease.new }
 {
+    let key = key_in(&granted.first);
     go_on(mode, key, &Chain::first(block_of(iv)), text, lease, reply)
 }
 
-/// Shows the text of a further segment, and the chain after it. A chain that no segment gives is refused, and a text that
-/// is too long.
+/// Shows the text of a further segment, and the chain after it. A chain that no segment gives is
+/// refused, and a text that is too long.
 pub(crate) fn middle_segment(
     mode: Mode,
-    key: &Judged,
+    granted: &Granted,
     chain: &[u8],
     text: &[u8],
     lease: &mut Lease,
     reply: &mut ReplyBuffer,
 ) -> Effect
     requires mode { IsCipher mode }
-    requires halves { HasHalves key.now }
+    requires key { HasSomeJudged granted.now.first }
     requires chain { IsTrue (is_hex 32 chain.now) }
     requires text { IsTrue (accepts hex_text text.now) }
     requires empty { reply.old ≡ [] }
-    ensures shows { let clear = opened (bench_of lease.old) key.now in
-        let before = hex_value chain.now in
-        ShowsOr (first_refusal
-        (chain_questions before (segment_questions (length text.now / 2))))
-        (segment_fields clear mode (chain_of before) (hex_value text.now))
-        result reply.new }
-    ensures ready { (held : Registers) (bench : Bench) (rows : List (Option Row))
-        → IsReady held bench rows result reply.new }
-    ensures places { lease.new ≡ holding lease.old
-        (with_places (bench_of lease.old) (bench_of lease.new)) }
+    ensures settles { (role key segment : List ℕ)
+        → SettlesOver (asked (middle_row mode)
+        (role ∷ key ∷ segment ∷ chain.now ∷ text.now ∷ []))
+        granted.now lease.old lease.new result reply.new }
+    ensures places { ChangesPlaces lease.old lease.new }
 {
+    let key = key_in(&granted.first);
     match chain_in(chain) {
         Some(before) => go_on(mode, key, &before, text, lease, reply),
         None => Effect::Refused(Rule::Chain, "chain"),
@@ -169,10 +162,7 @@ fn end(
         (length text.now / 2) (hex_value text.now)))
         (last_text_fields clear mode chain.now padding (hex_value text.now))
         result reply.new }
-    ensures ready { (held : Registers) (bench : Bench) (rows : List (Option Row))
-        → IsReady held bench rows result reply.new }
-    ensures places { lease.new ≡ holding lease.old
-        (with_places (bench_of lease.old) (bench_of lease.new)) }
+    ensures places { ChangesPlaces lease.old lease.new }
 {
     let carried = chain.carried.bytes().len();
     if let Err(rule) = judge_digits(mode.use_of_last(padding, carried), text) {
@@ -188,11 +178,11 @@ fn end(
     }
 }
 
-/// Shows the text of the last segment. A chain that no segment gives is refused, a text of a wrong length, and a
-/// deciphered text whose last byte is no count of padding.
+/// Shows the text of the last segment. A chain that no segment gives is refused, a text of a wrong
+/// length, and a deciphered text whose last byte is no count of padding.
 pub(crate) fn last_segment(
     mode: Mode,
-    key: &Judged,
+    granted: &Granted,
     chain: &[u8],
     pad: Padding,
     text: &[u8],
@@ -200,23 +190,17 @@ pub(crate) fn last_segment(
     reply: &mut ReplyBuffer,
 ) -> Effect
     requires mode { IsCipher mode }
-    requires halves { HasHalves key.now }
+    requires key { HasSomeJudged granted.now.first }
     requires chain { IsTrue (is_hex 32 chain.now) }
     requires text { IsTrue (accepts hex_text text.now) }
     requires empty { reply.old ≡ [] }
-    ensures shows { let clear = opened (bench_of lease.old) key.now in
-        let before = hex_value chain.now in
-        let padding = pad_named (padding_word pad) in
-        ShowsOr (first_refusal (chain_questions before
-        (last_text_questions mode clear (chain_of before) padding (length text.now / 2)
-        (hex_value text.now))))
-        (last_text_fields clear mode (chain_of before) padding (hex_value text.now))
-        result reply.new }
-    ensures ready { (held : Registers) (bench : Bench) (rows : List (Option Row))
-        → IsReady held bench rows result reply.new }
-    ensures places { lease.new ≡ holding lease.old
-        (with_places (bench_of lease.old) (bench_of lease.new)) }
+    ensures settles { (role key segment : List ℕ)
+        → SettlesOver (asked (last_row mode)
+        (role ∷ key ∷ segment ∷ chain.now ∷ padding_word pad ∷ text.now ∷ []))
+        granted.now lease.old lease.new result reply.new }
+    ensures places { ChangesPlaces lease.old lease.new }
 {
+    let key = key_in(&granted.first);
     match chain_in(chain) {
         Some(before) => end(mode, key, &before, pad_of(pad), text, lease, reply),
         None => Effect::Refused(Rule::Chain, "chain"),

@@ -1,4 +1,5 @@
-//! Texts and chaining values in the fields of a request, and the words that say how they are worked on.
+//! Texts and chaining values in the fields of a request, and the words that say how they are worked
+//! on.
 ghost use Rattle.std.specs.Prelude.{◌≡◌, ◌≤◌, ◌<◌, ◌/◌, ◌∷◌, [], None, Some, OnOk, IfErr, IsTrue, codes, length};
 ghost use Rattle.cca_vectors.specs.Checks.{first_failing};
 ghost use Rattle.cca_vectors.specs.Vectors.{length_of};
