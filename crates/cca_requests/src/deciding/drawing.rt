@@ -138,8 +138,8 @@ pub(super) fn decide_generate_out<E: Entropy>(
     requires loaded { IsLoaded held.now (bench_of lease.old) }
     requires empty { reply.old ≡ [] }
     ensures decision { (role one two : List ℕ) (rows : List (Option Row))
-        → let request = asked csnbkgn_out (role ∷ out_form_word form ∷ key_length_word length ∷ type_name first
-        ∷ type_name second ∷ one ∷ two ∷ []) in
+        → let request = asked csnbkgn_out (role ∷ out_form_word form ∷ key_length_word length
+        ∷ type_name first ∷ type_name second ∷ one ∷ two ∷ []) in
         HaveShapes rows (operands request) granted.now →
         Decision request granted.now held.now rows (bench_of lease.old) (bench_of lease.new)
         result reply.new
