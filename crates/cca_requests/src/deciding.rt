@@ -21,6 +21,7 @@ use crate::judging::Granted;
 use crate::verbs::code_segments::{
     first_code_segment, last_code_segment, last_match_segment, middle_code_segment,
 };
+use crate::verbs::csnbkyt::csnbkyt;
 use crate::verbs::csnbmgn::csnbmgn;
 use crate::verbs::csnbmvr::csnbmvr;
 use crate::verbs::segments::{first_segment, last_segment, middle_segment};
@@ -166,7 +167,7 @@ pub(crate) fn decide<E: Entropy>(
             text,
             ..
         } => Ok(last_match_segment(granted, *rule, chain, mac, text, lease, reply)),
-        Request::Csnbkyt { .. } => Ok(keys::decide_csnbkyt(granted, lease, reply)),
+        Request::Csnbkyt { .. } => Ok(csnbkyt(granted, lease, reply)),
         Request::Csnbcki { clear, to, .. } => Ok(keys::decide_csnbcki(
             granted, clear, to, lease, held, reply,
         )),

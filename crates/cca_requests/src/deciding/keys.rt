@@ -7,7 +7,7 @@ ghost use Rattle.key_cells.specs.Lease.{bench_of, holding};
 ghost use Rattle.key_records.specs.declared.rows.Row.{Row};
 ghost use Rattle.master_registers.specs.declared.registers.Registers.{Registers};
 ghost use Rattle.verb_script.specs.Choices.{change_word, part_rule_word};
-ghost use Rattle.verb_script.specs.Grammar.{accepts, is_hex, part_text, csnbktp, csnbkyt, csnbcki, csnbkim, csnbkex, csnbpex, csnbktc, csnbktr, csnbkpi_first, csnbkpi_middle};
+ghost use Rattle.verb_script.specs.Grammar.{accepts, is_hex, part_text, csnbktp, csnbcki, csnbkim, csnbkex, csnbpex, csnbktc, csnbktr, csnbkpi_first, csnbkpi_middle};
 ghost use Rattle.verb_script.specs.Named.{label_named};
 ghost use Rattle.cca_requests.specs.Decided.{Settles, asked};
 ghost use Rattle.cca_requests.specs.Deciding.{with_places};
@@ -23,7 +23,6 @@ use crate::verbs::csnbkpi;
 use crate::verbs::csnbktc::csnbktc;
 use crate::verbs::csnbktp::csnbktp;
 use crate::verbs::csnbktr::csnbktr;
-use crate::verbs::csnbkyt::csnbkyt;
 use crate::verbs::csnbpex::csnbpex;
 use crate::verbs::delivering::deliver;
 use cca_vectors::KeyType;
@@ -41,24 +40,6 @@ pub(super) fn decide_csnbktp(granted: &Granted, reply: &mut ReplyBuffer) -> Effe
         granted.now held rows bench bench result reply.new }
 {
     csnbktp(token_in(&granted.first), reply);
-    Effect::Shown
-}
-
-/// The test value of a key.
-pub(super) fn decide_csnbkyt(
-    granted: &Granted,
-    lease: &mut Lease,
-    reply: &mut ReplyBuffer,
-) -> Effect
-    requires key { HasSomeJudged granted.now.first }
-    requires empty { reply.old ≡ [] }
-    ensures settles { (role key : List ℕ) (held : Registers) (rows : List (Option Row))
-        → Settles (asked csnbkyt (role ∷ key ∷ []))
-        granted.now held rows (bench_of lease.old) (bench_of lease.new) result reply.new }
-    ensures places { lease.new ≡ holding lease.old
-        (with_places (bench_of lease.old) (bench_of lease.new)) }
-{
-    csnbkyt(key_in(&granted.first), lease, reply);
     Effect::Shown
 }
 

@@ -17,7 +17,7 @@ ghost use Rattle.verb_script.specs.Choices.{code_length_word, code_rule_word};
 ghost use Rattle.verb_script.specs.Grammar.{accepts, hex_text, is_hex, mac_text, csnbmgn_last, csnbmvr_last};
 ghost use Rattle.verb_script.specs.Values.{hex_value};
 ghost use Rattle.cca_machine.specs.Act.{code_segment_fields, last_code_fields, last_match_fields};
-ghost use Rattle.cca_machine.specs.Choices.{mac_length_named};
+ghost use Rattle.cca_machine.specs.Choices.{mac_length_named, mac_rule_named};
 ghost use Rattle.cca_machine.specs.CutRequests.{first_code_row, middle_code_row};
 ghost use Rattle.cca_machine.specs.Verdict.{first_refusal, code_key_questions, last_segment_questions, segment_questions};
 ghost use Rattle.cca_requests.specs.Decided.{SettlesOver, asked};
@@ -49,7 +49,7 @@ fn show_chain(chain: &Chain, reply: &mut ReplyBuffer)
 /// Shows the chain after a segment that goes on from this one.
 fn go_on(
     key: &Judged,
-    method: MacRule,
+    rule: CodeRule,
     chain: &Chain,
     text: &[u8],
     lease: &mut Lease,
@@ -59,12 +59,14 @@ fn go_on(
     requires text { IsTrue (accepts hex_text text.now) }
     requires empty { reply.old ≡ [] }
     ensures shows { let clear = opened (bench_of lease.old) key.now in
+        let method = mac_rule_named (code_rule_word rule) in
         ShowsOr (first_refusal (code_key_questions method clear
         (segment_questions (length text.now / 2))))
         (code_segment_fields clear method chain.now (hex_value text.now))
         result reply.new }
     ensures places { ChangesPlaces lease.old lease.new }
 {
+    let method = mac_rule_of(rule);
     if let Err(broken) = judge_code(TextUse::Segment, text, method, key) {
         return Effect::Refused(broken.rule, broken.operand);
     }
@@ -94,7 +96,7 @@ pub(crate) fn first_code_segment(
 {
     let key = key_in(&granted.first);
     let start = Chain::first([0; 8]);
-    go_on(key, mac_rule_of(rule), &start, text, lease, reply)
+    go_on(key, rule, &start, text, lease, reply)
 }
 
 /// Shows the chain after a further segment. A chain that no segment gives is refused, a text that
@@ -119,7 +121,7 @@ pub(crate) fn middle_code_segment(
 {
     let key = key_in(&granted.first);
     match chain_in(chain) {
-        Some(before) => go_on(key, mac_rule_of(rule), &before, text, lease, reply),
+        Some(before) => go_on(key, rule, &before, text, lease, reply),
         None => Effect::Refused(Rule::Chain, "chain"),
     }
 }
@@ -128,7 +130,7 @@ pub(crate) fn middle_code_segment(
 /// last segment.
 fn end_code(
     key: &Judged,
-    method: MacRule,
+    rule: CodeRule,
     chain: &Chain,
     count: CodeLength,
     text: &[u8],
@@ -139,6 +141,7 @@ fn end_code(
     requires text { IsTrue (accepts hex_text text.now) }
     requires empty { reply.old ≡ [] }
     ensures shows { let clear = opened (bench_of lease.old) key.now in
+        let method = mac_rule_named (code_rule_word rule) in
         ShowsOr (first_refusal (code_key_questions method clear
         (last_segment_questions (Mac method) Pad.None chain.now (length text.now / 2))))
         (last_code_fields clear method chain.now (mac_length_named (code_length_word count))
@@ -146,6 +149,7 @@ fn end_code(
         result reply.new }
     ensures places { ChangesPlaces lease.old lease.new }
 {
+    let method = mac_rule_of(rule);
     let carried = chain.carried.bytes().len();
     if let Err(broken) = judge_code(TextUse::LastMac { carried }, text, method, key) {
         return Effect::Refused(broken.rule, broken.operand);
@@ -179,7 +183,7 @@ pub(crate) fn last_code_segment(
 {
     let key = key_in(&granted.first);
     match chain_in(chain) {
-        Some(before) => end_code(key, mac_rule_of(rule), &before, count, text, lease, reply),
+        Some(before) => end_code(key, rule, &before, count, text, lease, reply),
         None => Effect::Refused(Rule::Chain, "chain"),
     }
 }
@@ -216,7 +220,7 @@ fn has_code(lease: &mut Lease, key: &Judged, method: MacRule, chain: &Chain, dig
 /// Shows whether the code of a text, of which this is the last segment, begins with these bytes.
 fn end_match(
     key: &Judged,
-    method: MacRule,
+    rule: CodeRule,
     chain: &Chain,
     mac: &[u8],
     text: &[u8],
@@ -228,12 +232,14 @@ fn end_match(
     requires text { IsTrue (accepts hex_text text.now) }
     requires empty { reply.old ≡ [] }
     ensures shows { let clear = opened (bench_of lease.old) key.now in
+        let method = mac_rule_named (code_rule_word rule) in
         ShowsOr (first_refusal (code_key_questions method clear
         (last_segment_questions (Mac method) Pad.None chain.now (length text.now / 2))))
         (last_match_fields clear method chain.now (hex_value mac.now) (hex_value text.now))
         result reply.new }
     ensures places { ChangesPlaces lease.old lease.new }
 {
+    let method = mac_rule_of(rule);
     let carried = chain.carried.bytes().len();
     if let Err(broken) = judge_code(TextUse::LastMac { carried }, text, method, key) {
         return Effect::Refused(broken.rule, broken.operand);
@@ -269,7 +275,7 @@ pub(crate) fn last_match_segment(
 {
     let key = key_in(&granted.first);
     match chain_in(chain) {
-        Some(before) => end_match(key, mac_rule_of(rule), &before, mac, text, lease, reply),
+        Some(before) => end_match(key, rule, &before, mac, text, lease, reply),
         None => Effect::Refused(Rule::Chain, "chain"),
     }
 }

@@ -1,27 +1,28 @@
 //! CSNBKYT: the test value of a key.
-ghost use Rattle.std.specs.Prelude.{◌≡◌, ◌≤◌, ◌∷◌, [], codes, length};
-ghost use Rattle.key_cells.specs.Lease.{bench_of, holding};
-ghost use Rattle.script_buffers.specs.Replies.{Hex, written};
-ghost use Rattle.verb_rules.specs.Keys.{HasHalves, opened};
-ghost use Rattle.cipher_verbs.specs.CipherTexts.{test_value};
-ghost use Rattle.cca_requests.specs.Deciding.{with_places};
+ghost use Rattle.std.specs.Prelude.{◌≡◌, ◌∷◌, [], ℕ, List};
+ghost use Rattle.verb_script.specs.Grammar.{csnbkyt as row};
+ghost use Rattle.cca_requests.specs.Decided.{SettlesOver, asked};
+ghost use Rattle.cca_requests.specs.Deciding.{ChangesPlaces};
+ghost use Rattle.cca_requests.specs.Judging.{HasSomeJudged};
 
+use crate::effects::Effect;
+use crate::grants::key_in;
+use crate::judging::Granted;
 use cipher_verbs::key_test;
 use key_cells::Lease;
-use verb_rules::Judged;
 use verb_script::ReplyBuffer;
 
 /// Shows the first bytes of a block of zeros enciphered under the key.
-pub(crate) fn csnbkyt(key: &Judged, lease: &mut Lease, reply: &mut ReplyBuffer)
-    requires halves { HasHalves key.now }
+pub(crate) fn csnbkyt(granted: &Granted, lease: &mut Lease, reply: &mut ReplyBuffer) -> Effect
+    requires key { HasSomeJudged granted.now.first }
     requires empty { reply.old ≡ [] }
-    ensures fields { reply.new ≡ written
-        (Hex (codes "value") (test_value (opened (bench_of lease.old) key.now)) ∷ []) }
-    ensures size { length reply.new ≤ 69000 }
-    ensures places { lease.new ≡ holding lease.old
-        (with_places (bench_of lease.old) (bench_of lease.new)) }
+    ensures settles { (role key : List ℕ)
+        → SettlesOver (asked row (role ∷ key ∷ []))
+        granted.now lease.old lease.new result reply.new }
+    ensures places { ChangesPlaces lease.old lease.new }
 {
-    let value = key_test(lease, key);
+    let value = key_test(lease, key_in(&granted.first));
     reply.ok();
     reply.hex("value", &value);
+    Effect::Shown
 }

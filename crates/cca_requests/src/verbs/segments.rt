@@ -11,6 +11,7 @@ ghost use Rattle.verb_script.specs.Choices.{padding_word};
 ghost use Rattle.verb_script.specs.Grammar.{accepts, hex_text, is_hex};
 ghost use Rattle.verb_script.specs.Values.{hex_value};
 ghost use Rattle.cca_machine.specs.Act.{last_text_fields, segment_fields};
+ghost use Rattle.cca_machine.specs.Choices.{pad_named};
 ghost use Rattle.cca_machine.specs.CutRequests.{first_row, last_row, middle_row};
 ghost use Rattle.cca_machine.specs.Verdict.{first_refusal, last_text_questions, segment_questions};
 ghost use Rattle.cca_requests.specs.Decided.{SettlesOver, asked};
@@ -21,7 +22,6 @@ use crate::effects::Effect;
 use crate::grants::key_in;
 use crate::judging::Granted;
 use crate::verbs::texts::{block_of, judge_digits, pad_of, put_text, show_text};
-use cipher_verbs::Pad;
 use key_cells::Lease;
 use text_segments::{Chain, Mode, last_text, segment};
 use verb_rules::{Judged, Rule, TextUse};
@@ -148,7 +148,7 @@ fn end(
     mode: Mode,
     key: &Judged,
     chain: &Chain,
-    padding: Pad,
+    pad: Padding,
     text: &[u8],
     lease: &mut Lease,
     reply: &mut ReplyBuffer,
@@ -158,12 +158,14 @@ fn end(
     requires text { IsTrue (accepts hex_text text.now) }
     requires empty { reply.old ≡ [] }
     ensures shows { let clear = opened (bench_of lease.old) key.now in
+        let padding = pad_named (padding_word pad) in
         ShowsOr (first_refusal (last_text_questions mode clear chain.now padding
         (length text.now / 2) (hex_value text.now)))
         (last_text_fields clear mode chain.now padding (hex_value text.now))
         result reply.new }
     ensures places { ChangesPlaces lease.old lease.new }
 {
+    let padding = pad_of(pad);
     let carried = chain.carried.bytes().len();
     if let Err(rule) = judge_digits(mode.use_of_last(padding, carried), text) {
         return Effect::Refused(rule, "text");
@@ -202,7 +204,7 @@ pub(crate) fn last_segment(
 {
     let key = key_in(&granted.first);
     match chain_in(chain) {
-        Some(before) => end(mode, key, &before, pad_of(pad), text, lease, reply),
+        Some(before) => end(mode, key, &before, pad, text, lease, reply),
         None => Effect::Refused(Rule::Chain, "chain"),
     }
 }

@@ -13,6 +13,7 @@ ghost use Rattle.verb_script.specs.Choices.{padding_word};
 ghost use Rattle.verb_script.specs.Grammar.{accepts, hex_text, is_hex};
 ghost use Rattle.verb_script.specs.Values.{hex_value};
 ghost use Rattle.cca_machine.specs.Act.{last_text_fields};
+ghost use Rattle.cca_machine.specs.Choices.{pad_named};
 ghost use Rattle.cca_machine.specs.Verdict.{first_refusal};
 ghost use Rattle.cca_requests.specs.Decided.{SettlesOver, asked};
 ghost use Rattle.cca_requests.specs.Deciding.{ChangesPlaces, ShowsOr};
@@ -69,32 +70,36 @@ fn change_text(
     }
 }
 
-/// Shows the text, enciphered or deciphered in a chain from the start.
+/// Shows the text, enciphered or deciphered in a chain from `iv`.
 fn show_changed(
     mode: Mode,
     key: &Judged,
-    start: &[u8; 8],
-    padding: Pad,
+    iv: &[u8],
+    pad: Padding,
     text: &[u8],
     lease: &mut Lease,
     reply: &mut ReplyBuffer,
 ) -> Effect
     requires mode { IsCipher mode }
     requires halves { HasHalves key.now }
+    requires iv { IsTrue (is_hex 16 iv.now) }
     requires text { IsTrue (accepts hex_text text.now) }
     requires empty { reply.old ≡ [] }
     ensures shows { let clear = opened (bench_of lease.old) key.now in
-        ShowsOr (first_refusal (whole_questions mode clear start.now padding
+        let start = hex_value iv.now in
+        let padding = pad_named (padding_word pad) in
+        ShowsOr (first_refusal (whole_questions mode clear start padding
         (length text.now / 2) (hex_value text.now)))
-        (last_text_fields clear mode (first_chain start.now) padding (hex_value text.now))
+        (last_text_fields clear mode (first_chain start) padding (hex_value text.now))
         result reply.new }
     ensures places { ChangesPlaces lease.old lease.new }
 {
+    let padding = pad_of(pad);
     if let Err(rule) = judge_digits(use_of(mode, padding), text) {
         return Effect::Refused(rule, "text");
     }
     put_text(text, lease);
-    match change_text(mode, key, start, padding, lease) {
+    match change_text(mode, key, &block_of(iv), padding, lease) {
         Ok(()) => {
             show_text(lease, reply);
             Effect::Shown
@@ -126,6 +131,5 @@ pub(crate) fn whole_text(
         granted.now lease.old lease.new result reply.new }
     ensures places { ChangesPlaces lease.old lease.new }
 {
-    let key = key_in(&granted.first);
-    show_changed(mode, key, &block_of(iv), pad_of(pad), text, lease, reply)
+    show_changed(mode, key_in(&granted.first), iv, pad, text, lease, reply)
 }

@@ -81,7 +81,7 @@ returns-in-CsnbmvrLast-clause-decision g c =
 
 pub returns-in-Csnbkyt-clause-decision : goal.returns-in-Csnbkyt-clause-decision
 returns-in-Csnbkyt-clause-decision g c =
-    handed_on (ap seen c.in-Csnbkyt.is) (c.decide_csnbkyt.ensures.settles c.in-Csnbkyt.role c.in-Csnbkyt.key.now c.args.held.now c.args.records.now) c.requires.shaped
+    handed_on (ap seen c.in-Csnbkyt.is) (c.csnbkyt.ensures.settles c.in-Csnbkyt.role c.in-Csnbkyt.key.now c.args.held.now c.args.records.now) c.requires.shaped
 
 pub returns-in-Csnbcki-clause-decision : goal.returns-in-Csnbcki-clause-decision
 returns-in-Csnbcki-clause-decision g c =

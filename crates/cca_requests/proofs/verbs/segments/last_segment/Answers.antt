@@ -1,6 +1,5 @@
-use Rattle.std.proofs.Common.{arith, subst}
+use Rattle.std.proofs.Common.{arith}
 use Rattle.std.specs.Prelude.{◌/◌, length}
-use Rattle.cipher_verbs.specs.declared.padding.Pad.{Pad}
 use Rattle.key_cells.specs.Lease.{bench_of}
 use Rattle.text_segments.specs.Chains.{chain_of}
 use Rattle.text_segments.specs.declared.chains.Chain.{Chain}
@@ -9,8 +8,7 @@ use Rattle.verb_script.specs.Choices.{padding_word}
 use Rattle.verb_script.specs.Values.{hex_value}
 use Rattle.cca_machine.specs.Act.{last_text_fields}
 use Rattle.cca_machine.specs.Choices.{pad_named}
-use Rattle.cca_machine.specs.Verdict.{first_refusal, last_text_questions}
-use Rattle.cca_requests.specs.Deciding.{ShowsOr}
+use Rattle.cca_machine.specs.Verdict.{last_text_questions}
 use Rattle.cca_requests.proofs.KeyedRows.{last_keyed}
 use Rattle.cca_requests.proofs.SegmentRules.{chain_refused, goes_on}
 use Rattle.cca_requests.proofs.Settling.{keyed_settles}
@@ -21,12 +19,11 @@ returns-in-Some-clause-settles c = λ role key segment held rows.
     let clear = opened (bench_of c.args.lease.now) c.key_in-key.result.now in
     let text = c.args.text.now in
     let pad = padding_word c.args.pad in
-    let others = λ (p : Pad) (k : Chain). last_text_questions c.args.mode clear k p (length text / 2) (hex_value text) in
-    let fields = λ (p : Pad) (k : Chain). last_text_fields clear c.args.mode k p (hex_value text) in
+    let others = λ (k : Chain). last_text_questions c.args.mode clear k (pad_named pad) (length text / 2) (hex_value text) in
+    let fields = λ (k : Chain). last_text_fields clear c.args.mode k (pad_named pad) (hex_value text) in
     keyed_settles (last_keyed c.args.mode c.requires.mode role key segment c.args.chain.now pad text)
     c.key_in-key.ensures.key c.key_in-key.ensures.under
-    (goes_on (hex_value c.args.chain.now) _ _ (others (pad_named pad)) (fields (pad_named pad)) c.in-Some.is c.chain_in.ensures.judges c.chain_in.ensures.chain
-    (subst (λ (p : Pad). ShowsOr (first_refusal (others p c.in-Some.before)) (fields p c.in-Some.before) c.end.result c.end.new.reply) c.pad_of.ensures c.end.ensures.shows))
+    (goes_on (hex_value c.args.chain.now) _ _ others fields c.in-Some.is c.chain_in.ensures.judges c.chain_in.ensures.chain c.end.ensures.shows)
 
 pub returns-in-None-clause-settles : goal.returns-in-None-clause-settles
 returns-in-None-clause-settles c = λ role key segment held rows.
