@@ -1,23 +1,26 @@
 -- What the rows over one key show of it: of each, its rules and its fields.
 use Rattle.std.proofs.Common.{Bool, true, false, List, [], ◌∷◌, ℕ, None, codes, refl}
-use Rattle.std.specs.Prelude.{◌/◌, length, take}
+use Rattle.std.specs.Prelude.{◌/◌, length}
 use Rattle.cipher_verbs.specs.CipherTexts.{test_value}
 use Rattle.cipher_verbs.specs.declared.padding.Pad.TheVariants as padding
 use Rattle.des_core.specs.Modes.{zero_block}
-use Rattle.mac_verbs.specs.Codes.{code_of, is_code}
-use Rattle.script_buffers.specs.Replies.{Hex, Text}
+use Rattle.mac_verbs.specs.Codes.{code_of}
+use Rattle.script_buffers.specs.Replies.{Hex}
 use Rattle.text_segments.specs.Chains.{chain_of, first_chain}
-use Rattle.text_segments.specs.Segments.{IsCipher}
+use Rattle.text_segments.specs.Segments.{IsCipher, last_code}
 use Rattle.text_segments.specs.declared.modes.Mode.{Mode}
 use Rattle.text_segments.specs.declared.modes.Mode.TheVariants.{Encipher, Decipher, Mac}
-use Rattle.verb_script.specs.Grammar.{csnbkyt, csnbmgn, csnbmgn_last, csnbmvr, csnbmvr_last}
+use Rattle.verb_script.specs.Grammar.{csnbkyt}
 use Rattle.verb_script.specs.Values.{hex_value}
-use Rattle.cca_machine.specs.Act.{code_segment_fields, last_code_fields, last_match_fields, last_text_fields, segment_fields, yes_or_no}
-use Rattle.cca_machine.specs.Choices.{mac_length_named, mac_rule_named, pad_named}
+use Rattle.cca_machine.specs.Act.{code_segment_fields, last_text_fields, segment_fields}
+use Rattle.cca_machine.specs.Choices.{mac_rule_named, pad_named}
 use Rattle.cca_machine.specs.CutRequests.{first_code_row, first_row, last_row, middle_code_row, middle_row}
 use Rattle.cca_machine.specs.Verdict.{first_refusal, chain_questions, code_key_questions, last_segment_questions, last_text_questions, mac_questions, segment_questions}
+use Rattle.cca_requests.specs.CodePurposes.{code_fields, last_code_row, purpose_text, whole_code_row}
 use Rattle.cca_requests.specs.Decided.{asked}
 use Rattle.cca_requests.specs.WholeTexts.{whole_questions, whole_row}
+use Rattle.cca_requests.specs.declared.verbs.codes.Purpose.{Purpose}
+use Rattle.cca_requests.specs.declared.verbs.codes.Purpose.TheVariants.{Generate, Verify}
 use Rattle.cca_requests.proofs.KeyedVerbs.{IsKeyed}
 
 pub test_keyed : (role key : List ℕ) → IsKeyed (asked csnbkyt (role ∷ key ∷ [])) (λ k. None) (λ k. Hex (codes "value") (test_value k) ∷ [])
@@ -60,17 +63,12 @@ last_keyed (Mac rule) cipher role key segment chain pad text = absurd cipher
 
 -- ---- codes
 
-pub code_keyed : (role key rule count text : List ℕ)
-    → IsKeyed (asked csnbmgn (role ∷ key ∷ rule ∷ count ∷ text ∷ []))
+pub whole_code_keyed : (purpose : Purpose) (role key rule text : List ℕ)
+    → IsKeyed (asked (whole_code_row purpose) (role ∷ key ∷ rule ∷ purpose_text purpose ∷ text ∷ []))
     (λ k. first_refusal (mac_questions (mac_rule_named rule) (length text / 2) k))
-    (λ k. Hex (codes "mac") (take (mac_length_named count) (code_of (mac_rule_named rule) k (hex_value text))) ∷ [])
-code_keyed role key rule count text = record { undrawn = refl; has = λ s bench g is. is.0; verdict = λ s. refl; makes = λ s. refl }
-
-pub match_keyed : (role key rule mac text : List ℕ)
-    → IsKeyed (asked csnbmvr (role ∷ key ∷ rule ∷ mac ∷ text ∷ []))
-    (λ k. first_refusal (mac_questions (mac_rule_named rule) (length text / 2) k))
-    (λ k. Text (codes "match") (yes_or_no (is_code (mac_rule_named rule) k (hex_value text) (hex_value mac))) ∷ [])
-match_keyed role key rule mac text = record { undrawn = refl; has = λ s bench g is. is.0; verdict = λ s. refl; makes = λ s. refl }
+    (λ k. code_fields purpose (code_of (mac_rule_named rule) k (hex_value text)))
+whole_code_keyed (Generate count) role key rule text = record { undrawn = refl; has = λ s bench g is. is.0; verdict = λ s. refl; makes = λ s. refl }
+whole_code_keyed (Verify mac) role key rule text = record { undrawn = refl; has = λ s bench g is. is.0; verdict = λ s. refl; makes = λ s. refl }
 
 pub first_code_keyed : (verifies : Bool) (role key rule segment text : List ℕ)
     → IsKeyed (asked (first_code_row verifies) (role ∷ key ∷ rule ∷ segment ∷ text ∷ []))
@@ -87,16 +85,10 @@ pub middle_code_keyed : (verifies : Bool) (role key rule segment chain text : Li
 middle_code_keyed false role key rule segment chain text = record { undrawn = refl; has = λ s bench g is. is.0; verdict = λ s. refl; makes = λ s. refl }
 middle_code_keyed true role key rule segment chain text = record { undrawn = refl; has = λ s bench g is. is.0; verdict = λ s. refl; makes = λ s. refl }
 
-pub last_code_keyed : (role key rule segment count chain text : List ℕ)
-    → IsKeyed (asked csnbmgn_last (role ∷ key ∷ rule ∷ segment ∷ count ∷ chain ∷ text ∷ []))
+pub last_code_keyed : (purpose : Purpose) (role key rule segment chain text : List ℕ)
+    → IsKeyed (asked (last_code_row purpose) (role ∷ key ∷ rule ∷ segment ∷ purpose_text purpose ∷ chain ∷ text ∷ []))
     (λ k. first_refusal (chain_questions (hex_value chain) (code_key_questions (mac_rule_named rule) k
     (last_segment_questions (Mac (mac_rule_named rule)) padding.None (chain_of (hex_value chain)) (length text / 2)))))
-    (λ k. last_code_fields k (mac_rule_named rule) (chain_of (hex_value chain)) (mac_length_named count) (hex_value text))
-last_code_keyed role key rule segment count chain text = record { undrawn = refl; has = λ s bench g is. is.0; verdict = λ s. refl; makes = λ s. refl }
-
-pub last_match_keyed : (role key rule segment mac chain text : List ℕ)
-    → IsKeyed (asked csnbmvr_last (role ∷ key ∷ rule ∷ segment ∷ mac ∷ chain ∷ text ∷ []))
-    (λ k. first_refusal (chain_questions (hex_value chain) (code_key_questions (mac_rule_named rule) k
-    (last_segment_questions (Mac (mac_rule_named rule)) padding.None (chain_of (hex_value chain)) (length text / 2)))))
-    (λ k. last_match_fields k (mac_rule_named rule) (chain_of (hex_value chain)) (hex_value mac) (hex_value text))
-last_match_keyed role key rule segment mac chain text = record { undrawn = refl; has = λ s bench g is. is.0; verdict = λ s. refl; makes = λ s. refl }
+    (λ k. code_fields purpose (last_code k (mac_rule_named rule) (chain_of (hex_value chain)) (hex_value text)))
+last_code_keyed (Generate count) role key rule segment chain text = record { undrawn = refl; has = λ s bench g is. is.0; verdict = λ s. refl; makes = λ s. refl }
+last_code_keyed (Verify mac) role key rule segment chain text = record { undrawn = refl; has = λ s bench g is. is.0; verdict = λ s. refl; makes = λ s. refl }

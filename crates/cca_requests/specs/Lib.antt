@@ -1,4 +1,5 @@
 pub mod Changes
+pub mod CodePurposes
 pub mod Decided
 pub mod Deciding
 pub mod Drawing

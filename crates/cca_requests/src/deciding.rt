@@ -18,12 +18,9 @@ mod records;
 
 use crate::effects::Effect;
 use crate::judging::Granted;
-use crate::verbs::code_segments::{
-    first_code_segment, last_code_segment, last_match_segment, middle_code_segment,
-};
+use crate::verbs::code_segments::{first_code_segment, last_code_segment, middle_code_segment};
+use crate::verbs::codes::{Purpose, whole_code};
 use crate::verbs::csnbkyt::csnbkyt;
-use crate::verbs::csnbmgn::csnbmgn;
-use crate::verbs::csnbmvr::csnbmvr;
 use crate::verbs::segments::{first_segment, last_segment, middle_segment};
 use crate::verbs::whole_texts::whole_text;
 use key_cells::Lease;
@@ -128,7 +125,14 @@ pub(crate) fn decide<E: Entropy>(
             length,
             text,
             ..
-        } => Ok(csnbmgn(granted, *rule, *length, text, lease, reply)),
+        } => Ok(whole_code(
+            granted,
+            *rule,
+            Purpose::Generate(*length),
+            text,
+            lease,
+            reply,
+        )),
         Request::CsnbmgnFirst { rule, text, .. } => Ok(first_code_segment(
             granted, *rule, text, lease, reply,
         )),
@@ -144,13 +148,21 @@ pub(crate) fn decide<E: Entropy>(
             chain,
             text,
             ..
-        } => Ok(last_code_segment(granted, *rule, chain, *length, text, lease, reply)),
+        } => Ok(last_code_segment(
+            granted,
+            *rule,
+            chain,
+            Purpose::Generate(*length),
+            text,
+            lease,
+            reply,
+        )),
         Request::Csnbmvr {
             rule,
             mac,
             text,
             ..
-        } => Ok(csnbmvr(granted, *rule, mac, text, lease, reply)),
+        } => Ok(whole_code(granted, *rule, Purpose::Verify(mac), text, lease, reply)),
         Request::CsnbmvrFirst { rule, text, .. } => Ok(first_code_segment(
             granted, *rule, text, lease, reply,
         )),
@@ -166,7 +178,15 @@ pub(crate) fn decide<E: Entropy>(
             chain,
             text,
             ..
-        } => Ok(last_match_segment(granted, *rule, chain, mac, text, lease, reply)),
+        } => Ok(last_code_segment(
+            granted,
+            *rule,
+            chain,
+            Purpose::Verify(mac),
+            text,
+            lease,
+            reply,
+        )),
         Request::Csnbkyt { .. } => Ok(csnbkyt(granted, lease, reply)),
         Request::Csnbcki { clear, to, .. } => Ok(keys::decide_csnbcki(
             granted, clear, to, lease, held, reply,

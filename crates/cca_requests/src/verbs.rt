@@ -2,6 +2,7 @@
 
 pub(crate) mod ahead;
 pub(crate) mod code_segments;
+pub(crate) mod codes;
 pub(crate) mod csnbcki;
 pub(crate) mod csnbkex;
 pub(crate) mod csnbkgn;
@@ -15,9 +16,7 @@ pub(crate) mod csnbktc;
 pub(crate) mod csnbktp;
 pub(crate) mod csnbktr;
 pub(crate) mod csnbkyt;
-pub(crate) mod csnbmgn;
 pub(crate) mod csnbmkp;
-pub(crate) mod csnbmvr;
 pub(crate) mod csnbpex;
 pub(crate) mod csnbrng;
 pub(crate) mod csuaaci;

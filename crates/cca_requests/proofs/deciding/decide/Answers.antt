@@ -49,7 +49,7 @@ returns-in-CsnbdecLast-clause-decision g c =
 
 pub returns-in-Csnbmgn-clause-decision : goal.returns-in-Csnbmgn-clause-decision
 returns-in-Csnbmgn-clause-decision g c =
-    handed_on (ap seen c.in-Csnbmgn.is) (c.csnbmgn.ensures.settles c.in-Csnbmgn.role c.in-Csnbmgn.key.now c.args.held.now c.args.records.now) c.requires.shaped
+    handed_on (ap seen c.in-Csnbmgn.is) (c.whole_code.ensures.settles c.in-Csnbmgn.role c.in-Csnbmgn.key.now c.args.held.now c.args.records.now) c.requires.shaped
 
 pub returns-in-CsnbmgnFirst-clause-decision : goal.returns-in-CsnbmgnFirst-clause-decision
 returns-in-CsnbmgnFirst-clause-decision g c =
@@ -65,7 +65,7 @@ returns-in-CsnbmgnLast-clause-decision g c =
 
 pub returns-in-Csnbmvr-clause-decision : goal.returns-in-Csnbmvr-clause-decision
 returns-in-Csnbmvr-clause-decision g c =
-    handed_on (ap seen c.in-Csnbmvr.is) (c.csnbmvr.ensures.settles c.in-Csnbmvr.role c.in-Csnbmvr.key.now c.args.held.now c.args.records.now) c.requires.shaped
+    handed_on (ap seen c.in-Csnbmvr.is) (c.whole_code-in-Csnbmvr.ensures.settles c.in-Csnbmvr.role c.in-Csnbmvr.key.now c.args.held.now c.args.records.now) c.requires.shaped
 
 pub returns-in-CsnbmvrFirst-clause-decision : goal.returns-in-CsnbmvrFirst-clause-decision
 returns-in-CsnbmvrFirst-clause-decision g c =
@@ -77,7 +77,7 @@ returns-in-CsnbmvrMiddle-clause-decision g c =
 
 pub returns-in-CsnbmvrLast-clause-decision : goal.returns-in-CsnbmvrLast-clause-decision
 returns-in-CsnbmvrLast-clause-decision g c =
-    handed_on (ap seen c.in-CsnbmvrLast.is) (c.last_match_segment.ensures.settles c.in-CsnbmvrLast.role c.in-CsnbmvrLast.key.now (codes "LAST") c.args.held.now c.args.records.now) c.requires.shaped
+    handed_on (ap seen c.in-CsnbmvrLast.is) (c.last_code_segment-in-CsnbmvrLast.ensures.settles c.in-CsnbmvrLast.role c.in-CsnbmvrLast.key.now (codes "LAST") c.args.held.now c.args.records.now) c.requires.shaped
 
 pub returns-in-Csnbkyt-clause-decision : goal.returns-in-Csnbkyt-clause-decision
 returns-in-Csnbkyt-clause-decision g c =

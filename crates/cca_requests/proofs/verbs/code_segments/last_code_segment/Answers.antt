@@ -3,14 +3,15 @@ use Rattle.std.specs.Prelude.{◌/◌, length}
 use Rattle.cipher_verbs.specs.declared.padding.Pad.TheVariants as padding
 use Rattle.key_cells.specs.Lease.{bench_of}
 use Rattle.text_segments.specs.Chains.{chain_of}
+use Rattle.text_segments.specs.Segments.{last_code}
 use Rattle.text_segments.specs.declared.chains.Chain.{Chain}
 use Rattle.text_segments.specs.declared.modes.Mode.TheVariants.{Mac}
 use Rattle.verb_rules.specs.Keys.{opened}
-use Rattle.verb_script.specs.Choices.{code_length_word, code_rule_word}
+use Rattle.verb_script.specs.Choices.{code_rule_word}
 use Rattle.verb_script.specs.Values.{hex_value}
-use Rattle.cca_machine.specs.Act.{last_code_fields}
-use Rattle.cca_machine.specs.Choices.{mac_length_named, mac_rule_named}
+use Rattle.cca_machine.specs.Choices.{mac_rule_named}
 use Rattle.cca_machine.specs.Verdict.{code_key_questions, last_segment_questions}
+use Rattle.cca_requests.specs.CodePurposes.{code_fields}
 use Rattle.cca_requests.proofs.KeyedRows.{last_code_keyed}
 use Rattle.cca_requests.proofs.SegmentRules.{chain_refused, goes_on}
 use Rattle.cca_requests.proofs.Settling.{keyed_settles}
@@ -22,8 +23,8 @@ returns-in-Some-clause-settles c = λ role key segment held rows.
     let text = c.args.text.now in
     let word = code_rule_word c.args.rule in
     let others = λ (k : Chain). code_key_questions (mac_rule_named word) clear (last_segment_questions (Mac (mac_rule_named word)) padding.None k (length text / 2)) in
-    let fields = λ (k : Chain). last_code_fields clear (mac_rule_named word) k (mac_length_named (code_length_word c.args.count)) (hex_value text) in
-    keyed_settles (last_code_keyed role key word segment (code_length_word c.args.count) c.args.chain.now text)
+    let fields = λ (k : Chain). code_fields c.args.purpose (last_code clear (mac_rule_named word) k (hex_value text)) in
+    keyed_settles (last_code_keyed c.args.purpose role key word segment c.args.chain.now text)
     c.key_in-key.ensures.key c.key_in-key.ensures.under
     (goes_on (hex_value c.args.chain.now) _ _ others fields c.in-Some.is c.chain_in.ensures.judges c.chain_in.ensures.chain c.end_code.ensures.shows)
 
@@ -34,6 +35,6 @@ returns-in-None-clause-settles c = λ role key segment held rows.
     let word = code_rule_word c.args.rule in
     let others = λ (k : Chain). code_key_questions (mac_rule_named word) clear (last_segment_questions (Mac (mac_rule_named word)) padding.None k (length text / 2)) in
     let chain = hex_value c.args.chain.now in
-    keyed_settles (last_code_keyed role key word segment (code_length_word c.args.count) c.args.chain.now text)
+    keyed_settles (last_code_keyed c.args.purpose role key word segment c.args.chain.now text)
     c.key_in-key.ensures.key c.key_in-key.ensures.under
     (chain_refused chain (others (chain_of chain)) c.in-None.is c.chain_in.ensures.judges, c.requires.empty, omega arith)
