@@ -17,71 +17,71 @@ returns-in-Csnbktp-clause-decision g c =
 
 pub returns-in-Csnbenc-clause-decision : goal.returns-in-Csnbenc-clause-decision
 returns-in-Csnbenc-clause-decision g c =
-    handed_on (ap seen c.in-Csnbenc.is) (c.whole_text.ensures.settles c.in-Csnbenc.role c.in-Csnbenc.key.now c.args.held.now c.args.records.now) c.requires.shaped
+    handed_on (ap seen c.in-Csnbenc.is) (c.whole_text.ensures.settles _ _ c.args.held.now c.args.records.now) c.requires.shaped
 
 pub returns-in-CsnbencFirst-clause-decision : goal.returns-in-CsnbencFirst-clause-decision
 returns-in-CsnbencFirst-clause-decision g c =
-    handed_on (ap seen c.in-CsnbencFirst.is) (c.first_segment.ensures.settles c.in-CsnbencFirst.role c.in-CsnbencFirst.key.now (codes "FIRST") c.args.held.now c.args.records.now) c.requires.shaped
+    handed_on (ap seen c.in-CsnbencFirst.is) (c.first_segment.ensures.settles _ _ _ c.args.held.now c.args.records.now) c.requires.shaped
 
 pub returns-in-CsnbencMiddle-clause-decision : goal.returns-in-CsnbencMiddle-clause-decision
 returns-in-CsnbencMiddle-clause-decision g c =
-    handed_on (ap seen c.in-CsnbencMiddle.is) (c.middle_segment.ensures.settles c.in-CsnbencMiddle.role c.in-CsnbencMiddle.key.now (codes "MIDDLE") c.args.held.now c.args.records.now) c.requires.shaped
+    handed_on (ap seen c.in-CsnbencMiddle.is) (c.middle_segment.ensures.settles _ _ _ c.args.held.now c.args.records.now) c.requires.shaped
 
 pub returns-in-CsnbencLast-clause-decision : goal.returns-in-CsnbencLast-clause-decision
 returns-in-CsnbencLast-clause-decision g c =
-    handed_on (ap seen c.in-CsnbencLast.is) (c.last_segment.ensures.settles c.in-CsnbencLast.role c.in-CsnbencLast.key.now (codes "LAST") c.args.held.now c.args.records.now) c.requires.shaped
+    handed_on (ap seen c.in-CsnbencLast.is) (c.last_segment.ensures.settles _ _ _ c.args.held.now c.args.records.now) c.requires.shaped
 
 pub returns-in-Csnbdec-clause-decision : goal.returns-in-Csnbdec-clause-decision
 returns-in-Csnbdec-clause-decision g c =
-    handed_on (ap seen c.in-Csnbdec.is) (c.whole_text-in-Csnbdec.ensures.settles c.in-Csnbdec.role c.in-Csnbdec.key.now c.args.held.now c.args.records.now) c.requires.shaped
+    handed_on (ap seen c.in-Csnbdec.is) (c.whole_text-in-Csnbdec.ensures.settles _ _ c.args.held.now c.args.records.now) c.requires.shaped
 
 pub returns-in-CsnbdecFirst-clause-decision : goal.returns-in-CsnbdecFirst-clause-decision
 returns-in-CsnbdecFirst-clause-decision g c =
-    handed_on (ap seen c.in-CsnbdecFirst.is) (c.first_segment-in-CsnbdecFirst.ensures.settles c.in-CsnbdecFirst.role c.in-CsnbdecFirst.key.now (codes "FIRST") c.args.held.now c.args.records.now) c.requires.shaped
+    handed_on (ap seen c.in-CsnbdecFirst.is) (c.first_segment-in-CsnbdecFirst.ensures.settles _ _ _ c.args.held.now c.args.records.now) c.requires.shaped
 
 pub returns-in-CsnbdecMiddle-clause-decision : goal.returns-in-CsnbdecMiddle-clause-decision
 returns-in-CsnbdecMiddle-clause-decision g c =
-    handed_on (ap seen c.in-CsnbdecMiddle.is) (c.middle_segment-in-CsnbdecMiddle.ensures.settles c.in-CsnbdecMiddle.role c.in-CsnbdecMiddle.key.now (codes "MIDDLE") c.args.held.now c.args.records.now) c.requires.shaped
+    handed_on (ap seen c.in-CsnbdecMiddle.is) (c.middle_segment-in-CsnbdecMiddle.ensures.settles _ _ _ c.args.held.now c.args.records.now) c.requires.shaped
 
 pub returns-in-CsnbdecLast-clause-decision : goal.returns-in-CsnbdecLast-clause-decision
 returns-in-CsnbdecLast-clause-decision g c =
-    handed_on (ap seen c.in-CsnbdecLast.is) (c.last_segment-in-CsnbdecLast.ensures.settles c.in-CsnbdecLast.role c.in-CsnbdecLast.key.now (codes "LAST") c.args.held.now c.args.records.now) c.requires.shaped
+    handed_on (ap seen c.in-CsnbdecLast.is) (c.last_segment-in-CsnbdecLast.ensures.settles _ _ _ c.args.held.now c.args.records.now) c.requires.shaped
 
 pub returns-in-Csnbmgn-clause-decision : goal.returns-in-Csnbmgn-clause-decision
 returns-in-Csnbmgn-clause-decision g c =
-    handed_on (ap seen c.in-Csnbmgn.is) (c.whole_code.ensures.settles c.in-Csnbmgn.role c.in-Csnbmgn.key.now c.args.held.now c.args.records.now) c.requires.shaped
+    handed_on (ap seen c.in-Csnbmgn.is) (c.whole_code.ensures.settles _ _ c.args.held.now c.args.records.now) c.requires.shaped
 
 pub returns-in-CsnbmgnFirst-clause-decision : goal.returns-in-CsnbmgnFirst-clause-decision
 returns-in-CsnbmgnFirst-clause-decision g c =
-    handed_on (ap seen c.in-CsnbmgnFirst.is) (c.first_code_segment.ensures.settles false c.in-CsnbmgnFirst.role c.in-CsnbmgnFirst.key.now (codes "FIRST") c.args.held.now c.args.records.now) c.requires.shaped
+    handed_on (ap seen c.in-CsnbmgnFirst.is) (c.first_code_segment.ensures.settles false _ _ _ c.args.held.now c.args.records.now) c.requires.shaped
 
 pub returns-in-CsnbmgnMiddle-clause-decision : goal.returns-in-CsnbmgnMiddle-clause-decision
 returns-in-CsnbmgnMiddle-clause-decision g c =
-    handed_on (ap seen c.in-CsnbmgnMiddle.is) (c.middle_code_segment.ensures.settles false c.in-CsnbmgnMiddle.role c.in-CsnbmgnMiddle.key.now (codes "MIDDLE") c.args.held.now c.args.records.now) c.requires.shaped
+    handed_on (ap seen c.in-CsnbmgnMiddle.is) (c.middle_code_segment.ensures.settles false _ _ _ c.args.held.now c.args.records.now) c.requires.shaped
 
 pub returns-in-CsnbmgnLast-clause-decision : goal.returns-in-CsnbmgnLast-clause-decision
 returns-in-CsnbmgnLast-clause-decision g c =
-    handed_on (ap seen c.in-CsnbmgnLast.is) (c.last_code_segment.ensures.settles c.in-CsnbmgnLast.role c.in-CsnbmgnLast.key.now (codes "LAST") c.args.held.now c.args.records.now) c.requires.shaped
+    handed_on (ap seen c.in-CsnbmgnLast.is) (c.last_code_segment.ensures.settles _ _ _ c.args.held.now c.args.records.now) c.requires.shaped
 
 pub returns-in-Csnbmvr-clause-decision : goal.returns-in-Csnbmvr-clause-decision
 returns-in-Csnbmvr-clause-decision g c =
-    handed_on (ap seen c.in-Csnbmvr.is) (c.whole_code-in-Csnbmvr.ensures.settles c.in-Csnbmvr.role c.in-Csnbmvr.key.now c.args.held.now c.args.records.now) c.requires.shaped
+    handed_on (ap seen c.in-Csnbmvr.is) (c.whole_code-in-Csnbmvr.ensures.settles _ _ c.args.held.now c.args.records.now) c.requires.shaped
 
 pub returns-in-CsnbmvrFirst-clause-decision : goal.returns-in-CsnbmvrFirst-clause-decision
 returns-in-CsnbmvrFirst-clause-decision g c =
-    handed_on (ap seen c.in-CsnbmvrFirst.is) (c.first_code_segment-in-CsnbmvrFirst.ensures.settles true c.in-CsnbmvrFirst.role c.in-CsnbmvrFirst.key.now (codes "FIRST") c.args.held.now c.args.records.now) c.requires.shaped
+    handed_on (ap seen c.in-CsnbmvrFirst.is) (c.first_code_segment-in-CsnbmvrFirst.ensures.settles true _ _ _ c.args.held.now c.args.records.now) c.requires.shaped
 
 pub returns-in-CsnbmvrMiddle-clause-decision : goal.returns-in-CsnbmvrMiddle-clause-decision
 returns-in-CsnbmvrMiddle-clause-decision g c =
-    handed_on (ap seen c.in-CsnbmvrMiddle.is) (c.middle_code_segment-in-CsnbmvrMiddle.ensures.settles true c.in-CsnbmvrMiddle.role c.in-CsnbmvrMiddle.key.now (codes "MIDDLE") c.args.held.now c.args.records.now) c.requires.shaped
+    handed_on (ap seen c.in-CsnbmvrMiddle.is) (c.middle_code_segment-in-CsnbmvrMiddle.ensures.settles true _ _ _ c.args.held.now c.args.records.now) c.requires.shaped
 
 pub returns-in-CsnbmvrLast-clause-decision : goal.returns-in-CsnbmvrLast-clause-decision
 returns-in-CsnbmvrLast-clause-decision g c =
-    handed_on (ap seen c.in-CsnbmvrLast.is) (c.last_code_segment-in-CsnbmvrLast.ensures.settles c.in-CsnbmvrLast.role c.in-CsnbmvrLast.key.now (codes "LAST") c.args.held.now c.args.records.now) c.requires.shaped
+    handed_on (ap seen c.in-CsnbmvrLast.is) (c.last_code_segment-in-CsnbmvrLast.ensures.settles _ _ _ c.args.held.now c.args.records.now) c.requires.shaped
 
 pub returns-in-Csnbkyt-clause-decision : goal.returns-in-Csnbkyt-clause-decision
 returns-in-Csnbkyt-clause-decision g c =
-    handed_on (ap seen c.in-Csnbkyt.is) (c.csnbkyt.ensures.settles c.in-Csnbkyt.role c.in-Csnbkyt.key.now c.args.held.now c.args.records.now) c.requires.shaped
+    handed_on (ap seen c.in-Csnbkyt.is) (c.csnbkyt.ensures.settles _ _ c.args.held.now c.args.records.now) c.requires.shaped
 
 pub returns-in-Csnbcki-clause-decision : goal.returns-in-Csnbcki-clause-decision
 returns-in-Csnbcki-clause-decision g c =
