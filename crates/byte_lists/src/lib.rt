@@ -1,16 +1,19 @@
-//! Lists of bytes: their exclusive or, whether they are zero, copies, characters, and texts that are names.
+//! Lists of bytes: their exclusive or, whether they are zero, copies, characters, texts that are
+//! names, and short lists.
 #![tactic(auto)]
 
 mod characters;
 mod combining;
 mod copying;
 mod names;
+mod short_lists;
 mod testing;
 
 pub use characters::{is_digit, is_label_byte, is_letter};
 pub use combining::{xor, xor_secret};
 pub use copying::{put_front, put_secret};
 pub use names::{is_label, is_role_name};
+pub use short_lists::ShortList;
 pub use testing::is_zero;
 
 #[cfg(test)]

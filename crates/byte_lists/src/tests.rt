@@ -1,4 +1,5 @@
-//! The exclusive or on a table of known values, lists that are or aren't zero, and kinds of characters.
+//! The exclusive or on a table of known values, lists that are or aren't zero, kinds of
+//! characters, and short lists.
 use crate::*;
 use key_cells::Secret;
 
@@ -98,4 +99,14 @@ fn texts_that_are_names(rt: HostRuntime) {
         assert_eq!(rt; is_label(text), label, "{text:?}");
         assert_eq!(rt; is_role_name(text), role, "{text:?}");
     }
+}
+
+#[test]
+fn kept_in_place(rt: HostRuntime) {
+    let list: ShortList<4> = ShortList::of(&[7, 0]);
+    assert_eq!(rt; list.bytes(), [7, 0].as_slice());
+    assert_eq!(rt; *list.filled(), [7, 0, 0, 0]);
+    assert_eq!(rt; list.length(), 2);
+    assert_eq!(rt; list == ShortList::of(&[7]), false);
+    assert_eq!(rt; list, ShortList::of(&[7, 0]));
 }
