@@ -1,6 +1,5 @@
 pub mod Points
 pub mod RoleNames
-pub mod RoleInside
 pub mod Roles
 pub mod RoleBody
 pub mod RolesStand

@@ -3,34 +3,32 @@ ghost use Rattle.std.specs.Prelude.{◌≡◌, ◌+◌, ◌≤◌, ◌<◌, ◌+
 ghost use Rattle.std.specs.Str.{bytes_eq};
 ghost use Rattle.cca_roles.specs.RoleNames.{IsRoleName, default_name};
 
-use byte_lists::{is_role_name, put_front};
+use byte_lists::{ShortList, is_role_name};
 use std::marker::Model;
 
 /// A role's name: 1 to 8 characters of A to Z and 0 to 9, of which the first is a letter.
 #[derive(Clone, Copy, Debug, PartialEq, Eq)]
 pub struct RoleName {
-    length: u8,
-    bytes: [u8; 8],
+    text: ShortList<8>,
 }
 
 // Clauses see its text.
 impl Model for RoleName {
     ghost use Rattle.std.specs.Prelude.{ℕ, List};
-    ghost use Rattle.cca_roles.specs.RoleInside.{text_of, IsText, inside_of, inside_again};
+    ghost use Rattle.cca_roles.specs.RoleNames.{IsRoleName};
 
     ghost Value = { List ℕ };
 
-    ghost view = { text_of };
+    ghost view = { λ name. name.text };
 
-    ghost invariant = { IsText };
+    ghost invariant = { λ name. IsRoleName name.text };
 
-    ghost inverse = { inside_of };
-
-    ghost inverse_ok = { inside_again };
+    ghost inverse = { λ text. record { text = text } };
 }
 
 impl RoleName {
     /// The name that a text is, where it is one.
+    #[tactic(auto, using(crate::proofs::BodyLaws::name_short))]
     pub fn read(text: &[u8]) -> Option<RoleName>
         ensures found { IfSome result (λ name. name ≡ text.now) }
         ensures name { IsSome result ↔ IsRoleName text.now }
@@ -38,21 +36,18 @@ impl RoleName {
         if !is_role_name(text) {
             return None;
         }
-        let mut bytes = [0; 8];
-        put_front(&mut bytes, text);
         Some(RoleName {
-            length: text.len() as u8,
-            bytes,
+            text: ShortList::of(text),
         })
     }
 
     /// DEFAULT, the role that each module has.
+    #[tactic(auto, unfolding(crate::specs::RoleNames::is_role_name))]
     pub fn default_role() -> RoleName
         ensures { result ≡ default_name }
     {
         RoleName {
-            length: 7,
-            bytes: *b"DEFAULT\0",
+            text: ShortList::of(b"DEFAULT"),
         }
     }
 
@@ -61,14 +56,14 @@ impl RoleName {
         ensures text { result.now ≡ self.now }
         ensures name { IsRoleName self.now }
     {
-        &self.bytes[..self.length as usize]
+        self.text.bytes()
     }
 
     /// Its text, filled with zeros.
     pub(crate) fn filled(&self) -> &[u8; 8]
         ensures { result.now ≡ self.now ++ replicate (8 - length self.now) 0 }
     {
-        &self.bytes
+        self.text.filled()
     }
 
     /// How long it is.
@@ -77,7 +72,7 @@ impl RoleName {
         ensures short { length self.now ≤ 8 }
         ensures name { IsRoleName self.now }
     {
-        self.length
+        self.text.length()
     }
 
     /// Whether the other is the same name.

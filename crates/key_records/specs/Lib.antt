@@ -1,5 +1,4 @@
 pub mod Labels
-pub mod LabelInside
 pub mod Directory
 pub mod Entries
 pub mod Rows
