@@ -1,4 +1,3 @@
-pub mod CarriedInside
 pub mod Chains
 pub mod Cuttings
 pub mod Segments

@@ -1,10 +1,9 @@
 //! The chain between two segments of a text, and its 16 bytes.
-ghost use Rattle.std.specs.Prelude.{◌≡◌, ◌↔◌, ◌≤◌, ◌<◌, ◌+◌, ◌-◌, ◌++◌, [], ◌∷◌, None, Some, true, IfSome, IsSome, MatchOption, length, drop, replicate, take};
+ghost use Rattle.std.specs.Prelude.{◌≡◌, ◌≤◌, ◌++◌, ◌∷◌, None, Some, true, IfSome, MatchOption, length, take};
 ghost use Rattle.cca_vectors.specs.Checks.{first_failing};
 ghost use Rattle.text_segments.specs.Chains.{chain_bytes, chain_checks, chain_of, first_chain, is_chain};
 
-use byte_lists::{is_zero, put_front};
-use std::marker::Model;
+use byte_lists::{ShortList, is_zero};
 
 /// How many bytes a block has.
 const BLOCK: usize = 8;
@@ -15,67 +14,14 @@ const MOST: usize = 7;
 /// Where the carried bytes stand in the 16 bytes of a chain, after their number.
 const CARRIED: usize = 9;
 
-/// The bytes that one segment leaves for the next, at most 7: they are no whole block yet.
-#[derive(Clone, Copy, Debug, PartialEq, Eq)]
-pub struct Carried {
-    count: u8,
-    bytes: [u8; 7],
-}
-
-// Clauses see the bytes alone.
-impl Model for Carried {
-    ghost use Rattle.std.specs.Prelude.{ℕ, List};
-    ghost use Rattle.text_segments.specs.CarriedInside.{bytes_of, AreBytes, inside_of, inside_again};
-
-    ghost Value = { List ℕ };
-
-    ghost view = { bytes_of };
-
-    ghost invariant = { AreBytes };
-
-    ghost inverse = { inside_of };
-
-    ghost inverse_ok = { inside_again };
-}
-
 /// What the next segment of a text goes on from: the caller keeps it between two segments. It is not protected: an
 /// altered chain gives the results of the altered one.
 #[derive(Clone, Copy, Debug, PartialEq, Eq)]
 pub struct Chain {
     /// The last block of cipher text, or the initial value where there is none yet.
     pub block: [u8; 8],
-    /// The bytes that are no whole block yet.
-    pub carried: Carried,
-}
-
-impl Carried {
-    /// These bytes.
-    pub(crate) fn of(bytes: &[u8]) -> Carried
-        requires { length bytes.now ≤ 7 }
-        ensures { result ≡ bytes.now }
-    {
-        let mut room = [0; MOST];
-        put_front(&mut room, bytes);
-        Carried {
-            count: bytes.len() as u8,
-            bytes: room,
-        }
-    }
-
-    /// The bytes.
-    pub fn bytes(&self) -> &[u8]
-        ensures bytes { result.now ≡ self.now }
-        ensures few { length self.now ≤ 7 }
-    {
-        &self.bytes[..self.count as usize]
-    }
-
-    /// The bytes, filled with zeros.
-    fn filled(&self) -> &[u8; 7]
-        ensures { result.now ≡ self.now ++ replicate (7 - length self.now) 0 }
-    {
-        &self.bytes
-    }
+    /// The bytes that are no whole block yet, at most 7.
+    pub carried: ShortList<7>,
 }
 
 /// The first eight of 16 bytes.
@@ -106,7 +52,7 @@ impl Chain {
     {
         Chain {
             block: start,
-            carried: Carried::of(&[]),
+            carried: ShortList::of(&[]),
         }
     }
 
@@ -125,7 +71,7 @@ impl Chain {
         }
         Some(Chain {
             block: front_block(bytes),
-            carried: Carried::of(&bytes[CARRIED..CARRIED + count]),
+            carried: ShortList::of(&bytes[CARRIED..CARRIED + count]),
         })
     }
 
@@ -135,7 +81,6 @@ impl Chain {
         ensures valid { is_chain result ≡ true }
         ensures again { chain_of result ≡ self.now }
     {
-        let count = self.carried.bytes().len() as u8;
-        spelled(&self.block, count, self.carried.filled())
+        spelled(&self.block, self.carried.length(), self.carried.filled())
     }
 }

@@ -13,8 +13,9 @@ ghost use Rattle.cipher_verbs.specs.CipherTexts.{ChangesText};
 ghost use Rattle.text_segments.specs.declared.modes.Mode.TheVariants as mode;
 ghost use Rattle.text_segments.specs.Segments.{at_hand, chain_after, code_cipher, last_code, spent};
 
-use crate::chains::{Carried, Chain};
+use crate::chains::Chain;
 use crate::places::{combine_start, fill_text, put_carried};
+use byte_lists::ShortList;
 use cipher_verbs::clear_text;
 use clear_keys::schedule_key;
 use des_core::cbc_mac;
@@ -83,7 +84,7 @@ pub(crate) fn code_segment(lease: &mut Lease, key: &Judged, rule: MacRule, chain
 {
     put_carried(lease, &chain.carried);
     let whole = lease.text().len() / BLOCK * BLOCK;
-    let carried = Carried::of(&lease.text()[whole..]);
+    let carried = ShortList::of(&lease.text()[whole..]);
     let block = chained_block(lease, key, rule, &chain.block, whole);
     clear_text(lease);
     Chain { block, carried }

@@ -10,7 +10,7 @@ mod modes;
 mod places;
 mod segments;
 
-pub use chains::{Carried, Chain};
+pub use chains::Chain;
 pub use codes::last_mac;
 pub use laws::{cut_codes_are_whole, cut_texts_are_whole};
 pub use modes::Mode;

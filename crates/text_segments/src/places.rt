@@ -7,7 +7,7 @@ ghost use Rattle.key_cells.specs.Bench.{with_size};
 ghost use Rattle.key_cells.specs.Lease.{bench_of, holding};
 ghost use Rattle.text_segments.specs.Segments.{rest_part, whole_part};
 
-use crate::chains::Carried;
+use byte_lists::ShortList;
 use key_cells::Lease;
 
 /// How many bytes a block has.
@@ -27,7 +27,7 @@ fn put_before(text: &mut [u8], bytes: &[u8])
 }
 
 /// Puts the carried bytes before the text: one move of the text, where there are some.
-pub(crate) fn put_carried(lease: &mut Lease, carried: &Carried)
+pub(crate) fn put_carried(lease: &mut Lease, carried: &ShortList<7>)
     requires { (bench_of lease.old).text.size ≤ 4088 }
     ensures text { text_in lease.new ≡ carried.now ++ text_in lease.old }
     ensures size { (bench_of lease.new).text.size
@@ -46,7 +46,7 @@ pub(crate) fn put_carried(lease: &mut Lease, carried: &Carried)
 }
 
 /// Takes the bytes after the whole blocks off the text.
-pub(crate) fn take_rest(lease: &mut Lease) -> Carried
+pub(crate) fn take_rest(lease: &mut Lease) -> ShortList<7>
     requires { (bench_of lease.old).text.size ≤ 4096 }
     ensures rest { result ≡ rest_part (text_in lease.old) }
     ensures text { text_in lease.new ≡ whole_part (text_in lease.old) }
@@ -55,7 +55,7 @@ pub(crate) fn take_rest(lease: &mut Lease) -> Carried
         ((bench_of lease.old).text.size / 8 * 8)) }
 {
     let whole = lease.text().len() / BLOCK * BLOCK;
-    let rest = Carried::of(&lease.text()[whole..]);
+    let rest = ShortList::of(&lease.text()[whole..]);
     lease.set_text_length(whole);
     rest
 }
