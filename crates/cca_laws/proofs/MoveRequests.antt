@@ -1,9 +1,8 @@
 -- The lines of a moved label spell their requests.
-use Rattle.std.proofs.Common.{◌≡◌, ℕ, ◌≤◌, ◌==◌, true, List, [], ◌∷◌, ◌++◌, length, Some, refl, sym, ap, ◌∙◌, codes, arith, append_assoc, length-append, suc}
-use Rattle.std.specs.Prelude.{nat_le, not, ◌&&◌}
+use Rattle.std.proofs.Common.{◌≡◌, ℕ, ◌≤◌, ◌==◌, true, List, [], ◌∷◌, ◌++◌, length, Some, refl, sym, ap, ◌∙◌, codes, arith, append_assoc, length-append}
+use Rattle.std.specs.Prelude.{nat_le, ◌&&◌}
 use Rattle.std.specs.List.{list_all}
-use Rattle.std.proofs.lemmas.Bool.{and_parts, leb-true, ne_eqb}
-use Rattle.std.proofs.lemmas.Bool.Decides.{nat_tests}
+use Rattle.std.proofs.lemmas.Bool.{and_parts, leb-true}
 use Rattle.std.proofs.lemmas.List.{append-nil}
 use Rattle.std.proofs.lemmas.List.Sums.{list_all-from_AllPass}
 use Rattle.hex.specs.Hex.{IsBytes, encode_lower, is_hex_digit, lower_digits}
@@ -12,10 +11,10 @@ use Rattle.byte_lists.specs.Characters.{is_label_byte}
 use Rattle.byte_lists.specs.Names.{IsLabel, IsRoleName, is_label, is_role_name, is_name_byte, starts_label, starts_name}
 use Rattle.script_buffers.specs.Reading.{line_limit}
 use Rattle.verb_script.specs.Grammar.{Request, Spells, csnbkim, csnbkrc}
-use Rattle.verb_script.specs.Named.{is_label_text, is_visible}
 use Rattle.verb_script.specs.Requests.{request_of}
 use Rattle.verb_script.specs.Values.{is_hex}
 use Rattle.verb_script.proofs.GrammarLaws.{request_of-complete}
+use Rattle.verb_script.proofs.KeyFieldLaws.{label_may}
 use Rattle.move_file.specs.Moves.{create_line, import_line}
 use Rattle.move_file.specs.declared.moves.Move.{Move}
 use Rattle.cca_laws.specs.KeyInParts.{by_label}
@@ -34,27 +33,6 @@ import_request w token label = record {
 }
 
 -- ---- their words
-
-seen_byte : (c : ℕ) → is_label_byte c ≡ true → is_visible c ≡ true
-seen_byte c is = grind (arith, nat_tests)
-
-all_seen : (xs : List ℕ) → list_all is_label_byte xs ≡ true → list_all is_visible xs ≡ true
-all_seen [] are = refl
-all_seen (x ∷ xs) are =
-    let both = and_parts (is_label_byte x) (list_all is_label_byte xs) are in
-    ap (λ b. b && list_all is_visible xs) (seen_byte x both.0) ∙ all_seen xs both.1
-
-not_empty : (xs : List ℕ) → starts_label xs ≡ true → not (length xs == 0) ≡ true
-not_empty [] is = cc is
-not_empty (x ∷ xs) is = ap not (ne_eqb (suc (length xs)) 0 (omega arith))
-
--- a label may stand where one is wanted
-pub label_may : (label : List ℕ) → IsLabel label → is_label_text label ≡ true
-unfolding is_label
-label_may label is =
-    let both = and_parts (starts_label label && nat_le (length label) 64) (list_all is_label_byte label) is in
-    let front = and_parts (starts_label label) (nat_le (length label) 64) both.0 in
-    ap (λ b. b && list_all is_visible label) (not_empty label front.0) ∙ all_seen label both.1
 
 pub label_short : (label : List ℕ) → IsLabel label → length label ≤ 64
 unfolding is_label

@@ -43,6 +43,7 @@ use Rattle.verb_script.specs.Grammar.{Request, csnbkim, csnbkrc}
 use Rattle.verb_script.specs.Named.{label_named}
 use Rattle.verb_script.specs.Requests.{request_of}
 use Rattle.verb_script.specs.Values.{hex_value}
+use Rattle.verb_script.proofs.KeyFieldLaws.{label_may}
 use Rattle.cca_machine.specs.Act.{delivered_with, or_act, performed, state_after, written_in}
 use Rattle.cca_machine.specs.Keys.{cell_with, imported, key_in_field, key_named, key_of_label, or_no_clear, or_no_key, what_at}
 use Rattle.cca_machine.specs.Draws.{draws_random}
@@ -58,7 +59,7 @@ use Rattle.move_file.specs.declared.moves.Move.{Move}
 use Rattle.cca_laws.specs.KeyInParts.{by_label}
 use Rattle.cca_laws.specs.Moving.{IsMovedLabel, IsPermittedMove, Receives, receiving_points}
 use Rattle.cca_laws.specs.Uses.{MayCarry}
-use Rattle.cca_laws.proofs.MoveRequests.{create_line_is, create_line_short, create_request, import_line_is, import_line_short, import_request, label_may}
+use Rattle.cca_laws.proofs.MoveRequests.{create_line_is, create_line_short, create_request, import_line_is, import_line_short, import_request}
 use Rattle.cca_laws.proofs.MoveTokens.{IsWhole, label_full, label_well, label_whole, out_denotes, out_fits, out_kind, out_long, out_passes, out_vector}
 
 -- what CSNBKRC of a label makes of the labels: nothing where it is held, or where no cell is free

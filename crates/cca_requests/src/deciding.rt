@@ -189,7 +189,7 @@ pub(crate) fn decide<E: Entropy>(
         )),
         Request::Csnbkyt { .. } => Ok(csnbkyt(granted, lease, reply)),
         Request::Csnbcki { clear, to, .. } => Ok(keys::decide_csnbcki(
-            granted, clear, to, lease, held, reply,
+            granted, clear, *to, lease, held, reply,
         )),
         Request::Csnbrng { form, .. } => drawing::decide_csnbrng(*form, entropy, reply),
         Request::CsnbkgnOp {
@@ -198,7 +198,7 @@ pub(crate) fn decide<E: Entropy>(
             to,
             ..
         } => drawing::decide_generate_one(
-            granted, *length, *type1, to, entropy, lease, held, reply,
+            granted, *length, *type1, *to, entropy, lease, held, reply,
         ),
         Request::CsnbkgnPair {
             form,
@@ -208,7 +208,7 @@ pub(crate) fn decide<E: Entropy>(
             to,
             ..
         } => drawing::decide_generate_pair(
-            granted, *form, *length, *type1, *type2, to, entropy, lease, held, reply,
+            granted, *form, *length, *type1, *type2, *to, entropy, lease, held, reply,
         ),
         Request::CsnbkgnOut {
             form,
@@ -219,17 +219,17 @@ pub(crate) fn decide<E: Entropy>(
         } => drawing::decide_generate_out(
             granted, *form, *length, *type1, *type2, entropy, lease, held, reply,
         ),
-        Request::Csnbkim { to, .. } => Ok(keys::decide_csnbkim(granted, to, lease, held, reply)),
+        Request::Csnbkim { to, .. } => Ok(keys::decide_csnbkim(granted, *to, lease, held, reply)),
         Request::Csnbkex { .. } => Ok(keys::decide_csnbkex(granted, lease, reply)),
-        Request::Csnbpex { to, .. } => Ok(keys::decide_csnbpex(granted, to, lease, held, reply)),
+        Request::Csnbpex { to, .. } => Ok(keys::decide_csnbpex(granted, *to, lease, held, reply)),
         Request::Csnbktc { rule, .. } => Ok(keys::decide_csnbktc(
             granted, *rule, lease, held, reply,
         )),
         Request::CsnbkpiFirst { kind, part, to, .. } => Ok(keys::decide_first_part(
-            granted, *kind, part, to, lease, held, reply,
+            granted, *kind, part, *to, lease, held, reply,
         )),
         Request::CsnbkpiMiddle { rule, part, to, .. } => Ok(keys::decide_further_part(
-            granted, *rule, part, to, lease, held, reply,
+            granted, *rule, part, *to, lease, held, reply,
         )),
         Request::Csnbktr { .. } => Ok(keys::decide_csnbktr(granted, lease, reply)),
         Request::Csnbkrc { label, .. } => Ok(records::decide_csnbkrc(label)),

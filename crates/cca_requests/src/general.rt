@@ -5,9 +5,12 @@ ghost use Rattle.cca_vectors.specs.Checks.{first_failing};
 ghost use Rattle.key_cells.specs.Bench.{Bench};
 ghost use Rattle.master_registers.specs.Loaded.{Loaded};
 ghost use Rattle.verb_rules.specs.Rules.{rule_number};
+ghost use Rattle.verb_script.specs.Grammar.{accepts, to_text};
+ghost use Rattle.verb_script.specs.KeyFields.{destination_text};
 ghost use Rattle.verb_script.specs.Parsed.{seen};
 ghost use Rattle.cca_machine.specs.State.{State};
 ghost use Rattle.cca_machine.specs.Verdict.{action_points, target_points, change_points, needed_points, needs_master, general_checks};
+ghost use Rattle.cca_requests.specs.Judging.{IsAccepted};
 
 use crate::verbs::csnbktc;
 use crate::verbs::csnbmkp::part_action;
@@ -15,10 +18,11 @@ use cca_roles::{AccessPoints, Roles};
 use key_transport::Target;
 use master_registers::{Action, Registers};
 use verb_rules::Rule;
-use verb_script::{Request, named_label};
+use verb_script::{Destination, Request};
 
 /// Rules 03, 04 and 05.
 pub(crate) fn general_rule(request: &Request, held: &Registers, roles: &Roles) -> Option<Rule>
+    requires { IsAccepted (seen request.now) }
     ensures rule { (s : State) (bench : Bench) → roles.now ≡ s.roles
         → Loaded s.registers held.now bench
         → option_map rule_number result ≡ first_failing (general_checks s (seen request.now)) }
@@ -49,12 +53,14 @@ fn action_points(action: Action) -> AccessPoints
 }
 
 /// A key that goes into a record needs the point of CSNBKRW too.
-fn target_points(to: &[u8]) -> AccessPoints
-    ensures { result ≡ target_points to.now }
+#[tactic(auto, using(verb_script::proofs::KeyFieldLaws::named_destination))]
+fn target_points(to: Destination<'_>) -> AccessPoints
+    requires { IsTrue (accepts to_text (destination_text to)) }
+    ensures { result ≡ target_points (destination_text to.entry) }
 {
-    match named_label(to) {
-        Some(_) => AccessPoints::KRW,
-        None => AccessPoints::empty(),
+    match to {
+        Destination::Record(_) => AccessPoints::KRW,
+        Destination::Reply => AccessPoints::empty(),
     }
 }
 
@@ -70,6 +76,7 @@ fn change_points(target: Target) -> AccessPoints
 
 /// The access control points that a request needs.
 fn needed_points(request: &Request) -> AccessPoints
+    requires { IsAccepted (seen request.now) }
     ensures { result ≡ needed_points (seen request.now).name (seen request.now) }
 {
     match request {
@@ -91,17 +98,17 @@ fn needed_points(request: &Request) -> AccessPoints
         Request::CsnbmvrMiddle { .. } => AccessPoints::MVR,
         Request::CsnbmvrLast { .. } => AccessPoints::MVR,
         Request::Csnbkyt { .. } => AccessPoints::KYT,
-        Request::Csnbcki { to, .. } => AccessPoints::CKI.union(target_points(to)),
+        Request::Csnbcki { to, .. } => AccessPoints::CKI.union(target_points(*to)),
         Request::Csnbrng { .. } => AccessPoints::RNG,
-        Request::CsnbkgnOp { to, .. } => AccessPoints::KGN_OP.union(target_points(to)),
-        Request::CsnbkgnPair { to, .. } => AccessPoints::KGN_PAIR.union(target_points(to)),
+        Request::CsnbkgnOp { to, .. } => AccessPoints::KGN_OP.union(target_points(*to)),
+        Request::CsnbkgnPair { to, .. } => AccessPoints::KGN_PAIR.union(target_points(*to)),
         Request::CsnbkgnOut { .. } => AccessPoints::KGN_OUT,
-        Request::Csnbkim { to, .. } => AccessPoints::KIM.union(target_points(to)),
+        Request::Csnbkim { to, .. } => AccessPoints::KIM.union(target_points(*to)),
         Request::Csnbkex { .. } => AccessPoints::KEX,
-        Request::Csnbpex { to, .. } => AccessPoints::PEX.union(target_points(to)),
+        Request::Csnbpex { to, .. } => AccessPoints::PEX.union(target_points(*to)),
         Request::Csnbktc { rule, .. } => change_points(csnbktc::target(*rule)),
-        Request::CsnbkpiFirst { to, .. } => AccessPoints::KPI_FIRST.union(target_points(to)),
-        Request::CsnbkpiMiddle { to, .. } => AccessPoints::KPI_COMBINE.union(target_points(to)),
+        Request::CsnbkpiFirst { to, .. } => AccessPoints::KPI_FIRST.union(target_points(*to)),
+        Request::CsnbkpiMiddle { to, .. } => AccessPoints::KPI_COMBINE.union(target_points(*to)),
         Request::Csnbktr { .. } => AccessPoints::KTR,
         Request::Csnbkrc { .. } => AccessPoints::KRC,
         Request::Csnbkrw { .. } => AccessPoints::KRW,

@@ -1,6 +1,6 @@
 //! Labels, judged by what the memory knows of them, and the keys in their records. It is the only
 //! place that reads the store.
-ghost use Rattle.std.specs.Prelude.{◌≡◌, [], Some, Err, IfOk, IfErr, IsOk};
+ghost use Rattle.std.specs.Prelude.{◌≡◌, [], Some, Err, IfOk, IfErr, IsOk, IsTrue};
 ghost use Rattle.key_cells.specs.Bench.{Bench};
 ghost use Rattle.key_cells.specs.Lease.{bench_of};
 ghost use Rattle.key_records.specs.Changes.{KeepsAllButBody};
@@ -8,6 +8,8 @@ ghost use Rattle.key_records.specs.StoreStands.{Agrees};
 ghost use Rattle.line_service.specs.Devices.{DiskLeft};
 ghost use Rattle.slot_disk.specs.Medium.{Keeps};
 ghost use Rattle.verb_rules.specs.Keys.{keys_of};
+ghost use Rattle.verb_script.specs.Grammar.{accepts, to_text};
+ghost use Rattle.verb_script.specs.KeyFields.{destination_text};
 ghost use Rattle.cca_machine.specs.State.{State};
 ghost use Rattle.cca_requests.specs.Deciding.{AtStore, HasStore};
 ghost use Rattle.cca_requests.specs.Judging.{IsAsked, IsShaped, IsStoreStop};
@@ -22,7 +24,7 @@ use line_service::{Device, Stop};
 use master_registers::Registers;
 use slot_disk::{Disk, Steps};
 use verb_rules::{Need, Rule, judge_stored};
-use verb_script::named_label;
+use verb_script::Destination;
 
 /// The place of a label that is held, by rules 06 and 07. It costs at most 11 comparisons.
 fn find_label(text: &[u8], records: &Records) -> Result<Place, Rule>
@@ -52,15 +54,16 @@ pub(crate) fn judge_held(text: &[u8], records: &Records) -> Answer
 }
 
 /// Judges where a key goes: the reply, or the record of a label that is to be held.
-pub(crate) fn judge_target(text: &[u8], records: &Records) -> Answer
+pub(crate) fn judge_target(to: Destination<'_>, records: &Records) -> Answer
+    requires { IsTrue (accepts to_text (destination_text to)) }
     ensures asked { (s : State) (bench : Bench)
         → Agrees (keys_of s.registers) records.now s.labels
-        → IsAsked s bench text.now Ask.Target result }
-    ensures shaped { IsShaped records.now text.now Ask.Target result }
+        → IsAsked s bench (destination_text to.entry) Ask.Target result }
+    ensures shaped { IsShaped records.now (destination_text to.entry) Ask.Target result }
 {
-    match named_label(text) {
-        Some(label) => judge_held(label, records),
-        None => Answer::Granted(Grant::nothing()),
+    match to {
+        Destination::Record(label) => judge_held(label, records),
+        Destination::Reply => Answer::Granted(Grant::nothing()),
     }
 }
 

@@ -1,7 +1,7 @@
 //! Lines of message authentication codes, of whole texts and of texts in segments.
-use crate::lines::is_parsed;
+use crate::lines::{TOKEN, is_parsed};
 use cca_roles::RoleName;
-use verb_script::{CodeLength, CodeRule, Request};
+use verb_script::{CodeLength, CodeRule, KeyField, Request};
 
 #[test]
 fn lines_of_codes_made_are_parsed(rt: HostRuntime) {
@@ -12,7 +12,7 @@ fn lines_of_codes_made_are_parsed(rt: HostRuntime) {
             b"CSNBMGN role=DEFAULT key=T:020000000000c00000000000000000008ca64de9c1b123a700000000000000000000000000000000000000000000000000000000000000000000000050583190 rule=X9.9-1 length=4 text=00",
             Request::Csnbmgn {
                 role,
-                key: b"T:020000000000c00000000000000000008ca64de9c1b123a700000000000000000000000000000000000000000000000000000000000000000000000050583190",
+                key: KeyField::Token(TOKEN),
                 rule: CodeRule::X99,
                 length: CodeLength::Four,
                 text: b"00",
@@ -22,7 +22,7 @@ fn lines_of_codes_made_are_parsed(rt: HostRuntime) {
             b"CSNBMGN role=DEFAULT key=L:K rule=X9.19OPT length=6 text=",
             Request::Csnbmgn {
                 role,
-                key: b"L:K",
+                key: KeyField::Label(b"K"),
                 rule: CodeRule::X919,
                 length: CodeLength::Six,
                 text: b"",
@@ -32,7 +32,7 @@ fn lines_of_codes_made_are_parsed(rt: HostRuntime) {
             b"CSNBMGN role=DEFAULT key=L:K rule=X9.9-1 segment=FIRST text=3736353433",
             Request::CsnbmgnFirst {
                 role,
-                key: b"L:K",
+                key: KeyField::Label(b"K"),
                 rule: CodeRule::X99,
                 text: b"3736353433",
             },
@@ -41,7 +41,7 @@ fn lines_of_codes_made_are_parsed(rt: HostRuntime) {
             b"CSNBMGN role=DEFAULT key=L:K rule=X9.19OPT segment=MIDDLE chain=1234567890abcdef074e6f7720697320 text=32",
             Request::CsnbmgnMiddle {
                 role,
-                key: b"L:K",
+                key: KeyField::Label(b"K"),
                 rule: CodeRule::X919,
                 chain,
                 text: b"32",
@@ -51,7 +51,7 @@ fn lines_of_codes_made_are_parsed(rt: HostRuntime) {
             b"CSNBMGN role=DEFAULT key=L:K rule=X9.9-1 segment=LAST length=8 chain=1234567890abcdef074e6f7720697320 text=32",
             Request::CsnbmgnLast {
                 role,
-                key: b"L:K",
+                key: KeyField::Label(b"K"),
                 rule: CodeRule::X99,
                 length: CodeLength::Eight,
                 chain,
@@ -73,7 +73,7 @@ fn lines_of_codes_verified_are_parsed(rt: HostRuntime) {
             b"CSNBMVR role=DEFAULT key=T:020000000000c00000000000000000008ca64de9c1b123a700000000000000000000000000000000000000000000000000000000000000000000000050583190 rule=X9.9-1 mac=f1d30f68 text=00",
             Request::Csnbmvr {
                 role,
-                key: b"T:020000000000c00000000000000000008ca64de9c1b123a700000000000000000000000000000000000000000000000000000000000000000000000050583190",
+                key: KeyField::Token(TOKEN),
                 rule: CodeRule::X99,
                 mac: b"f1d30f68",
                 text: b"00",
@@ -83,7 +83,7 @@ fn lines_of_codes_verified_are_parsed(rt: HostRuntime) {
             b"CSNBMVR role=DEFAULT key=L:K rule=X9.19OPT mac=0123456789AB text=",
             Request::Csnbmvr {
                 role,
-                key: b"L:K",
+                key: KeyField::Label(b"K"),
                 rule: CodeRule::X919,
                 mac: b"0123456789AB",
                 text: b"",
@@ -93,7 +93,7 @@ fn lines_of_codes_verified_are_parsed(rt: HostRuntime) {
             b"CSNBMVR role=DEFAULT key=L:K rule=X9.9-1 segment=FIRST text=3736353433",
             Request::CsnbmvrFirst {
                 role,
-                key: b"L:K",
+                key: KeyField::Label(b"K"),
                 rule: CodeRule::X99,
                 text: b"3736353433",
             },
@@ -102,7 +102,7 @@ fn lines_of_codes_verified_are_parsed(rt: HostRuntime) {
             b"CSNBMVR role=DEFAULT key=L:K rule=X9.19OPT segment=MIDDLE chain=1234567890abcdef074e6f7720697320 text=32",
             Request::CsnbmvrMiddle {
                 role,
-                key: b"L:K",
+                key: KeyField::Label(b"K"),
                 rule: CodeRule::X919,
                 chain,
                 text: b"32",
@@ -112,7 +112,7 @@ fn lines_of_codes_verified_are_parsed(rt: HostRuntime) {
             b"CSNBMVR role=DEFAULT key=L:K rule=X9.9-1 segment=LAST mac=0123456789abcdef chain=1234567890abcdef074e6f7720697320 text=32",
             Request::CsnbmvrLast {
                 role,
-                key: b"L:K",
+                key: KeyField::Label(b"K"),
                 rule: CodeRule::X99,
                 mac: b"0123456789abcdef",
                 chain,

@@ -2,7 +2,9 @@
 use crate::lines::{TOKEN, is_parsed};
 use cca_roles::RoleName;
 use cca_vectors::KeyType;
-use verb_script::{ChangeTo, KeyLength, OutForm, PairForm, PartRule, Request};
+use verb_script::{
+    ChangeTo, Destination, KeyField, KeyLength, OutForm, PairForm, PartRule, Request,
+};
 
 #[test]
 fn lines_that_make_and_move_keys_are_parsed(rt: HostRuntime) {
@@ -14,7 +16,7 @@ fn lines_that_make_and_move_keys_are_parsed(rt: HostRuntime) {
                 role,
                 length: KeyLength::Eight,
                 type1: KeyType::Data,
-                to: b"-",
+                to: Destination::Reply,
             },
         ),
         (
@@ -25,8 +27,8 @@ fn lines_that_make_and_move_keys_are_parsed(rt: HostRuntime) {
                 length: KeyLength::Sixteen,
                 type1: KeyType::Mac,
                 type2: KeyType::Macver,
-                transport2: b"L:EXP",
-                to: b"L:M2",
+                transport2: KeyField::Label(b"EXP"),
+                to: Destination::Record(b"M2"),
             },
         ),
         (
@@ -37,8 +39,8 @@ fn lines_that_make_and_move_keys_are_parsed(rt: HostRuntime) {
                 length: KeyLength::Eight,
                 type1: KeyType::Encipher,
                 type2: KeyType::Decipher,
-                transport2: b"L:IMP",
-                to: b"-",
+                transport2: KeyField::Label(b"IMP"),
+                to: Destination::Reply,
             },
         ),
         (
@@ -49,8 +51,8 @@ fn lines_that_make_and_move_keys_are_parsed(rt: HostRuntime) {
                 length: KeyLength::Sixteen,
                 type1: KeyType::Importer,
                 type2: KeyType::Okeyxlat,
-                transport1: b"L:IMP",
-                transport2: b"L:EXP",
+                transport1: KeyField::Label(b"IMP"),
+                transport2: KeyField::Label(b"EXP"),
             },
         ),
         (
@@ -59,7 +61,7 @@ fn lines_that_make_and_move_keys_are_parsed(rt: HostRuntime) {
                 role,
                 length: KeyLength::DoubleO,
                 type1: KeyType::Data,
-                to: b"-",
+                to: Destination::Reply,
             },
         ),
         (
@@ -70,8 +72,8 @@ fn lines_that_make_and_move_keys_are_parsed(rt: HostRuntime) {
                 length: KeyLength::DoubleO,
                 type1: KeyType::Mac,
                 type2: KeyType::Macver,
-                transport2: b"L:IMP",
-                to: b"L:M2",
+                transport2: KeyField::Label(b"IMP"),
+                to: Destination::Record(b"M2"),
             },
         ),
         (
@@ -82,8 +84,8 @@ fn lines_that_make_and_move_keys_are_parsed(rt: HostRuntime) {
                 length: KeyLength::DoubleO,
                 type1: KeyType::Exporter,
                 type2: KeyType::Importer,
-                transport1: b"L:E",
-                transport2: b"L:F",
+                transport1: KeyField::Label(b"E"),
+                transport2: KeyField::Label(b"F"),
             },
         ),
         (
@@ -91,24 +93,24 @@ fn lines_that_make_and_move_keys_are_parsed(rt: HostRuntime) {
             Request::Csnbkim {
                 role,
                 token: TOKEN,
-                transport: b"L:IMP",
-                to: b"L:K",
+                transport: KeyField::Label(b"IMP"),
+                to: Destination::Record(b"K"),
             },
         ),
         (
             b"CSNBKEX role=DEFAULT key=L:K transport=L:EXP",
             Request::Csnbkex {
                 role,
-                key: b"L:K",
-                transport: b"L:EXP",
+                key: KeyField::Label(b"K"),
+                transport: KeyField::Label(b"EXP"),
             },
         ),
         (
             b"CSNBPEX role=DEFAULT key=L:K to=-",
             Request::Csnbpex {
                 role,
-                key: b"L:K",
-                to: b"-",
+                key: KeyField::Label(b"K"),
+                to: Destination::Reply,
             },
         ),
         (
@@ -143,7 +145,7 @@ fn lines_of_keys_in_parts_are_parsed(rt: HostRuntime) {
                 role,
                 kind: KeyType::Data,
                 part: b"ffffffffffffffff",
-                to: b"L:P",
+                to: Destination::Record(b"P"),
             },
         ),
         (
@@ -151,9 +153,9 @@ fn lines_of_keys_in_parts_are_parsed(rt: HostRuntime) {
             Request::CsnbkpiMiddle {
                 role,
                 rule: PartRule::Middle,
-                key: b"L:P",
+                key: KeyField::Label(b"P"),
                 part: b"0123456789abcdef0123456789ABCDEF",
-                to: b"-",
+                to: Destination::Reply,
             },
         ),
         (
@@ -161,9 +163,9 @@ fn lines_of_keys_in_parts_are_parsed(rt: HostRuntime) {
             Request::CsnbkpiMiddle {
                 role,
                 rule: PartRule::Last,
-                key: b"L:P",
+                key: KeyField::Label(b"P"),
                 part: b"fedcba9876543210",
-                to: b"L:P",
+                to: Destination::Record(b"P"),
             },
         ),
         (
@@ -171,8 +173,8 @@ fn lines_of_keys_in_parts_are_parsed(rt: HostRuntime) {
             Request::Csnbktr {
                 role,
                 token: TOKEN,
-                transport1: b"L:IX",
-                transport2: b"L:OX",
+                transport1: KeyField::Label(b"IX"),
+                transport2: KeyField::Label(b"OX"),
             },
         ),
     ];

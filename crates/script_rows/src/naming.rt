@@ -1,22 +1,69 @@
-//! The verb, the role and the label of a request, and the label of a field.
-use verb_script::{named_label, parse_request};
+//! Keys and destinations as they are read, and the verb, the role and the label of a request.
+use crate::lines::{TOKEN, is_none, is_parsed};
+use cca_roles::RoleName;
+use verb_script::{Destination, KeyField, Request, parse_request};
 
 #[test]
-fn labels_that_name_keys(rt: HostRuntime) {
-    let texts: [(&[u8], Option<&[u8]>); 7] = [
-        (b"L:PAY.DATA", Some(b"PAY.DATA")),
-        (b"L:L:", Some(b"L:")),
-        (b"L:", None),
-        (b"L", None),
-        (b"-", None),
-        (b"L:a b", None),
+fn keys_and_destinations_are_read(rt: HostRuntime) {
+    let role = RoleName::default_role();
+    let lines: [(&[u8], Request); 4] = [
         (
-            b"T:020000000000c00000000000000000008ca64de9c1b123a700000000000000000000000000000000000000000000000000000000000000000000000050583190",
-            None,
+            b"CSNBPEX role=DEFAULT key=L:PAY.DATA to=-",
+            Request::Csnbpex {
+                role,
+                key: KeyField::Label(b"PAY.DATA"),
+                to: Destination::Reply,
+            },
+        ),
+        (
+            b"CSNBPEX role=DEFAULT key=L:L: to=L:-",
+            Request::Csnbpex {
+                role,
+                key: KeyField::Label(b"L:"),
+                to: Destination::Record(b"-"),
+            },
+        ),
+        (
+            b"CSNBPEX role=DEFAULT key=T:020000000000c00000000000000000008ca64de9c1b123a700000000000000000000000000000000000000000000000000000000000000000000000050583190 to=L:T:",
+            Request::Csnbpex {
+                role,
+                key: KeyField::Token(TOKEN),
+                to: Destination::Record(b"T:"),
+            },
+        ),
+        // what stands for a label needn't be one
+        (
+            b"CSNBPEX role=DEFAULT key=L:1one to=L:!~",
+            Request::Csnbpex {
+                role,
+                key: KeyField::Label(b"1one"),
+                to: Destination::Record(b"!~"),
+            },
         ),
     ];
-    for (text, wanted) in texts.iter() {
-        assert!(rt; named_label(text) == *wanted);
+    for (line, request) in lines.iter() {
+        assert!(rt; is_parsed(line, request));
+    }
+}
+
+#[test]
+fn other_texts_are_no_keys_and_no_destinations(rt: HostRuntime) {
+    let lines: [&[u8]; 12] = [
+        b"CSNBPEX role=DEFAULT key=L: to=-",
+        b"CSNBPEX role=DEFAULT key=L to=-",
+        b"CSNBPEX role=DEFAULT key=- to=-",
+        b"CSNBPEX role=DEFAULT key=L:a b to=-",
+        b"CSNBPEX role=DEFAULT key=T:020000000000c00000000000000000008ca64de9c1b123a7000000000000000000000000000000000000000000000000000000000000000000000000505831900 to=-",
+        b"CSNBPEX role=DEFAULT key=T:020000000000c00000000000000000008ca64de9c1b123a70000000000000000000000000000000000000000000000000000000000000000000000005058319 to=-",
+        b"CSNBPEX role=DEFAULT key=020000000000c00000000000000000008ca64de9c1b123a700000000000000000000000000000000000000000000000000000000000000000000000050583190 to=-",
+        b"CSNBPEX role=DEFAULT key=L:K to=",
+        b"CSNBPEX role=DEFAULT key=L:K to=L:",
+        b"CSNBPEX role=DEFAULT key=L:K to=--",
+        b"CSNBPEX role=DEFAULT key=L:K to=-L:K",
+        b"CSNBPEX role=DEFAULT key=L:K to=T:020000000000c00000000000000000008ca64de9c1b123a700000000000000000000000000000000000000000000000000000000000000000000000050583190",
+    ];
+    for line in lines {
+        assert!(rt; is_none(line));
     }
 }
 

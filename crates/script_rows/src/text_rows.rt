@@ -1,7 +1,7 @@
 //! Lines of texts that are enciphered and deciphered, whole and in segments.
-use crate::lines::is_parsed;
+use crate::lines::{TOKEN, is_parsed};
 use cca_roles::RoleName;
-use verb_script::{Padding, Request};
+use verb_script::{KeyField, Padding, Request};
 
 #[test]
 fn lines_of_encipher_are_parsed(rt: HostRuntime) {
@@ -12,7 +12,7 @@ fn lines_of_encipher_are_parsed(rt: HostRuntime) {
             b"CSNBENC role=DEFAULT key=T:020000000000c00000000000000000008ca64de9c1b123a700000000000000000000000000000000000000000000000000000000000000000000000050583190 iv=0000000000000000 pad=NONE text=0123456789abcdef",
             Request::Csnbenc {
                 role,
-                key: b"T:020000000000c00000000000000000008ca64de9c1b123a700000000000000000000000000000000000000000000000000000000000000000000000050583190",
+                key: KeyField::Token(TOKEN),
                 iv: b"0000000000000000",
                 pad: Padding::None,
                 text: b"0123456789abcdef",
@@ -22,7 +22,7 @@ fn lines_of_encipher_are_parsed(rt: HostRuntime) {
             b"CSNBENC role=DEFAULT key=L:K iv=fedcba9876543210 pad=X9.23 text=",
             Request::Csnbenc {
                 role,
-                key: b"L:K",
+                key: KeyField::Label(b"K"),
                 iv: b"fedcba9876543210",
                 pad: Padding::X923,
                 text: b"",
@@ -32,7 +32,7 @@ fn lines_of_encipher_are_parsed(rt: HostRuntime) {
             b"CSNBENC role=DEFAULT key=L:K segment=FIRST iv=1234567890abcdef text=4e6f7720697320",
             Request::CsnbencFirst {
                 role,
-                key: b"L:K",
+                key: KeyField::Label(b"K"),
                 iv: b"1234567890abcdef",
                 text: b"4e6f7720697320",
             },
@@ -41,7 +41,7 @@ fn lines_of_encipher_are_parsed(rt: HostRuntime) {
             b"CSNBENC role=DEFAULT key=L:K segment=MIDDLE chain=1234567890abcdef074e6f7720697320 text=74",
             Request::CsnbencMiddle {
                 role,
-                key: b"L:K",
+                key: KeyField::Label(b"K"),
                 chain,
                 text: b"74",
             },
@@ -50,7 +50,7 @@ fn lines_of_encipher_are_parsed(rt: HostRuntime) {
             b"CSNBENC role=DEFAULT key=L:K segment=LAST chain=1234567890abcdef074e6f7720697320 pad=X9.23 text=00",
             Request::CsnbencLast {
                 role,
-                key: b"L:K",
+                key: KeyField::Label(b"K"),
                 chain,
                 pad: Padding::X923,
                 text: b"00",
@@ -60,7 +60,7 @@ fn lines_of_encipher_are_parsed(rt: HostRuntime) {
             b"CSNBENC role=DEFAULT key=L:K segment=LAST chain=1234567890abcdef074e6f7720697320 pad=NONE text=",
             Request::CsnbencLast {
                 role,
-                key: b"L:K",
+                key: KeyField::Label(b"K"),
                 chain,
                 pad: Padding::None,
                 text: b"",
@@ -81,7 +81,7 @@ fn lines_of_decipher_are_parsed(rt: HostRuntime) {
             b"CSNBDEC role=DEFAULT key=T:020000000000c00000000000000000008ca64de9c1b123a700000000000000000000000000000000000000000000000000000000000000000000000050583190 iv=0000000000000000 pad=NONE text=0123456789abcdef",
             Request::Csnbdec {
                 role,
-                key: b"T:020000000000c00000000000000000008ca64de9c1b123a700000000000000000000000000000000000000000000000000000000000000000000000050583190",
+                key: KeyField::Token(TOKEN),
                 iv: b"0000000000000000",
                 pad: Padding::None,
                 text: b"0123456789abcdef",
@@ -91,7 +91,7 @@ fn lines_of_decipher_are_parsed(rt: HostRuntime) {
             b"CSNBDEC role=DEFAULT key=L:K iv=fedcba9876543210 pad=X9.23 text=",
             Request::Csnbdec {
                 role,
-                key: b"L:K",
+                key: KeyField::Label(b"K"),
                 iv: b"fedcba9876543210",
                 pad: Padding::X923,
                 text: b"",
@@ -101,7 +101,7 @@ fn lines_of_decipher_are_parsed(rt: HostRuntime) {
             b"CSNBDEC role=DEFAULT key=L:K segment=FIRST iv=1234567890abcdef text=4e6f7720697320",
             Request::CsnbdecFirst {
                 role,
-                key: b"L:K",
+                key: KeyField::Label(b"K"),
                 iv: b"1234567890abcdef",
                 text: b"4e6f7720697320",
             },
@@ -110,7 +110,7 @@ fn lines_of_decipher_are_parsed(rt: HostRuntime) {
             b"CSNBDEC role=DEFAULT key=L:K segment=MIDDLE chain=1234567890abcdef074e6f7720697320 text=74",
             Request::CsnbdecMiddle {
                 role,
-                key: b"L:K",
+                key: KeyField::Label(b"K"),
                 chain,
                 text: b"74",
             },
@@ -119,7 +119,7 @@ fn lines_of_decipher_are_parsed(rt: HostRuntime) {
             b"CSNBDEC role=DEFAULT key=L:K segment=LAST chain=1234567890abcdef074e6f7720697320 pad=X9.23 text=00",
             Request::CsnbdecLast {
                 role,
-                key: b"L:K",
+                key: KeyField::Label(b"K"),
                 chain,
                 pad: Padding::X923,
                 text: b"00",
@@ -129,7 +129,7 @@ fn lines_of_decipher_are_parsed(rt: HostRuntime) {
             b"CSNBDEC role=DEFAULT key=L:K segment=LAST chain=1234567890abcdef074e6f7720697320 pad=NONE text=",
             Request::CsnbdecLast {
                 role,
-                key: b"L:K",
+                key: KeyField::Label(b"K"),
                 chain,
                 pad: Padding::None,
                 text: b"",

@@ -1,7 +1,7 @@
 //! Lines of single keys and of random bytes.
-use crate::lines::is_parsed;
+use crate::lines::{TOKEN, is_parsed};
 use cca_roles::RoleName;
-use verb_script::{NumberForm, Request};
+use verb_script::{Destination, KeyField, NumberForm, Request};
 
 #[test]
 fn lines_of_single_keys_are_parsed(rt: HostRuntime) {
@@ -18,19 +18,22 @@ fn lines_of_single_keys_are_parsed(rt: HostRuntime) {
             b"CSNBKYT role=DEFAULT key=T:020000000000c00000000000000000008ca64de9c1b123a700000000000000000000000000000000000000000000000000000000000000000000000050583190",
             Request::Csnbkyt {
                 role,
-                key: b"T:020000000000c00000000000000000008ca64de9c1b123a700000000000000000000000000000000000000000000000000000000000000000000000050583190",
+                key: KeyField::Token(TOKEN),
             },
         ),
         (
             b"CSNBKYT role=DEFAULT key=L:K",
-            Request::Csnbkyt { role, key: b"L:K" },
+            Request::Csnbkyt {
+                role,
+                key: KeyField::Label(b"K"),
+            },
         ),
         (
             b"CSNBCKI role=DEFAULT clear=0123456789abcdef to=-",
             Request::Csnbcki {
                 role,
                 clear: b"0123456789abcdef",
-                to: b"-",
+                to: Destination::Reply,
             },
         ),
         (
@@ -38,7 +41,7 @@ fn lines_of_single_keys_are_parsed(rt: HostRuntime) {
             Request::Csnbcki {
                 role,
                 clear: b"0123456789abcdef",
-                to: b"L:PAY.DATA",
+                to: Destination::Record(b"PAY.DATA"),
             },
         ),
         (

@@ -1,6 +1,7 @@
 pub mod DigitLemmas
 pub mod FieldLaws
 pub mod GrammarLaws
+pub mod KeyFieldLaws
 pub mod PlainRows
 pub mod PointLemmas
 pub mod RowsApart

@@ -1,5 +1,6 @@
 pub mod Choices
 pub mod Grammar
+pub mod KeyFields
 pub mod Named
 pub mod Parsed
 pub mod Parts

@@ -7,7 +7,7 @@ mod code_rows;
 mod control_rows;
 mod digits;
 mod key_rows;
-mod labels;
+mod keys;
 mod laws;
 mod parts;
 mod record_rows;
@@ -21,7 +21,7 @@ pub use choices::{
     PartRule,
 };
 pub use digits::decode;
-pub use labels::named_label;
+pub use keys::{Destination, KeyField};
 pub use laws::a_line_spells_one_request;
 pub use request::{FormFault, Request, parse_request};
 pub use script_buffers::{

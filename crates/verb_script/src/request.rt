@@ -10,6 +10,7 @@ use crate::choices::{
     PartRule,
 };
 use crate::cipher_rows::cipher_request;
+use crate::keys::{Destination, KeyField};
 use crate::words::Words;
 use cca_roles::{AccessPoints, RoleName};
 use cca_vectors::KeyType;
@@ -18,9 +19,9 @@ use cca_vectors::KeyType;
 #[derive(Debug, Clone, Copy, PartialEq, Eq)]
 pub struct FormFault;
 
-/// A request. A field that is a slice is the part of the line that holds its value; a word that the row fixes is no field. A `key` is `T:` and the 128
-/// hexadecimal digits of a token, or `L:` and a label. Where a label is wanted, one or more characters from X'21' to
-/// X'7E' stand, which needn't be a label.
+/// A request. A field that is a slice is the part of the line that holds its value; a word that the row
+/// fixes is no field. Where a label is wanted, one or more characters from X'21' to X'7E' stand, which
+/// needn't be a label.
 #[derive(Debug, Clone, Copy, PartialEq, Eq)]
 pub enum Request<'a> {
     /// Key_Token_Parse: a key token, in 128 hexadecimal digits.
@@ -31,7 +32,7 @@ pub enum Request<'a> {
     /// Encipher: a text enciphered under a key in a chain of blocks from `iv`.
     Csnbenc {
         role: RoleName,
-        key: &'a [u8],
+        key: KeyField<'a>,
         iv: &'a [u8],
         pad: Padding,
         text: &'a [u8],
@@ -39,21 +40,21 @@ pub enum Request<'a> {
     /// Encipher FIRST: the first segment of a text, enciphered in a chain of blocks from `iv`.
     CsnbencFirst {
         role: RoleName,
-        key: &'a [u8],
+        key: KeyField<'a>,
         iv: &'a [u8],
         text: &'a [u8],
     },
     /// Encipher MIDDLE: a further segment, from the chain that the segment before left, in 32 hexadecimal digits.
     CsnbencMiddle {
         role: RoleName,
-        key: &'a [u8],
+        key: KeyField<'a>,
         chain: &'a [u8],
         text: &'a [u8],
     },
     /// Encipher LAST: the last segment of a text.
     CsnbencLast {
         role: RoleName,
-        key: &'a [u8],
+        key: KeyField<'a>,
         chain: &'a [u8],
         pad: Padding,
         text: &'a [u8],
@@ -61,7 +62,7 @@ pub enum Request<'a> {
     /// Decipher: the inverse of Encipher.
     Csnbdec {
         role: RoleName,
-        key: &'a [u8],
+        key: KeyField<'a>,
         iv: &'a [u8],
         pad: Padding,
         text: &'a [u8],
@@ -69,21 +70,21 @@ pub enum Request<'a> {
     /// Decipher FIRST: the first segment of an enciphered text.
     CsnbdecFirst {
         role: RoleName,
-        key: &'a [u8],
+        key: KeyField<'a>,
         iv: &'a [u8],
         text: &'a [u8],
     },
     /// Decipher MIDDLE: a further segment, from the chain that the segment before left.
     CsnbdecMiddle {
         role: RoleName,
-        key: &'a [u8],
+        key: KeyField<'a>,
         chain: &'a [u8],
         text: &'a [u8],
     },
     /// Decipher LAST: the last segment of an enciphered text.
     CsnbdecLast {
         role: RoleName,
-        key: &'a [u8],
+        key: KeyField<'a>,
         chain: &'a [u8],
         pad: Padding,
         text: &'a [u8],
@@ -91,7 +92,7 @@ pub enum Request<'a> {
     /// MAC_Generate: the message authentication code of a text, 4, 6 or 8 bytes of it.
     Csnbmgn {
         role: RoleName,
-        key: &'a [u8],
+        key: KeyField<'a>,
         rule: CodeRule,
         length: CodeLength,
         text: &'a [u8],
@@ -99,14 +100,14 @@ pub enum Request<'a> {
     /// MAC_Generate FIRST: the first segment of a text.
     CsnbmgnFirst {
         role: RoleName,
-        key: &'a [u8],
+        key: KeyField<'a>,
         rule: CodeRule,
         text: &'a [u8],
     },
     /// MAC_Generate MIDDLE: a further segment, from the chain that the segment before left.
     CsnbmgnMiddle {
         role: RoleName,
-        key: &'a [u8],
+        key: KeyField<'a>,
         rule: CodeRule,
         chain: &'a [u8],
         text: &'a [u8],
@@ -114,7 +115,7 @@ pub enum Request<'a> {
     /// MAC_Generate LAST: the last segment, and the message authentication code of the whole text.
     CsnbmgnLast {
         role: RoleName,
-        key: &'a [u8],
+        key: KeyField<'a>,
         rule: CodeRule,
         length: CodeLength,
         chain: &'a [u8],
@@ -123,7 +124,7 @@ pub enum Request<'a> {
     /// MAC_Verify: whether a text has this code.
     Csnbmvr {
         role: RoleName,
-        key: &'a [u8],
+        key: KeyField<'a>,
         rule: CodeRule,
         mac: &'a [u8],
         text: &'a [u8],
@@ -131,14 +132,14 @@ pub enum Request<'a> {
     /// MAC_Verify FIRST: the first segment of a text.
     CsnbmvrFirst {
         role: RoleName,
-        key: &'a [u8],
+        key: KeyField<'a>,
         rule: CodeRule,
         text: &'a [u8],
     },
     /// MAC_Verify MIDDLE: a further segment, from the chain that the segment before left.
     CsnbmvrMiddle {
         role: RoleName,
-        key: &'a [u8],
+        key: KeyField<'a>,
         rule: CodeRule,
         chain: &'a [u8],
         text: &'a [u8],
@@ -146,7 +147,7 @@ pub enum Request<'a> {
     /// MAC_Verify LAST: the last segment, and whether the whole text has this code.
     CsnbmvrLast {
         role: RoleName,
-        key: &'a [u8],
+        key: KeyField<'a>,
         rule: CodeRule,
         mac: &'a [u8],
         chain: &'a [u8],
@@ -155,13 +156,13 @@ pub enum Request<'a> {
     /// Key_Test: the first bytes of a block of zeros under a key.
     Csnbkyt {
         role: RoleName,
-        key: &'a [u8],
+        key: KeyField<'a>,
     },
-    /// Clear_Key_Import: a clear DATA key, in 16 hexadecimal digits; `to` is `-`, or `L:` and a label.
+    /// Clear_Key_Import: a clear DATA key, in 16 hexadecimal digits.
     Csnbcki {
         role: RoleName,
         clear: &'a [u8],
-        to: &'a [u8],
+        to: Destination<'a>,
     },
     /// Random_Number_Generate: eight random bytes.
     Csnbrng {
@@ -173,7 +174,7 @@ pub enum Request<'a> {
         role: RoleName,
         length: KeyLength,
         type1: KeyType,
-        to: &'a [u8],
+        to: Destination<'a>,
     },
     /// Key_Generate OPEX or OPIM: a key for here, and the same key for elsewhere under a transport key.
     CsnbkgnPair {
@@ -182,8 +183,8 @@ pub enum Request<'a> {
         length: KeyLength,
         type1: KeyType,
         type2: KeyType,
-        transport2: &'a [u8],
-        to: &'a [u8],
+        transport2: KeyField<'a>,
+        to: Destination<'a>,
     },
     /// Key_Generate IMEX, EXEX or IMIM: a key for elsewhere, twice, each time under a transport key.
     CsnbkgnOut {
@@ -192,27 +193,27 @@ pub enum Request<'a> {
         length: KeyLength,
         type1: KeyType,
         type2: KeyType,
-        transport1: &'a [u8],
-        transport2: &'a [u8],
+        transport1: KeyField<'a>,
+        transport2: KeyField<'a>,
     },
     /// Key_Import: an external token, in 128 hexadecimal digits, brought from a transport key under the master key.
     Csnbkim {
         role: RoleName,
         token: &'a [u8],
-        transport: &'a [u8],
-        to: &'a [u8],
+        transport: KeyField<'a>,
+        to: Destination<'a>,
     },
     /// Key_Export: a key brought from the master key under a transport key.
     Csnbkex {
         role: RoleName,
-        key: &'a [u8],
-        transport: &'a [u8],
+        key: KeyField<'a>,
+        transport: KeyField<'a>,
     },
     /// Prohibit_Export: a key that may be exported no longer.
     Csnbpex {
         role: RoleName,
-        key: &'a [u8],
-        to: &'a [u8],
+        key: KeyField<'a>,
+        to: Destination<'a>,
     },
     /// Key_Token_Change: a token, in 128 hexadecimal digits, brought under the current or the new master key.
     Csnbktc {
@@ -225,22 +226,22 @@ pub enum Request<'a> {
         role: RoleName,
         kind: KeyType,
         part: &'a [u8],
-        to: &'a [u8],
+        to: Destination<'a>,
     },
     /// Key_Part_Import MIDDLE or LAST: a further part, as long as the key.
     CsnbkpiMiddle {
         role: RoleName,
         rule: PartRule,
-        key: &'a [u8],
+        key: KeyField<'a>,
         part: &'a [u8],
-        to: &'a [u8],
+        to: Destination<'a>,
     },
     /// Key_Translate: an external token, in 128 hexadecimal digits, brought from one transport key under another.
     Csnbktr {
         role: RoleName,
         token: &'a [u8],
-        transport1: &'a [u8],
-        transport2: &'a [u8],
+        transport1: KeyField<'a>,
+        transport2: KeyField<'a>,
     },
     /// Key_Record_Create: the label gets a record with no key.
     Csnbkrc {

@@ -1,13 +1,12 @@
 //! The values that fields accept.
 ghost use Rattle.std.specs.Prelude.{◌≡◌};
 ghost use Rattle.byte_lists.specs.Characters.{is_label_byte};
-ghost use Rattle.verb_script.specs.Grammar.{accepts, key_text, hex_text, mac_text, part_text, to_text, prefix_text};
-ghost use Rattle.verb_script.specs.Named.{is_visible, is_label_text, is_token_text};
+ghost use Rattle.verb_script.specs.Grammar.{accepts, hex_text, mac_text, part_text, prefix_text};
+ghost use Rattle.verb_script.specs.Named.{is_visible, is_label_text};
 ghost use Rattle.verb_script.specs.Values.{is_hex};
 ghost use Rattle.std.specs.List.{list_all};
 ghost use Rattle.hex.specs.Hex.{is_hex_digit};
 
-use crate::labels::named_label;
 use byte_lists::is_label_byte;
 
 fn is_hex_byte(byte: u8) -> bool
@@ -67,30 +66,6 @@ pub(crate) fn is_label_text(text: &[u8]) -> bool
     ensures { result ≡ is_label_text text.now }
 {
     !text.is_empty() && are_visible(text)
-}
-
-/// Whether the text gives a key by its token.
-fn is_token_text(text: &[u8]) -> bool
-    ensures { result ≡ is_token_text text.now }
-{
-    match text {
-        [b'T', b':', digits @ ..] => is_hex_of(digits, 128),
-        _ => false,
-    }
-}
-
-/// Whether the text is a key, by its token or by its label.
-pub(crate) fn is_key(text: &[u8]) -> bool
-    ensures { result ≡ accepts key_text text.now }
-{
-    is_token_text(text) || named_label(text).is_some()
-}
-
-/// Whether the text says where a key goes.
-pub(crate) fn is_to(text: &[u8]) -> bool
-    ensures { result ≡ accepts to_text text.now }
-{
-    text == b"-".as_slice() || named_label(text).is_some()
 }
 
 fn are_label_bytes(text: &[u8]) -> bool

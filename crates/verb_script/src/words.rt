@@ -9,6 +9,7 @@ ghost use Rattle.cca_roles.specs.RoleNames.{default_name};
 ghost use Rattle.cca_vectors.specs.KeyTypes.{type_name, type_named};
 ghost use Rattle.verb_script.specs.Grammar.{role_name, other_role, points, hex_digits, one_of, key_text, hex_text, mac_text, part_text, label_text, to_text, prefix_text, type_text};
 ghost use Rattle.verb_script.specs.Choices.{padding_word, code_rule_word, code_length_word, number_form_word, key_length_word, pair_form_word, out_form_word, change_word, part_rule_word, part_action_word};
+ghost use Rattle.verb_script.specs.KeyFields.{key_field_text, destination_text};
 ghost use Rattle.verb_script.specs.Values.{is_hex, hex_value};
 ghost use Rattle.verb_script.specs.Requests.{words, value_after, first_value, at_end};
 ghost use Rattle.verb_script.specs.Words.{words_left, unread};
@@ -18,9 +19,8 @@ use crate::choices::{
     PartRule, is_word,
 };
 use crate::digits::decode;
-use crate::values::{
-    is_hex_of, is_hex_text, is_key, is_label_text, is_mac, is_part, is_prefix, is_to,
-};
+use crate::keys::{Destination, KeyField};
+use crate::values::{is_hex_of, is_hex_text, is_label_text, is_mac, is_part, is_prefix};
 use cca_roles::{AccessPoints, RoleName};
 use cca_vectors::KeyType;
 
@@ -133,13 +133,10 @@ fn word_in(word: &[u8], prefix: &[u8], wanted: &[u8]) -> Option<()>
 }
 
 /// The key in a word that is the prefix and that key, by its token or by its label.
-fn key_in<'a>(word: &'a [u8], prefix: &[u8]) -> Option<&'a [u8]>
-    ensures { option_copied result ≡ value_after prefix.now key_text word.now }
+fn key_in<'a>(word: &'a [u8], prefix: &[u8]) -> Option<KeyField<'a>>
+    ensures { option_map key_field_text result ≡ value_after prefix.now key_text word.now }
 {
-    match after(word, prefix) {
-        Some(value) if is_key(value) => Some(value),
-        _ => None,
-    }
+    KeyField::read(after(word, prefix)?)
 }
 
 /// The digits in a word that is the prefix and an even number of hexadecimal digits.
@@ -183,13 +180,10 @@ fn label_in<'a>(word: &'a [u8], prefix: &[u8]) -> Option<&'a [u8]>
 }
 
 /// Where a key goes, in a word that is the prefix and that text.
-fn to_in<'a>(word: &'a [u8], prefix: &[u8]) -> Option<&'a [u8]>
-    ensures { option_copied result ≡ value_after prefix.now to_text word.now }
+fn to_in<'a>(word: &'a [u8], prefix: &[u8]) -> Option<Destination<'a>>
+    ensures { option_map destination_text result ≡ value_after prefix.now to_text word.now }
 {
-    match after(word, prefix) {
-        Some(value) if is_to(value) => Some(value),
-        _ => None,
-    }
+    Destination::read(after(word, prefix)?)
 }
 
 /// What labels begin with, in a word that is the prefix and that text.
@@ -277,8 +271,9 @@ impl<'a> Words<'a> {
     }
 
     /// The key in the next word, which is the prefix and that key, by its token or by its label.
-    pub(crate) fn key(&mut self, prefix: &[u8]) -> Option<&'a [u8]>
-        ensures value { option_copied result ≡ first_value prefix.now key_text (unread self.old) }
+    pub(crate) fn key(&mut self, prefix: &[u8]) -> Option<KeyField<'a>>
+        ensures value { option_map key_field_text result
+            ≡ first_value prefix.now key_text (unread self.old) }
         ensures rest { unread self.new ≡ drop 1 (unread self.old) }
     {
         key_in(self.next()?, prefix)
@@ -317,8 +312,9 @@ impl<'a> Words<'a> {
     }
 
     /// Where a key goes, in the next word, which is the prefix and that text.
-    pub(crate) fn to(&mut self, prefix: &[u8]) -> Option<&'a [u8]>
-        ensures value { option_copied result ≡ first_value prefix.now to_text (unread self.old) }
+    pub(crate) fn to(&mut self, prefix: &[u8]) -> Option<Destination<'a>>
+        ensures value { option_map destination_text result
+            ≡ first_value prefix.now to_text (unread self.old) }
         ensures rest { unread self.new ≡ drop 1 (unread self.old) }
     {
         to_in(self.next()?, prefix)

@@ -1,5 +1,5 @@
 //! Verbs that draw random bytes: CSNBRNG and CSNBKGN.
-ghost use Rattle.std.specs.Prelude.{◌≡◌, ◌∷◌, [], ℕ, IsSome, List, Option};
+ghost use Rattle.std.specs.Prelude.{◌≡◌, ◌∷◌, [], ℕ, IsSome, IsTrue, List, Option};
 ghost use Rattle.cca_vectors.specs.KeyTypes.{type_name};
 ghost use Rattle.key_cells.specs.Bench.{Bench};
 ghost use Rattle.master_registers.specs.Loaded.{IsLoaded};
@@ -7,7 +7,8 @@ ghost use Rattle.key_cells.specs.Lease.{bench_of, holding};
 ghost use Rattle.key_records.specs.declared.rows.Row.{Row};
 ghost use Rattle.master_registers.specs.declared.registers.Registers.{Registers};
 ghost use Rattle.verb_script.specs.Choices.{number_form_word, key_length_word, pair_form_word, out_form_word};
-ghost use Rattle.verb_script.specs.Grammar.{csnbrng, csnbkgn_op, csnbkgn_pair, csnbkgn_out};
+ghost use Rattle.verb_script.specs.Grammar.{accepts, to_text, csnbrng, csnbkgn_op, csnbkgn_pair, csnbkgn_out};
+ghost use Rattle.verb_script.specs.KeyFields.{destination_text};
 ghost use Rattle.verb_script.specs.Named.{label_named};
 ghost use Rattle.cca_machine.specs.Operands.{operands};
 ghost use Rattle.cca_requests.specs.Decided.{Decision, asked, source};
@@ -25,7 +26,7 @@ use key_cells::Lease;
 use line_service::Stop;
 use master_registers::Registers;
 use slot_disk::Entropy;
-use verb_script::{KeyLength, NumberForm, OutForm, PairForm, ReplyBuffer};
+use verb_script::{Destination, KeyLength, NumberForm, OutForm, PairForm, ReplyBuffer};
 
 /// Random bytes.
 pub(super) fn decide_csnbrng<E: Entropy>(
@@ -53,19 +54,20 @@ pub(super) fn decide_generate_one<E: Entropy>(
     granted: &Granted,
     length: KeyLength,
     kind: KeyType,
-    to: &[u8],
+    to: Destination<'_>,
     entropy: &mut E,
     lease: &mut Lease,
     held: &Registers,
     reply: &mut ReplyBuffer,
 ) -> Result<Effect, Stop>
-    requires target { IsPlaceFor (label_named to.now) granted.now.first.place }
+    requires to { IsTrue (accepts to_text (destination_text to)) }
+    requires target { IsPlaceFor (label_named (destination_text to)) granted.now.first.place }
     requires master { IsSome held.now.current_pattern }
     requires loaded { IsLoaded held.now (bench_of lease.old) }
     requires empty { reply.old ≡ [] }
     ensures decision { (role form : List ℕ) (rows : List (Option Row))
-        → let request = asked csnbkgn_op (role ∷ form ∷ key_length_word length ∷ type_name kind ∷ to.now
-        ∷ []) in
+        → let request = asked csnbkgn_op
+        (role ∷ form ∷ key_length_word length ∷ type_name kind ∷ destination_text to.entry ∷ []) in
         HaveShapes rows (operands request) granted.now →
         Decision request granted.now held.now rows (bench_of lease.old) (bench_of lease.new)
         result reply.new
@@ -88,20 +90,22 @@ pub(super) fn decide_generate_pair<E: Entropy>(
     length: KeyLength,
     first: KeyType,
     second: KeyType,
-    to: &[u8],
+    to: Destination<'_>,
     entropy: &mut E,
     lease: &mut Lease,
     held: &Registers,
     reply: &mut ReplyBuffer,
 ) -> Result<Effect, Stop>
     requires transport { HasDoubleKey granted.now.first }
-    requires target { IsPlaceFor (label_named to.now) granted.now.second.place }
+    requires to { IsTrue (accepts to_text (destination_text to)) }
+    requires target { IsPlaceFor (label_named (destination_text to)) granted.now.second.place }
     requires master { IsSome held.now.current_pattern }
     requires loaded { IsLoaded held.now (bench_of lease.old) }
     requires empty { reply.old ≡ [] }
     ensures decision { (role transport : List ℕ) (rows : List (Option Row))
-        → let request = asked csnbkgn_pair (role ∷ pair_form_word form ∷ key_length_word length ∷ type_name first
-        ∷ type_name second ∷ transport ∷ to.now ∷ []) in
+        → let request = asked csnbkgn_pair
+        (role ∷ pair_form_word form ∷ key_length_word length ∷ type_name first
+        ∷ type_name second ∷ transport ∷ destination_text to.entry ∷ []) in
         HaveShapes rows (operands request) granted.now →
         Decision request granted.now held.now rows (bench_of lease.old) (bench_of lease.new)
         result reply.new

@@ -11,7 +11,7 @@ ghost use Rattle.script_buffers.specs.Replies.{Hex};
 ghost use Rattle.slot_disk.specs.Faults.{HasCause};
 ghost use Rattle.verb_rules.specs.Keys.{IsDouble, opened};
 ghost use Rattle.verb_script.specs.Choices.{key_length_word, out_form_word, pair_form_word};
-ghost use Rattle.verb_script.specs.Named.{label_named};
+ghost use Rattle.verb_script.specs.KeyFields.{record_label};
 ghost use Rattle.cca_machine.specs.Act.{Show, delivered, delivered_with};
 ghost use Rattle.cca_machine.specs.Choices.{key_length_named, out_form_named, pair_form_named};
 ghost use Rattle.cca_machine.specs.State.{State};
@@ -30,7 +30,7 @@ use key_transport::{Form, GenerateFault, generate};
 use master_registers::Registers;
 use slot_disk::{Entropy, Failed};
 use verb_rules::{Judged, Rule, judge_length, judge_pair};
-use verb_script::{KeyLength, OutForm, PairForm, ReplyBuffer};
+use verb_script::{Destination, KeyLength, OutForm, PairForm, ReplyBuffer};
 
 /// The form that the field names, of those with one internal and one external key.
 pub(crate) fn pair_form(form: PairForm) -> Form
@@ -98,22 +98,22 @@ fn judge_two(first: KeyType, second: KeyType, length: Length) -> Option<Refusal>
 pub(crate) fn generate_one<E: Entropy>(
     length: KeyLength,
     kind: KeyType,
-    to: &[u8],
+    to: Destination<'_>,
     place: Option<Place>,
     entropy: &mut E,
     lease: &mut Lease,
     held: &Registers,
     reply: &mut ReplyBuffer,
 ) -> Result<Effect, Failed>
-    requires target { IsPlaceFor (label_named to.now) place }
+    requires target { IsPlaceFor (record_label to) place }
     requires master { IsSome held.now.current_pattern }
     requires loaded { IsLoaded held.now (bench_of lease.old) }
     requires empty { reply.old ≡ [] }
     ensures generated { (s : State) → Loaded s.registers held.now (bench_of lease.old)
-        → place ≡ target_cell s (label_named to.now)
+        → place ≡ target_cell s (record_label to.entry)
         → IfOk result (LeavesDrawn s
         (first_refusal (generate_questions kind (key_length_named (key_length_word length))))
-        (λ (drawn : List ℕ). delivered s (codes "token1") (label_named to.now)
+        (λ (drawn : List ℕ). delivered s (codes "token1") (record_label to.entry)
         (as_current (generated_key kind (key_length_named (key_length_word length)) drawn)))
         (key_length_named (key_length_word length)) (E.left entropy.old) (E.left entropy.new)
         reply.new) }
@@ -126,7 +126,7 @@ pub(crate) fn generate_one<E: Entropy>(
     ensures ready { (rows : List (Option Row)) → IsHeldPlace rows place
         → IfOk result (λ effect. IsReady held.now (bench_of lease.new) rows effect reply.new) }
     ensures named { IfOk result (λ effect. WritesStore effect
-        → IsTrue (is_some (label_named to.now))) }
+        → IsTrue (is_some (record_label to.entry))) }
     ensures one_label { IfOk result (λ effect. GoesThrough effect → ⊥) }
     ensures silent { OnErr result (reply.new ≡ []) }
     ensures cause { HasCause (E.faults entropy.old) (E.faults entropy.new) result }
@@ -162,7 +162,7 @@ pub(crate) fn generate_pair<E: Entropy>(
     first: KeyType,
     second: KeyType,
     transport: &Judged,
-    to: &[u8],
+    to: Destination<'_>,
     place: Option<Place>,
     entropy: &mut E,
     lease: &mut Lease,
@@ -170,15 +170,15 @@ pub(crate) fn generate_pair<E: Entropy>(
     reply: &mut ReplyBuffer,
 ) -> Result<Effect, Failed>
     requires transport { IsDouble transport.now }
-    requires target { IsPlaceFor (label_named to.now) place }
+    requires target { IsPlaceFor (record_label to) place }
     requires master { IsSome held.now.current_pattern }
     requires loaded { IsLoaded held.now (bench_of lease.old) }
     requires empty { reply.old ≡ [] }
     ensures generated { (s : State) → Loaded s.registers held.now (bench_of lease.old)
-        → place ≡ target_cell s (label_named to.now)
+        → place ≡ target_cell s (record_label to.entry)
         → IfOk result (LeavesDrawn s
         (first_refusal (pair_questions first second (key_length_named (key_length_word length))))
-        (λ (drawn : List ℕ). delivered_with s (codes "token1") (label_named to.now)
+        (λ (drawn : List ℕ). delivered_with s (codes "token1") (record_label to.entry)
         (as_current (generated_key first (key_length_named (key_length_word length)) drawn))
         (Hex (codes "token2") (external_token (opened (bench_of lease.old) transport.now).key
         (generated_key second (key_length_named (key_length_word length)) drawn)) ∷ []))
@@ -193,7 +193,7 @@ pub(crate) fn generate_pair<E: Entropy>(
     ensures ready { (rows : List (Option Row)) → IsHeldPlace rows place
         → IfOk result (λ effect. IsReady held.now (bench_of lease.new) rows effect reply.new) }
     ensures named { IfOk result (λ effect. WritesStore effect
-        → IsTrue (is_some (label_named to.now))) }
+        → IsTrue (is_some (record_label to.entry))) }
     ensures one_label { IfOk result (λ effect. GoesThrough effect → ⊥) }
     ensures silent { OnErr result (reply.new ≡ []) }
     ensures cause { HasCause (E.faults entropy.old) (E.faults entropy.new) result }

@@ -10,7 +10,7 @@ ghost use Rattle.master_registers.specs.Loaded.{Loaded, IsLoaded};
 ghost use Rattle.verb_rules.specs.Keys.{HasHalves, opened};
 ghost use Rattle.verb_script.specs.Choices.{part_rule_word};
 ghost use Rattle.verb_script.specs.Grammar.{accepts, part_text};
-ghost use Rattle.verb_script.specs.Named.{label_named};
+ghost use Rattle.verb_script.specs.KeyFields.{record_label};
 ghost use Rattle.verb_script.specs.Values.{hex_value};
 ghost use Rattle.cca_machine.specs.Act.{delivered};
 ghost use Rattle.cca_machine.specs.Choices.{is_last_part};
@@ -30,7 +30,7 @@ use key_parts::{combine_part, first_part};
 use key_records::Place;
 use master_registers::Registers;
 use verb_rules::{Judged, judge_part, judge_size};
-use verb_script::{PartRule, ReplyBuffer};
+use verb_script::{Destination, PartRule, ReplyBuffer};
 
 /// Whether the part is the last one.
 fn is_last(rule: PartRule) -> bool
@@ -58,26 +58,26 @@ fn put_part(digits: &[u8], lease: &mut Lease)
 pub(crate) fn first(
     kind: KeyType,
     part: &[u8],
-    to: &[u8],
+    to: Destination<'_>,
     place: Option<Place>,
     lease: &mut Lease,
     held: &Registers,
     reply: &mut ReplyBuffer,
 ) -> Effect
     requires part { IsTrue (accepts part_text part.now) }
-    requires target { IsPlaceFor (label_named to.now) place }
+    requires target { IsPlaceFor (record_label to) place }
     requires master { IsSome held.now.current_pattern }
     requires loaded { IsLoaded held.now (bench_of lease.old) }
     requires empty { reply.old ≡ [] }
     ensures delivered { (s : State) → Loaded s.registers held.now (bench_of lease.old)
-        → place ≡ target_cell s (label_named to.now)
+        → place ≡ target_cell s (record_label to.entry)
         → IsDeliveredOr s (first_refusal (first_part_questions kind (length part.now / 2)))
-        (delivered s (codes "token") (label_named to.now)
+        (delivered s (codes "token") (record_label to.entry)
         (as_current (first_key kind (hex_value part.now))))
         result reply.new }
     ensures ready { (rows : List (Option Row)) → IsHeldPlace rows place
         → IsReady held.now (bench_of lease.new) rows result reply.new }
-    ensures named { WritesStore result → IsTrue (is_some (label_named to.now)) }
+    ensures named { WritesStore result → IsTrue (is_some (record_label to.entry)) }
     ensures one_label { GoesThrough result → ⊥ }
     ensures places { lease.new ≡ holding lease.old
         (with_places (bench_of lease.old) (bench_of lease.new)) }
@@ -123,7 +123,7 @@ pub(crate) fn further(
     key: &Judged,
     rule: PartRule,
     part: &[u8],
-    to: &[u8],
+    to: Destination<'_>,
     place: Option<Place>,
     lease: &mut Lease,
     held: &Registers,
@@ -131,20 +131,20 @@ pub(crate) fn further(
 ) -> Effect
     requires halves { HasHalves key.now }
     requires part { IsTrue (accepts part_text part.now) }
-    requires target { IsPlaceFor (label_named to.now) place }
+    requires target { IsPlaceFor (record_label to) place }
     requires master { IsSome held.now.current_pattern }
     requires loaded { IsLoaded held.now (bench_of lease.old) }
     requires empty { reply.old ≡ [] }
     ensures delivered { (s : State) → Loaded s.registers held.now (bench_of lease.old)
-        → place ≡ target_cell s (label_named to.now)
+        → place ≡ target_cell s (record_label to.entry)
         → let clear = opened (bench_of lease.old) key.now in
         IsDeliveredOr s (first_refusal (further_part_questions clear.vector (length part.now / 2)))
-        (delivered s (codes "token") (label_named to.now)
+        (delivered s (codes "token") (record_label to.entry)
         (as_current (combined_key (is_last_part (part_rule_word rule)) clear (hex_value part.now))))
         result reply.new }
     ensures ready { (rows : List (Option Row)) → IsHeldPlace rows place
         → IsReady held.now (bench_of lease.new) rows result reply.new }
-    ensures named { WritesStore result → IsTrue (is_some (label_named to.now)) }
+    ensures named { WritesStore result → IsTrue (is_some (record_label to.entry)) }
     ensures one_label { GoesThrough result → ⊥ }
     ensures places { lease.new ≡ holding lease.old
         (with_places (bench_of lease.old) (bench_of lease.new)) }

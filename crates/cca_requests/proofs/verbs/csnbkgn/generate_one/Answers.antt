@@ -10,7 +10,7 @@ use Rattle.master_registers.specs.Loaded.{masters_in}
 use Rattle.verb_rules.specs.Keys.{keys_of}
 use Rattle.verb_rules.specs.Rules.{rule_number}
 use Rattle.verb_script.specs.Choices.{key_length_word}
-use Rattle.verb_script.specs.Named.{label_named}
+use Rattle.verb_script.specs.KeyFields.{record_label}
 use Rattle.cca_machine.specs.Act.{delivered}
 use Rattle.cca_machine.specs.Choices.{key_length_named}
 use Rattle.cca_machine.specs.Verdict.{first_refusal, generate_questions, refusal}
@@ -34,7 +34,7 @@ returns-in-Ok-clause-generated g c = λ s loaded placed.
     let now = g.E.Entropy.left c.generate.new.entropy in
     let made = c.in-Ok.ensures.generated in
     let rules = λ (n : Length). first_refusal (generate_questions c.args.kind n) in
-    let make = λ (n : Length) (drawn : List ℕ). delivered s (codes "token1") (label_named c.args.to.now) (as_current (generated_key c.args.kind n drawn)) in
+    let make = λ (n : Length) (drawn : List ℕ). delivered s (codes "token1") (record_label c.args.to) (as_current (generated_key c.args.kind n drawn)) in
     let none = subst (HasRefused (rules key_length)) c.in_default.is c.judge_one.ensures in
     let key = generated_key c.args.kind key_length made.draw.drawn in
     let tokens : c.in-Ok.keys ≡ record { first = current_token s.registers key; second = None } = made.tokens s.registers loaded in

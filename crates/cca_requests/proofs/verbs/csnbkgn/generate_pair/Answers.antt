@@ -12,7 +12,7 @@ use Rattle.script_buffers.specs.Replies.{Field, Hex}
 use Rattle.verb_rules.specs.Keys.{keys_of, opened}
 use Rattle.verb_rules.specs.Rules.{rule_number}
 use Rattle.verb_script.specs.Choices.{key_length_word, pair_form_word}
-use Rattle.verb_script.specs.Named.{label_named}
+use Rattle.verb_script.specs.KeyFields.{record_label}
 use Rattle.cca_machine.specs.Act.{delivered_with}
 use Rattle.cca_machine.specs.Choices.{key_length_named}
 use Rattle.cca_machine.specs.Verdict.{first_refusal, pair_questions, refusal}
@@ -61,7 +61,7 @@ returns-in-Ok-clause-generated g c = λ s loaded placed.
     let two = generated_key c.args.second key_length made.draw.drawn in
     let transport = (opened (bench_of c.args.lease.now) c.args.transport.now).key in
     let rules = λ (n : Length). first_refusal (pair_questions c.args.first c.args.second n) in
-    let make = λ (n : Length) (drawn : List ℕ). delivered_with s (codes "token1") (label_named c.args.to.now) (as_current (generated_key c.args.first n drawn))
+    let make = λ (n : Length) (drawn : List ℕ). delivered_with s (codes "token1") (record_label c.args.to) (as_current (generated_key c.args.first n drawn))
     (Hex (codes "token2") (external_token transport (generated_key c.args.second n drawn)) ∷ []) in
     let none = subst (HasRefused (rules key_length)) c.in_default.is c.judge_two.ensures in
     let tokens : keys ≡ record { first = current_token s.registers one; second = Some (external_token transport two) } =
@@ -70,7 +70,7 @@ returns-in-Ok-clause-generated g c = λ s loaded placed.
     let delivered = c.deliver.ensures.delivered s (as_current one) (ap (λ (k : Generated). k.first) tokens) stands placed in
     subst (λ (n : Length). LeavesDrawn s (rules n) (make n) n before now c.deliver.new.reply c.deliver.result) c.key_length-length.ensures
     (drawn_delivery s (rules key_length) (make key_length) key_length before now c.deliver.new.reply c.deliver.result none made.draw
-    (subst (λ (fields : List Field). IsDelivered s (delivered_with s (codes "token1") (label_named c.args.to.now) (as_current one) fields) c.deliver.result c.deliver.new.reply)
+    (subst (λ (fields : List Field). IsDelivered s (delivered_with s (codes "token1") (record_label c.args.to) (as_current one) fields) c.deliver.result c.deliver.new.reply)
     (ap (λ (k : Generated). token2_fields k.second) tokens) delivered))
 
 pub returns-in-Ok-clause-ready : goal.returns-in-Ok-clause-ready
