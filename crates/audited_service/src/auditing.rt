@@ -1,5 +1,5 @@
 //! One line, from the source to its record on the trail, and then its reply at the sink.
-ghost use Rattle.std.specs.Prelude.{◌≡◌, IsTrue, Ok, Err, OnOk, OnErr, IfErr};
+ghost use Rattle.std.specs.Prelude.{◌≡◌, IsTrue, Ok, Err, OnOk, IfErr};
 ghost use Rattle.std.specs.Io.KnownBytes.{IsAtEnd};
 ghost use Rattle.key_cells.specs.Bench.{blank_bench};
 ghost use Rattle.slot_disk.specs.Medium.{Told};
@@ -74,10 +74,10 @@ pub(crate) fn audit_one<
         (source.old, sink.old, «module».old, store.old, entropy.old)
         (source.new, sink.new, «module».new, store.new, entropy.new)) lines.old lines.new }
 
-    // Where no reply is sent, the sink is as before; where no line was answered, so is all else.
+    // Where no reply is sent, the sink is as before; where no line was answered, so is all else. Where the trail fails,
+    // no reply is sent.
     ensures unmoved { Unmoved (line_part result) sink.old sink.new «module».old «module».new
         store.old store.new entropy.old entropy.new desk.old desk.new }
-    ensures unsent { OnErr result (sink.new ≡ sink.old) }
     ensures untrailed { (line_part result ≡ Ok Served.Replied → ⊥)
         → (line_part result ≡ Err Stop.WriteFault → ⊥) → trail.new ≡ trail.old }
 
@@ -95,7 +95,7 @@ pub(crate) fn audit_one<
         (result ≡ Err TrailFault.DiskFault → ⊥) (result ≡ Err TrailFault.DiskFault) }
     ensures grows { TrailGrows (T.medium trail.old) (T.medium trail.new) }
     ensures full { FoundFull result held.old trail.old trail.new }
-    ensures kinds { IfErr result IsAppendFault }
+    ensures failed { IfErr result (λ fault. IsAppendFault fault × (sink.new ≡ sink.old)) }
     ensures bench { bench.new ≡ blank_bench }
 {
     match read_line(source, lines) {

@@ -18,6 +18,7 @@ use Rattle.key_transport.specs.Tokens.{external_token}
 use Rattle.script_buffers.specs.Replies.{Done, Hex}
 use Rattle.store_move.specs.Exports.{export_checks, exporter}
 use Rattle.verb_rules.specs.KeyChecks.{use_checks}
+use Rattle.verb_rules.proofs.NeedLemmas.{every_has}
 use Rattle.verb_script.specs.Named.{label_named}
 use Rattle.cca_machine.specs.Act.{or_act, performed, token_out}
 use Rattle.cca_machine.specs.Keys.{any_old, cell_with, key_in_field, key_named, key_of_label, key_of_request, or_no_key, warning}
@@ -29,7 +30,7 @@ use Rattle.move_file.specs.Moves.{clear_of, role_checks, token_of_label}
 use Rattle.move_file.specs.declared.moves.Move.{Move}
 use Rattle.cca_laws.specs.KeyInParts.{by_label}
 use Rattle.cca_laws.specs.Moving.{IsMovedLabel, IsPermittedMove, export_request}
-use Rattle.cca_laws.proofs.MoveSteps.{each_class, includes_part, moved_checks, named, verdict_is}
+use Rattle.cca_laws.proofs.MoveSteps.{includes_part, moved_checks, named, verdict_is}
 use Rattle.cca_laws.proofs.MoveTokens.{label_well}
 
 -- ---- the rules of a request as a whole
@@ -57,7 +58,7 @@ asked_of well cell what =
 -- of a label that is held these are the rules that keep it back
 asked_is : (cell : ℕ) (what : Option Denoted) → first_failing (asked_of true (Some cell) what) ≡ first_failing (export_checks what)
 asked_is cell None = refl
-asked_is cell (Some key) = rw (each_class (class_of key.clear.vector)) refl
+asked_is cell (Some key) = rw (every_has (class_of key.clear.vector)) refl
 
 -- the verdict on both operands, by the rule that the first one breaks
 key_alone : (key transport kept : Option ℕ) → key ≡ kept → transport ≡ None

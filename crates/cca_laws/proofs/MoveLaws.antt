@@ -25,7 +25,7 @@ use Rattle.cca_machine.specs.Lines.{line_outcome}
 use Rattle.cca_machine.specs.Listing.{ascending, nth_label}
 use Rattle.cca_machine.specs.Session.{line_step, state_after}
 use Rattle.cca_machine.specs.State.{State}
-use Rattle.cca_requests.proofs.ListedLabels.{count_lt, nth_is, within_of}
+use Rattle.cca_machine.proofs.RankLemmas.{count_lt, nth_is, within_of}
 use Rattle.move_file.specs.Moves.{clear_of, create_line, import_line, labels_of, moving_requests, reason, requests_by, requests_for, token_of_label}
 use Rattle.move_file.specs.declared.moves.Move.{Move}
 use Rattle.cca_laws.specs.KeyInParts.{SameRecord}

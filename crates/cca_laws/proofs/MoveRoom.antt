@@ -8,7 +8,7 @@ use Rattle.key_records.specs.Changes.{created, null_entry}
 use Rattle.key_records.specs.Directory.{cell_of, free_cell, held_count}
 use Rattle.key_records.specs.Entries.{Entry, directory, entry_label}
 use Rattle.key_tokens.specs.Denotes.{Denoted}
-use Rattle.cca_requests.proofs.ListedLabels.{count_lt}
+use Rattle.cca_machine.proofs.RankLemmas.{count_lt}
 use Rattle.cca_laws.proofs.MoveLists.{IsHeld, create_held, create_stays, free_low, held_where_put, import_directory, one_more_held}
 use Rattle.cca_laws.proofs.MoveSteps.{after_create, after_import}
 

@@ -15,8 +15,7 @@ use Rattle.cca_vectors.specs.Checks.{check, first_failing}
 use Rattle.cca_vectors.specs.Classes.{class_of}
 use Rattle.cca_vectors.specs.Permissions.{is_exportable}
 use Rattle.cca_vectors.specs.Vectors.{is_part_of, length_of}
-use Rattle.cca_vectors.specs.declared.key_class.Class.{Class}
-use Rattle.cca_vectors.specs.declared.key_class.Class.TheVariants.{Data, Cipher, Mac, Exporter, Importer, Other}
+use Rattle.cca_vectors.specs.declared.key_class.Class.TheVariants.{Importer}
 use Rattle.cca_vectors.specs.declared.key_usage.Usage.TheVariants.{Transport}
 use Rattle.cca_vectors.proofs.Judging.{passed_over}
 use Rattle.key_records.specs.Changes.{created}
@@ -36,9 +35,9 @@ use Rattle.master_registers.specs.declared.registers.Registers.{Registers}
 use Rattle.script_buffers.specs.Reading.{line_limit}
 use Rattle.script_buffers.specs.Replies.{two_digits}
 use Rattle.store_move.specs.Exports.{export_checks}
-use Rattle.verb_rules.specs.Classes.{classes_of, has}
 use Rattle.verb_rules.specs.KeyChecks.{is_under_none, key_checks, read_checks, use_checks}
 use Rattle.verb_rules.specs.declared.needs.Need.{Need}
+use Rattle.verb_rules.proofs.NeedLemmas.{every_has}
 use Rattle.verb_script.specs.Grammar.{Request, csnbkim, csnbkrc}
 use Rattle.verb_script.specs.Named.{label_named}
 use Rattle.verb_script.specs.Requests.{request_of}
@@ -48,7 +47,7 @@ use Rattle.cca_machine.specs.Act.{delivered_with, or_act, performed, state_after
 use Rattle.cca_machine.specs.Keys.{cell_with, imported, key_in_field, key_named, key_of_label, or_no_clear, or_no_key, what_at}
 use Rattle.cca_machine.specs.Draws.{draws_random}
 use Rattle.cca_machine.specs.Lines.{line_outcome, taken_by}
-use Rattle.cca_machine.specs.Operands.{every_class, external_key, transport_key}
+use Rattle.cca_machine.specs.Operands.{external_key, transport_key}
 use Rattle.cca_machine.specs.Points.{point}
 use Rattle.cca_machine.specs.State.{State}
 use Rattle.cca_machine.specs.Verdict.{Refusal, bytes_in, first_refusal, general_checks, held_points, key_questions, lacks, needed_points, operands_verdict, or_refused, or_then, points_for, questions, record_checks, target_checks, verb_verdict, verdict}
@@ -131,14 +130,6 @@ includes_part held all part whole within =
 
 -- ---- a key's control vector
 
-pub each_class : (class : Class) → has (classes_of every_class) class ≡ true
-each_class Data = refl
-each_class Cipher = refl
-each_class Mac = refl
-each_class Exporter = refl
-each_class Importer = refl
-each_class Other = refl
-
 -- an external token of a whole key breaks no rule
 token_passes : (held : Registers) (bytes : List ℕ) → first_failing (token_checks asked.External bytes) ≡ None → (token_of bytes).kind ≡ External
     → is_part_of (token_of bytes).vector ≡ false → first_failing (key_checks external_key held bytes) ≡ None
@@ -148,7 +139,7 @@ token_passes held bytes sound external part =
     read : (token : Token) → token.kind ≡ External → is_part_of token.vector ≡ false → first_failing (read_checks external_key held token) ≡ None
     read token kind whole =
         let under : is_under_none held token.kind token.pattern ≡ false = ap (λ (k : Kind). is_under_none held k token.pattern) kind in
-        rw (whole, under, each_class (class_of token.vector)) refl
+        rw (whole, under, every_has (class_of token.vector)) refl
 
 -- a whole key that may carry others breaks no rule of a transport key
 carrier_passes : (vector : List ℕ) → MayCarry csnbkim vector → is_part_of vector ≡ false → first_failing (use_checks (transport_key Importer Transport) vector) ≡ None

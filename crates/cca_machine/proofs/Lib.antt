@@ -1,6 +1,8 @@
 mod CutReplies
 pub mod DrawLaws
 mod HexTexts
+pub mod KnownLabels
 pub mod LineLaws
 mod PairLaws
+pub mod RankLemmas
 pub mod RerunLaws

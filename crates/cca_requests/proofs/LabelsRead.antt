@@ -8,13 +8,11 @@ use Rattle.key_cells.specs.Bench.{Bench}
 use Rattle.key_cells.specs.Lease.{bench_of}
 use Rattle.key_cells.specs.declared.leases.Lease.{Lease}
 use Rattle.key_records.specs.Changes.{KeepsAllButBody, ReadsToken}
-use Rattle.key_records.specs.Directory.{cell_of}
-use Rattle.key_records.specs.Entries.{Entry, row_directory}
+use Rattle.key_records.specs.Entries.{Entry}
 use Rattle.key_records.specs.RecordBody.{kept}
 use Rattle.key_records.specs.StoreStands.{Agrees, KeepsLabels, entry_at}
 use Rattle.key_records.specs.declared.rows.Row.{Row}
 use Rattle.key_records.proofs.ReadKeys.{HasRead, read_key, read_null}
-use Rattle.key_records.proofs.OpeningLaws.{directory_remembered}
 use Rattle.key_tokens.specs.Denotes.{Denoted, denoted, denoted_under}
 use Rattle.key_tokens.specs.Fields.{kind_of, pattern_of_token, token_of}
 use Rattle.key_tokens.specs.Kinds.{is_asked, kind_at}
@@ -35,12 +33,13 @@ use Rattle.verb_rules.specs.declared.judging.Judged.{Judged}
 use Rattle.verb_rules.specs.declared.needs.Need.{Need}
 use Rattle.verb_rules.specs.declared.rules.Rule.{Rule}
 use Rattle.verb_rules.proofs.NeedLemmas.{any_use}
-use Rattle.cca_machine.specs.Keys.{cell_with, key_in_text, key_named, key_of_label, key_of_token, or_no_key, what_at, what_in}
+use Rattle.cca_machine.specs.Keys.{key_in_text, key_named, key_of_label, key_of_token, or_no_key, what_at, what_in}
 use Rattle.cca_machine.specs.Operands.{Operands, any_key}
 use Rattle.cca_machine.specs.State.{State}
 use Rattle.cca_machine.specs.Verdict.{held_checks, key_questions, label_check, record_checks, target_checks}
 use Rattle.cca_machine.specs.declared.asking.Ask.{Ask}
 use Rattle.cca_machine.specs.declared.asking.Ask.TheVariants.{AnyToken, External, Held, Key, NewLabel, Nothing, Record, Target, Token}
+use Rattle.cca_machine.proofs.KnownLabels.{cell_is}
 use Rattle.verb_script.specs.Named.{label_named}
 use Rattle.verb_script.specs.Values.{hex_value}
 use Rattle.cca_requests.specs.Deciding.{AtStore}
@@ -55,11 +54,8 @@ use Rattle.cca_requests.specs.declared.judging.Verdict.TheVariants as verdict
 -- ---- the labels that the memory knows are those of the state
 
 module _ (s : State) (rows : List (Option Row)) (agrees : Agrees (keys_of s.registers) rows s.labels) (label : List ℕ) where
-  pub cell_is : cell_with s label ≡ cell_of label (row_directory rows)
-  cell_is = ap (cell_of label) (sym (ap row_directory agrees ∙ directory_remembered (keys_of s.registers) s.labels))
-
   pub find_is : first_failing (held_checks s label) ≡ first_failing (find_checks rows label)
-  find_is = ap (λ (o : Option ℕ). first_failing (label_check label ∷ check 7 (is_none o) ∷ [])) cell_is
+  find_is = ap (λ (o : Option ℕ). first_failing (label_check label ∷ check 7 (is_none o) ∷ [])) (cell_is s rows agrees label)
 
 -- ---- what a state says of a store that is read
 

@@ -1,7 +1,7 @@
 -- A stop of one line is the stop of the run.
-use Rattle.std.proofs.Common.{◌≡◌, List, ℕ, Bool, Option, None, Some, IfSome, IsSome, Result, Ok, Err, ap, refl, sym, subst, ◌∙◌, inl, inr, append_assoc, arith}
+use Rattle.std.proofs.Common.{◌≡◌, List, ℕ, Bool, Option, Result, Ok, Err, ap, refl, sym, subst, ◌∙◌, inl, inr, append_assoc, arith}
 use Rattle.std.specs.Prelude.{◌⊎◌, ◌≢◌, ◌++◌, ◌↔◌, [], IsTrue, IsOk}
-use Rattle.slot_disk.specs.Medium.{Medium, Told, IsSettled}
+use Rattle.slot_disk.specs.Medium.{Medium, IsSettled}
 use Rattle.slot_disk.specs.WhereTold.{WhereTold}
 use Rattle.slot_disk.proofs.WhereToldLemmas.{told_weaker, told_then, told_same}
 use Rattle.std.proofs.lemmas.List.{append-nil}
@@ -44,24 +44,6 @@ pub not_ended : (a b : Option (List ℕ)) (before now : Bool) (pending : List �
     → WhereTold a b (λ input rest. IsTrue before → pending ++ input ≢ [])
 not_ended a b before now pending r stop is still ended =
     told_weaker a b _ _ (λ i x both was none. let at_end : r ≡ Ok Ended = both.1 (still was, none) in cc (at_end, is)) ended
-
--- a disk that told its content still tells it
-pub told_back : (old new : Medium) → (IsSome old.content → IsSome new.content) → Told new (λ c. ⊥) → Told old (λ c. ⊥)
-told_back old new still never = by_content old.content new.content still never
-  where
-    by_content : (o n : Option (List ℕ)) → (IsSome o → IsSome n) → IfSome n (λ c. ⊥) → IfSome o (λ c. ⊥)
-    by_content None n still never = tt
-    by_content (Some c) None still never = cc (still refl)
-    by_content (Some c) (Some d) still never = never
-
-pub both_told_back : (m0 m1 d0 d1 : Medium) → (IsSome m0.content → IsSome m1.content) → (IsSome d0.content → IsSome d1.content)
-    → Told m1 (λ c. Told d1 (λ e. ⊥)) → Told m0 (λ c. Told d0 (λ e. ⊥))
-both_told_back m0 m1 d0 d1 still_m still_d never = by_content m0.content m1.content still_m never
-  where
-    by_content : (o n : Option (List ℕ)) → (IsSome o → IsSome n) → IfSome n (λ c. Told d1 (λ e. ⊥)) → IfSome o (λ c. Told d0 (λ e. ⊥))
-    by_content None n still never = tt
-    by_content (Some c) None still never = cc (still refl)
-    by_content (Some c) (Some d) still never = told_back d0 d1 still_d never
 
 pub grows_on : (a b c : Option (List ℕ)) → WhereTold a b Grows → WhereTold b c Grows → WhereTold a c Grows
 grows_on a b c first second =

@@ -16,88 +16,13 @@ use crate::registers::Registers;
 use key_cells::Lease;
 use slot_disk::{Cell, Disk, replace_cell};
 
-/// FIRST: puts the key part in the place `Part` into the empty new register, which is then partly full.
-///
-/// The lease holds what `load` or the last change gave. Of it the places `Current`, `Old` and `New` and the body change.
-pub fn first<M: Disk>(
-    module: &mut M,
-    lease: &mut Lease,
-    held: &Registers,
-) -> Result<Registers, RegisterFault>
-    requires { IsLoadedFrom (M.medium «module».old) held.now (bench_of lease.old) }
-    ensures { CarriesOut M.medium M.faults Action.First held.now
-        lease.old lease.new «module».old «module».new result }
-{
-    change(Action::First, module, lease, held)
-}
-
-/// MIDDLE: XORs the key part in the place `Part` into the partly full new register, which stays partly full.
-///
-/// The lease holds what `load` or the last change gave. Of it the places `Current`, `Old` and `New` and the body change.
-pub fn middle<M: Disk>(
-    module: &mut M,
-    lease: &mut Lease,
-    held: &Registers,
-) -> Result<Registers, RegisterFault>
-    requires { IsLoadedFrom (M.medium «module».old) held.now (bench_of lease.old) }
-    ensures { CarriesOut M.medium M.faults Action.Middle held.now
-        lease.old lease.new «module».old «module».new result }
-{
-    change(Action::Middle, module, lease, held)
-}
-
-/// LAST: XORs the key part in the place `Part` into the partly full new register, which is then full.
-///
-/// The lease holds what `load` or the last change gave. Of it the places `Current`, `Old` and `New` and the body change.
-pub fn last<M: Disk>(
-    module: &mut M,
-    lease: &mut Lease,
-    held: &Registers,
-) -> Result<Registers, RegisterFault>
-    requires { IsLoadedFrom (M.medium «module».old) held.now (bench_of lease.old) }
-    ensures { CarriesOut M.medium M.faults Action.Last held.now
-        lease.old lease.new «module».old «module».new result }
-{
-    change(Action::Last, module, lease, held)
-}
-
-/// CLEAR: empties the new register from any state; no rule refuses it. The selected body of the cell has zeros in its
-/// place then; the other body isn't erased.
-///
-/// The lease holds what `load` or the last change gave. Of it the places `Current`, `Old` and `New` and the body change.
-pub fn clear<M: Disk>(
-    module: &mut M,
-    lease: &mut Lease,
-    held: &Registers,
-) -> Result<Registers, RegisterFault>
-    requires { IsLoadedFrom (M.medium «module».old) held.now (bench_of lease.old) }
-    ensures { CarriesOut M.medium M.faults Action.Clear held.now
-        lease.old lease.new «module».old «module».new result }
-{
-    change(Action::Clear, module, lease, held)
-}
-
-/// SET: moves current to old, where current is full, and the full new register to current, and empties new.
-///
-/// Whether a key is still enciphered under the old master key isn't asked here.
-///
-/// The lease holds what `load` or the last change gave. Of it the places `Current`, `Old` and `New` and the body change.
-pub fn set<M: Disk>(
-    module: &mut M,
-    lease: &mut Lease,
-    held: &Registers,
-) -> Result<Registers, RegisterFault>
-    requires { IsLoadedFrom (M.medium «module».old) held.now (bench_of lease.old) }
-    ensures { CarriesOut M.medium M.faults Action.Set held.now
-        lease.old lease.new «module».old «module».new result }
-{
-    change(Action::Set, module, lease, held)
-}
-
 /// Carries out an action. A refusal by a rule leaves the module and the lease untouched.
 ///
 /// The lease holds what `load` or the last change gave. Of it the places `Current`, `Old` and `New` and the body change.
-/// A key part stands in the place `Part`. It costs a read, two writes and two syncs; a refusal calls no device.
+/// A key part stands in the place `Part`. After CLEAR the selected body of the cell has zeros in the register's place;
+/// the other body isn't erased. Whether a key is still enciphered under the old master key isn't asked here.
+///
+/// It costs a read, two writes and two syncs; a refusal calls no device.
 pub fn change<M: Disk>(
     action: Action,
     module: &mut M,

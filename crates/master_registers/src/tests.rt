@@ -2,7 +2,6 @@
 ghost use Rattle.std.specs.Prelude.{◌≡◌, ◌≤◌};
 ghost use Rattle.key_cells.specs.Bench.{master_of, with_master};
 ghost use Rattle.key_cells.specs.Lease.{bench_of, holding};
-ghost use Rattle.master_registers.specs.Changes.{IsLoadedFrom};
 
 use crate::*;
 use key_cells::{Lease, MasterPlace, Workbench};
@@ -47,24 +46,6 @@ fn put_key_part(step: Step, lease: &mut Lease)
     }
 }
 
-/// The call of each action.
-fn act<M: Disk>(
-    action: Action,
-    module: &mut M,
-    lease: &mut Lease,
-    held: &Registers,
-) -> Result<Registers, RegisterFault>
-    requires { IsLoadedFrom (M.medium «module».old) held.now (bench_of lease.old) }
-{
-    match action {
-        Action::First => first(module, lease, held),
-        Action::Middle => middle(module, lease, held),
-        Action::Last => last(module, lease, held),
-        Action::Clear => clear(module, lease, held),
-        Action::Set => set(module, lease, held),
-    }
-}
-
 /// Settles a module, loads its registers and makes a step.
 fn carry_out<M: Disk>(module: &mut M, bench: &mut Workbench, step: Step) -> Result<Registers, Stop>
     requires { 1536 ≤ (M.medium «module».old).size }
@@ -75,7 +56,7 @@ fn carry_out<M: Disk>(module: &mut M, bench: &mut Workbench, step: Step) -> Resu
     let mut lease = Lease::open(bench);
     let held = load(module, &mut lease).map_err(Stop::Load)?;
     put_key_part(step, &mut lease);
-    act(step.action(), module, &mut lease, &held).map_err(Stop::Change)
+    change(step.action(), module, &mut lease, &held).map_err(Stop::Change)
 }
 
 /// The registers that a module holds.

@@ -5,7 +5,7 @@ use Rattle.cca_vectors.specs.Checks.{Check, check, first_failing}
 use Rattle.cca_vectors.proofs.Judging.{passed_over, stopped_in}
 use Rattle.key_cells.specs.Bench.{Bench}
 use Rattle.key_records.specs.Directory.{cell_of}
-use Rattle.key_records.specs.Entries.{Entry, row_directory}
+use Rattle.key_records.specs.Entries.{row_directory}
 use Rattle.key_records.specs.Labels.{IsLabel, is_label}
 use Rattle.key_records.specs.StoreStands.{Agrees, KeepsLabels, entry_at}
 use Rattle.key_records.specs.declared.faults.RecordFault.{RecordFault}
@@ -14,7 +14,7 @@ use Rattle.key_tokens.specs.Denotes.{Denoted}
 use Rattle.key_tokens.specs.declared.key_token.Age.{Age}
 use Rattle.slot_disk.specs.Medium.{Medium, Told}
 use Rattle.slot_disk.proofs.Media.{told_from, told_joined, told_map}
-use Rattle.store_move.specs.Exports.{IsTransport, exporter, held_in, transport_checks}
+use Rattle.store_move.specs.Exports.{IsTransport, exporter, transport_checks}
 use Rattle.verb_rules.specs.KeyChecks.{use_checks}
 use Rattle.verb_rules.specs.Keys.{keys_of, opened}
 use Rattle.verb_rules.specs.declared.judging.Judged.{Judged}
@@ -22,7 +22,7 @@ use Rattle.verb_rules.specs.declared.rules.Rule.{Rule}
 use Rattle.cca_machine.specs.Keys.{cell_with, key_of_label, or_no_key, what_at, what_in}
 use Rattle.cca_machine.specs.State.{State}
 use Rattle.cca_machine.specs.Verdict.{record_checks}
-use Rattle.cca_requests.proofs.LabelsRead.{cell_is}
+use Rattle.cca_machine.proofs.KnownLabels.{cell_is}
 use Rattle.move_file.specs.Judging.{IsJudged}
 use Rattle.move_file.specs.Moves.{clear_of, move_checks, role_checks}
 use Rattle.move_file.specs.declared.moves.Move.{Move}
@@ -35,12 +35,8 @@ found_at r a b first second = sym first ∙ second
 
 -- what the record of a label holds, by its cell
 module _ (s : State) (rows : List (Option Row)) (agrees : Agrees (keys_of s.registers) rows s.labels) (label : List ℕ) where
-  pub key_at : (place : ℕ) → cell_of label (row_directory rows) ≡ Some place → key_of_label s label ≡ held_in (entry_at s.labels place)
-  key_at place is = ap (what_at s.labels) (cell_is s rows agrees label ∙ is) ∙ same_what (entry_at s.labels place)
-    where
-      same_what : (e : Option Entry) → what_in e ≡ held_in e
-      same_what None = refl
-      same_what (Some e) = refl
+  pub key_at : (place : ℕ) → cell_of label (row_directory rows) ≡ Some place → key_of_label s label ≡ what_in (entry_at s.labels place)
+  key_at place is = ap (what_at s.labels) (cell_is s rows agrees label ∙ is)
 
 -- ---- the rules
 
@@ -94,15 +90,15 @@ module _ (s : State) (w : Move) (label : IsLabel w.transport) where
   clear_is bench judged (Some age) (Some key) is passes = ap (λ (o : Option Denoted). (or_no_key o).clear) is
 
   judged_as : (bench : Bench) (place : ℕ) (r : Result Judged Rule) → None ≡ first_failing (role_checks s w.role)
-      → cell_with s w.transport ≡ Some place → key_of_label s w.transport ≡ held_in (entry_at s.labels place)
-      → IsTransport bench (held_in (entry_at s.labels place)) r → IsJudged s w bench r
+      → cell_with s w.transport ≡ Some place → key_of_label s w.transport ≡ what_in (entry_at s.labels place)
+      → IsTransport bench (what_in (entry_at s.labels place)) r → IsJudged s w bench r
   judged_as bench place (Ok judged) role held is (passes, opens) = (
-    past_role role ∙ known_checks place (held_in (entry_at s.labels place)) held is ∙ passes,
-    clear_is bench judged judged.age (held_in (entry_at s.labels place)) opens passes
+    past_role role ∙ known_checks place (what_in (entry_at s.labels place)) held is ∙ passes,
+    clear_is bench judged judged.age (what_in (entry_at s.labels place)) opens passes
         ∙ ap (λ (o : Option Denoted). (or_no_key o).clear) (sym is),
   )
   judged_as bench place (Err broken) role held is fails =
-      past_role role ∙ known_checks place (held_in (entry_at s.labels place)) held is ∙ fails
+      past_role role ∙ known_checks place (what_in (entry_at s.labels place)) held is ∙ fails
 
 -- ---- by what the memory knows
 
@@ -115,10 +111,10 @@ module _ (s : State) (w : Move) (rows : List (Option Row)) (m : Medium) (bench :
       (λ c here. past_role s w label role ∙ unknown_refuses s w label (cell_is s rows here.agrees w.transport ∙ none))
 
   pub label_judged : (place : ℕ) (r : Result (Result Judged Rule) RecordFault) → cell_of w.transport (row_directory rows) ≡ Some place
-      → IfOk r (λ judged. Told m (λ _. IsTransport bench (held_in (entry_at s.labels place)) judged))
+      → IfOk r (λ judged. Told m (λ _. IsTransport bench (what_in (entry_at s.labels place)) judged))
       → IfOk r (λ judged. Told m (λ _. IsJudged s w bench judged))
   label_judged place (Ok judged) found told =
-      told_joined m (KeepsLabels (keys_of s.registers) rows s.labels) (λ _. IsTransport bench (held_in (entry_at s.labels place)) judged)
+      told_joined m (KeepsLabels (keys_of s.registers) rows s.labels) (λ _. IsTransport bench (what_in (entry_at s.labels place)) judged)
       (λ _. IsJudged s w bench judged) keeps told
       (λ c here is. judged_as s w label bench place judged role (cell_is s rows here.agrees w.transport ∙ found) (key_at s rows here.agrees w.transport place found) is)
   label_judged place (Err fault) found told = tt

@@ -7,7 +7,7 @@ use Rattle.byte_lists.proofs.DirectoryLaws.{held_nowhere}
 use Rattle.cca_vectors.specs.Checks.{first_failing}
 use Rattle.key_cells.specs.Bench.{Bench}
 use Rattle.key_records.specs.Directory.{cell_of, label_at}
-use Rattle.key_records.specs.Entries.{Entry, row_directory}
+use Rattle.key_records.specs.Entries.{row_directory}
 use Rattle.key_records.specs.StoreStands.{Agrees, KeepsLabels, entry_at}
 use Rattle.key_records.specs.declared.faults.RecordFault.{RecordFault}
 use Rattle.key_records.specs.declared.faults.RecordFault.TheVariants.{Damaged}
@@ -18,7 +18,7 @@ use Rattle.key_transport.specs.Tokens.{external_token}
 use Rattle.script_buffers.specs.Replies.{two_digits}
 use Rattle.slot_disk.specs.Medium.{Medium, Told}
 use Rattle.slot_disk.proofs.Media.{told_at, told_from}
-use Rattle.store_move.specs.Exports.{IsMoved, export_checks, held_in}
+use Rattle.store_move.specs.Exports.{IsMoved, export_checks}
 use Rattle.store_move.specs.declared.moving.Moved.{Moved}
 use Rattle.store_move.specs.declared.moving.Moved.TheVariants.{Kept, Token}
 use Rattle.verb_rules.specs.Keys.{keys_of, opened}
@@ -46,16 +46,11 @@ held_found label d place held = by_cell (cell_of label d) refl
     by_cell None is = absurd (held_nowhere label d (ap (λ c. is_some c) is) place held)
     by_cell (Some cell) is = refl
 
-held_what : (e : Option Entry) → what_in e ≡ held_in e
-held_what None = refl
-held_what (Some e) = refl
-
 -- the key of a label is that of the record at its place
 label_key : (s : State) (rows : List (Option Row)) (label : List ℕ) (place : ℕ) → Agrees (keys_of s.registers) rows s.labels
-    → cell_of label (row_directory rows) ≡ Some place → key_of_label s label ≡ held_in (entry_at s.labels place)
+    → cell_of label (row_directory rows) ≡ Some place → key_of_label s label ≡ what_in (entry_at s.labels place)
 label_key s rows label place agrees found =
     ap (what_at s.labels) (ap (cell_of label) (sym (ap row_directory agrees ∙ directory_remembered (keys_of s.registers) s.labels)) ∙ found)
-    ∙ held_what (entry_at s.labels place)
 
 -- ---- no fault of a device is damage
 
@@ -116,13 +111,13 @@ module _ (s : State) (w : Move) (label : List ℕ) where
   module _ (rows : List (Option Row)) (place : ℕ) (bench : Bench) (transport : Judged) (m : Medium) (differs : bytes_eq label w.transport_there ≡ false)
       (found : cell_of label (row_directory rows) ≡ Some place) (told : Told m (KeepsLabels (keys_of s.registers) rows s.labels)) where
     abbrev Comes : Moved → Type 0
-    Comes = IsMoved (opened bench transport).key (held_in (entry_at s.labels place))
+    Comes = IsMoved (opened bench transport).key (what_in (entry_at s.labels place))
 
-    key_is : (image : List ℕ) → m.content ≡ Some image → key_of_label s label ≡ held_in (entry_at s.labels place)
+    key_is : (image : List ℕ) → m.content ≡ Some image → key_of_label s label ≡ what_in (entry_at s.labels place)
     key_is image is = label_key s rows label place (told_at m.content (KeepsLabels (keys_of s.registers) rows s.labels) image is told).agrees found
 
     reason_is : (image : List ℕ) → m.content ≡ Some image → (broken : Option ℕ)
-        → first_failing (export_checks (held_in (entry_at s.labels place))) ≡ broken → reason s w label ≡ option_map two_digits broken
+        → first_failing (export_checks (what_in (entry_at s.labels place))) ≡ broken → reason s w label ≡ option_map two_digits broken
     reason_is image is broken fails =
         by_target false differs
         ∙ ap (λ (o : Option Denoted). option_map two_digits (first_failing (export_checks o))) (key_is image is)

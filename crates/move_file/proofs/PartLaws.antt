@@ -18,7 +18,7 @@ use Rattle.key_records.proofs.OpeningLaws.{directory_remembered}
 use Rattle.verb_rules.specs.Keys.{keys_of}
 use Rattle.cca_machine.specs.Listing.{ascending, nth_label}
 use Rattle.cca_machine.specs.State.{State}
-use Rattle.cca_requests.proofs.ListedLabels.{nth_is}
+use Rattle.cca_machine.proofs.RankLemmas.{nth_is}
 use Rattle.move_file.specs.Moves.{file_parts, remarks_on, report_parts, requests_for, with_newlines}
 use Rattle.move_file.specs.Telling.{GotSome, TellsLabel}
 use Rattle.move_file.specs.Writing.{SentTo, Tells}

@@ -4,15 +4,13 @@ use Rattle.std.specs.Prelude.{nat_le, nat_lt}
 use Rattle.std.proofs.lemmas.Bool.{and_cases, or_parts}
 use Rattle.std.proofs.lemmas.Bool.Decides.{nat_tests}
 use Rattle.std.proofs.lemmas.List.{length-replicate, take_more}
-use Rattle.std.proofs.lemmas.List.Sums.{fold-append}
 use Rattle.slot_disk.specs.Ranges.{overwrite}
 use Rattle.slot_disk.specs.declared.call.Call.{Call}
-use Rattle.slot_disk.specs.declared.call.Call.TheVariants.{Written}
 use Rattle.slot_disk.specs.Stages.{Stage, settled, noting, stage, covers, IsTorn}
 use Rattle.slot_disk.specs.StageLaws.{length-stage, content_torn, length-overwrite, get_or-overwrite_before, get_or-overwrite_after}
 use Rattle.slot_disk.specs.declared.memory_disk.Torn.{Torn}
 use Rattle.slot_disk.specs.declared.memory_disk.Torn.TheVariants.{Old, New, Fill}
-use Rattle.slot_disk.specs.TornImage.{torn_image, torn_over}
+use Rattle.slot_disk.specs.TornImage.{torn_image}
 use Rattle.slot_disk.specs.DiskState.{IsDisk, blank_image}
 use Rattle.slot_disk.specs.LogMedium.{log_medium}
 use Rattle.slot_disk.specs.Medium.{IsSettled}
@@ -78,11 +76,6 @@ pub torn_image-settled : (torn : Torn) (image : List ℕ) → torn_image torn (s
 torn_image-settled Old image = refl
 torn_image-settled New image = refl
 torn_image-settled (Fill byte) image = refl
-
-pub torn_image-written : (torn : Torn) (s : Stage) (at : ℕ) (bytes : List ℕ) → torn_over torn (torn_image torn s) at bytes ≡ torn_image torn (noting s (Written at bytes))
-torn_image-written Old s at bytes = refl
-torn_image-written New s at bytes = refl
-torn_image-written (Fill byte) s at bytes = sym (fold-append (λ xs (r : ℕ × ℕ). overwrite xs r.0 (replicate r.1 byte)) s.synced s.unsynced ((at, length bytes) ∷ []))
 
 pub stage-take_more : (first : List ℕ) (calls : List Call) (i : ℕ) (call : Call) → i < length calls → call ≡ get_or calls i call → stage first (take (i + 1) calls) ≡ noting (stage first (take i calls)) call
 stage-take_more first calls i call within is =

@@ -1,7 +1,7 @@
 -- What changes of cells leave of the other bytes of a disk.
 use Rattle.std.proofs.Common.{◌≡◌, ◌≢◌, ◌<◌, inl, inr, ⊎_elim, ℕ, ◌+◌, ◌-◌, ◌*◌, List, get_or, refl, sym, ◌∙◌, subst, arith}
 use Rattle.std.proofs.lemmas.Bool.{cases_eq}
-use Rattle.slot_disk.specs.Cells.{selected, body, other_body, IsOutside, IsUntouched, IsReplaced, IsReplacing}
+use Rattle.slot_disk.specs.Cells.{selected, body, other_body, IsOutside, IsUntouched, IsReplaced}
 use Rattle.slot_disk.specs.Medium.{Medium, Becomes}
 use Rattle.slot_disk.specs.Ranges.{SameOutside}
 use Rattle.slot_disk.specs.SpareBytes.{IsSpare, SameSpare, SameCell, HasTurned, Turned}
@@ -51,9 +51,6 @@ module _ (n : ℕ) (old new : List ℕ) (outside : SameOutside (1536 * n) 1536 o
         (λ apart. inl (other_cell m apart))
         (cases_eq m n);
   }
-
-pub replacing_spare : (n : ℕ) (bytes old new : List ℕ) → IsReplacing n bytes old new → SameSpare old new
-replacing_spare n bytes old new by = change_spare n old new by.outside by.untouched
 
 pub replaced_turned : (n : ℕ) (bytes old new : List ℕ) → IsReplaced n bytes old new → (count : ℕ) → Turned count old new
 replaced_turned n bytes old new by count = change_turned n old new by.outside by.untouched count by.selector by.other

@@ -1,7 +1,7 @@
 -- How facts on told bytes follow from one another, by cases on what is told.
 use Rattle.std.proofs.Common.{◌≡◌, ℕ, ◌<◌, ◌≤◌, inl, inr, ⊎_elim, List, [], ◌++◌, Option, None, Some, subst, arith}
 use Rattle.std.proofs.lemmas.Bool.{cases_lt}
-use Rattle.std.specs.Io.KnownBytes.{Keeps, Appends, Consumes, IsAtEnd}
+use Rattle.std.specs.Io.KnownBytes.{Keeps, Appends, IsAtEnd}
 use Rattle.slot_disk.specs.Faults.{Rose}
 use Rattle.slot_disk.specs.WhereTold.{WhereTold}
 
@@ -26,12 +26,6 @@ told_both None b P Q first second = tt
 told_both (Some x) None P Q first second = absurd first
 told_both (Some x) (Some y) P Q first second = (first, second)
 
--- a fact on two devices, each of which tells its bytes or doesn't
-pub told_across : (a b c d : Option (List ℕ)) (P Q : List ℕ → List ℕ → Type 0) → WhereTold a b P → WhereTold c d Q → WhereTold a b (λ x y. WhereTold c d (λ z w. P x y × Q z w))
-told_across None b c d P Q first second = tt
-told_across (Some x) None c d P Q first second = absurd first
-told_across (Some x) (Some y) c d P Q first second = told_weaker c d Q (λ z w. P x y × Q z w) (λ z w q. (first, q)) second
-
 -- nothing is left at the end
 pub told_at_end : (a b : Option (List ℕ)) (P : List ℕ → List ℕ → Type 0) → IsAtEnd b → WhereTold a b P → WhereTold a b (λ x y. P x [] × (y ≡ []))
 told_at_end None b P at_end told = tt
@@ -44,11 +38,6 @@ pub told_kept : (a b : Option (List ℕ)) → Keeps a b → WhereTold a b (λ x 
 told_kept None b keeps = tt
 told_kept (Some x) None keeps = absurd keeps
 told_kept (Some x) (Some y) keeps = keeps
-
-pub told_consumed : (a b : Option (List ℕ)) (bytes : List ℕ) → Consumes a b bytes → WhereTold a b (λ x y. x ≡ bytes ++ y)
-told_consumed None b bytes consumes = tt
-told_consumed (Some x) None bytes consumes = absurd consumes
-told_consumed (Some x) (Some y) bytes consumes = consumes
 
 pub told_appended : (a b : Option (List ℕ)) (bytes : List ℕ) → Appends a b bytes → WhereTold a b (λ x y. y ≡ x ++ bytes)
 told_appended None b bytes appends = tt

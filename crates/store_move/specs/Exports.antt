@@ -10,7 +10,6 @@ use Rattle.key_cells.specs.Lease.{bench_of, holding}
 use Rattle.key_cells.specs.declared.leases.Lease.{Lease}
 use Rattle.key_tokens.specs.Denotes.{Denoted}
 use Rattle.key_transport.specs.Tokens.{external_token}
-pub use Rattle.key_records.specs.Entries.{what_in as held_in}
 use Rattle.verb_rules.specs.KeyChecks.{use_checks}
 use Rattle.verb_rules.specs.Keys.{opened_key}
 use Rattle.verb_rules.specs.Needs.{transport_key}

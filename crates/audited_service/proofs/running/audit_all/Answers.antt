@@ -162,9 +162,9 @@ returns-in-Err-clause-serves g c = λ s stands.
       unanswered = unmoved_world g.M.Disk.medium g.D.Disk.medium g.E.Entropy.left _ _ _ _ _ _ _ _ _ _ _ here.unmoved;
       unsent = λ unreplied uncut. ap g.K.Sink.held (here.unmoved.sink_unmoved unreplied uncut);
       untrailed = λ unreplied uncut. ap g.T.Disk.medium (here.untrailed unreplied uncut);
-      failed_unsent = ap g.K.Sink.held here.unsent;
+      failed_unsent = ap g.K.Sink.held here.failed.1;
       settled = here.trail_left.settled;
-      kinds = here.kinds;
+      kinds = here.failed.0;
     } in
     audit_failed _ _ s _ _ _ _ _ _ _ _ _ _ next
 

@@ -1,6 +1,7 @@
 use Rattle.std.proofs.Common.{◌∙◌, sym, ap}
 use Rattle.cca_requests.specs.declared.judging.Grant.{Grant}
-use Rattle.cca_requests.proofs.LabelsRead.{cell_is, find_is}
+use Rattle.cca_machine.proofs.KnownLabels.{cell_is}
+use Rattle.cca_requests.proofs.LabelsRead.{find_is}
 use Rattle.cca_requests.proofs.stored.judge_held.Goals as goal
 
 pub returns-in-Ok-clause-asked : goal.returns-in-Ok-clause-asked

@@ -8,7 +8,7 @@ use Rattle.reencipher.proofs.LeftLaws.{left_start, left_on, left_failed}
 use Rattle.reencipher.proofs.RowLaws.{HasTurnedTo, turned_start, turned_on, turns_ended, turns_whole}
 use Rattle.reencipher.proofs.RunLaws.{Reaches, reaches_start, reaches_next, ends_at, ends_whole}
 use Rattle.reencipher.proofs.TurnLaws.{loaded_turn}
-use Rattle.reencipher.proofs.running.run.Goals as goal
+use Rattle.reencipher.proofs.running.run_action.Goals as goal
 
 byte_is : (b : Bool) → bool_byte b ≡ cond b 1 0
 byte_is true = refl

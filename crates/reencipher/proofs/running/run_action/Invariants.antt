@@ -10,7 +10,7 @@ use Rattle.verb_rules.specs.Keys.{keys_of}
 use Rattle.reencipher.specs.Runs.{IsCell, LeavesAnyStore}
 use Rattle.reencipher.proofs.RowLaws.{HasTurnedTo}
 use Rattle.reencipher.proofs.RunLaws.{Reaches}
-use Rattle.reencipher.proofs.running.run.Given as goal
+use Rattle.reencipher.proofs.running.run_action.Given as goal
 
 abbrev pub invariant-loop-cell : goal.invariant-loop-cell
 invariant-loop-cell g l = record {
