@@ -1,14 +1,14 @@
 //! What each verb decides, stated for its request: over the operands that were granted, in every
 //! state that the memory and the workbench stand for.
 ghost use Rattle.std.specs.Prelude.{◌≡◌, [], IsSome, IsTrue};
-ghost use Rattle.key_cells.specs.Lease.{bench_of, holding};
+ghost use Rattle.key_cells.specs.Lease.{bench_of};
 ghost use Rattle.master_registers.specs.Loaded.{Loaded, IsLoaded};
 ghost use Rattle.master_registers.specs.Masters.{Masters};
 ghost use Rattle.verb_script.specs.Parsed.{seen};
 ghost use Rattle.cca_machine.specs.Operands.{operands};
 ghost use Rattle.cca_machine.specs.Verdict.{needs_master};
 ghost use Rattle.cca_requests.specs.Decided.{Decision, source};
-ghost use Rattle.cca_requests.specs.Deciding.{with_places};
+ghost use Rattle.cca_requests.specs.Deciding.{ChangesPlaces};
 ghost use Rattle.cca_requests.specs.Judging.{IsAccepted, HaveShapes, AreKeyed};
 
 mod control;
@@ -53,8 +53,7 @@ pub(crate) fn decide<E: Entropy>(
         (bench_of lease.old) (bench_of lease.new) result reply.new
         (source entropy.old (E.left entropy.old) (E.faults entropy.old))
         (source entropy.new (E.left entropy.new) (E.faults entropy.new)) }
-    ensures places { lease.new ≡ holding lease.old
-        (with_places (bench_of lease.old) (bench_of lease.new)) }
+    ensures places { ChangesPlaces lease.old lease.new }
 {
     match request {
         Request::Csnbktp { .. } => Ok(keys::decide_csnbktp(granted, reply)),

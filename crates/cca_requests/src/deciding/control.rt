@@ -1,16 +1,16 @@
 //! The master key registers, the roles, and the store under another master key.
-ghost use Rattle.std.specs.Prelude.{◌≡◌, ◌≢◌, ◌∷◌, [], ℕ, IsSome, IsTrue, List, Option};
+ghost use Rattle.std.specs.Prelude.{◌≢◌, ◌∷◌, [], ℕ, IsSome, IsTrue, List, Option};
 ghost use Rattle.std.specs.Int.{to_be_bytes, w32};
 ghost use Rattle.cca_roles.specs.RoleNames.{default_name};
 ghost use Rattle.key_cells.specs.Bench.{Bench};
 ghost use Rattle.master_registers.specs.Loaded.{IsLoaded};
-ghost use Rattle.key_cells.specs.Lease.{bench_of, holding};
+ghost use Rattle.key_cells.specs.Lease.{bench_of};
 ghost use Rattle.key_records.specs.declared.rows.Row.{Row};
 ghost use Rattle.master_registers.specs.declared.registers.Registers.{Registers};
 ghost use Rattle.verb_script.specs.Choices.{part_action_word};
 ghost use Rattle.verb_script.specs.Grammar.{is_hex, csnbmkp_part, csnbmkp_clear, csnbmkp_set, csuaaci_define, csuaaci_remove, reencipher, reencipher_ahead, reencipher_drop};
 ghost use Rattle.cca_requests.specs.Decided.{Settles, asked};
-ghost use Rattle.cca_requests.specs.Deciding.{with_places};
+ghost use Rattle.cca_requests.specs.Deciding.{ChangesPlaces};
 ghost use Rattle.cca_requests.specs.declared.judging.Granted.{Granted};
 
 use crate::effects::Effect;
@@ -31,8 +31,7 @@ pub(super) fn decide_key_part(action: PartAction, part: &[u8], lease: &mut Lease
         (rows : List (Option Row))
         → Settles (asked csnbmkp_part (role ∷ part_action_word action ∷ part.now ∷ []))
         granted held rows (bench_of lease.old) (bench_of lease.new) result [] }
-    ensures places { lease.new ≡ holding lease.old
-        (with_places (bench_of lease.old) (bench_of lease.new)) }
+    ensures places { ChangesPlaces lease.old lease.new }
 {
     put_part(part, lease);
     Effect::Change(part_action(action))

@@ -3,7 +3,7 @@ ghost use Rattle.std.specs.Prelude.{◌≡◌, ◌∷◌, [], ℕ, IsSome, IsTru
 ghost use Rattle.cca_vectors.specs.KeyTypes.{type_name};
 ghost use Rattle.key_cells.specs.Bench.{Bench};
 ghost use Rattle.master_registers.specs.Loaded.{IsLoaded};
-ghost use Rattle.key_cells.specs.Lease.{bench_of, holding};
+ghost use Rattle.key_cells.specs.Lease.{bench_of};
 ghost use Rattle.key_records.specs.declared.rows.Row.{Row};
 ghost use Rattle.master_registers.specs.declared.registers.Registers.{Registers};
 ghost use Rattle.verb_script.specs.Choices.{number_form_word, key_length_word, pair_form_word, out_form_word};
@@ -12,7 +12,7 @@ ghost use Rattle.verb_script.specs.KeyFields.{destination_text};
 ghost use Rattle.verb_script.specs.Named.{label_named};
 ghost use Rattle.cca_machine.specs.Operands.{operands};
 ghost use Rattle.cca_requests.specs.Decided.{Decision, asked, source};
-ghost use Rattle.cca_requests.specs.Deciding.{with_places};
+ghost use Rattle.cca_requests.specs.Deciding.{ChangesPlaces};
 ghost use Rattle.cca_requests.specs.Judging.{HasDoubleKey, HaveShapes, IsPlaceFor};
 ghost use Rattle.cca_requests.specs.declared.judging.Granted.{Granted};
 
@@ -73,8 +73,7 @@ pub(super) fn decide_generate_one<E: Entropy>(
         result reply.new
         (source entropy.old (E.left entropy.old) (E.faults entropy.old))
         (source entropy.new (E.left entropy.new) (E.faults entropy.new)) }
-    ensures places { lease.new ≡ holding lease.old
-        (with_places (bench_of lease.old) (bench_of lease.new)) }
+    ensures places { ChangesPlaces lease.old lease.new }
 {
     let place = granted.first.place;
     match generate_one(length, kind, to, place, entropy, lease, held, reply) {
@@ -111,8 +110,7 @@ pub(super) fn decide_generate_pair<E: Entropy>(
         result reply.new
         (source entropy.old (E.left entropy.old) (E.faults entropy.old))
         (source entropy.new (E.left entropy.new) (E.faults entropy.new)) }
-    ensures places { lease.new ≡ holding lease.old
-        (with_places (bench_of lease.old) (bench_of lease.new)) }
+    ensures places { ChangesPlaces lease.old lease.new }
 {
     let transport = double_key_in(&granted.first);
     let place = granted.second.place;
@@ -149,8 +147,7 @@ pub(super) fn decide_generate_out<E: Entropy>(
         result reply.new
         (source entropy.old (E.left entropy.old) (E.faults entropy.old))
         (source entropy.new (E.left entropy.new) (E.faults entropy.new)) }
-    ensures places { lease.new ≡ holding lease.old
-        (with_places (bench_of lease.old) (bench_of lease.new)) }
+    ensures places { ChangesPlaces lease.old lease.new }
 {
     let one = double_key_in(&granted.first);
     let two = double_key_in(&granted.second);

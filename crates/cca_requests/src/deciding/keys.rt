@@ -3,7 +3,7 @@ ghost use Rattle.std.specs.Prelude.{◌≡◌, ◌∷◌, [], ℕ, IsSome, IsTru
 ghost use Rattle.cca_vectors.specs.KeyTypes.{type_name};
 ghost use Rattle.key_cells.specs.Bench.{Bench};
 ghost use Rattle.master_registers.specs.Loaded.{IsLoaded};
-ghost use Rattle.key_cells.specs.Lease.{bench_of, holding};
+ghost use Rattle.key_cells.specs.Lease.{bench_of};
 ghost use Rattle.key_records.specs.declared.rows.Row.{Row};
 ghost use Rattle.master_registers.specs.declared.registers.Registers.{Registers};
 ghost use Rattle.verb_script.specs.Choices.{change_word, part_rule_word};
@@ -11,7 +11,7 @@ ghost use Rattle.verb_script.specs.Grammar.{accepts, is_hex, part_text, to_text,
 ghost use Rattle.verb_script.specs.KeyFields.{destination_text};
 ghost use Rattle.verb_script.specs.Named.{label_named};
 ghost use Rattle.cca_requests.specs.Decided.{Settles, asked};
-ghost use Rattle.cca_requests.specs.Deciding.{with_places};
+ghost use Rattle.cca_requests.specs.Deciding.{ChangesPlaces};
 ghost use Rattle.cca_requests.specs.Judging.{HasDoubleKey, HasJudgedExternal, HasSomeJudged, IsPlaceFor};
 
 use crate::effects::Effect;
@@ -62,8 +62,7 @@ pub(super) fn decide_csnbcki(
     ensures settles { (role : List ℕ) (rows : List (Option Row))
         → Settles (asked csnbcki (role ∷ clear.now ∷ destination_text to.entry ∷ []))
         granted.now held.now rows (bench_of lease.old) (bench_of lease.new) result reply.new }
-    ensures places { lease.new ≡ holding lease.old
-        (with_places (bench_of lease.old) (bench_of lease.new)) }
+    ensures places { ChangesPlaces lease.old lease.new }
 {
     let token = csnbcki(clear, lease, held);
     deliver("token", &token, None, to, granted.first.place, reply)
@@ -87,8 +86,7 @@ pub(super) fn decide_csnbkim(
     ensures settles { (role token transport : List ℕ) (rows : List (Option Row))
         → Settles (asked csnbkim (role ∷ token ∷ transport ∷ destination_text to.entry ∷ []))
         granted.now held.now rows (bench_of lease.old) (bench_of lease.new) result reply.new }
-    ensures places { lease.new ≡ holding lease.old
-        (with_places (bench_of lease.old) (bench_of lease.new)) }
+    ensures places { ChangesPlaces lease.old lease.new }
 {
     let source = external_in(&granted.first);
     let token = csnbkim(source, double_key_in(&granted.second), lease, held);
@@ -107,8 +105,7 @@ pub(super) fn decide_csnbkex(
     ensures settles { (role key transport : List ℕ) (held : Registers) (rows : List (Option Row))
         → Settles (asked csnbkex (role ∷ key ∷ transport ∷ []))
         granted.now held rows (bench_of lease.old) (bench_of lease.new) result reply.new }
-    ensures places { lease.new ≡ holding lease.old
-        (with_places (bench_of lease.old) (bench_of lease.new)) }
+    ensures places { ChangesPlaces lease.old lease.new }
 {
     let key = key_in(&granted.first);
     csnbkex(key, double_key_in(&granted.second), lease, reply);
@@ -132,8 +129,7 @@ pub(super) fn decide_csnbpex(
     ensures settles { (role key : List ℕ) (rows : List (Option Row))
         → Settles (asked csnbpex (role ∷ key ∷ destination_text to.entry ∷ []))
         granted.now held.now rows (bench_of lease.old) (bench_of lease.new) result reply.new }
-    ensures places { lease.new ≡ holding lease.old
-        (with_places (bench_of lease.old) (bench_of lease.new)) }
+    ensures places { ChangesPlaces lease.old lease.new }
 {
     let token = csnbpex(key_in(&granted.first), lease, held);
     deliver("token", &token, None, to, granted.second.place, reply)
@@ -153,8 +149,7 @@ pub(super) fn decide_csnbktc(
     ensures settles { (role token : List ℕ) (rows : List (Option Row))
         → Settles (asked csnbktc (role ∷ change_word rule ∷ token ∷ []))
         granted.now held.now rows (bench_of lease.old) (bench_of lease.new) result reply.new }
-    ensures places { lease.new ≡ holding lease.old
-        (with_places (bench_of lease.old) (bench_of lease.new)) }
+    ensures places { ChangesPlaces lease.old lease.new }
 {
     csnbktc(key_in(&granted.first), rule, lease, held, reply)
 }
@@ -172,8 +167,7 @@ pub(super) fn decide_csnbktr(
     ensures settles { (role token one two : List ℕ) (held : Registers) (rows : List (Option Row))
         → Settles (asked csnbktr (role ∷ token ∷ one ∷ two ∷ []))
         granted.now held rows (bench_of lease.old) (bench_of lease.new) result reply.new }
-    ensures places { lease.new ≡ holding lease.old
-        (with_places (bench_of lease.old) (bench_of lease.new)) }
+    ensures places { ChangesPlaces lease.old lease.new }
 {
     let source = external_in(&granted.first);
     let one = double_key_in(&granted.second);
@@ -201,8 +195,7 @@ pub(super) fn decide_first_part(
         → Settles (asked csnbkpi_first
         (role ∷ rule ∷ type_name kind ∷ part.now ∷ destination_text to.entry ∷ []))
         granted.now held.now rows (bench_of lease.old) (bench_of lease.new) result reply.new }
-    ensures places { lease.new ≡ holding lease.old
-        (with_places (bench_of lease.old) (bench_of lease.new)) }
+    ensures places { ChangesPlaces lease.old lease.new }
 {
     csnbkpi::first(kind, part, to, granted.first.place, lease, held, reply)
 }
@@ -228,8 +221,7 @@ pub(super) fn decide_further_part(
         → Settles (asked csnbkpi_middle
         (role ∷ part_rule_word rule ∷ key ∷ part.now ∷ destination_text to.entry ∷ []))
         granted.now held.now rows (bench_of lease.old) (bench_of lease.new) result reply.new }
-    ensures places { lease.new ≡ holding lease.old
-        (with_places (bench_of lease.old) (bench_of lease.new)) }
+    ensures places { ChangesPlaces lease.old lease.new }
 {
     let key = key_in(&granted.first);
     csnbkpi::further(

@@ -9,7 +9,7 @@ ghost use Rattle.verb_rules.specs.Keys.{keys_of, token_for};
 ghost use Rattle.verb_script.specs.Grammar.{is_hex};
 ghost use Rattle.verb_script.specs.Values.{hex_value};
 ghost use Rattle.cipher_verbs.specs.Imported.{imported_key};
-ghost use Rattle.cca_requests.specs.Deciding.{with_places};
+ghost use Rattle.cca_requests.specs.Deciding.{ChangesPlaces};
 
 use crate::verbs::key_digits::put_key;
 use cipher_verbs::clear_key_import;
@@ -35,8 +35,7 @@ pub(crate) fn csnbcki(clear: &[u8], lease: &mut Lease, held: &Registers) -> [u8;
         → result ≡ token_for (keys_of m) (imported_key (hex_value clear.now)) }
     ensures denoted { (m : Masters) → Loaded m held.now (bench_of lease.old)
         → denoted (keys_of m) result ≡ Some (imported_key (hex_value clear.now)) }
-    ensures places { lease.new ≡ holding lease.old
-        (with_places (bench_of lease.old) (bench_of lease.new)) }
+    ensures places { ChangesPlaces lease.old lease.new }
 {
     put_clear(clear, lease);
     clear_key_import(lease, held)

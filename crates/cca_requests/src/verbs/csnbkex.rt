@@ -1,10 +1,10 @@
 //! CSNBKEX: a key exported under a transport key.
 ghost use Rattle.std.specs.Prelude.{◌≡◌, ◌∷◌, ◌≤◌, [], codes, length};
-ghost use Rattle.key_cells.specs.Lease.{bench_of, holding};
+ghost use Rattle.key_cells.specs.Lease.{bench_of};
 ghost use Rattle.key_transport.specs.Tokens.{external_token};
 ghost use Rattle.script_buffers.specs.Replies.{Hex, written};
 ghost use Rattle.verb_rules.specs.Keys.{HasHalves, IsDouble, opened};
-ghost use Rattle.cca_requests.specs.Deciding.{with_places};
+ghost use Rattle.cca_requests.specs.Deciding.{ChangesPlaces};
 
 use key_cells::Lease;
 use key_transport::export;
@@ -20,8 +20,7 @@ pub(crate) fn csnbkex(key: &Judged, transport: &Judged, lease: &mut Lease, reply
         reply.new ≡ written (Hex (codes "token")
         (external_token (opened bench transport.now).key (opened bench key.now)) ∷ []) }
     ensures size { length reply.new ≤ 69000 }
-    ensures places { lease.new ≡ holding lease.old
-        (with_places (bench_of lease.old) (bench_of lease.new)) }
+    ensures places { ChangesPlaces lease.old lease.new }
 {
     let token = export(lease, key, transport);
     reply.ok();

@@ -1,8 +1,8 @@
 //! CSNBKGN: keys generated, in six forms.
-ghost use Rattle.std.specs.Prelude.{◌≡◌, ◌∷◌, [], ℕ, List, Option, None, OnOk, OnErr, IfOk, IsSome, IsTrue, codes, is_some};
+ghost use Rattle.std.specs.Prelude.{◌≡◌, ◌∷◌, [], ℕ, List, Option, None, OnErr, IfOk, IsSome, IsTrue, codes, is_some};
 ghost use Rattle.cca_vectors.specs.declared.key_type.KeyType.{KeyType};
 ghost use Rattle.key_cells.specs.Bench.{Bench};
-ghost use Rattle.key_cells.specs.Lease.{bench_of, holding};
+ghost use Rattle.key_cells.specs.Lease.{bench_of};
 ghost use Rattle.key_records.specs.declared.rows.Row.{Row};
 ghost use Rattle.key_transport.specs.Generated.{generated_key};
 ghost use Rattle.key_transport.specs.Tokens.{as_current, external_token};
@@ -16,7 +16,7 @@ ghost use Rattle.cca_machine.specs.Act.{Show, delivered, delivered_with};
 ghost use Rattle.cca_machine.specs.Choices.{key_length_named, out_form_named, pair_form_named};
 ghost use Rattle.cca_machine.specs.State.{State};
 ghost use Rattle.cca_machine.specs.Verdict.{first_refusal, generate_questions, pair_questions};
-ghost use Rattle.cca_requests.specs.Deciding.{IsReady, WritesStore, GoesThrough, with_places};
+ghost use Rattle.cca_requests.specs.Deciding.{ChangesPlaces, GoesThrough, IsReady, WritesStore};
 ghost use Rattle.cca_requests.specs.Drawing.{HasRefused, IsHeldPlace, LeavesDrawn};
 ghost use Rattle.cca_requests.specs.Judging.{IsPlaceFor, target_cell};
 
@@ -130,8 +130,7 @@ pub(crate) fn generate_one<E: Entropy>(
     ensures one_label { IfOk result (λ effect. GoesThrough effect → ⊥) }
     ensures silent { OnErr result (reply.new ≡ []) }
     ensures cause { HasCause (E.faults entropy.old) (E.faults entropy.new) result }
-    ensures places { lease.new ≡ holding lease.old
-        (with_places (bench_of lease.old) (bench_of lease.new)) }
+    ensures places { ChangesPlaces lease.old lease.new }
 {
     let length = key_length(length);
     if let Some(refusal) = judge_one(kind, length) {
@@ -197,8 +196,7 @@ pub(crate) fn generate_pair<E: Entropy>(
     ensures one_label { IfOk result (λ effect. GoesThrough effect → ⊥) }
     ensures silent { OnErr result (reply.new ≡ []) }
     ensures cause { HasCause (E.faults entropy.old) (E.faults entropy.new) result }
-    ensures places { lease.new ≡ holding lease.old
-        (with_places (bench_of lease.old) (bench_of lease.new)) }
+    ensures places { ChangesPlaces lease.old lease.new }
 {
     let length = key_length(length);
     if let Some(refusal) = judge_two(first, second, length) {
@@ -263,8 +261,7 @@ pub(crate) fn generate_out<E: Entropy>(
     ensures spares { IfOk result (λ effect. WritesStore effect → ⊥) }
     ensures silent { OnErr result (reply.new ≡ []) }
     ensures cause { HasCause (E.faults entropy.old) (E.faults entropy.new) result }
-    ensures places { lease.new ≡ holding lease.old
-        (with_places (bench_of lease.old) (bench_of lease.new)) }
+    ensures places { ChangesPlaces lease.old lease.new }
 {
     let length = key_length(length);
     if let Some(refusal) = judge_two(first, second, length) {

@@ -1,12 +1,12 @@
 //! CSNBKIM: a key imported from under a transport key.
 ghost use Rattle.std.specs.Prelude.{◌≡◌, IsSome, Some};
-ghost use Rattle.key_cells.specs.Lease.{bench_of, holding};
+ghost use Rattle.key_cells.specs.Lease.{bench_of};
 ghost use Rattle.key_tokens.specs.Denotes.{denoted};
 ghost use Rattle.key_transport.specs.Tokens.{as_current, current_token, transported_key};
 ghost use Rattle.master_registers.specs.Loaded.{Loaded};
 ghost use Rattle.master_registers.specs.Masters.{Masters};
 ghost use Rattle.verb_rules.specs.Keys.{HasHalves, IsDouble, keys_of};
-ghost use Rattle.cca_requests.specs.Deciding.{with_places};
+ghost use Rattle.cca_requests.specs.Deciding.{ChangesPlaces};
 
 use key_cells::Lease;
 use key_transport::import;
@@ -28,8 +28,7 @@ pub(crate) fn csnbkim(
     ensures denoted { let bench = bench_of lease.old in (m : Masters) → Loaded m held.now bench
         → denoted (keys_of m) result ≡ Some
         (as_current (transported_key bench source.now transport.now)) }
-    ensures places { lease.new ≡ holding lease.old
-        (with_places (bench_of lease.old) (bench_of lease.new)) }
+    ensures places { ChangesPlaces lease.old lease.new }
 {
     import(lease, held, source, transport)
 }

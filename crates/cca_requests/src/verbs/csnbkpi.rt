@@ -16,7 +16,7 @@ ghost use Rattle.cca_machine.specs.Act.{delivered};
 ghost use Rattle.cca_machine.specs.Choices.{is_last_part};
 ghost use Rattle.cca_machine.specs.State.{State};
 ghost use Rattle.cca_machine.specs.Verdict.{first_refusal, first_part_questions, further_part_questions};
-ghost use Rattle.cca_requests.specs.Deciding.{IsReady, WritesStore, GoesThrough, with_places};
+ghost use Rattle.cca_requests.specs.Deciding.{ChangesPlaces, GoesThrough, IsReady, WritesStore};
 ghost use Rattle.cca_requests.specs.Drawing.{HasRefused, IsDeliveredOr, IsHeldPlace};
 ghost use Rattle.cca_requests.specs.Judging.{IsPlaceFor, target_cell};
 
@@ -79,8 +79,7 @@ pub(crate) fn first(
         → IsReady held.now (bench_of lease.new) rows result reply.new }
     ensures named { WritesStore result → IsTrue (is_some (record_label to.entry)) }
     ensures one_label { GoesThrough result → ⊥ }
-    ensures places { lease.new ≡ holding lease.old
-        (with_places (bench_of lease.old) (bench_of lease.new)) }
+    ensures places { ChangesPlaces lease.old lease.new }
 {
     let length = part.len() / 2;
     if let Err(rule) = judge_size(kind, length) {
@@ -146,8 +145,7 @@ pub(crate) fn further(
         → IsReady held.now (bench_of lease.new) rows result reply.new }
     ensures named { WritesStore result → IsTrue (is_some (record_label to.entry)) }
     ensures one_label { GoesThrough result → ⊥ }
-    ensures places { lease.new ≡ holding lease.old
-        (with_places (bench_of lease.old) (bench_of lease.new)) }
+    ensures places { ChangesPlaces lease.old lease.new }
 {
     if let Some(refusal) = judge(key, part.len() / 2) {
         return Effect::Refused(refusal.rule, refusal.operand);

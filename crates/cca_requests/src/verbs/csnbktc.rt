@@ -1,6 +1,6 @@
 //! CSNBKTC: a token changed to another master key.
 ghost use Rattle.std.specs.Prelude.{◌≡◌, ◌∷◌, [], List, Option, IsSome, codes};
-ghost use Rattle.key_cells.specs.Lease.{bench_of, holding};
+ghost use Rattle.key_cells.specs.Lease.{bench_of};
 ghost use Rattle.key_transport.specs.Tokens.{changed_token};
 ghost use Rattle.master_registers.specs.Loaded.{Loaded};
 ghost use Rattle.script_buffers.specs.Replies.{Hex};
@@ -11,7 +11,7 @@ ghost use Rattle.cca_machine.specs.State.{State};
 ghost use Rattle.cca_machine.specs.Verdict.{first_refusal, change_questions};
 ghost use Rattle.key_cells.specs.Bench.{Bench};
 ghost use Rattle.key_records.specs.declared.rows.Row.{Row};
-ghost use Rattle.cca_requests.specs.Deciding.{ShowsOr, IsReady, WritesStore, with_places};
+ghost use Rattle.cca_requests.specs.Deciding.{ChangesPlaces, IsReady, ShowsOr, WritesStore};
 
 use crate::effects::Effect;
 use key_cells::Lease;
@@ -48,8 +48,7 @@ pub(crate) fn csnbktc(
     ensures ready { (bench : Bench) (rows : List (Option Row))
         → IsReady held.now bench rows result reply.new }
     ensures spares { WritesStore result → ⊥ }
-    ensures places { lease.new ≡ holding lease.old
-        (with_places (bench_of lease.old) (bench_of lease.new)) }
+    ensures places { ChangesPlaces lease.old lease.new }
 {
     let target = target(rule);
     if target == Target::New && held.new_state != NewState::Full {

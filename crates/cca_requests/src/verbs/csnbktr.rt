@@ -1,10 +1,10 @@
 //! CSNBKTR: a key translated from one transport key to another.
 ghost use Rattle.std.specs.Prelude.{◌≡◌, ◌∷◌, ◌≤◌, [], codes, length};
-ghost use Rattle.key_cells.specs.Lease.{bench_of, holding};
+ghost use Rattle.key_cells.specs.Lease.{bench_of};
 ghost use Rattle.key_transport.specs.Tokens.{external_token, transported_key};
 ghost use Rattle.script_buffers.specs.Replies.{Hex, written};
 ghost use Rattle.verb_rules.specs.Keys.{HasHalves, IsDouble, opened};
-ghost use Rattle.cca_requests.specs.Deciding.{with_places};
+ghost use Rattle.cca_requests.specs.Deciding.{ChangesPlaces};
 
 use key_cells::Lease;
 use key_parts::translate;
@@ -27,8 +27,7 @@ pub(crate) fn csnbktr(
         reply.new ≡ written (Hex (codes "token") (external_token (opened bench two.now).key
         (transported_key bench source.now one.now)) ∷ []) }
     ensures size { length reply.new ≤ 69000 }
-    ensures places { lease.new ≡ holding lease.old
-        (with_places (bench_of lease.old) (bench_of lease.new)) }
+    ensures places { ChangesPlaces lease.old lease.new }
 {
     let token = translate(lease, source, one, two);
     reply.ok();

@@ -1,12 +1,12 @@
 //! CSNBPEX: a key that may be exported no longer.
 ghost use Rattle.std.specs.Prelude.{◌≡◌, IsSome, Some};
-ghost use Rattle.key_cells.specs.Lease.{bench_of, holding};
+ghost use Rattle.key_cells.specs.Lease.{bench_of};
 ghost use Rattle.key_tokens.specs.Denotes.{denoted};
 ghost use Rattle.key_transport.specs.Tokens.{as_current, closed_key, current_token};
 ghost use Rattle.master_registers.specs.Loaded.{Loaded};
 ghost use Rattle.master_registers.specs.Masters.{Masters};
 ghost use Rattle.verb_rules.specs.Keys.{HasHalves, keys_of, opened};
-ghost use Rattle.cca_requests.specs.Deciding.{with_places};
+ghost use Rattle.cca_requests.specs.Deciding.{ChangesPlaces};
 
 use key_cells::Lease;
 use key_transport::prohibit_export;
@@ -21,8 +21,7 @@ pub(crate) fn csnbpex(key: &Judged, lease: &mut Lease, held: &Registers) -> [u8;
         → result ≡ current_token m (closed_key (opened bench key.now)) }
     ensures denoted { let bench = bench_of lease.old in (m : Masters) → Loaded m held.now bench
         → denoted (keys_of m) result ≡ Some (as_current (closed_key (opened bench key.now))) }
-    ensures places { lease.new ≡ holding lease.old
-        (with_places (bench_of lease.old) (bench_of lease.new)) }
+    ensures places { ChangesPlaces lease.old lease.new }
 {
     prohibit_export(lease, held, key)
 }
