@@ -1,14 +1,13 @@
 -- What a module stands for, and what a change of one cell makes of it.
-use Rattle.std.proofs.Common.{◌≡◌, ◌≢◌, ◌≤◌, ◌<◌, ◌+◌, ◌*◌, inl, inr, ⊎_elim, ℕ, List, length, set, Option, None, Some, Result, Ok, Err, true, false, refl, sym, ap, subst, ◌∙◌, arith}
+use Rattle.std.proofs.Common.{◌≡◌, ◌≢◌, ◌≤◌, ◌<◌, ◌+◌, inl, inr, ⊎_elim, ℕ, List, length, set, Option, None, Some, Result, Ok, Err, true, false, sym, ap, subst, ◌∙◌, arith}
 use Rattle.std.specs.Prelude.{OnOk, is_err, IsErrAnd}
 use Rattle.std.proofs.lemmas.Bool.{cases_eq, cases_lt}
 use Rattle.std.proofs.lemmas.List.{get_or-set_same, get_or-set_other, length-set, ext_get_or}
 use Rattle.std.proofs.lemmas.List.FromFn.{length-map-range_with_len, get_or-map-range_with_len}
 use Rattle.slot_disk.specs.Cells.{body, IsReplaced, IsReplacing}
-use Rattle.slot_disk.specs.Medium.{Medium, Told, From, Becomes, EachImage, IsSettled}
+use Rattle.slot_disk.specs.Medium.{Medium, Told, From, Becomes, EachImage}
 use Rattle.slot_disk.specs.SpareBytes.{HasTurned}
-use Rattle.slot_disk.proofs.Media.{told_at, becomes_told, becomes_weaker, each_weaker, each_still}
-use Rattle.slot_disk.proofs.CellSteps.{outside_same}
+use Rattle.slot_disk.proofs.Media.{told_at, becomes_told, becomes_weaker, each_weaker}
 use Rattle.cca_roles.specs.Changes.{HoldsEither}
 use Rattle.byte_lists.specs.Directory.{name_at, AreApart}
 use Rattle.cca_roles.specs.RoleBody.{ReadsPlace, slot_in}
@@ -103,17 +102,6 @@ module _ (n : ℕ) (bytes : List ℕ) (slot : Option Role) (s : List (Option Rol
 
     pub either_moments : EachImage m0 m1 (From (IsReplacing (n + 1) bytes) m0) → EachImage m0 m1 (From (HoldsEither (n + 1) s (set s n slot)) m0)
     either_moments moments = each_weaker m0 m1 (From (IsReplacing (n + 1) bytes) m0) (From (HoldsEither (n + 1) s (set s n slot)) m0) moments either_from
-
--- a module that a refusal leaves as it was
-module _ (cell : ℕ) (s next : List (Option Role)) (m : Medium) (settled : IsSettled m) (start : Told m (λ image. StandsForRoles image s)) where
-  still_either : (c : List ℕ) → m.content ≡ Some c → HoldsEither cell s next c c
-  still_either c is = record { outside = outside_same (1536 * cell) 1536 c; others = λ n other. refl; untouched = λ k at. refl; stands = inl (told_at m.content (λ image. StandsForRoles image s) c is start) }
-
-  pub refused_becomes : Becomes (HoldsEither cell s next) m m
-  refused_becomes = record { size = refl; told = λ c is. (c, is, still_either c is); still = λ some. some }
-
-  pub refused_moments : EachImage m m (From (HoldsEither cell s next) m)
-  refused_moments = each_weaker m m m.images (From (HoldsEither cell s next) m) (each_still m) (λ c image. let is = settled.only c image in (c, is, still_either c is))
 
 -- ---- what a disk tells
 

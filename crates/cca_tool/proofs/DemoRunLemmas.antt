@@ -46,23 +46,6 @@ never_usage (Err InputLimit) h = cc h
 no_stop : (done : Unit {0}) (stop : Stop) → ◌≡◌ {A = Result (Unit {0}) Stop} (Ok done) (Err stop) → ⊥
 no_stop done stop h = cc h
 
--- where the lines were all answered, no disk was damaged
-module _ (r : Result (Unit {0}) Stop) (done : Unit {0}) (is : r ≡ Ok done) (out : Status) where
-  pub judged_done : (m : Medium) → Told m (λ image. (cell : ℕ) → IsBrokenModule cell image → r ≡ Err (Damaged Module cell))
-      → Told m (λ image. (cell : ℕ) → IsBrokenModule cell image → (out ≡ status.Damaged Module cell) ⊎ (out ≡ status.NoMemory))
-  judged_done m judged =
-      told_from m.content _ (λ c told cell broken.
-      absurd (no_stop done (Damaged Module cell) (sym is
-      ∙ told_at m.content (λ image. (n : ℕ) → IsBrokenModule n image → r ≡ Err (Damaged Module n)) c told judged cell broken)))
-
-  pub store_judged_done : (m d : Medium) → Told m (λ c. Told d (λ e. (cell : ℕ) → IsBrokenStore cell c e → r ≡ Err (Damaged Store cell)))
-      → Told m (λ c. Told d (λ e. (cell : ℕ) → IsBrokenStore cell c e → (out ≡ status.Damaged Store cell) ⊎ (out ≡ status.NoMemory)))
-  store_judged_done m d judged =
-      told_from m.content _ (λ c is_c. told_from d.content _ (λ e is_e cell broken.
-      let both = told_at m.content (λ x. Told d (λ y. (n : ℕ) → IsBrokenStore n x y → r ≡ Err (Damaged Store n))) c is_c judged in
-      absurd (no_stop done (Damaged Store cell) (sym is
-      ∙ told_at d.content (λ y. (n : ℕ) → IsBrokenStore n c y → r ≡ Err (Damaged Store n)) e is_e both cell broken))))
-
 module _ (n : ℕ) (text : List ℕ) (is : text ≡ demo_text n) where
   pub short : n ≤ 1000 → length text < input_limit
   short few = subst (λ (x : List ℕ). length x < input_limit) (sym is) (demo-short n few)

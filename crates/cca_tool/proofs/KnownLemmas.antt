@@ -96,16 +96,6 @@ opened_known m d registers roles rows loaded opened kept holds = record {
 
 -- the same, by what the opening of the store answers
 module _ (result : Result (Unit {0}) Stop) where
-  pub ready_opened : (m d : Medium) (registers : Masters) (roles : List (Option Role)) (rows : List (Option Row))
-      → Told m (λ image. StandsForMasters image registers) → Told m (λ image. StandsForRoles image roles)
-      → OnOk result (Told d (λ image. KeepsLabels (keys_of registers) rows (labels_in (keys_of registers) image) image)) → OnOk result (Told d (HoldsRows rows))
-      → OnOk result (AreKnown (tables roles rows) m d)
-  ready_opened m d registers roles rows loaded opened kept holds = on_both result (opened_known m d registers roles rows loaded opened) kept holds
-    where
-      on_both : {P Q R : Type 0} (u : Result (Unit {0}) Stop) → (P → Q → R) → OnOk u P → OnOk u Q → OnOk u R
-      on_both (Ok done) joined p q = joined p q
-      on_both (Err stop) joined p q = tt
-
   on_ok : {P Q : Type 0} (u : Result (Unit {0}) Stop) → (P → Q) → OnOk u P → OnOk u Q
   on_ok (Ok done) weaker p = weaker p
   on_ok (Err stop) weaker p = tt
@@ -113,10 +103,6 @@ module _ (result : Result (Unit {0}) Stop) where
   pub sound_opened : (t : Tables) (m0 m1 d0 d1 : Medium) → m1.content ≡ m0.content → d1.content ≡ d0.content
       → OnOk result (AreKnown t m1 d1) → OnOk result (IsSound cca m0 d0)
   sound_opened t m0 m1 d0 d1 same_m same_d known = on_ok result (λ here. known_sound t m0 m1 d0 d1 same_m same_d here) known
-
-  pub knows_opened : (t : Tables) (m0 m1 d0 d1 : Medium) → m1.content ≡ m0.content → d1.content ≡ d0.content
-      → OnOk result (AreKnown t m1 d1) → OnOk result ((s : State) → OnDisks cca s m0 d0 → remembers t s)
-  knows_opened t m0 m1 d0 d1 same_m same_d known = on_ok result (λ here s disks. known_remembers t m0 m1 d0 d1 same_m same_d here s disks) known
 
 -- ---- as the requests speak of it
 

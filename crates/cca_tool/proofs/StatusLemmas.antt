@@ -1,16 +1,13 @@
 -- The status of a run tells how its lines ended.
-use Rattle.std.proofs.Common.{◌≡◌, ℕ, ◌+◌, List, length, Option, Result, Ok, Err, refl, sym, ap, ◌∙◌, subst, inl, inr}
-use Rattle.std.specs.Prelude.{◌⊎◌, ◌↔◌, ◌<◌, IsOk}
+use Rattle.std.proofs.Common.{◌≡◌, ℕ, Result, Ok, Err, refl, sym, ap, ◌∙◌, subst, inl, inr}
+use Rattle.std.specs.Prelude.{◌⊎◌, IsOk}
 use Rattle.slot_disk.specs.Medium.{Medium, Told}
-use Rattle.slot_disk.specs.WhereTold.{WhereTold}
 use Rattle.slot_disk.proofs.Media.{told_from, told_at}
-use Rattle.slot_disk.proofs.WhereToldLemmas.{told_weaker}
-use Rattle.script_buffers.specs.Reading.{input_limit}
 use Rattle.line_service.specs.Stops.{AnswersLines, IsFaultless as IsFaultlessOutcome}
-use Rattle.line_service.specs.declared.stops.Device.TheVariants.{Module, Store}
+use Rattle.line_service.specs.declared.stops.Device.TheVariants.{Module}
 use Rattle.line_service.specs.declared.stops.Stop.{Stop}
 use Rattle.line_service.specs.declared.stops.Stop.TheVariants.{ReadFault, WriteFault, EntropyFault, ModuleFault, StoreFault, Damaged, InputLimit}
-use Rattle.cca_tool.specs.Coprocessor.{IsBrokenModule, IsBrokenStore}
+use Rattle.cca_tool.specs.Coprocessor.{IsBrokenModule}
 use Rattle.cca_tool.specs.Running.{Ended}
 use Rattle.cca_tool.specs.Statuses.{status_of_lem, CallsNone, ServesLines, IsFaultless}
 use Rattle.cca_tool.specs.declared.command.Status.{Status}
@@ -73,31 +70,11 @@ module _ (r : Result (Unit {0}) Stop) (outcome : Status) (is : outcome ≡ statu
   faultless_outcome (Err StoreFault) h = h
   faultless_outcome (Err (Damaged device cell)) h = h
 
-  pub limit_as : (a b : Option (List ℕ)) → WhereTold a b (λ i s. (r ≡ Err InputLimit) ↔ ((length i ≡ length s + input_limit) × IsFaultlessOutcome r))
-      → WhereTold a b (λ i s. (outcome ≡ status.InputLimit) ↔ ((length i ≡ length s + input_limit) × IsFaultless outcome))
-  limit_as a b limit =
-      told_weaker a b _ _
-      (λ i s both. (
-        λ h. let here = both.0 (as_told status.InputLimit h) in (here.0, subst IsFaultless (sym is) (faultless r here.1)),
-        λ all. is ∙ ap status_of_lem (both.1 (all.0, faultless_outcome r (subst IsFaultless is all.1))),
-      )) limit
-
   pub judged_as : (m : Medium) → Told m (λ image. (cell : ℕ) → IsBrokenModule cell image → r ≡ Err (Damaged Module cell))
       → Told m (λ image. (cell : ℕ) → IsBrokenModule cell image → (outcome ≡ status.Damaged Module cell) ⊎ (outcome ≡ status.NoMemory))
   judged_as m judged =
       told_from m.content _ (λ c told cell broken.
       inl (is ∙ ap status_of_lem (told_at m.content (λ image. (n : ℕ) → IsBrokenModule n image → r ≡ Err (Damaged Module n)) c told judged cell broken)))
-
-  pub store_judged_as : (m d : Medium) → Told m (λ c. Told d (λ e. (cell : ℕ) → IsBrokenStore cell c e → r ≡ Err (Damaged Store cell)))
-      → Told m (λ c. Told d (λ e. (cell : ℕ) → IsBrokenStore cell c e → (outcome ≡ status.Damaged Store cell) ⊎ (outcome ≡ status.NoMemory)))
-  store_judged_as m d judged =
-      told_from m.content _ (λ c is_c. told_from d.content _ (λ e is_e cell broken.
-      let both = told_at m.content (λ x. Told d (λ y. (n : ℕ) → IsBrokenStore n x y → r ≡ Err (Damaged Store n))) c is_c judged in
-      inl (is ∙ ap status_of_lem (told_at d.content (λ y. (n : ℕ) → IsBrokenStore n c y → r ≡ Err (Damaged Store n)) e is_e both cell broken))))
-
-  pub complete_as : (a b : Option (List ℕ)) → WhereTold a b (λ i s. length i < input_limit → r ≡ Ok tt)
-      → WhereTold a b (λ i s. length i < input_limit → (outcome ≡ status.Done) ⊎ (outcome ≡ status.NoMemory))
-  complete_as a b complete = told_weaker a b _ _ (λ i s h short. inl (is ∙ ap status_of_lem (h short))) complete
 
 -- ---- where no device was called
 

@@ -1,5 +1,5 @@
 -- What comes of a label, by what its record holds.
-use Rattle.std.proofs.Common.{◌≡◌, ◌∙◌, ℕ, Bool, true, false, List, Option, None, Some, Result, Ok, Err, refl, sym, ap, subst, codes}
+use Rattle.std.proofs.Common.{◌≡◌, ◌∙◌, ℕ, Bool, false, List, Option, None, Some, Result, Ok, Err, refl, sym, ap, subst, codes}
 use Rattle.std.specs.Prelude.{if◌then◌else◌, is_some, IfErr, IsSome}
 use Rattle.std.specs.Option.{option_map}
 use Rattle.std.specs.Str.{bytes_eq}
@@ -84,13 +84,6 @@ module _ (s : State) (w : Move) (label : List ℕ) where
         report = gets_none result r;
         undamaged = sink_fault WriteFault (λ cell same. cc) result fault;
       })
-
-  -- the label is named as the transport key's there
-  pub tells_target : (m : Medium) (result : Ends) (f r0 r1 : Option (List ℕ)) → bytes_eq label w.transport_there ≡ true
-      → Gets (with_newlines (remarks_by (Some (codes "target")) label)) result r0 r1 → IfErr result (λ fault. fault ≡ ReportFault)
-      → Told m (λ _. TellsIt result f f r0 r1)
-  tells_target m result f r0 r1 same gets fault =
-      told_from m.content (λ _. TellsIt result f f r0 r1) (λ image is. kept_label (codes "target") result f r0 r1 (by_target true same) gets fault)
 
   -- the store failed
   pub tells_failed : (m : Medium) (fault : RecordFault) (f r : Option (List ℕ))

@@ -31,9 +31,6 @@ use Rattle.move_file.specs.declared.writing.MoveFault.{MoveFault}
 abbrev pub HasParts : ℕ → List (List ℕ) → Option (List ℕ) → Option (List ℕ) → Type 0
 HasParts count parts before now = WhereTold before now (λ x y. y ≡ x ++ concat (take count parts))
 
-has_none : (parts : List (List ℕ)) (a : Option (List ℕ)) → HasParts 0 parts a a
-has_none parts a = told_same a (λ x y. y ≡ x ++ concat (take 0 parts)) (λ x. sym (append-nil x))
-
 has_all : (parts : List (List ℕ)) (count : ℕ) (a b : Option (List ℕ)) → length parts ≤ count → HasParts count parts a b → WhereTold a b (λ x y. y ≡ x ++ concat parts)
 has_all parts count a b all =
     told_weaker a b (λ x y. y ≡ x ++ concat (take count parts)) (λ x y. y ≡ x ++ concat parts) (λ x y has. has ∙ ap (λ ps. x ++ concat ps) (take_all count parts all))
@@ -83,9 +80,6 @@ pub record HasTold (s : State) (w : Move) (count : ℕ) (file0 file1 report0 rep
   pub report : HasParts count (report_parts s w) report0 report1
 
 module _ (s : State) (w : Move) (m : Medium) (f0 r0 : Option (List ℕ)) where
-  pub told_none : Told m (λ _. HasTold s w 0 f0 f0 r0 r0)
-  told_none = told_from m.content (λ _. HasTold s w 0 f0 f0 r0 r0) (λ image is. record { file = has_none (file_parts s w) f0; report = has_none (report_parts s w) r0 })
-
   module _ (rows : List (Option Row)) (stands : Told m (KeepsLabels (keys_of s.registers) rows s.labels)) (count : ℕ) (f1 r1 : Option (List ℕ)) (before : Told m (λ _. HasTold s w count f0 f1 r0 r1)) where
     known_at : (image : List ℕ) → m.content ≡ Some image → row_directory rows ≡ directory s.labels
     known_at image is = known s rows (told_at m.content (KeepsLabels (keys_of s.registers) rows s.labels) image is stands).agrees

@@ -1,7 +1,7 @@
 -- How clauses on media are carried over calls, over loops and over two disks.
 use Rattle.std.proofs.Common.{◌≡◌, inl, inr, ⊎_elim, ℕ, List, Option, None, Some, IfSome, IsSome, refl, sym, ◌∙◌, subst, arith}
 use Rattle.std.proofs.lemmas.Option.{same_Some}
-use Rattle.slot_disk.specs.Medium.{Medium, Told, IsSettled, From, Becomes, EachImage, Keeps, Reached, EachPair}
+use Rattle.slot_disk.specs.Medium.{Medium, Told, IsSettled, From, Becomes, EachImage, Keeps, EachPair}
 
 -- ---- what is told
 
@@ -140,26 +140,6 @@ settled_kept m0 m1 keeps settled = record { only = λ c image. keeps.content ∙
 pub from_then : (m0 m1 : Medium) (first second both : List ℕ → List ℕ → Type 0) → Becomes first m0 m1 → ((b c d : List ℕ) → first b c → second c d → both b d) → (d : List ℕ) → From second m1 d → From both m0 d
 from_then m0 m1 first second both becomes joined d from =
     let was = becomes.told from.0 from.1 in (was.0, was.1, joined was.0 from.0 d was.2 from.2)
-
--- ---- loops
-
-module _ (P Q : List ℕ → Type 0) where
-  pub reached_start : (m : Medium) → IsSettled m → Told m P → ((c : List ℕ) → P c → Q c) → Reached P Q m m
-  reached_start m settled told weaker = record {
-    settled = settled;
-    told = told;
-    still = λ some. some;
-    moments = each_weaker m m m.images Q (each_still m) (λ c image. weaker c (settled_image m P c settled told image));
-  }
-
-  -- one turn more, from what was reached
-  pub reached_step : (m0 m1 m2 : Medium) (P' R : List ℕ → Type 0) → Reached P Q m0 m1 → IsSettled m2 → Told m2 P' → (IsSome m1.content → IsSome m2.content) → EachImage m1 m2 R → ((c : List ℕ) → R c → Q c) → Reached P' Q m0 m2
-  reached_step m0 m1 m2 P' R reached settled told still moments weaker = record {
-    settled = settled;
-    told = told;
-    still = λ some. still (reached.still some);
-    moments = goes_on m0 m1 m2 Q R Q reached.moments moments (λ c q. q) weaker;
-  }
 
 -- ---- two disks
 

@@ -56,13 +56,6 @@ pub record Keeps (old new : Medium) : Type 0 where
   pub images : (c : List ℕ) → new.images c → old.images c
   pub moments : EachImage old new old.images
 
--- For loops: nothing is unsynced, what is told has P, and each image on the way has Q.
-pub record Reached (P Q : List ℕ → Type 0) (old new : Medium) : Type 0 where
-  pub settled : IsSettled new
-  pub told : Told new P
-  pub still : IsSome old.content → IsSome new.content
-  pub moments : EachImage old new Q
-
 -- each image of one disk at a moment since then, with each of the other at any such moment
 pub record EachPair (old1 new1 old2 new2 : Medium) (P : List ℕ → List ℕ → Type 0) : Type 0 where
   pub later1 : old1.moment ≤ new1.moment

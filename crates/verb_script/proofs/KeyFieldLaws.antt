@@ -1,16 +1,15 @@
 -- Labels where a field may name one: what is named is what the field's value holds, and a label may stand there.
-use Rattle.std.proofs.Common.{◌≡◌, ℕ, ◌==◌, Bool, true, false, List, [], ◌∷◌, length, Some, None, refl, ap, ◌∙◌, arith, suc, inl, inr, if◌then◌else◌}
+use Rattle.std.proofs.Common.{◌≡◌, ℕ, ◌==◌, Bool, true, false, List, [], ◌∷◌, length, Some, None, refl, ap, ◌∙◌, arith, suc, if◌then◌else◌}
 use Rattle.std.specs.Prelude.{IsTrue, nat_le, not, ◌&&◌}
 use Rattle.std.specs.List.{list_all}
-use Rattle.std.proofs.lemmas.Bool.{and_parts, or_cases, ne_eqb}
+use Rattle.std.proofs.lemmas.Bool.{and_parts, ne_eqb}
 use Rattle.std.proofs.lemmas.Bool.Decides.{nat_tests}
 use Rattle.byte_lists.specs.Characters.{is_label_byte}
 use Rattle.byte_lists.specs.Names.{IsLabel, is_label, starts_label}
-use Rattle.verb_script.specs.Grammar.{accepts, key_text, to_text}
+use Rattle.verb_script.specs.Grammar.{accepts, to_text}
 use Rattle.verb_script.specs.KeyFields.{key_field_text, destination_text, key_label, record_label}
 use Rattle.verb_script.specs.Named.{is_label_text, is_visible, label_named}
 use Rattle.verb_script.specs.Parts.{as_label}
-use Rattle.verb_script.specs.Values.{is_hex}
 use Rattle.verb_script.specs.declared.keys.Destination.{Destination}
 use Rattle.verb_script.specs.declared.keys.Destination.TheVariants.{Reply, Record}
 use Rattle.verb_script.specs.declared.keys.KeyField.{KeyField}
@@ -18,22 +17,10 @@ use Rattle.verb_script.specs.declared.keys.KeyField.TheVariants.{Token, Label}
 
 -- ---- what a field's text names
 
--- a key's text names what stands for its label
-pub named_key : (key : KeyField) → IsTrue (accepts key_text (key_field_text key)) → label_named (key_field_text key) ≡ key_label key
-named_key (Token digits) h = refl
-named_key (Label label) h = ap (λ b. if b then Some label.now else None) h
-
 -- a destination's text names what stands for the record's label
 pub named_destination : (to : Destination) → IsTrue (accepts to_text (destination_text to)) → label_named (destination_text to) ≡ record_label to
 named_destination Reply h = refl
 named_destination (Record label) h = ap (λ b. if b then Some label.now else None) h
-
--- a key that is given by its token is 128 digits
-pub token_digits : (digits : _) → IsTrue (accepts key_text (key_field_text (Token digits))) → IsTrue (is_hex 128 digits.now)
-token_digits digits h = elim (or_cases (is_hex 128 digits.now) false h) [
-  | inl are ↦ are
-  | inr none ↦ cc
-]
 
 -- ---- labels
 
