@@ -1,5 +1,8 @@
-//! Lines of each row of the grammar, the requests that they spell, and lines that are none. It is a crate of tests.
+//! Lines of each row of the grammar, the requests that they spell, and lines that are none, as tests, and a few that the
+//! grammar's definitions compute. It is a crate of tests.
 #![tactic(auto)]
+
+ghost use Rattle.script_rows.specs.WorkedLines.{LinesSpell};
 
 #[cfg(test)]
 mod code_rows;
@@ -19,3 +22,8 @@ mod record_rows;
 mod text_rows;
 #[cfg(test)]
 mod use_rows;
+
+/// What some lines spell: the definitions of the grammar compute it.
+pub fn worked_lines()
+    ensures { LinesSpell }
+{}
