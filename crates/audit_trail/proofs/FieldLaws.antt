@@ -1,35 +1,24 @@
 -- Texts filled with zeros, and how a text is found again by the first zero behind it.
 use Rattle.std.proofs.Common.{◌≡◌, ◌↔◌, ◌≤◌, ◌<◌, ◌+◌, ◌-◌, inl, inr, ⊎_elim, ℕ, zero, suc, Bool, true, false, not, eqb, List, [], ◌∷◌, ◌++◌, length, take, drop, replicate, refl, sym, ap, subst, ◌∙◌, arith}
-use Rattle.std.proofs.lemmas.Bool.{both_ways, ne_eqb, and_parts, leb-true, lt-ltb, le-ltb, cases_lt}
+use Rattle.std.proofs.lemmas.Bool.{both_ways, ne_eqb, and_parts, lt-ltb, le-ltb, cases_lt}
 use Rattle.std.proofs.lemmas.List.{length-append, length-replicate, length-drop, length-take, take_at, drop_at, take_all, take-append-drop}
 use Rattle.std.proofs.lemmas.List.Sums.{list_all-from_AllPass, prefix_len-le-length}
 use Rattle.std.specs.List.{list_all, position_or_len}
 use Rattle.std.specs.Prelude.{IsTrue, nat_le, unwrap_or, position, None, Some, ◌==◌, ◌&&◌, if◌then◌else◌}
 use Rattle.byte_lists.specs.Bytes.{IsZero}
-use Rattle.byte_lists.specs.Characters.{is_letter, is_label_byte}
-use Rattle.byte_lists.specs.Names.{starts_label, is_label, IsLabel, starts_name, is_name_byte, is_role_name, IsRoleName}
+use Rattle.byte_lists.specs.Characters.{is_letter}
+use Rattle.byte_lists.specs.Names.{is_label, IsLabel, starts_name, is_name_byte, is_role_name, IsRoleName}
+use Rattle.byte_lists.proofs.NameLemmas.{label_short, role_short}
 use Rattle.byte_lists.proofs.ByteLemmas.{zeros_of, IsZero-replicate}
 use Rattle.audit_trail.specs.Entries.{filled, IsVerb, HoldsText, HoldsLabel, IsEntry}
 use Rattle.audit_trail.specs.declared.entries.Entry.{Entry}
 
 -- ---- how long texts and fields are
 
-pub role_short : (text : List ℕ) → IsRoleName text → length text ≤ 8
-unfolding is_role_name
-role_short text is =
-    let parts = and_parts (starts_name text && nat_le (length text) 8) (list_all is_name_byte text) is in
-    leb-true (length text) 8 (and_parts (starts_name text) (nat_le (length text) 8) parts.0).1
-
 pub role_bytes : (text : List ℕ) → IsRoleName text → list_all is_name_byte text ≡ true
 unfolding is_role_name
 role_bytes text is =
     (and_parts (starts_name text && nat_le (length text) 8) (list_all is_name_byte text) is).1
-
-pub label_short : (text : List ℕ) → IsLabel text → length text ≤ 64
-unfolding is_label
-label_short text is =
-    let parts = and_parts (starts_label text && nat_le (length text) 64) (list_all is_label_byte text) is in
-    leb-true (length text) 64 (and_parts (starts_label text) (nat_le (length text) 64) parts.0).1
 
 pub label_some : (text : List ℕ) → IsLabel text → length text ≡ 0 → ⊥
 unfolding is_label

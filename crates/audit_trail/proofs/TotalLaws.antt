@@ -17,7 +17,8 @@ use Rattle.audit_trail.specs.RecordBody.{record_body, blank_body, Spells}
 use Rattle.audit_trail.specs.TrailStands.{StandsForTrail, IsStray, IsFirstDamaged}
 use Rattle.audit_trail.specs.declared.entries.Entry.{Entry}
 use Rattle.audit_trail.specs.declared.bodies.Record.{Record}
-use Rattle.audit_trail.proofs.FieldLaws.{role_bytes, role_short, verb_letters, label_short, label_some, long_field, long_label, filled_from, within_field, text_in, label_in}
+use Rattle.byte_lists.proofs.NameLemmas.{label_short, role_short}
+use Rattle.audit_trail.proofs.FieldLaws.{role_bytes, verb_letters, label_some, long_field, long_label, filled_from, within_field, text_in, label_in}
 use Rattle.audit_trail.proofs.BodyLaws.{spelled_in}
 use Rattle.audit_trail.proofs.OpeningLaws.{scanned_none, scanned_more, stray_first, stray_here, checked_none, checked_more, stale_first, stands_blank, stands_checked}
 

@@ -1,14 +1,13 @@
 -- The lines of a moved label spell their requests.
 use Rattle.std.proofs.Common.{◌≡◌, ℕ, ◌≤◌, ◌==◌, true, List, [], ◌∷◌, ◌++◌, length, Some, refl, sym, ap, ◌∙◌, codes, arith, append_assoc, length-append}
-use Rattle.std.specs.Prelude.{nat_le, ◌&&◌}
+use Rattle.std.specs.Prelude.{◌&&◌}
 use Rattle.std.specs.List.{list_all}
-use Rattle.std.proofs.lemmas.Bool.{and_parts, leb-true}
 use Rattle.std.proofs.lemmas.List.{append-nil}
 use Rattle.std.proofs.lemmas.List.Sums.{list_all-from_AllPass}
 use Rattle.hex.specs.Hex.{IsBytes, encode_lower, is_hex_digit, lower_digits}
 use Rattle.hex.proofs.HexLemmas.{decode_of-encode_lower, decode_of-ok, length-encode_with}
-use Rattle.byte_lists.specs.Characters.{is_label_byte}
-use Rattle.byte_lists.specs.Names.{IsLabel, IsRoleName, is_label, is_role_name, is_name_byte, starts_label, starts_name}
+use Rattle.byte_lists.proofs.NameLemmas.{label_short, role_short}
+use Rattle.byte_lists.specs.Names.{IsLabel, IsRoleName, is_label}
 use Rattle.script_buffers.specs.Reading.{line_limit}
 use Rattle.verb_script.specs.Grammar.{Request, Spells, csnbkim, csnbkrc}
 use Rattle.verb_script.specs.Requests.{request_of}
@@ -33,18 +32,6 @@ import_request w token label = record {
 }
 
 -- ---- their words
-
-pub label_short : (label : List ℕ) → IsLabel label → length label ≤ 64
-unfolding is_label
-label_short label is =
-    let both = and_parts (starts_label label && nat_le (length label) 64) (list_all is_label_byte label) is in
-    leb-true (length label) 64 (and_parts (starts_label label) (nat_le (length label) 64) both.0).1
-
-role_short : (name : List ℕ) → IsRoleName name → length name ≤ 8
-unfolding is_role_name
-role_short name is =
-    let both = and_parts (starts_name name && nat_le (length name) 8) (list_all is_name_byte name) is in
-    leb-true (length name) 8 (and_parts (starts_name name) (nat_le (length name) 8) both.0).1
 
 -- 64 bytes as 128 digits
 digits_may : (bytes : List ℕ) → length bytes ≡ 64 → IsBytes bytes → is_hex 128 (encode_lower bytes) ≡ true

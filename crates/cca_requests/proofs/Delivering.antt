@@ -4,7 +4,7 @@ use Rattle.std.specs.Prelude.{Bool, IsSome, IsTrue, is_some, ◌||◌}
 use Rattle.key_cells.specs.Bench.{Bench}
 use Rattle.key_cells.specs.Lease.{bench_of, holding}
 use Rattle.key_cells.specs.declared.leases.Lease.{Lease}
-use Rattle.key_records.proofs.BodyLaws.{label_short}
+use Rattle.byte_lists.proofs.NameLemmas.{label_short}
 use Rattle.key_records.specs.Directory.{label_at}
 use Rattle.key_records.specs.Entries.{row_directory}
 use Rattle.key_records.specs.declared.rows.Row.{Row}

@@ -1,26 +1,18 @@
 -- The body of a role, and what it reads as.
 use Rattle.std.proofs.Common.{◌≡◌, ◌≢◌, ◌≤◌, ◌<◌, ◌-◌, ◌^◌, ◌⊎◌, inl, inr, ⊎_elim, ℕ, zero, suc, Bool, true, false, List, ◌++◌, length, take, drop, replicate, Option, None, Some, refl, sym, ap, subst, ◌∙◌, arith}
 use Rattle.std.specs.Int.{to_be_bytes, from_be_bytes, w32}
-use Rattle.std.specs.List.{list_all}
-use Rattle.std.specs.Prelude.{slice_index, bytes_eq, nat_le, ◌&&◌, if◌then◌else◌}
-use Rattle.std.proofs.lemmas.Bool.{false_from_ne_true, and_parts}
-use Rattle.std.proofs.lemmas.Bool.Decides.{nat_tests}
+use Rattle.std.specs.Prelude.{slice_index, bytes_eq, if◌then◌else◌}
+use Rattle.std.proofs.lemmas.Bool.{false_from_ne_true}
 use Rattle.std.proofs.lemmas.List.{append_assoc, take_at, drop_at, length-append, length-replicate}
 use Rattle.std.proofs.lemmas.Nat.{from_be_bytes-to_be_bytes_4}
 use Rattle.std.proofs.lemmas.Slice.Eq.{bytes_eq-Decides}
+use Rattle.byte_lists.proofs.NameLemmas.{role_short}
 use Rattle.cca_roles.specs.Points.{ArePoints, every_point, are_points}
-use Rattle.cca_roles.specs.RoleNames.{is_role_name, IsRoleName, is_name_byte, starts_name, default_name}
+use Rattle.cca_roles.specs.RoleNames.{is_role_name, IsRoleName, default_name}
 use Rattle.cca_roles.specs.Roles.{role}
 use Rattle.cca_roles.specs.RoleBody.{role_body, blank_body, ReadsRole, ReadsSlot, ReadsDefault, ReadsPlace, name_in, points_in, role_in, blank_slot, slot_in}
 use Rattle.cca_roles.specs.declared.roles.Role.{Role}
 use Rattle.cca_roles.proofs.PointLaws.{points_below}
-
-pub name_short : (name : List ℕ) → IsRoleName name → length name ≤ 8
-unfolding is_role_name
-name_short name is =
-    let parts = and_parts (starts_name name && nat_le (length name) 8) (list_all is_name_byte name) is in
-    let low : nat_le (length name) 8 ≡ true = (and_parts (starts_name name) (nat_le (length name) 8) parts.0).1 in
-    grind (arith, nat_tests)
 
 -- ---- the body of a role
 
@@ -61,7 +53,7 @@ module _ (bytes : List ℕ) (r : Role) (reads : ReadsRole bytes r) where
   name_of_body = ap name_in reads.body ∙ name_again r.name r.points
 
   pub points_of_body : points_in bytes ≡ r.points
-  points_of_body = ap points_in reads.body ∙ points_again r.name r.points (name_short r.name reads.name) (points_below r.points reads.points)
+  points_of_body = ap points_in reads.body ∙ points_again r.name r.points (role_short r.name reads.name) (points_below r.points reads.points)
 
   -- a body reads as one role alone
   pub role_of_body : role_in bytes ≡ r

@@ -1,6 +1,6 @@
 -- Names of roles.
 use Rattle.std.specs.Prelude.{ℕ, List, codes}
-pub use Rattle.byte_lists.specs.Names.{is_name_byte, starts_name, IsRoleName}
+pub use Rattle.byte_lists.specs.Names.{is_name_byte, IsRoleName}
 unfoldable pub use Rattle.byte_lists.specs.Names.{is_role_name}
 
 -- the role that each module has

@@ -7,7 +7,7 @@ ghost use Rattle.cca_roles.specs.RoleNames.{IsRoleName};
 ghost use Rattle.cca_roles.specs.declared.roles.Role.{Role};
 
 use crate::access_points::AccessPoints;
-use crate::names::RoleName;
+use crate::names::{RoleName, default_role};
 use crate::roles::Role;
 use byte_lists::is_zero;
 
@@ -109,7 +109,7 @@ pub(crate) fn read_default(body: &[u8; 192]) -> Option<Role>
     ensures reads { IfSome result (λ r. ReadsPlace 0 body.now (Some r)) }
     ensures none { IsNone result → (slot : Option Role) → ReadsPlace 0 body.now slot → ⊥ }
 {
-    let default_name = RoleName::default_role();
+    let default_name = default_role();
     if is_blank(body) {
         return Some(Role {
             name: default_name,

@@ -14,7 +14,7 @@ mod roles;
 pub use access_points::AccessPoints;
 pub use faults::RoleFault;
 pub use laws::a_module_stands_for_one_table_of_roles;
-pub use names::RoleName;
+pub use names::{RoleForm, RoleName, default_role};
 pub use opening::open_roles;
 pub use roles::{MODULE_LEN, Role, Roles};
 

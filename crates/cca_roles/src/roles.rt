@@ -7,7 +7,7 @@ ghost use Rattle.cca_roles.specs.Roles.{AreRoles, blank_roles, names, name_of, p
 ghost use Rattle.cca_roles.specs.RoleNames.{default_name};
 
 use crate::access_points::AccessPoints;
-use crate::names::RoleName;
+use crate::names::{RoleName, default_role};
 use std::marker::Model;
 
 /// The bytes of a module: a cell for the master key registers, and one for each of 32 roles.
@@ -48,7 +48,7 @@ impl Roles {
     {
         let mut places = [None; 32];
         places[0] = Some(Role {
-            name: RoleName::default_role(),
+            name: default_role(),
             points: AccessPoints::all(),
         });
         Roles { places }

@@ -11,28 +11,28 @@ use std::test::Fail;
 /// Names of roles, and texts that are none.
 #[test]
 fn names(rt: HostRuntime) {
-    for text in [
-        b"A".as_slice(),
-        b"DEFAULT".as_slice(),
-        b"TELLER".as_slice(),
-        b"Z9876543".as_slice(),
-    ] {
+    let texts = [
+        (b"A".as_slice(), true),
+        (b"DEFAULT".as_slice(), true),
+        (b"TELLER".as_slice(), true),
+        (b"Z9876543".as_slice(), true),
+        (b"".as_slice(), false),
+        (b"1A".as_slice(), false),
+        (b"teller".as_slice(), false),
+        (b"A-B".as_slice(), false),
+        (b"ABCDEFGHI".as_slice(), false),
+        (b"A\0".as_slice(), false),
+        (b"A[".as_slice(), false),
+    ];
+    for (text, is_name) in texts {
         let read = RoleName::read(text);
-        assert!(rt; read.is_some(), "{text:?}");
+        assert_eq!(rt; read.is_some(), is_name, "{text:?}");
         if let Some(name) = read {
             assert_eq!(rt; name.text(), text);
+            assert_eq!(rt; name.length() as usize, text.len());
+            assert_eq!(rt; name.filled()[..text.len()], *text);
+            assert_eq!(rt; name.is(&default_role()), text == b"DEFAULT".as_slice());
         }
-    }
-    for text in [
-        b"".as_slice(),
-        b"1A".as_slice(),
-        b"teller".as_slice(),
-        b"A-B".as_slice(),
-        b"ABCDEFGHI".as_slice(),
-        b"A\0".as_slice(),
-        b"A[".as_slice(),
-    ] {
-        assert_eq!(rt; RoleName::read(text), None, "{text:?}");
     }
 }
 
@@ -128,7 +128,7 @@ fn make<M: Disk>(
             .define(module, lease, &name, points)
             .map_err(Stop::Change),
         Change::Remove(name) => {
-            if name == RoleName::default_role() {
+            if name == default_role() {
                 return Err(Stop::IsDefault);
             }
             roles.remove(module, lease, &name).map_err(Stop::Change)

@@ -1,15 +1,13 @@
 -- The body of a record, and what it reads as.
 use Rattle.std.proofs.Common.{◌≡◌, ◌≢◌, ◌≤◌, ◌-◌, ◌⊎◌, inl, inr, ℕ, Bool, true, false, List, ◌++◌, length, take, drop, replicate, Option, None, Some, refl, sym, ap, subst, ◌∙◌, arith}
-use Rattle.std.specs.List.{list_all}
-use Rattle.std.specs.Prelude.{slice_index, bytes_eq, IsSome, IsTrue, is_some, nat_le, not, ◌&&◌, if◌then◌else◌}
-use Rattle.std.proofs.lemmas.Bool.{false_from_ne_true, and_parts}
-use Rattle.std.proofs.lemmas.Bool.Decides.{nat_tests}
+use Rattle.std.specs.Prelude.{slice_index, bytes_eq, IsSome, IsTrue, is_some, not, if◌then◌else◌}
+use Rattle.std.proofs.lemmas.Bool.{false_from_ne_true}
 use Rattle.std.proofs.lemmas.List.{append_assoc, take_at, drop_at, length-append, length-replicate}
 use Rattle.std.proofs.lemmas.Slice.Eq.{bytes_eq-Decides}
+use Rattle.byte_lists.proofs.NameLemmas.{label_short}
 use Rattle.byte_lists.specs.Bytes.{AreBytes}
 use Rattle.key_tokens.specs.Denotes.{MasterKeys, Denoted}
-use Rattle.byte_lists.specs.Characters.{is_label_byte}
-use Rattle.key_records.specs.Labels.{is_label, IsLabel, starts_label}
+use Rattle.key_records.specs.Labels.{is_label, IsLabel}
 use Rattle.key_records.specs.Entries.{Entry}
 use Rattle.key_records.specs.RecordBody.{record_body, blank_body, no_token, no_second, key_body, both_body, kept, second_token, ReadsEntry, ReadsWhat, ReadsKey, HasToken, IsTurned, IsAhead, IsPair, IsBoth, label_in, token_in, second_in, is_turned, what_of, ahead_of, unused_of, IsWhat, entry_in, null_kind, key_kind, both_kind}
 use Rattle.key_records.specs.declared.rows.Second.{Second}
@@ -78,13 +76,6 @@ blank_first = refl
 pub length-no_token : length no_token ≡ 64
 unfolding no_token
 length-no_token = length-replicate {A = ℕ} 64 0
-
-pub label_short : (label : List ℕ) → IsLabel label → length label ≤ 64
-unfolding is_label
-label_short label is =
-    let parts = and_parts (starts_label label && nat_le (length label) 64) (list_all is_label_byte label) is in
-    let low : nat_le (length label) 64 ≡ true = (and_parts (starts_label label) (nat_le (length label) 64) parts.0).1 in
-    grind (arith, nat_tests)
 
 abbrev pub entry_with : List ℕ → Option Denoted → Bool → Option (List ℕ) → Entry
 entry_with label what ahead unused = record { label = label; what = what; ahead = ahead; unused = unused }

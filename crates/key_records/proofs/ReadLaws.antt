@@ -14,7 +14,8 @@ use Rattle.key_records.specs.RecordBody.{record_body, token_in, second_in, kept,
 use Rattle.key_records.specs.StoreStands.{KeepsLabels, HoldsRows, entry_at}
 use Rattle.key_records.specs.declared.rows.Row.{Row}
 use Rattle.key_records.specs.declared.rows.Second.{Second}
-use Rattle.key_records.proofs.BodyLaws.{kind_again, token_again, second_again, label_short, length-no_token}
+use Rattle.byte_lists.proofs.NameLemmas.{label_short}
+use Rattle.key_records.proofs.BodyLaws.{kind_again, token_again, second_again, length-no_token}
 use Rattle.key_records.proofs.KeptLaws.{kept_first, row_reads, stands_as}
 use Rattle.key_records.proofs.SecondLaws.{IsLong, none_long, second_long}
 

@@ -15,7 +15,7 @@ mod records;
 mod rows;
 
 pub use faults::RecordFault;
-pub use labels::Label;
+pub use labels::{Label, LabelForm};
 pub use laws::{
     a_state_has_one_store, a_store_stands_for_one_state, each_index_has_a_label, labels_after_set,
     labels_that_are_ahead, labels_under_the_old_master_key, labels_while_none_is_ahead,

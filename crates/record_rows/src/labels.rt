@@ -3,12 +3,11 @@
 use crate::bodies::body_of;
 use crate::changing::{Change, carry_out};
 use crate::masters::module_image;
-use crate::stores::{Stop, cell_body, numbered, opened, put_body, sure_label};
+use crate::stores::{Stop, cell_body, numbered, opened, put_body, store_of, sure_label};
 use key_cells::{Lease, Workbench};
 use key_records::{Label, RecordFault, Records, STORE_LEN};
 use slot_disk::{Disk, MemoryDisk, Steps};
 use std::alloc::Global;
-use std::cmp::Ordering;
 use std::test::Fail;
 
 /// Labels, and texts that are none.
@@ -42,21 +41,39 @@ fn labels(rt: HostRuntime) {
     }
 }
 
-/// Labels stand in the order of their bytes, and a shorter one before each that begins with it.
+/// Labels are listed in the order of their bytes, a shorter one before each that begins with it.
 #[test]
 fn order_of_labels(rt: HostRuntime) -> Result<(), Fail> {
-    let mut steps: Steps<()> = Steps::new();
-    for (first, second, wanted) in [
-        (b"A".as_slice(), b"A".as_slice(), Ordering::Equal),
-        (b"A".as_slice(), b"B".as_slice(), Ordering::Less),
-        (b"A".as_slice(), b"A0".as_slice(), Ordering::Less),
-        (b"AB".as_slice(), b"A0".as_slice(), Ordering::Greater),
-        (b"A#".as_slice(), b"A.".as_slice(), Ordering::Less),
-        (b"@".as_slice(), b"A".as_slice(), Ordering::Less),
-    ] {
-        let first = sure_label(first)?;
-        let second = sure_label(second)?;
-        assert_eq!(rt; first.compare(&second, &mut steps), wanted);
+    let alloc = rt.alloc();
+    let bodies = [
+        body_of(1, b"A.", &[0; 64]),
+        body_of(1, b"AB", &[0; 64]),
+        body_of(1, b"B", &[0; 64]),
+        body_of(1, b"A", &[0; 64]),
+        body_of(1, b"A0", &[0; 64]),
+        body_of(1, b"@", &[0; 64]),
+        body_of(1, b"A#", &[0; 64]),
+    ];
+    let mut store = store_of(alloc, &bodies, 100)?;
+    let mut bench = Workbench::new();
+    let mut lease = Lease::open(&mut bench);
+    assert!(rt; store.size() == STORE_LEN);
+    let records = opened(alloc, &module_image(), &mut store, &mut lease).or_else(|_| Err(
+        "not opened",
+    ))?;
+    let ascending = [
+        b"@".as_slice(),
+        b"A".as_slice(),
+        b"A#".as_slice(),
+        b"A.".as_slice(),
+        b"A0".as_slice(),
+        b"AB".as_slice(),
+        b"B".as_slice(),
+    ];
+    assert_eq!(rt; records.count(), ascending.len());
+    for (index, label) in ascending.iter().enumerate() {
+        assert!(rt; index < records.count());
+        assert_eq!(rt; records.label_at(index).text(), *label);
     }
     Ok(())
 }

@@ -21,7 +21,8 @@ use Rattle.key_records.specs.RecordBody.{token_in, second_in, second_token, held
 use Rattle.key_records.specs.StoreStands.{HoldsRows}
 use Rattle.key_records.specs.declared.faults.RecordFault.{RecordFault}
 use Rattle.key_records.specs.declared.rows.Row.{Row}
-use Rattle.key_records.proofs.BodyLaws.{kind_again, token_again, second_again, label_short}
+use Rattle.byte_lists.proofs.NameLemmas.{label_short}
+use Rattle.key_records.proofs.BodyLaws.{kind_again, token_again, second_again}
 use Rattle.key_records.proofs.SecondLaws.{second_long}
 use Rattle.master_registers.specs.Loaded.{Loaded}
 use Rattle.master_registers.specs.Masters.{Masters}

@@ -1,11 +1,11 @@
 //! Lines of message authentication codes, of whole texts and of texts in segments.
 use crate::lines::{TOKEN, is_parsed};
-use cca_roles::RoleName;
+use cca_roles::default_role;
 use verb_script::{CodeLength, CodeRule, KeyField, Request};
 
 #[test]
 fn lines_of_codes_made_are_parsed(rt: HostRuntime) {
-    let role = RoleName::default_role();
+    let role = default_role();
     let chain: &[u8] = b"1234567890abcdef074e6f7720697320";
     let lines: [(&[u8], Request); 5] = [
         (
@@ -66,7 +66,7 @@ fn lines_of_codes_made_are_parsed(rt: HostRuntime) {
 
 #[test]
 fn lines_of_codes_verified_are_parsed(rt: HostRuntime) {
-    let role = RoleName::default_role();
+    let role = default_role();
     let chain: &[u8] = b"1234567890abcdef074e6f7720697320";
     let lines: [(&[u8], Request); 5] = [
         (

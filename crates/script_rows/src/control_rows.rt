@@ -1,18 +1,18 @@
 //! Lines of master keys, of roles, and of the store as a whole.
 use crate::lines::is_parsed;
-use cca_roles::{AccessPoints, RoleName};
+use cca_roles::{AccessPoints, RoleName, default_role};
 use verb_script::{PartAction, Request};
 
 const PART: &[u8] = b"0102030405060708090A0b0c0d0e0f101112131415161718";
 
 // The role's name; of another text DEFAULT, which the tests here would notice.
 fn name_of(text: &[u8]) -> RoleName {
-    RoleName::read(text).unwrap_or(RoleName::default_role())
+    RoleName::read(text).unwrap_or(default_role())
 }
 
 #[test]
 fn lines_of_masters_roles_and_the_store_are_parsed(rt: HostRuntime) {
-    let role = RoleName::default_role();
+    let role = default_role();
     let teller = name_of(b"TELLER");
     let lines: [(&[u8], Request); 11] = [
         (

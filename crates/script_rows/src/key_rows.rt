@@ -1,6 +1,6 @@
 //! Lines that make and move keys.
 use crate::lines::{TOKEN, is_parsed};
-use cca_roles::RoleName;
+use cca_roles::default_role;
 use cca_vectors::KeyType;
 use verb_script::{
     ChangeTo, Destination, KeyField, KeyLength, OutForm, PairForm, PartRule, Request,
@@ -8,7 +8,7 @@ use verb_script::{
 
 #[test]
 fn lines_that_make_and_move_keys_are_parsed(rt: HostRuntime) {
-    let role = RoleName::default_role();
+    let role = default_role();
     let lines: [(&[u8], Request); 12] = [
         (
             b"CSNBKGN role=DEFAULT form=OP length=8 type1=DATA to=-",
@@ -137,7 +137,7 @@ fn lines_that_make_and_move_keys_are_parsed(rt: HostRuntime) {
 
 #[test]
 fn lines_of_keys_in_parts_are_parsed(rt: HostRuntime) {
-    let role = RoleName::default_role();
+    let role = default_role();
     let lines: [(&[u8], Request); 4] = [
         (
             b"CSNBKPI role=DEFAULT rule=FIRST type=DATA part=ffffffffffffffff to=L:P",

@@ -1,11 +1,11 @@
 //! Keys and destinations as they are read, and the verb, the role and the label of a request.
 use crate::lines::{TOKEN, is_none, is_parsed};
-use cca_roles::RoleName;
+use cca_roles::default_role;
 use verb_script::{Destination, KeyField, Request, parse_request};
 
 #[test]
 fn keys_and_destinations_are_read(rt: HostRuntime) {
-    let role = RoleName::default_role();
+    let role = default_role();
     let lines: [(&[u8], Request); 4] = [
         (
             b"CSNBPEX role=DEFAULT key=L:PAY.DATA to=-",

@@ -1,11 +1,11 @@
 //! Lines of key records.
 use crate::lines::{TOKEN, is_parsed};
-use cca_roles::RoleName;
+use cca_roles::default_role;
 use verb_script::Request;
 
 #[test]
 fn lines_of_key_records_are_parsed(rt: HostRuntime) {
-    let role = RoleName::default_role();
+    let role = default_role();
     let lines: [(&[u8], Request); 7] = [
         (
             b"CSNBKRC role=DEFAULT label=PAY.DATA",

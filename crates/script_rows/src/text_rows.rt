@@ -1,11 +1,11 @@
 //! Lines of texts that are enciphered and deciphered, whole and in segments.
 use crate::lines::{TOKEN, is_parsed};
-use cca_roles::RoleName;
+use cca_roles::default_role;
 use verb_script::{KeyField, Padding, Request};
 
 #[test]
 fn lines_of_encipher_are_parsed(rt: HostRuntime) {
-    let role = RoleName::default_role();
+    let role = default_role();
     let chain: &[u8] = b"1234567890abcdef074e6f7720697320";
     let lines: [(&[u8], Request); 6] = [
         (
@@ -74,7 +74,7 @@ fn lines_of_encipher_are_parsed(rt: HostRuntime) {
 
 #[test]
 fn lines_of_decipher_are_parsed(rt: HostRuntime) {
-    let role = RoleName::default_role();
+    let role = default_role();
     let chain: &[u8] = b"1234567890abcdef074e6f7720697320";
     let lines: [(&[u8], Request); 6] = [
         (

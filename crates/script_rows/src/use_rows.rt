@@ -1,11 +1,11 @@
 //! Lines of single keys and of random bytes.
 use crate::lines::{TOKEN, is_parsed};
-use cca_roles::RoleName;
+use cca_roles::default_role;
 use verb_script::{Destination, KeyField, NumberForm, Request};
 
 #[test]
 fn lines_of_single_keys_are_parsed(rt: HostRuntime) {
-    let role = RoleName::default_role();
+    let role = default_role();
     let lines: [(&[u8], Request); 8] = [
         (
             b"CSNBKTP role=DEFAULT token=020000000000c00000000000000000008ca64de9c1b123a700000000000000000000000000000000000000000000000000000000000000000000000050583190",

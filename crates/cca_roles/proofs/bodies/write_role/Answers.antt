@@ -24,7 +24,7 @@ returns c =
     let name : List ℕ = c.args.role.now.name in
     let long : length filled ≡ 8 = search rules in
     record {
-      name = c.length.ensures.name;
+      name = c.length.ensures.form;
       points = c.bits.ensures.known;
       body =
           ap (λ l. put_mid 10 4 (put_mid 2 8 (set (set l 0 1) 1 c.length.result) filled) points) zeros

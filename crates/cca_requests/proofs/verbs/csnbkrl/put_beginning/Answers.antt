@@ -3,7 +3,7 @@ use Rattle.std.specs.Prelude.{if◌then◌else◌}
 use Rattle.std.specs.List.{starts_with}
 use Rattle.std.proofs.lemmas.List.{append_assoc}
 use Rattle.key_records.specs.Entries.{row_directory}
-use Rattle.key_records.proofs.BodyLaws.{label_short}
+use Rattle.byte_lists.proofs.NameLemmas.{label_short}
 use Rattle.cca_machine.specs.Listing.{with_commas}
 use Rattle.cca_requests.proofs.ListedLabels.{so_far, are_none, with_one, without_one, commas_more, none_more}
 use Rattle.cca_requests.proofs.verbs.csnbkrl.put_beginning.Goals as goal
@@ -11,7 +11,7 @@ use Rattle.cca_requests.proofs.verbs.csnbkrl.put_beginning.Goals.{then-starts_wi
 
 pub put_label-requires : goal.put_label-requires
 put_label-requires c =
-    let short = label_short c.label_at.result.now c.text-label.ensures.label in
+    let short = label_short c.label_at.result.now c.text-label.ensures.form in
     omega (arith, short, ap length c.text-label.ensures.text)
 
 pub loop-index-preserved : goal.loop-index-preserved
@@ -27,7 +27,7 @@ loop-index-preserved c =
     elim c.if-starts_with.branch [
       | then-starts_with w ↦
           let more = with_one prefix d index label c.label_at.ensures (same ∙ (sym c.starts_with.ensures.value ∙ w.if-starts_with.true)) in
-          let short = label_short label c.text-label.ensures.label in
+          let short = label_short label c.text-label.ensures.form in
           record {
             all = c.loop-index.invariant.all;
             few = c.loop-index.invariant.few;
