@@ -36,12 +36,14 @@ module _ (next : ℕ) (e : Entry) (is : IsEntry e) (low : next < 2 ^ 63) (m0 m1 
   appends (Ok done) known becomes moments = record {
     settled = known.0;
     stands = λ es trail. entry_more es known.1 trail;
+    replaced = known.1;
     either = record { size = becomes.size; told = λ c is. from c (becomes.told c is); still = becomes.still };
     moments = each_weaker m0 m1 (From (IsReplacing (next % 4096) (record_body next e)) m0) (From (Appending next e) m0) moments from;
   }
   appends (Err fault) known becomes moments = record {
     settled = tt;
     stands = λ es trail. tt;
+    replaced = tt;
     either = record { size = becomes.size; told = λ c is. from c (becomes.told c is); still = becomes.still };
     moments = each_weaker m0 m1 (From (IsReplacing (next % 4096) (record_body next e)) m0) (From (Appending next e) m0) moments from;
   }

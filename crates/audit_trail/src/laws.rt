@@ -1,8 +1,16 @@
 //! Laws of trails, the contracts of calls that do nothing.
 ghost use Rattle.std.specs.Prelude.{◌≡◌, ◌⊎◌, ℕ, List, length};
 ghost use Rattle.audit_trail.specs.RecordBody.{Spells};
-ghost use Rattle.audit_trail.specs.TrailStands.{IsTrail, StandsForTrail, IsFirstDamaged};
+ghost use Rattle.audit_trail.specs.TrailStands.{trail_size, IsTrail, StandsForTrail, IsFirstDamaged};
 ghost use Rattle.audit_trail.specs.declared.entries.Entry.{Entry};
+
+use crate::trail::{CELLS, TRAIL_LEN};
+
+/// A trail has 4,096 cells of 1,536 bytes.
+pub fn a_trail_has_its_size()
+    ensures cells { CELLS ≡ 4096 }
+    ensures bytes { TRAIL_LEN ≡ trail_size }
+{}
 
 /// A body spells one record at most.
 pub fn a_body_spells_one_record()

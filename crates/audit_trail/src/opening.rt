@@ -4,18 +4,18 @@ ghost use Rattle.slot_disk.specs.Faults.{Rose};
 ghost use Rattle.slot_disk.specs.Medium.{Told, Keeps};
 ghost use Rattle.audit_trail.specs.Changes.{TrailLeft};
 ghost use Rattle.audit_trail.specs.Opening.{CellReads, Scanned, Checked, greater, newest_number};
-ghost use Rattle.audit_trail.specs.TrailStands.{StandsForTrail, IsStray, IsFirstStray, IsFirstStale, IsFirstDamaged};
+ghost use Rattle.audit_trail.specs.TrailStands.{trail_size, StandsForTrail, IsStray, IsFirstStray, IsFirstStale, IsFirstDamaged};
 
 use crate::bodies::{is_blank, read_record};
 use crate::faults::TrailFault;
-use crate::trail::{CELLS, HELD, TRAIL_LEN, Trail, cell_of};
+use crate::trail::{CELLS, HELD, Trail, cell_of};
 use slot_disk::{Cell, Disk, read_cell, settle};
 
 /// Makes every image of the trail its content, and learns the number of the next record. Damaged names the first
 /// cell that isn't blank and holds no record of its own; or, where there is none, the first cell that holds an older
 /// record than it should. After an error the memory is as before.
 pub fn open_trail<T: Disk>(trail: &mut T, held: &mut Trail) -> Result<(), TrailFault>
-    requires { (T.medium trail.old).size ≡ TRAIL_LEN }
+    requires { (T.medium trail.old).size ≡ trail_size }
     ensures stands { OnOk result
         (Told (T.medium trail.new) (λ image. StandsForTrail image held.new)) }
     ensures unopened { OnErr result (held.new ≡ held.old) }
@@ -52,7 +52,7 @@ pub fn open_trail<T: Disk>(trail: &mut T, held: &mut Trail) -> Result<(), TrailF
 
 /// The number of the record that a cell holds; none where the cell is blank.
 fn read_number<T: Disk>(trail: &mut T, cell: u16) -> Result<Option<u64>, TrailFault>
-    requires size { (T.medium trail.old).size ≡ TRAIL_LEN }
+    requires size { (T.medium trail.old).size ≡ trail_size }
     requires below { cell < 4096 }
     ensures reads { IfOk result (λ number. Told (T.medium trail.old) (λ image.
         CellReads image cell number)) }
@@ -65,6 +65,8 @@ fn read_number<T: Disk>(trail: &mut T, cell: u16) -> Result<Option<u64>, TrailFa
     ensures later { T.faults trail.old ≤ T.faults trail.new }
     ensures failed { result ≡ Err TrailFault.DiskFault
         → Rose (T.faults trail.old) (T.faults trail.new) }
+    ensures quiet { (result ≡ Err TrailFault.DiskFault → ⊥)
+        → T.faults trail.new ≡ T.faults trail.old }
 {
     let mut body = [0; 192];
     match read_cell(trail, Cell::new(cell), &mut body) {
@@ -89,9 +91,9 @@ fn read_number<T: Disk>(trail: &mut T, cell: u16) -> Result<Option<u64>, TrailFa
 
 /// The greatest number that is held; none where every cell is blank.
 fn scan_cells<T: Disk>(trail: &mut T) -> Result<Option<u64>, TrailFault>
-    requires { (T.medium trail.old).size ≡ TRAIL_LEN }
+    requires { (T.medium trail.old).size ≡ trail_size }
     ensures scanned { IfOk result (λ last. Told (T.medium trail.old) (λ image.
-        Scanned image CELLS last)) }
+        Scanned image 4096 last)) }
     ensures low { IfOk result (λ last. IfSome last (λ n. n < 2 ^ 63)) }
     ensures damaged { (n : ℕ) → result ≡ Err (TrailFault.Damaged n)
         → Told (T.medium trail.old) (λ image. IsFirstStray image n) }
@@ -101,6 +103,8 @@ fn scan_cells<T: Disk>(trail: &mut T) -> Result<Option<u64>, TrailFault>
     ensures later { T.faults trail.old ≤ T.faults trail.new }
     ensures failed { result ≡ Err TrailFault.DiskFault
         → Rose (T.faults trail.old) (T.faults trail.new) }
+    ensures quiet { (result ≡ Err TrailFault.DiskFault → ⊥)
+        → T.faults trail.new ≡ T.faults trail.old }
 {
     let mut last = None;
     for cell in 0..CELLS {
@@ -146,9 +150,9 @@ fn is_same(one: Option<u64>, other: Option<u64>) -> bool
 
 /// Checks that each cell holds the newest record that belongs to it.
 fn check_cells<T: Disk>(trail: &mut T, last: u64) -> Result<(), TrailFault>
-    requires size { (T.medium trail.old).size ≡ TRAIL_LEN }
-    requires scanned { Told (T.medium trail.old) (λ image. Scanned image CELLS (Some last)) }
-    ensures checked { OnOk result (Told (T.medium trail.old) (λ image. Checked image last CELLS)) }
+    requires size { (T.medium trail.old).size ≡ trail_size }
+    requires scanned { Told (T.medium trail.old) (λ image. Scanned image 4096 (Some last)) }
+    ensures checked { OnOk result (Told (T.medium trail.old) (λ image. Checked image last 4096)) }
     ensures damaged { (n : ℕ) → result ≡ Err (TrailFault.Damaged n)
         → Told (T.medium trail.old) (λ image. IsFirstStale image last n) }
     ensures faults { IfErr result (λ fault. (fault ≡ TrailFault.DiskFault)
@@ -157,6 +161,8 @@ fn check_cells<T: Disk>(trail: &mut T, last: u64) -> Result<(), TrailFault>
     ensures later { T.faults trail.old ≤ T.faults trail.new }
     ensures failed { result ≡ Err TrailFault.DiskFault
         → Rose (T.faults trail.old) (T.faults trail.new) }
+    ensures quiet { (result ≡ Err TrailFault.DiskFault → ⊥)
+        → T.faults trail.new ≡ T.faults trail.old }
 {
     for cell in 0..CELLS {
         match read_number(trail, cell) {

@@ -1,11 +1,12 @@
 //! A trail: records are appended, and those that are held are read.
-ghost use Rattle.std.specs.Prelude.{◌≡◌, ◌↔◌, ◌⊎◌, ◌+◌, ◌-◌, ◌*◌, ◌%◌, ◌^◌, ◌≤◌, ◌<◌, ℕ, Ok, Err, OnOk, IfOk, IfErr, IsOk, IsTrue, true, false};
+ghost use Rattle.std.specs.Prelude.{◌≡◌, ◌↔◌, ◌⊎◌, ◌+◌, ◌-◌, ◌*◌, ◌%◌, ◌^◌, ◌≤◌, ◌<◌, ℕ, Ok, Err, OnErr, OnOk, IfOk, IfErr, IsOk, IsTrue, true, false};
 ghost use Rattle.slot_disk.specs.Cells.{body};
 ghost use Rattle.slot_disk.specs.Medium.{Told, IsSettled, Keeps};
 ghost use Rattle.audit_trail.specs.Changes.{AppendsEntry, TrailLeft, Remembers};
 ghost use Rattle.audit_trail.specs.Entries.{IsEntry};
 ghost use Rattle.audit_trail.specs.RecordBody.{Spells};
-ghost use Rattle.audit_trail.specs.TrailStands.{StandsForTrail, IsHeld};
+ghost use Rattle.audit_trail.specs.TrailStands.{trail_size, StandsForTrail, IsHeld};
+ghost use Rattle.audit_trail.specs.declared.entries.Entry.{Entry as AnyEntry};
 
 use crate::bodies::{read_entry, write_record};
 use crate::entries::Entry;
@@ -51,7 +52,7 @@ pub(crate) fn cell_of(number: u64) -> u16
 
 /// Writes the record of the next number.
 fn put_record<T: Disk>(trail: &mut T, next: u64, entry: &Entry) -> Result<(), TrailFault>
-    requires size { (T.medium trail.old).size ≡ TRAIL_LEN }
+    requires size { (T.medium trail.old).size ≡ trail_size }
     requires settled { IsSettled (T.medium trail.old) }
     requires stands { Told (T.medium trail.old) (λ image. StandsForTrail image next) }
     requires below { next < 2 ^ 63 }
@@ -70,6 +71,43 @@ fn put_record<T: Disk>(trail: &mut T, next: u64, entry: &Entry) -> Result<(), Tr
     write_record(&mut body, next, entry);
     match replace_cell(trail, Cell::new(cell_of(next)), &body) {
         Ok(()) => Ok(()),
+        Err(_) => Err(TrailFault::DiskFault),
+    }
+}
+
+/// Reads the cell of a number into `bytes`, and the record of that number into `out`. Damaged comes where the body that
+/// was read doesn't spell it; then, and after a fault of the disk, `out` is as before.
+fn read_held<T: Disk>(
+    trail: &mut T,
+    number: u64,
+    bytes: &mut [u8; 192],
+    out: &mut Entry,
+) -> Result<(), TrailFault>
+    requires { (T.medium trail.old).size ≡ trail_size }
+
+    // By the body that was read, whatever the trail tells of its bytes.
+    ensures own { OnOk result (Spells bytes.new number out.new) }
+    ensures damaged { (cell : ℕ) → result ≡ Err (TrailFault.Damaged cell)
+        → (cell ≡ number % 4096) × ((e : AnyEntry) → Spells bytes.new number e → ⊥) }
+    // That body, where the trail tells them.
+    ensures told { (result ≡ Err TrailFault.DiskFault → ⊥)
+        → Told (T.medium trail.old) (λ image. bytes.new ≡ body image (number % 4096)) }
+    ensures unread { OnErr result (out.new ≡ out.old) }
+    ensures faults { IfErr result (λ fault.
+        (fault ≡ TrailFault.DiskFault) ⊎ (fault ≡ TrailFault.Damaged (number % 4096))) }
+    ensures keeps { Keeps (T.medium trail.old) (T.medium trail.new) }
+    ensures left { TrailLeft (T.medium trail.old) (T.medium trail.new)
+        (T.faults trail.old) (T.faults trail.new)
+        (IsSettled (T.medium trail.old)) (result ≡ Err TrailFault.DiskFault) }
+{
+    match read_cell(trail, Cell::new(cell_of(number)), bytes) {
+        Ok(()) => match read_entry(bytes, number) {
+            Some(entry) => {
+                *out = entry;
+                Ok(())
+            }
+            None => Err(TrailFault::Damaged(cell_of(number))),
+        },
         Err(_) => Err(TrailFault::DiskFault),
     }
 }
@@ -108,7 +146,7 @@ impl Trail {
     /// Writes the next record. A stop at any moment leaves the records before, or these with the new one. After
     /// `DiskFault` the trail is to be opened again.
     pub fn append<T: Disk>(&mut self, trail: &mut T, entry: &Entry) -> Result<(), TrailFault>
-        requires size { (T.medium trail.old).size ≡ TRAIL_LEN }
+        requires size { (T.medium trail.old).size ≡ trail_size }
         requires settled { IsSettled (T.medium trail.old) }
         requires stands { Told (T.medium trail.old) (λ image. StandsForTrail image self.old) }
         requires entry { IsEntry entry.now }
@@ -142,7 +180,7 @@ impl Trail {
         number: u64,
         out: &mut Entry,
     ) -> Result<bool, TrailFault>
-        requires size { (T.medium trail.old).size ≡ TRAIL_LEN }
+        requires size { (T.medium trail.old).size ≡ trail_size }
         requires stands { Told (T.medium trail.old) (λ image. StandsForTrail image self.now) }
 
         ensures held { IfOk result (λ held. IsTrue held ↔ IsHeld number self.now) }
@@ -150,6 +188,8 @@ impl Trail {
             → (result ≡ Ok false) × (trail.new ≡ trail.old) }
         ensures spelled { result ≡ Ok true → Told (T.medium trail.old)
             (λ image. Spells (body image (number % 4096)) number out.new) }
+        // What is answered has the forms of an entry, whatever the trail tells of its bytes.
+        ensures whole { result ≡ Ok true → IsEntry out.new }
         ensures unread { (result ≡ Ok true → ⊥) → out.new ≡ out.old }
         // A trail that tells its bytes doesn't turn out damaged.
         ensures damaged { (cell : ℕ) → result ≡ Err (TrailFault.Damaged cell)
@@ -165,15 +205,9 @@ impl Trail {
             return Ok(false);
         }
         let mut body = [0; 192];
-        match read_cell(trail, Cell::new(cell_of(number)), &mut body) {
-            Ok(()) => match read_entry(&body, number) {
-                Some(entry) => {
-                    *out = entry;
-                    Ok(true)
-                }
-                None => Err(TrailFault::Damaged(cell_of(number))),
-            },
-            Err(_) => Err(TrailFault::DiskFault),
+        match read_held(trail, number, &mut body, out) {
+            Ok(()) => Ok(true),
+            Err(fault) => Err(fault),
         }
     }
 }

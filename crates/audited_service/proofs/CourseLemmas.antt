@@ -1,7 +1,7 @@
 -- What a run leaves at its last line, on the disks and on the trail.
-use Rattle.std.proofs.Common.{◌≡◌, ℕ, List, Option, Result, Ok, Err, ap, sym, subst, inl, inr}
-use Rattle.std.specs.Prelude.{◌⊎◌, OnErr, IfErr}
-use Rattle.slot_disk.specs.Medium.{Medium, EachImage, IsSettled}
+use Rattle.std.proofs.Common.{◌≡◌, ◌^◌, ℕ, List, length, Option, Result, Ok, Err, ap, sym, subst, inl, inr}
+use Rattle.std.specs.Prelude.{◌⊎◌, OnErr, IfErr, IsSome}
+use Rattle.slot_disk.specs.Medium.{Medium, EachImage, IsSettled, Told}
 use Rattle.slot_disk.specs.WhereTold.{WhereTold}
 use Rattle.slot_disk.proofs.WhereToldLemmas.{told_weaker}
 use Rattle.script_buffers.specs.Reading.{Reading}
@@ -75,6 +75,8 @@ module _ (A : Machine) (entry : List ℕ → List ℕ → Entry) (s : Noted A.St
     pub failed_unsent : OnErr result (o.new.output ≡ o.old.output)
     pub settled : (result ≡ Err trail_fault.DiskFault → ⊥) → IsSettled t1
     pub kinds : IfErr result IsAppendFault
+    -- a trail that tells its content was full only where it has 2^63 entries
+    pub numbered : result ≡ Err trail_fault.Full → IsSome t0.content → (es : List Entry) → Told t (λ c. IsTrail c es) → length es ≡ 2 ^ 63
 
   trail_moments : (result : Result (Result Served Stop) TrailFault) → (next : IsNextRecord result)
       → WhereTold start.input o.new.input (λ i r. EachImage t0 t1 (λ e. t0.images e ⊎ IsOnTheWay (noting A entry) s w0.random i (λ v. IsTrail e v.entries)))
@@ -164,12 +166,12 @@ module _ (A : Machine) (entry : List ℕ → List ℕ → Entry) (s : Noted A.St
   -- ---- it failed
 
   module _ (fault : TrailFault) (next : IsNextRecord (Err fault)) where
-    reply_unsent : (other : TrailFault) → fault ≡ other
-        → WhereTold start.input o.new.input (λ i r. (unsent : ReplyUnsent A entry s w0.random w1 i start.output o.new.output) × RecordedBy other t1 unsent.state.entries unsent.next.entries)
-    reply_unsent other same =
-        subst (λ (x : Option (List ℕ)). WhereTold start.input o.new.input (λ i r. (unsent : ReplyUnsent A entry s w0.random w1 i start.output x) × RecordedBy other t1 unsent.state.entries unsent.next.entries))
+    reply_unsent : (other : TrailFault) → fault ≡ other → (Y : List Entry → Type 0) → ((es : List Entry) → Told t (λ c. IsTrail c es) → Y es)
+        → WhereTold start.input o.new.input (λ i r. (unsent : ReplyUnsent A entry s w0.random w1 i start.output o.new.output) × RecordedBy other t1 unsent.state.entries unsent.next.entries × Y unsent.state.entries)
+    reply_unsent other same Y of_trail =
+        subst (λ (x : Option (List ℕ)). WhereTold start.input o.new.input (λ i r. (unsent : ReplyUnsent A entry s w0.random w1 i start.output x) × RecordedBy other t1 unsent.state.entries unsent.next.entries × Y unsent.state.entries))
         (sym next.failed_unsent)
-        (exit_unsent A entry s k k1 t0 t t1 w0 w w1 next.was_settled start.input o.old.input o.new.input start.output o.old.output o.new.output old new _ next.served next.taken.counted other
+        (exit_unsent A entry s k k1 t0 t t1 w0 w w1 next.was_settled start.input o.old.input o.new.input start.output o.old.output o.new.output old new _ next.served next.taken.counted other Y of_trail
         (λ u st. (next.leaves u st).unsent other (ap Err same)))
 
     pub audit_failed : RunRecorded A entry s (Err fault) w0 w1 t0 t1 start.input o.new.input start.output o.new.output
@@ -179,8 +181,8 @@ module _ (A : Machine) (entry : List ℕ → List ℕ → Entry) (s : Noted A.St
       cut = λ h. absurd (fault_not_run _ _ h);
       lost = λ stop kind h. absurd (fault_not_run _ _ h);
       undrawn = λ h. absurd (fault_not_run _ _ h);
-      full = λ h. reply_unsent trail_fault.Full (fault_is fault trail_fault.Full h);
-      failed = λ h. told_weaker start.input o.new.input _ _ (λ i r x. inl x) (reply_unsent trail_fault.DiskFault (fault_is fault trail_fault.DiskFault h));
+      full = λ h. reply_unsent trail_fault.Full (fault_is fault trail_fault.Full h) (λ es. IsSome t0.content → length es ≡ 2 ^ 63) (λ es trail told. next.numbered (ap Err (fault_is fault trail_fault.Full h)) told es trail);
+      failed = λ h. told_weaker start.input o.new.input _ _ (λ i r x. inl (x.0, x.1)) (reply_unsent trail_fault.DiskFault (fault_is fault trail_fault.DiskFault h) (λ es. Unit {0}) (λ es trail. tt));
       damaged = λ cell h. absurd (subst IsAppendFault (fault_is fault (trail_fault.Damaged cell) h) next.kinds);
       undamaged = λ device cell h. fault_not_run _ _ h;
       on_module = module_way A entry s k k1 t0 t t1 w0 w w1 next.was_settled start.input o.old.input o.new.input start.output o.old.output old _ next.served next.taken.counted

@@ -99,7 +99,7 @@ taken_all (Ok r) o at_end limit short within = record {
 
 pub lines_served : (A : Machine) (entry : List ℕ → List ℕ → Entry) (s : Noted A.State) (o : Span Outside) (t0 t1 : Medium) (result : Result (Result (Unit {0}) Stop) TrailFault)
     → RunRecorded A entry s result o.old.devices.world o.new.devices.world t0 t1 o.old.input o.new.input o.old.output o.new.output
-    → (NoneFailed A o → NoStop (run_part result)) → IfOk result (λ r. InputTaken r o) → IfOk result (λ r. LinesServed A s.state r o)
+    → (NoneFailed o → NoStop (run_part result)) → IfOk result (λ r. InputTaken r o) → IfOk result (λ r. LinesServed A s.state r o)
 lines_served A entry s o t0 t1 (Err fault) recorded still taken = tt
 lines_served A entry s o t0 t1 (Ok r) recorded still taken =
     let old = o.old.devices.world in

@@ -30,7 +30,7 @@ use Rattle.audited_service.specs.EachLine.{Agrees, IsAppendFault, LineUnsent, Re
 use Rattle.audited_service.proofs.NotingLemmas.{notes_lines}
 
 -- a trail that tells its bytes has as many entries as the memory counts
-told_number : (t : Medium) (n : ℕ) (es : List Entry) → IsSome t.content → Told t (λ c. StandsForTrail c n) → Told t (λ c. IsTrail c es) → length es ≡ n
+pub told_number : (t : Medium) (n : ℕ) (es : List Entry) → IsSome t.content → Told t (λ c. StandsForTrail c n) → Told t (λ c. IsTrail c es) → length es ≡ n
 told_number t n es some held trail = by_content t.content some held trail
   where
     by_content : (o : Option (List ℕ)) → IsSome o → IfSome o (λ c. StandsForTrail c n) → IfSome o (λ c. IsTrail c es) → length es ≡ n

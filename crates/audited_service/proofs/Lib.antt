@@ -2,6 +2,7 @@ pub mod NotingLemmas
 pub mod PlainLemmas
 pub mod RecordLemmas
 pub mod GrowingLemmas
+pub mod RestingLemmas
 pub mod RunLemmas
 pub mod FullLemmas
 pub mod OpeningLemmas

@@ -1,6 +1,6 @@
 -- A run from the disks and the trail as they were before they were opened.
-use Rattle.std.proofs.Common.{◌≡◌, ℕ, List, Option, Result, Ok, Err, refl, subst, inl, inr}
-use Rattle.std.specs.Prelude.{◌⊎◌}
+use Rattle.std.proofs.Common.{◌≡◌, ℕ, List, Option, Result, Ok, Err, refl, sym, subst, inl, inr}
+use Rattle.std.specs.Prelude.{◌⊎◌, IsSome}
 use Rattle.slot_disk.specs.Medium.{Medium, Told, Keeps}
 use Rattle.slot_disk.proofs.Media.{goes_on, each_weaker, keeps_then, told_still}
 use Rattle.slot_disk.proofs.WhereToldLemmas.{told_same, told_weaker}
@@ -74,7 +74,7 @@ module _ (A : Machine) (entry : List ℕ → List ℕ → Entry) (m0 m d0 d t0 t
     cut = run.cut;
     lost = λ stop kind is. told_weaker a b _ _ (λ i r x. or_before w1 t1 i r p q _ x) (run.lost stop kind is);
     undrawn = run.undrawn;
-    full = run.full;
+    full = λ h. told_weaker a b _ _ (λ i r unsent. (unsent.0, unsent.1, λ some. unsent.2 (subst (λ (o : Option (List ℕ)). IsSome o) (sym kept_t.content) some))) (run.full h);
     failed = λ is. told_weaker a b _ _ (λ i r x. or_before w1 t1 i r p q _ x) (run.failed is);
     damaged = λ cell is. told_weaker a b _ _ (λ i r early. unopened_before w1 t1 i r p q early) (run.damaged cell is);
     undamaged = run.undamaged;

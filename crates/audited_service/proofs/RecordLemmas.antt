@@ -203,7 +203,7 @@ module _ (A : Machine) (entry : List ℕ → List ℕ → Entry) (s : Noted A.St
 -- ---- what is left of the devices
 
 -- what a call leaves that is done, another leaves with another answer
-pub devices_carried : {T U : Type 0} (A : Machine) (x : T) (y : U) (d : Span Devices) → DevicesLeft {T = T} A (Ok x) d → DevicesLeft {T = U} A (Ok y) d
+pub devices_carried : {T U : Type 0} (A : Machine) (x : T) (y : U) (d : Span Devices) → DevicesLeft {T = T} (Ok x) d → DevicesLeft {T = U} (Ok y) d
 devices_carried A x y d left = record {
   module_left = record {
     size = left.module_left.size;
@@ -211,6 +211,7 @@ devices_carried A x y d left = record {
     settled = λ ok. left.module_left.settled refl;
     later = left.module_left.later;
     fault = λ h. absurd (cc h);
+    quiet = λ none. left.module_left.quiet (λ h. cc h);
   };
   store_left = record {
     size = left.store_left.size;
@@ -218,9 +219,13 @@ devices_carried A x y d left = record {
     settled = λ ok. left.store_left.settled refl;
     later = left.store_left.later;
     fault = λ h. absurd (cc h);
+    quiet = λ none. left.store_left.quiet (λ h. cc h);
   };
-  entropy_left = record { later = left.entropy_left.later; fault = λ h. absurd (cc h) };
-  draws = λ h. absurd (cc h);
+  entropy_left = record {
+    later = left.entropy_left.later;
+    fault = λ h. absurd (cc h);
+    quiet = λ none. left.entropy_left.quiet (λ h. cc h);
+  };
 }
 
 -- ---- what the trail holds after an append that failed

@@ -113,8 +113,9 @@ module _ (A : Machine) (entry : List ℕ → List ℕ → Entry) (s : Noted A.St
 
     unsent_recorded : (fault : TrailFault) (input ahead rest : List ℕ) (ended now_ended : Bool) (p q : Option (List ℕ)) (served : IsServed (noting A entry) s K w0 w input ahead ended p q)
         → (unsent : LineUnsent A entry served.led.last w w1 ahead rest now_ended) × RecordedBy fault t1 served.led.last.entries unsent.next.entries
-        → (unsent : ReplyUnsent A entry s w0.random w1 input p q) × RecordedBy fault t1 unsent.state.entries unsent.next.entries
-    unsent_recorded fault input ahead rest ended now_ended p q served unsent = (
+        → (X : List Entry → Type 0) → ((es : List Entry) → Told t (λ c. IsTrail c es) → X es)
+        → (unsent : ReplyUnsent A entry s w0.random w1 input p q) × RecordedBy fault t1 unsent.state.entries unsent.next.entries × X unsent.state.entries
+    unsent_recorded fault input ahead rest ended now_ended p q served unsent X of_trail = (
       record {
         whole = served.whole;
         line = unsent.0.line;
@@ -133,6 +134,7 @@ module _ (A : Machine) (entry : List ℕ → List ℕ → Entry) (s : Noted A.St
         pairs = unsent.0.pairs;
       },
       unsent.1,
+      of_trail served.led.last.entries served.agrees.1,
     )
 
     -- ---- the same where the source tells its bytes
@@ -163,12 +165,13 @@ module _ (A : Machine) (entry : List ℕ → List ℕ → Entry) (s : Noted A.St
           (λ input mid rest served x loses. lost_recorded stop input (old.pending ++ mid) (new.pending ++ rest) old.ended new.ended p q served loses)
           first told (λ v stands. (line v stands).lost stop kind is)
 
-      pub exit_unsent : (fault : TrailFault) → ((v : Noted A.State) → Stands (noting A entry) v K w.module_ w.store
+      -- and what follows of the entries for which the trail stands
+      pub exit_unsent : (fault : TrailFault) → (Y : List Entry → Type 0) → ((es : List Entry) → Told t (λ c. IsTrail c es) → Y es) → ((v : Noted A.State) → Stands (noting A entry) v K w.module_ w.store
           → WhereTold b c (λ i r. (unsent : LineUnsent A entry v w w1 (old.pending ++ i) (new.pending ++ r) new.ended) × RecordedBy fault t1 v.entries unsent.next.entries))
-          → WhereTold a c (λ i r. (unsent : ReplyUnsent A entry s w0.random w1 i p q) × RecordedBy fault t1 unsent.state.entries unsent.next.entries)
-      exit_unsent fault line =
+          → WhereTold a c (λ i r. (unsent : ReplyUnsent A entry s w0.random w1 i p q) × RecordedBy fault t1 unsent.state.entries unsent.next.entries × Y unsent.state.entries)
+      exit_unsent fault Y of_trail line =
           step_on (noting A entry) s K w0 w a b c p q old X _ _
-          (λ input mid rest served x unsent. unsent_recorded fault input (old.pending ++ mid) (new.pending ++ rest) old.ended new.ended p q served unsent)
+          (λ input mid rest served x unsent. unsent_recorded fault input (old.pending ++ mid) (new.pending ++ rest) old.ended new.ended p q served unsent Y of_trail)
           first told line
 
       -- the disks at rest after a line that was carried out

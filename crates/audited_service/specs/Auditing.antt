@@ -37,7 +37,7 @@ pub record LinesRecorded (A : Machine) (entry : List ℕ → List ℕ → Entry)
       (λ i r. PrefixSent A s o.old.devices.world.random i o.old.output o.new.output)
   -- where no device fails, the input is short enough and the numbers of the entries are low enough, every line is
   -- recorded and answered
-  pub complete : NoneFailed A o → (Rose before now → ⊥) → IsSome t0.content
+  pub complete : NoneFailed o → (Rose before now → ⊥) → IsSome t0.content
       → WhereTold o.old.input o.new.input (λ i r. length i < input_limit
       → length es + length (lines i) ≤ 2 ^ 63 → result ≡ Ok (Ok tt))
   -- the trail is full only where they aren't

@@ -1,5 +1,5 @@
 -- For the functions of this crate alone: what one line leaves that is recorded before its reply is sent.
-use Rattle.std.specs.Prelude.{⊤, ◌≡◌, ◌^◌, ℕ, List, ◌++◌, Bool, Option, Ok, Err, Result, OnErr, IfOk}
+use Rattle.std.specs.Prelude.{⊤, ◌≡◌, ◌^◌, ℕ, List, ◌++◌, Bool, Option, Ok, Err, Result, OnErr, IfErr, IfOk}
 use Rattle.std.specs.Io.KnownBytes.{Consumes}
 use Rattle.slot_disk.specs.Medium.{Medium, Told, IsSettled, EachImage}
 use Rattle.slot_disk.specs.WhereTold.{WhereTold}
@@ -94,8 +94,11 @@ LineAudited A entry s K result o t0 t1 r0 r1 =
     LineRecorded A entry s K result o.old.devices.world o.new.devices.world t0 t1
     o.old.input o.new.input o.old.output o.new.output r0 r1
 
--- A line finds the trail full only where no number is left, and then it doesn't call the trail.
-pub record FoundFull {T : Type 0} (result : Result (Result Served Stop) TrailFault)
-    (next : ℕ) (trail0 trail1 : T) : Type 0 where
+-- A line whose record isn't appended ends without its reply: the disk of the trail failed, or the trail is full. It is full
+-- only where no number is left, and isn't called then.
+pub record AppendFails {T K : Type 0} (result : Result (Result Served Stop) TrailFault)
+    (next : ℕ) (trail0 trail1 : T) (sink0 sink1 : K) : Type 0 where
+  pub kinds : IfErr result IsAppendFault
+  pub unsent : OnErr result (sink1 ≡ sink0)
   pub number : result ≡ Err Full → next ≡ 2 ^ 63
   pub uncalled : result ≡ Err Full → trail1 ≡ trail0

@@ -1,5 +1,5 @@
 -- How far a run has come that records each line before its reply is sent.
-use Rattle.std.specs.Prelude.{◌≡◌, ◌⊎◌, ℕ, List, ◌∷◌, [], ◌++◌, Option, Ok, Err, Result}
+use Rattle.std.specs.Prelude.{◌≡◌, ◌⊎◌, ◌^◌, ℕ, List, ◌∷◌, [], ◌++◌, length, Option, IsSome, Ok, Err, Result}
 use Rattle.std.specs.Io.KnownBytes.{Consumes}
 use Rattle.slot_disk.specs.Medium.{Medium, EachImage, Keeps}
 use Rattle.slot_disk.specs.WhereTold.{WhereTold}
@@ -64,10 +64,11 @@ module _ (A : Machine) (entry : List ℕ → List ℕ → Entry) where
     pub undrawn : result ≡ Ok (Err EntropyFault) → WhereTold input rest (λ i r.
         (lost : LineLost (noting A entry) EntropyFault s old.random new i before now)
         × Recorded t1 lost.state.entries)
-    -- the line that found the trail full isn't
+    -- the line that found the trail full isn't: a trail that tells its content has 2^63 entries then
     pub full : result ≡ Err trail_fault.Full → WhereTold input rest (λ i r.
         (unsent : ReplyUnsent s old.random new i before now)
-        × Recorded t1 unsent.state.entries)
+        × Recorded t1 unsent.state.entries
+        × (IsSome t0.content → length unsent.state.entries ≡ 2 ^ 63))
     -- the line at which the trail failed may be
     pub failed : result ≡ Err trail_fault.DiskFault → WhereTold input rest (λ i r.
         ((unsent : ReplyUnsent s old.random new i before now)

@@ -1,19 +1,19 @@
 //! One line, from the source to its record on the trail, and then its reply at the sink.
-ghost use Rattle.std.specs.Prelude.{◌≡◌, IsTrue, Ok, Err, OnOk, IfErr};
+ghost use Rattle.std.specs.Prelude.{◌≡◌, IsTrue, Ok, Err, OnOk};
 ghost use Rattle.std.specs.Io.KnownBytes.{IsAtEnd};
 ghost use Rattle.key_cells.specs.Bench.{blank_bench};
-ghost use Rattle.slot_disk.specs.Medium.{Told};
+ghost use Rattle.slot_disk.specs.Medium.{Told, Becomes};
 ghost use Rattle.audit_trail.specs.Changes.{TrailLeft};
-ghost use Rattle.audit_trail.specs.TrailStands.{StandsForTrail};
+ghost use Rattle.audit_trail.specs.TrailStands.{trail_size, StandsForTrail};
 ghost use Rattle.line_service.specs.Answering.{Stands};
 ghost use Rattle.line_service.specs.Devices.{AreSettled, BothSettled, OutsideLeft, Undamaged};
 ghost use Rattle.line_service.specs.Running.{LineTaken, Unmoved};
-ghost use Rattle.audited_service.specs.Growing.{TrailGrows};
+ghost use Rattle.audited_service.specs.Growing.{TrailGrows, Grown};
 ghost use Rattle.audited_service.specs.Noting.{Noted, noting};
-ghost use Rattle.audited_service.specs.EachLine.{Agrees, FoundFull, IsAppendFault, IsSettledTrail, LineAudited, line_part};
+ghost use Rattle.audited_service.specs.EachLine.{Agrees, AppendFails, IsSettledTrail, LineAudited, line_part};
 
 use crate::scribe::{Scribe, entry_taken};
-use audit_trail::{TRAIL_LEN, Trail, TrailFault};
+use audit_trail::{Trail, TrailFault};
 use key_cells::Workbench;
 use line_service::{Desk, Served, Shown, ShownOutside, Stop, answer_taken, send};
 use script_buffers::{LineBuffer, LineFault, ReplyBuffer, Taken, read_line};
@@ -50,7 +50,7 @@ pub(crate) fn audit_one<
     requires at_end { IsTrue lines.old.ended → IsAtEnd (S.left source.old) }
     requires disks { AreSettled A.machine.module_size A.machine.store_size
         (⟦<(M, D) as Shown>⟧.shown («module».old, store.old)) }
-    requires trail { IsSettledTrail TRAIL_LEN (T.medium trail.old) }
+    requires trail { IsSettledTrail trail_size (T.medium trail.old) }
     requires ready { A.ready desk.old (M.medium «module».old) (D.medium store.old) }
     requires held { Told (T.medium trail.old) (λ image. StandsForTrail image held.old) }
     requires bench { bench.old ≡ blank_bench }
@@ -82,7 +82,7 @@ pub(crate) fn audit_one<
         → (line_part result ≡ Err Stop.WriteFault → ⊥) → trail.new ≡ trail.old }
 
     // What is left of each device, and why it stopped.
-    ensures left { OutsideLeft A.machine (line_part result)
+    ensures left { OutsideLeft (line_part result)
         (⟦<(S, K, M, D, E) as ShownOutside>⟧.between
         (source.old, sink.old, «module».old, store.old, entropy.old)
         (source.new, sink.new, «module».new, store.new, entropy.new)) }
@@ -94,8 +94,9 @@ pub(crate) fn audit_one<
         (T.faults trail.old) (T.faults trail.new)
         (result ≡ Err TrailFault.DiskFault → ⊥) (result ≡ Err TrailFault.DiskFault) }
     ensures grows { TrailGrows (T.medium trail.old) (T.medium trail.new) }
-    ensures full { FoundFull result held.old trail.old trail.new }
-    ensures failed { IfErr result (λ fault. IsAppendFault fault × (sink.new ≡ sink.old)) }
+    ensures rests { (result ≡ Err TrailFault.DiskFault → ⊥)
+        → Becomes Grown (T.medium trail.old) (T.medium trail.new) }
+    ensures failed { AppendFails result held.old trail.old trail.new sink.old sink.new }
     ensures bench { bench.new ≡ blank_bench }
 {
     match read_line(source, lines) {

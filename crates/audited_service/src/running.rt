@@ -2,12 +2,12 @@
 ghost use Rattle.std.specs.Prelude.{◌≡◌, ◌+◌, ◌^◌, ◌<◌, ◌≤◌, List, IsSome, Ok, Err, IfErr, length};
 ghost use Rattle.std.specs.Io.KnownBytes.{IsAtEnd};
 ghost use Rattle.key_cells.specs.Bench.{blank_bench};
-ghost use Rattle.slot_disk.specs.Medium.{Told, Keeps};
+ghost use Rattle.slot_disk.specs.Medium.{Told, Becomes, Keeps};
 ghost use Rattle.slot_disk.specs.WhereTold.{WhereTold};
 ghost use Rattle.script_buffers.specs.Lines.{lines as lines_of};
 ghost use Rattle.script_buffers.specs.Reading.{blank, input_limit};
 ghost use Rattle.audit_trail.specs.Changes.{TrailLeft};
-ghost use Rattle.audit_trail.specs.TrailStands.{IsTrail, StandsForTrail};
+ghost use Rattle.audit_trail.specs.TrailStands.{trail_size, IsTrail, StandsForTrail};
 ghost use Rattle.audit_trail.specs.declared.entries.Entry.{Entry as AnyEntry};
 ghost use Rattle.line_service.specs.Machine.{world};
 ghost use Rattle.line_service.specs.Answering.{OnDisks, IsSound, Stands};
@@ -16,14 +16,14 @@ ghost use Rattle.line_service.specs.Running.{Untouched};
 ghost use Rattle.line_service.specs.Stops.{AnswersLines};
 ghost use Rattle.audited_service.specs.Answers.{run_part, AuditsLines};
 ghost use Rattle.audited_service.specs.Auditing.{IsUnsoundTrail, LinesRecorded, AuditTaken, AuditsSound, TrailDamageTold};
-ghost use Rattle.audited_service.specs.Growing.{TrailGrows};
+ghost use Rattle.audited_service.specs.Growing.{TrailGrows, Grown};
 ghost use Rattle.audited_service.specs.Noting.{Noted, noting};
 ghost use Rattle.audited_service.specs.Recording.{RunRecorded};
 ghost use Rattle.audited_service.specs.EachLine.{Agrees, IsAppendFault, IsSettledTrail};
 
 use crate::auditing::audit_one;
 use crate::scribe::Scribe;
-use audit_trail::{TRAIL_LEN, Trail, TrailFault, open_trail};
+use audit_trail::{Trail, TrailFault, open_trail};
 use key_cells::Workbench;
 use line_service::{Desk, Served, Shown, ShownOutside, Stop};
 use script_buffers::{LineBuffer, ReplyBuffer};
@@ -47,7 +47,7 @@ fn audit_all<A: Desk, W: Scribe, S: Source, K: Sink, M: Disk, D: Disk, E: Entrop
     requires fresh { lines.old ≡ blank }
     requires disks { AreSettled A.machine.module_size A.machine.store_size
         (⟦<(M, D) as Shown>⟧.shown («module».old, store.old)) }
-    requires trail { IsSettledTrail TRAIL_LEN (T.medium trail.old) }
+    requires trail { IsSettledTrail trail_size (T.medium trail.old) }
     requires ready { A.ready desk.old (M.medium «module».old) (D.medium store.old) }
     requires held { Told (T.medium trail.old) (λ image. StandsForTrail image held.old) }
     requires bench { bench.old ≡ blank_bench }
@@ -69,7 +69,7 @@ fn audit_all<A: Desk, W: Scribe, S: Source, K: Sink, M: Disk, D: Disk, E: Entrop
         length input ≤ length rest + input_limit) }
     ensures settled { AnswersLines (run_part result) → BothSettled
         (⟦<(M, D) as Shown>⟧.shown («module».new, store.new)) }
-    ensures left { OutsideLeft A.machine (run_part result)
+    ensures left { OutsideLeft (run_part result)
         (⟦<(S, K, M, D, E) as ShownOutside>⟧.between
         (source.old, sink.old, «module».old, store.old, entropy.old)
         (source.new, sink.new, «module».new, store.new, entropy.new)) }
@@ -79,6 +79,8 @@ fn audit_all<A: Desk, W: Scribe, S: Source, K: Sink, M: Disk, D: Disk, E: Entrop
         (T.faults trail.old) (T.faults trail.new)
         (result ≡ Err TrailFault.DiskFault → ⊥) (result ≡ Err TrailFault.DiskFault) }
     ensures grows { TrailGrows (T.medium trail.old) (T.medium trail.new) }
+    ensures rests { (result ≡ Err TrailFault.DiskFault → ⊥)
+        → Becomes Grown (T.medium trail.old) (T.medium trail.new) }
     // A trail that tells its content is full only where the entries come to 2^63.
     ensures full { (s : Noted A.machine.State)
         → Stands (noting A.machine W.entry_of) s (Agrees (A.knows desk.old) (T.medium trail.old))
@@ -124,7 +126,7 @@ pub fn serve_audited<A: Desk, W: Scribe, S: Source, K: Sink, M: Disk, D: Disk, E
 ) -> Result<Result<(), Stop>, TrailFault>
     requires disks { HaveSizes A.machine.module_size A.machine.store_size
         (⟦<(M, D) as Shown>⟧.shown («module».old, store.old)) }
-    requires trail { (T.medium trail.old).size ≡ TRAIL_LEN }
+    requires trail { (T.medium trail.old).size ≡ trail_size }
     requires bench { bench.old ≡ blank_bench }
 
     // What the lines come to, from the state for which the disks stand and the entries for which the trail stands.
@@ -161,7 +163,7 @@ pub fn serve_audited<A: Desk, W: Scribe, S: Source, K: Sink, M: Disk, D: Disk, E
         (T.medium trail.old) (T.faults trail.old) (T.faults trail.new) }
 
     // What is left of each device, and why it stopped.
-    ensures left { OutsideLeft A.machine (run_part result)
+    ensures left { OutsideLeft (run_part result)
         (⟦<(S, K, M, D, E) as ShownOutside>⟧.between
         (source.old, sink.old, «module».old, store.old, entropy.old)
         (source.new, sink.new, «module».new, store.new, entropy.new)) }
@@ -170,6 +172,9 @@ pub fn serve_audited<A: Desk, W: Scribe, S: Source, K: Sink, M: Disk, D: Disk, E
         (AuditsLines result) (result ≡ Err TrailFault.DiskFault) }
     // Whatever the disks hold, entries are only added to the trail.
     ensures trail_grows { TrailGrows (T.medium trail.old) (T.medium trail.new) }
+    // Where its disk doesn't fail, the bodies that aren't selected are those that were there, or older records.
+    ensures trail_rests { (result ≡ Err TrailFault.DiskFault → ⊥)
+        → Becomes Grown (T.medium trail.old) (T.medium trail.new) }
     ensures bench { bench.new ≡ blank_bench }
 {
     lines.clear();

@@ -1,7 +1,11 @@
 //! Short texts of a form.
-ghost use Rattle.std.specs.Prelude.{◌≡◌, ◌≤◌, ◌<◌, ◌++◌, ◌-◌, ◌↔◌, ℕ, List, Bool, length, replicate, IfSome, IsSome, IsTrue, bytes_eq};
+ghost use Rattle.std.specs.Prelude.{◌≡◌, ◌≤◌, ◌<◌, ◌+◌, ◌++◌, ◌-◌, ◌↔◌, ℕ, List, Bool, length, replicate, IfSome, IsSome, IsTrue, bytes_eq};
+ghost use Rattle.std.specs.Cmp.Lexicographic.{slice_cmp};
+ghost use Rattle.std.specs.Ordering.{nat_cmp};
 
 use crate::short_lists::ShortList;
+use slot_disk::Steps;
+use std::cmp::Ordering;
 use std::marker::{Model, PhantomData};
 
 /// A form of texts, none longer than `N` bytes.
@@ -90,5 +94,14 @@ impl<F: Form<N>, const N: usize> FormedText<F, N> {
         ensures { result ≡ bytes_eq self.now other.now }
     {
         self.text() == other.text()
+    }
+
+    /// Compares two whole texts by their bytes, which is one step.
+    pub fn compare<L>(&self, other: &FormedText<F, N>, steps: &mut Steps<L>) -> Ordering
+        ensures order { result ≡ slice_cmp nat_cmp self.now other.now }
+        ensures step { steps.new ≡ steps.old + 1 }
+    {
+        steps.tick();
+        self.text().cmp(other.text())
     }
 }

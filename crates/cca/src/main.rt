@@ -18,10 +18,11 @@ ghost use Rattle.cca.specs.Exits.{EndsWell, told_of};
 
 mod fault;
 mod files;
+mod streams;
 
 use cca_tool::{AuditStatus, Command, Status, Words, run, run_audited, show_trail, unload};
 use fault::{Ending, Fault, fault_of};
-use files::{MODULE_LEN, STORE_LEN, TRAIL_LEN, new_disk, open_disk, open_random};
+use files::{Folder, MODULE_LEN, STORE_LEN, TRAIL_LEN};
 use key_cells::Workbench;
 use slot_disk::{Disk, FileDisk, NoMemory, StreamEntropy, StreamSink, StreamSource};
 use std::env;
@@ -69,14 +70,16 @@ fn serve_in(rt: &HostRuntime, words: &Words) -> Result<AuditStatus, Fault> {
     }
     match words.command() {
         Some(Command::Run) => {
-            let module = open_disk(rt, "cca.module", MODULE_LEN)?;
-            let store = open_disk(rt, "cca.store", STORE_LEN)?;
-            run_over(rt, words, module, store)
+            let folder = Folder::enter(rt)?;
+            let module = folder.open_disk("cca.module", MODULE_LEN)?;
+            let store = folder.open_disk("cca.store", STORE_LEN)?;
+            run_over(rt, words, &folder, module, store)
         }
         Some(Command::Demo(_)) => {
-            let module = new_disk(rt, "demo.module", MODULE_LEN)?;
-            let store = new_disk(rt, "demo.store", STORE_LEN)?;
-            run_over(rt, words, module, store)
+            let folder = Folder::enter(rt)?;
+            let module = folder.new_disk("demo.module", MODULE_LEN)?;
+            let store = folder.new_disk("demo.store", STORE_LEN)?;
+            run_over(rt, words, &folder, module, store)
         }
         // Other words open no file.
         None => Ok(AuditStatus::Run(Status::Usage)),
@@ -87,6 +90,7 @@ fn serve_in(rt: &HostRuntime, words: &Words) -> Result<AuditStatus, Fault> {
 fn run_over(
     rt: &HostRuntime,
     words: &Words,
+    folder: &Folder,
     module: FileDisk,
     store: FileDisk,
 ) -> Result<AuditStatus, Fault>
@@ -98,7 +102,7 @@ fn run_over(
     let mut bench = Workbench::new();
     let mut source = StreamSource::new(rt.stdin());
     let mut sink = StreamSink::new(rt.stdout());
-    let mut entropy = StreamEntropy::new(open_random(rt)?);
+    let mut entropy = StreamEntropy::new(folder.open_random()?);
     let status = run(
         rt.alloc(),
         words,
@@ -114,13 +118,14 @@ fn run_over(
 
 /// Serves requests with an audit trail.
 fn audit_in(rt: &HostRuntime, words: &Words) -> Result<AuditStatus, Fault> {
-    let mut module = open_disk(rt, "cca.module", MODULE_LEN)?;
-    let mut store = open_disk(rt, "cca.store", STORE_LEN)?;
-    let mut trail = open_disk(rt, "cca.trail", TRAIL_LEN)?;
+    let folder = Folder::enter(rt)?;
+    let mut module = folder.open_disk("cca.module", MODULE_LEN)?;
+    let mut store = folder.open_disk("cca.store", STORE_LEN)?;
+    let mut trail = folder.open_disk("cca.trail", TRAIL_LEN)?;
     let mut bench = Workbench::new();
     let mut source = StreamSource::new(rt.stdin());
     let mut sink = StreamSink::new(rt.stdout());
-    let mut entropy = StreamEntropy::new(open_random(rt)?);
+    let mut entropy = StreamEntropy::new(folder.open_random()?);
     Ok(run_audited(
         rt.alloc(),
         words,
@@ -136,15 +141,17 @@ fn audit_in(rt: &HostRuntime, words: &Words) -> Result<AuditStatus, Fault> {
 
 /// Shows the records of the audit trail.
 fn trail_in(rt: &HostRuntime, words: &Words) -> Result<AuditStatus, Fault> {
-    let mut trail = open_disk(rt, "cca.trail", TRAIL_LEN)?;
+    let folder = Folder::enter(rt)?;
+    let mut trail = folder.open_disk("cca.trail", TRAIL_LEN)?;
     let mut sink = StreamSink::new(rt.stdout());
     Ok(show_trail(rt.alloc(), words, &mut sink, &mut trail))
 }
 
 /// Moves the keys of the store: the file goes to standard output, and the report to standard error.
 fn move_in(rt: &HostRuntime, words: &Words) -> Result<Ending, Fault> {
-    let mut module = open_disk(rt, "cca.module", MODULE_LEN)?;
-    let mut store = open_disk(rt, "cca.store", STORE_LEN)?;
+    let folder = Folder::enter(rt)?;
+    let mut module = folder.open_disk("cca.module", MODULE_LEN)?;
+    let mut store = folder.open_disk("cca.store", STORE_LEN)?;
     let mut bench = Workbench::new();
     let mut sink = StreamSink::new(rt.stdout());
     let mut report = StreamSink::new(rt.stderr());

@@ -21,16 +21,17 @@ use Rattle.cca_machine.specs.Keys.{cell_with, key_of_label, what_in}
 use Rattle.cca_machine.specs.Reruns.{reencipher_for}
 use Rattle.cca_machine.specs.State.{State, IsStoreOf}
 use Rattle.cca_machine.specs.Verdict.{Refusal, first_refusal, verb_questions, verdict}
+use Rattle.cca_laws.specs.EachLabel.{entry_where}
 use Rattle.cca_laws.specs.Prepared.{ahead_at, is_ahead_label}
 use Rattle.cca_laws.proofs.EffectLaws.{third_passed}
 use Rattle.cca_laws.proofs.LabelLaws.{key_kept, old_there, or_true}
-use Rattle.cca_laws.proofs.LabelLists.{Alike, Compare, changed_label, entries_compare, entry_for, entry_is, entry_where, key_is, keys_further}
+use Rattle.cca_laws.proofs.LabelLists.{Alike, Compare, changed_label, entries_compare, entry_for, entry_is, key_is, keys_further}
 use Rattle.cca_laws.proofs.LineCases.{after, permitted, refused_none}
 use Rattle.cca_laws.proofs.ReplyLaws.{aged_label}
 
 -- ---- what a label finds
 
-ahead_where : (es : List (Option Entry)) (o : Option ℕ) → ahead_at es o ≡ is_ahead_entry (entry_where es o)
+pub ahead_where : (es : List (Option Entry)) (o : Option ℕ) → ahead_at es o ≡ is_ahead_entry (entry_where es o)
 ahead_where es None = refl
 ahead_where es (Some n) = refl
 
@@ -48,13 +49,13 @@ alike_map : (label : List ℕ) (R : Compare) (f : Option Entry → Option Entry)
 alike_map label R f names each [] = tt
 alike_map label R f names each (e ∷ es) = ((ap (has_name label) (names e), λ has. each e), alike_map label R f names each es)
 
-further_map : (a : StoreAction) (es : List (Option Entry)) (n : ℕ) → length es ≤ n → further a es n ≡ map (changed_entry a) es
+pub further_map : (a : StoreAction) (es : List (Option Entry)) (n : ℕ) → length es ≤ n → further a es n ≡ map (changed_entry a) es
 further_map a [] n fits = refl
 further_map a (e ∷ es) zero fits = absurd (omega (arith, fits))
 further_map a (e ∷ es) (suc n) fits = ap (λ fs. changed_entry a e ∷ fs) (further_map a es n (omega (arith, fits)))
 
 -- a request that no rule refuses
-performed_is : (s : State) (drawn : List ℕ) (r : Request) → verdict s drawn r ≡ None → (performed s drawn r).state ≡ after s drawn r
+pub performed_is : (s : State) (drawn : List ℕ) (r : Request) → verdict s drawn r ≡ None → (performed s drawn r).state ≡ after s drawn r
 unfolding performed
 performed_is s drawn r permits = ap (λ (v : Option Refusal). (or_act v s drawn r).state) permits
 

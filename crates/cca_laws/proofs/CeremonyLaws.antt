@@ -1,9 +1,6 @@
 -- The steps of a key ceremony, one by one.
-use Rattle.std.proofs.Common.{◌≡◌, ℕ, Bool, true, false, cond, not, List, [], ◌∷◌, length, Option, None, Some, refl, sym, ap, subst, ◌∙◌, codes, T, ◌==◌, bit_and, bit_xor, true≢false, ap₂, arith}
+use Rattle.std.proofs.Common.{◌≡◌, ℕ, Bool, true, false, cond, not, List, [], Option, None, Some, refl, sym, ap, subst, ◌∙◌, codes, T, ◌==◌, bit_and, true≢false}
 use Rattle.std.specs.Prelude.{⊤}
-use Rattle.std.specs.Int.Bits.{xor_assoc, xor_self, xor_zero_r}
-use Rattle.byte_lists.specs.Bytes.{AreBytes, xor}
-use Rattle.byte_lists.proofs.ByteLemmas.{length-xor}
 use Rattle.key_tokens.specs.Denotes.{Denoted}
 use Rattle.master_registers.specs.Actions.{after_action, has_wrong_state, repeats_pattern}
 use Rattle.master_registers.specs.Masters.{Masters, NewRegister, Empty, is_full, is_partial}
@@ -17,10 +14,9 @@ use Rattle.cca_machine.specs.Actions.{part_action}
 use Rattle.cca_machine.specs.Session.{state_after}
 use Rattle.cca_machine.specs.State.{State}
 use Rattle.cca_machine.specs.Verdict.{action_points, bytes_in, first_refusal, needed_points, verb_questions}
-use Rattle.cca_laws.specs.Ceremony.{IsOnlyOther, SameKeys, combine_point, first_point, set_point}
+use Rattle.cca_laws.specs.Ceremony.{SameKeys, combine_point, first_point, set_point}
 use Rattle.cca_laws.specs.EachLine.{EachRequest}
 use Rattle.cca_laws.specs.Points.{HoldsNone}
-use Rattle.cca_laws.proofs.ByteLaws.{bytes_xor}
 use Rattle.cca_laws.proofs.EffectLaws.{second_passed}
 use Rattle.cca_laws.proofs.LineCases.{over_lines, permitted, refused_none}
 use Rattle.cca_laws.proofs.PointLaws.{lacks_them}
@@ -180,22 +176,3 @@ module _ (s : State) (random : List ℕ) (lines : List (List ℕ)) where
 
   pub without_set : EachRequest (HoldsNone set_point) s random lines → SameKeys s.registers (state_after s random lines).registers
   without_set each = over_steps set_point (SameKeys s.registers) (set_step s.registers) s random lines (record { current = refl; former = refl }) each
-
--- ---- parts
-
-xor_again : (xs ys : List ℕ) → length xs ≡ length ys → xor (xor xs ys) ys ≡ xs
-unfolding xor
-xor_again [] ys same = refl
-xor_again (x ∷ xs) [] same = absurd (omega (arith, same))
-xor_again (x ∷ xs) (y ∷ ys) same =
-    ap₂ (λ (z : ℕ) (zs : List ℕ). z ∷ zs) (xor_assoc x y y ∙ (ap (bit_xor x) (xor_self y) ∙ xor_zero_r x)) (xor_again xs ys (omega (arith, same)))
-
-pub one_other : (part master : List ℕ) → AreBytes 24 part → AreBytes 24 master → IsOnlyOther part master (xor master part)
-one_other part master is_part is_master = record {
-  bytes = record {
-    size = length-xor master part (is_master.size ∙ sym is_part.size) ∙ is_master.size;
-    each = bytes_xor master part is_master.each is_part.each;
-  };
-  whole = xor_again master part (is_master.size ∙ sym is_part.size);
-  only = λ p is_p is. sym (xor_again p part (is_p.size ∙ sym is_part.size)) ∙ ap (λ m. xor m part) is;
-}

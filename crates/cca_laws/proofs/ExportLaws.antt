@@ -50,9 +50,9 @@ use Rattle.cca_laws.proofs.UseLaws.{behind, first_passes, token_vector}
 -- ---- the keys of tokens and of labels
 
 -- an internal token under a master key of the state stands for the key
-record HasToken (s : State) (key : Denoted) : Type 0 where
-  bytes : List ℕ
-  stands : denoted (keys_of s.registers) bytes ≡ Some key
+pub record HasToken (s : State) (key : Denoted) : Type 0 where
+  pub bytes : List ℕ
+  pub stands : denoted (keys_of s.registers) bytes ≡ Some key
 
 labelled : (s : State) (image : List ℕ) (e : Option Entry) (bytes : List ℕ) (key : Denoted) → ReadsEntry (keys_of s.registers) bytes e → what_in e ≡ Some key
     → HasToken s key
@@ -67,7 +67,7 @@ labelled s image (Some e) bytes key reads is =
     by_flag true same = same
     by_flag false same = cc same
 
-label_token : (s : State) (image label : List ℕ) (key : Denoted) → IsStoreOf s image → key_of_label s label ≡ Some key → HasToken s key
+pub label_token : (s : State) (image label : List ℕ) (key : Denoted) → IsStoreOf s image → key_of_label s label ≡ Some key → HasToken s key
 label_token s image label key stands is = by_cell (cell_with s label) is
   where
     at_cell : (cell : ℕ) → what_in (entry_at s.labels cell) ≡ Some key → HasToken s key
@@ -82,7 +82,7 @@ label_token s image label key stands is = by_cell (cell_with s label) is
     by_cell None has = cc has
     by_cell (Some cell) has = at_cell cell has
 
-text_token : (s : State) (image text : List ℕ) (key : Denoted) → IsStoreOf s image → key_in_text s text ≡ Some key → HasToken s key
+pub text_token : (s : State) (image text : List ℕ) (key : Denoted) → IsStoreOf s image → key_in_text s text ≡ Some key → HasToken s key
 text_token s image text key stands is = by_name (label_named text) is
   where
     by_name : (o : Option (List ℕ)) → key_named s o text ≡ Some key → HasToken s key
@@ -98,11 +98,11 @@ none_from_test None is = refl
 none_from_test (Some n) is = cc is
 
 -- the master key of a register by the age
-abbrev register_of : Masters → Age → Option (List ℕ)
+abbrev pub register_of : Masters → Age → Option (List ℕ)
 register_of m Current = m.current
 register_of m Old = m.former
 
-under_register : (m : Masters) (age : Age) → master_under (keys_of m) age ≡ master_key (register_of m age)
+pub under_register : (m : Masters) (age : Age) → master_under (keys_of m) age ≡ master_key (register_of m age)
 under_register m Current = refl
 under_register m Old = refl
 
@@ -111,7 +111,7 @@ some_register None key is = cc is
 some_register (Some bytes) key is = refl
 
 -- the rules of a token behind those of its header
-abbrev behind_header : List ℕ → List Check
+abbrev pub behind_header : List ℕ → List Check
 behind_header bytes = vector_checks (vector_bytes_of bytes) ++ check 16 (not (has_right_half bytes)) ∷ []
 
 module _ (s : State) (key : Denoted) (has : HasToken s key) where
@@ -124,7 +124,7 @@ module _ (s : State) (key : Denoted) (has : HasToken s key) where
   vector_is = token_vector (keys_of s.registers) has.bytes key has.stands
 
   -- the control vector breaks no rule, and has no more than 16 bytes
-  vector_passes : first_failing (vector_checks key.clear.vector) ≡ None
+  pub vector_passes : first_failing (vector_checks key.clear.vector) ≡ None
   vector_passes =
       let whole : first_failing (token_checks asked.Internal has.bytes) ≡ None = none_from_test _ read.0 in
       let header = none_in_first (header_checks asked.Internal has.bytes) (behind_header has.bytes) whole in
@@ -139,7 +139,7 @@ module _ (s : State) (key : Denoted) (has : HasToken s key) where
   forbids off = record { short = vector_short; off = off }
 
   -- the register of its master key is full
-  full : is_none (register_of s.registers key.age) ≡ false
+  pub full : is_none (register_of s.registers key.age) ≡ false
   full = by_registers (master_key s.registers.current) refl read.1
     where
       same_some : (d : Denoted) → Some d ≡ Some key → d ≡ key
@@ -169,6 +169,11 @@ module _ (s : State) (key : Denoted) (has : HasToken s key) where
               → is_none (register_of s.registers key.age) ≡ false
           by_test true here = at_age Current (clear_of master.key has.bytes) master is (same_some _ here)
           by_test false there = by_former (master_key s.registers.former) refl there
+
+-- the register of a label's key is full
+pub label_register : (s : State) (image label : List ℕ) (key : Denoted) → IsStoreOf s image → key_of_label s label ≡ Some key
+    → is_none (register_of s.registers key.age) ≡ false
+label_register s image label key stands is = full s key (label_token s image label key stands is)
 
 -- ---- the operand whose key is passed on
 
@@ -232,11 +237,11 @@ delivered_closed s None clear some f = one_token (token_for (keys_of s.registers
 delivered_closed s (Some label) clear some f = one_written label (as_current clear) _ tt f.off
 
 -- a token that is changed to the new master key, where no rule refuses that
-not_empty : (b : Bool) → first_failing (check 25 b ∷ []) ≡ None → b ≡ false
+pub not_empty : (b : Bool) → first_failing (check 25 b ∷ []) ≡ None → b ≡ false
 not_empty true is = cc is
 not_empty false is = refl
 
-full_new : (c : NewRegister) → not (is_full c) ≡ false → is_none (full_bytes c) ≡ false
+pub full_new : (c : NewRegister) → not (is_full c) ≡ false → is_none (full_bytes c) ≡ false
 full_new Empty is = cc is
 full_new (Partial bytes) is = cc is
 full_new (Full bytes) is = refl
@@ -249,13 +254,13 @@ changed_forbids s New clear some passes f =
     sealed_forbids (full_bytes s.registers.coming) clear (full_new s.registers.coming (not_empty _ (refused_none _ (codes "-") None passes).0)) f
 
 -- a key that is brought in from an external token
-imported_vector : (transport : ClearKey) (bytes : List ℕ) → first_failing (token_checks asked.External bytes) ≡ None
+pub imported_vector : (transport : ClearKey) (bytes : List ℕ) → first_failing (token_checks asked.External bytes) ≡ None
     → (imported transport bytes).vector ≡ vector_bytes_of bytes
 unfolding denoted_under
 imported_vector transport bytes passes =
     ap (λ (o : Option ℕ). (or_no_clear (if is_none o then Some (clear_of (transport_bundle transport.key) bytes) else None)).vector) passes
 
-external_passes : (s : State) (r : Request) (os : List Operand)
+pub external_passes : (s : State) (r : Request) (os : List Operand)
     → first_refusal (operand_questions s (record { name = codes "token"; text = value_of r (codes "token"); ask = ask.External external_key } ∷ os)) ≡ None
     → first_failing (token_checks asked.External (bytes_in r (codes "token"))) ≡ None
 external_passes s r os ops =

@@ -12,7 +12,7 @@ use Rattle.cca_vectors.specs.declared.key_type.KeyType.{KeyType}
 use Rattle.cca_vectors.specs.declared.key_type.KeyType.TheVariants.{Data, Datac, Datam, Datamv, Cipher, Encipher, Decipher, Mac, Macver, Exporter, Importer, Okeyxlat, Ikeyxlat}
 use Rattle.clear_keys.specs.Parity.{odd_byte}
 use Rattle.key_transport.specs.Generated.{HasKeyLength, generated_key, generated_vector}
-use Rattle.key_transport.specs.UniqueHalves.{halves_drawn, is_same_half, key_taken, pieces, repeats}
+use Rattle.key_transport.specs.UniqueHalves.{halves_drawn, is_same_half, key_drawn, key_taken, pieces, repeats}
 use Rattle.verb_script.specs.Grammar.{Request, RequestName, csnbkgn_op, csnbkgn_pair, csnbkgn_out, value_of}
 use Rattle.cca_machine.specs.Choices.{key_length_named}
 use Rattle.cca_machine.specs.Draws.{Draw, KeyBytes, bytes_drawn, draw_of, length_in}
@@ -24,7 +24,7 @@ use Rattle.cca_laws.specs.UniqueKeys.{HasUniqueHalves, generates}
 
 -- ---- the right halves that are drawn
 
-some_half : (n : ℕ) (left ahead : List ℕ) → 1 ≤ halves_drawn (suc n) left ahead
+pub some_half : (n : ℕ) (left ahead : List ℕ) → 1 ≤ halves_drawn (suc n) left ahead
 some_half n left ahead = by_test (is_same_half left (take 8 ahead)) refl
   where
     by_test : (t : Bool) → is_same_half left (take 8 ahead) ≡ t → 1 ≤ halves_drawn (suc n) left ahead
@@ -96,7 +96,7 @@ drawn_apart drawn long differ = false_from_ne_true _ same_too
 halved : (byte : ℕ) → odd_byte byte / 2 ≡ byte / 2
 halved byte = omega arith
 
-all_halved : (bytes : List ℕ) → map (λ byte. byte / 2) (map odd_byte bytes) ≡ map (λ byte. byte / 2) bytes
+pub all_halved : (bytes : List ℕ) → map (λ byte. byte / 2) (map odd_byte bytes) ≡ map (λ byte. byte / 2) bytes
 all_halved [] = refl
 all_halved (byte ∷ bytes) = ap₂ (λ (b : ℕ) (bs : List ℕ). b ∷ bs) (halved byte) (all_halved bytes)
 
@@ -116,43 +116,31 @@ apart_odd left right left_long right_long apart =
     ap (drop 8) (map-append odd_byte left right) ∙ drop_at (map odd_byte left) (map odd_byte right) 8 eight in
     (size, ap₂ is_same_half first second ∙ (same_odd left right ∙ apart))
 
-pub unique_key : (kind : KeyType) (drawn : List ℕ) → length drawn ≡ key_taken Unique drawn → repeats Unique drawn ≡ false
-    → (length (generated_key kind Unique drawn).key ≡ 16) × HasUniqueHalves (generated_key kind Unique drawn).key
-unique_key kind drawn long differ =
+-- the key that is made of them has 16 bytes, and unique halves
+pub unique_key : (drawn : List ℕ) → length drawn ≡ key_taken Unique drawn → repeats Unique drawn ≡ false
+    → (length (map odd_byte (key_drawn Unique drawn)) ≡ 16) × HasUniqueHalves (map odd_byte (key_drawn Unique drawn))
+unique_key drawn long differ =
     let some : 1 ≤ halves_drawn 8 (take 8 drawn) (drop 8 drawn) = some_half 7 (take 8 drawn) (drop 8 drawn) in
     apart_odd (take 8 drawn) (drop (length drawn - 8) drawn) (length-take-le 8 drawn (omega (arith, long)))
     (length-drop (length drawn - 8) drawn ∙ omega (arith, long, some)) (drawn_apart drawn long differ)
 
 -- ---- the request
 
-draws_key : (name : RequestName) (r : Request) → generates name ≡ true → draw_of name r ≡ KeyBytes (length_in r)
+pub draws_key : (name : RequestName) (r : Request) → generates name ≡ true → draw_of name r ≡ KeyBytes (length_in r)
 draws_key csnbkgn_op r is = refl
 draws_key csnbkgn_pair r is = refl
 draws_key csnbkgn_out r is = refl
 draws_key _ r is = cc is
 
 -- the last rule has passed
-not_repeated : (before : Option Refusal) (drawn : List ℕ) → before ≡ None → or_last before (draw_verdict (KeyBytes Unique) drawn) ≡ None → repeats Unique drawn ≡ false
-not_repeated (Some r) drawn none is = cc none
-not_repeated None drawn none is = by_test (repeats Unique drawn) refl
+pub not_repeated : (key_length : Length) (before : Option Refusal) (drawn : List ℕ) → before ≡ None → or_last before (draw_verdict (KeyBytes key_length) drawn) ≡ None
+    → repeats key_length drawn ≡ false
+not_repeated key_length (Some r) drawn none is = cc none
+not_repeated key_length None drawn none is = by_test (repeats key_length drawn) refl
   where
-    by_test : (t : Bool) → repeats Unique drawn ≡ t → repeats Unique drawn ≡ false
+    by_test : (t : Bool) → repeats key_length drawn ≡ t → repeats key_length drawn ≡ false
     by_test false same = same
     by_test true same = let broken = ap (λ t. or_last None (if t then Some (refusal 34 (codes "length")) else None)) same in cc
-
-pub halves_differ : (s : State) (drawn : List ℕ) (r : Request) (kind : KeyType) → generates r.name ≡ true → value_of r (codes "length") ≡ codes "DOUBLE-O"
-    → verdict s drawn r ≡ None → length drawn ≡ taken_by s drawn r
-    → (length (generated_key kind (length_in r) drawn).key ≡ 16) × HasUniqueHalves (generated_key kind (length_in r) drawn).key
-halves_differ s drawn r kind is named permits long =
-    let unique : length_in r ≡ Unique = ap key_length_named named in
-    let draw : draw_of r.name r ≡ KeyBytes Unique = draws_key r.name r is ∙ ap KeyBytes unique in
-    let early : early_verdict s r ≡ None = early_none s drawn r permits in
-    let whole : or_last (early_verdict s r) (draw_verdict (KeyBytes Unique) drawn) ≡ None =
-    sym (ap (λ (d : Draw). or_last (early_verdict s r) (draw_verdict d drawn)) draw) ∙ (sym (verdict_splits s drawn r) ∙ permits) in
-    let taken : length drawn ≡ key_taken Unique drawn =
-    long ∙ (ap (λ (v : Option Refusal). drawn_where v (bytes_drawn (draw_of r.name r) drawn)) early ∙ ap (λ (d : Draw). bytes_drawn d drawn) draw) in
-    subst (λ (l : Length). (length (generated_key kind l drawn).key ≡ 16) × HasUniqueHalves (generated_key kind l drawn).key) (sym unique)
-    (unique_key kind drawn taken (not_repeated (early_verdict s r) drawn early whole))
 
 -- ---- the control vector
 

@@ -20,10 +20,11 @@ use Rattle.cca_machine.specs.Operands.{listed, operands_of}
 use Rattle.cca_machine.specs.Session.{state_after}
 use Rattle.cca_machine.specs.State.{State}
 use Rattle.cca_machine.specs.Verdict.{Refusal, first_refusal, verb_questions, verdict}
+use Rattle.cca_laws.specs.EachLabel.{SameEntry, changes_each, entry_of_label}
 use Rattle.cca_laws.specs.EachLine.{EachRequest}
 use Rattle.cca_laws.specs.Targets.{AreOther, Spares, changes_ages, clear_of_label}
 use Rattle.cca_laws.proofs.EffectLaws.{Fits, effect_fits, third_passed}
-use Rattle.cca_laws.proofs.LabelLists.{Alike, Compare, KeepsKeys, Same, SameClear, SameKey, alike_aged, alike_further, alike_itself, alike_set, as_clear, as_key, clear_in, entries_compare, entry_for, has_other, key_is, keys_further, label_kept, place_free, place_other, same_cell}
+use Rattle.cca_laws.proofs.LabelLists.{Alike, Compare, Same, SameClear, SameKey, alike_aged, alike_further, alike_itself, alike_set, as_clear, clear_in, entries_compare, entry_for, entry_is, has_other, key_is, label_kept, place_free, place_other, same_cell}
 use Rattle.cca_laws.proofs.LineCases.{after, over_lines, permitted, refused_none}
 
 -- ---- one effect
@@ -36,11 +37,11 @@ module _ (s : State) (label : List ℕ) where
   IsElsewhere (Delete other) = (n : ℕ) → cell_with s other ≡ Some n → other ≢ label
   IsElsewhere _ = ⊤
 
-  -- no key changes its age
-  abbrev pub IsAgeless : Effect → Type 0
-  IsAgeless (Become m labels) = labels ≡ s.labels
-  IsAgeless (Reencipher a) = KeepsKeys a
-  IsAgeless _ = ⊤
+  -- the effect goes through no labels
+  abbrev pub IsStill : Effect → Type 0
+  IsStill (Become m labels) = labels ≡ s.labels
+  IsStill (Reencipher a) = ⊥
+  IsStill _ = ⊤
 
   created_alike : (other : List ℕ) → other ≢ label → Alike label Same s.labels (after_effect s (Create other)).labels
   unfolding free_cell
@@ -66,17 +67,17 @@ module _ (s : State) (label : List ℕ) where
         by_cell None is = alike_itself label s.labels
         by_cell (Some n) is = alike_set label s.labels n None (place_other label other s.labels n (apart n is) is) refl
 
-  -- an effect that changes no age leaves the key of every other label, under the master key that it is under
-  key_alike : (e : Effect) → IsElsewhere e → IsAgeless e → Alike label SameKey s.labels (after_effect s e).labels
-  key_alike (Become m labels) elsewhere ageless =
-      subst (λ (ls : List (Option Entry)). Alike label SameKey s.labels ls) (sym ageless) (as_key label s.labels s.labels (alike_itself label s.labels))
-  key_alike (Create other) elsewhere ageless = as_key label s.labels _ (created_alike other elsewhere)
-  key_alike (Write other key fields) elsewhere ageless = as_key label s.labels _ (written_alike other elsewhere key fields)
-  key_alike (Delete other) elsewhere ageless = as_key label s.labels _ (deleted_alike other elsewhere)
-  key_alike (Reencipher a) elsewhere ageless = keys_further label a ageless s.labels 1024
-  key_alike (Show fields) elsewhere ageless = as_key label s.labels s.labels (alike_itself label s.labels)
-  key_alike (DefineRole name points) elsewhere ageless = as_key label s.labels s.labels (alike_itself label s.labels)
-  key_alike (RemoveRole name) elsewhere ageless = as_key label s.labels s.labels (alike_itself label s.labels)
+  -- an effect that goes through no labels leaves every other label as it was
+  whole_alike : (e : Effect) → IsElsewhere e → IsStill e → Alike label Same s.labels (after_effect s e).labels
+  whole_alike (Become m labels) elsewhere still =
+      subst (λ (ls : List (Option Entry)). Alike label Same s.labels ls) (sym still) (alike_itself label s.labels)
+  whole_alike (Create other) elsewhere still = created_alike other elsewhere
+  whole_alike (Write other key fields) elsewhere still = written_alike other elsewhere key fields
+  whole_alike (Delete other) elsewhere still = deleted_alike other elsewhere
+  whole_alike (Reencipher a) elsewhere still = absurd still
+  whole_alike (Show fields) elsewhere still = alike_itself label s.labels
+  whole_alike (DefineRole name points) elsewhere still = alike_itself label s.labels
+  whole_alike (RemoveRole name) elsewhere still = alike_itself label s.labels
 
   pub clear_alike : (name : RequestName) (r : Request) (e : Effect) → Fits s name r e → IsElsewhere e → Alike label SameClear s.labels (after_effect s e).labels
   clear_alike name r (Become m labels) fits elsewhere = ⊎_elim
@@ -128,33 +129,43 @@ module _ (s : State) (label : List ℕ) where
   clear_kept t alike =
       ap clear_in (key_is label t.labels) ∙ (entries_compare label SameClear refl s.labels t.labels alike ∙ ap clear_in (sym (key_is label s.labels)))
 
+  -- how the entries compare that the label finds
+  pub compared : (R : Compare) → R None None → (t : State) → Alike label R s.labels t.labels → R (entry_of_label s label) (entry_of_label t label)
+  unfolding cell_of
+  compared R none t alike =
+      subst (λ (e : Option Entry). R e (entry_of_label t label)) (sym (entry_is label s.labels))
+      (subst (λ (e : Option Entry). R (entry_for label s.labels) e) (sym (entry_is label t.labels)) (entries_compare label R none s.labels t.labels alike))
+
+  pub same_entry : (t : State) → Alike label Same s.labels t.labels → SameEntry s t label
+  same_entry t alike = record { cell = cell_kept Same t alike; entry = sym (compared Same refl t alike) }
+
   pub key_kept : (t : State) → Alike label SameKey s.labels t.labels → key_of_label t label ≡ key_of_label s label
   unfolding cell_of
   key_kept t alike = key_is label t.labels ∙ (entries_compare label SameKey refl s.labels t.labels alike ∙ sym (key_is label s.labels))
 
 -- ---- each request
 
-ageless_delivery : (s : State) (l field : List ℕ) (to : Option (List ℕ)) (key : Denoted) (fields : List Field) → IsAgeless s l (delivered_with s field to key fields)
-ageless_delivery s l field None key fields = tt
-ageless_delivery s l field (Some label) key fields = tt
+still_delivery : (s : State) (l field : List ℕ) (to : Option (List ℕ)) (key : Denoted) (fields : List Field) → IsStill s l (delivered_with s field to key fields)
+still_delivery s l field None key fields = tt
+still_delivery s l field (Some label) key fields = tt
 
-ageless : (s : State) (drawn l : List ℕ) (name : RequestName) (r : Request) → changes_ages name ≡ false → IsAgeless s l (effect s drawn name r)
-ageless s drawn l csnbcki r keeps = ageless_delivery s l _ (label_named (value_of r (codes "to"))) _ _
-ageless s drawn l csnbkgn_op r keeps = ageless_delivery s l _ (label_named (value_of r (codes "to"))) _ _
-ageless s drawn l csnbkgn_pair r keeps = ageless_delivery s l _ (label_named (value_of r (codes "to"))) _ _
-ageless s drawn l csnbkim r keeps = ageless_delivery s l _ (label_named (value_of r (codes "to"))) _ _
-ageless s drawn l csnbpex r keeps = ageless_delivery s l _ (label_named (value_of r (codes "to"))) _ _
-ageless s drawn l csnbkpi_first r keeps = ageless_delivery s l _ (label_named (value_of r (codes "to"))) _ _
-ageless s drawn l csnbkpi_middle r keeps = ageless_delivery s l _ (label_named (value_of r (codes "to"))) _ _
-ageless s drawn l csnbmkp_part r keeps = refl
-ageless s drawn l csnbmkp_clear r keeps = refl
-ageless s drawn l csnbmkp_set r keeps = cc keeps
-ageless s drawn l reencipher r keeps = cc keeps
-ageless s drawn l reencipher_ahead r keeps = tt
-ageless s drawn l reencipher_drop r keeps = tt
-ageless s drawn l _ r keeps = tt
+still_one : (s : State) (drawn l : List ℕ) (name : RequestName) (r : Request) → changes_each name ≡ false → IsStill s l (effect s drawn name r)
+still_one s drawn l csnbcki r keeps = still_delivery s l _ (label_named (value_of r (codes "to"))) _ _
+still_one s drawn l csnbkgn_op r keeps = still_delivery s l _ (label_named (value_of r (codes "to"))) _ _
+still_one s drawn l csnbkgn_pair r keeps = still_delivery s l _ (label_named (value_of r (codes "to"))) _ _
+still_one s drawn l csnbkim r keeps = still_delivery s l _ (label_named (value_of r (codes "to"))) _ _
+still_one s drawn l csnbpex r keeps = still_delivery s l _ (label_named (value_of r (codes "to"))) _ _
+still_one s drawn l csnbkpi_first r keeps = still_delivery s l _ (label_named (value_of r (codes "to"))) _ _
+still_one s drawn l csnbkpi_middle r keeps = still_delivery s l _ (label_named (value_of r (codes "to"))) _ _
+still_one s drawn l csnbmkp_part r keeps = refl
+still_one s drawn l csnbmkp_clear r keeps = refl
+still_one s drawn l csnbmkp_set r keeps = cc keeps
+still_one s drawn l reencipher r keeps = cc keeps
+still_one s drawn l reencipher_ahead r keeps = cc keeps
+still_one s drawn l reencipher_drop r keeps = cc keeps
+still_one s drawn l _ r keeps = tt
 
-by_performed : (P : State → Type 0) (s : State) (drawn : List ℕ) (r : Request) → P s → (verdict s drawn r ≡ None → P (after s drawn r)) → P (performed s drawn r).state
+pub by_performed : (P : State → Type 0) (s : State) (drawn : List ℕ) (r : Request) → P s → (verdict s drawn r ≡ None → P (after s drawn r)) → P (performed s drawn r).state
 unfolding performed
 by_performed P s drawn r before next = by_verdict (verdict s drawn r) refl
   where
@@ -175,14 +186,13 @@ module _ (s : State) (drawn label : List ℕ) (r : Request) where
       (λ permits. let alike = held_after cell spared held permits in
       (cell_kept s label SameClear (after s drawn r) alike ∙ held, clear_kept s label (after s drawn r) alike))
 
-  pub ages_kept : (cell : ℕ) → Spares label r → cell_with s label ≡ Some cell → changes_ages r.name ≡ false
-      → key_of_label (performed s drawn r).state label ≡ key_of_label s label
-  ages_kept cell spared held keeps =
-      by_performed (λ (t : State). key_of_label t label ≡ key_of_label s label) s drawn r refl
+  pub whole_kept : (cell : ℕ) → Spares label r → cell_with s label ≡ Some cell → changes_each r.name ≡ false → SameEntry s (performed s drawn r).state label
+  whole_kept cell spared held keeps =
+      by_performed (λ (t : State). SameEntry s t label) s drawn r (record { cell = refl; entry = refl })
       (λ permits. let fits = effect_fits s drawn r permits in
-      key_kept s label (after s drawn r)
-      (key_alike s label (effect s drawn r.name r) (held_elsewhere s label cell r.name r held spared (effect s drawn r.name r) fits)
-      (ageless s drawn label r.name r keeps)))
+      same_entry s label (after s drawn r)
+      (whole_alike s label (effect s drawn r.name r) (held_elsewhere s label cell r.name r held spared (effect s drawn r.name r) fits)
+      (still_one s drawn label r.name r keeps)))
 
   pub stays_free : cell_with s label ≡ None → (r.name ≡ csnbkrc → value_of r (codes "label") ≢ label) → cell_with (performed s drawn r).state label ≡ None
   stays_free free apart =

@@ -13,6 +13,7 @@ use Rattle.reencipher.specs.declared.actions.StoreAction.{StoreAction}
 use Rattle.reencipher.specs.declared.actions.StoreAction.TheVariants.{Renew, Ahead, Drop}
 use Rattle.cca_machine.specs.Keys.{what_at, what_in}
 use Rattle.cca_machine.proofs.RerunLaws.{by_change}
+use Rattle.cca_laws.specs.EachLabel.{entry_where}
 
 -- ---- the first place with a label
 
@@ -20,11 +21,6 @@ use Rattle.cca_machine.proofs.RerunLaws.{by_change}
 abbrev pub entry_for : List ℕ → List (Option Entry) → Option Entry
 entry_for label [] = None
 entry_for label (e ∷ es) = if has_name label (entry_label e) then e else entry_for label es
-
--- what is in a place, where there is one
-abbrev pub entry_where : List (Option Entry) → Option ℕ → Option Entry
-entry_where es None = None
-entry_where es (Some n) = entry_at es n
 
 next : ℕ → ℕ
 next n = n + 1
@@ -187,7 +183,7 @@ changed_key a keeps None = refl
 changed_key a keeps (Some e) = by_change (λ f. f.what ≡ e.what) a e (made_key a e keeps) refl
 
 -- where each entry compares with what the action makes of it
-alike_further_by : (label : List ℕ) (R : Compare) (a : StoreAction) → ((e : Option Entry) → R e e) → ((e : Option Entry) → R e (changed_entry a e))
+pub alike_further_by : (label : List ℕ) (R : Compare) (a : StoreAction) → ((e : Option Entry) → R e e) → ((e : Option Entry) → R e (changed_entry a e))
     → (es : List (Option Entry)) (n : ℕ) → Alike label R es (further a es n)
 alike_further_by label R a same made es n = by_place es n
   where
@@ -231,7 +227,7 @@ place_other label other es n apart is =
     ap (has_name label) (sym (name_of_entry es n) ∙ held_at other (directory es) n is) ∙ has_other label other apart
 
 -- the place that is free has no label
-free_at : (d : List (Option (List ℕ))) (at : ℕ) → (n : ℕ) × (free_from at d ≡ at + n) × (name_at d n ≡ None)
+pub free_at : (d : List (Option (List ℕ))) (at : ℕ) → (n : ℕ) × (free_from at d ≡ at + n) × (name_at d n ≡ None)
 free_at [] at = (0, omega arith, refl)
 free_at (None ∷ ns) at = (0, omega arith, refl)
 free_at (Some n ∷ ns) at = let later = free_at ns (at + 1) in (suc later.0, omega (arith, later.1), later.2)
@@ -257,9 +253,6 @@ alike_weaker label R S weaker [] (f ∷ fs) alike = absurd alike
 alike_weaker label R S weaker (e ∷ es) [] alike = absurd alike
 alike_weaker label R S weaker (e ∷ es) (f ∷ fs) alike =
     ((alike.0.0, λ has. weaker e f (alike.0.1 has)), alike_weaker label R S weaker es fs alike.1)
-
-pub as_key : (label : List ℕ) (es fs : List (Option Entry)) → Alike label Same es fs → Alike label SameKey es fs
-as_key label es fs alike = alike_weaker label Same SameKey (λ a b same. ap what_in (sym same)) es fs alike
 
 pub as_clear : (label : List ℕ) (es fs : List (Option Entry)) → Alike label Same es fs → Alike label SameClear es fs
 as_clear label es fs alike = alike_weaker label Same SameClear (λ a b same. ap (λ e. clear_in (what_in e)) (sym same)) es fs alike

@@ -9,7 +9,8 @@ use Rattle.std.proofs.lemmas.Cmp.{nat_list_cmp_total, tied_itself}
 use Rattle.std.proofs.lemmas.List.{get_or-map, length-map, map-append, take-map}
 use Rattle.std.proofs.lemmas.List.FromFn.{get_or-range_with_len, length-range_with_len}
 use Rattle.std.proofs.lemmas.Slice.Eq.{bytes_eq-Decides}
-use Rattle.byte_lists.specs.Names.{IsLabel}
+use Rattle.byte_lists.specs.Names.{IsLabel, is_label}
+use Rattle.byte_lists.specs.Directory.{AreApart}
 use Rattle.byte_lists.proofs.DirectoryLaws.{held_at, none_some}
 use Rattle.cca_vectors.specs.Checks.{first_failing}
 use Rattle.key_records.specs.Directory.{cell_of, held_count, label_at}
@@ -28,9 +29,10 @@ use Rattle.cca_machine.specs.State.{State}
 use Rattle.cca_machine.proofs.RankLemmas.{count_lt, nth_is, within_of}
 use Rattle.move_file.specs.Moves.{clear_of, create_line, import_line, labels_of, moving_requests, reason, requests_by, requests_for, token_of_label}
 use Rattle.move_file.specs.declared.moves.Move.{Move}
-use Rattle.cca_laws.specs.KeyInParts.{SameRecord}
+use Rattle.cca_laws.specs.EachLabel.{SameEntry}
 use Rattle.cca_laws.specs.Moving.{IsMovedLabel, IsPermittedMove, IsReceived, Receives, run_again}
-use Rattle.cca_laws.proofs.MoveLists.{Finds, finds_key, key_found}
+use Rattle.cca_laws.proofs.MoveLists.{Finds, finds_key}
+use Rattle.cca_laws.proofs.MovePlaces.{apart_steps, distinct, no_other, take_cells}
 use Rattle.cca_laws.proofs.MoveRoom.{HasRoom}
 use Rattle.cca_laws.proofs.MoveRuns.{Step, Creates, Imports, IsSettled, Settle, again, all_again, all_move, carried, carried_all, import_among, label_of, reruns_are_one, settled_then, step_elsewhere, steps_by, steps_elsewhere, steps_for, steps_stay, they_settle}
 use Rattle.cca_laws.proofs.MoveSteps.{IsReady, create_step, import_step}
@@ -210,18 +212,33 @@ module _ (s : State) (w : Move) where
       other_label label stays (x ∷ xs) moved =
           (λ same. stays (moved_label label (subst (λ l. moves l ≡ true) same moved.0)), other_label label stays xs moved.1)
 
-      unmoved : (label : List ℕ) → (IsMovedLabel s w label → ⊥) → SameRecord t after label
+      unmoved : (label : List ℕ) → (IsMovedLabel s w label → ⊥) → SameEntry t after label
       unmoved label stays =
           let finds : Finds label t.labels after.labels = steps_elsewhere new_key label all_steps t.labels (other_label label stays all_steps each_moves) in
-          record { cell = finds.cell; key = finds_key label t.labels after.labels finds }
+          record { cell = finds.cell; entry = finds.same }
+
+      no_label : moves [] ≡ false
+      unfolding is_label
+      no_label = by_test (moves []) refl
+        where
+          by_test : (b : Bool) → moves [] ≡ b → b ≡ false
+          by_test true moved = let well : IsLabel [] = well_formed [] (moved_label [] moved) in absurd (cc well)
+          by_test false stays = refl
+
+      apart_after : AreApart (directory after.labels)
+      apart_after = apart_steps new_key all_steps t.labels receives.stands.store.apart
 
       received_after : IsReceived s w t after
       received_after = record {
-        moved = λ label is. key_found label after.labels _
-            (import_among moves (IsSettled new_key after.labels) (labels_of s) label (label_moves label is) (listed label is)
-            (settled_then new_key all_steps t.labels settle));
+        moved = λ label is.
+            import_among moves (IsSettled new_key after.labels) (labels_of s) label (label_moves label is) (listed label is)
+            (settled_then new_key all_steps t.labels settle);
         others = unmoved;
         cells = λ label cell held. steps_stay new_key label cell all_steps t.labels held;
+        new_cells =
+            take_cells moves new_key (labels_of s) (labels_of s) (λ label among. among) (distinct (directory s.labels) moves no_label)
+            t.labels has_room receives.stands.store.apart;
+        empty = λ cell never. no_other after.labels apart_after cell never;
         roles = refl;
         registers = refl;
       }

@@ -12,7 +12,8 @@ use Rattle.key_records.specs.StoreStands.{entry_at}
 use Rattle.key_tokens.specs.Denotes.{Denoted}
 use Rattle.cca_machine.specs.Act.{written_in}
 use Rattle.cca_machine.specs.Keys.{what_at, what_in}
-use Rattle.cca_laws.proofs.LabelLists.{Alike, Same, alike_itself, alike_set, entries_compare, entry_is, entry_where, free_has_none, has_other, label_kept, name_of_entry, place_free, place_other, same_cell, what_where}
+use Rattle.cca_laws.specs.EachLabel.{entry_where}
+use Rattle.cca_laws.proofs.LabelLists.{Alike, Same, alike_itself, alike_set, entries_compare, entry_is, free_has_none, has_other, label_kept, name_of_entry, place_free, place_other, same_cell, what_where}
 use Rattle.cca_laws.proofs.MoveSteps.{after_create, after_import}
 
 -- ---- what a label finds
@@ -99,7 +100,7 @@ create_stays label other es held = ⊎_elim
     (λ (apart : other ≢ label). create_elsewhere label other es apart)
     (same_or_other other label)
 
-created_names : (label : List ℕ) (es : List (Option Entry)) → directory (created label es) ≡ set (directory es) (free_cell (directory es)) (Some label)
+pub created_names : (label : List ℕ) (es : List (Option Entry)) → directory (created label es) ≡ set (directory es) (free_cell (directory es)) (Some label)
 created_names label es = map-set entry_label es (free_cell (directory es)) (Some (null_entry label))
 
 -- ---- room

@@ -73,7 +73,7 @@ module _ (moves : List ℕ → Bool) (all : List (List ℕ)) where
         let one : ◌≡◌ {A = ℕ} (cond (is_further es (get_or all among.0 label)) 1 0) 1 = ap (λ t. cond t 1 0) (further_here new) in
         omega (arith, counted es room, one, get_or-le-sum_by (λ l. cond (is_further es l) 1 0) all among.0 label among.1)
 
-    low_cell : is_new → free_cell (directory es) < length (directory es)
+    pub low_cell : is_new → free_cell (directory es) < length (directory es)
     low_cell new = free_low (directory es) (omega (arith, low_held new, long))
 
     not_full : is_new → (free_cell (directory es) == 1024) ≡ false
@@ -83,7 +83,7 @@ module _ (moves : List ℕ → Bool) (all : List (List ℕ)) where
         by_test true is = absurd (omega (arith, eqb-true (free_cell (directory es)) 1024 is, low_cell new, long))
         by_test false is = is
 
-    is_created : is_new → after_create label es ≡ created label es
+    pub is_created : is_new → after_create label es ≡ created label es
     is_created new =
         ap (λ t. if t || free_cell (directory es) == 1024 then es else created label es) new
         ∙ ap (λ t. if t then es else created label es) (not_full new)

@@ -42,7 +42,7 @@ use Rattle.verb_script.specs.Grammar.{Request, csnbkim, csnbkrc}
 use Rattle.verb_script.specs.Named.{label_named}
 use Rattle.verb_script.specs.Requests.{request_of}
 use Rattle.verb_script.specs.Values.{hex_value}
-use Rattle.verb_script.proofs.KeyFieldLaws.{label_may}
+use Rattle.cca_laws.proofs.LabelTexts.{label_may}
 use Rattle.cca_machine.specs.Act.{delivered_with, or_act, performed, state_after, written_in}
 use Rattle.cca_machine.specs.Keys.{cell_with, imported, key_in_field, key_named, key_of_label, or_no_clear, or_no_key, what_at}
 use Rattle.cca_machine.specs.Draws.{draws_random}
@@ -57,7 +57,7 @@ use Rattle.move_file.specs.Moves.{clear_of, create_line, import_line, token_of_l
 use Rattle.move_file.specs.declared.moves.Move.{Move}
 use Rattle.cca_laws.specs.KeyInParts.{by_label}
 use Rattle.cca_laws.specs.Moving.{IsMovedLabel, IsPermittedMove, Receives, receiving_points}
-use Rattle.cca_laws.specs.Uses.{MayCarry}
+use Rattle.cca_laws.specs.Uses.{IsTransportKey}
 use Rattle.cca_laws.proofs.MoveRequests.{create_line_is, create_line_short, create_request, import_line_is, import_line_short, import_request}
 use Rattle.cca_laws.proofs.MoveTokens.{IsWhole, label_full, label_well, label_whole, out_denotes, out_fits, out_kind, out_long, out_passes, out_vector}
 
@@ -142,7 +142,7 @@ token_passes held bytes sound external part =
         rw (whole, under, every_has (class_of token.vector)) refl
 
 -- a whole key that may carry others breaks no rule of a transport key
-carrier_passes : (vector : List ℕ) → MayCarry csnbkim vector → is_part_of vector ≡ false → first_failing (use_checks (transport_key Importer Transport) vector) ≡ None
+carrier_passes : (vector : List ℕ) → IsTransportKey Importer Transport vector → is_part_of vector ≡ false → first_failing (use_checks (transport_key Importer Transport) vector) ≡ None
 carrier_passes vector may whole =
     let double : (length_of vector == 8) ≡ false = ne_eqb (length_of vector) 8 may.2 in
     rw (whole, may.0, may.1, double) refl
@@ -204,7 +204,7 @@ module _ (w : Move) (t u : State) (random label : List ℕ) (role : IsRoleName w
   -- ---- CSNBKIM
 
   module _ (carrier : Denoted) (found : key_of_label t w.transport_there ≡ Some carrier) (full : is_none t.registers.current ≡ false)
-      (may : MayCarry csnbkim carrier.clear.vector) (single : is_part_of carrier.clear.vector ≡ false) (under : List ℕ) (shared : carrier.clear.key ≡ under)
+      (may : IsTransportKey Importer Transport carrier.clear.vector) (single : is_part_of carrier.clear.vector ≡ false) (under : List ℕ) (shared : carrier.clear.key ≡ under)
       (clear : ClearKey) (whole : IsWhole clear) (part : is_part_of clear.vector ≡ false) where
     abbrev token : List ℕ
     token = external_token under clear

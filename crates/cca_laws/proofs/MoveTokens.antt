@@ -15,7 +15,7 @@ use Rattle.key_records.specs.Directory.{cell_of}
 use Rattle.key_records.specs.Entries.{Entry, directory, entry_label}
 use Rattle.key_records.specs.RecordBody.{ReadsEntry, ReadsWhat, kept}
 use Rattle.key_records.specs.StoreStands.{entry_at}
-use Rattle.key_tokens.specs.Denotes.{ClearKey, Denoted, Denotes, MasterKey, MasterKeys, denoted, denoted_under}
+use Rattle.key_tokens.specs.Denotes.{ClearKey, Denoted, Denotes, HaveDistinctPatterns, MasterKey, MasterKeys, denoted, denoted_under}
 use Rattle.key_tokens.specs.Fields.{token_of}
 use Rattle.key_tokens.specs.Layout.{IsToken}
 use Rattle.key_tokens.specs.TokenChecks.{token_checks}
@@ -70,6 +70,13 @@ of_entry masters bytes (Some e) key reads is =
     by_flag : {o : Option Denoted} (t : Bool) → (if t then o else None) ≡ Some key → o ≡ Some key
     by_flag true same = same
     by_flag false same = cc same
+
+-- the key of an entry that is read is whole
+pub entry_whole : (masters : MasterKeys) → HaveDistinctPatterns masters → (bytes : List ℕ) (e : Option Entry) (key : Denoted) → ReadsEntry masters bytes e → what_in e ≡ Some key
+    → IsWhole key.clear
+entry_whole masters apart bytes e key reads is =
+    let has = of_entry masters bytes e key reads is in
+    whole masters has.bytes key.clear key.age ((denotes_one masters [] has.bytes has.are apart).internal_back key.clear key.age has.stands)
 
 module _ (s : State) (image : List ℕ) (stands : IsStoreOf s image) where
   at_cell : (cell : ℕ) (key : Denoted) → what_in (entry_at s.labels cell) ≡ Some key → HasBytes (keys_of s.registers) key

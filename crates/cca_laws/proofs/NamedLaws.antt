@@ -55,7 +55,7 @@ by_questions s random r operand verb =
 
 -- ---- how full the new register is
 
-register_tests : (a b : NewRegister) → state_of a ≡ state_of b → (is_empty a ≡ is_empty b) × (is_partial a ≡ is_partial b) × (is_full a ≡ is_full b)
+pub register_tests : (a b : NewRegister) → state_of a ≡ state_of b → (is_empty a ≡ is_empty b) × (is_partial a ≡ is_partial b) × (is_full a ≡ is_full b)
 register_tests Empty Empty is = (refl, refl, refl)
 register_tests Empty (Partial y) is = cc is
 register_tests Empty (Full y) is = cc is
@@ -67,7 +67,7 @@ register_tests (Full x) (Partial y) is = cc is
 register_tests (Full x) (Full y) is = (refl, refl, refl)
 
 -- an action that takes a key part
-part_cases : (P : Action → Type 0) → P First → P Middle → P Last → (text : List ℕ) → P (part_action text)
+pub part_cases : (P : Action → Type 0) → P First → P Middle → P Last → (text : List ℕ) → P (part_action text)
 part_cases P first middle last text = by_first (bytes_eq text (codes "FIRST"))
   where
     by_middle : (t : Bool) → P (if t then Middle else Last)

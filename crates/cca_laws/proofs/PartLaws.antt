@@ -78,7 +78,7 @@ abbrev pub with_key : State → ℕ → Denoted → State
 with_key s cell d = record s { labels = written cell d s.labels }
 
 module _ (s : State) (label : List ℕ) (cell : ℕ) (held : cell_with s label ≡ Some cell) (d : Denoted) where
-  cells_stay : (other : List ℕ) → cell_with (with_key s cell d) other ≡ cell_with s other
+  pub cells_stay : (other : List ℕ) → cell_with (with_key s cell d) other ≡ cell_with s other
   cells_stay other = ap (cell_of other) (directory_written s.labels cell d)
 
   pub key_found : key_of_label (with_key s cell d) label ≡ Some d
@@ -87,7 +87,7 @@ module _ (s : State) (label : List ℕ) (cell : ℕ) (held : cell_with s label �
       ap (what_at (written cell d s.labels)) (cells_stay label ∙ held)
       ∙ written_found s.labels cell d label (sym (name_of_entry s.labels cell) ∙ held_at label (directory s.labels) cell held)
 
-  other_stays : (other : List ℕ) → other ≢ label → key_of_label (with_key s cell d) other ≡ key_of_label s other
+  pub other_stays : (other : List ℕ) → other ≢ label → key_of_label (with_key s cell d) other ≡ key_of_label s other
   unfolding cell_of
   other_stays other apart =
       let before : has_name other (entry_label (entry_at s.labels cell)) ≡ false = place_other other label s.labels cell (λ same. apart (sym same)) held in
@@ -98,11 +98,11 @@ module _ (s : State) (label : List ℕ) (cell : ℕ) (held : cell_with s label �
 
 -- ---- what has passed
 
-passes : (rule : ℕ) (fails : Bool) (checks : List Check) → first_failing (check rule fails ∷ checks) ≡ None → (fails ≡ false) × (first_failing checks ≡ None)
+pub passes : (rule : ℕ) (fails : Bool) (checks : List Check) → first_failing (check rule fails ∷ checks) ≡ None → (fails ≡ false) × (first_failing checks ≡ None)
 passes rule true checks is = cc
 passes rule false checks is = (refl, is)
 
-not_false : (b : Bool) → not b ≡ false → b ≡ true
+pub not_false : (b : Bool) → not b ≡ false → b ≡ true
 not_false true is = refl
 not_false false is = cc is
 
@@ -111,12 +111,12 @@ some_cell None is = cc is
 some_cell (Some cell) is = (cell, refl)
 
 -- a label that a record has
-record Stands (s : State) (label : List ℕ) : Type 0 where
-  well : is_label label ≡ true
-  cell : ℕ
-  held : cell_with s label ≡ Some cell
+pub record Stands (s : State) (label : List ℕ) : Type 0 where
+  pub well : is_label label ≡ true
+  pub cell : ℕ
+  pub held : cell_with s label ≡ Some cell
 
-stands : (s : State) (label : List ℕ) → first_failing (held_checks s label) ≡ None → Stands s label
+pub stands : (s : State) (label : List ℕ) → first_failing (held_checks s label) ≡ None → Stands s label
 stands s label is =
     let well = passes 6 (not (is_label label)) (check 7 (is_none (cell_with s label)) ∷ []) is in
     let some = some_cell (cell_with s label) (passes 7 (is_none (cell_with s label)) [] well.1).0 in
@@ -127,7 +127,7 @@ named label is = let names : is_named (by_label label) ≡ true = is in ap (λ t
 
 -- ---- the digits of a part
 
-spelled : (digits : List ℕ) (count : ℕ) → is_hex count digits ≡ true → count % 2 ≡ 0 → AreBytes (length digits / 2) (hex_value digits)
+pub spelled : (digits : List ℕ) (count : ℕ) → is_hex count digits ≡ true → count % 2 ≡ 0 → AreBytes (length digits / 2) (hex_value digits)
 spelled digits count is even =
     let both = and_parts (length digits == count) (list_all is_hex_digit digits) is in
     let long : length digits ≡ count = (Decides-eqb (length digits) count).0 both.0 in
@@ -137,7 +137,7 @@ spelled digits count is even =
     subst (AreBytes (length digits / 2)) (sym (ap (λ r. result_unwrap_or r []) bytes.1))
     (record { size = size; each = are_bytes bytes.0 ok.3 })
 
-part_bytes : (digits : List ℕ) → IsTrue (accepts part_text digits) → AreBytes (length digits / 2) (hex_value digits)
+pub part_bytes : (digits : List ℕ) → IsTrue (accepts part_text digits) → AreBytes (length digits / 2) (hex_value digits)
 part_bytes digits is = by_first (is_hex 16 digits) refl
   where
     by_second : (b : Bool) → (b || false) ≡ true → b ≡ true
@@ -152,7 +152,7 @@ part_bytes digits is = by_first (is_hex 16 digits) refl
 
 -- ---- one request
 
-done : (s : State) (r : Request) → verdict s [] r ≡ None → (performed s [] r).state ≡ after s [] r
+pub done : (s : State) (r : Request) → verdict s [] r ≡ None → (performed s [] r).state ≡ after s [] r
 unfolding performed
 done s r is = ap (λ (v : Option Refusal). (or_act v s [] r).state) is
 
@@ -161,7 +161,7 @@ delivers : (s : State) (field text label : List ℕ) (cell : ℕ) (key : Denoted
 delivers s field text label cell key names held =
     ap (λ (o : Option (List ℕ)). state_after s (delivered_with s field o key [])) names ∙ ap (λ (c : Option ℕ). record s { labels = written_in c key s.labels }) held
 
-type_is : (kind : KeyType) → type_in (type_name kind) ≡ kind
+pub type_is : (kind : KeyType) → type_in (type_name kind) ≡ kind
 type_is kind = ap or_data ((names_type (type_name kind) kind).1 refl)
 
 -- what FIRST leaves
@@ -231,15 +231,15 @@ module _ (s : State) (label : List ℕ) (cell : ℕ) (held : cell_with s label �
 
 -- ---- all of them
 
-where_had : (P : List ℕ → Type 0) (o : Option (List ℕ)) → first_failing (check 32 (is_none o) ∷ []) ≡ None → IfSome o P → P (unwrap_or o [])
+pub where_had : (P : List ℕ → Type 0) (o : Option (List ℕ)) → first_failing (check 32 (is_none o) ∷ []) ≡ None → IfSome o P → P (unwrap_or o [])
 where_had P None has h = cc
 where_had P (Some v) has h = h
 
 -- the vector of a part has its type's length
-first_length : (kind : KeyType) (size : ℕ) → HasLength kind size → length_of (as_part (vector_for kind size)) ≡ size
+pub first_length : (kind : KeyType) (size : ℕ) → HasLength kind size → length_of (as_part (vector_for kind size)) ≡ size
 first_length kind size has = part_length (vector_for kind size) (where_had IsValid (default_vector kind size) has (default_valid kind size)) ∙ length-vector_for kind size has
 
-folded_vector : (clear : ClearKey) (parts : List (List ℕ)) → (fold (combined_key false) clear parts).vector ≡ clear.vector
+pub folded_vector : (clear : ClearKey) (parts : List (List ℕ)) → (fold (combined_key false) clear parts).vector ≡ clear.vector
 folded_vector clear [] = refl
 folded_vector clear (part ∷ parts) = folded_vector (combined_key false clear part) parts
 
@@ -293,7 +293,7 @@ made s label kind b =
 module _ (t : State) (label : List ℕ) (well : is_label label ≡ true) (cell : ℕ) (held : cell_with t label ≡ Some cell) (key : Denoted) (found : key_of_label t label ≡ Some key)
     (is_part : is_part_of key.clear.vector ≡ true) (need : Need) (whole : need.parts ≡ false) where
   -- the rules before it pass
-  label_refused : first_failing (key_questions t need (Some label) (by_label label)) ≡ Some 17
+  pub label_refused : first_failing (key_questions t need (Some label) (by_label label)) ≡ Some 17
   label_refused =
       ap (λ (a : Bool). first_failing (check 6 (not a) ∷ check 7 (is_none (cell_with t label)) ∷ check 8 (is_none (key_of_label t label))
       ∷ use_checks need (or_no_key (key_of_label t label)).clear.vector)) well
@@ -309,7 +309,7 @@ reached t (p ∷ ps) after_ o rule earlier fails =
     let both = refused_none (first_failing (operand_checks t p.text p.ask)) p.name (first_refusal (operand_questions t ps)) earlier in
     ap (λ (f : Option ℕ). or_refused f p.name (first_refusal (operand_questions t (ps ++ o ∷ after_)))) both.0 ∙ reached t ps after_ o rule both.1 fails
 
-operand_refused : (t : State) (random : List ℕ) (r : Request) (o : Operand) (rule : ℕ) → IsReached t r o → first_failing (operand_checks t o.text o.ask) ≡ Some rule
+pub operand_refused : (t : State) (random : List ℕ) (r : Request) (o : Operand) (rule : ℕ) → IsReached t r o → first_failing (operand_checks t o.text o.ask) ≡ Some rule
     → verdict t random r ≡ Some (refusal rule o.name)
 operand_refused t random r o rule is fails =
     ap (λ (f : Option ℕ). or_refused f (codes "-") (or_then (operands_verdict t r) (whole_verb_verdict t random r))) is.general

@@ -45,7 +45,7 @@ no_point s drawn r held is lacking = ap (λ (v : Option Refusal). or_act v s dra
 -- ---- the points that an effect needs
 
 -- what is needed has one of the points
-abbrev Needs : ℕ → ℕ → Type 0
+abbrev pub Needs : ℕ → ℕ → Type 0
 Needs needed points = T (not (bit_and needed points == 0))
 
 -- a role that holds none of some points lacks what needs one of them
@@ -57,7 +57,7 @@ shares_none held needed points has none =
     ∙ (sym (and_assoc needed held points)
     ∙ (ap (λ n. bit_and n needed) none ∙ and_zero_l needed))))
 
-never : (needed points : ℕ) → bit_and needed points ≡ 0 → Needs needed points → ⊥
+pub never : (needed points : ℕ) → bit_and needed points ≡ 0 → Needs needed points → ⊥
 never needed points none needs = subst (λ n. T (not (n == 0))) none needs
 
 -- by what it may change

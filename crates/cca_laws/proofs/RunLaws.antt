@@ -20,7 +20,7 @@ use Rattle.cca_machine.specs.Lines.{line_outcome}
 use Rattle.cca_machine.specs.Session.{line_step}
 use Rattle.cca_machine.specs.State.{State, IsModuleOf, IsStoreOf}
 use Rattle.cca_tool.specs.Coprocessor.{cca}
-use Rattle.cca_laws.specs.Sealed.{IsAtRest, IsBlankStore, IsSealed, WasSelected, states_along}
+use Rattle.cca_laws.specs.Sealed.{IsAtRest, IsSealed, WasSelected, states_along}
 use Rattle.cca_laws.proofs.SealedLaws.{first_along, sealed}
 
 -- ---- the states that lines lead through
@@ -45,7 +45,7 @@ consumed_front : (random : List ℕ) (now : Option (List ℕ)) (drawn : List ℕ
 consumed_front random None drawn is = absurd is
 consumed_front random (Some left) drawn is = (left, is)
 
-where_told : (now : Option (List ℕ)) (P : List ℕ → List ℕ → Type 0) (before : List ℕ) → WhereTold (Some before) now P → (later : List ℕ) × P before later
+pub where_told : (now : Option (List ℕ)) (P : List ℕ → List ℕ → Type 0) (before : List ℕ) → WhereTold (Some before) now P → (later : List ℕ) × P before later
 where_told None P before is = absurd is
 where_told (Some later) P before is = (later, is)
 
@@ -69,7 +69,7 @@ module _ (s : State) (random : List ℕ) (ls : List (List ℕ)) where
   leads_there first others lines_are t sent leads = led_there first others lines_are leads.drawn leads.front.0 leads.front.1 t sent leads.runs
 
   -- one more line, after some first lines
-  next_there : (first others : List (List ℕ)) (line : List ℕ) → ls ≡ (first ++ line ∷ []) ++ others → (drawn more left : List ℕ) → random ≡ (drawn ++ more) ++ left
+  pub next_there : (first others : List (List ℕ)) (line : List ℕ) → ls ≡ (first ++ line ∷ []) ++ others → (drawn more left : List ℕ) → random ≡ (drawn ++ more) ++ left
       → (t next : State) (sent reply : List ℕ)
       → ((rest : List ℕ) → after_lines s (drawn ++ rest) first ≡ record { state = t; reply = sent; random = rest })
       → ((rest : List ℕ) → line_step t (more ++ rest) line ≡ record { state = next; reply = reply; random = rest }) → Contains along next
@@ -91,10 +91,10 @@ module _ (s : State) (random : List ℕ) (ls : List (List ℕ)) where
   }
 
   -- a store that stands for one of the states at last
-  record IsLast (new : List ℕ) : Type 0 where
-    last : State
-    among : Contains along last
-    stands : IsStoreOf last new
+  pub record IsLast (new : List ℕ) : Type 0 where
+    pub last : State
+    pub among : Contains along last
+    pub stands : IsStoreOf last new
 
   has_turned : (n : ℕ) (old new : List ℕ) → (slice_index new (1536 * n) < 2) × Selected cca IsStoreOf s (Some random) ls n (other_body new n)
       → SameCell n old new ⊎ ((slice_index new (1536 * n) < 2) × WasSelected along n (other_body new n))
@@ -111,19 +111,22 @@ module _ (s : State) (random : List ℕ) (ls : List (List ℕ)) where
 
 -- ---- how a run ended
 
+pub in_store : (s : State) (w : World) → OnDisks cca s w.module_ w.store → Told w.store (IsStoreOf s)
+in_store s w disks = subst (λ (i : Option (List ℕ)). IfSome i (IsStoreOf s)) (sym disks.in_store.told) disks.in_store.has
+
 module _ (s : State) (random input : List ℕ) (old new : World) (drawn_from : old.random ≡ Some random) where
-  abbrev all_along : List State
+  abbrev pub all_along : List State
   all_along = states_along s random (lines input)
 
-  abbrev Ends : Type 0
+  abbrev pub Ends : Type 0
   Ends = Told new.store (IsLast s random (lines input))
 
-  stands_last : (last : State) → Contains all_along last → OnDisks cca last new.module_ new.store → Ends
+  pub stands_last : (last : State) → Contains all_along last → OnDisks cca last new.module_ new.store → Ends
   stands_last last among disks =
       let held = disks.in_store in
       subst (λ (o : Option (List ℕ)). IfSome o (IsLast s random (lines input))) (sym held.told) (record { last = last; among = among; stands = held.has })
 
-  front : (drawn : List ℕ) → Consumes old.random new.random drawn → (left : List ℕ) × (random ≡ drawn ++ left)
+  pub front : (drawn : List ℕ) → Consumes old.random new.random drawn → (left : List ℕ) × (random ≡ drawn ++ left)
   front drawn is = consumed_front random new.random drawn (subst (λ (o : Option (List ℕ)). Consumes o new.random drawn) drawn_from is)
 
   led_last : (first others : List (List ℕ)) (sent : List ℕ) → lines input ≡ first ++ others → Led cca s old.random new first sent → Ends
@@ -144,6 +147,16 @@ module _ (s : State) (random input : List ℕ) (old new : World) (drawn_from : o
       c.state c.next c.sent c.reply c.leads.runs c.steps)
       c.stands
 
+  -- a store at rest is sealed, where it was before
+  pub sealed_by : (before_run : List State) (c : List ℕ) → IsModuleOf s c → Told old.store (IsStoreOf s) → Told old.store (IsSealed before_run)
+      → Becomes (Rests cca IsStoreOf 1024 s (Some random) (lines input)) old.store new.store → Ends → Told new.store (IsSealed (before_run ++ all_along))
+  sealed_by before_run c stands store was becomes ends =
+      told_from new.store.content (IsSealed (before_run ++ all_along)) (λ image is.
+      let from = becomes.told image is in
+      sealed s before_run c random from.0 image (lines input) stands
+      (told_at old.store.content (IsStoreOf s) from.0 from.1 store) (told_at old.store.content (IsSealed before_run) from.0 from.1 was)
+      (at_rest s random (lines input) from.0 image from.2 (told_at new.store.content (IsLast s random (lines input)) image is ends)))
+
   module _ (result : Result (Unit {0}) Stop) (rest before now : Option (List ℕ)) (served : RunServed cca s result old new (Some input) rest before now) where
     ended : AnswersLines result → Ends
     ended (inl ok) =
@@ -157,21 +170,20 @@ module _ (s : State) (random input : List ℕ) (old new : World) (drawn_from : o
     ended (inr (inr (inl limit))) = let whole = where_told rest _ input (served.stopped (inr limit)) in whole_last whole.0 before now whole.1
     ended (inr (inr (inr write))) = let cut = where_told rest _ input (served.cut write) in cut_last before now cut.1
 
-    sealed_end : (c : List ℕ) → IsModuleOf s c → Told old.store (IsStoreOf s) → Told old.store IsBlankStore → AnswersLines result → Told new.store (IsSealed all_along)
-    sealed_end c stands store blank answers =
-        let rest_ = where_told rest _ input (served.at_rest answers) in
-        let becomes : Becomes (Rests cca IsStoreOf 1024 s (Some random) (lines input)) old.store new.store =
-        subst (λ (o : Option (List ℕ)). Becomes (Rests cca IsStoreOf 1024 s o (lines input)) old.store new.store) drawn_from rest_.1.on_store in
-        told_from new.store.content (IsSealed all_along) (λ image is.
-        let from = becomes.told image is in
-        sealed s c random from.0 image (lines input) stands (told_at old.store.content (IsStoreOf s) from.0 from.1 store) (told_at old.store.content IsBlankStore from.0 from.1 blank)
-        (at_rest s random (lines input) from.0 image from.2 (told_at new.store.content (IsLast s random (lines input)) image is (ended answers))))
+    -- and what it leaves is sealed
+    sealed_end : (before_run : List State) (c : List ℕ) → IsModuleOf s c → Told old.store (IsStoreOf s) → Told old.store (IsSealed before_run) → AnswersLines result
+        → Told new.store (IsSealed (before_run ++ all_along))
+    sealed_end before_run c stands store was answers =
+        let resting = where_told rest _ input (served.at_rest answers) in
+        sealed_by before_run c stands store was
+        (subst (λ (o : Option (List ℕ)). Becomes (Rests cca IsStoreOf 1024 s o (lines input)) old.store new.store) drawn_from resting.1.on_store)
+        (ended answers)
 
-pub run_sealed : (s : State) (outcome : Result (Unit {0}) Stop) (random input : List ℕ) (o : Span Outside)
+pub run_sealed : (s : State) (before : List State) (outcome : Result (Unit {0}) Stop) (random input : List ℕ) (o : Span Outside)
     → OnDisks cca s o.old.devices.world.module_ o.old.devices.world.store → LinesServed cca s outcome o → AnswersLines outcome
-    → Told o.old.devices.world.store IsBlankStore → o.old.input ≡ Some input → o.old.devices.world.random ≡ Some random
-    → Told o.new.devices.world.store (IsSealed (states_along s random (lines input)))
-run_sealed s outcome random input o disks served answers blank told drawn_from =
+    → Told o.old.devices.world.store (IsSealed before) → o.old.input ≡ Some input → o.old.devices.world.random ≡ Some random
+    → Told o.new.devices.world.store (IsSealed (before ++ states_along s random (lines input)))
+run_sealed s before outcome random input o disks served answers was told drawn_from =
     sealed_end s random input o.old.devices.world o.new.devices.world drawn_from outcome o.new.input o.old.output o.new.output
     (subst (λ (i : Option (List ℕ)). RunServed cca s outcome o.old.devices.world o.new.devices.world i o.new.input o.old.output o.new.output) told served.serves)
-    disks.in_module.image disks.in_module.has (subst (λ (i : Option (List ℕ)). IfSome i (IsStoreOf s)) (sym disks.in_store.told) disks.in_store.has) blank answers
+    before disks.in_module.image disks.in_module.has (in_store s o.old.devices.world disks) was answers

@@ -1,15 +1,21 @@
--- A store at rest is sealed.
+-- A store at rest after lines is sealed where it was sealed before them.
 use Rattle.std.proofs.Common.{◌≡◌, ◌≢◌, ⊎_elim, ℕ, zero, suc, ◌+◌, ◌-◌, ◌*◌, ◌<◌, false, not, List, [], ◌∷◌, length, get_or, replicate, Option, None, Some, refl, sym, ap, ap₂, subst, ◌∙◌, true≢false, arith}
-use Rattle.std.specs.Prelude.{Contains, slice_index}
+use Rattle.std.specs.Prelude.{◌++◌, Contains, min, slice_index}
 use Rattle.std.proofs.lemmas.Bool.{cases_eq}
+use Rattle.std.proofs.lemmas.Grind.{same_number_lists}
+use Rattle.std.proofs.lemmas.List.Elements.{Contains-append_left, Contains-append_right}
 use Rattle.std.proofs.lemmas.Slice.Eq.{bytes_eq-Decides}
+use Rattle.byte_lists.proofs.DirectoryLaws.{none_some}
 use Rattle.slot_disk.specs.Cells.{body, body_at, body_place, other_body, selected}
 use Rattle.slot_disk.specs.SpareBytes.{SameCell}
-use Rattle.slot_disk.proofs.CellSteps.{get_or-range, length-range}
-use Rattle.key_records.specs.RecordBody.{blank_body}
+use Rattle.slot_disk.proofs.CellSteps.{get_or-range, length-range, selected_below}
+use Rattle.key_records.specs.Entries.{Entry}
+use Rattle.key_records.specs.RecordBody.{ReadsEntry, blank_body}
 use Rattle.key_records.specs.StoreStands.{entry_at}
+use Rattle.key_records.specs.Written.{written_body}
+use Rattle.key_records.proofs.BodyLaws.{entry_blank, reads_one}
 use Rattle.key_records.proofs.OneBody.{one_body}
-use Rattle.key_tokens.specs.Denotes.{HaveDistinctPatterns, MasterKey}
+use Rattle.key_tokens.specs.Denotes.{HaveDistinctPatterns, MasterKey, MasterKeys}
 use Rattle.master_registers.specs.Actions.{after_action, has_wrong_state, repeats_pattern}
 use Rattle.master_registers.specs.Masters.{AreApart, IsMasters, Masters, NewRegister, Empty, Partial, Full, blank_masters, has_pattern_of, is_full, new_bytes, pattern_of_master}
 use Rattle.master_registers.specs.RegisterBody.{blank_body as blank_registers, registers_body}
@@ -20,10 +26,12 @@ use Rattle.cca_machine.specs.Act.{effect}
 use Rattle.cca_machine.specs.Lines.{line_outcome}
 use Rattle.cca_machine.specs.State.{State, IsModuleOf, IsStoreOf}
 use Rattle.cca_machine.specs.Verdict.{needed_points}
-use Rattle.cca_laws.specs.Sealed.{IsAtRest, IsBlankStore, IsSealed, IsSealedBody, WasSelected, states_along}
+use Rattle.cca_laws.specs.Sealed.{IsAtRest, IsBlankStore, IsProper, IsSealed, IsSealedBody, IsSealedToken, WasSelected, states_along, unused_in}
 use Rattle.cca_laws.proofs.CeremonyLaws.{becomes, registers_after}
 use Rattle.cca_laws.proofs.LineCases.{by_line, permitted}
-use Rattle.cca_laws.proofs.UnusedLaws.{AreSealedTokens, along_sealed, blank_sealed}
+use Rattle.cca_laws.proofs.MoveTokens.{entry_whole}
+use Rattle.cca_laws.proofs.StoredTokens.{made_before, unused_sound}
+use Rattle.cca_laws.proofs.UnusedLaws.{AreMadeTokens, along_made}
 
 -- ---- the current and the old master key have different patterns, in every state
 
@@ -114,53 +122,137 @@ zero_body image n side within low size zeros =
     place : (k : ℕ) → body_place n side + k ≡ 1536 * n + (512 * (1 + side) + k)
     place k = omega arith
 
-selected_low : (image : List ℕ) (n : ℕ) → selected image n < 2
-unfolding selected
-selected_low image n = omega arith
-
 blank_selects : (image : List ℕ) → IsBlankStore image → (n : ℕ) → n < 1024 → body image n ≡ blank_body
 unfolding body
 blank_selects image blank n within =
-    zero_body image n (selected image n) within (selected_low image n) blank.size (λ j inside. blank.zeros (1536 * n + j))
+    zero_body image n (selected image n) within (selected_below image n) blank.size (λ j inside. blank.zeros (1536 * n + j))
 
-module _ (s : State) (random : List ℕ) (lines : List (List ℕ)) (apart : IsApart s) (tokens : AreSealedTokens (states_along s random lines) s.labels) where
+-- ---- a store that is blank
+
+blank_entry : (s : State) (image : List ℕ) → IsStoreOf s image → IsBlankStore image → (n : ℕ) → n < 1024 → entry_at s.labels n ≡ None
+blank_entry s image stands blank n within =
+    sym (reads_one (keys_of s.registers) (body image n) (entry_at s.labels n) (stands.reads n within))
+    ∙ entry_blank (keys_of s.registers) (body image n) (blank_selects image blank n within)
+
+pub blank_sealed : (s : State) (image : List ℕ) → IsStoreOf s image → IsBlankStore image → IsSealed (s ∷ []) image
+blank_sealed s image stands blank = record {
+  selectors = λ n within. let zero_there : get_or image (1536 * n) 0 ≡ 0 = blank.zeros (1536 * n) in omega (arith, zero_there);
+  bodies = bodies;
+  others = λ k spare. blank.zeros k;
+}
+  where
+    bodies : (n side : ℕ) → n < 1024 → side < 2 → IsSealedBody (s ∷ []) n (body_at image n side)
+    bodies n side within low =
+        let none : entry_at s.labels n ≡ None = blank_entry s image stands blank n within in
+        record {
+          state = s;
+          among = (0, omega arith, refl);
+          is = zero_body image n side within low blank.size (λ j inside. blank.zeros (1536 * n + j)) ∙ ap (written_body (keys_of s.registers)) (sym none);
+          proper = λ e is. absurd (no_entry e (sym none ∙ is));
+          unused = λ token is. absurd (none_some token (sym (ap unused_in none) ∙ is));
+        }
+      where
+        no_entry : (e : Entry) → None ≡ Some e → ⊥
+        no_entry e is = cc
+
+-- ---- what is sealed over some states is sealed over more
+
+module _ (states more : List State) (wider : (u : State) → Contains states u → Contains more u) where
+  token_wider : (bytes : List ℕ) → IsSealedToken states bytes → IsSealedToken more bytes
+  token_wider bytes t = record { state = t.state; among = wider t.state t.among; age = t.age; clear = t.clear; is = t.is; sound = t.sound }
+
+  body_wider : (n : ℕ) (bytes : List ℕ) → IsSealedBody states n bytes → IsSealedBody more n bytes
+  body_wider n bytes b = record {
+    state = b.state;
+    among = wider b.state b.among;
+    is = b.is;
+    proper = b.proper;
+    unused = λ token is. token_wider token (b.unused token is);
+  }
+
+  made_wider : (es : List (Option Entry)) → AreMadeTokens states es → AreMadeTokens more es
+  made_wider es made n token is =
+      let t = made n token is in record { state = t.state; among = wider t.state t.among; age = t.age; clear = t.clear; is = t.is }
+
+-- ---- a body that a store selects
+
+proper_of : (masters : MasterKeys) → HaveDistinctPatterns masters → (bytes : List ℕ) (slot : Option Entry) → ReadsEntry masters bytes slot → (e : Entry) → slot ≡ Some e
+    → IsProper e
+proper_of masters apart bytes slot reads e at =
+    let here : ReadsEntry masters bytes (Some e) = subst (ReadsEntry masters bytes) at reads in
+    record {
+      label = here.0;
+      key = λ key is. (entry_whole masters apart bytes (Some e) key here is).key;
+      vector = λ key is. (entry_whole masters apart bytes (Some e) key here is).vector;
+    }
+
+-- a cell that is as it was has the bodies that it had
+same_body : (n side : ℕ) (old new : List ℕ) → side < 2 → length new ≡ length old → SameCell n old new → body_at new n side ≡ body_at old n side
+same_body n side old new low size same =
+    same_number_lists (body_at new n side) (body_at old n side)
+    (length-range new (body_place n side) 192 ∙ (ap (λ (l : ℕ). min 192 (l - body_place n side)) size ∙ sym (length-range old (body_place n side) 192)))
+    (λ k within.
+    let below : k < 192 = omega (arith, within, length-range new (body_place n side) 192) in
+    get_or-range new (body_place n side) 192 k below
+    ∙ (ap (λ i. get_or new i 0) (place k)
+    ∙ (same (512 * (1 + side) + k) (omega (arith, below, low))
+    ∙ (ap (λ i. get_or old i 0) (sym (place k)) ∙ sym (get_or-range old (body_place n side) 192 k below)))))
+  where
+    place : (k : ℕ) → body_place n side + k ≡ 1536 * n + (512 * (1 + side) + k)
+    place k = omega arith
+
+module _ (before : List State) (s : State) (random : List ℕ) (lines : List (List ℕ)) (apart : IsApart s) (made : AreMadeTokens before s.labels) where
   abbrev along : List State
   along = states_along s random lines
 
-  tokens_among : (u : State) → Contains along u → AreSealedTokens along u.labels
+  abbrev all : List State
+  all = before ++ along
+
+  earlier : (u : State) → Contains before u → Contains all u
+  earlier u among = Contains-append_left before along u among
+
+  later : (u : State) → Contains along u → Contains all u
+  later u among = Contains-append_right before along u among
+
+  tokens_among : (u : State) → Contains along u → AreMadeTokens all u.labels
   tokens_among u among =
-      subst (λ (t : State). AreSealedTokens along t.labels) among.2 (along_sealed along s random lines (λ t there. there) tokens among.0 u among.1)
+      subst (λ (t : State). AreMadeTokens all t.labels) among.2
+      (along_made all s random lines later (made_wider before all earlier s.labels made) among.0 u among.1)
 
   apart_among : (u : State) → Contains along u → IsApart u
   apart_among u among = subst IsApart among.2 (along_apart s random lines apart among.0 u among.1)
 
-  -- a body that a store selects
-  selected_body : (u : State) (content : List ℕ) (n : ℕ) (bytes : List ℕ) → Contains along u → IsStoreOf u content → n < 1024 → body content n ≡ bytes
-      → IsSealedBody along bytes
-  selected_body u content n bytes among stands within is = record {
-    state = u;
-    among = among;
-    entry = entry_at u.labels n;
-    is = sym is ∙ one_body (keys_of u.registers) (distinct u (apart_among u among)) (body content n) (entry_at u.labels n) (stands.reads n within);
-    unused = tokens_among u among n;
-  }
+  selected_body : (u : State) (content : List ℕ) (n : ℕ) (bytes : List ℕ) → Contains along u → IsStoreOf u content → n < 1024 → body content n ≡ bytes → IsSealedBody all n bytes
+  selected_body u content n bytes among stands within is =
+      let patterns : HaveDistinctPatterns (keys_of u.registers) = distinct u (apart_among u among) in
+      record {
+        state = u;
+        among = later u among;
+        is = sym is ∙ one_body (keys_of u.registers) patterns (body content n) (entry_at u.labels n) (stands.reads n within);
+        proper = proper_of (keys_of u.registers) patterns (body content n) (entry_at u.labels n) (stands.reads n within);
+        unused = λ token has.
+            let t = tokens_among u among n token has in
+            record {
+              state = t.state;
+              among = t.among;
+              age = t.age;
+              clear = t.clear;
+              is = t.is;
+              sound = unused_sound (keys_of u.registers) (body content n) token (entry_at u.labels n) (stands.reads n within) has;
+            };
+      }
 
-  module _ (old new : List ℕ) (blank : IsBlankStore old) (rest : IsAtRest along old new) where
-    -- a cell that is as it was is blank
-    blank_at : (n side : ℕ) → n < 1024 → side < 2 → SameCell n old new → IsSealedBody along (body_at new n side)
-    blank_at n side within low same = record {
-      state = s;
-      among = first_along s random lines;
-      entry = None;
-      is = zero_body new n side within low (rest.same.size ∙ blank.size) (λ j inside. same j inside ∙ blank.zeros (1536 * n + j));
-      unused = λ token none. cc none;
-    }
+  module _ (old new : List ℕ) (sealed_before : IsSealed before old) (rest : IsAtRest along old new) where
+    kept_body : (n side : ℕ) → n < 1024 → side < 2 → SameCell n old new → IsSealedBody all n (body_at new n side)
+    kept_body n side within low same =
+        subst (IsSealedBody all n) (sym (same_body n side old new low rest.same.size same))
+        (body_wider before all earlier n (body_at old n side) (sealed_before.bodies n side within low))
 
-    turned_body : (n side : ℕ) → n < 1024 → side < 2 → WasSelected along n (other_body new n) → IsSealedBody along (body_at new n side)
+    turned_body : (n side : ℕ) → n < 1024 → side < 2 → WasSelected along n (other_body new n) → IsSealedBody all n (body_at new n side)
     unfolding body other_body
-    turned_body n side within low was = by_side (selected new n) refl (selected_low new n) side low
+    turned_body n side within low was = by_side (selected new n) refl (selected_below new n) side low
       where
-        by_side : (t : ℕ) → selected new n ≡ t → t < 2 → (x : ℕ) → x < 2 → IsSealedBody along (body_at new n x)
+        by_side : (t : ℕ) → selected new n ≡ t → t < 2 → (x : ℕ) → x < 2 → IsSealedBody all n (body_at new n x)
         by_side t is below x small = ⊎_elim
             (λ (here : x ≡ t).
             selected_body rest.last new n (body_at new n x) rest.among rest.stands within (ap (body_at new n) (is ∙ sym here)))
@@ -169,30 +261,32 @@ module _ (s : State) (random : List ℕ) (lines : List (List ℕ)) (apart : IsAp
             selected_body was.state was.content n (body_at new n x) was.among was.stands within (was.is ∙ ap (body_at new n) there))
             (cases_eq x t)
 
-    bodies : (n side : ℕ) → n < 1024 → side < 2 → IsSealedBody along (body_at new n side)
+    bodies : (n side : ℕ) → n < 1024 → side < 2 → IsSealedBody all n (body_at new n side)
     bodies n side within low = ⊎_elim
-        (λ (same : SameCell n old new). blank_at n side within low same)
+        (λ (same : SameCell n old new). kept_body n side within low same)
         (λ (turned : (slice_index new (1536 * n) < 2) × WasSelected along n (other_body new n)). turned_body n side within low turned.1)
         (rest.each n within)
 
     selectors : (n : ℕ) → n < 1024 → slice_index new (1536 * n) < 2
     selectors n within = ⊎_elim
         (λ (same : SameCell n old new).
-        let here : get_or new (1536 * n) 0 ≡ 0 = ap (λ i. get_or new i 0) (none n) ∙ (same 0 (omega arith) ∙ blank.zeros (1536 * n + 0)) in omega (arith, here))
+        let here : get_or new (1536 * n) 0 ≡ get_or old (1536 * n) 0 =
+        ap (λ i. get_or new i 0) (none n) ∙ (same 0 (omega arith) ∙ ap (λ i. get_or old i 0) (sym (none n))) in
+        omega (arith, here, sealed_before.selectors n within))
         (λ (turned : (slice_index new (1536 * n) < 2) × WasSelected along n (other_body new n)). turned.0)
         (rest.each n within)
       where
         none : (n : ℕ) → 1536 * n ≡ 1536 * n + 0
         none n = omega arith
 
-    sealed_along : IsSealed along new
+    sealed_along : IsSealed all new
     sealed_along = record {
       selectors = selectors;
       bodies = bodies;
-      others = λ k spare. rest.same.spare k spare ∙ blank.zeros k;
+      others = λ k spare. rest.same.spare k spare ∙ sealed_before.others k spare;
     }
 
-pub sealed : (s : State) (c random old new : List ℕ) (lines : List (List ℕ)) → IsModuleOf s c → IsStoreOf s old → IsBlankStore old
-    → IsAtRest (states_along s random lines) old new → IsSealed (states_along s random lines) new
-sealed s c random old new lines stands store blank rest =
-    sealed_along s random lines (module_apart s c stands) (blank_sealed (states_along s random lines) s old (blank_selects old blank) store) old new blank rest
+pub sealed : (s : State) (before : List State) (c random old new : List ℕ) (lines : List (List ℕ)) → IsModuleOf s c → IsStoreOf s old → IsSealed before old
+    → IsAtRest (states_along s random lines) old new → IsSealed (before ++ states_along s random lines) new
+sealed s before c random old new lines stands store sealed_before rest =
+    sealed_along before s random lines (module_apart s c stands) (made_before before s old store sealed_before) old new sealed_before rest

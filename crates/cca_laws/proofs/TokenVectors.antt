@@ -98,7 +98,7 @@ module _ (token : Token) (pattern_long : length token.pattern ≡ 8) (left_long 
 
 -- ---- what tokens are made of
 
-sealed_long : (bundle vector key : List ℕ) → (length (seal bundle vector key).left ≡ 8) × (length (seal bundle vector key).right ≡ 8)
+pub sealed_long : (bundle vector key : List ℕ) → (length (seal bundle vector key).left ≡ 8) × (length (seal bundle vector key).right ≡ 8)
 unfolding seal
 sealed_long bundle vector key = (
   (bytes-sealed_half bundle (left_of vector) (take 8 key)).size,
@@ -109,7 +109,7 @@ sealed_long bundle vector key = (
     by_test true = refl
     by_test false = (bytes-sealed_half bundle (right_of vector) (take 8 (drop 8 key))).size
 
-pattern_long : (bytes : List ℕ) → length (pattern_of_master bytes) ≡ 8
+pub pattern_long : (bytes : List ℕ) → length (pattern_of_master bytes) ≡ 8
 unfolding pattern_of_master sha1 digest_bytes
 pattern_long bytes = refl
 

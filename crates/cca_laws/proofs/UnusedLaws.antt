@@ -1,19 +1,15 @@
 -- The tokens that labels no longer use: SET leaves them of labels that were ahead, and no other request makes one.
-use Rattle.std.proofs.Common.{◌≡◌, ◌⊎◌, inl, inr, ⊎_elim, ℕ, zero, suc, ◌<◌, ◌≤◌, Bool, true, false, List, [], ◌∷◌, length, get_or, set, Option, None, Some, refl, sym, ap, subst, ◌∙◌, arith}
+use Rattle.std.proofs.Common.{◌≡◌, ◌⊎◌, inl, inr, ⊎_elim, ℕ, zero, suc, ◌<◌, Bool, true, false, List, [], ◌∷◌, length, get_or, set, Option, None, Some, refl, sym, subst, ◌∙◌, arith}
 use Rattle.std.specs.Prelude.{Contains}
-use Rattle.std.proofs.lemmas.Bool.{cases_lt}
-use Rattle.std.proofs.lemmas.List.{get_or_past}
 use Rattle.byte_lists.proofs.DirectoryLaws.{none_some}
-use Rattle.slot_disk.specs.Cells.{body}
 use Rattle.key_records.specs.Changes.{null_entry, with_what}
 use Rattle.key_records.specs.Directory.{free_cell}
 use Rattle.key_records.specs.Entries.{Entry, directory}
-use Rattle.key_records.specs.RecordBody.{blank_body}
 use Rattle.key_records.specs.StoreStands.{entry_at}
 use Rattle.key_records.specs.Turning.{aged, aged_entry, unused_by}
-use Rattle.key_records.specs.Written.{token_bytes}
-use Rattle.key_records.proofs.BodyLaws.{entry_blank, reads_one}
+use Rattle.key_records.specs.Written.{register_of, token_bytes}
 use Rattle.key_tokens.specs.Denotes.{ClearKey, Denoted, MasterKeys}
+use Rattle.key_tokens.specs.declared.key_token.Age.{Age}
 use Rattle.key_tokens.specs.declared.key_token.Age.TheVariants.{Current}
 use Rattle.reencipher.specs.Further.{changed_entry, further, made_by}
 use Rattle.reencipher.specs.declared.actions.StoreAction.{StoreAction}
@@ -23,9 +19,9 @@ use Rattle.verb_script.specs.Grammar.{Request, RequestName}
 use Rattle.cca_machine.specs.Act.{Effect, Show, Become, DefineRole, RemoveRole, Create, Write, Delete, Reencipher, deleted_in, effect, state_after as after_effect, written_in}
 use Rattle.cca_machine.specs.Keys.{cell_with}
 use Rattle.cca_machine.specs.Lines.{line_outcome}
-use Rattle.cca_machine.specs.State.{State, IsStoreOf}
+use Rattle.cca_machine.specs.State.{State}
 use Rattle.cca_machine.proofs.RerunLaws.{by_change}
-use Rattle.cca_laws.specs.Sealed.{IsSealedToken, states_along, unused_in}
+use Rattle.cca_laws.specs.Sealed.{states_along, unused_in}
 use Rattle.cca_laws.proofs.EffectLaws.{Fits, effect_fits}
 use Rattle.cca_laws.proofs.LineCases.{by_line}
 
@@ -121,42 +117,39 @@ module _ (s : State) where
 
 -- ---- lines
 
-module _ (all : List State) where
-  -- each unused token is that of some key under a master key of one of the states
-  abbrev pub AreSealedTokens : List (Option Entry) → Type 0
-  AreSealedTokens es = (n : ℕ) (token : List ℕ) → unused_in (entry_at es n) ≡ Some token → IsSealedToken all token
+-- the token is that of some key under a master key of one of the states
+pub record IsMadeToken (states : List State) (bytes : List ℕ) : Type 0 where
+  pub state : State
+  pub among : Contains states state
+  pub age : Age
+  pub clear : ClearKey
+  pub is : bytes ≡ token_bytes (register_of (keys_of state.registers) age) clear
 
-  still_sealed : (s : State) → Contains all s → (es : List (Option Entry)) → AllLeave (keys_of s.registers) s.labels es → AreSealedTokens s.labels → AreSealedTokens es
-  still_sealed s among es leaves now n token is = ⊎_elim
+module _ (all : List State) where
+  -- each unused token is one of these
+  abbrev pub AreMadeTokens : List (Option Entry) → Type 0
+  AreMadeTokens es = (n : ℕ) (token : List ℕ) → unused_in (entry_at es n) ≡ Some token → IsMadeToken all token
+
+  still_made : (s : State) → Contains all s → (es : List (Option Entry)) → AllLeave (keys_of s.registers) s.labels es → AreMadeTokens s.labels → AreMadeTokens es
+  still_made s among es leaves now n token is = ⊎_elim
       (λ (before : unused_in (entry_at s.labels n) ≡ Some token). now n token before)
       (λ (fresh : (clear : ClearKey) × (token ≡ token_bytes (keys_of s.registers).current clear)).
       record { state = s; among = among; age = Current; clear = fresh.0; is = fresh.1 })
       (leaves n token is)
 
-  line_sealed : (s : State) (random line : List ℕ) → Contains all s → AreSealedTokens s.labels → AreSealedTokens (line_outcome s random line).state.labels
-  line_sealed s random line among now =
-      by_line (λ (t : State). AreSealedTokens t.labels) s now random line
+  line_made : (s : State) (random line : List ℕ) → Contains all s → AreMadeTokens s.labels → AreMadeTokens (line_outcome s random line).state.labels
+  line_made s random line among now =
+      by_line (λ (t : State). AreMadeTokens t.labels) s now random line
       (λ drawn r is permits.
-      still_sealed s among (after_effect s (effect s drawn r.name r)).labels (all_after s r.name r (effect s drawn r.name r) (effect_fits s drawn r permits)) now)
+      still_made s among (after_effect s (effect s drawn r.name r)).labels (all_after s r.name r (effect s drawn r.name r) (effect_fits s drawn r permits)) now)
 
   -- of each state that the lines lead through
-  pub along_sealed : (s : State) (random : List ℕ) (lines : List (List ℕ)) → ((u : State) → Contains (states_along s random lines) u → Contains all u) → AreSealedTokens s.labels
-      → (k : ℕ) (d : State) → k < length (states_along s random lines) → AreSealedTokens (get_or (states_along s random lines) k d).labels
-  along_sealed s random [] among now zero d within = now
-  along_sealed s random [] among now (suc k) d within = absurd (omega (arith, within))
-  along_sealed s random (line ∷ lines) among now zero d within = now
-  along_sealed s random (line ∷ lines) among now (suc k) d within =
-      along_sealed (line_outcome s random line).state (line_outcome s random line).random lines
+  pub along_made : (s : State) (random : List ℕ) (lines : List (List ℕ)) → ((u : State) → Contains (states_along s random lines) u → Contains all u) → AreMadeTokens s.labels
+      → (k : ℕ) (d : State) → k < length (states_along s random lines) → AreMadeTokens (get_or (states_along s random lines) k d).labels
+  along_made s random [] among now zero d within = now
+  along_made s random [] among now (suc k) d within = absurd (omega (arith, within))
+  along_made s random (line ∷ lines) among now zero d within = now
+  along_made s random (line ∷ lines) among now (suc k) d within =
+      along_made (line_outcome s random line).state (line_outcome s random line).random lines
       (λ u there. among u (suc there.0, omega (arith, there.1), there.2))
-      (line_sealed s random line (among s (0, omega arith, refl)) now) k d (omega (arith, within))
-
-  -- of a blank store none is unused
-  pub blank_sealed : (s : State) (image : List ℕ) → ((n : ℕ) → n < 1024 → body image n ≡ blank_body) → IsStoreOf s image → AreSealedTokens s.labels
-  blank_sealed s image blank stands n token is = absurd (none_some token (sym (ap unused_in none) ∙ is))
-    where
-      none : entry_at s.labels n ≡ None
-      none = ⊎_elim
-          (λ (within : n < 1024).
-          sym (reads_one (keys_of s.registers) (body image n) (entry_at s.labels n) (stands.reads n within)) ∙ entry_blank (keys_of s.registers) (body image n) (blank n within))
-          (λ (past : 1024 ≤ n). get_or_past s.labels n None (subst (λ k. k ≤ n) (sym stands.size) past))
-          (cases_lt n 1024)
+      (line_made s random line (among s (0, omega arith, refl)) now) k d (omega (arith, within))

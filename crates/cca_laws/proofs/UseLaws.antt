@@ -1,54 +1,63 @@
--- What the control vectors of a permitted request's keys say.
+-- What a permitted request's key operands represent, and what their control vectors say.
 use Rattle.std.proofs.Common.{◌≡◌, ◌≢◌, ◌⊎◌, ⊎_elim, ℕ, Bool, true, false, not, List, [], ◌∷◌, ◌++◌, Option, None, Some, refl, sym, ap, subst, ◌∙◌, codes, slice_index, true≢false, eq-eqb}
-use Rattle.std.specs.Prelude.{⊤, ◌&&◌, ◌==◌, if◌then◌else◌}
+use Rattle.std.specs.Prelude.{⊤, ◌&&◌, ◌==◌, is_none, if◌then◌else◌}
 use Rattle.std.specs.Str.{bytes_eq}
 use Rattle.cca_vectors.specs.Checks.{Check, check, first_failing}
 use Rattle.cca_vectors.specs.Classes.{class_of}
 use Rattle.cca_vectors.specs.Permissions.{is_exportable, permits}
-use Rattle.cca_vectors.specs.Vectors.{IsValid, is_part_of, length_of}
+use Rattle.cca_vectors.specs.VectorChecks.{vector_checks}
+use Rattle.cca_vectors.specs.Vectors.{is_part_of, length_of}
 use Rattle.cca_vectors.specs.declared.key_class.Class.{Class}
 use Rattle.cca_vectors.specs.declared.key_class.Class.TheVariants.{Data, Cipher, Mac, Exporter, Importer}
 use Rattle.cca_vectors.specs.declared.key_usage.Usage.{Usage}
-use Rattle.cca_vectors.specs.declared.key_usage.Usage.TheVariants.{Encipher, Decipher, MacGenerate, MacVerify, Transport}
-use Rattle.cca_vectors.proofs.ClosingLemmas.{closing_off}
-use Rattle.cca_vectors.proofs.Judging.{none_in_first, passed_over}
+use Rattle.cca_vectors.specs.declared.key_usage.Usage.TheVariants.{Encipher, Decipher, MacGenerate, MacVerify, Transport, Translate, PairOperational, PairImportExport, PairSame}
+use Rattle.cca_vectors.proofs.Judging.{none_in_first, passed_over, passes_first}
+use Rattle.key_records.specs.Labels.{is_label}
 use Rattle.key_tokens.specs.Denotes.{ClearKey, Denoted, MasterKey, MasterKeys, clear_of, denoted, denoted_or, is_token}
-use Rattle.key_tokens.specs.Fields.{pattern_of_token, token_of, vector_bytes_of}
+use Rattle.key_tokens.specs.Fields.{kind_of, pattern_of_token, token_of, vector_bytes_of}
+use Rattle.key_tokens.specs.Kinds.{kind_at}
 use Rattle.key_tokens.specs.Layout.{made}
-use Rattle.key_tokens.specs.TokenChecks.{token_checks}
+use Rattle.key_tokens.specs.TokenChecks.{has_flag, has_right_half, header_checks, reserved_is_zero, stored_tvv, token_checks}
+use Rattle.key_tokens.specs.Tvv.{tvv_of}
 use Rattle.key_tokens.specs.declared.key_token.Age.{Age}
 use Rattle.key_tokens.specs.declared.key_token.Age.TheVariants.{Current, Old}
+use Rattle.key_tokens.specs.declared.key_token.Asked.{Asked}
 use Rattle.key_tokens.specs.declared.key_token.Asked.TheVariants as asked
-use Rattle.key_transport.specs.Tokens.{changed_token, closed_key, full_bytes, new_token}
+use Rattle.key_tokens.specs.declared.key_token.Kind.{Kind}
+use Rattle.key_tokens.specs.declared.key_token.Kind.TheVariants.{Internal, External}
+use Rattle.key_transport.specs.Tokens.{changed_token, full_bytes, new_token}
 use Rattle.key_transport.specs.declared.changing.Target.{Target}
 use Rattle.key_transport.specs.declared.changing.Target.TheVariants.{Current as ToCurrent, New}
-use Rattle.master_registers.specs.Loaded.{registers_of}
-use Rattle.master_registers.specs.Masters.{Masters}
+use Rattle.key_transport.specs.declared.generating.Form.{Form}
+use Rattle.key_transport.specs.declared.generating.Form.TheVariants.{Op, Opex, Opim, Imex, Exex, Imim}
+use Rattle.master_registers.specs.Loaded.{has_pattern, pattern_in, registers_of}
+use Rattle.master_registers.specs.Masters.{Masters, pattern_of_master}
 use Rattle.master_registers.specs.declared.registers.Registers.{Registers}
 use Rattle.verb_rules.specs.Classes.{classes_of, has}
-use Rattle.verb_rules.specs.KeyChecks.{is_forbidden, key_checks, part_check, pattern_check, read_checks, use_checks, vector_use_checks}
+use Rattle.verb_rules.specs.KeyChecks.{is_forbidden, is_under_none, key_checks, part_check, pattern_check, read_checks, register_with, use_checks, vector_use_checks}
 use Rattle.verb_rules.specs.Keys.{keys_of, master_key, master_under, sealed_token, token_for}
+use Rattle.verb_rules.specs.PartChecks.{part_length_checks, whole_key_checks}
 use Rattle.verb_rules.specs.declared.needs.Need.{Need}
-use Rattle.verb_script.specs.Grammar.{Request, RequestName, csnbenc, csnbenc_first, csnbenc_middle, csnbenc_last, csnbdec, csnbdec_first, csnbdec_middle, csnbdec_last, csnbmgn, csnbmgn_first, csnbmgn_middle, csnbmgn_last, csnbmvr, csnbmvr_first, csnbmvr_middle, csnbmvr_last, csnbcki, csnbkgn_op, csnbkgn_pair, csnbkgn_out, csnbkim, csnbkex, csnbpex, csnbkpi_first, csnbkpi_middle, csnbktr, csnbktc, csnbkrr, csnbkrl, value_of}
+use Rattle.verb_script.specs.Grammar.{Request, RequestName, csnbktp, csnbenc, csnbenc_first, csnbenc_middle, csnbenc_last, csnbdec, csnbdec_first, csnbdec_middle, csnbdec_last, csnbmgn, csnbmgn_first, csnbmgn_middle, csnbmgn_last, csnbmvr, csnbmvr_first, csnbmvr_middle, csnbmvr_last, csnbkyt, csnbcki, csnbkgn_op, csnbkgn_pair, csnbkgn_out, csnbkim, csnbkex, csnbpex, csnbkpi_first, csnbkpi_middle, csnbktr, csnbktc, csnbkrr, csnbkrl, value_of}
 use Rattle.verb_script.specs.Named.{label_named}
-use Rattle.cca_machine.specs.Act.{delivered_with, effect, fields_after, or_act, performed}
-use Rattle.cca_machine.specs.Choices.{target_named}
-use Rattle.cca_machine.specs.Keys.{any_old, key_bytes, key_in_text, key_named, key_of_label, or_no_key, warning}
+use Rattle.cca_machine.specs.Act.{delivered_with, effect, effected, fields_after, or_act, performed}
+use Rattle.cca_machine.specs.Choices.{out_form_named, pair_form_named, target_named}
+use Rattle.cca_machine.specs.Keys.{any_old, cell_with, key_bytes, key_in_text, key_named, key_of_label, key_of_request, or_no_key, warning}
 use Rattle.cca_machine.specs.Listing.{label_fields}
-use Rattle.cca_machine.specs.Operands.{Operand, exported_key, internal_key, key_operand, no_operand, listed, operands, operands_of, transport_key}
+use Rattle.cca_machine.specs.Operands.{Operand, Operands, exported_key, first_transport, five_classes, internal_key, key_operand, listed, no_operand, operand, operands, operands_of, part_key, second_transport, transport_key}
 use Rattle.cca_machine.specs.State.{State}
-use Rattle.cca_machine.specs.Verdict.{Refusal, first_refusal, key_questions, operand_checks, operand_questions, record_checks, verdict}
+use Rattle.cca_machine.specs.Verdict.{Refusal, first_refusal, key_questions, operand_checks, operand_questions, part_size, record_checks, verb_questions, verdict}
 use Rattle.cca_machine.specs.declared.asking.Ask.{Ask}
 use Rattle.cca_machine.specs.declared.asking.Ask.TheVariants as ask
 use Rattle.cca_laws.specs.ReplyTokens.{IfToken, is_token_field}
-use Rattle.cca_laws.specs.Uses.{Allows, IsInternal, IsOperandOf, MayCarry, MayWork, ShowsNoExternal, gives_external}
+use Rattle.cca_laws.specs.Uses.{Allows, HasFirstTransport, HasSecondTransport, HasTransport, IsComplete, IsInternal, IsKeyWith, IsOperandOf, MayCarry, MayCombine, MayExport, MayTest, MayWork, ShowsNoExternal, gives_external}
 use Rattle.cca_laws.proofs.LineCases.{permitted, refused_none}
 use Rattle.cca_laws.proofs.TokenFields.{EffectShows, each-append, fields_have, warning_has}
 
 -- ---- checks that pass
 
 -- the first check passes, and the others
-check_passes : (rule : ℕ) (fails : Bool) (checks : List Check) → first_failing (check rule fails ∷ checks) ≡ None → (fails ≡ false) × (first_failing checks ≡ None)
+pub check_passes : (rule : ℕ) (fails : Bool) (checks : List Check) → first_failing (check rule fails ∷ checks) ≡ None → (fails ≡ false) × (first_failing checks ≡ None)
 check_passes rule true checks is = cc
 check_passes rule false checks is = (refl, is)
 
@@ -75,7 +84,7 @@ unforbidden (Some other) vector is use_of same = by_use (same_some other use_of 
     by_use : other ≡ use_of → permits vector use_of ≡ true
     by_use e = ap (permits vector) (sym e) ∙ not_true (permits vector other) is
 
-not_false : (b : Bool) → not b ≡ false → b ≡ true
+pub not_false : (b : Bool) → not b ≡ false → b ≡ true
 not_false true is = refl
 not_false false is = cc is
 
@@ -142,13 +151,96 @@ token_vector masters bytes key is = by_test (is_token asked.Internal bytes) is
     by_test true same = or_vector masters.current Current bytes _ (or_vector masters.former Old bytes None none_other) key same
     by_test false same = none_other key same
 
-key_allows : (s : State) (need : Need) (text : List ℕ) (key : Denoted) (named : Option (List ℕ)) → key_named s named text ≡ Some key
-    → first_failing (key_questions s need named text) ≡ None → Allows need key.clear.vector
-key_allows s need text key None is passes =
-    subst (Allows need) (sym (token_vector (keys_of s.registers) (key_bytes text) key is)) (by_key_checks need (registers_of s.registers) (key_bytes text) passes)
-key_allows s need text key (Some label) is passes =
-    subst (Allows need) (ap (λ (k : Option Denoted). (or_no_key k).clear.vector) is)
+-- ---- a key operand represents a key
+
+-- what holds of the control vectors of keys holds of weaker facts too
+pub weaker : (P Q : List ℕ → Type 0) (o : Option Denoted) → ((vector : List ℕ) → P vector → Q vector) → IsKeyWith P o → IsKeyWith Q o
+weaker P Q None gives is = absurd is
+weaker P Q (Some key) gives is = gives key.clear.vector is
+
+-- by the register that has the pattern of the token
+module _ (P : List ℕ → Type 0) (bytes : List ℕ) (allows : P (vector_bytes_of bytes)) where
+  by_old : (former : Option (List ℕ)) → is_none (if has_pattern (pattern_in former) (pattern_of_token bytes) then Some Old else None) ≡ false
+      → IsKeyWith P (denoted_or (master_key former) Old bytes None)
+  by_old None some = cc some
+  by_old (Some x) some = by_test (bytes_eq (pattern_of_token bytes) (pattern_of_master x)) some
+    where
+      by_test : (t : Bool) → is_none (if t then Some Old else None) ≡ false
+          → IsKeyWith P (if t then Some (record { clear = clear_of x bytes; age = Old }) else None)
+      by_test true has = allows
+      by_test false has = cc has
+
+  by_current : (current former : Option (List ℕ)) → is_none (if has_pattern (pattern_in current) (pattern_of_token bytes) then Some Current else if has_pattern (pattern_in former) (pattern_of_token bytes) then Some Old else None) ≡ false
+      → IsKeyWith P (denoted_or (master_key current) Current bytes (denoted_or (master_key former) Old bytes None))
+  by_current None former some = by_old former some
+  by_current (Some x) former some = by_test (bytes_eq (pattern_of_token bytes) (pattern_of_master x)) some
+    where
+      by_test : (t : Bool) → is_none (if t then Some Current else if has_pattern (pattern_in former) (pattern_of_token bytes) then Some Old else None) ≡ false
+          → IsKeyWith P (if t then Some (record { clear = clear_of x bytes; age = Current }) else denoted_or (master_key former) Old bytes None)
+      by_test true has = allows
+      by_test false has = by_old former has
+
+-- the rules of a header behind that of its kind
+abbrev behind_kind : List ℕ → List Check
+behind_kind bytes =
+    check 10 (not (stored_tvv bytes == tvv_of bytes))
+    ∷ check 11 (not (slice_index bytes 4 == 0x00))
+    ∷ check 12 (not (has_flag bytes))
+    ∷ check 13 (not (reserved_is_zero bytes))
+    ∷ []
+
+-- byte 0 of an internal token
+internal_kind : (byte : ℕ) → (byte == 0x01) ≡ true → kind_at byte ≡ Internal
+internal_kind byte is = ap (λ t. if t then Internal else External) is
+
+module _ (s : State) (need : Need) (bytes : List ℕ) (asks : need.asked ≡ asked.Internal) (passes : first_failing (key_checks need (registers_of s.registers) bytes) ≡ None) where
+  token_passes : first_failing (token_checks asked.Internal bytes) ≡ None
+  token_passes =
+      subst (λ (a : Asked). first_failing (token_checks a bytes) ≡ None) asks
+      (none_in_first (token_checks need.asked bytes) (read_checks need (registers_of s.registers) (token_of bytes)) passes)
+
+  is_internal : kind_of bytes ≡ Internal
+  is_internal =
+      let header : first_failing (header_checks asked.Internal bytes) ≡ None =
+      none_in_first (header_checks asked.Internal bytes) (vector_checks (vector_bytes_of bytes) ++ check 16 (not (has_right_half bytes)) ∷ []) token_passes in
+      internal_kind (slice_index bytes 0) (passes_first 9 (slice_index bytes 0 == 0x01) (behind_kind bytes) header)
+
+  reads : first_failing (read_checks need (registers_of s.registers) (token_of bytes)) ≡ None
+  reads = both_pass (token_checks need.asked bytes) (read_checks need (registers_of s.registers) (token_of bytes)) passes
+
+  has_register : is_none (register_with (registers_of s.registers) (pattern_of_token bytes)) ≡ false
+  has_register =
+      let part = check_passes 17 (not need.parts && is_part_of (vector_bytes_of bytes))
+      (pattern_check (registers_of s.registers) (token_of bytes) ∷ vector_use_checks need (vector_bytes_of bytes)) reads in
+      let pattern = check_passes 18 (is_under_none (registers_of s.registers) (kind_of bytes) (pattern_of_token bytes)) (vector_use_checks need (vector_bytes_of bytes)) part.1 in
+      sym (ap (λ (k : Kind). is_under_none (registers_of s.registers) k (pattern_of_token bytes)) is_internal) ∙ pattern.0
+
+  pub token_allows : IsKeyWith (Allows need) (denoted (keys_of s.registers) bytes)
+  unfolding denoted
+  token_allows =
+      subst (IsKeyWith (Allows need))
+      (sym (ap (λ (v : Option ℕ). if is_none v then denoted_or (keys_of s.registers).current Current bytes (denoted_or (keys_of s.registers).former Old bytes None) else None) token_passes))
+      (by_current (Allows need) bytes (by_key_checks need (registers_of s.registers) bytes passes) s.registers.current s.registers.former has_register)
+
+-- a label of whose record the rules ask
+pub label_allows : (s : State) (need : Need) (label : List ℕ) → first_failing (record_checks s label ++ use_checks need (or_no_key (key_of_label s label)).clear.vector) ≡ None
+    → IsKeyWith (Allows need) (key_of_label s label)
+label_allows s need label passes =
+    let whole = none_in_first (record_checks s label) (use_checks need (or_no_key (key_of_label s label)).clear.vector) passes in
+    let well = check_passes 6 (not (is_label label)) (check 7 (is_none (cell_with s label)) ∷ check 8 (is_none (key_of_label s label)) ∷ []) whole in
+    let there = check_passes 7 (is_none (cell_with s label)) (check 8 (is_none (key_of_label s label)) ∷ []) well.1 in
+    let full = check_passes 8 (is_none (key_of_label s label)) [] there.1 in
+    by_key (key_of_label s label) full.0
     (by_use_checks need (or_no_key (key_of_label s label)).clear.vector (both_pass (record_checks s label) (use_checks need (or_no_key (key_of_label s label)).clear.vector) passes))
+  where
+    by_key : (o : Option Denoted) → is_none o ≡ false → Allows need (or_no_key o).clear.vector → IsKeyWith (Allows need) o
+    by_key None some allows = cc some
+    by_key (Some key) some allows = allows
+
+key_allows : (s : State) (need : Need) (text : List ℕ) (named : Option (List ℕ)) → need.asked ≡ asked.Internal
+    → first_failing (key_questions s need named text) ≡ None → IsKeyWith (Allows need) (key_named s named text)
+key_allows s need text None asks passes = token_allows s need (key_bytes text) asks passes
+key_allows s need text (Some label) asks passes = label_allows s need label passes
 
 -- ---- the operands of a permitted request
 
@@ -156,9 +248,63 @@ pub first_passes : (s : State) (o : Operand) (os : List Operand) → first_refus
     → (first_failing (operand_checks s o.text o.ask) ≡ None) × (first_refusal (operand_questions s os) ≡ None)
 first_passes s o os is = refused_none (first_failing (operand_checks s o.text o.ask)) o.name (first_refusal (operand_questions s os)) is
 
+-- each key that the table asks for is an internal one
+abbrev AsksInternal : Ask → Type 0
+AsksInternal (ask.Key need) = need.asked ≡ asked.Internal
+AsksInternal _ = ⊤
+
+first_internal : (form : Form) → (first_transport form).asked ≡ asked.Internal
+first_internal Op = refl
+first_internal Opex = refl
+first_internal Opim = refl
+first_internal Imex = refl
+first_internal Exex = refl
+first_internal Imim = refl
+
+second_internal : (form : Form) → (second_transport form).asked ≡ asked.Internal
+second_internal Op = refl
+second_internal Opex = refl
+second_internal Opim = refl
+second_internal Imex = refl
+second_internal Exex = refl
+second_internal Imim = refl
+
+abbrev AskInternal : Operands → Type 0
+AskInternal os = AsksInternal os.first.ask × AsksInternal os.second.ask × AsksInternal os.third.ask
+
+table_internal : (name : RequestName) (r : Request) → AskInternal (operands_of name r)
+table_internal csnbktp r = (tt, tt, tt)
+table_internal csnbenc r = (refl, tt, tt)
+table_internal csnbenc_first r = (refl, tt, tt)
+table_internal csnbenc_middle r = (refl, tt, tt)
+table_internal csnbenc_last r = (refl, tt, tt)
+table_internal csnbdec r = (refl, tt, tt)
+table_internal csnbdec_first r = (refl, tt, tt)
+table_internal csnbdec_middle r = (refl, tt, tt)
+table_internal csnbdec_last r = (refl, tt, tt)
+table_internal csnbmgn r = (refl, tt, tt)
+table_internal csnbmgn_first r = (refl, tt, tt)
+table_internal csnbmgn_middle r = (refl, tt, tt)
+table_internal csnbmgn_last r = (refl, tt, tt)
+table_internal csnbmvr r = (refl, tt, tt)
+table_internal csnbmvr_first r = (refl, tt, tt)
+table_internal csnbmvr_middle r = (refl, tt, tt)
+table_internal csnbmvr_last r = (refl, tt, tt)
+table_internal csnbkyt r = (refl, tt, tt)
+table_internal csnbkgn_pair r = (second_internal (pair_form_named (value_of r (codes "form"))), tt, tt)
+table_internal csnbkgn_out r =
+    (first_internal (out_form_named (value_of r (codes "form"))), second_internal (out_form_named (value_of r (codes "form"))), tt)
+table_internal csnbkim r = (tt, refl, tt)
+table_internal csnbkex r = (refl, refl, tt)
+table_internal csnbpex r = (refl, tt, tt)
+table_internal csnbkpi_middle r = (refl, tt, tt)
+table_internal csnbktr r = (tt, refl, refl)
+table_internal _ r = (tt, tt, tt)
+
 module _ (s : State) (random : List ℕ) (r : Request) (permits_it : verdict s random r ≡ None) where
+  -- what is asked of the operand is passed, and an internal key is asked for
   Passes : Operand → Type 0
-  Passes o = first_failing (operand_checks s o.text o.ask) ≡ None
+  Passes o = (first_failing (operand_checks s o.text o.ask) ≡ None) × AsksInternal o.ask
 
   one_passes : (o : Operand) → IsOperandOf r o → Passes o
   unfolding Passes
@@ -166,16 +312,18 @@ module _ (s : State) (random : List ℕ) (r : Request) (permits_it : verdict s r
       let one = first_passes s (operands r).first ((operands r).second ∷ (operands r).third ∷ []) (permitted s random r permits_it).operands in
       let two = first_passes s (operands r).second ((operands r).third ∷ []) one.1 in
       let three = first_passes s (operands r).third [] two.1 in
-      ⊎_elim (λ (e : o ≡ (operands r).first). subst Passes (sym e) one.0)
-      (λ (later : (o ≡ (operands r).second) ⊎ (o ≡ (operands r).third)). ⊎_elim (λ (e : o ≡ (operands r).second). subst Passes (sym e) two.0) (λ (e : o ≡ (operands r).third). subst Passes (sym e) three.0) later)
+      let asks = table_internal r.name r in
+      ⊎_elim (λ (e : o ≡ (operands r).first). subst Passes (sym e) (one.0, asks.0))
+      (λ (later : (o ≡ (operands r).second) ⊎ (o ≡ (operands r).third)).
+      ⊎_elim (λ (e : o ≡ (operands r).second). subst Passes (sym e) (two.0, asks.1)) (λ (e : o ≡ (operands r).third). subst Passes (sym e) (three.0, asks.2)) later)
       is
 
-pub operand_allows : (s : State) (random : List ℕ) (r : Request) (o : Operand) (need : Need) (key : Denoted) → verdict s random r ≡ None → IsOperandOf r o → o.ask ≡ ask.Key need
-    → key_in_text s o.text ≡ Some key → Allows need key.clear.vector
+pub operand_allows : (s : State) (random : List ℕ) (r : Request) (o : Operand) (need : Need) → verdict s random r ≡ None → IsOperandOf r o → o.ask ≡ ask.Key need
+    → IsKeyWith (Allows need) (key_in_text s o.text)
 unfolding Passes
-operand_allows s random r o need key permits_it is asks stands =
-    let passes : first_failing (operand_checks s o.text o.ask) ≡ None = one_passes s random r permits_it o is in
-    key_allows s need o.text key (label_named o.text) stands (subst (λ (a : Ask). first_failing (operand_checks s o.text a) ≡ None) asks passes)
+operand_allows s random r o need permits_it is asks =
+    let passes : (first_failing (operand_checks s o.text o.ask) ≡ None) × AsksInternal o.ask = one_passes s random r permits_it o is in
+    key_allows s need o.text (label_named o.text) (subst AsksInternal asks passes.1) (subst (λ (a : Ask). first_failing (operand_checks s o.text a) ≡ None) asks passes.0)
 
 -- ---- verb by verb
 
@@ -183,63 +331,134 @@ operand_allows s random r o need key permits_it is asks stands =
 abbrev pub behind : RequestName → Request → List Operand
 behind name r = (operands_of name r).second ∷ (operands_of name r).third ∷ []
 
-module _ (s : State) (r : Request) (key : Denoted) where
-  -- the first operand, and the second one
-  of_first : (need : Need) (name text : List ℕ) (os : List Operand) → first_refusal (operand_questions s (record { name = name; text = text; ask = ask.Key need } ∷ os)) ≡ None
-      → key_in_text s text ≡ Some key → Allows need key.clear.vector
-  of_first need name text os passes stands =
-      key_allows s need text key (label_named text) stands (first_passes s (record { name = name; text = text; ask = ask.Key need }) os passes).0
+-- a transport key
+carries : (need : Need) (class : Class) (use_of : Usage) (o : Option Denoted) → need ≡ transport_key class use_of → IsKeyWith (Allows need) o → MayCarry class use_of o
+carries need class use_of o is allows =
+    weaker (Allows (transport_key class use_of)) _ o (λ vector a. ((a.class, a.usage use_of refl, a.double refl), a.part refl))
+    (subst (λ (n : Need). IsKeyWith (Allows n) o) is allows)
 
-  of_second : (need : Need) (first : Operand) (name text : List ℕ) (os : List Operand)
-      → first_refusal (operand_questions s (first ∷ record { name = name; text = text; ask = ask.Key need } ∷ os)) ≡ None
-      → key_in_text s text ≡ Some key → Allows need key.clear.vector
-  of_second need first name text os passes stands = of_first need name text os (first_passes s first (record { name = name; text = text; ask = ask.Key need } ∷ os) passes).1 stands
+module _ (s : State) (r : Request) where
+  -- the first operand, and those behind it
+  of_first : (need : Need) (name text : List ℕ) (os : List Operand) → need.asked ≡ asked.Internal
+      → first_refusal (operand_questions s (record { name = name; text = text; ask = ask.Key need } ∷ os)) ≡ None → IsKeyWith (Allows need) (key_in_text s text)
+  of_first need name text os asks passes =
+      key_allows s need text (label_named text) asks (first_passes s (record { name = name; text = text; ask = ask.Key need }) os passes).0
+
+  of_second : (need : Need) (first : Operand) (name text : List ℕ) (os : List Operand) → need.asked ≡ asked.Internal
+      → first_refusal (operand_questions s (first ∷ record { name = name; text = text; ask = ask.Key need } ∷ os)) ≡ None → IsKeyWith (Allows need) (key_in_text s text)
+  of_second need first name text os asks passes =
+      of_first need name text os asks (first_passes s first (record { name = name; text = text; ask = ask.Key need } ∷ os) passes).1
+
+  of_third : (need : Need) (first second : Operand) (name text : List ℕ) → need.asked ≡ asked.Internal
+      → first_refusal (operand_questions s (first ∷ second ∷ record { name = name; text = text; ask = ask.Key need } ∷ [])) ≡ None → IsKeyWith (Allows need) (key_in_text s text)
+  of_third need first second name text asks passes =
+      of_second need second name text [] asks (first_passes s first (second ∷ record { name = name; text = text; ask = ask.Key need } ∷ []) passes).1
 
   -- the operand `key`, alone
   of_text : (use_of : Usage) (classes : List Class) → first_refusal (operand_questions s (listed (key_operand r classes (Some use_of)))) ≡ None
-      → key_in_text s (value_of r (codes "key")) ≡ Some key → (has (classes_of classes) (class_of key.clear.vector) ≡ true) × (permits key.clear.vector use_of ≡ true)
-  of_text use_of classes ops stands =
-      let a = of_first (internal_key classes (Some use_of)) (codes "key") (value_of r (codes "key"))
-      (no_operand ∷ no_operand ∷ []) ops stands in
-      (a.class, a.usage use_of refl)
+      → IsKeyWith (λ vector. (has (classes_of classes) (class_of vector) ≡ true) × (permits vector use_of ≡ true) × IsComplete vector) (key_in_text s (value_of r (codes "key")))
+  of_text use_of classes ops =
+      weaker (Allows (internal_key classes (Some use_of))) _ (key_in_text s (value_of r (codes "key"))) (λ vector a. (a.class, a.usage use_of refl, a.part refl))
+      (of_first (internal_key classes (Some use_of)) (codes "key") (value_of r (codes "key")) (no_operand ∷ no_operand ∷ []) refl ops)
 
-  text_allows : (name : RequestName) → first_refusal (operand_questions s (listed (operands_of name r))) ≡ None → key_in_text s (value_of r (codes "key")) ≡ Some key
-      → MayWork name key.clear.vector
-  text_allows csnbenc ops stands = of_text Encipher (Data ∷ Cipher ∷ []) ops stands
-  text_allows csnbenc_first ops stands = of_text Encipher (Data ∷ Cipher ∷ []) ops stands
-  text_allows csnbenc_middle ops stands = of_text Encipher (Data ∷ Cipher ∷ []) ops stands
-  text_allows csnbenc_last ops stands = of_text Encipher (Data ∷ Cipher ∷ []) ops stands
-  text_allows csnbdec ops stands = of_text Decipher (Data ∷ Cipher ∷ []) ops stands
-  text_allows csnbdec_first ops stands = of_text Decipher (Data ∷ Cipher ∷ []) ops stands
-  text_allows csnbdec_middle ops stands = of_text Decipher (Data ∷ Cipher ∷ []) ops stands
-  text_allows csnbdec_last ops stands = of_text Decipher (Data ∷ Cipher ∷ []) ops stands
-  text_allows csnbmgn ops stands = of_text MacGenerate (Data ∷ Mac ∷ []) ops stands
-  text_allows csnbmgn_first ops stands = of_text MacGenerate (Data ∷ Mac ∷ []) ops stands
-  text_allows csnbmgn_middle ops stands = of_text MacGenerate (Data ∷ Mac ∷ []) ops stands
-  text_allows csnbmgn_last ops stands = of_text MacGenerate (Data ∷ Mac ∷ []) ops stands
-  text_allows csnbmvr ops stands = of_text MacVerify (Data ∷ Mac ∷ []) ops stands
-  text_allows csnbmvr_first ops stands = of_text MacVerify (Data ∷ Mac ∷ []) ops stands
-  text_allows csnbmvr_middle ops stands = of_text MacVerify (Data ∷ Mac ∷ []) ops stands
-  text_allows csnbmvr_last ops stands = of_text MacVerify (Data ∷ Mac ∷ []) ops stands
-  text_allows csnbkex ops stands =
-      let a = of_first exported_key (codes "key") (value_of r (codes "key")) (behind csnbkex r) ops stands in a.export refl
-  text_allows _ ops stands = tt
+  -- a complete key of a known class
+  of_tested : (os : List Operand) → first_refusal (operand_questions s (operand r (codes "key") (ask.Key (internal_key five_classes None)) ∷ os)) ≡ None
+      → IsKeyWith MayTest (key_in_text s (value_of r (codes "key")))
+  of_tested os ops =
+      weaker (Allows (internal_key five_classes None)) MayTest (key_in_text s (value_of r (codes "key"))) (λ vector a. (a.class, a.part refl))
+      (of_first (internal_key five_classes None) (codes "key") (value_of r (codes "key")) os refl ops)
 
-  carry_allows : (name : RequestName) → first_refusal (operand_questions s (listed (operands_of name r))) ≡ None → key_in_text s (value_of r (codes "transport")) ≡ Some key
-      → MayCarry name key.clear.vector
-  carry_allows csnbkex ops stands =
-      let a = of_second (transport_key Exporter Transport) (operands_of csnbkex r).first (codes "transport") (value_of r (codes "transport")) ((operands_of csnbkex r).third ∷ []) ops stands in (a.class, a.usage Transport refl, a.double refl)
-  carry_allows csnbkim ops stands =
-      let a = of_second (transport_key Importer Transport) (operands_of csnbkim r).first (codes "transport") (value_of r (codes "transport")) ((operands_of csnbkim r).third ∷ []) ops stands in (a.class, a.usage Transport refl, a.double refl)
-  carry_allows _ ops stands = tt
+  of_part : (o : Option Denoted) → IsKeyWith (Allows part_key) o → is_part_of (or_no_key o).clear.vector ≡ true → IsKeyWith MayCombine o
+  of_part None allows part = absurd allows
+  of_part (Some key) allows part = (allows.class, part)
 
-pub text_key : (s : State) (random : List ℕ) (r : Request) (key : Denoted) → verdict s random r ≡ None → key_in_text s (value_of r (codes "key")) ≡ Some key
-    → MayWork r.name key.clear.vector
-text_key s random r key permits_it stands = text_allows s r key r.name (permitted s random r permits_it).operands stands
+  pub text_allows : (name : RequestName) → first_refusal (operand_questions s (listed (operands_of name r))) ≡ None → first_refusal (verb_questions s name r) ≡ None
+      → MayWork name (key_in_text s (value_of r (codes "key")))
+  text_allows csnbenc ops verb = of_text Encipher (Data ∷ Cipher ∷ []) ops
+  text_allows csnbenc_first ops verb = of_text Encipher (Data ∷ Cipher ∷ []) ops
+  text_allows csnbenc_middle ops verb = of_text Encipher (Data ∷ Cipher ∷ []) ops
+  text_allows csnbenc_last ops verb = of_text Encipher (Data ∷ Cipher ∷ []) ops
+  text_allows csnbdec ops verb = of_text Decipher (Data ∷ Cipher ∷ []) ops
+  text_allows csnbdec_first ops verb = of_text Decipher (Data ∷ Cipher ∷ []) ops
+  text_allows csnbdec_middle ops verb = of_text Decipher (Data ∷ Cipher ∷ []) ops
+  text_allows csnbdec_last ops verb = of_text Decipher (Data ∷ Cipher ∷ []) ops
+  text_allows csnbmgn ops verb = of_text MacGenerate (Data ∷ Mac ∷ []) ops
+  text_allows csnbmgn_first ops verb = of_text MacGenerate (Data ∷ Mac ∷ []) ops
+  text_allows csnbmgn_middle ops verb = of_text MacGenerate (Data ∷ Mac ∷ []) ops
+  text_allows csnbmgn_last ops verb = of_text MacGenerate (Data ∷ Mac ∷ []) ops
+  text_allows csnbmvr ops verb = of_text MacVerify (Data ∷ Mac ∷ []) ops
+  text_allows csnbmvr_first ops verb = of_text MacVerify (Data ∷ Mac ∷ []) ops
+  text_allows csnbmvr_middle ops verb = of_text MacVerify (Data ∷ Mac ∷ []) ops
+  text_allows csnbmvr_last ops verb = of_text MacVerify (Data ∷ Mac ∷ []) ops
+  text_allows csnbkyt ops verb = of_tested (behind csnbkyt r) ops
+  text_allows csnbkex ops verb =
+      weaker (Allows exported_key) MayExport (key_in_text s (value_of r (codes "key"))) (λ vector a. (a.export refl, a.part refl))
+      (of_first exported_key (codes "key") (value_of r (codes "key")) (behind csnbkex r) refl ops)
+  text_allows csnbpex ops verb = of_tested (behind csnbpex r) ops
+  text_allows csnbkpi_middle ops verb =
+      let length_is = refused_none (first_failing (part_length_checks (key_of_request s r).vector (part_size r))) (codes "part") _ verb in
+      let whole = refused_none (first_failing (whole_key_checks (key_of_request s r).vector)) (codes "key") None length_is.1 in
+      of_part (key_in_text s (value_of r (codes "key"))) (of_first part_key (codes "key") (value_of r (codes "key")) (behind csnbkpi_middle r) refl ops)
+      (not_false (is_part_of (key_of_request s r).vector) (check_passes 35 (not (is_part_of (key_of_request s r).vector)) [] whole.0).0)
+  text_allows _ ops verb = tt
 
-pub carrying_key : (s : State) (random : List ℕ) (r : Request) (key : Denoted) → verdict s random r ≡ None
-    → key_in_text s (value_of r (codes "transport")) ≡ Some key → MayCarry r.name key.clear.vector
-carrying_key s random r key permits_it stands = carry_allows s r key r.name (permitted s random r permits_it).operands stands
+  pub transport_allows : (name : RequestName) → first_refusal (operand_questions s (listed (operands_of name r))) ≡ None
+      → HasTransport name (key_in_text s (value_of r (codes "transport")))
+  transport_allows csnbkex ops =
+      carries (transport_key Exporter Transport) Exporter Transport _ refl
+      (of_second (transport_key Exporter Transport) (operands_of csnbkex r).first (codes "transport") (value_of r (codes "transport")) ((operands_of csnbkex r).third ∷ []) refl ops)
+  transport_allows csnbkim ops =
+      carries (transport_key Importer Transport) Importer Transport _ refl
+      (of_second (transport_key Importer Transport) (operands_of csnbkim r).first (codes "transport") (value_of r (codes "transport")) ((operands_of csnbkim r).third ∷ []) refl ops)
+  transport_allows _ ops = tt
+
+  pub first_allows : (name : RequestName) → first_refusal (operand_questions s (listed (operands_of name r))) ≡ None
+      → HasFirstTransport name (value_of r (codes "form")) (key_in_text s (value_of r (codes "transport1")))
+  first_allows csnbktr ops =
+      carries (transport_key Importer Translate) Importer Translate _ refl
+      (of_second (transport_key Importer Translate) (operands_of csnbktr r).first (codes "transport1") (value_of r (codes "transport1")) ((operands_of csnbktr r).third ∷ []) refl ops)
+  first_allows csnbkgn_out ops =
+      let form : Form = out_form_named (value_of r (codes "form")) in
+      let allows = of_first (first_transport form) (codes "transport1") (value_of r (codes "transport1")) (behind csnbkgn_out r) (first_internal form) ops in (
+        λ (is : value_of r (codes "form") ≡ codes "IMEX"). carries (first_transport form) Importer PairImportExport _ (ap (λ text. first_transport (out_form_named text)) is) allows,
+        λ (is : value_of r (codes "form") ≡ codes "EXEX"). carries (first_transport form) Exporter PairSame _ (ap (λ text. first_transport (out_form_named text)) is) allows,
+        λ (is : value_of r (codes "form") ≡ codes "IMIM"). carries (first_transport form) Importer PairSame _ (ap (λ text. first_transport (out_form_named text)) is) allows,
+      )
+  first_allows _ ops = tt
+
+  pub second_allows : (name : RequestName) → first_refusal (operand_questions s (listed (operands_of name r))) ≡ None
+      → HasSecondTransport name (value_of r (codes "form")) (key_in_text s (value_of r (codes "transport2")))
+  second_allows csnbktr ops =
+      carries (transport_key Exporter Translate) Exporter Translate _ refl
+      (of_third (transport_key Exporter Translate) (operands_of csnbktr r).first (operands_of csnbktr r).second (codes "transport2") (value_of r (codes "transport2")) refl ops)
+  second_allows csnbkgn_pair ops =
+      let form : Form = pair_form_named (value_of r (codes "form")) in
+      let allows = of_first (second_transport form) (codes "transport2") (value_of r (codes "transport2")) (behind csnbkgn_pair r) (second_internal form) ops in (
+        λ (is : value_of r (codes "form") ≡ codes "OPEX"). carries (second_transport form) Exporter PairOperational _ (ap (λ text. second_transport (pair_form_named text)) is) allows,
+        λ (is : value_of r (codes "form") ≡ codes "OPIM"). carries (second_transport form) Importer PairOperational _ (ap (λ text. second_transport (pair_form_named text)) is) allows,
+      )
+  second_allows csnbkgn_out ops =
+      let form : Form = out_form_named (value_of r (codes "form")) in
+      let allows =
+      of_second (second_transport form) (operands_of csnbkgn_out r).first (codes "transport2") (value_of r (codes "transport2")) ((operands_of csnbkgn_out r).third ∷ []) (second_internal form) ops in (
+        λ (is : value_of r (codes "form") ≡ codes "IMEX"). carries (second_transport form) Exporter PairImportExport _ (ap (λ text. second_transport (out_form_named text)) is) allows,
+        λ (is : value_of r (codes "form") ≡ codes "EXEX"). carries (second_transport form) Exporter PairSame _ (ap (λ text. second_transport (out_form_named text)) is) allows,
+        λ (is : value_of r (codes "form") ≡ codes "IMIM"). carries (second_transport form) Importer PairSame _ (ap (λ text. second_transport (out_form_named text)) is) allows,
+      )
+  second_allows _ ops = tt
+
+module _ (s : State) (random : List ℕ) (r : Request) (permits_it : verdict s random r ≡ None) where
+  pub text_key : MayWork r.name (key_in_text s (value_of r (codes "key")))
+  text_key = let p = permitted s random r permits_it in text_allows s r r.name p.operands p.verb
+
+  pub transport_is : HasTransport r.name (key_in_text s (value_of r (codes "transport")))
+  transport_is = transport_allows s r r.name (permitted s random r permits_it).operands
+
+  pub transport1_is : HasFirstTransport r.name (value_of r (codes "form")) (key_in_text s (value_of r (codes "transport1")))
+  transport1_is = first_allows s r r.name (permitted s random r permits_it).operands
+
+  pub transport2_is : HasSecondTransport r.name (value_of r (codes "form")) (key_in_text s (value_of r (codes "transport2")))
+  transport2_is = second_allows s r r.name (permitted s random r permits_it).operands
 
 -- ---- external tokens
 
@@ -279,15 +498,16 @@ internal s drawn csnbkgn_pair r none = cc none
 internal s drawn csnbkgn_out r none = cc none
 internal s drawn _ r none = tt
 
+-- the reply to a request that no rule refuses
+pub effected_internal : (s : State) (drawn : List ℕ) (r : Request) → gives_external r.name ≡ false → ShowsNoExternal (effected s r (effect s drawn r.name r)).reply
+effected_internal s drawn r none =
+    each-append IsInternal (fields_after s (effect s drawn r.name r)) (warning (any_old s (listed (operands r))))
+    (fields_have IsInternal s (effect s drawn r.name r) (internal s drawn r.name r none)) (warning_has IsInternal (any_old s (listed (operands r))))
+
 pub shows_no_external : (s : State) (drawn : List ℕ) (r : Request) → gives_external r.name ≡ false → ShowsNoExternal (performed s drawn r).reply
 unfolding performed
 shows_no_external s drawn r none = by_verdict (verdict s drawn r)
   where
     by_verdict : (v : Option Refusal) → ShowsNoExternal (or_act v s drawn r).reply
     by_verdict (Some refusal) = tt
-    by_verdict None =
-        each-append IsInternal (fields_after s (effect s drawn r.name r)) (warning (any_old s (listed (operands r))))
-        (fields_have IsInternal s (effect s drawn r.name r) (internal s drawn r.name r none)) (warning_has IsInternal (any_old s (listed (operands r))))
-
-pub closed_for_good : (clear : ClearKey) → IsValid clear.vector → ((closed_key clear).key ≡ clear.key) × (is_exportable (closed_key clear).vector ≡ false)
-closed_for_good clear valid = (refl, closing_off clear.vector valid)
+    by_verdict None = effected_internal s drawn r none

@@ -1,6 +1,5 @@
--- Key ceremonies: the access control points of the steps, and what a part says of a master key.
-use Rattle.std.specs.Prelude.{◌≡◌, ℕ, List, codes}
-use Rattle.byte_lists.specs.Bytes.{AreBytes, xor}
+-- Key ceremonies: the access control points of the steps, and the master keys that stay.
+use Rattle.std.specs.Prelude.{◌≡◌, ℕ, codes}
 use Rattle.master_registers.specs.Masters.{Masters}
 use Rattle.cca_machine.specs.Points.{point}
 
@@ -18,9 +17,3 @@ set_point = point (codes "MK_SET")
 pub record SameKeys (before now : Masters) : Type 0 where
   pub current : now.current ≡ before.current
   pub former : now.former ≡ before.former
-
--- with this part and this one alone the other part makes the master key
-pub record IsOnlyOther (part master other : List ℕ) : Type 0 where
-  pub bytes : AreBytes 24 other
-  pub whole : xor other part ≡ master
-  pub only : (p : List ℕ) → AreBytes 24 p → xor p part ≡ master → p ≡ other

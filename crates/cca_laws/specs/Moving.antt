@@ -1,24 +1,28 @@
 -- A store that is moved to another module, and what the other module holds before and after.
-use Rattle.std.specs.Prelude.{◌≡◌, ◌≤◌, ◌+◌, ℕ, ◌&&◌, bit_or, false, is_none, List, [], ◌∷◌, ◌++◌, take, length, filter, codes, None, Some, IsTrue}
+use Rattle.std.specs.Prelude.{◌≡◌, ◌≢◌, ◌≤◌, ◌<◌, ◌+◌, ℕ, ◌&&◌, bit_or, false, is_none, List, [], ◌∷◌, ◌++◌, take, length, filter, get_or, codes, Option, None, Some, IsTrue}
 use Rattle.std.specs.List.{flat_map}
 use Rattle.byte_lists.specs.Names.{IsLabel, IsRoleName}
 use Rattle.cca_roles.specs.Points.{includes}
 use Rattle.cca_roles.specs.Roles.{points_of}
 use Rattle.cca_vectors.specs.Checks.{first_failing}
 use Rattle.cca_vectors.specs.Vectors.{is_part_of}
+use Rattle.cca_vectors.specs.declared.key_class.Class.TheVariants.{Importer}
+use Rattle.cca_vectors.specs.declared.key_usage.Usage.TheVariants.{Transport}
 use Rattle.key_records.specs.Directory.{held_count}
-use Rattle.key_records.specs.Entries.{directory}
+use Rattle.key_records.specs.Entries.{directory, entry}
+use Rattle.key_records.specs.StoreStands.{entry_at}
 use Rattle.key_tokens.specs.Denotes.{Denoted}
 use Rattle.key_transport.specs.Tokens.{as_current}
-use Rattle.verb_script.specs.Grammar.{Request, csnbkex, csnbkim}
+use Rattle.verb_script.specs.Grammar.{Request, csnbkex}
 use Rattle.cca_machine.specs.Keys.{cell_with, key_of_label}
 use Rattle.cca_machine.specs.Points.{point}
 use Rattle.cca_machine.specs.State.{State}
 use Rattle.move_file.specs.Moves.{clear_of, labels_of, move_checks, reason}
 use Rattle.move_file.specs.declared.moves.Move.{Move}
 use Rattle.cca_laws.specs.Disks.{StandFor}
-use Rattle.cca_laws.specs.KeyInParts.{SameRecord, by_label}
-use Rattle.cca_laws.specs.Uses.{MayCarry}
+use Rattle.cca_laws.specs.EachLabel.{SameEntry, entry_of_label}
+use Rattle.cca_laws.specs.KeyInParts.{by_label}
+use Rattle.cca_laws.specs.Uses.{IsTransportKey}
 
 -- the label is held here, and nothing keeps it back
 pub record IsMovedLabel (s : State) (w : Move) (label : List ℕ) : Type 0 where
@@ -62,7 +66,7 @@ pub record Receives (s : State) (w : Move) (t : State) : Type 0 where
   pub transport : Denoted
   pub held : key_of_label t w.transport_there ≡ Some transport
   pub shared : transport.clear.key ≡ (clear_of s w.transport).key
-  pub imports : MayCarry csnbkim transport.clear.vector
+  pub imports : IsTransportKey Importer Transport transport.clear.vector
   pub whole : is_part_of transport.clear.vector ≡ false
   pub points : ℕ
   pub role : points_of w.role_there t.roles ≡ Some points
@@ -71,14 +75,28 @@ pub record Receives (s : State) (w : Move) (t : State) : Type 0 where
 
 -- ---- after
 
--- Each label that is moved holds its key with its control vector under the current master key, and all else is as it was:
--- each other label, the cell of each label that was held, the roles and the registers.
+-- the cells of these that have no label, in ascending order, counted from `at`
+abbrev pub free_cells_from : ℕ → List (Option (List ℕ)) → List ℕ
+free_cells_from at [] = []
+free_cells_from at (None ∷ ls) = at ∷ free_cells_from (at + 1) ls
+free_cells_from at (Some label ∷ ls) = free_cells_from (at + 1) ls
+
+abbrev pub free_cells : State → List ℕ
+free_cells s = free_cells_from 0 (directory s.labels)
+
+-- The entry of a label that is moved is just this: its key with its control vector under the current master key, not
+-- staged, with no unused token. All else is as it was, whole: every other label, the roles and the registers. A label that
+-- was there stays in its cell. Those that weren't take the free cells, both in ascending order. No other cell has an entry.
 pub record IsReceived (s : State) (w : Move) (t after : State) : Type 0 where
   pub moved : (label : List ℕ) → IsMovedLabel s w label
-      → key_of_label after label ≡ Some (as_current (clear_of s label))
-  pub others : (label : List ℕ) → (IsMovedLabel s w label → ⊥) → SameRecord t after label
+      → entry_of_label after label ≡ Some (entry label (Some (as_current (clear_of s label))))
+  pub others : (label : List ℕ) → (IsMovedLabel s w label → ⊥) → SameEntry t after label
   pub cells : (label : List ℕ) (cell : ℕ) → cell_with t label ≡ Some cell
       → cell_with after label ≡ Some cell
+  pub new_cells : (n : ℕ) → n < length (further_labels s w t)
+      → cell_with after (get_or (further_labels s w t) n []) ≡ Some (get_or (free_cells t) n 0)
+  pub empty : (cell : ℕ) → ((label : List ℕ) → cell_with after label ≢ Some cell)
+      → entry_at after.labels cell ≡ None
   pub roles : after.roles ≡ t.roles
   pub registers : after.registers ≡ t.registers
 

@@ -1,13 +1,19 @@
--- The requests that pass a key on, and that none lifts the ban on its export.
-use Rattle.std.specs.Prelude.{◌≡◌, ℕ, false, List, codes, Option, None, Some, option_map}
+-- The requests that pass a key on: the key and its control vector stay, and none lifts the ban on its export.
+use Rattle.std.specs.Prelude.{◌≡◌, ℕ, Bool, true, false, List, codes, Option, None, Some, option_map, if◌then◌else◌}
+use Rattle.std.specs.Str.{bytes_eq}
+use Rattle.byte_lists.specs.Bytes.{xor}
+use Rattle.cca_vectors.specs.Closing.{closed_to_export}
+use Rattle.cca_vectors.specs.PartVectors.{as_part}
 use Rattle.cca_vectors.specs.Permissions.{is_exportable}
-use Rattle.key_tokens.specs.Denotes.{Denoted}
+use Rattle.key_tokens.specs.Denotes.{ClearKey, Denoted, denoted_under}
 use Rattle.key_tokens.specs.Fields.{token_of}
+use Rattle.verb_rules.specs.Keys.{keys_of, master_under}
 use Rattle.verb_script.specs.Grammar.{Request, RequestName, csnbkim, csnbkex, csnbpex, csnbktc, csnbkpi_middle, csnbktr, csnbkrw, csnbkrr, value_of}
 use Rattle.cca_machine.specs.Act.{Outcome}
 use Rattle.cca_machine.specs.Keys.{key_in_text, key_of_label, key_of_token}
 use Rattle.cca_machine.specs.State.{State}
 use Rattle.cca_machine.specs.Verdict.{bytes_in}
+use Rattle.cca_laws.specs.Delivered.{Master, Transport, Under}
 use Rattle.cca_laws.specs.ReplyTokens.{ShowsTokens}
 use Rattle.cca_laws.specs.Targets.{Spares}
 
@@ -40,3 +46,76 @@ pub record StaysUnexportable (r : Request) (o : Outcome) : Type 0 where
   pub shown : ShowsTokens ForbidsExport o.reply
   pub stored : (label : List ℕ) (key : Denoted) → (Spares label r → ⊥)
       → key_of_label o.state label ≡ Some key → is_exportable key.clear.vector ≡ false
+
+-- ---- the same key, with the same control vector
+
+-- the key in the operand of this name
+abbrev pub operand_key : State → Request → List ℕ → Option Denoted
+operand_key s r name = key_in_text s (value_of r name)
+
+abbrev pub clear_of : Option Denoted → Option ClearKey
+clear_of key = option_map (λ k. k.clear) key
+
+-- the key of the external token in the operand `token`, under a transport key
+abbrev pub token_under : Request → Option ClearKey → Option ClearKey
+token_under r None = None
+token_under r (Some transport) = denoted_under transport.key (bytes_in r (codes "token"))
+
+-- CSNBPEX: the same key, whose control vector forbids export
+abbrev pub closed : ClearKey → ClearKey
+closed clear = record clear { vector = closed_to_export clear.vector }
+
+-- CSNBKPI: the key part XOR the part; with LAST the control vector is that of the complete key
+abbrev pub combined : List ℕ → List ℕ → ClearKey → ClearKey
+combined rule part clear = record {
+  key = xor clear.key part;
+  vector = if bytes_eq rule (codes "LAST") then as_part clear.vector else clear.vector;
+}
+
+-- the key that a request passes on, with its control vector; None where it passes on none
+abbrev pub key_passed : State → RequestName → Request → Option ClearKey
+key_passed s csnbkim r = token_under r (clear_of (operand_key s r (codes "transport")))
+key_passed s csnbktr r = token_under r (clear_of (operand_key s r (codes "transport1")))
+key_passed s csnbkex r = clear_of (operand_key s r (codes "key"))
+key_passed s csnbktc r = clear_of (key_of_token s (bytes_in r (codes "token")))
+key_passed s csnbkrr r = clear_of (key_of_label s (value_of r (codes "label")))
+key_passed s csnbpex r = option_map closed (clear_of (operand_key s r (codes "key")))
+key_passed s csnbkpi_middle r =
+    option_map (combined (value_of r (codes "rule")) (bytes_in r (codes "part")))
+    (clear_of (operand_key s r (codes "key")))
+key_passed s _ r = None
+
+-- the request passes a key on to the record in `to`, or to its reply
+abbrev pub passes_to : RequestName → Bool
+passes_to csnbkim = true
+passes_to csnbpex = true
+passes_to csnbkpi_middle = true
+passes_to _ = false
+
+-- it passes a key on to its reply
+abbrev pub passes_out : RequestName → Bool
+passes_out csnbkex = true
+passes_out csnbktr = true
+passes_out csnbktc = true
+passes_out csnbkrr = true
+passes_out _ = false
+
+abbrev pub transport_of : Option Denoted → Under
+transport_of None = Transport (codes "")
+transport_of (Some key) = Transport key.clear.key
+
+abbrev pub register_of : State → Option Denoted → Under
+register_of s None = Master None
+register_of s (Some key) = Master (master_under (keys_of s.registers) key.age)
+
+-- what the token in its reply is under: a transport key of the request, the register that CSNBKTC names, or the one that
+-- the label's key is under
+abbrev pub under : State → RequestName → Request → Under
+under s csnbkex r = transport_of (operand_key s r (codes "transport"))
+under s csnbktr r = transport_of (operand_key s r (codes "transport2"))
+under s csnbktc r =
+    if bytes_eq (value_of r (codes "rule")) (codes "RTCMK")
+    then Master (keys_of s.registers).current
+    else Master (keys_of s.registers).coming
+under s csnbkrr r = register_of s (key_of_label s (value_of r (codes "label")))
+under s _ r = Master None

@@ -2,10 +2,9 @@
 use Rattle.std.specs.Prelude.{◌≡◌, ℕ, List, Option, Some, bit_and, bit_or, codes}
 use Rattle.cca_roles.specs.Roles.{points_of}
 use Rattle.cca_roles.specs.declared.roles.Role.{Role}
-use Rattle.verb_script.specs.Grammar.{Request}
+use Rattle.verb_script.specs.Grammar.{Request, value_of}
 use Rattle.cca_machine.specs.Points.{point}
 use Rattle.cca_machine.specs.State.{State}
-use Rattle.cca_machine.specs.Verdict.{held_points}
 
 -- the point that the role table is changed by
 abbrev pub role_point : ℕ
@@ -23,10 +22,14 @@ label_points =
     bit_or (bit_or (point (codes "KRC")) (point (codes "KRW")))
     (bit_or (bit_or (point (codes "KRD")) (point (codes "REENC"))) (point (codes "MK_SET")))
 
--- the role of the request isn't held, or has none of these points
+-- the points that the role table gives the role of a request, where it has that role
+abbrev pub points_in_table : State → Request → Option ℕ
+points_in_table s request = points_of (value_of request (codes "role")) s.roles
+
+-- the role table hasn't the role of the request, or gives it none of these points
 abbrev pub HoldsNone : ℕ → State → Request → Type 0
 HoldsNone points s request =
-    (held : ℕ) → held_points s request ≡ Some held → bit_and held points ≡ 0
+    (held : ℕ) → points_in_table s request ≡ Some held → bit_and held points ≡ 0
 
 -- no role of the table has any of these points
 abbrev pub NobodyHolds : ℕ → List (Option Role) → Type 0

@@ -1,5 +1,5 @@
 -- The key tokens in a reply.
-use Rattle.std.specs.Prelude.{ℕ, Bool, true, false, List, [], ◌∷◌, ⊤, codes, take}
+use Rattle.std.specs.Prelude.{ℕ, Bool, true, false, List, [], ◌∷◌, ⊤, codes, take, Option, None, Some, if◌then◌else◌}
 use Rattle.std.specs.Str.{bytes_eq}
 use Rattle.script_buffers.specs.Replies.{Field, Hex, Text, Number, Reply, Refused, Done}
 
@@ -23,3 +23,17 @@ EachToken P (Number name value ∷ fields) = EachToken P fields
 abbrev pub ShowsTokens : (List ℕ → Type 0) → Reply → Type 0
 ShowsTokens P (Refused rule operand) = ⊤
 ShowsTokens P (Done fields) = EachToken P fields
+
+-- ---- a field by its name
+
+abbrev pub field_among : List ℕ → List Field → Option (List ℕ)
+field_among name [] = None
+field_among name (Hex other bytes ∷ fields) =
+    if bytes_eq other name then Some bytes else field_among name fields
+field_among name (Text other bytes ∷ fields) = field_among name fields
+field_among name (Number other value ∷ fields) = field_among name fields
+
+-- the bytes that the reply has in the field of this name
+abbrev pub field_in : List ℕ → Reply → Option (List ℕ)
+field_in name (Refused rule operand) = None
+field_in name (Done fields) = field_among name fields

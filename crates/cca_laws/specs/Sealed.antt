@@ -1,11 +1,18 @@
--- A store at rest, after lines that began with a blank one.
+-- A sealed store: what it is over some states, and what lines leave of a store at rest.
 use Rattle.std.specs.Prelude.{◌≡◌, ◌⊎◌, ◌<◌, ◌*◌, ℕ, List, [], ◌∷◌, Contains, Option, None, Some, length, slice_index}
+use Rattle.cca_vectors.specs.Checks.{first_failing}
+use Rattle.cca_vectors.specs.Vectors.{IsValid}
 use Rattle.slot_disk.specs.Cells.{body, body_at, other_body}
 use Rattle.slot_disk.specs.SpareBytes.{IsSpare, SameSpare, SameCell}
 use Rattle.key_records.specs.Entries.{Entry}
+use Rattle.key_records.specs.Labels.{IsLabel}
+use Rattle.key_records.specs.StoreStands.{entry_at}
 use Rattle.key_records.specs.Written.{register_of, token_bytes, written_body}
-use Rattle.key_tokens.specs.Denotes.{ClearKey}
+use Rattle.key_tokens.specs.Denotes.{ClearKey, Denoted}
+use Rattle.key_tokens.specs.TokenChecks.{token_checks}
 use Rattle.key_tokens.specs.declared.key_token.Age.{Age}
+use Rattle.key_tokens.specs.declared.key_token.Asked.TheVariants.{Internal}
+use Rattle.multi_encipher.specs.Seals.{IsKey}
 use Rattle.verb_rules.specs.Keys.{keys_of}
 use Rattle.cca_machine.specs.Lines.{line_outcome}
 use Rattle.cca_machine.specs.State.{State, IsStoreOf, store_size}
@@ -40,30 +47,40 @@ pub record IsAtRest (states : List State) (old new : List ℕ) : Type 0 where
   pub each : (n : ℕ) → n < 1024 → SameCell n old new
       ⊎ ((slice_index new (1536 * n) < 2) × WasSelected states n (other_body new n))
 
--- the token is that of some key, enciphered under the current or the old master key of one of the states
+-- The token is that of some key, enciphered under the current or the old master key of one of the
+-- states. It breaks no rule of an internal token, so its control vector is valid.
 pub record IsSealedToken (states : List State) (bytes : List ℕ) : Type 0 where
   pub state : State
   pub among : Contains states state
   pub age : Age
   pub clear : ClearKey
   pub is : bytes ≡ token_bytes (register_of (keys_of state.registers) age) clear
+  pub sound : first_failing (token_checks Internal bytes) ≡ None
 
 abbrev pub unused_in : Option Entry → Option (List ℕ)
 unused_in None = None
 unused_in (Some e) = e.unused
 
--- The body is blank, or that of a label's record in one of the states: null, or with the label's
--- key enciphered under a master key of that state. A token that is no longer used is one of an
--- earlier state.
-pub record IsSealedBody (states : List State) (bytes : List ℕ) : Type 0 where
+-- the label is a label, and a key that it has is of the length that its valid control vector says
+pub record IsProper (e : Entry) : Type 0 where
+  pub label : IsLabel e.label
+  pub key : (key : Denoted) → e.what ≡ Some key → IsKey key.clear.vector key.clear.key
+  pub vector : (key : Denoted) → e.what ≡ Some key → IsValid key.clear.vector
+
+-- The copy in cell n is that of what one of the states has in this cell. It is blank, where that is no label; or the key
+-- record of the label: null, or with the label's key enciphered under a master key of that state. A token that the record
+-- no longer uses is sealed too.
+pub record IsSealedBody (states : List State) (n : ℕ) (bytes : List ℕ) : Type 0 where
   pub state : State
   pub among : Contains states state
-  pub entry : Option Entry
-  pub is : bytes ≡ written_body (keys_of state.registers) entry
-  pub unused : (token : List ℕ) → unused_in entry ≡ Some token → IsSealedToken states token
+  pub is : bytes ≡ written_body (keys_of state.registers) (entry_at state.labels n)
+  pub proper : (e : Entry) → entry_at state.labels n ≡ Some e → IsProper e
+  pub unused : (token : List ℕ) → unused_in (entry_at state.labels n) ≡ Some token
+      → IsSealedToken states token
 
--- each selector is 0 or 1, both bodies of each cell are sealed, and every other byte is zero
+-- each selector is 0 or 1, both copies in each cell are sealed, and every other byte is zero
 pub record IsSealed (states : List State) (image : List ℕ) : Type 0 where
   pub selectors : (n : ℕ) → n < 1024 → slice_index image (1536 * n) < 2
-  pub bodies : (n side : ℕ) → n < 1024 → side < 2 → IsSealedBody states (body_at image n side)
+  pub bodies : (n side : ℕ) → n < 1024 → side < 2
+      → IsSealedBody states n (body_at image n side)
   pub others : (k : ℕ) → IsSpare k → slice_index image k ≡ 0

@@ -1,16 +1,17 @@
 -- What a key may be used for, by its control vector.
-use Rattle.std.specs.Prelude.{◌≡◌, ◌≢◌, ◌⊎◌, ℕ, Bool, true, false, List, [], ◌∷◌, Some, ⊤, slice_index}
+use Rattle.std.specs.Prelude.{◌≡◌, ◌≢◌, ◌⊎◌, ℕ, Bool, true, false, List, [], ◌∷◌, Option, None, Some, ⊤, codes, slice_index}
 use Rattle.cca_vectors.specs.Classes.{class_of}
 use Rattle.cca_vectors.specs.Permissions.{is_exportable, permits}
 use Rattle.cca_vectors.specs.Vectors.{is_part_of, length_of}
 use Rattle.cca_vectors.specs.declared.key_class.Class.{Class}
 use Rattle.cca_vectors.specs.declared.key_class.Class.TheVariants.{Data, Cipher, Mac, Exporter, Importer}
 use Rattle.cca_vectors.specs.declared.key_usage.Usage.{Usage}
-use Rattle.cca_vectors.specs.declared.key_usage.Usage.TheVariants.{Encipher, Decipher, MacGenerate, MacVerify, Transport}
+use Rattle.cca_vectors.specs.declared.key_usage.Usage.TheVariants.{Encipher, Decipher, MacGenerate, MacVerify, Transport, Translate, PairOperational, PairImportExport, PairSame}
+use Rattle.key_tokens.specs.Denotes.{Denoted}
 use Rattle.script_buffers.specs.Replies.{Reply}
 use Rattle.verb_rules.specs.Classes.{classes_of, has}
 use Rattle.verb_rules.specs.declared.needs.Need.{Need}
-use Rattle.verb_script.specs.Grammar.{Request, RequestName, csnbenc, csnbenc_first, csnbenc_middle, csnbenc_last, csnbdec, csnbdec_first, csnbdec_middle, csnbdec_last, csnbmgn, csnbmgn_first, csnbmgn_middle, csnbmgn_last, csnbmvr, csnbmvr_first, csnbmvr_middle, csnbmvr_last, csnbkgn_pair, csnbkgn_out, csnbkim, csnbkex, csnbktr}
+use Rattle.verb_script.specs.Grammar.{Request, RequestName, csnbenc, csnbenc_first, csnbenc_middle, csnbenc_last, csnbdec, csnbdec_first, csnbdec_middle, csnbdec_last, csnbmgn, csnbmgn_first, csnbmgn_middle, csnbmgn_last, csnbmvr, csnbmvr_first, csnbmvr_middle, csnbmvr_last, csnbkyt, csnbkgn_pair, csnbkgn_out, csnbkim, csnbkex, csnbpex, csnbkpi_middle, csnbktr}
 use Rattle.cca_machine.specs.Operands.{Operand, operands}
 use Rattle.cca_laws.specs.ReplyTokens.{ShowsTokens}
 
@@ -28,52 +29,113 @@ pub record Allows (need : Need) (vector : List ℕ) : Type 0 where
 abbrev pub IsOperandOf : Request → Operand → Type 0
 IsOperandOf r o = (o ≡ (operands r).first) ⊎ ((o ≡ (operands r).second) ⊎ (o ≡ (operands r).third))
 
+-- there is a key, and P holds of its control vector
+abbrev pub IsKeyWith : (List ℕ → Type 0) → Option Denoted → Type 0
+IsKeyWith P None = ⊥
+IsKeyWith P (Some key) = P key.clear.vector
+
 -- ---- verb by verb
 
 -- the key is of one of these classes
 abbrev pub IsOf : List Class → List ℕ → Type 0
 IsOf classes vector = has (classes_of classes) (class_of vector) ≡ true
 
+-- the key is no key part
+abbrev pub IsComplete : List ℕ → Type 0
+IsComplete vector = is_part_of vector ≡ false
+
 abbrev pub MayEncipher : List ℕ → Type 0
-MayEncipher vector = IsOf (Data ∷ Cipher ∷ []) vector × (permits vector Encipher ≡ true)
+MayEncipher vector =
+    IsOf (Data ∷ Cipher ∷ []) vector × (permits vector Encipher ≡ true) × IsComplete vector
 
 abbrev pub MayDecipher : List ℕ → Type 0
-MayDecipher vector = IsOf (Data ∷ Cipher ∷ []) vector × (permits vector Decipher ≡ true)
+MayDecipher vector =
+    IsOf (Data ∷ Cipher ∷ []) vector × (permits vector Decipher ≡ true) × IsComplete vector
 
 abbrev pub MayGenerate : List ℕ → Type 0
-MayGenerate vector = IsOf (Data ∷ Mac ∷ []) vector × (permits vector MacGenerate ≡ true)
+MayGenerate vector =
+    IsOf (Data ∷ Mac ∷ []) vector × (permits vector MacGenerate ≡ true) × IsComplete vector
 
 abbrev pub MayVerify : List ℕ → Type 0
-MayVerify vector = IsOf (Data ∷ Mac ∷ []) vector × (permits vector MacVerify ≡ true)
+MayVerify vector =
+    IsOf (Data ∷ Mac ∷ []) vector × (permits vector MacVerify ≡ true) × IsComplete vector
 
--- what the control vector of the operand `key` says, also where a text comes in segments
-abbrev pub MayWork : RequestName → List ℕ → Type 0
-MayWork csnbenc vector = MayEncipher vector
-MayWork csnbenc_first vector = MayEncipher vector
-MayWork csnbenc_middle vector = MayEncipher vector
-MayWork csnbenc_last vector = MayEncipher vector
-MayWork csnbdec vector = MayDecipher vector
-MayWork csnbdec_first vector = MayDecipher vector
-MayWork csnbdec_middle vector = MayDecipher vector
-MayWork csnbdec_last vector = MayDecipher vector
-MayWork csnbmgn vector = MayGenerate vector
-MayWork csnbmgn_first vector = MayGenerate vector
-MayWork csnbmgn_middle vector = MayGenerate vector
-MayWork csnbmgn_last vector = MayGenerate vector
-MayWork csnbmvr vector = MayVerify vector
-MayWork csnbmvr_first vector = MayVerify vector
-MayWork csnbmvr_middle vector = MayVerify vector
-MayWork csnbmvr_last vector = MayVerify vector
-MayWork csnbkex vector = is_exportable vector ≡ true
-MayWork _ vector = ⊤
+-- every class but OTHER
+abbrev pub known_classes : List Class
+known_classes = Data ∷ Cipher ∷ Mac ∷ Exporter ∷ Importer ∷ []
 
--- what the control vector of the operand `transport` says
-abbrev pub MayCarry : RequestName → List ℕ → Type 0
-MayCarry csnbkex vector =
-    IsOf (Exporter ∷ []) vector × (permits vector Transport ≡ true) × (length_of vector ≢ 8)
-MayCarry csnbkim vector =
-    IsOf (Importer ∷ []) vector × (permits vector Transport ≡ true) × (length_of vector ≢ 8)
-MayCarry _ vector = ⊤
+-- of a key whose key check value is shown, or whose export is prohibited
+abbrev pub MayTest : List ℕ → Type 0
+MayTest vector = IsOf known_classes vector × IsComplete vector
+
+abbrev pub MayExport : List ℕ → Type 0
+MayExport vector = (is_exportable vector ≡ true) × IsComplete vector
+
+-- of a key part that a further part is combined with
+abbrev pub MayCombine : List ℕ → Type 0
+MayCombine vector = IsOf known_classes vector × (is_part_of vector ≡ true)
+
+-- the operand `key` represents a key, and what its control vector says, also in segments
+abbrev pub MayWork : RequestName → Option Denoted → Type 0
+MayWork csnbenc key = IsKeyWith MayEncipher key
+MayWork csnbenc_first key = IsKeyWith MayEncipher key
+MayWork csnbenc_middle key = IsKeyWith MayEncipher key
+MayWork csnbenc_last key = IsKeyWith MayEncipher key
+MayWork csnbdec key = IsKeyWith MayDecipher key
+MayWork csnbdec_first key = IsKeyWith MayDecipher key
+MayWork csnbdec_middle key = IsKeyWith MayDecipher key
+MayWork csnbdec_last key = IsKeyWith MayDecipher key
+MayWork csnbmgn key = IsKeyWith MayGenerate key
+MayWork csnbmgn_first key = IsKeyWith MayGenerate key
+MayWork csnbmgn_middle key = IsKeyWith MayGenerate key
+MayWork csnbmgn_last key = IsKeyWith MayGenerate key
+MayWork csnbmvr key = IsKeyWith MayVerify key
+MayWork csnbmvr_first key = IsKeyWith MayVerify key
+MayWork csnbmvr_middle key = IsKeyWith MayVerify key
+MayWork csnbmvr_last key = IsKeyWith MayVerify key
+MayWork csnbkyt key = IsKeyWith MayTest key
+MayWork csnbkex key = IsKeyWith MayExport key
+MayWork csnbpex key = IsKeyWith MayTest key
+MayWork csnbkpi_middle key = IsKeyWith MayCombine key
+MayWork _ key = ⊤
+
+-- ---- transport keys
+
+-- a double-length key of this class that permits this use
+abbrev pub IsTransportKey : Class → Usage → List ℕ → Type 0
+IsTransportKey class use_of vector =
+    IsOf (class ∷ []) vector × (permits vector use_of ≡ true) × (length_of vector ≢ 8)
+
+abbrev pub MayCarry : Class → Usage → Option Denoted → Type 0
+MayCarry class use_of key =
+    IsKeyWith (λ vector. IsTransportKey class use_of vector × IsComplete vector) key
+
+-- the operand `transport` represents a transport key
+abbrev pub HasTransport : RequestName → Option Denoted → Type 0
+HasTransport csnbkex key = MayCarry Exporter Transport key
+HasTransport csnbkim key = MayCarry Importer Transport key
+HasTransport _ key = ⊤
+
+-- the operand `transport1` does, by the form of a pair
+abbrev pub HasFirstTransport : RequestName → List ℕ → Option Denoted → Type 0
+HasFirstTransport csnbktr form key = MayCarry Importer Translate key
+HasFirstTransport csnbkgn_out form key =
+    (form ≡ codes "IMEX" → MayCarry Importer PairImportExport key)
+    × (form ≡ codes "EXEX" → MayCarry Exporter PairSame key)
+    × (form ≡ codes "IMIM" → MayCarry Importer PairSame key)
+HasFirstTransport _ form key = ⊤
+
+-- the operand `transport2` does
+abbrev pub HasSecondTransport : RequestName → List ℕ → Option Denoted → Type 0
+HasSecondTransport csnbktr form key = MayCarry Exporter Translate key
+HasSecondTransport csnbkgn_pair form key =
+    (form ≡ codes "OPEX" → MayCarry Exporter PairOperational key)
+    × (form ≡ codes "OPIM" → MayCarry Importer PairOperational key)
+HasSecondTransport csnbkgn_out form key =
+    (form ≡ codes "IMEX" → MayCarry Exporter PairImportExport key)
+    × (form ≡ codes "EXEX" → MayCarry Exporter PairSame key)
+    × (form ≡ codes "IMIM" → MayCarry Importer PairSame key)
+HasSecondTransport _ form key = ⊤
 
 -- ---- external tokens
 

@@ -1,29 +1,48 @@
 //! Labels are apart.
 
-ghost use Rattle.std.specs.Prelude.{◌≡◌, ◌≢◌, ℕ, List, Option, None, Some, codes, false};
+ghost use Rattle.std.specs.Prelude.{◌≡◌, ◌≢◌, ℕ, Bool, List, Option, None, Some, codes, false};
 ghost use Rattle.cca_machine.specs.Act.{performed};
-ghost use Rattle.cca_machine.specs.Keys.{cell_with, key_of_label};
+ghost use Rattle.cca_machine.specs.Keys.{cell_with};
 ghost use Rattle.cca_machine.specs.Operands.{listed, operands};
-ghost use Rattle.cca_machine.specs.State.{State};
+ghost use Rattle.cca_machine.specs.State.{State, IsStoreOf};
+ghost use Rattle.cca_machine.specs.Verdict.{verdict};
 ghost use Rattle.key_records.specs.Ages.{any_ahead_entry};
 ghost use Rattle.key_records.specs.Entries.{Entry};
-ghost use Rattle.verb_script.specs.Grammar.{Request, csnbkrc, csnbmkp_clear, value_of};
+ghost use Rattle.verb_script.specs.Grammar.{Request, csnbkrc, csnbmkp_clear, csnbmkp_set, reencipher, reencipher_drop, value_of};
+ghost use Rattle.cca_laws.specs.EachLabel.{IsRenewed, IsTurnedBySet, SameButMark, SameEntry, changes_each, mark_of};
 ghost use Rattle.cca_laws.specs.NamedLabels.{SameNamed, is_of_store};
-ghost use Rattle.cca_laws.specs.Targets.{Spares, changes_ages, clear_of_label};
+ghost use Rattle.cca_laws.specs.Prepared.{is_ahead_label};
+ghost use Rattle.cca_laws.specs.Targets.{Spares, clear_of_label};
 
 /// A request changes no label but the one that it is given to create, write or delete: any other keeps its cell and its
-/// key with the control vector, and but for SET and REENCIPHER without an action the master key that it is under too. The
-/// reply to a request depends on the labels that it names, and on no other; those to CSNBKRC, CSNBKRL, CLEAR, SET and
-/// REENCIPHER with and without an action aside. The reply to CLEAR depends on whether a label is ahead, and on nothing else
+/// key with the control vector. But for SET and REENCIPHER with and without an action, any other keeps its whole entry: the
+/// master key that its key is under, and whether it is staged, too. AHEAD and DROP change whether labels are staged, and
+/// nothing else of them, but that a token that was no longer used is gone; after DROP no label is staged. After SET none is
+/// either, and a key is under the current master key where its label was staged, and else under the old one. REENCIPHER
+/// without an action brings each key under the current master key, and leaves every other label as it was.
+///
+/// The reply to a request depends on the labels that it names, and on no other; those to CSNBKRC, CSNBKRL, CLEAR, SET and
+/// REENCIPHER with and without an action aside. The reply to CLEAR depends on whether a label is staged, and on nothing else
 /// of the labels.
 pub fn labels_are_apart()
     ensures others { (s : State) (drawn label : List ℕ) (r : Request) (cell : ℕ)
         → Spares label r → cell_with s label ≡ Some cell
         → (cell_with (performed s drawn r).state label ≡ Some cell)
         × (clear_of_label (performed s drawn r).state label ≡ clear_of_label s label) }
-    ensures ages { (s : State) (drawn label : List ℕ) (r : Request) (cell : ℕ)
-        → Spares label r → cell_with s label ≡ Some cell → changes_ages r.name ≡ false
-        → key_of_label (performed s drawn r).state label ≡ key_of_label s label }
+    ensures whole { (s : State) (drawn label : List ℕ) (r : Request) (cell : ℕ)
+        → Spares label r → cell_with s label ≡ Some cell → changes_each r.name ≡ false
+        → SameEntry s (performed s drawn r).state label }
+    ensures marks { (s : State) (drawn label : List ℕ) (r : Request) (ahead : Bool)
+        → mark_of r.name ≡ Some ahead → SameButMark ahead s (performed s drawn r).state label }
+    ensures dropped { (s : State) (image drawn label : List ℕ) (r : Request) → IsStoreOf s image
+        → r.name ≡ reencipher_drop → verdict s drawn r ≡ None
+        → is_ahead_label (performed s drawn r).state label ≡ false }
+    ensures set { (s : State) (drawn label : List ℕ) (r : Request)
+        → r.name ≡ csnbmkp_set → verdict s drawn r ≡ None
+        → IsTurnedBySet s (performed s drawn r).state label }
+    ensures renewed { (s : State) (image drawn label : List ℕ) (r : Request) → IsStoreOf s image
+        → r.name ≡ reencipher → verdict s drawn r ≡ None
+        → IsRenewed s (performed s drawn r).state label }
     ensures created { (s : State) (drawn label : List ℕ) (r : Request)
         → cell_with s label ≡ None → (r.name ≡ csnbkrc → value_of r (codes "label") ≢ label)
         → cell_with (performed s drawn r).state label ≡ None }

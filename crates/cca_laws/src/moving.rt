@@ -17,11 +17,12 @@ ghost use Rattle.move_file.specs.Moves.{move_file, moving_requests, token_of_lab
 ghost use Rattle.move_file.specs.declared.moves.Move.{Move};
 
 /// The request file that `cca unload` writes, carried out at another module that shares the transport key and has room,
-/// leaves each label that is moved with its key and its control vector, under the current master key there, and all else
-/// as it was. However often a session over some first lines of the file came before, the session over the whole file
-/// leaves the same state: cells too. Together with what a run that is stopped leaves, that covers a move that is
-/// interrupted anywhere. The lines that the file has are these requests. A label is kept back by the very rule with which
-/// CSNBKEX refuses its key, and the token of one that is moved is that which CSNBKEX gives.
+/// leaves each label that is moved with its key and its control vector, under the current master key there, not staged and
+/// with no unused token, in the cell that it had or in the lowest free one in order; and all else as it was, whole. However
+/// often a session over some first lines of the file came before, the session over the whole file leaves the same state:
+/// cells too. Together with what a run that is stopped leaves, that covers a move that is interrupted anywhere. The lines
+/// that the file has are these requests. A label is kept back by the very rule with which CSNBKEX refuses its key, and the
+/// token of one that is moved is that which CSNBKEX gives.
 pub fn a_store_is_moved()
     ensures received { (s t : State) (w : Move) (random : List ℕ) → IsPermittedMove s w
         → Receives s w t → IsReceived s w t (state_after t random (moving_requests s w)) }

@@ -16,7 +16,7 @@ ghost use Rattle.verb_script.specs.Grammar.{Request};
 ghost use Rattle.cca_laws.specs.KeyInParts.{AsksWhole, BroughtIn, IsReached, SameRecord, parts_of, size_of};
 
 /// Where CSNBKPI FIRST, MIDDLE for each part between, and LAST are carried out under one label, each by some role, the
-/// label has the exclusive or of all parts with the default control vector of the type, under the current master key;
+/// label has the XOR of all parts with the default control vector of the type, under the current master key;
 /// and no other label, no role and no register has changed. All parts have one length, which the type has. Before LAST
 /// the key of the label is a part, and rule 17 refuses it wherever a whole key is asked for.
 pub fn a_key_from_its_parts()

@@ -6,3 +6,4 @@ pub mod LineLaws
 mod PairLaws
 pub mod RankLemmas
 pub mod RerunLaws
+mod TableLaws

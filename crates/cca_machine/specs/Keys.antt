@@ -1,10 +1,10 @@
 -- The keys that the tokens and the labels of a request stand for.
 use Rattle.std.specs.Prelude.{ℕ, Bool, false, true, List, [], ◌∷◌, drop, codes, Option, Some, None, ◌||◌}
-use Rattle.key_tokens.specs.declared.key_token.Age.{Age}
-use Rattle.key_tokens.specs.declared.key_token.Age.TheVariants.{Current, Old}
+use Rattle.key_tokens.specs.declared.key_token.Age.TheVariants.{Current}
 use Rattle.key_tokens.specs.Denotes.{ClearKey, Denoted, denoted, denoted_under}
 use Rattle.key_records.specs.Directory.{cell_of}
 use Rattle.key_records.specs.Entries.{Entry, directory}
+pub use Rattle.key_records.specs.Ages.{is_old as is_old_age, has_old_key as is_old}
 pub use Rattle.key_records.specs.Entries.{what_in}
 use Rattle.key_records.specs.StoreStands.{entry_at}
 use Rattle.script_buffers.specs.Replies.{Field, Text}
@@ -66,14 +66,6 @@ abbrev pub key_of_request : State → Request → ClearKey
 key_of_request s request = (or_no_key (key_in_text s (value_of request (codes "key")))).clear
 
 -- ---- the warning
-
-abbrev pub is_old_age : Age → Bool
-is_old_age Current = false
-is_old_age Old = true
-
-abbrev pub is_old : Option Denoted → Bool
-is_old None = false
-is_old (Some d) = is_old_age d.age
 
 -- the operand is a key under the old master key
 abbrev pub is_old_operand : State → List ℕ → Ask → Bool

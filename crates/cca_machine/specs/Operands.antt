@@ -83,17 +83,28 @@ external_key = record {
   parts = false;
 }
 
--- the transport keys of two keys that are generated together, by the form
+-- a key of no class, which no key is
+abbrev pub no_transport : Need
+no_transport = record {
+  asked = Internal;
+  classes = classes_of [];
+  usage = None;
+  export = false;
+  double = true;
+  parts = false;
+}
+
+-- The transport keys of two keys that are generated together, by the form. A form whose token is an internal one has none.
 abbrev pub first_transport : Form → Need
-first_transport Op = transport_key Importer PairImportExport
-first_transport Opex = transport_key Importer PairImportExport
-first_transport Opim = transport_key Importer PairImportExport
+first_transport Op = no_transport
+first_transport Opex = no_transport
+first_transport Opim = no_transport
 first_transport Imex = transport_key Importer PairImportExport
 first_transport Exex = transport_key Exporter PairSame
 first_transport Imim = transport_key Importer PairSame
 
 abbrev pub second_transport : Form → Need
-second_transport Op = transport_key Exporter PairOperational
+second_transport Op = no_transport
 second_transport Opex = transport_key Exporter PairOperational
 second_transport Opim = transport_key Importer PairOperational
 second_transport Imex = transport_key Exporter PairImportExport

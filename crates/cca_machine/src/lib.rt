@@ -29,9 +29,11 @@ ghost use Rattle.cca_machine.specs.WorkedTokens.{TokensAnswered, worked_tokens};
 
 mod asking;
 mod pairs;
+mod tables;
 
 pub use asking::Ask;
 pub use pairs::a_pair_stands_for_one_state;
+pub use tables::{forms_of_requests_have_transport_keys, requests_need_points_of_the_table};
 
 /// The machine gives the replies that are known from outside: the definitions compute them.
 pub fn worked_key_tokens()

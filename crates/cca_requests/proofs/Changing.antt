@@ -134,10 +134,11 @@ module _ {A : Type 0} (medium : A → Medium) (faults : A → ℕ) (old new : A)
 
   -- what an action leaves
   pub left_as : (r : Result Registers RegisterFault) (reply : List ℕ) → ChangesModule m next (medium old) (medium new) r → WhenRefused r (new ≡ old)
-      → (r ≡ Err DiskFault → Rose (faults old) (faults new)) → OnErr (change_stop r) (reply ≡ [])
+      → (r ≡ Err DiskFault → Rose (faults old) (faults new)) → ((r ≡ Err DiskFault → ⊥) → faults new ≡ faults old)
+      → OnErr (change_stop r) (reply ≡ [])
       → LeavesModule (medium old) (medium new) (faults old) (faults new) (change_stop r) reply roles roles
-  left_as (Ok now) reply changes untouched cause silent = record {
-    disk = record { size = changes.either.size; still = changes.either.still; settled = λ ok. changes.settled; later = later; fault = λ is. cc is };
+  left_as (Ok now) reply changes untouched cause quiet silent = record {
+    disk = record { size = changes.either.size; still = changes.either.still; settled = λ ok. changes.settled; later = later; fault = λ is. cc is; quiet = λ none. quiet (λ is. cc is) };
     told = told_before (HoldsEither m next) (medium old) (medium new) changes.either;
     turned = becomes_turned 0 33 (medium old) (medium new) (registers_body next) changes.replaced;
     sound = sound (medium new) next roles changes.stands
@@ -147,8 +148,8 @@ module _ {A : Type 0} (medium : A → Medium) (faults : A → ℕ) (old new : A)
     memory = tt;
     stops = tt;
   }
-  left_as (Err DiskFault) reply changes untouched cause silent = record {
-    disk = record { size = changes.either.size; still = changes.either.still; settled = λ ok. absurd (cc ok); later = later; fault = λ is. cause refl };
+  left_as (Err DiskFault) reply changes untouched cause quiet silent = record {
+    disk = record { size = changes.either.size; still = changes.either.still; settled = λ ok. absurd (cc ok); later = later; fault = λ is. cause refl; quiet = λ none. absurd (none refl) };
     told = told_before (HoldsEither m next) (medium old) (medium new) changes.either;
     turned = tt;
     sound = tt;
@@ -156,5 +157,5 @@ module _ {A : Type 0} (medium : A → Medium) (faults : A → ℕ) (old new : A)
     memory = refl;
     stops = refl;
   }
-  left_as (Err RegisterState) reply changes untouched cause silent = refused_left reply untouched
-  left_as (Err SamePattern) reply changes untouched cause silent = refused_left reply untouched
+  left_as (Err RegisterState) reply changes untouched cause quiet silent = refused_left reply untouched
+  left_as (Err SamePattern) reply changes untouched cause quiet silent = refused_left reply untouched

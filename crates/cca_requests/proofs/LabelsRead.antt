@@ -202,6 +202,14 @@ target_asked s bench text label (answer.Granted grant) named says = (
   (says.1.0 ∙ ap (target_cell s) (sym named), says.1.1),
 )
 
+pub key_by_label : (s : State) (bench : Bench) (text label : List ℕ) (need : Need) (a : Answer) → label_named text ≡ Some label → IsLabelAsked s bench need label a
+    → IsAsked s bench text (Key need) a
+key_by_label s bench text label need (answer.Refused _) named says = ap (λ (o : Option (List ℕ)). first_failing (key_questions s need o text)) named ∙ says
+key_by_label s bench text label need (answer.Granted grant) named says = (
+  ap (λ (o : Option (List ℕ)). first_failing (key_questions s need o text)) named ∙ says.0,
+  subst (λ (o : Option (List ℕ)). HasKey bench (key_named s o text) grant) (sym named) says.1.has,
+)
+
 pub key_by_token : (s : State) (bench : Bench) (text : List ℕ) (need : Need) (a : Answer) → label_named text ≡ None → IsAsked s bench (drop 2 text) (Token need) a
     → IsAsked s bench text (Key need) a
 key_by_token s bench text need (answer.Refused _) named says = ap (λ (o : Option (List ℕ)). first_failing (key_questions s need o text)) named ∙ says

@@ -2,11 +2,11 @@
 use Rattle.std.proofs.Common.{◌≡◌, ℕ, List, Option, None, Result, Ok, Err, refl, sym, ap, ◌∙◌, subst, arith}
 use Rattle.std.specs.Prelude.{◌≤◌, IsOk, IsSome, OnOk, OnErr, IfErr}
 use Rattle.std.proofs.lemmas.Result.{on_err_weaker}
+use Rattle.slot_disk.specs.Faults.{Rose}
 use Rattle.slot_disk.specs.Medium.{Medium, Told, IsSettled, Becomes, Keeps}
 use Rattle.slot_disk.specs.SpareBytes.{Turned}
 use Rattle.slot_disk.proofs.Media.{becomes_same, told_from, told_at}
 use Rattle.slot_disk.proofs.SpareLemmas.{turned_same}
-use Rattle.slot_disk.proofs.WhereToldLemmas.{rose_wider}
 use Rattle.cca_roles.specs.declared.roles.Role.{Role}
 use Rattle.key_records.specs.Entries.{row_directory}
 use Rattle.key_records.specs.StoreStands.{HoldsRows}
@@ -49,6 +49,7 @@ untouched_left m count result stop settled never = record {
   settled = λ ok. settled;
   later = omega arith;
   fault = λ is. absurd (never is);
+  quiet = λ none. refl;
 }
 
 pub still_module_left : (m : Medium) (count : ℕ) (reply : List ℕ) (roles : List (Option Role)) → IsSettled m → Told m (IsSound roles)
@@ -93,12 +94,9 @@ still_left {m} {d} {m_count} {d_count} {reply} {t} settled_module settled_store 
   labels = tt;
 }
 
-abbrev error : Stop → Result (Unit {0}) Stop
-error stop = Err stop
-
 never_store : (result : Result (Unit {0}) Stop) → IfErr result (λ stop. stop ≡ ModuleFault) → result ≡ Err StoreFault → ⊥
 never_store (Ok u) stops is = cc is
-never_store (Err stop) stops is = let no : error ModuleFault ≡ Err StoreFault = ap error (sym stops) ∙ is in cc no
+never_store (Err stop) stops is = cc
 
 never_module : (result : Result (Unit {0}) Stop) → IfErr result IsStoreStop → result ≡ Err ModuleFault → ⊥
 never_module result stops is = subst (λ (r : Result (Unit {0}) Stop). IfErr r IsStoreStop) is stops
@@ -151,24 +149,25 @@ module _ {result : Result (Unit {0}) Stop} {reply : List ℕ} where
     labels = left.memory;
   }
 
-disk_after : (m0 m1 m2 : Medium) (before mid now : ℕ) (done failed : Type 0) → Keeps m0 m1 → before ≤ mid → DiskLeft m1 m2 mid now done failed
+disk_after : (m0 m1 m2 : Medium) (before mid now : ℕ) (done failed : Type 0) → Keeps m0 m1 → mid ≡ before → DiskLeft m1 m2 mid now done failed
     → DiskLeft m0 m2 before now done failed
-disk_after m0 m1 m2 before mid now done failed keeps later left = record {
+disk_after m0 m1 m2 before mid now done failed keeps quiet left = record {
   size = left.size ∙ keeps.moments.size;
   still = λ some. left.still (subst IsSome (sym keeps.content) some);
   settled = left.settled;
-  later = omega (arith, later, left.later);
-  fault = λ h. rose_wider before mid now now later left.later (omega arith) (left.fault h);
+  later = subst (λ count. count ≤ now) quiet left.later;
+  fault = λ h. subst (λ count. Rose count now) quiet (left.fault h);
+  quiet = λ none. left.quiet none ∙ quiet;
 }
 
 -- what is left after a call that reads both disks, and another behind it
 pub leaves_after_reads : {result : Result (Unit {0}) Stop} {reply : List ℕ} {m0 m1 m2 d0 d1 d2 : Medium} {m_before m_mid m_now d_before d_mid d_now : ℕ} {t later : Tables}
-    → Keeps m0 m1 → m_before ≤ m_mid → Keeps d0 d1 → d_before ≤ d_mid
+    → Keeps m0 m1 → m_mid ≡ m_before → Keeps d0 d1 → d_mid ≡ d_before
     → Leaves result reply (record { old = devices m1 m_mid d1 d_mid None 0; new = devices m2 m_now d2 d_now None 0 }) t later
     → Leaves result reply (record { old = devices m0 m_before d0 d_before None 0; new = devices m2 m_now d2 d_now None 0 }) t later
-leaves_after_reads {result} {reply} {m0} {m1} {m2} {d0} {d1} {d2} {m_before} {m_mid} {m_now} {d_before} {d_mid} {d_now} {t} {later} keeps_m later_m keeps_d later_d left = record {
-  module_disk = disk_after m0 m1 m2 m_before m_mid m_now (IsOk result) (result ≡ Err ModuleFault) keeps_m later_m left.module_disk;
-  store_disk = disk_after d0 d1 d2 d_before d_mid d_now (IsOk result) (result ≡ Err StoreFault) keeps_d later_d left.store_disk;
+leaves_after_reads {result} {reply} {m0} {m1} {m2} {d0} {d1} {d2} {m_before} {m_mid} {m_now} {d_before} {d_mid} {d_now} {t} {later} keeps_m quiet_m keeps_d quiet_d left = record {
+  module_disk = disk_after m0 m1 m2 m_before m_mid m_now (IsOk result) (result ≡ Err ModuleFault) keeps_m quiet_m left.module_disk;
+  store_disk = disk_after d0 d1 d2 d_before d_mid d_now (IsOk result) (result ≡ Err StoreFault) keeps_d quiet_d left.store_disk;
   module_told = λ some. subst IsSome keeps_m.content (left.module_told some);
   store_told = λ some. subst IsSome keeps_d.content (left.store_told some);
   module_turned = turned_after 33 m0 m1 m2 result keeps_m left.module_turned;

@@ -1,4 +1,5 @@
 mod Acting
+mod AsRead
 mod Ageing
 mod Carrying
 mod Changing

@@ -161,7 +161,7 @@ module _ {A : Type 0} (medium : A → Medium) (faults : A → ℕ) (old new : A)
       → (error fault ≡ Err full → new ≡ old) → now ≡ before → (error fault ≡ Err DiskFault → Rose (faults old) (faults new)) → OnErr (role_stop (Err fault)) (reply ≡ [])
       → Left (role_stop (Err fault))
   left_by fault (inl disk) changes untouched memory cause silent = subst (λ f. Left (role_stop (Err f))) (sym disk) (record {
-    disk = record { size = changes.either.size; still = changes.either.still; settled = λ ok. absurd (cc ok); later = later; fault = λ is. cause (ap error disk) };
+    disk = record { size = changes.either.size; still = changes.either.still; settled = λ ok. absurd (cc ok); later = later; fault = λ is. cause (ap error disk); quiet = λ none. absurd (none refl) };
     told = told_before (HoldsEither (place + 1) before next) (medium old) (medium new) changes.either;
     turned = tt;
     sound = tt;
@@ -179,9 +179,10 @@ module _ {A : Type 0} (medium : A → Medium) (faults : A → ℕ) (old new : A)
   -- what a change leaves
   left_of : (r : Result (Unit {0}) RoleFault) → IfErr r (λ fault. (fault ≡ DiskFault) ⊎ (fault ≡ full))
       → ChangesRoles place before next (medium old) (medium new) r → (r ≡ Err full → new ≡ old) → Remembers before next now r
-      → (r ≡ Err DiskFault → Rose (faults old) (faults new)) → OnErr (role_stop r) (reply ≡ []) → Left (role_stop r)
-  left_of (Ok u) each changes untouched memory cause silent = record {
-    disk = record { size = changes.either.size; still = changes.either.still; settled = λ ok. changes.settled; later = later; fault = λ is. cc is };
+      → (r ≡ Err DiskFault → Rose (faults old) (faults new)) → ((r ≡ Err DiskFault → ⊥) → faults new ≡ faults old)
+      → OnErr (role_stop r) (reply ≡ []) → Left (role_stop r)
+  left_of (Ok u) each changes untouched memory cause quiet silent = record {
+    disk = record { size = changes.either.size; still = changes.either.still; settled = λ ok. changes.settled; later = later; fault = λ is. cc is; quiet = λ none. quiet (λ is. cc is) };
     told = told_before (HoldsEither (place + 1) before next) (medium old) (medium new) changes.either;
     turned = changed_turned (place + 1) 33 (medium old) (medium new) (HoldsEither (place + 1) before next) changes.either changes.turned
         (λ b c by. by.outside) (λ b c by. by.untouched);
@@ -193,10 +194,11 @@ module _ {A : Type 0} (medium : A → Medium) (faults : A → ℕ) (old new : A)
     memory = tt;
     stops = tt;
   }
-  left_of (Err fault) each changes untouched memory cause silent = left_by fault each changes untouched memory.kept cause silent
+  left_of (Err fault) each changes untouched memory cause quiet silent = left_by fault each changes untouched memory.kept cause silent
 
   pub role_left_as : (r : Result (Unit {0}) RoleFault) (result : Result (Unit {0}) Stop) → result ≡ role_stop r → IfErr r (λ fault. (fault ≡ DiskFault) ⊎ (fault ≡ full))
       → ChangesRoles place before next (medium old) (medium new) r → (r ≡ Err full → new ≡ old) → Remembers before next now r
-      → (r ≡ Err DiskFault → Rose (faults old) (faults new)) → OnErr result (reply ≡ []) → Left result
-  role_left_as r result is each changes untouched memory cause silent =
-      subst Left (sym is) (left_of r each changes untouched memory cause (subst (λ x. OnErr x (reply ≡ [])) is silent))
+      → (r ≡ Err DiskFault → Rose (faults old) (faults new)) → ((r ≡ Err DiskFault → ⊥) → faults new ≡ faults old)
+      → OnErr result (reply ≡ []) → Left result
+  role_left_as r result is each changes untouched memory cause quiet silent =
+      subst Left (sym is) (left_of r each changes untouched memory cause quiet (subst (λ x. OnErr x (reply ≡ [])) is silent))

@@ -146,20 +146,20 @@ module _ {request : Request} {granted : Granted} {held : Registers} {rows : List
 -- ---- what is taken of the random source
 
 module _ {E T : Type 0} {request : Request} {before now : Source E} where
-  pub takes_drawn : {value : T} → before.faults ≤ now.faults → ((s : State) → IsSome (verb_verdict s request) → now.state ≡ before.state)
+  pub takes_drawn : {value : T} → now.faults ≡ before.faults → ((s : State) → IsSome (verb_verdict s request) → now.state ≡ before.state)
       → draws_random request ≡ true → TakesOnly request (Ok value) before now
-  takes_drawn later untouched draws = record {
-    entropy = record { later = later; fault = λ is. cc is };
+  takes_drawn quiet untouched draws = record {
+    entropy = record { later = omega (arith, quiet); fault = λ is. cc is; quiet = λ none. quiet };
     untouched = untouched;
     undrawn = λ none. let no : true ≡ false = sym draws ∙ none in cc no;
-    drawing = λ is. cc is;
+    drawing = λ is. cc;
   }
 
   -- the same where the random source failed
   pub takes_failed : before.faults ≤ now.faults → Rose before.faults now.faults → ((s : State) → IsSome (verb_verdict s request) → now.state ≡ before.state)
       → draws_random request ≡ true → TakesOnly {T = T} request (Err EntropyFault) before now
   takes_failed later rose untouched draws = record {
-    entropy = record { later = later; fault = λ is. rose };
+    entropy = record { later = later; fault = λ is. rose; quiet = λ none. absurd (none refl) };
     untouched = untouched;
     undrawn = λ none. let no : true ≡ false = sym draws ∙ none in cc no;
     drawing = λ is. draws;
@@ -180,7 +180,7 @@ stopped_decides permitted draws silent = record {
 
 takes_nothing : {E T : Type 0} {request : Request} {value : T} {kept : Source E} → TakesOnly request (Ok value) kept kept
 takes_nothing = record {
-  entropy = record { later = omega arith; fault = λ is. cc is };
+  entropy = record { later = omega arith; fault = λ is. cc is; quiet = λ none. refl };
   untouched = λ s refused. refl;
   undrawn = λ none. refl;
   drawing = λ is. cc is;
@@ -206,9 +206,13 @@ module _ {E : Type 0} {request asked : Request} {granted : Granted} {held : Regi
 -- a call that draws nothing further, and doesn't fail by the random source
 pub takes_on : {E T U : Type 0} {request : Request} {first : Result T Stop} {later : Result U Stop} {before now : Source E}
     → TakesOnly request first before now → (later ≡ Err EntropyFault → first ≡ Err EntropyFault)
-    → TakesOnly request later before now
-takes_on takes fails = record {
-  entropy = record { later = takes.entropy.later; fault = λ is. takes.entropy.fault (fails is) };
+    → (first ≡ Err EntropyFault → later ≡ Err EntropyFault) → TakesOnly request later before now
+takes_on takes fails failed = record {
+  entropy = record {
+    later = takes.entropy.later;
+    fault = λ is. takes.entropy.fault (fails is);
+    quiet = λ none. takes.entropy.quiet (λ is. none (failed is));
+  };
   untouched = takes.untouched;
   undrawn = takes.undrawn;
   drawing = λ is. takes.drawing (fails is);

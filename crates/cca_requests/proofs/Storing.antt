@@ -1,5 +1,5 @@
 -- A change of the records is what the machine makes of it.
-use Rattle.std.proofs.Common.{◌≡◌, ◌≢◌, ℕ, Bool, true, false, List, [], ◌∷◌, Option, None, Some, Result, Ok, Err, codes, refl, sym, ap, ◌∙◌, subst, inl, inr, ⊎_elim}
+use Rattle.std.proofs.Common.{◌≡◌, ◌≢◌, ℕ, Bool, true, false, List, [], ◌∷◌, Option, None, Some, Result, Ok, Err, codes, refl, sym, ap, ◌∙◌, subst, inl, inr, ⊎_elim, arith}
 use Rattle.std.specs.Prelude.{◌⊎◌, ◌↔◌, ◌≤◌, ◌==◌, IsTrue, IfErr, OnOk, OnErr, is_some}
 use Rattle.std.proofs.lemmas.Bool.{false_from_ne_true}
 use Rattle.std.proofs.lemmas.Bool.Decides.{Decides-eqb}
@@ -198,10 +198,10 @@ module _ {A : Type 0} (medium : A → Medium) (old new : A) (s : State) (rows la
 -- ---- whatever the store holds
 
 module _ (d0 d1 : Medium) (before now : ℕ) (rows later : List (Option Row)) (reply : List ℕ) (cell : ℕ) (bytes : List ℕ) where
-  pub stored_left : (u : Unit {0}) → ReplacesBody cell bytes d0 d1 (Ok u) → Told d1 (HoldsRows later) → before ≤ now
+  pub stored_left : (u : Unit {0}) → ReplacesBody cell bytes d0 d1 (Ok u) → Told d1 (HoldsRows later) → now ≡ before
       → LeavesStore d0 d1 before now (Ok tt) reply rows later
-  stored_left u replaces holds count = record {
-    disk = record { size = replaces.replacing.size; still = replaces.replacing.still; settled = λ ok. replaces.settled; later = count; fault = λ is. cc is };
+  stored_left u replaces holds quiet = record {
+    disk = record { size = replaces.replacing.size; still = replaces.replacing.still; settled = λ ok. replaces.settled; later = omega (arith, quiet); fault = λ is. cc is; quiet = λ none. quiet };
     told = told_before (IsReplacing cell bytes) d0 d1 replaces.replacing;
     turned = becomes_turned cell 1024 d0 d1 bytes replaces.replaced;
     holds = holds;
@@ -213,7 +213,7 @@ module _ (d0 d1 : Medium) (before now : ℕ) (rows later : List (Option Row)) (r
   pub failed_left : (fault : RecordFault) → ReplacesBody cell bytes d0 d1 (Err fault) → later ≡ rows → before ≤ now → Rose before now → reply ≡ []
       → LeavesStore d0 d1 before now (Err StoreFault) reply rows later
   failed_left fault replaces memory count rose silent = record {
-    disk = record { size = replaces.replacing.size; still = replaces.replacing.still; settled = λ ok. absurd (cc ok); later = count; fault = λ is. rose };
+    disk = record { size = replaces.replacing.size; still = replaces.replacing.still; settled = λ ok. absurd (cc ok); later = count; fault = λ is. rose; quiet = λ none. absurd (none refl) };
     told = told_before (IsReplacing cell bytes) d0 d1 replaces.replacing;
     turned = tt;
     holds = tt;
@@ -236,7 +236,7 @@ module _ {A : Type 0} (medium : A → Medium) (faults : A → ℕ) (old new : A)
       → HasRecordCause (faults old) (faults new) r → OnErr (record_stop r) (reply ≡ [])
       → LeavesStore (medium old) (medium new) (faults old) (faults new) (record_stop r) reply rows later
   create_left_as (Ok u) replaces undamaged untouched memory holds_now cause silent =
-      stored_left (medium old) (medium new) (faults old) (faults new) rows later reply cell bytes u replaces holds_now cause.later
+      stored_left (medium old) (medium new) (faults old) (faults new) rows later reply cell bytes u replaces holds_now (cause.quiet (λ is. cc is))
   create_left_as (Err DiskFault) replaces undamaged untouched memory holds_now cause silent =
       failed_left (medium old) (medium new) (faults old) (faults new) rows later reply cell bytes DiskFault replaces memory.kept cause.later (cause.failed refl) silent
   create_left_as (Err (Damaged n)) replaces undamaged untouched memory holds_now cause silent = absurd (undamaged n refl)

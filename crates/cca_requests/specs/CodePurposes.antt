@@ -2,7 +2,6 @@
 use Rattle.std.specs.Prelude.{⊤, ℕ, List, [], ◌∷◌, IsTrue, codes, length, take}
 use Rattle.std.specs.Str.{bytes_eq}
 use Rattle.script_buffers.specs.Replies.{Field, Hex, Text}
-use Rattle.verb_script.specs.Choices.{code_length_word}
 use Rattle.verb_script.specs.Grammar.{RequestName, accepts, mac_text, csnbmgn, csnbmgn_last, csnbmvr, csnbmvr_last}
 use Rattle.verb_script.specs.Values.{hex_value}
 use Rattle.cca_machine.specs.Act.{yes_or_no}
@@ -26,13 +25,13 @@ last_code_row (Verify mac) = csnbmvr_last
 
 -- what the row's field says of it
 abbrev pub purpose_text : Purpose → List ℕ
-purpose_text (Generate count) = code_length_word count
+purpose_text (Generate count) = count.now
 purpose_text (Verify mac) = mac.now
 
 -- the leftmost bytes of the code, or whether it begins with these
 abbrev pub code_fields : Purpose → List ℕ → List Field
 code_fields (Generate count) code =
-    Hex (codes "mac") (take (mac_length_named (code_length_word count)) code) ∷ []
+    Hex (codes "mac") (take (mac_length_named count.now) code) ∷ []
 code_fields (Verify mac) code =
     Text (codes "match") (yes_or_no
     (bytes_eq (hex_value mac.now) (take (length (hex_value mac.now)) code))) ∷ []

@@ -1,5 +1,5 @@
 -- What the operands of a request stand for, and the first rule that one of them breaks.
-use Rattle.std.specs.Prelude.{◌≡◌, ◌<◌, ◌||◌, ℕ, Bool, true, false, List, [], length, Option, Some, None, IsTrue, IsSome, ⊤, Result, Ok, Err}
+use Rattle.std.specs.Prelude.{◌≡◌, ◌<◌, ◌||◌, ℕ, Bool, true, false, List, length, Option, Some, None, IsTrue, IsSome, ⊤, Result, Ok, Err}
 use Rattle.key_records.specs.Directory.{label_at}
 use Rattle.key_records.specs.Entries.{row_directory}
 use Rattle.key_records.specs.Labels.{IsLabel}
@@ -23,8 +23,7 @@ use Rattle.verb_rules.specs.Rules.{rule_number}
 use Rattle.line_service.specs.declared.stops.Device.TheVariants.{Module, Store}
 use Rattle.line_service.specs.declared.stops.Stop.{Stop}
 use Rattle.line_service.specs.declared.stops.Stop.TheVariants.{ReadFault, WriteFault, EntropyFault, ModuleFault, StoreFault, Damaged, InputLimit}
-use Rattle.verb_script.specs.Grammar.{Request, row_of, AreValues, accepts, key_text, to_text, is_hex}
-use Rattle.verb_script.specs.KeyFields.{destination_text, key_field_text}
+use Rattle.verb_script.specs.Grammar.{Request, row_of, AreValues, accepts, key_text, is_hex}
 use Rattle.verb_script.specs.Named.{label_named}
 use Rattle.verb_script.specs.Values.{hex_value}
 use Rattle.cca_machine.specs.State.{State}
@@ -34,8 +33,6 @@ use Rattle.cca_machine.specs.declared.asking.Ask.{Ask}
 use Rattle.cca_machine.specs.declared.asking.Ask.TheVariants.{AnyToken, Key, Token, External, Record, Held, NewLabel, Target, Nothing}
 use Rattle.cca_requests.specs.declared.operands.Operand.{Operand as CodeOperand}
 use Rattle.cca_requests.specs.declared.operands.Operands.{Operands as CodeOperands}
-use Rattle.cca_requests.specs.declared.operands.Question.{Question}
-use Rattle.cca_requests.specs.declared.operands.Question.TheVariants as question
 use Rattle.cca_requests.specs.declared.judging.Grant.{Grant}
 use Rattle.cca_requests.specs.declared.judging.Granted.{Granted}
 use Rattle.cca_requests.specs.declared.judging.Answer.{Answer}
@@ -47,36 +44,8 @@ use Rattle.cca_requests.specs.declared.judging.Verdict.TheVariants as verdict
 abbrev pub IsAccepted : Request → Type 0
 IsAccepted request = AreValues (row_of request.name).fields request.values
 
--- the text of the value that something is asked of
-abbrev pub text_asked : Question → List ℕ
-text_asked (question.AnyToken digits) = digits.now
-text_asked (question.Key key need) = key_field_text key
-text_asked (question.Token digits need) = digits.now
-text_asked (question.External digits need) = digits.now
-text_asked (question.Record label) = label.now
-text_asked (question.Held label) = label.now
-text_asked (question.NewLabel label) = label.now
-text_asked (question.Target to) = destination_text to
-text_asked question.Nothing = []
-
--- and what is asked of it
-abbrev pub ask_of : Question → Ask
-ask_of (question.AnyToken digits) = AnyToken
-ask_of (question.Key key need) = Key need
-ask_of (question.Token digits need) = Token need
-ask_of (question.External digits need) = External need
-ask_of (question.Record label) = Record
-ask_of (question.Held label) = Held
-ask_of (question.NewLabel label) = NewLabel
-ask_of (question.Target to) = Target
-ask_of question.Nothing = Nothing
-
 abbrev pub seen_operand : CodeOperand → Operand
-seen_operand o = record {
-  name = o.name.now;
-  text = text_asked o.question;
-  ask = ask_of o.question;
-}
+seen_operand o = record { name = o.name.now; text = o.text.now; ask = o.ask }
 
 abbrev pub seen_operands : CodeOperands → Operands
 seen_operands os = record { first = seen_operand os.first; second = seen_operand os.second; third = seen_operand os.third }
@@ -90,7 +59,7 @@ IsText text (External need) = IsTrue (is_hex 128 text) × (need.asked ≡ asked.
 IsText text Record = ⊤
 IsText text Held = ⊤
 IsText text NewLabel = ⊤
-IsText text Target = IsTrue (accepts to_text text)
+IsText text Target = ⊤
 IsText text Nothing = ⊤
 
 abbrev pub IsFit : Operand → Type 0

@@ -1,7 +1,10 @@
 //! Changes of the registers and of the roles, with their replies.
 ghost use Rattle.cca_roles.specs.RoleNames.{default_name};
 ghost use Rattle.key_records.specs.StoreStands.{HoldsRows};
-ghost use Rattle.std.specs.Prelude.{ℕ, List, ◌≡◌, ◌≢◌, ◌≤◌, [], OnOk, OnErr, length, codes};
+ghost use Rattle.std.specs.Prelude.{ℕ, List, ◌≡◌, ◌≢◌, ◌≤◌, ◌↔◌, [], Err, IsTrue, OnOk, OnErr, length, codes};
+ghost use Rattle.master_registers.specs.Actions.{after_action, has_wrong_state, repeats_pattern};
+ghost use Rattle.master_registers.specs.Changes.{CarriesOut, IsLoadedFrom};
+ghost use Rattle.master_registers.specs.Loaded.{masters_in};
 ghost use Rattle.key_cells.specs.Lease.{bench_of, loan_of};
 ghost use Rattle.script_buffers.specs.Replies.{spelled};
 ghost use Rattle.cca_machine.specs.State.{State};
@@ -18,7 +21,9 @@ use cca_roles::{AccessPoints, RoleFault, RoleName, Roles};
 use key_cells::Lease;
 use key_records::Records;
 use line_service::Stop;
-use master_registers::{Action, NewState, RegisterFault, Registers, change};
+use master_registers::{
+    Action, NewState, RegisterFault, Registers, clear, first, last, middle, set,
+};
 use slot_disk::Disk;
 use verb_rules::Rule;
 use verb_script::ReplyBuffer;
@@ -63,6 +68,32 @@ fn answer_change(
     }
 }
 
+/// The step of a key ceremony that the action names.
+fn carry_out<M: Disk>(
+    action: Action,
+    module: &mut M,
+    lease: &mut Lease,
+    held: &Registers,
+) -> Result<Registers, RegisterFault>
+    requires { IsLoadedFrom (M.medium «module».old) held.now (bench_of lease.old) }
+    ensures registers { let bench = bench_of lease.old in
+        let m = masters_in held.now bench in
+        CarriesOut M.medium M.faults m (after_action action bench.part m)
+        lease.old lease.new «module».old «module».new result }
+    ensures state { (result ≡ Err RegisterFault.RegisterState)
+        ↔ IsTrue (has_wrong_state action (masters_in held.now (bench_of lease.old))) }
+    ensures same { (result ≡ Err RegisterFault.SamePattern)
+        ↔ IsTrue (repeats_pattern action (masters_in held.now (bench_of lease.old))) }
+{
+    match action {
+        Action::First => first(module, lease, held),
+        Action::Middle => middle(module, lease, held),
+        Action::Last => last(module, lease, held),
+        Action::Clear => clear(module, lease, held),
+        Action::Set => set(module, lease, held),
+    }
+}
+
 /// After SET the labels that were ahead are under their second tokens.
 fn turn_after(action: Action, outcome: &Result<Registers, RegisterFault>, records: &mut Records)
     ensures { records.new ≡ rows_by outcome.now action records.old }
@@ -101,7 +132,7 @@ pub(crate) fn change_registers<M: Disk>(
     ensures memory { OnErr result (records.new ≡ records.old) }
     ensures loan { loan_of lease.new ≡ loan_of lease.old }
 {
-    let outcome = change(action, module, lease, held);
+    let outcome = carry_out(action, module, lease, held);
     turn_after(action, &outcome, records);
     answer_change(outcome, reply)
 }

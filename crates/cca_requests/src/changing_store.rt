@@ -1,7 +1,13 @@
 //! Changes of the records, with their replies.
-ghost use Rattle.std.specs.Prelude.{◌≡◌, [], IsSome, OnOk, OnErr, codes};
+ghost use Rattle.std.specs.Prelude.{◌≡◌, [], List, Option, IsSome, OnOk, OnErr, codes};
+ghost use Rattle.key_records.specs.Entries.{Entry};
+ghost use Rattle.key_records.specs.StoreStands.{KeepsLabels};
+ghost use Rattle.master_registers.specs.Masters.{Masters};
+ghost use Rattle.reencipher.specs.Runs.{IsCell, LeavesAnyStore, Reenciphers, TurnsCells};
+ghost use Rattle.slot_disk.specs.Medium.{Told};
+ghost use Rattle.verb_rules.specs.Keys.{keys_of};
 ghost use Rattle.key_cells.specs.Lease.{bench_of, loan_of};
-ghost use Rattle.master_registers.specs.Loaded.{IsLoaded};
+ghost use Rattle.master_registers.specs.Loaded.{IsLoaded, Loaded};
 ghost use Rattle.master_registers.specs.declared.registers.Registers.{Registers as HeldRegisters};
 ghost use Rattle.script_buffers.specs.Replies.{spelled};
 ghost use Rattle.verb_script.specs.Grammar.{Request};
@@ -22,7 +28,7 @@ use key_cells::Lease;
 use key_records::{Label, Place, RecordFault, Records};
 use line_service::Stop;
 use master_registers::Registers;
-use reencipher::{StoreAction, run_action};
+use reencipher::{StoreAction, ahead, drop_ahead, reencipher};
 use slot_disk::Disk;
 use verb_rules::Rule;
 use verb_script::ReplyBuffer;
@@ -143,6 +149,35 @@ pub(crate) fn delete<D: Disk>(
     }
 }
 
+/// Makes every label what the action makes of it, and answers how many it changed.
+fn carry_out<D: Disk>(
+    action: StoreAction,
+    lease: &mut Lease,
+    held: &Registers,
+    store: &mut D,
+    records: &mut Records,
+) -> Result<u32, RecordFault>
+    requires store { HasStore records.old (D.medium store.old) }
+    requires loaded { IsLoaded held.now (bench_of lease.old) }
+    requires current { IsSome held.now.current_pattern }
+    requires ready { IsReadyFor action held.now (bench_of lease.old) }
+    ensures labels { (m : Masters) (s : List (Option Entry))
+        → Loaded m held.now (bench_of lease.old)
+        → Told (D.medium store.old) (KeepsLabels (keys_of m) records.old s)
+        → Reenciphers action (keys_of m) s records.new
+        (D.medium store.old) (D.medium store.new) result }
+    ensures cells { TurnsCells action held.now records.old records.new
+        (D.medium store.old) (D.medium store.new) result }
+    ensures left { LeavesAnyStore D.medium D.faults IsCell lease.old lease.new
+        records.old records.new store.old store.new result }
+{
+    match action {
+        StoreAction::Renew => reencipher(lease, held, store, records),
+        StoreAction::Ahead => ahead(lease, held, store, records),
+        StoreAction::Drop => drop_ahead(lease, held, store, records),
+    }
+}
+
 /// Makes every label what the action makes of it, and says how many it changed.
 pub(crate) fn renew<D: Disk>(
     action: StoreAction,
@@ -165,7 +200,7 @@ pub(crate) fn renew<D: Disk>(
         (D.faults store.old) (D.faults store.new) result reply.new records.old records.new }
     ensures loan { loan_of lease.new ≡ loan_of lease.old }
 {
-    match run_action(action, lease, held, store, records) {
+    match carry_out(action, lease, held, store, records) {
         Ok(changed) => {
             reply.ok();
             reply.number("changed", changed);

@@ -61,7 +61,7 @@ pub(crate) fn decide<E: Entropy>(
             Mode::Encipher,
             granted,
             iv,
-            *pad,
+            pad,
             text,
             lease,
             reply,
@@ -87,12 +87,12 @@ pub(crate) fn decide<E: Entropy>(
             pad,
             text,
             ..
-        } => Ok(last_segment(Mode::Encipher, granted, chain, *pad, text, lease, reply)),
+        } => Ok(last_segment(Mode::Encipher, granted, chain, pad, text, lease, reply)),
         Request::Csnbdec { iv, pad, text, .. } => Ok(whole_text(
             Mode::Decipher,
             granted,
             iv,
-            *pad,
+            pad,
             text,
             lease,
             reply,
@@ -118,29 +118,22 @@ pub(crate) fn decide<E: Entropy>(
             pad,
             text,
             ..
-        } => Ok(last_segment(Mode::Decipher, granted, chain, *pad, text, lease, reply)),
+        } => Ok(last_segment(Mode::Decipher, granted, chain, pad, text, lease, reply)),
         Request::Csnbmgn {
             rule,
             length,
             text,
             ..
-        } => Ok(whole_code(
-            granted,
-            *rule,
-            Purpose::Generate(*length),
-            text,
-            lease,
-            reply,
-        )),
+        } => Ok(whole_code(granted, rule, Purpose::Generate(length), text, lease, reply)),
         Request::CsnbmgnFirst { rule, text, .. } => Ok(first_code_segment(
-            granted, *rule, text, lease, reply,
+            granted, rule, text, lease, reply,
         )),
         Request::CsnbmgnMiddle {
             rule,
             chain,
             text,
             ..
-        } => Ok(middle_code_segment(granted, *rule, chain, text, lease, reply)),
+        } => Ok(middle_code_segment(granted, rule, chain, text, lease, reply)),
         Request::CsnbmgnLast {
             rule,
             length,
@@ -149,9 +142,9 @@ pub(crate) fn decide<E: Entropy>(
             ..
         } => Ok(last_code_segment(
             granted,
-            *rule,
+            rule,
             chain,
-            Purpose::Generate(*length),
+            Purpose::Generate(length),
             text,
             lease,
             reply,
@@ -161,16 +154,16 @@ pub(crate) fn decide<E: Entropy>(
             mac,
             text,
             ..
-        } => Ok(whole_code(granted, *rule, Purpose::Verify(mac), text, lease, reply)),
+        } => Ok(whole_code(granted, rule, Purpose::Verify(mac), text, lease, reply)),
         Request::CsnbmvrFirst { rule, text, .. } => Ok(first_code_segment(
-            granted, *rule, text, lease, reply,
+            granted, rule, text, lease, reply,
         )),
         Request::CsnbmvrMiddle {
             rule,
             chain,
             text,
             ..
-        } => Ok(middle_code_segment(granted, *rule, chain, text, lease, reply)),
+        } => Ok(middle_code_segment(granted, rule, chain, text, lease, reply)),
         Request::CsnbmvrLast {
             rule,
             mac,
@@ -179,7 +172,7 @@ pub(crate) fn decide<E: Entropy>(
             ..
         } => Ok(last_code_segment(
             granted,
-            *rule,
+            rule,
             chain,
             Purpose::Verify(mac),
             text,
@@ -188,17 +181,15 @@ pub(crate) fn decide<E: Entropy>(
         )),
         Request::Csnbkyt { .. } => Ok(csnbkyt(granted, lease, reply)),
         Request::Csnbcki { clear, to, .. } => Ok(keys::decide_csnbcki(
-            granted, clear, *to, lease, held, reply,
+            granted, clear, to, lease, held, reply,
         )),
-        Request::Csnbrng { form, .. } => drawing::decide_csnbrng(*form, entropy, reply),
+        Request::Csnbrng { form, .. } => drawing::decide_csnbrng(form, entropy, reply),
         Request::CsnbkgnOp {
             length,
             type1,
             to,
             ..
-        } => drawing::decide_generate_one(
-            granted, *length, *type1, *to, entropy, lease, held, reply,
-        ),
+        } => drawing::decide_generate_one(granted, length, *type1, to, entropy, lease, held, reply),
         Request::CsnbkgnPair {
             form,
             length,
@@ -207,7 +198,7 @@ pub(crate) fn decide<E: Entropy>(
             to,
             ..
         } => drawing::decide_generate_pair(
-            granted, *form, *length, *type1, *type2, *to, entropy, lease, held, reply,
+            granted, form, length, *type1, *type2, to, entropy, lease, held, reply,
         ),
         Request::CsnbkgnOut {
             form,
@@ -216,19 +207,19 @@ pub(crate) fn decide<E: Entropy>(
             type2,
             ..
         } => drawing::decide_generate_out(
-            granted, *form, *length, *type1, *type2, entropy, lease, held, reply,
+            granted, form, length, *type1, *type2, entropy, lease, held, reply,
         ),
-        Request::Csnbkim { to, .. } => Ok(keys::decide_csnbkim(granted, *to, lease, held, reply)),
+        Request::Csnbkim { to, .. } => Ok(keys::decide_csnbkim(granted, to, lease, held, reply)),
         Request::Csnbkex { .. } => Ok(keys::decide_csnbkex(granted, lease, reply)),
-        Request::Csnbpex { to, .. } => Ok(keys::decide_csnbpex(granted, *to, lease, held, reply)),
+        Request::Csnbpex { to, .. } => Ok(keys::decide_csnbpex(granted, to, lease, held, reply)),
         Request::Csnbktc { rule, .. } => Ok(keys::decide_csnbktc(
-            granted, *rule, lease, held, reply,
+            granted, rule, lease, held, reply,
         )),
         Request::CsnbkpiFirst { kind, part, to, .. } => Ok(keys::decide_first_part(
-            granted, *kind, part, *to, lease, held, reply,
+            granted, *kind, part, to, lease, held, reply,
         )),
         Request::CsnbkpiMiddle { rule, part, to, .. } => Ok(keys::decide_further_part(
-            granted, *rule, part, *to, lease, held, reply,
+            granted, rule, part, to, lease, held, reply,
         )),
         Request::Csnbktr { .. } => Ok(keys::decide_csnbktr(granted, lease, reply)),
         Request::Csnbkrc { label, .. } => Ok(records::decide_csnbkrc(label)),
@@ -237,7 +228,7 @@ pub(crate) fn decide<E: Entropy>(
         Request::Csnbkrd { .. } => Ok(records::decide_csnbkrd(granted)),
         Request::Csnbkrl { prefix, .. } => Ok(records::decide_csnbkrl(prefix, records, reply)),
         Request::CsnbmkpPart { action, part, .. } => Ok(control::decide_key_part(
-            *action, part, lease,
+            action, part, lease,
         )),
         Request::CsnbmkpClear { .. } => Ok(control::decide_clear(records)),
         Request::CsnbmkpSet { .. } => Ok(control::decide_set(lease, held, records)),

@@ -5,20 +5,20 @@ ghost use Rattle.cca_vectors.specs.Checks.{first_failing};
 ghost use Rattle.key_cells.specs.Bench.{Bench};
 ghost use Rattle.master_registers.specs.Loaded.{Loaded};
 ghost use Rattle.verb_rules.specs.Rules.{rule_number};
-ghost use Rattle.verb_script.specs.Grammar.{accepts, to_text};
-ghost use Rattle.verb_script.specs.KeyFields.{destination_text};
 ghost use Rattle.verb_script.specs.Parsed.{seen};
+ghost use Rattle.cca_machine.specs.Actions.{part_action};
+ghost use Rattle.cca_machine.specs.Choices.{target_named};
 ghost use Rattle.cca_machine.specs.State.{State};
 ghost use Rattle.cca_machine.specs.Verdict.{action_points, target_points, change_points, needed_points, needs_master, general_checks};
+ghost use Rattle.cca_requests.specs.FieldWords.{IsPartAction};
 ghost use Rattle.cca_requests.specs.Judging.{IsAccepted};
 
-use crate::verbs::csnbktc;
-use crate::verbs::csnbmkp::part_action;
+use crate::choices::{part_action_of, target_of};
 use cca_roles::{AccessPoints, Roles};
 use key_transport::Target;
 use master_registers::{Action, Registers};
 use verb_rules::Rule;
-use verb_script::{Destination, Request};
+use verb_script::{Request, named_label};
 
 /// Rules 03, 04 and 05.
 pub(crate) fn general_rule(request: &Request, held: &Registers, roles: &Roles) -> Option<Rule>
@@ -53,22 +53,28 @@ fn action_points(action: Action) -> AccessPoints
 }
 
 /// A key that goes into a record needs the point of CSNBKRW too.
-#[tactic(auto, using(verb_script::proofs::KeyFieldLaws::named_destination))]
-fn target_points(to: Destination<'_>) -> AccessPoints
-    requires { IsTrue (accepts to_text (destination_text to)) }
-    ensures { result ≡ target_points (destination_text to.entry) }
+fn target_points(to: &[u8]) -> AccessPoints
+    ensures { result ≡ target_points to.now }
 {
-    match to {
-        Destination::Record(_) => AccessPoints::KRW,
-        Destination::Reply => AccessPoints::empty(),
+    match named_label(to) {
+        Some(_) => AccessPoints::KRW,
+        None => AccessPoints::empty(),
     }
 }
 
-/// A token is changed to the current master key, or to the new one.
-fn change_points(target: Target) -> AccessPoints
-    ensures { result ≡ change_points target }
+/// An action that takes a key part needs the point of its own.
+fn part_points(action: &[u8]) -> AccessPoints
+    requires { IsPartAction action.now }
+    ensures { result ≡ action_points (part_action action.now) }
 {
-    match target {
+    action_points(part_action_of(action))
+}
+
+/// A token is changed to the current master key, or to the new one.
+fn change_points(rule: &[u8]) -> AccessPoints
+    ensures { result ≡ change_points (target_named rule.now) }
+{
+    match target_of(rule) {
         Target::Current => AccessPoints::KTC_CURRENT,
         Target::New => AccessPoints::KTC_NEW,
     }
@@ -98,24 +104,24 @@ fn needed_points(request: &Request) -> AccessPoints
         Request::CsnbmvrMiddle { .. } => AccessPoints::MVR,
         Request::CsnbmvrLast { .. } => AccessPoints::MVR,
         Request::Csnbkyt { .. } => AccessPoints::KYT,
-        Request::Csnbcki { to, .. } => AccessPoints::CKI.union(target_points(*to)),
+        Request::Csnbcki { to, .. } => AccessPoints::CKI.union(target_points(to)),
         Request::Csnbrng { .. } => AccessPoints::RNG,
-        Request::CsnbkgnOp { to, .. } => AccessPoints::KGN_OP.union(target_points(*to)),
-        Request::CsnbkgnPair { to, .. } => AccessPoints::KGN_PAIR.union(target_points(*to)),
+        Request::CsnbkgnOp { to, .. } => AccessPoints::KGN_OP.union(target_points(to)),
+        Request::CsnbkgnPair { to, .. } => AccessPoints::KGN_PAIR.union(target_points(to)),
         Request::CsnbkgnOut { .. } => AccessPoints::KGN_OUT,
-        Request::Csnbkim { to, .. } => AccessPoints::KIM.union(target_points(*to)),
+        Request::Csnbkim { to, .. } => AccessPoints::KIM.union(target_points(to)),
         Request::Csnbkex { .. } => AccessPoints::KEX,
-        Request::Csnbpex { to, .. } => AccessPoints::PEX.union(target_points(*to)),
-        Request::Csnbktc { rule, .. } => change_points(csnbktc::target(*rule)),
-        Request::CsnbkpiFirst { to, .. } => AccessPoints::KPI_FIRST.union(target_points(*to)),
-        Request::CsnbkpiMiddle { to, .. } => AccessPoints::KPI_COMBINE.union(target_points(*to)),
+        Request::Csnbpex { to, .. } => AccessPoints::PEX.union(target_points(to)),
+        Request::Csnbktc { rule, .. } => change_points(rule),
+        Request::CsnbkpiFirst { to, .. } => AccessPoints::KPI_FIRST.union(target_points(to)),
+        Request::CsnbkpiMiddle { to, .. } => AccessPoints::KPI_COMBINE.union(target_points(to)),
         Request::Csnbktr { .. } => AccessPoints::KTR,
         Request::Csnbkrc { .. } => AccessPoints::KRC,
         Request::Csnbkrw { .. } => AccessPoints::KRW,
         Request::Csnbkrr { .. } => AccessPoints::KRR,
         Request::Csnbkrd { .. } => AccessPoints::KRD,
         Request::Csnbkrl { .. } => AccessPoints::KRL,
-        Request::CsnbmkpPart { action, .. } => action_points(part_action(*action)),
+        Request::CsnbmkpPart { action, .. } => part_points(action),
         Request::CsnbmkpClear { .. } => action_points(Action::Clear),
         Request::CsnbmkpSet { .. } => action_points(Action::Set),
         Request::CsuaaciDefine { .. } => AccessPoints::ROLES,

@@ -1,5 +1,5 @@
 //! The operands of a request, judged in their order.
-ghost use Rattle.std.specs.Prelude.{◌≡◌, [], Some, None, Err, IfOk, IfErr, IsOk, IsTrue, false};
+ghost use Rattle.std.specs.Prelude.{◌≡◌, [], Some, None, Err, IfOk, IfErr, IsOk, IsTrue, false, drop};
 ghost use Rattle.key_cells.specs.Bench.{Bench};
 ghost use Rattle.key_cells.specs.Lease.{bench_of};
 ghost use Rattle.key_records.specs.Changes.{KeepsAllButBody};
@@ -8,17 +8,18 @@ ghost use Rattle.line_service.specs.Devices.{DiskLeft};
 ghost use Rattle.master_registers.specs.Loaded.{Loaded};
 ghost use Rattle.master_registers.specs.Masters.{Masters};
 ghost use Rattle.slot_disk.specs.Medium.{Keeps};
-ghost use Rattle.verb_script.specs.Grammar.{is_hex};
+ghost use Rattle.verb_script.specs.Grammar.{is_hex, accepts, key_text};
+ghost use Rattle.verb_script.specs.Named.{label_named};
 ghost use Rattle.verb_script.specs.Values.{hex_value};
 ghost use Rattle.cca_machine.specs.Operands.{is_named_by, names_label, listed};
 ghost use Rattle.cca_machine.specs.State.{State};
 ghost use Rattle.cca_requests.specs.Deciding.{AtStore, HasStore};
-ghost use Rattle.cca_requests.specs.Judging.{IsText, AreFit, answered};
-ghost use Rattle.cca_requests.specs.Judging.{text_asked, ask_of, seen_operands};
+ghost use Rattle.cca_requests.specs.Judging.{IsText, AreFit, answered, seen_operands};
 ghost use Rattle.cca_requests.specs.Judging.{IsAsked, IsShaped, IsKeyedAnswer, IsStoreStop};
 ghost use Rattle.cca_requests.specs.Judging.{IsJudged, AreShaped, AreKeyedOperands};
+ghost use Rattle.cca_requests.specs.Stored.{IsAskedAsRead, AreAskedAsRead};
 
-use crate::operands::{Operands, Question};
+use crate::operands::{Operand, Operands};
 use crate::stored::{judge_held, judge_label, judge_new_label, judge_target};
 use cca_machine::Ask;
 use key_cells::Lease;
@@ -28,7 +29,7 @@ use line_service::Stop;
 use master_registers::Registers;
 use slot_disk::Disk;
 use verb_rules::{Judged, Need, Rule, any_key, judge_key, token_rule};
-use verb_script::{KeyField, decode};
+use verb_script::{decode, named_label};
 
 /// What an operand stands for, where it breaks no rule.
 #[derive(Clone, Copy)]
@@ -140,6 +141,16 @@ fn judge_any_token(digits: &[u8]) -> Answer
     }
 }
 
+/// The digits of a key token that stand behind `T:`.
+fn digits_of(text: &[u8]) -> &[u8]
+    requires key { IsTrue (accepts key_text text.now) }
+    requires token { label_named text.now ≡ None }
+    ensures text { result.now ≡ drop 2 text.now }
+    ensures digits { IsTrue (is_hex 128 result.now) }
+{
+    &text[2..]
+}
+
 /// Judges the internal key of a token that 128 digits spell.
 fn judge_token(digits: &[u8], need: &Need, held: &Registers) -> Answer
     requires digits { IsTrue (is_hex 128 digits.now) }
@@ -164,51 +175,52 @@ fn judge_external(digits: &[u8], need: &Need, held: &Registers) -> Answer
     Answer::of(judge_key(&token_bytes(digits), need, held))
 }
 
-/// Judges the value of one operand. A label costs at most 11 comparisons, and that of a key one
-/// read of a cell.
+/// Judges one operand. A label costs at most 11 comparisons, and that of a key one read of a cell.
 fn judge_one<D: Disk>(
-    question: &Question,
+    operand: &Operand,
     store: &mut D,
     lease: &mut Lease,
     held: &Registers,
     records: &Records,
 ) -> Result<Answer, Stop>
-    requires text { IsText (text_asked question.now) (ask_of question.now) }
+    requires text { IsText operand.now.text.now operand.now.ask }
     requires store { HasStore records.now (D.medium store.old) }
     ensures asked { (s : State)
         → AtStore s held.now (bench_of lease.old) records.now (D.medium store.old)
-        → IfOk result (IsAsked s (bench_of lease.old)
-        (text_asked question.now) (ask_of question.now)) }
-    ensures shaped { IfOk result
-        (IsShaped records.now (text_asked question.now) (ask_of question.now)) }
+        → IfOk result (IsAsked s (bench_of lease.old) operand.now.text.now operand.now.ask) }
+    ensures shaped { IfOk result (IsShaped records.now operand.now.text.now operand.now.ask) }
     ensures keyed { (m : Masters) → Loaded m held.now (bench_of lease.old)
-        → IfOk result (IsKeyedAnswer m (text_asked question.now) (ask_of question.now)) }
+        → IfOk result (IsKeyedAnswer m operand.now.text.now operand.now.ask) }
+    // By some record that is the memory's of a label that is held, whatever the store tells of its bytes.
+    ensures own { (m : Masters) → Loaded m held.now (bench_of lease.old)
+        → IfOk result (IsAskedAsRead m (bench_of lease.old) records.now
+        operand.now.text.now operand.now.ask) }
     ensures faults { (s : State)
         → AtStore s held.now (bench_of lease.old) records.now (D.medium store.old)
         → IfErr result (λ stop. stop ≡ Stop.StoreFault) }
     ensures keeps { Keeps (D.medium store.old) (D.medium store.new) }
     ensures store { DiskLeft (D.medium store.old) (D.medium store.new)
         (D.faults store.old) (D.faults store.new) (IsOk result) (result ≡ Err Stop.StoreFault) }
-    ensures spared { is_named_by (text_asked question.now) (ask_of question.now) ≡ false
+    ensures spared { is_named_by operand.now.text.now operand.now.ask ≡ false
         → store.new ≡ store.old }
     ensures named { result ≡ Err Stop.StoreFault
-        → IsTrue (is_named_by (text_asked question.now) (ask_of question.now)) }
+        → IsTrue (is_named_by operand.now.text.now operand.now.ask) }
     ensures stops { IfErr result IsStoreStop }
     ensures rest { KeepsAllButBody lease.old lease.new }
 {
-    match *question {
-        Question::AnyToken(digits) => Ok(judge_any_token(digits)),
-        Question::Key(KeyField::Token(digits), need) => Ok(judge_token(digits, &need, held)),
-        Question::Key(KeyField::Label(label), need) => {
-            judge_label(label, &need, store, lease, held, records)
-        }
-        Question::Token(digits, need) => Ok(judge_token(digits, &need, held)),
-        Question::External(digits, need) => Ok(judge_external(digits, &need, held)),
-        Question::Record(label) => judge_label(label, &any_key(), store, lease, held, records),
-        Question::Held(label) => Ok(judge_held(label, records)),
-        Question::NewLabel(label) => Ok(judge_new_label(label)),
-        Question::Target(to) => Ok(judge_target(to, records)),
-        Question::Nothing => Ok(Answer::Granted(Grant::nothing())),
+    match operand.ask {
+        Ask::AnyToken => Ok(judge_any_token(operand.text)),
+        Ask::Key(need) => match named_label(operand.text) {
+            Some(label) => judge_label(label, &need, store, lease, held, records),
+            None => Ok(judge_token(digits_of(operand.text), &need, held)),
+        },
+        Ask::Token(need) => Ok(judge_token(operand.text, &need, held)),
+        Ask::External(need) => Ok(judge_external(operand.text, &need, held)),
+        Ask::Record => judge_label(operand.text, &any_key(), store, lease, held, records),
+        Ask::Held => Ok(judge_held(operand.text, records)),
+        Ask::NewLabel => Ok(judge_new_label(operand.text)),
+        Ask::Target => Ok(judge_target(operand.text, records)),
+        Ask::Nothing => Ok(Answer::Granted(Grant::nothing())),
     }
 }
 
@@ -228,6 +240,9 @@ pub(crate) fn judge<D: Disk>(
     ensures shaped { IfOk result (AreShaped records.now (seen_operands operands.now)) }
     ensures keyed { (m : Masters) → Loaded m held.now (bench_of lease.old)
         → IfOk result (AreKeyedOperands m (seen_operands operands.now)) }
+    ensures own { (m : Masters) → Loaded m held.now (bench_of lease.old)
+        → IfOk result (AreAskedAsRead m (bench_of lease.old) records.now
+        (seen_operands operands.now)) }
     ensures faults { (s : State)
         → AtStore s held.now (bench_of lease.old) records.now (D.medium store.old)
         → IfErr result (λ stop. stop ≡ Stop.StoreFault) }
@@ -241,15 +256,15 @@ pub(crate) fn judge<D: Disk>(
     ensures stops { IfErr result IsStoreStop }
     ensures rest { KeepsAllButBody lease.old lease.new }
 {
-    let first = match judge_one(&operands.first.question, store, lease, held, records)? {
+    let first = match judge_one(&operands.first, store, lease, held, records)? {
         Answer::Granted(grant) => grant,
         Answer::Refused(rule) => return Ok(Verdict::Refused(rule, operands.first.name)),
     };
-    let second = match judge_one(&operands.second.question, store, lease, held, records)? {
+    let second = match judge_one(&operands.second, store, lease, held, records)? {
         Answer::Granted(grant) => grant,
         Answer::Refused(rule) => return Ok(Verdict::Refused(rule, operands.second.name)),
     };
-    let third = match judge_one(&operands.third.question, store, lease, held, records)? {
+    let third = match judge_one(&operands.third, store, lease, held, records)? {
         Answer::Granted(grant) => grant,
         Answer::Refused(rule) => return Ok(Verdict::Refused(rule, operands.third.name)),
     };

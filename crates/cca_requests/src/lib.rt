@@ -1,4 +1,4 @@
-//! Requests, each judged and carried out: a file for each verb.
+//! Requests, each judged, decided and carried out.
 //!
 //! A request goes through [`perform`]: the registers are loaded, the rules of the request as a whole and of its operands
 //! are judged, its verb decides over what the operands stand for, and what the verb decided is carried out. Only the last
@@ -8,6 +8,7 @@
 mod changes;
 mod changing_module;
 mod changing_store;
+mod choices;
 mod deciding;
 mod effects;
 mod endings;

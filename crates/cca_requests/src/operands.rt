@@ -1,70 +1,49 @@
 //! The table of operands: of each request, what is asked of which field.
 ghost use Rattle.std.specs.Prelude.{◌≡◌, ◌∷◌, [], Some, codes};
-ghost use Rattle.verb_script.specs.KeyFields.{destination_text, key_field_text};
 ghost use Rattle.verb_script.specs.Parsed.{seen};
 ghost use Rattle.cca_machine.specs.Operands.{operands, no_operands};
 ghost use Rattle.cca_machine.specs.Operands.{one_operand, two_operands, three_operands};
 ghost use Rattle.verb_rules.specs.Needs.{any_key, exported_key, transport_key};
 ghost use Rattle.cca_machine.specs.Operands.{internal_key, part_key, external_key};
-ghost use Rattle.cca_machine.specs.Operands.{first_transport, second_transport};
+ghost use Rattle.cca_machine.specs.Operands.{first_transport, no_transport, second_transport};
 ghost use Rattle.cca_machine.specs.Operands.{five_classes};
-ghost use Rattle.cca_requests.specs.Judging.{IsAccepted, AreFit};
-ghost use Rattle.cca_requests.specs.Judging.{text_asked, ask_of, seen_operand, seen_operands};
+ghost use Rattle.cca_machine.specs.Choices.{out_form_named, pair_form_named};
+ghost use Rattle.cca_requests.specs.FieldWords.{IsOutForm, IsPairForm};
+ghost use Rattle.cca_requests.specs.Judging.{IsAccepted, seen_operand, seen_operands, AreFit};
 
-use crate::verbs::csnbkgn::{out_form, pair_form};
+use crate::choices::{out_form_of, pair_form_of};
 use cca_machine::Ask;
 use cca_vectors::Class;
 use key_transport::Form;
 use verb_rules::{Asked, Classes, EVERY_CLASS, Need, Usage, any_key, exported_key, transport_key};
-use verb_script::{Destination, KeyField, Request};
+use verb_script::Request;
 
-/// What is asked of the value of a field.
-#[derive(Clone, Copy)]
-pub(crate) enum Question<'a> {
-    /// Of the digits of a key token of either kind, its own rules alone.
-    AnyToken(&'a [u8]),
-    /// Of a key, the rules of an internal key that is needed.
-    Key(KeyField<'a>, Need),
-    /// Of the digits of an internal key token, the same rules.
-    Token(&'a [u8], Need),
-    /// Of the digits of an external key token, the rules of a key that is needed.
-    External(&'a [u8], Need),
-    /// Of a label, that it is held with a key.
-    Record(&'a [u8]),
-    /// Of a label, that it is held.
-    Held(&'a [u8]),
-    /// Of a label, its form alone.
-    NewLabel(&'a [u8]),
-    /// Of where a key goes, that a label is held.
-    Target(Destination<'a>),
-    /// Nothing.
-    Nothing,
-}
-
-/// The name of a field, and what is asked of its value.
+/// The name of a field, its text, and what is asked of it.
 #[derive(Clone, Copy)]
 pub(crate) struct Operand<'a> {
     pub(crate) name: &'static str,
-    pub(crate) question: Question<'a>,
+    pub(crate) text: &'a [u8],
+    pub(crate) ask: Ask,
 }
 
 impl<'a> Operand<'a> {
-    fn new(name: &'static str, question: Question<'a>) -> Operand<'a>
+    fn new(name: &'static str, text: &'a [u8], ask: Ask) -> Operand<'a>
         ensures name { result.name.now ≡ name.now }
-        ensures text { text_asked result.question ≡ text_asked question.entry }
-        ensures ask { ask_of result.question ≡ ask_of question.entry }
+        ensures text { result.text.now ≡ text.now }
+        ensures ask { result.ask ≡ ask }
     {
-        Operand { name, question }
+        Operand { name, text, ask }
     }
 
     fn none() -> Operand<'a>
         ensures name { result.name.now ≡ codes "-" }
-        ensures text { text_asked result.question ≡ [] }
-        ensures ask { ask_of result.question ≡ Ask.Nothing }
+        ensures text { result.text.now ≡ [] }
+        ensures ask { result.ask ≡ Ask.Nothing }
     {
         Operand {
             name: "-",
-            question: Question::Nothing,
+            text: b"",
+            ask: Ask::Nothing,
         }
     }
 }
@@ -117,69 +96,69 @@ pub(crate) fn operands_of<'a>(request: &Request<'a>) -> Operands<'a>
     ensures fit { AreFit (operands (seen request.now)) }
 {
     match request {
-        Request::Csnbktp { token, .. } => one_operand("token", Question::AnyToken(token)),
-        Request::Csnbenc { key, .. } => cipher_key(*key, Usage::Encipher),
-        Request::CsnbencFirst { key, .. } => cipher_key(*key, Usage::Encipher),
-        Request::CsnbencMiddle { key, .. } => cipher_key(*key, Usage::Encipher),
-        Request::CsnbencLast { key, .. } => cipher_key(*key, Usage::Encipher),
-        Request::Csnbdec { key, .. } => cipher_key(*key, Usage::Decipher),
-        Request::CsnbdecFirst { key, .. } => cipher_key(*key, Usage::Decipher),
-        Request::CsnbdecMiddle { key, .. } => cipher_key(*key, Usage::Decipher),
-        Request::CsnbdecLast { key, .. } => cipher_key(*key, Usage::Decipher),
-        Request::Csnbmgn { key, .. } => code_key(*key, Usage::MacGenerate),
-        Request::CsnbmgnFirst { key, .. } => code_key(*key, Usage::MacGenerate),
-        Request::CsnbmgnMiddle { key, .. } => code_key(*key, Usage::MacGenerate),
-        Request::CsnbmgnLast { key, .. } => code_key(*key, Usage::MacGenerate),
-        Request::Csnbmvr { key, .. } => code_key(*key, Usage::MacVerify),
-        Request::CsnbmvrFirst { key, .. } => code_key(*key, Usage::MacVerify),
-        Request::CsnbmvrMiddle { key, .. } => code_key(*key, Usage::MacVerify),
-        Request::CsnbmvrLast { key, .. } => code_key(*key, Usage::MacVerify),
-        Request::Csnbkyt { key, .. } => key_operand(*key, &FIVE_CLASSES, None),
-        Request::Csnbcki { to, .. } => goes_to(*to),
-        Request::Csnbrng { .. } => no_operands(b""),
-        Request::CsnbkgnOp { to, .. } => goes_to(*to),
+        Request::Csnbktp { token, .. } => one_operand("token", token, Ask::AnyToken),
+        Request::Csnbenc { key, .. }
+        | Request::CsnbencFirst { key, .. }
+        | Request::CsnbencMiddle { key, .. }
+        | Request::CsnbencLast { key, .. } => cipher_key(key, Usage::Encipher),
+        Request::Csnbdec { key, .. }
+        | Request::CsnbdecFirst { key, .. }
+        | Request::CsnbdecMiddle { key, .. }
+        | Request::CsnbdecLast { key, .. } => cipher_key(key, Usage::Decipher),
+        Request::Csnbmgn { key, .. }
+        | Request::CsnbmgnFirst { key, .. }
+        | Request::CsnbmgnMiddle { key, .. }
+        | Request::CsnbmgnLast { key, .. } => code_key(key, Usage::MacGenerate),
+        Request::Csnbmvr { key, .. }
+        | Request::CsnbmvrFirst { key, .. }
+        | Request::CsnbmvrMiddle { key, .. }
+        | Request::CsnbmvrLast { key, .. } => code_key(key, Usage::MacVerify),
+        Request::Csnbkyt { key, .. } => key_operand(key, &FIVE_CLASSES, None),
+        Request::Csnbcki { to, .. }
+        | Request::CsnbkgnOp { to, .. }
+        | Request::CsnbkpiFirst { to, .. } => one_operand("to", to, Ask::Target),
         Request::CsnbkgnPair {
             form,
             transport2,
             to,
             ..
-        } => csnbkgn_pair(pair_form(*form), *transport2, *to),
+        } => csnbkgn_pair(form, transport2, to),
         Request::CsnbkgnOut {
             form,
             transport1,
             transport2,
             ..
-        } => csnbkgn_out(out_form(*form), *transport1, *transport2),
+        } => csnbkgn_out(form, transport1, transport2),
         Request::Csnbkim {
             token,
             transport,
             to,
             ..
-        } => csnbkim(token, *transport, *to),
-        Request::Csnbkex { key, transport, .. } => csnbkex(*key, *transport),
-        Request::Csnbpex { key, to, .. } => csnbpex(*key, *to),
-        Request::Csnbktc { token, .. } => one_operand("token", Question::Token(token, any_key())),
-        Request::CsnbkpiFirst { to, .. } => goes_to(*to),
-        Request::CsnbkpiMiddle { key, to, .. } => csnbkpi_middle(*key, *to),
+        } => csnbkim(token, transport, to),
+        Request::Csnbkex { key, transport, .. } => csnbkex(key, transport),
+        Request::Csnbpex { key, to, .. } => csnbpex(key, to),
+        Request::Csnbktc { token, .. } => one_operand("token", token, Ask::Token(any_key())),
+        Request::CsnbkpiMiddle { key, to, .. } => csnbkpi_middle(key, to),
         Request::Csnbktr {
             token,
             transport1,
             transport2,
             ..
-        } => csnbktr(token, *transport1, *transport2),
-        Request::Csnbkrc { label, .. } => one_operand("label", Question::NewLabel(label)),
+        } => csnbktr(token, transport1, transport2),
+        Request::Csnbkrc { label, .. } => one_operand("label", label, Ask::NewLabel),
         Request::Csnbkrw { label, token, .. } => csnbkrw(label, token),
-        Request::Csnbkrr { label, .. } => one_operand("label", Question::Record(label)),
-        Request::Csnbkrd { label, .. } => one_operand("label", Question::Held(label)),
+        Request::Csnbkrr { label, .. } => one_operand("label", label, Ask::Record),
+        Request::Csnbkrd { label, .. } => one_operand("label", label, Ask::Held),
         Request::Csnbkrl { prefix, .. } => no_operands(prefix),
-        Request::CsnbmkpPart { .. } => no_operands(b""),
-        Request::CsnbmkpClear { .. } => no_operands(b""),
-        Request::CsnbmkpSet { .. } => no_operands(b""),
-        Request::CsuaaciDefine { .. } => no_operands(b""),
-        Request::CsuaaciRemove { .. } => no_operands(b""),
-        Request::Reencipher { .. } => no_operands(b""),
-        Request::ReencipherAhead { .. } => no_operands(b""),
-        Request::ReencipherDrop { .. } => no_operands(b""),
+        Request::Csnbrng { .. }
+        | Request::CsnbmkpPart { .. }
+        | Request::CsnbmkpClear { .. }
+        | Request::CsnbmkpSet { .. }
+        | Request::CsuaaciDefine { .. }
+        | Request::CsuaaciRemove { .. }
+        | Request::Reencipher { .. }
+        | Request::ReencipherAhead { .. }
+        | Request::ReencipherDrop { .. } => no_operands(b""),
     }
 }
 
@@ -190,22 +169,11 @@ fn no_operands<'a>(_text: &'a [u8]) -> Operands<'a>
     Operands::none()
 }
 
-fn one_operand<'a>(name: &'static str, question: Question<'a>) -> Operands<'a>
-    ensures { seen_operands result ≡ one_operand (record {
-      name = name.now;
-      text = text_asked question.entry;
-      ask = ask_of question.entry;
-    }) }
+fn one_operand<'a>(name: &'static str, text: &'a [u8], ask: Ask) -> Operands<'a>
+    ensures { seen_operands result
+        ≡ one_operand (record { name = name.now; text = text.now; ask = ask }) }
 {
-    Operands::one(Operand::new(name, question))
-}
-
-/// Where a key goes that is made of no operand.
-fn goes_to<'a>(to: Destination<'a>) -> Operands<'a>
-    ensures { seen_operands result ≡ one_operand
-        (record { name = codes "to"; text = destination_text to.entry; ask = Ask.Target }) }
-{
-    one_operand("to", Question::Target(to))
+    Operands::one(Operand::new(name, text, ask))
 }
 
 fn csnbkrw<'a>(label: &'a [u8], token: &'a [u8]) -> Operands<'a>
@@ -214,115 +182,112 @@ fn csnbkrw<'a>(label: &'a [u8], token: &'a [u8]) -> Operands<'a>
         (record { name = codes "token"; text = token.now; ask = Ask.Token any_key }) }
 {
     Operands::two(
-        Operand::new("label", Question::Held(label)),
-        Operand::new("token", Question::Token(token, any_key())),
+        Operand::new("label", label, Ask::Held),
+        Operand::new("token", token, Ask::Token(any_key())),
     )
 }
 
 /// The transport key of the second of two generated keys, of which the first is internal, and where
 /// the first one goes.
-fn csnbkgn_pair<'a>(form: Form, transport2: KeyField<'a>, to: Destination<'a>) -> Operands<'a>
+fn csnbkgn_pair<'a>(form: &[u8], transport2: &'a [u8], to: &'a [u8]) -> Operands<'a>
+    requires { IsPairForm form.now }
     ensures { seen_operands result ≡ two_operands
         (record {
           name = codes "transport2";
-          text = key_field_text transport2.entry;
-          ask = Ask.Key (second_transport form);
+          text = transport2.now;
+          ask = Ask.Key (second_transport (pair_form_named form.now));
         })
-        (record { name = codes "to"; text = destination_text to.entry; ask = Ask.Target }) }
+        (record { name = codes "to"; text = to.now; ask = Ask.Target }) }
 {
+    let form = pair_form_of(form);
     Operands::two(
-        Operand::new(
-            "transport2",
-            Question::Key(transport2, second_transport(form)),
-        ),
-        Operand::new("to", Question::Target(to)),
+        Operand::new("transport2", transport2, Ask::Key(second_transport(form))),
+        Operand::new("to", to, Ask::Target),
     )
 }
 
 /// The transport keys of two generated keys that are both external.
-fn csnbkgn_out<'a>(form: Form, transport1: KeyField<'a>, transport2: KeyField<'a>) -> Operands<'a>
+fn csnbkgn_out<'a>(form: &[u8], transport1: &'a [u8], transport2: &'a [u8]) -> Operands<'a>
+    requires { IsOutForm form.now }
     ensures { seen_operands result ≡ two_operands
         (record {
           name = codes "transport1";
-          text = key_field_text transport1.entry;
-          ask = Ask.Key (first_transport form);
+          text = transport1.now;
+          ask = Ask.Key (first_transport (out_form_named form.now));
         })
         (record {
           name = codes "transport2";
-          text = key_field_text transport2.entry;
-          ask = Ask.Key (second_transport form);
+          text = transport2.now;
+          ask = Ask.Key (second_transport (out_form_named form.now));
         }) }
 {
+    let form = out_form_of(form);
     Operands::two(
-        Operand::new(
-            "transport1",
-            Question::Key(transport1, first_transport(form)),
-        ),
-        Operand::new(
-            "transport2",
-            Question::Key(transport2, second_transport(form)),
-        ),
+        Operand::new("transport1", transport1, Ask::Key(first_transport(form))),
+        Operand::new("transport2", transport2, Ask::Key(second_transport(form))),
     )
 }
 
-fn csnbkim<'a>(token: &'a [u8], transport: KeyField<'a>, to: Destination<'a>) -> Operands<'a>
+fn csnbkim<'a>(token: &'a [u8], transport: &'a [u8], to: &'a [u8]) -> Operands<'a>
     ensures { seen_operands result ≡ three_operands
         (record { name = codes "token"; text = token.now; ask = Ask.External external_key })
         (record {
           name = codes "transport";
-          text = key_field_text transport.entry;
+          text = transport.now;
           ask = Ask.Key (transport_key Class.Importer Usage.Transport);
         })
-        (record { name = codes "to"; text = destination_text to.entry; ask = Ask.Target }) }
+        (record { name = codes "to"; text = to.now; ask = Ask.Target }) }
 {
     Operands {
-        first: Operand::new("token", Question::External(token, external_key())),
+        first: Operand::new("token", token, Ask::External(external_key())),
         second: Operand::new(
             "transport",
-            Question::Key(transport, transport_key(Class::Importer, Usage::Transport)),
+            transport,
+            Ask::Key(transport_key(Class::Importer, Usage::Transport)),
         ),
-        third: Operand::new("to", Question::Target(to)),
+        third: Operand::new("to", to, Ask::Target),
     }
 }
 
-fn csnbkex<'a>(key: KeyField<'a>, transport: KeyField<'a>) -> Operands<'a>
+fn csnbkex<'a>(key: &'a [u8], transport: &'a [u8]) -> Operands<'a>
     ensures { seen_operands result ≡ two_operands
-        (record { name = codes "key"; text = key_field_text key.entry; ask = Ask.Key exported_key })
+        (record { name = codes "key"; text = key.now; ask = Ask.Key exported_key })
         (record {
           name = codes "transport";
-          text = key_field_text transport.entry;
+          text = transport.now;
           ask = Ask.Key (transport_key Class.Exporter Usage.Transport);
         }) }
 {
     Operands::two(
-        Operand::new("key", Question::Key(key, exported_key())),
+        Operand::new("key", key, Ask::Key(exported_key())),
         Operand::new(
             "transport",
-            Question::Key(transport, transport_key(Class::Exporter, Usage::Transport)),
+            transport,
+            Ask::Key(transport_key(Class::Exporter, Usage::Transport)),
         ),
     )
 }
 
-fn csnbpex<'a>(key: KeyField<'a>, to: Destination<'a>) -> Operands<'a>
+fn csnbpex<'a>(key: &'a [u8], to: &'a [u8]) -> Operands<'a>
     ensures { seen_operands result ≡ two_operands
         (record {
           name = codes "key";
-          text = key_field_text key.entry;
+          text = key.now;
           ask = Ask.Key (internal_key five_classes None);
         })
-        (record { name = codes "to"; text = destination_text to.entry; ask = Ask.Target }) }
+        (record { name = codes "to"; text = to.now; ask = Ask.Target }) }
 {
     Operands::two(
-        Operand::new("key", Question::Key(key, internal_key(&FIVE_CLASSES, None))),
-        Operand::new("to", Question::Target(to)),
+        Operand::new("key", key, Ask::Key(internal_key(&FIVE_CLASSES, None))),
+        Operand::new("to", to, Ask::Target),
     )
 }
 
 /// A key that enciphers or deciphers texts.
-fn cipher_key<'a>(key: KeyField<'a>, usage: Usage) -> Operands<'a>
+fn cipher_key<'a>(key: &'a [u8], usage: Usage) -> Operands<'a>
     ensures { seen_operands result ≡ one_operand (record {
       name = codes "key";
-      text = key_field_text key.entry;
+      text = key.now;
       ask = Ask.Key (internal_key (Class.Data ∷ Class.Cipher ∷ []) (Some usage));
     }) }
 {
@@ -330,10 +295,10 @@ fn cipher_key<'a>(key: KeyField<'a>, usage: Usage) -> Operands<'a>
 }
 
 /// A key that makes or verifies codes.
-fn code_key<'a>(key: KeyField<'a>, usage: Usage) -> Operands<'a>
+fn code_key<'a>(key: &'a [u8], usage: Usage) -> Operands<'a>
     ensures { seen_operands result ≡ one_operand (record {
       name = codes "key";
-      text = key_field_text key.entry;
+      text = key.now;
       ask = Ask.Key (internal_key (Class.Data ∷ Class.Mac ∷ []) (Some usage));
     }) }
 {
@@ -341,42 +306,58 @@ fn code_key<'a>(key: KeyField<'a>, usage: Usage) -> Operands<'a>
 }
 
 /// The key part that a further part is combined with, and where the key goes.
-fn csnbkpi_middle<'a>(key: KeyField<'a>, to: Destination<'a>) -> Operands<'a>
+fn csnbkpi_middle<'a>(key: &'a [u8], to: &'a [u8]) -> Operands<'a>
     ensures { seen_operands result ≡ two_operands
-        (record { name = codes "key"; text = key_field_text key.entry; ask = Ask.Key part_key })
-        (record { name = codes "to"; text = destination_text to.entry; ask = Ask.Target }) }
+        (record { name = codes "key"; text = key.now; ask = Ask.Key part_key })
+        (record { name = codes "to"; text = to.now; ask = Ask.Target }) }
 {
     Operands::two(
-        Operand::new("key", Question::Key(key, part_key())),
-        Operand::new("to", Question::Target(to)),
+        Operand::new("key", key, Ask::Key(part_key())),
+        Operand::new("to", to, Ask::Target),
     )
 }
 
 /// A key to be translated, and the transport keys that it is translated from and to.
-fn csnbktr<'a>(token: &'a [u8], transport1: KeyField<'a>, transport2: KeyField<'a>) -> Operands<'a>
+fn csnbktr<'a>(token: &'a [u8], transport1: &'a [u8], transport2: &'a [u8]) -> Operands<'a>
     ensures { seen_operands result ≡ three_operands
         (record { name = codes "token"; text = token.now; ask = Ask.External external_key })
         (record {
           name = codes "transport1";
-          text = key_field_text transport1.entry;
+          text = transport1.now;
           ask = Ask.Key (transport_key Class.Importer Usage.Translate);
         })
         (record {
           name = codes "transport2";
-          text = key_field_text transport2.entry;
+          text = transport2.now;
           ask = Ask.Key (transport_key Class.Exporter Usage.Translate);
         }) }
 {
     Operands {
-        first: Operand::new("token", Question::External(token, external_key())),
+        first: Operand::new("token", token, Ask::External(external_key())),
         second: Operand::new(
             "transport1",
-            Question::Key(transport1, transport_key(Class::Importer, Usage::Translate)),
+            transport1,
+            Ask::Key(transport_key(Class::Importer, Usage::Translate)),
         ),
         third: Operand::new(
             "transport2",
-            Question::Key(transport2, transport_key(Class::Exporter, Usage::Translate)),
+            transport2,
+            Ask::Key(transport_key(Class::Exporter, Usage::Translate)),
         ),
+    }
+}
+
+/// A key of no class, which no key is.
+fn no_transport() -> Need
+    ensures { result ≡ no_transport }
+{
+    Need {
+        asked: Asked::Internal,
+        classes: Classes::of(&[]),
+        usage: None,
+        export: false,
+        double: true,
+        parts: false,
     }
 }
 
@@ -385,9 +366,8 @@ fn first_transport(form: Form) -> Need
     ensures { result ≡ first_transport form }
 {
     match form {
-        Form::Op | Form::Opex | Form::Opim | Form::Imex => {
-            transport_key(Class::Importer, Usage::PairImportExport)
-        }
+        Form::Op | Form::Opex | Form::Opim => no_transport(),
+        Form::Imex => transport_key(Class::Importer, Usage::PairImportExport),
         Form::Exex => transport_key(Class::Exporter, Usage::PairSame),
         Form::Imim => transport_key(Class::Importer, Usage::PairSame),
     }
@@ -398,7 +378,8 @@ fn second_transport(form: Form) -> Need
     ensures { result ≡ second_transport form }
 {
     match form {
-        Form::Op | Form::Opex => transport_key(Class::Exporter, Usage::PairOperational),
+        Form::Op => no_transport(),
+        Form::Opex => transport_key(Class::Exporter, Usage::PairOperational),
         Form::Opim => transport_key(Class::Importer, Usage::PairOperational),
         Form::Imex => transport_key(Class::Exporter, Usage::PairImportExport),
         Form::Exex => transport_key(Class::Exporter, Usage::PairSame),
@@ -457,12 +438,12 @@ fn internal_key(classes: &[Class], usage: Option<Usage>) -> Need
     }
 }
 
-fn key_operand<'a>(key: KeyField<'a>, classes: &[Class], usage: Option<Usage>) -> Operands<'a>
+fn key_operand<'a>(key: &'a [u8], classes: &[Class], usage: Option<Usage>) -> Operands<'a>
     ensures { seen_operands result ≡ one_operand (record {
       name = codes "key";
-      text = key_field_text key.entry;
+      text = key.now;
       ask = Ask.Key (internal_key classes.now usage);
     }) }
 {
-    Operands::one(Operand::new("key", Question::Key(key, internal_key(classes, usage))))
+    Operands::one(Operand::new("key", key, Ask::Key(internal_key(classes, usage))))
 }

@@ -1,5 +1,5 @@
 //! A request, judged and carried out.
-ghost use Rattle.std.specs.Prelude.{◌≡◌, false, [], Option, Err, OnErr, IfErr, IsSome, IsTrue};
+ghost use Rattle.std.specs.Prelude.{◌≡◌, false, [], Option, Err, OnOk, OnErr, IfErr, IsSome, IsTrue};
 ghost use Rattle.key_cells.specs.Bench.{blank_bench};
 ghost use Rattle.key_cells.specs.Lease.{bench_of, loan_of};
 ghost use Rattle.line_service.specs.Machine.{world};
@@ -10,6 +10,7 @@ ghost use Rattle.verb_script.specs.Parsed.{seen};
 ghost use Rattle.cca_machine.specs.State.{State, module_size, store_size};
 ghost use Rattle.cca_machine.specs.Operands.{operands, is_reencipher};
 ghost use Rattle.cca_machine.specs.Verdict.{Refusal, needs_master, verdict_by};
+ghost use Rattle.cca_requests.specs.ByRecords.{RestsOnRecords};
 ghost use Rattle.cca_requests.specs.Serving.{IsSpelled, IsRequestStop, IsLoadedStop, Stands, Serves, Leaves, FindsDamage, SparesStore, DrawsOnly, AreRemembered, tables};
 ghost use Rattle.cca_requests.specs.Judging.{IsAccepted, HaveShapes, AreGranted, AreKeyed};
 ghost use Rattle.cca_requests.specs.Decided.{TakesOnly, source};
@@ -34,8 +35,7 @@ use verb_script::{ReplyBuffer, Request};
 ///
 /// A refusal is `Ok` with its reply. After a stop the reply buffer is empty, and the session is to be begun again.
 ///
-/// Random bytes are drawn once no rule that is asked before refuses the request: by one call, and by further ones while the
-/// halves of a key that are to be unique are repeated.
+/// Random bytes are drawn only where no rule that is asked before refuses the request.
 ///
 /// Each request reads the module twice, and for each label of a key one cell of the store. A change of a disk reads
 /// it once more at most, and writes and syncs it twice. Re-enciphering goes through the store cell by cell: it costs two
@@ -73,6 +73,9 @@ pub fn perform<M: Disk, D: Disk, E: Entropy>(
     ensures random { DrawsOnly (λ s. Stands s (tables roles.old records.old)
         (M.medium «module».old) (D.medium store.old)) (seen request.now)
         result entropy.old entropy.new (E.faults entropy.old) (E.faults entropy.new) }
+    // Whatever the store tells of its bytes.
+    ensures own { OnOk result (RestsOnRecords (M.medium «module».old)
+        (tables roles.old records.old) (seen request.now) reply.new) }
     ensures stops { IfErr result IsRequestStop }
     ensures bench { bench.new ≡ blank_bench }
 {
@@ -113,6 +116,8 @@ fn carry_out<M: Disk, D: Disk, E: Entropy>(
         (tables roles.old records.old) (M.medium «module».old) (D.medium store.old))
         (seen request.now) result entropy.old entropy.new
         (E.faults entropy.old) (E.faults entropy.new) }
+    ensures own { OnOk result (RestsOnRecords (M.medium «module».old)
+        (tables roles.old records.old) (seen request.now) reply.new) }
     ensures left { Leaves result reply.new (⟦<(M, D) as Shown>⟧.between
         («module».old, store.old) («module».new, store.new))
         (tables roles.old records.old) (tables roles.new records.new) }

@@ -1,19 +1,19 @@
-//! Labels, judged by what the memory knows of them, and the keys in their records. It is the only
-//! place that reads the store.
-ghost use Rattle.std.specs.Prelude.{◌≡◌, [], Some, Err, IfOk, IfErr, IsOk, IsTrue};
+//! Labels, judged by what the memory knows of them, and the keys in their records.
+ghost use Rattle.std.specs.Prelude.{◌≡◌, ℕ, [], None, Some, Err, IfOk, IfErr, IsOk, get_or};
 ghost use Rattle.key_cells.specs.Bench.{Bench};
 ghost use Rattle.key_cells.specs.Lease.{bench_of};
 ghost use Rattle.key_records.specs.Changes.{KeepsAllButBody};
 ghost use Rattle.key_records.specs.StoreStands.{Agrees};
 ghost use Rattle.line_service.specs.Devices.{DiskLeft};
+ghost use Rattle.master_registers.specs.Loaded.{Loaded};
+ghost use Rattle.master_registers.specs.Masters.{Masters};
 ghost use Rattle.slot_disk.specs.Medium.{Keeps};
 ghost use Rattle.verb_rules.specs.Keys.{keys_of};
-ghost use Rattle.verb_script.specs.Grammar.{accepts, to_text};
-ghost use Rattle.verb_script.specs.KeyFields.{destination_text};
 ghost use Rattle.cca_machine.specs.State.{State};
 ghost use Rattle.cca_requests.specs.Deciding.{AtStore, HasStore};
 ghost use Rattle.cca_requests.specs.Judging.{IsAsked, IsShaped, IsStoreStop};
-ghost use Rattle.cca_requests.specs.Stored.{Finds, IsLabelAsked};
+ghost use Rattle.cca_requests.specs.ByRecords.{IsHeldIn};
+ghost use Rattle.cca_requests.specs.Stored.{Finds, IsAnsweredAsRead, IsLabelAsked};
 ghost use Rattle.cca_requests.specs.Stored.{IsReadFault, read_stop};
 
 use crate::judging::{Answer, Grant};
@@ -24,7 +24,7 @@ use line_service::{Device, Stop};
 use master_registers::Registers;
 use slot_disk::{Disk, Steps};
 use verb_rules::{Need, Rule, judge_stored};
-use verb_script::Destination;
+use verb_script::named_label;
 
 /// The place of a label that is held, by rules 06 and 07. It costs at most 11 comparisons.
 fn find_label(text: &[u8], records: &Records) -> Result<Place, Rule>
@@ -54,16 +54,15 @@ pub(crate) fn judge_held(text: &[u8], records: &Records) -> Answer
 }
 
 /// Judges where a key goes: the reply, or the record of a label that is to be held.
-pub(crate) fn judge_target(to: Destination<'_>, records: &Records) -> Answer
-    requires { IsTrue (accepts to_text (destination_text to)) }
+pub(crate) fn judge_target(text: &[u8], records: &Records) -> Answer
     ensures asked { (s : State) (bench : Bench)
         → Agrees (keys_of s.registers) records.now s.labels
-        → IsAsked s bench (destination_text to.entry) Ask.Target result }
-    ensures shaped { IsShaped records.now (destination_text to.entry) Ask.Target result }
+        → IsAsked s bench text.now Ask.Target result }
+    ensures shaped { IsShaped records.now text.now Ask.Target result }
 {
-    match to {
-        Destination::Record(label) => judge_held(label, records),
-        Destination::Reply => Answer::Granted(Grant::nothing()),
+    match named_label(text) {
+        Some(label) => judge_held(label, records),
+        None => Answer::Granted(Grant::nothing()),
     }
 }
 
@@ -104,6 +103,11 @@ pub(crate) fn judge_label<D: Disk>(
     ensures asked { (s : State)
         → AtStore s held.now (bench_of lease.old) records.now (D.medium store.old)
         → IfOk result (IsLabelAsked s (bench_of lease.old) need.now label.now) }
+    // By what was read of the record of a label that is held, whatever the store tells of its bytes.
+    ensures own { (m : Masters) (place : ℕ) → Loaded m held.now (bench_of lease.old)
+        → IsHeldIn records.now label.now place
+        → IfOk result (IsAnsweredAsRead m (bench_of lease.old) need.now
+        (get_or records.now place None) (bench_of lease.new).body) }
     ensures shaped { IfOk result (IsShaped [] [] (Ask.Key need.now)) }
     ensures faults { (s : State)
         → AtStore s held.now (bench_of lease.old) records.now (D.medium store.old)

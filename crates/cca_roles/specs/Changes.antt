@@ -3,7 +3,7 @@ use Rattle.std.specs.Prelude.{◌≡◌, ◌≢◌, ◌≤◌, ◌⊎◌, ◌+�
 use Rattle.std.specs.Prelude.{Result, Err, OnOk, OnErr}
 use Rattle.key_cells.specs.Lease.{bench_of, holding}
 use Rattle.key_cells.specs.declared.leases.Lease.{Lease}
-use Rattle.slot_disk.specs.Cells.{cell_size, body, IsUntouched}
+use Rattle.slot_disk.specs.Cells.{cell_size, body, IsReplaced, IsReplacing, IsUntouched}
 use Rattle.slot_disk.specs.Faults.{Rose}
 use Rattle.slot_disk.specs.Medium.{Medium, IsSettled, Told, From, Becomes, EachImage}
 use Rattle.slot_disk.specs.Ranges.{SameOutside}
@@ -34,16 +34,27 @@ pub record ChangesRoles (place : ℕ) (s next : List (Option Role)) (old new : M
   pub either : Becomes (HoldsEither (place + 1) s next) old new
   pub moments : EachImage old new (From (HoldsEither (place + 1) s next) old)
 
+-- The very body that is written, where the roles may be those of another one too: the cell selects it. Every other cell
+-- selects the body that it did, and no byte has changed but the selector of the cell and those of its body that wasn't
+-- selected. After Ok the body that was selected stands where it stood, and at each moment before the cell selects the old
+-- body or this one.
+pub record ReplacesBody (cell : ℕ) (bytes : List ℕ) (old new : Medium)
+    (result : Result (Unit {0}) RoleFault) : Type 0 where
+  pub replaced : OnOk result (Becomes (IsReplaced cell bytes) old new)
+  pub replacing : Becomes (IsReplacing cell bytes) old new
+  pub moments : EachImage old new (From (IsReplacing cell bytes) old)
+
 -- the memory has the roles after, where the call answers Ok, and else those before
 pub record Remembers (s next now : List (Option Role)) (result : Result (Unit {0}) RoleFault)
     : Type 0 where
   pub done : OnOk result (now ≡ next)
   pub kept : OnErr result (now ≡ s)
 
--- a disk's fault is answered only where the disk's count rose
+-- a disk's fault is answered only where the disk's count rose, and where none is answered the count is as before
 pub record HasRoleCause (before now : ℕ) (result : Result (Unit {0}) RoleFault) : Type 0 where
   pub later : before ≤ now
   pub failed : result ≡ Err DiskFault → Rose before now
+  pub quiet : (result ≡ Err DiskFault → ⊥) → now ≡ before
 
 -- of what a lease holds the body alone has changed
 abbrev pub KeepsAllButBody : Lease → Lease → Type 0

@@ -1,9 +1,9 @@
 //! Changes of one role. Each writes one cell: a stop at any moment leaves the roles before or after.
 ghost use Rattle.std.specs.Prelude.{◌≡◌, ◌≢◌, ◌↔◌, ◌⊎◌, ◌+◌, ◌*◌, ◌≤◌, ◌<◌, ℕ, Option, None, Some, Result, Ok, Err, set, IfErr, IfSome, IsNone, IsTrue};
 ghost use Rattle.slot_disk.specs.Medium.{Told, IsSettled};
-ghost use Rattle.cca_roles.specs.Changes.{ChangesRoles, Remembers, HasRoleCause, KeepsAllButBody};
+ghost use Rattle.cca_roles.specs.Changes.{ChangesRoles, ReplacesBody, Remembers, HasRoleCause, KeepsAllButBody};
 ghost use Rattle.byte_lists.specs.Directory.{AreApart};
-ghost use Rattle.cca_roles.specs.RoleBody.{ReadsPlace};
+ghost use Rattle.cca_roles.specs.RoleBody.{ReadsPlace, blank_body, role_body};
 ghost use Rattle.cca_roles.specs.RoleNames.{default_name};
 ghost use Rattle.cca_roles.specs.Roles.{names, name_of, define_place, after_define, define_refused};
 ghost use Rattle.cca_roles.specs.Roles.{remove_place, after_remove, remove_refused};
@@ -33,6 +33,9 @@ impl Roles {
 
         ensures changed { ChangesRoles (define_place name.now self.old)
             self.old (after_define name.now points self.old)
+            (M.medium «module».old) (M.medium «module».new) result }
+        ensures written { result ≢ Err RoleFault.TableFull
+            → ReplacesBody (define_place name.now self.old + 1) (role_body name.now points)
             (M.medium «module».old) (M.medium «module».new) result }
         ensures memory { Remembers
             self.old (after_define name.now points self.old) self.new result }
@@ -73,6 +76,9 @@ impl Roles {
 
         ensures changed { ChangesRoles (remove_place name.now self.old)
             self.old (after_remove name.now self.old)
+            (M.medium «module».old) (M.medium «module».new) result }
+        ensures written { result ≢ Err RoleFault.Unknown
+            → ReplacesBody (remove_place name.now self.old + 1) blank_body
             (M.medium «module».old) (M.medium «module».new) result }
         ensures memory { Remembers self.old (after_remove name.now self.old) self.new result }
         ensures rest { KeepsAllButBody lease.old lease.new }
@@ -125,6 +131,8 @@ impl Roles {
         requires apart { AreApart (set (names self.old) place (name_of slot)) }
         requires stands { Told (M.medium «module».old) (λ image. StandsForRoles image self.old) }
         ensures changed { ChangesRoles place self.old (set self.old place slot)
+            (M.medium «module».old) (M.medium «module».new) result }
+        ensures written { ReplacesBody (place + 1) body.now
             (M.medium «module».old) (M.medium «module».new) result }
         ensures memory { Remembers self.old (set self.old place slot) self.new result }
         ensures faults { IfErr result (λ fault. fault ≡ RoleFault.DiskFault) }

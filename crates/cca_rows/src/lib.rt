@@ -13,6 +13,10 @@ mod ahead_stops;
 #[cfg(test)]
 mod audits;
 #[cfg(test)]
+mod changed_disk;
+#[cfg(test)]
+mod changed_stores;
+#[cfg(test)]
 mod cuts;
 #[cfg(test)]
 mod demo;

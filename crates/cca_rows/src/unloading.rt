@@ -20,7 +20,7 @@ use std::test::Fail;
 const ROOM: usize = 4_096;
 
 // The command that moves the keys under EXP to a module that holds the transport key under IMP.
-const MOVE: [&str; 5] = ["unload", "DEFAULT", "EXP", "DEFAULT", "IMP"];
+pub(crate) const MOVE: [&str; 5] = ["unload", "DEFAULT", "EXP", "DEFAULT", "IMP"];
 
 // The key of zeros, which came under the transport key.
 const ZERO: &[(&str, &str)] = &[(
@@ -29,14 +29,14 @@ const ZERO: &[(&str, &str)] = &[(
 )];
 
 // What the file has of it, and of the transport key itself.
-const FILE: [&str; 4] = [
+pub(crate) const FILE: [&str; 4] = [
     "CSNBKRC role=DEFAULT label=EXP\n",
     "CSNBKIM role=DEFAULT token=020000000000c000000000000000000023f2c4edba8eb3cb23246490b3c57f7400417d000341000000417d0003210000000000000000000000000000be5116bc transport=L:IMP to=L:EXP\n",
     "CSNBKRC role=DEFAULT label=ZERO\n",
     "CSNBKIM role=DEFAULT token=020000000000c00000000000000000008ca64de9c1b123a700000000000000000000000000000000000000000000000000000000000000000000000050583190 transport=L:IMP to=L:ZERO\n",
 ];
 
-const REPORT: &str = "kept IMP target\n";
+pub(crate) const REPORT: &str = "kept IMP target\n";
 
 // The transport key at the other module.
 pub(crate) const IMPORTER: &[(&str, &str)] = &[
@@ -83,14 +83,14 @@ enum Failing {
 
 // How a call ended, and what file and report got.
 #[derive(Drop)]
-struct Unloaded {
-    status: MoveStatus,
-    file: Vec<u8>,
-    report: Vec<u8>,
+pub(crate) struct Unloaded {
+    pub(crate) status: MoveStatus,
+    pub(crate) file: Vec<u8>,
+    pub(crate) report: Vec<u8>,
 }
 
 // The store of these tests: EXP, IMP and ZERO.
-fn here(rt: &impl Abort, alloc: Global) -> Result<Pair, Fail> {
+pub(crate) fn here(rt: &impl Abort, alloc: Global) -> Result<Pair, Fail> {
     with(rt, alloc, &blank(alloc)?, &[TRANSPORT, ZERO])
 }
 
@@ -141,7 +141,7 @@ fn unload_failing(
 }
 
 // Some lines, one after another.
-fn joined(alloc: Global, lines: &[&str], count: usize) -> Result<String, Fail> {
+pub(crate) fn joined(alloc: Global, lines: &[&str], count: usize) -> Result<String, Fail> {
     let mut text = String::new(alloc);
     for line in lines.iter().take(count) {
         text.push_str(line)?;
@@ -150,7 +150,13 @@ fn joined(alloc: Global, lines: &[&str], count: usize) -> Result<String, Fail> {
 }
 
 // Asserts how an unloading ended.
-fn is_so(rt: &impl Abort, ended: &Unloaded, status: MoveStatus, file: &str, report: &str) {
+pub(crate) fn is_so(
+    rt: &impl Abort,
+    ended: &Unloaded,
+    status: MoveStatus,
+    file: &str,
+    report: &str,
+) {
     assert_eq!(rt; ended.status, status);
     assert_eq!(rt; ended.file.as_slice(), file.as_bytes());
     assert_eq!(rt; ended.report.as_slice(), report.as_bytes());

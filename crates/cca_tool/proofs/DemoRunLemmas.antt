@@ -121,15 +121,14 @@ with_random o input i_count random e_count =
 -- what is left of sink and disks, beside a source and a random source that weren't called
 pub demo_outside : (out : Status) (r : Result (Unit {0}) Stop) → out ≡ status_of_lem r → (out ≡ status.ReadFault → ⊥) → (out ≡ status.EntropyFault → ⊥)
     → (o : Span Outside) (input : Option (List ℕ)) (i_count : ℕ) (random : Option (List ℕ)) (e_count : ℕ) → DemoLeft r o
-    → OutsideLeft cca r (record { old = with_random o.old input i_count random e_count; new = with_random o.new input i_count random e_count })
+    → OutsideLeft r (record { old = with_random o.old input i_count random e_count; new = with_random o.new input i_count random e_count })
 demo_outside out r is unread undrawn o input i_count random e_count left = record {
   devices_left = record {
     module_left = left.module_left;
     store_left = left.store_left;
-    entropy_left = record { later = omega arith; fault = λ h. absurd (undrawn (is ∙ ap status_of_lem h)) };
-    draws = λ h. tt;
+    entropy_left = record { later = omega arith; fault = λ h. absurd (undrawn (is ∙ ap status_of_lem h)); quiet = λ never. refl };
   };
-  source_left = record { later = omega arith; fault = λ h. absurd (unread (is ∙ ap status_of_lem h)) };
+  source_left = record { later = omega arith; fault = λ h. absurd (unread (is ∙ ap status_of_lem h)); quiet = λ never. refl };
   sink_left = left.sink_left;
   sink_grows = left.sink_grows;
 }
@@ -174,6 +173,7 @@ module _ (done : Unit {0}) (q : Result (Unit {0}) Stop) (undamaged : (device : D
     settled = λ ok. left.settled refl;
     later = left.later;
     fault = λ h. absurd (never h);
+    quiet = λ unfailed. left.quiet (λ h. cc h);
   }
 
   pub summary_left : (m0 m1 d0 d1 : Medium) (m_before m_now d_before d_now sink_before sink_now : ℕ) (p q' : Option (List ℕ))

@@ -8,6 +8,7 @@ mod BetweenLemmas
 mod KnownLemmas
 mod LineLemmas
 mod MoveLemmas
+mod RestLemmas
 mod StopLemmas
 mod StatusLemmas
 mod Walks

@@ -174,6 +174,7 @@ module _ {T U : Type 0} (r : Result T Stop) (q : Result U Stop) (d : Span Device
       settled = λ h. left.module_left.settled (ok h);
       later = left.module_left.later;
       fault = λ h. left.module_left.fault (back ModuleFault h);
+      quiet = λ never. left.module_left.quiet (λ h. never (onto ModuleFault h));
     };
     store_left = record {
       size = left.store_left.size;
@@ -181,6 +182,7 @@ module _ {T U : Type 0} (r : Result T Stop) (q : Result U Stop) (d : Span Device
       settled = λ h. left.store_left.settled (ok h);
       later = left.store_left.later;
       fault = λ h. left.store_left.fault (back StoreFault h);
+      quiet = λ never. left.store_left.quiet (λ h. never (onto StoreFault h));
     };
   }
 
@@ -198,6 +200,19 @@ loaded_after m held old new is loaded = record {
   };
   told = loaded.told;
 }
+
+pub is_loaded_after : (held : Registers) (old new : Bench)
+    → new ≡ record old { key = new.key; schedules = new.schedules; body = new.body } → IsLoaded held old → IsLoaded held new
+is_loaded_after held old new is loaded =
+    loaded_after (masters_in held new) held old new is (subst (λ (m : Masters). Loaded m held old) (sym (ap (masters_in held) is)) loaded)
+
+-- and the module stands for them, as it did when it was opened
+pub registers_after : (held : Registers) (old new : Bench)
+    → new ≡ record old { key = new.key; schedules = new.schedules; body = new.body } → (m0 m1 : Medium) → m1.content ≡ m0.content
+    → Told m1 (StandsForLoaded held old) → Told m0 (StandsForLoaded held new)
+registers_after held old new is m0 m1 kept stands =
+    told_earlier m0 m1 (StandsForLoaded held new) kept
+    (subst (λ (m : Masters). Told m1 (λ image. StandsForMasters image m)) (sym (ap (masters_in held) is)) stands)
 
 -- the registers, the roles and the labels that were opened are those of the state for which the disks stand
 pub opened_as : (s : State) (held : Registers) (first last : Lease) (roles : List (Option Role)) (rows : List (Option Row)) (m0 m1 d0 d1 : Medium)

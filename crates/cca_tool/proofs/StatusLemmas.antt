@@ -1,15 +1,10 @@
 -- The status of a run tells how its lines ended.
-use Rattle.std.proofs.Common.{◌≡◌, ℕ, Result, Ok, Err, refl, sym, ap, ◌∙◌, subst, inl, inr}
-use Rattle.std.specs.Prelude.{◌⊎◌, IsOk}
-use Rattle.slot_disk.specs.Medium.{Medium, Told}
-use Rattle.slot_disk.proofs.Media.{told_from, told_at}
-use Rattle.line_service.specs.Stops.{AnswersLines, IsFaultless as IsFaultlessOutcome}
-use Rattle.line_service.specs.declared.stops.Device.TheVariants.{Module}
+use Rattle.std.proofs.Common.{◌≡◌, Result, Ok, Err, refl, sym, ap, ◌∙◌, subst, inl, inr}
+use Rattle.std.specs.Prelude.{◌⊎◌}
 use Rattle.line_service.specs.declared.stops.Stop.{Stop}
 use Rattle.line_service.specs.declared.stops.Stop.TheVariants.{ReadFault, WriteFault, EntropyFault, ModuleFault, StoreFault, Damaged, InputLimit}
-use Rattle.cca_tool.specs.Coprocessor.{IsBrokenModule}
 use Rattle.cca_tool.specs.Running.{Ended}
-use Rattle.cca_tool.specs.Statuses.{status_of_lem, CallsNone, ServesLines, IsFaultless}
+use Rattle.cca_tool.specs.Statuses.{status_of_lem, CallsNone}
 use Rattle.cca_tool.specs.declared.command.Status.{Status}
 use Rattle.cca_tool.specs.declared.command.Status.TheVariants as status
 
@@ -39,44 +34,6 @@ outcome_is (Err InputLimit) = refl
 module _ (r : Result (Unit {0}) Stop) (outcome : Status) (is : outcome ≡ status_of_lem r) where
   pub as_told : (told : Status) → outcome ≡ told → r ≡ outcome_of told
   as_told told h = sym (outcome_is r) ∙ (ap outcome_of (sym is) ∙ ap outcome_of h)
-
-  pub stopped_as : (outcome ≡ status.ReadFault) ⊎ (outcome ≡ status.InputLimit) → (r ≡ Err ReadFault) ⊎ (r ≡ Err InputLimit)
-  stopped_as (inl h) = inl (as_told status.ReadFault h)
-  stopped_as (inr h) = inr (as_told status.InputLimit h)
-
-  pub serves_lines : ServesLines outcome → AnswersLines r
-  serves_lines (inl h) = inl (subst IsOk (sym (as_told status.Done h)) refl)
-  serves_lines (inr (inl h)) = inr (inl (as_told status.ReadFault h))
-  serves_lines (inr (inr (inl h))) = inr (inr (inl (as_told status.InputLimit h)))
-  serves_lines (inr (inr (inr h))) = inr (inr (inr (as_told status.WriteFault h)))
-
-  faultless : (r : Result (Unit {0}) Stop) → IsFaultlessOutcome r → IsFaultless (status_of_lem r)
-  faultless (Ok done) h = tt
-  faultless (Err InputLimit) h = tt
-  faultless (Err ReadFault) h = h
-  faultless (Err WriteFault) h = h
-  faultless (Err EntropyFault) h = h
-  faultless (Err ModuleFault) h = h
-  faultless (Err StoreFault) h = h
-  faultless (Err (Damaged device cell)) h = h
-
-  faultless_outcome : (r : Result (Unit {0}) Stop) → IsFaultless (status_of_lem r) → IsFaultlessOutcome r
-  faultless_outcome (Ok done) h = tt
-  faultless_outcome (Err InputLimit) h = tt
-  faultless_outcome (Err ReadFault) h = h
-  faultless_outcome (Err WriteFault) h = h
-  faultless_outcome (Err EntropyFault) h = h
-  faultless_outcome (Err ModuleFault) h = h
-  faultless_outcome (Err StoreFault) h = h
-  faultless_outcome (Err (Damaged device cell)) h = h
-
-  pub judged_as : (m : Medium) → Told m (λ image. (cell : ℕ) → IsBrokenModule cell image → r ≡ Err (Damaged Module cell))
-      → Told m (λ image. (cell : ℕ) → IsBrokenModule cell image → (outcome ≡ status.Damaged Module cell) ⊎ (outcome ≡ status.NoMemory))
-  judged_as m judged =
-      told_from m.content _ (λ c told cell broken.
-      inl (is ∙ ap status_of_lem (told_at m.content (λ image. (n : ℕ) → IsBrokenModule n image → r ≡ Err (Damaged Module n)) c told judged cell broken)))
-
--- ---- where no device was called
 
 -- ---- what holds of the outcome of which a status tells
 

@@ -2,7 +2,7 @@
 use Rattle.std.proofs.Common.{◌≡◌, ℕ, List, Result, Err, refl, ap, ◌∙◌, subst}
 use Rattle.std.specs.Prelude.{IfErr}
 use Rattle.line_service.specs.declared.stops.Device.{Device}
-use Rattle.line_service.specs.declared.stops.Device.TheVariants.{Module}
+use Rattle.line_service.specs.declared.stops.Device.TheVariants.{Module, Store}
 use Rattle.line_service.specs.declared.stops.Stop.{Stop}
 use Rattle.line_service.specs.declared.stops.Stop.TheVariants.{ReadFault, WriteFault, EntropyFault, ModuleFault, StoreFault, Damaged, InputLimit}
 use Rattle.slot_disk.specs.Medium.{Medium, Told}
@@ -10,7 +10,7 @@ use Rattle.slot_disk.proofs.Media.{told_from, told_at}
 use Rattle.cca_roles.specs.declared.faults.RoleFault.TheVariants as role
 use Rattle.key_records.specs.declared.faults.RecordFault.TheVariants as record_fault
 use Rattle.cca_requests.specs.Serving.{IsRequestStop}
-use Rattle.cca_tool.specs.Coprocessor.{IsCell, IsStop}
+use Rattle.cca_tool.specs.Coprocessor.{IsCell, IsRereadCell, IsStop}
 
 -- a stop that names no cell that a disk hasn't
 of_stop : (stop : Stop) → ((device : Device) (cell : ℕ) → stop ≡ Damaged device cell → IsCell device cell) → IsStop stop
@@ -26,6 +26,11 @@ of_stop (Damaged device cell) cells = cells device cell refl
 pub cell_zero : (r : Result (Unit {0}) Stop) (cell : ℕ) → IfErr r IsRequestStop → r ≡ Err (Damaged Module cell) → r ≡ Err (Damaged Module 0)
 cell_zero r cell stops h =
     h ∙ ap (λ (n : ℕ). Err (Damaged Module n)) (subst (λ (u : Result (Unit {0}) Stop). IfErr u IsRequestStop) h stops)
+
+-- a request finds a cell damaged that it has read again
+pub reread_cell : (r : Result (Unit {0}) Stop) (device : Device) (cell : ℕ) → IfErr r IsRequestStop → r ≡ Err (Damaged device cell) → IsRereadCell device cell
+reread_cell r Module cell stops h = subst (λ (u : Result (Unit {0}) Stop). IfErr u IsRequestStop) h stops
+reread_cell r Store cell stops h = subst (λ (u : Result (Unit {0}) Stop). IfErr u IsRequestStop) h stops
 
 pub same_cell : {T : Type 0} (device : Device) (x cell : ℕ) → ◌≡◌ {A = Result T Stop} (Err (Damaged device x)) (Err (Damaged device cell)) → x ≡ cell
 same_cell device x cell h = cc h

@@ -1,8 +1,14 @@
 -- How the status of an audited run tells of its lines and of its trail.
-use Rattle.std.specs.Prelude.{◌≡◌, ◌⊎◌, Result, Ok, Err}
+use Rattle.std.specs.Prelude.{◌≡◌, ◌⊎◌, ◌++◌, ℕ, List, Result, Ok, Err}
+use Rattle.audit_entries.specs.LineEntries.{entry_of}
+use Rattle.audit_trail.specs.declared.entries.Entry.{Entry}
 use Rattle.audit_trail.specs.declared.faults.TrailFault.{TrailFault}
 use Rattle.audit_trail.specs.declared.faults.TrailFault.TheVariants.{DiskFault, Full, Damaged}
+use Rattle.audited_service.specs.Noting.{Noted, entries_of}
+use Rattle.line_service.specs.Serving.{session}
 use Rattle.line_service.specs.declared.stops.Stop.{Stop}
+use Rattle.cca_machine.specs.State.{State}
+use Rattle.cca_tool.specs.Coprocessor.{cca}
 use Rattle.cca_tool.specs.Running.{Uncalled}
 use Rattle.cca_tool.specs.Statuses.{status_of_lem}
 use Rattle.cca_tool.specs.declared.auditing.AuditStatus.{AuditStatus}
@@ -32,3 +38,11 @@ pub record AllUncalled {S K M D E T : Type 0} (source0 source1 : S) (sink0 sink1
     : Type 0 where
   pub devices : Uncalled source0 source1 sink0 sink1 module0 module1 store0 store1 entropy0 entropy1
   pub no_trail : trail1 ≡ trail0
+
+-- What lines lead to that take these random bytes, in the machine that notes entries: the state and the replies of the
+-- coprocessor's own session, and the entries before with one behind them for each line, of the line and of its own reply.
+pub record HaveNoted (s : State) (es : List Entry) (lines : List (List ℕ)) (drawn : List ℕ)
+    (t : Noted State) (sent : List ℕ) : Type 0 where
+  pub entries : t.entries ≡ es ++ entries_of cca entry_of s drawn lines
+  pub state : t.state ≡ (session cca s drawn lines).state
+  pub replies : sent ≡ (session cca s drawn lines).reply

@@ -82,6 +82,11 @@ abbrev pub IsCell : Device → ℕ → Type 0
 IsCell Module cell = cell ≤ 32
 IsCell Store cell = cell < 1024
 
+-- a request has the registers read again, and records
+abbrev pub IsRereadCell : Device → ℕ → Type 0
+IsRereadCell Module cell = cell ≡ 0
+IsRereadCell Store cell = cell < 1024
+
 -- what stands for registers and roles isn't broken
 pub module_stands : (cell : ℕ) (c : List ℕ) (registers : Masters) (roles : List (Option Role))
     → IsBrokenModule cell c
@@ -132,8 +137,8 @@ cca = record {
   InStore = IsStoreOf;
   Between = IsRenewing;
   MayStop = MayFail;
-  Draws = ⊤;
   HasCell = IsCell;
+  IsReread = IsRereadCell;
   IsBrokenModule = IsBrokenModule;
   IsBrokenStore = IsBrokenStore;
   module_apart = broken_module_apart;
@@ -164,17 +169,7 @@ IsStop ModuleFault = ⊤
 IsStop StoreFault = ⊤
 IsStop (Damaged device cell) = IsCell device cell
 
--- and before its first line for these
-abbrev pub IsOpeningStop : Stop → Type 0
-IsOpeningStop ModuleFault = ⊤
-IsOpeningStop StoreFault = ⊤
-IsOpeningStop (Damaged device cell) = IsCell device cell
-IsOpeningStop ReadFault = ⊥
-IsOpeningStop WriteFault = ⊥
-IsOpeningStop InputLimit = ⊥
-IsOpeningStop EntropyFault = ⊥
-
--- of these those of the module
+-- and before the store is opened for these
 abbrev pub IsModuleStop : Stop → Type 0
 IsModuleStop ModuleFault = ⊤
 IsModuleStop (Damaged Module cell) = cell ≤ 32

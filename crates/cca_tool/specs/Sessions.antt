@@ -97,3 +97,5 @@ pub record InputRead (result : Result Taken Stop) (input rest : Option (List ℕ
   pub within : r1.taken ≤ input_limit
   pub full : result ≡ Err InputLimit → r1.taken ≡ input_limit
   pub short : (result ≡ Err ReadFault) ⊎ (result ≡ Ok End) → r1.taken < input_limit
+  -- after a stop no line is shown, and no byte is pending
+  pub emptied : OnErr result (r1 ≡ record blank { taken = r1.taken })

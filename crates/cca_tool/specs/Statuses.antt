@@ -1,5 +1,5 @@
 -- How the status of a run tells of its lines.
-use Rattle.std.specs.Prelude.{⊤, ◌≡◌, ◌⊎◌, Result, Ok, Err}
+use Rattle.std.specs.Prelude.{◌≡◌, ◌⊎◌, Result, Ok, Err}
 use Rattle.cca_tool.specs.declared.command.Status.{Status}
 use Rattle.cca_tool.specs.declared.command.Status.TheVariants as status
 use Rattle.line_service.specs.declared.stops.Stop.{Stop}
@@ -18,22 +18,3 @@ status_of_lem (Err InputLimit) = status.InputLimit
 -- no device was called
 abbrev pub CallsNone : Status → Type 0
 CallsNone outcome = (outcome ≡ status.Usage) ⊎ (outcome ≡ status.NoMemory)
-
--- lines were served, and neither a disk nor the random bytes ended that
-abbrev pub ServesLines : Status → Type 0
-ServesLines outcome =
-    (outcome ≡ status.Done) ⊎ ((outcome ≡ status.ReadFault)
-    ⊎ ((outcome ≡ status.InputLimit) ⊎ (outcome ≡ status.WriteFault)))
-
--- no device failed and no disk is damaged
-abbrev pub IsFaultless : Status → Type 0
-IsFaultless status.Done = ⊤
-IsFaultless status.InputLimit = ⊤
-IsFaultless status.Usage = ⊤
-IsFaultless status.NoMemory = ⊤
-IsFaultless status.ReadFault = ⊥
-IsFaultless status.WriteFault = ⊥
-IsFaultless status.EntropyFault = ⊥
-IsFaultless status.ModuleFault = ⊥
-IsFaultless status.StoreFault = ⊥
-IsFaultless (status.Damaged device cell) = ⊥

@@ -3,16 +3,24 @@ use Rattle.std.specs.Prelude.{⊤, ◌≡◌, ◌⊎◌, ◌<◌, ℕ, List, [],
 use Rattle.cca_roles.specs.RoleNames.{IsRoleName}
 use Rattle.key_records.specs.Labels.{IsLabel}
 use Rattle.slot_disk.specs.Faults.{Rose}
+use Rattle.slot_disk.specs.Medium.{Medium, Told}
 use Rattle.cca_vectors.specs.Checks.{first_failing}
+use Rattle.key_records.specs.Directory.{held_count}
+use Rattle.key_records.specs.Entries.{row_directory}
 use Rattle.key_records.specs.declared.faults.RecordFault.{RecordFault}
 use Rattle.key_records.specs.declared.faults.RecordFault.TheVariants.{DiskFault, Damaged, Full, Exists}
+use Rattle.key_records.specs.declared.rows.Row.{Row}
+use Rattle.key_records.specs.StoreStands.{HoldsRows}
+use Rattle.master_registers.specs.Masters.{Masters}
+use Rattle.master_registers.specs.RegisterBody.{StandsForMasters}
+use Rattle.verb_rules.specs.Keys.{keys_of}
 use Rattle.line_service.specs.declared.stops.Device.{Device}
 use Rattle.line_service.specs.declared.stops.Device.TheVariants.{Module, Store}
 use Rattle.line_service.specs.declared.stops.Stop.{Stop}
 use Rattle.line_service.specs.declared.stops.Stop.TheVariants as stop
 use Rattle.cca_machine.specs.State.{State}
 use Rattle.move_file.specs.Moves.{move_checks}
-use Rattle.move_file.specs.Writing.{ToldAll, ToldTo}
+use Rattle.move_file.specs.Writing.{GotParts, GotPartsTo, ToldAll, ToldTo}
 use Rattle.move_file.specs.declared.moves.Move.{Move}
 use Rattle.cca_tool.specs.Coprocessor.{IsCell}
 use Rattle.cca_tool.specs.declared.command.Status.{Status}
@@ -149,6 +157,32 @@ pub record MoveTold (s : State) (w : Move) (outcome : MoveStatus)
   -- where no device fails and no rule refuses the move, all labels are told
   pub complete : disks → outputs → first_failing (move_checks s w) ≡ None
       → (outcome ≡ Run status.Done) ⊎ (outcome ≡ Run status.NoMemory)
+
+-- ---- whatever the disks tell of their bytes
+
+-- What file and report got by what was read of each label's record, under these registers and under one transport key: the
+-- parts of all labels that these rows hold, where the move is done, and else of labels up to one.
+pub record MoveRests (registers : Masters) (w : Move) (rows : List (Option Row)) (outcome : MoveStatus)
+    (file0 file1 report0 report1 : Option (List ℕ)) : Type 0 where
+  pub transport : List ℕ
+  pub done : outcome ≡ Run status.Done → GotParts (keys_of registers) w rows transport
+      (held_count (row_directory rows)) file0 file1 report0 report1
+  pub cut : (outcome ≡ Run status.Done → ⊥)
+      → GotPartsTo (keys_of registers) w rows transport file0 file1 report0 report1
+
+-- The same of a module and a store. A disk that tells its bytes fixes what is read of it; one that tells none, and may
+-- give others at each read, is read as some registers and some labels all the same.
+pub record MovesAsRead (module_ store : Medium) (w : Move) (outcome : MoveStatus)
+    (file0 file1 report0 report1 : Option (List ℕ)) : Type 0 where
+  pub registers : Masters
+  -- where the module tells its bytes they stand for these registers
+  pub in_module : Told module_ (λ image. StandsForMasters image registers)
+  pub rows : List (Option Row)
+  -- where the store tells its bytes these are its labels
+  pub in_store : Told store (HoldsRows rows)
+  pub moved : MoveRests registers w rows outcome file0 file1 report0 report1
+
+-- ---- what was not called
 
 -- no device was called
 pub record MoveUncalled {K P M D : Type 0} (file0 file1 : K) (report0 report1 : P)

@@ -1,5 +1,5 @@
 //! The top call of an audited run.
-ghost use Rattle.std.specs.Prelude.{◌≡◌, ◌↔◌, ◌∷◌, [], List, codes, Err};
+ghost use Rattle.std.specs.Prelude.{◌≡◌, ◌↔◌, ◌∷◌, ℕ, [], List, codes, Err};
 ghost use Rattle.key_cells.specs.Bench.{blank_bench};
 ghost use Rattle.slot_disk.specs.Medium.{Told, Keeps};
 ghost use Rattle.audit_entries.specs.LineEntries.{entry_of};
@@ -9,11 +9,13 @@ ghost use Rattle.audit_trail.specs.declared.entries.Entry.{Entry};
 ghost use Rattle.audited_service.specs.Answers.{run_part, AuditsLines};
 ghost use Rattle.audited_service.specs.Auditing.{IsUnsoundTrail, LinesRecorded, AuditTaken, AuditsSound, TrailDamageTold};
 ghost use Rattle.audited_service.specs.Growing.{TrailGrows};
+ghost use Rattle.audited_service.specs.Noting.{Noted, NotesLines, noted, noting};
 ghost use Rattle.line_service.specs.Answering.{OnDisks, IsSound};
 ghost use Rattle.line_service.specs.Devices.{HaveSizes, DamageTold, OutsideLeft};
 ghost use Rattle.line_service.specs.Running.{Untouched};
+ghost use Rattle.line_service.specs.Serving.{Runs};
 ghost use Rattle.cca_machine.specs.State.{State, module_size, store_size};
-ghost use Rattle.cca_tool.specs.Auditing.{audit_status_of_lem, AuditEnded, AuditCallsNone, AllUncalled};
+ghost use Rattle.cca_tool.specs.Auditing.{audit_status_of_lem, AuditEnded, AuditCallsNone, AllUncalled, HaveNoted};
 ghost use Rattle.cca_tool.specs.Coprocessor.{cca};
 
 use crate::command::{Status, status_of};
@@ -108,7 +110,7 @@ pub fn run_audited<S: Source, K: Sink, M: Disk, D: Disk, E: Entropy, T: Disk>(
         (T.medium trail.old) (T.faults trail.old) (T.faults trail.new)) }
 
     // What is left of each device, and why it ended.
-    ensures left { AuditEnded result (λ outcome. OutsideLeft cca (run_part outcome)
+    ensures left { AuditEnded result (λ outcome. OutsideLeft (run_part outcome)
         (⟦<(S, K, M, D, E) as ShownOutside>⟧.between
         (source.old, sink.old, «module».old, store.old, entropy.old)
         (source.new, sink.new, «module».new, store.new, entropy.new))) }
@@ -154,3 +156,14 @@ fn audit_status_of(outcome: Result<Result<(), Stop>, TrailFault>) -> AuditStatus
         Err(TrailFault::Full) => AuditStatus::TrailFull,
     }
 }
+
+/// An audited run goes through the states and replies of the coprocessor's own session, and takes the same random bytes. The
+/// entries are those that were there, and behind them one for each line, in order: that of the line and of its own reply.
+/// So it is wherever a run ends, of the lines that lead there.
+pub fn an_audited_run_notes_each_line()
+    ensures session { (s : State) (es : List Entry) (random : List ℕ) (lines : List (List ℕ))
+        → NotesLines cca entry_of s es random lines }
+    ensures led { (s : State) (es : List Entry) (lines : List (List ℕ)) (drawn : List ℕ)
+        (t : Noted State) (sent : List ℕ) → Runs (noting cca entry_of) (noted s es) lines drawn t sent
+        → HaveNoted s es lines drawn t sent }
+{}

@@ -101,7 +101,7 @@ pub fn run<S: Source, K: Sink, M: Disk, D: Disk, E: Entropy>(
     ensures damage { Ended result (λ outcome. DamageTold cca outcome (⟦<(M, D) as Shown>⟧.between
         («module».old, store.old) («module».new, store.new))) }
     // What is left of each device, and why it ended.
-    ensures left { Ended result (λ outcome. OutsideLeft cca outcome
+    ensures left { Ended result (λ outcome. OutsideLeft outcome
         (⟦<(S, K, M, D, E) as ShownOutside>⟧.between
         (source.old, sink.old, «module».old, store.old, entropy.old)
         (source.new, sink.new, «module».new, store.new, entropy.new))) }

@@ -105,6 +105,9 @@ impl Coprocessor {
         ensures opened { (s : State) → OnDisks cca s (M.medium «module».old) (D.medium store.old)
             → IfOk result (λ held. IsOpened s held (bench_of lease.new)
             (tables self.new.roles self.new.records) (D.medium store.new)) }
+        ensures loaded { IfOk result (λ held. IsLoaded held (bench_of lease.new)) }
+        ensures registers { IfOk result (λ held.
+            Told (M.medium «module».old) (StandsForLoaded held (bench_of lease.new))) }
         ensures damage { DamageTold cca result (⟦<(M, D) as Shown>⟧.between
             («module».old, store.old) («module».new, store.new)) }
         ensures left { OpeningLeft result (⟦<(M, D) as Shown>⟧.between

@@ -16,7 +16,7 @@ mod unloading;
 mod unused;
 mod words;
 
-pub use auditing::{AuditStatus, run_audited};
+pub use auditing::{AuditStatus, an_audited_run_notes_each_line, run_audited};
 pub use cca_requests::perform;
 pub use command::{Status, run};
 pub use line_service::{Device, Served, Stop};

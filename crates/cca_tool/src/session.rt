@@ -7,10 +7,10 @@ ghost use Rattle.line_service.specs.Answering.{OnDisks, IsSound, Serves};
 ghost use Rattle.line_service.specs.Devices.{HaveSizes, AreSettled, BothSettled, DamageTold, DevicesLeft, OpeningLeft, OutsideLeft, TellsFault, Undamaged};
 ghost use Rattle.line_service.specs.Machine.{world};
 ghost use Rattle.line_service.specs.Running.{LineLeaves, LinesServed, InputTaken, ServesSound, Untouched, LineTaken, Unmoved};
-ghost use Rattle.line_service.specs.Stops.{IsDeskStop};
+ghost use Rattle.line_service.specs.Stops.{IsDeskStop, IsOpeningStop};
 ghost use Rattle.cca_machine.specs.State.{State, module_size, store_size};
 ghost use Rattle.cca_tool.specs.Sessions.{blank_memory, AreKnown, InputRead, IsReadingStop, IsWaitingLine, waiting_after};
-ghost use Rattle.cca_tool.specs.Coprocessor.{cca, remembers, IsStop, IsOpeningStop};
+ghost use Rattle.cca_tool.specs.Coprocessor.{cca, remembers, IsStop};
 
 use crate::coprocessor::Coprocessor;
 use cca_roles::Roles;
@@ -91,7 +91,8 @@ impl Session {
             («module».old, store.old) («module».new, store.new)) }
         ensures damage { DamageTold cca result (⟦<(M, D) as Shown>⟧.between
             («module».old, store.old) («module».new, store.new)) }
-        ensures stops { IfErr result IsOpeningStop }
+        ensures stops { IfErr result IsStop }
+        ensures opening { IfErr result IsOpeningStop }
         ensures bench { bench.new ≡ blank_bench }
     {
         bench.wipe();
@@ -136,7 +137,7 @@ impl Session {
         ensures unmoved { Unmoved result sink.old sink.new «module».old «module».new
             store.old store.new entropy.old entropy.new self.old.tables self.new.tables }
         // What is left of each device, and why it stopped. Disks that tell their bytes don't turn out damaged.
-        ensures left { OutsideLeft cca result (⟦<(S, K, M, D, E) as ShownOutside>⟧.between
+        ensures left { OutsideLeft result (⟦<(S, K, M, D, E) as ShownOutside>⟧.between
             (source.old, sink.old, «module».old, store.old, entropy.old)
             (source.new, sink.new, «module».new, store.new, entropy.new)) }
         ensures undamaged { Undamaged cca result
@@ -191,8 +192,8 @@ impl Session {
         }
     }
 
-    /// The line that was taken last, without its newline. It is empty where none was taken, and where the line is
-    /// too long.
+    /// The line that was taken last, without its newline. It is empty where none was taken, where the line is too long,
+    /// and after a stop of `take_line`. A stop of `answer` leaves it.
     pub fn line(&self) -> &[u8]
         ensures { result.now ≡ self.now.reading.line }
     {
@@ -227,7 +228,7 @@ impl Session {
         ensures idle { self.new.waiting ≡ None }
         ensures unanswered { OnErr result (self.new.reply ≡ []) }
         // What is left of each device, and why it stopped. Disks that tell their bytes don't turn out damaged.
-        ensures left { DevicesLeft cca result (⟦<(M, D, E) as Shown>⟧.between
+        ensures left { DevicesLeft result (⟦<(M, D, E) as Shown>⟧.between
             («module».old, store.old, entropy.old) («module».new, store.new, entropy.new)) }
         ensures undamaged { Undamaged cca result
             (⟦<(M, D) as Shown>⟧.shown («module».old, store.old)) }
@@ -295,7 +296,7 @@ impl Session {
         ensures damage { DamageTold cca result (⟦<(M, D) as Shown>⟧.between
             («module».old, store.old) («module».new, store.new)) }
         // What is left of each device, and why it stopped.
-        ensures left { OutsideLeft cca result (⟦<(S, K, M, D, E) as ShownOutside>⟧.between
+        ensures left { OutsideLeft result (⟦<(S, K, M, D, E) as ShownOutside>⟧.between
             (source.old, sink.old, «module».old, store.old, entropy.old)
             (source.new, sink.new, «module».new, store.new, entropy.new)) }
         ensures stops { IfErr result IsStop }

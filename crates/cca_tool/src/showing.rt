@@ -1,5 +1,5 @@
 //! The top call that lists the trail.
-ghost use Rattle.std.specs.Prelude.{◌≡◌, ◌⊎◌, ◌↔◌, ◌∷◌, [], List, codes};
+ghost use Rattle.std.specs.Prelude.{◌≡◌, ◌⊎◌, ◌↔◌, ◌∷◌, [], ℕ, List, codes};
 ghost use Rattle.slot_disk.specs.Faults.{Rose};
 ghost use Rattle.slot_disk.specs.Medium.{Told, Keeps};
 ghost use Rattle.slot_disk.specs.WhereTold.{WhereTold};
@@ -8,7 +8,7 @@ ghost use Rattle.audit_trail.specs.TrailStands.{IsTrail};
 ghost use Rattle.audit_trail.specs.declared.entries.Entry.{Entry};
 ghost use Rattle.line_service.specs.Devices.{TellsFault};
 ghost use Rattle.line_service.specs.Sending.{Grows};
-ghost use Rattle.trail_listing.specs.Listing.{Listed, TellsDamage};
+ghost use Rattle.trail_listing.specs.Listing.{Listed, ListsAsRead, TellsDamage};
 ghost use Rattle.cca_tool.specs.Auditing.{AuditCallsNone};
 ghost use Rattle.cca_tool.specs.Showing.{listing_status, ListingEnded, IsListingStatus, ListingUncalled};
 
@@ -44,6 +44,9 @@ pub fn show_trail<K: Sink, T: Disk>(
     ensures lines { Told (T.medium trail.old) (λ image. (es : List Entry) → IsTrail image es
         → ListingEnded result (λ outcome. Listed es outcome (K.held sink.old) (K.held sink.new))) }
     ensures grows { WhereTold (K.held sink.old) (K.held sink.new) Grows }
+    // By what was read of each record, whatever the trail tells of its bytes.
+    ensures own { ListingEnded result (λ outcome.
+        (next : ℕ) × ListsAsRead next outcome (K.held sink.old) (K.held sink.new)) }
     // Where neither device fails, all is listed.
     ensures complete { words.now ≡ codes "trail" ∷ []
         → (Rose (K.faults sink.old) (K.faults sink.new) → ⊥)

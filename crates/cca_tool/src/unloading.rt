@@ -1,8 +1,10 @@
 //! The top call that moves a store to another module.
-ghost use Rattle.std.specs.Prelude.{◌≡◌, ◌↔◌, Err};
+ghost use Rattle.std.specs.Prelude.{◌≡◌, ◌⊎◌, ◌↔◌, Err};
 ghost use Rattle.key_cells.specs.Bench.{blank_bench};
 ghost use Rattle.key_cells.specs.Lease.{bench_of, loan_of};
 ghost use Rattle.key_records.specs.StoreStands.{HoldsRows};
+ghost use Rattle.master_registers.specs.Loaded.{Loaded};
+ghost use Rattle.master_registers.specs.Masters.{Masters};
 ghost use Rattle.slot_disk.specs.Medium.{Keeps, Told};
 ghost use Rattle.slot_disk.specs.WhereTold.{WhereTold};
 ghost use Rattle.line_service.specs.Answering.{OnDisks, IsSound};
@@ -15,7 +17,7 @@ ghost use Rattle.move_file.specs.declared.moves.Move.{Move as AnyMove};
 ghost use Rattle.cca_tool.specs.Coprocessor.{cca};
 ghost use Rattle.cca_tool.specs.Opening.{IsOpened};
 ghost use Rattle.cca_tool.specs.Unloading.{AreWordsOf, IsLabelStatus, IsMove, IsMoveStatus, IsOpenStatus};
-ghost use Rattle.cca_tool.specs.Unloading.{MoveCallsNone, MoveTold, MoveUncalled, MoveUntold, Still, TellsMove, TellsNone};
+ghost use Rattle.cca_tool.specs.Unloading.{MoveCallsNone, MoveRests, MoveTold, MoveUncalled, MoveUntold, MovesAsRead, Still, TellsMove, TellsNone};
 ghost use Rattle.cca_tool.specs.Unloading.{disk_stop, store_status_of};
 
 use crate::command::{Status, status_of};
@@ -49,7 +51,7 @@ pub enum MoveStatus {
 /// This is for the words `unload ROLE LABEL ROLE LABEL`: a role here, and the label that holds the transport key as an
 /// EXPORTER; a role at the other module, and the label there that holds it as an IMPORTER. The labels are told in
 /// ascending order: of each one that is moved, the file gets CSNBKRC and CSNBKIM; of each other one, the report gets a
-/// line that says why. Both disks are only read.
+/// line that says why. Both disks are synced when they are opened, and nothing is written to them.
 ///
 /// All memory is taken before a device is called, and none after. The bench is wiped first, since it may hold anything.
 pub fn unload<K: Sink, P: Sink, M: Disk, D: Disk>(
@@ -77,6 +79,14 @@ pub fn unload<K: Sink, P: Sink, M: Disk, D: Disk>(
         × Still (D.faults store.old) (D.faults store.new))
         (Still (K.faults sink.old) (K.faults sink.new)
         × Still (P.faults report.old) (P.faults report.new)) }
+
+    // What file and report got by what was read of each label's record, whatever the disks tell of their bytes: at Done,
+    // and wherever one of them isn't as before.
+    ensures own { (w : AnyMove) → AreWordsOf w words.now
+        → (result ≡ MoveStatus.Run Status.Done)
+        ⊎ (MoveUntold sink.old sink.new report.old report.new → ⊥)
+        → MovesAsRead (M.medium «module».old) (D.medium store.old) w result
+        (K.held sink.old) (K.held sink.new) (P.held report.old) (P.held report.new) }
 
     // A move is judged and told only where the disks stand for a state. Where they don't, and where a rule refuses the
     // move or the module failed, nothing was told.
@@ -146,6 +156,10 @@ fn move_store<K: Sink, P: Sink, M: Disk, D: Disk>(
         × Still (D.faults store.old) (D.faults store.new))
         (Still (K.faults sink.old) (K.faults sink.new)
         × Still (P.faults report.old) (P.faults report.new)) }
+    ensures own { (result ≡ MoveStatus.Run Status.Done)
+        ⊎ (MoveUntold sink.old sink.new report.old report.new → ⊥)
+        → MovesAsRead (M.medium «module».old) (D.medium store.old) how.now result
+        (K.held sink.old) (K.held sink.new) (P.held report.old) (P.held report.new) }
     ensures sound { TellsMove result → IsSound cca (M.medium «module».old) (D.medium store.old) }
     ensures unsound { (IsSound cca (M.medium «module».old) (D.medium store.old) → ⊥)
         → MoveUntold sink.old sink.new report.old report.new }
@@ -201,6 +215,9 @@ fn move_labels<K: Sink, P: Sink, D: Disk>(
         (Still (D.faults store.old) (D.faults store.new))
         (Still (K.faults sink.old) (K.faults sink.new)
         × Still (P.faults report.old) (P.faults report.new)) }
+    ensures own { (m : Masters) → Loaded m held.now (bench_of lease.old)
+        → MoveRests m how.now records.now result
+        (K.held sink.old) (K.held sink.new) (P.held report.old) (P.held report.new) }
     ensures untold { TellsNone result → MoveUntold sink.old sink.new report.old report.new }
     ensures keeps { Keeps (D.medium store.old) (D.medium store.new) }
     ensures store_left { TellsFault (D.faults store.old) (D.faults store.new)

@@ -1,5 +1,6 @@
 -- The control vectors that generated keys have, by type and length, and a vector made one that forbids export.
-use Rattle.std.specs.Prelude.{ℕ, List, ◌++◌, slice_set, Option, None, Some, option_map, ◌==◌, if◌then◌else◌}
+use Rattle.std.specs.Prelude.{ℕ, List, ◌++◌, codes, slice_set, Option, None, Some, option_map, ◌==◌, if◌then◌else◌}
+use Rattle.std.specs.Str.{bytes_eq}
 use Rattle.std.specs.Int.{to_be_bytes, w64}
 use Rattle.cca_vectors.specs.declared.key_length.Length.{Length}
 use Rattle.cca_vectors.specs.declared.key_length.Length.TheVariants.{Eight, Sixteen, Unique}
@@ -47,6 +48,14 @@ abbrev pub default_vector : KeyType → ℕ → Option (List ℕ)
 default_vector kind length =
     if length == 8 then option_map (λ left. vector_with left 0) (single_default kind) else
     if length == 16 then double_default kind else None
+
+-- the length with this name
+abbrev pub length_of_name : List ℕ → Option Length
+length_of_name text =
+    if bytes_eq text (codes "8") then Some Eight
+    else if bytes_eq text (codes "16") then Some Sixteen
+    else if bytes_eq text (codes "DOUBLE-O") then Some Unique
+    else None
 
 -- how many bytes a key of a length has
 abbrev pub size_of : Length → ℕ

@@ -1,6 +1,6 @@
 //! The lengths that keys are generated with.
 ghost use Rattle.std.specs.Prelude.{◌≡◌};
-ghost use Rattle.cca_vectors.specs.DefaultVectors.{size_of};
+ghost use Rattle.cca_vectors.specs.DefaultVectors.{length_of_name, size_of};
 
 /// The length of a key that is generated.
 #[derive(Clone, Copy, Debug, PartialEq, Eq)]
@@ -14,6 +14,21 @@ pub enum Length {
 }
 
 impl Length {
+    /// The length with this name: 8, 16 or DOUBLE-O; none where the text is none of these.
+    pub fn read(text: &[u8]) -> Option<Length>
+        ensures { result ≡ length_of_name text.now }
+    {
+        if text == b"8".as_slice() {
+            Some(Length::Eight)
+        } else if text == b"16".as_slice() {
+            Some(Length::Sixteen)
+        } else if text == b"DOUBLE-O".as_slice() {
+            Some(Length::Unique)
+        } else {
+            None
+        }
+    }
+
     /// In bytes.
     pub fn size(self) -> usize
         ensures { result ≡ size_of self }

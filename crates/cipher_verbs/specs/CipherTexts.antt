@@ -1,6 +1,7 @@
 -- Texts enciphered and deciphered under a clear key, by cipher block chaining (FIPS 81), with or without the padding of
 -- ANSI X9.23.
-use Rattle.std.specs.Prelude.{◌≡◌, ℕ, List, [], ◌∷◌, ◌++◌, drop, replicate, take, Option, Some, is_none}
+use Rattle.std.specs.Prelude.{◌≡◌, ℕ, List, [], ◌∷◌, ◌++◌, codes, drop, replicate, take, Option, None, Some, is_none, if◌then◌else◌}
+use Rattle.std.specs.Str.{bytes_eq}
 use Rattle.cca_vectors.specs.Checks.{Check, check}
 use Rattle.des_core.specs.Modes.{e, pad, unpad, une, zero_block}
 use Rattle.des_core.specs.Texts.{cbc_text, uncbc_text}
@@ -12,6 +13,13 @@ use Rattle.verb_rules.specs.declared.lengths.TextUse.{TextUse}
 use Rattle.verb_rules.specs.declared.lengths.TextUse.TheVariants.{EncipherPlain, EncipherPadded}
 use Rattle.cipher_verbs.specs.declared.padding.Pad.{Pad}
 use Rattle.cipher_verbs.specs.declared.padding.Pad.TheVariants as padding
+
+-- the padding with this name
+abbrev pub pad_of_name : List ℕ → Option Pad
+pad_of_name text =
+    if bytes_eq text (codes "NONE") then Some padding.None
+    else if bytes_eq text (codes "X9.23") then Some padding.X923
+    else None
 
 -- what a text that is enciphered is given for
 abbrev pub enciphering : Pad → TextUse

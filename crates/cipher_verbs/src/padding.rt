@@ -24,7 +24,20 @@ pub enum Pad {
 
 impl Pad {
     ghost use Rattle.std.specs.Prelude.{◌≡◌};
-    ghost use Rattle.cipher_verbs.specs.CipherTexts.{enciphering};
+    ghost use Rattle.cipher_verbs.specs.CipherTexts.{enciphering, pad_of_name};
+
+    /// The padding with this name: NONE or X9.23; none where the text is neither.
+    pub fn read(text: &[u8]) -> Option<Pad>
+        ensures { result ≡ pad_of_name text.now }
+    {
+        if text == b"NONE".as_slice() {
+            Some(Pad::None)
+        } else if text == b"X9.23".as_slice() {
+            Some(Pad::X923)
+        } else {
+            None
+        }
+    }
 
     /// What a text is given for that is enciphered with this padding.
     pub fn use_of(self) -> TextUse

@@ -1,7 +1,7 @@
 //! Random bytes, as they are drawn or with a parity.
 ghost use Rattle.std.specs.Prelude.{◌≡◌, IfOk, length};
 ghost use Rattle.slot_disk.specs.Faults.{HasCause};
-ghost use Rattle.cipher_verbs.specs.RandomBytes.{Draws, in_form};
+ghost use Rattle.cipher_verbs.specs.RandomBytes.{Draws, random_form_of_name, in_form};
 
 use clear_keys::{set_even_parity, set_odd_parity};
 use slot_disk::{Entropy, Failed};
@@ -17,6 +17,23 @@ pub enum RandomForm {
     Even,
 }
 
+impl RandomForm {
+    /// The form with this name: RANDOM, ODD or EVEN; none where the text is none of these.
+    pub fn read(text: &[u8]) -> Option<RandomForm>
+        ensures { result ≡ random_form_of_name text.now }
+    {
+        if text == b"RANDOM".as_slice() {
+            Some(RandomForm::Random)
+        } else if text == b"ODD".as_slice() {
+            Some(RandomForm::Odd)
+        } else if text == b"EVEN".as_slice() {
+            Some(RandomForm::Even)
+        } else {
+            None
+        }
+    }
+}
+
 fn set_form(form: RandomForm, bytes: &mut [u8; 8])
     ensures { bytes.new ≡ in_form form bytes.old }
 {
@@ -27,7 +44,7 @@ fn set_form(form: RandomForm, bytes: &mut [u8; 8])
     }
 }
 
-/// Eight random bytes in a form, drawn in one fill. After `Failed` nothing is known of the bytes still to come.
+/// Eight random bytes in a form. After `Failed` nothing is known of the bytes still to come.
 pub fn random_number<E: Entropy>(form: RandomForm, entropy: &mut E) -> Result<[u8; 8], Failed>
     ensures drawn { IfOk result (Draws form (E.left entropy.old) (E.left entropy.new)) }
     ensures cause { HasCause (E.faults entropy.old) (E.faults entropy.new) result }

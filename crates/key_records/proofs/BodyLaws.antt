@@ -7,7 +7,7 @@ use Rattle.std.proofs.lemmas.Slice.Eq.{bytes_eq-Decides}
 use Rattle.byte_lists.proofs.NameLemmas.{label_short}
 use Rattle.byte_lists.specs.Bytes.{AreBytes}
 use Rattle.key_tokens.specs.Denotes.{MasterKeys, Denoted}
-use Rattle.key_records.specs.Labels.{is_label, IsLabel}
+use Rattle.key_records.specs.Labels.{IsLabel}
 use Rattle.key_records.specs.Entries.{Entry}
 use Rattle.key_records.specs.RecordBody.{record_body, blank_body, no_token, no_second, key_body, both_body, kept, second_token, ReadsEntry, ReadsWhat, ReadsKey, HasToken, IsTurned, IsAhead, IsPair, IsBoth, label_in, token_in, second_in, is_turned, what_of, ahead_of, unused_of, IsWhat, entry_in, null_kind, key_kind, both_kind}
 use Rattle.key_records.specs.declared.rows.Second.{Second}

@@ -3,21 +3,21 @@ use Rattle.std.proofs.Common.{◌≡◌, ◌<◌, inl, inr, ℕ, zero, suc, Bool
 use Rattle.std.specs.Prelude.{is_some, option_map, slice_index}
 use Rattle.byte_lists.specs.Bytes.{AreBytes}
 use Rattle.byte_lists.proofs.DirectoryLaws.{none_some}
-use Rattle.multi_encipher.proofs.SealLaws.{all_zeros}
 use Rattle.slot_disk.specs.Cells.{body}
 use Rattle.key_tokens.specs.Denotes.{MasterKeys, Denoted}
+use Rattle.key_tokens.specs.Fields.{pattern_of_token}
 use Rattle.master_registers.specs.declared.patterns.Pattern.{Pattern}
-use Rattle.key_records.specs.Changes.{ReadsToken}
+use Rattle.key_records.specs.Changes.{IsKeptWith, IsTokenOf, ReadsToken}
 use Rattle.key_records.specs.Entries.{Entry, remembered, pattern_for, pattern_ahead}
 use Rattle.key_records.specs.Labels.{IsLabel}
-use Rattle.key_records.specs.RecordBody.{record_body, token_in, second_in, kept, no_token, no_second, held_token, has_kind, kind_by, ReadsEntry, ReadsWhat, ReadsRow, ReadsPattern, StandsAs, IsKept, IsFirst, IsSecond, null_kind, key_kind, both_kind}
+use Rattle.key_records.specs.RecordBody.{record_body, token_in, second_in, kept, no_token, no_second, held_token, ReadsEntry, ReadsWhat, ReadsRow, ReadsPattern, HoldsToken, HoldsUnder, StandsAs, IsKept, IsFirst, IsSecond, null_kind, key_kind, both_kind}
 use Rattle.key_records.specs.StoreStands.{KeepsLabels, HoldsRows, entry_at}
 use Rattle.key_records.specs.declared.rows.Row.{Row}
 use Rattle.key_records.specs.declared.rows.Second.{Second}
 use Rattle.byte_lists.proofs.NameLemmas.{label_short}
 use Rattle.key_records.proofs.BodyLaws.{kind_again, token_again, second_again, length-no_token}
-use Rattle.key_records.proofs.KeptLaws.{kept_first, row_reads, stands_as}
-use Rattle.key_records.proofs.SecondLaws.{IsLong, none_long, second_long}
+use Rattle.key_records.proofs.KeptLaws.{kept_first, row_reads, stands_as, pattern as as_pattern}
+use Rattle.key_records.proofs.SecondLaws.{IsLong, none_long, second_long, second_pattern}
 
 pub row_of_entry : (masters : MasterKeys) (s : List (Option Entry)) (n : ℕ) → get_or (map (remembered masters) s) n None ≡ remembered masters (entry_at s n)
 row_of_entry masters [] n = refl
@@ -71,39 +71,28 @@ module _ (bytes : List ℕ) (kind : ℕ) (label token : List ℕ) (second : Seco
     subst (λ (t : List ℕ). IsSecond t (second_in bytes)) (sym in_token) (subst (IsSecond token) (sym in_second) seconds),
   )
 
-pub no_second_is : (token : List ℕ) → IsSecond token no_second
-no_second_is token = record { pattern = all_zeros 8; left = all_zeros 8; right = all_zeros 8; single = λ _. refl }
-
 -- what is known of a body with a key
 pub record IsKeyBody (bytes label token : List ℕ) (ahead : Option Pattern) : Type 0 where
   pub held : held_token (is_some ahead) (slice_index bytes 0) (token_in bytes) (second_in bytes) ≡ token
-  pub pair : IsFirst (token_in bytes) × IsSecond (token_in bytes) (second_in bytes)
   pub body : bytes ≡ record_body (slice_index bytes 0) label (token_in bytes) (second_in bytes)
-  pub kind : (pattern : Pattern) → kind_by (Some pattern) ahead (slice_index bytes 0) ≡ true
 
 pub key_body_is : (bytes label token : List ℕ) (ahead : Option Pattern) → IsLabel label → IsFirst token → StandsAs bytes label token ahead → IsKeyBody bytes label token ahead
 key_body_is bytes label token None is_label first (inl is) =
     record {
       held = in_held bytes key_kind label token no_second is is_label first.bytes none_long false;
-      pair = in_pair bytes key_kind label token no_second is is_label first.bytes none_long first (no_second_is token);
       body = in_body bytes key_kind label token no_second is is_label first.bytes none_long;
-      kind = λ pattern. ap (kind_by (Some pattern) None) (in_kind bytes key_kind label token no_second is is_label first.bytes none_long);
     }
 key_body_is bytes label token None is_label first (inr t) =
     let long = second_long t.first t.second t.is_second in
     record {
       held = in_held bytes both_kind label t.first t.second t.body is_label t.is_first.bytes long false ∙ sym t.under;
-      pair = in_pair bytes both_kind label t.first t.second t.body is_label t.is_first.bytes long t.is_first t.is_second;
       body = in_body bytes both_kind label t.first t.second t.body is_label t.is_first.bytes long;
-      kind = λ pattern. ap (kind_by (Some pattern) None) (in_kind bytes both_kind label t.first t.second t.body is_label t.is_first.bytes long);
     }
 key_body_is bytes label token (Some p) is_label first b =
     let long = second_long token b.second b.is_second in
     record {
       held = in_held bytes both_kind label token b.second b.body is_label first.bytes long true;
-      pair = in_pair bytes both_kind label token b.second b.body is_label first.bytes long first b.is_second;
       body = in_body bytes both_kind label token b.second b.body is_label first.bytes long;
-      kind = λ pattern. ap (kind_by (Some pattern) (Some p)) (in_kind bytes both_kind label token b.second b.body is_label first.bytes long);
     }
 
 first_of : (token : List ℕ) (pattern : Pattern) → IsKept token pattern → IsFirst token
@@ -154,31 +143,67 @@ module _ (bytes : List ℕ) (row : Row) (reads : ReadsRow bytes (Some row)) wher
               ∙ ap (record_body (slice_index bytes 0) row.label (token_in bytes)) (sym (ap second_in is ∙ second_again null_kind row.label no_token no_second short length-no_token none_long))
       by_pattern (Some pattern) is = (key_body_is bytes row.label is.token row.ahead reads.0 (first_of is.token pattern is.is_kept) is.body).body
 
-  pub row_has_kind : has_kind row (slice_index bytes 0) ≡ true
-  row_has_kind = by_pattern row.pattern reads.1
-    where
-      by_pattern : (pattern : Option Pattern) → ReadsPattern bytes row.label pattern row.ahead → kind_by pattern row.ahead (slice_index bytes 0) ≡ true
-      by_pattern None is = ap (kind_by None row.ahead) (ap (λ b. slice_index b 0) is.0 ∙ kind_again null_kind row.label no_token no_second)
-      by_pattern (Some pattern) is = (key_body_is bytes row.label is.token row.ahead reads.0 (first_of is.token pattern is.is_kept) is.body).kind pattern
+  -- a null record that isn't ahead
+  pub null_pieces : row.pattern ≡ None → (slice_index bytes 0 ≡ null_kind) × (token_in bytes ≡ no_token) × (second_in bytes ≡ no_second) × (row.ahead ≡ None)
+  null_pieces none =
+      let is : (bytes ≡ record_body null_kind row.label no_token no_second) × (row.ahead ≡ None) = subst (λ (p : Option Pattern). ReadsPattern bytes row.label p row.ahead) none reads.1 in
+      let short = label_short row.label reads.0 in (
+        ap (λ b. slice_index b 0) is.0 ∙ kind_again null_kind row.label no_token no_second,
+        ap token_in is.0 ∙ token_again null_kind row.label no_token no_second short length-no_token,
+        ap second_in is.0 ∙ second_again null_kind row.label no_token no_second short length-no_token none_long,
+        is.1,
+      )
 
-  -- the two tokens of a key
-  pub row_pair : is_some row.pattern ≡ true → IsFirst (token_in bytes) × IsSecond (token_in bytes) (second_in bytes)
-  row_pair = by_pattern row.pattern reads.1
+  -- the pieces of a key
+  pub key_pieces : (pattern : Pattern) → row.pattern ≡ Some pattern → HoldsUnder pattern row.ahead (slice_index bytes 0) (token_in bytes) (second_in bytes)
+  key_pieces pattern some =
+      let holds : HoldsToken bytes row.label pattern row.ahead = subst (λ (p : Option Pattern). ReadsPattern bytes row.label p row.ahead) some reads.1 in
+      by_ahead row.ahead holds.token holds.is_kept holds.body
     where
-      by_pattern : (pattern : Option Pattern) → ReadsPattern bytes row.label pattern row.ahead → is_some pattern ≡ true → IsFirst (token_in bytes) × IsSecond (token_in bytes) (second_in bytes)
-      by_pattern None is some = let no_key : false ≡ true = some in absurd (cc)
-      by_pattern (Some pattern) is some = (key_body_is bytes row.label is.token row.ahead reads.0 (first_of is.token pattern is.is_kept) is.body).pair
+      by_ahead : (ahead : Option Pattern) (token : List ℕ) → IsKept token pattern → StandsAs bytes row.label token ahead → HoldsUnder pattern ahead (slice_index bytes 0) (token_in bytes) (second_in bytes)
+      by_ahead None token kept (inl is) = inl (
+        in_kind bytes key_kind row.label token no_second is reads.0 kept.bytes none_long,
+        in_second bytes key_kind row.label token no_second is reads.0 kept.bytes none_long,
+        subst (λ (t : List ℕ). IsKept t pattern) (sym (in_token bytes key_kind row.label token no_second is reads.0 kept.bytes none_long)) kept,
+      )
+      by_ahead None token kept (inr t) =
+          let long = second_long t.first t.second t.is_second in
+          let pair = in_pair bytes both_kind row.label t.first t.second t.body reads.0 t.is_first.bytes long t.is_first t.is_second in
+          inr (
+            in_kind bytes both_kind row.label t.first t.second t.body reads.0 t.is_first.bytes long,
+            pair.0,
+            pair.1,
+            ap (λ (s : Second). s.pattern) (in_second bytes both_kind row.label t.first t.second t.body reads.0 t.is_first.bytes long)
+                ∙ ap as_pattern (sym (second_pattern t.first t.second t.is_second.pattern.size) ∙ ap pattern_of_token (sym t.under) ∙ kept.under),
+          )
+      by_ahead (Some ahead) token kept b =
+          let long = second_long token b.second b.is_second in (
+            in_kind bytes both_kind row.label token b.second b.body reads.0 kept.bytes long,
+            subst (λ (t : List ℕ). IsKept t pattern) (sym (in_token bytes both_kind row.label token b.second b.body reads.0 kept.bytes long)) kept,
+            (in_pair bytes both_kind row.label token b.second b.body reads.0 kept.bytes long (first_of token pattern kept) b.is_second).1,
+            ap (λ (s : Second). s.pattern) (in_second bytes both_kind row.label token b.second b.body reads.0 kept.bytes long) ∙ b.beside,
+          )
 
-  -- the token that is read stands as the memory knows
-  pub row_stands : is_some row.pattern ≡ true → StandsAs bytes row.label (held_token (is_some row.ahead) (slice_index bytes 0) (token_in bytes) (second_in bytes)) row.ahead
-  row_stands = by_pattern row.pattern reads.1
-    where
-      by_pattern : (pattern : Option Pattern) → ReadsPattern bytes row.label pattern row.ahead → is_some pattern ≡ true
-          → StandsAs bytes row.label (held_token (is_some row.ahead) (slice_index bytes 0) (token_in bytes) (second_in bytes)) row.ahead
-      by_pattern None is some = let no_key : false ≡ true = some in absurd (cc)
-      by_pattern (Some pattern) is some =
-          subst (λ (t : List ℕ). StandsAs bytes row.label t row.ahead)
-          (sym (key_body_is bytes row.label is.token row.ahead reads.0 (first_of is.token pattern is.is_kept) is.body).held) is.body
+-- where the token of a key stands in a body with these tokens
+pub pieces_stand : (bytes label token : List ℕ) (kind : ℕ) (second : Second) (pattern : Pattern) (ahead : Option Pattern) → bytes ≡ record_body kind label token second → HoldsUnder pattern ahead kind token second
+    → StandsAs bytes label (held_token (is_some ahead) kind token second) ahead
+pieces_stand bytes label token kind second pattern None is (inl one) =
+    subst (λ (k : ℕ). StandsAs bytes label (held_token false k token second) None) (sym one.0)
+    (inl (is ∙ ap (λ k. record_body k label token second) one.0 ∙ ap (record_body key_kind label token) one.1))
+pieces_stand bytes label token kind second pattern None is (inr two) =
+    subst (λ (k : ℕ). StandsAs bytes label (held_token false k token second) None) (sym two.0)
+    (inr (record { first = token; second = second; is_first = two.1; is_second = two.2; under = refl; body = is ∙ ap (λ k. record_body k label token second) two.0 }))
+pieces_stand bytes label token kind second pattern (Some ahead) is two =
+    subst (λ (k : ℕ). StandsAs bytes label (held_token true k token second) (Some ahead)) (sym two.0)
+    (record { second = second; is_second = two.2; beside = two.3; body = is ∙ ap (λ k. record_body k label token second) two.0 })
+
+-- the token of a label is the one that its body holds
+pub token_is_held : (bytes : List ℕ) (row : Row) (token : List ℕ) → IsLabel row.label → IsTokenOf bytes row token → held_token (is_some row.ahead) (slice_index bytes 0) (token_in bytes) (second_in bytes) ≡ token
+token_is_held bytes row token is_label is = (key_body_is bytes row.label token row.ahead is_label (by_pattern row.pattern is.kept) is.stands).held
+  where
+    by_pattern : (pattern : Option Pattern) → IsKeptWith pattern token → IsFirst token
+    by_pattern None kept = absurd kept
+    by_pattern (Some pattern) kept = first_of token pattern kept
 
 -- the memory knows the labels that a store stands for
 pub keeps_holds : (masters : MasterKeys) (rows : List (Option Row)) (s : List (Option Entry)) (image : List ℕ) → KeepsLabels masters rows s image → HoldsRows rows image

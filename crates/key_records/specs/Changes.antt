@@ -1,6 +1,6 @@
 -- What a change of one record does to the store and to the memory, and when each answer comes.
 use Rattle.std.specs.Prelude.{◌≡◌, ◌≢◌, ◌≤◌, ◌⊎◌, ◌*◌, ℕ, List, Option, None, Some, set, slice_index}
-use Rattle.std.specs.Prelude.{Result, Err, OnOk, OnErr, is_some, Bool, true, false, bytes_eq}
+use Rattle.std.specs.Prelude.{Result, Err, OnOk, OnErr, IsSome, is_some, Bool, true, false, bytes_eq}
 use Rattle.std.specs.List.{list_any}
 use Rattle.key_cells.specs.Lease.{bench_of, holding}
 use Rattle.key_cells.specs.declared.leases.Lease.{Lease}
@@ -13,7 +13,7 @@ use Rattle.key_tokens.specs.declared.key_token.Age.TheVariants.{Current}
 use Rattle.master_registers.specs.declared.patterns.Pattern.{Pattern}
 use Rattle.key_records.specs.Directory.{free_cell}
 use Rattle.key_records.specs.Entries.{Entry, entry, directory}
-use Rattle.key_records.specs.RecordBody.{kept, second_of}
+use Rattle.key_records.specs.RecordBody.{IsKept, ReadsRow, StandsAs, kept, second_of}
 use Rattle.key_records.specs.StoreStands.{StandsForLabels, KeepsLabels, entry_at}
 use Rattle.key_records.specs.declared.faults.RecordFault.{RecordFault}
 use Rattle.key_records.specs.declared.faults.RecordFault.TheVariants.{DiskFault}
@@ -97,10 +97,11 @@ pub record Remembers (rows next now : List (Option Row)) (result : Result (Unit 
   pub done : OnOk result (now ≡ next)
   pub kept : OnErr result (now ≡ rows)
 
--- a disk's fault is answered only where the disk's count rose
+-- a disk's fault is answered only where the disk's count rose, and where none is answered the count is as before
 pub record HasRecordCause (before now : ℕ) (result : Result (Unit {0}) RecordFault) : Type 0 where
   pub later : before ≤ now
   pub failed : result ≡ Err DiskFault → Rose before now
+  pub quiet : (result ≡ Err DiskFault → ⊥) → now ≡ before
 
 -- of what a lease holds the body alone has changed
 abbrev pub KeepsAllButBody : Lease → Lease → Type 0
@@ -143,9 +144,31 @@ abbrev pub ahead_at : Option Row → Option Pattern
 ahead_at None = None
 ahead_at (Some r) = r.ahead
 
+-- a token that is kept with a pattern that the memory knows
+abbrev pub IsKeptWith : Option Pattern → List ℕ → Type 0
+IsKeptWith None token = ⊥
+IsKeptWith (Some pattern) token = IsKept token pattern
+
+-- the token that the label of a row is under, which stands in the body and is kept with the pattern of the row
+pub record IsTokenOf (bytes : List ℕ) (row : Row) (token : List ℕ) : Type 0 where
+  pub kept : IsKeptWith row.pattern token
+  pub stands : StandsAs bytes row.label token row.ahead
+
+abbrev pub IsTokenAt : List ℕ → Option Row → List ℕ → Type 0
+IsTokenAt bytes None token = ⊥
+IsTokenAt bytes (Some row) token = IsTokenOf bytes row token
+
+-- What was read is the body of a label as the memory knows it, and a token that is answered is the one that the label is
+-- under: whatever the disk tells of its bytes.
+pub record IsReadOf (row : Option Row) (bytes : List ℕ) (found : Bool) (out : List ℕ) : Type 0 where
+  pub held : IsSome row
+  pub known : ReadsRow bytes row
+  pub token : found ≡ true → IsTokenAt bytes row out
+
 pub record HasReadCause (before now : ℕ) (result : Result Bool RecordFault) : Type 0 where
   pub later : before ≤ now
   pub failed : result ≡ Err DiskFault → Rose before now
+  pub quiet : (result ≡ Err DiskFault → ⊥) → now ≡ before
 
 -- the label of a row is ahead
 abbrev pub is_ahead_row : Option Row → Bool

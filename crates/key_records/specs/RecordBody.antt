@@ -1,5 +1,5 @@
 -- A record as the body of a cell.
-use Rattle.std.specs.Prelude.{◌≡◌, ◌⊎◌, IsSome, IsTrue, ℕ, Bool, true, false, not, ◌&&◌, ◌||◌, ◌-◌, ◌==◌, List, ◌∷◌, ◌++◌, length, take, drop, replicate, Option, None, Some, is_some, is_none, slice_index, slice_range, bytes_eq, if◌then◌else◌}
+use Rattle.std.specs.Prelude.{◌≡◌, ◌⊎◌, IsSome, IsTrue, ℕ, Bool, true, false, not, ◌&&◌, ◌-◌, ◌==◌, List, ◌∷◌, ◌++◌, length, take, drop, replicate, Option, None, Some, is_some, slice_index, slice_range, bytes_eq, if◌then◌else◌}
 use Rattle.byte_lists.specs.Bytes.{AreBytes, IsZero}
 use Rattle.cca_vectors.specs.Checks.{first_failing}
 use Rattle.cca_vectors.specs.Vectors.{length_of}
@@ -192,16 +192,14 @@ abbrev pub ReadsRow : List ℕ → Option Row → Type 0
 ReadsRow bytes None = bytes ≡ blank_body
 ReadsRow bytes (Some r) = IsLabel r.label × ReadsPattern bytes r.label r.pattern r.ahead
 
--- the body of a row can be of this kind
-abbrev pub kind_of_key : Option Pattern → ℕ → Bool
-kind_of_key ahead kind = kind == both_kind || (is_none ahead && kind == key_kind)
-
-abbrev pub kind_by : Option Pattern → Option Pattern → ℕ → Bool
-kind_by None ahead kind = kind == null_kind
-kind_by (Some pattern) ahead kind = kind_of_key ahead kind
-
-abbrev pub has_kind : Row → ℕ → Bool
-has_kind r kind = kind_by r.pattern r.ahead kind
+-- A record of this kind has the token of a key whose pattern the memory knows: alone, as the second of two, or as the first
+-- of two where it knows the pattern of the second.
+abbrev pub HoldsUnder : Pattern → Option Pattern → ℕ → List ℕ → Second → Type 0
+HoldsUnder pattern None kind token second =
+    ((kind ≡ key_kind) × (second ≡ no_second) × IsKept token pattern)
+    ⊎ ((kind ≡ both_kind) × IsFirst token × IsSecond token second × (second.pattern ≡ pattern))
+HoldsUnder pattern (Some ahead) kind token second =
+    (kind ≡ both_kind) × IsKept token pattern × IsSecond token second × (second.pattern ≡ ahead)
 
 -- ---- what a body can read as
 

@@ -1,5 +1,5 @@
 //! A record as the body of a cell.
-ghost use Rattle.std.specs.Prelude.{◌≡◌, ◌≢◌, ◌↔◌, ◌+◌, ◌≤◌, ◌<◌, Option, None, Some, IfSome, IsSome, IsNone, IsTrue};
+ghost use Rattle.std.specs.Prelude.{◌≡◌, ◌≢◌, ◌↔◌, ◌+◌, ◌≤◌, ◌<◌, Option, None, Some, IfSome, IsSome, IsNone, IsTrue, false};
 ghost use Rattle.std.specs.Prelude.{option_map, slice_range, is_some};
 ghost use Rattle.byte_lists.specs.Bytes.{AreBytes};
 ghost use Rattle.cca_vectors.specs.Checks.{first_failing};
@@ -8,7 +8,7 @@ ghost use Rattle.key_tokens.specs.Fields.{pattern_of_token, token_of};
 ghost use Rattle.key_tokens.specs.TokenChecks.{token_checks};
 ghost use Rattle.key_records.specs.Entries.{Entry, pattern_for};
 ghost use Rattle.key_records.specs.RecordBody.{record_body, blank_body, no_token, no_second, renewed, kept, IsKept};
-ghost use Rattle.key_records.specs.RecordBody.{label_in, second_in, second_token, IsFirst, IsSecond, held_token};
+ghost use Rattle.key_records.specs.RecordBody.{label_in, second_in, second_token, IsFirst, IsSecond};
 ghost use Rattle.key_records.specs.Labels.{IsLabel};
 ghost use Rattle.master_registers.specs.Loaded.{registers_of};
 ghost use Rattle.master_registers.specs.Masters.{Masters};
@@ -80,7 +80,8 @@ pub(crate) fn is_record(
     token: &[u8; 64],
     second: &Second,
 ) -> bool
-    ensures { IsTrue result ↔ (body.now ≡ record_body kind label.now token.now second.now) }
+    ensures body { IsTrue result ↔ (body.now ≡ record_body kind label.now token.now second.now) }
+    ensures label { IsLabel label.now }
 {
     let mut spelled = [0; 192];
     write_record(&mut spelled, kind, label, token, second);
@@ -189,6 +190,22 @@ pub(crate) fn kept_pattern(token: &[u8; 64], held: &Registers) -> Option<Pattern
     None
 }
 
+/// Whether a token is one that is kept, with this pattern.
+pub(crate) fn is_kept(token: &[u8; 64], pattern: &Pattern) -> bool
+    ensures kept { IsTrue result → IsKept token.now pattern.now }
+    ensures other { result ≡ false → IsKept token.now pattern.now → ⊥ }
+{
+    are_bytes(token);
+    if token[6] != KEY_AND_VECTOR {
+        return false;
+    }
+    let read = read_token(token, Asked::Internal);
+    if read.is_err() {
+        return false;
+    }
+    pattern_in(token) == *pattern
+}
+
 /// The pattern that stands in a token.
 pub(crate) fn pattern_in(token: &[u8; 64]) -> Pattern
     ensures { result.bytes ≡ slice_range token.now 8 16 }
@@ -258,23 +275,5 @@ pub(crate) fn second_token(token: &[u8; 64], second: &Second) -> Option<[u8; 64]
             Some(written)
         }
         Err(_) => None,
-    }
-}
-
-/// The token that a label is under, of a record with this kind and these tokens.
-pub(crate) fn held_token(
-    ahead: bool,
-    kind: u8,
-    token: &[u8; 64],
-    second: &Second,
-) -> Option<[u8; 64]>
-    ensures found { IfSome result (λ found.
-        found ≡ held_token ahead kind token.now second.now) }
-    ensures none { IsNone result → IsFirst token.now → IsSecond token.now second.now → ⊥ }
-{
-    if kind == BOTH && !ahead {
-        second_token(token, second)
-    } else {
-        Some(*token)
     }
 }

@@ -2,7 +2,7 @@
 ghost use Rattle.std.specs.Prelude.{◌≡◌, ◌+◌, ◌-◌, ◌*◌, ◌^◌, ◌≤◌, ◌<◌, length, map, IfOk, IfErr};
 ghost use Rattle.key_records.specs.Ascending.{AreAscending, slot_label, text_at, IsPlace};
 
-use crate::labels::{Label, compare};
+use crate::labels::Label;
 use crate::rows::Slot;
 use slot_disk::Steps;
 use std::cmp::Ordering;
@@ -20,7 +20,7 @@ pub(crate) fn search<L>(slots: &[Slot], label: &Label, steps: &mut Steps<L>) -> 
     let mut high = slots.len();
     'halves: while low < high {
         let middle = low + (high - low) / 2;
-        match compare(&slots[middle].row.label, label, steps) {
+        match slots[middle].row.label.compare(label, steps) {
             Ordering::Less => low = middle + 1,
             Ordering::Equal => return Ok(middle),
             Ordering::Greater => high = middle,

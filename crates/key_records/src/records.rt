@@ -21,7 +21,7 @@ pub const STORE_LEN: u64 = 1_572_864;
 /// How many cells a store has.
 pub(crate) const CELLS: usize = 1024;
 
-/// Where a label is held. `find` and `place_in` alone make one.
+/// Where a label is held. `find` alone makes one.
 #[derive(Clone, Copy, Debug, PartialEq, Eq)]
 pub struct Place {
     cell: u16,
@@ -93,17 +93,19 @@ impl Records {
         }
     }
 
-    /// The place of the label of a cell, where the cell holds one. It takes no comparison and no memory.
-    pub fn place_in(&self, cell: u16) -> Option<Place>
+    /// The label of a cell, where the cell holds one. It takes no comparison and no memory.
+    pub fn label_in(&self, cell: u16) -> Option<&Label>
         requires { cell < 1024 }
-        ensures place { IfSome result (λ place. place ≡ cell) }
-        ensures held { IfSome result (λ place. IsSome (label_at (row_directory self.now) place)) }
+        ensures label { IfSome result (λ label.
+            label_at (row_directory self.now) cell ≡ Some label.now) }
+        ensures found { IfSome result (λ label.
+            cell_of label.now (row_directory self.now) ≡ Some cell) }
         ensures none { IsNone result → label_at (row_directory self.now) cell ≡ None }
     {
-        if self.rows[cell as usize].is_some() {
-            return Some(Place { cell });
+        match &self.rows[cell as usize] {
+            Some(row) => Some(&row.label),
+            None => None,
         }
-        None
     }
 
     /// How many labels are held.

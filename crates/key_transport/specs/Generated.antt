@@ -1,6 +1,7 @@
 -- Generated keys: made of random bytes, with the control vector of their type, and given out as tokens by form.
-use Rattle.std.specs.Prelude.{◌≡◌, ℕ, Bool, true, false, List, [], length, map, Option, None, Some, take, unwrap_or, ⊤}
+use Rattle.std.specs.Prelude.{◌≡◌, ℕ, Bool, true, false, List, [], codes, length, map, Option, None, Some, take, unwrap_or, ⊤, if◌then◌else◌}
 use Rattle.std.specs.Io.KnownBytes.{Consumes}
+use Rattle.std.specs.Str.{bytes_eq}
 use Rattle.cca_vectors.specs.declared.key_length.Length.{Length}
 use Rattle.cca_vectors.specs.declared.key_type.KeyType.{KeyType}
 use Rattle.cca_vectors.specs.Checks.{first_failing}
@@ -34,6 +35,17 @@ generated_key kind key_length drawn = record {
   key = map odd_byte (key_drawn key_length drawn);
   vector = generated_vector kind key_length;
 }
+
+-- the form with this name
+abbrev pub form_of_name : List ℕ → Option Form
+form_of_name text =
+    if bytes_eq text (codes "OP") then Some Op
+    else if bytes_eq text (codes "OPEX") then Some Opex
+    else if bytes_eq text (codes "OPIM") then Some Opim
+    else if bytes_eq text (codes "IMEX") then Some Imex
+    else if bytes_eq text (codes "EXEX") then Some Exex
+    else if bytes_eq text (codes "IMIM") then Some Imim
+    else None
 
 -- the first key of a form is internal; else it is external under the first transport key
 abbrev pub is_operational : Form → Bool

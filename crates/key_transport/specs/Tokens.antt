@@ -1,5 +1,6 @@
 -- The tokens that are written for a clear key: under the current or the new master key, and under a transport key.
-use Rattle.std.specs.Prelude.{ℕ, List, replicate, Option, None, Some}
+use Rattle.std.specs.Prelude.{ℕ, List, codes, replicate, Option, None, Some, if◌then◌else◌}
+use Rattle.std.specs.Str.{bytes_eq}
 use Rattle.cca_vectors.specs.Closing.{closed_to_export}
 use Rattle.key_cells.specs.Bench.{Bench}
 use Rattle.key_tokens.specs.declared.key_token.Age.TheVariants as age
@@ -31,6 +32,13 @@ full_bytes (Full bytes) = Some bytes
 -- the internal token of a key under the new master key
 unfoldable pub new_token : Masters → ClearKey → List ℕ
 new_token m clear = sealed_token (master_key (full_bytes m.coming)) clear
+
+-- the register with this name: the current master key, or the new one
+abbrev pub target_of_name : List ℕ → Option Target
+target_of_name text =
+    if bytes_eq text (codes "RTCMK") then Some Current
+    else if bytes_eq text (codes "RTNMK") then Some New
+    else None
 
 -- the internal token of a key under the master key of a register
 abbrev pub changed_token : Masters → Target → ClearKey → List ℕ

@@ -7,7 +7,7 @@ ghost use Rattle.master_registers.specs.Loaded.{Loaded};
 ghost use Rattle.master_registers.specs.Masters.{Masters, after_set, state_of};
 ghost use Rattle.multi_encipher.specs.Bundles.{ChangesKeyAt};
 ghost use Rattle.verb_rules.specs.Keys.{HasHalves, keys_of, opened};
-ghost use Rattle.key_transport.specs.Tokens.{as_current, changed_token, current_token, new_token};
+ghost use Rattle.key_transport.specs.Tokens.{as_current, changed_token, current_token, new_token, target_of_name};
 
 use crate::writing::write_new;
 use clear_keys::{open_key, write_current};
@@ -20,6 +20,21 @@ use verb_rules::Judged;
 pub enum Target {
     Current,
     New,
+}
+
+impl Target {
+    /// The register with this name: RTCMK or RTNMK; none where the text is neither.
+    pub fn read(text: &[u8]) -> Option<Target>
+        ensures { result ≡ target_of_name text.now }
+    {
+        if text == b"RTCMK".as_slice() {
+            Some(Target::Current)
+        } else if text == b"RTNMK".as_slice() {
+            Some(Target::New)
+        } else {
+            None
+        }
+    }
 }
 
 /// The internal token, under the master key of a register, of the clear key of a judged internal token with its control

@@ -11,7 +11,7 @@ ghost use Rattle.cca_vectors.specs.Vectors.{length_of};
 ghost use Rattle.master_registers.specs.Loaded.{Loaded};
 ghost use Rattle.master_registers.specs.Masters.{Masters};
 ghost use Rattle.verb_rules.specs.Keys.{keys_of};
-ghost use Rattle.key_transport.specs.Generated.{AreGiven, Draws, DrawsBytes, DrawsKey, Generates, HasKeyLength, HasLength, HaveLength, generated_tokens, generated_vector, is_operational, transport_key, vector_for};
+ghost use Rattle.key_transport.specs.Generated.{AreGiven, Draws, DrawsBytes, DrawsKey, Generates, HasKeyLength, HasLength, HaveLength, form_of_name, generated_tokens, generated_vector, is_operational, transport_key, vector_for};
 ghost use Rattle.key_transport.specs.declared.generating.GenerateFault.TheVariants.{Failed, Repeated};
 ghost use Rattle.key_transport.specs.Tokens.{as_current, key_with};
 ghost use Rattle.key_transport.specs.UniqueHalves.{is_same_half};
@@ -41,6 +41,29 @@ pub enum Form {
     Exex,
     /// A key to be imported under one key and under another.
     Imim,
+}
+
+impl Form {
+    /// The form with this name, in capitals; none where the text is no name of a form.
+    pub fn read(text: &[u8]) -> Option<Form>
+        ensures { result ≡ form_of_name text.now }
+    {
+        if text == b"OP".as_slice() {
+            Some(Form::Op)
+        } else if text == b"OPEX".as_slice() {
+            Some(Form::Opex)
+        } else if text == b"OPIM".as_slice() {
+            Some(Form::Opim)
+        } else if text == b"IMEX".as_slice() {
+            Some(Form::Imex)
+        } else if text == b"EXEX".as_slice() {
+            Some(Form::Exex)
+        } else if text == b"IMIM".as_slice() {
+            Some(Form::Imim)
+        } else {
+            None
+        }
+    }
 }
 
 /// The tokens of generated keys: of one key or of two.
@@ -84,8 +107,8 @@ fn has_same_halves(key: &[u8; 16]) -> bool
     true
 }
 
-/// Draws a key with unique halves: both halves in one fill, and the right one again while it is the same as the left one.
-/// The eighth right half is the last.
+/// Draws a key with unique halves: both halves, and the right one again while it is the same as the left one. The eighth
+/// right half is the last.
 fn fill_unique<E: Entropy>(key: &mut [u8; 16], entropy: &mut E) -> Result<(), GenerateFault>
     ensures drawn { OnOk result
         (DrawsBytes Unique (E.left entropy.old) (E.left entropy.new) key.new) }
@@ -93,6 +116,7 @@ fn fill_unique<E: Entropy>(key: &mut [u8; 16], entropy: &mut E) -> Result<(), Ge
         → Draws Unique (E.left entropy.old) (E.left entropy.new) true }
     ensures later { E.faults entropy.old ≤ E.faults entropy.new }
     ensures failed { result ≡ Err Failed → Rose (E.faults entropy.old) (E.faults entropy.new) }
+    ensures quiet { (result ≡ Err Failed → ⊥) → E.faults entropy.new ≡ E.faults entropy.old }
 {
     entropy.fill(key)?;
     for _again in 1..RIGHT_HALVES {
@@ -119,6 +143,7 @@ fn fill_bytes<E: Entropy>(
         → Draws length (E.left entropy.old) (E.left entropy.new) true }
     ensures later { E.faults entropy.old ≤ E.faults entropy.new }
     ensures failed { result ≡ Err Failed → Rose (E.faults entropy.old) (E.faults entropy.new) }
+    ensures quiet { (result ≡ Err Failed → ⊥) → E.faults entropy.new ≡ E.faults entropy.old }
 {
     match length {
         Length::Eight => entropy.fill(&mut place[..8])?,
@@ -140,6 +165,7 @@ fn fill_key<E: Entropy>(
         → Draws length (E.left entropy.old) (E.left entropy.new) true }
     ensures later { E.faults entropy.old ≤ E.faults entropy.new }
     ensures failed { result ≡ Err Failed → Rose (E.faults entropy.old) (E.faults entropy.new) }
+    ensures quiet { (result ≡ Err Failed → ⊥) → E.faults entropy.new ≡ E.faults entropy.old }
 {
     fill_bytes(place, length, entropy)?;
     set_odd_parity(&mut place[..length.size()]);
@@ -158,6 +184,7 @@ fn draw_key<E: Entropy>(
         → Draws length (E.left entropy.old) (E.left entropy.new) true }
     ensures later { E.faults entropy.old ≤ E.faults entropy.new }
     ensures failed { result ≡ Err Failed → Rose (E.faults entropy.old) (E.faults entropy.new) }
+    ensures quiet { (result ≡ Err Failed → ⊥) → E.faults entropy.new ≡ E.faults entropy.old }
     ensures stays { lease.new
         ≡ holding lease.old (record (bench_of lease.old) { key = (bench_of lease.new).key }) }
 {
@@ -237,9 +264,9 @@ fn write_tokens(
 /// a second key, of the second type for the same clear key. An internal token is under the current master key; an external
 /// first token is under the clear key of `one`, and the second token under that of `two`.
 ///
-/// The key is drawn in one fill. Of a key with unique halves the right half is drawn again, by a fill of 8 bytes, while it
-/// is the same as the left one when the low-order bit of each byte is left out; the eighth right half is the last, and
-/// `Repeated` says that it was the same too. What is thrown away is overwritten in the place `Key`.
+/// Of a key with unique halves the right half is drawn again while it is the same as the left one when the low-order bit of
+/// each byte is left out; the eighth right half is the last, and `Repeated` says that it was the same too. What is thrown
+/// away is overwritten in the place `Key`.
 ///
 /// Only the places `First` and `Key` and the schedules of the lease change. After `Failed` nothing is known of the random
 /// bytes still to come.
@@ -265,6 +292,7 @@ pub fn generate<E: Entropy>(
         → Draws length (E.left entropy.old) (E.left entropy.new) true }
     ensures later { E.faults entropy.old ≤ E.faults entropy.new }
     ensures failed { result ≡ Err Failed → Rose (E.faults entropy.old) (E.faults entropy.new) }
+    ensures quiet { (result ≡ Err Failed → ⊥) → E.faults entropy.new ≡ E.faults entropy.old }
     ensures stays { ChangesKeys lease.old lease.new }
 {
     draw_key(lease, length, entropy)?;

@@ -1,5 +1,5 @@
 -- How far a run has come, and what it leaves at its last line.
-use Rattle.std.proofs.Common.{◌≡◌, ◌+◌, ◌≤◌, ℕ, List, Option, Result, Ok, Err, length, ap, refl, sym, subst, ◌∙◌, inl, inr, arith}
+use Rattle.std.proofs.Common.{◌≡◌, ◌+◌, ◌≤◌, ℕ, List, Option, Result, Ok, Err, length, ap, refl, sym, subst, ◌∙◌, inl, inr}
 use Rattle.std.specs.Prelude.{◌⊎◌, IsTrue, IsSome, IsOk}
 use Rattle.std.specs.Io.KnownBytes.{IsAtEnd}
 use Rattle.slot_disk.specs.Medium.{Medium, IsSettled}
@@ -8,7 +8,7 @@ use Rattle.slot_disk.proofs.WhereToldLemmas.{told_weaker}
 use Rattle.script_buffers.specs.Reading.{Reading, blank, input_limit}
 use Rattle.line_service.specs.Machine.{Machine, World, world}
 use Rattle.line_service.specs.Answering.{Stands}
-use Rattle.line_service.specs.Devices.{Span, Outside, OutsideLeft}
+use Rattle.line_service.specs.Devices.{Span, Outside, DevicesLeft, OutsideLeft, behind}
 use Rattle.line_service.specs.Running.{LineLeaves, LineTaken, Unmoved}
 use Rattle.line_service.specs.Sending.{Grows}
 use Rattle.line_service.specs.Serving.{AllAnswered, WholeLinesAnswered, LineLost, AtRest, SparesAlways, RunServed}
@@ -16,10 +16,10 @@ use Rattle.line_service.specs.Stops.{IsLineStop, IsUnanswered}
 use Rattle.line_service.specs.declared.serving.Served.{Served}
 use Rattle.line_service.specs.declared.serving.Served.TheVariants.{Replied, Ended}
 use Rattle.line_service.specs.declared.stops.Stop.{Stop}
-use Rattle.line_service.specs.declared.stops.Stop.TheVariants.{ReadFault, WriteFault, EntropyFault, InputLimit, Damaged}
+use Rattle.line_service.specs.declared.stops.Stop.TheVariants.{ReadFault, WriteFault, EntropyFault, ModuleFault, StoreFault, InputLimit, Damaged}
 use Rattle.line_service.proofs.SessionLemmas.{HasServed, has_served_all, has_served_whole, has_served_cut, has_served_lost, module_moments, store_moments, cut_at_rest, at_rest_now, counted_on, counted_nothing, blank_open, blank_within}
 use Rattle.line_service.proofs.SpareLaws.{SparesSo, spares_last, spares_always}
-use Rattle.line_service.proofs.StopLemmas.{by_answer, same_stop, stopped_as, no_stop, not_ended, grows_on, grows_none, not_replied, not_cut, line_not_cut, ended_unsent, ended_uncut}
+use Rattle.line_service.proofs.StopLemmas.{ok_no_stop, devices_stopped, count_stopped, count_on, disk_on, by_answer, same_stop, stopped_as, no_stop, not_ended, grows_on, grows_none, not_replied, not_cut, line_not_cut, ended_unsent, ended_uncut}
 
 -- ---- whatever the disks hold
 
@@ -35,11 +35,11 @@ pub record IsOnCourse (start now : Outside) (reading : Reading) : Type 0 where
   pub within : reading.taken ≤ input_limit
   pub at_end : IsTrue reading.ended → IsAtEnd now.input
   pub sink_grows : WhereTold start.output now.output Grows
-  pub reads_later : start.source_faults ≤ now.source_faults
-  pub writes_later : start.sink_faults ≤ now.sink_faults
-  pub module_later : start.devices.module_faults ≤ now.devices.module_faults
-  pub store_later : start.devices.store_faults ≤ now.devices.store_faults
-  pub entropy_later : start.devices.entropy_faults ≤ now.devices.entropy_faults
+  pub reads_quiet : now.source_faults ≡ start.source_faults
+  pub writes_quiet : now.sink_faults ≡ start.sink_faults
+  pub module_quiet : now.devices.module_faults ≡ start.devices.module_faults
+  pub store_quiet : now.devices.store_faults ≡ start.devices.store_faults
+  pub entropy_quiet : now.devices.entropy_faults ≡ start.devices.entropy_faults
 
 pub course_begins : (now : Outside) (reading : Reading) → reading ≡ blank → IsSettled now.devices.world.module_ → IsSettled now.devices.world.store → IsOnCourse now now reading
 course_begins now reading fresh module_settled store_settled = record {
@@ -53,15 +53,15 @@ course_begins now reading fresh module_settled store_settled = record {
   within = blank_within reading fresh;
   at_end = λ ended. absurd (blank_open reading fresh ended);
   sink_grows = grows_none now.output;
-  reads_later = omega arith;
-  writes_later = omega arith;
-  module_later = omega arith;
-  store_later = omega arith;
-  entropy_later = omega arith;
+  reads_quiet = refl;
+  writes_quiet = refl;
+  module_quiet = refl;
+  store_quiet = refl;
+  entropy_quiet = refl;
 }
 
 module _ (A : Machine) (start : Outside) (o : Span Outside) (old : Reading) (course : IsOnCourse start o.old old) where
-  pub course_goes_on : (new : Reading) (result : Result Served Stop) → IsOk result → LineTaken result o old new → OutsideLeft A result o → IsOnCourse start o.new new
+  pub course_goes_on : (new : Reading) (result : Result Served Stop) → IsOk result → LineTaken result o old new → OutsideLeft result o → IsOnCourse start o.new new
   course_goes_on new result ok taken left = record {
     module_settled = left.devices_left.module_left.settled ok;
     store_settled = left.devices_left.store_left.settled ok;
@@ -73,12 +73,27 @@ module _ (A : Machine) (start : Outside) (o : Span Outside) (old : Reading) (cou
     within = taken.within;
     at_end = taken.at_end;
     sink_grows = grows_on start.output o.old.output o.new.output course.sink_grows left.sink_grows;
-    reads_later = omega (arith, left.source_left.later, course.reads_later);
-    writes_later = omega (arith, left.sink_left.later, course.writes_later);
-    module_later = omega (arith, left.devices_left.module_left.later, course.module_later);
-    store_later = omega (arith, left.devices_left.store_left.later, course.store_later);
-    entropy_later = omega (arith, left.devices_left.entropy_left.later, course.entropy_later);
+    reads_quiet = left.source_left.quiet (ok_no_stop result ReadFault ok) ∙ course.reads_quiet;
+    writes_quiet = left.sink_left.quiet (ok_no_stop result WriteFault ok) ∙ course.writes_quiet;
+    module_quiet = left.devices_left.module_left.quiet (ok_no_stop result ModuleFault ok) ∙ course.module_quiet;
+    store_quiet = left.devices_left.store_left.quiet (ok_no_stop result StoreFault ok) ∙ course.store_quiet;
+    entropy_quiet = left.devices_left.entropy_left.quiet (ok_no_stop result EntropyFault ok) ∙ course.entropy_quiet;
   }
+
+  -- the stop of the last line is the run's
+  pub course_stopped : (stop : Stop) → OutsideLeft {T = Served} (Err stop) o → OutsideLeft {T = Unit {0}} (Err stop) (record { old = start; new = o.new })
+  course_stopped stop left =
+      let devices : DevicesLeft {T = Unit {0}} (Err stop) (behind o) = devices_stopped A stop (behind o) left.devices_left in
+      record {
+        devices_left = record {
+          module_left = disk_on _ _ _ _ _ _ _ _ course.module_size course.module_still course.module_quiet devices.module_left;
+          store_left = disk_on _ _ _ _ _ _ _ _ course.store_size course.store_still course.store_quiet devices.store_left;
+          entropy_left = count_on _ _ _ _ course.entropy_quiet devices.entropy_left;
+        };
+        source_left = count_on _ _ _ _ course.reads_quiet (count_stopped o.old.source_faults o.new.source_faults stop ReadFault left.source_left);
+        sink_left = count_on _ _ _ _ course.writes_quiet (count_stopped o.old.sink_faults o.new.sink_faults stop WriteFault left.sink_left);
+        sink_grows = grows_on start.output o.old.output o.new.output course.sink_grows left.sink_grows;
+      }
 
 -- ---- from the state for which the disks stand
 

@@ -147,7 +147,7 @@ module _ (A : Machine) (m0 m d0 d : Medium) (random : Option (List ℕ)) (kept_m
 -- ---- all that is outside, opening and run together
 
 -- a run isn't stopped where no device has failed since before opening
-pub not_stopped : (A : Machine) (result : Result (Unit {0}) Stop) (start : Outside) (o : Span Outside) → OutsideLeft A result o → NoneFailed A (record { old = start; new = o.new })
+pub not_stopped : (A : Machine) (result : Result (Unit {0}) Stop) (start : Outside) (o : Span Outside) → OutsideLeft result o → NoneFailed (record { old = start; new = o.new })
     → start.source_faults ≤ o.old.source_faults → start.sink_faults ≤ o.old.sink_faults → start.devices.module_faults ≤ o.old.devices.module_faults
     → start.devices.store_faults ≤ o.old.devices.store_faults → start.devices.entropy_faults ≤ o.old.devices.entropy_faults → NoStop result
 not_stopped A result start o left none reads writes on_module on_store draws = record {
@@ -155,7 +155,7 @@ not_stopped A result start o left none reads writes on_module on_store draws = r
   writes = λ h. none.writes (rose_wider _ _ _ _ writes left.sink_left.later (omega arith) (left.sink_left.fault h));
   on_module = λ h. none.on_module (rose_wider _ _ _ _ on_module left.devices_left.module_left.later (omega arith) (left.devices_left.module_left.fault h));
   on_store = λ h. none.on_store (rose_wider _ _ _ _ on_store left.devices_left.store_left.later (omega arith) (left.devices_left.store_left.fault h));
-  draws = λ h. none.draws (left.devices_left.draws h) (rose_wider _ _ _ _ draws left.devices_left.entropy_left.later (omega arith) (left.devices_left.entropy_left.fault h));
+  draws = λ h. none.draws (rose_wider _ _ _ _ draws left.devices_left.entropy_left.later (omega arith) (left.devices_left.entropy_left.fault h));
 }
 
 -- disks that were opened told no damage, and a run over them tells none
@@ -174,16 +174,15 @@ pub unopened_left : (A : Machine) (stop : Stop) (o : Span Outside) → IsOpening
     → ModuleLeft (behind o) (IsOk {T = Unit {0}} (Err stop)) (◌≡◌ {A = Result (Unit {0}) Stop} (Err stop) (Err ModuleFault))
     → StoreLeft (behind o) (IsOk {T = Unit {0}} (Err stop)) (◌≡◌ {A = Result (Unit {0}) Stop} (Err stop) (Err StoreFault))
     → o.new.source_faults ≡ o.old.source_faults → o.new.sink_faults ≡ o.old.sink_faults → o.new.devices.entropy_faults ≡ o.old.devices.entropy_faults → o.new.output ≡ o.old.output
-    → OutsideLeft {T = Unit {0}} A (Err stop) o
+    → OutsideLeft {T = Unit {0}} (Err stop) o
 unopened_left A stop o kind module_left store_left source sink entropy held = record {
   devices_left = record {
     module_left = module_left;
     store_left = store_left;
-    entropy_left = record { later = omega (arith, entropy); fault = λ h. absurd (no_opening_draw stop kind h) };
-    draws = λ h. absurd (no_opening_draw stop kind h);
+    entropy_left = record { later = omega (arith, entropy); fault = λ h. absurd (no_opening_draw stop kind h); quiet = λ none. entropy };
   };
-  source_left = record { later = omega (arith, source); fault = λ h. absurd (no_opening_read stop kind h) };
-  sink_left = record { later = omega (arith, sink); fault = λ h. absurd (no_opening_write stop kind h) };
+  source_left = record { later = omega (arith, source); fault = λ h. absurd (no_opening_read stop kind h); quiet = λ none. source };
+  sink_left = record { later = omega (arith, sink); fault = λ h. absurd (no_opening_write stop kind h); quiet = λ none. sink };
   sink_grows = subst (λ (x : Option (List ℕ)). WhereTold o.old.output x Grows) (sym held) (grows_none o.old.output);
 }
 

@@ -1,6 +1,7 @@
 -- A stop of one line is the stop of the run.
 use Rattle.std.proofs.Common.{◌≡◌, List, ℕ, Bool, Option, Result, Ok, Err, ap, refl, sym, subst, ◌∙◌, inl, inr, append_assoc, arith}
-use Rattle.std.specs.Prelude.{◌⊎◌, ◌≢◌, ◌++◌, ◌↔◌, [], IsTrue, IsOk}
+use Rattle.std.specs.Prelude.{◌⊎◌, ◌≢◌, ◌++◌, ◌↔◌, [], IsTrue, IsOk, IsSome}
+use Rattle.slot_disk.specs.Faults.{Rose}
 use Rattle.slot_disk.specs.Medium.{Medium, IsSettled}
 use Rattle.slot_disk.specs.WhereTold.{WhereTold}
 use Rattle.slot_disk.proofs.WhereToldLemmas.{told_weaker, told_then, told_same}
@@ -11,7 +12,7 @@ use Rattle.line_service.specs.declared.serving.Served.{Served}
 use Rattle.line_service.specs.declared.serving.Served.TheVariants.{Replied, Ended}
 use Rattle.line_service.specs.declared.stops.Stop.{Stop}
 use Rattle.line_service.specs.Stops.{IsLineStop, IsDeskStop, AnswersLines}
-use Rattle.line_service.specs.Devices.{Span, Devices, DiskLeft, DevicesLeft}
+use Rattle.line_service.specs.Devices.{Span, Devices, TellsFault, DiskLeft, DevicesLeft}
 use Rattle.line_service.specs.declared.stops.Stop.TheVariants.{ReadFault, WriteFault, EntropyFault, ModuleFault, StoreFault, InputLimit}
 
 pub stop_of : (a b : Stop) → ◌≡◌ {A = Result (Unit {0}) Stop} (Err a) (Err b) → a ≡ b
@@ -82,16 +83,47 @@ disk_stopped old new before now stop other left = record {
   settled = λ ok. absurd (cc ok);
   later = left.later;
   fault = λ h. let same : stop ≡ other = cc h in left.fault (ap Err same);
+  quiet = λ none. left.quiet (λ h. let same : stop ≡ other = cc h in none (ap Err same));
+}
+
+pub count_stopped : {T U : Type 0} (before now : ℕ) (stop other : Stop) → TellsFault before now (◌≡◌ {A = Result T Stop} (Err stop) (Err other))
+    → TellsFault before now (◌≡◌ {A = Result U Stop} (Err stop) (Err other))
+count_stopped before now stop other left = record {
+  later = left.later;
+  fault = λ h. let same : stop ≡ other = cc h in left.fault (ap Err same);
+  quiet = λ none. left.quiet (λ h. let same : stop ≡ other = cc h in none (ap Err same));
 }
 
 -- a stop that is handed on
-pub devices_stopped : {T U : Type 0} (A : Machine) (stop : Stop) (d : Span Devices) → DevicesLeft {T = T} A (Err stop) d → DevicesLeft {T = U} A (Err stop) d
+pub devices_stopped : {T U : Type 0} (A : Machine) (stop : Stop) (d : Span Devices) → DevicesLeft {T = T} (Err stop) d → DevicesLeft {T = U} (Err stop) d
 devices_stopped A stop d left = record {
   module_left = disk_stopped d.old.world.module_ d.new.world.module_ d.old.module_faults d.new.module_faults stop ModuleFault left.module_left;
   store_left = disk_stopped d.old.world.store d.new.world.store d.old.store_faults d.new.store_faults stop StoreFault left.store_left;
-  entropy_left = record { later = left.entropy_left.later; fault = λ h. let same : stop ≡ EntropyFault = cc h in left.entropy_left.fault (ap Err same) };
-  draws = λ h. let same : stop ≡ EntropyFault = cc h in left.draws (ap Err same);
+  entropy_left = count_stopped d.old.entropy_faults d.new.entropy_faults stop EntropyFault left.entropy_left;
 }
+
+-- what a call leaves that comes after others, which left the count as it was
+pub count_on : (before mid now : ℕ) (failed : Type 0) → mid ≡ before → TellsFault mid now failed → TellsFault before now failed
+count_on before mid now failed same left = record {
+  later = omega (arith, same, left.later);
+  fault = λ h. subst (λ (n : ℕ). Rose n now) same (left.fault h);
+  quiet = λ none. left.quiet none ∙ same;
+}
+
+pub disk_on : (m0 m1 m2 : Medium) (before mid now : ℕ) (done failed : Type 0) → m1.size ≡ m0.size → (IsSome m0.content → IsSome m1.content) → mid ≡ before
+    → DiskLeft m1 m2 mid now done failed → DiskLeft m0 m2 before now done failed
+disk_on m0 m1 m2 before mid now done failed size still same left = record {
+  size = left.size ∙ size;
+  still = λ some. left.still (still some);
+  settled = left.settled;
+  later = omega (arith, same, left.later);
+  fault = λ h. subst (λ (n : ℕ). Rose n now) same (left.fault h);
+  quiet = λ none. left.quiet none ∙ same;
+}
+
+-- the device wasn't called
+pub count_still : (count : ℕ) (failed : Type 0) → (failed → ⊥) → TellsFault count count failed
+count_still count failed never = record { later = omega arith; fault = λ h. absurd (never h); quiet = λ none. refl }
 
 pub disk_still : (m : Medium) (count : ℕ) (done failed : Type 0) → (done → IsSettled m) → (failed → ⊥) → DiskLeft m m count count done failed
 disk_still m count done failed settled never = record {
@@ -100,16 +132,20 @@ disk_still m count done failed settled never = record {
   settled = settled;
   later = omega arith;
   fault = λ h. absurd (never h);
+  quiet = λ none. refl;
 }
 
 -- no device behind the machine was called
-pub devices_unread : {T : Type 0} (A : Machine) (now : Devices) → DevicesLeft {T = T} A (Err ReadFault) (record { old = now; new = now })
+pub devices_unread : {T : Type 0} (A : Machine) (now : Devices) → DevicesLeft {T = T} (Err ReadFault) (record { old = now; new = now })
 devices_unread A now = record {
   module_left = disk_still now.world.module_ now.module_faults _ _ (λ ok. absurd (cc ok)) (λ h. cc h);
   store_left = disk_still now.world.store now.store_faults _ _ (λ ok. absurd (cc ok)) (λ h. cc h);
-  entropy_left = record { later = omega arith; fault = λ h. absurd (cc h) };
-  draws = λ h. absurd (cc h);
+  entropy_left = count_still now.entropy_faults _ (λ h. cc h);
 }
+
+-- a call that succeeds tells no failure
+pub ok_no_stop : {T : Type 0} (r : Result T Stop) (stop : Stop) → IsOk r → r ≡ Err stop → ⊥
+ok_no_stop {T} r stop ok h = let wrong : IsOk {T = T} (Err stop) = subst (λ (x : Result T Stop). IsOk x) h ok in cc wrong
 
 pub no_desk_read : {T : Type 0} (stop : Stop) → IsDeskStop stop → ◌≡◌ {A = Result T Stop} (Err stop) (Err ReadFault) → ⊥
 no_desk_read stop kind h = let same : stop ≡ ReadFault = cc h in subst IsDeskStop same kind

@@ -17,10 +17,12 @@ pub record Span (T : Type 1) : Type 1 where
 
 -- ---- one device
 
--- a count of faults never falls, and where the call tells that the device failed, it has risen
+-- A count of faults never falls. Where the call tells that the device failed, it has risen, and where the call doesn't
+-- tell that, it is as before: no fault was passed over.
 pub record TellsFault (before now : ℕ) (failed : Type 0) : Type 0 where
   pub later : before ≤ now
   pub fault : failed → Rose before now
+  pub quiet : (failed → ⊥) → now ≡ before
 
 -- The same of a disk. It keeps its size, tells what it told, and has nothing unsynced where the call is done.
 pub record DiskLeft (old new : Medium) (before now : ℕ) (done failed : Type 0) : Type 0 where
@@ -29,6 +31,7 @@ pub record DiskLeft (old new : Medium) (before now : ℕ) (done failed : Type 0)
   pub settled : done → IsSettled new
   pub later : before ≤ now
   pub fault : failed → Rose before now
+  pub quiet : (failed → ⊥) → now ≡ before
 
 -- ---- the devices behind a machine
 
@@ -76,14 +79,11 @@ pub record BothSettled (now : Devices) : Type 0 where
   pub store_settled : IsSettled now.world.store
 
 -- what a call leaves of the devices, and why it stopped
-pub record DevicesLeft {T : Type 0} (A : Machine) (result : Result T Stop) (d : Span Devices)
-    : Type 0 where
+pub record DevicesLeft {T : Type 0} (result : Result T Stop) (d : Span Devices) : Type 0 where
   pub module_left : ModuleLeft d (IsOk result) (result ≡ Err ModuleFault)
   pub store_left : StoreLeft d (IsOk result) (result ≡ Err StoreFault)
   pub entropy_left : TellsFault d.old.entropy_faults d.new.entropy_faults
       (result ≡ Err EntropyFault)
-  -- the random source fails only where some line takes random bytes
-  pub draws : result ≡ Err EntropyFault → A.Draws
 
 -- what opening the disks leaves of them, and why it stopped: nothing is written
 pub record OpeningLeft {T : Type 0} (result : Result T Stop) (d : Span Devices) : Type 0 where
@@ -109,7 +109,7 @@ pub record DamageTold {T : Type 0} (A : Machine) (result : Result T Stop) (d : S
   pub cells : (device : Device) (cell : ℕ) → result ≡ Err (Damaged device cell)
       → A.HasCell device cell
 
--- disks that tell their bytes don't turn out damaged
+-- Disks that tell their bytes don't turn out damaged, and others only at a cell that a line may have read again.
 pub record Undamaged {T : Type 0} (A : Machine) (result : Result T Stop) (old : Devices)
     : Type 0 where
   pub module_sound : (cell : ℕ) → result ≡ Err (Damaged Module cell)
@@ -118,6 +118,8 @@ pub record Undamaged {T : Type 0} (A : Machine) (result : Result T Stop) (old : 
       → Told old.world.module_ (λ c. Told old.world.store (λ d. ⊥))
   pub cells : (device : Device) (cell : ℕ) → result ≡ Err (Damaged device cell)
       → A.HasCell device cell
+  pub reread : (device : Device) (cell : ℕ) → result ≡ Err (Damaged device cell)
+      → A.IsReread device cell
 
 -- ---- all that is outside
 
@@ -143,9 +145,8 @@ abbrev pub behind : Span Outside → Span Devices
 behind o = record { old = o.old.devices; new = o.new.devices }
 
 -- what a call leaves of all that is outside, and why it stopped
-pub record OutsideLeft {T : Type 0} (A : Machine) (result : Result T Stop) (o : Span Outside)
-    : Type 0 where
-  pub devices_left : DevicesLeft A result (behind o)
+pub record OutsideLeft {T : Type 0} (result : Result T Stop) (o : Span Outside) : Type 0 where
+  pub devices_left : DevicesLeft result (behind o)
   pub source_left : TellsFault o.old.source_faults o.new.source_faults (result ≡ Err ReadFault)
   pub sink_left : TellsFault o.old.sink_faults o.new.sink_faults (result ≡ Err WriteFault)
   pub sink_grows : WhereTold o.old.output o.new.output Grows

@@ -34,10 +34,10 @@ pub record Machine : Type 1 where
   pub Between : State → List ℕ → State → Type 0
   -- a line at which a device may fail
   pub MayStop : Stop → State → List ℕ → Type 0
-  -- some line takes random bytes
-  pub Draws : Type 0
   -- the disk has a cell with this number
   pub HasCell : Device → ℕ → Type 0
+  -- a line may have this cell read again, so that it may turn out damaged
+  pub IsReread : Device → ℕ → Type 0
   -- this cell is the first that reads as nothing, of a module with this content
   pub IsBrokenModule : ℕ → List ℕ → Type 0
   -- this cell is the first that reads as nothing, of a store beside a module with these contents

@@ -19,12 +19,12 @@ use Rattle.line_service.specs.declared.stops.Stop.TheVariants.{ReadFault, WriteF
 -- ---- all lines
 
 -- no device has failed
-pub record NoneFailed (A : Machine) (o : Span Outside) : Type 0 where
+pub record NoneFailed (o : Span Outside) : Type 0 where
   pub reads : Rose o.old.source_faults o.new.source_faults → ⊥
   pub writes : Rose o.old.sink_faults o.new.sink_faults → ⊥
   pub on_module : Rose o.old.devices.module_faults o.new.devices.module_faults → ⊥
   pub on_store : Rose o.old.devices.store_faults o.new.devices.store_faults → ⊥
-  pub draws : A.Draws → Rose o.old.devices.entropy_faults o.new.devices.entropy_faults → ⊥
+  pub draws : Rose o.old.devices.entropy_faults o.new.devices.entropy_faults → ⊥
 
 -- how a run ended that began with this, in the words of RunServed
 abbrev pub RunLeaves : (A : Machine) → A.State → Result (Unit {0}) Stop → Span Outside → Type 0
@@ -40,7 +40,7 @@ pub record LinesServed (A : Machine) (s : A.State) (result : Result (Unit {0}) S
   pub prefix : WhereTold o.old.input o.new.input
       (λ i r. PrefixSent A s o.old.devices.world.random i o.old.output o.new.output)
   -- where no device fails and the input is short enough, every line is answered
-  pub complete : NoneFailed A o
+  pub complete : NoneFailed o
       → WhereTold o.old.input o.new.input (λ i r. length i < input_limit → result ≡ Ok tt)
 
 -- How far the input was taken.

@@ -82,7 +82,7 @@ pub trait Desk {
         // Disks that tell their bytes don't turn out damaged.
         ensures undamaged { Undamaged machine result
             (⟦<(M, D) as Shown>⟧.shown («module».old, store.old)) }
-        ensures left { DevicesLeft machine result (⟦<(M, D, E) as Shown>⟧.between
+        ensures left { DevicesLeft result (⟦<(M, D, E) as Shown>⟧.between
             («module».old, store.old, entropy.old) («module».new, store.new, entropy.new)) }
         ensures stops { IfErr result IsDeskStop }
         ensures bench { bench.new ≡ blank_bench };

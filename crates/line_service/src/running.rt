@@ -52,7 +52,7 @@ fn serve_all<A: Desk, S: Source, K: Sink, M: Disk, D: Disk, E: Entropy>(
         length input ≤ length rest + input_limit) }
     ensures settled { AnswersLines result → BothSettled
         (⟦<(M, D) as Shown>⟧.shown («module».new, store.new)) }
-    ensures left { OutsideLeft A.machine result (⟦<(S, K, M, D, E) as ShownOutside>⟧.between
+    ensures left { OutsideLeft result (⟦<(S, K, M, D, E) as ShownOutside>⟧.between
         (source.old, sink.old, «module».old, store.old, entropy.old)
         (source.new, sink.new, «module».new, store.new, entropy.new)) }
     ensures undamaged { Undamaged A.machine result
@@ -107,7 +107,7 @@ pub fn serve<A: Desk, S: Source, K: Sink, M: Disk, D: Disk, E: Entropy>(
     ensures damage { DamageTold A.machine result (⟦<(M, D) as Shown>⟧.between
         («module».old, store.old) («module».new, store.new)) }
     // What is left of each device, and why it stopped.
-    ensures left { OutsideLeft A.machine result (⟦<(S, K, M, D, E) as ShownOutside>⟧.between
+    ensures left { OutsideLeft result (⟦<(S, K, M, D, E) as ShownOutside>⟧.between
         (source.old, sink.old, «module».old, store.old, entropy.old)
         (source.new, sink.new, «module».new, store.new, entropy.new)) }
     ensures bench { bench.new ≡ blank_bench }

@@ -2,7 +2,7 @@
 ghost use Rattle.std.specs.Prelude.{◌≡◌, ℕ, List, IsTrue, Err, OnOk, IfErr};
 ghost use Rattle.std.specs.Io.KnownBytes.{IsAtEnd};
 ghost use Rattle.key_cells.specs.Bench.{blank_bench};
-ghost use Rattle.script_buffers.specs.Reading.{Shows};
+ghost use Rattle.script_buffers.specs.Reading.{IsReady, Shows};
 ghost use Rattle.line_service.specs.Machine.{world};
 ghost use Rattle.line_service.specs.Answering.{Stands, Serves};
 ghost use Rattle.line_service.specs.Devices.{AreSettled, BothSettled, DevicesLeft, OutsideLeft, Undamaged};
@@ -55,7 +55,7 @@ pub fn answer_taken<A: Desk, M: Disk, D: Disk, E: Entropy>(
     ensures ready { OnOk result (A.ready desk.new (M.medium «module».new) (D.medium store.new)) }
     ensures undamaged { Undamaged A.machine result
         (⟦<(M, D) as Shown>⟧.shown («module».old, store.old)) }
-    ensures left { DevicesLeft A.machine result (⟦<(M, D, E) as Shown>⟧.between
+    ensures left { DevicesLeft result (⟦<(M, D, E) as Shown>⟧.between
         («module».old, store.old, entropy.old) («module».new, store.new, entropy.new)) }
     ensures stops { IfErr result IsDeskStop }
     ensures bench { bench.new ≡ blank_bench }
@@ -100,7 +100,8 @@ pub fn serve_one<A: Desk, S: Source, K: Sink, M: Disk, D: Disk, E: Entropy>(
         (source.new, sink.new, «module».new, store.new, entropy.new)) lines.old lines.new }
     ensures ready { OnOk result (A.ready desk.new (M.medium «module».new) (D.medium store.new)) }
 
-    // How far the input was taken.
+    // When the source is read, and how far the input was taken.
+    ensures unread { IsReady lines.old → source.new ≡ source.old }
     ensures taken { LineTaken result (⟦<(S, K, M, D, E) as ShownOutside>⟧.between
         (source.old, sink.old, «module».old, store.old, entropy.old)
         (source.new, sink.new, «module».new, store.new, entropy.new)) lines.old lines.new }
@@ -110,7 +111,7 @@ pub fn serve_one<A: Desk, S: Source, K: Sink, M: Disk, D: Disk, E: Entropy>(
         store.old store.new entropy.old entropy.new desk.old desk.new }
 
     // What is left of each device, and why it stopped.
-    ensures left { OutsideLeft A.machine result (⟦<(S, K, M, D, E) as ShownOutside>⟧.between
+    ensures left { OutsideLeft result (⟦<(S, K, M, D, E) as ShownOutside>⟧.between
         (source.old, sink.old, «module».old, store.old, entropy.old)
         (source.new, sink.new, «module».new, store.new, entropy.new)) }
     ensures undamaged { Undamaged A.machine result

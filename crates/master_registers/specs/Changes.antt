@@ -1,5 +1,5 @@
 -- What a change of the registers does to the module, and when each answer comes.
-use Rattle.std.specs.Prelude.{◌≡◌, ◌≢◌, ◌≤◌, ◌⊎◌, ◌↔◌, ℕ, List, slice_index, Result, Ok, Err, OnOk, IfOk, IsTrue, ⊤}
+use Rattle.std.specs.Prelude.{◌≡◌, ◌≢◌, ◌≤◌, ◌⊎◌, ℕ, List, slice_index, Result, Ok, Err, OnOk, IfOk, ⊤}
 use Rattle.key_cells.specs.Bench.{Bench}
 use Rattle.key_cells.specs.Lease.{bench_of}
 use Rattle.key_cells.specs.declared.leases.Lease.{Lease}
@@ -7,22 +7,22 @@ use Rattle.slot_disk.specs.Cells.{body, IsReplaced, IsUntouched}
 use Rattle.slot_disk.specs.Faults.{Rose}
 use Rattle.slot_disk.specs.Medium.{Medium, IsSettled, Told, From, Becomes, EachImage}
 use Rattle.slot_disk.specs.Ranges.{SameOutside}
-use Rattle.master_registers.specs.Actions.{after_action, has_wrong_state, repeats_pattern}
-use Rattle.master_registers.specs.Loaded.{Loaded, IsLoaded, ArePlaced, KeepsRest, StandsForLoaded, masters_in}
+use Rattle.master_registers.specs.Loaded.{Loaded, IsLoaded, ArePlaced, KeepsRest, StandsForLoaded}
 use Rattle.master_registers.specs.Masters.{Masters}
 use Rattle.master_registers.specs.RegisterBody.{registers_body, StandsForMasters}
-use Rattle.master_registers.specs.declared.actions.Action.{Action}
 use Rattle.master_registers.specs.declared.faults.LoadFault.{LoadFault}
 use Rattle.master_registers.specs.declared.faults.LoadFault.TheVariants as load_fault
 use Rattle.master_registers.specs.declared.faults.RegisterFault.{RegisterFault}
 use Rattle.master_registers.specs.declared.faults.RegisterFault.TheVariants as register_fault
 use Rattle.master_registers.specs.declared.registers.Registers.{Registers}
 
--- Cell 0 stands for one of these registers, and every other cell selects the body that it did. No byte outside cell 0 has
--- changed, and of cell 0 at most the selector and the body that wasn't selected.
+-- Cell 0 stands for one of these registers: it selects the body that it did, or the table of the second. Every other cell
+-- selects the body that it did. No byte outside cell 0 has changed, and of cell 0 at most the selector and the body that
+-- wasn't selected.
 pub record HoldsEither (m next : Masters) (old new : List ℕ) : Type 0 where
   pub outside : SameOutside 0 1536 old new
   pub others : (n : ℕ) → n ≢ 0 → body new n ≡ body old n
+  pub here : (body new 0 ≡ body old 0) ⊎ (body new 0 ≡ registers_body next)
   pub untouched : (k : ℕ) → IsUntouched old 0 k → slice_index new k ≡ slice_index old k
   pub stands : StandsForMasters new m ⊎ StandsForMasters new next
 
@@ -44,26 +44,6 @@ WhenRefused (Err register_fault.DiskFault) P = ⊤
 WhenRefused (Err register_fault.RegisterState) P = P
 WhenRefused (Err register_fault.SamePattern) P = P
 
--- An action on the registers that a bench holds, whose place `part` has the key part.
-pub record ChangesRegisters (action : Action) (held : Registers) (bench later : Bench)
-    (old new : Medium) (result : Result Registers RegisterFault) : Type 0 where
-  -- after Ok the bench holds the registers that the action makes, after a fault of the disk their bytes
-  pub loaded : IfOk result
-      (λ next. Loaded (after_action action bench.part (masters_in held bench)) next later)
-  pub placed : result ≡ Err register_fault.DiskFault
-      → ArePlaced (after_action action bench.part (masters_in held bench)) later
-  -- the registers of the module become these
-  pub changed : ChangesModule (masters_in held bench)
-      (after_action action bench.part (masters_in held bench)) old new result
-
--- A disk's fault is answered only where the disk's count rose, and a rule's refusal exactly where the rule is broken.
-pub record HasChangeCause (action : Action) (m : Masters) (before now : ℕ)
-    (result : Result Registers RegisterFault) : Type 0 where
-  pub later : before ≤ now
-  pub failed : result ≡ Err register_fault.DiskFault → Rose before now
-  pub state : (result ≡ Err register_fault.RegisterState) ↔ IsTrue (has_wrong_state action m)
-  pub same : (result ≡ Err register_fault.SamePattern) ↔ IsTrue (repeats_pattern action m)
-
 -- A bench holds the registers of a module, of which nothing is unsynced.
 pub record IsLoadedFrom (from : Medium) (held : Registers) (bench : Bench) : Type 0 where
   pub within : 1536 ≤ from.size
@@ -71,22 +51,29 @@ pub record IsLoadedFrom (from : Medium) (held : Registers) (bench : Bench) : Typ
   pub loaded : IsLoaded held bench
   pub stands : Told from (StandsForLoaded held bench)
 
--- An action on the registers that a lease holds of a module, which shows a medium and a count of faults.
-pub record CarriesOut {M : Type 0} (medium : M → Medium) (faults : M → ℕ) (action : Action) (held : Registers)
+-- a disk's fault is answered only where the disk's count rose, and where none is answered the count is as before
+pub record HasDiskCause (before now : ℕ) (result : Result Registers RegisterFault) : Type 0 where
+  pub later : before ≤ now
+  pub failed : result ≡ Err register_fault.DiskFault → Rose before now
+  pub quiet : (result ≡ Err register_fault.DiskFault → ⊥) → now ≡ before
+
+-- A step that makes `next` of the registers `m`, which a lease holds of a module. The module shows a medium and a count of
+-- faults.
+pub record CarriesOut {M : Type 0} (medium : M → Medium) (faults : M → ℕ) (m next : Masters)
     (lease later : Lease) (old new : M) (result : Result Registers RegisterFault) : Type 0 where
-  pub change : ChangesRegisters action held (bench_of lease) (bench_of later) (medium old) (medium new) result
+  -- after Ok the bench holds the registers after the step, and after a fault of the disk their bytes
+  pub loaded : IfOk result (λ held. Loaded next held (bench_of later))
+  pub placed : result ≡ Err register_fault.DiskFault → ArePlaced next (bench_of later)
   -- of the lease the places of the registers and the body may have changed
   pub rest : KeepsRest lease later
-  pub cause : HasChangeCause action (masters_in held (bench_of lease)) (faults old) (faults new) result
+  -- the registers of the module become these
+  pub changed : ChangesModule m next (medium old) (medium new) result
+  pub cause : HasDiskCause (faults old) (faults new) result
   -- a refusal by a rule calls no device, and writes no place
   pub untouched : WhenRefused result (new ≡ old)
   pub lease_untouched : WhenRefused result (later ≡ lease)
 
--- a disk's fault is answered only where the disk's count rose
-pub record HasDiskCause (before now : ℕ) (result : Result Registers RegisterFault) : Type 0 where
-  pub later : before ≤ now
-  pub failed : result ≡ Err register_fault.DiskFault → Rose before now
-
 pub record HasLoadCause (before now : ℕ) (result : Result Registers LoadFault) : Type 0 where
   pub later : before ≤ now
   pub failed : result ≡ Err load_fault.DiskFault → Rose before now
+  pub quiet : (result ≡ Err load_fault.DiskFault → ⊥) → now ≡ before

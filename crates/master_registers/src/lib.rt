@@ -17,7 +17,7 @@ mod prepared;
 mod registers;
 
 pub use actions::Action;
-pub use changes::change;
+pub use changes::{clear, first, last, middle, set};
 pub use faults::{LoadFault, RegisterFault};
 pub use loading::{a_body_reads_as_one, load};
 pub use patterns::{Pattern, has_pattern, pattern_of};

@@ -24,18 +24,6 @@ enum Stop {
     Change(RegisterFault),
 }
 
-impl Step {
-    fn action(&self) -> Action {
-        match self {
-            Step::First(_) => Action::First,
-            Step::Middle(_) => Action::Middle,
-            Step::Last(_) => Action::Last,
-            Step::Clear => Action::Clear,
-            Step::Set => Action::Set,
-        }
-    }
-}
-
 /// Puts the key part of a step into its place.
 fn put_key_part(step: Step, lease: &mut Lease)
     ensures { lease.new ≡ holding lease.old (with_master (bench_of lease.old) MasterPlace.Part
@@ -56,7 +44,14 @@ fn carry_out<M: Disk>(module: &mut M, bench: &mut Workbench, step: Step) -> Resu
     let mut lease = Lease::open(bench);
     let held = load(module, &mut lease).map_err(Stop::Load)?;
     put_key_part(step, &mut lease);
-    change(step.action(), module, &mut lease, &held).map_err(Stop::Change)
+    let made = match step {
+        Step::First(_) => first(module, &mut lease, &held),
+        Step::Middle(_) => middle(module, &mut lease, &held),
+        Step::Last(_) => last(module, &mut lease, &held),
+        Step::Clear => clear(module, &mut lease, &held),
+        Step::Set => set(module, &mut lease, &held),
+    };
+    made.map_err(Stop::Change)
 }
 
 /// The registers that a module holds.

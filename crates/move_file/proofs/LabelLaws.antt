@@ -1,5 +1,5 @@
 -- What comes of a label, by what its record holds.
-use Rattle.std.proofs.Common.{◌≡◌, ◌∙◌, ℕ, Bool, false, List, Option, None, Some, Result, Ok, Err, refl, sym, ap, subst, codes}
+use Rattle.std.proofs.Common.{◌≡◌, ◌∙◌, ℕ, Bool, true, false, List, Option, None, Some, Result, Ok, Err, refl, sym, ap, subst, codes}
 use Rattle.std.specs.Prelude.{if◌then◌else◌, is_some, IfErr, IsSome}
 use Rattle.std.specs.Option.{option_map}
 use Rattle.std.specs.Str.{bytes_eq}
@@ -13,12 +13,13 @@ use Rattle.key_records.specs.declared.faults.RecordFault.{RecordFault}
 use Rattle.key_records.specs.declared.faults.RecordFault.TheVariants.{Damaged}
 use Rattle.key_records.specs.declared.rows.Row.{Row}
 use Rattle.key_records.proofs.OpeningLaws.{directory_remembered}
-use Rattle.key_tokens.specs.Denotes.{ClearKey, Denoted}
+use Rattle.key_tokens.specs.Denotes.{ClearKey, Denoted, MasterKeys}
 use Rattle.key_transport.specs.Tokens.{external_token}
 use Rattle.script_buffers.specs.Replies.{two_digits}
 use Rattle.slot_disk.specs.Medium.{Medium, Told}
 use Rattle.slot_disk.proofs.Media.{told_at, told_from}
 use Rattle.store_move.specs.Exports.{IsMoved, export_checks}
+use Rattle.store_move.specs.Reading.{HoldsAsRead}
 use Rattle.store_move.specs.declared.moving.Moved.{Moved}
 use Rattle.store_move.specs.declared.moving.Moved.TheVariants.{Kept, Token}
 use Rattle.verb_rules.specs.Keys.{keys_of, opened}
@@ -28,7 +29,7 @@ use Rattle.verb_rules.specs.declared.rules.Rule.{Rule}
 use Rattle.cca_machine.specs.Keys.{key_of_label, or_no_key, what_at, what_in}
 use Rattle.cca_machine.specs.State.{State}
 use Rattle.move_file.specs.Moves.{clear_of, reason, remarks_by, remarks_on, requests_by, requests_for, token_of_label, with_newlines}
-use Rattle.move_file.specs.Telling.{Gets, TellsLabel, requests_text}
+use Rattle.move_file.specs.Telling.{Gets, GetsMoved, TellsAsRead, TellsLabel, requests_text}
 use Rattle.move_file.specs.declared.moves.Move.{Move}
 use Rattle.move_file.specs.declared.writing.MoveFault.{MoveFault}
 use Rattle.move_file.specs.declared.writing.MoveFault.TheVariants.{ReportFault, Store, WriteFault}
@@ -140,3 +141,56 @@ module _ (s : State) (w : Move) (label : List ℕ) where
         ∙ ap (λ (k : ClearKey). external_token k.key exported.1.clear) opens
         ∙ ap (λ (o : Option Denoted). external_token (clear_of s w.transport).key (or_no_key o).clear) (sym (key_is image is ∙ exported.2)))
         gets fault)
+
+-- ---- by what was read of its record
+
+never_store : (named : MoveFault) → ((fault : RecordFault) → named ≡ Store fault → ⊥) → (result : Ends) → IfErr result (λ fault. fault ≡ named)
+    → (fault : RecordFault) → result ≡ Err (Store fault) → ⊥
+never_store named differs (Ok done) fault_is fault is = cc
+never_store named differs (Err f) fault_is fault is = differs fault (let same : f ≡ Store fault = cc in sym fault_is ∙ same)
+
+module _ (masters : MasterKeys) (w : Move) (label : List ℕ) (row : Option Row) (transport bytes : List ℕ) where
+  abbrev Tells : Ends → Option (List ℕ) → Option (List ℕ) → Option (List ℕ) → Option (List ℕ) → Type 0
+  Tells = TellsAsRead masters w label row transport bytes
+
+  -- the label that is named there
+  pub target_as_read : (result : Ends) (f r0 r1 : Option (List ℕ)) → bytes_eq label w.transport_there ≡ true → IfErr result (λ fault. fault ≡ ReportFault)
+      → Gets (with_newlines (remarks_by (Some (codes "target")) label)) result r0 r1 → Tells result f f r0 r1
+  target_as_read result f r0 r1 named fault gets = record {
+    unsent = λ failed is. absurd (never_store ReportFault (λ other same. cc) result fault failed is);
+    target = λ _. (gets_none result f, gets);
+    read = λ differs unfailed. absurd (cc (sym named ∙ differs));
+  }
+
+  -- the store failed
+  pub failed_as_read : (fault : RecordFault) (f r : Option (List ℕ)) → bytes_eq label w.transport_there ≡ false → Tells (Err (Store fault)) f f r r
+  failed_as_read fault f r other = record {
+    unsent = λ failed is. (refl, refl);
+    target = λ named. absurd (cc (sym named ∙ other));
+    read = λ differs unfailed. absurd (unfailed fault refl);
+  }
+
+  module _ (what : Option Denoted) (moved : Moved) (holds : HoldsAsRead masters row bytes what) (comes : IsMoved transport what moved)
+      (other : bytes_eq label w.transport_there ≡ false) where
+    at_label : (result : Ends) (f0 f1 r0 r1 : Option (List ℕ)) → ((fault : RecordFault) → result ≡ Err (Store fault) → ⊥)
+        → GetsMoved w label moved result f0 f1 r0 r1 → Tells result f0 f1 r0 r1
+    at_label result f0 f1 r0 r1 never gets = record {
+      unsent = λ failed is. absurd (never failed is);
+      target = λ named. absurd (cc (sym named ∙ other));
+      read = λ differs unfailed. (what, moved, holds, comes, gets);
+    }
+
+    -- it is moved
+    pub moved_as_read : (token : List ℕ) (result : Ends) (f0 f1 r : Option (List ℕ)) → moved ≡ Token token
+        → Gets (requests_text w token label) result f0 f1 → IfErr result (λ fault. fault ≡ WriteFault) → Tells result f0 f1 r r
+    moved_as_read token result f0 f1 r is gets fault =
+        at_label result f0 f1 r r (never_store WriteFault (λ other same. cc) result fault)
+        (subst (λ (m : Moved). GetsMoved w label m result f0 f1 r r) (sym is) (gets, gets_none result r))
+
+    -- a rule keeps it back
+    pub kept_as_read : (rule : Rule) (why : List ℕ) (result : Ends) (f r0 r1 : Option (List ℕ)) → moved ≡ Kept rule → why ≡ two_digits (rule_number rule)
+        → Gets (with_newlines (remarks_by (Some why) label)) result r0 r1 → IfErr result (λ fault. fault ≡ ReportFault) → Tells result f f r0 r1
+    kept_as_read rule why result f r0 r1 is why_is gets fault =
+        at_label result f f r0 r1 (never_store ReportFault (λ other same. cc) result fault)
+        (subst (λ (m : Moved). GetsMoved w label m result f f r0 r1) (sym is)
+        (gets_none result f, subst (λ (d : List ℕ). Gets (with_newlines (remarks_by (Some d) label)) result r0 r1) why_is gets))

@@ -3,3 +3,4 @@ mod LabelLaws
 mod LeaseLaws
 mod PartLaws
 mod PieceLaws
+mod RecordLaws

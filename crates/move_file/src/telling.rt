@@ -1,5 +1,5 @@
 //! One label: its requests, or why it is kept back.
-ghost use Rattle.std.specs.Prelude.{◌≡◌, ◌<◌, ℕ, Some, Err, IfErr};
+ghost use Rattle.std.specs.Prelude.{◌≡◌, ◌<◌, ℕ, None, Some, Err, IfErr, get_or};
 ghost use Rattle.std.specs.Str.{bytes_eq};
 ghost use Rattle.key_cells.specs.Lease.{bench_of};
 ghost use Rattle.key_records.specs.Directory.{cell_of, label_at};
@@ -8,6 +8,7 @@ ghost use Rattle.key_records.specs.StoreStands.{HoldsRows, KeepsLabels};
 ghost use Rattle.line_service.specs.Devices.{TellsFault};
 ghost use Rattle.line_service.specs.Sending.{Grows};
 ghost use Rattle.master_registers.specs.Loaded.{Loaded};
+ghost use Rattle.master_registers.specs.Masters.{Masters};
 ghost use Rattle.script_buffers.specs.Replies.{two_digits};
 ghost use Rattle.slot_disk.specs.Medium.{Keeps, Told};
 ghost use Rattle.slot_disk.specs.WhereTold.{WhereTold};
@@ -15,7 +16,7 @@ ghost use Rattle.verb_rules.specs.Keys.{IsDouble, keys_of, opened};
 ghost use Rattle.verb_rules.specs.Rules.{rule_number};
 ghost use Rattle.cca_machine.specs.State.{State};
 ghost use Rattle.move_file.specs.Moves.{clear_of, remarks_on, requests_for, with_newlines};
-ghost use Rattle.move_file.specs.Telling.{KeepsMasters, TellsLabel};
+ghost use Rattle.move_file.specs.Telling.{KeepsMasters, TellsAsRead, TellsLabel};
 ghost use Rattle.move_file.specs.Writing.{IsFault};
 
 use crate::moves::Move;
@@ -54,6 +55,12 @@ pub(crate) fn tell_label<K: Sink, P: Sink, D: Disk>(
         (with_newlines (requests_for s how.now label.now))
         (with_newlines (remarks_on s how.now label.now)) result
         (K.held file.old) (K.held file.new) (P.held report.old) (P.held report.new)) }
+    // By what was read of its record, whatever the store tells of its bytes.
+    ensures own { (m : Masters) (place : ℕ) → Loaded m held.now (bench_of lease.old)
+        → cell_of label.now (row_directory records.now) ≡ Some place
+        → TellsAsRead (keys_of m) how.now label.now (get_or records.now place None)
+        (opened (bench_of lease.old) transport.now).key (bench_of lease.new).body result
+        (K.held file.old) (K.held file.new) (P.held report.old) (P.held report.new) }
     ensures file_grows { WhereTold (K.held file.old) (K.held file.new) Grows }
     ensures report_grows { WhereTold (P.held report.old) (P.held report.new) Grows }
 

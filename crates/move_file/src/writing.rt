@@ -5,12 +5,13 @@ ghost use Rattle.key_records.specs.StoreStands.{HoldsRows, KeepsLabels};
 ghost use Rattle.line_service.specs.Devices.{TellsFault};
 ghost use Rattle.line_service.specs.Sending.{Grows};
 ghost use Rattle.master_registers.specs.Loaded.{Loaded};
+ghost use Rattle.master_registers.specs.Masters.{Masters};
 ghost use Rattle.slot_disk.specs.Medium.{Keeps, Told};
 ghost use Rattle.slot_disk.specs.WhereTold.{WhereTold};
 ghost use Rattle.verb_rules.specs.Keys.{IsDouble, keys_of, opened};
 ghost use Rattle.cca_machine.specs.State.{State};
 ghost use Rattle.move_file.specs.Moves.{clear_of};
-ghost use Rattle.move_file.specs.Writing.{IsFault, Tells};
+ghost use Rattle.move_file.specs.Writing.{IsFault, RestsOnRecords, Tells};
 
 use crate::moves::Move;
 use crate::telling::tell_label;
@@ -63,6 +64,11 @@ pub fn write_move<K: Sink, P: Sink, D: Disk>(
         → opened (bench_of lease.old) transport.now ≡ clear_of s how.now.transport
         → Told (D.medium store.old) (λ _. Tells s how.now result
         (K.held file.old) (K.held file.new) (P.held report.old) (P.held report.new)) }
+    // By what was read of each label's record, whatever the store tells of its bytes.
+    ensures own { (m : Masters) → Loaded m held.now (bench_of lease.old)
+        → RestsOnRecords (keys_of m) how.now records.now
+        (opened (bench_of lease.old) transport.now).key result
+        (K.held file.old) (K.held file.new) (P.held report.old) (P.held report.new) }
     ensures file_grows { WhereTold (K.held file.old) (K.held file.new) Grows }
     ensures report_grows { WhereTold (P.held report.old) (P.held report.new) Grows }
 

@@ -15,7 +15,7 @@ use key_cells::{Lease, Workbench};
 use key_records::{Label, Place, Records};
 use key_tokens::Asked;
 use master_registers::{NewState, Registers};
-use reencipher::{StoreAction, is_taken, run_action};
+use reencipher::{StoreAction, ahead, drop_ahead, is_taken, reencipher};
 use slot_disk::{Disk, settle};
 use std::alloc::Global;
 use verb_rules::{Classes, Need, judge_key};
@@ -135,13 +135,9 @@ fn run<D: Disk>(
             if held.new_state != NewState::Full || is_taken(lease, held) {
                 return Err(Stop::Taken);
             }
-            run_action(StoreAction::Ahead, lease, held, store, records).map_err(Stop::Run)
+            ahead(lease, held, store, records).map_err(Stop::Run)
         }
-        StoreAction::Renew => {
-            run_action(StoreAction::Renew, lease, held, store, records).map_err(Stop::Run)
-        }
-        StoreAction::Drop => {
-            run_action(StoreAction::Drop, lease, held, store, records).map_err(Stop::Run)
-        }
+        StoreAction::Renew => { reencipher(lease, held, store, records).map_err(Stop::Run) }
+        StoreAction::Drop => { drop_ahead(lease, held, store, records).map_err(Stop::Run) }
     }
 }

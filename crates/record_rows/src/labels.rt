@@ -8,6 +8,7 @@ use key_cells::{Lease, Workbench};
 use key_records::{Label, RecordFault, Records, STORE_LEN};
 use slot_disk::{Disk, MemoryDisk, Steps};
 use std::alloc::Global;
+use std::cmp::Ordering;
 use std::test::Fail;
 
 /// Labels, and texts that are none.
@@ -121,6 +122,25 @@ fn a_full_store(rt: HostRuntime) -> Result<(), Fail> {
     Ok(())
 }
 
+/// Labels are compared by all their bytes, and one that is a part of another comes before it.
+#[test]
+fn labels_compared(rt: HostRuntime) -> Result<(), Fail> {
+    let rows: [(&[u8], &[u8], Ordering); 5] = [
+        (b"KEY", b"KEY", Ordering::Equal),
+        (b"KEY", b"KEY.1", Ordering::Less),
+        (b"KEY.2", b"KEY.1", Ordering::Greater),
+        (b"A.Z", b"A0", Ordering::Less),
+        (b"Z", b"@", Ordering::Greater),
+    ];
+    let mut steps: Steps<()> = Steps::new();
+    for (one, other, order) in &rows {
+        let one = sure_label(one)?;
+        let other = sure_label(other)?;
+        assert!(rt; one.compare(&other, &mut steps) == *order);
+    }
+    Ok(())
+}
+
 /// The labels of a full store are listed in ascending order, and each is found in its cell.
 #[test]
 fn labels_in_order(rt: HostRuntime) -> Result<(), Fail> {
@@ -136,8 +156,8 @@ fn labels_in_order(rt: HostRuntime) -> Result<(), Fail> {
     let mut steps: Steps<()> = Steps::new();
     let found = records.find(&sure_label(b"L0778")?, &mut steps);
     assert!(rt; found.is_some());
-    assert_eq!(rt; records.place_in(2), found);
-    assert_eq!(rt; Records::new(alloc)?.place_in(2), None);
+    assert_eq!(rt; records.label_in(2), Some(&sure_label(b"L0778")?));
+    assert_eq!(rt; Records::new(alloc)?.label_in(2), None);
     for index in 0..1024u16 {
         assert!(rt; usize::from(index) < records.count());
         assert_eq!(rt;

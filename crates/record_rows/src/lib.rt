@@ -1,6 +1,9 @@
 //! Tests of what stands in a store and of what is done to all of it: records by their bytes, runs under a new master key
-//! and ahead of one, and keys that are moved out. It is a crate of tests.
+//! and ahead of one, and keys that are moved out, as tests, and a few labels that the definitions compute. It is a crate
+//! of tests.
 #![tactic(auto)]
+
+ghost use Rattle.record_rows.specs.WorkedLabels.{LabelsStand};
 
 #[cfg(test)]
 mod actions;
@@ -8,6 +11,10 @@ mod actions;
 mod ahead;
 #[cfg(test)]
 mod bodies;
+#[cfg(test)]
+mod changed_disk;
+#[cfg(test)]
+mod changed_stores;
 #[cfg(test)]
 mod changing;
 #[cfg(test)]
@@ -30,3 +37,8 @@ mod stops;
 mod stores;
 #[cfg(test)]
 mod unloading;
+
+/// Which texts are labels, and in which order labels stand: the definitions compute it.
+pub fn worked_labels()
+    ensures { LabelsStand }
+{}

@@ -17,7 +17,7 @@ use std::test::Fail;
 
 /// A store whose labels stand in another order than that of their bytes: keys that may be exported, one that may not be,
 /// a key part, a null record, and the label that is named as the transport key's at the other module.
-fn store_of(alloc: Global) -> Result<MemoryDisk, Fail> {
+pub(crate) fn store_of(alloc: Global, room: u64) -> Result<MemoryDisk, Fail> {
     let mut image = vec![in alloc; 0u8; STORE_LEN as usize]?;
     let keys = keys();
     for (cell, text, of) in [
@@ -32,11 +32,11 @@ fn store_of(alloc: Global) -> Result<MemoryDisk, Fail> {
         put_body(&mut image, cell % 1024, &body);
     }
     put_body(&mut image, 1023, &body_of(1, b"N", &[0; 64]));
-    Ok(MemoryDisk::from_image(alloc, &image, 0)?)
+    Ok(MemoryDisk::from_image(alloc, &image, room)?)
 }
 
 /// The file of this store.
-const FILE: &[u8] = b"CSNBKRC role=LOADER label=A#1\n\
+pub(crate) const FILE: &[u8] = b"CSNBKRC role=LOADER label=A#1\n\
     CSNBKIM role=LOADER token=020000000000c000000000000000000057ef661e8e45b08ea55ddd6ab95e7aee\
     00007d000341000000007d00032100000000000000000000000000004d552904 \
     transport=L:KEK.IN to=L:A#1\n\
@@ -50,7 +50,7 @@ const FILE: &[u8] = b"CSNBKRC role=LOADER label=A#1\n\
     transport=L:KEK.IN to=L:M.OLD\n";
 
 /// Its report.
-const REPORT: &[u8] = b"kept KEK.IN target\nkept N 08\nkept P 17\nkept X.SECRET 21\n";
+pub(crate) const REPORT: &[u8] = b"kept KEK.IN target\nkept N 08\nkept P 17\nkept X.SECRET 21\n";
 
 fn role_of(text: &[u8]) -> Result<RoleName, Stop> {
     RoleName::read(text).ok_or(Stop::Unknown)
@@ -66,7 +66,7 @@ fn how_to_move() -> Result<Move, Stop> {
 }
 
 /// What a move answers, where the old register is known or isn't.
-fn move_store<D: Disk>(
+pub(crate) fn move_store<D: Disk>(
     alloc: Global,
     knows_old: bool,
     store: &mut D,
@@ -91,7 +91,7 @@ fn move_store<D: Disk>(
 }
 
 /// A sink with room for so many bytes that fails at a write.
-fn sink_of(alloc: Global, room: usize, write: u64) -> Result<MemorySink, Fail> {
+pub(crate) fn sink_of(alloc: Global, room: usize, write: u64) -> Result<MemorySink, Fail> {
     let mut sink = MemorySink::new(alloc, room)?;
     sink.fail_at(write);
     Ok(sink)
@@ -102,7 +102,7 @@ fn sink_of(alloc: Global, room: usize, write: u64) -> Result<MemorySink, Fail> {
 #[test]
 fn a_store_is_told(rt: HostRuntime) -> Result<(), Fail> {
     let alloc = rt.alloc();
-    let mut store = store_of(alloc)?;
+    let mut store = store_of(alloc, 0)?;
     let mut file = sink_of(alloc, 1000, 6)?;
     let mut report = sink_of(alloc, 1000, 4)?;
     assert!(rt; store.size() == STORE_LEN);
@@ -136,7 +136,7 @@ fn a_sink_fails(rt: HostRuntime) -> Result<(), Fail> {
         (1000, 9, 18, 9, report_failed, 422, 18),
         (1000, 9, 55, 9, report_failed, 639, 55),
     ] {
-        let mut store = store_of(alloc)?;
+        let mut store = store_of(alloc, 0)?;
         let mut file = sink_of(alloc, file_room, file_write)?;
         let mut report = sink_of(alloc, report_room, report_write)?;
         assert!(rt; store.size() == STORE_LEN);
@@ -164,7 +164,7 @@ fn the_store_fails(rt: HostRuntime) -> Result<(), Fail> {
         (2061, failed, 639, 39),
         (2062, Ok(()), 639, 56),
     ] {
-        let mut store = store_of(alloc)?;
+        let mut store = store_of(alloc, 0)?;
         let mut file = sink_of(alloc, 1000, 9)?;
         let mut report = sink_of(alloc, 1000, 9)?;
         store.fail_at(call);
@@ -181,7 +181,7 @@ fn the_store_fails(rt: HostRuntime) -> Result<(), Fail> {
 #[test]
 fn a_record_is_damaged(rt: HostRuntime) -> Result<(), Fail> {
     let alloc = rt.alloc();
-    let mut store = store_of(alloc)?;
+    let mut store = store_of(alloc, 0)?;
     let mut file = sink_of(alloc, 1000, 9)?;
     let mut report = sink_of(alloc, 1000, 9)?;
     assert!(rt; store.size() == STORE_LEN);

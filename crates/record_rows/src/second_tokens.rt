@@ -16,7 +16,7 @@ use std::alloc::Global;
 use std::test::Fail;
 
 /// The key 0123456789abcdef under the new master key, which is the 24 bytes from 40 on.
-const NEW: [u64; 8] = [
+pub(crate) const NEW: [u64; 8] = [
     0x0100_0000_0000_c000,
     0x50cb_d61a_87a9_b516,
     0x4d5d_cec5_a1d1_1c72,
@@ -57,7 +57,7 @@ const OTHER_LEFT: u64 = 0x007f_6902_de7a_24ac;
 const OTHER_RIGHT: u64 = 0x94c5_9991_ae4d_cf93;
 
 /// A token under a master key that no register holds.
-const UNHELD: [u64; 8] = [
+pub(crate) const UNHELD: [u64; 8] = [
     0x0100_0000_0000_c000,
     0x5a5a_5a5a_5a5a_5a5a,
     0xa2f7_dc8b_cb6e_c00c,
@@ -69,12 +69,12 @@ const UNHELD: [u64; 8] = [
 ];
 
 /// The two tokens of a key, as the body of a record.
-fn two_of(text: &[u8], first: &[u64; 8], second: &[u64; 8]) -> [u8; 192] {
+pub(crate) fn two_of(text: &[u8], first: &[u64; 8], second: &[u64; 8]) -> [u8; 192] {
     both_of(text, &bytes_of(first), &bytes_of(second))
 }
 
 /// The module of these tests, whose new register is full.
-fn full_module() -> [u8; 1536] {
+pub(crate) fn full_module() -> [u8; 1536] {
     module_with_new(counting(0x40, 1))
 }
 

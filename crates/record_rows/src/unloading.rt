@@ -35,7 +35,7 @@ fn out_token(sealed: [u64; 2], vector: [u64; 2], value: u64) -> [u8; 64] {
 
 /// A store of the moved keys, each in its cell. Behind them stand a null record N, and the key of A twice more: R is
 /// ahead, and S has come under its second token, which that of C stands before.
-fn store_of(alloc: Global) -> Result<MemoryDisk, Fail> {
+pub(crate) fn store_of(alloc: Global, room: u64) -> Result<MemoryDisk, Fail> {
     let mut image = vec![in alloc; 0u8; STORE_LEN as usize]?;
     let keys = keys();
     for cell in 0..KEYS {
@@ -49,7 +49,7 @@ fn store_of(alloc: Global) -> Result<MemoryDisk, Fail> {
     put_body(&mut image, KEYS + 1, &ahead);
     let turned = both_of(b"S", &internal_token(&other), &internal_token(&first));
     put_body(&mut image, KEYS + 2, &turned);
-    Ok(MemoryDisk::from_image(alloc, &image, 0)?)
+    Ok(MemoryDisk::from_image(alloc, &image, room)?)
 }
 
 /// What comes of a label under the transport key of another, where the old register is known or isn't.
@@ -73,7 +73,12 @@ fn moved_by<D: Disk>(
 }
 
 /// What comes of a label, under the transport key of another.
-fn moved<D: Disk>(alloc: Global, store: &mut D, transport: u8, text: u8) -> Result<Moved, Stop>
+pub(crate) fn moved<D: Disk>(
+    alloc: Global,
+    store: &mut D,
+    transport: u8,
+    text: u8,
+) -> Result<Moved, Stop>
     requires { (D.medium store.old).size ≡ STORE_LEN }
 {
     moved_by(alloc, true, store, transport, text)
@@ -142,7 +147,7 @@ fn what_comes_of_a_label(rt: HostRuntime) -> Result<(), Fail> {
         (b'X', Moved::Kept(Rule::Export)),
     ] {
         for transport in [b'E', b'F'] {
-            let mut store = store_of(rt.alloc())?;
+            let mut store = store_of(rt.alloc(), 0)?;
             assert!(rt; store.size() == STORE_LEN);
             let found = moved(rt.alloc(), &mut store, transport, label);
             assert_eq!(rt; found, Ok(wanted), "{label} under {transport}");
@@ -186,7 +191,7 @@ fn transport_keys_are_judged(rt: HostRuntime) -> Result<(), Fail> {
         (b'L', Err(Rule::Usage)),
         (b'H', Err(Rule::TransportLength)),
     ] {
-        let mut store = store_of(rt.alloc())?;
+        let mut store = store_of(rt.alloc(), 0)?;
         assert!(rt; store.size() == STORE_LEN);
         let found = judged(rt.alloc(), &mut store, label);
         assert_eq!(rt; found, Ok(wanted), "{label}");
@@ -242,7 +247,7 @@ fn a_moved_key_comes_back(rt: HostRuntime) -> Result<(), Fail> {
         (b'D', keys[3]),
         (b'F', keys[4]),
     ] {
-        let mut store = store_of(rt.alloc())?;
+        let mut store = store_of(rt.alloc(), 0)?;
         assert!(rt; store.size() == STORE_LEN);
         let back = match moved(rt.alloc(), &mut store, b'E', label) {
             Ok(Moved::Token(token)) => imported(rt.alloc(), &token, &importer),
@@ -265,7 +270,7 @@ fn a_fault_at_a_read(rt: HostRuntime) -> Result<(), Fail> {
         (2051, failed),
         (2052, Ok(Moved::Kept(Rule::Null))),
     ] {
-        let mut store = store_of(rt.alloc())?;
+        let mut store = store_of(rt.alloc(), 0)?;
         store.fail_at(call);
         assert!(rt; store.size() == STORE_LEN);
         let found = moved(rt.alloc(), &mut store, b'E', b'N');
@@ -283,7 +288,7 @@ fn a_token_under_no_register(rt: HostRuntime) -> Result<(), Fail> {
         (b'N', Ok(Moved::Kept(Rule::Null))),
         (b'X', Ok(Moved::Kept(Rule::Export))),
     ] {
-        let mut store = store_of(rt.alloc())?;
+        let mut store = store_of(rt.alloc(), 0)?;
         assert!(rt; store.size() == STORE_LEN);
         let found = moved_by(rt.alloc(), false, &mut store, b'E', label);
         assert_eq!(rt; found, wanted, "{label}");

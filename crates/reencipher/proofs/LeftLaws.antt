@@ -1,5 +1,5 @@
 -- What a run leaves of any store, from one cell to the next.
-use Rattle.std.proofs.Common.{◌≡◌, ◌≤◌, ◌<◌, ◌+◌, ℕ, Bool, List, Option, None, Some, Result, Ok, Err, inl, inr, ⊎_elim, refl, ◌∙◌, ap, sym, subst, arith}
+use Rattle.std.proofs.Common.{◌≡◌, ◌≤◌, ◌<◌, ℕ, Bool, List, Option, None, Some, Result, Ok, Err, inl, inr, ⊎_elim, refl, ◌∙◌, sym, subst, arith}
 use Rattle.std.specs.Prelude.{IfSome, IsSome}
 use Rattle.key_cells.specs.declared.leases.Lease.{Lease}
 use Rattle.slot_disk.specs.Faults.{Rose}
@@ -7,7 +7,6 @@ use Rattle.slot_disk.specs.Medium.{Medium, Told}
 use Rattle.slot_disk.proofs.Media.{told_from}
 use Rattle.key_records.specs.StoreStands.{HasStore}
 use Rattle.key_records.specs.declared.faults.RecordFault.{RecordFault}
-use Rattle.key_records.specs.declared.faults.RecordFault.TheVariants.{DiskFault, Damaged}
 use Rattle.key_records.specs.declared.rows.Row.{Row}
 use Rattle.reencipher.specs.Runs.{IsCell, LeavesAnyStore}
 use Rattle.reencipher.proofs.RunLaws.{changes_none, changes_more}
@@ -38,7 +37,7 @@ module _ {D : Type 0} (medium : D → Medium) (faults : D → ℕ) where
     directory = refl;
     damaged = λ k is. absurd (cc is);
     fault = tt;
-    cause = record { later = omega arith; failed = λ is. absurd (cc is) };
+    cause = record { later = omega arith; failed = λ is. absurd (cc is); quiet = λ _. refl };
     rest = changes_none lease;
   }
 
@@ -58,7 +57,11 @@ module _ {D : Type 0} (medium : D → Medium) (faults : D → ℕ) where
       directory = turn.directory ∙ so_far.directory;
       damaged = λ k is. absurd (cc is);
       fault = tt;
-      cause = record { later = omega (arith, so_far.cause.later, turn.cause.later); failed = λ is. absurd (cc is) };
+      cause = record {
+        later = omega (arith, so_far.cause.later, turn.cause.later);
+        failed = λ is. absurd (cc is);
+        quiet = λ _. turn.cause.quiet (λ is. cc is) ∙ so_far.cause.quiet (λ is. cc is);
+      };
       rest = changes_more first between last so_far.rest turn.rest;
     }
 
@@ -76,6 +79,7 @@ module _ {D : Type 0} (medium : D → Medium) (faults : D → ℕ) where
       cause = record {
         later = omega (arith, so_far.cause.later, turn.cause.later);
         failed = λ is. rose_later (faults old) (faults mid) (faults new) so_far.cause.later (turn.cause.failed (cc is));
+        quiet = λ other. turn.cause.quiet (λ is. other (cc is)) ∙ so_far.cause.quiet (λ is. cc is);
       };
       rest = changes_more first between last so_far.rest turn.rest;
     }

@@ -1,11 +1,11 @@
 -- What a run leaves of the cells and the rows of labels that the action doesn't change.
-use Rattle.std.proofs.Common.{◌≡◌, ◌≢◌, ◌≤◌, ◌<◌, ◌+◌, ℕ, suc, List, length, get_or, cond, Option, None, Some, Result, Ok, Err, Bool, true, false, refl, sym, ap, subst, ◌∙◌, inl, inr, ⊎_elim, arith}
-use Rattle.std.specs.Prelude.{IsSome, is_some, ◌&&◌, slice_index, OnOk}
+use Rattle.std.proofs.Common.{◌≡◌, ◌≢◌, ◌≤◌, ◌<◌, ◌+◌, ℕ, suc, List, get_or, cond, Option, None, Some, Result, Ok, Err, Bool, true, false, refl, sym, ap, subst, ◌∙◌, inl, inr, ⊎_elim, arith}
+use Rattle.std.specs.Prelude.{IsSome, is_some, ◌&&◌, OnOk}
 use Rattle.std.proofs.lemmas.Bool.{cases_eq}
-use Rattle.slot_disk.specs.Cells.{body, IsReplacing}
+use Rattle.slot_disk.specs.Cells.{IsReplacing}
 use Rattle.slot_disk.specs.Medium.{Medium, Told, IsSettled, From, Becomes, EachImage, Keeps}
 use Rattle.slot_disk.specs.SpareBytes.{Turned}
-use Rattle.slot_disk.proofs.Media.{told_from, told_at, each_weaker, each_still, goes_on, becomes_same, becomes_weaker, becomes_both, becomes_then, from_then, told_joined}
+use Rattle.slot_disk.proofs.Media.{told_at, each_weaker, each_still, goes_on, becomes_same, becomes_weaker, becomes_both, becomes_then, from_then}
 use Rattle.slot_disk.proofs.SpareLemmas.{turned_same}
 use Rattle.byte_lists.proofs.DirectoryLaws.{none_some}
 use Rattle.cca_vectors.specs.Checks.{first_failing}
@@ -14,16 +14,10 @@ use Rattle.key_tokens.specs.Denotes.{denoted}
 use Rattle.key_tokens.specs.Fields.{pattern_of_token}
 use Rattle.key_tokens.specs.TokenChecks.{token_checks}
 use Rattle.key_tokens.specs.declared.key_token.Asked.TheVariants as asked
-use Rattle.key_records.specs.Changes.{ReplacesBody, has_key, ahead_at, is_ahead_row}
-use Rattle.key_records.specs.Entries.{label_or, row_label}
-use Rattle.key_records.specs.Labels.{IsLabel}
-use Rattle.key_records.specs.RecordBody.{token_in, second_in, second_token, held_token, no_second, key_kind, both_kind, StandsAs, ReadsRow, ReadsPattern}
-use Rattle.key_records.specs.StoreStands.{HoldsRows}
+use Rattle.key_records.specs.Changes.{IsKeptWith, IsReadOf, IsTokenAt, ReplacesBody, has_key, is_ahead_row}
+use Rattle.key_records.specs.Entries.{row_label}
 use Rattle.key_records.specs.declared.faults.RecordFault.{RecordFault}
 use Rattle.key_records.specs.declared.rows.Row.{Row}
-use Rattle.byte_lists.proofs.NameLemmas.{label_short}
-use Rattle.key_records.proofs.BodyLaws.{kind_again, token_again, second_again}
-use Rattle.key_records.proofs.SecondLaws.{second_long}
 use Rattle.master_registers.specs.Loaded.{Loaded}
 use Rattle.master_registers.specs.Masters.{Masters}
 use Rattle.master_registers.specs.declared.patterns.Pattern.{Pattern}
@@ -36,44 +30,21 @@ use Rattle.reencipher.specs.declared.actions.StoreAction.{StoreAction}
 use Rattle.reencipher.specs.declared.actions.StoreAction.TheVariants.{Renew, Ahead, Drop}
 use Rattle.reencipher.proofs.FurtherLaws.{and_false}
 use Rattle.reencipher.proofs.TokenLaws.{by_register}
-use Rattle.reencipher.proofs.RunLaws.{told_later}
 use Rattle.reencipher.proofs.CellLaws.{leaves_none, leaves_next, leaves_weaker, leaves_all, turned_next}
 
 -- ---- the row of a token that was read
-
--- the one token that stands in a body of this kind, by whether the label is ahead
-one_held : (bytes label token : List ℕ) (ahead : Option Pattern) → IsLabel label → length token ≡ 64 → StandsAs bytes label token ahead → held_token (is_some ahead) (slice_index bytes 0) (token_in bytes) (second_in bytes) ≡ token
-one_held bytes label token None is_label long (inl is) =
-    ap (λ k. held_token false k (token_in bytes) (second_in bytes)) (ap (λ b. slice_index b 0) is ∙ kind_again key_kind label token no_second)
-    ∙ ap token_in is
-    ∙ token_again key_kind label token no_second (label_short label is_label) long
-one_held bytes label token None is_label long (inr t) =
-    ap (λ k. held_token false k (token_in bytes) (second_in bytes)) (ap (λ b. slice_index b 0) t.body ∙ kind_again both_kind label t.first t.second)
-    ∙ ap (λ f. second_token f (second_in bytes)) (ap token_in t.body ∙ token_again both_kind label t.first t.second (label_short label is_label) t.is_first.bytes.size)
-    ∙ ap (second_token t.first) (ap second_in t.body ∙ second_again both_kind label t.first t.second (label_short label is_label) t.is_first.bytes.size (second_long t.first t.second t.is_second))
-    ∙ sym t.under
-one_held bytes label token (Some pattern) is_label long b =
-    ap (λ k. held_token true k (token_in bytes) (second_in bytes)) (ap (λ c. slice_index c 0) b.body ∙ kind_again both_kind label token b.second)
-    ∙ ap token_in b.body
-    ∙ token_again both_kind label token b.second (label_short label is_label) long
 
 -- the row remembers the pattern of the token that its body has, which breaks no rule
 record IsKnown (token : List ℕ) (pattern : Option Pattern) : Type 0 where
   pub under : pattern ≡ Some (record { bytes = pattern_of_token token })
   pub sound : first_failing (token_checks asked.Internal token) ≡ None
 
-row_known : (bytes token : List ℕ) (row : Row) → ReadsRow bytes (Some row) → StandsAs bytes row.label token row.ahead → length token ≡ 64 → true ≡ is_some row.pattern → IsKnown token row.pattern
-row_known bytes token row reads stands long some = by_pattern row.pattern reads.1 some
-  where
-    by_pattern : (pattern : Option Pattern) → ReadsPattern bytes row.label pattern row.ahead → true ≡ is_some pattern → IsKnown token pattern
-    by_pattern None reads_none wrong = cc wrong
-    by_pattern (Some pattern) holds one =
-        let same : holds.token ≡ token =
-        sym (one_held bytes row.label holds.token row.ahead reads.0 holds.is_kept.bytes.size holds.body) ∙ one_held bytes row.label token row.ahead reads.0 long stands in
-        record {
-          under = ap (λ b. let p : Pattern = record { bytes = b } in Some p) (sym holds.is_kept.under ∙ ap pattern_of_token same);
-          sound = subst (λ (t : List ℕ). first_failing (token_checks asked.Internal t) ≡ None) same holds.is_kept.sound;
-        }
+row_known : (pattern : Option Pattern) (token : List ℕ) → IsKeptWith pattern token → IsKnown token pattern
+row_known None token kept = absurd kept
+row_known (Some pattern) token kept = record {
+  under = ap (λ b. let p : Pattern = record { bytes = b } in Some p) (sym kept.under);
+  sound = kept.sound;
+}
 
 module _ (a : StoreAction) (held : Registers) where
   pub no_row_stays : (o : Option Row) → row_label o ≡ None → changes_row a held o ≡ false
@@ -100,16 +71,14 @@ module _ (a : StoreAction) (held : Registers) where
 
   -- the row of a token that was read
   module _ (m : Masters) (bench : Bench) (loaded : Loaded m held bench) (rows : List (Option Row)) (place : ℕ) (token : List ℕ) where
-    pub row_changes : (image : List ℕ) → HoldsRows rows image → place < 1024 → true ≡ has_key (get_or rows place None) → length token ≡ 64
-        → StandsAs (body image place) (label_or (get_or rows place None)) token (ahead_at (get_or rows place None))
+    pub row_changes : (bytes : List ℕ) → IsReadOf (get_or rows place None) bytes true token
         → changes_row a held (get_or rows place None) ≡ (changes_key a (denoted (keys_of m) token) && may_change a (is_ahead_row (get_or rows place None)))
-    row_changes image holds within some long read = by_row (get_or rows place None) (holds.reads place within) some read
+    row_changes bytes read = by_row (get_or rows place None) (read.token refl)
       where
-        by_row : (o : Option Row) → ReadsRow (body image place) o → true ≡ has_key o → StandsAs (body image place) (label_or o) token (ahead_at o)
-            → changes_row a held o ≡ (changes_key a (denoted (keys_of m) token) && may_change a (is_ahead_row o))
-        by_row None reads wrong stands = cc wrong
-        by_row (Some row) reads one stands =
-            let known = row_known (body image place) token row reads stands long one in
+        by_row : (o : Option Row) → IsTokenAt bytes o token → changes_row a held o ≡ (changes_key a (denoted (keys_of m) token) && may_change a (is_ahead_row o))
+        by_row None is = absurd is
+        by_row (Some row) is =
+            let known = row_known row.pattern token is.kept in
             ap (λ p. changes_age a (known_age held p) && may_change a (is_some row.ahead)) known.under
             ∙ ap (λ b. b && may_change a (is_some row.ahead)) (sym (by_register a m held bench token loaded known.sound))
 
@@ -180,8 +149,8 @@ module _ (a : StoreAction) (held : Registers) (before : List (Option Row)) where
     pub cells : Becomes (SoFar cell) m0 m1
     pub moments : EachImage m0 m1 (From (LeavesCells Changed 1024) m0)
     pub above : (n : ℕ) → cell ≤ n → get_or now n None ≡ get_or before n None
-    pub rows : Told m0 (λ _. (n : ℕ) → (Changed n → ⊥) → get_or now n None ≡ get_or before n None)
-    pub count : Told m0 (λ _. changed ≡ changed_rows a held before cell)
+    pub rows : (n : ℕ) → (Changed n → ⊥) → get_or now n None ≡ get_or before n None
+    pub count : changed ≡ changed_rows a held before cell
 
   pub turned_start : (m : Medium) → IsSettled m → HasTurnedTo 0 0 before m m
   turned_start m settled = record {
@@ -189,13 +158,13 @@ module _ (a : StoreAction) (held : Registers) (before : List (Option Row)) where
     moments = each_weaker m m m.images (From (LeavesCells Changed 1024) m) (each_still m)
         (λ c image. (c, settled.only c image, leaves_all Changed 0 c c (omega arith) (leaves_none Changed c)));
     above = λ n at. refl;
-    rows = told_from m.content (λ _. (n : ℕ) → (Changed n → ⊥) → get_or before n None ≡ get_or before n None) (λ c is n none. refl);
-    count = told_from m.content (λ _. 0 ≡ changed_rows a held before 0) (λ c is. refl);
+    rows = λ n none. refl;
+    count = refl;
   }
 
   module _ (cell changed : ℕ) (now next : List (Option Row)) (m0 m1 m2 : Medium) (within : cell < 1024) (so_far : HasTurnedTo cell changed now m0 m1)
       (others : (n : ℕ) → n ≢ cell → get_or next n None ≡ get_or now n None)
-      (row : Told m1 (λ _. (IsChangedRow a held now cell → ⊥) → get_or next cell None ≡ get_or now cell None)) where
+      (row : (IsChangedRow a held now cell → ⊥) → get_or next cell None ≡ get_or now cell None) where
     abbrev Now : Type 0
     Now = IsChangedRow a held now cell
 
@@ -220,11 +189,8 @@ module _ (a : StoreAction) (held : Registers) (before : List (Option Row)) where
         (λ (other : n ≢ cell). others n other ∙ rows n none)
         (cases_eq n cell)
 
-    rows_next : Told m0 (λ _. (n : ℕ) → (Changed n → ⊥) → get_or next n None ≡ get_or before n None)
-    rows_next = told_joined m0 (λ _. (n : ℕ) → (Changed n → ⊥) → get_or now n None ≡ get_or before n None) (λ _. (Now → ⊥) → get_or next cell None ≡ get_or now cell None)
-        (λ _. (n : ℕ) → (Changed n → ⊥) → get_or next n None ≡ get_or before n None) so_far.rows
-        (told_later m0 m1 ((Now → ⊥) → get_or next cell None ≡ get_or now cell None) so_far.cells.still row)
-        (λ c rows here. row_now rows here)
+    rows_next : (n : ℕ) → (Changed n → ⊥) → get_or next n None ≡ get_or before n None
+    rows_next = row_now so_far.rows row
 
     counted : (done : Bool) → changed ≡ changed_rows a held before cell → done ≡ changes_row a held (get_or now cell None) → changed + cond done 1 0 ≡ changed_rows a held before (cell + 1)
     counted done so_many is =
@@ -233,7 +199,7 @@ module _ (a : StoreAction) (held : Registers) (before : List (Option Row)) where
         ∙ ap (λ b. changed_rows a held before cell + cond b 1 0) (is ∙ ap (changes_row a held) (so_far.above cell (omega arith)))
         ∙ ap (changed_rows a held before) (sym more)
 
-    pub turned_on : (done : Bool) → TurnsCell Now cell m1 m2 (Ok done) → Told m1 (λ _. done ≡ changes_row a held (get_or now cell None)) → HasTurnedTo (cell + 1) (changed + cond done 1 0) next m0 m2
+    pub turned_on : (done : Bool) → TurnsCell Now cell m1 m2 (Ok done) → done ≡ changes_row a held (get_or now cell None) → HasTurnedTo (cell + 1) (changed + cond done 1 0) next m0 m2
     turned_on done turn count = record {
       cells = becomes_then m0 m1 m2 (SoFar cell) (λ c d. LeavesCell Now cell c d × StaysOrTurns cell c d) (SoFar (cell + 1)) so_far.cells
           (becomes_both m1 m2 (LeavesCell Now cell) (StaysOrTurns cell) turn.either turn.turned)
@@ -241,9 +207,7 @@ module _ (a : StoreAction) (held : Registers) (before : List (Option Row)) where
       moments = moments_next (Ok done) turn;
       above = λ n at. others n (λ is. omega (arith, is, at)) ∙ so_far.above n (omega (arith, at));
       rows = rows_next;
-      count = told_joined m0 (λ _. changed ≡ changed_rows a held before cell) (λ _. done ≡ changes_row a held (get_or now cell None)) (λ _. changed + cond done 1 0 ≡ changed_rows a held before (cell + 1)) so_far.count
-          (told_later m0 m1 (done ≡ changes_row a held (get_or now cell None)) so_far.cells.still count)
-          (λ c so_many is. counted done so_many is);
+      count = counted done so_far.count count;
     }
 
     pub turns_ended : (fault : RecordFault) → TurnsCell Now cell m1 m2 (Err fault) → TurnsCells a held before next m0 m2 (Err fault)
@@ -261,5 +225,5 @@ module _ (a : StoreAction) (held : Registers) (before : List (Option Row)) where
     either = becomes_weaker m0 m1 (SoFar cell) (LeavesCells Changed 1024) so_far.cells (λ b c both. leaves_all Changed cell b c (omega (arith, all)) both.0);
     moments = so_far.moments;
     rows = so_far.rows;
-    count = subst (λ n. Told m0 (λ _. count ≡ changed_rows a held before n)) all so_far.count;
+    count = so_far.count ∙ ap (changed_rows a held before) all;
   }

@@ -1,7 +1,7 @@
 -- One cell's turn.
-use Rattle.std.proofs.Common.{◌≡◌, ◌<◌, inl, inr, ⊎_elim, ℕ, List, Option, None, Some, Ok, Err, Bool, true, false, set, get_or, refl, sym, ap, subst, ◌∙◌}
+use Rattle.std.proofs.Common.{◌≡◌, ◌<◌, inl, inr, ⊎_elim, ℕ, zero, suc, List, [], ◌∷◌, length, Option, None, Some, Ok, Err, Bool, true, false, set, get_or, refl, sym, ap, subst, ◌∙◌, arith}
 use Rattle.std.specs.Prelude.{is_some, not, ◌&&◌, slice_index, ◌==◌, if◌then◌else◌, IsSome}
-use Rattle.std.proofs.lemmas.List.{set-get_or, map-set}
+use Rattle.std.proofs.lemmas.List.{get_or-set_same, set-get_or, map-set}
 use Rattle.byte_lists.proofs.DirectoryLaws.{none_some}
 use Rattle.key_cells.specs.Bench.{Bench}
 use Rattle.key_cells.specs.Lease.{bench_of, holding}
@@ -333,3 +333,12 @@ module _ (a : StoreAction) (masters : MasterKeys) (cell : ℕ) (s next : List (O
     either = written_either changes.either;
     moments = written_moments changes.moments;
   }
+
+-- the row that was put into the cell of a label
+pub row_put : (rows : List (Option Row)) (place : ℕ) (row : Row) → IsSome (label_at (row_directory rows) place) → get_or (set rows place (Some row)) place None ≡ Some row
+row_put rows place row held = get_or-set_same rows place (Some row) None (there rows place held)
+  where
+    there : (rows : List (Option Row)) (place : ℕ) → IsSome (label_at (row_directory rows) place) → place < length rows
+    there [] place held = absurd (cc held)
+    there (r ∷ rows) zero held = omega arith
+    there (r ∷ rows) (suc n) held = let low : n < length rows = there rows n held in omega arith

@@ -110,22 +110,24 @@ changed_rows a held rows (suc n) =
 
 -- Of a cell whose label the action doesn't change no byte changes at any moment, nor its row, and it isn't counted: one
 -- under neither register stays as it is. No byte changes of what no cell holds, and after Ok each cell that has changed
--- selects by 0 or 1 and has the body that it selected on the other side.
+-- selects by 0 or 1 and has the body that it selected on the other side. The answer counts the labels that the memory
+-- knows as ones that the action changes, whatever the disk tells of its bytes.
 pub record TurnsCells (a : StoreAction) (held : Registers) (before now : List (Option Row))
     (old new : Medium) (result : Result ℕ RecordFault) : Type 0 where
   pub turned : OnOk result (Becomes (Turned 1024) old new)
   pub either : Becomes (LeavesCells (IsChangedRow a held before) 1024) old new
   pub moments : EachImage old new (From (LeavesCells (IsChangedRow a held before) 1024) old)
-  pub rows : Told old (λ _. (n : ℕ) → (IsChangedRow a held before n → ⊥)
-      → get_or now n None ≡ get_or before n None)
-  pub count : IfOk result (λ n. Told old (λ _. n ≡ changed_rows a held before 1024))
+  pub rows : (n : ℕ) → (IsChangedRow a held before n → ⊥)
+      → get_or now n None ≡ get_or before n None
+  pub count : IfOk result (λ n. n ≡ changed_rows a held before 1024)
 
 -- ---- the answers
 
--- a disk's fault is answered only where the disk's count rose
+-- a disk's fault is answered only where the disk's count rose, and where none is answered the count is as before
 pub record HasRunCause {T : Type 0} (before now : ℕ) (result : Result T RecordFault) : Type 0 where
   pub later : before ≤ now
   pub failed : result ≡ Err DiskFault → Rose before now
+  pub quiet : (result ≡ Err DiskFault → ⊥) → now ≡ before
 
 -- ---- what it leaves whatever the store holds
 

@@ -5,7 +5,8 @@ use Rattle.key_cells.specs.Bench.{Bench}
 use Rattle.key_tokens.specs.Denotes.{ClearKey, Denoted, MasterKey, MasterKeys, denoted}
 use Rattle.key_records.specs.Ages.{has_old_key}
 use Rattle.key_records.specs.Changes.{AreBoth, written, written_ahead}
-use Rattle.key_records.specs.Entries.{Entry}
+use Rattle.key_records.specs.Entries.{Entry, both_row, key_row}
+use Rattle.key_records.specs.declared.rows.Row.{Row}
 use Rattle.key_records.specs.declared.rows.Second.{Second}
 use Rattle.key_records.specs.RecordBody.{key_body, both_body, renewed}
 use Rattle.master_registers.specs.Loaded.{masters_in}
@@ -33,6 +34,11 @@ StandFor masters (Two token second) key = AreBoth masters token second key.clear
 abbrev pub body_of : List ℕ → Tokens → List ℕ
 body_of label (One token) = key_body label (renewed token)
 body_of label (Two token second) = both_body label (renewed token) second
+
+-- what the memory knows of a label with them
+abbrev pub row_of : List ℕ → Tokens → Row
+row_of label (One token) = key_row label token
+row_of label (Two token second) = both_row label token second.pattern
 
 abbrev pub put_in : Tokens → ℕ → Denoted → List (Option Entry) → List (Option Entry)
 put_in (One token) cell key s = written cell key s

@@ -1,16 +1,19 @@
 -- One cell's turn in a run.
-use Rattle.std.specs.Prelude.{◌≡◌, ◌⊎◌, ℕ, Bool, List, Option, set, slice_index, length, Result, OnOk, OnErr, IfOk}
+use Rattle.std.specs.Prelude.{◌≡◌, ◌⊎◌, ℕ, Bool, true, false, List, Option, Some, set, slice_index, length, Result, OnOk, OnErr, IfOk}
 use Rattle.slot_disk.specs.Cells.{body, other_body, IsUntouched}
 use Rattle.slot_disk.specs.Medium.{Medium, Told, From, Becomes, EachImage}
 use Rattle.slot_disk.specs.SpareBytes.{SameCell, HasTurned}
-use Rattle.key_tokens.specs.Denotes.{MasterKeys}
-use Rattle.key_records.specs.Entries.{Entry}
+use Rattle.key_tokens.specs.Denotes.{MasterKeys, denoted}
+use Rattle.key_records.specs.Changes.{IsReadOf, has_key}
+use Rattle.key_records.specs.Entries.{Entry, label_or}
 use Rattle.key_records.specs.StoreStands.{StandsForLabels, KeepsLabels, entry_at}
 use Rattle.key_records.specs.declared.faults.RecordFault.{RecordFault}
 use Rattle.key_records.specs.declared.rows.Row.{Row}
 use Rattle.reencipher.specs.Further.{changed_entry, is_changed}
 use Rattle.reencipher.specs.Runs.{IsChanged}
+use Rattle.reencipher.specs.Tokens.{AreMade, changes_key, row_of}
 use Rattle.reencipher.specs.declared.actions.StoreAction.{StoreAction}
+use Rattle.reencipher.specs.declared.writing.Tokens.{Tokens}
 
 -- the label of one cell is what the action makes of it
 abbrev pub changed_at : StoreAction → ℕ → List (Option Entry) → List (Option Entry)
@@ -53,3 +56,28 @@ pub record ChangesCell (a : StoreAction) (masters : MasterKeys) (cell : ℕ) (s 
   pub kept : OnErr result (now ≡ before)
   pub either : Becomes (HoldsTurn a masters cell s) old new
   pub moments : EachImage old new (From (HoldsTurn a masters cell s) old)
+
+-- ---- by what was read, whatever the store tells of its bytes
+
+-- the record stays: it is null, or the action doesn't change a label with the key of the token in it
+pub record StaysAsRead (a : StoreAction) (masters : MasterKeys) (row : Option Row) (bytes : List ℕ)
+    : Type 0 where
+  pub found : Bool
+  pub token : List ℕ
+  pub read : IsReadOf row bytes found token
+  pub null : found ≡ has_key row
+  pub stays : found ≡ true → changes_key a (denoted masters token) ≡ false
+
+-- the memory has the label with the tokens that the action makes of a token whose key it changes
+pub record IsMadeRow (a : StoreAction) (masters : MasterKeys) (before now : Option Row) : Type 0 where
+  pub token : List ℕ
+  pub changes : changes_key a (denoted masters token) ≡ true
+  pub tokens : Tokens
+  pub made : AreMade a masters token tokens
+  pub row : now ≡ Some (row_of (label_or before) tokens)
+
+-- A label that may change, by the body that was read of its record: it stays, or the memory has it changed.
+pub record TurnsAsRead (a : StoreAction) (masters : MasterKeys) (before now : Option Row) (bytes : List ℕ)
+    (done : Bool) : Type 0 where
+  pub stays : done ≡ false → StaysAsRead a masters before bytes
+  pub turns : done ≡ true → IsMadeRow a masters before now

@@ -12,4 +12,4 @@ mod writing;
 pub use actions::StoreAction;
 pub use judging::is_taken;
 pub use laws::reruns_end_as_one_run;
-pub use running::run_action;
+pub use running::{ahead, drop_ahead, reencipher};

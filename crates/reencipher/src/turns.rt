@@ -1,5 +1,5 @@
 //! One cell's turn: its label becomes what an action makes of it.
-ghost use Rattle.std.specs.Prelude.{◌≡◌, ◌≢◌, ◌<◌, get_or, ℕ, List, Option, IfOk, IsSome, None};
+ghost use Rattle.std.specs.Prelude.{◌≡◌, ◌≢◌, ◌<◌, get_or, ℕ, List, Option, IfOk, IfSome, IsSome, IsNone, None, true};
 ghost use Rattle.key_cells.specs.Lease.{bench_of};
 ghost use Rattle.key_records.specs.Changes.{is_ahead_row};
 ghost use Rattle.key_records.specs.Directory.{label_at};
@@ -9,7 +9,7 @@ ghost use Rattle.master_registers.specs.Loaded.{IsLoaded, Loaded};
 ghost use Rattle.master_registers.specs.Masters.{Masters};
 ghost use Rattle.reencipher.specs.Runs.{IsChangedRow, LeavesAnyStore, changes_row};
 ghost use Rattle.reencipher.specs.Tokens.{IsComing, IsReadyFor, may_change};
-ghost use Rattle.reencipher.specs.Turns.{ChangesCell, TurnsCell};
+ghost use Rattle.reencipher.specs.Turns.{ChangesCell, TurnsAsRead, TurnsCell};
 ghost use Rattle.slot_disk.specs.Medium.{Told};
 ghost use Rattle.verb_rules.specs.Keys.{keys_of};
 
@@ -19,7 +19,23 @@ use crate::writing::put;
 use key_cells::Lease;
 use key_records::{Place, RecordFault, Records};
 use master_registers::{Pattern, Registers};
-use slot_disk::Disk;
+use slot_disk::{Disk, Steps};
+
+/// The place of the label of a cell.
+fn place_in(records: &Records, cell: u16) -> Option<Place>
+    requires { cell < 1024 }
+    ensures place { IfSome result (λ place. place ≡ cell) }
+    ensures held { IfSome result (λ place.
+        IsSome (label_at (row_directory records.now) place)) }
+    ensures none { IsNone result → label_at (row_directory records.now) cell ≡ None }
+{
+    let label = match records.label_in(cell) {
+        Some(label) => label,
+        None => return None,
+    };
+    let mut steps: Steps<()> = Steps::new();
+    records.find(label, &mut steps)
+}
 
 /// Whether the action may change a label, by its mark of being ahead.
 fn may_change(action: StoreAction, records: &Records, place: Place) -> bool
@@ -56,19 +72,25 @@ pub(crate) fn turn_cell<D: Disk>(
         → Told (D.medium store.old) (KeepsLabels (keys_of m) records.old s)
         → ChangesCell action (keys_of m) cell s records.old records.new
         (D.medium store.old) (D.medium store.new) result }
+    // By what was read of the record of a label that may change, whatever the store tells of its bytes.
+    ensures own { (m : Masters) → Loaded m held.now (bench_of lease.old)
+        → IsSome (label_at (row_directory records.old) cell)
+        → may_change action (is_ahead_row (get_or records.old cell None)) ≡ true
+        → IfOk result (TurnsAsRead action (keys_of m) (get_or records.old cell None)
+        (get_or records.new cell None) (bench_of lease.new).body) }
     ensures turns { TurnsCell (IsChangedRow action held.now records.old cell) cell
         (D.medium store.old) (D.medium store.new) result }
-    ensures row { Told (D.medium store.old) (λ _.
-        (IsChangedRow action held.now records.old cell → ⊥)
-        → get_or records.new cell None ≡ get_or records.old cell None) }
+    // By the memory alone, whatever the store tells of its bytes.
+    ensures row { (IsChangedRow action held.now records.old cell → ⊥)
+        → get_or records.new cell None ≡ get_or records.old cell None }
     ensures others { (n : ℕ) → n ≢ cell
         → get_or records.new n None ≡ get_or records.old n None }
-    ensures count { IfOk result (λ done. Told (D.medium store.old) (λ _.
-        done ≡ changes_row action held.now (get_or records.old cell None))) }
+    ensures count { IfOk result (λ done.
+        done ≡ changes_row action held.now (get_or records.old cell None)) }
     ensures left { LeavesAnyStore D.medium D.faults (λ n. n ≡ cell) lease.old lease.new
         records.old records.new store.old store.new result }
 {
-    let place = match records.place_in(cell) {
+    let place = match place_in(records, cell) {
         Some(place) => place,
         None => return Ok(false),
     };
@@ -76,7 +98,11 @@ pub(crate) fn turn_cell<D: Disk>(
         return Ok(false);
     }
     let mut token = [0; 64];
-    if !records.read(store, lease, place, &mut token)? {
+    let found = match records.read(store, lease, place, &mut token) {
+        Ok(found) => found,
+        Err(fault) => return Err(fault),
+    };
+    if !found {
         return Ok(false);
     }
     let tokens = match made_tokens(action, lease, held, coming, &token) {

@@ -8,7 +8,7 @@ ghost use Rattle.key_records.specs.StoreStands.{HoldsRows, KeepsLabels};
 ghost use Rattle.key_records.specs.declared.records.TheConstants.{STORE_LEN};
 ghost use Rattle.key_tokens.specs.Denotes.{Denoted, MasterKeys};
 ghost use Rattle.master_registers.specs.Loaded.{IsLoaded, masters_in};
-ghost use Rattle.reencipher.specs.Tokens.{CanBeWritten, StandFor, body_of, put_in};
+ghost use Rattle.reencipher.specs.Tokens.{CanBeWritten, StandFor, body_of, put_in, row_of};
 ghost use Rattle.slot_disk.specs.Medium.{Told, IsSettled};
 ghost use Rattle.verb_rules.specs.Keys.{keys_of};
 
@@ -51,6 +51,8 @@ pub(crate) fn put<D: Disk>(
         → ChangesLabels masters place s (put_in tokens.now place key s)
         records.new (D.medium store.old) (D.medium store.new) result }
     ensures directory { OnOk result (row_directory records.new ≡ row_directory records.old) }
+    ensures row { OnOk result (get_or records.new place None
+        ≡ Some (row_of (label_or (get_or records.old place None)) tokens.now)) }
     ensures kept { OnErr result (records.new ≡ records.old) }
     ensures others { (n : ℕ) → n ≢ place
         → get_or records.new n None ≡ get_or records.old n None }

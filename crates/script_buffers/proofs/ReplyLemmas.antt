@@ -1,6 +1,6 @@
 -- A reply line as it is written, piece after piece.
-use Rattle.std.proofs.Common.{◌≡◌, ℕ, List, [], ◌∷◌, ◌++◌, refl, sym, ap, ◌∙◌, append_assoc}
-use Rattle.script_buffers.specs.Replies.{Field, field_text, fields_text, written}
+use Rattle.std.proofs.Common.{◌≡◌, List, [], ◌∷◌, ◌++◌, refl, sym, ap, ◌∙◌, append_assoc}
+use Rattle.script_buffers.specs.Replies.{Field, field_text, fields_text}
 
 -- the fields of two lists, one after the other
 pub fields_text-append : (fs gs : List Field) → fields_text (fs ++ gs) ≡ fields_text fs ++ fields_text gs

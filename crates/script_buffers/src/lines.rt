@@ -182,7 +182,6 @@ impl LineBuffer {
         ensures kept { OnErr result (Keeps (S.left source.old) (S.left source.new)) }
         ensures same { OnErr result (self.new ≡ self.old) }
         ensures cause { HasCause (S.faults source.old) (S.faults source.new) result }
-        ensures quiet { OnOk result (S.faults source.new ≡ S.faults source.old) }
     {
         let room = (CHUNK as u64).min(INPUT_LIMIT - self.taken) as usize;
         self.start = 0;
@@ -263,8 +262,9 @@ pub fn read_line<S: Source>(source: &mut S, buffer: &mut LineBuffer) -> Result<T
         → Rose (S.faults source.old) (S.faults source.new) }
     ensures later { S.faults source.old ≤ S.faults source.new }
 
-    // A fault is answered, and so the source isn't read ahead while a whole line is pending.
-    ensures quiet { OnOk result (S.faults source.new ≡ S.faults source.old) }
+    // No fault is passed over: where none is answered, the source counted none.
+    ensures quiet { (result ≡ Err LineFault.ReadFault → ⊥)
+        → S.faults source.new ≡ S.faults source.old }
     ensures limit { WhereTold (S.left source.old) (S.left source.new) (λ before after.
         (result ≡ Err LineFault.InputLimit) ↔ ((buffer.new.taken ≡ input_limit)
         × NoNewline (buffer.old.pending ++ given before after))) }
@@ -299,7 +299,8 @@ fn gather<S: Source>(source: &mut S, buffer: &mut LineBuffer) -> Result<bool, Li
     ensures fault { result ≡ Err LineFault.ReadFault
         → Rose (S.faults source.old) (S.faults source.new) }
     ensures later { S.faults source.old ≤ S.faults source.new }
-    ensures quiet { OnOk result (S.faults source.new ≡ S.faults source.old) }
+    ensures quiet { (result ≡ Err LineFault.ReadFault → ⊥)
+        → S.faults source.new ≡ S.faults source.old }
     ensures ready { IsReady buffer.old → source.new ≡ source.old }
 {
     'parts: loop {
@@ -336,7 +337,6 @@ fn read_front<S: Source>(source: &mut S, chunk: &mut [u8], room: usize) -> Resul
     ensures size { length chunk.new ≡ length chunk.old }
     ensures bytes { ReadConsumes (S.left source.old) (S.left source.new) result chunk.new }
     ensures cause { HasCause (S.faults source.old) (S.faults source.new) result }
-    ensures quiet { OnOk result (S.faults source.new ≡ S.faults source.old) }
 {
     source.read(&mut chunk[..room])
 }

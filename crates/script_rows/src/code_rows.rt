@@ -1,7 +1,7 @@
 //! Lines of message authentication codes, of whole texts and of texts in segments.
-use crate::lines::{TOKEN, is_parsed};
+use crate::lines::{KEY, is_parsed};
 use cca_roles::default_role;
-use verb_script::{CodeLength, CodeRule, KeyField, Request};
+use verb_script::Request;
 
 #[test]
 fn lines_of_codes_made_are_parsed(rt: HostRuntime) {
@@ -12,9 +12,9 @@ fn lines_of_codes_made_are_parsed(rt: HostRuntime) {
             b"CSNBMGN role=DEFAULT key=T:020000000000c00000000000000000008ca64de9c1b123a700000000000000000000000000000000000000000000000000000000000000000000000050583190 rule=X9.9-1 length=4 text=00",
             Request::Csnbmgn {
                 role,
-                key: KeyField::Token(TOKEN),
-                rule: CodeRule::X99,
-                length: CodeLength::Four,
+                key: KEY,
+                rule: b"X9.9-1",
+                length: b"4",
                 text: b"00",
             },
         ),
@@ -22,9 +22,9 @@ fn lines_of_codes_made_are_parsed(rt: HostRuntime) {
             b"CSNBMGN role=DEFAULT key=L:K rule=X9.19OPT length=6 text=",
             Request::Csnbmgn {
                 role,
-                key: KeyField::Label(b"K"),
-                rule: CodeRule::X919,
-                length: CodeLength::Six,
+                key: b"L:K",
+                rule: b"X9.19OPT",
+                length: b"6",
                 text: b"",
             },
         ),
@@ -32,8 +32,9 @@ fn lines_of_codes_made_are_parsed(rt: HostRuntime) {
             b"CSNBMGN role=DEFAULT key=L:K rule=X9.9-1 segment=FIRST text=3736353433",
             Request::CsnbmgnFirst {
                 role,
-                key: KeyField::Label(b"K"),
-                rule: CodeRule::X99,
+                key: b"L:K",
+                rule: b"X9.9-1",
+                segment: b"FIRST",
                 text: b"3736353433",
             },
         ),
@@ -41,8 +42,9 @@ fn lines_of_codes_made_are_parsed(rt: HostRuntime) {
             b"CSNBMGN role=DEFAULT key=L:K rule=X9.19OPT segment=MIDDLE chain=1234567890abcdef074e6f7720697320 text=32",
             Request::CsnbmgnMiddle {
                 role,
-                key: KeyField::Label(b"K"),
-                rule: CodeRule::X919,
+                key: b"L:K",
+                rule: b"X9.19OPT",
+                segment: b"MIDDLE",
                 chain,
                 text: b"32",
             },
@@ -51,9 +53,10 @@ fn lines_of_codes_made_are_parsed(rt: HostRuntime) {
             b"CSNBMGN role=DEFAULT key=L:K rule=X9.9-1 segment=LAST length=8 chain=1234567890abcdef074e6f7720697320 text=32",
             Request::CsnbmgnLast {
                 role,
-                key: KeyField::Label(b"K"),
-                rule: CodeRule::X99,
-                length: CodeLength::Eight,
+                key: b"L:K",
+                rule: b"X9.9-1",
+                segment: b"LAST",
+                length: b"8",
                 chain,
                 text: b"32",
             },
@@ -73,8 +76,8 @@ fn lines_of_codes_verified_are_parsed(rt: HostRuntime) {
             b"CSNBMVR role=DEFAULT key=T:020000000000c00000000000000000008ca64de9c1b123a700000000000000000000000000000000000000000000000000000000000000000000000050583190 rule=X9.9-1 mac=f1d30f68 text=00",
             Request::Csnbmvr {
                 role,
-                key: KeyField::Token(TOKEN),
-                rule: CodeRule::X99,
+                key: KEY,
+                rule: b"X9.9-1",
                 mac: b"f1d30f68",
                 text: b"00",
             },
@@ -83,8 +86,8 @@ fn lines_of_codes_verified_are_parsed(rt: HostRuntime) {
             b"CSNBMVR role=DEFAULT key=L:K rule=X9.19OPT mac=0123456789AB text=",
             Request::Csnbmvr {
                 role,
-                key: KeyField::Label(b"K"),
-                rule: CodeRule::X919,
+                key: b"L:K",
+                rule: b"X9.19OPT",
                 mac: b"0123456789AB",
                 text: b"",
             },
@@ -93,8 +96,9 @@ fn lines_of_codes_verified_are_parsed(rt: HostRuntime) {
             b"CSNBMVR role=DEFAULT key=L:K rule=X9.9-1 segment=FIRST text=3736353433",
             Request::CsnbmvrFirst {
                 role,
-                key: KeyField::Label(b"K"),
-                rule: CodeRule::X99,
+                key: b"L:K",
+                rule: b"X9.9-1",
+                segment: b"FIRST",
                 text: b"3736353433",
             },
         ),
@@ -102,8 +106,9 @@ fn lines_of_codes_verified_are_parsed(rt: HostRuntime) {
             b"CSNBMVR role=DEFAULT key=L:K rule=X9.19OPT segment=MIDDLE chain=1234567890abcdef074e6f7720697320 text=32",
             Request::CsnbmvrMiddle {
                 role,
-                key: KeyField::Label(b"K"),
-                rule: CodeRule::X919,
+                key: b"L:K",
+                rule: b"X9.19OPT",
+                segment: b"MIDDLE",
                 chain,
                 text: b"32",
             },
@@ -112,8 +117,9 @@ fn lines_of_codes_verified_are_parsed(rt: HostRuntime) {
             b"CSNBMVR role=DEFAULT key=L:K rule=X9.9-1 segment=LAST mac=0123456789abcdef chain=1234567890abcdef074e6f7720697320 text=32",
             Request::CsnbmvrLast {
                 role,
-                key: KeyField::Label(b"K"),
-                rule: CodeRule::X99,
+                key: b"L:K",
+                rule: b"X9.9-1",
+                segment: b"LAST",
                 mac: b"0123456789abcdef",
                 chain,
                 text: b"32",

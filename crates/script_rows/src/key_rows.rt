@@ -2,9 +2,7 @@
 use crate::lines::{TOKEN, is_parsed};
 use cca_roles::default_role;
 use cca_vectors::KeyType;
-use verb_script::{
-    ChangeTo, Destination, KeyField, KeyLength, OutForm, PairForm, PartRule, Request,
-};
+use verb_script::Request;
 
 #[test]
 fn lines_that_make_and_move_keys_are_parsed(rt: HostRuntime) {
@@ -14,78 +12,80 @@ fn lines_that_make_and_move_keys_are_parsed(rt: HostRuntime) {
             b"CSNBKGN role=DEFAULT form=OP length=8 type1=DATA to=-",
             Request::CsnbkgnOp {
                 role,
-                length: KeyLength::Eight,
+                form: b"OP",
+                length: b"8",
                 type1: KeyType::Data,
-                to: Destination::Reply,
+                to: b"-",
             },
         ),
         (
             b"CSNBKGN role=DEFAULT form=OPEX length=16 type1=MAC type2=MACVER transport2=L:EXP to=L:M2",
             Request::CsnbkgnPair {
                 role,
-                form: PairForm::Opex,
-                length: KeyLength::Sixteen,
+                form: b"OPEX",
+                length: b"16",
                 type1: KeyType::Mac,
                 type2: KeyType::Macver,
-                transport2: KeyField::Label(b"EXP"),
-                to: Destination::Record(b"M2"),
+                transport2: b"L:EXP",
+                to: b"L:M2",
             },
         ),
         (
             b"CSNBKGN role=DEFAULT form=OPIM length=8 type1=ENCIPHER type2=DECIPHER transport2=L:IMP to=-",
             Request::CsnbkgnPair {
                 role,
-                form: PairForm::Opim,
-                length: KeyLength::Eight,
+                form: b"OPIM",
+                length: b"8",
                 type1: KeyType::Encipher,
                 type2: KeyType::Decipher,
-                transport2: KeyField::Label(b"IMP"),
-                to: Destination::Reply,
+                transport2: b"L:IMP",
+                to: b"-",
             },
         ),
         (
             b"CSNBKGN role=DEFAULT form=IMEX length=16 type1=IMPORTER type2=OKEYXLAT transport1=L:IMP transport2=L:EXP",
             Request::CsnbkgnOut {
                 role,
-                form: OutForm::Imex,
-                length: KeyLength::Sixteen,
+                form: b"IMEX",
+                length: b"16",
                 type1: KeyType::Importer,
                 type2: KeyType::Okeyxlat,
-                transport1: KeyField::Label(b"IMP"),
-                transport2: KeyField::Label(b"EXP"),
+                transport1: b"L:IMP",
+                transport2: b"L:EXP",
             },
         ),
         (
             b"CSNBKGN role=DEFAULT form=OP length=DOUBLE-O type1=DATA to=-",
             Request::CsnbkgnOp {
                 role,
-                length: KeyLength::DoubleO,
+                form: b"OP",
+                length: b"DOUBLE-O",
                 type1: KeyType::Data,
-                to: Destination::Reply,
+                to: b"-",
             },
         ),
         (
             b"CSNBKGN role=DEFAULT form=OPIM length=DOUBLE-O type1=MAC type2=MACVER transport2=L:IMP to=L:M2",
             Request::CsnbkgnPair {
                 role,
-                form: PairForm::Opim,
-                length: KeyLength::DoubleO,
+                form: b"OPIM",
+                length: b"DOUBLE-O",
                 type1: KeyType::Mac,
                 type2: KeyType::Macver,
-                transport2: KeyField::Label(b"IMP"),
-                to: Destination::Record(b"M2"),
+                transport2: b"L:IMP",
+                to: b"L:M2",
             },
         ),
         (
             b"CSNBKGN role=DEFAULT form=EXEX length=DOUBLE-O type1=EXPORTER type2=IMPORTER transport1=L:E transport2=L:F",
             Request::CsnbkgnOut {
                 role,
-                form: OutForm::Exex,
-                length: KeyLength::DoubleO,
+                form: b"EXEX",
+                length: b"DOUBLE-O",
                 type1: KeyType::Exporter,
                 type2: KeyType::Importer,
-                transport1: KeyField::Label(b"E"),
-                transport2: KeyField::Label(b"F"),
+                transport1: b"L:E",
+                transport2: b"L:F",
             },
         ),
         (
@@ -93,31 +93,31 @@ fn lines_that_make_and_move_keys_are_parsed(rt: HostRuntime) {
             Request::Csnbkim {
                 role,
                 token: TOKEN,
-                transport: KeyField::Label(b"IMP"),
-                to: Destination::Record(b"K"),
+                transport: b"L:IMP",
+                to: b"L:K",
             },
         ),
         (
             b"CSNBKEX role=DEFAULT key=L:K transport=L:EXP",
             Request::Csnbkex {
                 role,
-                key: KeyField::Label(b"K"),
-                transport: KeyField::Label(b"EXP"),
+                key: b"L:K",
+                transport: b"L:EXP",
             },
         ),
         (
             b"CSNBPEX role=DEFAULT key=L:K to=-",
             Request::Csnbpex {
                 role,
-                key: KeyField::Label(b"K"),
-                to: Destination::Reply,
+                key: b"L:K",
+                to: b"-",
             },
         ),
         (
             b"CSNBKTC role=DEFAULT rule=RTCMK token=020000000000c00000000000000000008ca64de9c1b123a700000000000000000000000000000000000000000000000000000000000000000000000050583190",
             Request::Csnbktc {
                 role,
-                rule: ChangeTo::Current,
+                rule: b"RTCMK",
                 token: TOKEN,
             },
         ),
@@ -125,7 +125,7 @@ fn lines_that_make_and_move_keys_are_parsed(rt: HostRuntime) {
             b"CSNBKTC role=DEFAULT rule=RTNMK token=020000000000c00000000000000000008ca64de9c1b123a700000000000000000000000000000000000000000000000000000000000000000000000050583190",
             Request::Csnbktc {
                 role,
-                rule: ChangeTo::New,
+                rule: b"RTNMK",
                 token: TOKEN,
             },
         ),
@@ -143,29 +143,30 @@ fn lines_of_keys_in_parts_are_parsed(rt: HostRuntime) {
             b"CSNBKPI role=DEFAULT rule=FIRST type=DATA part=ffffffffffffffff to=L:P",
             Request::CsnbkpiFirst {
                 role,
+                rule: b"FIRST",
                 kind: KeyType::Data,
                 part: b"ffffffffffffffff",
-                to: Destination::Record(b"P"),
+                to: b"L:P",
             },
         ),
         (
             b"CSNBKPI role=DEFAULT rule=MIDDLE key=L:P part=0123456789abcdef0123456789ABCDEF to=-",
             Request::CsnbkpiMiddle {
                 role,
-                rule: PartRule::Middle,
-                key: KeyField::Label(b"P"),
+                rule: b"MIDDLE",
+                key: b"L:P",
                 part: b"0123456789abcdef0123456789ABCDEF",
-                to: Destination::Reply,
+                to: b"-",
             },
         ),
         (
             b"CSNBKPI role=DEFAULT rule=LAST key=L:P part=fedcba9876543210 to=L:P",
             Request::CsnbkpiMiddle {
                 role,
-                rule: PartRule::Last,
-                key: KeyField::Label(b"P"),
+                rule: b"LAST",
+                key: b"L:P",
                 part: b"fedcba9876543210",
-                to: Destination::Record(b"P"),
+                to: b"L:P",
             },
         ),
         (
@@ -173,8 +174,8 @@ fn lines_of_keys_in_parts_are_parsed(rt: HostRuntime) {
             Request::Csnbktr {
                 role,
                 token: TOKEN,
-                transport1: KeyField::Label(b"IX"),
-                transport2: KeyField::Label(b"OX"),
+                transport1: b"L:IX",
+                transport2: b"L:OX",
             },
         ),
     ];

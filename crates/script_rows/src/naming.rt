@@ -1,34 +1,34 @@
-//! Keys and destinations as they are read, and the verb, the role and the label of a request.
-use crate::lines::{TOKEN, is_none, is_parsed};
+//! What may stand for a key and for where a key goes, and the verb, the role and the label of a request.
+use crate::lines::{KEY, is_none, is_parsed};
 use cca_roles::default_role;
-use verb_script::{Destination, KeyField, Request, parse_request};
+use verb_script::{Request, parse_request};
 
 #[test]
-fn keys_and_destinations_are_read(rt: HostRuntime) {
+fn keys_and_where_keys_go_are_parsed(rt: HostRuntime) {
     let role = default_role();
     let lines: [(&[u8], Request); 4] = [
         (
             b"CSNBPEX role=DEFAULT key=L:PAY.DATA to=-",
             Request::Csnbpex {
                 role,
-                key: KeyField::Label(b"PAY.DATA"),
-                to: Destination::Reply,
+                key: b"L:PAY.DATA",
+                to: b"-",
             },
         ),
         (
             b"CSNBPEX role=DEFAULT key=L:L: to=L:-",
             Request::Csnbpex {
                 role,
-                key: KeyField::Label(b"L:"),
-                to: Destination::Record(b"-"),
+                key: b"L:L:",
+                to: b"L:-",
             },
         ),
         (
             b"CSNBPEX role=DEFAULT key=T:020000000000c00000000000000000008ca64de9c1b123a700000000000000000000000000000000000000000000000000000000000000000000000050583190 to=L:T:",
             Request::Csnbpex {
                 role,
-                key: KeyField::Token(TOKEN),
-                to: Destination::Record(b"T:"),
+                key: KEY,
+                to: b"L:T:",
             },
         ),
         // what stands for a label needn't be one
@@ -36,8 +36,8 @@ fn keys_and_destinations_are_read(rt: HostRuntime) {
             b"CSNBPEX role=DEFAULT key=L:1one to=L:!~",
             Request::Csnbpex {
                 role,
-                key: KeyField::Label(b"1one"),
-                to: Destination::Record(b"!~"),
+                key: b"L:1one",
+                to: b"L:!~",
             },
         ),
     ];
@@ -47,7 +47,7 @@ fn keys_and_destinations_are_read(rt: HostRuntime) {
 }
 
 #[test]
-fn other_texts_are_no_keys_and_no_destinations(rt: HostRuntime) {
+fn other_texts_are_no_keys_and_nowhere_for_one(rt: HostRuntime) {
     let lines: [&[u8]; 12] = [
         b"CSNBPEX role=DEFAULT key=L: to=-",
         b"CSNBPEX role=DEFAULT key=L to=-",

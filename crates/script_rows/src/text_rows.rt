@@ -1,7 +1,7 @@
 //! Lines of texts that are enciphered and deciphered, whole and in segments.
-use crate::lines::{TOKEN, is_parsed};
+use crate::lines::{KEY, is_parsed};
 use cca_roles::default_role;
-use verb_script::{KeyField, Padding, Request};
+use verb_script::Request;
 
 #[test]
 fn lines_of_encipher_are_parsed(rt: HostRuntime) {
@@ -12,9 +12,9 @@ fn lines_of_encipher_are_parsed(rt: HostRuntime) {
             b"CSNBENC role=DEFAULT key=T:020000000000c00000000000000000008ca64de9c1b123a700000000000000000000000000000000000000000000000000000000000000000000000050583190 iv=0000000000000000 pad=NONE text=0123456789abcdef",
             Request::Csnbenc {
                 role,
-                key: KeyField::Token(TOKEN),
+                key: KEY,
                 iv: b"0000000000000000",
-                pad: Padding::None,
+                pad: b"NONE",
                 text: b"0123456789abcdef",
             },
         ),
@@ -22,9 +22,9 @@ fn lines_of_encipher_are_parsed(rt: HostRuntime) {
             b"CSNBENC role=DEFAULT key=L:K iv=fedcba9876543210 pad=X9.23 text=",
             Request::Csnbenc {
                 role,
-                key: KeyField::Label(b"K"),
+                key: b"L:K",
                 iv: b"fedcba9876543210",
-                pad: Padding::X923,
+                pad: b"X9.23",
                 text: b"",
             },
         ),
@@ -32,7 +32,8 @@ fn lines_of_encipher_are_parsed(rt: HostRuntime) {
             b"CSNBENC role=DEFAULT key=L:K segment=FIRST iv=1234567890abcdef text=4e6f7720697320",
             Request::CsnbencFirst {
                 role,
-                key: KeyField::Label(b"K"),
+                key: b"L:K",
+                segment: b"FIRST",
                 iv: b"1234567890abcdef",
                 text: b"4e6f7720697320",
             },
@@ -41,7 +42,8 @@ fn lines_of_encipher_are_parsed(rt: HostRuntime) {
             b"CSNBENC role=DEFAULT key=L:K segment=MIDDLE chain=1234567890abcdef074e6f7720697320 text=74",
             Request::CsnbencMiddle {
                 role,
-                key: KeyField::Label(b"K"),
+                key: b"L:K",
+                segment: b"MIDDLE",
                 chain,
                 text: b"74",
             },
@@ -50,9 +52,10 @@ fn lines_of_encipher_are_parsed(rt: HostRuntime) {
             b"CSNBENC role=DEFAULT key=L:K segment=LAST chain=1234567890abcdef074e6f7720697320 pad=X9.23 text=00",
             Request::CsnbencLast {
                 role,
-                key: KeyField::Label(b"K"),
+                key: b"L:K",
+                segment: b"LAST",
                 chain,
-                pad: Padding::X923,
+                pad: b"X9.23",
                 text: b"00",
             },
         ),
@@ -60,9 +63,10 @@ fn lines_of_encipher_are_parsed(rt: HostRuntime) {
             b"CSNBENC role=DEFAULT key=L:K segment=LAST chain=1234567890abcdef074e6f7720697320 pad=NONE text=",
             Request::CsnbencLast {
                 role,
-                key: KeyField::Label(b"K"),
+                key: b"L:K",
+                segment: b"LAST",
                 chain,
-                pad: Padding::None,
+                pad: b"NONE",
                 text: b"",
             },
         ),
@@ -81,9 +85,9 @@ fn lines_of_decipher_are_parsed(rt: HostRuntime) {
             b"CSNBDEC role=DEFAULT key=T:020000000000c00000000000000000008ca64de9c1b123a700000000000000000000000000000000000000000000000000000000000000000000000050583190 iv=0000000000000000 pad=NONE text=0123456789abcdef",
             Request::Csnbdec {
                 role,
-                key: KeyField::Token(TOKEN),
+                key: KEY,
                 iv: b"0000000000000000",
-                pad: Padding::None,
+                pad: b"NONE",
                 text: b"0123456789abcdef",
             },
         ),
@@ -91,9 +95,9 @@ fn lines_of_decipher_are_parsed(rt: HostRuntime) {
             b"CSNBDEC role=DEFAULT key=L:K iv=fedcba9876543210 pad=X9.23 text=",
             Request::Csnbdec {
                 role,
-                key: KeyField::Label(b"K"),
+                key: b"L:K",
                 iv: b"fedcba9876543210",
-                pad: Padding::X923,
+                pad: b"X9.23",
                 text: b"",
             },
         ),
@@ -101,7 +105,8 @@ fn lines_of_decipher_are_parsed(rt: HostRuntime) {
             b"CSNBDEC role=DEFAULT key=L:K segment=FIRST iv=1234567890abcdef text=4e6f7720697320",
             Request::CsnbdecFirst {
                 role,
-                key: KeyField::Label(b"K"),
+                key: b"L:K",
+                segment: b"FIRST",
                 iv: b"1234567890abcdef",
                 text: b"4e6f7720697320",
             },
@@ -110,7 +115,8 @@ fn lines_of_decipher_are_parsed(rt: HostRuntime) {
             b"CSNBDEC role=DEFAULT key=L:K segment=MIDDLE chain=1234567890abcdef074e6f7720697320 text=74",
             Request::CsnbdecMiddle {
                 role,
-                key: KeyField::Label(b"K"),
+                key: b"L:K",
+                segment: b"MIDDLE",
                 chain,
                 text: b"74",
             },
@@ -119,9 +125,10 @@ fn lines_of_decipher_are_parsed(rt: HostRuntime) {
             b"CSNBDEC role=DEFAULT key=L:K segment=LAST chain=1234567890abcdef074e6f7720697320 pad=X9.23 text=00",
             Request::CsnbdecLast {
                 role,
-                key: KeyField::Label(b"K"),
+                key: b"L:K",
+                segment: b"LAST",
                 chain,
-                pad: Padding::X923,
+                pad: b"X9.23",
                 text: b"00",
             },
         ),
@@ -129,9 +136,10 @@ fn lines_of_decipher_are_parsed(rt: HostRuntime) {
             b"CSNBDEC role=DEFAULT key=L:K segment=LAST chain=1234567890abcdef074e6f7720697320 pad=NONE text=",
             Request::CsnbdecLast {
                 role,
-                key: KeyField::Label(b"K"),
+                key: b"L:K",
+                segment: b"LAST",
                 chain,
-                pad: Padding::None,
+                pad: b"NONE",
                 text: b"",
             },
         ),

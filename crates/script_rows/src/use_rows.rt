@@ -1,7 +1,7 @@
 //! Lines of single keys and of random bytes.
-use crate::lines::{TOKEN, is_parsed};
+use crate::lines::{KEY, is_parsed};
 use cca_roles::default_role;
-use verb_script::{Destination, KeyField, NumberForm, Request};
+use verb_script::Request;
 
 #[test]
 fn lines_of_single_keys_are_parsed(rt: HostRuntime) {
@@ -16,24 +16,18 @@ fn lines_of_single_keys_are_parsed(rt: HostRuntime) {
         ),
         (
             b"CSNBKYT role=DEFAULT key=T:020000000000c00000000000000000008ca64de9c1b123a700000000000000000000000000000000000000000000000000000000000000000000000050583190",
-            Request::Csnbkyt {
-                role,
-                key: KeyField::Token(TOKEN),
-            },
+            Request::Csnbkyt { role, key: KEY },
         ),
         (
             b"CSNBKYT role=DEFAULT key=L:K",
-            Request::Csnbkyt {
-                role,
-                key: KeyField::Label(b"K"),
-            },
+            Request::Csnbkyt { role, key: b"L:K" },
         ),
         (
             b"CSNBCKI role=DEFAULT clear=0123456789abcdef to=-",
             Request::Csnbcki {
                 role,
                 clear: b"0123456789abcdef",
-                to: Destination::Reply,
+                to: b"-",
             },
         ),
         (
@@ -41,28 +35,25 @@ fn lines_of_single_keys_are_parsed(rt: HostRuntime) {
             Request::Csnbcki {
                 role,
                 clear: b"0123456789abcdef",
-                to: Destination::Record(b"PAY.DATA"),
+                to: b"L:PAY.DATA",
             },
         ),
         (
             b"CSNBRNG role=DEFAULT form=RANDOM",
             Request::Csnbrng {
                 role,
-                form: NumberForm::Random,
+                form: b"RANDOM",
             },
         ),
         (
             b"CSNBRNG role=DEFAULT form=ODD",
-            Request::Csnbrng {
-                role,
-                form: NumberForm::Odd,
-            },
+            Request::Csnbrng { role, form: b"ODD" },
         ),
         (
             b"CSNBRNG role=DEFAULT form=EVEN",
             Request::Csnbrng {
                 role,
-                form: NumberForm::Even,
+                form: b"EVEN",
             },
         ),
     ];

@@ -1,4 +1,3 @@
-pub mod BlankMedium
 pub mod Cells
 pub mod DiskState
 pub mod EntropyState

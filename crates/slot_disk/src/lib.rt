@@ -20,7 +20,7 @@ mod source;
 mod steps;
 mod streams;
 
-pub use blank::{BlankDisk, BlankEntropy};
+pub use blank::BlankEntropy;
 pub use cell::{BODY_LEN, CELL_LEN, Cell, SECTOR_LEN, read_cell, replace_cell, settle};
 pub use disk::Disk;
 pub use entropy::Entropy;

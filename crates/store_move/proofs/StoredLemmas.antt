@@ -1,21 +1,43 @@
 -- The key that is judged of a record is that of the label.
-use Rattle.std.proofs.Common.{◌≡◌, ◌∙◌, ℕ, Bool, true, List, Option, None, Some, sym, subst}
-use Rattle.std.specs.Prelude.{IfSome, Result, Ok, Err}
+use Rattle.std.proofs.Common.{◌≡◌, ◌∙◌, ℕ, Bool, true, List, Option, None, Some, refl, ap, sym, subst}
+use Rattle.std.specs.Prelude.{IfSome, Result, Ok, Err, if◌then◌else◌, is_none, is_some, not, option_map}
+use Rattle.cca_vectors.specs.Checks.{first_failing}
+use Rattle.cca_vectors.specs.Classes.{class_of}
+use Rattle.cca_vectors.specs.Permissions.{is_exportable}
+use Rattle.cca_vectors.specs.Vectors.{is_part_of}
 use Rattle.key_cells.specs.Bench.{Bench}
-use Rattle.key_records.specs.Changes.{ReadsToken}
+use Rattle.key_cells.specs.Lease.{bench_of}
+use Rattle.key_cells.specs.declared.leases.Lease.{Lease}
+use Rattle.key_records.specs.Changes.{KeepsAllButBody, ReadsToken}
 use Rattle.key_records.specs.Entries.{Entry, what_in}
 use Rattle.key_records.proofs.ReadKeys.{HasRead, read_key}
 use Rattle.key_tokens.specs.Denotes.{Denoted, MasterKeys, denoted}
+use Rattle.key_tokens.specs.declared.key_token.Age.{Age}
+use Rattle.key_transport.specs.Tokens.{external_token}
+use Rattle.verb_rules.specs.Keys.{opened}
+use Rattle.verb_rules.specs.Needs.{exported_key}
 use Rattle.verb_rules.specs.StoredKeys.{IsUse, IsStoredUse}
 use Rattle.verb_rules.specs.declared.judging.Judged.{Judged}
 use Rattle.verb_rules.specs.declared.needs.Need.{Need}
 use Rattle.verb_rules.specs.declared.rules.Rule.{Rule}
+use Rattle.verb_rules.proofs.NeedLemmas.{every_has}
 use Rattle.byte_lists.proofs.DirectoryLaws.{none_some}
-use Rattle.store_move.specs.Stored.{IsStored}
+use Rattle.store_move.specs.Exports.{IsMoved, export_checks, vector_in}
+use Rattle.store_move.specs.Stored.{IsStored, stored_checks}
+use Rattle.store_move.specs.declared.moving.Moved.TheVariants.{Kept, Token}
 
 stored_use : (bench : Bench) (need : Need) (key : Denoted) (r : Result Judged Rule) → IsUse bench need key r → IsStored bench need (Some key) r
 stored_use bench need key (Ok judged) judges = judges
 stored_use bench need key (Err _) judges = judges
+
+pub stored_as : (bench : Bench) (need : Need) (what : Option Denoted) (r : Result Judged Rule) → IsStoredUse bench need what (Some r) → IsStored bench need what r
+stored_as bench need None r judges = absurd judges
+stored_as bench need (Some key) r judges = stored_use bench need key r judges
+
+-- a token of which a key is judged stands for one
+pub stored_some : (bench : Bench) (need : Need) (what : Option Denoted) (r : Result Judged Rule) → IsStoredUse bench need what (Some r) → is_some what ≡ true
+stored_some bench need None r judges = absurd judges
+stored_some bench need (Some key) r judges = refl
 
 module _ (content : Option (List ℕ)) (masters : MasterKeys) (entry : Option Entry) (bench : Bench) (need : Need) (token : List ℕ)
     (found : Bool) (is : found ≡ true) (told : IfSome content (λ _. ReadsToken masters entry found token)) where
@@ -34,3 +56,51 @@ module _ (content : Option (List ℕ)) (masters : MasterKeys) (entry : Option En
 
   pub never_damaged : denoted masters token ≡ None → IfSome content (λ _. ⊥)
   never_damaged stands = told_key ⊥ (λ read. none_some read.key (sym stands ∙ read.denotes))
+
+-- ---- the key that is moved
+
+-- a key that is exported may be of each class, of each use and of each length
+exported_checks : (what : Option Denoted) → first_failing (stored_checks exported_key what) ≡ first_failing (export_checks what)
+exported_checks what =
+    ap (λ (b : Bool). if is_none what then Some 8 else if is_part_of (vector_in what) then Some 17
+    else if not b then Some 19 else if not (is_exportable (vector_in what)) then Some 21 else None)
+    (every_has (class_of (vector_in what)))
+
+module _ (bench : Bench) (what : Option Denoted) (transport : List ℕ) where
+  stored_moved : (judged : Judged) (token : List ℕ) → token ≡ external_token transport (opened bench judged)
+      → IsStored bench exported_key what (Ok judged) → IsMoved transport what (Token token)
+  stored_moved judged token is stored =
+      let found = by_age judged.age refl in (sym (exported_checks what) ∙ stored.0, found.0, found.1, found.2)
+    where
+      at_age : Age → Denoted
+      at_age age = record { clear = opened bench judged; age = age }
+
+      by_age : (age : Option Age) → judged.age ≡ age → (key : Denoted) × (what ≡ Some key) × (token ≡ external_token transport key.clear)
+      by_age None none =
+          let null : what ≡ None = sym stored.1 ∙ ap (option_map at_age) none in
+          let broken : first_failing (stored_checks exported_key None) ≡ None =
+          subst (λ (w : Option Denoted). first_failing (stored_checks exported_key w) ≡ None) null stored.0 in
+          absurd (cc broken)
+      by_age (Some age) some = (at_age age, sym stored.1 ∙ ap (option_map at_age) some, is)
+
+  -- a key that is what an exported key has to be is moved
+  pub moved_token : (need : Need) (r : Result Judged Rule) (judged : Judged) (token : List ℕ) → need ≡ exported_key → r ≡ Ok judged
+      → token ≡ external_token transport (opened bench judged) → IsStored bench need what r → IsMoved transport what (Token token)
+  moved_token need r judged token asks ok is stored =
+      stored_moved judged token is
+      (subst (λ (n : Need). IsStored bench n what (Ok judged)) asks (subst (λ (x : Result Judged Rule). IsStored bench need what x) ok stored))
+
+  -- and else kept back by the rule
+  pub moved_kept : (need : Need) (r : Result Judged Rule) (rule : Rule) → need ≡ exported_key → r ≡ Err rule
+      → IsStored bench need what r → IsMoved transport what (Kept rule)
+  moved_kept need r rule asks broken stored =
+      let here : IsStored bench exported_key what (Err rule) =
+      subst (λ (n : Need). IsStored bench n what (Err rule)) asks (subst (λ (x : Result Judged Rule). IsStored bench need what x) broken stored) in
+      sym (exported_checks what) ∙ here
+
+-- the token that is written once the key was read is that under the transport key as it was opened
+pub exported_under : (old new : Lease) (judged transport : Judged) (token : List ℕ) → KeepsAllButBody old new
+    → token ≡ external_token (opened (bench_of new) transport).key (opened (bench_of new) judged)
+    → token ≡ external_token (opened (bench_of old) transport).key (opened (bench_of old) judged)
+exported_under old new judged transport token rest is =
+    subst (λ (b : Bench). token ≡ external_token (opened b transport).key (opened b judged)) (ap bench_of rest) is

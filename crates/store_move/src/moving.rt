@@ -1,5 +1,5 @@
 //! The key of a label, exported.
-ghost use Rattle.std.specs.Prelude.{◌≡◌, ℕ, List, Option, Err, IfOk, IsSome};
+ghost use Rattle.std.specs.Prelude.{◌≡◌, ℕ, List, Option, None, Err, get_or, IfOk, IsSome};
 ghost use Rattle.key_cells.specs.Lease.{bench_of};
 ghost use Rattle.key_records.specs.Directory.{label_at};
 ghost use Rattle.key_records.specs.Entries.{Entry, row_directory, what_in};
@@ -9,7 +9,8 @@ ghost use Rattle.master_registers.specs.Masters.{Masters};
 ghost use Rattle.slot_disk.specs.Medium.{Keeps, Told};
 ghost use Rattle.verb_rules.specs.Keys.{IsDouble, keys_of, opened};
 ghost use Rattle.store_move.specs.Exports.{ChangesWork, IsMoved};
-ghost use Rattle.store_move.specs.Reading.{FailsAt};
+ghost use Rattle.key_tokens.specs.Denotes.{Denoted};
+ghost use Rattle.store_move.specs.Reading.{FailsAt, HoldsAsRead};
 
 use crate::stored::judge_record;
 use key_cells::Lease;
@@ -51,6 +52,10 @@ pub fn unload_label<D: Disk>(
         → IfOk result (λ moved. Told (D.medium store.old)
         (λ _. IsMoved (opened (bench_of lease.old) transport.now).key
         (what_in (entry_at s place)) moved)) }
+    ensures own { (m : Masters) → Loaded m held.now (bench_of lease.old)
+        → IfOk result (λ moved. (what : Option Denoted)
+        × HoldsAsRead (keys_of m) (get_or records.now place None) (bench_of lease.new).body what
+        × IsMoved (opened (bench_of lease.old) transport.now).key what moved) }
     ensures damaged { (m : Masters) (s : List (Option Entry)) → Loaded m held.now (bench_of lease.old)
         → Told (D.medium store.old) (KeepsLabels (keys_of m) records.now s)
         → (cell : ℕ) → result ≡ Err (RecordFault.Damaged cell) → Told (D.medium store.old) (λ _. ⊥) }

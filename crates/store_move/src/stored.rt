@@ -1,5 +1,5 @@
-//! The key in a record, judged by what is needed of it. It is the only place that reads the store.
-ghost use Rattle.std.specs.Prelude.{◌≡◌, ℕ, List, Option, Err, IfOk, IsSome, IsTrue};
+//! The key in a record, judged by what is needed of it.
+ghost use Rattle.std.specs.Prelude.{◌≡◌, ℕ, List, Option, None, Err, get_or, IfOk, IsSome, IsTrue};
 ghost use Rattle.key_cells.specs.Lease.{bench_of};
 ghost use Rattle.key_records.specs.Changes.{KeepsAllButBody};
 ghost use Rattle.key_records.specs.Directory.{label_at};
@@ -9,7 +9,8 @@ ghost use Rattle.master_registers.specs.Loaded.{Loaded};
 ghost use Rattle.master_registers.specs.Masters.{Masters};
 ghost use Rattle.slot_disk.specs.Medium.{Keeps, Told};
 ghost use Rattle.verb_rules.specs.Keys.{HasHalves, IsDouble, keys_of};
-ghost use Rattle.store_move.specs.Reading.{FailsAt};
+ghost use Rattle.key_tokens.specs.Denotes.{Denoted};
+ghost use Rattle.store_move.specs.Reading.{FailsAt, HoldsAsRead};
 ghost use Rattle.store_move.specs.Stored.{IsStored};
 
 use key_cells::Lease;
@@ -38,6 +39,10 @@ pub(crate) fn judge_record<D: Disk>(
         → Told (D.medium store.old) (KeepsLabels (keys_of m) records.now s)
         → IfOk result (λ judged. Told (D.medium store.old)
         (λ _. IsStored (bench_of lease.old) need.now (what_in (entry_at s place)) judged)) }
+    ensures own { (m : Masters) → Loaded m held.now (bench_of lease.old)
+        → IfOk result (λ judged. (what : Option Denoted)
+        × HoldsAsRead (keys_of m) (get_or records.now place None) (bench_of lease.new).body what
+        × IsStored (bench_of lease.old) need.now what judged) }
     ensures halves { IfOk result (λ judged. IfOk judged HasHalves) }
     ensures double { IsTrue need.now.double → IfOk result (λ judged. IfOk judged IsDouble) }
     ensures damaged { (m : Masters) (s : List (Option Entry)) → Loaded m held.now (bench_of lease.old)

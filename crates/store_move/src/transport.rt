@@ -1,5 +1,5 @@
 //! The transport key under which keys are exported.
-ghost use Rattle.std.specs.Prelude.{◌≡◌, ℕ, List, Option, Err, IfOk, IsSome};
+ghost use Rattle.std.specs.Prelude.{◌≡◌, ℕ, List, Option, None, Err, get_or, IfOk, IsSome};
 ghost use Rattle.key_cells.specs.Lease.{bench_of};
 ghost use Rattle.key_records.specs.Changes.{KeepsAllButBody};
 ghost use Rattle.key_records.specs.Directory.{label_at};
@@ -10,7 +10,8 @@ ghost use Rattle.master_registers.specs.Masters.{Masters};
 ghost use Rattle.slot_disk.specs.Medium.{Keeps, Told};
 ghost use Rattle.verb_rules.specs.Keys.{IsDouble, keys_of};
 ghost use Rattle.store_move.specs.Exports.{IsTransport, exporter};
-ghost use Rattle.store_move.specs.Reading.{FailsAt};
+ghost use Rattle.key_tokens.specs.Denotes.{Denoted};
+ghost use Rattle.store_move.specs.Reading.{FailsAt, HoldsAsRead};
 
 use crate::stored::judge_record;
 use cca_vectors::Class;
@@ -44,6 +45,10 @@ pub fn judge_transport<D: Disk>(
         → Told (D.medium store.old) (KeepsLabels (keys_of m) records.now s)
         → IfOk result (λ judged. Told (D.medium store.old)
         (λ _. IsTransport (bench_of lease.old) (what_in (entry_at s place)) judged)) }
+    ensures own { (m : Masters) → Loaded m held.now (bench_of lease.old)
+        → IfOk result (λ judged. (what : Option Denoted)
+        × HoldsAsRead (keys_of m) (get_or records.now place None) (bench_of lease.new).body what
+        × IsTransport (bench_of lease.old) what judged) }
     ensures double { IfOk result (λ judged. IfOk judged IsDouble) }
     ensures damaged { (m : Masters) (s : List (Option Entry)) → Loaded m held.now (bench_of lease.old)
         → Told (D.medium store.old) (KeepsLabels (keys_of m) records.now s)

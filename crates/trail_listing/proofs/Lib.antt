@@ -1,3 +1,4 @@
 mod LineLaws
 mod SendingLaws
 mod DamageLaws
+mod ReadLaws

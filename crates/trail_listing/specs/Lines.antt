@@ -1,5 +1,5 @@
 -- The lines of a listing.
-use Rattle.std.specs.Prelude.{◌==◌, ◌-◌, ◌++◌, ◌∷◌, [], ℕ, List, length, codes, decimal}
+use Rattle.std.specs.Prelude.{◌==◌, ◌+◌, ◌-◌, ◌++◌, ◌∷◌, [], ℕ, List, length, codes, decimal}
 use Rattle.std.specs.List.{before_first, flat_map, range_with_len}
 use Rattle.script_buffers.specs.Lines.{newline}
 use Rattle.script_buffers.specs.Replies.{two_digits}
@@ -38,3 +38,8 @@ lines_below es next =
 -- the lines of all records that are held
 abbrev pub listing : List Entry → List ℕ
 listing es = lines_below es (length es)
+
+-- the lines of some entries, of which the first has this number
+abbrev pub lines_from : ℕ → List Entry → List ℕ
+lines_from number [] = []
+lines_from number (e ∷ es) = record_line number e ++ lines_from (number + 1) es

@@ -1,13 +1,14 @@
 -- What a listing leaves.
-use Rattle.std.specs.Prelude.{◌≡◌, ◌≤◌, ◌<◌, ◌++◌, ℕ, List, length, Option, Result, Err, OnOk}
+use Rattle.std.specs.Prelude.{◌≡◌, ◌≤◌, ◌<◌, ◌+◌, ◌++◌, ℕ, List, All, length, Option, Result, Err, OnOk, OnErr}
 use Rattle.slot_disk.specs.Faults.{Rose}
 use Rattle.slot_disk.specs.Medium.{Medium, Told}
 use Rattle.slot_disk.specs.WhereTold.{WhereTold}
 use Rattle.line_service.specs.Sending.{GotPart}
+use Rattle.audit_trail.specs.Entries.{IsEntry}
 use Rattle.audit_trail.specs.TrailStands.{IsFirstDamaged}
 use Rattle.audit_trail.specs.declared.entries.Entry.{Entry}
 use Rattle.audit_trail.specs.declared.faults.TrailFault.TheVariants.{DiskFault, Damaged}
-use Rattle.trail_listing.specs.Lines.{lines_below, listing}
+use Rattle.trail_listing.specs.Lines.{held_from, lines_below, lines_from, listing}
 use Rattle.trail_listing.specs.declared.listing.ListFault.{ListFault}
 use Rattle.trail_listing.specs.declared.listing.ListFault.TheVariants.{WriteFault, Trail}
 
@@ -24,6 +25,18 @@ pub record Listed (es : List Entry) (result : Result (Unit {0}) ListFault)
   pub cut : result ≡ Err WriteFault → WhereTold before now (λ x y. GotPart x y (listing es))
   pub lost : result ≡ Err (Trail DiskFault) → WhereTold before now (GotLines es)
   pub undamaged : (cell : ℕ) → result ≡ Err (Trail (Damaged cell)) → ⊥
+
+-- What the sink got by what was read of each record, whatever the trail tells of its bytes: a line for each number that is
+-- held of `next` records, ascending, of some entry that has the forms of one. After an Err what comes before some of it.
+pub record ListsAsRead (next : ℕ) (result : Result (Unit {0}) ListFault)
+    (before now : Option (List ℕ)) : Type 0 where
+  pub entries : List Entry
+  pub forms : All IsEntry entries
+  pub within : held_from next + length entries ≤ next
+  pub done : OnOk result ((held_from next + length entries ≡ next)
+      × WhereTold before now (λ x y. y ≡ x ++ lines_from (held_from next) entries))
+  pub cut : OnErr result (WhereTold before now (λ x y.
+      (missing : List ℕ) × (y ++ missing ≡ x ++ lines_from (held_from next) entries)))
 
 -- Damage is told where a cell is damaged, and then always, unless the trail failed. Nothing is sent then.
 pub record TellsDamage {K : Type 0} (result : Result (Unit {0}) ListFault) (sink0 sink1 : K)

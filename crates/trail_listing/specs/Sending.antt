@@ -2,7 +2,10 @@
 use Rattle.std.specs.Prelude.{◌≡◌, ◌⊎◌, ◌<◌, ◌++◌, ℕ, List, Option, Result, Err, OnOk}
 use Rattle.slot_disk.specs.WhereTold.{WhereTold}
 use Rattle.line_service.specs.Sending.{GotPart}
+use Rattle.audit_trail.specs.Entries.{IsEntry}
+use Rattle.audit_trail.specs.declared.entries.Entry.{Entry}
 use Rattle.audit_trail.specs.declared.faults.TrailFault.TheVariants.{DiskFault, Damaged}
+use Rattle.trail_listing.specs.Lines.{record_line}
 use Rattle.trail_listing.specs.declared.listing.ListFault.{ListFault}
 use Rattle.trail_listing.specs.declared.listing.ListFault.TheVariants.{WriteFault, Trail}
 
@@ -11,6 +14,14 @@ pub record SendsLine (line : List ℕ) (result : Result (Unit {0}) ListFault)
     (before now : Option (List ℕ)) : Type 0 where
   pub done : OnOk result (WhereTold before now (λ x y. y ≡ x ++ line))
   pub cut : result ≡ Err WriteFault → WhereTold before now (λ x y. GotPart x y line)
+
+-- The same of a line whose entry is some one that has the forms of one, whatever the trail tells.
+pub record SendsSome (number : ℕ) (result : Result (Unit {0}) ListFault)
+    (before now : Option (List ℕ)) : Type 0 where
+  pub done : OnOk result ((e : Entry) × IsEntry e
+      × WhereTold before now (λ x y. y ≡ x ++ record_line number e))
+  pub cut : result ≡ Err WriteFault → (e : Entry) × IsEntry e
+      × WhereTold before now (λ x y. GotPart x y (record_line number e))
 
 -- the sink or the trail failed, or a cell read as no record of its own
 abbrev pub IsFault : ListFault → Type 0

@@ -7,15 +7,15 @@ ghost use Rattle.line_service.specs.Devices.{TellsFault};
 ghost use Rattle.line_service.specs.Sending.{Grows, GotPart};
 ghost use Rattle.audit_trail.specs.Changes.{TrailLeft};
 ghost use Rattle.audit_trail.specs.Entries.{entry_at};
-ghost use Rattle.audit_trail.specs.TrailStands.{IsTrail, StandsForTrail, IsHeld};
+ghost use Rattle.audit_trail.specs.TrailStands.{trail_size, IsTrail, StandsForTrail, IsHeld};
 ghost use Rattle.audit_trail.specs.declared.entries.Entry.{Entry as AnyEntry};
 ghost use Rattle.audit_trail.specs.declared.faults.TrailFault.{TrailFault as AnyFault};
 ghost use Rattle.trail_listing.specs.Lines.{record_line};
-ghost use Rattle.trail_listing.specs.Listing.{Listed, TellsDamage};
-ghost use Rattle.trail_listing.specs.Sending.{SendsLine, IsFault};
+ghost use Rattle.trail_listing.specs.Listing.{Listed, ListsAsRead, TellsDamage};
+ghost use Rattle.trail_listing.specs.Sending.{SendsLine, SendsSome, IsFault};
 
 use crate::lines::write_line;
-use audit_trail::{CELLS, Entry, TRAIL_LEN, Trail, TrailFault, open_trail};
+use audit_trail::{CELLS, Entry, Trail, TrailFault, open_trail};
 use line_service::send;
 use script_buffers::ReplyBuffer;
 use slot_disk::{Disk, Failed, Sink};
@@ -55,12 +55,14 @@ pub fn list_trail<K: Sink, T: Disk>(
     sink: &mut K,
     trail: &mut T,
 ) -> Result<(), ListFault>
-    requires { (T.medium trail.old).size ≡ TRAIL_LEN }
+    requires { (T.medium trail.old).size ≡ trail_size }
 
     // What the sink got, where the trail stands for some entries. Bytes are only added, whatever the trail tells.
     ensures lines { Told (T.medium trail.old) (λ image. (es : List AnyEntry) → IsTrail image es
         → Listed es result (K.held sink.old) (K.held sink.new)) }
     ensures grows { WhereTold (K.held sink.old) (K.held sink.new) Grows }
+    // By what was read of each record, whatever the trail tells of its bytes.
+    ensures own { (next : ℕ) × ListsAsRead next result (K.held sink.old) (K.held sink.new) }
     // Where neither device fails, all is listed.
     ensures complete { (Rose (K.faults sink.old) (K.faults sink.new) → ⊥)
         → (Rose (T.faults trail.old) (T.faults trail.new) → ⊥)
@@ -96,12 +98,13 @@ fn send_records<K: Sink, T: Disk>(
     sink: &mut K,
     trail: &mut T,
 ) -> Result<(), ListFault>
-    requires size { (T.medium trail.old).size ≡ TRAIL_LEN }
+    requires size { (T.medium trail.old).size ≡ trail_size }
     requires stands { Told (T.medium trail.old) (λ image. StandsForTrail image held.now) }
     requires empty { line.old ≡ [] }
 
     ensures lines { Told (T.medium trail.old) (λ image. (es : List AnyEntry) → IsTrail image es
         → Listed es result (K.held sink.old) (K.held sink.new)) }
+    ensures own { ListsAsRead held.now result (K.held sink.old) (K.held sink.new) }
     ensures grows { WhereTold (K.held sink.old) (K.held sink.new) Grows }
     ensures undamaged { (cell : ℕ) → result ≡ Err (ListFault.Trail (TrailFault.Damaged cell))
         → Told (T.medium trail.old) (λ image. ⊥) }
@@ -132,7 +135,7 @@ fn send_record<K: Sink, T: Disk>(
     sink: &mut K,
     trail: &mut T,
 ) -> Result<(), ListFault>
-    requires size { (T.medium trail.old).size ≡ TRAIL_LEN }
+    requires size { (T.medium trail.old).size ≡ trail_size }
     requires stands { Told (T.medium trail.old) (λ image. StandsForTrail image held.now) }
     requires held { IsHeld number held.now }
     requires empty { line.old ≡ [] }
@@ -140,6 +143,7 @@ fn send_record<K: Sink, T: Disk>(
     ensures line { Told (T.medium trail.old) (λ image. (es : List AnyEntry) → IsTrail image es
         → SendsLine (record_line number (entry_at es number)) result
         (K.held sink.old) (K.held sink.new)) }
+    ensures own { SendsSome number result (K.held sink.old) (K.held sink.new) }
     ensures grows { WhereTold (K.held sink.old) (K.held sink.new) Grows }
     ensures unsent { (fault : AnyFault) → result ≡ Err (ListFault.Trail fault)
         → sink.new ≡ sink.old }

@@ -1,13 +1,15 @@
 //! Lines in the words of the format, more records than a trail holds, a damaged cell, and a fault at each call of a
 //! device.
 ghost use Rattle.std.specs.Prelude.{◌≡◌, length, IfOk};
+ghost use Rattle.audit_trail.specs.declared.trail.TheConstants.{TRAIL_LEN};
 ghost use Rattle.slot_disk.specs.LogMedium.{medium_of};
 ghost use Rattle.slot_disk.specs.Medium.{IsSettled};
+ghost use Rattle.slot_disk.specs.SilentMedium.{silent};
 
 use crate::*;
 use audit_trail::{Entry, TRAIL_LEN, Trail, TrailFault, open_trail};
 use script_buffers::ReplyBuffer;
-use slot_disk::{Cell, MemoryDisk, MemorySink, Torn, replace_cell};
+use slot_disk::{Cell, Disk, Failed, MemoryDisk, MemorySink, Torn, read_cell, replace_cell};
 use std::alloc::Global;
 use std::test::Fail;
 
@@ -201,5 +203,74 @@ fn a_damaged_trail_isnt_listed(rt: HostRuntime) -> Result<(), Fail> {
     let wanted = Err(ListFault::Trail(TrailFault::Damaged(4_095)));
     assert_eq!(rt; list(rt.alloc(), &mut trail, &mut sink)?, wanted);
     assert!(rt; sink.bytes().is_empty());
+    Ok(())
+}
+
+/// The trail's bytes, and others after so many reads. It tells none of them, and notes whether it was written.
+#[derive(Drop)]
+struct ChangedTrail {
+    before: MemoryDisk,
+    after: MemoryDisk,
+    reads: u64,
+    written: bool,
+}
+
+impl Disk for ChangedTrail {
+    ghost medium = { λ _. silent TRAIL_LEN };
+
+    ghost faults = { λ _. 0 };
+
+    fn size(&self) -> u64 {
+        TRAIL_LEN
+    }
+
+    fn read(&mut self, at: u64, out: &mut [u8]) -> Result<(), Failed> {
+        if self.reads == 0 {
+            read_of(&mut self.after, at, out);
+        } else {
+            self.reads -= 1;
+            read_of(&mut self.before, at, out);
+        }
+        Ok(())
+    }
+
+    fn write(&mut self, _at: u64, _piece: &[u8]) -> Result<(), Failed> {
+        self.written = true;
+        Ok(())
+    }
+
+    fn sync(&mut self) -> Result<(), Failed> {
+        Ok(())
+    }
+}
+
+/// Reads from a disk that has these bytes.
+fn read_of(disk: &mut MemoryDisk, at: u64, out: &mut [u8]) {
+    if at <= disk.size() && out.len() as u64 <= disk.size() - at {
+        let _read = disk.read(at, out);
+    }
+}
+
+/// Another program writes the first record into the second cell, after the 16,384 reads of the opening and two of the
+/// first record: nothing is listed of the second one, and nothing is written.
+#[test]
+fn a_record_that_changed_after_opening(rt: HostRuntime) -> Result<(), Fail> {
+    let before = trail_with(rt.alloc(), &[plain(), bare(2)])?;
+    let mut after = trail_with(rt.alloc(), &[plain(), bare(2)])?;
+    let mut first = [0; 192];
+    read_cell(&mut after, Cell::new(0), &mut first)?;
+    replace_cell(&mut after, Cell::new(1), &first)?;
+    let mut trail = ChangedTrail {
+        before,
+        after,
+        reads: 16_386,
+        written: false,
+    };
+    let mut sink = MemorySink::new(rt.alloc(), 100)?;
+    let mut line = ReplyBuffer::new(rt.alloc())?;
+    let wanted = Err(ListFault::Trail(TrailFault::Damaged(1)));
+    assert_eq!(rt; list_trail(&mut line, &mut sink, &mut trail), wanted);
+    assert_eq!(rt; sink.bytes(), ONE_LINE);
+    assert!(rt; !trail.written);
     Ok(())
 }

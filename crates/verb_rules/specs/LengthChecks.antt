@@ -1,5 +1,6 @@
 -- The rules on lengths: of a text, by its use, of the key of a message authentication code, and of a key part.
-use Rattle.std.specs.Prelude.{ℕ, ◌+◌, ◌%◌, Bool, not, nat_le, ◌&&◌, List, [], ◌∷◌, ◌==◌}
+use Rattle.std.specs.Prelude.{ℕ, ◌+◌, ◌%◌, Bool, not, nat_le, ◌&&◌, List, [], ◌∷◌, ◌==◌, codes, Option, None, Some, if◌then◌else◌}
+use Rattle.std.specs.Str.{bytes_eq}
 use Rattle.cca_vectors.specs.Checks.{Check, check}
 use Rattle.verb_rules.specs.declared.lengths.MacRule.{MacRule}
 use Rattle.verb_rules.specs.declared.lengths.MacRule.TheVariants.{X99, X919}
@@ -39,6 +40,13 @@ has_length (LastMac carried) length = is_segment length && nat_le 1 (length + ca
 -- rule 23
 abbrev pub text_checks : TextUse → ℕ → List Check
 text_checks use_of length = check 23 (not (has_length use_of length)) ∷ []
+
+-- the rule of a code with this name
+abbrev pub rule_of_name : List ℕ → Option MacRule
+rule_of_name text =
+    if bytes_eq text (codes "X9.9-1") then Some X99
+    else if bytes_eq text (codes "X9.19OPT") then Some X919
+    else None
 
 -- how many bytes the key of a code has: X9.9-1 is DES's, X9.19OPT has a double-length key
 abbrev pub mac_key_length : MacRule → ℕ

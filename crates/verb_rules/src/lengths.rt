@@ -1,6 +1,6 @@
 //! The rules on lengths: of a text, by its use, and of the key of a message authentication code.
 ghost use Rattle.std.specs.Prelude.{◌≡◌, ◌+◌};
-ghost use Rattle.verb_rules.specs.LengthChecks.{are_blocks, has_length, is_segment, mac_key_length, mac_checks, text_checks};
+ghost use Rattle.verb_rules.specs.LengthChecks.{are_blocks, has_length, is_segment, mac_key_length, mac_checks, rule_of_name, text_checks};
 ghost use Rattle.verb_rules.specs.Rules.{Judges};
 
 use crate::rules::Rule;
@@ -44,6 +44,21 @@ pub enum MacRule {
     X99,
     /// X9.19OPT: under a double-length key.
     X919,
+}
+
+impl MacRule {
+    /// The rule with this name: X9.9-1 or X9.19OPT; none where the text is neither.
+    pub fn read(text: &[u8]) -> Option<MacRule>
+        ensures { result ≡ rule_of_name text.now }
+    {
+        if text == b"X9.9-1".as_slice() {
+            Some(MacRule::X99)
+        } else if text == b"X9.19OPT".as_slice() {
+            Some(MacRule::X919)
+        } else {
+            None
+        }
+    }
 }
 
 /// Whether two lengths together are those of whole blocks, one at least.

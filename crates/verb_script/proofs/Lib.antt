@@ -1,9 +1,10 @@
 pub mod DigitLemmas
 pub mod FieldLaws
 pub mod GrammarLaws
-pub mod KeyFieldLaws
 pub mod PlainRows
 pub mod PointLemmas
+pub mod ReadingLaws
 pub mod RowsApart
+pub mod RowsLike
 pub mod TypeLaws
 pub mod WordLemmas

@@ -1,30 +1,122 @@
--- The rows that two verbs have alike.
-use Rattle.verb_script.specs.Grammar.{RequestName, csnbenc, csnbenc_first, csnbenc_middle, csnbenc_last, csnbdec, csnbdec_first, csnbdec_middle, csnbdec_last, csnbmgn_first, csnbmgn_middle, csnbmvr_first, csnbmvr_middle}
-use Rattle.verb_script.specs.declared.cipher_rows.Direction.{Direction}
-use Rattle.verb_script.specs.declared.cipher_rows.Direction.TheVariants.{Encipher, Decipher}
-use Rattle.verb_script.specs.declared.code_rows.Purpose.{Purpose}
-use Rattle.verb_script.specs.declared.code_rows.Purpose.TheVariants.{Generate, Verify}
+-- The parser's rows and fields as the grammar's.
+use Rattle.std.specs.Prelude.{ℕ, ◌+◌, ◌==◌, ◌&&◌, nat_eq, Bool, List, [], ◌∷◌, ◌++◌, drop, length, codes, get_or, Option, Some, None, if◌then◌else◌}
+use Rattle.std.specs.List.{starts_with}
+use denote.Ref.{Bor}
+use Rattle.verb_script.specs.Grammar.{RequestName, csnbenc, csnbenc_first, csnbenc_middle, csnbenc_last, csnbdec, csnbdec_first, csnbdec_middle, csnbdec_last, csnbmgn, csnbmgn_first, csnbmgn_middle, csnbmgn_last, csnbmvr, csnbmvr_first, csnbmvr_middle, csnbmvr_last, csnbktp, csnbkyt, csnbcki, csnbrng, csnbkgn_op, csnbkgn_pair, csnbkgn_out, csnbkim, csnbkex, csnbpex, csnbktc, csnbkpi_first, csnbkpi_middle, csnbktr, csnbkrc, csnbkrw, csnbkrr, csnbkrd, csnbkrl, csnbmkp_part, csnbmkp_clear, csnbmkp_set, csuaaci_define, csuaaci_remove, reencipher, reencipher_ahead, reencipher_drop, row_of, FieldForm, accepts, role_name, other_role, action_field, chain_field, digits_field, form_field, iv_field, key_field, key_part_field, label_field, length_field, mac_field, mac_length_field, name_field, pad_field, part_field, part_rule_field, points_field, prefix_field, role_field, rule_field, segment_field, text_field, to_field, token_field, transport_field, type_field, word_field}
+use Rattle.verb_script.specs.declared.fields.Field.{Field}
+use Rattle.verb_script.specs.declared.fields.Field.TheVariants as field
+use Rattle.verb_script.specs.declared.rows.Row.{Row}
+use Rattle.verb_script.specs.declared.rows.Row.TheVariants.{Csnbenc, CsnbencFirst, CsnbencMiddle, CsnbencLast, Csnbdec, CsnbdecFirst, CsnbdecMiddle, CsnbdecLast, Csnbmgn, CsnbmgnFirst, CsnbmgnMiddle, CsnbmgnLast, Csnbmvr, CsnbmvrFirst, CsnbmvrMiddle, CsnbmvrLast, Csnbktp, Csnbkyt, Csnbcki, Csnbrng, CsnbkgnOp, CsnbkgnPair, CsnbkgnOut, Csnbkim, Csnbkex, Csnbpex, Csnbktc, CsnbkpiFirst, CsnbkpiMiddle, Csnbktr, Csnbkrc, Csnbkrw, Csnbkrr, Csnbkrd, Csnbkrl, CsnbmkpPart, CsnbmkpClear, CsnbmkpSet, CsuaaciDefine, CsuaaciRemove, Reencipher, ReencipherAhead, ReencipherDrop}
 
-abbrev pub whole_row : Direction → RequestName
-whole_row Encipher = csnbenc
-whole_row Decipher = csnbdec
+-- the row of the grammar
+abbrev pub name_seen : Row → RequestName
+name_seen Csnbenc = csnbenc
+name_seen CsnbencFirst = csnbenc_first
+name_seen CsnbencMiddle = csnbenc_middle
+name_seen CsnbencLast = csnbenc_last
+name_seen Csnbdec = csnbdec
+name_seen CsnbdecFirst = csnbdec_first
+name_seen CsnbdecMiddle = csnbdec_middle
+name_seen CsnbdecLast = csnbdec_last
+name_seen Csnbmgn = csnbmgn
+name_seen CsnbmgnFirst = csnbmgn_first
+name_seen CsnbmgnMiddle = csnbmgn_middle
+name_seen CsnbmgnLast = csnbmgn_last
+name_seen Csnbmvr = csnbmvr
+name_seen CsnbmvrFirst = csnbmvr_first
+name_seen CsnbmvrMiddle = csnbmvr_middle
+name_seen CsnbmvrLast = csnbmvr_last
+name_seen Csnbktp = csnbktp
+name_seen Csnbkyt = csnbkyt
+name_seen Csnbcki = csnbcki
+name_seen Csnbrng = csnbrng
+name_seen CsnbkgnOp = csnbkgn_op
+name_seen CsnbkgnPair = csnbkgn_pair
+name_seen CsnbkgnOut = csnbkgn_out
+name_seen Csnbkim = csnbkim
+name_seen Csnbkex = csnbkex
+name_seen Csnbpex = csnbpex
+name_seen Csnbktc = csnbktc
+name_seen CsnbkpiFirst = csnbkpi_first
+name_seen CsnbkpiMiddle = csnbkpi_middle
+name_seen Csnbktr = csnbktr
+name_seen Csnbkrc = csnbkrc
+name_seen Csnbkrw = csnbkrw
+name_seen Csnbkrr = csnbkrr
+name_seen Csnbkrd = csnbkrd
+name_seen Csnbkrl = csnbkrl
+name_seen CsnbmkpPart = csnbmkp_part
+name_seen CsnbmkpClear = csnbmkp_clear
+name_seen CsnbmkpSet = csnbmkp_set
+name_seen CsuaaciDefine = csuaaci_define
+name_seen CsuaaciRemove = csuaaci_remove
+name_seen Reencipher = reencipher
+name_seen ReencipherAhead = reencipher_ahead
+name_seen ReencipherDrop = reencipher_drop
 
-abbrev pub first_row : Direction → RequestName
-first_row Encipher = csnbenc_first
-first_row Decipher = csnbdec_first
+-- the field of the grammar
+abbrev pub field_seen : Field → FieldForm
+field_seen field.Role = role_field
+field_seen field.Key = key_field
+field_seen field.Iv = iv_field
+field_seen field.Pad = pad_field
+field_seen field.Text = text_field
+field_seen field.SegmentFirst = segment_field (codes "FIRST")
+field_seen field.SegmentMiddle = segment_field (codes "MIDDLE")
+field_seen field.Chain = chain_field
+field_seen field.SegmentLast = segment_field (codes "LAST")
+field_seen field.Rule = rule_field
+field_seen field.MacLength = mac_length_field
+field_seen field.Mac = mac_field
+field_seen field.Token = token_field
+field_seen field.ClearKey = digits_field (codes "clear") 16
+field_seen field.To = to_field
+field_seen field.NumberForm = form_field (codes "RANDOM" ∷ codes "ODD" ∷ codes "EVEN" ∷ [])
+field_seen field.OpForm = form_field (codes "OP" ∷ [])
+field_seen field.Length = length_field
+field_seen field.Type1 = type_field (codes "type1")
+field_seen field.PairForm = form_field (codes "OPEX" ∷ codes "OPIM" ∷ [])
+field_seen field.Type2 = type_field (codes "type2")
+field_seen field.Transport2 = transport_field (codes "transport2")
+field_seen field.OutForm = form_field (codes "IMEX" ∷ codes "EXEX" ∷ codes "IMIM" ∷ [])
+field_seen field.Transport1 = transport_field (codes "transport1")
+field_seen field.Transport = transport_field (codes "transport")
+field_seen field.ChangeRule = word_field (codes "rule") (codes "RTCMK" ∷ codes "RTNMK" ∷ [])
+field_seen field.FirstPart = part_rule_field (codes "FIRST" ∷ [])
+field_seen field.Type = type_field (codes "type")
+field_seen field.KeyPart = key_part_field
+field_seen field.FurtherPart = part_rule_field (codes "MIDDLE" ∷ codes "LAST" ∷ [])
+field_seen field.Label = label_field
+field_seen field.Prefix = prefix_field
+field_seen field.PartAction = action_field (codes "FIRST" ∷ codes "MIDDLE" ∷ codes "LAST" ∷ [])
+field_seen field.Part = part_field
+field_seen field.ActionClear = action_field (codes "CLEAR" ∷ [])
+field_seen field.ActionSet = action_field (codes "SET" ∷ [])
+field_seen field.ActionDefine = action_field (codes "DEFINE" ∷ [])
+field_seen field.Name = name_field role_name
+field_seen field.Points = points_field
+field_seen field.ActionRemove = action_field (codes "REMOVE" ∷ [])
+field_seen field.OtherName = name_field other_role
+field_seen field.ActionAhead = action_field (codes "AHEAD" ∷ [])
+field_seen field.ActionDrop = action_field (codes "DROP" ∷ [])
 
-abbrev pub middle_row : Direction → RequestName
-middle_row Encipher = csnbenc_middle
-middle_row Decipher = csnbdec_middle
+-- the row's verb has this letter in its seventh place
+abbrev pub has_seventh : ℕ → RequestName → Bool
+has_seventh letter name = get_or (row_of name).verb 6 0 == letter
 
-abbrev pub last_row : Direction → RequestName
-last_row Encipher = csnbenc_last
-last_row Decipher = csnbdec_last
+-- what follows the field's name and an equals sign in a word, where it is one of the field's values
+abbrev pub text_after : FieldForm → List ℕ → Option (List ℕ)
+text_after f word =
+    let prefix = f.name ++ codes "=" in
+    if starts_with nat_eq word prefix && accepts f.values (drop (length prefix) word)
+    then Some (drop (length prefix) word)
+    else None
 
-abbrev pub first_code_row : Purpose → RequestName
-first_code_row Generate = csnbmgn_first
-first_code_row Verify = csnbmvr_first
+-- the text at a place, where there is one
+abbrev pub text_at : ℕ → List (Bor (List ℕ)) → List ℕ
+text_at place room = (get_or room place record { ref_ptr = (0, 0); now = [] }).now
 
-abbrev pub middle_code_row : Purpose → RequestName
-middle_code_row Generate = csnbmgn_middle
-middle_code_row Verify = csnbmvr_middle
+-- the texts of the fields, which stand one after another from this place on
+abbrev pub texts_at : List FieldForm → ℕ → List (Bor (List ℕ)) → List (List ℕ)
+texts_at [] place room = []
+texts_at (f ∷ fs) place room = text_at place room ∷ texts_at fs (place + 1) room

@@ -1,19 +1,19 @@
-//! What a request says of itself: its verb, its role, and the first label that it names.
+//! What a request says of itself: its verb, its role, and the first label that it names. Printed it shows its verb.
 ghost use Rattle.std.specs.Prelude.{◌≡◌, ◌⊎◌, Some, IfSome, true, codes, length, option_copied};
 ghost use Rattle.std.specs.Option.{option_or};
 ghost use Rattle.std.specs.List.{list_all};
 ghost use Rattle.byte_lists.specs.Characters.{is_letter};
 ghost use Rattle.byte_lists.specs.Names.{IsLabel, IsRoleName};
 ghost use Rattle.verb_script.specs.Grammar.{row_of, value_of};
-ghost use Rattle.verb_script.specs.KeyFields.{key_field_text, destination_text};
 ghost use Rattle.verb_script.specs.Named.{label_named};
 ghost use Rattle.verb_script.specs.Parsed.{seen};
 ghost use Rattle.verb_script.specs.Parts.{as_label, first_label};
 
-use crate::keys::{Destination, KeyField};
+use crate::labels::named_label;
 use crate::request::Request;
 use byte_lists::is_label;
 use cca_roles::RoleName;
+use std::fmt;
 
 impl<'a> Request<'a> {
     /// Its verb, 7 or 10 letters.
@@ -132,70 +132,68 @@ impl<'a> Request<'a> {
         ensures label { IfSome result (λ text. IsLabel text.now) }
     {
         match self {
-            Request::Csnbktp { .. } => None,
-            Request::Csnbenc { key, .. } => label_of_key(key),
-            Request::CsnbencFirst { key, .. } => label_of_key(key),
-            Request::CsnbencMiddle { key, .. } => label_of_key(key),
-            Request::CsnbencLast { key, .. } => label_of_key(key),
-            Request::Csnbdec { key, .. } => label_of_key(key),
-            Request::CsnbdecFirst { key, .. } => label_of_key(key),
-            Request::CsnbdecMiddle { key, .. } => label_of_key(key),
-            Request::CsnbdecLast { key, .. } => label_of_key(key),
-            Request::Csnbmgn { key, .. } => label_of_key(key),
-            Request::CsnbmgnFirst { key, .. } => label_of_key(key),
-            Request::CsnbmgnMiddle { key, .. } => label_of_key(key),
-            Request::CsnbmgnLast { key, .. } => label_of_key(key),
-            Request::Csnbmvr { key, .. } => label_of_key(key),
-            Request::CsnbmvrFirst { key, .. } => label_of_key(key),
-            Request::CsnbmvrMiddle { key, .. } => label_of_key(key),
-            Request::CsnbmvrLast { key, .. } => label_of_key(key),
-            Request::Csnbkyt { key, .. } => label_of_key(key),
-            Request::Csnbcki { to, .. } => label_of_record(to),
-            Request::Csnbrng { .. } => None,
-            Request::CsnbkgnOp { to, .. } => label_of_record(to),
-            Request::CsnbkgnPair { transport2, to, .. } => first_of(
-                label_of_key(transport2),
-                label_of_record(to),
-            ),
+            Request::Csnbenc { key, .. }
+            | Request::CsnbencFirst { key, .. }
+            | Request::CsnbencMiddle { key, .. }
+            | Request::CsnbencLast { key, .. }
+            | Request::Csnbdec { key, .. }
+            | Request::CsnbdecFirst { key, .. }
+            | Request::CsnbdecMiddle { key, .. }
+            | Request::CsnbdecLast { key, .. }
+            | Request::Csnbmgn { key, .. }
+            | Request::CsnbmgnFirst { key, .. }
+            | Request::CsnbmgnMiddle { key, .. }
+            | Request::CsnbmgnLast { key, .. }
+            | Request::Csnbmvr { key, .. }
+            | Request::CsnbmvrFirst { key, .. }
+            | Request::CsnbmvrMiddle { key, .. }
+            | Request::CsnbmvrLast { key, .. }
+            | Request::Csnbkyt { key, .. } => label_in(key),
+            Request::Csnbcki { to, .. }
+            | Request::CsnbkgnOp { to, .. }
+            | Request::CsnbkpiFirst { to, .. } => label_in(to),
+            Request::CsnbkgnPair { transport2, to, .. } => first_in(transport2, to),
             Request::CsnbkgnOut {
                 transport1,
                 transport2,
                 ..
-            } => first_of(label_of_key(transport1), label_of_key(transport2)),
-            Request::Csnbkim { transport, to, .. } => first_of(
-                label_of_key(transport),
-                label_of_record(to),
-            ),
-            Request::Csnbkex { key, transport, .. } => first_of(
-                label_of_key(key),
-                label_of_key(transport),
-            ),
-            Request::Csnbpex { key, to, .. } => first_of(label_of_key(key), label_of_record(to)),
-            Request::Csnbktc { .. } => None,
-            Request::CsnbkpiFirst { to, .. } => label_of_record(to),
-            Request::CsnbkpiMiddle { key, to, .. } => first_of(
-                label_of_key(key),
-                label_of_record(to),
-            ),
-            Request::Csnbktr {
+            }
+            | Request::Csnbktr {
                 transport1,
                 transport2,
                 ..
-            } => first_of(label_of_key(transport1), label_of_key(transport2)),
-            Request::Csnbkrc { label, .. } => if_label(label),
-            Request::Csnbkrw { label, .. } => if_label(label),
-            Request::Csnbkrr { label, .. } => if_label(label),
-            Request::Csnbkrd { label, .. } => if_label(label),
-            Request::Csnbkrl { .. } => None,
-            Request::CsnbmkpPart { .. } => None,
-            Request::CsnbmkpClear { .. } => None,
-            Request::CsnbmkpSet { .. } => None,
-            Request::CsuaaciDefine { .. } => None,
-            Request::CsuaaciRemove { .. } => None,
-            Request::Reencipher { .. } => None,
-            Request::ReencipherAhead { .. } => None,
-            Request::ReencipherDrop { .. } => None,
+            } => first_in(transport1, transport2),
+            Request::Csnbkim { transport, to, .. } => first_in(transport, to),
+            Request::Csnbkex { key, transport, .. } => first_in(key, transport),
+            Request::Csnbpex { key, to, .. } | Request::CsnbkpiMiddle { key, to, .. } => first_in(
+                key, to,
+            ),
+            Request::Csnbkrc { label, .. }
+            | Request::Csnbkrw { label, .. }
+            | Request::Csnbkrr { label, .. }
+            | Request::Csnbkrd { label, .. } => if_label(label),
+            Request::Csnbktp { .. }
+            | Request::Csnbrng { .. }
+            | Request::Csnbktc { .. }
+            | Request::Csnbkrl { .. }
+            | Request::CsnbmkpPart { .. }
+            | Request::CsnbmkpClear { .. }
+            | Request::CsnbmkpSet { .. }
+            | Request::CsuaaciDefine { .. }
+            | Request::CsuaaciRemove { .. }
+            | Request::Reencipher { .. }
+            | Request::ReencipherAhead { .. }
+            | Request::ReencipherDrop { .. } => None,
         }
+    }
+}
+
+/// The verb alone: a field may be a clear key.
+impl fmt::Debug for Request<'_> {
+    ghost debug_output = { λ request. Some (row_of (seen request).name).verb };
+
+    fn fmt<W: fmt::Write>(&self, f: &mut fmt::Formatter<W>) -> fmt::Result {
+        f.write_str(self.verb())
     }
 }
 
@@ -207,40 +205,25 @@ fn if_label(text: &[u8]) -> Option<&[u8]>
     if is_label(text) { Some(text) } else { None }
 }
 
-/// The label that a key is named by.
-#[tactic(auto, using(crate::proofs::KeyFieldLaws::label_of_key))]
-fn label_of_key<'a>(key: &KeyField<'a>) -> Option<&'a [u8]>
-    ensures text { option_copied result ≡ as_label (label_named (key_field_text key.now)) }
+/// The label that a field names, which may be a key or where a key goes.
+fn label_in(text: &[u8]) -> Option<&[u8]>
+    ensures text { option_copied result ≡ as_label (label_named text.now) }
     ensures label { IfSome result (λ found. IsLabel found.now) }
 {
-    match key {
-        KeyField::Token(_) => None,
-        KeyField::Label(label) => if_label(label),
-    }
-}
-
-/// The label of the record that a key goes into.
-#[tactic(auto, using(crate::proofs::KeyFieldLaws::label_of_destination))]
-fn label_of_record<'a>(to: &Destination<'a>) -> Option<&'a [u8]>
-    ensures text { option_copied result ≡ as_label (label_named (destination_text to.now)) }
-    ensures label { IfSome result (λ found. IsLabel found.now) }
-{
-    match to {
-        Destination::Reply => None,
-        Destination::Record(label) => if_label(label),
+    match named_label(text) {
+        Some(label) => if_label(label),
+        None => None,
     }
 }
 
 /// The first of the labels that two fields name.
-fn first_of<'a>(one: Option<&'a [u8]>, other: Option<&'a [u8]>) -> Option<&'a [u8]>
-    requires one { IfSome one (λ text. IsLabel text.now) }
-    requires other { IfSome other (λ text. IsLabel text.now) }
+fn first_in<'a>(one: &'a [u8], other: &'a [u8]) -> Option<&'a [u8]>
     ensures text { option_copied result
-        ≡ option_or (option_copied one.entry) (option_copied other.entry) }
+        ≡ option_or (as_label (label_named one.now)) (as_label (label_named other.now)) }
     ensures label { IfSome result (λ found. IsLabel found.now) }
 {
-    match one {
+    match label_in(one) {
         Some(label) => Some(label),
-        None => other,
+        None => label_in(other),
     }
 }

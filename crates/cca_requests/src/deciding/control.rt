@@ -7,34 +7,35 @@ ghost use Rattle.master_registers.specs.Loaded.{IsLoaded};
 ghost use Rattle.key_cells.specs.Lease.{bench_of};
 ghost use Rattle.key_records.specs.declared.rows.Row.{Row};
 ghost use Rattle.master_registers.specs.declared.registers.Registers.{Registers};
-ghost use Rattle.verb_script.specs.Choices.{part_action_word};
 ghost use Rattle.verb_script.specs.Grammar.{is_hex, csnbmkp_part, csnbmkp_clear, csnbmkp_set, csuaaci_define, csuaaci_remove, reencipher, reencipher_ahead, reencipher_drop};
 ghost use Rattle.cca_requests.specs.Decided.{Settles, asked};
 ghost use Rattle.cca_requests.specs.Deciding.{ChangesPlaces};
+ghost use Rattle.cca_requests.specs.FieldWords.{IsPartAction};
 ghost use Rattle.cca_requests.specs.declared.judging.Granted.{Granted};
 
+use crate::choices::part_action_of;
 use crate::effects::Effect;
 use crate::verbs::ahead::ahead;
-use crate::verbs::csnbmkp::{self, part_action, put_part};
+use crate::verbs::csnbmkp::{self, put_part};
 use crate::verbs::csuaaci;
 use cca_roles::{AccessPoints, RoleName};
 use key_cells::Lease;
 use key_records::Records;
 use master_registers::Registers;
 use reencipher::StoreAction;
-use verb_script::PartAction;
 
 /// A key part for the new master key register.
-pub(super) fn decide_key_part(action: PartAction, part: &[u8], lease: &mut Lease) -> Effect
+pub(super) fn decide_key_part(action: &[u8], part: &[u8], lease: &mut Lease) -> Effect
+    requires action { IsPartAction action.now }
     requires part { IsTrue (is_hex 48 part.now) }
     ensures settles { (role : List ℕ) (granted : Granted) (held : Registers)
         (rows : List (Option Row))
-        → Settles (asked csnbmkp_part (role ∷ part_action_word action ∷ part.now ∷ []))
+        → Settles (asked csnbmkp_part (role ∷ action.now ∷ part.now ∷ []))
         granted held rows (bench_of lease.old) (bench_of lease.new) result [] }
     ensures places { ChangesPlaces lease.old lease.new }
 {
     put_part(part, lease);
-    Effect::Change(part_action(action))
+    Effect::Change(part_action_of(action))
 }
 
 /// The new master key register emptied.

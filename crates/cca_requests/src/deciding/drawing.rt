@@ -1,18 +1,17 @@
 //! Verbs that draw random bytes: CSNBRNG and CSNBKGN.
-ghost use Rattle.std.specs.Prelude.{◌≡◌, ◌∷◌, [], ℕ, IsSome, IsTrue, List, Option};
+ghost use Rattle.std.specs.Prelude.{◌≡◌, ◌∷◌, [], ℕ, IsSome, List, Option};
 ghost use Rattle.cca_vectors.specs.KeyTypes.{type_name};
 ghost use Rattle.key_cells.specs.Bench.{Bench};
 ghost use Rattle.master_registers.specs.Loaded.{IsLoaded};
 ghost use Rattle.key_cells.specs.Lease.{bench_of};
 ghost use Rattle.key_records.specs.declared.rows.Row.{Row};
 ghost use Rattle.master_registers.specs.declared.registers.Registers.{Registers};
-ghost use Rattle.verb_script.specs.Choices.{number_form_word, key_length_word, pair_form_word, out_form_word};
-ghost use Rattle.verb_script.specs.Grammar.{accepts, to_text, csnbrng, csnbkgn_op, csnbkgn_pair, csnbkgn_out};
-ghost use Rattle.verb_script.specs.KeyFields.{destination_text};
+ghost use Rattle.verb_script.specs.Grammar.{csnbrng, csnbkgn_op, csnbkgn_pair, csnbkgn_out};
 ghost use Rattle.verb_script.specs.Named.{label_named};
 ghost use Rattle.cca_machine.specs.Operands.{operands};
 ghost use Rattle.cca_requests.specs.Decided.{Decision, asked, source};
 ghost use Rattle.cca_requests.specs.Deciding.{ChangesPlaces};
+ghost use Rattle.cca_requests.specs.FieldWords.{IsOutForm, IsPairForm};
 ghost use Rattle.cca_requests.specs.Judging.{HasDoubleKey, HaveShapes, IsPlaceFor};
 ghost use Rattle.cca_requests.specs.declared.judging.Granted.{Granted};
 
@@ -26,18 +25,18 @@ use key_cells::Lease;
 use line_service::Stop;
 use master_registers::Registers;
 use slot_disk::Entropy;
-use verb_script::{Destination, KeyLength, NumberForm, OutForm, PairForm, ReplyBuffer};
+use verb_script::ReplyBuffer;
 
 /// Random bytes.
 pub(super) fn decide_csnbrng<E: Entropy>(
-    form: NumberForm,
+    form: &[u8],
     entropy: &mut E,
     reply: &mut ReplyBuffer,
 ) -> Result<Effect, Stop>
     requires empty { reply.old ≡ [] }
     ensures decision { (role : List ℕ) (granted : Granted) (held : Registers)
         (rows : List (Option Row)) (bench : Bench)
-        → let request = asked csnbrng (role ∷ number_form_word form ∷ []) in
+        → let request = asked csnbrng (role ∷ form.now ∷ []) in
         Decision request granted held rows bench bench
         result reply.new
         (source entropy.old (E.left entropy.old) (E.faults entropy.old))
@@ -52,22 +51,21 @@ pub(super) fn decide_csnbrng<E: Entropy>(
 /// A key generated for here.
 pub(super) fn decide_generate_one<E: Entropy>(
     granted: &Granted,
-    length: KeyLength,
+    length: &[u8],
     kind: KeyType,
-    to: Destination<'_>,
+    to: &[u8],
     entropy: &mut E,
     lease: &mut Lease,
     held: &Registers,
     reply: &mut ReplyBuffer,
 ) -> Result<Effect, Stop>
-    requires to { IsTrue (accepts to_text (destination_text to)) }
-    requires target { IsPlaceFor (label_named (destination_text to)) granted.now.first.place }
+    requires target { IsPlaceFor (label_named to.now) granted.now.first.place }
     requires master { IsSome held.now.current_pattern }
     requires loaded { IsLoaded held.now (bench_of lease.old) }
     requires empty { reply.old ≡ [] }
     ensures decision { (role form : List ℕ) (rows : List (Option Row))
-        → let request = asked csnbkgn_op
-        (role ∷ form ∷ key_length_word length ∷ type_name kind ∷ destination_text to.entry ∷ []) in
+        → let request = asked csnbkgn_op (role ∷ form ∷ length.now ∷ type_name kind ∷ to.now
+        ∷ []) in
         HaveShapes rows (operands request) granted.now →
         Decision request granted.now held.now rows (bench_of lease.old) (bench_of lease.new)
         result reply.new
@@ -85,26 +83,25 @@ pub(super) fn decide_generate_one<E: Entropy>(
 /// A key generated for here, and the same for elsewhere.
 pub(super) fn decide_generate_pair<E: Entropy>(
     granted: &Granted,
-    form: PairForm,
-    length: KeyLength,
+    form: &[u8],
+    length: &[u8],
     first: KeyType,
     second: KeyType,
-    to: Destination<'_>,
+    to: &[u8],
     entropy: &mut E,
     lease: &mut Lease,
     held: &Registers,
     reply: &mut ReplyBuffer,
 ) -> Result<Effect, Stop>
+    requires form { IsPairForm form.now }
     requires transport { HasDoubleKey granted.now.first }
-    requires to { IsTrue (accepts to_text (destination_text to)) }
-    requires target { IsPlaceFor (label_named (destination_text to)) granted.now.second.place }
+    requires target { IsPlaceFor (label_named to.now) granted.now.second.place }
     requires master { IsSome held.now.current_pattern }
     requires loaded { IsLoaded held.now (bench_of lease.old) }
     requires empty { reply.old ≡ [] }
     ensures decision { (role transport : List ℕ) (rows : List (Option Row))
-        → let request = asked csnbkgn_pair
-        (role ∷ pair_form_word form ∷ key_length_word length ∷ type_name first
-        ∷ type_name second ∷ transport ∷ destination_text to.entry ∷ []) in
+        → let request = asked csnbkgn_pair (role ∷ form.now ∷ length.now ∷ type_name first
+        ∷ type_name second ∷ transport ∷ to.now ∷ []) in
         HaveShapes rows (operands request) granted.now →
         Decision request granted.now held.now rows (bench_of lease.old) (bench_of lease.new)
         result reply.new
@@ -125,8 +122,8 @@ pub(super) fn decide_generate_pair<E: Entropy>(
 /// A key generated for elsewhere, twice.
 pub(super) fn decide_generate_out<E: Entropy>(
     granted: &Granted,
-    form: OutForm,
-    length: KeyLength,
+    form: &[u8],
+    length: &[u8],
     first: KeyType,
     second: KeyType,
     entropy: &mut E,
@@ -134,13 +131,14 @@ pub(super) fn decide_generate_out<E: Entropy>(
     held: &Registers,
     reply: &mut ReplyBuffer,
 ) -> Result<Effect, Stop>
+    requires form { IsOutForm form.now }
     requires one { HasDoubleKey granted.now.first }
     requires two { HasDoubleKey granted.now.second }
     requires master { IsSome held.now.current_pattern }
     requires loaded { IsLoaded held.now (bench_of lease.old) }
     requires empty { reply.old ≡ [] }
     ensures decision { (role one two : List ℕ) (rows : List (Option Row))
-        → let request = asked csnbkgn_out (role ∷ out_form_word form ∷ key_length_word length
+        → let request = asked csnbkgn_out (role ∷ form.now ∷ length.now
         ∷ type_name first ∷ type_name second ∷ one ∷ two ∷ []) in
         HaveShapes rows (operands request) granted.now →
         Decision request granted.now held.now rows (bench_of lease.old) (bench_of lease.new)

@@ -6,9 +6,7 @@ ghost use Rattle.master_registers.specs.Loaded.{IsLoaded};
 ghost use Rattle.key_cells.specs.Lease.{bench_of};
 ghost use Rattle.key_records.specs.declared.rows.Row.{Row};
 ghost use Rattle.master_registers.specs.declared.registers.Registers.{Registers};
-ghost use Rattle.verb_script.specs.Choices.{change_word, part_rule_word};
-ghost use Rattle.verb_script.specs.Grammar.{accepts, is_hex, part_text, to_text, csnbktp, csnbcki, csnbkim, csnbkex, csnbpex, csnbktc, csnbktr, csnbkpi_first, csnbkpi_middle};
-ghost use Rattle.verb_script.specs.KeyFields.{destination_text};
+ghost use Rattle.verb_script.specs.Grammar.{accepts, is_hex, part_text, csnbktp, csnbcki, csnbkim, csnbkex, csnbpex, csnbktc, csnbktr, csnbkpi_first, csnbkpi_middle};
 ghost use Rattle.verb_script.specs.Named.{label_named};
 ghost use Rattle.cca_requests.specs.Decided.{Settles, asked};
 ghost use Rattle.cca_requests.specs.Deciding.{ChangesPlaces};
@@ -29,7 +27,7 @@ use crate::verbs::delivering::deliver;
 use cca_vectors::KeyType;
 use key_cells::Lease;
 use master_registers::Registers;
-use verb_script::{ChangeTo, Destination, PartRule, ReplyBuffer};
+use verb_script::ReplyBuffer;
 
 /// The parts of a token.
 pub(super) fn decide_csnbktp(granted: &Granted, reply: &mut ReplyBuffer) -> Effect
@@ -48,19 +46,18 @@ pub(super) fn decide_csnbktp(granted: &Granted, reply: &mut ReplyBuffer) -> Effe
 pub(super) fn decide_csnbcki(
     granted: &Granted,
     clear: &[u8],
-    to: Destination<'_>,
+    to: &[u8],
     lease: &mut Lease,
     held: &Registers,
     reply: &mut ReplyBuffer,
 ) -> Effect
     requires clear { IsTrue (is_hex 16 clear.now) }
-    requires to { IsTrue (accepts to_text (destination_text to)) }
-    requires target { IsPlaceFor (label_named (destination_text to)) granted.now.first.place }
+    requires target { IsPlaceFor (label_named to.now) granted.now.first.place }
     requires master { IsSome held.now.current_pattern }
     requires loaded { IsLoaded held.now (bench_of lease.old) }
     requires empty { reply.old ≡ [] }
     ensures settles { (role : List ℕ) (rows : List (Option Row))
-        → Settles (asked csnbcki (role ∷ clear.now ∷ destination_text to.entry ∷ []))
+        → Settles (asked csnbcki (role ∷ clear.now ∷ to.now ∷ []))
         granted.now held.now rows (bench_of lease.old) (bench_of lease.new) result reply.new }
     ensures places { ChangesPlaces lease.old lease.new }
 {
@@ -71,20 +68,19 @@ pub(super) fn decide_csnbcki(
 /// A key imported from under a transport key.
 pub(super) fn decide_csnbkim(
     granted: &Granted,
-    to: Destination<'_>,
+    to: &[u8],
     lease: &mut Lease,
     held: &Registers,
     reply: &mut ReplyBuffer,
 ) -> Effect
     requires source { HasJudgedExternal granted.now.first }
     requires transport { HasDoubleKey granted.now.second }
-    requires to { IsTrue (accepts to_text (destination_text to)) }
-    requires target { IsPlaceFor (label_named (destination_text to)) granted.now.third.place }
+    requires target { IsPlaceFor (label_named to.now) granted.now.third.place }
     requires master { IsSome held.now.current_pattern }
     requires loaded { IsLoaded held.now (bench_of lease.old) }
     requires empty { reply.old ≡ [] }
     ensures settles { (role token transport : List ℕ) (rows : List (Option Row))
-        → Settles (asked csnbkim (role ∷ token ∷ transport ∷ destination_text to.entry ∷ []))
+        → Settles (asked csnbkim (role ∷ token ∷ transport ∷ to.now ∷ []))
         granted.now held.now rows (bench_of lease.old) (bench_of lease.new) result reply.new }
     ensures places { ChangesPlaces lease.old lease.new }
 {
@@ -115,19 +111,18 @@ pub(super) fn decide_csnbkex(
 /// A key that may be exported no longer.
 pub(super) fn decide_csnbpex(
     granted: &Granted,
-    to: Destination<'_>,
+    to: &[u8],
     lease: &mut Lease,
     held: &Registers,
     reply: &mut ReplyBuffer,
 ) -> Effect
     requires key { HasSomeJudged granted.now.first }
-    requires to { IsTrue (accepts to_text (destination_text to)) }
-    requires target { IsPlaceFor (label_named (destination_text to)) granted.now.second.place }
+    requires target { IsPlaceFor (label_named to.now) granted.now.second.place }
     requires master { IsSome held.now.current_pattern }
     requires loaded { IsLoaded held.now (bench_of lease.old) }
     requires empty { reply.old ≡ [] }
     ensures settles { (role key : List ℕ) (rows : List (Option Row))
-        → Settles (asked csnbpex (role ∷ key ∷ destination_text to.entry ∷ []))
+        → Settles (asked csnbpex (role ∷ key ∷ to.now ∷ []))
         granted.now held.now rows (bench_of lease.old) (bench_of lease.new) result reply.new }
     ensures places { ChangesPlaces lease.old lease.new }
 {
@@ -138,7 +133,7 @@ pub(super) fn decide_csnbpex(
 /// A token changed to another master key.
 pub(super) fn decide_csnbktc(
     granted: &Granted,
-    rule: ChangeTo,
+    rule: &[u8],
     lease: &mut Lease,
     held: &Registers,
     reply: &mut ReplyBuffer,
@@ -147,7 +142,7 @@ pub(super) fn decide_csnbktc(
     requires master { IsSome held.now.current_pattern }
     requires empty { reply.old ≡ [] }
     ensures settles { (role token : List ℕ) (rows : List (Option Row))
-        → Settles (asked csnbktc (role ∷ change_word rule ∷ token ∷ []))
+        → Settles (asked csnbktc (role ∷ rule.now ∷ token ∷ []))
         granted.now held.now rows (bench_of lease.old) (bench_of lease.new) result reply.new }
     ensures places { ChangesPlaces lease.old lease.new }
 {
@@ -180,20 +175,18 @@ pub(super) fn decide_first_part(
     granted: &Granted,
     kind: KeyType,
     part: &[u8],
-    to: Destination<'_>,
+    to: &[u8],
     lease: &mut Lease,
     held: &Registers,
     reply: &mut ReplyBuffer,
 ) -> Effect
     requires part { IsTrue (accepts part_text part.now) }
-    requires to { IsTrue (accepts to_text (destination_text to)) }
-    requires target { IsPlaceFor (label_named (destination_text to)) granted.now.first.place }
+    requires target { IsPlaceFor (label_named to.now) granted.now.first.place }
     requires master { IsSome held.now.current_pattern }
     requires loaded { IsLoaded held.now (bench_of lease.old) }
     requires empty { reply.old ≡ [] }
     ensures settles { (role rule : List ℕ) (rows : List (Option Row))
-        → Settles (asked csnbkpi_first
-        (role ∷ rule ∷ type_name kind ∷ part.now ∷ destination_text to.entry ∷ []))
+        → Settles (asked csnbkpi_first (role ∷ rule ∷ type_name kind ∷ part.now ∷ to.now ∷ []))
         granted.now held.now rows (bench_of lease.old) (bench_of lease.new) result reply.new }
     ensures places { ChangesPlaces lease.old lease.new }
 {
@@ -203,23 +196,21 @@ pub(super) fn decide_first_part(
 /// A further part of a key.
 pub(super) fn decide_further_part(
     granted: &Granted,
-    rule: PartRule,
+    rule: &[u8],
     part: &[u8],
-    to: Destination<'_>,
+    to: &[u8],
     lease: &mut Lease,
     held: &Registers,
     reply: &mut ReplyBuffer,
 ) -> Effect
     requires key { HasSomeJudged granted.now.first }
     requires part { IsTrue (accepts part_text part.now) }
-    requires to { IsTrue (accepts to_text (destination_text to)) }
-    requires target { IsPlaceFor (label_named (destination_text to)) granted.now.second.place }
+    requires target { IsPlaceFor (label_named to.now) granted.now.second.place }
     requires master { IsSome held.now.current_pattern }
     requires loaded { IsLoaded held.now (bench_of lease.old) }
     requires empty { reply.old ≡ [] }
     ensures settles { (role key : List ℕ) (rows : List (Option Row))
-        → Settles (asked csnbkpi_middle
-        (role ∷ part_rule_word rule ∷ key ∷ part.now ∷ destination_text to.entry ∷ []))
+        → Settles (asked csnbkpi_middle (role ∷ rule.now ∷ key ∷ part.now ∷ to.now ∷ []))
         granted.now held.now rows (bench_of lease.old) (bench_of lease.new) result reply.new }
     ensures places { ChangesPlaces lease.old lease.new }
 {

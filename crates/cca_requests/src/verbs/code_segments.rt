@@ -7,7 +7,6 @@ ghost use Rattle.text_segments.specs.Chains.{chain_bytes};
 ghost use Rattle.text_segments.specs.Segments.{last_code};
 ghost use Rattle.text_segments.specs.declared.modes.Mode.TheVariants.{Mac};
 ghost use Rattle.verb_rules.specs.Keys.{HasHalves, opened};
-ghost use Rattle.verb_script.specs.Choices.{code_rule_word};
 ghost use Rattle.verb_script.specs.Grammar.{accepts, hex_text, is_hex};
 ghost use Rattle.verb_script.specs.Values.{hex_value};
 ghost use Rattle.cca_machine.specs.Act.{code_segment_fields};
@@ -19,16 +18,17 @@ ghost use Rattle.cca_requests.specs.Decided.{SettlesOver, asked};
 ghost use Rattle.cca_requests.specs.Deciding.{ChangesPlaces, ShowsOr};
 ghost use Rattle.cca_requests.specs.Judging.{HasSomeJudged};
 
+use crate::choices::mac_rule_of;
 use crate::effects::Effect;
 use crate::grants::key_in;
 use crate::judging::Granted;
 use crate::verbs::codes::{Purpose, show_for};
 use crate::verbs::segments::chain_in;
-use crate::verbs::texts::{judge_code, mac_rule_of, put_text};
+use crate::verbs::texts::{judge_code, put_text};
 use key_cells::Lease;
 use text_segments::{Chain, Mode, last_mac, segment};
 use verb_rules::{Judged, Rule, TextUse};
-use verb_script::{CodeRule, ReplyBuffer};
+use verb_script::ReplyBuffer;
 
 /// Shows a chain.
 fn show_chain(chain: &Chain, reply: &mut ReplyBuffer)
@@ -43,7 +43,7 @@ fn show_chain(chain: &Chain, reply: &mut ReplyBuffer)
 /// Shows the chain after a segment that goes on from this one.
 fn go_on(
     key: &Judged,
-    rule: CodeRule,
+    rule: &[u8],
     chain: &Chain,
     text: &[u8],
     lease: &mut Lease,
@@ -53,7 +53,7 @@ fn go_on(
     requires text { IsTrue (accepts hex_text text.now) }
     requires empty { reply.old ≡ [] }
     ensures shows { let clear = opened (bench_of lease.old) key.now in
-        let method = mac_rule_named (code_rule_word rule) in
+        let method = mac_rule_named rule.now in
         ShowsOr (first_refusal (code_key_questions method clear
         (segment_questions (length text.now / 2))))
         (code_segment_fields clear method chain.now (hex_value text.now))
@@ -74,7 +74,7 @@ fn go_on(
 /// too long is refused, and a key that the rule doesn't take.
 pub(crate) fn first_code_segment(
     granted: &Granted,
-    rule: CodeRule,
+    rule: &[u8],
     text: &[u8],
     lease: &mut Lease,
     reply: &mut ReplyBuffer,
@@ -84,7 +84,7 @@ pub(crate) fn first_code_segment(
     requires empty { reply.old ≡ [] }
     ensures settles { (verifies : Bool) (role key segment : List ℕ)
         → SettlesOver (asked (first_code_row verifies)
-        (role ∷ key ∷ code_rule_word rule ∷ segment ∷ text.now ∷ []))
+        (role ∷ key ∷ rule.now ∷ segment ∷ text.now ∷ []))
         granted.now lease.old lease.new result reply.new }
     ensures places { ChangesPlaces lease.old lease.new }
 {
@@ -97,7 +97,7 @@ pub(crate) fn first_code_segment(
 /// is too long, and a key that the rule doesn't take.
 pub(crate) fn middle_code_segment(
     granted: &Granted,
-    rule: CodeRule,
+    rule: &[u8],
     chain: &[u8],
     text: &[u8],
     lease: &mut Lease,
@@ -109,7 +109,7 @@ pub(crate) fn middle_code_segment(
     requires empty { reply.old ≡ [] }
     ensures settles { (verifies : Bool) (role key segment : List ℕ)
         → SettlesOver (asked (middle_code_row verifies)
-        (role ∷ key ∷ code_rule_word rule ∷ segment ∷ chain.now ∷ text.now ∷ []))
+        (role ∷ key ∷ rule.now ∷ segment ∷ chain.now ∷ text.now ∷ []))
         granted.now lease.old lease.new result reply.new }
     ensures places { ChangesPlaces lease.old lease.new }
 {
@@ -123,7 +123,7 @@ pub(crate) fn middle_code_segment(
 /// Shows of the code of a text, of which this is the last segment, what it is for.
 fn end_code(
     key: &Judged,
-    rule: CodeRule,
+    rule: &[u8],
     chain: &Chain,
     purpose: Purpose<'_>,
     text: &[u8],
@@ -135,7 +135,7 @@ fn end_code(
     requires text { IsTrue (accepts hex_text text.now) }
     requires empty { reply.old ≡ [] }
     ensures shows { let clear = opened (bench_of lease.old) key.now in
-        let method = mac_rule_named (code_rule_word rule) in
+        let method = mac_rule_named rule.now in
         ShowsOr (first_refusal (code_key_questions method clear
         (last_segment_questions (Mac method) Pad.None chain.now (length text.now / 2))))
         (code_fields purpose.entry (last_code clear method chain.now (hex_value text.now)))
@@ -156,7 +156,7 @@ fn end_code(
 /// segment gives is refused, a text of a wrong length, and a key that the rule doesn't take.
 pub(crate) fn last_code_segment(
     granted: &Granted,
-    rule: CodeRule,
+    rule: &[u8],
     chain: &[u8],
     purpose: Purpose<'_>,
     text: &[u8],
@@ -170,7 +170,7 @@ pub(crate) fn last_code_segment(
     requires empty { reply.old ≡ [] }
     ensures settles { (role key segment : List ℕ)
         → SettlesOver (asked (last_code_row purpose.entry)
-        (role ∷ key ∷ code_rule_word rule ∷ segment ∷ purpose_text purpose.entry
+        (role ∷ key ∷ rule.now ∷ segment ∷ purpose_text purpose.entry
         ∷ chain.now ∷ text.now ∷ []))
         granted.now lease.old lease.new result reply.new }
     ensures places { ChangesPlaces lease.old lease.new }

@@ -10,7 +10,6 @@ ghost use Rattle.multi_encipher.specs.Bundles.{ChangesKeyAt};
 ghost use Rattle.script_buffers.specs.Replies.{Hex, Text, written};
 ghost use Rattle.verb_rules.specs.Keys.{HasHalves, opened};
 ghost use Rattle.verb_rules.specs.LengthChecks.{mac_checks, text_checks};
-ghost use Rattle.verb_script.specs.Choices.{code_length_word, code_rule_word};
 ghost use Rattle.verb_script.specs.Grammar.{accepts, hex_text, mac_text};
 ghost use Rattle.verb_script.specs.Values.{hex_value};
 ghost use Rattle.cca_machine.specs.Act.{yes_or_no};
@@ -20,34 +19,23 @@ ghost use Rattle.cca_requests.specs.Decided.{SettlesOver, asked};
 ghost use Rattle.cca_requests.specs.Deciding.{ChangesPlaces};
 ghost use Rattle.cca_requests.specs.Judging.{HasSomeJudged};
 
+use crate::choices::{mac_length_of, mac_rule_of};
 use crate::effects::Effect;
 use crate::grants::key_in;
 use crate::judging::Granted;
-use crate::verbs::texts::{judge_code, mac_rule_of, put_text};
+use crate::verbs::texts::{judge_code, put_text};
 use key_cells::{KeyPlace, Lease};
 use mac_verbs::{mac_generate, mac_verify};
 use verb_rules::{Judged, MacRule, TextUse};
-use verb_script::{CodeLength, CodeRule, ReplyBuffer, decode};
+use verb_script::{ReplyBuffer, decode};
 
 /// What the code of a text is for.
 #[derive(Clone, Copy)]
 pub(crate) enum Purpose<'a> {
     /// CSNBMGN: so many of its leftmost bytes are shown.
-    Generate(CodeLength),
+    Generate(&'a [u8]),
     /// CSNBMVR: it is shown whether it begins with the bytes that these digits spell.
     Verify(&'a [u8]),
-}
-
-/// How many bytes of a code are shown.
-fn count_of(length: CodeLength) -> usize
-    ensures count { result ≡ mac_length_named (code_length_word length) }
-    ensures most { result ≤ 8 }
-{
-    match length {
-        CodeLength::Four => 4,
-        CodeLength::Six => 6,
-        CodeLength::Eight => 8,
-    }
 }
 
 /// Puts the bytes of a code that the digits spell, and tells how many they are.
@@ -97,14 +85,14 @@ fn has_code(lease: &mut Lease, key: &Judged, method: MacRule, digits: &[u8]) -> 
     mac_verify(lease, key, method, &bytes[..count])
 }
 
-fn show_code(code: &[u8; 8], count: CodeLength, reply: &mut ReplyBuffer)
+fn show_code(code: &[u8; 8], count: &[u8], reply: &mut ReplyBuffer)
     requires empty { reply.old ≡ [] }
     ensures fields { reply.new ≡ written
-        (Hex (codes "mac") (take (mac_length_named (code_length_word count)) code.now) ∷ []) }
+        (Hex (codes "mac") (take (mac_length_named count.now) code.now) ∷ []) }
     ensures size { length reply.new ≤ 69000 }
 {
     reply.ok();
-    reply.hex("mac", front(code, count_of(count)));
+    reply.hex("mac", front(code, mac_length_of(count)));
 }
 
 fn show_match(same: bool, reply: &mut ReplyBuffer)
@@ -128,7 +116,7 @@ pub(super) fn show_for(purpose: Purpose<'_>, code: &[u8; 8], reply: &mut ReplyBu
     ensures size { length reply.new ≤ 69000 }
 {
     match purpose {
-        Purpose::Generate(count) => show_code(code, count, reply),
+        Purpose::Generate(length) => show_code(code, length, reply),
         Purpose::Verify(mac) => show_match(begins(code, mac), reply),
     }
 }
@@ -152,7 +140,7 @@ fn show_whole(
     ensures stays { ChangesKeyAt KeyPlace.Key lease.old lease.new }
 {
     match purpose {
-        Purpose::Generate(count) => show_code(&mac_generate(lease, key, method), count, reply),
+        Purpose::Generate(length) => show_code(&mac_generate(lease, key, method), length, reply),
         Purpose::Verify(mac) => show_match(has_code(lease, key, method, mac), reply),
     }
 }
@@ -161,7 +149,7 @@ fn show_whole(
 /// and a key that the rule doesn't take.
 pub(crate) fn whole_code(
     granted: &Granted,
-    rule: CodeRule,
+    rule: &[u8],
     purpose: Purpose<'_>,
     text: &[u8],
     lease: &mut Lease,
@@ -173,7 +161,7 @@ pub(crate) fn whole_code(
     requires empty { reply.old ≡ [] }
     ensures settles { (role key : List ℕ)
         → SettlesOver (asked (whole_code_row purpose.entry)
-        (role ∷ key ∷ code_rule_word rule ∷ purpose_text purpose.entry ∷ text.now ∷ []))
+        (role ∷ key ∷ rule.now ∷ purpose_text purpose.entry ∷ text.now ∷ []))
         granted.now lease.old lease.new result reply.new }
     ensures places { ChangesPlaces lease.old lease.new }
 {

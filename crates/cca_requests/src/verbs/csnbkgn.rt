@@ -10,16 +10,17 @@ ghost use Rattle.master_registers.specs.Loaded.{Loaded, IsLoaded};
 ghost use Rattle.script_buffers.specs.Replies.{Hex};
 ghost use Rattle.slot_disk.specs.Faults.{HasCause};
 ghost use Rattle.verb_rules.specs.Keys.{IsDouble, opened};
-ghost use Rattle.verb_script.specs.Choices.{key_length_word, out_form_word, pair_form_word};
-ghost use Rattle.verb_script.specs.KeyFields.{record_label};
+ghost use Rattle.verb_script.specs.Named.{label_named};
 ghost use Rattle.cca_machine.specs.Act.{Show, delivered, delivered_with};
 ghost use Rattle.cca_machine.specs.Choices.{key_length_named, out_form_named, pair_form_named};
 ghost use Rattle.cca_machine.specs.State.{State};
 ghost use Rattle.cca_machine.specs.Verdict.{first_refusal, generate_questions, pair_questions};
 ghost use Rattle.cca_requests.specs.Deciding.{ChangesPlaces, GoesThrough, IsReady, WritesStore};
 ghost use Rattle.cca_requests.specs.Drawing.{HasRefused, IsHeldPlace, LeavesDrawn};
+ghost use Rattle.cca_requests.specs.FieldWords.{IsOutForm, IsPairForm};
 ghost use Rattle.cca_requests.specs.Judging.{IsPlaceFor, target_cell};
 
+use crate::choices::{key_length_of, out_form_of, pair_form_of};
 use crate::effects::Effect;
 use crate::refusals::Refusal;
 use crate::verbs::delivering::{deliver, show_second};
@@ -30,39 +31,7 @@ use key_transport::{Form, GenerateFault, generate};
 use master_registers::Registers;
 use slot_disk::{Entropy, Failed};
 use verb_rules::{Judged, Rule, judge_length, judge_pair};
-use verb_script::{Destination, KeyLength, OutForm, PairForm, ReplyBuffer};
-
-/// The form that the field names, of those with one internal and one external key.
-pub(crate) fn pair_form(form: PairForm) -> Form
-    ensures { result ≡ pair_form_named (pair_form_word form) }
-{
-    match form {
-        PairForm::Opex => Form::Opex,
-        PairForm::Opim => Form::Opim,
-    }
-}
-
-/// The form that the field names, of those with two external keys.
-pub(crate) fn out_form(form: OutForm) -> Form
-    ensures { result ≡ out_form_named (out_form_word form) }
-{
-    match form {
-        OutForm::Imex => Form::Imex,
-        OutForm::Exex => Form::Exex,
-        OutForm::Imim => Form::Imim,
-    }
-}
-
-/// The length that the field names.
-fn key_length(length: KeyLength) -> Length
-    ensures { result ≡ key_length_named (key_length_word length) }
-{
-    match length {
-        KeyLength::Eight => Length::Eight,
-        KeyLength::Sixteen => Length::Sixteen,
-        KeyLength::DoubleO => Length::Unique,
-    }
-}
+use verb_script::ReplyBuffer;
 
 /// Rule 32 of one key.
 fn judge_one(kind: KeyType, length: Length) -> Option<Refusal>
@@ -96,43 +65,43 @@ fn judge_two(first: KeyType, second: KeyType, length: Length) -> Option<Refusal>
 /// Generates a key for here, and delivers it. A type that hasn't the length is refused before a byte is drawn, and a key
 /// whose halves are repeated after.
 pub(crate) fn generate_one<E: Entropy>(
-    length: KeyLength,
+    length: &[u8],
     kind: KeyType,
-    to: Destination<'_>,
+    to: &[u8],
     place: Option<Place>,
     entropy: &mut E,
     lease: &mut Lease,
     held: &Registers,
     reply: &mut ReplyBuffer,
 ) -> Result<Effect, Failed>
-    requires target { IsPlaceFor (record_label to) place }
+    requires target { IsPlaceFor (label_named to.now) place }
     requires master { IsSome held.now.current_pattern }
     requires loaded { IsLoaded held.now (bench_of lease.old) }
     requires empty { reply.old ≡ [] }
     ensures generated { (s : State) → Loaded s.registers held.now (bench_of lease.old)
-        → place ≡ target_cell s (record_label to.entry)
+        → place ≡ target_cell s (label_named to.now)
         → IfOk result (LeavesDrawn s
-        (first_refusal (generate_questions kind (key_length_named (key_length_word length))))
-        (λ (drawn : List ℕ). delivered s (codes "token1") (record_label to.entry)
-        (as_current (generated_key kind (key_length_named (key_length_word length)) drawn)))
-        (key_length_named (key_length_word length)) (E.left entropy.old) (E.left entropy.new)
+        (first_refusal (generate_questions kind (key_length_named length.now)))
+        (λ (drawn : List ℕ). delivered s (codes "token1") (label_named to.now)
+        (as_current (generated_key kind (key_length_named length.now) drawn)))
+        (key_length_named length.now) (E.left entropy.old) (E.left entropy.new)
         reply.new) }
     ensures permitted { OnErr result
-        (first_refusal (generate_questions kind (key_length_named (key_length_word length)))
+        (first_refusal (generate_questions kind (key_length_named length.now))
         ≡ None) }
     ensures untouched { IsSome (first_refusal
-        (generate_questions kind (key_length_named (key_length_word length))))
+        (generate_questions kind (key_length_named length.now)))
         → entropy.new ≡ entropy.old }
     ensures ready { (rows : List (Option Row)) → IsHeldPlace rows place
         → IfOk result (λ effect. IsReady held.now (bench_of lease.new) rows effect reply.new) }
     ensures named { IfOk result (λ effect. WritesStore effect
-        → IsTrue (is_some (record_label to.entry))) }
+        → IsTrue (is_some (label_named to.now))) }
     ensures one_label { IfOk result (λ effect. GoesThrough effect → ⊥) }
     ensures silent { OnErr result (reply.new ≡ []) }
     ensures cause { HasCause (E.faults entropy.old) (E.faults entropy.new) result }
     ensures places { ChangesPlaces lease.old lease.new }
 {
-    let length = key_length(length);
+    let length = key_length_of(length);
     if let Some(refusal) = judge_one(kind, length) {
         return Ok(Effect::Refused(refusal.rule, refusal.operand));
     }
@@ -156,56 +125,57 @@ pub(crate) fn generate_one<E: Entropy>(
 /// Generates a key for here and the same key for elsewhere, and delivers the first. Types that aren't a pair are refused,
 /// and a type that hasn't the length, before a byte is drawn.
 pub(crate) fn generate_pair<E: Entropy>(
-    form: PairForm,
-    length: KeyLength,
+    form: &[u8],
+    length: &[u8],
     first: KeyType,
     second: KeyType,
     transport: &Judged,
-    to: Destination<'_>,
+    to: &[u8],
     place: Option<Place>,
     entropy: &mut E,
     lease: &mut Lease,
     held: &Registers,
     reply: &mut ReplyBuffer,
 ) -> Result<Effect, Failed>
+    requires form { IsPairForm form.now }
     requires transport { IsDouble transport.now }
-    requires target { IsPlaceFor (record_label to) place }
+    requires target { IsPlaceFor (label_named to.now) place }
     requires master { IsSome held.now.current_pattern }
     requires loaded { IsLoaded held.now (bench_of lease.old) }
     requires empty { reply.old ≡ [] }
     ensures generated { (s : State) → Loaded s.registers held.now (bench_of lease.old)
-        → place ≡ target_cell s (record_label to.entry)
+        → place ≡ target_cell s (label_named to.now)
         → IfOk result (LeavesDrawn s
-        (first_refusal (pair_questions first second (key_length_named (key_length_word length))))
-        (λ (drawn : List ℕ). delivered_with s (codes "token1") (record_label to.entry)
-        (as_current (generated_key first (key_length_named (key_length_word length)) drawn))
+        (first_refusal (pair_questions first second (key_length_named length.now)))
+        (λ (drawn : List ℕ). delivered_with s (codes "token1") (label_named to.now)
+        (as_current (generated_key first (key_length_named length.now) drawn))
         (Hex (codes "token2") (external_token (opened (bench_of lease.old) transport.now).key
-        (generated_key second (key_length_named (key_length_word length)) drawn)) ∷ []))
-        (key_length_named (key_length_word length)) (E.left entropy.old) (E.left entropy.new)
+        (generated_key second (key_length_named length.now) drawn)) ∷ []))
+        (key_length_named length.now) (E.left entropy.old) (E.left entropy.new)
         reply.new) }
     ensures permitted { OnErr result
-        (first_refusal (pair_questions first second (key_length_named (key_length_word length)))
+        (first_refusal (pair_questions first second (key_length_named length.now))
         ≡ None) }
     ensures untouched { IsSome (first_refusal
-        (pair_questions first second (key_length_named (key_length_word length))))
+        (pair_questions first second (key_length_named length.now)))
         → entropy.new ≡ entropy.old }
     ensures ready { (rows : List (Option Row)) → IsHeldPlace rows place
         → IfOk result (λ effect. IsReady held.now (bench_of lease.new) rows effect reply.new) }
     ensures named { IfOk result (λ effect. WritesStore effect
-        → IsTrue (is_some (record_label to.entry))) }
+        → IsTrue (is_some (label_named to.now))) }
     ensures one_label { IfOk result (λ effect. GoesThrough effect → ⊥) }
     ensures silent { OnErr result (reply.new ≡ []) }
     ensures cause { HasCause (E.faults entropy.old) (E.faults entropy.new) result }
     ensures places { ChangesPlaces lease.old lease.new }
 {
-    let length = key_length(length);
+    let length = key_length_of(length);
     if let Some(refusal) = judge_two(first, second, length) {
         return Ok(Effect::Refused(refusal.rule, refusal.operand));
     }
     match generate(
         lease,
         held,
-        pair_form(form),
+        pair_form_of(form),
         length,
         first,
         second,
@@ -222,8 +192,8 @@ pub(crate) fn generate_pair<E: Entropy>(
 /// Generates a key for elsewhere twice, and shows both tokens. Types that aren't a pair are refused, and a type that
 /// hasn't the length, before a byte is drawn.
 pub(crate) fn generate_out<E: Entropy>(
-    form: OutForm,
-    length: KeyLength,
+    form: &[u8],
+    length: &[u8],
     first: KeyType,
     second: KeyType,
     one: &Judged,
@@ -233,28 +203,29 @@ pub(crate) fn generate_out<E: Entropy>(
     held: &Registers,
     reply: &mut ReplyBuffer,
 ) -> Result<Effect, Failed>
+    requires form { IsOutForm form.now }
     requires one { IsDouble one.now }
     requires two { IsDouble two.now }
     requires master { IsSome held.now.current_pattern }
     requires loaded { IsLoaded held.now (bench_of lease.old) }
     requires empty { reply.old ≡ [] }
     ensures generated { (s : State) → IfOk result (LeavesDrawn s
-        (first_refusal (pair_questions first second (key_length_named (key_length_word length))))
+        (first_refusal (pair_questions first second (key_length_named length.now)))
         (λ (drawn : List ℕ). Show (
         Hex (codes "token1")
         (external_token (opened (bench_of lease.old) one.now).key
-        (generated_key first (key_length_named (key_length_word length)) drawn))
+        (generated_key first (key_length_named length.now) drawn))
         ∷ Hex (codes "token2")
         (external_token (opened (bench_of lease.old) two.now).key
-        (generated_key second (key_length_named (key_length_word length)) drawn))
+        (generated_key second (key_length_named length.now) drawn))
         ∷ []))
-        (key_length_named (key_length_word length)) (E.left entropy.old) (E.left entropy.new)
+        (key_length_named length.now) (E.left entropy.old) (E.left entropy.new)
         reply.new) }
     ensures permitted { OnErr result
-        (first_refusal (pair_questions first second (key_length_named (key_length_word length)))
+        (first_refusal (pair_questions first second (key_length_named length.now))
         ≡ None) }
     ensures untouched { IsSome (first_refusal
-        (pair_questions first second (key_length_named (key_length_word length))))
+        (pair_questions first second (key_length_named length.now)))
         → entropy.new ≡ entropy.old }
     ensures ready { (bench : Bench) (rows : List (Option Row))
         → IfOk result (λ effect. IsReady held.now bench rows effect reply.new) }
@@ -263,14 +234,14 @@ pub(crate) fn generate_out<E: Entropy>(
     ensures cause { HasCause (E.faults entropy.old) (E.faults entropy.new) result }
     ensures places { ChangesPlaces lease.old lease.new }
 {
-    let length = key_length(length);
+    let length = key_length_of(length);
     if let Some(refusal) = judge_two(first, second, length) {
         return Ok(Effect::Refused(refusal.rule, refusal.operand));
     }
     match generate(
         lease,
         held,
-        out_form(form),
+        out_form_of(form),
         length,
         first,
         second,

@@ -8,9 +8,8 @@ ghost use Rattle.key_records.specs.declared.rows.Row.{Row};
 ghost use Rattle.key_transport.specs.Tokens.{as_current};
 ghost use Rattle.master_registers.specs.Loaded.{Loaded, IsLoaded};
 ghost use Rattle.verb_rules.specs.Keys.{HasHalves, opened};
-ghost use Rattle.verb_script.specs.Choices.{part_rule_word};
 ghost use Rattle.verb_script.specs.Grammar.{accepts, part_text};
-ghost use Rattle.verb_script.specs.KeyFields.{record_label};
+ghost use Rattle.verb_script.specs.Named.{label_named};
 ghost use Rattle.verb_script.specs.Values.{hex_value};
 ghost use Rattle.cca_machine.specs.Act.{delivered};
 ghost use Rattle.cca_machine.specs.Choices.{is_last_part};
@@ -20,6 +19,7 @@ ghost use Rattle.cca_requests.specs.Deciding.{ChangesPlaces, GoesThrough, IsRead
 ghost use Rattle.cca_requests.specs.Drawing.{HasRefused, IsDeliveredOr, IsHeldPlace};
 ghost use Rattle.cca_requests.specs.Judging.{IsPlaceFor, target_cell};
 
+use crate::choices::is_last_part;
 use crate::effects::Effect;
 use crate::refusals::Refusal;
 use crate::verbs::delivering::deliver;
@@ -30,17 +30,7 @@ use key_parts::{combine_part, first_part};
 use key_records::Place;
 use master_registers::Registers;
 use verb_rules::{Judged, judge_part, judge_size};
-use verb_script::{Destination, PartRule, ReplyBuffer};
-
-/// Whether the part is the last one.
-fn is_last(rule: PartRule) -> bool
-    ensures { result ≡ is_last_part (part_rule_word rule) }
-{
-    match rule {
-        PartRule::Middle => false,
-        PartRule::Last => true,
-    }
-}
+use verb_script::ReplyBuffer;
 
 /// Puts the part of a key that the digits spell into the workbench.
 fn put_part(digits: &[u8], lease: &mut Lease)
@@ -58,26 +48,26 @@ fn put_part(digits: &[u8], lease: &mut Lease)
 pub(crate) fn first(
     kind: KeyType,
     part: &[u8],
-    to: Destination<'_>,
+    to: &[u8],
     place: Option<Place>,
     lease: &mut Lease,
     held: &Registers,
     reply: &mut ReplyBuffer,
 ) -> Effect
     requires part { IsTrue (accepts part_text part.now) }
-    requires target { IsPlaceFor (record_label to) place }
+    requires target { IsPlaceFor (label_named to.now) place }
     requires master { IsSome held.now.current_pattern }
     requires loaded { IsLoaded held.now (bench_of lease.old) }
     requires empty { reply.old ≡ [] }
     ensures delivered { (s : State) → Loaded s.registers held.now (bench_of lease.old)
-        → place ≡ target_cell s (record_label to.entry)
+        → place ≡ target_cell s (label_named to.now)
         → IsDeliveredOr s (first_refusal (first_part_questions kind (length part.now / 2)))
-        (delivered s (codes "token") (record_label to.entry)
+        (delivered s (codes "token") (label_named to.now)
         (as_current (first_key kind (hex_value part.now))))
         result reply.new }
     ensures ready { (rows : List (Option Row)) → IsHeldPlace rows place
         → IsReady held.now (bench_of lease.new) rows result reply.new }
-    ensures named { WritesStore result → IsTrue (is_some (record_label to.entry)) }
+    ensures named { WritesStore result → IsTrue (is_some (label_named to.now)) }
     ensures one_label { GoesThrough result → ⊥ }
     ensures places { ChangesPlaces lease.old lease.new }
 {
@@ -120,9 +110,9 @@ fn judge(key: &Judged, length: usize) -> Option<Refusal>
 /// length is refused, and a key that is no part.
 pub(crate) fn further(
     key: &Judged,
-    rule: PartRule,
+    rule: &[u8],
     part: &[u8],
-    to: Destination<'_>,
+    to: &[u8],
     place: Option<Place>,
     lease: &mut Lease,
     held: &Registers,
@@ -130,20 +120,20 @@ pub(crate) fn further(
 ) -> Effect
     requires halves { HasHalves key.now }
     requires part { IsTrue (accepts part_text part.now) }
-    requires target { IsPlaceFor (record_label to) place }
+    requires target { IsPlaceFor (label_named to.now) place }
     requires master { IsSome held.now.current_pattern }
     requires loaded { IsLoaded held.now (bench_of lease.old) }
     requires empty { reply.old ≡ [] }
     ensures delivered { (s : State) → Loaded s.registers held.now (bench_of lease.old)
-        → place ≡ target_cell s (record_label to.entry)
+        → place ≡ target_cell s (label_named to.now)
         → let clear = opened (bench_of lease.old) key.now in
         IsDeliveredOr s (first_refusal (further_part_questions clear.vector (length part.now / 2)))
-        (delivered s (codes "token") (record_label to.entry)
-        (as_current (combined_key (is_last_part (part_rule_word rule)) clear (hex_value part.now))))
+        (delivered s (codes "token") (label_named to.now)
+        (as_current (combined_key (is_last_part rule.now) clear (hex_value part.now))))
         result reply.new }
     ensures ready { (rows : List (Option Row)) → IsHeldPlace rows place
         → IsReady held.now (bench_of lease.new) rows result reply.new }
-    ensures named { WritesStore result → IsTrue (is_some (record_label to.entry)) }
+    ensures named { WritesStore result → IsTrue (is_some (label_named to.now)) }
     ensures one_label { GoesThrough result → ⊥ }
     ensures places { ChangesPlaces lease.old lease.new }
 {
@@ -151,6 +141,6 @@ pub(crate) fn further(
         return Effect::Refused(refusal.rule, refusal.operand);
     }
     put_part(part, lease);
-    let token = combine_part(lease, held, key, is_last(rule));
+    let token = combine_part(lease, held, key, is_last_part(rule));
     deliver("token", &token, None, to, place, reply)
 }

@@ -4,7 +4,6 @@ ghost use Rattle.std.specs.Option.{option_map};
 ghost use Rattle.cca_vectors.specs.Checks.{first_failing};
 ghost use Rattle.key_cells.specs.Bench.{Bench, with_master};
 ghost use Rattle.key_cells.specs.Lease.{bench_of, holding};
-ghost use Rattle.verb_script.specs.Choices.{part_action_word};
 ghost use Rattle.verb_script.specs.Grammar.{is_hex};
 ghost use Rattle.verb_script.specs.Values.{hex_value};
 ghost use Rattle.master_registers.specs.Loaded.{Loaded};
@@ -12,7 +11,7 @@ ghost use Rattle.master_registers.specs.declared.registers.Registers.{Registers 
 ghost use Rattle.master_registers.specs.Masters.{Masters};
 ghost use Rattle.verb_rules.specs.Rules.{rule_number};
 ghost use Rattle.key_records.specs.Ages.{any_old};
-ghost use Rattle.cca_machine.specs.Actions.{action_checks, part_action as named};
+ghost use Rattle.cca_machine.specs.Actions.{action_checks};
 ghost use Rattle.cca_machine.specs.State.{State};
 ghost use Rattle.cca_requests.specs.Deciding.{IsReady, IsRecorded, IsSetDecided, IsClearDecided, WritesStore};
 
@@ -21,18 +20,7 @@ use key_cells::{Lease, MasterPlace};
 use key_records::Records;
 use master_registers::{Action, NewState, Registers, pattern_of};
 use verb_rules::Rule;
-use verb_script::{PartAction, decode};
-
-/// The action that the field names, of those that take a key part.
-pub(crate) fn part_action(action: PartAction) -> Action
-    ensures { result ≡ named (part_action_word action) }
-{
-    match action {
-        PartAction::First => Action::First,
-        PartAction::Middle => Action::Middle,
-        PartAction::Last => Action::Last,
-    }
-}
+use verb_script::decode;
 
 /// Puts the key part that the digits spell into the workbench.
 pub(crate) fn put_part(digits: &[u8], lease: &mut Lease)

@@ -3,7 +3,7 @@ ghost use Rattle.std.specs.Prelude.{◌≡◌, ◌≤◌, ◌+◌, ◌++◌, [],
 ghost use Rattle.key_tokens.specs.Denotes.{Denoted, denoted};
 ghost use Rattle.script_buffers.specs.Replies.{fields_text};
 ghost use Rattle.verb_rules.specs.Keys.{keys_of, token_for};
-ghost use Rattle.verb_script.specs.KeyFields.{record_label};
+ghost use Rattle.verb_script.specs.Named.{label_named};
 ghost use Rattle.cca_machine.specs.Act.{delivered_with};
 ghost use Rattle.cca_machine.specs.State.{State};
 ghost use Rattle.cca_requests.specs.Deciding.{IsDelivered, IsDelivery, token2_fields};
@@ -11,7 +11,7 @@ ghost use Rattle.cca_requests.specs.Judging.{IsPlaceFor, target_cell};
 
 use crate::effects::Effect;
 use key_records::Place;
-use verb_script::{Destination, ReplyBuffer};
+use verb_script::{ReplyBuffer, named_label};
 
 /// Shows the token of a second key in the field `token2`, where there is one.
 pub(super) fn show_second(second: Option<[u8; 64]>, reply: &mut ReplyBuffer)
@@ -30,31 +30,30 @@ pub(crate) fn deliver(
     field: &'static str,
     token: &[u8; 64],
     second: Option<[u8; 64]>,
-    to: Destination<'_>,
+    to: &[u8],
     place: Option<Place>,
     reply: &mut ReplyBuffer,
 ) -> Effect
-    requires target { IsPlaceFor (record_label to) place }
+    requires target { IsPlaceFor (label_named to.now) place }
     requires empty { reply.old ≡ [] }
     requires short { length field.now ≤ 20 }
     ensures delivered { (s : State) (key : Denoted)
         → token.now ≡ token_for (keys_of s.registers) key
         → denoted (keys_of s.registers) token.now ≡ Some key
-        → place ≡ target_cell s (record_label to.entry)
-        → IsDelivered s
-        (delivered_with s field.now (record_label to.entry) key (token2_fields second))
+        → place ≡ target_cell s (label_named to.now)
+        → IsDelivered s (delivered_with s field.now (label_named to.now) key (token2_fields second))
         result reply.new }
     ensures size { length reply.new ≤ 69000 }
     ensures delivery { IsDelivery token.now place result }
 {
     reply.ok();
-    match to {
-        Destination::Record(label) => {
+    match named_label(to) {
+        Some(label) => {
             reply.text("stored", label);
             show_second(second, reply);
             Effect::Write(place.unwrap(), *token)
         }
-        Destination::Reply => {
+        None => {
             reply.hex(field, token);
             show_second(second, reply);
             Effect::Shown

@@ -7,7 +7,6 @@ ghost use Rattle.script_buffers.specs.Replies.{Hex, written};
 ghost use Rattle.text_segments.specs.Chains.{chain_bytes, chain_checks, chain_of};
 ghost use Rattle.text_segments.specs.Segments.{IsCipher};
 ghost use Rattle.verb_rules.specs.Keys.{HasHalves, opened};
-ghost use Rattle.verb_script.specs.Choices.{padding_word};
 ghost use Rattle.verb_script.specs.Grammar.{accepts, hex_text, is_hex};
 ghost use Rattle.verb_script.specs.Values.{hex_value};
 ghost use Rattle.cca_machine.specs.Act.{last_text_fields, segment_fields};
@@ -18,14 +17,15 @@ ghost use Rattle.cca_requests.specs.Decided.{SettlesOver, asked};
 ghost use Rattle.cca_requests.specs.Deciding.{ChangesPlaces, ShowsOr};
 ghost use Rattle.cca_requests.specs.Judging.{HasSomeJudged};
 
+use crate::choices::pad_of;
 use crate::effects::Effect;
 use crate::grants::key_in;
 use crate::judging::Granted;
-use crate::verbs::texts::{block_of, judge_digits, pad_of, put_text, show_text};
+use crate::verbs::texts::{block_of, judge_digits, put_text, show_text};
 use key_cells::Lease;
 use text_segments::{Chain, Mode, last_text, segment};
 use verb_rules::{Judged, Rule, TextUse};
-use verb_script::{Padding, ReplyBuffer, decode};
+use verb_script::{ReplyBuffer, decode};
 
 /// The 16 bytes that 32 digits spell.
 fn bytes_of(digits: &[u8]) -> [u8; 16]
@@ -148,7 +148,7 @@ fn end(
     mode: Mode,
     key: &Judged,
     chain: &Chain,
-    pad: Padding,
+    pad: &[u8],
     text: &[u8],
     lease: &mut Lease,
     reply: &mut ReplyBuffer,
@@ -158,7 +158,7 @@ fn end(
     requires text { IsTrue (accepts hex_text text.now) }
     requires empty { reply.old ≡ [] }
     ensures shows { let clear = opened (bench_of lease.old) key.now in
-        let padding = pad_named (padding_word pad) in
+        let padding = pad_named pad.now in
         ShowsOr (first_refusal (last_text_questions mode clear chain.now padding
         (length text.now / 2) (hex_value text.now)))
         (last_text_fields clear mode chain.now padding (hex_value text.now))
@@ -186,7 +186,7 @@ pub(crate) fn last_segment(
     mode: Mode,
     granted: &Granted,
     chain: &[u8],
-    pad: Padding,
+    pad: &[u8],
     text: &[u8],
     lease: &mut Lease,
     reply: &mut ReplyBuffer,
@@ -198,7 +198,7 @@ pub(crate) fn last_segment(
     requires empty { reply.old ≡ [] }
     ensures settles { (role key segment : List ℕ)
         → SettlesOver (asked (last_row mode)
-        (role ∷ key ∷ segment ∷ chain.now ∷ padding_word pad ∷ text.now ∷ []))
+        (role ∷ key ∷ segment ∷ chain.now ∷ pad.now ∷ text.now ∷ []))
         granted.now lease.old lease.new result reply.new }
     ensures places { ChangesPlaces lease.old lease.new }
 {

@@ -1,5 +1,4 @@
-//! Texts and chaining values in the fields of a request, and the words that say how they are worked
-//! on.
+//! Texts and chaining values in the fields of a request.
 ghost use Rattle.std.specs.Prelude.{◌≡◌, ◌≤◌, ◌<◌, ◌/◌, ◌∷◌, [], None, Some, OnOk, IfErr, IsTrue, codes, length};
 ghost use Rattle.cca_vectors.specs.Checks.{first_failing};
 ghost use Rattle.cca_vectors.specs.Vectors.{length_of};
@@ -8,48 +7,14 @@ ghost use Rattle.key_cells.specs.Lease.{bench_of, holding};
 ghost use Rattle.script_buffers.specs.Replies.{Hex, written};
 ghost use Rattle.verb_rules.specs.LengthChecks.{mac_checks, text_checks};
 ghost use Rattle.verb_rules.specs.Rules.{Judges, rule_number};
-ghost use Rattle.verb_script.specs.Choices.{code_rule_word, padding_word};
 ghost use Rattle.verb_script.specs.Grammar.{accepts, hex_text, is_hex};
 ghost use Rattle.verb_script.specs.Values.{hex_value};
-ghost use Rattle.cca_machine.specs.Choices.{pad_named, mac_rule_named};
 ghost use Rattle.cca_machine.specs.Verdict.{first_refusal, questions, refusal};
-ghost use Rattle.cipher_verbs.specs.CipherTexts.{enciphering};
 
 use crate::refusals::Refusal;
-use cipher_verbs::Pad;
 use key_cells::Lease;
 use verb_rules::{Judged, MacRule, Rule, TextUse, judge_mac, judge_text};
-use verb_script::{CodeRule, Padding, ReplyBuffer, decode};
-
-/// How the text is padded.
-pub(super) fn pad_of(padding: Padding) -> Pad
-    ensures { result ≡ pad_named (padding_word padding) }
-{
-    match padding {
-        Padding::None => Pad::None,
-        Padding::X923 => Pad::X923,
-    }
-}
-
-/// What a text that is enciphered is given for.
-pub(super) fn enciphering(padding: Pad) -> TextUse
-    ensures { result ≡ enciphering padding }
-{
-    match padding {
-        Pad::None => TextUse::EncipherPlain,
-        Pad::X923 => TextUse::EncipherPadded,
-    }
-}
-
-/// How a message authentication code is made.
-pub(super) fn mac_rule_of(rule: CodeRule) -> MacRule
-    ensures { result ≡ mac_rule_named (code_rule_word rule) }
-{
-    match rule {
-        CodeRule::X99 => MacRule::X99,
-        CodeRule::X919 => MacRule::X919,
-    }
-}
+use verb_script::{ReplyBuffer, decode};
 
 /// Rule 23 of the text that the digits spell.
 #[tactic(auto, using(crate::proofs::Texts::fits))]

@@ -9,7 +9,6 @@ ghost use Rattle.text_segments.specs.Segments.{IsCipher, last_checks, last_text}
 ghost use Rattle.verb_rules.specs.Keys.{HasHalves, opened};
 ghost use Rattle.verb_rules.specs.LengthChecks.{text_checks};
 ghost use Rattle.verb_rules.specs.Rules.{Judges};
-ghost use Rattle.verb_script.specs.Choices.{padding_word};
 ghost use Rattle.verb_script.specs.Grammar.{accepts, hex_text, is_hex};
 ghost use Rattle.verb_script.specs.Values.{hex_value};
 ghost use Rattle.cca_machine.specs.Act.{last_text_fields};
@@ -20,22 +19,23 @@ ghost use Rattle.cca_requests.specs.Deciding.{ChangesPlaces, ShowsOr};
 ghost use Rattle.cca_requests.specs.Judging.{HasSomeJudged};
 ghost use Rattle.cca_requests.specs.WholeTexts.{whole_questions, whole_row, whole_use};
 
+use crate::choices::pad_of;
 use crate::effects::Effect;
 use crate::grants::key_in;
 use crate::judging::Granted;
-use crate::verbs::texts::{block_of, enciphering, judge_digits, pad_of, put_text, show_text};
+use crate::verbs::texts::{block_of, judge_digits, put_text, show_text};
 use cipher_verbs::{Pad, decipher, encipher};
 use key_cells::Lease;
 use text_segments::Mode;
 use verb_rules::{Judged, Rule, TextUse};
-use verb_script::{Padding, ReplyBuffer};
+use verb_script::ReplyBuffer;
 
 /// What a whole text is given for.
 fn use_of(mode: Mode, padding: Pad) -> TextUse
     ensures { result ≡ whole_use mode padding }
 {
     match mode {
-        Mode::Encipher => enciphering(padding),
+        Mode::Encipher => padding.use_of(),
         Mode::Decipher => TextUse::Decipher,
         Mode::Mac(_) => TextUse::Mac,
     }
@@ -75,7 +75,7 @@ fn show_changed(
     mode: Mode,
     key: &Judged,
     iv: &[u8],
-    pad: Padding,
+    pad: &[u8],
     text: &[u8],
     lease: &mut Lease,
     reply: &mut ReplyBuffer,
@@ -87,7 +87,7 @@ fn show_changed(
     requires empty { reply.old ≡ [] }
     ensures shows { let clear = opened (bench_of lease.old) key.now in
         let start = hex_value iv.now in
-        let padding = pad_named (padding_word pad) in
+        let padding = pad_named pad.now in
         ShowsOr (first_refusal (whole_questions mode clear start padding
         (length text.now / 2) (hex_value text.now)))
         (last_text_fields clear mode (first_chain start) padding (hex_value text.now))
@@ -115,7 +115,7 @@ pub(crate) fn whole_text(
     mode: Mode,
     granted: &Granted,
     iv: &[u8],
-    pad: Padding,
+    pad: &[u8],
     text: &[u8],
     lease: &mut Lease,
     reply: &mut ReplyBuffer,
@@ -127,7 +127,7 @@ pub(crate) fn whole_text(
     requires empty { reply.old ≡ [] }
     ensures settles { (role key : List ℕ)
         → SettlesOver (asked (whole_row mode)
-        (role ∷ key ∷ iv.now ∷ padding_word pad ∷ text.now ∷ []))
+        (role ∷ key ∷ iv.now ∷ pad.now ∷ text.now ∷ []))
         granted.now lease.old lease.new result reply.new }
     ensures places { ChangesPlaces lease.old lease.new }
 {

@@ -178,12 +178,7 @@ fn a_file_that_fails_is_told(rt: HostRuntime) -> Result<(), Fail> {
 }
 
 #[test]
-fn blank_devices_have_nothing(rt: HostRuntime) {
-    let mut disk = BlankDisk::new();
-    assert_eq!(rt; disk.size(), 0);
-    assert_eq!(rt; disk.read(0, &mut []), Ok(()));
-    assert_eq!(rt; disk.write(0, b""), Ok(()));
-    assert_eq!(rt; settle(&mut disk), Ok(()));
+fn a_blank_random_source_has_no_bytes(rt: HostRuntime) {
     let mut entropy = BlankEntropy::new();
     assert_eq!(rt; entropy.fill(&mut []), Ok(()));
     assert_eq!(rt; entropy.fill(&mut [0; 1]), Err(Failed));

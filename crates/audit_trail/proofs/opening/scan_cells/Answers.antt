@@ -1,4 +1,4 @@
-use Rattle.std.proofs.Common.{◌+◌, ℕ, sym, subst, ◌∙◌, arith}
+use Rattle.std.proofs.Common.{◌+◌, ℕ, sym, subst, ◌∙◌}
 use Rattle.slot_disk.specs.Medium.{Told}
 use Rattle.slot_disk.proofs.Media.{keeps_then, told_next}
 use Rattle.std.specs.Prelude.{Option, IfSome, ◌<◌, ◌^◌}
@@ -25,5 +25,5 @@ loop-cell-preserved g c =
           (λ image scanned reads. subst (Scanned image (cell + 1)) (sym c.greater-last.ensures) (scanned_more image cell c.loop-cell.last c.in-Ok.number scanned reads));
       low = subst (λ (o : Option ℕ). IfSome o (λ n. n < 2 ^ 63)) (sym c.greater-last.ensures) (low_greater c.loop-cell.last c.in-Ok.number c.loop-cell.invariant.low c.in-Ok.ensures.low);
       keeps = keeps_then (g.T.Disk.medium c.args.trail.now) (g.T.Disk.medium c.loop-cell.trail) (g.T.Disk.medium c.read_number.new.trail) c.loop-cell.invariant.keeps c.read_number.ensures.keeps;
-      later = omega (arith, c.loop-cell.invariant.later, c.read_number.ensures.later);
+      quiet = c.in-Ok.ensures.quiet (λ h. cc h) ∙ c.loop-cell.invariant.quiet;
     }

@@ -1,13 +1,14 @@
 -- What a line leaves, by how far it came.
-use Rattle.std.proofs.Common.{◌≡◌, ◌++◌, ℕ, List, Err, refl, ap, subst, ◌∙◌, arith, rules}
+use Rattle.std.proofs.Common.{◌≡◌, ◌++◌, ℕ, List, Err, refl, ap, subst, ◌∙◌, rules}
 use Rattle.slot_disk.specs.WhereTold.{WhereTold}
 use Rattle.line_service.specs.Machine.{world}
 use Rattle.line_service.specs.Sending.{GotPart}
 use Rattle.line_service.specs.declared.serving.Served.TheVariants.{Replied}
-use Rattle.line_service.proofs.StopLemmas.{devices_stopped, devices_unread, no_desk_read, no_desk_write, grows_none}
+use Rattle.line_service.proofs.StopLemmas.{devices_stopped, devices_unread, no_desk_read, no_desk_write, count_still, grows_none}
 use Rattle.audited_service.specs.EachLine.{Agrees}
 use Rattle.slot_disk.proofs.Media.{keeps_still}
 use Rattle.audited_service.proofs.GrowingLemmas.{grows_kept, grows_appended}
+use Rattle.audited_service.proofs.RestingLemmas.{grown_kept, grown_appended, grown_unfailed}
 use Rattle.audited_service.proofs.RecordLemmas.{stands_off, line_sent, line_cut_off, line_unsent, line_failed, devices_carried, at_end_recorded, unread_recorded, over_recorded, recorded_by}
 use Rattle.audited_service.proofs.auditing.audit_one.Goals as goal
 
@@ -96,24 +97,28 @@ returns-in-Err-clause-serves g c = λ s stands.
 pub returns-in-Err-append-clause-left : goal.returns-in-Err-append-clause-left
 returns-in-Err-append-clause-left g c = record {
   devices_left = devices_carried g.A.Desk.machine tt Replied _ c.in-Ok-answer_taken.ensures.left;
-  source_left = record { later = c.read_line.ensures.later; fault = λ h. absurd (cc h) };
-  sink_left = record { later = omega arith; fault = λ h. absurd (cc h) };
+  source_left = record { later = c.read_line.ensures.later; fault = λ h. absurd (cc h); quiet = λ none. c.in-Ok.ensures.quiet (λ h. cc h) };
+  sink_left = count_still _ _ (λ h. cc h);
   sink_grows = grows_none (g.K.Sink.held c.args.sink.now);
 }
 
 pub returns-in-Err-clause-left : goal.returns-in-Err-clause-left
 returns-in-Err-clause-left g c = record {
   devices_left = devices_stopped g.A.Desk.machine c.in-Err.stop _ c.in-Err.ensures.left;
-  source_left = record { later = c.read_line.ensures.later; fault = λ h. absurd (no_desk_read c.in-Err.stop c.in-Err.ensures.stops h) };
-  sink_left = record { later = omega arith; fault = λ h. absurd (no_desk_write c.in-Err.stop c.in-Err.ensures.stops h) };
+  source_left = record {
+    later = c.read_line.ensures.later;
+    fault = λ h. absurd (no_desk_read c.in-Err.stop c.in-Err.ensures.stops h);
+    quiet = λ none. c.in-Ok.ensures.quiet (λ h. cc h);
+  };
+  sink_left = count_still _ _ (no_desk_write c.in-Err.stop c.in-Err.ensures.stops);
   sink_grows = grows_none (g.K.Sink.held c.args.sink.now);
 }
 
 pub returns-in-Err-ReadFault-clause-left : goal.returns-in-Err-ReadFault-clause-left
 returns-in-Err-ReadFault-clause-left g c = record {
   devices_left = devices_unread g.A.Desk.machine _;
-  source_left = record { later = c.read_line.ensures.later; fault = λ h. search rules };
-  sink_left = record { later = omega arith; fault = λ h. absurd (cc h) };
+  source_left = record { later = c.read_line.ensures.later; fault = λ h. search rules; quiet = λ none. absurd (none refl) };
+  sink_left = count_still _ _ (λ h. cc h);
   sink_grows = grows_none (g.K.Sink.held c.args.sink.now);
 }
 
@@ -140,3 +145,28 @@ returns-in-Err-ReadFault-clause-grows g c = grows_kept (g.T.Disk.medium c.args.t
 
 pub returns-in-Err-InputLimit-clause-grows : goal.returns-in-Err-InputLimit-clause-grows
 returns-in-Err-InputLimit-clause-grows g c = grows_kept (g.T.Disk.medium c.args.trail.now) (g.T.Disk.medium c.args.trail.now) (keeps_still (g.T.Disk.medium c.args.trail.now))
+
+pub returns-in-Ok-send-clause-rests : goal.returns-in-Ok-send-clause-rests
+returns-in-Ok-send-clause-rests g c = λ unfailed.
+    grown_appended c.args.held.now c.entry_taken-entry.result (g.T.Disk.medium c.args.trail.now) (g.T.Disk.medium c.append.new.trail) _ c.in-Ok-append.ensures.appended
+
+pub returns-in-Err-send-clause-rests : goal.returns-in-Err-send-clause-rests
+returns-in-Err-send-clause-rests g c = λ unfailed.
+    grown_appended c.args.held.now c.entry_taken-entry.result (g.T.Disk.medium c.args.trail.now) (g.T.Disk.medium c.append.new.trail) _ c.in-Ok-append.ensures.appended
+
+pub returns-in-Err-append-clause-rests : goal.returns-in-Err-append-clause-rests
+returns-in-Err-append-clause-rests g c = λ unfailed.
+    grown_unfailed c.in-Err-append.fault (g.T.Disk.medium c.args.trail.now) (g.T.Disk.medium c.append.new.trail) c.in-Err-append.ensures.faults
+    (λ full. ap g.T.Disk.medium (c.append.ensures.untouched (c.in-Err-append.is ∙ ap Err full))) (λ failed. unfailed (ap Err failed))
+
+pub returns-in-End-clause-rests : goal.returns-in-End-clause-rests
+returns-in-End-clause-rests g c = λ unfailed. grown_kept (g.T.Disk.medium c.args.trail.now) (g.T.Disk.medium c.args.trail.now) (keeps_still (g.T.Disk.medium c.args.trail.now))
+
+pub returns-in-Err-clause-rests : goal.returns-in-Err-clause-rests
+returns-in-Err-clause-rests g c = λ unfailed. grown_kept (g.T.Disk.medium c.args.trail.now) (g.T.Disk.medium c.args.trail.now) (keeps_still (g.T.Disk.medium c.args.trail.now))
+
+pub returns-in-Err-ReadFault-clause-rests : goal.returns-in-Err-ReadFault-clause-rests
+returns-in-Err-ReadFault-clause-rests g c = λ unfailed. grown_kept (g.T.Disk.medium c.args.trail.now) (g.T.Disk.medium c.args.trail.now) (keeps_still (g.T.Disk.medium c.args.trail.now))
+
+pub returns-in-Err-InputLimit-clause-rests : goal.returns-in-Err-InputLimit-clause-rests
+returns-in-Err-InputLimit-clause-rests g c = λ unfailed. grown_kept (g.T.Disk.medium c.args.trail.now) (g.T.Disk.medium c.args.trail.now) (keeps_still (g.T.Disk.medium c.args.trail.now))

@@ -1,17 +1,21 @@
 -- The run goes on from line to line, and each exit follows from how far it has come.
-use Rattle.std.proofs.Common.{Ok, Err, ap, sym, subst, ◌∙◌, refl, inl, arith}
+use Rattle.std.proofs.Common.{◌≡◌, Result, Ok, Err, ap, sym, subst, ◌∙◌, refl, inl}
 use Rattle.std.specs.Prelude.{IsOk}
 use Rattle.audit_trail.specs.declared.faults.TrailFault.TheVariants as trail_fault
-use Rattle.line_service.specs.Machine.{world}
-use Rattle.line_service.specs.Devices.{outside, devices}
-use Rattle.line_service.proofs.CourseLemmas.{course_begins, course_goes_on, unmoved_world}
+use Rattle.audit_trail.proofs.MediumLaws.{same_fault}
+use Rattle.line_service.specs.Machine.{Machine, world}
+use Rattle.line_service.specs.Devices.{Span, Outside, outside, devices, OutsideLeft}
+use Rattle.line_service.specs.declared.serving.Served.{Served}
+use Rattle.line_service.specs.declared.stops.Stop.{Stop}
+use Rattle.line_service.proofs.CourseLemmas.{course_begins, course_goes_on, course_stopped, unmoved_world}
 use Rattle.line_service.proofs.SessionLemmas.{has_served_nothing, has_served_more}
 use Rattle.line_service.proofs.SpareLaws.{spares_nothing, spares_more}
 use Rattle.audited_service.specs.Noting.{noting}
 use Rattle.audited_service.specs.EachLine.{Agrees}
 use Rattle.audited_service.proofs.CourseLemmas.{IsNextRecord, audit_ended, audit_stopped, audit_failed}
-use Rattle.audited_service.proofs.FullLemmas.{exit_full}
+use Rattle.audited_service.proofs.FullLemmas.{exit_full, told_number}
 use Rattle.audited_service.proofs.GrowingLemmas.{grows_kept, grows_then}
+use Rattle.audited_service.proofs.RestingLemmas.{grown_kept, grown_on}
 use Rattle.audited_service.proofs.RunLemmas.{trail_at_start, trail_more, on_ok, fault_is}
 use Rattle.slot_disk.proofs.Media.{keeps_still}
 use Rattle.audited_service.proofs.running.audit_all.Goals as goal
@@ -31,6 +35,7 @@ each_line-init g c =
       stands = λ s stands. (s, stands);
       on_trail = λ s stands. trail_at_start A entry s (g.E.Entropy.left c.args.entropy.now) (g.S.Source.left c.args.source.now) t c.requires.trail.settled stands.agrees.1;
       grows = grows_kept t t (keeps_still t);
+      rests = grown_kept t t (keeps_still t);
       ready = c.requires.ready;
       blank = c.requires.bench;
       held = c.requires.held;
@@ -38,7 +43,7 @@ each_line-init g c =
       trail_settled = c.requires.trail.settled;
       trail_size = refl;
       trail_still = λ h. h;
-      trail_later = omega arith;
+      trail_quiet = refl;
     }
 
 pub each_line-preserved : goal.each_line-preserved
@@ -74,6 +79,7 @@ each_line-preserved g c =
       on_trail = λ s stands.
           trail_more A entry s k1 k2 t0 t1 t2 w0 w1 w2 now.trail_settled i0 i1 i2 o0 o1 c.each_line.lines _ (now.served s stands) (now.on_trail s stands) here.taken.counted (λ u st. (here.serves u st).on_trail);
       grows = grows_then t0 t1 t2 now.grows here.grows;
+      rests = grown_on t0 t1 t2 now.rests (here.rests (λ h. cc h));
       ready = here.ready (ap Ok replied);
       blank = c.audit_one.ensures.bench;
       held = here.held;
@@ -81,7 +87,7 @@ each_line-preserved g c =
       trail_settled = here.trail_left.settled (λ h. cc h);
       trail_size = here.trail_left.size ∙ now.trail_size;
       trail_still = λ h. here.trail_left.still (now.trail_still h);
-      trail_later = omega (arith, here.trail_left.later, now.trail_later);
+      trail_quiet = here.trail_left.quiet (λ h. cc h) ∙ now.trail_quiet;
     }
 
 pub returns-in-Ended-clause-at_end : goal.returns-in-Ended-clause-at_end
@@ -111,6 +117,7 @@ returns-in-Ended-clause-serves g c = λ s stands.
       failed_unsent = tt;
       settled = here.trail_left.settled;
       kinds = tt;
+      numbered = λ h. absurd (cc h);
     } in
     audit_ended _ _ s _ _ _ _ _ _ _ _ _ _ next (c.in-Ok-served.is ∙ ap Ok c.in-Ended.is)
 
@@ -138,6 +145,7 @@ returns-in-Err-served-clause-serves g c = λ s stands.
       failed_unsent = tt;
       settled = here.trail_left.settled;
       kinds = tt;
+      numbered = λ h. absurd (cc h);
     } in
     audit_stopped _ _ s _ _ _ _ _ _ _ _ _ _ next c.in-Err-served.stop c.in-Err-served.is
 
@@ -162,9 +170,10 @@ returns-in-Err-clause-serves g c = λ s stands.
       unanswered = unmoved_world g.M.Disk.medium g.D.Disk.medium g.E.Entropy.left _ _ _ _ _ _ _ _ _ _ _ here.unmoved;
       unsent = λ unreplied uncut. ap g.K.Sink.held (here.unmoved.sink_unmoved unreplied uncut);
       untrailed = λ unreplied uncut. ap g.T.Disk.medium (here.untrailed unreplied uncut);
-      failed_unsent = ap g.K.Sink.held here.failed.1;
+      failed_unsent = ap g.K.Sink.held here.failed.unsent;
       settled = here.trail_left.settled;
-      kinds = here.failed.0;
+      kinds = here.failed.kinds;
+      numbered = λ h told es trail. told_number (g.T.Disk.medium c.each_line.trail) c.each_line.held es (now.trail_still told) now.held trail ∙ here.failed.number h;
     } in
     audit_failed _ _ s _ _ _ _ _ _ _ _ _ _ next
 
@@ -187,7 +196,7 @@ returns-in-Err-clause-full g c = λ s stands told is.
     let now = c.each_line.invariant in
     let here = c.in-Err.ensures in
     let full = ap Err (fault_is c.in-Err.fault trail_fault.Full is) in
-    exit_full A entry s k1 k2 t1 w0 w1 w2 c.each_line.held (now.trail_still told) now.held (here.full.number full) t2 i0 i1 i2 o0 o1 c.each_line.lines c.audit_one.new.lines _ (now.served s stands) here.taken.counted
+    exit_full A entry s k1 k2 t1 w0 w1 w2 c.each_line.held (now.trail_still told) now.held (here.failed.number full) t2 i0 i1 i2 o0 o1 c.each_line.lines c.audit_one.new.lines _ (now.served s stands) here.taken.counted
     (λ u st. (here.serves u st).unsent trail_fault.Full full)
 
 pub returns-in-Ended-clause-grows : goal.returns-in-Ended-clause-grows
@@ -201,3 +210,24 @@ returns-in-Err-served-clause-grows g c =
 pub returns-in-Err-clause-grows : goal.returns-in-Err-clause-grows
 returns-in-Err-clause-grows g c =
     grows_then (g.T.Disk.medium c.args.trail.now) (g.T.Disk.medium c.each_line.trail) (g.T.Disk.medium c.audit_one.new.trail) c.each_line.invariant.grows c.audit_one.ensures.grows
+
+pub returns-in-Ended-clause-rests : goal.returns-in-Ended-clause-rests
+returns-in-Ended-clause-rests g c = λ unfailed.
+    grown_on (g.T.Disk.medium c.args.trail.now) (g.T.Disk.medium c.each_line.trail) (g.T.Disk.medium c.audit_one.new.trail) c.each_line.invariant.rests (c.in-Ok.ensures.rests (λ h. cc h))
+
+pub returns-in-Err-served-clause-rests : goal.returns-in-Err-served-clause-rests
+returns-in-Err-served-clause-rests g c = λ unfailed.
+    grown_on (g.T.Disk.medium c.args.trail.now) (g.T.Disk.medium c.each_line.trail) (g.T.Disk.medium c.audit_one.new.trail) c.each_line.invariant.rests (c.in-Ok.ensures.rests (λ h. cc h))
+
+pub returns-in-Err-clause-rests : goal.returns-in-Err-clause-rests
+returns-in-Err-clause-rests g c = λ unfailed.
+    grown_on (g.T.Disk.medium c.args.trail.now) (g.T.Disk.medium c.each_line.trail) (g.T.Disk.medium c.audit_one.new.trail) c.each_line.invariant.rests (c.in-Err.ensures.rests (λ h. unfailed (ap Err (same_fault c.in-Err.fault trail_fault.DiskFault h))))
+
+left_as : (A : Machine) (r q : Result Served Stop) (o : Span Outside) → r ≡ q → OutsideLeft r o → OutsideLeft q o
+left_as A r q o same left = subst (λ (x : Result Served Stop). OutsideLeft x o) same left
+
+pub returns-in-Err-served-clause-left : goal.returns-in-Err-served-clause-left
+returns-in-Err-served-clause-left g c =
+    let A = g.A.Desk.machine in
+    course_stopped A _ _ c.each_line.lines c.each_line.invariant.course c.in-Err-served.stop
+    (left_as A _ _ _ c.in-Err-served.is c.in-Ok.ensures.left)

@@ -1,7 +1,7 @@
-use Rattle.std.proofs.Common.{◌≡◌, ◌≤◌}
+use Rattle.std.proofs.Common.{◌≡◌}
 use Rattle.std.specs.Prelude.{IsSome}
 use Rattle.key_cells.specs.Bench.{blank_bench}
-use Rattle.slot_disk.specs.Medium.{IsSettled, Told}
+use Rattle.slot_disk.specs.Medium.{IsSettled, Told, Becomes}
 use Rattle.slot_disk.specs.WhereTold.{WhereTold}
 use Rattle.script_buffers.specs.Reading.{bytes_ahead}
 use Rattle.audit_trail.specs.TrailStands.{StandsForTrail}
@@ -11,7 +11,7 @@ use Rattle.line_service.specs.Devices.{outside, devices}
 use Rattle.line_service.proofs.CourseLemmas.{IsOnCourse}
 use Rattle.line_service.proofs.SessionLemmas.{HasServed}
 use Rattle.line_service.proofs.SpareLaws.{SparesSo}
-use Rattle.audited_service.specs.Growing.{TrailGrows}
+use Rattle.audited_service.specs.Growing.{TrailGrows, Grown}
 use Rattle.audited_service.specs.Noting.{Noted, noting}
 use Rattle.audited_service.specs.EachLine.{Agrees}
 use Rattle.audited_service.proofs.RunLemmas.{TrailOn}
@@ -36,6 +36,7 @@ invariant-each_line g l =
       on_trail : (s : Noted g.A.Desk.machine.State) → Stands (noting g.A.Desk.machine g.W.Scribe.entry_of) s (Agrees (g.A.Desk.knows l.fn.desk) t0) m0 d0
           → WhereTold (g.S.Source.left l.fn.source) (g.S.Source.left l.source) (λ i r. TrailOn g.A.Desk.machine g.W.Scribe.entry_of s (g.E.Entropy.left l.fn.entropy) i t0 t1);
       grows : TrailGrows t0 t1;
+      rests : Becomes Grown t0 t1;
       ready : g.A.Desk.ready l.desk m1 d1;
       blank : l.bench ≡ blank_bench;
       held : Told t1 (λ image. StandsForTrail image l.held);
@@ -47,7 +48,7 @@ invariant-each_line g l =
       trail_settled : IsSettled t1;
       trail_size : t1.size ≡ t0.size;
       trail_still : IsSome t0.content → IsSome t1.content;
-      trail_later : g.T.Disk.faults l.fn.trail ≤ g.T.Disk.faults l.trail;
+      trail_quiet : g.T.Disk.faults l.trail ≡ g.T.Disk.faults l.fn.trail;
     }
 
 abbrev pub decreases-each_line : goal.decreases-each_line

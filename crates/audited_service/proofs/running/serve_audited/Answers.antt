@@ -8,7 +8,7 @@ use Rattle.line_service.specs.Machine.{world}
 use Rattle.line_service.specs.Running.{NoneFailed}
 use Rattle.line_service.proofs.OpeningLemmas.{unbroken, module_unbroken, store_unbroken, not_stopped, opened_damage, unopened_left, unopened_taken, unopened_sound, unopened_no_stop}
 use Rattle.line_service.proofs.RunLemmas.{NoStop, no_opening_answer}
-use Rattle.line_service.proofs.StopLemmas.{grows_none}
+use Rattle.line_service.proofs.StopLemmas.{disk_on, count_still, grows_none}
 use Rattle.audited_service.specs.Answers.{run_part}
 use Rattle.audited_service.specs.Noting.{noted}
 use Rattle.audited_service.specs.Recording.{RunRecorded}
@@ -16,6 +16,7 @@ use Rattle.audited_service.proofs.EndingLemmas.{lines_served, prefix_left, taken
 use Rattle.audited_service.proofs.FullLemmas.{completes, no_opening_stop, no_trail_fault, not_full, audits_full, damaged_within, stood_before, stood_for_some, told_on, append_undamaged}
 use Rattle.audited_service.proofs.RunLemmas.{fault_is}
 use Rattle.audited_service.proofs.GrowingLemmas.{grows_kept, grows_then}
+use Rattle.audited_service.proofs.RestingLemmas.{grown_kept, grown_on}
 use Rattle.audited_service.proofs.OpeningLemmas.{stands_all, opened_recorded, unopened_stop, unopened_fault}
 use Rattle.audited_service.proofs.running.serve_audited.Goals as goal
 
@@ -44,7 +45,7 @@ returns-in-Ok-open_trail-clause-lines g c = λ s es disks trail.
     let stands = stands_all A entry m0 m1 d0 d1 t0 t1 random kept_m kept_d kept_t s es (g.A.Desk.knows c.open.new.self) disks (c.in-Ok.ensures.knows s disks) trail in
     let recorded : RunRecorded A entry (noted s es) c.audit_all.result first last t0 t2 i0 i1 o0 o1 =
     opened_recorded A entry m0 m1 d0 d1 t0 t1 random kept_m kept_d kept_t (noted s es) c.audit_all.result last t2 i0 i1 o0 o1 (after.serves (noted s es) stands) in
-    let still : NoneFailed A _ → NoStop (run_part c.audit_all.result) = λ none.
+    let still : NoneFailed _ → NoStop (run_part c.audit_all.result) = λ none.
     not_stopped A (run_part c.audit_all.result) _ _ after.left none (omega arith) (omega arith) c.open.ensures.left.module_left.later c.open.ensures.left.store_left.later (omega arith) in
     record {
       recorded = recorded;
@@ -232,11 +233,10 @@ returns-in-Err-open_trail-clause-left g c = record {
   devices_left = record {
     module_left = c.in-Ok.ensures.left.module_left;
     store_left = c.in-Ok.ensures.left.store_left;
-    entropy_left = record { later = omega arith; fault = λ h. absurd (cc h) };
-    draws = λ h. absurd (cc h);
+    entropy_left = count_still _ _ (λ h. cc h);
   };
-  source_left = record { later = omega arith; fault = λ h. absurd (cc h) };
-  sink_left = record { later = omega arith; fault = λ h. absurd (cc h) };
+  source_left = count_still _ _ (λ h. cc h);
+  sink_left = count_still _ _ (λ h. cc h);
   sink_grows = grows_none (g.K.Sink.held c.args.sink.now);
 }
 
@@ -250,6 +250,7 @@ returns-in-Err-clause-trail_left g c = record {
   settled = λ h. absurd (no_opening_answer c.in-Err.stop c.in-Err.ensures.stops h);
   later = omega arith;
   fault = λ h. absurd (cc h);
+  quiet = λ none. refl;
 }
 
 pub returns-in-Ok-open_trail-clause-trail_grows : goal.returns-in-Ok-open_trail-clause-trail_grows
@@ -263,3 +264,31 @@ returns-in-Err-open_trail-clause-trail_grows g c = grows_kept (g.T.Disk.medium c
 
 pub returns-in-Err-clause-trail_grows : goal.returns-in-Err-clause-trail_grows
 returns-in-Err-clause-trail_grows g c = grows_kept (g.T.Disk.medium c.args.trail.now) (g.T.Disk.medium c.args.trail.now) (keeps_still (g.T.Disk.medium c.args.trail.now))
+
+pub returns-in-Ok-open_trail-clause-trail_rests : goal.returns-in-Ok-open_trail-clause-trail_rests
+returns-in-Ok-open_trail-clause-trail_rests g c = λ unfailed.
+    let t0 = g.T.Disk.medium c.args.trail.now in
+    let t1 = g.T.Disk.medium c.open_trail.new.trail in
+    grown_on t0 t1 (g.T.Disk.medium c.audit_all.new.trail) (grown_kept t0 t1 c.open_trail.ensures.keeps) (c.audit_all.ensures.rests unfailed)
+
+pub returns-in-Err-open_trail-clause-trail_rests : goal.returns-in-Err-open_trail-clause-trail_rests
+returns-in-Err-open_trail-clause-trail_rests g c = λ unfailed.
+    grown_kept (g.T.Disk.medium c.args.trail.now) (g.T.Disk.medium c.open_trail.new.trail) c.open_trail.ensures.keeps
+
+pub returns-in-Err-clause-trail_rests : goal.returns-in-Err-clause-trail_rests
+returns-in-Err-clause-trail_rests g c = λ unfailed. grown_kept (g.T.Disk.medium c.args.trail.now) (g.T.Disk.medium c.args.trail.now) (keeps_still (g.T.Disk.medium c.args.trail.now))
+
+pub returns-in-Ok-open_trail-clause-left : goal.returns-in-Ok-open_trail-clause-left
+returns-in-Ok-open_trail-clause-left g c =
+    let opened = c.in-Ok.ensures.left in
+    let left = c.audit_all.ensures.left in
+    record {
+      devices_left = record {
+        module_left = disk_on _ _ _ _ _ _ _ _ opened.module_left.size opened.module_left.still (opened.module_left.quiet (λ h. cc h)) left.devices_left.module_left;
+        store_left = disk_on _ _ _ _ _ _ _ _ opened.store_left.size opened.store_left.still (opened.store_left.quiet (λ h. cc h)) left.devices_left.store_left;
+        entropy_left = left.devices_left.entropy_left;
+      };
+      source_left = left.source_left;
+      sink_left = left.sink_left;
+      sink_grows = left.sink_grows;
+    }

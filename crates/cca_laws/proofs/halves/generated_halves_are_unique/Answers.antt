@@ -1,4 +1,5 @@
-use Rattle.cca_laws.proofs.HalfLaws.{forms_unique, halves_differ}
+use Rattle.cca_laws.proofs.GeneratedLaws.{halves_differ}
+use Rattle.cca_laws.proofs.HalfLaws.{forms_unique}
 use Rattle.cca_laws.proofs.halves.generated_halves_are_unique.Goals as goal
 
 pub returns-clause-halves : goal.returns-clause-halves

@@ -18,66 +18,66 @@ use Rattle.cca_requests.proofs.changing_module.change_registers.Goals as goal
 pub returns-clause-carries : goal.returns-clause-carries
 returns-clause-carries g c = λ s at.
     let bench = bench_of c.args.lease.now in
-    let later = bench_of c.change-outcome.new.lease in
+    let later = bench_of c.carry_out-outcome.new.lease in
     let action = c.args.action in
-    let result = c.change-outcome.result in
+    let result = c.carry_out-outcome.result in
     let old = g.M.Disk.medium c.args.module.now in
-    let new = g.M.Disk.medium c.change-outcome.new.module in
+    let new = g.M.Disk.medium c.carry_out-outcome.new.module in
     let is = sym (masters_are s.registers c.args.held.now bench at.loaded) in
     subst (λ r. CarriesModule (action_outcome s action bench.part) s r
     c.answer_change.new.reply c.args.roles.now old new) (sym c.answer_change.ensures.stop)
-    (changes_as g.M.Disk.medium c.args.module.now c.change-outcome.new.module s c.args.roles.now (after_action action bench.part s.registers) (labels_after action s) later
+    (changes_as g.M.Disk.medium c.args.module.now c.carry_out-outcome.new.module s c.args.roles.now (after_action action bench.part s.registers) (labels_after action s) later
     c.requires.at.settled at.stands (has_wrong_state action s.registers) (repeats_pattern action s.registers) result c.answer_change.new.reply
-    (subst (λ (m : Masters). (result ≡ Err RegisterState) ↔ IsTrue (has_wrong_state action m)) is c.change-outcome.ensures.cause.state)
-    (subst (λ (m : Masters). (result ≡ Err SamePattern) ↔ IsTrue (repeats_pattern action m)) is c.change-outcome.ensures.cause.same)
-    (subst (λ (m : Masters). ChangesModule m (after_action action bench.part m) old new result) is c.change-outcome.ensures.change.changed)
-    c.change-outcome.ensures.untouched
-    (subst (λ (m : Masters). IfOk result (λ now. Loaded (after_action action bench.part m) now later)) is c.change-outcome.ensures.change.loaded)
+    (subst (λ (m : Masters). (result ≡ Err RegisterState) ↔ IsTrue (has_wrong_state action m)) is c.carry_out-outcome.ensures.state)
+    (subst (λ (m : Masters). (result ≡ Err SamePattern) ↔ IsTrue (repeats_pattern action m)) is c.carry_out-outcome.ensures.same)
+    (subst (λ (m : Masters). ChangesModule m (after_action action bench.part m) old new result) is c.carry_out-outcome.ensures.registers.changed)
+    c.carry_out-outcome.ensures.registers.untouched
+    (subst (λ (m : Masters). IfOk result (λ now. Loaded (after_action action bench.part m) now later)) is c.carry_out-outcome.ensures.registers.loaded)
     (subst (λ r. OnOk r (c.answer_change.new.reply ≡ spelled (change_reply result))) c.answer_change.ensures.stop c.answer_change.ensures.reply))
 
 pub returns-clause-still : goal.returns-clause-still
 returns-clause-still g c = λ s at none.
     let bench = bench_of c.args.lease.now in
     let action = c.args.action in
-    let result = c.change-outcome.result in
+    let result = c.carry_out-outcome.result in
     let is = sym (masters_are s.registers c.args.held.now bench at.loaded) in
-    still_as g.M.Disk.medium c.args.module.now c.change-outcome.new.module s c.args.roles.now (after_action action bench.part s.registers) (labels_after action s) bench
+    still_as g.M.Disk.medium c.args.module.now c.carry_out-outcome.new.module s c.args.roles.now (after_action action bench.part s.registers) (labels_after action s) bench
     c.requires.at.settled at.stands (has_wrong_state action s.registers) (repeats_pattern action s.registers) result
-    (subst (λ (m : Masters). (result ≡ Err RegisterState) ↔ IsTrue (has_wrong_state action m)) is c.change-outcome.ensures.cause.state)
-    (subst (λ (m : Masters). (result ≡ Err SamePattern) ↔ IsTrue (repeats_pattern action m)) is c.change-outcome.ensures.cause.same)
-    c.change-outcome.ensures.untouched none
+    (subst (λ (m : Masters). (result ≡ Err RegisterState) ↔ IsTrue (has_wrong_state action m)) is c.carry_out-outcome.ensures.state)
+    (subst (λ (m : Masters). (result ≡ Err SamePattern) ↔ IsTrue (repeats_pattern action m)) is c.carry_out-outcome.ensures.same)
+    c.carry_out-outcome.ensures.registers.untouched none
 
 pub returns-clause-left : goal.returns-clause-left
 returns-clause-left g c =
     let bench = bench_of c.args.lease.now in
     let m = masters_in c.args.held.now bench in
-    let result = c.change-outcome.result in
+    let result = c.carry_out-outcome.result in
     let faults = g.M.Disk.faults in
-    let left = left_as g.M.Disk.medium faults c.args.module.now c.change-outcome.new.module m (after_action c.args.action bench.part m) c.args.roles.now
-    c.requires.at.settled c.requires.at.stands c.requires.at.remembered c.change-outcome.ensures.cause.later result c.answer_change.new.reply
-    c.change-outcome.ensures.change.changed c.change-outcome.ensures.untouched c.change-outcome.ensures.cause.failed
+    let left = left_as g.M.Disk.medium faults c.args.module.now c.carry_out-outcome.new.module m (after_action c.args.action bench.part m) c.args.roles.now
+    c.requires.at.settled c.requires.at.stands c.requires.at.remembered c.carry_out-outcome.ensures.registers.cause.later result c.answer_change.new.reply
+    c.carry_out-outcome.ensures.registers.changed c.carry_out-outcome.ensures.registers.untouched c.carry_out-outcome.ensures.registers.cause.failed c.carry_out-outcome.ensures.registers.cause.quiet
     (subst (λ r. OnErr r (c.answer_change.new.reply ≡ [])) c.answer_change.ensures.stop c.answer_change.ensures.silent) in
-    subst (λ r. LeavesModule (g.M.Disk.medium c.args.module.now) (g.M.Disk.medium c.change-outcome.new.module) (faults c.args.module.now) (faults c.change-outcome.new.module)
+    subst (λ r. LeavesModule (g.M.Disk.medium c.args.module.now) (g.M.Disk.medium c.carry_out-outcome.new.module) (faults c.args.module.now) (faults c.carry_out-outcome.new.module)
     r c.answer_change.new.reply c.args.roles.now c.args.roles.now) (sym c.answer_change.ensures.stop) left
 
 pub returns-clause-turned : goal.returns-clause-turned
 returns-clause-turned g c = λ s at.
     let action = c.args.action in
     let rows = c.args.records.now in
-    let result = c.change-outcome.result in
+    let result = c.carry_out-outcome.result in
     let is = sym (masters_are s.registers c.args.held.now (bench_of c.args.lease.now) at.loaded) in
     let turned : IsTurnedBy s action (change_stop result) rows (rows_by result action rows) =
     is_turned s action rows result
-    (subst (λ (m : Masters). (result ≡ Err RegisterState) ↔ IsTrue (has_wrong_state action m)) is c.change-outcome.ensures.cause.state)
-    (subst (λ (m : Masters). (result ≡ Err SamePattern) ↔ IsTrue (repeats_pattern action m)) is c.change-outcome.ensures.cause.same) in
+    (subst (λ (m : Masters). (result ≡ Err RegisterState) ↔ IsTrue (has_wrong_state action m)) is c.carry_out-outcome.ensures.state)
+    (subst (λ (m : Masters). (result ≡ Err SamePattern) ↔ IsTrue (repeats_pattern action m)) is c.carry_out-outcome.ensures.same) in
     subst (λ r. IsTurnedBy s action r rows c.turn_after.new.records) (sym c.answer_change.ensures.stop)
     (subst (λ now. IsTurnedBy s action (change_stop result) rows now) (sym c.turn_after.ensures) turned)
 
 pub returns-clause-rows : goal.returns-clause-rows
 returns-clause-rows g c = λ image holds.
-    subst (λ now. HoldsRows now image) (sym c.turn_after.ensures) (held_after c.args.action c.change-outcome.result c.args.records.now image holds)
+    subst (λ now. HoldsRows now image) (sym c.turn_after.ensures) (held_after c.args.action c.carry_out-outcome.result c.args.records.now image holds)
 
 pub returns-clause-memory : goal.returns-clause-memory
 returns-clause-memory g c =
     subst (λ r. OnErr r (c.turn_after.new.records ≡ c.args.records.now)) (sym c.answer_change.ensures.stop)
-    (subst (λ now. OnErr (change_stop c.change-outcome.result) (now ≡ c.args.records.now)) (sym c.turn_after.ensures) (err_kept c.args.action c.args.records.now c.change-outcome.result))
+    (subst (λ now. OnErr (change_stop c.carry_out-outcome.result) (now ≡ c.args.records.now)) (sym c.turn_after.ensures) (err_kept c.args.action c.args.records.now c.carry_out-outcome.result))

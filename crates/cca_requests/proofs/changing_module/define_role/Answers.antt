@@ -44,5 +44,5 @@ returns-clause-left g c =
     before c.define-outcome.new.self (define_place name before) (after_define name c.args.points before) TableFull (record { stop = refl; reply = refl })
     c.requires.at.settled c.requires.at.stands c.requires.at.remembered c.define-outcome.ensures.cause.later c.answer_roles.new.reply
     c.define-outcome.result c.answer_roles.result c.answer_roles.ensures.stop c.define-outcome.ensures.faults c.define-outcome.ensures.changed c.define-outcome.ensures.untouched
-    c.define-outcome.ensures.memory c.define-outcome.ensures.cause.failed
+    c.define-outcome.ensures.memory c.define-outcome.ensures.cause.failed c.define-outcome.ensures.cause.quiet
     c.answer_roles.ensures.silent

@@ -44,5 +44,5 @@ returns-clause-left g c =
     before c.remove-outcome.new.self (remove_place name before) (after_remove name before) Unknown (record { stop = refl; reply = refl })
     c.requires.at.settled c.requires.at.stands c.requires.at.remembered c.remove-outcome.ensures.cause.later c.answer_roles.new.reply
     c.remove-outcome.result c.answer_roles.result c.answer_roles.ensures.stop c.remove-outcome.ensures.faults c.remove-outcome.ensures.changed c.remove-outcome.ensures.untouched
-    c.remove-outcome.ensures.memory c.remove-outcome.ensures.cause.failed
+    c.remove-outcome.ensures.memory c.remove-outcome.ensures.cause.failed c.remove-outcome.ensures.cause.quiet
     c.answer_roles.ensures.silent

@@ -15,7 +15,7 @@ pub returns-in-Ok-clause-carries : goal.returns-in-Ok-clause-carries
 returns-in-Ok-clause-carries g c = λ s at.
     let old = g.D.Disk.medium c.args.store.now in
     let rows = c.args.records.now in
-    renewed c.args.action old (g.D.Disk.medium c.run_action.new.store) s rows c.run_action.new.records at.stands _
+    renewed c.args.action old (g.D.Disk.medium c.carry_out.new.store) s rows c.carry_out.new.records at.stands _
     (c.in-Ok.ensures.labels s.registers s.labels at.loaded (kept_labels s rows old at.stands))
     c.in-Ok.changed c.end.new.reply refl
     (c.end.ensures (Number (codes "changed") c.in-Ok.changed ∷ [])
@@ -24,16 +24,16 @@ returns-in-Ok-clause-carries g c = λ s at.
 pub returns-in-Err-clause-carries : goal.returns-in-Err-clause-carries
 returns-in-Err-clause-carries g c = λ s at.
     let old = g.D.Disk.medium c.args.store.now in
-    let new = g.D.Disk.medium c.run_action.new.store in
+    let new = g.D.Disk.medium c.carry_out.new.store in
     let rows = c.args.records.now in
-    let now = c.run_action.new.records in
+    let now = c.carry_out.new.records in
     let reply = c.args.reply.now in
     let runs = c.in-Err.ensures.labels s.registers s.labels at.loaded (kept_labels s rows old at.stands) in
     ⊎_elim
     (λ disk. subst (λ stop. CarriesStore (plainly s (Reencipher c.args.action)) s (Err stop) reply now old new) (sym (c.stop_of.ensures ∙ ap read_stop disk))
     (ended c.args.action old new s rows now at.stands _ runs reply))
     (λ damaged. absurd (told_at old.content (λ _. ⊥) at.stands.in_store.image at.stands.in_store.told
-    (c.run_action.ensures.left.damaged damaged.0 (c.in-Err.is ∙ ap Err damaged.2))))
+    (c.carry_out.ensures.left.damaged damaged.0 (c.in-Err.is ∙ ap Err damaged.2))))
     c.in-Err.ensures.left.fault
 
 pub number-requires : goal.number-requires

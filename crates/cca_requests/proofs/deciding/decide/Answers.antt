@@ -1,9 +1,8 @@
 use Rattle.std.proofs.Common.{true, false, refl, sym, ap, subst}
-use Rattle.std.specs.Prelude.{IsTrue, codes}
+use Rattle.std.specs.Prelude.{IsTrue}
 use Rattle.key_cells.specs.Lease.{bench_of}
 use Rattle.master_registers.specs.Loaded.{masters_in}
 use Rattle.verb_script.specs.Grammar.{Request}
-use Rattle.verb_script.specs.KeyFields.{key_field_text}
 use Rattle.verb_script.specs.Parsed.{seen}
 use Rattle.cca_machine.specs.Operands.{operands}
 use Rattle.cca_machine.specs.Verdict.{needs_master}
@@ -100,33 +99,33 @@ returns-in-CsnbkgnOp-clause-decision g c =
     subst (λ (r : Request). Decision r c.args.granted.now c.args.held.now c.args.records.now (bench_of c.args.lease.now) (bench_of c.decide_generate_one.new.lease) c.decide_generate_one.result c.decide_generate_one.new.reply
     (source c.args.entropy.now (g.E.Entropy.left c.args.entropy.now) (g.E.Entropy.faults c.args.entropy.now))
     (source c.decide_generate_one.new.entropy (g.E.Entropy.left c.decide_generate_one.new.entropy) (g.E.Entropy.faults c.decide_generate_one.new.entropy))) (sym (ap seen c.in-CsnbkgnOp.is))
-    (c.decide_generate_one.ensures.decision c.in-CsnbkgnOp.role (codes "OP") c.args.records.now (subst (λ (r : Request). HaveShapes c.args.records.now (operands r) c.args.granted.now) (ap seen c.in-CsnbkgnOp.is) c.requires.shaped))
+    (c.decide_generate_one.ensures.decision c.in-CsnbkgnOp.role c.in-CsnbkgnOp.form.now c.args.records.now (subst (λ (r : Request). HaveShapes c.args.records.now (operands r) c.args.granted.now) (ap seen c.in-CsnbkgnOp.is) c.requires.shaped))
 
 pub returns-in-CsnbkgnPair-clause-decision : goal.returns-in-CsnbkgnPair-clause-decision
 returns-in-CsnbkgnPair-clause-decision g c =
     subst (λ (r : Request). Decision r c.args.granted.now c.args.held.now c.args.records.now (bench_of c.args.lease.now) (bench_of c.decide_generate_pair.new.lease) c.decide_generate_pair.result c.decide_generate_pair.new.reply
     (source c.args.entropy.now (g.E.Entropy.left c.args.entropy.now) (g.E.Entropy.faults c.args.entropy.now))
     (source c.decide_generate_pair.new.entropy (g.E.Entropy.left c.decide_generate_pair.new.entropy) (g.E.Entropy.faults c.decide_generate_pair.new.entropy))) (sym (ap seen c.in-CsnbkgnPair.is))
-    (c.decide_generate_pair.ensures.decision c.in-CsnbkgnPair.role (key_field_text c.in-CsnbkgnPair.transport2) c.args.records.now (subst (λ (r : Request). HaveShapes c.args.records.now (operands r) c.args.granted.now) (ap seen c.in-CsnbkgnPair.is) c.requires.shaped))
+    (c.decide_generate_pair.ensures.decision c.in-CsnbkgnPair.role c.in-CsnbkgnPair.transport2.now c.args.records.now (subst (λ (r : Request). HaveShapes c.args.records.now (operands r) c.args.granted.now) (ap seen c.in-CsnbkgnPair.is) c.requires.shaped))
 
 pub returns-in-CsnbkgnOut-clause-decision : goal.returns-in-CsnbkgnOut-clause-decision
 returns-in-CsnbkgnOut-clause-decision g c =
     subst (λ (r : Request). Decision r c.args.granted.now c.args.held.now c.args.records.now (bench_of c.args.lease.now) (bench_of c.decide_generate_out.new.lease) c.decide_generate_out.result c.decide_generate_out.new.reply
     (source c.args.entropy.now (g.E.Entropy.left c.args.entropy.now) (g.E.Entropy.faults c.args.entropy.now))
     (source c.decide_generate_out.new.entropy (g.E.Entropy.left c.decide_generate_out.new.entropy) (g.E.Entropy.faults c.decide_generate_out.new.entropy))) (sym (ap seen c.in-CsnbkgnOut.is))
-    (c.decide_generate_out.ensures.decision c.in-CsnbkgnOut.role (key_field_text c.in-CsnbkgnOut.transport1) (key_field_text c.in-CsnbkgnOut.transport2) c.args.records.now (subst (λ (r : Request). HaveShapes c.args.records.now (operands r) c.args.granted.now) (ap seen c.in-CsnbkgnOut.is) c.requires.shaped))
+    (c.decide_generate_out.ensures.decision c.in-CsnbkgnOut.role c.in-CsnbkgnOut.transport1.now c.in-CsnbkgnOut.transport2.now c.args.records.now (subst (λ (r : Request). HaveShapes c.args.records.now (operands r) c.args.granted.now) (ap seen c.in-CsnbkgnOut.is) c.requires.shaped))
 
 pub returns-in-Csnbkim-clause-decision : goal.returns-in-Csnbkim-clause-decision
 returns-in-Csnbkim-clause-decision g c =
-    handed_on (ap seen c.in-Csnbkim.is) (c.decide_csnbkim.ensures.settles c.in-Csnbkim.role c.in-Csnbkim.token.now (key_field_text c.in-Csnbkim.transport) c.args.records.now) c.requires.shaped
+    handed_on (ap seen c.in-Csnbkim.is) (c.decide_csnbkim.ensures.settles c.in-Csnbkim.role c.in-Csnbkim.token.now c.in-Csnbkim.transport.now c.args.records.now) c.requires.shaped
 
 pub returns-in-Csnbkex-clause-decision : goal.returns-in-Csnbkex-clause-decision
 returns-in-Csnbkex-clause-decision g c =
-    handed_on (ap seen c.in-Csnbkex.is) (c.decide_csnbkex.ensures.settles c.in-Csnbkex.role (key_field_text c.in-Csnbkex.key) (key_field_text c.in-Csnbkex.transport) c.args.held.now c.args.records.now) c.requires.shaped
+    handed_on (ap seen c.in-Csnbkex.is) (c.decide_csnbkex.ensures.settles c.in-Csnbkex.role c.in-Csnbkex.key.now c.in-Csnbkex.transport.now c.args.held.now c.args.records.now) c.requires.shaped
 
 pub returns-in-Csnbpex-clause-decision : goal.returns-in-Csnbpex-clause-decision
 returns-in-Csnbpex-clause-decision g c =
-    handed_on (ap seen c.in-Csnbpex.is) (c.decide_csnbpex.ensures.settles c.in-Csnbpex.role (key_field_text c.in-Csnbpex.key) c.args.records.now) c.requires.shaped
+    handed_on (ap seen c.in-Csnbpex.is) (c.decide_csnbpex.ensures.settles c.in-Csnbpex.role c.in-Csnbpex.key.now c.args.records.now) c.requires.shaped
 
 pub returns-in-Csnbktc-clause-decision : goal.returns-in-Csnbktc-clause-decision
 returns-in-Csnbktc-clause-decision g c =
@@ -134,15 +133,15 @@ returns-in-Csnbktc-clause-decision g c =
 
 pub returns-in-CsnbkpiFirst-clause-decision : goal.returns-in-CsnbkpiFirst-clause-decision
 returns-in-CsnbkpiFirst-clause-decision g c =
-    handed_on (ap seen c.in-CsnbkpiFirst.is) (c.decide_first_part.ensures.settles c.in-CsnbkpiFirst.role (codes "FIRST") c.args.records.now) c.requires.shaped
+    handed_on (ap seen c.in-CsnbkpiFirst.is) (c.decide_first_part.ensures.settles c.in-CsnbkpiFirst.role c.in-CsnbkpiFirst.rule.now c.args.records.now) c.requires.shaped
 
 pub returns-in-CsnbkpiMiddle-clause-decision : goal.returns-in-CsnbkpiMiddle-clause-decision
 returns-in-CsnbkpiMiddle-clause-decision g c =
-    handed_on (ap seen c.in-CsnbkpiMiddle.is) (c.decide_further_part.ensures.settles c.in-CsnbkpiMiddle.role (key_field_text c.in-CsnbkpiMiddle.key) c.args.records.now) c.requires.shaped
+    handed_on (ap seen c.in-CsnbkpiMiddle.is) (c.decide_further_part.ensures.settles c.in-CsnbkpiMiddle.role c.in-CsnbkpiMiddle.key.now c.args.records.now) c.requires.shaped
 
 pub returns-in-Csnbktr-clause-decision : goal.returns-in-Csnbktr-clause-decision
 returns-in-Csnbktr-clause-decision g c =
-    handed_on (ap seen c.in-Csnbktr.is) (c.decide_csnbktr.ensures.settles c.in-Csnbktr.role c.in-Csnbktr.token.now (key_field_text c.in-Csnbktr.transport1) (key_field_text c.in-Csnbktr.transport2) c.args.held.now c.args.records.now) c.requires.shaped
+    handed_on (ap seen c.in-Csnbktr.is) (c.decide_csnbktr.ensures.settles c.in-Csnbktr.role c.in-Csnbktr.token.now c.in-Csnbktr.transport1.now c.in-Csnbktr.transport2.now c.args.held.now c.args.records.now) c.requires.shaped
 
 pub returns-in-Csnbkrc-clause-decision : goal.returns-in-Csnbkrc-clause-decision
 returns-in-Csnbkrc-clause-decision g c =
@@ -171,19 +170,19 @@ returns-in-CsnbmkpPart-clause-decision g c =
 
 pub returns-in-CsnbmkpClear-clause-decision : goal.returns-in-CsnbmkpClear-clause-decision
 returns-in-CsnbmkpClear-clause-decision g c =
-    handed_on_silent (ap seen c.in-CsnbmkpClear.is) c.requires.empty (c.decide_clear.ensures.settles c.in-CsnbmkpClear.role (codes "CLEAR") c.args.granted.now c.args.held.now (bench_of c.args.lease.now)) c.requires.shaped
+    handed_on_silent (ap seen c.in-CsnbmkpClear.is) c.requires.empty (c.decide_clear.ensures.settles c.in-CsnbmkpClear.role c.in-CsnbmkpClear.action.now c.args.granted.now c.args.held.now (bench_of c.args.lease.now)) c.requires.shaped
 
 pub returns-in-CsnbmkpSet-clause-decision : goal.returns-in-CsnbmkpSet-clause-decision
 returns-in-CsnbmkpSet-clause-decision g c =
-    handed_on_silent (ap seen c.in-CsnbmkpSet.is) c.requires.empty (c.decide_set.ensures.settles c.in-CsnbmkpSet.role (codes "SET") c.args.granted.now) c.requires.shaped
+    handed_on_silent (ap seen c.in-CsnbmkpSet.is) c.requires.empty (c.decide_set.ensures.settles c.in-CsnbmkpSet.role c.in-CsnbmkpSet.action.now c.args.granted.now) c.requires.shaped
 
 pub returns-in-CsuaaciDefine-clause-decision : goal.returns-in-CsuaaciDefine-clause-decision
 returns-in-CsuaaciDefine-clause-decision g c =
-    handed_on_silent (ap seen c.in-CsuaaciDefine.is) c.requires.empty (c.decide_define.ensures.settles c.in-CsuaaciDefine.role (codes "DEFINE") c.args.granted.now c.args.held.now c.args.records.now (bench_of c.args.lease.now)) c.requires.shaped
+    handed_on_silent (ap seen c.in-CsuaaciDefine.is) c.requires.empty (c.decide_define.ensures.settles c.in-CsuaaciDefine.role c.in-CsuaaciDefine.action.now c.args.granted.now c.args.held.now c.args.records.now (bench_of c.args.lease.now)) c.requires.shaped
 
 pub returns-in-CsuaaciRemove-clause-decision : goal.returns-in-CsuaaciRemove-clause-decision
 returns-in-CsuaaciRemove-clause-decision g c =
-    handed_on_silent (ap seen c.in-CsuaaciRemove.is) c.requires.empty (c.decide_remove.ensures.settles c.in-CsuaaciRemove.role (codes "REMOVE") c.args.granted.now c.args.held.now c.args.records.now (bench_of c.args.lease.now)) c.requires.shaped
+    handed_on_silent (ap seen c.in-CsuaaciRemove.is) c.requires.empty (c.decide_remove.ensures.settles c.in-CsuaaciRemove.role c.in-CsuaaciRemove.action.now c.args.granted.now c.args.held.now c.args.records.now (bench_of c.args.lease.now)) c.requires.shaped
 
 pub returns-in-Reencipher-clause-decision : goal.returns-in-Reencipher-clause-decision
 returns-in-Reencipher-clause-decision g c =
@@ -192,9 +191,9 @@ returns-in-Reencipher-clause-decision g c =
 
 pub returns-in-ReencipherAhead-clause-decision : goal.returns-in-ReencipherAhead-clause-decision
 returns-in-ReencipherAhead-clause-decision g c =
-    handed_on_silent (ap seen c.in-ReencipherAhead.is) c.requires.empty (c.decide_ahead.ensures.settles c.in-ReencipherAhead.role (codes "AHEAD") c.args.granted.now) c.requires.shaped
+    handed_on_silent (ap seen c.in-ReencipherAhead.is) c.requires.empty (c.decide_ahead.ensures.settles c.in-ReencipherAhead.role c.in-ReencipherAhead.action.now c.args.granted.now) c.requires.shaped
 
 pub returns-in-ReencipherDrop-clause-decision : goal.returns-in-ReencipherDrop-clause-decision
 returns-in-ReencipherDrop-clause-decision g c =
-    handed_on_silent (ap seen c.in-ReencipherDrop.is) c.requires.empty (c.decide_drop.ensures.settles c.in-ReencipherDrop.role (codes "DROP") c.args.granted.now c.args.held.now c.args.records.now (bench_of c.args.lease.now)
+    handed_on_silent (ap seen c.in-ReencipherDrop.is) c.requires.empty (c.decide_drop.ensures.settles c.in-ReencipherDrop.role c.in-ReencipherDrop.action.now c.args.granted.now c.args.held.now c.args.records.now (bench_of c.args.lease.now)
     (c.requires.master (subst (λ (r : Request). IsTrue (needs_master r.name)) (sym (ap seen c.in-ReencipherDrop.is)) refl)) c.requires.loaded) c.requires.shaped

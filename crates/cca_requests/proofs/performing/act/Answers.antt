@@ -1,4 +1,5 @@
-use Rattle.std.proofs.Common.{◌∙◌, Err, sym, ap, subst}
+use Rattle.std.proofs.Common.{◌≡◌, ◌∙◌, Ok, Err, sym, ap, subst}
+use Rattle.line_service.specs.declared.stops.Stop.TheVariants.{EntropyFault}
 use Rattle.key_cells.specs.Lease.{bench_of}
 use Rattle.master_registers.specs.Loaded.{Loaded}
 use Rattle.slot_disk.proofs.Media.{keeps_still}
@@ -54,6 +55,8 @@ returns-in-Err-clause-serves g c = λ s at granted is.
 
 pub returns-in-Ok-clause-takes : goal.returns-in-Ok-clause-takes
 returns-in-Ok-clause-takes g c = takes_on c.decide.ensures.decision.takes (λ is. absurd (c.carry.ensures.entropy is))
+    (λ is. let no : Ok c.in-Ok.effect ≡ Err EntropyFault = sym c.in-Ok.is ∙ is in cc no)
 
 pub returns-in-Err-clause-takes : goal.returns-in-Err-clause-takes
 returns-in-Err-clause-takes g c = takes_on c.decide.ensures.decision.takes (λ is. c.in-Err.is ∙ ap Err c.in-Err.ensures.decision.decided.stops)
+    (λ is. ap Err c.in-Err.ensures.decision.decided.stops)

@@ -1,4 +1,4 @@
-use Rattle.std.proofs.Common.{◌≡◌, ◌∙◌, false, Some, Result, Err, refl, sym, ap, subst, codes, arith, rules}
+use Rattle.std.proofs.Common.{◌≡◌, ◌∙◌, false, None, Some, Result, Err, refl, sym, ap, subst, codes, rules}
 use Rattle.std.specs.Prelude.{IsSome, IsTrue}
 use Rattle.std.proofs.lemmas.Bool.{or_parts}
 use Rattle.std.specs.Option.{option_map}
@@ -6,6 +6,7 @@ use Rattle.cca_vectors.specs.Checks.{first_failing}
 use Rattle.key_cells.specs.Lease.{bench_of}
 use Rattle.line_service.specs.declared.stops.Stop.{Stop}
 use Rattle.line_service.specs.declared.stops.Stop.TheVariants.{EntropyFault, StoreFault}
+use Rattle.master_registers.specs.Loaded.{Loaded, masters_in}
 use Rattle.slot_disk.proofs.Media.{keeps_still}
 use Rattle.verb_rules.specs.Rules.{rule_number}
 use Rattle.verb_script.specs.Grammar.{Request}
@@ -14,6 +15,7 @@ use Rattle.cca_machine.specs.Operands.{Operands, operands, listed, names_label, 
 use Rattle.cca_machine.specs.Verdict.{refusal, general_checks, verb_verdict}
 use Rattle.cca_requests.specs.Serving.{tables, IsFault}
 use Rattle.cca_requests.proofs.Acting.{verdict_general}
+use Rattle.cca_requests.proofs.AsRead.{grants_by_records, on_ok_always, refusal_by_record}
 use Rattle.cca_requests.proofs.Delivering.{either_right}
 use Rattle.cca_requests.proofs.GrantsKept.{grants_kept, loaded_kept}
 use Rattle.cca_requests.proofs.OperandsJudged.{operands_granted, operands_refused}
@@ -164,4 +166,49 @@ pub returns-in-Ok-Granted-clause-left : goal.returns-in-Ok-Granted-clause-left
 returns-in-Ok-Granted-clause-left g c =
     let m = g.M.Disk.medium c.args.module.now in
     leaves_after_reads
-    (keeps_still m) (omega arith) c.judge.ensures.keeps c.judge.ensures.store.later c.act.ensures.left
+    (keeps_still m) refl c.judge.ensures.keeps (c.in-Ok-Granted.ensures.store.quiet (λ is. cc is)) c.act.ensures.left
+
+-- ---- what the reply rests on
+
+pub returns-in-Some-clause-own : goal.returns-in-Some-clause-own
+returns-in-Some-clause-own g c =
+    let held = c.args.held.now in
+    let bench = bench_of c.args.lease.now in
+    record {
+      registers = masters_in held bench;
+      in_module = c.requires.at.stands;
+      general = Some (rule_number c.in-Some.rule);
+      as_whole = λ s registers roles.
+          sym (c.general_rule.ensures.rule s bench (sym roles) (subst (λ m. Loaded m held bench) (sym registers) c.requires.at.loaded)) ∙ ap (option_map rule_number) c.in-Some.is;
+      judged = c.refuse.ensures;
+    }
+
+pub returns-in-Ok-Refused-clause-own : goal.returns-in-Ok-Refused-clause-own
+returns-in-Ok-Refused-clause-own g c =
+    let held = c.args.held.now in
+    let bench = bench_of c.args.lease.now in
+    record {
+      registers = masters_in held bench;
+      in_module = c.requires.at.stands;
+      general = None;
+      as_whole = λ s registers roles.
+          sym (c.general_rule.ensures.rule s bench (sym roles) (subst (λ m. Loaded m held bench) (sym registers) c.requires.at.loaded)) ∙ ap (option_map rule_number) c.in_default.is;
+      judged = refusal_by_record (masters_in held bench) bench c.args.records.now (seen c.args.request.now) c.refuse-in-Ok-Refused.new.reply
+          c.in-Ok-Refused.rule c.in-Ok-Refused.operand c.operands_of.ensures.table
+          (c.in-Ok-Refused.ensures.own (masters_in held bench) c.requires.at.loaded) c.in-Ok-Refused.field-0-is c.refuse-in-Ok-Refused.ensures;
+    }
+
+pub returns-in-Ok-Granted-clause-own : goal.returns-in-Ok-Granted-clause-own
+returns-in-Ok-Granted-clause-own g c =
+    let held = c.args.held.now in
+    let bench = bench_of c.args.lease.now in
+    on_ok_always c.act.result _ (record {
+      registers = masters_in held bench;
+      in_module = c.requires.at.stands;
+      general = None;
+      as_whole = λ s registers roles.
+          sym (c.general_rule.ensures.rule s bench (sym roles) (subst (λ m. Loaded m held bench) (sym registers) c.requires.at.loaded)) ∙ ap (option_map rule_number) c.in_default.is;
+      judged = grants_by_records (masters_in held bench) bench c.args.records.now (seen c.args.request.now) c.act.new.reply
+          c.in-Ok-Granted.granted c.operands_of.ensures.table
+          (c.in-Ok-Granted.ensures.own (masters_in held bench) c.requires.at.loaded) c.in-Ok-Granted.field-0-is;
+    })

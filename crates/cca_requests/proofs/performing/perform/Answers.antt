@@ -1,4 +1,4 @@
-use Rattle.std.proofs.Common.{◌∙◌, Err, sym, ap, subst, arith}
+use Rattle.std.proofs.Common.{◌∙◌, Err, refl, sym, ap, subst}
 use Rattle.key_cells.specs.Lease.{bench_of}
 use Rattle.master_registers.specs.Loaded.{Loaded, masters_in}
 use Rattle.line_service.specs.declared.stops.Stop.TheVariants.{ModuleFault}
@@ -6,6 +6,7 @@ use Rattle.slot_disk.proofs.Media.{keeps_still}
 use Rattle.verb_script.specs.Parsed.{seen}
 use Rattle.verb_script.proofs.GrammarLaws.{spelled_values}
 use Rattle.cca_requests.specs.Serving.{tables}
+use Rattle.cca_requests.proofs.AsRead.{rests_before}
 use Rattle.cca_requests.proofs.Leaving.{no_damage, leaves_after_reads}
 use Rattle.cca_requests.proofs.Registers.{registers_found, undamaged}
 use Rattle.cca_requests.proofs.Serving.{stopped_serves, serves_after_reads, stands_kept}
@@ -69,4 +70,9 @@ pub returns-in-Ok-clause-left : goal.returns-in-Ok-clause-left
 returns-in-Ok-clause-left g c =
     let d = g.D.Disk.medium c.args.store.now in
     leaves_after_reads
-    c.load.ensures.keeps c.load.ensures.cause.later (keeps_still d) (omega arith) c.carry_out.ensures.left
+    c.load.ensures.keeps (c.in-Ok.ensures.cause.quiet (λ is. cc is)) (keeps_still d) refl c.carry_out.ensures.left
+
+pub returns-in-Ok-clause-own : goal.returns-in-Ok-clause-own
+returns-in-Ok-clause-own g c =
+    rests_before c.carry_out.result (g.M.Disk.medium c.args.module.now) (g.M.Disk.medium c.load.new.module)
+    (tables c.args.roles.now c.args.records.now) (seen c.args.request.now) c.carry_out.new.reply c.load.ensures.keeps c.carry_out.ensures.own

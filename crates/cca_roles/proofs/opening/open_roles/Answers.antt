@@ -46,7 +46,7 @@ returns-in_err-open_place-clause-exact g c fell =
     let fault = c.in_err-open_place.field-0.0 in
     let same : c.from_residual-in_err-open_place.result ≡ Err fault = handed_on c.from_residual-in_err-open_place.result fault c.from_residual-in_err-open_place.ensures.1 in
     ⊎_elim
-    (λ (failed : fault ≡ DiskFault). absurd (fell (rose_wider (g.M.Disk.faults c.args.«module».now) (g.M.Disk.faults c.loop-place.«module») (g.M.Disk.faults c.open_place.new.«module») (g.M.Disk.faults c.open_place.new.«module») c.loop-place.invariant.later
+    (λ (failed : fault ≡ DiskFault). absurd (fell (rose_wider (g.M.Disk.faults c.args.«module».now) (g.M.Disk.faults c.loop-place.«module») (g.M.Disk.faults c.open_place.new.«module») (g.M.Disk.faults c.open_place.new.«module») (omega (arith, c.loop-place.invariant.quiet))
     c.open_place.ensures.cause.later (omega arith) (c.open_place.ensures.cause.failed (c.in_err-open_place.was ∙ ap (λ f. Err f) failed)))))
     (λ (damaged : fault ≡ Damaged (c.loop-place.place + 1)).
     told_map (g.M.Disk.medium c.args.«module».now) (λ image. IsFirstDamaged image (c.loop-place.place + 1)) _ (returns-in_err-open_place-clause-damaged g c (c.loop-place.place + 1) (same ∙ ap (λ f. Err f) damaged))

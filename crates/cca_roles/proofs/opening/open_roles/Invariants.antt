@@ -1,5 +1,5 @@
 -- The memory knows the roles of the places before, and no others.
-use Rattle.std.proofs.Common.{◌≤◌}
+use Rattle.std.proofs.Common.{◌≡◌}
 use Rattle.slot_disk.specs.Medium.{Told, Keeps}
 use Rattle.cca_roles.specs.Changes.{KeepsAllButBody}
 use Rattle.cca_roles.specs.Opening.{OpenedTo}
@@ -11,6 +11,6 @@ invariant-loop-place g l = record {
   opened : Told (g.M.Disk.medium l.fn.«module») (λ image. OpenedTo image l.place l.opened);
   roles : AreRoles l.opened;
   keeps : Keeps (g.M.Disk.medium l.fn.«module») (g.M.Disk.medium l.«module»);
-  later : g.M.Disk.faults l.fn.«module» ≤ g.M.Disk.faults l.«module»;
+  quiet : g.M.Disk.faults l.«module» ≡ g.M.Disk.faults l.fn.«module»;
   rest : KeepsAllButBody l.fn.lease l.lease;
 }

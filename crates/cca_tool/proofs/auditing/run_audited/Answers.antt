@@ -12,3 +12,6 @@ returns-in-Ok-clause-damage g c = audited_as _ c.serve_audited.result c.audit_st
 pub returns-in-Ok-clause-trail_damage : goal.returns-in-Ok-clause-trail_damage
 returns-in-Ok-clause-trail_damage g c =
     audited_as _ c.serve_audited.result c.audit_status_of.result c.audit_status_of.ensures c.serve_audited.ensures.trail_damage
+
+pub returns-in-Ok-clause-left : goal.returns-in-Ok-clause-left
+returns-in-Ok-clause-left g c = audited_as _ c.serve_audited.result c.audit_status_of.result c.audit_status_of.ensures c.serve_audited.ensures.left

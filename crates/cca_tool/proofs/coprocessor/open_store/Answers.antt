@@ -42,4 +42,5 @@ returns-in-Ok-clause-left g c = record {
   settled = λ ok. search rules;
   later = omega (arith, c.settle.ensures.cause.later, c.open_records.ensures.cause.later);
   fault = λ h. absurd (cc h);
+  quiet = λ never. search rules;
 }

@@ -64,7 +64,7 @@ returns-in-Ok-send-clause-left g c =
     (g.K.Sink.faults c.args.sink.now) (g.K.Sink.faults c.send.new.sink) (g.K.Sink.held c.args.sink.now) (g.K.Sink.held c.send.new.sink)
     (subst (λ (r : Result (Unit {0}) Stop). DiskLeft m0 m1 m_before m_now (IsOk r) (r ≡ Err ModuleFault)) c.in-Ok-serve.is left.module_left)
     (subst (λ (r : Result (Unit {0}) Stop). DiskLeft d0 d1 d_before d_now (IsOk r) (r ≡ Err StoreFault)) c.in-Ok-serve.is left.store_left)
-    (record { later = c.send.ensures.cause.later; fault = λ h. cc h })
+    (record { later = c.send.ensures.cause.later; fault = λ h. cc h; quiet = λ never. c.in-Ok-send.ensures.cause.quiet })
     (told_weaker (g.K.Sink.held c.args.sink.now) (g.K.Sink.held c.send.new.sink) _ Grows (λ x y h. (_, h)) c.in-Ok-send.ensures.all))
 
 -- ---- the summary was cut
@@ -120,7 +120,7 @@ returns-in-Ok-serve-clause-left g c =
     (g.K.Sink.faults c.args.sink.now) (g.K.Sink.faults c.send.new.sink) (g.K.Sink.held c.args.sink.now) (g.K.Sink.held c.send.new.sink)
     (subst (λ (r : Result (Unit {0}) Stop). DiskLeft m0 m1 m_before m_now (IsOk r) (r ≡ Err ModuleFault)) c.in-Ok-serve.is left.module_left)
     (subst (λ (r : Result (Unit {0}) Stop). DiskLeft d0 d1 d_before d_now (IsOk r) (r ≡ Err StoreFault)) c.in-Ok-serve.is left.store_left)
-    (record { later = c.send.ensures.cause.later; fault = λ h. c.in-Err-send.ensures.cause.failed })
+    (record { later = c.send.ensures.cause.later; fault = λ h. c.in-Err-send.ensures.cause.failed; quiet = λ never. absurd (never refl) })
     (told_weaker (g.K.Sink.held c.args.sink.now) (g.K.Sink.held c.send.new.sink) _ Grows (λ x y got. (got.sent, got.held)) c.in-Err-send.ensures.part))
 
 -- ---- the lines were not all answered
@@ -161,7 +161,7 @@ returns-clause-lines g c = λ s disks.
           let ended = as_told c.serve.result c.status_of.result is status.Done done in cc (ended, c.in-Err.is))
           (λ (cut : c.status_of.result ≡ status.WriteFault). never_rose (c.serve.ensures.left.sink_left.fault (as_told c.serve.result c.status_of.result is status.WriteFault cut))) h);
       demo_complete = λ sink_still still still_d.
-          let all = lines.complete (record { reads = never_rose; writes = never_rose; on_module = still; on_store = still_d; draws = λ some. never_rose })
+          let all = lines.complete (record { reads = never_rose; writes = never_rose; on_module = still; on_store = still_d; draws = never_rose })
           (short c.args.number c.in-Ok-new.text c.in-Ok-new.ensures c.requires.number.1) in
           cc (all, c.in-Err.is);
     }
@@ -179,7 +179,7 @@ returns-clause-left g c =
     let left = c.serve.ensures.left in
     ended_as _ c.serve.result c.status_of.result (c.status_of.ensures ∙ ap status_of_lem (sym c.in-Err.is))
     (record {
-      sink_left = record { later = omega arith; fault = λ h. absurd (never_rose (left.sink_left.fault h)) };
+      sink_left = record { later = omega arith; fault = λ h. absurd (never_rose (left.sink_left.fault h)); quiet = λ never. refl };
       sink_grows = grows_none (g.K.Sink.held c.args.sink.now);
       module_left = left.devices_left.module_left;
       store_left = left.devices_left.store_left;

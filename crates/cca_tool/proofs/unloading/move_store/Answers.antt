@@ -1,5 +1,10 @@
 -- The disks that were opened stand for a state.
 use Rattle.std.proofs.Common.{◌∙◌, Err, ap, arith}
+use Rattle.key_cells.specs.Lease.{bench_of}
+use Rattle.master_registers.specs.Loaded.{masters_in}
+use Rattle.cca_tool.specs.declared.unloading.MoveStatus.TheVariants.{Run}
+use Rattle.key_records.specs.StoreStands.{HoldsRows}
+use Rattle.slot_disk.proofs.Media.{told_earlier}
 use Rattle.slot_disk.proofs.WhereToldLemmas.{rose_wider}
 use Rattle.line_service.proofs.OpeningLemmas.{module_unbroken, store_unbroken, unbroken}
 use Rattle.cca_requests.specs.Serving.{tables}
@@ -7,6 +12,7 @@ use Rattle.cca_tool.specs.Coprocessor.{cca}
 use Rattle.cca_tool.proofs.KnownLemmas.{known_sound}
 use Rattle.cca_tool.proofs.MoveLemmas.{cell_is_one, never_broken, no_ok, not_module, stop_again, stop_told, store_cell, told_wider}
 use Rattle.cca_tool.proofs.OpeningLemmas.{damage_as, left_as}
+use Rattle.cca_tool.proofs.RestLemmas.{none_told, unopened}
 use Rattle.cca_tool.proofs.unloading.move_store.Goals as goal
 
 pub returns-in-Ok-clause-told : goal.returns-in-Ok-clause-told
@@ -15,6 +21,18 @@ returns-in-Ok-clause-told g c = λ s disks.
     (g.P.Sink.held c.args.report.now) (g.P.Sink.held c.move_labels.new.report) _ _ _
     (λ still rose. still.1 (rose_wider _ _ _ _ c.open_disks.ensures.left.store_left.later c.move_labels.ensures.store_left.later (omega arith) rose))
     (c.move_labels.ensures.told s (c.in-Ok.ensures.opened s disks))
+
+pub returns-in-Ok-clause-own : goal.returns-in-Ok-clause-own
+returns-in-Ok-clause-own g c = λ told.
+    let registers = masters_in c.in-Ok.held (bench_of c.open_disks.new.lease) in
+    record {
+      registers = registers;
+      in_module = c.in-Ok.ensures.registers;
+      rows = c.open_disks.new.self.records;
+      in_store = told_earlier (g.D.Disk.medium c.args.store.now) (g.D.Disk.medium c.open_disks.new.store) (HoldsRows c.open_disks.new.self.records)
+          c.open_disks.ensures.left.store_kept.content c.in-Ok.ensures.known.in_store;
+      moved = c.move_labels.ensures.own registers c.in-Ok.ensures.loaded;
+    }
 
 pub returns-in-Ok-clause-sound : goal.returns-in-Ok-clause-sound
 returns-in-Ok-clause-sound g c = λ tells.
@@ -54,6 +72,10 @@ returns-in-Err-clause-told g c = λ s disks.
     (unbroken cca (g.M.Disk.medium c.args.module.now) (g.D.Disk.medium c.args.store.now) s c.in-Err.stop disks
     (λ cell is. c.open_disks.ensures.damage.module_damaged cell (c.in-Err.is ∙ ap Err is))
     (λ cell is. c.open_disks.ensures.damage.store_damaged cell (c.in-Err.is ∙ ap Err is)))
+
+pub returns-in-Err-clause-own : goal.returns-in-Err-clause-own
+returns-in-Err-clause-own g c = λ told.
+    absurd (none_told (Run c.status_of.result) (unopened c.in-Err.stop c.status_of.result c.status_of.ensures) c.args.sink.now c.args.report.now told)
 
 pub returns-in-Err-clause-damage : goal.returns-in-Err-clause-damage
 returns-in-Err-clause-damage g c =

@@ -17,7 +17,7 @@ loop-cell-init g c = record {
   opened = told_all (g.D.Disk.medium c.args.store.now) (λ image. OpenedTo (keys_of g.m) image 0 c.clear.new.self) (λ image. opened_none (keys_of g.m) image c.clear.new.self c.clear.ensures.cleared);
   rows = c.clear.ensures.rows;
   keeps = keeps_still (g.D.Disk.medium c.args.store.now);
-  later = omega arith;
+  quiet = refl;
   rest = refl;
 }
 
@@ -39,7 +39,7 @@ loop-cell-preserved g c =
           (λ image opened opens. opened_more (keys_of g.m) image cell c.loop-cell.records opened c.open_cell.new.records (omega (arith, c.loop-cell.invariant.rows.size, c.loop-cell-test.true)) opens);
       rows = c.open_cell.ensures.rows;
       keeps = keeps_then (g.D.Disk.medium c.args.store.now) (g.D.Disk.medium c.loop-cell.store) (g.D.Disk.medium c.open_cell.new.store) c.loop-cell.invariant.keeps c.open_cell.ensures.keeps;
-      later = omega (arith, c.loop-cell.invariant.later, c.open_cell.ensures.cause.later);
+      quiet = c.in-Ok.ensures.cause.quiet (λ is. cc is) ∙ c.loop-cell.invariant.quiet;
       rest = c.open_cell.ensures.rest ∙ ap (λ l. holding l (record (bench_of l) { key = (bench_of c.open_cell.new.lease).key; schedules = (bench_of c.open_cell.new.lease).schedules; body = (bench_of c.open_cell.new.lease).body })) c.loop-cell.invariant.rest;
     }
 
@@ -57,7 +57,7 @@ returns-clause-exact g c _ =
 pub returns-in-Err-clause-exact : goal.returns-in-Err-clause-exact
 returns-in-Err-clause-exact g c fell =
     ⊎_elim
-    (λ (failed : c.in-Err.fault ≡ DiskFault). absurd (fell (rose_wider (g.D.Disk.faults c.args.store.now) (g.D.Disk.faults c.loop-cell.store) (g.D.Disk.faults c.open_cell.new.store) (g.D.Disk.faults c.open_cell.new.store) c.loop-cell.invariant.later
+    (λ (failed : c.in-Err.fault ≡ DiskFault). absurd (fell (rose_wider (g.D.Disk.faults c.args.store.now) (g.D.Disk.faults c.loop-cell.store) (g.D.Disk.faults c.open_cell.new.store) (g.D.Disk.faults c.open_cell.new.store) (omega (arith, c.loop-cell.invariant.quiet))
     c.open_cell.ensures.cause.later (omega arith) (c.open_cell.ensures.cause.failed (c.in-Err.is ∙ ap (λ f. Err f) failed)))))
     (λ (damaged : c.in-Err.fault ≡ Damaged c.loop-cell.cell).
     told_map (g.D.Disk.medium c.args.store.now) (λ image. IsFirstDamaged (keys_of g.m) image c.loop-cell.cell) _ (returns-in-Err-clause-damaged g c c.loop-cell.cell (ap (λ f. Err f) damaged))

@@ -1,5 +1,5 @@
 -- The memory knows the labels of the cells before, and no others.
-use Rattle.std.proofs.Common.{◌≤◌}
+use Rattle.std.proofs.Common.{◌≡◌}
 use Rattle.key_records.specs.Changes.{ChangesKeyAndBody}
 use Rattle.slot_disk.specs.Medium.{Told, Keeps}
 use Rattle.verb_rules.specs.Keys.{keys_of}
@@ -15,6 +15,6 @@ invariant-loop-cell g l = record {
   opened : Told (g.D.Disk.medium l.fn.store) (λ image. OpenedTo (keys_of g.m) image l.cell l.records);
   rows : AreRows l.records;
   keeps : Keeps (g.D.Disk.medium l.fn.store) (g.D.Disk.medium l.store);
-  later : g.D.Disk.faults l.fn.store ≤ g.D.Disk.faults l.store;
+  quiet : g.D.Disk.faults l.store ≡ g.D.Disk.faults l.fn.store;
   rest : ChangesKeyAndBody l.fn.lease l.lease;
 }

@@ -40,7 +40,7 @@ pub returns-then-not-is_record-clause-none : goal.returns-then-not-is_record-cla
 returns-then-not-is_record-clause-none g c _ e reads =
     let bytes = (bench_of c.args.lease.now).body in
     let s = spelled (keys_of g.m) bytes e c.requires.1.1 reads in
-    not_true c.is_record.result c.if-not-is_record.true (c.is_record.ensures.1 (c.body-5.ensures
+    not_true c.is_record.result c.if-not-is_record.true (c.is_record.ensures.body.1 (c.body-5.ensures
     ∙ again (keys_of g.m) bytes (slice_index c.body-2.result.now 0) c.in-Some.label c.token_in-token.result c.second_in-second.result (ap (λ b. slice_index b 0) c.body-2.ensures)
     (c.in-Some.ensures.found ∙ ap label_in c.body.ensures) (c.token_in-token.ensures.token ∙ ap token_in c.body-3.ensures) (c.second_in-second.ensures.second ∙ ap second_in c.body-4.ensures) s))
 
@@ -55,14 +55,14 @@ returns-in-None-what_in-clause-none g c _ e reads =
 pub returns-in-Some-what_in-clause-reads : goal.returns-in-Some-what_in-clause-reads
 returns-in-Some-what_in-clause-reads g c _ =
     let bytes = (bench_of c.args.lease.now).body in
-    let is : bytes ≡ record_body (slice_index c.body-2.result.now 0) c.in-Some.label c.token_in-token.result c.second_in-second.result = sym c.body-5.ensures ∙ c.is_record.ensures.0 c.if-not-is_record.false in
+    let is : bytes ≡ record_body (slice_index c.body-2.result.now 0) c.in-Some.label c.token_in-token.result c.second_in-second.result = sym c.body-5.ensures ∙ c.is_record.ensures.body.0 c.if-not-is_record.false in
     entry_reads (keys_of g.m) bytes (slice_index c.body-2.result.now 0) c.in-Some.label c.token_in-token.result c.second_in-second.result is c.in-Some.ensures.label c.token_in-token.ensures.bytes
     (record { pattern = c.second_in-second.ensures.pattern.size; left = c.second_in-second.ensures.left.size; right = c.second_in-second.ensures.right.size }) (c.in-Some-what_in.ensures.some refl)
 
 pub returns-in-Some-what_in-clause-row : goal.returns-in-Some-what_in-clause-row
 returns-in-Some-what_in-clause-row g c =
     let bytes = (bench_of c.args.lease.now).body in
-    let is : bytes ≡ record_body (slice_index c.body-2.result.now 0) c.in-Some.label c.token_in-token.result c.second_in-second.result = sym c.body-5.ensures ∙ c.is_record.ensures.0 c.if-not-is_record.false in
+    let is : bytes ≡ record_body (slice_index c.body-2.result.now 0) c.in-Some.label c.token_in-token.result c.second_in-second.result = sym c.body-5.ensures ∙ c.is_record.ensures.body.0 c.if-not-is_record.false in
     c.in-Some-what_in.ensures.row
     ∙ ap (remembered (keys_of g.m)) (sym (entry_is (keys_of g.m) bytes (slice_index c.body-2.result.now 0) c.in-Some.label c.token_in-token.result c.second_in-second.result is c.in-Some.ensures.label c.token_in-token.ensures.bytes
     (record { pattern = c.second_in-second.ensures.pattern.size; left = c.second_in-second.ensures.left.size; right = c.second_in-second.ensures.right.size }) (c.in-Some-what_in.ensures.some refl)))

@@ -4,6 +4,7 @@ use Rattle.line_service.specs.Machine.{world}
 use Rattle.line_service.specs.Serving.{RunServed}
 use Rattle.line_service.proofs.OpeningLemmas.{stands_opened, opened, unopened, unbroken, not_stopped, opened_damage, unopened_left, unopened_taken, unopened_sound, unopened_no_stop}
 use Rattle.line_service.proofs.RunLemmas.{prefix_sent, completes, limit_is, no_limit}
+use Rattle.line_service.proofs.StopLemmas.{disk_on}
 use Rattle.line_service.proofs.running.serve.Goals as goal
 
 pub returns-in-Ok-clause-lines : goal.returns-in-Ok-clause-lines
@@ -78,3 +79,18 @@ returns-in-Err-clause-sound g c = unopened_sound g.A.Desk.machine c.in-Err.stop 
 
 pub returns-in-Err-clause-left : goal.returns-in-Err-clause-left
 returns-in-Err-clause-left g c = unopened_left g.A.Desk.machine c.in-Err.stop _ c.in-Err.ensures.stops c.in-Err.ensures.left.module_left c.in-Err.ensures.left.store_left refl refl refl refl
+
+pub returns-in-Ok-clause-left : goal.returns-in-Ok-clause-left
+returns-in-Ok-clause-left g c =
+    let opened = c.in-Ok.ensures.left in
+    let left = c.serve_all.ensures.left in
+    record {
+      devices_left = record {
+        module_left = disk_on _ _ _ _ _ _ _ _ opened.module_left.size opened.module_left.still (opened.module_left.quiet (λ h. cc h)) left.devices_left.module_left;
+        store_left = disk_on _ _ _ _ _ _ _ _ opened.store_left.size opened.store_left.still (opened.store_left.quiet (λ h. cc h)) left.devices_left.store_left;
+        entropy_left = left.devices_left.entropy_left;
+      };
+      source_left = left.source_left;
+      sink_left = left.sink_left;
+      sink_grows = left.sink_grows;
+    }

@@ -2,7 +2,7 @@
 use Rattle.std.proofs.Common.{Ok, ap, ◌∙◌, refl, inl}
 use Rattle.line_service.specs.Machine.{world}
 use Rattle.line_service.specs.Devices.{outside, devices}
-use Rattle.line_service.proofs.CourseLemmas.{IsNextLine, course_begins, course_goes_on, unmoved_world, run_ended, run_stopped}
+use Rattle.line_service.proofs.CourseLemmas.{IsNextLine, course_begins, course_goes_on, course_stopped, unmoved_world, run_ended, run_stopped}
 use Rattle.line_service.proofs.SessionLemmas.{has_served_nothing, has_served_more}
 use Rattle.line_service.proofs.SpareLaws.{spares_nothing, spares_more}
 use Rattle.line_service.proofs.running.serve_all.Goals as goal
@@ -83,3 +83,6 @@ returns-in-Ok-Ended-clause-serves g c = λ s stands.
       unsent = λ unreplied uncut. ap g.K.Sink.held (after.unmoved.sink_unmoved unreplied uncut);
     } in
     run_ended _ s _ _ _ _ _ _ _ next (c.in-Ok-Ended.is ∙ ap Ok c.in-Ok-Ended.field-0-is)
+
+pub returns-in-Err-clause-left : goal.returns-in-Err-clause-left
+returns-in-Err-clause-left g c = course_stopped g.A.Desk.machine _ _ c.each_line.lines c.each_line.invariant.course c.in-Err.stop c.in-Err.ensures.left

@@ -1,10 +1,10 @@
 -- What a line leaves, by how far it came.
-use Rattle.std.proofs.Common.{◌≡◌, ◌++◌, ℕ, List, subst, arith, rules}
+use Rattle.std.proofs.Common.{◌≡◌, ◌++◌, ℕ, List, subst, refl, rules}
 use Rattle.slot_disk.specs.WhereTold.{WhereTold}
 use Rattle.line_service.specs.Machine.{world}
 use Rattle.line_service.specs.Sending.{GotPart}
 use Rattle.line_service.proofs.LineLemmas.{line_replied, line_cut, line_lost, line_ended, line_unread, line_over}
-use Rattle.line_service.proofs.StopLemmas.{devices_stopped, devices_unread, no_desk_read, no_desk_write, grows_none}
+use Rattle.line_service.proofs.StopLemmas.{devices_stopped, devices_unread, no_desk_read, no_desk_write, count_still, grows_none}
 use Rattle.line_service.proofs.serving.serve_one.Goals as goal
 
 pub returns-in-Ok-send-clause-serves : goal.returns-in-Ok-send-clause-serves
@@ -57,15 +57,19 @@ returns-in-Err-InputLimit-clause-serves g c = λ s stands.
 pub returns-in-Err-clause-left : goal.returns-in-Err-clause-left
 returns-in-Err-clause-left g c = record {
   devices_left = devices_stopped g.A.Desk.machine c.in-Err.stop _ c.in-Err.ensures.left;
-  source_left = record { later = c.read_line.ensures.later; fault = λ h. absurd (no_desk_read c.in-Err.stop c.in-Err.ensures.stops h) };
-  sink_left = record { later = omega arith; fault = λ h. absurd (no_desk_write c.in-Err.stop c.in-Err.ensures.stops h) };
+  source_left = record {
+    later = c.read_line.ensures.later;
+    fault = λ h. absurd (no_desk_read c.in-Err.stop c.in-Err.ensures.stops h);
+    quiet = λ none. c.in-Ok.ensures.quiet (λ h. cc h);
+  };
+  sink_left = count_still _ _ (no_desk_write c.in-Err.stop c.in-Err.ensures.stops);
   sink_grows = grows_none (g.K.Sink.held c.args.sink.now);
 }
 
 pub returns-in-Err-ReadFault-clause-left : goal.returns-in-Err-ReadFault-clause-left
 returns-in-Err-ReadFault-clause-left g c = record {
   devices_left = devices_unread g.A.Desk.machine _;
-  source_left = record { later = c.read_line.ensures.later; fault = λ h. search rules };
-  sink_left = record { later = omega arith; fault = λ h. absurd (cc h) };
+  source_left = record { later = c.read_line.ensures.later; fault = λ h. search rules; quiet = λ none. absurd (none refl) };
+  sink_left = count_still _ _ (λ h. cc h);
   sink_grows = grows_none (g.K.Sink.held c.args.sink.now);
 }

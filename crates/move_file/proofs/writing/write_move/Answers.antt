@@ -1,8 +1,25 @@
-use Rattle.std.proofs.Common.{◌∙◌, arith}
+use Rattle.std.proofs.Common.{◌≡◌, ◌∙◌, ℕ, List, Option, None, Result, Ok, Err, get_or, refl, subst, arith, rules}
+use Rattle.key_cells.specs.Lease.{bench_of}
+use Rattle.key_records.specs.declared.rows.Row.{Row}
+use Rattle.key_tokens.specs.Denotes.{ClearKey}
+use Rattle.master_registers.specs.Masters.{Masters}
+use Rattle.verb_rules.specs.Keys.{keys_of, opened}
+use Rattle.move_file.specs.Telling.{TellsAsRead}
+use Rattle.move_file.specs.declared.moves.Move.{Move}
+use Rattle.move_file.specs.declared.writing.MoveFault.{MoveFault}
 use Rattle.slot_disk.proofs.Media.{keeps_then}
 use Rattle.move_file.proofs.LeaseLaws.{masters_then, loaded_later, opened_later, labels_later}
 use Rattle.move_file.proofs.PartLaws.{grew, told_all, told_more, told_to}
+use Rattle.move_file.proofs.RecordLaws.{got_none, read_more, rests_all, rests_to}
 use Rattle.move_file.proofs.writing.write_move.Goals as goal
+
+-- the transport key is as it was at the beginning
+key_earlier : (m : Masters) (w : Move) (label : List ℕ) (rows : List (Option Row)) (place : ℕ) (bytes : List ℕ) (result : Result (Unit {0}) MoveFault)
+    (f1 f2 r1 r2 : Option (List ℕ)) (now before : ClearKey) → now ≡ before
+    → TellsAsRead (keys_of m) w label (get_or rows place None) now.key bytes result f1 f2 r1 r2
+    → TellsAsRead (keys_of m) w label (get_or rows place None) before.key bytes result f1 f2 r1 r2
+key_earlier m w label rows place bytes result f1 f2 r1 r2 now before same reads =
+    subst (λ (k : ClearKey). TellsAsRead (keys_of m) w label (get_or rows place None) k.key bytes result f1 f2 r1 r2) same reads
 
 pub returns-in-Err-clause-tells : goal.returns-in-Err-clause-tells
 returns-in-Err-clause-tells g c s loaded stands opens =
@@ -15,6 +32,21 @@ returns-in-Err-clause-tells g c s loaded stands opens =
     m1 before.keeps.content
     (c.in-Err.ensures.tells s (loaded_later c.args.lease.now c.loop-index.lease before.masters s.registers c.args.held.now loaded)
     (labels_later m0 m1 s c.args.records.now before.keeps.content stands) (opened_later c.args.lease.now c.loop-index.lease before.masters c.args.transport.now ∙ opens))
+
+pub loop-index-init : goal.loop-index-init
+loop-index-init g c = record {
+  all = search rules;
+  tells = search rules;
+  own = λ m loaded.
+      got_none (keys_of m) c.args.how.now c.args.records.now (opened (bench_of c.args.lease.now) c.args.transport.now).key (g.K.Sink.held c.args.file.now) (g.P.Sink.held c.args.report.now);
+  file_grows = search rules;
+  report_grows = search rules;
+  file_quiet = refl;
+  report_quiet = refl;
+  store_quiet = refl;
+  keeps = search rules;
+  masters = search rules;
+}
 
 pub loop-index-preserved : goal.loop-index-preserved
 loop-index-preserved g c =
@@ -30,11 +62,20 @@ loop-index-preserved g c =
           m1 before.keeps.content
           (c.in-Ok.ensures.tells s (loaded_later c.args.lease.now c.loop-index.lease before.masters s.registers c.args.held.now loaded)
           (labels_later m0 m1 s c.args.records.now before.keeps.content stands) (opened_later c.args.lease.now c.loop-index.lease before.masters c.args.transport.now ∙ opens));
+      own = λ m loaded.
+          read_more (keys_of m) c.args.how.now c.args.records.now (opened (bench_of c.args.lease.now) c.args.transport.now).key c.loop-index.index
+          (g.K.Sink.held c.args.file.now) (g.K.Sink.held c.loop-index.file) (g.P.Sink.held c.args.report.now) (g.P.Sink.held c.loop-index.report) (before.own m loaded)
+          c.label_at-label.result.now (bench_of c.tell_label.new.lease).body c.label_at-label.ensures (g.K.Sink.held c.tell_label.new.file) (g.P.Sink.held c.tell_label.new.report)
+          (λ place found.
+          key_earlier m c.args.how.now c.label_at-label.result.now c.args.records.now place (bench_of c.tell_label.new.lease).body (Ok tt) _ _ _ _
+          (opened (bench_of c.loop-index.lease) c.args.transport.now) (opened (bench_of c.args.lease.now) c.args.transport.now)
+          (opened_later c.args.lease.now c.loop-index.lease before.masters c.args.transport.now)
+          (c.in-Ok.ensures.own m place (loaded_later c.args.lease.now c.loop-index.lease before.masters m c.args.held.now loaded) found));
       file_grows = grew (g.K.Sink.held c.args.file.now) (g.K.Sink.held c.loop-index.file) (g.K.Sink.held c.tell_label.new.file) before.file_grows c.in-Ok.ensures.file_grows;
       report_grows = grew (g.P.Sink.held c.args.report.now) (g.P.Sink.held c.loop-index.report) (g.P.Sink.held c.tell_label.new.report) before.report_grows c.in-Ok.ensures.report_grows;
-      file_later = omega (arith, before.file_later, c.in-Ok.ensures.file_left.later);
-      report_later = omega (arith, before.report_later, c.in-Ok.ensures.report_left.later);
-      store_later = omega (arith, before.store_later, c.in-Ok.ensures.store_left.later);
+      file_quiet = c.in-Ok.ensures.file_left.quiet (λ is. cc is) ∙ before.file_quiet;
+      report_quiet = c.in-Ok.ensures.report_left.quiet (λ is. cc is) ∙ before.report_quiet;
+      store_quiet = c.in-Ok.ensures.store_left.quiet (λ is. cc is) ∙ before.store_quiet;
       keeps = keeps_then m0 m1 (g.D.Disk.medium c.tell_label.new.store) before.keeps c.in-Ok.ensures.keeps;
       masters = masters_then c.args.lease.now c.loop-index.lease c.tell_label.new.lease before.masters c.in-Ok.ensures.masters;
     }
@@ -44,3 +85,24 @@ returns-clause-tells g c s loaded stands opens =
     told_all s c.args.how.now (g.D.Disk.medium c.args.store.now) (g.K.Sink.held c.args.file.now) (g.P.Sink.held c.args.report.now) c.args.records.now stands c.loop-index.index
     (g.K.Sink.held c.loop-index.file) (g.P.Sink.held c.loop-index.report) (c.loop-index.invariant.tells s loaded stands opens)
     (omega (arith, c.loop-index.invariant.all, c.loop-index-test.false))
+
+-- ---- by what was read of each label's record
+
+pub returns-in-Err-clause-own : goal.returns-in-Err-clause-own
+returns-in-Err-clause-own g c m loaded =
+    let before = c.loop-index.invariant in
+    rests_to (keys_of m) c.args.how.now c.args.records.now (opened (bench_of c.args.lease.now) c.args.transport.now).key c.loop-index.index
+    (g.K.Sink.held c.args.file.now) (g.K.Sink.held c.loop-index.file) (g.P.Sink.held c.args.report.now) (g.P.Sink.held c.loop-index.report) (before.own m loaded)
+    c.label_at-label.result.now (bench_of c.tell_label.new.lease).body c.label_at-label.ensures (g.K.Sink.held c.tell_label.new.file) (g.P.Sink.held c.tell_label.new.report)
+    c.in-Err.fault (omega (arith, before.all, c.loop-index-test.true))
+    (λ place found.
+    key_earlier m c.args.how.now c.label_at-label.result.now c.args.records.now place (bench_of c.tell_label.new.lease).body (Err c.in-Err.fault) _ _ _ _
+    (opened (bench_of c.loop-index.lease) c.args.transport.now) (opened (bench_of c.args.lease.now) c.args.transport.now)
+    (opened_later c.args.lease.now c.loop-index.lease before.masters c.args.transport.now)
+    (c.in-Err.ensures.own m place (loaded_later c.args.lease.now c.loop-index.lease before.masters m c.args.held.now loaded) found))
+
+pub returns-clause-own : goal.returns-clause-own
+returns-clause-own g c m loaded =
+    rests_all (keys_of m) c.args.how.now c.args.records.now (opened (bench_of c.args.lease.now) c.args.transport.now).key c.loop-index.index
+    (g.K.Sink.held c.args.file.now) (g.K.Sink.held c.loop-index.file) (g.P.Sink.held c.args.report.now) (g.P.Sink.held c.loop-index.report)
+    (omega (arith, c.loop-index.invariant.all, c.loop-index-test.false, c.loop-index.auto.index-end)) (c.loop-index.invariant.own m loaded)

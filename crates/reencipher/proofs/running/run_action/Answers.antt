@@ -1,9 +1,8 @@
-use Rattle.std.proofs.Common.{◌≡◌, ◌≤◌, ◌+◌, ℕ, Err, Bool, true, false, cond, refl, sym, subst, ◌∙◌, arith, rules}
+use Rattle.std.proofs.Common.{◌≡◌, ◌≤◌, ◌+◌, ℕ, Bool, true, false, cond, refl, sym, subst, ◌∙◌, arith, rules}
 use mir.Val.{bool_byte}
 use Rattle.clear_keys.proofs.TokenLemmas.{keys_apart}
 use Rattle.verb_rules.specs.Keys.{keys_of}
 use Rattle.reencipher.specs.Further.{further}
-use Rattle.reencipher.specs.Runs.{IsCell, LeavesAnyStore, Reenciphers, TurnsCells}
 use Rattle.reencipher.proofs.LeftLaws.{left_start, left_on, left_failed}
 use Rattle.reencipher.proofs.RowLaws.{HasTurnedTo, turned_start, turned_on, turns_ended, turns_whole}
 use Rattle.reencipher.proofs.RunLaws.{Reaches, reaches_start, reaches_next, ends_at, ends_whole}
@@ -26,18 +25,16 @@ loop-cell-init g c = record {
   few = omega arith;
 }
 
-pub returns-in_err-done-clause-labels : goal.returns-in_err-done-clause-labels
-returns-in_err-done-clause-labels g c m s loaded told =
+pub returns-in-Err-clause-labels : goal.returns-in-Err-clause-labels
+returns-in-Err-clause-labels g c m s loaded told =
     let masters = keys_of m in
     let m0 = g.D.Disk.medium c.args.store.now in
     let m1 = g.D.Disk.medium c.loop-cell.store in
     let m2 = g.D.Disk.medium c.turn_cell.new.store in
     let so_far = c.loop-cell.invariant.labels m s loaded told in
     let now = loaded_turn m c.args.held.now c.args.lease.now c.loop-cell.lease loaded c.loop-cell.invariant.left.rest in
-    let failed : c.from_residual.result ≡ Err c.in_err-done.field-0.0 = search rules in
-    subst (λ r. Reenciphers c.args.action masters s c.turn_cell.new.records m0 m2 r) (sym failed)
-    (ends_at c.args.action masters (keys_apart m loaded.valid) s c.loop-cell.cell c.loop-cell.changed c.loop-cell.records c.turn_cell.new.records m0 m1 m2 c.loop-cell-test.true so_far
-    c.in_err-done.field-0.0 (c.in_err-done.ensures.changes m (further c.args.action s c.loop-cell.cell) now so_far.keeps))
+    ends_at c.args.action masters (keys_apart m loaded.valid) s c.loop-cell.cell c.loop-cell.changed c.loop-cell.records c.turn_cell.new.records m0 m1 m2 c.loop-cell-test.true so_far
+    c.in-Err.fault (c.in-Err.ensures.changes m (further c.args.action s c.loop-cell.cell) now so_far.keeps)
 
 pub loop-cell-preserved : goal.loop-cell-preserved
 loop-cell-preserved g c = record {
@@ -48,18 +45,18 @@ loop-cell-preserved g c = record {
       let m1 = g.D.Disk.medium c.loop-cell.store in
       let m2 = g.D.Disk.medium c.turn_cell.new.store in
       subst (λ n. Reaches c.args.action (keys_of m) s (c.loop-cell.cell + 1) (c.loop-cell.changed + n) c.turn_cell.new.records m0 m2)
-      (sym (c.from-changed.ensures ∙ byte_is c.in_ok-done.done))
+      (sym (c.from-changed.ensures ∙ byte_is c.in-Ok.done))
       (reaches_next c.args.action (keys_of m) (keys_apart m loaded.valid) s c.loop-cell.cell c.loop-cell.changed c.loop-cell.records c.turn_cell.new.records m0 m1 m2 c.loop-cell-test.true so_far
-      c.in_ok-done.done (c.in_ok-done.ensures.changes m (further c.args.action s c.loop-cell.cell) now so_far.keeps));
+      c.in-Ok.done (c.in-Ok.ensures.changes m (further c.args.action s c.loop-cell.cell) now so_far.keeps));
   cells =
       subst (λ n. HasTurnedTo c.args.action c.args.held.now c.args.records.now (c.loop-cell.cell + 1) (c.loop-cell.changed + n) c.turn_cell.new.records (g.D.Disk.medium c.args.store.now) (g.D.Disk.medium c.turn_cell.new.store))
-      (sym (c.from-changed.ensures ∙ byte_is c.in_ok-done.done))
+      (sym (c.from-changed.ensures ∙ byte_is c.in-Ok.done))
       (turned_on c.args.action c.args.held.now c.args.records.now c.loop-cell.cell c.loop-cell.changed c.loop-cell.records c.turn_cell.new.records
       (g.D.Disk.medium c.args.store.now) (g.D.Disk.medium c.loop-cell.store) (g.D.Disk.medium c.turn_cell.new.store) c.loop-cell-test.true c.loop-cell.invariant.cells
-      c.turn_cell.ensures.others c.turn_cell.ensures.row c.in_ok-done.done c.in_ok-done.ensures.turns c.in_ok-done.ensures.count);
+      c.turn_cell.ensures.others c.turn_cell.ensures.row c.in-Ok.done c.in-Ok.ensures.turns c.in-Ok.ensures.count);
   left = left_on g.D.Disk.medium g.D.Disk.faults c.args.lease.now c.loop-cell.lease c.turn_cell.new.lease c.args.records.now c.loop-cell.records c.turn_cell.new.records
-      c.args.store.now c.loop-cell.store c.turn_cell.new.store c.loop-cell.cell c.loop-cell.changed c.loop-cell-test.true c.in_ok-done.done _ c.loop-cell.invariant.left c.in_ok-done.ensures.left;
-  few = omega (arith, c.loop-cell.invariant.few, c.from-changed.ensures, byte_low c.in_ok-done.done);
+      c.args.store.now c.loop-cell.store c.turn_cell.new.store c.loop-cell.cell c.loop-cell.changed c.loop-cell-test.true c.in-Ok.done _ c.loop-cell.invariant.left c.in-Ok.ensures.left;
+  few = omega (arith, c.loop-cell.invariant.few, c.from-changed.ensures, byte_low c.in-Ok.done);
 }
 
 pub returns-clause-labels : goal.returns-clause-labels
@@ -68,15 +65,13 @@ returns-clause-labels g c m s loaded told =
     ends_whole c.args.action (keys_of m) (keys_apart m loaded.valid) s c.loop-cell.cell c.loop-cell.changed c.loop-cell.records (g.D.Disk.medium c.args.store.now) (g.D.Disk.medium c.loop-cell.store) all
     (c.loop-cell.invariant.labels m s loaded told)
 
-pub returns-in_err-done-clause-cells : goal.returns-in_err-done-clause-cells
-returns-in_err-done-clause-cells g c =
+pub returns-in-Err-clause-cells : goal.returns-in-Err-clause-cells
+returns-in-Err-clause-cells g c =
     let m0 = g.D.Disk.medium c.args.store.now in
     let m2 = g.D.Disk.medium c.turn_cell.new.store in
-    let failed : c.from_residual.result ≡ Err c.in_err-done.field-0.0 = search rules in
-    subst (λ r. TurnsCells c.args.action c.args.held.now c.args.records.now c.turn_cell.new.records m0 m2 r) (sym failed)
-    (turns_ended c.args.action c.args.held.now c.args.records.now c.loop-cell.cell c.loop-cell.changed c.loop-cell.records c.turn_cell.new.records
+    turns_ended c.args.action c.args.held.now c.args.records.now c.loop-cell.cell c.loop-cell.changed c.loop-cell.records c.turn_cell.new.records
     m0 (g.D.Disk.medium c.loop-cell.store) m2 c.loop-cell-test.true c.loop-cell.invariant.cells
-    c.turn_cell.ensures.others c.turn_cell.ensures.row c.in_err-done.field-0.0 c.in_err-done.ensures.turns)
+    c.turn_cell.ensures.others c.turn_cell.ensures.row c.in-Err.fault c.in-Err.ensures.turns
 
 pub returns-clause-cells : goal.returns-clause-cells
 returns-clause-cells g c =
@@ -84,9 +79,7 @@ returns-clause-cells g c =
     turns_whole c.args.action c.args.held.now c.args.records.now c.loop-cell.cell c.loop-cell.changed c.loop-cell.records
     (g.D.Disk.medium c.args.store.now) (g.D.Disk.medium c.loop-cell.store) all c.loop-cell.invariant.cells
 
-pub returns-in_err-done-clause-left : goal.returns-in_err-done-clause-left
-returns-in_err-done-clause-left g c =
-    let failed : c.from_residual.result ≡ Err c.in_err-done.field-0.0 = search rules in
-    subst (λ r. LeavesAnyStore g.D.Disk.medium g.D.Disk.faults IsCell c.args.lease.now c.turn_cell.new.lease c.args.records.now c.turn_cell.new.records c.args.store.now c.turn_cell.new.store r) (sym failed)
-    (left_failed g.D.Disk.medium g.D.Disk.faults c.args.lease.now c.loop-cell.lease c.turn_cell.new.lease c.args.records.now c.loop-cell.records c.turn_cell.new.records
-    c.args.store.now c.loop-cell.store c.turn_cell.new.store c.loop-cell.cell c.loop-cell.changed c.loop-cell-test.true ℕ _ c.loop-cell.invariant.left c.in_err-done.ensures.left)
+pub returns-in-Err-clause-left : goal.returns-in-Err-clause-left
+returns-in-Err-clause-left g c =
+    left_failed g.D.Disk.medium g.D.Disk.faults c.args.lease.now c.loop-cell.lease c.turn_cell.new.lease c.args.records.now c.loop-cell.records c.turn_cell.new.records
+    c.args.store.now c.loop-cell.store c.turn_cell.new.store c.loop-cell.cell c.loop-cell.changed c.loop-cell-test.true ℕ _ c.loop-cell.invariant.left c.in-Err.ensures.left

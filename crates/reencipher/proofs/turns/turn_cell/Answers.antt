@@ -1,17 +1,15 @@
-use Rattle.std.proofs.Common.{◌≡◌, ◌<◌, ℕ, List, Option, None, Ok, Err, Bool, true, false, length, get_or, refl, sym, ap, subst, ◌∙◌, arith, rules}
+use Rattle.std.proofs.Common.{◌≡◌, ◌<◌, ℕ, List, Option, None, Some, Ok, Err, Bool, true, false, get_or, refl, sym, ap, subst, ◌∙◌, arith, rules}
 use Rattle.std.specs.Prelude.{IsSome, ◌&&◌}
 use Rattle.key_cells.specs.Bench.{Bench}
 use Rattle.key_cells.specs.Lease.{bench_of}
-use Rattle.slot_disk.specs.Cells.{body}
 use Rattle.slot_disk.specs.Medium.{Medium, Told}
-use Rattle.slot_disk.proofs.Media.{keeps_still, told_before, told_from, told_joined, told_map, told_still}
+use Rattle.slot_disk.proofs.Media.{keeps_still, told_joined, told_map, told_still}
 use Rattle.key_tokens.specs.Denotes.{denoted}
-use Rattle.key_records.specs.Changes.{ReadsToken, ahead_at, has_key, is_ahead_row}
+use Rattle.key_records.specs.Changes.{IsReadOf, ReadsToken, is_ahead_row}
 use Rattle.key_records.specs.Directory.{label_at}
-use Rattle.key_records.specs.Entries.{Entry, label_or}
-use Rattle.key_records.specs.RecordBody.{StandsAs}
+use Rattle.key_records.specs.Entries.{Entry}
 use Rattle.key_records.specs.declared.rows.Row.{Row}
-use Rattle.key_records.specs.StoreStands.{HoldsRows, KeepsLabels, entry_at}
+use Rattle.key_records.specs.StoreStands.{KeepsLabels, entry_at}
 use Rattle.key_records.proofs.OpeningLaws.{label_of_entry, label_of_row}
 use Rattle.key_records.proofs.StoreLaws.{same_directory, told_all}
 use Rattle.master_registers.specs.Loaded.{Loaded, masters_in}
@@ -22,7 +20,7 @@ use Rattle.verb_rules.specs.Keys.{keys_of}
 use Rattle.reencipher.specs.Further.{is_changed}
 use Rattle.reencipher.specs.Runs.{IsChangedRow, changes_row}
 use Rattle.reencipher.specs.Tokens.{CanBeWritten, changes_key, may_change, put_in}
-use Rattle.reencipher.specs.Turns.{ChangesCell, TurnsCell}
+use Rattle.reencipher.specs.Turns.{ChangesCell, StaysAsRead, TurnsAsRead, TurnsCell}
 use Rattle.reencipher.specs.declared.actions.StoreAction.{StoreAction}
 use Rattle.reencipher.proofs.RowLaws.{marked_row_stays, no_row_stays, null_row_stays, row_changes, turns_kept, turns_failed, turns_written}
 use Rattle.reencipher.proofs.TokenLaws.{loaded_after}
@@ -50,8 +48,8 @@ returns-then-not-may_change-clause-changes g c m s loaded told =
     (told_map m0 (KeepsLabels masters c.args.records.now s) (λ _. is_changed c.args.action (entry_at s place) ≡ false) told
     (λ image keeps. may_not c.args.action masters c.args.records.now s place image keeps within (sym c.may_change.ensures ∙ c.if-not-may_change.true))))
 
-pub returns-then-not-branch-clause-changes : goal.returns-then-not-branch-clause-changes
-returns-then-not-branch-clause-changes g c m s loaded told =
+pub returns-then-not-found-clause-changes : goal.returns-then-not-found-clause-changes
+returns-then-not-found-clause-changes g c m s loaded told =
     let masters = keys_of m in
     let a = c.args.action in
     let m0 = g.D.Disk.medium c.args.store.now in
@@ -60,7 +58,7 @@ returns-then-not-branch-clause-changes g c m s loaded told =
     let rows : List (Option Row) = c.args.records.now in
     let within : place < 1024 = omega (arith, c.in-Some.ensures.place, c.requires.within) in
     let token : List ℕ = c.read.new.out in
-    let read = subst (λ b. Told m0 (λ _. ReadsToken masters (entry_at s place) b token)) c.if-not-branch.true (c.in_ok-read.ensures.token masters s told) in
+    let read = subst (λ b. Told m0 (λ _. ReadsToken masters (entry_at s place) b token)) c.if-not-found.true (c.in-Ok.ensures.token masters s told) in
     subst (λ n. ChangesCell a masters n s rows rows m0 m1 (Ok false)) c.in-Some.ensures.place
     (changes_none a masters place s m0 m1 rows c.requires.store.settled c.read.ensures.keeps told
     (told_joined m0 (KeepsLabels masters rows s) (λ _. ReadsToken masters (entry_at s place) false token) (λ _. is_changed a (entry_at s place) ≡ false) told read
@@ -76,7 +74,7 @@ returns-in-None-made_tokens-clause-changes g c m s loaded told =
     let rows : List (Option Row) = c.args.records.now in
     let within : place < 1024 = omega (arith, c.in-Some.ensures.place, c.requires.within) in
     let token : List ℕ = c.read.new.out in
-    let read = subst (λ b. Told m0 (λ _. ReadsToken masters (entry_at s place) b token)) c.if-not-branch.false (c.in_ok-read.ensures.token masters s told) in
+    let read = subst (λ b. Told m0 (λ _. ReadsToken masters (entry_at s place) b token)) c.if-not-found.false (c.in-Ok.ensures.token masters s told) in
     let now = loaded_body m c.args.held.now c.args.lease.now c.read.new.lease loaded c.read.ensures.rest in
     let none : false ≡ changes_key a (denoted masters token) = c.in-None-made_tokens.ensures.some m now in
     subst (λ n. ChangesCell a masters n s rows rows m0 m1 (Ok false)) c.in-Some.ensures.place
@@ -108,7 +106,7 @@ turn_at g c m now s told =
     let within : place < 1024 = omega (arith, c.in-Some.ensures.place, c.requires.within) in
     let token : List ℕ = c.read.new.out in
     let tokens = c.in-Some-made_tokens.tokens in
-    let read = subst (λ b. Told m0 (λ _. ReadsToken masters (entry_at s place) b token)) c.if-not-branch.false (c.in_ok-read.ensures.token masters s told) in
+    let read = subst (λ b. Told m0 (λ _. ReadsToken masters (entry_at s place) b token)) c.if-not-found.false (c.in-Ok.ensures.token masters s told) in
     told_joined m0 (KeepsLabels masters rows s) (λ _. ReadsToken masters (entry_at s place) true token) (λ _. IsTurn a place s (next_at g c m now s)) told read
     (λ image keeps reads. is_turn a masters rows s place image keeps within token tokens (made_at g c m now) reads (sym (c.in-Some-made_tokens.ensures.some m now))
     (sym c.may_change.ensures ∙ c.if-not-may_change.false))
@@ -135,7 +133,7 @@ returns-in_err-put-clause-changes g c m s loaded told =
     let rows : List (Option Row) = c.args.records.now in
     let now = loaded_body m c.args.held.now c.args.lease.now c.read.new.lease loaded c.read.ensures.rest in
     let made = made_at g at m now in
-    let failed : c.from_residual-in_err-put.result ≡ Err c.in_err-put.field-0.0 = search rules in
+    let failed : c.from_residual.result ≡ Err c.in_err-put.field-0.0 = search rules in
     subst (λ r. ChangesCell a masters c.args.cell s rows c.put.new.records m0 m2 r) (sym failed)
     (subst (λ n. ChangesCell a masters n s rows c.put.new.records m0 m2 (Err c.in_err-put.field-0.0)) c.in-Some.ensures.place
     (changes_failed a masters place s (next_at g at m now s) m0 m1 m2 rows c.put.new.records c.requires.store.settled c.read.ensures.keeps told (turn_at g at m now s told) c.in_err-put.field-0.0 c.in_err-put.ensures.kept
@@ -159,68 +157,43 @@ returns-clause-changes g c m s loaded told =
 
 -- ---- the bytes and the rows, whatever the labels stand for
 
--- a row that isn't written stays
-row_kept : (m : Medium) (P : Type 0) (before now : List (Option Row)) (n : ℕ) → now ≡ before → Told m (λ _. (P → ⊥) → get_or now n None ≡ get_or before n None)
-row_kept m P before now n is = told_from m.content (λ _. (P → ⊥) → get_or now n None ≡ get_or before n None) (λ c told none. ap (λ r. get_or r n None) is)
-
 pub returns-in-None-clause-turns : goal.returns-in-None-clause-turns
 returns-in-None-clause-turns g c =
     let m0 = g.D.Disk.medium c.args.store.now in
     turns_kept (IsChangedRow c.args.action c.args.held.now c.args.records.now c.args.cell) c.args.cell m0 m0 c.requires.store.settled (keeps_still m0) (Ok false)
-
-pub returns-in-None-clause-row : goal.returns-in-None-clause-row
-returns-in-None-clause-row g c =
-    row_kept (g.D.Disk.medium c.args.store.now) (IsChangedRow c.args.action c.args.held.now c.args.records.now c.args.cell) c.args.records.now c.args.records.now c.args.cell refl
 
 pub returns-then-not-may_change-clause-turns : goal.returns-then-not-may_change-clause-turns
 returns-then-not-may_change-clause-turns g c =
     let m0 = g.D.Disk.medium c.args.store.now in
     turns_kept (IsChangedRow c.args.action c.args.held.now c.args.records.now c.args.cell) c.args.cell m0 m0 c.requires.store.settled (keeps_still m0) (Ok false)
 
-pub returns-then-not-may_change-clause-row : goal.returns-then-not-may_change-clause-row
-returns-then-not-may_change-clause-row g c =
-    row_kept (g.D.Disk.medium c.args.store.now) (IsChangedRow c.args.action c.args.held.now c.args.records.now c.args.cell) c.args.records.now c.args.records.now c.args.cell refl
-
 pub returns-in-None-made_tokens-clause-turns : goal.returns-in-None-made_tokens-clause-turns
 returns-in-None-made_tokens-clause-turns g c =
     turns_kept (IsChangedRow c.args.action c.args.held.now c.args.records.now c.args.cell) c.args.cell
     (g.D.Disk.medium c.args.store.now) (g.D.Disk.medium c.read.new.store) c.requires.store.settled c.read.ensures.keeps (Ok false)
 
-pub returns-in-None-made_tokens-clause-row : goal.returns-in-None-made_tokens-clause-row
-returns-in-None-made_tokens-clause-row g c =
-    row_kept (g.D.Disk.medium c.args.store.now) (IsChangedRow c.args.action c.args.held.now c.args.records.now c.args.cell) c.args.records.now c.args.records.now c.args.cell refl
-
--- the token was read: whether the action changes it, by the memory
-read_told : (a : StoreAction) (m : Masters) (held : Registers) (bench : Bench) (rows : List (Option Row)) (place : ℕ) (token : List ℕ) (d : Medium) (done : Bool) → Loaded m held bench → Told d (HoldsRows rows)
-    → place < 1024 → true ≡ has_key (get_or rows place None) → length token ≡ 64
-    → Told d (λ image. StandsAs (body image place) (label_or (get_or rows place None)) token (ahead_at (get_or rows place None)))
-    → may_change a (is_ahead_row (get_or rows place None)) ≡ true → done ≡ changes_key a (denoted (keys_of m) token) → Told d (λ _. done ≡ changes_row a held (get_or rows place None))
-read_told a m held bench rows place token d done loaded holds within some long read may is =
-    told_joined d (HoldsRows rows) (λ image. StandsAs (body image place) (label_or (get_or rows place None)) token (ahead_at (get_or rows place None))) (λ _. done ≡ changes_row a held (get_or rows place None)) holds read
-    (λ image held_rows stands.
-    is ∙ sym (and_true (changes_key a (denoted (keys_of m) token)))
-    ∙ ap (λ b. changes_key a (denoted (keys_of m) token) && b) (sym may)
-    ∙ sym (row_changes a held m bench loaded rows place token image held_rows within some long stands))
-
--- the same after the token was read: `done` says whether its key is one that the action changes
-told_row : (g : _) (c : After-made_tokens g) (done : Bool)
+-- the token was read: `done` says whether its key is one that the action changes, and so does the memory
+row_is : (g : _) (c : After-made_tokens g) (done : Bool)
     → ((m : Masters) → Loaded m c.args.held.now (bench_of c.read.new.lease) → done ≡ changes_key c.args.action (denoted (keys_of m) c.read.new.out))
-    → Told (g.D.Disk.medium c.args.store.now) (λ _. done ≡ changes_row c.args.action c.args.held.now (get_or c.args.records.now c.in-Some.place None))
-told_row g c done made =
+    → done ≡ changes_row c.args.action c.args.held.now (get_or c.args.records.now c.in-Some.place None)
+row_is g c done made =
+    let a = c.args.action in
     let m = masters_in c.args.held.now (bench_of c.args.lease.now) in
     let rows : List (Option Row) = c.args.records.now in
     let place : ℕ = c.in-Some.place in
     let token : List ℕ = c.read.new.out in
-    let found : c.in_ok-read.field-0 ≡ true = c.if-not-branch.false in
-    let long : length token ≡ 64 = search rules in
+    let bytes = (bench_of c.read.new.lease).body in
     let now = loaded_body m c.args.held.now c.args.lease.now c.read.new.lease c.requires.loaded c.read.ensures.rest in
-    read_told c.args.action m c.args.held.now (bench_of c.read.new.lease) rows place token (g.D.Disk.medium c.args.store.now) done now c.requires.store.holds
-    (omega (arith, c.in-Some.ensures.place, c.requires.within)) (sym found ∙ c.in_ok-read.ensures.null) long (c.in_ok-read.ensures.bytes (ap (λ b. Ok b) found))
-    (sym c.may_change.ensures ∙ c.if-not-may_change.false) (made m now)
+    let may : may_change a (is_ahead_row (get_or rows place None)) ≡ true = sym c.may_change.ensures ∙ c.if-not-may_change.false in
+    made m now
+    ∙ sym (and_true (changes_key a (denoted (keys_of m) token)))
+    ∙ ap (λ b. changes_key a (denoted (keys_of m) token) && b) (sym may)
+    ∙ sym (row_changes a c.args.held.now m (bench_of c.read.new.lease) now rows place token bytes
+    (subst (λ (b : Bool). IsReadOf (get_or rows place None) bytes b token) c.if-not-found.false c.in-Ok.ensures.own))
 
 -- a label that is written is one that the action changes
-is_written : (a : StoreAction) (held : Registers) (rows : List (Option Row)) (place : ℕ) (m : Medium) → Told m (λ _. true ≡ changes_row a held (get_or rows place None)) → Told m (λ _. IsChangedRow a held rows place)
-is_written a held rows place m told = told_map m (λ _. true ≡ changes_row a held (get_or rows place None)) (λ _. IsChangedRow a held rows place) told (λ c is. sym is)
+is_written : (a : StoreAction) (held : Registers) (rows : List (Option Row)) (place : ℕ) (m : Medium) → true ≡ changes_row a held (get_or rows place None) → Told m (λ _. IsChangedRow a held rows place)
+is_written a held rows place m is = told_all m (λ _. IsChangedRow a held rows place) (λ _. sym is)
 
 pub returns-in_err-put-clause-turns : goal.returns-in_err-put-clause-turns
 returns-in_err-put-clause-turns g c =
@@ -230,16 +203,15 @@ returns-in_err-put-clause-turns g c =
     let m2 = g.D.Disk.medium c.put.new.store in
     let rows : List (Option Row) = c.args.records.now in
     let place : ℕ = c.in-Some.place in
-    let failed : c.from_residual-in_err-put.result ≡ Err c.in_err-put.field-0.0 = search rules in
+    let failed : c.from_residual.result ≡ Err c.in_err-put.field-0.0 = search rules in
     subst (λ r. TurnsCell (IsChangedRow a held rows c.args.cell) c.args.cell m0 m2 r) (sym failed)
     (subst (λ n. TurnsCell (IsChangedRow a held rows n) n m0 m2 (Err c.in_err-put.field-0.0)) c.in-Some.ensures.place
     (turns_failed (IsChangedRow a held rows place) place m0 (g.D.Disk.medium c.read.new.store) c.requires.store.settled c.read.ensures.keeps m2 _
-    (is_written a held rows place m0 (told_row g (goal.at.returns-in_err-put-clause-turns g c).After-made_tokens true c.in-Some-made_tokens.ensures.some))
+    (is_written a held rows place m0 (row_is g (goal.at.returns-in_err-put-clause-turns g c).After-made_tokens true c.in-Some-made_tokens.ensures.some))
     c.in_err-put.field-0.0 _ c.in_err-put.ensures.cell))
 
 pub returns-in_err-put-clause-row : goal.returns-in_err-put-clause-row
-returns-in_err-put-clause-row g c =
-    row_kept (g.D.Disk.medium c.args.store.now) (IsChangedRow c.args.action c.args.held.now c.args.records.now c.args.cell) c.args.records.now c.put.new.records c.args.cell c.in_err-put.ensures.kept
+returns-in_err-put-clause-row g c = λ none. ap (λ (r : List (Option Row)). get_or r c.args.cell None) c.in_err-put.ensures.kept
 
 pub returns-in_err-put-clause-others : goal.returns-in_err-put-clause-others
 returns-in_err-put-clause-others g c n other = ap (λ (r : List (Option Row)). get_or r n None) c.in_err-put.ensures.kept
@@ -254,18 +226,12 @@ returns-clause-turns g c =
     let place : ℕ = c.in-Some.place in
     subst (λ n. TurnsCell (IsChangedRow a held rows n) n m0 m2 (Ok true)) c.in-Some.ensures.place
     (turns_written (IsChangedRow a held rows place) place m0 (g.D.Disk.medium c.read.new.store) c.requires.store.settled c.read.ensures.keeps m2 _
-    (is_written a held rows place m0 (told_row g (goal.at.returns-clause-turns g c).After-made_tokens true c.in-Some-made_tokens.ensures.some)) c.in_ok-put.ensures.cell)
+    (is_written a held rows place m0 (row_is g (goal.at.returns-clause-turns g c).After-made_tokens true c.in-Some-made_tokens.ensures.some)) c.in_ok-put.ensures.cell)
 
 pub returns-clause-row : goal.returns-clause-row
-returns-clause-row g c =
-    let a = c.args.action in
-    let held = c.args.held.now in
-    let m0 = g.D.Disk.medium c.args.store.now in
-    let rows : List (Option Row) = c.args.records.now in
-    let place : ℕ = c.in-Some.place in
-    told_map m0 (λ _. IsChangedRow a held rows place) (λ _. (IsChangedRow a held rows c.args.cell → ⊥) → get_or c.put.new.records c.args.cell None ≡ get_or rows c.args.cell None)
-    (is_written a held rows place m0 (told_row g (goal.at.returns-clause-row g c).After-made_tokens true c.in-Some-made_tokens.ensures.some))
-    (λ image changed none. absurd (none (subst (IsChangedRow a held rows) c.in-Some.ensures.place changed)))
+returns-clause-row g c = λ none.
+    absurd (none (subst (IsChangedRow c.args.action c.args.held.now c.args.records.now) c.in-Some.ensures.place
+    (sym (row_is g (goal.at.returns-clause-row g c).After-made_tokens true c.in-Some-made_tokens.ensures.some))))
 
 pub returns-clause-others : goal.returns-clause-others
 returns-clause-others g c n other = c.in_ok-put.ensures.others n (λ is. other (is ∙ c.in-Some.ensures.place))
@@ -275,31 +241,96 @@ returns-clause-others g c n other = c.in_ok-put.ensures.others n (λ is. other (
 pub returns-in-None-clause-count : goal.returns-in-None-clause-count
 returns-in-None-clause-count g c =
     let rows : List (Option Row) = c.args.records.now in
-    let is = no_row_stays c.args.action c.args.held.now (get_or rows c.args.cell None) (sym (label_of_row rows c.args.cell) ∙ c.in-None.ensures.none refl) in
-    told_all (g.D.Disk.medium c.args.store.now) (λ _. false ≡ changes_row c.args.action c.args.held.now (get_or rows c.args.cell None)) (λ _. sym is)
+    sym (no_row_stays c.args.action c.args.held.now (get_or rows c.args.cell None) (sym (label_of_row rows c.args.cell) ∙ c.in-None.ensures.none refl))
 
 pub returns-then-not-may_change-clause-count : goal.returns-then-not-may_change-clause-count
 returns-then-not-may_change-clause-count g c =
     let rows : List (Option Row) = c.args.records.now in
-    let place : ℕ = c.in-Some.place in
-    let is = marked_row_stays c.args.action c.args.held.now (get_or rows place None) (sym c.may_change.ensures ∙ c.if-not-may_change.true) in
-    subst (λ n. Told (g.D.Disk.medium c.args.store.now) (λ _. false ≡ changes_row c.args.action c.args.held.now (get_or rows n None))) c.in-Some.ensures.place
-    (told_all (g.D.Disk.medium c.args.store.now) (λ _. false ≡ changes_row c.args.action c.args.held.now (get_or rows place None)) (λ _. sym is))
+    subst (λ n. false ≡ changes_row c.args.action c.args.held.now (get_or rows n None)) c.in-Some.ensures.place
+    (sym (marked_row_stays c.args.action c.args.held.now (get_or rows c.in-Some.place None) (sym c.may_change.ensures ∙ c.if-not-may_change.true)))
 
-pub returns-then-not-branch-clause-count : goal.returns-then-not-branch-clause-count
-returns-then-not-branch-clause-count g c =
+pub returns-then-not-found-clause-count : goal.returns-then-not-found-clause-count
+returns-then-not-found-clause-count g c =
     let rows : List (Option Row) = c.args.records.now in
-    let place : ℕ = c.in-Some.place in
-    let is = null_row_stays c.args.action c.args.held.now (get_or rows place None) (sym c.in_ok-read.ensures.null ∙ c.if-not-branch.true) in
-    subst (λ n. Told (g.D.Disk.medium c.args.store.now) (λ _. false ≡ changes_row c.args.action c.args.held.now (get_or rows n None))) c.in-Some.ensures.place
-    (told_all (g.D.Disk.medium c.args.store.now) (λ _. false ≡ changes_row c.args.action c.args.held.now (get_or rows place None)) (λ _. sym is))
+    subst (λ n. false ≡ changes_row c.args.action c.args.held.now (get_or rows n None)) c.in-Some.ensures.place
+    (sym (null_row_stays c.args.action c.args.held.now (get_or rows c.in-Some.place None) (sym c.in-Ok.ensures.null ∙ c.if-not-found.true)))
 
 pub returns-in-None-made_tokens-clause-count : goal.returns-in-None-made_tokens-clause-count
 returns-in-None-made_tokens-clause-count g c =
-    subst (λ n. Told (g.D.Disk.medium c.args.store.now) (λ _. false ≡ changes_row c.args.action c.args.held.now (get_or c.args.records.now n None))) c.in-Some.ensures.place
-    (told_row g (goal.at.returns-in-None-made_tokens-clause-count g c).After-made_tokens false c.in-None-made_tokens.ensures.some)
+    subst (λ n. false ≡ changes_row c.args.action c.args.held.now (get_or c.args.records.now n None)) c.in-Some.ensures.place
+    (row_is g (goal.at.returns-in-None-made_tokens-clause-count g c).After-made_tokens false c.in-None-made_tokens.ensures.some)
 
 pub returns-clause-count : goal.returns-clause-count
 returns-clause-count g c =
-    subst (λ n. Told (g.D.Disk.medium c.args.store.now) (λ _. true ≡ changes_row c.args.action c.args.held.now (get_or c.args.records.now n None))) c.in-Some.ensures.place
-    (told_row g (goal.at.returns-clause-count g c).After-made_tokens true c.in-Some-made_tokens.ensures.some)
+    subst (λ n. true ≡ changes_row c.args.action c.args.held.now (get_or c.args.records.now n None)) c.in-Some.ensures.place
+    (row_is g (goal.at.returns-clause-count g c).After-made_tokens true c.in-Some-made_tokens.ensures.some)
+
+-- ---- by what was read
+
+not_held : (o : Option (List ℕ)) → o ≡ None → IsSome o → ⊥
+not_held None none held = cc held
+not_held (Some label) none held = cc none
+
+not_both : (b : Bool) → b ≡ false → b ≡ true → ⊥
+not_both b isnt is = cc
+
+pub returns-in-None-clause-own : goal.returns-in-None-clause-own
+returns-in-None-clause-own g c = λ m loaded held may. absurd (not_held _ (c.in-None.ensures.none refl) held)
+
+pub returns-then-not-may_change-clause-own : goal.returns-then-not-may_change-clause-own
+returns-then-not-may_change-clause-own g c = λ m loaded held may.
+    let rows : List (Option Row) = c.args.records.now in
+    absurd (not_both _ (sym c.may_change.ensures ∙ c.if-not-may_change.true)
+    (subst (λ n. may_change c.args.action (is_ahead_row (get_or rows n None)) ≡ true) (sym c.in-Some.ensures.place) may))
+
+pub returns-then-not-found-clause-own : goal.returns-then-not-found-clause-own
+returns-then-not-found-clause-own g c = λ m loaded held may.
+    let rows : List (Option Row) = c.args.records.now in
+    let bytes = (bench_of c.read.new.lease).body in
+    subst (λ n. TurnsAsRead c.args.action (keys_of m) (get_or rows n None) (get_or rows n None) bytes false) c.in-Some.ensures.place
+    (record {
+      stays = λ _. record {
+        found = c.in-Ok.found;
+        token = c.read.new.out;
+        read = c.in-Ok.ensures.own;
+        null = c.in-Ok.ensures.null;
+        stays = λ found. absurd (not_both _ c.if-not-found.true found);
+      };
+      turns = λ done. absurd (not_both _ refl done);
+    })
+
+pub returns-in-None-made_tokens-clause-own : goal.returns-in-None-made_tokens-clause-own
+returns-in-None-made_tokens-clause-own g c = λ m loaded held may.
+    let rows : List (Option Row) = c.args.records.now in
+    let now = loaded_body m c.args.held.now c.args.lease.now c.read.new.lease loaded c.read.ensures.rest in
+    let none : false ≡ changes_key c.args.action (denoted (keys_of m) c.read.new.out) = c.in-None-made_tokens.ensures.some m now in
+    let still = ap (λ (b : Bench). b.body) (ap bench_of c.made_tokens.ensures.stays) in
+    let row = get_or rows c.in-Some.place None in
+    subst (λ n. TurnsAsRead c.args.action (keys_of m) (get_or rows n None) (get_or rows n None) (bench_of c.made_tokens.new.lease).body false) c.in-Some.ensures.place
+    (record {
+      stays = λ _. subst (λ (bytes : List ℕ). StaysAsRead c.args.action (keys_of m) row bytes) (sym still) (record {
+        found = c.in-Ok.found;
+        token = c.read.new.out;
+        read = c.in-Ok.ensures.own;
+        null = c.in-Ok.ensures.null;
+        stays = λ found. sym none;
+      });
+      turns = λ done. absurd (not_both _ refl done);
+    })
+
+pub returns-clause-own : goal.returns-clause-own
+returns-clause-own g c = λ m loaded held may.
+    let rows : List (Option Row) = c.args.records.now in
+    let at = (goal.at.returns-clause-own g c).In-Some-made_tokens in
+    let now = loaded_body m c.args.held.now c.args.lease.now c.read.new.lease loaded c.read.ensures.rest in
+    subst (λ n. TurnsAsRead c.args.action (keys_of m) (get_or rows n None) (get_or c.put.new.records n None) (bench_of c.put.new.lease).body true) c.in-Some.ensures.place
+    (record {
+      stays = λ done. absurd (not_both _ done refl);
+      turns = λ done. record {
+        token = c.read.new.out;
+        changes = sym (c.in-Some-made_tokens.ensures.some m now);
+        tokens = c.in-Some-made_tokens.tokens;
+        made = c.in-Some-made_tokens.ensures.made m now;
+        row = c.in_ok-put.ensures.row;
+      };
+    })

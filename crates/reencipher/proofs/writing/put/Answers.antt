@@ -1,13 +1,13 @@
-use Rattle.std.proofs.Common.{◌≡◌, ◌≢◌, ℕ, List, Option, Result, Ok, Err, None, get_or, set, refl, sym, ap, subst, ◌∙◌}
+use Rattle.std.proofs.Common.{◌≡◌, ◌≢◌, ℕ, List, Option, Result, Ok, Err, None, Some, get_or, set, refl, sym, ap, subst, ◌∙◌}
 use Rattle.std.specs.Prelude.{OnOk}
 use Rattle.std.proofs.lemmas.List.{get_or-set_other}
 use Rattle.key_records.specs.Changes.{ChangesLabels, Remembers}
-use Rattle.key_records.specs.Entries.{row_directory}
+use Rattle.key_records.specs.Entries.{label_or, row_directory}
 use Rattle.key_records.specs.declared.faults.RecordFault.{RecordFault}
 use Rattle.key_records.specs.declared.rows.Row.{Row}
-use Rattle.reencipher.specs.Tokens.{StandFor, put_in}
+use Rattle.reencipher.specs.Tokens.{StandFor, put_in, row_of}
 use Rattle.reencipher.specs.declared.writing.Tokens.{Tokens}
-use Rattle.reencipher.proofs.TurnLaws.{same_label}
+use Rattle.reencipher.proofs.TurnLaws.{row_put, same_label}
 use Rattle.reencipher.proofs.writing.put.Goals as goal
 
 on_ok : {P Q : Type 0} (r : Result (Unit {0}) RecordFault) → OnOk r P → (P → Q) → OnOk r Q
@@ -42,3 +42,19 @@ returns-in-One-clause-others g c n other = others_stay c.args.records.now c.writ
 
 pub returns-in-Two-clause-others : goal.returns-in-Two-clause-others
 returns-in-Two-clause-others g c n other = others_stay c.args.records.now c.write_both.new.self c.args.place _ c.write_both.result c.write_both.ensures.memory n other
+
+-- ---- the row of its cell
+
+pub returns-in-One-clause-row : goal.returns-in-One-clause-row
+returns-in-One-clause-row g c =
+    let rows = c.args.records.now in
+    let label = label_or (get_or rows c.args.place None) in
+    subst (λ (t : Tokens). OnOk c.write.result (get_or c.write.new.self c.args.place None ≡ Some (row_of label t))) (sym c.in-One.is)
+    (on_ok c.write.result c.write.ensures.memory.done (λ is. ap (λ (r : List (Option Row)). get_or r c.args.place None) is ∙ row_put rows c.args.place _ c.requires.held))
+
+pub returns-in-Two-clause-row : goal.returns-in-Two-clause-row
+returns-in-Two-clause-row g c =
+    let rows = c.args.records.now in
+    let label = label_or (get_or rows c.args.place None) in
+    subst (λ (t : Tokens). OnOk c.write_both.result (get_or c.write_both.new.self c.args.place None ≡ Some (row_of label t))) (sym c.in-Two.is)
+    (on_ok c.write_both.result c.write_both.ensures.memory.done (λ is. ap (λ (r : List (Option Row)). get_or r c.args.place None) is ∙ row_put rows c.args.place _ c.requires.held))

@@ -1,5 +1,5 @@
 -- Each part that moves and each read grow what was gathered.
-use Rattle.std.proofs.Common.{refl, sym, ap, ◌∙◌, inl, inr, arith}
+use Rattle.std.proofs.Common.{refl, sym, ap, ◌∙◌, inl, inr}
 use Rattle.std.proofs.lemmas.Bool.{iff_false}
 use Rattle.script_buffers.proofs.GatheringLemmas.{gathering-none, gathering-moved, gathering-cut, gathering-refilled, gathering-failed, not-ready}
 use Rattle.script_buffers.proofs.lines.gather.Goals as goal
@@ -31,7 +31,7 @@ parts-preserved g c =
     let going = sym c.has_ended.ensures ∙ c.if-has_ended.false in
     let short = iff_false c.is_full.ensures c.if-is_full.false in (
       gathering-refilled _ _ _ _ _ (gathering-moved _ _ _ _ _ c.parts.invariant.0 moves) _ (ap (λ r. r.pending) moves.1) c.in-Ok.ensures.ok,
-      c.in-Ok.ensures.quiet ∙ c.parts.invariant.1,
+      c.in-Ok.ensures.cause.quiet ∙ c.parts.invariant.1,
       inr (elim c.parts.invariant.2 [
         | inl unread ↦ not-ready c.args.buffer.now _ _ unread.1 moves going short
         | inr read ↦ read

@@ -1,5 +1,5 @@
 -- While no newline was found: what was gathered so far, that no read failed, and whether the source was read.
-use Rattle.std.proofs.Common.{◌≡◌, ◌≤◌, ◌+◌, ◌-◌, ◌⊎◌, [], cond}
+use Rattle.std.proofs.Common.{◌≡◌, ◌+◌, ◌-◌, ◌⊎◌, [], cond}
 use Rattle.script_buffers.specs.Reading.{IsReady, input_limit}
 use Rattle.script_buffers.specs.Gathering.{Gathering}
 use Rattle.script_buffers.proofs.lines.gather.Given as goal

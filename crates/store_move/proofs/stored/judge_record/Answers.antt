@@ -1,9 +1,12 @@
+use Rattle.std.proofs.Common.{None, ap, refl, sym, ◌∙◌}
 use Rattle.key_cells.specs.Lease.{bench_of}
+use Rattle.key_tokens.specs.Denotes.{denoted}
 use Rattle.key_records.specs.StoreStands.{entry_at}
 use Rattle.verb_rules.specs.Keys.{HasHalves, keys_of}
 use Rattle.verb_rules.specs.StoredKeys.{IsRead}
 use Rattle.verb_rules.proofs.JudgeLemmas.{if_ok_gives}
-use Rattle.store_move.proofs.StoredLemmas.{never_damaged, stored_key}
+use Rattle.store_move.proofs.StoredLemmas.{never_damaged, stored_as, stored_key, stored_some}
+use Rattle.store_move.specs.Reading.{if_found}
 use Rattle.store_move.proofs.stored.judge_record.Goals as goal
 
 pub returns-in-Some-clause-stored : goal.returns-in-Some-clause-stored
@@ -25,3 +28,34 @@ returns-in-None-clause-damaged g c = λ m s loaded told cell failed.
     never_damaged store.content (keys_of m) (entry_at s c.args.place) bench c.args.need.now c.read.new.out
     c.in-Ok-true.field-0 c.in-Ok-true.field-0-test (c.in-Ok-true.ensures.token (keys_of m) s told)
     (c.in-None.ensures.stored m bench loaded)
+
+pub returns-in-Some-clause-own : goal.returns-in-Some-clause-own
+returns-in-Some-clause-own g c = λ m loaded.
+    let bench = bench_of c.args.lease.now in
+    let what = denoted (keys_of m) c.read.new.out in
+    let judges = c.in-Some.ensures.stored m bench loaded in (
+      what,
+      record {
+        found = c.in-Ok-true.field-0;
+        token = c.read.new.out;
+        read = c.in-Ok-true.ensures.own;
+        null = c.in-Ok-true.ensures.null;
+        holds = sym (ap (λ b. if_found b what) c.in-Ok-true.field-0-test);
+        key = stored_some bench c.args.need.now what c.in-Some.judged judges ∙ sym c.in-Ok-true.field-0-test;
+      },
+      stored_as bench c.args.need.now what c.in-Some.judged judges,
+    )
+
+pub returns-in-Ok-false-clause-own : goal.returns-in-Ok-false-clause-own
+returns-in-Ok-false-clause-own g c = λ m loaded. (
+  None,
+  record {
+    found = c.in-Ok-false.field-0;
+    token = c.read.new.out;
+    read = c.in-Ok-false.ensures.own;
+    null = c.in-Ok-false.ensures.null;
+    holds = sym (ap (λ b. if_found b (denoted (keys_of m) c.read.new.out)) c.in-Ok-false.field-0-test);
+    key = sym c.in-Ok-false.field-0-test;
+  },
+  refl,
+)

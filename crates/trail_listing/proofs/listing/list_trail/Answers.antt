@@ -6,6 +6,7 @@ use Rattle.audit_trail.specs.TrailStands.{IsFirstDamaged}
 use Rattle.audit_trail.specs.declared.faults.TrailFault.TheVariants.{DiskFault, Damaged}
 use Rattle.trail_listing.specs.declared.listing.ListFault.TheVariants.{Trail}
 use Rattle.trail_listing.proofs.DamageLaws.{opening_fault, listing_fault, each_within, opened_undamaged, told_never, sound_opened, listed_none}
+use Rattle.trail_listing.proofs.ReadLaws.{read_nothing}
 use Rattle.trail_listing.proofs.listing.list_trail.Goals as goal
 
 pub returns-in-Ok-clause-damage : goal.returns-in-Ok-clause-damage
@@ -21,6 +22,12 @@ returns-in-Ok-clause-damage g c =
 
 pub returns-in-Err-clause-lines : goal.returns-in-Err-clause-lines
 returns-in-Err-clause-lines g c = listed_none (g.T.Disk.medium c.args.trail.now) c.in-Err.fault c.in-Err.ensures.damaged (g.K.Sink.held c.args.sink.now)
+
+pub returns-in-Ok-clause-own : goal.returns-in-Ok-clause-own
+returns-in-Ok-clause-own g c = (c.open_trail.new.held, c.send_records.ensures.own)
+
+pub returns-in-Err-clause-own : goal.returns-in-Err-clause-own
+returns-in-Err-clause-own g c = read_nothing (Trail c.in-Err.fault) (g.K.Sink.held c.args.sink.now)
 
 pub returns-in-Err-clause-complete : goal.returns-in-Err-clause-complete
 returns-in-Err-clause-complete g c sent works =
@@ -49,6 +56,7 @@ returns-in-Ok-clause-trail_left g c =
       settled = λ done. settled_kept m1 m2 c.send_records.ensures.keeps (c.in-Ok.ensures.left.settled refl);
       later = omega (arith, c.in-Ok.ensures.left.later, c.send_records.ensures.trail_left.later);
       fault = λ is. rose_wider _ _ _ _ c.in-Ok.ensures.left.later (c.send_records.ensures.trail_left.later) (omega arith) (c.send_records.ensures.trail_left.fault is);
+      quiet = λ none. c.send_records.ensures.trail_left.quiet none ∙ c.in-Ok.ensures.left.quiet (λ h. cc h);
     }
 
 pub returns-in-Err-clause-trail_left : goal.returns-in-Err-clause-trail_left
@@ -58,4 +66,5 @@ returns-in-Err-clause-trail_left g c = record {
   settled = λ done. elim done [ inl wrong ↦ cc | inr wrong ↦ cc ];
   later = c.in-Err.ensures.left.later;
   fault = λ is. c.in-Err.ensures.left.fault (opening_fault c.in-Err.fault DiskFault is);
+  quiet = λ none. c.in-Err.ensures.left.quiet (λ is. none (listing_fault c.in-Err.fault DiskFault is));
 }

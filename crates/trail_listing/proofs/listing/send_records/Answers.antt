@@ -1,4 +1,4 @@
-use Rattle.std.proofs.Common.{◌≡◌, ◌+◌, ℕ, List, Ok, Err, ap, arith}
+use Rattle.std.proofs.Common.{◌≡◌, ◌+◌, ◌-◌, ℕ, List, Ok, Err, ap, refl, ◌∙◌, arith}
 use Rattle.slot_disk.proofs.Media.{keeps_still, keeps_then, told_earlier}
 use Rattle.audit_trail.specs.Entries.{entry_at}
 use Rattle.audit_trail.specs.TrailStands.{IsTrail}
@@ -9,6 +9,7 @@ use Rattle.trail_listing.specs.Listing.{Listed}
 use Rattle.trail_listing.specs.Sending.{SendsLine}
 use Rattle.trail_listing.specs.declared.listing.ListFault.TheVariants.{Trail}
 use Rattle.trail_listing.proofs.SendingLaws.{HasLinesBelow, of_each, of_both, of_none, no_line, one_line, listed_all, listed_part, grew, grew_none}
+use Rattle.trail_listing.proofs.ReadLaws.{read_all, read_more, read_none, read_part}
 use Rattle.trail_listing.proofs.listing.send_records.Goals as goal
 
 pub loop-number-init : goal.loop-number-init
@@ -18,10 +19,11 @@ loop-number-init g c =
       told = of_each (g.T.Disk.medium c.args.trail.now) c.args.held.now c.requires.stands
           (λ es. HasLinesBelow es c.saturating_sub-first.result held held)
           (λ es long. no_line es c.saturating_sub-first.result held (omega (arith, long)));
+      own = read_none (c.args.held.now - 4096) c.saturating_sub-first.result held (omega (arith, c.next_number-next.ensures.number));
       grows = grew_none held;
       keeps = keeps_still (g.T.Disk.medium c.args.trail.now);
-      trail_later = omega arith;
-      sink_later = omega arith;
+      trail_quiet = refl;
+      sink_quiet = refl;
       from = omega arith;
       empty = c.requires.empty;
     }
@@ -42,10 +44,12 @@ loop-number-preserved g c =
           c.loop-number.invariant.told
           (told_earlier m0 m1 (λ image. (es : List AnyEntry) → IsTrail image es → SendsLine (record_line number (entry_at es number)) (Ok tt) held1 held2) c.loop-number.invariant.keeps.content c.in-Ok.ensures.line)
           (λ es long before sends. one_line es number (omega (arith, long, c.loop-number.invariant.from, c.next_number-next.ensures.number)) held0 held1 held2 before sends.done);
+      own = (let sent = c.in-Ok.ensures.own.done in
+          read_more (c.args.held.now - 4096) number held0 held1 held2 c.loop-number.invariant.own sent.0 sent.1 sent.2);
       grows = grew held0 held1 held2 c.loop-number.invariant.grows c.in-Ok.ensures.grows;
       keeps = keeps_then m0 m1 (g.T.Disk.medium c.send_record.new.trail) c.loop-number.invariant.keeps c.in-Ok.ensures.keeps;
-      trail_later = omega (arith, c.loop-number.invariant.trail_later, c.in-Ok.ensures.trail_left.later);
-      sink_later = omega (arith, c.loop-number.invariant.sink_later, c.in-Ok.ensures.sink_left.later);
+      trail_quiet = c.in-Ok.ensures.trail_left.quiet (λ h. cc h) ∙ c.loop-number.invariant.trail_quiet;
+      sink_quiet = c.in-Ok.ensures.sink_left.quiet (λ h. cc h) ∙ c.loop-number.invariant.sink_quiet;
       from = omega (arith, c.loop-number.invariant.from);
       empty = c.in-Ok.ensures.emptied;
     }
@@ -84,3 +88,15 @@ returns-clause-lines g c =
     c.loop-number.invariant.told
     (of_each m0 c.args.held.now c.requires.stands (λ es. Unit {0}) (λ es long. tt))
     (λ es long before none. listed_all es c.loop-number.number held0 held1 (omega (arith, long, c.loop-number-test.false, c.loop-number.auto.number-end, c.next_number-next.ensures.number)) before)
+
+-- ---- by what was read of each record
+
+pub returns-in-Err-clause-own : goal.returns-in-Err-clause-own
+returns-in-Err-clause-own g c =
+    read_part c.args.held.now c.loop-number.number c.in-Err.fault (g.K.Sink.held c.args.sink.now) (g.K.Sink.held c.loop-number.sink) (g.K.Sink.held c.send_record.new.sink)
+    (omega (arith, c.loop-number-test.true, c.next_number-next.ensures.number)) c.loop-number.invariant.own c.in-Err.ensures.own (λ f is. ap g.K.Sink.held (c.in-Err.ensures.unsent f is))
+
+pub returns-clause-own : goal.returns-clause-own
+returns-clause-own g c =
+    read_all c.args.held.now c.loop-number.number (g.K.Sink.held c.args.sink.now) (g.K.Sink.held c.loop-number.sink)
+    (omega (arith, c.loop-number-test.false, c.loop-number.auto.number-end, c.next_number-next.ensures.number)) c.loop-number.invariant.own

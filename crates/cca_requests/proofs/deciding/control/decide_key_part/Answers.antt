@@ -2,7 +2,6 @@ use Rattle.std.proofs.Common.{◌≡◌, ◌∙◌, [], ◌∷◌, refl, sym, ap
 use Rattle.key_cells.specs.Lease.{bench_of}
 use Rattle.master_registers.specs.Actions.{after_action}
 use Rattle.master_registers.specs.declared.actions.Action.{Action}
-use Rattle.verb_script.specs.Choices.{part_action_word}
 use Rattle.verb_script.specs.Values.{hex_value}
 use Rattle.verb_script.specs.Grammar.{csnbmkp_part}
 use Rattle.cca_machine.specs.Act.{Become}
@@ -18,11 +17,11 @@ pub returns-clause-settles : goal.returns-clause-settles
 returns-clause-settles c = λ role granted held rows.
     let old = bench_of c.args.lease.now in
     let bench = bench_of c.put_part.new.lease in
-    let action = (part_action_word c.args.action) in
+    let action = c.args.action.now in
     let key_part = hex_value c.args.part.now in
     let request = asked csnbmkp_part (role ∷ action ∷ c.args.part.now ∷ []) in
     let part : bench.part ≡ key_part = ap (λ l. (bench_of l).part) c.put_part.ensures in
-    subst (λ (a : Action). Settles request granted held rows old bench (code.Change a) []) (sym c.part_action.ensures)
+    subst (λ (a : Action). Settles request granted held rows old bench (code.Change a) []) (sym c.part_action_of.ensures)
     (left_settles refl
     (λ s is.
     let becomes : Become (after_action (part_action action) key_part s.registers) s.labels

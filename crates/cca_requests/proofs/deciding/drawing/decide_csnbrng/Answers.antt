@@ -17,7 +17,7 @@ returns-in-Ok g c = record {
       silent = tt;
       stops = tt;
     };
-    takes = takes_drawn c.csnbrng.ensures.cause.later (λ s refused. cc refused) refl;
+    takes = takes_drawn c.in-Ok.ensures.cause.quiet (λ s refused. cc refused) refl;
   };
 }
 

@@ -6,7 +6,6 @@ use Rattle.key_tokens.specs.Denotes.{ClearKey}
 use Rattle.key_transport.specs.Generated.{generated_key}
 use Rattle.script_buffers.specs.Replies.{Hex}
 use Rattle.verb_rules.specs.Keys.{opened}
-use Rattle.verb_script.specs.Choices.{key_length_word, out_form_word}
 use Rattle.verb_script.specs.Grammar.{csnbkgn_out}
 use Rattle.cca_machine.specs.Choices.{key_length_named, type_in}
 use Rattle.cca_machine.specs.Keys.{key_in_field, key_in_text}
@@ -28,7 +27,7 @@ returns-in-Ok-clause-decision g c = λ role transport1 transport2 rows shaped.
     let later = bench_of c.generate_out.new.lease in
     let named_one = type_in (type_name c.args.first) in
     let named_two = type_in (type_name c.args.second) in
-    let request = asked csnbkgn_out (role ∷ (out_form_word c.args.form) ∷ (key_length_word c.args.length) ∷ type_name c.args.first ∷ type_name c.args.second ∷ transport1 ∷ transport2 ∷ []) in record {
+    let request = asked csnbkgn_out (role ∷ c.args.form.now ∷ c.args.length.now ∷ type_name c.args.first ∷ type_name c.args.second ∷ transport1 ∷ transport2 ∷ []) in record {
       decided = record {
         decides = λ s is.
             let one_key = c.double_key_in-one.result.now in
@@ -37,10 +36,10 @@ returns-in-Ok-clause-decision g c = λ role transport1 transport2 rows shaped.
             key_is bench (key_in_text s transport1) c.args.granted.now.first one_key is.grants.0 c.double_key_in-one.ensures.key c.double_key_in-one.ensures.under in
             let other : key_in_field s request (codes "transport2") ≡ opened bench two_key =
             key_is bench (key_in_text s transport2) c.args.granted.now.second two_key is.grants.1 c.double_key_in-two.ensures.key c.double_key_in-two.ensures.under in
-            let made = λ (one two : KeyType) (a b : ClearKey). LeavesDrawn s (first_refusal (pair_questions one two (key_length_named (key_length_word c.args.length))))
-            (λ (drawn : List ℕ). Show (Hex (codes "token1") (external_token a.key (generated_key one (key_length_named (key_length_word c.args.length)) drawn))
-            ∷ Hex (codes "token2") (external_token b.key (generated_key two (key_length_named (key_length_word c.args.length)) drawn)) ∷ [])) (key_length_named (key_length_word c.args.length)) before now c.generate_out.new.reply c.in-Ok.effect in
-            generated_decides s later request (key_length_named (key_length_word c.args.length)) before now c.generate_out.new.reply c.in-Ok.effect refl
+            let made = λ (one two : KeyType) (a b : ClearKey). LeavesDrawn s (first_refusal (pair_questions one two (key_length_named c.args.length.now)))
+            (λ (drawn : List ℕ). Show (Hex (codes "token1") (external_token a.key (generated_key one (key_length_named c.args.length.now) drawn))
+            ∷ Hex (codes "token2") (external_token b.key (generated_key two (key_length_named c.args.length.now) drawn)) ∷ [])) (key_length_named c.args.length.now) before now c.generate_out.new.reply c.in-Ok.effect in
+            generated_decides s later request (key_length_named c.args.length.now) before now c.generate_out.new.reply c.in-Ok.effect refl
             (subst (λ (k : ClearKey). made named_one named_two k (key_in_field s request (codes "transport2"))) (sym key)
             (subst (λ (k : ClearKey). made named_one named_two (opened bench one_key) k) (sym other)
             (subst (λ (k : KeyType). made named_one k (opened bench one_key) (opened bench two_key)) (sym (type_is c.args.second))
@@ -51,11 +50,11 @@ returns-in-Ok-clause-decision g c = λ role transport1 transport2 rows shaped.
         silent = tt;
         stops = tt;
       };
-      takes = takes_drawn c.generate_out.ensures.cause.later (λ s refused. c.generate_out.ensures.untouched (pair_refused c.args.first c.args.second (key_length_named (key_length_word c.args.length)) refused)) refl;
+      takes = takes_drawn c.in-Ok.ensures.cause.quiet (λ s refused. c.generate_out.ensures.untouched (pair_refused c.args.first c.args.second (key_length_named c.args.length.now) refused)) refl;
     }
 
 pub returns-in-Err-clause-decision : goal.returns-in-Err-clause-decision
 returns-in-Err-clause-decision g c = λ role transport1 transport2 rows shaped. record {
-  decided = stopped_decides (λ s. ap first_refusal (pair_types c.args.first c.args.second (key_length_named (key_length_word c.args.length))) ∙ c.in-Err.ensures.permitted) refl c.in-Err.ensures.silent;
-  takes = takes_failed c.generate_out.ensures.cause.later c.in-Err.ensures.cause.failed (λ s refused. c.generate_out.ensures.untouched (pair_refused c.args.first c.args.second (key_length_named (key_length_word c.args.length)) refused)) refl;
+  decided = stopped_decides (λ s. ap first_refusal (pair_types c.args.first c.args.second (key_length_named c.args.length.now)) ∙ c.in-Err.ensures.permitted) refl c.in-Err.ensures.silent;
+  takes = takes_failed c.generate_out.ensures.cause.later c.in-Err.ensures.cause.failed (λ s refused. c.generate_out.ensures.untouched (pair_refused c.args.first c.args.second (key_length_named c.args.length.now) refused)) refl;
 }

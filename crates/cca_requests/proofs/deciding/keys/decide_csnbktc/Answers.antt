@@ -4,7 +4,6 @@ use Rattle.key_tokens.specs.Denotes.{ClearKey}
 use Rattle.key_transport.specs.Tokens.{changed_token}
 use Rattle.script_buffers.specs.Replies.{Hex}
 use Rattle.verb_rules.specs.Keys.{opened}
-use Rattle.verb_script.specs.Choices.{change_word}
 use Rattle.verb_script.specs.Grammar.{csnbktc}
 use Rattle.verb_script.specs.Values.{hex_value}
 use Rattle.cca_machine.specs.Choices.{target_named}
@@ -21,9 +20,9 @@ pub returns-clause-settles : goal.returns-clause-settles
 returns-clause-settles c = λ role token rows.
     let bench = bench_of c.args.lease.now in
     let later = bench_of c.csnbktc.new.lease in
-    let request = asked csnbktc (role ∷ (change_word c.args.rule) ∷ token ∷ []) in
+    let request = asked csnbktc (role ∷ c.args.rule.now ∷ token ∷ []) in
     let judged = c.key_in.result.now in
-    let target = target_named (change_word c.args.rule) in
+    let target = target_named c.args.rule.now in
     let key = λ (s : State). key_of_token s (hex_value token) in
     settles
     (λ shaped s is left.

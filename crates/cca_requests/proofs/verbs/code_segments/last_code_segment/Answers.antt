@@ -7,7 +7,6 @@ use Rattle.text_segments.specs.Segments.{last_code}
 use Rattle.text_segments.specs.declared.chains.Chain.{Chain}
 use Rattle.text_segments.specs.declared.modes.Mode.TheVariants.{Mac}
 use Rattle.verb_rules.specs.Keys.{opened}
-use Rattle.verb_script.specs.Choices.{code_rule_word}
 use Rattle.verb_script.specs.Values.{hex_value}
 use Rattle.cca_machine.specs.Choices.{mac_rule_named}
 use Rattle.cca_machine.specs.Verdict.{code_key_questions, last_segment_questions}
@@ -21,7 +20,7 @@ pub returns-in-Some-clause-settles : goal.returns-in-Some-clause-settles
 returns-in-Some-clause-settles c = λ role key segment held rows.
     let clear = opened (bench_of c.args.lease.now) c.key_in-key.result.now in
     let text = c.args.text.now in
-    let word = code_rule_word c.args.rule in
+    let word = c.args.rule.now in
     let others = λ (k : Chain). code_key_questions (mac_rule_named word) clear (last_segment_questions (Mac (mac_rule_named word)) padding.None k (length text / 2)) in
     let fields = λ (k : Chain). code_fields c.args.purpose (last_code clear (mac_rule_named word) k (hex_value text)) in
     keyed_settles (last_code_keyed c.args.purpose role key word segment c.args.chain.now text)
@@ -32,7 +31,7 @@ pub returns-in-None-clause-settles : goal.returns-in-None-clause-settles
 returns-in-None-clause-settles c = λ role key segment held rows.
     let clear = opened (bench_of c.args.lease.now) c.key_in-key.result.now in
     let text = c.args.text.now in
-    let word = code_rule_word c.args.rule in
+    let word = c.args.rule.now in
     let others = λ (k : Chain). code_key_questions (mac_rule_named word) clear (last_segment_questions (Mac (mac_rule_named word)) padding.None k (length text / 2)) in
     let chain = hex_value c.args.chain.now in
     keyed_settles (last_code_keyed c.args.purpose role key word segment c.args.chain.now text)

@@ -4,7 +4,6 @@ use Rattle.key_cells.specs.Lease.{bench_of}
 use Rattle.text_segments.specs.Chains.{chain_of}
 use Rattle.text_segments.specs.declared.chains.Chain.{Chain}
 use Rattle.verb_rules.specs.Keys.{opened}
-use Rattle.verb_script.specs.Choices.{code_rule_word}
 use Rattle.verb_script.specs.Values.{hex_value}
 use Rattle.cca_machine.specs.Act.{code_segment_fields}
 use Rattle.cca_machine.specs.Choices.{mac_rule_named}
@@ -18,7 +17,7 @@ pub returns-in-Some-clause-settles : goal.returns-in-Some-clause-settles
 returns-in-Some-clause-settles c = λ verifies role key segment held rows.
     let clear = opened (bench_of c.args.lease.now) c.key_in-key.result.now in
     let text = c.args.text.now in
-    let word = code_rule_word c.args.rule in
+    let word = c.args.rule.now in
     let others = λ (k : Chain). code_key_questions (mac_rule_named word) clear (segment_questions (length text / 2)) in
     let fields = λ (k : Chain). code_segment_fields clear (mac_rule_named word) k (hex_value text) in
     keyed_settles (middle_code_keyed verifies role key word segment c.args.chain.now text)
@@ -29,7 +28,7 @@ pub returns-in-None-clause-settles : goal.returns-in-None-clause-settles
 returns-in-None-clause-settles c = λ verifies role key segment held rows.
     let clear = opened (bench_of c.args.lease.now) c.key_in-key.result.now in
     let text = c.args.text.now in
-    let word = code_rule_word c.args.rule in
+    let word = c.args.rule.now in
     let others = λ (k : Chain). code_key_questions (mac_rule_named word) clear (segment_questions (length text / 2)) in
     let chain = hex_value c.args.chain.now in
     keyed_settles (middle_code_keyed verifies role key word segment c.args.chain.now text)

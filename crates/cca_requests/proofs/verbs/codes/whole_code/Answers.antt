@@ -1,15 +1,14 @@
 use Rattle.std.proofs.Common.{rules}
-use Rattle.verb_script.specs.Choices.{code_rule_word}
 use Rattle.cca_requests.proofs.KeyedRows.{whole_code_keyed}
 use Rattle.cca_requests.proofs.Settling.{keyed_settles}
 use Rattle.cca_requests.proofs.verbs.codes.whole_code.Goals as goal
 
 pub returns-in-Err-clause-settles : goal.returns-in-Err-clause-settles
 returns-in-Err-clause-settles c = λ role key held rows.
-    keyed_settles (whole_code_keyed c.args.purpose role key (code_rule_word c.args.rule) c.args.text.now)
+    keyed_settles (whole_code_keyed c.args.purpose role key c.args.rule.now c.args.text.now)
     c.key_in-key.ensures.key c.key_in-key.ensures.under (search rules)
 
 pub returns-clause-settles : goal.returns-clause-settles
 returns-clause-settles c = λ role key held rows.
-    keyed_settles (whole_code_keyed c.args.purpose role key (code_rule_word c.args.rule) c.args.text.now)
+    keyed_settles (whole_code_keyed c.args.purpose role key c.args.rule.now c.args.text.now)
     c.key_in-key.ensures.key c.key_in-key.ensures.under (search rules)

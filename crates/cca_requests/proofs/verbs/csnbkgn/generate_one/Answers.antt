@@ -9,8 +9,7 @@ use Rattle.key_transport.specs.declared.generating.Generated.{Generated}
 use Rattle.master_registers.specs.Loaded.{masters_in}
 use Rattle.verb_rules.specs.Keys.{keys_of}
 use Rattle.verb_rules.specs.Rules.{rule_number}
-use Rattle.verb_script.specs.Choices.{key_length_word}
-use Rattle.verb_script.specs.KeyFields.{record_label}
+use Rattle.verb_script.specs.Named.{label_named}
 use Rattle.cca_machine.specs.Act.{delivered}
 use Rattle.cca_machine.specs.Choices.{key_length_named}
 use Rattle.cca_machine.specs.Verdict.{first_refusal, generate_questions, refusal}
@@ -22,37 +21,37 @@ use Rattle.cca_requests.proofs.verbs.csnbkgn.generate_one.Goals as goal
 pub returns-in-Some-clause-generated : goal.returns-in-Some-clause-generated
 returns-in-Some-clause-generated g c = λ s loaded placed.
     let refused = c.in-Some.refusal in
-    let named = key_length_named (key_length_word c.args.length) in
+    let named = key_length_named c.args.length.now in
     let rules = λ (n : Length). first_refusal (generate_questions c.args.kind n) in
     drawn_refusal s (rules named) _ named (g.E.Entropy.left c.args.entropy.now) c.args.reply.now refused.rule refused.operand
-    (subst (λ (n : Length). rules n ≡ Some (refusal (rule_number refused.rule) refused.operand.now)) c.key_length-length.ensures c.in-Some.ensures)
+    (subst (λ (n : Length). rules n ≡ Some (refusal (rule_number refused.rule) refused.operand.now)) c.key_length_of-length.ensures c.in-Some.ensures)
 
 pub returns-in-Ok-clause-generated : goal.returns-in-Ok-clause-generated
 returns-in-Ok-clause-generated g c = λ s loaded placed.
-    let key_length = c.key_length-length.result in
+    let key_length = c.key_length_of-length.result in
     let before = g.E.Entropy.left c.args.entropy.now in
     let now = g.E.Entropy.left c.generate.new.entropy in
     let made = c.in-Ok.ensures.generated in
     let rules = λ (n : Length). first_refusal (generate_questions c.args.kind n) in
-    let make = λ (n : Length) (drawn : List ℕ). delivered s (codes "token1") (record_label c.args.to) (as_current (generated_key c.args.kind n drawn)) in
+    let make = λ (n : Length) (drawn : List ℕ). delivered s (codes "token1") (label_named c.args.to.now) (as_current (generated_key c.args.kind n drawn)) in
     let none = subst (HasRefused (rules key_length)) c.in_default.is c.judge_one.ensures in
     let key = generated_key c.args.kind key_length made.draw.drawn in
     let tokens : c.in-Ok.keys ≡ record { first = current_token s.registers key; second = None } = made.tokens s.registers loaded in
-    subst (λ (n : Length). LeavesDrawn s (rules n) (make n) n before now c.deliver.new.reply c.deliver.result) c.key_length-length.ensures
+    subst (λ (n : Length). LeavesDrawn s (rules n) (make n) n before now c.deliver.new.reply c.deliver.result) c.key_length_of-length.ensures
     (drawn_delivery s (rules key_length) (make key_length) key_length before now c.deliver.new.reply c.deliver.result none made.draw
     (c.deliver.ensures.delivered s (as_current key) (ap (λ (k : Generated). k.first) tokens) (made.operational s.registers loaded refl) placed))
 
 pub returns-in-Err-Repeated-clause-generated : goal.returns-in-Err-Repeated-clause-generated
 returns-in-Err-Repeated-clause-generated g c = λ s loaded placed.
-    let key_length = c.key_length-length.result in
-    let named = key_length_named (key_length_word c.args.length) in
+    let key_length = c.key_length_of-length.result in
+    let named = key_length_named c.args.length.now in
     let before = g.E.Entropy.left c.args.entropy.now in
     let now = g.E.Entropy.left c.generate.new.entropy in
     let rules = λ (n : Length). first_refusal (generate_questions c.args.kind n) in
     let none = subst (HasRefused (rules key_length)) c.in_default.is c.judge_one.ensures in
     let draw = c.in-Err-Repeated.ensures.repeated (ap Err c.in-Err-Repeated.field-0-is) in
-    drawn_repeated s (rules named) _ named before now c.args.reply.now _ (subst (λ (n : Length). rules n ≡ None) c.key_length-length.ensures none)
-    (subst (λ (n : Length). Draws n before now true) c.key_length-length.ensures draw) refl
+    drawn_repeated s (rules named) _ named before now c.args.reply.now _ (subst (λ (n : Length). rules n ≡ None) c.key_length_of-length.ensures none)
+    (subst (λ (n : Length). Draws n before now true) c.key_length_of-length.ensures draw) refl
 
 pub returns-in-Ok-clause-ready : goal.returns-in-Ok-clause-ready
 returns-in-Ok-clause-ready g c = λ rows held_place.

@@ -1,5 +1,6 @@
-use Rattle.std.proofs.Common.{length, ap, arith}
-use Rattle.verb_script.specs.KeyFields.{record_label}
+use Rattle.std.proofs.Common.{length, sym, ap, ◌∙◌, arith}
+use Rattle.std.specs.Option.{option_copied}
+use Rattle.verb_script.specs.Named.{label_named}
 use Rattle.cca_requests.proofs.Delivering.{short_named}
 use Rattle.cca_requests.proofs.verbs.delivering.deliver.Goals as goal
 
@@ -8,17 +9,17 @@ text-requires c =
     omega (
       arith,
       ap length c.requires.empty,
-      short_named (record_label c.args.to) c.in-Record.label.now c.args.place
-          (ap record_label c.in-Record.is) c.requires.target,
+      short_named (label_named c.args.to.now) c.in-Some.label.now c.args.place
+          (sym c.named_label.ensures ∙ ap option_copied c.in-Some.is) c.requires.target,
     )
 
-pub returns-in-Record-clause-size : goal.returns-in-Record-clause-size
-returns-in-Record-clause-size c =
+pub returns-in-Some-clause-size : goal.returns-in-Some-clause-size
+returns-in-Some-clause-size c =
     omega (
       arith,
       ap length c.requires.empty,
-      short_named (record_label c.args.to) c.in-Record.label.now c.args.place
-          (ap record_label c.in-Record.is) c.requires.target,
+      short_named (label_named c.args.to.now) c.in-Some.label.now c.args.place
+          (sym c.named_label.ensures ∙ ap option_copied c.in-Some.is) c.requires.target,
     )
 
 pub show_second-requires : goal.show_second-requires
@@ -26,6 +27,6 @@ show_second-requires c =
     omega (
       arith,
       ap length c.requires.empty,
-      short_named (record_label c.args.to) c.in-Record.label.now c.args.place
-          (ap record_label c.in-Record.is) c.requires.target,
+      short_named (label_named c.args.to.now) c.in-Some.label.now c.args.place
+          (sym c.named_label.ensures ∙ ap option_copied c.in-Some.is) c.requires.target,
     )

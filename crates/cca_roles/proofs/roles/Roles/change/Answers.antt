@@ -49,3 +49,26 @@ returns-clause-changed g c =
       moments = either_moments c.args.place bytes c.args.slot s c.requires.within c.requires.reads apart m0 m1 c.requires.stands
           (subst (λ (n : ℕ). EachImage m0 m1 (From (IsReplacing n bytes) m0)) c.new.ensures c.replace_cell.ensures.moments);
     }
+
+pub returns-then-is_err-clause-written : goal.returns-then-is_err-clause-written
+returns-then-is_err-clause-written g c =
+    let bytes : List ℕ = c.args.body.now in
+    let m0 = g.M.Disk.medium c.args.«module».now in
+    let m1 = g.M.Disk.medium c.replace_cell.new.disk in
+    record {
+      replaced = tt;
+      replacing = subst (λ (n : ℕ). Becomes (IsReplacing n bytes) m0 m1) c.new.ensures c.replace_cell.ensures.replacing;
+      moments = subst (λ (n : ℕ). EachImage m0 m1 (From (IsReplacing n bytes) m0)) c.new.ensures c.replace_cell.ensures.moments;
+    }
+
+pub returns-clause-written : goal.returns-clause-written
+returns-clause-written g c =
+    let bytes : List ℕ = c.args.body.now in
+    let m0 = g.M.Disk.medium c.args.«module».now in
+    let m1 = g.M.Disk.medium c.replace_cell.new.disk in
+    record {
+      replaced = subst (λ (n : ℕ). Becomes (IsReplaced n bytes) m0 m1) c.new.ensures
+          (unless_err c.replace_cell.result (sym c.is_err.ensures.value ∙ c.if-is_err.false) c.replace_cell.ensures.replaced);
+      replacing = subst (λ (n : ℕ). Becomes (IsReplacing n bytes) m0 m1) c.new.ensures c.replace_cell.ensures.replacing;
+      moments = subst (λ (n : ℕ). EachImage m0 m1 (From (IsReplacing n bytes) m0)) c.new.ensures c.replace_cell.ensures.moments;
+    }

@@ -6,7 +6,7 @@ use Rattle.cca_tool.specs.Coprocessor.{IsModuleStop}
 use Rattle.key_cells.specs.Lease.{bench_of}
 use Rattle.master_registers.specs.Loaded.{masters_in}
 use Rattle.master_registers.specs.declared.registers.Registers.{Registers}
-use Rattle.cca_tool.proofs.OpeningLemmas.{as_stop, broken_record, handed_judged, handed_record, judged_record, never_judged, opened_as, stands_unbroken, unjudged_store}
+use Rattle.cca_tool.proofs.OpeningLemmas.{as_stop, broken_record, handed_judged, handed_record, is_loaded_after, judged_record, never_judged, opened_as, registers_after, stands_unbroken, unjudged_store}
 use Rattle.cca_tool.proofs.KnownLemmas.{opened_known}
 use Rattle.cca_tool.proofs.coprocessor.Coprocessor.open_disks.Goals as goal
 
@@ -23,6 +23,15 @@ returns-in-Ok-open_store-clause-opened g c = λ s disks.
     (g.D.Disk.medium c.args.store.now) (g.D.Disk.medium c.open_store.new.store) disks
     c.open_module.ensures.kept.content c.open_store.ensures.kept.content
     c.in-Ok.ensures.loaded c.in-Ok.ensures.registers c.in-Ok.ensures.roles c.in-Ok-open_store.ensures.keeps c.open_store.ensures.rest
+
+pub returns-in-Ok-open_store-clause-loaded : goal.returns-in-Ok-open_store-clause-loaded
+returns-in-Ok-open_store-clause-loaded g c =
+    is_loaded_after c.in-Ok.held (bench_of c.open_module.new.lease) (bench_of c.open_store.new.lease) (ap bench_of c.open_store.ensures.rest) c.in-Ok.ensures.loaded
+
+pub returns-in-Ok-open_store-clause-registers : goal.returns-in-Ok-open_store-clause-registers
+returns-in-Ok-open_store-clause-registers g c =
+    registers_after c.in-Ok.held (bench_of c.open_module.new.lease) (bench_of c.open_store.new.lease) (ap bench_of c.open_store.ensures.rest)
+    (g.M.Disk.medium c.args.module.now) (g.M.Disk.medium c.open_module.new.module) c.open_module.ensures.kept.content c.in-Ok.ensures.registers
 
 pub returns-in-Ok-open_store-clause-damage : goal.returns-in-Ok-open_store-clause-damage
 returns-in-Ok-open_store-clause-damage g c =
@@ -95,6 +104,7 @@ returns-in-Err-clause-left g c =
         settled = λ ok. absurd (cc ok);
         later = left.later;
         fault = λ h. let same : stop ≡ ModuleFault = cc h in left.fault (c.in-Err.is ∙ ap Err same);
+        quiet = λ never. left.quiet (λ h. never (let same : stop ≡ ModuleFault = cc (c.in-Err.is, h) in ap Err same));
       };
       store_left = record {
         size = refl;
@@ -102,5 +112,6 @@ returns-in-Err-clause-left g c =
         settled = λ ok. absurd (cc ok);
         later = omega arith;
         fault = λ h. let same : stop ≡ StoreFault = cc h in absurd (subst IsModuleStop same c.in-Err.ensures.stops);
+        quiet = λ never. refl;
       };
     }

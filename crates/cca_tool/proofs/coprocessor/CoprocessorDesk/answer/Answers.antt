@@ -5,7 +5,7 @@ use Rattle.cca_requests.specs.Serving.{tables}
 use Rattle.cca_tool.specs.Coprocessor.{remembers}
 use Rattle.cca_tool.proofs.LineLemmas.{request_serves, unspelled_serves, leads_on, not_damaged}
 use Rattle.cca_tool.proofs.KnownLemmas.{roles_told, module_undamaged, never_told, known_after, stands_for}
-use Rattle.cca_tool.proofs.StopLemmas.{cell_zero}
+use Rattle.cca_tool.proofs.StopLemmas.{cell_zero, reread_cell}
 use Rattle.cca_tool.proofs.coprocessor.CoprocessorDesk.answer.Goals as goal
 
 pub perform-requires-clause-known : goal.perform-requires-clause-known
@@ -51,6 +51,7 @@ returns-in-Ok-clause-undamaged g c =
           m0 (g.M.Disk.medium c.perform.new.module) d0 (g.D.Disk.medium c.perform.new.store)
           (g.E.Entropy.left c.args.entropy.now) (g.E.Entropy.left c.perform.new.entropy) cell h (c.perform.ensures.serves s stands));
       cells = search rules;
+      reread = λ device cell h. reread_cell c.perform.result device cell c.perform.ensures.stops h;
     }
 
 pub returns-in-Err-clause-serves : goal.returns-in-Err-clause-serves

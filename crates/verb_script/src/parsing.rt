@@ -1,0 +1,357 @@
+//! The request that a line spells: of the first row whose verb and fields the words of the line are.
+ghost use Rattle.std.specs.Prelude.{◌≡◌, ◌∷◌, Some, None, IfOk, IsTrue, get_or, is_some, length, map};
+ghost use Rattle.std.specs.Int.{to_be_bytes, w32};
+ghost use Rattle.cca_roles.specs.RoleNames.{is_role_name};
+ghost use Rattle.cca_vectors.specs.KeyTypes.{type_name, type_named};
+ghost use Rattle.verb_script.specs.Grammar.{Request as Spelled, Spells, IsOfParts, AreAccepted, accepts, points as points_text, meanings, row_of};
+ghost use Rattle.verb_script.specs.Parsed.{answered, seen, seen_option};
+ghost use Rattle.verb_script.specs.Requests.{request_of, request_in, first_request};
+ghost use Rattle.verb_script.specs.Rows.{name_seen, text_at, texts_at};
+ghost use Rattle.verb_script.specs.Values.{hex_value};
+ghost use Rattle.verb_script.specs.Words.{unread};
+
+use crate::request::{FormFault, Request};
+use crate::rows::{Row, rows_with};
+use crate::values::points_of;
+use crate::words::{Texts, Words};
+use cca_roles::{AccessPoints, RoleName};
+use cca_vectors::KeyType;
+
+/// The role of this name.
+fn role_of(text: &[u8]) -> RoleName
+    requires { IsTrue (is_role_name text.now) }
+    ensures { result ≡ text.now }
+{
+    RoleName::of(text)
+}
+
+/// The key type of this name.
+fn type_of(text: &[u8]) -> KeyType
+    requires { IsTrue (is_some (type_named text.now)) }
+    ensures { type_name result ≡ text.now }
+{
+    KeyType::read(text).unwrap()
+}
+
+/// The points of this text.
+fn points_in(text: &[u8]) -> AccessPoints
+    requires { IsTrue (accepts points_text text.now) }
+    ensures { to_be_bytes w32 result ≡ hex_value text.now }
+{
+    points_of(text).unwrap()
+}
+
+/// The request of a row whose fields have these texts.
+fn request_with<'a>(row: Row, texts: Texts<'a>) -> Request<'a>
+    requires role { IsTrue (is_role_name (text_at 0 texts.texts)) }
+    requires accepted { AreAccepted (row_of (name_seen row)).fields (texts_at (row_of (name_seen row)).fields 0 texts.texts) }
+    ensures { seen result ≡ record {
+      name = name_seen row;
+      values = meanings (row_of (name_seen row)).fields (texts_at (row_of (name_seen row)).fields 0 texts.entry.texts);
+    } }
+{
+    let [role, first, second, third, fourth, fifth, sixth] = texts.texts;
+    let role = role_of(role);
+    match row {
+        Row::Csnbenc => Request::Csnbenc {
+            role,
+            key: first,
+            iv: second,
+            pad: third,
+            text: fourth,
+        },
+        Row::CsnbencFirst => Request::CsnbencFirst {
+            role,
+            key: first,
+            segment: second,
+            iv: third,
+            text: fourth,
+        },
+        Row::CsnbencMiddle => Request::CsnbencMiddle {
+            role,
+            key: first,
+            segment: second,
+            chain: third,
+            text: fourth,
+        },
+        Row::CsnbencLast => Request::CsnbencLast {
+            role,
+            key: first,
+            segment: second,
+            chain: third,
+            pad: fourth,
+            text: fifth,
+        },
+        Row::Csnbdec => Request::Csnbdec {
+            role,
+            key: first,
+            iv: second,
+            pad: third,
+            text: fourth,
+        },
+        Row::CsnbdecFirst => Request::CsnbdecFirst {
+            role,
+            key: first,
+            segment: second,
+            iv: third,
+            text: fourth,
+        },
+        Row::CsnbdecMiddle => Request::CsnbdecMiddle {
+            role,
+            key: first,
+            segment: second,
+            chain: third,
+            text: fourth,
+        },
+        Row::CsnbdecLast => Request::CsnbdecLast {
+            role,
+            key: first,
+            segment: second,
+            chain: third,
+            pad: fourth,
+            text: fifth,
+        },
+        Row::Csnbmgn => Request::Csnbmgn {
+            role,
+            key: first,
+            rule: second,
+            length: third,
+            text: fourth,
+        },
+        Row::CsnbmgnFirst => Request::CsnbmgnFirst {
+            role,
+            key: first,
+            rule: second,
+            segment: third,
+            text: fourth,
+        },
+        Row::CsnbmgnMiddle => Request::CsnbmgnMiddle {
+            role,
+            key: first,
+            rule: second,
+            segment: third,
+            chain: fourth,
+            text: fifth,
+        },
+        Row::CsnbmgnLast => Request::CsnbmgnLast {
+            role,
+            key: first,
+            rule: second,
+            segment: third,
+            length: fourth,
+            chain: fifth,
+            text: sixth,
+        },
+        Row::Csnbmvr => Request::Csnbmvr {
+            role,
+            key: first,
+            rule: second,
+            mac: third,
+            text: fourth,
+        },
+        Row::CsnbmvrFirst => Request::CsnbmvrFirst {
+            role,
+            key: first,
+            rule: second,
+            segment: third,
+            text: fourth,
+        },
+        Row::CsnbmvrMiddle => Request::CsnbmvrMiddle {
+            role,
+            key: first,
+            rule: second,
+            segment: third,
+            chain: fourth,
+            text: fifth,
+        },
+        Row::CsnbmvrLast => Request::CsnbmvrLast {
+            role,
+            key: first,
+            rule: second,
+            segment: third,
+            mac: fourth,
+            chain: fifth,
+            text: sixth,
+        },
+        Row::Csnbktp => Request::Csnbktp { role, token: first },
+        Row::Csnbkyt => Request::Csnbkyt { role, key: first },
+        Row::Csnbcki => Request::Csnbcki {
+            role,
+            clear: first,
+            to: second,
+        },
+        Row::Csnbrng => Request::Csnbrng { role, form: first },
+        Row::CsnbkgnOp => Request::CsnbkgnOp {
+            role,
+            form: first,
+            length: second,
+            type1: type_of(third),
+            to: fourth,
+        },
+        Row::CsnbkgnPair => Request::CsnbkgnPair {
+            role,
+            form: first,
+            length: second,
+            type1: type_of(third),
+            type2: type_of(fourth),
+            transport2: fifth,
+            to: sixth,
+        },
+        Row::CsnbkgnOut => Request::CsnbkgnOut {
+            role,
+            form: first,
+            length: second,
+            type1: type_of(third),
+            type2: type_of(fourth),
+            transport1: fifth,
+            transport2: sixth,
+        },
+        Row::Csnbkim => Request::Csnbkim {
+            role,
+            token: first,
+            transport: second,
+            to: third,
+        },
+        Row::Csnbkex => Request::Csnbkex {
+            role,
+            key: first,
+            transport: second,
+        },
+        Row::Csnbpex => Request::Csnbpex {
+            role,
+            key: first,
+            to: second,
+        },
+        Row::Csnbktc => Request::Csnbktc {
+            role,
+            rule: first,
+            token: second,
+        },
+        Row::CsnbkpiFirst => Request::CsnbkpiFirst {
+            role,
+            rule: first,
+            kind: type_of(second),
+            part: third,
+            to: fourth,
+        },
+        Row::CsnbkpiMiddle => Request::CsnbkpiMiddle {
+            role,
+            rule: first,
+            key: second,
+            part: third,
+            to: fourth,
+        },
+        Row::Csnbktr => Request::Csnbktr {
+            role,
+            token: first,
+            transport1: second,
+            transport2: third,
+        },
+        Row::Csnbkrc => Request::Csnbkrc { role, label: first },
+        Row::Csnbkrw => Request::Csnbkrw {
+            role,
+            label: first,
+            token: second,
+        },
+        Row::Csnbkrr => Request::Csnbkrr { role, label: first },
+        Row::Csnbkrd => Request::Csnbkrd { role, label: first },
+        Row::Csnbkrl => Request::Csnbkrl {
+            role,
+            prefix: first,
+        },
+        Row::CsnbmkpPart => Request::CsnbmkpPart {
+            role,
+            action: first,
+            part: second,
+        },
+        Row::CsnbmkpClear => Request::CsnbmkpClear {
+            role,
+            action: first,
+        },
+        Row::CsnbmkpSet => Request::CsnbmkpSet {
+            role,
+            action: first,
+        },
+        Row::CsuaaciDefine => Request::CsuaaciDefine {
+            role,
+            action: first,
+            name: role_of(second),
+            points: points_in(third),
+        },
+        Row::CsuaaciRemove => Request::CsuaaciRemove {
+            role,
+            action: first,
+            name: role_of(second),
+        },
+        Row::Reencipher => Request::Reencipher { role },
+        Row::ReencipherAhead => Request::ReencipherAhead {
+            role,
+            action: first,
+        },
+        Row::ReencipherDrop => Request::ReencipherDrop {
+            role,
+            action: first,
+        },
+    }
+}
+
+/// The request of the row, whose verb and fields these are.
+fn request_of_row<'a>(row: Row, verb: &[u8], words: Words<'a>) -> Option<Request<'a>>
+    ensures { seen_option result ≡ request_in (name_seen row) (verb.now ∷ unread words.entry) }
+{
+    if verb == row.verb() {
+        Some(request_with(row, words.texts(row.fields())?))
+    } else {
+        None
+    }
+}
+
+/// The request of the first of the rows whose verb and fields these are.
+fn first_of<'a>(rows: &[Row], verb: &[u8], words: Words<'a>) -> Option<Request<'a>>
+    ensures { seen_option result ≡ first_request (map name_seen rows.now) (verb.now ∷ unread words.entry) }
+{
+    for row in rows {
+        if let Some(request) = request_of_row(*row, verb, words) {
+            return Some(request);
+        }
+    }
+    None
+}
+
+/// The seventh letter of a verb, or zero.
+fn seventh_letter(verb: &[u8]) -> u8
+    ensures { result ≡ get_or verb.now 6 0 }
+{
+    verb.get(6).copied().unwrap_or(0)
+}
+
+/// The request that the line spells.
+#[tactic(auto, unfolding(crate::specs::Requests::request_of))]
+fn request_in_line(line: &[u8]) -> Option<Request<'_>>
+    ensures { seen_option result ≡ request_of line.now }
+{
+    let mut words = Words::of(line);
+    let verb = words.next()?;
+    first_of(rows_with(seventh_letter(verb)), verb, words)
+}
+
+/// The request that the line spells, or that it spells none.
+fn parsed(line: &[u8]) -> Result<Request<'_>, FormFault>
+    ensures { answered result ≡ request_of line.now }
+{
+    match request_in_line(line) {
+        Some(request) => Ok(request),
+        None => Err(FormFault),
+    }
+}
+
+/// Parses a request line, of which the newline is not a part: a request where the line spells one, and else FormFault.
+/// The bytes of each field of the request are those of the part of the line that holds its value.
+pub fn parse_request(line: &[u8]) -> Result<Request<'_>, FormFault>
+    ensures exact { answered result ≡ request_of line.now }
+    ensures found { IfOk result (λ request. Spells (seen request) line.now) }
+    ensures parts { IfOk result (λ request. IsOfParts (seen request) line.now) }
+    ensures only { (request : Spelled) → Spells request line.now → answered result ≡ Some request }
+{
+    parsed(line)
+}
