@@ -1,0 +1,287 @@
+"""A client takes no reply for that to another request, whatever happens to the program or to the caller. What stands for cca here is
+tests/stub/cca, which answers each line with a value of its own, and does what a line says besides: it waits, ends, or says too much."""
+import os
+import shutil
+import signal
+import subprocess
+import sys
+import tempfile
+import threading
+import time
+import unittest
+from pathlib import Path
+
+from tests.edits import CLIENTS, LIBRARIES, Edit, each_is_found
+from tests.harness import TOP, Case, Fault
+
+STUB = TOP / "tests" / "stub"
+CLIENT = "clients/python/cca/client.py"
+sys.path.insert(0, str(LIBRARIES / "python" / "cca"))
+from client import Coprocessor, Ended  # noqa: E402
+
+FAULTS = [Fault('"$CCA" "$@" | sed -u "s/^NO 01/NO 02/"', case="Auditing", tells="'NO 02 -'")]
+
+# Each takes away what one of these cases asks for.
+EDITS = [
+    Edit(CLIENT, "raise self.ended(str(broken), True, replies) from None", "raise", "Python.test_no_reply_in_time"),
+    Edit(CLIENT, "error.add_note(", "(", "Python.test_exception_in_the_midst"),
+    Edit(CLIENT, "str(self.ended(\"cca was asked, and killed before its reply came\", True, replies))", '""', "Python.test_exception_in_the_midst"),
+    Edit(CLIENT, "with self.turn:", "if True:", "Python.test_threads"),
+    Edit(CLIENT, 'if "\\n" in request:', "if False:", "Python.test_newline"),
+    Edit(CLIENT, "if half or left or len(replies) > len(lines):", "if False:", "Python.test_more_than_asked"),
+    Edit(CLIENT, "if not poll.poll(0):", "if True:", "Python.test_more_than_asked"),
+    Edit(CLIENT, "if len(half) >= LONGEST_REPLY:", "if False:", "Python.test_reply_without_end"),
+    Edit(CLIENT, "if self.last and self.last.status in LOOK_FIRST:", "if False:", "Python.test_ends"),
+    Edit(CLIENT, "was_sent and status not in NONE_TAKEN", "was_sent", "Python.test_ends"),
+    Edit(CLIENT, "NONE_TAKEN = frozenset({2, 10", "NONE_TAKEN = frozenset({2, 3, 10", "Python.test_damaged_record"),
+    Edit(CLIENT, "self.owner() not in (None, os.getpid())", "False", "Python.test_forked"),
+    Edit("clients/c/cca_client.c", "F_DUPFD_CLOEXEC", "F_DUPFD", "C.test_two_coprocessors"),
+    Edit("clients/c/cca_client.c", "pthread_mutex_lock(&it->turn);\n    answer", "answer", "C.test_threads"),
+    Edit("clients/c/cca_client.c", "pthread_sigmask(SIG_BLOCK, &broken, &before);", "pthread_sigmask(SIG_BLOCK, NULL, &before);", "C.test_each"),
+    Edit("clients/c/cca_client.c", "memchr(request, '\\n', length)", "0", "C.test_each"),
+    Edit("client.c", "(size_t)length, reply", "strlen(line), reply", "C.test_zero_byte"),
+    Edit("clients/c/cca_client.c", "return is_one ? 1 : -1;", "return 1 + 0 * is_one;", "C.test_each"),
+]
+
+
+def own(number, word=""):
+    """A request, and the reply that belongs to it alone."""
+    return f"A role=B {word}{' ' * bool(word)}K{number}", f"OK value=role=B,K{number}"
+
+
+class Python(unittest.TestCase):
+    """The class of the client in Python."""
+
+    def setUp(self):
+        signal.alarm(40)
+        self.addCleanup(signal.alarm, 0)
+        folder = tempfile.TemporaryDirectory()
+        self.addCleanup(folder.cleanup)
+        self.folder = Path(folder.name)
+        self.cca = self.client()
+        self.asked = 0
+
+    def client(self, **options):
+        it = Coprocessor(str(self.folder), str(STUB / "cca"), **options)
+        self.addCleanup(it.close)
+        return it
+
+    def is_in_step(self, cca=None):
+        """Further requests get their own replies."""
+        for _ in range(5):
+            self.asked += 1
+            request, wanted = own(self.asked)
+            self.assertEqual((cca or self.cca).ask(request), wanted)
+
+    def carried_out(self):
+        return (self.folder / "carried").read_text().splitlines()
+
+    def gets_no_reply(self, word, tells, cca=None, is_in_doubt=True):
+        with self.assertRaisesRegex(Ended, tells) as raised:
+            (cca or self.cca).ask(own("", word)[0])
+        self.assertEqual(raised.exception.in_doubt, is_in_doubt)
+        self.assertRegex(str(raised.exception), "may have been carried out" if is_in_doubt else "wasn't carried out")
+        return raised.exception
+
+    def test_left_early(self):
+        for reply in self.cca.ask_all([own(it)[0] for it in range(100, 400)]):
+            self.assertEqual(reply, own(100)[1])
+            break
+        self.is_in_step()
+
+    def test_many(self):
+        pairs = [own(f"{it}{'.' * 500}") for it in range(2000)]
+        self.assertEqual(self.cca.ask_all(request for request, _ in pairs), [wanted for _, wanted in pairs])
+        self.assertEqual(self.cca.ask_all([]), [])
+        self.is_in_step()
+
+    def test_no_reply_in_time(self):
+        self.is_in_step()
+        self.cca.patience = 3.0  # once it has begun, which may take longer
+        self.gets_no_reply("stub=waits20000", "no reply in time")
+        self.cca.patience = 30.0
+        self.is_in_step()
+        self.cca.patience = 3.0
+        with self.assertRaises(Ended) as raised:
+            self.cca.ask_all([own(1)[0], own(2)[0], own(3, "stub=waits20000")[0], own(4)[0]])
+        self.assertEqual(raised.exception.replies, [own(1)[1], own(2)[1]])
+        self.cca.patience = 30.0
+        self.is_in_step()
+
+    def test_exception_in_the_midst(self):
+        def late(*_):
+            raise TimeoutError("the caller's own")
+
+        signal.signal(signal.SIGUSR1, late)
+        signal.signal(signal.SIGINT, signal.default_int_handler)  # also where these checks were begun in the background
+        for kind, number in ((TimeoutError, signal.SIGUSR1), (KeyboardInterrupt, signal.SIGINT)):
+            self.is_in_step()
+            threading.Timer(0.5, os.kill, (os.getpid(), number)).start()
+            with self.assertRaises(kind) as raised:
+                self.cca.ask(own("", "stub=waits1500")[0])
+            self.assertRegex(" ".join(getattr(raised.exception, "__notes__", [])), "may have been carried out")
+            self.is_in_step()
+
+    def test_request_in_the_midst(self):
+        def asks(*_):
+            self.cca.ask(own("X")[0])
+
+        signal.signal(signal.SIGUSR1, asks)
+        self.is_in_step()
+        threading.Timer(0.3, os.kill, (os.getpid(), signal.SIGUSR1)).start()
+        with self.assertRaisesRegex(RuntimeError, "in the midst of another one"):
+            self.cca.ask(own("", "stub=waits1500")[0])
+        self.is_in_step()
+
+    def test_threads(self):
+        wrong = []
+
+        def asks(thread):
+            for turn in range(100):
+                request, wanted = own(f"{thread}.{turn}")
+                try:
+                    reply = self.cca.ask(request)
+                except Exception as error:  # noqa: BLE001: a thread's error would be unseen
+                    reply = repr(error)
+                if reply != wanted:
+                    wrong.append((request, reply))
+
+        threads = [threading.Thread(target=asks, args=(it,)) for it in range(8)]
+        for it in threads:
+            it.start()
+        for it in threads:
+            it.join()
+        self.assertEqual(wrong[:3], [])
+
+    def test_newline(self):
+        for requests in (["A role=B C", "A role=B D\nA role=B E"], ["A role=B C", "A role=B \u20ac"], "A role=B C"):
+            with self.assertRaises((ValueError, TypeError)):
+                self.cca.ask_all(requests)
+        self.is_in_step()
+        self.assertEqual(len(self.carried_out()), self.asked)
+
+    def test_more_than_asked(self):
+        self.gets_no_reply("stub=twice", "more than it was asked")
+        self.is_in_step()
+        self.assertEqual(self.cca.ask(own("K", "stub=later")[0]), "OK value=role=B,KK")
+        time.sleep(0.5)
+        self.gets_no_reply("", "what it wasn't asked", is_in_doubt=False)
+        self.is_in_step()
+
+    def test_reply_without_end(self):
+        self.cca.patience = 5.0
+        self.gets_no_reply("stub=endless", "a reply without an end")
+        self.gets_no_reply("stub=half", "no reply in time")
+        self.cca.patience = 30.0
+        self.is_in_step()
+
+    def test_ends(self):
+        self.assertEqual(self.gets_no_reply("stub=ends8", "status 8: stub: ended").status, 8)
+        self.is_in_step()
+        self.gets_no_reply("stub=ends10", "status 10", is_in_doubt=False)  # its row says that no request was taken
+        self.is_in_step()
+        self.gets_no_reply("stub=ends7", "status 7")
+        carried = self.carried_out()
+        self.gets_no_reply("", "look at the files first: .*status 7", is_in_doubt=False)
+        self.assertEqual(self.carried_out(), carried)
+
+    def test_damaged_record(self):
+        """A record that is damaged when it is read again: a REENCIPHER may be partly done."""
+        self.assertEqual(self.gets_no_reply("stub=ends3", "status 3").status, 3)
+
+    def test_ended_before(self):
+        self.is_in_step()
+        os.kill(self.cca.process.child.pid, signal.SIGKILL)
+        os.waitid(os.P_PID, self.cca.process.child.pid, os.WEXITED | os.WNOWAIT)
+        self.gets_no_reply("", "status -9", is_in_doubt=False)
+        self.is_in_step()
+
+    def test_forked(self):
+        self.is_in_step()
+        child = os.fork()
+        if child == 0:
+            try:
+                self.cca.ask(own("X")[0])
+            except RuntimeError:
+                os._exit(7)
+            finally:
+                os._exit(1)
+        self.assertEqual(os.waitstatus_to_exitcode(os.waitpid(child, 0)[1]), 7)
+        self.is_in_step()
+
+
+@unittest.skipUnless(shutil.which("cc"), "cc isn't installed")
+class C(unittest.TestCase):
+    """The client in C, as a program and as a part of one, tests/stub/library.c."""
+
+    @classmethod
+    def setUpClass(cls):
+        folder = tempfile.TemporaryDirectory()
+        cls.addClassCleanup(folder.cleanup)
+        cls.folder = Path(folder.name)
+        words = ["cc", "-std=c99", "-D_GNU_SOURCE", "-Wall", "-Wextra", "-Werror", "-O", "-pthread", "-I", LIBRARIES / "c"]
+        for name, source in (("library", STUB / "library.c"), ("client", CLIENTS / "client.c")):
+            subprocess.run([*words, "-o", cls.folder / name, source, LIBRARIES / "c" / "cca_client.c"], check=True)
+
+    def setUp(self):
+        self.folders = [Path(tempfile.mkdtemp(dir=self.folder)) for _ in range(2)]
+
+    def says(self, what, given=""):
+        words = [self.folder / "library", what, STUB / "cca", *self.folders]
+        it = subprocess.run(words, input=given, stdout=subprocess.PIPE, stderr=subprocess.DEVNULL, text=True, timeout=90)
+        self.assertEqual(it.returncode, 0)
+        return it.stdout.splitlines()
+
+    def test_two_coprocessors(self):
+        """One is stopped beside another one, which has none of its pipes."""
+        self.assertEqual(self.says("two"), ["OK value=role=B,D 0 0"])
+
+    def test_threads(self):
+        self.assertEqual(self.says("threads"), ["0 0"])
+
+    def test_forked(self):
+        self.assertEqual(self.says("forked"), ["1 0"])
+
+    def test_each(self):
+        """0 a reply, 1 no request, 2 not sent, 3 no reply."""
+        kinds = [("newline", "1 -"), ("A stub=deaf role=B D", "0 OK value=stub=deaf,D"), (own(1)[0], "3 -")]
+        kinds += [(own("", f"stub={how}")[0], "3 -") for how in ("half", "twice", "endless", "waits9000", "ends8")]
+        kinds += [(own("", "stub=ends10")[0], "2 -"), (own("", "stub=ends7")[0], "3 -")]
+        lines, wanted = [], []
+        for number, (request, came) in enumerate(kinds):
+            lines += [request, own(number + 10)[0]] if "deaf" not in request else [request]
+            wanted += [came, f"0 {own(number + 10)[1]}"] if "deaf" not in request else [came]
+        wanted[-1] = "2 -"  # behind an end after which someone should look first
+        self.assertEqual(self.says("each", "".join(f"{line}\n" for line in lines)), wanted)
+
+    def test_zero_byte(self):
+        """The beginning of a line with a zero byte is no request."""
+        words = [self.folder / "client", self.folders[0], STUB / "cca"]
+        it = subprocess.run(words, input=b"A role=B C\0D\nA role=B E\n", stdout=subprocess.PIPE, timeout=60)
+        self.assertEqual((it.returncode, (self.folders[0] / "carried").read_bytes()), (0, b"A role=B C\0D\nA role=B E\n"))
+
+
+class Auditing(Case):
+    """Clients that are told to start `cca audit`."""
+
+    def test_audit(self):
+        words = [[sys.executable, "-B", LIBRARIES.parent / CLIENT, "--audit", self.folder, self.program.path]]
+        if shutil.which("cc"):
+            sources = [CLIENTS / "client.c", LIBRARIES / "c" / "cca_client.c"]
+            subprocess.run(["cc", "-I", LIBRARIES / "c", "-o", self.folder / "client", *sources], check=True)
+            words.append([self.folder / "client", self.folder, self.program.path, "audit"])
+        for it in words:
+            came = subprocess.run(it, input=b"A\n", stdout=subprocess.PIPE, check=True)
+            self.assertEqual(came.stdout.decode().strip(), "NO 01 -")
+        self.assertEqual(self.cca("trail").lines, [f"{number} 01 - - -" for number in range(len(words))])
+
+
+class Planted(unittest.TestCase):
+    """Each fault of EDITS is found by its case."""
+
+    def test_edits(self):
+        each_is_found(self, "client_replies", EDITS)
+
+
+if __name__ == "__main__":
+    unittest.main()

@@ -1,0 +1,63 @@
+"""Faults of the clients in examples/ and of the libraries in clients/: what stands in a file, what it becomes, and the case of a file of
+checks that finds it. The case runs in a process of its own, over a copy of both folders in which the fault stands."""
+import os
+import re
+import shutil
+import subprocess
+import sys
+import tempfile
+from concurrent.futures import ThreadPoolExecutor
+from pathlib import Path
+from typing import NamedTuple
+
+from tests.harness import EXAMPLES, TOP
+
+CLIENTS = Path(os.environ.get("CLIENTS", EXAMPLES / "clients"))
+LIBRARIES = CLIENTS.parents[1] / "clients"  # the folder clients/, or its copy
+
+
+class Edit(NamedTuple):
+    """A fault: the file, of examples/clients or `clients/..`, what stands in it, what that becomes, and the case that finds it."""
+
+    file: str
+    before: str
+    after: str
+    case: str
+
+
+def each_is_found(test, subject, edits):
+    """Each fault is found by its case of tests/SUBJECT.py, and not since the copy can't be read or compiled."""
+    if "CLIENTS" in os.environ:
+        test.skipTest("a fault is planted")
+    edits = [edit for edit in edits if edit.file.endswith((".py", ".service")) or shutil.which("cc")]
+    with ThreadPoolExecutor(os.cpu_count()) as workers:
+        for edit, came in zip(edits, workers.map(lambda edit: tried(subject, edit), edits)):
+            with test.subTest(edit.before):
+                test.assertNotEqual(came.returncode, 0)
+                unread = "SyntaxError|IndentationError|NameError" if edit.file.endswith(".py") else "error: "
+                test.assertFalse(re.search(unread, came.stderr), came.stderr[-500:])
+
+
+def tried(subject, edit):
+    """The case of a fault, six times at most: some show only where a program ends soon enough."""
+    for _ in range(6):
+        came = planted(subject, edit)
+        if came.returncode != 0:
+            break
+    return came
+
+
+def planted(subject, edit):
+    """Runs the case of a fault, over a copy of the clients and the libraries that has it."""
+    with tempfile.TemporaryDirectory() as name:
+        clients = Path(name) / "examples" / "clients"
+        for folder, copy in ((EXAMPLES / "clients", clients), (TOP / "clients", Path(name) / "clients")):
+            shutil.copytree(folder, copy, ignore=shutil.ignore_patterns("__pycache__"))
+        file = (Path(name) if edit.file.startswith("clients/") else clients) / edit.file
+        text = file.read_text()
+        if edit.before not in text:
+            raise AssertionError(f"{edit.file} hasn't {edit.before}")
+        file.write_text(text.replace(edit.before, edit.after))
+        words = [sys.executable, "-B", "-m", "unittest", f"tests.{subject}.{edit.case}"]
+        environment = {**os.environ, "CLIENTS": str(clients)}
+        return subprocess.run(words, cwd=TOP, env=environment, stdout=subprocess.DEVNULL, stderr=subprocess.PIPE, text=True)

@@ -1,0 +1,630 @@
+"""The front of examples/clients: many clients at once, with bad ones among them, who mix no reply and starve no role; what it refuses
+to begin with; its log, and the trail that it fetches. What stands for cca where replies may be mixed up is tests/stub/cca."""
+import errno
+import json
+import os
+import re
+import resource
+import shutil
+import signal
+import socket
+import stat
+import subprocess
+import sys
+import tempfile
+import threading
+import time
+import unittest
+from concurrent.futures import ThreadPoolExecutor
+from pathlib import Path
+
+from tests.edits import CLIENTS, Edit, each_is_found
+from tests.harness import TOP, Case, Fault
+
+STUB = TOP / "tests" / "stub" / "cca"
+UNIT = CLIENTS / "cca-front.service"
+sys.path.insert(0, str(CLIENTS))
+import front as front_program  # noqa: E402
+from trail import HELD, TrailLog, TrailLost  # noqa: E402
+
+FAULTS = [Fault('"$CCA" "$@" | sed -u "s/^NO 01/NO 02/"', case="Begin.test_the_program_itself", tells="no refusal")]
+ROLES = ("TELLER", "OFFICER", "CUSTODY")
+
+
+EDITS = [
+    Edit("front.py", "it.listen(BACKLOG)", "it.listen(5)", "Crowd.test_backlog"),
+    Edit("front.py", "if len(door.connections) >= self.limit:\n            self.watch", "if False:\n            self.watch", "Crowd.test_idle"),
+    Edit("front.py", "self.watch(door.listener, 0, door)", "pass", "Crowd.test_idle"),
+    Edit("front.py", "min(CROWDED, self.idle) if is_crowded", "self.idle if is_crowded", "Crowd.test_idle"),
+    Edit("front.py", "connection.unsent = reply", "next(iter(connection.door.connections)).unsent = reply", "Crowd.test_two_hundred"),
+    Edit("front.py", "fcntl.LOCK_EX | fcntl.LOCK_NB", "fcntl.LOCK_SH | fcntl.LOCK_NB", "Begin.test_second_front"),
+    Edit("front.py", "if not stat.S_ISSOCK(", "if False and stat.S_ISSOCK(", "Begin.test_another_file"),
+    Edit("front.py", 'if reply != "NO 01 -":', "if False:", "Begin.test_another_program"),
+    Edit("front.py", "        service.begin()\n", "", "Begin.test_no_program"),
+    Edit("front.py", "            del self.taken[LONGEST + 1 :]", "            return len(self.taken) <= LONGEST", "Lines.test_too_long"),
+    Edit("front.py", 'f"{verb} role={role}{space}{fields}"', 'line', "Lines.test_role"),
+    Edit("front.py", 'verb not in VERBS or', "", "Log.test_no_secrets"),
+    Edit("front.py", '(reply or "").startswith(("NO 01", "NO 02"))', "False", "Log.test_no_secrets"),
+    Edit("front.py", "if len(self.times) >= FETCH_AFTER:", "if False:", "Trail.test_fetched_in_time"),
+    Edit("trail.py", "if new and new[0].number > last + 1:", "if False:", "Told.test_gap"),
+    Edit("trail.py", "self.last not in held and", "False and", "Told.test_altered"),
+    Edit("trail.py", "if not held or held[-1].number < last:", "if False:", "Told.test_begins_anew"),
+    Edit("trail.py", "os.fsync(log)", "pass", "Told.test_synced"),
+    Edit("cca-front.service", "-g cca-officer", "-g cca-teller", "Unit.test_groups"),
+    Edit("cca-front.service", "-m 2750", "-m 2770", "Unit.test_groups"),
+]
+
+
+def asked(path, *requests):
+    """The replies to some requests, one after another over one connection; an empty one where it ends."""
+    replies = []
+    with connected(path) as it, it.makefile("rwb") as lines:
+        for request in requests:
+            lines.write(request.encode() + b"\n")
+            lines.flush()
+            replies.append(lines.readline().decode().removesuffix("\n"))
+    return replies
+
+
+def connected(path, seconds=60.0):
+    """A connection, whose front may still be beginning."""
+    until = time.monotonic() + seconds
+    while True:
+        it = socket.socket(socket.AF_UNIX)
+        it.settimeout(seconds)
+        try:
+            it.connect(str(path))
+            return it
+        except (FileNotFoundError, ConnectionRefusedError, BlockingIOError):  # not yet there, or as many wait as may
+            it.close()
+            if time.monotonic() > until:
+                raise
+            time.sleep(0.05)
+
+
+class Fronted(Case):
+    """A front over a folder of its own, with a socket for each of three roles."""
+
+    def setUp(self):
+        super().setUp()
+        signal.alarm(150)
+        self.addCleanup(signal.alarm, 0)
+        self.stands = str(STUB)
+        (self.folder / "keys").mkdir()
+        self.log = self.folder / "front.log"
+
+    def words(self, *options, keys="keys", sockets=ROLES, code=None):
+        named = [f"{self.folder / name}={name}" for name in sockets]
+        front = ["-c", code] if code else [str(CLIENTS / "front.py")]
+        return [sys.executable, "-B", *front, str(self.folder / keys), *named, *options]
+
+    def begin(self, *options, **named):
+        """Starts a front, and waits until it is ready."""
+        self.log.unlink(missing_ok=True)
+        with open(self.log, "ab") as log:
+            it = subprocess.Popen(self.words(*options, **named), env={**os.environ, "CCA": self.stands, "PYTHONPATH": str(CLIENTS)}, stderr=log)
+        self.addCleanup(it.wait)
+        self.addCleanup(it.kill)
+        until = time.monotonic() + 60
+        while '"ready"' not in self.log.read_text() and it.poll() is None and time.monotonic() < until:
+            time.sleep(0.02)
+        self.assertIsNone(it.poll(), self.log.read_text())
+        return it
+
+    def refuses(self, tells, program=None, **named):
+        """A front that must not begin, and say why."""
+        environment = {**os.environ, "CCA": str(program or self.stands)}
+        it = subprocess.run(self.words(**named), env=environment, stderr=subprocess.PIPE, text=True, timeout=60)
+        self.assertEqual(it.returncode, 1, it.stderr)
+        self.assertIn(tells, json.loads(it.stderr.splitlines()[-1])["text"])
+
+    def told(self):
+        """The lines of the log, each of which is a JSON object."""
+        return [json.loads(line) for line in self.log.read_text().splitlines()]
+
+    def is_serving(self, roles=ROLES):
+        """Each role gets its own reply."""
+        for role in roles:
+            self.assertEqual(asked(self.folder / role, "A K"), [f"OK value=role={role},K"])
+
+    def ends_well(self, front):
+        """A front ends on a signal with status 0, and leaves no socket."""
+        front.terminate()
+        self.assertEqual(front.wait(60), 0, self.log.read_text())
+        self.assertEqual([it.name for it in self.folder.iterdir() if stat.S_ISSOCK(it.stat().st_mode)], [])
+
+
+class Crowd(Fronted):
+    """Many clients."""
+
+    def good(self, number):
+        """Asks ten requests of its own, one after another, and looks at each reply."""
+        role = ROLES[number % 3]
+        wanted = [f"OK value=role={role},K{number}.{turn}" for turn in range(10)]
+        return asked(self.folder / role, *[f"A K{number}.{turn}" for turn in range(10)]) == wanted
+
+    def bad(self, number):
+        """A client that does what it shouldn't."""
+        kinds = [b"", b"A half", b"A K\nA K\nA K\n", b"A" * 50000, b"\xff\0\n" * 9, b"A role=OFFICER K\n", b"A K\n" * 2000, b"\n"]
+        it = connected(self.folder / ROLES[number % 3])
+        try:
+            it.settimeout(0.3)
+            it.sendall(kinds[number % len(kinds)])
+        except OSError:
+            pass
+        if number % 2:  # it leaves at once, and else it stays and reads nothing
+            it.close()
+        return it
+
+    def test_two_hundred(self):
+        front = self.begin()
+        with ThreadPoolExecutor(200) as clients:
+            bad = [clients.submit(self.bad, number) for number in range(60)]
+            good = [clients.submit(self.good, number) for number in range(140)]
+            self.assertEqual([number for number, it in enumerate(good) if not it.result(100)], [])
+            stay = [it.result(100) for it in bad]
+        self.is_serving()
+        for it in stay:
+            it.close()
+        self.is_serving()
+        self.assertNotIn("Traceback", self.log.read_text())
+        served = [it for it in self.told() if it.get("role") in ROLES]
+        self.assertGreaterEqual(len(served), 1400)
+        self.ends_well(front)
+
+    def test_idle(self):
+        """Silent connections, more than a socket may have: no other role waits, this one isn't shut out, and nothing spins."""
+        soft, hard = resource.getrlimit(resource.RLIMIT_NOFILE)
+        resource.setrlimit(resource.RLIMIT_NOFILE, (min(4096, hard), hard))
+        self.addCleanup(resource.setrlimit, resource.RLIMIT_NOFILE, (soft, hard))
+        front = self.begin("--limit", "100")
+        silent, until = [], time.monotonic() + 3
+        while len(silent) < 1014 and time.monotonic() < until:
+            it = socket.socket(socket.AF_UNIX)
+            it.setblocking(False)
+            try:
+                it.connect(str(self.folder / "TELLER"))
+                self.addCleanup(it.close)
+                silent.append(it)
+            except BlockingIOError:  # as many wait as may: the front takes no more of them than its limit
+                it.close()
+                time.sleep(0.02)
+        self.assertGreaterEqual(len(silent), 200)
+        began = time.monotonic()
+        self.is_serving(ROLES[1:])
+        self.assertLess(time.monotonic() - began, 10)
+        self.assertLess(len(os.listdir(f"/proc/{front.pid}/fd")), 130)
+        before, began = processor_time(front.pid), time.monotonic()
+        time.sleep(2)
+        self.assertLess(processor_time(front.pid) - before, (time.monotonic() - began) / 2)
+        for it in silent[100:]:
+            it.close()
+        began = time.monotonic()
+        self.is_serving()
+        self.assertLess(time.monotonic() - began, 30)
+        self.ends_well(front)
+
+    def test_backlog(self):
+        """A hundred connections at once, while the front waits for a reply: none is refused."""
+        front = self.begin()
+        slow = threading.Thread(target=asked, args=(self.folder / "OFFICER", "A stub=waits1500 K"))
+        slow.start()
+        time.sleep(0.5)
+        waiting = []
+        for _ in range(100):
+            it = socket.socket(socket.AF_UNIX)
+            self.addCleanup(it.close)
+            it.setblocking(False)
+            it.connect(str(self.folder / "TELLER"))
+            waiting.append(it)
+        slow.join()
+        for number, it in enumerate(waiting):
+            it.settimeout(30)
+            it.sendall(f"A K{number}\n".encode())
+            self.assertEqual(it.recv(100), f"OK value=role=TELLER,K{number}\n".encode())
+        self.ends_well(front)
+
+    def test_no_reply(self):
+        """A program that ends: the connection ends without a reply, and all others get theirs from the next one."""
+        front = self.begin()
+        self.assertEqual(asked(self.folder / "TELLER", "A K", "A stub=ends8 K"), ["OK value=role=TELLER,K", ""])
+        self.is_serving()
+        self.assertEqual(asked(self.folder / "TELLER", "A stub=ends7 K"), [""])
+        self.assertEqual(front.wait(30), 1)
+        self.assertIn("status 7", self.told()[-1]["text"])
+
+
+def processor_time(process):
+    """The seconds for which the processor worked for a process."""
+    fields = Path(f"/proc/{process}/stat").read_text().rpartition(")")[2].split()
+    return (int(fields[11]) + int(fields[12])) / os.sysconf("SC_CLK_TCK")
+
+
+class Begin(Fronted):
+    """What a front refuses to begin with."""
+
+    def test_second_front(self):
+        front = self.begin()
+        (self.folder / "other").mkdir()
+        self.refuses("another front has this folder", sockets=("SPARE",))
+        self.refuses("another front has", keys="other")
+        self.is_serving()
+        self.ends_well(front)
+
+    def test_left_behind(self):
+        """A socket that a front left which was killed is replaced."""
+        front = self.begin()
+        front.kill()
+        front.wait()
+        self.begin()
+        self.is_serving()
+
+    def test_another_file(self):
+        (self.folder / "TELLER").write_text("keys")
+        self.refuses("is no socket")
+        self.assertEqual((self.folder / "TELLER").read_text(), "keys")
+
+    def test_no_program(self):
+        self.refuses("No such file", program="/nowhere/cca")
+
+    def test_another_program(self):
+        talks = self.folder / "talks"
+        talks.write_text("#!/bin/sh\nexec cat\n")
+        talks.chmod(0o755)
+        self.refuses("is this cca?", program=talks)
+
+    def test_role(self):
+        self.refuses("no role's name", sockets=("teller",))
+
+    def test_the_program_itself(self):
+        self.stands = self.program.path
+        front = self.begin()
+        self.assertEqual(asked(self.folder / "TELLER", "", "CSNBKYT key=L:K"), ["NO 01 -", "NO 03 -"])
+        self.ends_well(front)
+
+
+class Lines(Fronted):
+    """What becomes of lines."""
+
+    def test_role(self):
+        self.begin()
+        self.assertEqual(asked(self.folder / "TELLER", "A role=OFFICER K", "", "A K"), ["NO 01 -", "NO 01 -", "OK value=role=TELLER,K"])
+
+    def test_too_long(self):
+        """Each is refused as cca itself does, and the next one served."""
+        self.begin()
+        for size in (9217, 70000, 300000):
+            self.assertEqual(asked(self.folder / "TELLER", f"A {'B' * size}", "A K"), ["NO 02 -", "OK value=role=TELLER,K"])
+        carried = max((self.folder / "keys" / "carried").read_bytes().splitlines(), key=len)
+        self.assertLess(len(carried), 9300)
+
+    def test_half_a_line(self):
+        self.begin()
+        with connected(self.folder / "TELLER") as it:
+            it.sendall(b"A KHALF")
+        self.is_serving()
+        self.assertNotIn("KHALF", (self.folder / "keys" / "carried").read_text())
+
+    def test_end_of_input(self):
+        """Who says all and ends its side gets every reply."""
+        self.begin()
+        with connected(self.folder / "TELLER") as it:
+            it.sendall(b"A K1\nA K2\nA K3\n")
+            it.shutdown(socket.SHUT_WR)
+            with it.makefile("rb") as lines:
+                self.assertEqual(lines.read(), b"".join(b"OK value=role=TELLER,K%d\n" % turn for turn in (1, 2, 3)))
+
+
+class Log(Fronted):
+    """The front's log: a line for each request, and no secret."""
+
+    def test_fields(self):
+        self.begin()
+        asked(self.folder / "TELLER", "CSNBKYT key=L:PAY.DATA", "CSNBENC key=T:00 text=00", "", "CSNBKYT key=L:PAY stub=ends8")
+        lines = [it for it in self.told() if "verb" in it]
+        wanted = [("CSNBKYT", "PAY.DATA", "00"), ("CSNBENC", "-", "00"), ("-", "-", "01"), ("CSNBKYT", "-", "-")]
+        self.assertEqual([(it["verb"], it["label"], it["rule"]) for it in lines], wanted)
+        for it in lines:
+            self.assertEqual(set(it), {"time", "uid", "role", "verb", "label", "rule", "microseconds"})
+            self.assertEqual((it["uid"], it["role"]), (os.getuid(), "TELLER"))
+            self.assertRegex(it["time"], r"^\d{4}-\d\d-\d\dT\d\d:\d\d:\d\d\.\d{6}Z$")
+
+    def test_no_secrets(self):
+        """A secret in every place of a line, also of one that is no request."""
+        secret, token = "0123456789ABCDEF" * 3, "01" * 64
+        lines = [f"CSNBMKP action=FIRST part={secret}", f"CSNBENC key=T:{token} text={secret}", f"{secret} A", f"ABCDEF{secret} K"]
+        lines += [f"CSNBKRC role=X label=ABCDEF{secret}", f"CSNBKRD label=ABCDEF{secret}  role=X", f"CSNBKYT key=L:ABCDEF{secret} stub=ends8"]
+        self.begin()
+        for line in lines:
+            asked(self.folder / "TELLER", line)
+        self.assertEqual(re.findall("(?i)456789abcdef|010101", self.log.read_text()), [])
+
+    def test_stuck_reader(self):
+        """A log that nobody reads holds up no request."""
+        pipe = dict(stderr=subprocess.PIPE, env={**os.environ, "CCA": self.stands})
+        with subprocess.Popen(self.words(), **pipe) as front:
+            self.addCleanup(front.kill)
+            replies = asked(self.folder / "TELLER", *["A K"] * 1200)
+            self.assertEqual(set(replies), {"OK value=role=TELLER,K"})
+            front.terminate()
+            self.assertEqual(front.wait(30), 0)
+            front.stderr.read()
+
+
+class Told(unittest.TestCase):
+    """What the trail's log tells of a trail; a script prints what `cca trail` would."""
+
+    def setUp(self):
+        folder = tempfile.TemporaryDirectory()
+        self.addCleanup(folder.cleanup)
+        self.folder = Path(folder.name)
+        self.log, self.program = self.folder / "log", self.folder / "cca"
+        self.program.write_text("#!/bin/sh\ncat held\n")
+        self.program.chmod(0o755)
+
+    def fetch(self, first, last, times=(), label="PAY", **options):
+        """Fetches a trail of these records, as by a front that has just begun."""
+        held = [f"{number} 00 TELLER CSNBKYT {label}" for number in range(first, last)]
+        (self.folder / "held").write_text("".join(f"{line}\n" for line in held))
+        return TrailLog(str(self.log), str(self.folder), str(self.program)).fetch(list(times), **options)
+
+    def lines(self):
+        return [json.loads(line) for line in self.log.read_text().splitlines()]
+
+    def numbers(self):
+        return [it["number"] for it in self.lines() if "number" in it]
+
+    def test_overlap(self):
+        self.assertEqual([self.fetch(0, 3), self.fetch(0, 5), self.fetch(4, 9)], [[], [], []])
+        self.assertEqual(self.numbers(), list(range(9)))
+        self.assertEqual(stat.S_IMODE(self.log.stat().st_mode), 0o600)
+        self.fetch(4, 9)
+        self.assertEqual(self.numbers(), list(range(9)))
+
+    def test_gap(self):
+        self.fetch(0, 3)
+        self.assertEqual(self.fetch(7, 9), ["records 3 to 6 are missing"])
+        self.assertEqual([it["told"] for it in self.lines() if "told" in it], ["records 3 to 6 are missing"])
+        self.assertEqual(self.numbers(), [0, 1, 2, 7, 8])
+
+    def test_late(self):
+        self.assertEqual(self.fetch(5, 9), ["records before number 5 are missing"])
+
+    def test_altered(self):
+        self.fetch(0, 3)
+        told = self.fetch(0, 5, label="OTHER")
+        self.assertRegex(" ".join(told), "record 2 isn't as it was")
+
+    def test_begins_anew(self):
+        self.fetch(0, 9)
+        self.assertRegex(" ".join(self.fetch(0, 3)), "the trail begins anew: it ended with number 8")
+        self.assertRegex(" ".join(self.fetch(0, 0)), "the trail begins anew")
+
+    def test_times(self):
+        self.fetch(0, 2, ["A", "B"])
+        self.assertEqual([it["time"] for it in self.lines()], ["A", "B"])
+        self.assertEqual(self.fetch(0, 4, ["C", "D", "E"], is_in_doubt=True), [])
+        self.assertRegex(" ".join(self.fetch(0, 5, ["F", "G"])), "2 requests were served, and 1 new records came")
+        self.assertEqual([it["time"] for it in self.lines() if "number" in it], ["A", "B", "C", "D", None])
+
+    def test_renamed(self):
+        """A log that is renamed is followed by one that says so."""
+        self.fetch(0, 3)
+        log = TrailLog(str(self.log), str(self.folder), str(self.program))
+        self.log.rename(self.folder / "log.1")
+        (self.folder / "held").write_text("0 00 A B C\n1 00 A B C\n2 00 TELLER CSNBKYT PAY\n3 00 A B C\n")
+        self.assertEqual(log.fetch([]), [])
+        self.assertEqual(self.lines()[0], {"follows": 2})
+        self.assertEqual(self.numbers(), [3])
+
+    def test_half_a_line(self):
+        """Behind half a line of a machine that stopped the record is written whole."""
+        self.fetch(0, 3)
+        self.log.write_text(self.log.read_text()[:-20])
+        self.assertEqual(self.fetch(0, 4), [])
+        whole = [line for line in self.log.read_text().splitlines() if line.endswith("}")]
+        self.assertEqual([json.loads(it)["number"] for it in whole], [0, 1, 2, 3])
+
+    def test_synced(self):
+        """The log is synced behind its last write."""
+        synced, real = [], os.fsync
+
+        def noted(file):
+            synced.append((os.fstat(file).st_ino, os.fstat(file).st_size))
+            real(file)
+
+        os.fsync = noted
+        self.addCleanup(setattr, os, "fsync", real)
+        self.fetch(0, 3)
+        self.assertEqual(synced[-1:], [(self.log.stat().st_ino, self.log.stat().st_size)])
+
+    def test_no_room(self):
+        self.log.symlink_to("/dev/full")
+        with self.assertRaises(TrailLost):
+            self.fetch(0, 3)
+
+    def test_refused(self):
+        self.program.write_text("#!/bin/sh\necho 'cca: trail cell 3 is damaged' >&2\nexit 14\n")
+        with self.assertRaisesRegex(TrailLost, "status 14: cca: trail cell 3 is damaged"):
+            self.fetch(0, 3)
+
+
+class Trail(Fronted):
+    """The trail that the front fetches."""
+
+    def setUp(self):
+        super().setUp()
+        self.kept = self.folder / "trail.jsonl"
+
+    def records(self):
+        return [it for it in map(json.loads, self.kept.read_text().splitlines()) if "number" in it]
+
+    def beside(self, count):
+        """So many requests beside the front."""
+        words = [self.stands, "audit"]
+        subprocess.run(words, cwd=self.folder / "keys", input=b"A\n" * count, stdout=subprocess.DEVNULL, check=True)
+
+    def ask_many(self, count, role):
+        """So many requests over one connection, written while replies are read."""
+        with connected(self.folder / role) as it, it.makefile("rb") as lines:
+            writing = threading.Thread(target=it.sendall, args=(b"CSNBKTP K\n" * count,))
+            writing.start()
+            came = {lines.readline() for _ in range(count)}
+            writing.join()
+        return came
+
+    def test_fetched_in_time(self):
+        """The trail is fetched after so many requests, here 50 in place of half of what it holds: each has its record, with its time."""
+        self.assertLess(front_program.FETCH_AFTER, HELD)
+        it = self.begin("--audit", str(self.kept), code="import front, sys; front.FETCH_AFTER = 50; sys.exit(front.main())")
+        with ThreadPoolExecutor(2) as clients:
+            came = list(clients.map(self.ask_many, (120, 90), ("TELLER", "OFFICER")))
+        self.assertEqual([len(replies) for replies in came], [1, 1])
+        self.ends_well(it)
+        records = self.records()
+        self.assertEqual([it["number"] for it in records], list(range(211)))
+        times = [it["time"] for it in records]
+        self.assertNotIn(None, times)
+        self.assertEqual(times, sorted(times))
+        fetches = [it["fetched"] for it in records]
+        self.assertLessEqual(max(map(fetches.count, set(fetches))), 50)
+        self.assertEqual([it for it in self.told() if it.get("event") == "trail"], [])
+
+    def test_gap(self):
+        """Requests beside the front are seen, and that more of them came than a trail keeps is told."""
+        self.ends_well(self.begin("--audit", str(self.kept)))
+        self.beside(5000)
+        self.ends_well(self.begin("--audit", str(self.kept)))
+        self.assertEqual([it["text"] for it in self.told() if it.get("event") == "trail"], ["records 1 to 904 are missing"])
+        self.assertEqual([it["number"] for it in self.records()], [0, *range(905, 5002)])
+
+    def test_killed(self):
+        """Programs that are killed: what was answered has its record and its time."""
+        it = self.begin("--audit", str(self.kept))
+        for _ in range(3):
+            asked(self.folder / "TELLER", "A", "B", "C")
+            for child in children_of(it.pid):
+                os.kill(child, signal.SIGKILL)
+            time.sleep(0.1)
+            self.assertIn(asked(self.folder / "TELLER", "D"), (["NO 01 -"], [""]))
+        self.ends_well(it)
+        records = self.records()
+        self.assertEqual([it["number"] for it in records], list(range(len(records))))
+        self.assertNotIn(None, [it["time"] for it in records])
+        self.assertGreaterEqual(len(records), 10)
+
+    def test_log_without_room(self):
+        """Where records can't be kept, the front doesn't begin."""
+        self.beside(1)
+        self.kept.symlink_to("/dev/full")
+        words, environment = self.words("--audit", str(self.kept)), {**os.environ, "CCA": self.stands}
+        it = subprocess.run(words, env=environment, stderr=subprocess.PIPE, text=True, timeout=120)
+        self.assertEqual((it.returncode, "the log of the trail" in it.stderr), (1, True), it.stderr)
+
+
+class TrailOfTheProgram(Trail):
+    """The same over the program."""
+
+    def setUp(self):
+        super().setUp()
+        self.stands = self.program.path
+
+
+def children_of(process):
+    """The processes that a process has started."""
+    for it in Path("/proc").glob("[0-9]*/stat"):
+        try:
+            if it.read_text().rpartition(")")[2].split()[1] == str(process):
+                yield int(it.parent.name)
+        except (FileNotFoundError, ProcessLookupError):
+            pass
+
+
+class Unit(Case):
+    """The unit of systemd: who may be a teller is no officer."""
+
+    def folders(self):
+        """The folders that the unit makes, each with its mode and group; and the folders of its sockets."""
+        text = UNIT.read_text()
+        made = re.findall(r"(?m)^ExecStartPre=\+\S*install -d -m (\d+) -o cca -g (\S+) (\S+)$", text)
+        sockets = re.findall(r"(/\S+)/\w+=[A-Z]+", text.partition("ExecStart=")[2])
+        return {folder: (mode, group) for mode, group, folder in made}, sockets
+
+    def test_groups(self):
+        made, sockets = self.folders()
+        self.assertGreaterEqual(len(sockets), 2)
+        self.assertEqual(sorted(made), sorted(sockets))
+        self.assertEqual({mode for mode, _ in made.values()}, {"2750"})
+        self.assertEqual(len({group for _, group in made.values()}), len(sockets))
+
+    @unittest.skipUnless(os.getuid() == 0, "who may connect is tried by root")
+    def test_who_may_connect(self):
+        """The unit's folders, with users and groups by number: the front's user is in neither group."""
+        made, _ = self.folders()
+        for folder in (*self.folder.parents, self.folder):
+            if folder.is_relative_to(tempfile.gettempdir()) and folder != Path(tempfile.gettempdir()):
+                folder.chmod(0o711)
+        keys, stub, sockets = self.folder / "keys", self.folder / "stub", []
+        stub.write_text('#!/bin/sh\nwhile read -r line; do test "$line" && echo OK || echo "NO 01 -"; done\n')
+        stub.chmod(0o755)
+        keys.mkdir(mode=0o700)
+        os.chown(keys, 54001, 54001)
+        for number, (folder, (mode, _)) in enumerate(made.items()):
+            path = self.folder / Path(folder).name
+            path.mkdir()
+            os.chown(path, 54001, 54010 + number)
+            path.chmod(int(mode, 8))
+            sockets.append(path / "socket")
+        front = as_user(54001, 54001, lambda: served(stub, keys, sockets))
+        self.addCleanup(os.waitpid, front, 0)
+        self.addCleanup(os.kill, front, signal.SIGKILL)
+        self.assertEqual(asked(sockets[-1], "A K"), ["OK"])
+        for client in range(len(sockets)):
+            for number, path in enumerate(sockets):
+                came = os.waitpid(as_user(54020, 54010 + client, lambda path=path: connected(path, 0).close()), 0)[1]
+                self.assertEqual(os.waitstatus_to_exitcode(came), 0 if client == number else errno.EACCES)
+
+    @unittest.skipUnless(shutil.which("systemd-analyze"), "systemd isn't installed")
+    def test_by_systemd(self):
+        it = subprocess.run(["systemd-analyze", "verify", "--man=no", UNIT], stderr=subprocess.PIPE, text=True)
+        self.assertEqual([line for line in it.stderr.splitlines() if UNIT.name in line], [])
+        words = ["systemd-analyze", "security", "--offline=true", "--no-pager", "--threshold=15", UNIT]
+        it = subprocess.run(words, stdout=subprocess.PIPE, stderr=subprocess.STDOUT, text=True)
+        self.assertEqual(it.returncode, 0, it.stdout[-3000:])
+
+
+def as_user(user, group, call):
+    """A process of this user, and of this group alone, that makes a call: it ends with 0, or the number of an error."""
+    process = os.fork()
+    if process == 0:
+        status = 1
+        try:
+            os.setgroups([])
+            os.setgid(group)
+            os.setuid(user)
+            call()
+            status = 0
+        except OSError as error:
+            status = error.errno
+        finally:
+            os._exit(status)
+    return process
+
+
+def served(program, keys, sockets):
+    """Runs the front in this process."""
+    os.dup2(os.open(os.devnull, os.O_WRONLY), 2)
+    os.environ["CCA"] = str(program)
+    sys.argv = ["front.py", str(keys), *[f"{it}=TELLER" for it in sockets]]
+    front_program.main()
+
+
+class Planted(unittest.TestCase):
+    """Each fault of EDITS is found by its case."""
+
+    def test_edits(self):
+        each_is_found(self, "front", EDITS)
+
+
+if __name__ == "__main__":
+    unittest.main()

@@ -1,0 +1,344 @@
+"""The verbs by IBM's signatures, clients/c/csnb.h: each verb against the program, with what OpenSSL makes of keys and data; each return code
+and each reason; the programs of examples/c; and once more under the sanitizers of addresses and of undefined behaviour.
+"""
+import ctypes
+import os
+import shutil
+import subprocess
+import unittest
+
+from tests.c_library import DOUBLE, IV, MASTER, NEXT, SANITIZERS, SINGLE, SOURCES, TRANSPORT, Library, chained, code, compiled, csnb, data
+from tests.c_library import declared, identifier, key_token, library, padded, room, sanitized, vector, words_of
+from tests.edits import Edit, each_is_found
+from tests.formats import closed, external, internal, joined, made, pattern, unique, value
+from tests.harness import EXAMPLES, TOP, Case, Fault
+
+FAULTS = [Fault('"$CCA" "$@" | sed -u "s/^NO 07/NO 08/"', case="Ibm.test_storage", tells=r"\(8, 8\) != \(8, 7\)")]
+# Each takes away what one of these cases asks for.
+EDITS = [
+    Edit("clients/c/csnb_call.c", "it->used |= 1u << at;", "it->used = (1u << it->count) - 1;", "Ibm.test_reasons"),
+    Edit("clients/c/csnb_call.c", "came.is_old ? 4 : 0", "0", "Ibm.test_old"),
+    Edit("clients/c/csnb_call.c", "came.is_in_doubt ? CSNB_IN_DOUBT", "0 ? CSNB_IN_DOUBT", "Ibm.test_ended"),
+    Edit("clients/c/csnb.c", "put_chain(chaining_vector, last);", "put_chain(chaining_vector, clear_text);", "Ibm.test_chaining"),
+    Edit("clients/c/csnb.c", "memcmp(verification_pattern, value, 4) != 0", "0", "Ibm.test_check_values"),
+]
+
+
+def mutable(number):
+    return ctypes.c_long(number)
+
+
+class Ibm(Library):
+    """Each verb by IBM's signature."""
+
+    def setUp(self):
+        super().setUp()
+        library().csnb_use(ctypes.byref(self.cca.it))
+        self.addCleanup(library().csnb_use, None)
+
+    def is_done(self, came):
+        self.assertEqual(came, (0, 0), library().csnb_reason(*came))
+
+    def begun(self):
+        for words, part in ((("FIRST",), MASTER), (("SYM-MK", "LAST"), bytes(24)), (("SET",), None)):
+            self.is_done(csnb("CSNBMKP", *words_of(*words), part))
+
+    def held(self, name, key, kind):
+        self.is_done(csnb("CSNBKRC", identifier(name)))
+        self.is_done(csnb("CSNBKRW", key_token(key, kind), identifier(name)))
+        return identifier(name)
+
+    def test_master_keys_and_roles(self):
+        self.is_done(csnb("CSNBMKP", *words_of("FIRST"), MASTER))
+        self.is_done(csnb("CSNBMKP", *words_of("CLEAR"), None))
+        self.begun()
+        self.assertEqual(csnb("CSNBMKP", *words_of("SET"), None), (8, 25))
+        define = [ctypes.byref(mutable(8)), b"TELLER  ", ctypes.byref(mutable(4)), b"\0\0\0\x0f"]
+        self.is_done(csnb("CSUAACI", *words_of("DEFINE"), *define))
+        self.is_done(csnb("CSUAACI", *words_of("REMOVE"), *define[:2], None, None))
+        self.assertEqual(csnb("CSUAACI", *words_of("REMOVE"), *define[:2], None, None), (8, 30))
+        self.assertEqual(csnb("CSUAACI", *words_of("INIT-AC"), *define), (8, 103))
+
+    def test_storage(self):
+        self.begun()
+        held = room(64)
+        self.held("PAY.A", SINGLE, "DATA")
+        self.is_done(csnb("CSNBKRR", identifier("PAY.A"), held))
+        self.assertEqual(held.raw, key_token(SINGLE, "DATA"))
+        self.assertEqual(csnb("CSNBKRC", identifier("PAY.A")), (8, 29))
+        os.environ["CSUDESLD"] = str(self.folder)
+        self.addCleanup(os.environ.pop, "CSUDESLD", None)
+        length, path = mutable(0), room(64)
+        if len(str(self.folder)) < 50:
+            self.is_done(csnb("CSNBKRL", identifier("PAY.*"), ctypes.byref(length), path, room(8)))
+            with open(path.raw[: length.value]) as lines:
+                self.assertEqual(lines.read(), "PAY.A\n")
+        self.assertEqual(csnb("CSNBKRL", identifier("PAY.A"), ctypes.byref(length), path, room(8)), (8, 106))
+        self.is_done(csnb("CSNBKRD", *words_of("LABEL-DL"), identifier("PAY.A")))
+        self.assertEqual(csnb("CSNBKRD", *words_of("LABEL-DL"), identifier("PAY.A")), (8, 7))
+        self.assertEqual(csnb("CSNBKRR", identifier("PAY.A"), held), (8, 7))
+
+    def test_clear_keys_and_parts(self):
+        self.begun()
+        target = identifier()
+        self.is_done(csnb("CSNBCKI", SINGLE, target))
+        self.assertEqual(target.raw, key_token(SINGLE, "DATA"))
+        self.held("A", DOUBLE, "MAC")
+        self.is_done(csnb("CSNBCKI", SINGLE, identifier("A")))
+        for kind, size in (("EXPORTER", 16), ("CIPHER", 8)):
+            parts = [made(f"part {it}", size) for it in range(3)]
+            key = identifier()
+            self.assertEqual(library().csnb_skeleton(kind.encode(), size, key), 0)
+            for rule, part in zip(("FIRST", "MIDDLE", "LAST"), parts):
+                if rule == "LAST":  # by a label
+                    self.is_done(csnb("CSNBKRC", identifier(kind)))
+                    self.is_done(csnb("CSNBKRW", key, identifier(kind)))
+                    key = identifier(kind)
+                self.is_done(csnb("CSNBKPI", *words_of(rule), part + bytes(16 - size), key))
+            held = room(64)
+            self.is_done(csnb("CSNBKRR", identifier(kind), held))
+            self.assertEqual(held.raw, key_token(joined(*parts), kind))
+        self.assertEqual(library().csnb_skeleton(b"CIPHER", 16, key), -1)
+        self.assertEqual(csnb("CSNBKPI", *words_of("FIRST"), bytes(16), identifier("EXPORTER")), (8, 105))
+
+    def test_generated(self):
+        self.begun()
+        exporter = self.held("OUT", TRANSPORT, "EXPORTER")
+        one, two = identifier(), identifier()
+        nothing = identifier()
+        self.is_done(csnb("CSNBKGN", b"OP  ", b"KEYLN16 ", b"MAC     ", None, nothing, nothing, one, None))
+        self.assertEqual(one.raw[32:48], vector("MAC", 16))
+        self.is_done(csnb("CSNBKRC", identifier("MADE")))
+        self.is_done(csnb("CSNBKGN", b"OPEX", b"DOUBLE-O", b"DATA    ", b"DATA    ", nothing, exporter, identifier("MADE"), two))
+        self.assertEqual(two.raw[32:48], unique(vector("DATA", 16)))
+        self.is_done(csnb("CSNBKGN", b"EXEX", b"SINGLE  ", b"MAC     ", b"MACVER  ", exporter, exporter, one, two))
+        self.assertEqual((one.raw[32:48], two.raw[32:48]), (vector("MAC", 8), vector("MACVER", 8)))
+        for words, reason in (
+            ((b"OPOP", b"KEYLN8  ", b"DATA    "), 109),
+            ((b"OP  ", b"KEYLN24 ", b"DATA    "), 109),
+            ((b"OP  ", b"KEYLN8  ", b"PINGEN  "), 109),
+            ((b"OP  ", b"KEYLN8  ", b"EXPORTER"), 32),
+        ):
+            self.assertEqual(csnb("CSNBKGN", *words, None, nothing, nothing, one, None), (8, reason))
+        self.assertEqual(csnb("CSNBKGN", b"OPEX", b"KEYLN8  ", b"DATA    ", b"MAC     ", nothing, exporter, one, two), (8, 24))
+
+    def test_moved(self):
+        self.begun()
+        exporter, importer = self.held("OUT", TRANSPORT, "EXPORTER"), self.held("IN", TRANSPORT, "IMPORTER")
+        out, back, source = identifier(), identifier(), identifier(key_token(DOUBLE, "MAC"))
+        self.is_done(csnb("CSNBKEX", b"MAC     ", source, exporter, out))
+        self.assertEqual(out.raw.hex(), external(TRANSPORT, DOUBLE, vector("MAC", 16)))
+        self.assertEqual(csnb("CSNBKEX", b"DATA    ", source, exporter, back), (8, 109))
+        self.assertEqual(back.raw, bytes(64))
+        self.is_done(csnb("CSNBKEX", b"TOKEN   ", source, exporter, out))
+        self.is_done(csnb("CSNBKIM", b"TOKEN   ", out, importer, back))
+        self.assertEqual(back.raw, source.raw)
+        self.assertEqual(csnb("CSNBKIM", b"CIPHER  ", out, importer, back), (8, 109))
+        first, second = self.held("FROM", TRANSPORT, "IKEYXLAT"), self.held("TO", TRANSPORT[::-1], "OKEYXLAT")
+        self.is_done(csnb("CSNBKTR", out, first, second, back))
+        self.assertEqual(back.raw.hex(), external(TRANSPORT[::-1], DOUBLE, vector("MAC", 16)))
+        self.is_done(csnb("CSNBPEX", source))
+        self.assertEqual(source.raw.hex(), internal(MASTER, DOUBLE, closed(vector("MAC", 16))))
+        self.assertEqual(csnb("CSNBKEX", b"TOKEN   ", source, exporter, out), (8, 21))
+        self.is_done(csnb("CSNBPEX", exporter))
+
+    def test_check_values(self):
+        self.begun()
+        key, found = self.held("A", DOUBLE, "MAC"), room(8)
+        self.is_done(csnb("CSNBKYT", *words_of("KEY-ENCD", "GENERATE", "ENC-ZERO"), key, room(8), found))
+        self.assertEqual(found.raw.hex(), value(DOUBLE) + "00000000")
+        verify = words_of("KEY-ENC", "VERIFY", "ENC-ZERO")
+        self.is_done(csnb("CSNBKYT", *verify, key, room(8), found))
+        self.assertEqual(csnb("CSNBKYT", *verify, key, room(8), bytes(8)), (4, 1))
+
+    def test_parsed(self):
+        self.begun()
+        kind, count, words, halves, vectors, verification = room(8), mutable(5), room(40), room(16), room(16), room(8)
+        unused = [None] * 3
+        given = key_token(DOUBLE, "MACVER")
+        read = [kind, ctypes.byref(count), words, halves, *unused, vectors, *unused, verification]
+        self.is_done(csnb("CSNBKTP", given, *read))
+        self.assertEqual((kind.raw, count.value, words.raw[:24]), (b"MAC     ", 3, b"INTERNALKEY     CV      "))
+        self.assertEqual((halves.raw, vectors.raw, verification.raw), (given[16:32], vector("MACVER", 16), pattern(MASTER)))
+        self.assertEqual(csnb("CSNBKTP", bytes(64), *read), (8, 9))
+
+    def test_random(self):
+        drawn = room(8)
+        self.is_done(csnb("CSNBRNG", b"ODD     ", drawn))
+        self.assertEqual({it.bit_count() % 2 for it in drawn.raw}, {1})
+        self.assertEqual(csnb("CSNBRNG", b"NONE    ", drawn), (8, 103))
+
+    def enciphered(self, verb, key, given, size, words, chain=None, iv=IV):
+        """A call of CSNBENC or CSNBDEC: its codes, and what came."""
+        length, out = mutable(size), room(size + 8)
+        pad = [ctypes.byref(mutable(0))] if verb == "CSNBENC" else []
+        came = csnb(verb, key, ctypes.byref(length), given, iv, *words_of(*words), *pad, chain, out)
+        return came, out.raw[: length.value]
+
+    def test_chaining(self):
+        """Data in calls that continue each other, each longer than a request may be."""
+        self.begun()
+        key, text = self.held("A", DOUBLE, "DATA"), data(30000)
+        for verb, given, wanted in (("CSNBENC", text, chained(DOUBLE, IV, text)), ("CSNBDEC", chained(DOUBLE, IV, text), text)):
+            chain, found = room(18), b""
+            for at in range(0, 30000, 10000):
+                words = ["CBC", "CONTINUE" if at else "INITIAL"]
+                came, out = self.enciphered(verb, key, given[at : at + 10000], 10000, words, chain, None if at else IV)
+                self.is_done(came)
+                found += out
+            self.assertEqual(found, wanted)
+
+    def test_padded(self):
+        self.begun()
+        key = self.held("A", SINGLE, "DATA")
+        for size in (0, 1, 8, 5000):
+            came, out = self.enciphered("CSNBENC", key, data(size), size, ["X9.23"])
+            self.assertEqual((came, out), ((0, 0), chained(SINGLE, IV, padded(data(size)))))
+            came, back = self.enciphered("CSNBDEC", key, out, len(out), ["X9.23", "INITIAL"])
+            self.assertEqual((came, back), ((0, 0), data(size)))
+        self.assertEqual(self.enciphered("CSNBENC", key, data(9), 9, [])[0], (8, 23))
+        wrong = chained(SINGLE, IV, b"A" * 7 + b"\x09")
+        self.assertEqual(self.enciphered("CSNBDEC", key, wrong, 8, ["X9.23"])[0], (8, 31))
+
+    def test_macs(self):
+        self.begun()
+        for name, key, rule in (("A", SINGLE, []), ("B", DOUBLE, ["X9.19OPT"])):
+            held = self.held(name, key, "MAC")
+            for words, length in (([], 4), (["MACLEN6"], 6), (["ONLY", "MACLEN8"], 8)):
+                mac = room(8)
+                self.is_done(self.mac("CSNBMGN", held, data(5000), [*rule, *words], None, mac))
+                self.assertEqual(mac.raw, code(key, data(5000))[1][:length] + bytes(8 - length))
+                self.is_done(self.mac("CSNBMVR", held, data(5000), [*rule, *words], None, mac))
+                self.assertEqual(self.mac("CSNBMVR", held, data(4999), [*rule, *words], None, mac), (4, 1))
+            chains, mac = (room(18), room(18)), room(8)
+            for segment, text in (("FIRST", data(9000)[:5]), ("MIDDLE", data(9000)[5:8999]), ("LAST", data(9000)[8999:])):
+                self.is_done(self.mac("CSNBMGN", held, text, [*rule, segment, "MACLEN8"], chains[0], mac))
+                given = code(key, data(9000))[1]
+                self.is_done(self.mac("CSNBMVR", held, text, [*rule, segment, "MACLEN8"], chains[1], given))
+            self.assertEqual(mac.raw, code(key, data(9000))[1])
+
+    def mac(self, verb, key, text, words, chain, mac):
+        return csnb(verb, key, ctypes.byref(mutable(len(text))), text, *words_of(*words), chain, mac)
+
+    def test_old(self):
+        """A key under the old master key is used, with return code 4; CSNBKTC brings its token over."""
+        self.begun()
+        key, test = identifier(key_token(SINGLE, "DATA")), room(8)
+        for words, part in ((("FIRST",), NEXT), (("LAST",), bytes(24)), (("SET",), None)):
+            self.is_done(csnb("CSNBMKP", *words_of(*words), part))
+        words = words_of("KEY-ENC", "GENERATE", "ENC-ZERO")
+        self.assertEqual(csnb("CSNBKYT", *words, key, room(8), test), (4, 10001))
+        self.assertEqual(test.raw[:4].hex(), value(SINGLE))
+        self.assertEqual(csnb("CSNBKTC", *words_of("RTCMK"), key), (4, 10001))
+        self.assertEqual(key.raw.hex(), internal(NEXT, SINGLE, vector("DATA", 8)))
+        self.is_done(csnb("CSNBKYT", *words, key, room(8), test))
+        self.assertEqual(csnb("CSNBKTC", *words_of("RTCMK"), identifier("A")), (8, 105))
+
+    def test_reasons(self):
+        """What a parameter can't say: nothing is sent, and each has its own reason."""
+        key, test = identifier("A"), room(8)
+        generate = ["KEY-ENC", "GENERATE", "ENC-ZERO"]
+        for words, operand, reason in (
+            (generate[:2], key, 104),
+            (generate[1:], key, 104),
+            ([*generate, "VERIFY"], key, 104),
+            ([*generate, "KEY-KM"], key, 103),
+            (["key-enc", "GENERATE", "ENC-ZERO"], key, 103),
+            (generate, identifier(), 105),
+            (generate, identifier("A B"), 106),
+            (generate, identifier(""), 106),
+            (generate, identifier("A\n"), 106),
+            (generate, None, 101),
+            (generate * 6, key, 104),
+        ):
+            self.assertEqual(csnb("CSNBKYT", *words_of(*words), operand, room(8), test), (8, reason), words)
+        self.assertEqual(csnb("CSNBKYT", *words_of(*generate), key, room(8), None), (8, 101))
+        length, out = mutable(8), room(16)
+        call = [identifier("A"), ctypes.byref(length), data(8), IV]
+        self.assertEqual(csnb("CSNBENC", *call, *words_of("X9.23"), ctypes.byref(mutable(1)), None, out), (8, 108))
+        self.assertEqual(csnb("CSNBENC", *call, *words_of("CONTINUE"), None, None, out), (8, 101))
+        self.assertEqual(csnb("CSNBENC", *call, *words_of("IPS"), None, None, out), (8, 103))
+        length.value = -1
+        self.assertEqual(csnb("CSNBENC", *call, *words_of("CBC"), None, None, out), (8, 107))
+        code_, reason, exit_length = mutable(0), mutable(0), mutable(4)
+        library().CSNBRNG(ctypes.byref(code_), ctypes.byref(reason), ctypes.byref(exit_length), b"exit", b"ODD     ", out)
+        self.assertEqual((code_.value, reason.value), (8, 102))
+        self.assertEqual(library().csnb_reason(8, 102), b"exit_data_length isn't 0")
+        self.assertEqual(self.ask(["CSNBKRL role=DEFAULT prefix="]), ["OK count=0 labels="])
+
+    def test_ended(self):
+        """No reply: return code 12, and whether the request is in doubt."""
+        it = self.opened(self.standing())
+        library().csnb_use(ctypes.byref(it.it))
+        for reply, came in (("ends 8", (12, 2008)), ("ends 10", (12, 1010)), ("NO 20 key", (8, 20)), ("ends 7", (12, 2007)), ("OK", (12, 1007))):
+            (self.folder / "reply").write_text(reply)
+            self.assertEqual(csnb("CSNBKRC", identifier("A")), came)
+        library().csnb_use(None)
+        self.assertEqual(csnb("CSNBKRC", identifier("A")), (12, 1))
+        self.assertIn(b"CCA_SOCKET", library().csnb_reason(12, 1))
+
+    def test_verbs_are_all_called(self):
+        """These cases call each verb of csnb.h."""
+        text = (TOP / "tests" / "library_ibm.py").read_text()
+        verbs = {name for name, *_ in declared("csnb.h") if name.startswith("CS")}
+        self.assertEqual({it for it in verbs if f'"{it}"' not in text}, set())
+        self.assertEqual(len(verbs), 22)
+
+
+class Programs(Library):
+    """The programs of examples/c, by the coprocess and by the socket that the environment names."""
+
+    def built(self, name):
+        sources = [EXAMPLES / "c" / f"{name}.c", *sorted(SOURCES.glob("*.c"))]
+        return compiled(name, sources, "-O1", *(SANITIZERS if shutil.which("gcc") else []))
+
+    def run_in(self, *words, given=b"", **named):
+        environment = {**os.environ, "CCA": self.program.path, **named}
+        return subprocess.run(words, cwd=self.folder, env=environment, input=given, capture_output=True, timeout=200)
+
+    def setUp(self):
+        super().setUp()
+        self.with_master_key()
+        self.stored("PAY", DOUBLE, "DATA")
+        self.assertEqual(self.cca.close(), 0)
+
+    def test_mac(self):
+        program, here = self.built("mac"), {"CCA_FOLDER": str(self.folder), "CCA_ROLE": "DEFAULT"}
+        done = "CSNBKGN: return code 0, reason 0: done\nCSNBMGN: return code 0, reason 0: done\nCSNBMVR: return code 0, reason 0: done\n"
+        for _ in range(3):  # each finds the folder free
+            came = self.run_in(program, **here)
+            self.assertEqual(came.stdout.decode(), f"{done}CSNBMVR: return code 4, reason 1: the MAC or the check value doesn't match\n")
+            self.assertEqual((came.returncode, came.stderr), (0, b""))
+        self.assertEqual(self.run_in(program, **here, CCA_COMMAND="audit").returncode, 0)
+        self.assertEqual(len(self.program.run(self.folder, "trail").lines), 4)
+        came = self.run_in(program, CCA_FOLDER=str(self.folder), CCA_ROLE="NOBODY")
+        self.assertEqual(came.stdout, b"CSNBKGN: return code 8, reason 3: the role isn't defined\n")
+        came = self.run_in(program)
+        self.assertIn(b"return code 12, reason 1", came.stdout)
+
+    def test_file(self):
+        program = self.built("file")
+        for size in (0, 1, 8, 65536, 150001):
+            text = data(size)
+            out = self.run_in(program, "encipher", self.folder, "DEFAULT", "PAY", IV.hex(), given=text)
+            self.assertEqual((out.returncode, out.stderr, out.stdout == chained(DOUBLE, IV, padded(text))), (0, b"", True))
+            back = self.run_in(program, "decipher", self.folder, "DEFAULT", "PAY", IV.hex(), given=out.stdout)
+            self.assertEqual((back.returncode, back.stderr, back.stdout == text), (0, b"", True))
+        came = self.run_in(program, "encipher", self.folder, "DEFAULT", "NONE", IV.hex(), given=b"A")
+        self.assertEqual((came.returncode, came.stderr), (1, b"file: refused by rule 07, field key: the label doesn't exist\n"))
+
+
+class Sanitized(Case):
+    def test_sanitized(self):
+        sanitized(self, "library_ibm", [Ibm])
+
+
+class Planted(unittest.TestCase):
+    """Each fault of EDITS is found by its case."""
+
+    def test_edits(self):
+        each_is_found(self, "library_ibm", EDITS)
+
+
+if __name__ == "__main__":
+    unittest.main()
