@@ -1,0 +1,307 @@
+/* See csnb_call.h. */
+#include "csnb_call.h"
+
+#include <stdlib.h>
+#include <string.h>
+
+#define WORD 8
+#define MOST_WORDS 16
+
+/* ---- the cca that is asked */
+
+static struct cca own, *used;
+static pthread_once_t once = PTHREAD_ONCE_INIT;
+
+void csnb_use(struct cca *it)
+{
+    used = it;
+}
+
+/* Waits for cca, so that a program that is started next finds the folder free. */
+static void close_own(void)
+{
+    cca_close(&own);
+}
+
+static void from_environment(void)
+{
+    const char *socket = getenv("CCA_SOCKET"), *folder = getenv("CCA_FOLDER"), *role = getenv("CCA_ROLE");
+    const char *program = getenv("CCA"), *command = getenv("CCA_COMMAND");
+    if (used)
+        return;
+    if (socket) {
+        cca_open_socket(&own, socket);
+    } else if (folder && role) {
+        cca_open(&own, folder, role);
+        own.client.program = program ? program : "cca";
+        own.client.command = command ? command : "run";
+    } else {
+        return;
+    }
+    used = &own;
+    atexit(close_own);
+}
+
+/* ---- a call */
+
+void call_fault(struct call *it, long reason)
+{
+    if (it->code == 0) {
+        it->code = 8;
+        it->reason = reason;
+    }
+}
+
+void call_begin(struct call *it, const long *exit_data_length, const unsigned char *exit_data, int are_there)
+{
+    (void)exit_data;
+    memset(it, 0, sizeof *it);
+    pthread_once(&once, from_environment);
+    it->cca = used;
+    if (!are_there)
+        call_fault(it, CSNB_MISSING);
+    if (exit_data_length && *exit_data_length != 0)
+        call_fault(it, CSNB_EXIT_DATA);
+}
+
+void call_words(struct call *it, const long *count, const unsigned char *words)
+{
+    if (!count || (*count > 0 && !words)) {
+        call_fault(it, CSNB_MISSING);
+    } else if (*count < 0 || *count > MOST_WORDS) {
+        call_fault(it, CSNB_KEYWORDS);
+    } else {
+        it->count = *count;
+        it->words = words;
+    }
+}
+
+int call_choose(struct call *it, const char *const *group, int otherwise)
+{
+    int chosen = -1, place;
+    long at;
+    for (at = 0; at < it->count; at++) {
+        char word[WORD + 1];
+        field_text(word, it->words + at * WORD, WORD);
+        for (place = 0; group[place]; place++) {
+            if (strcmp(word, group[place]) != 0)
+                continue;
+            if (chosen >= 0)
+                call_fault(it, CSNB_KEYWORDS);
+            chosen = place;
+            it->used |= 1u << at;
+        }
+    }
+    it->is_missing |= chosen < 0 && otherwise < 0;
+    return chosen < 0 ? otherwise : chosen;
+}
+
+void call_label(struct call *it, const unsigned char *field, struct operand *key)
+{
+    const char *byte;
+    memset(key, 0, sizeof *key);
+    if (!field) {
+        call_fault(it, CSNB_MISSING);
+        return;
+    }
+    field_text(key->label, field, sizeof key->label - 1);
+    for (byte = key->label; *byte; byte++)
+        if (*byte < 0x21 || *byte > 0x7E)
+            call_fault(it, CSNB_LABEL);
+    if (key->label[0] == '\0')
+        call_fault(it, CSNB_LABEL);
+    key->key = cca_label(key->label);
+}
+
+void call_key(struct call *it, const unsigned char *identifier, struct operand *key)
+{
+    memset(key, 0, sizeof *key);
+    if (!identifier)
+        call_fault(it, CSNB_MISSING);
+    else if (identifier[0] == 0)
+        call_fault(it, CSNB_KEY);
+    else if (identifier[0] <= 2)
+        key->key = cca_token(identifier);
+    else
+        call_label(it, identifier, key);
+}
+
+int call_is_target(struct call *it, const unsigned char *identifier, struct operand *key)
+{
+    memset(key, 0, sizeof *key);
+    if (!identifier)
+        call_fault(it, CSNB_MISSING);
+    if (!identifier || identifier[0] <= 2)
+        return 0;
+    call_label(it, identifier, key);
+    return 1;
+}
+
+size_t call_length(struct call *it, const long *length)
+{
+    if (!length)
+        call_fault(it, CSNB_MISSING);
+    else if (*length < 0)
+        call_fault(it, CSNB_LENGTH);
+    else
+        return (size_t)*length;
+    return 0;
+}
+
+int call_ready(struct call *it)
+{
+    if (it->used != (1u << it->count) - 1)
+        call_fault(it, CSNB_KEYWORD);
+    if (it->is_missing)
+        call_fault(it, CSNB_KEYWORDS);
+    if (it->code == 0 && !it->cca) {
+        it->code = 12;
+        it->reason = CSNB_NOWHERE;
+    }
+    return it->code == 0;
+}
+
+void call_came(struct call *it, struct cca_result came)
+{
+    it->is_done = came.outcome == CCA_DONE;
+    switch (came.outcome) {
+    case CCA_DONE:
+        it->code = came.is_old ? 4 : 0;
+        it->reason = came.is_old ? CSNB_OLD_KEY : 0;
+        break;
+    case CCA_REFUSED:
+        it->code = 8;
+        it->reason = came.rule;
+        break;
+    case CCA_ENDED:
+        it->code = 12;
+        it->reason = (came.is_in_doubt ? CSNB_IN_DOUBT : CSNB_NOT_DONE) + came.status;
+        break;
+    default:
+        it->code = 8;
+        it->reason = CSNB_UNSAYABLE;
+    }
+}
+
+void call_end(const struct call *it, long *return_code, long *reason_code)
+{
+    if (return_code)
+        *return_code = it->code;
+    if (reason_code)
+        *reason_code = it->reason;
+}
+
+/* ---- fields of a fixed size */
+
+void field_text(char *text, const unsigned char *field, size_t size)
+{
+    memcpy(text, field, size);
+    while (size > 0 && text[size - 1] == ' ')
+        size--;
+    text[size] = '\0';
+}
+
+void field_fill(unsigned char *field, const char *text, size_t size)
+{
+    size_t length = strlen(text) < size ? strlen(text) : size;
+    memset(field, ' ', size);
+    memcpy(field, text, length);
+}
+
+/* ---- key types */
+
+/* The vectors of both halves: those of the type, with other bytes for the form of the key. */
+static int has_halves(const unsigned char *vectors, const unsigned char *left, unsigned char left_form, unsigned char right_form)
+{
+    unsigned char wanted[16];
+    memcpy(wanted, left, 8);
+    memcpy(wanted + 8, left, 8);
+    wanted[5] = left_form;
+    wanted[13] = right_form;
+    return memcmp(vectors, wanted, 16) == 0;
+}
+
+int has_type(const unsigned char *token, const struct cca_type *type, int length)
+{
+    static const unsigned char zeros[8];
+    const unsigned char *vectors = token + 32;
+    if (length == 8)
+        return memcmp(type->single, zeros, 8) != 0 && memcmp(vectors, type->single, 8) == 0 && memcmp(vectors + 8, zeros, 8) == 0;
+    if (memcmp(type->left, zeros, 8) == 0)
+        return 0;
+    return has_halves(vectors, type->left, 0x41, 0x21) || has_halves(vectors, type->left, 0xC0, 0xA0);
+}
+
+int csnb_skeleton(const char *key_type, int key_length, unsigned char token[CCA_TOKEN_SIZE])
+{
+    const struct cca_type *type = cca_types;
+    static const unsigned char zeros[8];
+    const unsigned char *vector;
+    uint32_t sum = 0;
+    int at;
+    while (type->name && strcmp(type->name, key_type) != 0)
+        type++;
+    vector = key_length == 8 ? type->single : type->left;
+    if (!type->name || (key_length != 8 && key_length != 16) || memcmp(vector, zeros, 8) == 0)
+        return -1;
+    memset(token, 0, CCA_TOKEN_SIZE);
+    token[0] = 1;
+    token[6] = 0x40; /* a control vector and no key */
+    memcpy(token + 32, vector, 8);
+    if (key_length == 16) {
+        memcpy(token + 40, vector, 8);
+        token[45] = 0x21;
+    }
+    for (at = 0; at < 60; at += 4)
+        sum += (uint32_t)token[at] << 24 | (uint32_t)token[at + 1] << 16 | (uint32_t)token[at + 2] << 8 | token[at + 3];
+    for (at = 60; at < 64; at++)
+        token[at] = (unsigned char)(sum >> (63 - at) * 8);
+    return 0;
+}
+
+/* ---- reasons as sentences */
+
+static const char *own_reason(long reason)
+{
+    switch (reason) {
+    case CSNB_MISSING:
+        return "a parameter is a null pointer";
+    case CSNB_EXIT_DATA:
+        return "exit_data_length isn't 0";
+    case CSNB_KEYWORD:
+        return "a keyword isn't one of this verb here";
+    case CSNB_KEYWORDS:
+        return "a keyword is missing, two exclude each other, or there are too many or too few";
+    case CSNB_KEY:
+        return "a key identifier has no key, or one of a kind that the verb doesn't take here";
+    case CSNB_LABEL:
+        return "a label is empty, or has a byte that no request can have";
+    case CSNB_LENGTH:
+        return "a length is negative, or isn't the one that the parameter has";
+    case CSNB_PAD:
+        return "the pad character isn't X'00'";
+    case CSNB_KEY_TYPE:
+        return "a key type, length or form isn't there, or the key has another type";
+    case CSNB_LIST:
+        return "the list of labels can't be written: look at CSUDESLD";
+    }
+    return "the parameters fit no request";
+}
+
+const char *csnb_reason(long return_code, long reason_code)
+{
+    const char *rule = cca_rule(reason_code > 0 && reason_code < 100 ? (int)reason_code : 0);
+    switch (return_code) {
+    case 0:
+        return "done";
+    case 4:
+        return reason_code == CSNB_OLD_KEY ? "done, with a key under the old master key"
+                                           : "the MAC or the check value doesn't match";
+    case 8:
+        return rule ? rule : own_reason(reason_code);
+    }
+    if (reason_code == CSNB_NOWHERE)
+        return "no cca is named: set CCA_SOCKET, or CCA_FOLDER and CCA_ROLE";
+    return reason_code >= CSNB_IN_DOUBT ? "cca ended; the request may have been carried out all the same"
+                                        : "cca ended; the request wasn't carried out";
+}

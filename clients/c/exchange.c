@@ -1,0 +1,247 @@
+/* See exchange.h. */
+#include "exchange.h"
+
+#include <stdio.h>
+#include <stdlib.h>
+#include <string.h>
+
+#define TOO_LONG "the request is longer than a line may be"
+
+void exchange_wipe(void *bytes, size_t length)
+{
+    volatile unsigned char *it = bytes;
+    while (length-- > 0)
+        *it++ = 0;
+}
+
+void exchange_refuse(struct exchange *it, const char *why)
+{
+    if (it->result.outcome != CCA_UNSAYABLE)
+        it->result.why = why;
+    it->result.outcome = CCA_UNSAYABLE;
+}
+
+static void put(struct exchange *it, const char *bytes, size_t length)
+{
+    if (length >= CCA_LINE_SIZE - it->length) {
+        exchange_refuse(it, TOO_LONG);
+        return;
+    }
+    memcpy(it->request + it->length, bytes, length);
+    it->length += length;
+}
+
+static void put_name(struct exchange *it, const char *name)
+{
+    put(it, " ", 1);
+    put(it, name, strlen(name));
+    put(it, "=", 1);
+}
+
+/* A value must not end the field or the line. */
+static void put_value(struct exchange *it, const char *text)
+{
+    const char *byte;
+    if (!text) {
+        exchange_refuse(it, "an argument is missing");
+        return;
+    }
+    for (byte = text; *byte; byte++)
+        if (*byte < 0x21 || *byte > 0x7E)
+            exchange_refuse(it, "a text has a byte outside of X'21' to X'7E'");
+    put(it, text, strlen(text));
+}
+
+static void put_digits(struct exchange *it, const unsigned char *bytes, size_t length)
+{
+    static const char digits[] = "0123456789abcdef";
+    size_t at;
+    if (!bytes && length > 0)
+        exchange_refuse(it, "an argument is missing");
+    if (length > (CCA_LINE_SIZE - 1 - it->length) / 2)
+        exchange_refuse(it, TOO_LONG);
+    for (at = 0; at < length && it->result.outcome != CCA_UNSAYABLE; at++) {
+        char pair[2];
+        pair[0] = digits[bytes[at] >> 4];
+        pair[1] = digits[bytes[at] & 15];
+        put(it, pair, 2);
+    }
+}
+
+void exchange_begin(struct exchange *it, const struct cca *cca, const char *verb)
+{
+    memset(&it->result, 0, sizeof it->result);
+    it->length = 0;
+    it->reply = it->own_reply;
+    it->reply_size = sizeof it->own_reply;
+    put(it, verb, strlen(verb));
+    if (cca->role)
+        exchange_put_text(it, "role", cca->role);
+    else if (!cca->client.socket)
+        exchange_refuse(it, "no role is named");
+}
+
+void exchange_put_text(struct exchange *it, const char *name, const char *text)
+{
+    put_name(it, name);
+    put_value(it, text);
+}
+
+void exchange_put_number(struct exchange *it, const char *name, int number)
+{
+    char text[16];
+    snprintf(text, sizeof text, "%d", number);
+    exchange_put_text(it, name, text);
+}
+
+void exchange_put_hex(struct exchange *it, const char *name, const unsigned char *bytes, size_t length)
+{
+    put_name(it, name);
+    put_digits(it, bytes, length);
+}
+
+void exchange_put_key(struct exchange *it, const char *name, struct cca_key key)
+{
+    put_name(it, name);
+    put(it, key.token ? "T:" : "L:", 2);
+    if (key.token)
+        put_digits(it, key.token, CCA_TOKEN_SIZE);
+    else
+        put_value(it, key.label);
+}
+
+void exchange_put_to(struct exchange *it, const char *to, const unsigned char *token)
+{
+    put_name(it, "to");
+    put(it, to ? "L:" : "-", to ? 2 : 1);
+    if (to)
+        put_value(it, to);
+    else if (!token)
+        exchange_refuse(it, "neither a label nor a place for the token is given");
+}
+
+/* A reply that isn't one of cca: what was done isn't known. */
+static void doubt(struct exchange *it)
+{
+    it->result.outcome = CCA_ENDED;
+    it->result.is_in_doubt = 1;
+}
+
+/* Reads OK, OK with fields, or NO with the rule and the field. */
+static void read_reply(struct exchange *it)
+{
+    static const char warning[] = " warn=old";
+    size_t length = strlen(it->reply);
+    if (strncmp(it->reply, "OK", 2) == 0 && (it->reply[2] == ' ' || it->reply[2] == '\0')) {
+        it->result.outcome = CCA_DONE;
+        if (length >= sizeof warning && strcmp(it->reply + length - (sizeof warning - 1), warning) == 0) {
+            it->result.is_old = 1;
+            it->reply[length - (sizeof warning - 1)] = '\0';
+        }
+    } else if (length > 6 && sscanf(it->reply, "NO %2d %11s", &it->result.rule, it->result.field) == 2) {
+        it->result.outcome = CCA_REFUSED;
+    } else {
+        doubt(it);
+    }
+}
+
+void exchange_ask(struct exchange *it, struct cca *cca)
+{
+    int status;
+    if (it->result.outcome == CCA_UNSAYABLE)
+        return;
+    switch (cca_ask_short(&cca->client, it->request, it->length, it->reply, it->reply_size, &status)) {
+    case CCA_REPLY:
+        read_reply(it);
+        break;
+    case CCA_NO_REQUEST:
+        exchange_refuse(it, "this process is a child of the one that may ask");
+        break;
+    case CCA_NO_REPLY:
+        it->result.is_in_doubt = 1; /* fall through */
+    case CCA_NOT_SENT:
+        it->result.outcome = CCA_ENDED;
+        it->result.status = status;
+    }
+}
+
+/* The value of a field, which ends at a space or at the end of the reply; null where the request wasn't carried out. */
+static const char *value(struct exchange *it, const char *name, size_t *length)
+{
+    size_t size = strlen(name);
+    const char *at = it->reply;
+    if (it->result.outcome != CCA_DONE)
+        return NULL;
+    while ((at = strchr(at, ' ')) != NULL) {
+        at++;
+        if (strncmp(at, name, size) == 0 && at[size] == '=') {
+            *length = strcspn(at + size + 1, " ");
+            return at + size + 1;
+        }
+    }
+    doubt(it);
+    return NULL;
+}
+
+void exchange_get_text(struct exchange *it, const char *name, char *text, size_t size)
+{
+    size_t length;
+    const char *from = value(it, name, &length);
+    if (from && length < size) {
+        memmove(text, from, length);
+        text[length] = '\0';
+    } else if (from) {
+        doubt(it);
+    }
+}
+
+void exchange_get_number(struct exchange *it, const char *name, int *number)
+{
+    char text[8];
+    exchange_get_text(it, name, text, sizeof text);
+    if (it->result.outcome == CCA_DONE && number)
+        *number = atoi(text);
+}
+
+static int digit(char it)
+{
+    return it >= '0' && it <= '9' ? it - '0' : it >= 'a' && it <= 'f' ? it - 'a' + 10 : -1;
+}
+
+size_t exchange_get_data(struct exchange *it, const char *name, unsigned char *bytes, size_t room)
+{
+    size_t length, at;
+    const char *from = value(it, name, &length);
+    if (from && (length % 2 != 0 || length / 2 > room))
+        doubt(it);
+    for (at = 0; it->result.outcome == CCA_DONE && at < length; at += 2) {
+        int high = digit(from[at]), low = digit(from[at + 1]);
+        if (high < 0 || low < 0)
+            doubt(it);
+        else
+            bytes[at / 2] = (unsigned char)(high << 4 | low);
+    }
+    return it->result.outcome == CCA_DONE ? length / 2 : 0;
+}
+
+void exchange_get_hex(struct exchange *it, const char *name, unsigned char *bytes, size_t length)
+{
+    if (exchange_get_data(it, name, bytes, length) != length && it->result.outcome == CCA_DONE)
+        doubt(it);
+}
+
+void exchange_get_made(struct exchange *it, const char *name, const char *to, unsigned char *token)
+{
+    char label[65];
+    if (to)
+        exchange_get_text(it, "stored", label, sizeof label);
+    else
+        exchange_get_hex(it, name, token, CCA_TOKEN_SIZE);
+}
+
+struct cca_result exchange_end(struct exchange *it)
+{
+    exchange_wipe(it->request, sizeof it->request);
+    exchange_wipe(it->own_reply, sizeof it->own_reply);
+    return it->result;
+}

@@ -1,0 +1,292 @@
+"""A method for each verb, whatever carries the lines."""
+from collections.abc import Iterable, Iterator
+from typing import Literal, TypeAlias
+
+from .lines import Unexpected, fields_of, request_line
+from .rows import LONGEST_SEGMENT, LONGEST_TEXT, POINTS
+from .values import Data, Done, Generated, Key, Label, Parsed, State, Token, Verified
+
+Pad: TypeAlias = Literal["NONE", "X9.23"]
+MacRule: TypeAlias = Literal["X9.9-1", "X9.19OPT"]
+
+
+class Verbs:
+    """The verbs: bytes in and bytes out. Refused is raised where cca refuses a request, Ended where a request gets no reply, and
+    ValueError where a value can't be sent. A key is Label("PAY") or Token(bytes). A key that is made goes under the label `to`,
+    or else it is given back as a token. Data of any length is sent in segments."""
+
+    role: str | None = None
+
+    def ask(self, request: str) -> str:
+        """The reply to a request line."""
+        raise NotImplementedError
+
+    def _drop(self) -> None:
+        """Ends what is out of step."""
+        raise NotImplementedError
+
+    def as_role(self, role: str) -> "Verbs":
+        """The same coprocessor, asked under another role."""
+        if self.role is None:
+            raise ValueError("the front names the role: connect to the socket of the other one")
+        return InRole(self, role)
+
+    # ---- using keys
+
+    def encipher(self, key: Key, data: bytes, iv: bytes, pad: Pad = "NONE") -> Data:
+        """Encipher: the ciphertext, in CBC mode."""
+        return self._ciphered("csnbenc", key, data, iv, pad)
+
+    def decipher(self, key: Key, data: bytes, iv: bytes, pad: Pad = "NONE") -> Data:
+        """Decipher: the plaintext, in CBC mode."""
+        return self._ciphered("csnbdec", key, data, iv, pad)
+
+    def mac_generate(self, key: Key, data: bytes, rule: MacRule = "X9.9-1", length: Literal[4, 6, 8] = 4) -> Data:
+        """MAC_Generate: the leftmost bytes of the MAC."""
+        found, is_old = self._segmented("csnbmgn", data, LONGEST_TEXT, {}, {"length": str(length)}, key=key_text(key), rule=rule)
+        return Data(unhex(found["mac"]), is_old)
+
+    def mac_verify(self, key: Key, data: bytes, mac: bytes, rule: MacRule = "X9.9-1") -> Verified:
+        """MAC_Verify: whether the bytes are the leftmost ones of the MAC."""
+        found, is_old = self._segmented("csnbmvr", data, LONGEST_TEXT, {}, {"mac": hexed(mac)}, key=key_text(key), rule=rule)
+        if found["match"] not in ("yes", "no"):
+            raise self._unexpected("neither yes nor no")
+        return Verified(found["match"] == "yes", is_old)
+
+    def key_test(self, key: Key) -> Data:
+        """Key_Test: the key check value (KCV), 4 bytes, of which most systems show the first 3."""
+        found, is_old = self._do("csnbkyt", key=key_text(key))
+        return Data(unhex(found["value"]), is_old)
+
+    def random(self, form: Literal["RANDOM", "ODD", "EVEN"] = "RANDOM") -> Data:
+        """Random_Number_Generate: 8 random bytes."""
+        return Data(unhex(self._do("csnbrng", form=form)[0]["random"]))
+
+    # ---- making keys
+
+    def clear_key_import(self, clear: bytes, to: str | None = None) -> Key:
+        """Clear_Key_Import: a DATA key of 8 clear bytes."""
+        return self._made("csnbcki", to, clear=hexed(clear))
+
+    def key_generate(
+        self,
+        form: Literal["OP", "OPEX", "OPIM", "IMEX", "EXEX", "IMIM"],
+        length: Literal[8, 16, "DOUBLE-O"],
+        type1: str,
+        type2: str | None = None,
+        transport1: Key | None = None,
+        transport2: Key | None = None,
+        to: str | None = None,
+    ) -> Generated:
+        """Key_Generate: a random key, in one or two tokens."""
+        row = {"OP": "csnbkgn_op", "OPEX": "csnbkgn_pair", "OPIM": "csnbkgn_pair"}.get(form, "csnbkgn_out")
+        given = {"form": form, "length": str(length), "type1": type1, "type2": type2, "to": to_text(to)}
+        given |= {"transport1": key_text(transport1), "transport2": key_text(transport2)}
+        found, is_old = self._do(row, **given)
+        second = Token(unhex(found["token2"]), is_old) if "token2" in found else None
+        return Generated(self._key(found, is_old, "token1"), second, is_old)
+
+    def key_part_import(
+        self,
+        rule: Literal["FIRST", "MIDDLE", "LAST"],
+        part: bytes,
+        type: str | None = None,
+        key: Key | None = None,
+        to: str | None = None,
+    ) -> Key:
+        """Key_Part_Import: the first part of a key with its type, or a further part of a key."""
+        row = "csnbkpi_first" if rule == "FIRST" else "csnbkpi_middle"
+        return self._made(row, to, rule=rule, part=hexed(part), type=type, key=key_text(key))
+
+    # ---- moving keys
+
+    def key_export(self, key: Key, transport: Key) -> Token:
+        """Key_Export: the external token of a key under a transport key."""
+        return self._token("csnbkex", key=key_text(key), transport=key_text(transport))
+
+    def key_import(self, token: Token, transport: Key, to: str | None = None) -> Key:
+        """Key_Import: a key from its external token under a transport key."""
+        return self._made("csnbkim", to, token=token_text(token), transport=key_text(transport))
+
+    def key_translate(self, token: Token, transport1: Key, transport2: Key) -> Token:
+        """Key_Translate: an external token under another transport key."""
+        transports = {"transport1": key_text(transport1), "transport2": key_text(transport2)}
+        return self._token("csnbktr", token=token_text(token), **transports)
+
+    def prohibit_export(self, key: Key, to: str | None = None) -> Key:
+        """Prohibit_Export: the same key, which can't be exported."""
+        return self._made("csnbpex", to, key=key_text(key))
+
+    def token_change(self, token: Token, rule: Literal["RTCMK", "RTNMK"] = "RTCMK") -> Token:
+        """Key_Token_Change: the token under the current master key, or with RTNMK under the new one."""
+        return self._token("csnbktc", token=token_text(token), rule=rule)
+
+    def token_parse(self, token: Token) -> Parsed:
+        """Key_Token_Parse: the fields of a token."""
+        found, _ = self._do("csnbktp", token=token_text(token))
+        sizes = {"8": 8, "16": 16}
+        if found["length"] not in sizes:
+            raise self._unexpected("a length that no key has")
+        return Parsed(found["kind"], found["class"], sizes[found["length"]], unhex(found["vector"]), unhex(found["pattern"]))
+
+    # ---- labels
+
+    def record_create(self, label: str) -> Done:
+        """Key_Record_Create: a label without a key."""
+        return self._done("csnbkrc", label=label)
+
+    def record_write(self, label: str, token: Token) -> Done:
+        """Key_Record_Write: puts the key of a token under a label."""
+        return self._done("csnbkrw", label=label, token=token_text(token))
+
+    def record_read(self, label: str) -> Token:
+        """Key_Record_Read: the token under a label."""
+        return self._token("csnbkrr", label=label)
+
+    def record_delete(self, label: str) -> Done:
+        """Key_Record_Delete: deletes a label with its key."""
+        return self._done("csnbkrd", label=label)
+
+    def record_list(self, prefix: str = "") -> list[Label]:
+        """Key_Record_List: the labels that begin with a prefix."""
+        found, _ = self._do("csnbkrl", prefix=prefix)
+        labels = [Label(it) for it in found["labels"].split(",") if it]
+        if found["count"] != str(len(labels)):
+            raise self._unexpected("not as many labels as it says")
+        return labels
+
+    # ---- master keys and roles
+
+    def master_key_process(
+        self, action: Literal["FIRST", "MIDDLE", "LAST", "CLEAR", "SET"], part: bytes | None = None
+    ) -> State:
+        """Master_Key_Process: enters a part, clears the new register, or sets the master key. The state of the new register."""
+        row = {"CLEAR": "csnbmkp_clear", "SET": "csnbmkp_set"}.get(action, "csnbmkp_part")
+        state = self._do(row, action=action, part=None if part is None else hexed(part))[0]["new"]
+        if state not in ("empty", "partial", "full"):
+            raise self._unexpected("no state of a register")
+        return state
+
+    def role_define(self, name: str, points: int | Iterable[str]) -> Done:
+        """Access_Control_Initialization: defines a role with access control points, by their sum or by their names."""
+        total = points if isinstance(points, int) else sum({POINTS[it] for it in points})
+        return self._done("csuaaci_define", action="DEFINE", name=name, points=f"{total:08x}")
+
+    def role_remove(self, name: str) -> Done:
+        """Access_Control_Initialization: removes a role."""
+        return self._done("csuaaci_remove", action="REMOVE", name=name)
+
+    def reencipher(self, action: Literal["AHEAD", "DROP"] | None = None) -> int:
+        """REENCIPHER: re-encrypts the keys under labels, or stages them ahead of SET, or drops what was staged. How many changed."""
+        row = {"AHEAD": "reencipher_ahead", "DROP": "reencipher_drop"}.get(action or "", "reencipher")
+        changed = self._do(row, action=action)[0]["changed"]
+        if not changed.isdecimal():
+            raise self._unexpected("no number")
+        return int(changed)
+
+    # ---- what they share
+
+    def _do(self, row: str, **values: str | None) -> tuple[dict[str, str], bool]:
+        """Asks a request of a row of the table: the fields of its reply, and whether it warns of the old master key."""
+        request = request_line(row, self.role, {name: text for name, text in values.items() if text is not None})
+        try:
+            return fields_of(row, self.ask(request))
+        except Unexpected:
+            self._drop()
+            raise
+
+    def _unexpected(self, why: str) -> Unexpected:
+        """Ends what is out of step."""
+        self._drop()
+        return Unexpected(why)
+
+    def _done(self, row: str, **values: str | None) -> Done:
+        return Done(self._do(row, **values)[1])
+
+    def _token(self, row: str, **values: str | None) -> Token:
+        found, is_old = self._do(row, **values)
+        return Token(unhex(found["token"]), is_old)
+
+    def _made(self, row: str, to: str | None, **values: str | None) -> Key:
+        return self._key(*self._do(row, to=to_text(to), **values))
+
+    def _key(self, found: dict[str, str], is_old: bool, name: str = "token") -> Key:
+        return Label(found["stored"], is_old) if "stored" in found else Token(unhex(found[name]), is_old)
+
+    def _ciphered(self, row: str, key: Key, data: bytes, iv: bytes, pad: Pad) -> Data:
+        longest = LONGEST_TEXT - (row == "csnbenc" and pad == "X9.23")  # padding must have room
+        found, is_old = self._segmented(row, data, longest, {"iv": hexed(iv)}, {"pad": pad}, key=key_text(key))
+        return Data(unhex(found["text"]), is_old)
+
+    def _segmented(
+        self, row: str, data: bytes, longest: int, first: dict[str, str], last: dict[str, str], **values: str | None
+    ) -> tuple[dict[str, str], bool]:
+        """Data in one request, or in segments where it is too long: the fields of the last reply, with the whole of the output."""
+        if len(data) <= longest:
+            return self._do(row, text=hexed(data), **values, **first, **last)
+        more, outputs, is_any_old, found = first, list[str](), False, dict[str, str]()
+        for name, segment in segments(data):
+            values |= {"text": hexed(segment)}
+            found, is_old = self._do(f"{row}_{name}", **values, **more, **(last if name == "last" else {}))
+            more, is_any_old = {"chain": found.get("chain", "")}, is_any_old or is_old
+            outputs.append(found.get("text", ""))
+        return {**found, "text": "".join(outputs)}, is_any_old
+
+
+class InRole(Verbs):
+    """A coprocessor that is asked under another role."""
+
+    def __init__(self, verbs: Verbs, role: str):
+        self.verbs, self.role = verbs, role
+
+    def ask(self, request: str) -> str:
+        return self.verbs.ask(request)
+
+    def _drop(self) -> None:
+        self.verbs._drop()
+
+
+def segments(data: bytes) -> Iterator[tuple[str, bytes]]:
+    """Data of at least two segments, each with its place: first, middle or last."""
+    starts = range(0, len(data), LONGEST_SEGMENT)
+    for at in starts:
+        name = "first" if at == 0 else "last" if at == starts[-1] else "middle"
+        yield name, data[at : at + LONGEST_SEGMENT]
+
+
+def hexed(data: bytes) -> str:
+    """Bytes as hexadecimal digits."""
+    if not isinstance(data, (bytes, bytearray, memoryview)):
+        raise TypeError(f"bytes are wanted, and not {type(data).__name__}")
+    return bytes(data).hex()
+
+
+def unhex(digits: str) -> bytes:
+    """The bytes of hexadecimal digits of a reply."""
+    try:
+        return bytes.fromhex(digits)
+    except ValueError:
+        raise Unexpected("a reply without hexadecimal digits") from None
+
+
+def key_text(key: Key | None) -> str | None:
+    """A key as the value of a field."""
+    if key is None:
+        return None
+    if isinstance(key, Label):
+        return f"L:{key}"
+    if isinstance(key, Token):
+        return f"T:{key.hex()}"
+    raise TypeError('a key is Label("NAME") or Token(bytes)')
+
+
+def token_text(token: bytes) -> str:
+    """A token as the value of a field."""
+    return Token(token).hex()
+
+
+def to_text(to: str | None) -> str:
+    """Where a key goes: a label, or `-`, the reply."""
+    if to is not None and not isinstance(to, str):
+        raise TypeError("a key goes to a label, or to None, the result")
+    return "-" if to is None else f"L:{to}"
