@@ -4,26 +4,36 @@ import socket
 import sys
 import time
 
+BEGINNING = 60.0  # seconds for a front that has just been started
 
-def connected(path):
-    """A connection to the socket; a front that has just been started gets ten seconds to make it."""
-    for turn in range(100):
+
+def connected(path: str) -> socket.socket:
+    """A connection to the socket."""
+    until = time.monotonic() + BEGINNING
+    while True:
         it = socket.socket(socket.AF_UNIX)
         try:
             it.connect(path)
             return it
-        except OSError:
+        except (FileNotFoundError, ConnectionRefusedError):
             it.close()
-            if turn == 99:
+            if time.monotonic() > until:
                 raise
             time.sleep(0.1)
 
 
-with connected(sys.argv[1]) as connection, connection.makefile("rw") as lines:
-    for request in sys.stdin:
-        lines.write(request.rstrip("\n") + "\n")
-        lines.flush()
-        reply = lines.readline()
-        if not reply:
-            sys.exit("the front sent no reply: the request may have been carried out all the same")
-        print(reply, end="")
+def main() -> None:
+    with connected(sys.argv[1]) as connection, connection.makefile("rb") as replies:
+        for request in sys.stdin.buffer:
+            try:
+                connection.sendall(request.rstrip(b"\n") + b"\n")
+                reply = replies.readline()
+            except (BrokenPipeError, ConnectionResetError):
+                reply = b""
+            if not reply.endswith(b"\n"):
+                sys.exit("the front sent no reply: the request may have been carried out all the same")
+            print(reply.decode(), end="", flush=True)
+
+
+if __name__ == "__main__":
+    main()

@@ -39,4 +39,4 @@ for half in left right; do
     clear+="$part"
 done
 [ "${#clear}" = 16 ] && key="$clear$clear$clear" || key="$clear${clear:0:16}"
-echo "test value, of eight zero bytes: $(bytes 0000000000000000 | openssl enc -des-ede3 -nopad -K "$key" | head -c 4 | digits)"
+echo "key check value, of eight zero bytes: $(bytes 0000000000000000 | openssl enc -des-ede3 -nopad -K "$key" | head -c 4 | digits)"

@@ -10,9 +10,9 @@ import tempfile
 from pathlib import Path
 
 TOP = Path(__file__).resolve().parents[2]
-sys.path.insert(0, str(TOP / "examples" / "clients"))
+sys.path.insert(0, str(TOP / "clients" / "python"))
 sys.dont_write_bytecode = True
-from client import Coprocessor  # noqa: E402
+from cca.client import Coprocessor  # noqa: E402
 
 LONGEST = 4088  # bytes of a segment
 KEY = "2b7e151628aed2a6abf7158809cf4f3c"
@@ -89,7 +89,7 @@ def main():
         replies = in_segments(cca, code, "", "length=8 chain={chain}", text[:-1])
         chained = openssl("-des-ede3-cbc", "-nopad", "-K", LEFT * 3, "-iv", "00" * 8, given=text[:-1] + bytes(1))
         wanted = block("-e", LEFT, block("-d", RIGHT, chained[-8:]))
-        good &= said(f"the code of {size - 1:,} bytes", bytes.fromhex(replies[-1]["mac"]) == wanted)
+        good &= said(f"the MAC of {size - 1:,} bytes", bytes.fromhex(replies[-1]["mac"]) == wanted)
         cca.close()
     return 0 if good else 1
 
