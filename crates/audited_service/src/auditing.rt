@@ -69,7 +69,7 @@ pub(crate) fn audit_one<
     ensures held { OnOk result
         (Told (T.medium trail.new) (λ image. StandsForTrail image held.new)) }
 
-    // How far the input was taken.
+    // How far the input was taken, and which line is shown.
     ensures taken { LineTaken (line_part result) (⟦<(S, K, M, D, E) as ShownOutside>⟧.between
         (source.old, sink.old, «module».old, store.old, entropy.old)
         (source.new, sink.new, «module».new, store.new, entropy.new)) lines.old lines.new }

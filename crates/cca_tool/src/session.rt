@@ -128,7 +128,7 @@ impl Session {
         ensures known { OnOk result
             (AreKnown self.new.tables (M.medium «module».new) (D.medium store.new)) }
 
-        // How far the input was taken.
+        // How far the input was taken, and which line is shown.
         ensures taken { LineTaken result (⟦<(S, K, M, D, E) as ShownOutside>⟧.between
             (source.old, sink.old, «module».old, store.old, entropy.old)
             (source.new, sink.new, «module».new, store.new, entropy.new))
@@ -192,8 +192,8 @@ impl Session {
         }
     }
 
-    /// The line that was taken last, without its newline. It is empty where none was taken, where the line is too long,
-    /// and after a stop of `take_line`. A stop of `answer` leaves it.
+    /// The line that was taken last, without its newline. It is empty where none was taken, where
+    /// the line is too long, and after ReadFault and InputLimit. Any other stop leaves it.
     pub fn line(&self) -> &[u8]
         ensures { result.now ≡ self.now.reading.line }
     {

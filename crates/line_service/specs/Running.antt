@@ -1,11 +1,13 @@
 -- What a call that serves lines leaves, in a few records.
-use Rattle.std.specs.Prelude.{◌≡◌, ◌⊎◌, ◌↔◌, ◌+◌, ◌<◌, ◌≤◌, ◌++◌, [], length, IsTrue, Result, Ok, Err, IsOk}
+use Rattle.std.specs.Prelude.{◌≡◌, ◌⊎◌, ◌↔◌, ℕ, ◌+◌, ◌<◌, ◌≤◌, List, [], ◌++◌, length, Option, IsTrue, Result, Ok, Err, IsOk}
 use Rattle.std.specs.Io.KnownBytes.{IsAtEnd}
 use Rattle.slot_disk.specs.Faults.{Rose}
 use Rattle.slot_disk.specs.Medium.{Keeps}
 use Rattle.slot_disk.specs.WhereTold.{WhereTold}
 use Rattle.script_buffers.specs.Lines.{NoNewline}
-use Rattle.script_buffers.specs.Reading.{Reading, given, input_limit, LosesPart, bytes_ahead}
+use Rattle.script_buffers.specs.Reading.{Reading, blank, given, input_limit, Takes, Shows, LosesPart, bytes_ahead}
+use Rattle.script_buffers.specs.declared.lines.Taken.{Taken}
+use Rattle.script_buffers.specs.declared.lines.Taken.TheVariants.{End}
 use Rattle.line_service.specs.Machine.{Machine}
 use Rattle.line_service.specs.Answering.{IsSound}
 use Rattle.line_service.specs.Devices.{Span, Devices, BothSettled, Outside}
@@ -75,7 +77,15 @@ LineLeaves A s K result o r0 r1 =
     LineServed A s K result o.old.devices.world o.new.devices.world
     o.old.input o.new.input o.old.output o.new.output r0 r1
 
--- How far the input was taken, by the reading of lines before and after.
+-- A line was taken from the bytes ahead. It is shown, unless it is too long.
+pub record LineShown (input rest : Option (List ℕ)) (r0 r1 : Reading) : Type 0 where
+  pub taken : Taken
+  pub some : taken ≡ End → ⊥
+  pub takes : WhereTold input rest
+      (λ i r. Takes taken (r0.pending ++ i) r1 (r1.pending ++ r))
+  pub shows : Shows taken r1
+
+-- How far the input was taken, and which line is shown, by the reading of lines before and after.
 pub record LineTaken (result : Result Served Stop) (o : Span Outside) (r0 r1 : Reading)
     : Type 0 where
   pub ended : WhereTold o.old.input o.new.input (λ i r.
@@ -96,6 +106,12 @@ pub record LineTaken (result : Result Served Stop) (o : Span Outside) (r0 r1 : R
   pub within : r1.taken ≤ input_limit
   pub full : result ≡ Err InputLimit → r1.taken ≡ input_limit
   pub short : (result ≡ Err ReadFault) ⊎ (result ≡ Ok Ended) → r1.taken < input_limit
+  -- where no line was answered none is shown, and where the source stopped no byte is pending
+  pub unshown : IsUnanswered result → r1.line ≡ []
+  pub emptied : (result ≡ Err ReadFault) ⊎ (result ≡ Err InputLimit)
+      → r1 ≡ record blank { taken = r1.taken }
+  -- after a reply, and after each other stop, the line is shown that was taken
+  pub shown : (IsUnanswered result → ⊥) → LineShown o.old.input o.new.input r0 r1
 
 -- Where no reply is sent, the sink is as before; and where no line was answered, so is all else.
 pub record Unmoved {K M D E A : Type 0} (result : Result Served Stop) (sink0 sink1 : K)

@@ -100,7 +100,7 @@ pub fn serve_one<A: Desk, S: Source, K: Sink, M: Disk, D: Disk, E: Entropy>(
         (source.new, sink.new, «module».new, store.new, entropy.new)) lines.old lines.new }
     ensures ready { OnOk result (A.ready desk.new (M.medium «module».new) (D.medium store.new)) }
 
-    // When the source is read, and how far the input was taken.
+    // When the source is read, how far the input was taken, and which line is shown.
     ensures unread { IsReady lines.old → source.new ≡ source.old }
     ensures taken { LineTaken result (⟦<(S, K, M, D, E) as ShownOutside>⟧.between
         (source.old, sink.old, «module».old, store.old, entropy.old)

@@ -1,5 +1,5 @@
 -- The run goes on from line to line, and each exit follows from how far it has come.
-use Rattle.std.proofs.Common.{◌≡◌, Result, Ok, Err, ap, sym, subst, ◌∙◌, refl, inl}
+use Rattle.std.proofs.Common.{◌≡◌, ◌+◌, length, Result, Ok, Err, ap, sym, subst, ◌∙◌, refl, inl, arith}
 use Rattle.std.specs.Prelude.{IsOk}
 use Rattle.audit_trail.specs.declared.faults.TrailFault.TheVariants as trail_fault
 use Rattle.audit_trail.proofs.MediumLaws.{same_fault}
@@ -7,6 +7,7 @@ use Rattle.line_service.specs.Machine.{Machine, world}
 use Rattle.line_service.specs.Devices.{Span, Outside, outside, devices, OutsideLeft}
 use Rattle.line_service.specs.declared.serving.Served.{Served}
 use Rattle.line_service.specs.declared.stops.Stop.{Stop}
+use Rattle.line_service.specs.declared.stops.Stop.TheVariants.{InputLimit}
 use Rattle.line_service.proofs.CourseLemmas.{course_begins, course_goes_on, course_stopped, unmoved_world}
 use Rattle.line_service.proofs.SessionLemmas.{has_served_nothing, has_served_more}
 use Rattle.line_service.proofs.SpareLaws.{spares_nothing, spares_more}
@@ -18,6 +19,8 @@ use Rattle.audited_service.proofs.GrowingLemmas.{grows_kept, grows_then}
 use Rattle.audited_service.proofs.RestingLemmas.{grown_kept, grown_on}
 use Rattle.audited_service.proofs.RunLemmas.{trail_at_start, trail_more, on_ok, fault_is}
 use Rattle.slot_disk.proofs.Media.{keeps_still}
+use Rattle.slot_disk.proofs.WhereToldLemmas.{told_then}
+use Rattle.script_buffers.specs.Reading.{input_limit}
 use Rattle.audited_service.proofs.running.audit_all.Goals as goal
 
 pub each_line-init : goal.each_line-init
@@ -231,3 +234,16 @@ returns-in-Err-served-clause-left g c =
     let A = g.A.Desk.machine in
     course_stopped A _ _ c.each_line.lines c.each_line.invariant.course c.in-Err-served.stop
     (left_as A _ _ _ c.in-Err-served.is c.in-Ok.ensures.left)
+
+-- where the input limit was reached, as many bytes were taken as it counts
+pub returns-in-Err-served-clause-limit : goal.returns-in-Err-served-clause-limit
+returns-in-Err-served-clause-limit g c =
+    let old = c.each_line.lines.taken in
+    let new = c.audit_one.new.lines.taken in
+    let taken = c.in-Ok.ensures.taken in
+    told_then (g.S.Source.left c.args.source.now) (g.S.Source.left c.each_line.source) (g.S.Source.left c.audit_one.new.source)
+    (λ x y. old + length y ≡ length x) (λ y z. new + length z ≡ old + length y) _
+    (λ x y z before here is.
+    let stop : c.in-Err-served.stop ≡ InputLimit = cc is in
+    omega (arith, before, here, taken.full (c.in-Err-served.is ∙ ap Err stop)))
+    c.each_line.invariant.course.counted taken.counted
