@@ -1,5 +1,5 @@
 -- What the sink has of the records that were read, whatever the trail tells of its bytes.
-use Rattle.std.proofs.Common.{◌≡◌, ◌≤◌, ◌<◌, ◌+◌, ℕ, List, [], ◌∷◌, ◌++◌, length, Option, Result, Ok, Err, refl, sym, ap, subst, ◌∙◌, append_assoc, arith}
+use Rattle.std.proofs.Common.{◌≡◌, ◌≤◌, ◌<◌, ◌+◌, ◌^◌, ℕ, List, [], ◌∷◌, ◌++◌, length, Option, Result, Ok, Err, refl, sym, ap, subst, ◌∙◌, append_assoc, arith}
 use Rattle.std.specs.List.{All}
 use Rattle.std.proofs.lemmas.List.{append-nil, length-append}
 use Rattle.std.proofs.lemmas.List.Elements.{All-append, All-nil, All-cons}
@@ -79,8 +79,9 @@ module _ (first number : ℕ) (a b c : Option (List ℕ)) (before : HasRead firs
 -- ---- how a listing ends
 
 -- with the lines of all numbers
-pub read_all : (next number : ℕ) (a b : Option (List ℕ)) → number ≡ next → HasRead (held_from next) number a b → ListsAsRead next (Ok tt) a b
-read_all next number a b all has = record {
+pub read_all : (next number : ℕ) (a b : Option (List ℕ)) → next ≤ 2 ^ 63 → number ≡ next → HasRead (held_from next) number a b → ListsAsRead next (Ok tt) a b
+read_all next number a b low all has = record {
+  low = low;
   entries = has.entries;
   forms = has.forms;
   within = omega (arith, has.count, all);
@@ -89,8 +90,9 @@ read_all next number a b all has = record {
 }
 
 -- behind the lines of some
-read_some : (next number : ℕ) (fault : ListFault) (a b : Option (List ℕ)) → number ≤ next → HasRead (held_from next) number a b → ListsAsRead next (Err fault) a b
-read_some next number fault a b below has = record {
+read_some : (next number : ℕ) (fault : ListFault) (a b : Option (List ℕ)) → next ≤ 2 ^ 63 → number ≤ next → HasRead (held_from next) number a b → ListsAsRead next (Err fault) a b
+read_some next number fault a b low below has = record {
+  low = low;
   entries = has.entries;
   forms = has.forms;
   within = omega (arith, has.count, below);
@@ -100,20 +102,21 @@ read_some next number fault a b below has = record {
 }
 
 -- where the trail failed nothing was sent of the next line, and where the sink failed a part of it
-pub read_part : (next number : ℕ) (fault : ListFault) (a b c : Option (List ℕ)) → number < next → HasRead (held_from next) number a b
+pub read_part : (next number : ℕ) (fault : ListFault) (a b c : Option (List ℕ)) → next ≤ 2 ^ 63 → number < next → HasRead (held_from next) number a b
     → SendsSome number (Err fault) b c → ((f : TrailFault) → ◌≡◌ {A = Result (Unit {0}) ListFault} (Err fault) (Err (Trail f)) → c ≡ b) → ListsAsRead next (Err fault) a c
-read_part next number WriteFault a b c below has sends unsent =
+read_part next number WriteFault a b c low below has sends unsent =
     let part = sends.cut refl in
     record {
+      low = low;
       entries = has.entries ++ part.0 ∷ [];
       forms = forms_more (held_from next) number a b c has part.0 part.1;
       within = omega (arith, count_more (held_from next) number a b c has part.0 part.1, below);
       done = tt;
       cut = part_sent (held_from next) number a b c has part.0 part.1 part.2;
     }
-read_part next number (Trail f) a b c below has sends unsent =
-    subst (λ (o : Option (List ℕ)). ListsAsRead next (Err (Trail f)) a o) (sym (unsent f refl)) (read_some next number (Trail f) a b (omega (arith, below)) has)
+read_part next number (Trail f) a b c low below has sends unsent =
+    subst (λ (o : Option (List ℕ)). ListsAsRead next (Err (Trail f)) a o) (sym (unsent f refl)) (read_some next number (Trail f) a b low (omega (arith, below)) has)
 
 -- nothing was sent
 pub read_nothing : (fault : ListFault) (a : Option (List ℕ)) → (next : ℕ) × ListsAsRead next (Err fault) a a
-read_nothing fault a = (0, read_some 0 0 fault a a (omega arith) (read_none 0 0 a refl))
+read_nothing fault a = (0, read_some 0 0 fault a a (omega arith) (omega arith) (read_none 0 0 a refl))

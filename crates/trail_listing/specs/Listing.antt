@@ -1,5 +1,5 @@
 -- What a listing leaves.
-use Rattle.std.specs.Prelude.{◌≡◌, ◌≤◌, ◌<◌, ◌+◌, ◌++◌, ℕ, List, All, length, Option, Result, Err, OnOk, OnErr}
+use Rattle.std.specs.Prelude.{◌≡◌, ◌≤◌, ◌<◌, ◌+◌, ◌^◌, ◌++◌, ℕ, List, All, length, Option, Result, Err, OnOk, OnErr}
 use Rattle.slot_disk.specs.Faults.{Rose}
 use Rattle.slot_disk.specs.Medium.{Medium, Told}
 use Rattle.slot_disk.specs.WhereTold.{WhereTold}
@@ -28,8 +28,10 @@ pub record Listed (es : List Entry) (result : Result (Unit {0}) ListFault)
 
 -- What the sink got by what was read of each record, whatever the trail tells of its bytes: a line for each number that is
 -- held of `next` records, ascending, of some entry that has the forms of one. After an Err what comes before some of it.
+-- A trail's next number is at most 2 ^ 63, whatever it tells.
 pub record ListsAsRead (next : ℕ) (result : Result (Unit {0}) ListFault)
     (before now : Option (List ℕ)) : Type 0 where
+  pub low : next ≤ 2 ^ 63
   pub entries : List Entry
   pub forms : All IsEntry entries
   pub within : held_from next + length entries ≤ next

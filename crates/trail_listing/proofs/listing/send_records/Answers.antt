@@ -94,9 +94,9 @@ returns-clause-lines g c =
 pub returns-in-Err-clause-own : goal.returns-in-Err-clause-own
 returns-in-Err-clause-own g c =
     read_part c.args.held.now c.loop-number.number c.in-Err.fault (g.K.Sink.held c.args.sink.now) (g.K.Sink.held c.loop-number.sink) (g.K.Sink.held c.send_record.new.sink)
-    (omega (arith, c.loop-number-test.true, c.next_number-next.ensures.number)) c.loop-number.invariant.own c.in-Err.ensures.own (λ f is. ap g.K.Sink.held (c.in-Err.ensures.unsent f is))
+    c.next_number-next.ensures.low (omega (arith, c.loop-number-test.true, c.next_number-next.ensures.number)) c.loop-number.invariant.own c.in-Err.ensures.own (λ f is. ap g.K.Sink.held (c.in-Err.ensures.unsent f is))
 
 pub returns-clause-own : goal.returns-clause-own
 returns-clause-own g c =
     read_all c.args.held.now c.loop-number.number (g.K.Sink.held c.args.sink.now) (g.K.Sink.held c.loop-number.sink)
-    (omega (arith, c.loop-number-test.false, c.loop-number.auto.number-end, c.next_number-next.ensures.number)) c.loop-number.invariant.own
+    c.next_number-next.ensures.low (omega (arith, c.loop-number-test.false, c.loop-number.auto.number-end, c.next_number-next.ensures.number)) c.loop-number.invariant.own
