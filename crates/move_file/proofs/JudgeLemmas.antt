@@ -1,6 +1,7 @@
 -- The transport key of a move is the key of its label.
-use Rattle.std.proofs.Common.{◌≡◌, ◌∙◌, ℕ, Bool, false, List, [], ◌∷◌, ◌++◌, Option, None, Some, Result, Ok, Err, refl, sym, ap}
+use Rattle.std.proofs.Common.{◌≡◌, ◌∙◌, ℕ, Bool, false, List, [], ◌∷◌, ◌++◌, get_or, Option, None, Some, Result, Ok, Err, refl, sym, ap, subst}
 use Rattle.std.specs.Prelude.{is_none, not, option_map, IfOk}
+use Rattle.cca_roles.specs.declared.roles.Role.{Role}
 use Rattle.cca_vectors.specs.Checks.{Check, check, first_failing}
 use Rattle.cca_vectors.proofs.Judging.{passed_over, stopped_in}
 use Rattle.key_cells.specs.Bench.{Bench}
@@ -12,9 +13,11 @@ use Rattle.key_records.specs.declared.faults.RecordFault.{RecordFault}
 use Rattle.key_records.specs.declared.rows.Row.{Row}
 use Rattle.key_tokens.specs.Denotes.{Denoted}
 use Rattle.key_tokens.specs.declared.key_token.Age.{Age}
+use Rattle.master_registers.specs.Masters.{Masters}
 use Rattle.slot_disk.specs.Medium.{Medium, Told}
 use Rattle.slot_disk.proofs.Media.{told_from, told_joined, told_map}
 use Rattle.store_move.specs.Exports.{IsTransport, exporter, transport_checks}
+use Rattle.store_move.specs.Reading.{HoldsAsRead}
 use Rattle.verb_rules.specs.KeyChecks.{use_checks}
 use Rattle.verb_rules.specs.Keys.{keys_of, opened}
 use Rattle.verb_rules.specs.declared.judging.Judged.{Judged}
@@ -23,7 +26,7 @@ use Rattle.cca_machine.specs.Keys.{cell_with, key_of_label, or_no_key, what_at, 
 use Rattle.cca_machine.specs.State.{State}
 use Rattle.cca_machine.specs.Verdict.{record_checks}
 use Rattle.cca_machine.proofs.KnownLabels.{cell_is}
-use Rattle.move_file.specs.Judging.{IsJudged}
+use Rattle.move_file.specs.Judging.{IsJudged, JudgedAsRead, RefusedAsRead, checks_as_read, role_checks_by}
 use Rattle.move_file.specs.Moves.{clear_of, move_checks, role_checks}
 use Rattle.move_file.specs.declared.moves.Move.{Move}
 
@@ -122,3 +125,72 @@ module _ (s : State) (w : Move) (rows : List (Option Row)) (m : Medium) (bench :
 pub role_told : (s : State) (w : Move) (m : Medium) (label : IsLabel w.transport) (rule : ℕ) → Some rule ≡ first_failing (role_checks s w.role)
     → Told m (λ _. first_failing (move_checks s w) ≡ Some rule)
 role_told s w m label rule is = told_from m.content _ (λ c told. role_refuses s w label rule is)
+
+-- ---- by what was read of its record
+
+no_rule : (rule : ℕ) (o : Option ℕ) → Some rule ≡ o → o ≡ None → ⊥
+no_rule rule o one none = cc (one, none)
+
+no_place : (place : ℕ) (o : Option ℕ) → o ≡ None → o ≡ Some place → ⊥
+no_place place o none one = cc (none, one)
+
+module _ (m : Masters) (roles : List (Option Role)) (w : Move) (rows : List (Option Row)) (bytes : List ℕ) where
+  abbrev role_rules : List Check
+  role_rules = role_checks_by m roles w.role
+
+  abbrev label_place : Option ℕ
+  label_place = cell_of w.transport (row_directory rows)
+
+  abbrev label_rules : Option ℕ → Option Denoted → List Check
+  label_rules place what = check 7 (is_none place) ∷ transport_checks what
+
+  -- the role is refused, and nothing was read
+  pub role_as_read : (rule : ℕ) → Some rule ≡ first_failing role_rules → RefusedAsRead m roles w rows bytes rule
+  role_as_read rule is = record {
+    what = None;
+    holds = λ none. absurd (no_rule rule (first_failing role_rules) is none);
+    refused = stopped_in role_rules (label_rules label_place None) rule (sym is);
+  }
+
+  module _ (role : None ≡ first_failing role_rules) where
+    -- the memory doesn't know the label, and nothing was read
+    pub unknown_as_read : label_place ≡ None → RefusedAsRead m roles w rows bytes 7
+    unknown_as_read unknown = record {
+      what = None;
+      holds = λ none place known. absurd (no_place place label_place unknown known);
+      refused = passed_over role_rules (label_rules label_place None) (sym role)
+          ∙ ap (λ (o : Option ℕ). first_failing (label_rules o None)) unknown;
+    }
+
+    module _ (bench : Bench) (place : ℕ) (known : label_place ≡ Some place) where
+      -- the rules are those of what was read
+      read_checks : (what : Option Denoted) → first_failing (checks_as_read m roles w rows what) ≡ first_failing (transport_checks what)
+      read_checks what =
+          passed_over role_rules (label_rules label_place what) (sym role)
+          ∙ ap (λ (o : Option ℕ). first_failing (label_rules o what)) known
+
+      here : (what : Option Denoted) → HoldsAsRead (keys_of m) (get_or rows place None) bytes what → (other : ℕ) → label_place ≡ Some other
+          → HoldsAsRead (keys_of m) (get_or rows other None) bytes what
+      here what holds other is =
+          let same : place ≡ other = cc (sym known ∙ is) in
+          subst (λ (k : ℕ). HoldsAsRead (keys_of m) (get_or rows k None) bytes what) same holds
+
+      record_as_read : (what : Option Denoted) (r : Result Judged Rule) → HoldsAsRead (keys_of m) (get_or rows place None) bytes what
+          → IsTransport bench what r → JudgedAsRead m roles w rows bench bytes r
+      record_as_read None (Ok judged) holds (passes, opens) = absurd (cc passes)
+      record_as_read (Some key) (Ok judged) holds (passes, opens) = (
+        key,
+        opens,
+        record { place = place; known = known; holds = holds; permitted = read_checks (Some key) ∙ passes },
+      )
+      record_as_read what (Err broken) holds fails = record {
+        what = what;
+        holds = λ none other is. here what holds other is;
+        refused = read_checks what ∙ fails;
+      }
+
+      pub label_as_read : (r : Result (Result Judged Rule) RecordFault)
+          → IfOk r (λ judged. (what : Option Denoted) × HoldsAsRead (keys_of m) (get_or rows place None) bytes what × IsTransport bench what judged)
+          → IfOk r (JudgedAsRead m roles w rows bench bytes)
+      label_as_read (Ok judged) own = record_as_read own.0 judged own.1 own.2
+      label_as_read (Err fault) own = tt

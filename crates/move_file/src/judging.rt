@@ -9,11 +9,12 @@ ghost use Rattle.key_records.specs.Labels.{IsLabel};
 ghost use Rattle.key_records.specs.StoreStands.{HoldsRows, KeepsLabels};
 ghost use Rattle.line_service.specs.Devices.{TellsFault};
 ghost use Rattle.master_registers.specs.Loaded.{Loaded};
+ghost use Rattle.master_registers.specs.Masters.{Masters};
 ghost use Rattle.slot_disk.specs.Medium.{Keeps, Told};
 ghost use Rattle.verb_rules.specs.Keys.{IsDouble, keys_of};
 ghost use Rattle.verb_rules.specs.Rules.{rule_number};
 ghost use Rattle.cca_machine.specs.State.{State};
-ghost use Rattle.move_file.specs.Judging.{IsJudged, IsStoreFault};
+ghost use Rattle.move_file.specs.Judging.{IsJudged, IsStoreFault, JudgedAsRead};
 ghost use Rattle.move_file.specs.Moves.{role_checks};
 
 use crate::moves::Move;
@@ -43,6 +44,10 @@ pub fn judge_move<D: Disk>(
         → Told (D.medium store.old) (KeepsLabels (keys_of s.registers) records.now s.labels)
         → IfOk result (λ judged. Told (D.medium store.old)
         (λ _. IsJudged s how.now (bench_of lease.old) judged)) }
+    // By what was read of the label's record, whatever the store tells of its bytes.
+    ensures own { (m : Masters) → Loaded m held.now (bench_of lease.old)
+        → IfOk result (JudgedAsRead m roles.now how.now records.now
+        (bench_of lease.old) (bench_of lease.new).body) }
     ensures double { IfOk result (λ judged. IfOk judged IsDouble) }
     ensures damaged { (s : State) → Loaded s.registers held.now (bench_of lease.old)
         → Told (D.medium store.old) (KeepsLabels (keys_of s.registers) records.now s.labels)
