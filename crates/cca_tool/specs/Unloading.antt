@@ -1,6 +1,8 @@
 -- What moving a store to another module comes to.
 use Rattle.std.specs.Prelude.{⊤, ◌≡◌, ◌⊎◌, ◌<◌, ℕ, List, [], ◌∷◌, codes, Option, None, Some, Result, Ok, Err}
 use Rattle.cca_roles.specs.RoleNames.{IsRoleName}
+use Rattle.cca_roles.specs.RolesStand.{StandsForRoles}
+use Rattle.cca_roles.specs.declared.roles.Role.{Role}
 use Rattle.key_records.specs.Labels.{IsLabel}
 use Rattle.slot_disk.specs.Faults.{Rose}
 use Rattle.slot_disk.specs.Medium.{Medium, Told}
@@ -11,6 +13,7 @@ use Rattle.key_records.specs.declared.faults.RecordFault.{RecordFault}
 use Rattle.key_records.specs.declared.faults.RecordFault.TheVariants.{DiskFault, Damaged, Full, Exists}
 use Rattle.key_records.specs.declared.rows.Row.{Row}
 use Rattle.key_records.specs.StoreStands.{HoldsRows}
+use Rattle.key_tokens.specs.Denotes.{Denoted}
 use Rattle.master_registers.specs.Masters.{Masters}
 use Rattle.master_registers.specs.RegisterBody.{StandsForMasters}
 use Rattle.verb_rules.specs.Keys.{keys_of}
@@ -19,6 +22,7 @@ use Rattle.line_service.specs.declared.stops.Device.TheVariants.{Module, Store}
 use Rattle.line_service.specs.declared.stops.Stop.{Stop}
 use Rattle.line_service.specs.declared.stops.Stop.TheVariants as stop
 use Rattle.cca_machine.specs.State.{State}
+use Rattle.move_file.specs.Judging.{RefusedAsRead, TransportAsRead}
 use Rattle.move_file.specs.Moves.{move_checks}
 use Rattle.move_file.specs.Writing.{GotParts, GotPartsTo, ToldAll, ToldTo}
 use Rattle.move_file.specs.declared.moves.Move.{Move}
@@ -160,27 +164,47 @@ pub record MoveTold (s : State) (w : Move) (outcome : MoveStatus)
 
 -- ---- whatever the disks tell of their bytes
 
--- What file and report got by what was read of each label's record, under these registers and under one transport key: the
--- parts of all labels that these rows hold, where the move is done, and else of labels up to one.
-pub record MoveRests (registers : Masters) (w : Move) (rows : List (Option Row)) (outcome : MoveStatus)
-    (file0 file1 report0 report1 : Option (List ℕ)) : Type 0 where
-  pub transport : List ℕ
-  pub done : outcome ≡ Run status.Done → GotParts (keys_of registers) w rows transport
+-- What file and report got by what was read of each label's record, under these registers and under one transport key, which
+-- was read too, and which no rule refuses: the parts of all labels that these rows hold, where the move is done, and else of
+-- labels up to one.
+pub record MoveRests (registers : Masters) (roles : List (Option Role)) (w : Move) (rows : List (Option Row))
+    (outcome : MoveStatus) (file0 file1 report0 report1 : Option (List ℕ)) : Type 0 where
+  pub body : List ℕ
+  pub transport : Denoted
+  pub read : TransportAsRead registers roles w rows body transport
+  pub done : outcome ≡ Run status.Done → GotParts (keys_of registers) w rows transport.clear.key
       (held_count (row_directory rows)) file0 file1 report0 report1
   pub cut : (outcome ≡ Run status.Done → ⊥)
-      → GotPartsTo (keys_of registers) w rows transport file0 file1 report0 report1
+      → GotPartsTo (keys_of registers) w rows transport.clear.key file0 file1 report0 report1
 
--- The same of a module and a store. A disk that tells its bytes fixes what is read of it; one that tells none, and may
--- give others at each read, is read as some registers and some labels all the same.
+-- What was read of a module and of a store. A disk that tells its bytes fixes what is read of it; one that tells none, and
+-- may give others at each read, is read as some registers and roles, and as some labels, all the same.
+pub record KnownAsRead (module_ store : Medium) (registers : Masters) (roles : List (Option Role))
+    (rows : List (Option Row)) : Type 0 where
+  -- where the module tells its bytes they stand for these registers
+  pub in_module : Told module_ (λ image. StandsForMasters image registers)
+  -- and for these roles
+  pub roles_in_module : Told module_ (λ image. StandsForRoles image roles)
+  -- where the store tells its bytes these are its labels
+  pub in_store : Told store (HoldsRows rows)
+
+-- what file and report got of a module and a store, by what was read of them
 pub record MovesAsRead (module_ store : Medium) (w : Move) (outcome : MoveStatus)
     (file0 file1 report0 report1 : Option (List ℕ)) : Type 0 where
   pub registers : Masters
-  -- where the module tells its bytes they stand for these registers
-  pub in_module : Told module_ (λ image. StandsForMasters image registers)
+  pub roles : List (Option Role)
   pub rows : List (Option Row)
-  -- where the store tells its bytes these are its labels
-  pub in_store : Told store (HoldsRows rows)
-  pub moved : MoveRests registers w rows outcome file0 file1 report0 report1
+  pub known : KnownAsRead module_ store registers roles rows
+  pub moved : MoveRests registers roles w rows outcome file0 file1 report0 report1
+
+-- this is the first rule that refuses the move, by what was read of them
+pub record MoveRefusedAsRead (module_ store : Medium) (w : Move) (rule : ℕ) : Type 0 where
+  pub registers : Masters
+  pub roles : List (Option Role)
+  pub rows : List (Option Row)
+  pub known : KnownAsRead module_ store registers roles rows
+  pub body : List ℕ
+  pub refused : RefusedAsRead registers roles w rows body rule
 
 -- ---- what was not called
 

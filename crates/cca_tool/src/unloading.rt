@@ -1,5 +1,5 @@
 //! The top call that moves a store to another module.
-ghost use Rattle.std.specs.Prelude.{◌≡◌, ◌⊎◌, ◌↔◌, Err};
+ghost use Rattle.std.specs.Prelude.{◌≡◌, ◌⊎◌, ◌↔◌, ℕ, List, Err};
 ghost use Rattle.key_cells.specs.Bench.{blank_bench};
 ghost use Rattle.key_cells.specs.Lease.{bench_of, loan_of};
 ghost use Rattle.key_records.specs.StoreStands.{HoldsRows};
@@ -12,12 +12,12 @@ ghost use Rattle.line_service.specs.Devices.{DamageTold, HaveSizes, OpeningLeft,
 ghost use Rattle.line_service.specs.Sending.{Grows};
 ghost use Rattle.cca_machine.specs.State.{State, module_size, store_size};
 ghost use Rattle.cca_requests.specs.Serving.{tables};
-ghost use Rattle.move_file.specs.Judging.{IsStoreFault};
+ghost use Rattle.move_file.specs.Judging.{IsStoreFault, RefusedAsRead};
 ghost use Rattle.move_file.specs.declared.moves.Move.{Move as AnyMove};
 ghost use Rattle.cca_tool.specs.Coprocessor.{cca};
 ghost use Rattle.cca_tool.specs.Opening.{IsOpened};
 ghost use Rattle.cca_tool.specs.Unloading.{AreWordsOf, IsLabelStatus, IsMove, IsMoveStatus, IsOpenStatus};
-ghost use Rattle.cca_tool.specs.Unloading.{MoveCallsNone, MoveRests, MoveTold, MoveUncalled, MoveUntold, MovesAsRead, Still, TellsMove, TellsNone};
+ghost use Rattle.cca_tool.specs.Unloading.{MoveCallsNone, MoveRefusedAsRead, MoveRests, MoveTold, MoveUncalled, MoveUntold, MovesAsRead, Still, TellsMove, TellsNone};
 ghost use Rattle.cca_tool.specs.Unloading.{disk_stop, store_status_of};
 
 use crate::command::{Status, status_of};
@@ -81,12 +81,17 @@ pub fn unload<K: Sink, P: Sink, M: Disk, D: Disk>(
         × Still (P.faults report.old) (P.faults report.new)) }
 
     // What file and report got by what was read of each label's record, whatever the disks tell of their bytes: at Done,
-    // and wherever one of them isn't as before.
+    // and wherever one of them isn't as before. It is under the key that was read of the transport label's record.
     ensures own { (w : AnyMove) → AreWordsOf w words.now
         → (result ≡ MoveStatus.Run Status.Done)
         ⊎ (MoveUntold sink.old sink.new report.old report.new → ⊥)
         → MovesAsRead (M.medium «module».old) (D.medium store.old) w result
         (K.held sink.old) (K.held sink.new) (P.held report.old) (P.held report.new) }
+
+    // The rule that refuses a move, by what was read of the module and of the transport label's record.
+    ensures refusal { (w : AnyMove) → AreWordsOf w words.now
+        → (rule : ℕ) → result ≡ MoveStatus.Refused rule
+        → MoveRefusedAsRead (M.medium «module».old) (D.medium store.old) w rule }
 
     // A move is judged and told only where the disks stand for a state. Where they don't, and where a rule refuses the
     // move or the module failed, nothing was told.
@@ -160,6 +165,8 @@ fn move_store<K: Sink, P: Sink, M: Disk, D: Disk>(
         ⊎ (MoveUntold sink.old sink.new report.old report.new → ⊥)
         → MovesAsRead (M.medium «module».old) (D.medium store.old) how.now result
         (K.held sink.old) (K.held sink.new) (P.held report.old) (P.held report.new) }
+    ensures refusal { (rule : ℕ) → result ≡ MoveStatus.Refused rule
+        → MoveRefusedAsRead (M.medium «module».old) (D.medium store.old) how.now rule }
     ensures sound { TellsMove result → IsSound cca (M.medium «module».old) (D.medium store.old) }
     ensures unsound { (IsSound cca (M.medium «module».old) (D.medium store.old) → ⊥)
         → MoveUntold sink.old sink.new report.old report.new }
@@ -216,8 +223,13 @@ fn move_labels<K: Sink, P: Sink, D: Disk>(
         (Still (K.faults sink.old) (K.faults sink.new)
         × Still (P.faults report.old) (P.faults report.new)) }
     ensures own { (m : Masters) → Loaded m held.now (bench_of lease.old)
-        → MoveRests m how.now records.now result
+        → (result ≡ MoveStatus.Run Status.Done)
+        ⊎ (MoveUntold sink.old sink.new report.old report.new → ⊥)
+        → MoveRests m roles.now how.now records.now result
         (K.held sink.old) (K.held sink.new) (P.held report.old) (P.held report.new) }
+    ensures refusal { (m : Masters) → Loaded m held.now (bench_of lease.old)
+        → (rule : ℕ) → result ≡ MoveStatus.Refused rule
+        → (body : List ℕ) × RefusedAsRead m roles.now how.now records.now body rule }
     ensures untold { TellsNone result → MoveUntold sink.old sink.new report.old report.new }
     ensures keeps { Keeps (D.medium store.old) (D.medium store.new) }
     ensures store_left { TellsFault (D.faults store.old) (D.faults store.new)

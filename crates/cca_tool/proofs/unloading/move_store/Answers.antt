@@ -1,15 +1,21 @@
 -- The disks that were opened stand for a state.
-use Rattle.std.proofs.Common.{◌∙◌, Err, ap, arith}
+use Rattle.std.proofs.Common.{◌≡◌, ◌∙◌, Err, ap, arith}
 use Rattle.key_cells.specs.Lease.{bench_of}
 use Rattle.master_registers.specs.Loaded.{masters_in}
 use Rattle.cca_tool.specs.declared.unloading.MoveStatus.TheVariants.{Run}
 use Rattle.key_records.specs.StoreStands.{HoldsRows}
+use Rattle.cca_roles.specs.RolesStand.{StandsForRoles}
+use Rattle.master_registers.specs.Masters.{Masters}
+use Rattle.master_registers.specs.RegisterBody.{StandsForMasters}
+use Rattle.slot_disk.specs.Medium.{Medium, Told}
 use Rattle.slot_disk.proofs.Media.{told_earlier}
 use Rattle.slot_disk.proofs.WhereToldLemmas.{rose_wider}
 use Rattle.line_service.proofs.OpeningLemmas.{module_unbroken, store_unbroken, unbroken}
-use Rattle.cca_requests.specs.Serving.{tables}
+use Rattle.cca_requests.specs.Serving.{Tables, tables}
 use Rattle.cca_tool.specs.Coprocessor.{cca}
-use Rattle.cca_tool.proofs.KnownLemmas.{known_sound}
+use Rattle.cca_tool.specs.Sessions.{AreKnown}
+use Rattle.cca_tool.specs.Unloading.{KnownAsRead}
+use Rattle.cca_tool.proofs.KnownLemmas.{known_sound, roles_told}
 use Rattle.cca_tool.proofs.MoveLemmas.{cell_is_one, never_broken, no_ok, not_module, stop_again, stop_told, store_cell, told_wider}
 use Rattle.cca_tool.proofs.OpeningLemmas.{damage_as, left_as}
 use Rattle.cca_tool.proofs.RestLemmas.{none_told, unopened}
@@ -22,16 +28,41 @@ returns-in-Ok-clause-told g c = λ s disks.
     (λ still rose. still.1 (rose_wider _ _ _ _ c.open_disks.ensures.left.store_left.later c.move_labels.ensures.store_left.later (omega arith) rose))
     (c.move_labels.ensures.told s (c.in-Ok.ensures.opened s disks))
 
+-- what was read of the disks that were opened
+known_as_read : (t : Tables) (registers : Masters) (m0 m1 d0 d1 : Medium) → m1.content ≡ m0.content → d1.content ≡ d0.content
+    → Told m0 (λ image. StandsForMasters image registers) → AreKnown t m1 d1 → KnownAsRead m0 d0 registers t.roles t.rows
+known_as_read t registers m0 m1 d0 d1 same_m same_d loaded known = record {
+  in_module = loaded;
+  roles_in_module = told_earlier m0 m1 (λ image. StandsForRoles image t.roles) same_m (roles_told t m1 d1 known);
+  in_store = told_earlier d0 d1 (HoldsRows t.rows) same_d known.in_store;
+}
+
 pub returns-in-Ok-clause-own : goal.returns-in-Ok-clause-own
 returns-in-Ok-clause-own g c = λ told.
     let registers = masters_in c.in-Ok.held (bench_of c.open_disks.new.lease) in
     record {
       registers = registers;
-      in_module = c.in-Ok.ensures.registers;
+      roles = c.open_disks.new.self.roles;
       rows = c.open_disks.new.self.records;
-      in_store = told_earlier (g.D.Disk.medium c.args.store.now) (g.D.Disk.medium c.open_disks.new.store) (HoldsRows c.open_disks.new.self.records)
-          c.open_disks.ensures.left.store_kept.content c.in-Ok.ensures.known.in_store;
-      moved = c.move_labels.ensures.own registers c.in-Ok.ensures.loaded;
+      known = known_as_read (tables c.open_disks.new.self.roles c.open_disks.new.self.records) registers
+          (g.M.Disk.medium c.args.module.now) (g.M.Disk.medium c.open_disks.new.module) (g.D.Disk.medium c.args.store.now) (g.D.Disk.medium c.open_disks.new.store)
+          c.open_disks.ensures.left.module_kept.content c.open_disks.ensures.left.store_kept.content c.in-Ok.ensures.registers c.in-Ok.ensures.known;
+      moved = c.move_labels.ensures.own registers c.in-Ok.ensures.loaded told;
+    }
+
+pub returns-in-Ok-clause-refusal : goal.returns-in-Ok-clause-refusal
+returns-in-Ok-clause-refusal g c = λ rule is.
+    let registers = masters_in c.in-Ok.held (bench_of c.open_disks.new.lease) in
+    let refused = c.move_labels.ensures.refusal registers c.in-Ok.ensures.loaded rule is in
+    record {
+      registers = registers;
+      roles = c.open_disks.new.self.roles;
+      rows = c.open_disks.new.self.records;
+      known = known_as_read (tables c.open_disks.new.self.roles c.open_disks.new.self.records) registers
+          (g.M.Disk.medium c.args.module.now) (g.M.Disk.medium c.open_disks.new.module) (g.D.Disk.medium c.args.store.now) (g.D.Disk.medium c.open_disks.new.store)
+          c.open_disks.ensures.left.module_kept.content c.open_disks.ensures.left.store_kept.content c.in-Ok.ensures.registers c.in-Ok.ensures.known;
+      body = refused.0;
+      refused = refused.1;
     }
 
 pub returns-in-Ok-clause-sound : goal.returns-in-Ok-clause-sound

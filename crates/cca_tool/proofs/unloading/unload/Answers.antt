@@ -1,7 +1,7 @@
 -- The words ask for one move.
 use Rattle.std.proofs.Common.{subst}
 use Rattle.move_file.specs.declared.moves.Move.{Move}
-use Rattle.cca_tool.specs.Unloading.{MoveTold, MovesAsRead, Still}
+use Rattle.cca_tool.specs.Unloading.{MoveRefusedAsRead, MoveTold, MovesAsRead, Still}
 use Rattle.cca_tool.specs.declared.command.Status.TheVariants as status
 use Rattle.cca_tool.specs.declared.unloading.MoveStatus.TheVariants.{Run}
 use Rattle.cca_tool.proofs.MoveLemmas.{one_move}
@@ -27,3 +27,8 @@ returns-in-Err-clause-own g c = λ w are told. absurd (none_told (Run status.NoM
 
 pub returns-in_default-clause-own : goal.returns-in_default-clause-own
 returns-in_default-clause-own g c = λ w are told. absurd (none_told (Run status.Usage) (λ is. cc is) c.args.sink.now c.args.report.now told)
+
+pub returns-in-Ok-clause-refusal : goal.returns-in-Ok-clause-refusal
+returns-in-Ok-clause-refusal g c = λ w are rule is.
+    subst (λ (v : Move). MoveRefusedAsRead (g.M.Disk.medium c.args.module.now) (g.D.Disk.medium c.args.store.now) v rule)
+    (one_move c.in-Some.how w c.args.words.now c.in-Some.ensures.found are) (c.move_store.ensures.refusal rule is)
