@@ -2,8 +2,6 @@
 use Rattle.std.proofs.Common.{◌≡◌, ◌≤◌, ◌∙◌, ℕ, true, false, List, [], length, Option, None, Some, refl, sym, ap, subst, arith}
 use Rattle.std.specs.Prelude.{Bool, IsSome, IsTrue, is_some, ◌||◌}
 use Rattle.key_cells.specs.Bench.{Bench}
-use Rattle.key_cells.specs.Lease.{bench_of, holding}
-use Rattle.key_cells.specs.declared.leases.Lease.{Lease}
 use Rattle.byte_lists.proofs.NameLemmas.{label_short}
 use Rattle.key_records.specs.Directory.{label_at}
 use Rattle.key_records.specs.Entries.{row_directory}
@@ -14,7 +12,11 @@ use Rattle.master_registers.specs.Masters.{Masters}
 use Rattle.master_registers.specs.declared.registers.Registers.{Registers}
 use Rattle.script_buffers.specs.Replies.{ok_text, written}
 use Rattle.verb_rules.specs.Keys.{keys_of}
-use Rattle.cca_requests.specs.Deciding.{GoesThrough, IsDelivery, IsHeldAt, IsReady, WritesStore, with_places}
+use Rattle.verb_script.specs.Grammar.{Request}
+use Rattle.cca_machine.specs.Act.{Effect}
+use Rattle.cca_machine.specs.State.{State}
+use Rattle.cca_machine.specs.Verdict.{Refusal}
+use Rattle.cca_requests.specs.Deciding.{GoesThrough, IsDelivered, IsDelivery, IsHeldAt, IsLeft, IsReady, WritesStore}
 use Rattle.cca_requests.specs.Drawing.{IsHeldPlace}
 use Rattle.cca_requests.specs.Judging.{HasPlace, HasTarget, IsPlaceFor}
 use Rattle.cca_requests.specs.declared.effects.Effect.{Effect as CodeEffect}
@@ -100,16 +102,23 @@ delivery_single place token (code.Write other bytes) delivery through = absurd t
 delivery_single place token (code.Delete other) delivery through = absurd through
 delivery_single place token (code.Reencipher a) delivery through = absurd delivery
 
--- and it is one under the master keys of the bench
-pub key_ready : (rows : List (Option Row)) (named : Option (List ℕ)) (grant : Grant) (token : List ℕ) (e : CodeEffect) (reply : List ℕ)
-    {held : Registers} {lease0 lease1 : Lease} {key : Denoted}
-    → HasTarget rows named grant
-    → lease1 ≡ holding lease0 (with_places (bench_of lease0) (bench_of lease1))
-    → IsLoaded held (bench_of lease0)
-    → ((m : Masters) → Loaded m held (bench_of lease0) → denoted (keys_of m) token ≡ Some key)
-    → IsDelivery token grant.place e → length reply ≤ 69000 → IsReady held (bench_of lease1) rows e reply
-key_ready rows named grant token e reply {held} {lease0} {lease1} {key} target places loaded stands delivery size =
-    let old = bench_of lease0 in
-    let same : masters_in held (bench_of lease1) ≡ masters_in held old = ap (λ (l : Lease). masters_in held (bench_of l)) places in
-    delivery_ready rows grant.place token (target_place rows named grant target) held (bench_of lease1) e reply delivery
-    (subst (λ (m : Masters). IsSome (denoted (keys_of m) token)) (sym same) (some_of _ key (stands (masters_in held old) loaded))) size
+-- its token stands for a key under the master keys of a bench, and of each other one that has the same
+pub stands_after : (new : Bench) (token : List ℕ) {held : Registers} {old : Bench} {key : Denoted}
+    → masters_in held new ≡ masters_in held old → IsLoaded held old
+    → ((m : Masters) → Loaded m held old → denoted (keys_of m) token ≡ Some key)
+    → IsSome (denoted (keys_of (masters_in held new)) token)
+stands_after new token {held} {old} {key} same loaded stands =
+    subst (λ (m : Masters). IsSome (denoted (keys_of m) token)) (sym same) (some_of _ key (stands (masters_in held old) loaded))
+
+-- a key that is delivered is what a verb left to be done
+pub delivered_left : (s : State) (bench : Bench) (request : Request) (v : Option Refusal) (made : Effect) (e : CodeEffect) (reply : List ℕ)
+    → v ≡ None → IsDelivered s made e reply → IsLeft s bench request v made e reply
+delivered_left s bench request v made (code.Refused _ name) reply none delivered = absurd delivered
+delivered_left s bench request v made code.Shown reply none delivered = (none, delivered)
+delivered_left s bench request v made (code.Change action) reply none delivered = absurd delivered
+delivered_left s bench request v made (code.DefineRole name points) reply none delivered = absurd delivered
+delivered_left s bench request v made (code.RemoveRole name) reply none delivered = absurd delivered
+delivered_left s bench request v made (code.Create label) reply none delivered = absurd delivered
+delivered_left s bench request v made (code.Write place token) reply none delivered = (none, delivered)
+delivered_left s bench request v made (code.Delete place) reply none delivered = absurd delivered
+delivered_left s bench request v made (code.Reencipher a) reply none delivered = absurd delivered

@@ -1,4 +1,4 @@
--- Verbs that draw nothing: what they show over the clear key of a token that was judged, and a key that they deliver.
+-- Verbs that draw nothing: what they show over the clear key of a token that was judged.
 use Rattle.std.proofs.Common.{◌≡◌, ℕ, List, [], Option, false, sym, subst, codes}
 use Rattle.key_cells.specs.Bench.{Bench}
 use Rattle.key_tokens.specs.Denotes.{ClearKey}
@@ -9,14 +9,12 @@ use Rattle.cca_machine.specs.Draws.{draws_random}
 use Rattle.cca_machine.specs.Keys.{key_in_text, key_of_request}
 use Rattle.cca_machine.specs.Operands.{operands}
 use Rattle.cca_machine.specs.State.{State}
-use Rattle.cca_machine.specs.Verdict.{Refusal, verb_verdict, whole_verb_verdict}
+use Rattle.cca_machine.specs.Verdict.{Refusal, verb_verdict}
 use Rattle.cca_requests.specs.Deciding.{Decides, ShowsOr}
-use Rattle.cca_requests.specs.Drawing.{IsDeliveredOr}
 use Rattle.cca_requests.specs.Judging.{AreGranted, HasKey}
 use Rattle.cca_requests.specs.declared.effects.Effect.{Effect as CodeEffect}
 use Rattle.cca_requests.specs.declared.judging.Granted.{Granted}
-use Rattle.cca_requests.proofs.Acting.{decides, shows_or, undrawn_verdict}
-use Rattle.cca_requests.proofs.Generating.{left_of}
+use Rattle.cca_requests.proofs.Acting.{shows_or}
 
 -- over operands that were granted, a request shows some fields over its key, or is refused
 pub record IsKeyed (request : Request) (v : ClearKey → Option Refusal)
@@ -37,13 +35,3 @@ keyed_shows s bench request clear v fields e reply left keyed key shown =
     shows_or s bench request (v (key_of_request s request)) (fields (key_of_request s request)) e reply left
     keyed.undrawn (keyed.verdict s) (keyed.makes s)
     (subst (λ (k : ClearKey). ShowsOr (v k) (fields k) e reply) (sym key) shown)
-
--- a verb that delivers a key, or is refused
-pub delivered_or_decides : (s : State) (bench : Bench) (request : Request) (e : CodeEffect) (reply : List ℕ) (left : Option (List ℕ))
-    → draws_random request ≡ false → IsDeliveredOr s (verb_verdict s request) (effect s [] request.name request) e reply
-    → Decides s bench request e reply left left
-delivered_or_decides s bench request e reply left none delivered =
-    let made = effect s [] request.name request in
-    decides s bench request e reply left none
-    (left_of s bench request (whole_verb_verdict s [] request) made e reply
-    (subst (λ (v : Option Refusal). IsDeliveredOr s v made e reply) (sym (undrawn_verdict s [] request none)) delivered))

@@ -5,6 +5,7 @@ mod Carrying
 mod Changing
 mod Contents
 mod Delivering
+mod DrawnKeys
 mod Fields
 mod Generating
 mod GrantsKept

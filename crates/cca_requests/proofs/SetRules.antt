@@ -1,5 +1,5 @@
 -- The rules of SET, CLEAR and AHEAD, by what the memory knows.
-use Rattle.std.proofs.Common.{◌≡◌, ℕ, Bool, true, false, List, [], ◌∷◌, Option, None, Some, refl, sym, ap, subst, ◌∙◌, codes}
+use Rattle.std.proofs.Common.{◌≡◌, ℕ, Bool, true, false, List, [], ◌∷◌, Option, None, Some, refl, sym, ap, ◌∙◌, codes}
 use Rattle.std.specs.Prelude.{◌||◌, if◌then◌else◌}
 use Rattle.clear_keys.proofs.TokenLemmas.{keys_apart}
 use Rattle.key_cells.specs.Bench.{Bench}
@@ -11,17 +11,13 @@ use Rattle.master_registers.specs.Loaded.{Loaded, pattern_in}
 use Rattle.master_registers.specs.Masters.{Masters, has_pattern_of, pattern_of_master, set_refused, same_pattern}
 use Rattle.master_registers.specs.declared.patterns.Pattern.{Pattern}
 use Rattle.master_registers.specs.declared.registers.Registers.{Registers}
-use Rattle.verb_rules.specs.Rules.{rule_number}
-use Rattle.verb_script.specs.Grammar.{csnbmkp_set, csnbmkp_clear, reencipher_ahead}
 use Rattle.verb_rules.specs.Keys.{keys_of, master_key}
 use Rattle.cca_vectors.specs.Checks.{check, first_failing}
 use Rattle.master_registers.specs.declared.actions.Action.TheVariants.{Set}
 use Rattle.cca_machine.specs.Actions.{action_checks}
 use Rattle.cca_machine.specs.State.{State}
 use Rattle.cca_machine.specs.Verdict.{Refusal, action_questions, first_refusal, refusal, set_questions, clear_questions, ahead_questions, or_refused}
-use Rattle.cca_requests.specs.Deciding.{IsDecided, IsRecorded, IsSetDecided, IsClearDecided, IsAheadDecided}
-use Rattle.cca_requests.specs.declared.effects.Effect.{Effect as CodeEffect}
-use Rattle.cca_requests.specs.declared.effects.Effect.TheVariants as code
+use Rattle.cca_requests.specs.Deciding.{IsRecorded}
 
 -- by rules 25 and 26, and whether a label is under the old master key
 abbrev pub or_old : Option ℕ → Bool → Option Refusal
@@ -68,13 +64,6 @@ by_rules false false false rule is = ap (λ r. or_old r false) is
 pub set_refusal : (s : State) (rule : Option ℕ) → first_failing (action_checks Set s.registers) ≡ rule → first_refusal (set_questions s) ≡ or_old rule (any_old s.labels)
 set_refusal s rule is = by_rules (set_refused s.registers) (same_pattern s.registers) (any_old s.labels) rule is
 
-parts_by : (wrong same old : Bool) → or_refused (if wrong then Some 25 else if same then Some 26 else if old then Some 27 else None) (codes "-") None ≡ None
-    → (or_refused (if wrong then Some 25 else if same then Some 26 else None) (codes "-") None ≡ None) × (old ≡ false)
-parts_by true same old none = cc none
-parts_by false true old none = cc none
-parts_by false false true none = cc none
-parts_by false false false none = (refl, refl)
-
 -- the first rule that AHEAD breaks
 pub ahead_refusal : (s : State) (rule : Option ℕ) → first_failing (check 25 (set_refused s.registers) ∷ check 26 (is_taken s.registers) ∷ []) ≡ rule → first_refusal (ahead_questions s) ≡ or_old rule (any_old s.labels)
 ahead_refusal s rule is = by_rules (set_refused s.registers) (is_taken s.registers) (any_old s.labels) rule is
@@ -84,54 +73,21 @@ pub clear_refusal : (s : State) (ahead : Bool) → any_ahead_entry s.labels ≡ 
 clear_refusal s true is = ap (λ b. or_refused (if b then Some 33 else None) (codes "-") None) is
 clear_refusal s false is = ap (λ b. or_refused (if b then Some 33 else None) (codes "-") None) is
 
-set_parts : (s : State) → first_refusal (set_questions s) ≡ None → (first_refusal (action_questions s Set) ≡ None) × (any_old s.labels ≡ false)
+parts_by : (wrong same old : Bool) → or_refused (if wrong then Some 25 else if same then Some 26 else if old then Some 27 else None) (codes "-") None ≡ None
+    → (or_refused (if wrong then Some 25 else if same then Some 26 else None) (codes "-") None ≡ None) × (old ≡ false)
+parts_by true same old none = cc none
+parts_by false true old none = cc none
+parts_by false false true none = cc none
+parts_by false false false none = (refl, refl)
+
+-- where no rule refuses SET, none refuses the action, and no label is under the old master key
+pub set_parts : (s : State) → first_refusal (set_questions s) ≡ None → (first_refusal (action_questions s Set) ≡ None) × (any_old s.labels ≡ false)
 set_parts s none = parts_by (set_refused s.registers) (same_pattern s.registers) (any_old s.labels) none
 
--- SET is decided as the machine does
-pub set_decided : (s : State) (bench : Bench) (values : List (List ℕ)) (e : CodeEffect) (reply : List ℕ)
-    → IsSetDecided s e → IsDecided s bench [] (record { name = csnbmkp_set; values = values }) e reply
-set_decided s bench values (code.Refused rule name) reply decided = decided.0 ∙ ap (λ o. Some (refusal (rule_number rule) o)) (sym decided.1)
-set_decided s bench values code.Shown reply decided = absurd decided
-set_decided s bench values (code.Change action) reply decided =
-    let parts = set_parts s decided.1 in
-    subst (λ a. IsDecided s bench [] (record { name = csnbmkp_set; values = values }) (code.Change a) reply) (sym decided.0)
-    (decided.1 ∙ sym parts.0, refl, parts.1, refl)
-set_decided s bench values (code.DefineRole name points) reply decided = absurd decided
-set_decided s bench values (code.RemoveRole name) reply decided = absurd decided
-set_decided s bench values (code.Create label) reply decided = absurd decided
-set_decided s bench values (code.Write place token) reply decided = absurd decided
-set_decided s bench values (code.Delete place) reply decided = absurd decided
-set_decided s bench values (code.Reencipher a) reply decided = absurd decided
+ahead_by : (ahead : Bool) → or_refused (if ahead then Some 33 else None) (codes "-") None ≡ None → ahead ≡ false
+ahead_by true none = cc none
+ahead_by false none = refl
 
--- CLEAR is decided as the machine does
-clear_parts : (ahead : Bool) → or_refused (if ahead then Some 33 else None) (codes "-") None ≡ None → ahead ≡ false
-clear_parts true none = absurd (cc none)
-clear_parts false none = refl
-
-pub clear_decided : (s : State) (bench : Bench) (values : List (List ℕ)) (e : CodeEffect) (reply : List ℕ)
-    → IsClearDecided s e → IsDecided s bench [] (record { name = csnbmkp_clear; values = values }) e reply
-clear_decided s bench values (code.Refused rule name) reply decided = decided.0 ∙ ap (λ o. Some (refusal (rule_number rule) o)) (sym decided.1)
-clear_decided s bench values code.Shown reply decided = absurd decided
-clear_decided s bench values (code.Change action) reply decided =
-    subst (λ a. IsDecided s bench [] (record { name = csnbmkp_clear; values = values }) (code.Change a) reply) (sym decided.0)
-    (decided.1, refl, clear_parts (any_ahead_entry s.labels) decided.1, refl)
-clear_decided s bench values (code.DefineRole name points) reply decided = absurd decided
-clear_decided s bench values (code.RemoveRole name) reply decided = absurd decided
-clear_decided s bench values (code.Create label) reply decided = absurd decided
-clear_decided s bench values (code.Write place token) reply decided = absurd decided
-clear_decided s bench values (code.Delete place) reply decided = absurd decided
-clear_decided s bench values (code.Reencipher a) reply decided = absurd decided
-
--- and AHEAD
-pub ahead_decided : (s : State) (bench : Bench) (values : List (List ℕ)) (e : CodeEffect) (reply : List ℕ)
-    → IsAheadDecided s e → IsDecided s bench [] (record { name = reencipher_ahead; values = values }) e reply
-ahead_decided s bench values (code.Refused rule name) reply decided = decided.0 ∙ ap (λ o. Some (refusal (rule_number rule) o)) (sym decided.1)
-ahead_decided s bench values code.Shown reply decided = absurd decided
-ahead_decided s bench values (code.Change action) reply decided = absurd decided
-ahead_decided s bench values (code.DefineRole name points) reply decided = absurd decided
-ahead_decided s bench values (code.RemoveRole name) reply decided = absurd decided
-ahead_decided s bench values (code.Create label) reply decided = absurd decided
-ahead_decided s bench values (code.Write place token) reply decided = absurd decided
-ahead_decided s bench values (code.Delete place) reply decided = absurd decided
-ahead_decided s bench values (code.Reencipher a) reply decided =
-    subst (λ x. IsDecided s bench [] (record { name = reencipher_ahead; values = values }) (code.Reencipher x) reply) (sym decided.0) (decided.1, refl, refl)
+-- where no rule refuses CLEAR, no label is ahead
+pub none_ahead : (s : State) → first_refusal (clear_questions s) ≡ None → any_ahead_entry s.labels ≡ false
+none_ahead s none = ahead_by (any_ahead_entry s.labels) none

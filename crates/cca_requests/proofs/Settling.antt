@@ -1,33 +1,37 @@
 -- From what a verb leaves to all that is said of its decision.
 use Rattle.std.proofs.Common.{◌≡◌, ℕ, List, [], Option, None, Some, false, refl, sym, subst, codes, arith, true, ◌∙◌}
-use Rattle.std.specs.Prelude.{◌≤◌, IsSome, IsTrue, Result, Ok, Err, length}
+use Rattle.std.specs.Borrow.{Bor}
+use Rattle.std.specs.Prelude.{◌≤◌, ◌<◌, IsSome, IsTrue, Result, Ok, Err, is_some, length}
 use Rattle.key_cells.specs.Bench.{Bench}
 use Rattle.key_records.specs.declared.rows.Row.{Row}
-use Rattle.key_tokens.specs.Denotes.{ClearKey}
+use Rattle.key_tokens.specs.Denotes.{ClearKey, denoted}
 use Rattle.line_service.specs.declared.stops.Stop.{Stop}
 use Rattle.line_service.specs.declared.stops.Stop.TheVariants.{EntropyFault}
+use Rattle.master_registers.specs.Loaded.{masters_in}
 use Rattle.master_registers.specs.declared.registers.Registers.{Registers}
 use Rattle.script_buffers.specs.Replies.{Field, written}
 use Rattle.slot_disk.specs.Faults.{Rose}
-use Rattle.verb_rules.specs.Keys.{opened}
+use Rattle.verb_rules.specs.Keys.{keys_of, opened}
+use Rattle.verb_rules.specs.Rules.{rule_number}
 use Rattle.verb_rules.specs.declared.judging.Judged.{Judged}
+use Rattle.verb_rules.specs.declared.rules.Rule.{Rule}
 use Rattle.verb_script.specs.Grammar.{Request, value_of}
 use Rattle.cca_machine.specs.Act.{Show, effect}
 use Rattle.cca_machine.specs.Draws.{draws_random}
 use Rattle.cca_machine.specs.Keys.{key_in_text}
 use Rattle.cca_machine.specs.Operands.{is_reencipher, needs_store, operands}
 use Rattle.cca_machine.specs.State.{State}
-use Rattle.cca_machine.specs.Verdict.{Refusal, verb_verdict}
-use Rattle.cca_requests.specs.Decided.{Decision, HasDecided, IsGrantedIn, Settles, Source, TakesOnly}
-use Rattle.cca_requests.specs.Deciding.{Decides, GoesThrough, IsDecided, IsDelivered, IsReady, ShowsOr, WritesStore}
-use Rattle.cca_requests.specs.Drawing.{IsDeliveredOr}
-use Rattle.cca_requests.specs.Judging.{HaveShapes}
+use Rattle.cca_machine.specs.Verdict.{Refusal, refusal, verb_verdict, whole_verb_verdict}
+use Rattle.cca_requests.specs.Decided.{Decision, HasDecided, IsGrantedIn, Settles, SettlesDrawing, Source, TakesOnly}
+use Rattle.cca_requests.specs.Deciding.{Decides, GoesThrough, IsDecided, IsDelivered, IsDelivery, IsReady, ShowsOr, WritesStore}
+use Rattle.cca_requests.specs.Drawing.{IsHeldPlace}
+use Rattle.cca_requests.specs.Judging.{HaveShapes, IsPlaceFor}
 use Rattle.cca_requests.specs.declared.effects.Effect.{Effect as CodeEffect}
 use Rattle.cca_requests.specs.declared.effects.Effect.TheVariants as code
 use Rattle.cca_requests.specs.declared.judging.Granted.{Granted}
-use Rattle.cca_requests.proofs.Acting.{decides, key_is, shows_or}
-use Rattle.cca_requests.proofs.Generating.{delivered_or}
-use Rattle.cca_requests.proofs.KeyedVerbs.{IsKeyed, delivered_or_decides, keyed_shows}
+use Rattle.cca_requests.proofs.Acting.{decides, key_is, shows_or, undrawn_verdict}
+use Rattle.cca_requests.proofs.Delivering.{delivered_left, delivery_named, delivery_ready, delivery_single}
+use Rattle.cca_requests.proofs.KeyedVerbs.{IsKeyed, keyed_shows}
 
 module _ {request : Request} {granted : Granted} {held : Registers} {rows : List (Option Row)} {old new : Bench} {e : CodeEffect} {reply : List ℕ} where
   -- a verb that draws nothing
@@ -106,31 +110,39 @@ module _ {request : Request} {granted : Granted} {held : Registers} {rows : List
   left_settles none decided ready named through =
       settles (λ shaped s in_state left. decides s new request e reply left none (decided s in_state)) (λ shaped. ready) named through
 
-  -- a verb that delivers a key, or is refused
-  pub delivered_or_settles : draws_random request ≡ false
-      → ((s : State) → IsGrantedIn s request granted held rows old → IsDeliveredOr s (verb_verdict s request) (effect s [] request.name request) e reply)
-      → (HaveShapes rows (operands request) granted → IsReady held new rows e reply)
-      → (WritesStore e → IsTrue (needs_store request))
-      → (GoesThrough e → ⊥)
-      → Settles request granted held rows old new e reply
-  delivered_or_settles none delivered ready named single =
-      settles (λ shaped s in_state left. delivered_or_decides s new request e reply left none (delivered s in_state))
-      ready named (λ through. absurd (single through))
-
-  -- a verb that delivers a key
-  pub delivered_settles : draws_random request ≡ false
-      → ((s : State) → verb_verdict s request ≡ None)
+  -- a verb that delivers a key under the current master key into the record of a label, where one is named
+  pub delivery_settles : (named : Option (List ℕ)) (place : Option ℕ) (token : List ℕ)
+      → draws_random request ≡ false
+      → (IsTrue (is_some named) → IsTrue (needs_store request))
+      → ((s : State) → IsGrantedIn s request granted held rows old → verb_verdict s request ≡ None)
       → ((s : State) → IsGrantedIn s request granted held rows old → IsDelivered s (effect s [] request.name request) e reply)
-      → (HaveShapes rows (operands request) granted → IsReady held new rows e reply)
-      → (WritesStore e → IsTrue (needs_store request))
-      → (GoesThrough e → ⊥)
+      → (HaveShapes rows (operands request) granted → IsHeldPlace rows place)
+      → IsPlaceFor named place
+      → IsDelivery token place e
+      → IsSome (denoted (keys_of (masters_in held new)) token)
+      → length reply ≤ 69000
       → Settles request granted held rows old new e reply
-  delivered_settles none permitted delivered ready named single =
-      delivered_or_settles none
-      (λ s in_state. delivered_or s (verb_verdict s request) (effect s [] request.name request) e reply (permitted s) (delivered s in_state))
-      ready named single
+  delivery_settles named place token none needs permitted delivered held_place target delivery stands short =
+      settles
+      (λ shaped s in_state left. decides s new request e reply left none
+      (delivered_left s new request (whole_verb_verdict s [] request) (effect s [] request.name request) e reply
+      (undrawn_verdict s [] request none ∙ permitted s in_state) (delivered s in_state)))
+      (λ shaped. delivery_ready rows place token (held_place shaped) held new e reply delivery stands short)
+      (λ writes. needs (delivery_named named place token e target delivery writes))
+      (λ through. absurd (delivery_single place token e delivery through))
 
 module _ {request : Request} {granted : Granted} {held : Registers} {rows : List (Option Row)} {old new : Bench} {reply : List ℕ} where
+  -- a verb that is refused by a rule of its own
+  pub refused_settles : {broken : Rule} {operand : Bor (List ℕ)}
+      → draws_random request ≡ false
+      → ((s : State) → IsGrantedIn s request granted held rows old → verb_verdict s request ≡ Some (refusal (rule_number broken) operand.now))
+      → reply ≡ []
+      → length operand.now < 100
+      → Settles request granted held rows old new (code.Refused broken operand) reply
+  refused_settles none refused silent short =
+      left_settles none (λ s in_state. undrawn_verdict s [] request none ∙ refused s in_state)
+      (silent, short) (λ writes. absurd writes) (λ through. absurd through)
+
   -- a verb that is refused by no rule of its own, and shows some fields
   pub shown_settles : (fields : State → List Field)
       → draws_random request ≡ false
@@ -188,19 +200,25 @@ takes_nothing = record {
 
 -- ---- from the request that a verb stands for to the one that was parsed
 
-module _ {E : Type 0} {request asked : Request} {granted : Granted} {held : Registers} {rows : List (Option Row)} {old new : Bench} {e : CodeEffect} {kept : Source E} where
-  pub handed_on : {reply : List ℕ} → request ≡ asked → Settles asked granted held rows old new e reply
-      → HaveShapes rows (operands request) granted → Decision request granted held rows old new (Ok e) reply kept kept
-  handed_on {reply} is settled shaped =
-      subst (λ (r : Request). Decision r granted held rows old new (Ok e) reply kept kept) (sym is) (record {
-        decided = settled (subst (λ (r : Request). HaveShapes rows (operands r) granted) is shaped) kept.left;
-        takes = takes_nothing;
-      })
+module _ {E : Type 0} {request asked : Request} {granted : Granted} {held : Registers} {rows : List (Option Row)} {old new : Bench} where
+  -- of a verb that may draw
+  pub handed_on_drawing : {result : Result CodeEffect Stop} {reply : List ℕ} {before now : Source E} → request ≡ asked
+      → SettlesDrawing asked granted held rows old new result reply before now
+      → HaveShapes rows (operands request) granted → Decision request granted held rows old new result reply before now
+  handed_on_drawing {result} {reply} {before} {now} is settled shaped =
+      subst (λ (r : Request). Decision r granted held rows old new result reply before now) (sym is)
+      (settled (subst (λ (r : Request). HaveShapes rows (operands r) granted) is shaped))
 
-  -- the same of a verb that writes no reply
-  pub handed_on_silent : {reply : List ℕ} → request ≡ asked → reply ≡ [] → Settles asked granted held rows old new e []
+  -- of one that draws nothing
+  pub handed_on : {e : CodeEffect} {reply : List ℕ} {kept : Source E} → request ≡ asked → Settles asked granted held rows old new e reply
       → HaveShapes rows (operands request) granted → Decision request granted held rows old new (Ok e) reply kept kept
-  handed_on_silent {reply} is empty settled shaped =
+  handed_on {e} {reply} {kept} is settled shaped =
+      handed_on_drawing is (λ own. record { decided = settled own kept.left; takes = takes_nothing }) shaped
+
+  -- and writes no reply
+  pub handed_on_silent : {e : CodeEffect} {reply : List ℕ} {kept : Source E} → request ≡ asked → reply ≡ [] → Settles asked granted held rows old new e []
+      → HaveShapes rows (operands request) granted → Decision request granted held rows old new (Ok e) reply kept kept
+  handed_on_silent {e} {reply} {kept} is empty settled shaped =
       subst (λ (r : List ℕ). Decision request granted held rows old new (Ok e) r kept kept) (sym empty) (handed_on is settled shaped)
 
 -- a call that draws nothing further, and doesn't fail by the random source

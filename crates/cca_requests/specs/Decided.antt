@@ -81,3 +81,10 @@ pub record Decision {E : Type 0} (request : Request) (granted : Granted) (held :
     (reply : List ℕ) (before now : Source E) : Type 0 where
   pub decided : HasDecided request granted held rows old new result reply before.left now.left
   pub takes : TakesOnly request result before now
+
+-- the same over operands that have their shapes, of a verb that may draw
+abbrev pub SettlesDrawing : {E : Type 0} → Request → Granted → Registers → List (Option Row)
+    → Bench → Bench → Result CodeEffect Stop → List ℕ → Source E → Source E → Type 0
+SettlesDrawing request granted held rows old new result reply before now =
+    HaveShapes rows (operands request) granted
+    → Decision request granted held rows old new result reply before now

@@ -33,7 +33,6 @@ use Rattle.verb_script.specs.Grammar.{Request}
 use Rattle.line_service.specs.declared.stops.Stop.{Stop}
 use Rattle.line_service.specs.declared.stops.Stop.TheVariants.{ModuleFault, StoreFault}
 use Rattle.reencipher.specs.Tokens.{IsReadyFor}
-use Rattle.reencipher.specs.declared.actions.StoreAction.TheVariants.{Ahead}
 use Rattle.cca_machine.specs.Keys.{any_old, cell_with}
 use Rattle.cca_machine.specs.Draws.{bytes_drawn, draw_of, draws_random}
 use Rattle.cca_machine.specs.Lines.{drawn_where}
@@ -41,7 +40,7 @@ use Rattle.cca_machine.specs.Operands.{operands, listed}
 use Rattle.verb_rules.specs.Keys.{keys_of}
 use Rattle.verb_rules.specs.Rules.{rule_number}
 use Rattle.cca_machine.specs.State.{State, module_size}
-use Rattle.cca_machine.specs.Verdict.{Questions, Refusal, refusal, first_refusal, action_questions, set_questions, create_questions, define_questions, remove_questions, verb_verdict, whole_verb_verdict, clear_questions, ahead_questions}
+use Rattle.cca_machine.specs.Verdict.{Questions, Refusal, refusal, first_refusal, action_questions, create_questions, define_questions, remove_questions, verb_verdict, whole_verb_verdict}
 use Rattle.cca_machine.specs.Act.{Effect, Show, Become, DefineRole, RemoveRole, Create, Write, Delete, Reencipher, Outcome, effect, state_after, state_between, fields_after, module_cells_after, store_cells_after, refused}
 use Rattle.cca_requests.specs.Serving.{Tables, StandsInModule, StandsInStore, Stands, HasDrawn}
 use Rattle.cca_requests.specs.declared.effects.Effect.{Effect as CodeEffect}
@@ -179,47 +178,6 @@ IsDelivery token place (code.Create label) = ⊥
 IsDelivery token place (code.Write other bytes) = (place ≡ Some other) × (bytes ≡ token)
 IsDelivery token place (code.Delete other) = ⊥
 IsDelivery token place (code.Reencipher a) = ⊥
-
--- SET is left to be carried out, or a rule refuses it
-abbrev pub IsSetDecided : State → CodeEffect → Type 0
-IsSetDecided s (code.Refused rule name) = (first_refusal (set_questions s) ≡ Some (refusal (rule_number rule) (codes "-"))) × (name.now ≡ codes "-")
-IsSetDecided s code.Shown = ⊥
-IsSetDecided s (code.Change action) = (action ≡ Set) × (first_refusal (set_questions s) ≡ None)
-IsSetDecided s (code.DefineRole name points) = ⊥
-IsSetDecided s (code.RemoveRole name) = ⊥
-IsSetDecided s (code.Create label) = ⊥
-IsSetDecided s (code.Write place token) = ⊥
-IsSetDecided s (code.Delete place) = ⊥
-IsSetDecided s (code.Reencipher a) = ⊥
-
--- the same of CLEAR
-abbrev pub IsClearDecided : State → CodeEffect → Type 0
-IsClearDecided s (code.Refused rule name) =
-    (first_refusal (clear_questions s) ≡ Some (refusal (rule_number rule) (codes "-")))
-    × (name.now ≡ codes "-")
-IsClearDecided s code.Shown = ⊥
-IsClearDecided s (code.Change action) =
-    (action ≡ Clear) × (first_refusal (clear_questions s) ≡ None)
-IsClearDecided s (code.DefineRole name points) = ⊥
-IsClearDecided s (code.RemoveRole name) = ⊥
-IsClearDecided s (code.Create label) = ⊥
-IsClearDecided s (code.Write place token) = ⊥
-IsClearDecided s (code.Delete place) = ⊥
-IsClearDecided s (code.Reencipher a) = ⊥
-
--- and of AHEAD
-abbrev pub IsAheadDecided : State → CodeEffect → Type 0
-IsAheadDecided s (code.Refused rule name) =
-    (first_refusal (ahead_questions s) ≡ Some (refusal (rule_number rule) (codes "-")))
-    × (name.now ≡ codes "-")
-IsAheadDecided s code.Shown = ⊥
-IsAheadDecided s (code.Change action) = ⊥
-IsAheadDecided s (code.DefineRole name points) = ⊥
-IsAheadDecided s (code.RemoveRole name) = ⊥
-IsAheadDecided s (code.Create label) = ⊥
-IsAheadDecided s (code.Write place token) = ⊥
-IsAheadDecided s (code.Delete place) = ⊥
-IsAheadDecided s (code.Reencipher a) = (a ≡ Ahead) × (first_refusal (ahead_questions s) ≡ None)
 
 -- a verb that shows these fields, or is refused with this verdict; it can be carried out in every
 -- state

@@ -1,5 +1,5 @@
-//! What each verb decides, stated for its request: over the operands that were granted, in every
-//! state that the memory and the workbench stand for.
+//! What each verb decides of its request: over the operands that were granted, in every state that
+//! the memory and the workbench stand for.
 ghost use Rattle.std.specs.Prelude.{◌≡◌, [], IsSome, IsTrue};
 ghost use Rattle.key_cells.specs.Lease.{bench_of};
 ghost use Rattle.master_registers.specs.Loaded.{Loaded, IsLoaded};
@@ -11,18 +11,28 @@ ghost use Rattle.cca_requests.specs.Decided.{Decision, source};
 ghost use Rattle.cca_requests.specs.Deciding.{ChangesPlaces};
 ghost use Rattle.cca_requests.specs.Judging.{IsAccepted, HaveShapes, AreKeyed};
 
-mod control;
-mod drawing;
-mod keys;
-mod records;
-
 use crate::effects::Effect;
 use crate::judging::Granted;
 use crate::verbs::code_segments::{first_code_segment, last_code_segment, middle_code_segment};
 use crate::verbs::codes::{Purpose, whole_code};
+use crate::verbs::csnbcki::csnbcki;
+use crate::verbs::csnbkex::csnbkex;
+use crate::verbs::csnbkgn::{generate_one, generate_out, generate_pair};
+use crate::verbs::csnbkim::csnbkim;
+use crate::verbs::csnbkrc::csnbkrc;
+use crate::verbs::csnbkrd::csnbkrd;
+use crate::verbs::csnbkrl::csnbkrl;
+use crate::verbs::csnbkrr::csnbkrr;
+use crate::verbs::csnbkrw::csnbkrw;
+use crate::verbs::csnbktc::csnbktc;
+use crate::verbs::csnbktp::csnbktp;
+use crate::verbs::csnbktr::csnbktr;
 use crate::verbs::csnbkyt::csnbkyt;
+use crate::verbs::csnbpex::csnbpex;
+use crate::verbs::csnbrng::csnbrng;
 use crate::verbs::segments::{first_segment, last_segment, middle_segment};
 use crate::verbs::whole_texts::whole_text;
+use crate::verbs::{csnbkpi, csnbmkp, csuaaci, reenciphering};
 use key_cells::Lease;
 use key_records::Records;
 use line_service::Stop;
@@ -56,7 +66,7 @@ pub(crate) fn decide<E: Entropy>(
     ensures places { ChangesPlaces lease.old lease.new }
 {
     match request {
-        Request::Csnbktp { .. } => Ok(keys::decide_csnbktp(granted, reply)),
+        Request::Csnbktp { .. } => Ok(csnbktp(granted, reply)),
         Request::Csnbenc { iv, pad, text, .. } => Ok(whole_text(
             Mode::Encipher,
             granted,
@@ -180,16 +190,14 @@ pub(crate) fn decide<E: Entropy>(
             reply,
         )),
         Request::Csnbkyt { .. } => Ok(csnbkyt(granted, lease, reply)),
-        Request::Csnbcki { clear, to, .. } => Ok(keys::decide_csnbcki(
-            granted, clear, to, lease, held, reply,
-        )),
-        Request::Csnbrng { form, .. } => drawing::decide_csnbrng(form, entropy, reply),
+        Request::Csnbcki { clear, to, .. } => Ok(csnbcki(granted, clear, to, lease, held, reply)),
+        Request::Csnbrng { form, .. } => csnbrng(form, entropy, reply),
         Request::CsnbkgnOp {
             length,
             type1,
             to,
             ..
-        } => drawing::decide_generate_one(granted, length, *type1, to, entropy, lease, held, reply),
+        } => generate_one(granted, length, *type1, to, entropy, lease, held, reply),
         Request::CsnbkgnPair {
             form,
             length,
@@ -197,7 +205,7 @@ pub(crate) fn decide<E: Entropy>(
             type2,
             to,
             ..
-        } => drawing::decide_generate_pair(
+        } => generate_pair(
             granted, form, length, *type1, *type2, to, entropy, lease, held, reply,
         ),
         Request::CsnbkgnOut {
@@ -206,36 +214,32 @@ pub(crate) fn decide<E: Entropy>(
             type1,
             type2,
             ..
-        } => drawing::decide_generate_out(
+        } => generate_out(
             granted, form, length, *type1, *type2, entropy, lease, held, reply,
         ),
-        Request::Csnbkim { to, .. } => Ok(keys::decide_csnbkim(granted, to, lease, held, reply)),
-        Request::Csnbkex { .. } => Ok(keys::decide_csnbkex(granted, lease, reply)),
-        Request::Csnbpex { to, .. } => Ok(keys::decide_csnbpex(granted, to, lease, held, reply)),
-        Request::Csnbktc { rule, .. } => Ok(keys::decide_csnbktc(
-            granted, rule, lease, held, reply,
-        )),
-        Request::CsnbkpiFirst { kind, part, to, .. } => Ok(keys::decide_first_part(
+        Request::Csnbkim { to, .. } => Ok(csnbkim(granted, to, lease, held, reply)),
+        Request::Csnbkex { .. } => Ok(csnbkex(granted, lease, reply)),
+        Request::Csnbpex { to, .. } => Ok(csnbpex(granted, to, lease, held, reply)),
+        Request::Csnbktc { rule, .. } => Ok(csnbktc(granted, rule, lease, held, reply)),
+        Request::CsnbkpiFirst { kind, part, to, .. } => Ok(csnbkpi::first(
             granted, *kind, part, to, lease, held, reply,
         )),
-        Request::CsnbkpiMiddle { rule, part, to, .. } => Ok(keys::decide_further_part(
+        Request::CsnbkpiMiddle { rule, part, to, .. } => Ok(csnbkpi::further(
             granted, rule, part, to, lease, held, reply,
         )),
-        Request::Csnbktr { .. } => Ok(keys::decide_csnbktr(granted, lease, reply)),
-        Request::Csnbkrc { label, .. } => Ok(records::decide_csnbkrc(label)),
-        Request::Csnbkrw { token, .. } => Ok(records::decide_csnbkrw(granted, token, reply)),
-        Request::Csnbkrr { .. } => Ok(records::decide_csnbkrr(granted, reply)),
-        Request::Csnbkrd { .. } => Ok(records::decide_csnbkrd(granted)),
-        Request::Csnbkrl { prefix, .. } => Ok(records::decide_csnbkrl(prefix, records, reply)),
-        Request::CsnbmkpPart { action, part, .. } => Ok(control::decide_key_part(
-            action, part, lease,
-        )),
-        Request::CsnbmkpClear { .. } => Ok(control::decide_clear(records)),
-        Request::CsnbmkpSet { .. } => Ok(control::decide_set(lease, held, records)),
-        Request::CsuaaciDefine { name, points, .. } => Ok(control::decide_define(name, points)),
-        Request::CsuaaciRemove { name, .. } => Ok(control::decide_remove(name)),
-        Request::Reencipher { .. } => Ok(control::decide_renew()),
-        Request::ReencipherAhead { .. } => Ok(control::decide_ahead(lease, held, records)),
-        Request::ReencipherDrop { .. } => Ok(control::decide_drop()),
+        Request::Csnbktr { .. } => Ok(csnbktr(granted, lease, reply)),
+        Request::Csnbkrc { label, .. } => Ok(csnbkrc(label)),
+        Request::Csnbkrw { token, .. } => Ok(csnbkrw(granted, token, reply)),
+        Request::Csnbkrr { .. } => Ok(csnbkrr(granted, reply)),
+        Request::Csnbkrd { .. } => Ok(csnbkrd(granted)),
+        Request::Csnbkrl { prefix, .. } => Ok(csnbkrl(prefix, records, reply)),
+        Request::CsnbmkpPart { action, part, .. } => Ok(csnbmkp::combine(action, part, lease)),
+        Request::CsnbmkpClear { .. } => Ok(csnbmkp::clear(records)),
+        Request::CsnbmkpSet { .. } => Ok(csnbmkp::set(lease, held, records)),
+        Request::CsuaaciDefine { name, points, .. } => Ok(csuaaci::define(name, points)),
+        Request::CsuaaciRemove { name, .. } => Ok(csuaaci::remove(name)),
+        Request::Reencipher { .. } => Ok(reenciphering::renew()),
+        Request::ReencipherAhead { .. } => Ok(reenciphering::ahead(lease, held, records)),
+        Request::ReencipherDrop { .. } => Ok(reenciphering::drop()),
     }
 }

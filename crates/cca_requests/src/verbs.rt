@@ -1,6 +1,5 @@
 //! What each verb decides, over what its operands stand for. No verb sees a disk.
 
-pub(crate) mod ahead;
 pub(crate) mod code_segments;
 pub(crate) mod codes;
 pub(crate) mod csnbcki;
@@ -9,6 +8,7 @@ pub(crate) mod csnbkgn;
 pub(crate) mod csnbkim;
 pub(crate) mod csnbkpi;
 pub(crate) mod csnbkrc;
+pub(crate) mod csnbkrd;
 pub(crate) mod csnbkrl;
 pub(crate) mod csnbkrr;
 pub(crate) mod csnbkrw;
@@ -22,6 +22,8 @@ pub(crate) mod csnbrng;
 pub(crate) mod csuaaci;
 pub(crate) mod delivering;
 mod key_digits;
+mod old_labels;
+pub(crate) mod reenciphering;
 pub(crate) mod segments;
 mod texts;
 pub(crate) mod whole_texts;

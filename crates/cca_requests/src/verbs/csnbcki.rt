@@ -1,20 +1,28 @@
 //! CSNBCKI: a clear key imported.
-ghost use Rattle.std.specs.Prelude.{◌≡◌, IsSome, IsTrue, Some, take};
+ghost use Rattle.std.specs.Prelude.{◌≡◌, ◌∷◌, [], ℕ, IsSome, IsTrue, List, Option, Some, take};
 ghost use Rattle.key_cells.specs.Bench.{key_of, with_key};
 ghost use Rattle.key_cells.specs.Lease.{bench_of, holding};
+ghost use Rattle.key_records.specs.declared.rows.Row.{Row};
 ghost use Rattle.key_tokens.specs.Denotes.{denoted};
-ghost use Rattle.master_registers.specs.Loaded.{Loaded};
+ghost use Rattle.master_registers.specs.Loaded.{IsLoaded, Loaded};
 ghost use Rattle.master_registers.specs.Masters.{Masters};
 ghost use Rattle.verb_rules.specs.Keys.{keys_of, token_for};
-ghost use Rattle.verb_script.specs.Grammar.{is_hex};
+ghost use Rattle.verb_script.specs.Grammar.{is_hex, csnbcki as row};
+ghost use Rattle.verb_script.specs.Named.{label_named};
 ghost use Rattle.verb_script.specs.Values.{hex_value};
 ghost use Rattle.cipher_verbs.specs.Imported.{imported_key};
+ghost use Rattle.cca_requests.specs.Decided.{Settles, asked};
 ghost use Rattle.cca_requests.specs.Deciding.{ChangesPlaces};
+ghost use Rattle.cca_requests.specs.Judging.{IsPlaceFor};
 
+use crate::effects::Effect;
+use crate::judging::Granted;
+use crate::verbs::delivering::deliver;
 use crate::verbs::key_digits::put_key;
 use cipher_verbs::clear_key_import;
 use key_cells::{KeyPlace, Lease};
 use master_registers::Registers;
+use verb_script::ReplyBuffer;
 
 /// Puts the clear key that the digits spell into the place of the key.
 fn put_clear(digits: &[u8], lease: &mut Lease)
@@ -28,7 +36,7 @@ fn put_clear(digits: &[u8], lease: &mut Lease)
 }
 
 /// The token of a clear DATA key under the current master key.
-pub(crate) fn csnbcki(clear: &[u8], lease: &mut Lease, held: &Registers) -> [u8; 64]
+fn import(clear: &[u8], lease: &mut Lease, held: &Registers) -> [u8; 64]
     requires clear { IsTrue (is_hex 16 clear.now) }
     requires master { IsSome held.now.current_pattern }
     ensures token { (m : Masters) → Loaded m held.now (bench_of lease.old)
@@ -39,4 +47,27 @@ pub(crate) fn csnbcki(clear: &[u8], lease: &mut Lease, held: &Registers) -> [u8;
 {
     put_clear(clear, lease);
     clear_key_import(lease, held)
+}
+
+/// Delivers a clear DATA key, under the current master key.
+pub(crate) fn csnbcki(
+    granted: &Granted,
+    clear: &[u8],
+    to: &[u8],
+    lease: &mut Lease,
+    held: &Registers,
+    reply: &mut ReplyBuffer,
+) -> Effect
+    requires clear { IsTrue (is_hex 16 clear.now) }
+    requires target { IsPlaceFor (label_named to.now) granted.now.first.place }
+    requires master { IsSome held.now.current_pattern }
+    requires loaded { IsLoaded held.now (bench_of lease.old) }
+    requires empty { reply.old ≡ [] }
+    ensures settles { (role : List ℕ) (rows : List (Option Row))
+        → Settles (asked row (role ∷ clear.now ∷ to.now ∷ []))
+        granted.now held.now rows (bench_of lease.old) (bench_of lease.new) result reply.new }
+    ensures places { ChangesPlaces lease.old lease.new }
+{
+    let token = import(clear, lease, held);
+    deliver("token", &token, None, to, granted.first.place, reply)
 }

@@ -1,28 +1,30 @@
 //! CSNBKEX: a key exported under a transport key.
-ghost use Rattle.std.specs.Prelude.{◌≡◌, ◌∷◌, ◌≤◌, [], codes, length};
-ghost use Rattle.key_cells.specs.Lease.{bench_of};
-ghost use Rattle.key_transport.specs.Tokens.{external_token};
-ghost use Rattle.script_buffers.specs.Replies.{Hex, written};
-ghost use Rattle.verb_rules.specs.Keys.{HasHalves, IsDouble, opened};
+ghost use Rattle.std.specs.Prelude.{◌≡◌, ◌∷◌, [], ℕ, List};
+ghost use Rattle.verb_script.specs.Grammar.{csnbkex as row};
+ghost use Rattle.cca_requests.specs.Decided.{SettlesOver, asked};
 ghost use Rattle.cca_requests.specs.Deciding.{ChangesPlaces};
+ghost use Rattle.cca_requests.specs.Judging.{HasDoubleKey, HasSomeJudged};
 
+use crate::effects::Effect;
+use crate::grants::{double_key_in, key_in};
+use crate::judging::Granted;
 use key_cells::Lease;
 use key_transport::export;
-use verb_rules::Judged;
 use verb_script::ReplyBuffer;
 
 /// Shows the external token of a key under a transport key.
-pub(crate) fn csnbkex(key: &Judged, transport: &Judged, lease: &mut Lease, reply: &mut ReplyBuffer)
-    requires halves { HasHalves key.now }
-    requires transport { IsDouble transport.now }
+pub(crate) fn csnbkex(granted: &Granted, lease: &mut Lease, reply: &mut ReplyBuffer) -> Effect
+    requires key { HasSomeJudged granted.now.first }
+    requires transport { HasDoubleKey granted.now.second }
     requires empty { reply.old ≡ [] }
-    ensures fields { let bench = bench_of lease.old in
-        reply.new ≡ written (Hex (codes "token")
-        (external_token (opened bench transport.now).key (opened bench key.now)) ∷ []) }
-    ensures size { length reply.new ≤ 69000 }
+    ensures settles { (role key transport : List ℕ)
+        → SettlesOver (asked row (role ∷ key ∷ transport ∷ []))
+        granted.now lease.old lease.new result reply.new }
     ensures places { ChangesPlaces lease.old lease.new }
 {
-    let token = export(lease, key, transport);
+    let key = key_in(&granted.first);
+    let token = export(lease, key, double_key_in(&granted.second));
     reply.ok();
     reply.hex("token", &token);
+    Effect::Shown
 }

@@ -1,41 +1,51 @@
 //! CSNBKGN: keys generated, in six forms.
-ghost use Rattle.std.specs.Prelude.{◌≡◌, ◌∷◌, [], ℕ, List, Option, None, OnErr, IfOk, IsSome, IsTrue, codes, is_some};
-ghost use Rattle.cca_vectors.specs.declared.key_type.KeyType.{KeyType};
-ghost use Rattle.key_cells.specs.Bench.{Bench};
+ghost use Rattle.std.specs.Prelude.{◌≡◌, ◌≤◌, ◌<◌, ◌∷◌, [], ℕ, List, Option, Err, OnErr, IfErr, IfOk, IfSome, IsNone, IsSome, codes, length as size_of};
+ghost use Rattle.std.specs.Option.{option_copied};
+ghost use Rattle.cca_vectors.specs.KeyTypes.{type_name};
 ghost use Rattle.key_cells.specs.Lease.{bench_of};
 ghost use Rattle.key_records.specs.declared.rows.Row.{Row};
-ghost use Rattle.key_transport.specs.Generated.{generated_key};
-ghost use Rattle.key_transport.specs.Tokens.{as_current, external_token};
-ghost use Rattle.master_registers.specs.Loaded.{Loaded, IsLoaded};
-ghost use Rattle.script_buffers.specs.Replies.{Hex};
-ghost use Rattle.slot_disk.specs.Faults.{HasCause};
-ghost use Rattle.verb_rules.specs.Keys.{IsDouble, opened};
+ghost use Rattle.key_transport.specs.Changes.{ChangesKeys};
+ghost use Rattle.key_transport.specs.Generated.{AreGiven, HaveLength};
+ghost use Rattle.line_service.specs.Devices.{TellsFault};
+ghost use Rattle.master_registers.specs.Loaded.{IsLoaded};
+ghost use Rattle.script_buffers.specs.Replies.{Hex, written};
+ghost use Rattle.verb_script.specs.Grammar.{csnbkgn_op, csnbkgn_out, csnbkgn_pair};
 ghost use Rattle.verb_script.specs.Named.{label_named};
-ghost use Rattle.cca_machine.specs.Act.{Show, delivered, delivered_with};
-ghost use Rattle.cca_machine.specs.Choices.{key_length_named, out_form_named, pair_form_named};
-ghost use Rattle.cca_machine.specs.State.{State};
-ghost use Rattle.cca_machine.specs.Verdict.{first_refusal, generate_questions, pair_questions};
-ghost use Rattle.cca_requests.specs.Deciding.{ChangesPlaces, GoesThrough, IsReady, WritesStore};
-ghost use Rattle.cca_requests.specs.Drawing.{HasRefused, IsHeldPlace, LeavesDrawn};
+ghost use Rattle.cca_machine.specs.Verdict.{Refusal as Refused, first_refusal, generate_questions, pair_questions};
+ghost use Rattle.cca_requests.specs.Decided.{SettlesDrawing, asked, source};
+ghost use Rattle.cca_requests.specs.Deciding.{ChangesPlaces, token2_fields};
+ghost use Rattle.cca_requests.specs.Drawing.{HasRefused, MakesKeys};
 ghost use Rattle.cca_requests.specs.FieldWords.{IsOutForm, IsPairForm};
-ghost use Rattle.cca_requests.specs.Judging.{IsPlaceFor, target_cell};
+ghost use Rattle.cca_requests.specs.Judging.{HasDoubleKey, IsPlaceFor};
 
 use crate::choices::{key_length_of, out_form_of, pair_form_of};
 use crate::effects::Effect;
+use crate::grants::double_key_in;
+use crate::judging::Granted;
 use crate::refusals::Refusal;
 use crate::verbs::delivering::{deliver, show_second};
 use cca_vectors::{KeyType, Length};
 use key_cells::Lease;
-use key_records::Place;
-use key_transport::{Form, GenerateFault, generate};
+use key_transport::{Form, GenerateFault, Generated, generate};
+use line_service::Stop;
 use master_registers::Registers;
-use slot_disk::{Entropy, Failed};
+use slot_disk::Entropy;
 use verb_rules::{Judged, Rule, judge_length, judge_pair};
 use verb_script::ReplyBuffer;
 
+/// What comes of the random bytes of a key.
+#[derive(Clone, Copy)]
+pub(crate) enum Drawn {
+    /// The tokens of the key.
+    Keys(Generated),
+    /// A rule refuses the request: before any is drawn, or by the bytes themselves.
+    Refused(Refusal),
+}
+
 /// Rule 32 of one key.
 fn judge_one(kind: KeyType, length: Length) -> Option<Refusal>
-    ensures { HasRefused (first_refusal (generate_questions kind length)) result }
+    ensures refused { HasRefused (first_refusal (generate_questions kind length)) result }
+    ensures short { IfSome result (λ r. size_of r.operand.now < 100) }
 {
     match judge_length(kind, length) {
         Ok(()) => None,
@@ -48,7 +58,8 @@ fn judge_one(kind: KeyType, length: Length) -> Option<Refusal>
 
 /// Rule 24 of two keys, and then rule 32 of each.
 fn judge_two(first: KeyType, second: KeyType, length: Length) -> Option<Refusal>
-    ensures { HasRefused (first_refusal (pair_questions first second length)) result }
+    ensures refused { HasRefused (first_refusal (pair_questions first second length)) result }
+    ensures short { IfSome result (λ r. size_of r.operand.now < 100) }
 {
     if let Err(rule) = judge_pair(first, second) {
         return Some(Refusal {
@@ -62,52 +73,76 @@ fn judge_two(first: KeyType, second: KeyType, length: Length) -> Option<Refusal>
     judge_one(second, length)
 }
 
-/// Generates a key for here, and delivers it. A type that hasn't the length is refused before a byte is drawn, and a key
-/// whose halves are repeated after.
+/// Draws a key and makes its tokens, where no rule refuses the request before a byte is drawn. A
+/// key whose halves are repeated is refused after.
+fn draw<E: Entropy>(
+    broken: Option<Refusal>,
+    form: Form,
+    length: Length,
+    first: KeyType,
+    second: KeyType,
+    one: Option<&Judged>,
+    two: Option<&Judged>,
+    entropy: &mut E,
+    lease: &mut Lease,
+    held: &Registers,
+) -> Result<Drawn, Stop>
+    requires short { IfSome broken (λ r. size_of r.operand.now < 100) }
+    requires lengths { IsNone broken → HaveLength form first second length }
+    requires transports { AreGiven form (option_copied one) (option_copied two) }
+    requires master { IsSome held.now.current_pattern }
+    ensures drawn { (v : Option Refused) → HasRefused v broken
+        → IfOk result (MakesKeys v held.now (bench_of lease.old) form length first second
+        (option_copied one.entry) (option_copied two.entry)
+        (E.left entropy.old) (E.left entropy.new)) }
+    ensures permitted { OnErr result (IsNone broken) }
+    ensures untouched { IsSome broken → entropy.new ≡ entropy.old }
+    ensures fault { TellsFault (E.faults entropy.old) (E.faults entropy.new)
+        (result ≡ Err Stop.EntropyFault) }
+    ensures stops { IfErr result (λ stop. stop ≡ Stop.EntropyFault) }
+    ensures stays { ChangesKeys lease.old lease.new }
+{
+    if let Some(refusal) = broken {
+        return Ok(Drawn::Refused(refusal));
+    }
+    match generate(lease, held, form, length, first, second, one, two, entropy) {
+        Ok(keys) => Ok(Drawn::Keys(keys)),
+        Err(GenerateFault::Repeated) => Ok(Drawn::Refused(Refusal {
+            rule: Rule::UniqueHalves,
+            operand: "length",
+        })),
+        Err(GenerateFault::Failed) => Err(Stop::EntropyFault),
+    }
+}
+
+/// Generates a key for here, and delivers it. A type that hasn't the length is refused before a
+/// byte is drawn, and a key whose halves are repeated after.
 pub(crate) fn generate_one<E: Entropy>(
+    granted: &Granted,
     length: &[u8],
     kind: KeyType,
     to: &[u8],
-    place: Option<Place>,
     entropy: &mut E,
     lease: &mut Lease,
     held: &Registers,
     reply: &mut ReplyBuffer,
-) -> Result<Effect, Failed>
-    requires target { IsPlaceFor (label_named to.now) place }
+) -> Result<Effect, Stop>
+    requires target { IsPlaceFor (label_named to.now) granted.now.first.place }
     requires master { IsSome held.now.current_pattern }
     requires loaded { IsLoaded held.now (bench_of lease.old) }
     requires empty { reply.old ≡ [] }
-    ensures generated { (s : State) → Loaded s.registers held.now (bench_of lease.old)
-        → place ≡ target_cell s (label_named to.now)
-        → IfOk result (LeavesDrawn s
-        (first_refusal (generate_questions kind (key_length_named length.now)))
-        (λ (drawn : List ℕ). delivered s (codes "token1") (label_named to.now)
-        (as_current (generated_key kind (key_length_named length.now) drawn)))
-        (key_length_named length.now) (E.left entropy.old) (E.left entropy.new)
-        reply.new) }
-    ensures permitted { OnErr result
-        (first_refusal (generate_questions kind (key_length_named length.now))
-        ≡ None) }
-    ensures untouched { IsSome (first_refusal
-        (generate_questions kind (key_length_named length.now)))
-        → entropy.new ≡ entropy.old }
-    ensures ready { (rows : List (Option Row)) → IsHeldPlace rows place
-        → IfOk result (λ effect. IsReady held.now (bench_of lease.new) rows effect reply.new) }
-    ensures named { IfOk result (λ effect. WritesStore effect
-        → IsTrue (is_some (label_named to.now))) }
-    ensures one_label { IfOk result (λ effect. GoesThrough effect → ⊥) }
-    ensures silent { OnErr result (reply.new ≡ []) }
-    ensures cause { HasCause (E.faults entropy.old) (E.faults entropy.new) result }
+    ensures settles { (role form : List ℕ) (rows : List (Option Row))
+        → SettlesDrawing (asked csnbkgn_op (role ∷ form ∷ length.now ∷ type_name kind ∷ to.now
+        ∷ []))
+        granted.now held.now rows (bench_of lease.old) (bench_of lease.new) result reply.new
+        (source entropy.old (E.left entropy.old) (E.faults entropy.old))
+        (source entropy.new (E.left entropy.new) (E.faults entropy.new)) }
     ensures places { ChangesPlaces lease.old lease.new }
 {
     let length = key_length_of(length);
-    if let Some(refusal) = judge_one(kind, length) {
-        return Ok(Effect::Refused(refusal.rule, refusal.operand));
-    }
-    match generate(
-        lease,
-        held,
+    let broken = judge_one(kind, length);
+    match draw(
+        broken,
         Form::Op,
         length,
         kind,
@@ -115,66 +150,55 @@ pub(crate) fn generate_one<E: Entropy>(
         None,
         None,
         entropy,
+        lease,
+        held,
     ) {
-        Ok(keys) => Ok(deliver("token1", &keys.first, None, to, place, reply)),
-        Err(GenerateFault::Repeated) => Ok(Effect::Refused(Rule::UniqueHalves, "length")),
-        Err(GenerateFault::Failed) => Err(Failed),
+        Ok(Drawn::Keys(keys)) => Ok(deliver(
+            "token1",
+            &keys.first,
+            None,
+            to,
+            granted.first.place,
+            reply,
+        )),
+        Ok(Drawn::Refused(refusal)) => Ok(Effect::Refused(refusal.rule, refusal.operand)),
+        Err(stop) => Err(stop),
     }
 }
 
-/// Generates a key for here and the same key for elsewhere, and delivers the first. Types that aren't a pair are refused,
-/// and a type that hasn't the length, before a byte is drawn.
+/// Generates a key for here and the same key for elsewhere, and delivers the first. Types that
+/// aren't a pair are refused, and a type that hasn't the length, before a byte is drawn.
 pub(crate) fn generate_pair<E: Entropy>(
+    granted: &Granted,
     form: &[u8],
     length: &[u8],
     first: KeyType,
     second: KeyType,
-    transport: &Judged,
     to: &[u8],
-    place: Option<Place>,
     entropy: &mut E,
     lease: &mut Lease,
     held: &Registers,
     reply: &mut ReplyBuffer,
-) -> Result<Effect, Failed>
+) -> Result<Effect, Stop>
     requires form { IsPairForm form.now }
-    requires transport { IsDouble transport.now }
-    requires target { IsPlaceFor (label_named to.now) place }
+    requires transport { HasDoubleKey granted.now.first }
+    requires target { IsPlaceFor (label_named to.now) granted.now.second.place }
     requires master { IsSome held.now.current_pattern }
     requires loaded { IsLoaded held.now (bench_of lease.old) }
     requires empty { reply.old ≡ [] }
-    ensures generated { (s : State) → Loaded s.registers held.now (bench_of lease.old)
-        → place ≡ target_cell s (label_named to.now)
-        → IfOk result (LeavesDrawn s
-        (first_refusal (pair_questions first second (key_length_named length.now)))
-        (λ (drawn : List ℕ). delivered_with s (codes "token1") (label_named to.now)
-        (as_current (generated_key first (key_length_named length.now) drawn))
-        (Hex (codes "token2") (external_token (opened (bench_of lease.old) transport.now).key
-        (generated_key second (key_length_named length.now) drawn)) ∷ []))
-        (key_length_named length.now) (E.left entropy.old) (E.left entropy.new)
-        reply.new) }
-    ensures permitted { OnErr result
-        (first_refusal (pair_questions first second (key_length_named length.now))
-        ≡ None) }
-    ensures untouched { IsSome (first_refusal
-        (pair_questions first second (key_length_named length.now)))
-        → entropy.new ≡ entropy.old }
-    ensures ready { (rows : List (Option Row)) → IsHeldPlace rows place
-        → IfOk result (λ effect. IsReady held.now (bench_of lease.new) rows effect reply.new) }
-    ensures named { IfOk result (λ effect. WritesStore effect
-        → IsTrue (is_some (label_named to.now))) }
-    ensures one_label { IfOk result (λ effect. GoesThrough effect → ⊥) }
-    ensures silent { OnErr result (reply.new ≡ []) }
-    ensures cause { HasCause (E.faults entropy.old) (E.faults entropy.new) result }
+    ensures settles { (role transport : List ℕ) (rows : List (Option Row))
+        → SettlesDrawing (asked csnbkgn_pair (role ∷ form.now ∷ length.now ∷ type_name first
+        ∷ type_name second ∷ transport ∷ to.now ∷ []))
+        granted.now held.now rows (bench_of lease.old) (bench_of lease.new) result reply.new
+        (source entropy.old (E.left entropy.old) (E.faults entropy.old))
+        (source entropy.new (E.left entropy.new) (E.faults entropy.new)) }
     ensures places { ChangesPlaces lease.old lease.new }
 {
     let length = key_length_of(length);
-    if let Some(refusal) = judge_two(first, second, length) {
-        return Ok(Effect::Refused(refusal.rule, refusal.operand));
-    }
-    match generate(
-        lease,
-        held,
+    let broken = judge_two(first, second, length);
+    let transport = double_key_in(&granted.first);
+    match draw(
+        broken,
         pair_form_of(form),
         length,
         first,
@@ -182,65 +206,67 @@ pub(crate) fn generate_pair<E: Entropy>(
         None,
         Some(transport),
         entropy,
+        lease,
+        held,
     ) {
-        Ok(keys) => Ok(deliver("token1", &keys.first, keys.second, to, place, reply)),
-        Err(GenerateFault::Repeated) => Ok(Effect::Refused(Rule::UniqueHalves, "length")),
-        Err(GenerateFault::Failed) => Err(Failed),
+        Ok(Drawn::Keys(keys)) => Ok(deliver(
+            "token1",
+            &keys.first,
+            keys.second,
+            to,
+            granted.second.place,
+            reply,
+        )),
+        Ok(Drawn::Refused(refusal)) => Ok(Effect::Refused(refusal.rule, refusal.operand)),
+        Err(stop) => Err(stop),
     }
 }
 
-/// Generates a key for elsewhere twice, and shows both tokens. Types that aren't a pair are refused, and a type that
-/// hasn't the length, before a byte is drawn.
+/// Shows the tokens of two keys.
+fn show_keys(keys: &Generated, reply: &mut ReplyBuffer)
+    requires empty { reply.old ≡ [] }
+    ensures fields { reply.new
+        ≡ written (Hex (codes "token1") keys.now.first ∷ token2_fields keys.now.second) }
+    ensures size { size_of reply.new ≤ 69000 }
+{
+    reply.ok();
+    reply.hex("token1", &keys.first);
+    show_second(keys.second, reply);
+}
+
+/// Generates a key for elsewhere twice, and shows both tokens. Types that aren't a pair are
+/// refused, and a type that hasn't the length, before a byte is drawn.
 pub(crate) fn generate_out<E: Entropy>(
+    granted: &Granted,
     form: &[u8],
     length: &[u8],
     first: KeyType,
     second: KeyType,
-    one: &Judged,
-    two: &Judged,
     entropy: &mut E,
     lease: &mut Lease,
     held: &Registers,
     reply: &mut ReplyBuffer,
-) -> Result<Effect, Failed>
+) -> Result<Effect, Stop>
     requires form { IsOutForm form.now }
-    requires one { IsDouble one.now }
-    requires two { IsDouble two.now }
+    requires one { HasDoubleKey granted.now.first }
+    requires two { HasDoubleKey granted.now.second }
     requires master { IsSome held.now.current_pattern }
     requires loaded { IsLoaded held.now (bench_of lease.old) }
     requires empty { reply.old ≡ [] }
-    ensures generated { (s : State) → IfOk result (LeavesDrawn s
-        (first_refusal (pair_questions first second (key_length_named length.now)))
-        (λ (drawn : List ℕ). Show (
-        Hex (codes "token1")
-        (external_token (opened (bench_of lease.old) one.now).key
-        (generated_key first (key_length_named length.now) drawn))
-        ∷ Hex (codes "token2")
-        (external_token (opened (bench_of lease.old) two.now).key
-        (generated_key second (key_length_named length.now) drawn))
-        ∷ []))
-        (key_length_named length.now) (E.left entropy.old) (E.left entropy.new)
-        reply.new) }
-    ensures permitted { OnErr result
-        (first_refusal (pair_questions first second (key_length_named length.now))
-        ≡ None) }
-    ensures untouched { IsSome (first_refusal
-        (pair_questions first second (key_length_named length.now)))
-        → entropy.new ≡ entropy.old }
-    ensures ready { (bench : Bench) (rows : List (Option Row))
-        → IfOk result (λ effect. IsReady held.now bench rows effect reply.new) }
-    ensures spares { IfOk result (λ effect. WritesStore effect → ⊥) }
-    ensures silent { OnErr result (reply.new ≡ []) }
-    ensures cause { HasCause (E.faults entropy.old) (E.faults entropy.new) result }
+    ensures settles { (role one two : List ℕ) (rows : List (Option Row))
+        → SettlesDrawing (asked csnbkgn_out (role ∷ form.now ∷ length.now ∷ type_name first
+        ∷ type_name second ∷ one ∷ two ∷ []))
+        granted.now held.now rows (bench_of lease.old) (bench_of lease.new) result reply.new
+        (source entropy.old (E.left entropy.old) (E.faults entropy.old))
+        (source entropy.new (E.left entropy.new) (E.faults entropy.new)) }
     ensures places { ChangesPlaces lease.old lease.new }
 {
     let length = key_length_of(length);
-    if let Some(refusal) = judge_two(first, second, length) {
-        return Ok(Effect::Refused(refusal.rule, refusal.operand));
-    }
-    match generate(
-        lease,
-        held,
+    let broken = judge_two(first, second, length);
+    let one = double_key_in(&granted.first);
+    let two = double_key_in(&granted.second);
+    match draw(
+        broken,
         out_form_of(form),
         length,
         first,
@@ -248,14 +274,14 @@ pub(crate) fn generate_out<E: Entropy>(
         Some(one),
         Some(two),
         entropy,
+        lease,
+        held,
     ) {
-        Ok(keys) => {
-            reply.ok();
-            reply.hex("token1", &keys.first);
-            show_second(keys.second, reply);
+        Ok(Drawn::Keys(keys)) => {
+            show_keys(&keys, reply);
             Ok(Effect::Shown)
         }
-        Err(GenerateFault::Repeated) => Ok(Effect::Refused(Rule::UniqueHalves, "length")),
-        Err(GenerateFault::Failed) => Err(Failed),
+        Ok(Drawn::Refused(refusal)) => Ok(Effect::Refused(refusal.rule, refusal.operand)),
+        Err(stop) => Err(stop),
     }
 }

@@ -1,34 +1,43 @@
 //! CSNBKIM: a key imported from under a transport key.
-ghost use Rattle.std.specs.Prelude.{◌≡◌, IsSome, Some};
+ghost use Rattle.std.specs.Prelude.{◌≡◌, ◌∷◌, [], ℕ, IsSome, List, Option};
 ghost use Rattle.key_cells.specs.Lease.{bench_of};
-ghost use Rattle.key_tokens.specs.Denotes.{denoted};
-ghost use Rattle.key_transport.specs.Tokens.{as_current, current_token, transported_key};
-ghost use Rattle.master_registers.specs.Loaded.{Loaded};
-ghost use Rattle.master_registers.specs.Masters.{Masters};
-ghost use Rattle.verb_rules.specs.Keys.{HasHalves, IsDouble, keys_of};
+ghost use Rattle.key_records.specs.declared.rows.Row.{Row};
+ghost use Rattle.master_registers.specs.Loaded.{IsLoaded};
+ghost use Rattle.verb_script.specs.Grammar.{csnbkim as row};
+ghost use Rattle.verb_script.specs.Named.{label_named};
+ghost use Rattle.cca_requests.specs.Decided.{Settles, asked};
 ghost use Rattle.cca_requests.specs.Deciding.{ChangesPlaces};
+ghost use Rattle.cca_requests.specs.Judging.{HasDoubleKey, HasJudgedExternal, IsPlaceFor};
 
+use crate::effects::Effect;
+use crate::grants::{double_key_in, external_in};
+use crate::judging::Granted;
+use crate::verbs::delivering::deliver;
 use key_cells::Lease;
 use key_transport::import;
 use master_registers::Registers;
-use verb_rules::Judged;
+use verb_script::ReplyBuffer;
 
-/// The token, under the current master key, of the key of an external token.
+/// Delivers the key of an external token, under the current master key.
 pub(crate) fn csnbkim(
-    source: &Judged,
-    transport: &Judged,
+    granted: &Granted,
+    to: &[u8],
     lease: &mut Lease,
     held: &Registers,
-) -> [u8; 64]
-    requires halves { HasHalves source.now }
-    requires transport { IsDouble transport.now }
+    reply: &mut ReplyBuffer,
+) -> Effect
+    requires source { HasJudgedExternal granted.now.first }
+    requires transport { HasDoubleKey granted.now.second }
+    requires target { IsPlaceFor (label_named to.now) granted.now.third.place }
     requires master { IsSome held.now.current_pattern }
-    ensures token { let bench = bench_of lease.old in (m : Masters) → Loaded m held.now bench
-        → result ≡ current_token m (transported_key bench source.now transport.now) }
-    ensures denoted { let bench = bench_of lease.old in (m : Masters) → Loaded m held.now bench
-        → denoted (keys_of m) result ≡ Some
-        (as_current (transported_key bench source.now transport.now)) }
+    requires loaded { IsLoaded held.now (bench_of lease.old) }
+    requires empty { reply.old ≡ [] }
+    ensures settles { (role token transport : List ℕ) (rows : List (Option Row))
+        → Settles (asked row (role ∷ token ∷ transport ∷ to.now ∷ []))
+        granted.now held.now rows (bench_of lease.old) (bench_of lease.new) result reply.new }
     ensures places { ChangesPlaces lease.old lease.new }
 {
-    import(lease, held, source, transport)
+    let source = external_in(&granted.first);
+    let token = import(lease, held, source, double_key_in(&granted.second));
+    deliver("token", &token, None, to, granted.third.place, reply)
 }

@@ -1,9 +1,14 @@
 //! CSNBKRL: the labels that begin with a prefix.
-ghost use Rattle.std.specs.Prelude.{◌≡◌, ◌+◌, ◌*◌, ◌≤◌, ◌++◌, [], length, if◌then◌else◌, codes};
+ghost use Rattle.std.specs.Prelude.{◌≡◌, ◌+◌, ◌*◌, ◌≤◌, ◌++◌, ◌∷◌, [], ℕ, List, length, if◌then◌else◌, codes};
+ghost use Rattle.key_cells.specs.Bench.{Bench};
 ghost use Rattle.key_records.specs.Entries.{row_directory};
-ghost use Rattle.script_buffers.specs.Replies.{written};
-ghost use Rattle.cca_machine.specs.Listing.{ascending, beginning, label_fields, with_commas};
+ghost use Rattle.master_registers.specs.declared.registers.Registers.{Registers};
+ghost use Rattle.verb_script.specs.Grammar.{csnbkrl as row};
+ghost use Rattle.cca_machine.specs.Listing.{ascending, beginning, with_commas};
+ghost use Rattle.cca_requests.specs.Decided.{Settles, asked};
+ghost use Rattle.cca_requests.specs.declared.judging.Granted.{Granted};
 
+use crate::effects::Effect;
 use key_records::Records;
 use verb_script::ReplyBuffer;
 
@@ -50,15 +55,17 @@ fn put_beginning(prefix: &[u8], records: &Records, reply: &mut ReplyBuffer)
     }
 }
 
-/// Shows how many labels begin with the prefix, and which, in ascending order. It goes over the labels twice, and
-/// compares no two of them.
-pub(crate) fn csnbkrl(prefix: &[u8], records: &Records, reply: &mut ReplyBuffer)
+/// Shows how many labels begin with the prefix, and which, in ascending order. It goes over the
+/// labels twice, and compares no two of them.
+pub(crate) fn csnbkrl(prefix: &[u8], records: &Records, reply: &mut ReplyBuffer) -> Effect
     requires empty { reply.old ≡ [] }
-    ensures fields { reply.new ≡ written (label_fields prefix.now (row_directory records.now)) }
-    ensures size { length reply.new ≤ 69000 }
+    ensures settles { (role : List ℕ) (granted : Granted) (held : Registers) (bench : Bench)
+        → Settles (asked row (role ∷ prefix.now ∷ []))
+        granted held records.now bench bench result reply.new }
 {
     reply.ok();
     reply.number("count", count_beginning(prefix, records));
     reply.text("labels", b"");
     put_beginning(prefix, records, reply);
+    Effect::Shown
 }

@@ -1,22 +1,31 @@
 //! CSNBKRW: the key of a token put into a record.
-ghost use Rattle.std.specs.Prelude.{◌≡◌, [], IsTrue};
-ghost use Rattle.script_buffers.specs.Replies.{written};
-ghost use Rattle.verb_script.specs.Grammar.{is_hex};
+ghost use Rattle.std.specs.Prelude.{◌≡◌, ◌∷◌, [], ℕ, IsSome, IsTrue, List, Option};
+ghost use Rattle.key_cells.specs.Bench.{Bench};
+ghost use Rattle.key_records.specs.declared.rows.Row.{Row};
+ghost use Rattle.key_tokens.specs.Denotes.{denoted};
+ghost use Rattle.master_registers.specs.Loaded.{masters_in};
+ghost use Rattle.master_registers.specs.declared.registers.Registers.{Registers};
+ghost use Rattle.verb_rules.specs.Keys.{keys_of};
+ghost use Rattle.verb_script.specs.Grammar.{is_hex, csnbkrw as row};
 ghost use Rattle.verb_script.specs.Values.{hex_value};
-ghost use Rattle.cca_requests.specs.declared.effects.Effect.TheVariants as code;
+ghost use Rattle.cca_requests.specs.Decided.{Settles, asked};
 
 use crate::effects::Effect;
-use crate::judging::token_bytes;
-use key_records::Place;
+use crate::grants::place_in;
+use crate::judging::{Granted, token_bytes};
 use verb_script::ReplyBuffer;
 
-/// Leaves the token that the digits spell to be written.
-pub(crate) fn csnbkrw(token: &[u8], place: Place, reply: &mut ReplyBuffer) -> Effect
+/// Leaves the token that the digits spell to be written into the record.
+pub(crate) fn csnbkrw(granted: &Granted, token: &[u8], reply: &mut ReplyBuffer) -> Effect
+    requires place { IsSome granted.now.first.place }
     requires token { IsTrue (is_hex 128 token.now) }
     requires empty { reply.old ≡ [] }
-    ensures effect { result ≡ code.Write place (hex_value token.now) }
-    ensures reply { reply.new ≡ written [] }
+    ensures settles { (role label : List ℕ) (held : Registers) (rows : List (Option Row))
+        (bench : Bench)
+        → IsSome (denoted (keys_of (masters_in held bench)) (hex_value token.now))
+        → Settles (asked row (role ∷ label ∷ token.now ∷ []))
+        granted.now held rows bench bench result reply.new }
 {
     reply.ok();
-    Effect::Write(place, token_bytes(token))
+    Effect::Write(place_in(&granted.first), token_bytes(token))
 }

@@ -1,15 +1,35 @@
 //! CSNBKTP: the parts of a key token.
-ghost use Rattle.std.specs.Prelude.{◌≡◌, ◌+◌, ◌<◌, ◌≤◌, ◌++◌, [], length, codes};
+ghost use Rattle.std.specs.Prelude.{◌≡◌, ◌+◌, ◌<◌, ◌≤◌, ◌++◌, ◌∷◌, [], ℕ, IsSome, List, Option, length, codes};
 ghost use Rattle.cca_machine.specs.Act.{token_fields, kind_name, class_name, shown_vector};
 ghost use Rattle.cca_vectors.specs.Vectors.{length_of};
+ghost use Rattle.key_cells.specs.Bench.{Bench};
+ghost use Rattle.key_records.specs.declared.rows.Row.{Row};
+ghost use Rattle.master_registers.specs.declared.registers.Registers.{Registers};
 ghost use Rattle.script_buffers.specs.Replies.{written, hex_field, text_field, number_field};
+ghost use Rattle.verb_script.specs.Grammar.{csnbktp as row};
+ghost use Rattle.cca_requests.specs.Decided.{Settles, asked};
 
+use crate::effects::Effect;
+use crate::grants::token_in;
+use crate::judging::Granted;
 use cca_vectors::{Class, Vector};
 use key_tokens::{Kind, Token};
 use verb_script::ReplyBuffer;
 
-/// Writes the kind, class, length, control vector and master key pattern of a key token.
-pub(crate) fn csnbktp(token: &Token, reply: &mut ReplyBuffer)
+/// Shows the kind, class, length, control vector and master key pattern of a key token.
+pub(crate) fn csnbktp(granted: &Granted, reply: &mut ReplyBuffer) -> Effect
+    requires token { IsSome granted.now.first.token }
+    requires empty { reply.old ≡ [] }
+    ensures settles { (role token : List ℕ) (held : Registers) (rows : List (Option Row))
+        (bench : Bench)
+        → Settles (asked row (role ∷ token ∷ []))
+        granted.now held rows bench bench result reply.new }
+{
+    show_parts(token_in(&granted.first), reply);
+    Effect::Shown
+}
+
+fn show_parts(token: &Token, reply: &mut ReplyBuffer)
     requires { reply.old ≡ [] }
     ensures fields { reply.new ≡ written (token_fields token.now) }
     ensures size { length reply.new ≤ 1000 }

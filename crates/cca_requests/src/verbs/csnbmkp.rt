@@ -1,21 +1,25 @@
 //! CSNBMKP: the actions of a key ceremony on the master key registers.
-ghost use Rattle.std.specs.Prelude.{◌≡◌, [], IsTrue};
+ghost use Rattle.std.specs.Prelude.{◌≡◌, ◌∷◌, [], ℕ, IsTrue, List, Option};
 ghost use Rattle.std.specs.Option.{option_map};
 ghost use Rattle.cca_vectors.specs.Checks.{first_failing};
 ghost use Rattle.key_cells.specs.Bench.{Bench, with_master};
 ghost use Rattle.key_cells.specs.Lease.{bench_of, holding};
-ghost use Rattle.verb_script.specs.Grammar.{is_hex};
+ghost use Rattle.key_records.specs.declared.rows.Row.{Row};
+ghost use Rattle.verb_script.specs.Grammar.{csnbmkp_clear, csnbmkp_part, csnbmkp_set, is_hex};
 ghost use Rattle.verb_script.specs.Values.{hex_value};
 ghost use Rattle.master_registers.specs.Loaded.{Loaded};
 ghost use Rattle.master_registers.specs.declared.registers.Registers.{Registers as HeldRegisters};
 ghost use Rattle.master_registers.specs.Masters.{Masters};
 ghost use Rattle.verb_rules.specs.Rules.{rule_number};
-ghost use Rattle.key_records.specs.Ages.{any_old};
 ghost use Rattle.cca_machine.specs.Actions.{action_checks};
-ghost use Rattle.cca_machine.specs.State.{State};
-ghost use Rattle.cca_requests.specs.Deciding.{IsReady, IsRecorded, IsSetDecided, IsClearDecided, WritesStore};
+ghost use Rattle.cca_requests.specs.Decided.{Settles, asked};
+ghost use Rattle.cca_requests.specs.Deciding.{ChangesPlaces};
+ghost use Rattle.cca_requests.specs.FieldWords.{IsPartAction};
+ghost use Rattle.cca_requests.specs.declared.judging.Granted.{Granted};
 
+use crate::choices::part_action_of;
 use crate::effects::Effect;
+use crate::verbs::old_labels::any_old;
 use key_cells::{Lease, MasterPlace};
 use key_records::Records;
 use master_registers::{Action, NewState, Registers, pattern_of};
@@ -23,7 +27,7 @@ use verb_rules::Rule;
 use verb_script::decode;
 
 /// Puts the key part that the digits spell into the workbench.
-pub(crate) fn put_part(digits: &[u8], lease: &mut Lease)
+fn put_part(digits: &[u8], lease: &mut Lease)
     requires { IsTrue (is_hex 48 digits.now) }
     ensures { lease.new ≡ holding lease.old
         (with_master (bench_of lease.old) MasterPlace.Part (hex_value digits.now)) }
@@ -31,14 +35,33 @@ pub(crate) fn put_part(digits: &[u8], lease: &mut Lease)
     decode(digits, lease.master_mut(MasterPlace::Part));
 }
 
-/// Whether a label is under the old master key. It goes over the labels once.
-pub(crate) fn any_old(held: &Registers, records: &Records) -> bool
-    ensures old { (s : State) (bench : Bench) → Loaded s.registers held.now bench
-        → IsRecorded s records.now → result ≡ any_old s.labels }
+/// FIRST, MIDDLE and LAST: puts the key part into the workbench, and leaves the action to be
+/// carried out.
+pub(crate) fn combine(action: &[u8], part: &[u8], lease: &mut Lease) -> Effect
+    requires action { IsPartAction action.now }
+    requires part { IsTrue (is_hex 48 part.now) }
+    ensures settles { (role : List ℕ) (granted : Granted) (held : HeldRegisters)
+        (rows : List (Option Row))
+        → Settles (asked csnbmkp_part (role ∷ action.now ∷ part.now ∷ []))
+        granted held rows (bench_of lease.old) (bench_of lease.new) result [] }
+    ensures places { ChangesPlaces lease.old lease.new }
 {
-    match held.old_pattern {
-        Some(pattern) => records.any_under(&pattern),
-        None => false,
+    put_part(part, lease);
+    Effect::Change(part_action_of(action))
+}
+
+/// CLEAR: leaves it to be carried out, or refuses it where a label is ahead. It goes over the
+/// labels once.
+pub(crate) fn clear(records: &Records) -> Effect
+    ensures settles { (role action : List ℕ) (granted : Granted) (held : HeldRegisters)
+        (bench : Bench)
+        → Settles (asked csnbmkp_clear (role ∷ action ∷ []))
+        granted held records.now bench bench result [] }
+{
+    if records.any_ahead() {
+        Effect::Refused(Rule::Ahead, "-")
+    } else {
+        Effect::Change(Action::Clear)
     }
 }
 
@@ -56,31 +79,16 @@ fn set_rule(lease: &Lease, held: &Registers) -> Option<Rule>
     None
 }
 
-/// Leaves SET to be carried out, or refuses it: by rules 25 and 26, and where a label is under the old master key. It goes
-/// over the labels once.
+/// SET: leaves it to be carried out, or refuses it: by rules 25 and 26, and where a label is under
+/// the old master key. It goes over the labels once.
 pub(crate) fn set(lease: &Lease, held: &Registers, records: &Records) -> Effect
-    ensures decided { (s : State) → Loaded s.registers held.now (bench_of lease.now)
-        → IsRecorded s records.now → IsSetDecided s result }
-    ensures ready { (bench : Bench) → IsReady held.now bench records.now result [] }
-    ensures spares { WritesStore result → ⊥ }
+    ensures settles { (role action : List ℕ) (granted : Granted)
+        → Settles (asked csnbmkp_set (role ∷ action ∷ []))
+        granted held.now records.now (bench_of lease.now) (bench_of lease.now) result [] }
 {
     match set_rule(lease, held) {
         Some(rule) => Effect::Refused(rule, "-"),
         None if any_old(held, records) => Effect::Refused(Rule::OldLabels, "-"),
         None => Effect::Change(Action::Set),
-    }
-}
-
-/// Leaves CLEAR to be carried out, or refuses it where a label is ahead. It goes over the labels once.
-pub(crate) fn clear(records: &Records) -> Effect
-    ensures decided { (s : State) → IsRecorded s records.now → IsClearDecided s result }
-    ensures ready { (held : HeldRegisters) (bench : Bench)
-        → IsReady held bench records.now result [] }
-    ensures spares { WritesStore result → ⊥ }
-{
-    if records.any_ahead() {
-        Effect::Refused(Rule::Ahead, "-")
-    } else {
-        Effect::Change(Action::Clear)
     }
 }

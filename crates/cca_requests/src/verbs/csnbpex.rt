@@ -1,27 +1,41 @@
 //! CSNBPEX: a key that may be exported no longer.
-ghost use Rattle.std.specs.Prelude.{◌≡◌, IsSome, Some};
+ghost use Rattle.std.specs.Prelude.{◌≡◌, ◌∷◌, [], ℕ, IsSome, List, Option};
 ghost use Rattle.key_cells.specs.Lease.{bench_of};
-ghost use Rattle.key_tokens.specs.Denotes.{denoted};
-ghost use Rattle.key_transport.specs.Tokens.{as_current, closed_key, current_token};
-ghost use Rattle.master_registers.specs.Loaded.{Loaded};
-ghost use Rattle.master_registers.specs.Masters.{Masters};
-ghost use Rattle.verb_rules.specs.Keys.{HasHalves, keys_of, opened};
+ghost use Rattle.key_records.specs.declared.rows.Row.{Row};
+ghost use Rattle.master_registers.specs.Loaded.{IsLoaded};
+ghost use Rattle.verb_script.specs.Grammar.{csnbpex as row};
+ghost use Rattle.verb_script.specs.Named.{label_named};
+ghost use Rattle.cca_requests.specs.Decided.{Settles, asked};
 ghost use Rattle.cca_requests.specs.Deciding.{ChangesPlaces};
+ghost use Rattle.cca_requests.specs.Judging.{HasSomeJudged, IsPlaceFor};
 
+use crate::effects::Effect;
+use crate::grants::key_in;
+use crate::judging::Granted;
+use crate::verbs::delivering::deliver;
 use key_cells::Lease;
 use key_transport::prohibit_export;
 use master_registers::Registers;
-use verb_rules::Judged;
+use verb_script::ReplyBuffer;
 
-/// The token, under the current master key, of the key with a control vector that forbids export.
-pub(crate) fn csnbpex(key: &Judged, lease: &mut Lease, held: &Registers) -> [u8; 64]
-    requires halves { HasHalves key.now }
+/// Delivers the key with a control vector that forbids export, under the current master key.
+pub(crate) fn csnbpex(
+    granted: &Granted,
+    to: &[u8],
+    lease: &mut Lease,
+    held: &Registers,
+    reply: &mut ReplyBuffer,
+) -> Effect
+    requires key { HasSomeJudged granted.now.first }
+    requires target { IsPlaceFor (label_named to.now) granted.now.second.place }
     requires master { IsSome held.now.current_pattern }
-    ensures token { let bench = bench_of lease.old in (m : Masters) → Loaded m held.now bench
-        → result ≡ current_token m (closed_key (opened bench key.now)) }
-    ensures denoted { let bench = bench_of lease.old in (m : Masters) → Loaded m held.now bench
-        → denoted (keys_of m) result ≡ Some (as_current (closed_key (opened bench key.now))) }
+    requires loaded { IsLoaded held.now (bench_of lease.old) }
+    requires empty { reply.old ≡ [] }
+    ensures settles { (role key : List ℕ) (rows : List (Option Row))
+        → Settles (asked row (role ∷ key ∷ to.now ∷ []))
+        granted.now held.now rows (bench_of lease.old) (bench_of lease.new) result reply.new }
     ensures places { ChangesPlaces lease.old lease.new }
 {
-    prohibit_export(lease, held, key)
+    let token = prohibit_export(lease, held, key_in(&granted.first));
+    deliver("token", &token, None, to, granted.second.place, reply)
 }

@@ -1,15 +1,17 @@
 //! CSNBRNG: random bytes.
-ghost use Rattle.std.specs.Prelude.{◌≡◌, ◌≤◌, ◌∷◌, [], ℕ, List, Option, OnOk, OnErr, codes, length};
-ghost use Rattle.std.specs.Io.KnownBytes.{Consumes};
-ghost use Rattle.slot_disk.specs.Faults.{HasCause};
-ghost use Rattle.script_buffers.specs.Replies.{Hex, written};
-ghost use Rattle.cca_machine.specs.Choices.{form_named};
-ghost use Rattle.cipher_verbs.specs.RandomBytes.{in_form};
-ghost use Rattle.cca_requests.specs.Drawing.{ShowsDrawn};
+ghost use Rattle.std.specs.Prelude.{◌≡◌, ◌∷◌, [], ℕ, List, Option};
+ghost use Rattle.key_cells.specs.Bench.{Bench};
+ghost use Rattle.key_records.specs.declared.rows.Row.{Row};
+ghost use Rattle.master_registers.specs.declared.registers.Registers.{Registers};
+ghost use Rattle.verb_script.specs.Grammar.{csnbrng as row};
+ghost use Rattle.cca_requests.specs.Decided.{SettlesDrawing, asked, source};
+ghost use Rattle.cca_requests.specs.declared.judging.Granted.{Granted};
 
 use crate::choices::random_form_of;
+use crate::effects::Effect;
 use cipher_verbs::random_number;
-use slot_disk::{Entropy, Failed};
+use line_service::Stop;
+use slot_disk::Entropy;
 use verb_script::ReplyBuffer;
 
 /// Shows eight random bytes.
@@ -17,16 +19,21 @@ pub(crate) fn csnbrng<E: Entropy>(
     form: &[u8],
     entropy: &mut E,
     reply: &mut ReplyBuffer,
-) -> Result<(), Failed>
-    requires { reply.old ≡ [] }
-    ensures drawn { OnOk result (ShowsDrawn (form_named form.now)
-        (E.left entropy.old) (E.left entropy.new) reply.new) }
-    ensures size { length reply.new ≤ 69000 }
-    ensures silent { OnErr result (reply.new ≡ []) }
-    ensures cause { HasCause (E.faults entropy.old) (E.faults entropy.new) result }
+) -> Result<Effect, Stop>
+    requires empty { reply.old ≡ [] }
+    ensures settles { (role : List ℕ) (granted : Granted) (held : Registers)
+        (rows : List (Option Row)) (bench : Bench)
+        → SettlesDrawing (asked row (role ∷ form.now ∷ []))
+        granted held rows bench bench result reply.new
+        (source entropy.old (E.left entropy.old) (E.faults entropy.old))
+        (source entropy.new (E.left entropy.new) (E.faults entropy.new)) }
 {
-    let bytes = random_number(random_form_of(form), entropy)?;
-    reply.ok();
-    reply.hex("random", &bytes);
-    Ok(())
+    match random_number(random_form_of(form), entropy) {
+        Ok(bytes) => {
+            reply.ok();
+            reply.hex("random", &bytes);
+            Ok(Effect::Shown)
+        }
+        Err(_) => Err(Stop::EntropyFault),
+    }
 }

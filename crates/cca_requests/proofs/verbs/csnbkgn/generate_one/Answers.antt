@@ -1,65 +1,85 @@
-use Rattle.std.proofs.Common.{◌≡◌, List, ℕ, true, None, Some, Err, codes, refl, sym, ap, subst}
-use Rattle.std.specs.Prelude.{IsSome}
+use Rattle.std.proofs.Common.{◌≡◌, [], ◌∷◌, None, codes, false, refl, sym, ap, subst}
+use Rattle.std.specs.Prelude.{IsTrue, is_some}
+use Rattle.cca_vectors.specs.KeyTypes.{type_name}
 use Rattle.cca_vectors.specs.declared.key_length.Length.{Length}
+use Rattle.cca_vectors.specs.declared.key_type.KeyType.{KeyType}
 use Rattle.key_cells.specs.Lease.{bench_of}
-use Rattle.key_tokens.specs.Denotes.{denoted}
-use Rattle.key_transport.specs.Generated.{Draws, generated_key}
-use Rattle.key_transport.specs.Tokens.{as_current, current_token}
+use Rattle.key_cells.specs.declared.leases.Lease.{Lease}
+use Rattle.key_transport.specs.Generated.{generated_key}
+use Rattle.key_transport.specs.Tokens.{as_current}
+use Rattle.key_transport.specs.declared.generating.Form.TheVariants.{Op}
 use Rattle.key_transport.specs.declared.generating.Generated.{Generated}
 use Rattle.master_registers.specs.Loaded.{masters_in}
-use Rattle.verb_rules.specs.Keys.{keys_of}
-use Rattle.verb_rules.specs.Rules.{rule_number}
+use Rattle.verb_script.specs.Grammar.{csnbkgn_op}
 use Rattle.verb_script.specs.Named.{label_named}
 use Rattle.cca_machine.specs.Act.{delivered}
 use Rattle.cca_machine.specs.Choices.{key_length_named}
-use Rattle.cca_machine.specs.Verdict.{first_refusal, generate_questions, refusal}
-use Rattle.cca_requests.specs.Drawing.{HasRefused, LeavesDrawn}
-use Rattle.cca_requests.proofs.Delivering.{delivery_ready, some_of}
-use Rattle.cca_requests.proofs.Generating.{drawn_delivery, drawn_refusal, drawn_repeated}
+use Rattle.cca_machine.specs.Draws.{KeyBytes}
+use Rattle.cca_machine.specs.Operands.{needs_store}
+use Rattle.cca_machine.specs.Verdict.{first_refusal, generate_questions}
+use Rattle.cca_requests.specs.Decided.{asked, source}
+use Rattle.cca_requests.specs.Deciding.{IsDelivered}
+use Rattle.cca_requests.specs.Drawing.{MakesKeys}
+use Rattle.cca_requests.specs.declared.verbs.csnbkgn.Drawn.{Drawn}
+use Rattle.cca_requests.specs.declared.verbs.csnbkgn.Drawn.TheVariants.{Keys}
+use Rattle.cca_requests.proofs.Delivering.{either_left, stands_after, target_place}
+use Rattle.cca_requests.proofs.DrawnKeys.{drawn_delivered, drawn_refused, drawn_stopped, none_broken, some_broken}
+use Rattle.cca_requests.proofs.Generating.{one_verdict, type_is}
 use Rattle.cca_requests.proofs.verbs.csnbkgn.generate_one.Goals as goal
 
-pub returns-in-Some-clause-generated : goal.returns-in-Some-clause-generated
-returns-in-Some-clause-generated g c = λ s loaded placed.
-    let refused = c.in-Some.refusal in
-    let named = key_length_named c.args.length.now in
-    let rules = λ (n : Length). first_refusal (generate_questions c.args.kind n) in
-    drawn_refusal s (rules named) _ named (g.E.Entropy.left c.args.entropy.now) c.args.reply.now refused.rule refused.operand
-    (subst (λ (n : Length). rules n ≡ Some (refusal (rule_number refused.rule) refused.operand.now)) c.key_length_of-length.ensures c.in-Some.ensures)
-
-pub returns-in-Ok-clause-generated : goal.returns-in-Ok-clause-generated
-returns-in-Ok-clause-generated g c = λ s loaded placed.
-    let key_length = c.key_length_of-length.result in
-    let before = g.E.Entropy.left c.args.entropy.now in
-    let now = g.E.Entropy.left c.generate.new.entropy in
-    let made = c.in-Ok.ensures.generated in
-    let rules = λ (n : Length). first_refusal (generate_questions c.args.kind n) in
-    let make = λ (n : Length) (drawn : List ℕ). delivered s (codes "token1") (label_named c.args.to.now) (as_current (generated_key c.args.kind n drawn)) in
-    let none = subst (HasRefused (rules key_length)) c.in_default.is c.judge_one.ensures in
-    let key = generated_key c.args.kind key_length made.draw.drawn in
-    let tokens : c.in-Ok.keys ≡ record { first = current_token s.registers key; second = None } = made.tokens s.registers loaded in
-    subst (λ (n : Length). LeavesDrawn s (rules n) (make n) n before now c.deliver.new.reply c.deliver.result) c.key_length_of-length.ensures
-    (drawn_delivery s (rules key_length) (make key_length) key_length before now c.deliver.new.reply c.deliver.result none made.draw
-    (c.deliver.ensures.delivered s (as_current key) (ap (λ (k : Generated). k.first) tokens) (made.operational s.registers loaded refl) placed))
-
-pub returns-in-Err-Repeated-clause-generated : goal.returns-in-Err-Repeated-clause-generated
-returns-in-Err-Repeated-clause-generated g c = λ s loaded placed.
-    let key_length = c.key_length_of-length.result in
-    let named = key_length_named c.args.length.now in
-    let before = g.E.Entropy.left c.args.entropy.now in
-    let now = g.E.Entropy.left c.generate.new.entropy in
-    let rules = λ (n : Length). first_refusal (generate_questions c.args.kind n) in
-    let none = subst (HasRefused (rules key_length)) c.in_default.is c.judge_one.ensures in
-    let draw = c.in-Err-Repeated.ensures.repeated (ap Err c.in-Err-Repeated.field-0-is) in
-    drawn_repeated s (rules named) _ named before now c.args.reply.now _ (subst (λ (n : Length). rules n ≡ None) c.key_length_of-length.ensures none)
-    (subst (λ (n : Length). Draws n before now true) c.key_length_of-length.ensures draw) refl
-
-pub returns-in-Ok-clause-ready : goal.returns-in-Ok-clause-ready
-returns-in-Ok-clause-ready g c = λ rows held_place.
+pub returns-in-Ok-Keys-clause-settles : goal.returns-in-Ok-Keys-clause-settles
+returns-in-Ok-Keys-clause-settles g c = λ role form rows shaped.
     let held = c.args.held.now in
-    let old = bench_of c.args.lease.now in
-    let new = bench_of c.generate.new.lease in
-    let token = c.in-Ok.keys.first in
-    let same : masters_in held new ≡ masters_in held old = ap (λ l. masters_in held (bench_of l)) c.generate.ensures.stays in
-    let key : IsSome (denoted (keys_of (masters_in held old)) token) = some_of _ _ (c.in-Ok.ensures.generated.operational (masters_in held old) c.requires.loaded refl) in
-    delivery_ready rows c.args.place token held_place held new c.deliver.result c.deliver.new.reply c.deliver.ensures.delivery
-    (subst (λ m. IsSome (denoted (keys_of m) token)) (sym same) key) c.deliver.ensures.size
+    let named = label_named c.args.to.now in
+    let key_length = c.key_length_of-length.result in
+    let v = first_refusal (generate_questions c.args.kind key_length) in
+    let broken = c.judge_one-broken in
+    let made : MakesKeys v c.args.held.now (bench_of c.args.lease.now) Op key_length c.args.kind c.args.kind None None (g.E.Entropy.left c.args.entropy.now) (g.E.Entropy.left c.draw.new.entropy) (Keys c.in-Ok-Keys.keys) =
+    subst (λ (d : Drawn). MakesKeys v c.args.held.now (bench_of c.args.lease.now) Op key_length c.args.kind c.args.kind None None (g.E.Entropy.left c.args.entropy.now) (g.E.Entropy.left c.draw.new.entropy) d) c.in-Ok-Keys.field-0-is (c.in-Ok-Keys.ensures.drawn v broken.ensures.refused) in
+    let drawn = made.1.draw.drawn in
+    let request = asked csnbkgn_op (role ∷ form ∷ c.args.length.now ∷ type_name c.args.kind ∷ c.args.to.now ∷ []) in
+    let needs : IsTrue (is_some named) → IsTrue (needs_store request) = either_left (is_some named) false in
+    let kept : masters_in held (bench_of c.draw.new.lease) ≡ masters_in held (bench_of c.args.lease.now) = ap (λ (l : Lease). masters_in held (bench_of l)) c.draw.ensures.stays in
+    let before = source c.args.entropy.now (g.E.Entropy.left c.args.entropy.now) (g.E.Entropy.faults c.args.entropy.now) in
+    let now = source c.draw.new.entropy (g.E.Entropy.left c.draw.new.entropy) (g.E.Entropy.faults c.draw.new.entropy) in
+    drawn_delivered {request = request} {before = before} {now = now} (ap KeyBytes (sym c.key_length_of-length.ensures))
+    (λ s. one_verdict c.args.kind c.args.length.now key_length c.key_length_of-length.ensures)
+    c.draw.ensures.fault (λ some. c.draw.ensures.untouched (some_broken v broken.result broken.ensures.refused some))
+    named c.args.granted.now.first.place c.in-Ok-Keys.keys.first c.in-Ok-Keys.is made.0 made.1.draw needs
+    (λ s is.
+    let token = c.deliver.ensures.delivered s (as_current (generated_key c.args.kind key_length drawn)) (ap (λ (k : Generated). k.first) (made.1.tokens s.registers is.loaded))
+    (made.1.operational s.registers is.loaded refl) is.grants.0.0 in
+    subst (λ (k : KeyType). IsDelivered s (delivered s (codes "token1") named (as_current (generated_key k (key_length_named c.args.length.now) drawn))) c.deliver.result c.deliver.new.reply) (sym (type_is c.args.kind))
+    (subst (λ (n : Length). IsDelivered s (delivered s (codes "token1") named (as_current (generated_key c.args.kind n drawn))) c.deliver.result c.deliver.new.reply) c.key_length_of-length.ensures token))
+    (target_place rows named c.args.granted.now.first shaped.0)
+    c.requires.target c.deliver.ensures.delivery
+    (stands_after (bench_of c.draw.new.lease) c.in-Ok-Keys.keys.first kept c.requires.loaded (λ m loaded. made.1.operational m loaded refl))
+    c.deliver.ensures.size
+
+pub returns-in-Ok-Refused-clause-settles : goal.returns-in-Ok-Refused-clause-settles
+returns-in-Ok-Refused-clause-settles g c = λ role form rows shaped.
+    let key_length = c.key_length_of-length.result in
+    let v = first_refusal (generate_questions c.args.kind key_length) in
+    let broken = c.judge_one-broken in
+    let request = asked csnbkgn_op (role ∷ form ∷ c.args.length.now ∷ type_name c.args.kind ∷ c.args.to.now ∷ []) in
+    let before = source c.args.entropy.now (g.E.Entropy.left c.args.entropy.now) (g.E.Entropy.faults c.args.entropy.now) in
+    let now = source c.draw.new.entropy (g.E.Entropy.left c.draw.new.entropy) (g.E.Entropy.faults c.draw.new.entropy) in
+    drawn_refused {request = request} {before = before} {now = now} (ap KeyBytes (sym c.key_length_of-length.ensures))
+    (λ s. one_verdict c.args.kind c.args.length.now key_length c.key_length_of-length.ensures)
+    c.draw.ensures.fault (λ some. c.draw.ensures.untouched (some_broken v broken.result broken.ensures.refused some))
+    c.in-Ok-Refused.is
+    (subst (λ (d : Drawn). MakesKeys v c.args.held.now (bench_of c.args.lease.now) Op key_length c.args.kind c.args.kind None None (g.E.Entropy.left c.args.entropy.now) (g.E.Entropy.left c.draw.new.entropy) d) c.in-Ok-Refused.field-0-is (c.in-Ok-Refused.ensures.drawn v broken.ensures.refused))
+    c.requires.empty
+
+pub returns-in-Err-clause-settles : goal.returns-in-Err-clause-settles
+returns-in-Err-clause-settles g c = λ role form rows shaped.
+    let key_length = c.key_length_of-length.result in
+    let v = first_refusal (generate_questions c.args.kind key_length) in
+    let broken = c.judge_one-broken in
+    let request = asked csnbkgn_op (role ∷ form ∷ c.args.length.now ∷ type_name c.args.kind ∷ c.args.to.now ∷ []) in
+    let before = source c.args.entropy.now (g.E.Entropy.left c.args.entropy.now) (g.E.Entropy.faults c.args.entropy.now) in
+    let now = source c.draw.new.entropy (g.E.Entropy.left c.draw.new.entropy) (g.E.Entropy.faults c.draw.new.entropy) in
+    drawn_stopped {request = request} {before = before} {now = now} (ap KeyBytes (sym c.key_length_of-length.ensures))
+    (λ s. one_verdict c.args.kind c.args.length.now key_length c.key_length_of-length.ensures)
+    c.draw.ensures.fault (λ some. c.draw.ensures.untouched (some_broken v broken.result broken.ensures.refused some))
+    c.in-Err.is c.in-Err.ensures.stops (none_broken v broken.result broken.ensures.refused c.in-Err.ensures.permitted) c.requires.empty

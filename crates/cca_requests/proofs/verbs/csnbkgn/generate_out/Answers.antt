@@ -1,77 +1,105 @@
-use Rattle.std.proofs.Common.{◌≡◌, ◌∙◌, ◌∷◌, [], ℕ, true, List, None, Some, Err, codes, refl, sym, ap, subst}
+use Rattle.std.proofs.Common.{◌≡◌, ◌∙◌, [], ◌∷◌, Some, codes, refl, sym, ap, subst}
+use Rattle.cca_vectors.specs.KeyTypes.{type_name}
 use Rattle.cca_vectors.specs.declared.key_length.Length.{Length}
+use Rattle.cca_vectors.specs.declared.key_type.KeyType.{KeyType}
 use Rattle.key_cells.specs.Lease.{bench_of}
-use Rattle.key_transport.specs.Generated.{Draws, HaveLength, generated_key, generated_tokens}
+use Rattle.key_tokens.specs.Denotes.{ClearKey}
+use Rattle.key_transport.specs.Generated.{HaveLength, generated_key, generated_tokens}
 use Rattle.key_transport.specs.Tokens.{external_token}
 use Rattle.key_transport.specs.declared.generating.Form.{Form}
 use Rattle.key_transport.specs.declared.generating.Generated.{Generated}
-use Rattle.master_registers.specs.Loaded.{masters_in}
 use Rattle.script_buffers.specs.Replies.{Hex, written}
 use Rattle.verb_rules.specs.Keys.{opened}
-use Rattle.verb_rules.specs.Rules.{rule_number}
+use Rattle.verb_script.specs.Grammar.{csnbkgn_out}
 use Rattle.cca_machine.specs.Act.{Show}
-use Rattle.cca_machine.specs.Choices.{key_length_named}
-use Rattle.cca_machine.specs.Verdict.{first_refusal, pair_questions, refusal}
-use Rattle.cca_requests.specs.Deciding.{token2_fields}
-use Rattle.cca_requests.specs.Drawing.{HasRefused, LeavesDrawn}
-use Rattle.cca_requests.specs.declared.effects.Effect.TheVariants as code
-use Rattle.cca_requests.proofs.Fields.{hex_before}
-use Rattle.cca_requests.proofs.Generating.{drawn_delivery, drawn_refusal, drawn_repeated, out_lengths, out_tokens, two_lengths}
+use Rattle.cca_machine.specs.Choices.{key_length_named, type_in}
+use Rattle.cca_machine.specs.Draws.{KeyBytes}
+use Rattle.cca_machine.specs.Keys.{key_in_field, key_in_text}
+use Rattle.cca_machine.specs.Verdict.{first_refusal, pair_questions}
+use Rattle.cca_requests.specs.Decided.{asked, source}
+use Rattle.cca_requests.specs.Deciding.{IsShown, token2_fields}
+use Rattle.cca_requests.specs.Drawing.{MakesKeys}
+use Rattle.cca_requests.specs.declared.verbs.csnbkgn.Drawn.{Drawn}
+use Rattle.cca_requests.specs.declared.verbs.csnbkgn.Drawn.TheVariants.{Keys}
+use Rattle.cca_requests.proofs.Acting.{key_is}
+use Rattle.cca_requests.proofs.DrawnKeys.{drawn_left, drawn_refused, drawn_stopped, none_broken, some_broken}
+use Rattle.cca_requests.proofs.Generating.{out_lengths, out_tokens, two_lengths, two_verdict, type_is}
 use Rattle.cca_requests.proofs.verbs.csnbkgn.generate_out.Goals as goal
 
-pub returns-in-Some-clause-generated : goal.returns-in-Some-clause-generated
-returns-in-Some-clause-generated g c = λ s.
-    let refused = c.in-Some.refusal in
-    let named = key_length_named c.args.length.now in
-    let rules = λ (n : Length). first_refusal (pair_questions c.args.first c.args.second n) in
-    drawn_refusal s (rules named) _ named (g.E.Entropy.left c.args.entropy.now) c.args.reply.now refused.rule refused.operand
-    (subst (λ (n : Length). rules n ≡ Some (refusal (rule_number refused.rule) refused.operand.now)) c.key_length_of-length.ensures c.in-Some.ensures)
-
-pub returns-in-Err-Repeated-clause-generated : goal.returns-in-Err-Repeated-clause-generated
-returns-in-Err-Repeated-clause-generated g c = λ s.
+pub draw-requires-clause-lengths : goal.draw-requires-clause-lengths
+draw-requires-clause-lengths g c = λ unbroken.
     let key_length = c.key_length_of-length.result in
-    let named = key_length_named c.args.length.now in
-    let before = g.E.Entropy.left c.args.entropy.now in
-    let now = g.E.Entropy.left c.generate.new.entropy in
-    let rules = λ (n : Length). first_refusal (pair_questions c.args.first c.args.second n) in
-    let none = subst (HasRefused (rules key_length)) c.in_default.is c.judge_two.ensures in
-    let draw = c.in-Err-Repeated.ensures.repeated (ap Err c.in-Err-Repeated.field-0-is) in
-    drawn_repeated s (rules named) _ named before now c.args.reply.now _ (subst (λ (n : Length). rules n ≡ None) c.key_length_of-length.ensures none)
-    (subst (λ (n : Length). Draws n before now true) c.key_length_of-length.ensures draw) refl
-
-pub generate-requires-clause-lengths : goal.generate-requires-clause-lengths
-generate-requires-clause-lengths g c =
-    let key_length = c.key_length_of-length.result in
-    let none = subst (HasRefused (first_refusal (pair_questions c.args.first c.args.second key_length))) c.in_default.is c.judge_two.ensures in
+    let broken = c.judge_two-broken in
     subst (λ (f : Form). HaveLength f c.args.first c.args.second key_length) (sym c.out_form_of.ensures)
-    (out_lengths c.args.form.now c.args.first c.args.second key_length (two_lengths c.args.first c.args.second key_length none))
+    (out_lengths c.args.form.now c.args.first c.args.second key_length (two_lengths c.args.first c.args.second key_length
+    (none_broken (first_refusal (pair_questions c.args.first c.args.second key_length)) broken.result broken.ensures.refused unbroken)))
 
-pub returns-in-Ok-clause-generated : goal.returns-in-Ok-clause-generated
-returns-in-Ok-clause-generated g c = λ s.
+pub returns-in-Ok-Keys-clause-settles : goal.returns-in-Ok-Keys-clause-settles
+returns-in-Ok-Keys-clause-settles g c = λ role transport1 transport2 rows shaped.
     let bench = bench_of c.args.lease.now in
-    let m = masters_in c.args.held.now bench in
-    let key_length = c.key_length_of-length.result in
     let text = c.args.form.now in
-    let keys = c.in-Ok.keys in
-    let made = c.in-Ok.ensures.generated in
-    let before = g.E.Entropy.left c.args.entropy.now in
-    let now = g.E.Entropy.left c.generate.new.entropy in
-    let one = generated_key c.args.first key_length made.draw.drawn in
-    let two = generated_key c.args.second key_length made.draw.drawn in
-    let out = (opened bench c.args.one.now).key in
-    let other = (opened bench c.args.two.now).key in
-    let rules = λ (n : Length). first_refusal (pair_questions c.args.first c.args.second n) in
-    let make = λ (n : Length) (drawn : List ℕ). Show (Hex (codes "token1") (external_token out (generated_key c.args.first n drawn))
-    ∷ Hex (codes "token2") (external_token other (generated_key c.args.second n drawn)) ∷ []) in
-    let none = subst (HasRefused (rules key_length)) c.in_default.is c.judge_two.ensures in
-    let tokens : keys ≡ record { first = external_token out one; second = Some (external_token other two) } =
-    made.tokens m c.requires.loaded ∙ (ap (λ (f : Form). generated_tokens m f out other one two) c.out_form_of.ensures ∙ out_tokens m text out other one two) in
-    let reply = hex_before (codes "token1") keys.first (token2_fields keys.second) c.args.reply.now c.ok.new.self c.hex.new.self c.show_second.new.reply
-    c.requires.empty c.ok.ensures.bytes c.hex.ensures.bytes c.show_second.ensures.bytes in
-    subst (λ (n : Length). LeavesDrawn s (rules n) (make n) n before now c.show_second.new.reply code.Shown) c.key_length_of-length.ensures
-    (drawn_delivery s (rules key_length) (make key_length) key_length before now c.show_second.new.reply code.Shown none made.draw
-    (record {
-      fields = Hex (codes "token1") (external_token out one) ∷ Hex (codes "token2") (external_token other two) ∷ [];
+    let length = key_length_named c.args.length.now in
+    let key_length = c.key_length_of-length.result in
+    let out = opened bench c.double_key_in-one.result.now in
+    let other = opened bench c.double_key_in-two.result.now in
+    let request = asked csnbkgn_out (role ∷ text ∷ c.args.length.now ∷ type_name c.args.first ∷ type_name c.args.second ∷ transport1 ∷ transport2 ∷ []) in
+    let v = first_refusal (pair_questions c.args.first c.args.second key_length) in
+    let broken = c.judge_two-broken in
+    let made : MakesKeys v c.args.held.now (bench_of c.args.lease.now) c.out_form_of.result key_length c.args.first c.args.second (Some c.double_key_in-one.result.now) (Some c.double_key_in-two.result.now) (g.E.Entropy.left c.args.entropy.now) (g.E.Entropy.left c.draw.new.entropy) (Keys c.in-Ok-Keys.keys) =
+    subst (λ (d : Drawn). MakesKeys v c.args.held.now (bench_of c.args.lease.now) c.out_form_of.result key_length c.args.first c.args.second (Some c.double_key_in-one.result.now) (Some c.double_key_in-two.result.now) (g.E.Entropy.left c.args.entropy.now) (g.E.Entropy.left c.draw.new.entropy) d) c.in-Ok-Keys.field-0-is (c.in-Ok-Keys.ensures.drawn v broken.ensures.refused) in
+    let drawn = made.1.draw.drawn in
+    let makes = λ (one two : KeyType) (n : Length) (a b : ClearKey). IsShown (Show (Hex (codes "token1") (external_token a.key (generated_key one n drawn))
+    ∷ Hex (codes "token2") (external_token b.key (generated_key two n drawn)) ∷ [])) c.show_keys.new.reply in
+    let before = source c.args.entropy.now (g.E.Entropy.left c.args.entropy.now) (g.E.Entropy.faults c.args.entropy.now) in
+    let now = source c.draw.new.entropy (g.E.Entropy.left c.draw.new.entropy) (g.E.Entropy.faults c.draw.new.entropy) in
+    drawn_left {request = request} {before = before} {now = now} (ap KeyBytes (sym c.key_length_of-length.ensures))
+    (λ s. two_verdict c.args.first c.args.second c.args.length.now key_length c.key_length_of-length.ensures)
+    c.draw.ensures.fault (λ some. c.draw.ensures.untouched (some_broken v broken.result broken.ensures.refused some))
+    c.in-Ok-Keys.is made.0 made.1.draw
+    (λ s is.
+    let one = generated_key c.args.first key_length drawn in
+    let two = generated_key c.args.second key_length drawn in
+    let key : key_in_field s request (codes "transport1") ≡ out =
+    key_is bench (key_in_text s transport1) c.args.granted.now.first c.double_key_in-one.result.now is.grants.0 c.double_key_in-one.ensures.key c.double_key_in-one.ensures.under in
+    let second : key_in_field s request (codes "transport2") ≡ other =
+    key_is bench (key_in_text s transport2) c.args.granted.now.second c.double_key_in-two.result.now is.grants.1 c.double_key_in-two.ensures.key c.double_key_in-two.ensures.under in
+    let tokens : c.in-Ok-Keys.keys ≡ record { first = external_token out.key one; second = Some (external_token other.key two) } =
+    made.1.tokens s.registers is.loaded ∙ (ap (λ (f : Form). generated_tokens s.registers f out.key other.key one two) c.out_form_of.ensures ∙ out_tokens s.registers text out.key other.key one two) in
+    subst (λ (k : ClearKey). makes (type_in (type_name c.args.first)) (type_in (type_name c.args.second)) length k (key_in_field s request (codes "transport2"))) (sym key)
+    (subst (λ (k : ClearKey). makes (type_in (type_name c.args.first)) (type_in (type_name c.args.second)) length out k) (sym second)
+    (subst (λ (k : KeyType). makes (type_in (type_name c.args.first)) k length out other) (sym (type_is c.args.second))
+    (subst (λ (k : KeyType). makes k c.args.second length out other) (sym (type_is c.args.first))
+    (subst (λ (n : Length). makes c.args.first c.args.second n out other) c.key_length_of-length.ensures (record {
+      fields = _;
       is = refl;
-      reply_is = reply ∙ ap (λ (k : Generated). written (Hex (codes "token1") k.first ∷ token2_fields k.second)) tokens;
-    }))
+      reply_is = c.show_keys.ensures.fields ∙ ap (λ (k : Generated). written (Hex (codes "token1") k.first ∷ token2_fields k.second)) tokens;
+    }))))))
+    c.show_keys.ensures.size (λ writes. absurd writes) (λ through. absurd through)
+
+pub returns-in-Ok-Refused-clause-settles : goal.returns-in-Ok-Refused-clause-settles
+returns-in-Ok-Refused-clause-settles g c = λ role transport1 transport2 rows shaped.
+    let key_length = c.key_length_of-length.result in
+    let v = first_refusal (pair_questions c.args.first c.args.second key_length) in
+    let broken = c.judge_two-broken in
+    let request = asked csnbkgn_out (role ∷ c.args.form.now ∷ c.args.length.now ∷ type_name c.args.first ∷ type_name c.args.second ∷ transport1 ∷ transport2 ∷ []) in
+    let before = source c.args.entropy.now (g.E.Entropy.left c.args.entropy.now) (g.E.Entropy.faults c.args.entropy.now) in
+    let now = source c.draw.new.entropy (g.E.Entropy.left c.draw.new.entropy) (g.E.Entropy.faults c.draw.new.entropy) in
+    drawn_refused {request = request} {before = before} {now = now} (ap KeyBytes (sym c.key_length_of-length.ensures))
+    (λ s. two_verdict c.args.first c.args.second c.args.length.now key_length c.key_length_of-length.ensures)
+    c.draw.ensures.fault (λ some. c.draw.ensures.untouched (some_broken v broken.result broken.ensures.refused some))
+    c.in-Ok-Refused.is
+    (subst (λ (d : Drawn). MakesKeys v c.args.held.now (bench_of c.args.lease.now) c.out_form_of.result key_length c.args.first c.args.second (Some c.double_key_in-one.result.now) (Some c.double_key_in-two.result.now) (g.E.Entropy.left c.args.entropy.now) (g.E.Entropy.left c.draw.new.entropy) d) c.in-Ok-Refused.field-0-is (c.in-Ok-Refused.ensures.drawn v broken.ensures.refused))
+    c.requires.empty
+
+pub returns-in-Err-clause-settles : goal.returns-in-Err-clause-settles
+returns-in-Err-clause-settles g c = λ role transport1 transport2 rows shaped.
+    let key_length = c.key_length_of-length.result in
+    let v = first_refusal (pair_questions c.args.first c.args.second key_length) in
+    let broken = c.judge_two-broken in
+    let request = asked csnbkgn_out (role ∷ c.args.form.now ∷ c.args.length.now ∷ type_name c.args.first ∷ type_name c.args.second ∷ transport1 ∷ transport2 ∷ []) in
+    let before = source c.args.entropy.now (g.E.Entropy.left c.args.entropy.now) (g.E.Entropy.faults c.args.entropy.now) in
+    let now = source c.draw.new.entropy (g.E.Entropy.left c.draw.new.entropy) (g.E.Entropy.faults c.draw.new.entropy) in
+    drawn_stopped {request = request} {before = before} {now = now} (ap KeyBytes (sym c.key_length_of-length.ensures))
+    (λ s. two_verdict c.args.first c.args.second c.args.length.now key_length c.key_length_of-length.ensures)
+    c.draw.ensures.fault (λ some. c.draw.ensures.untouched (some_broken v broken.result broken.ensures.refused some))
+    c.in-Err.is c.in-Err.ensures.stops (none_broken v broken.result broken.ensures.refused c.in-Err.ensures.permitted) c.requires.empty

@@ -1,85 +1,115 @@
-use Rattle.std.proofs.Common.{◌≡◌, ◌∙◌, ◌∷◌, [], ℕ, true, List, None, Some, Err, codes, refl, sym, ap, subst}
-use Rattle.std.specs.Prelude.{IsSome}
+use Rattle.std.proofs.Common.{◌≡◌, ◌∙◌, [], ◌∷◌, List, None, Some, codes, false, sym, ap, subst}
+use Rattle.std.specs.Prelude.{◌||◌, is_some}
+use Rattle.cca_vectors.specs.KeyTypes.{type_name}
 use Rattle.cca_vectors.specs.declared.key_length.Length.{Length}
+use Rattle.cca_vectors.specs.declared.key_type.KeyType.{KeyType}
 use Rattle.key_cells.specs.Lease.{bench_of}
-use Rattle.key_tokens.specs.Denotes.{denoted}
-use Rattle.key_transport.specs.Generated.{Draws, HaveLength, generated_key, generated_tokens, is_operational}
+use Rattle.key_cells.specs.declared.leases.Lease.{Lease}
+use Rattle.key_tokens.specs.Denotes.{ClearKey}
+use Rattle.key_transport.specs.Generated.{HaveLength, generated_key, generated_tokens, is_operational}
 use Rattle.key_transport.specs.Tokens.{as_current, current_token, external_token}
 use Rattle.key_transport.specs.declared.generating.Form.{Form}
 use Rattle.key_transport.specs.declared.generating.Generated.{Generated}
 use Rattle.master_registers.specs.Loaded.{masters_in}
 use Rattle.script_buffers.specs.Replies.{Field, Hex}
-use Rattle.verb_rules.specs.Keys.{keys_of, opened}
-use Rattle.verb_rules.specs.Rules.{rule_number}
+use Rattle.verb_rules.specs.Keys.{opened}
+use Rattle.verb_script.specs.Grammar.{csnbkgn_pair}
 use Rattle.verb_script.specs.Named.{label_named}
 use Rattle.cca_machine.specs.Act.{delivered_with}
-use Rattle.cca_machine.specs.Choices.{key_length_named}
-use Rattle.cca_machine.specs.Verdict.{first_refusal, pair_questions, refusal}
+use Rattle.cca_machine.specs.Choices.{key_length_named, type_in}
+use Rattle.cca_machine.specs.Draws.{KeyBytes}
+use Rattle.cca_machine.specs.Keys.{key_in_field, key_in_text}
+use Rattle.cca_machine.specs.State.{State}
+use Rattle.cca_machine.specs.Verdict.{first_refusal, pair_questions}
+use Rattle.cca_requests.specs.Decided.{asked, source}
 use Rattle.cca_requests.specs.Deciding.{IsDelivered, token2_fields}
-use Rattle.cca_requests.specs.Drawing.{HasRefused, LeavesDrawn}
-use Rattle.cca_requests.proofs.Delivering.{delivery_ready, some_of}
-use Rattle.cca_requests.proofs.Generating.{drawn_delivery, drawn_refusal, drawn_repeated, pair_lengths, pair_operational, pair_tokens, two_lengths}
+use Rattle.cca_requests.specs.Drawing.{MakesKeys}
+use Rattle.cca_requests.proofs.Acting.{key_is}
+use Rattle.cca_requests.specs.declared.verbs.csnbkgn.Drawn.{Drawn}
+use Rattle.cca_requests.specs.declared.verbs.csnbkgn.Drawn.TheVariants.{Keys}
+use Rattle.cca_requests.proofs.Delivering.{either_left, either_right, stands_after, target_place}
+use Rattle.cca_requests.proofs.DrawnKeys.{drawn_delivered, drawn_refused, drawn_stopped, none_broken, some_broken}
+use Rattle.cca_requests.proofs.Generating.{pair_lengths, pair_operational, pair_tokens, two_lengths, two_verdict, type_is}
 use Rattle.cca_requests.proofs.verbs.csnbkgn.generate_pair.Goals as goal
 
-pub returns-in-Some-clause-generated : goal.returns-in-Some-clause-generated
-returns-in-Some-clause-generated g c = λ s loaded placed.
-    let refused = c.in-Some.refusal in
-    let named = key_length_named c.args.length.now in
-    let rules = λ (n : Length). first_refusal (pair_questions c.args.first c.args.second n) in
-    drawn_refusal s (rules named) _ named (g.E.Entropy.left c.args.entropy.now) c.args.reply.now refused.rule refused.operand
-    (subst (λ (n : Length). rules n ≡ Some (refusal (rule_number refused.rule) refused.operand.now)) c.key_length_of-length.ensures c.in-Some.ensures)
-
-pub returns-in-Err-Repeated-clause-generated : goal.returns-in-Err-Repeated-clause-generated
-returns-in-Err-Repeated-clause-generated g c = λ s loaded placed.
+pub draw-requires-clause-lengths : goal.draw-requires-clause-lengths
+draw-requires-clause-lengths g c = λ unbroken.
     let key_length = c.key_length_of-length.result in
-    let named = key_length_named c.args.length.now in
-    let before = g.E.Entropy.left c.args.entropy.now in
-    let now = g.E.Entropy.left c.generate.new.entropy in
-    let rules = λ (n : Length). first_refusal (pair_questions c.args.first c.args.second n) in
-    let none = subst (HasRefused (rules key_length)) c.in_default.is c.judge_two.ensures in
-    let draw = c.in-Err-Repeated.ensures.repeated (ap Err c.in-Err-Repeated.field-0-is) in
-    drawn_repeated s (rules named) _ named before now c.args.reply.now _ (subst (λ (n : Length). rules n ≡ None) c.key_length_of-length.ensures none)
-    (subst (λ (n : Length). Draws n before now true) c.key_length_of-length.ensures draw) refl
-
-pub generate-requires-clause-lengths : goal.generate-requires-clause-lengths
-generate-requires-clause-lengths g c =
-    let key_length = c.key_length_of-length.result in
-    let none = subst (HasRefused (first_refusal (pair_questions c.args.first c.args.second key_length))) c.in_default.is c.judge_two.ensures in
+    let broken = c.judge_two-broken in
     subst (λ (f : Form). HaveLength f c.args.first c.args.second key_length) (sym c.pair_form_of.ensures)
-    (pair_lengths c.args.form.now c.args.first c.args.second key_length (two_lengths c.args.first c.args.second key_length none))
+    (pair_lengths c.args.form.now c.args.first c.args.second key_length (two_lengths c.args.first c.args.second key_length
+    (none_broken (first_refusal (pair_questions c.args.first c.args.second key_length)) broken.result broken.ensures.refused unbroken)))
 
-pub returns-in-Ok-clause-generated : goal.returns-in-Ok-clause-generated
-returns-in-Ok-clause-generated g c = λ s loaded placed.
-    let key_length = c.key_length_of-length.result in
-    let text = c.args.form.now in
-    let keys = c.in-Ok.keys in
-    let made = c.in-Ok.ensures.generated in
-    let before = g.E.Entropy.left c.args.entropy.now in
-    let now = g.E.Entropy.left c.generate.new.entropy in
-    let one = generated_key c.args.first key_length made.draw.drawn in
-    let two = generated_key c.args.second key_length made.draw.drawn in
-    let transport = (opened (bench_of c.args.lease.now) c.args.transport.now).key in
-    let rules = λ (n : Length). first_refusal (pair_questions c.args.first c.args.second n) in
-    let make = λ (n : Length) (drawn : List ℕ). delivered_with s (codes "token1") (label_named c.args.to.now) (as_current (generated_key c.args.first n drawn))
-    (Hex (codes "token2") (external_token transport (generated_key c.args.second n drawn)) ∷ []) in
-    let none = subst (HasRefused (rules key_length)) c.in_default.is c.judge_two.ensures in
-    let tokens : keys ≡ record { first = current_token s.registers one; second = Some (external_token transport two) } =
-    made.tokens s.registers loaded ∙ (ap (λ (f : Form). generated_tokens s.registers f [] transport one two) c.pair_form_of.ensures ∙ pair_tokens s.registers text [] transport one two) in
-    let stands = made.operational s.registers loaded (ap is_operational c.pair_form_of.ensures ∙ pair_operational text) in
-    let delivered = c.deliver.ensures.delivered s (as_current one) (ap (λ (k : Generated). k.first) tokens) stands placed in
-    subst (λ (n : Length). LeavesDrawn s (rules n) (make n) n before now c.deliver.new.reply c.deliver.result) c.key_length_of-length.ensures
-    (drawn_delivery s (rules key_length) (make key_length) key_length before now c.deliver.new.reply c.deliver.result none made.draw
-    (subst (λ (fields : List Field). IsDelivered s (delivered_with s (codes "token1") (label_named c.args.to.now) (as_current one) fields) c.deliver.result c.deliver.new.reply)
-    (ap (λ (k : Generated). token2_fields k.second) tokens) delivered))
-
-pub returns-in-Ok-clause-ready : goal.returns-in-Ok-clause-ready
-returns-in-Ok-clause-ready g c = λ rows held_place.
+pub returns-in-Ok-Keys-clause-settles : goal.returns-in-Ok-Keys-clause-settles
+returns-in-Ok-Keys-clause-settles g c = λ role transport rows shaped.
     let held = c.args.held.now in
-    let old = bench_of c.args.lease.now in
-    let new = bench_of c.generate.new.lease in
-    let token = c.in-Ok.keys.first in
-    let same : masters_in held new ≡ masters_in held old = ap (λ l. masters_in held (bench_of l)) c.generate.ensures.stays in
-    let stands = c.in-Ok.ensures.generated.operational (masters_in held old) c.requires.loaded (ap is_operational c.pair_form_of.ensures ∙ pair_operational c.args.form.now) in
-    let key : IsSome (denoted (keys_of (masters_in held old)) token) = some_of _ _ stands in
-    delivery_ready rows c.args.place token held_place held new c.deliver.result c.deliver.new.reply c.deliver.ensures.delivery
-    (subst (λ m. IsSome (denoted (keys_of m) token)) (sym same) key) c.deliver.ensures.size
+    let bench = bench_of c.args.lease.now in
+    let named = label_named c.args.to.now in
+    let text = c.args.form.now in
+    let length = key_length_named c.args.length.now in
+    let key_length = c.key_length_of-length.result in
+    let judged = c.double_key_in-transport.result.now in
+    let under = opened bench judged in
+    let request = asked csnbkgn_pair (role ∷ text ∷ c.args.length.now ∷ type_name c.args.first ∷ type_name c.args.second ∷ transport ∷ c.args.to.now ∷ []) in
+    let v = first_refusal (pair_questions c.args.first c.args.second key_length) in
+    let broken = c.judge_two-broken in
+    let made : MakesKeys v c.args.held.now (bench_of c.args.lease.now) c.pair_form_of.result key_length c.args.first c.args.second None (Some judged) (g.E.Entropy.left c.args.entropy.now) (g.E.Entropy.left c.draw.new.entropy) (Keys c.in-Ok-Keys.keys) =
+    subst (λ (d : Drawn). MakesKeys v c.args.held.now (bench_of c.args.lease.now) c.pair_form_of.result key_length c.args.first c.args.second None (Some judged) (g.E.Entropy.left c.args.entropy.now) (g.E.Entropy.left c.draw.new.entropy) d) c.in-Ok-Keys.field-0-is (c.in-Ok-Keys.ensures.drawn v broken.ensures.refused) in
+    let drawn = made.1.draw.drawn in
+    let operational = ap is_operational c.pair_form_of.ensures ∙ pair_operational text in
+    let makes = λ (s : State) (one two : KeyType) (n : Length) (k : ClearKey). IsDelivered s (delivered_with s (codes "token1") named (as_current (generated_key one n drawn))
+    (Hex (codes "token2") (external_token k.key (generated_key two n drawn)) ∷ [])) c.deliver.result c.deliver.new.reply in
+    let kept : masters_in held (bench_of c.draw.new.lease) ≡ masters_in held (bench_of c.args.lease.now) = ap (λ (l : Lease). masters_in held (bench_of l)) c.draw.ensures.stays in
+    let before = source c.args.entropy.now (g.E.Entropy.left c.args.entropy.now) (g.E.Entropy.faults c.args.entropy.now) in
+    let now = source c.draw.new.entropy (g.E.Entropy.left c.draw.new.entropy) (g.E.Entropy.faults c.draw.new.entropy) in
+    drawn_delivered {request = request} {before = before} {now = now} (ap KeyBytes (sym c.key_length_of-length.ensures))
+    (λ s. two_verdict c.args.first c.args.second c.args.length.now key_length c.key_length_of-length.ensures)
+    c.draw.ensures.fault (λ some. c.draw.ensures.untouched (some_broken v broken.result broken.ensures.refused some))
+    named c.args.granted.now.second.place c.in-Ok-Keys.keys.first c.in-Ok-Keys.is made.0 made.1.draw
+    (λ some. either_right (is_some (label_named transport)) (is_some named || false) (either_left (is_some named) false some))
+    (λ s is.
+    let one = generated_key c.args.first key_length drawn in
+    let two = generated_key c.args.second key_length drawn in
+    let key : key_in_field s request (codes "transport2") ≡ under =
+    key_is bench (key_in_text s transport) c.args.granted.now.first judged is.grants.0 c.double_key_in-transport.ensures.key c.double_key_in-transport.ensures.under in
+    let tokens : c.in-Ok-Keys.keys ≡ record { first = current_token s.registers one; second = Some (external_token under.key two) } =
+    made.1.tokens s.registers is.loaded ∙ (ap (λ (f : Form). generated_tokens s.registers f [] under.key one two) c.pair_form_of.ensures ∙ pair_tokens s.registers text [] under.key one two) in
+    let delivered = c.deliver.ensures.delivered s (as_current one) (ap (λ (k : Generated). k.first) tokens) (made.1.operational s.registers is.loaded operational) is.grants.1.0 in
+    subst (λ (k : ClearKey). makes s (type_in (type_name c.args.first)) (type_in (type_name c.args.second)) length k) (sym key)
+    (subst (λ (k : KeyType). makes s (type_in (type_name c.args.first)) k length under) (sym (type_is c.args.second))
+    (subst (λ (k : KeyType). makes s k c.args.second length under) (sym (type_is c.args.first))
+    (subst (λ (n : Length). makes s c.args.first c.args.second n under) c.key_length_of-length.ensures
+    (subst (λ (fields : List Field). IsDelivered s (delivered_with s (codes "token1") named (as_current one) fields) c.deliver.result c.deliver.new.reply)
+    (ap (λ (k : Generated). token2_fields k.second) tokens) delivered)))))
+    (target_place rows named c.args.granted.now.second shaped.1)
+    c.requires.target c.deliver.ensures.delivery
+    (stands_after (bench_of c.draw.new.lease) c.in-Ok-Keys.keys.first kept c.requires.loaded (λ m loaded. made.1.operational m loaded operational))
+    c.deliver.ensures.size
+
+pub returns-in-Ok-Refused-clause-settles : goal.returns-in-Ok-Refused-clause-settles
+returns-in-Ok-Refused-clause-settles g c = λ role transport rows shaped.
+    let key_length = c.key_length_of-length.result in
+    let v = first_refusal (pair_questions c.args.first c.args.second key_length) in
+    let broken = c.judge_two-broken in
+    let request = asked csnbkgn_pair (role ∷ c.args.form.now ∷ c.args.length.now ∷ type_name c.args.first ∷ type_name c.args.second ∷ transport ∷ c.args.to.now ∷ []) in
+    let before = source c.args.entropy.now (g.E.Entropy.left c.args.entropy.now) (g.E.Entropy.faults c.args.entropy.now) in
+    let now = source c.draw.new.entropy (g.E.Entropy.left c.draw.new.entropy) (g.E.Entropy.faults c.draw.new.entropy) in
+    drawn_refused {request = request} {before = before} {now = now} (ap KeyBytes (sym c.key_length_of-length.ensures))
+    (λ s. two_verdict c.args.first c.args.second c.args.length.now key_length c.key_length_of-length.ensures)
+    c.draw.ensures.fault (λ some. c.draw.ensures.untouched (some_broken v broken.result broken.ensures.refused some))
+    c.in-Ok-Refused.is
+    (subst (λ (d : Drawn). MakesKeys v c.args.held.now (bench_of c.args.lease.now) c.pair_form_of.result key_length c.args.first c.args.second None (Some c.double_key_in-transport.result.now) (g.E.Entropy.left c.args.entropy.now) (g.E.Entropy.left c.draw.new.entropy) d) c.in-Ok-Refused.field-0-is (c.in-Ok-Refused.ensures.drawn v broken.ensures.refused))
+    c.requires.empty
+
+pub returns-in-Err-clause-settles : goal.returns-in-Err-clause-settles
+returns-in-Err-clause-settles g c = λ role transport rows shaped.
+    let key_length = c.key_length_of-length.result in
+    let v = first_refusal (pair_questions c.args.first c.args.second key_length) in
+    let broken = c.judge_two-broken in
+    let request = asked csnbkgn_pair (role ∷ c.args.form.now ∷ c.args.length.now ∷ type_name c.args.first ∷ type_name c.args.second ∷ transport ∷ c.args.to.now ∷ []) in
+    let before = source c.args.entropy.now (g.E.Entropy.left c.args.entropy.now) (g.E.Entropy.faults c.args.entropy.now) in
+    let now = source c.draw.new.entropy (g.E.Entropy.left c.draw.new.entropy) (g.E.Entropy.faults c.draw.new.entropy) in
+    drawn_stopped {request = request} {before = before} {now = now} (ap KeyBytes (sym c.key_length_of-length.ensures))
+    (λ s. two_verdict c.args.first c.args.second c.args.length.now key_length c.key_length_of-length.ensures)
+    c.draw.ensures.fault (λ some. c.draw.ensures.untouched (some_broken v broken.result broken.ensures.refused some))
+    c.in-Err.is c.in-Err.ensures.stops (none_broken v broken.result broken.ensures.refused c.in-Err.ensures.permitted) c.requires.empty

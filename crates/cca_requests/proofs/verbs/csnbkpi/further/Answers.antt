@@ -1,24 +1,65 @@
--- The token of the key stands for a key under the master keys, whatever the state.
-use Rattle.std.proofs.Common.{◌≡◌, ◌∙◌, sym, ap, subst, rules}
-use Rattle.std.specs.Prelude.{IsSome}
+use Rattle.std.proofs.Common.{◌≡◌, ◌∙◌, [], ◌∷◌, Bool, false, codes, refl, sym, ap, subst}
+use Rattle.std.specs.Prelude.{◌/◌, ◌||◌, is_some, length}
 use Rattle.key_cells.specs.Lease.{bench_of}
-use Rattle.key_tokens.specs.Denotes.{denoted}
-use Rattle.master_registers.specs.Loaded.{Loaded, masters_in}
-use Rattle.verb_rules.specs.Keys.{keys_of}
-use Rattle.cca_requests.proofs.Delivering.{delivery_ready, some_of}
+use Rattle.key_cells.specs.declared.leases.Lease.{Lease}
+use Rattle.key_parts.specs.Parts.{combined_key}
+use Rattle.key_tokens.specs.Denotes.{ClearKey}
+use Rattle.key_transport.specs.Tokens.{as_current}
+use Rattle.master_registers.specs.Loaded.{masters_in}
+use Rattle.verb_rules.specs.Keys.{opened}
+use Rattle.verb_script.specs.Grammar.{csnbkpi_middle}
+use Rattle.verb_script.specs.Values.{hex_value}
+use Rattle.verb_script.specs.Named.{label_named}
+use Rattle.cca_machine.specs.Act.{delivered}
+use Rattle.cca_machine.specs.Choices.{is_last_part}
+use Rattle.cca_machine.specs.Keys.{key_in_text, key_of_request}
+use Rattle.cca_machine.specs.Verdict.{first_refusal, further_part_questions}
+use Rattle.cca_requests.specs.Decided.{asked}
+use Rattle.cca_requests.specs.Deciding.{IsDelivered}
+use Rattle.cca_requests.specs.Drawing.{HasRefused}
+use Rattle.cca_requests.proofs.Acting.{key_is}
+use Rattle.cca_requests.proofs.Delivering.{either_left, either_right, stands_after, target_place}
+use Rattle.cca_requests.proofs.Settling.{delivery_settles, refused_settles}
 use Rattle.cca_requests.proofs.verbs.csnbkpi.further.Goals as goal
 
-pub returns-clause-ready : goal.returns-clause-ready
-returns-clause-ready c = λ rows held_place.
+pub returns-in-Some-clause-settles : goal.returns-in-Some-clause-settles
+returns-in-Some-clause-settles c = λ role key rows.
+    let bench = bench_of c.args.lease.now in
+    let request = asked csnbkpi_middle (role ∷ c.args.rule.now ∷ key ∷ c.args.part.now ∷ c.args.to.now ∷ []) in
+    let judged = c.key_in-key.result.now in
+    refused_settles refl
+    (λ s is.
+    let same : key_of_request s request ≡ opened bench judged =
+    key_is bench (key_in_text s key) c.args.granted.now.first judged is.grants.0 c.key_in-key.ensures.key c.key_in-key.ensures.under in
+    ap (λ (k : ClearKey). first_refusal (further_part_questions k.vector (length c.args.part.now / 2))) same ∙ c.in-Some.ensures.refused)
+    c.requires.empty c.in-Some.ensures.short
+
+pub returns-clause-settles : goal.returns-clause-settles
+returns-clause-settles c = λ role key rows.
     let held = c.args.held.now in
-    let old = bench_of c.args.lease.now in
-    let put = bench_of c.put_part.new.lease in
-    let new = bench_of c.combine_part-token.new.lease in
-    let token = c.combine_part-token.result in
-    let m = masters_in held old in
-    let loaded : Loaded m held put = search rules in
-    let same : masters_in held new ≡ m =
-    ap (λ l. masters_in held (bench_of l)) c.combine_part-token.ensures.stays ∙ ap (λ l. masters_in held (bench_of l)) c.put_part.ensures.stays in
-    let key : IsSome (denoted (keys_of m) token) = some_of _ _ (c.combine_part-token.ensures.denoted m loaded) in
-    delivery_ready rows c.args.place token held_place held new c.deliver.result c.deliver.new.reply c.deliver.ensures.delivery
-    (subst (λ k. IsSome (denoted (keys_of k) token)) (sym same) key) c.deliver.ensures.size
+    let bench = bench_of c.args.lease.now in
+    let named = label_named c.args.to.now in
+    let part = hex_value c.args.part.now in
+    let size = length c.args.part.now / 2 in
+    let request = asked csnbkpi_middle (role ∷ c.args.rule.now ∷ key ∷ c.args.part.now ∷ c.args.to.now ∷ []) in
+    let judged = c.key_in-key.result.now in
+    let none = subst (HasRefused (first_refusal (further_part_questions judged.token.vector size))) c.in_default.is c.judge.ensures.refused in
+    let kept : masters_in held (bench_of c.combined_token-token.new.lease) ≡ masters_in held (bench_of c.args.lease.now) = ap (λ (l : Lease). masters_in held (bench_of l)) c.combined_token-token.ensures.places in
+    delivery_settles named c.args.granted.now.second.place c.combined_token-token.result refl
+    (λ some. either_right (is_some (label_named key)) (is_some named || false) (either_left (is_some named) false some))
+    (λ s is.
+    let same : key_of_request s request ≡ opened bench judged =
+    key_is bench (key_in_text s key) c.args.granted.now.first judged is.grants.0 c.key_in-key.ensures.key c.key_in-key.ensures.under in
+    ap (λ (k : ClearKey). first_refusal (further_part_questions k.vector size)) same ∙ none)
+    (λ s is.
+    let same : key_of_request s request ≡ opened bench judged =
+    key_is bench (key_in_text s key) c.args.granted.now.first judged is.grants.0 c.key_in-key.ensures.key c.key_in-key.ensures.under in
+    let makes = λ (last : Bool) (k : ClearKey). IsDelivered s (delivered s (codes "token") named (as_current (combined_key last k part))) c.deliver.result c.deliver.new.reply in
+    subst (makes (is_last_part c.args.rule.now)) (sym same)
+    (subst (λ (last : Bool). makes last (opened bench judged)) c.is_last_part.ensures
+    (c.deliver.ensures.delivered s (as_current (combined_key c.is_last_part.result (opened bench judged) part)) (c.combined_token-token.ensures.token s.registers is.loaded)
+    (c.combined_token-token.ensures.denoted s.registers is.loaded) is.grants.1.0)))
+    (λ shaped. target_place rows named c.args.granted.now.second shaped.1)
+    c.requires.target c.deliver.ensures.delivery
+    (stands_after (bench_of c.combined_token-token.new.lease) c.combined_token-token.result kept c.requires.loaded c.combined_token-token.ensures.denoted)
+    c.deliver.ensures.size

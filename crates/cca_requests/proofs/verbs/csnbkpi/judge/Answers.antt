@@ -7,13 +7,13 @@ use Rattle.cca_machine.specs.Verdict.{refusal}
 use Rattle.cca_requests.proofs.KeyParts.{part_permitted, part_refusal}
 use Rattle.cca_requests.proofs.verbs.csnbkpi.judge.Goals as goal
 
-pub returns-in-Ok : goal.returns-in-Ok
-returns-in-Ok c =
+pub returns-in-Ok-clause-refused : goal.returns-in-Ok-clause-refused
+returns-in-Ok-clause-refused c =
     let vector = c.args.key.now.token.vector in
-    part_permitted (c.args.length == length_of vector) (not (is_part_of vector)) c.in-Ok.ensures
+    part_permitted (c.args.size == length_of vector) (not (is_part_of vector)) c.in-Ok.ensures
 
-pub returns-in-Err : goal.returns-in-Err
-returns-in-Err c =
+pub returns-in-Err-clause-refused : goal.returns-in-Err-clause-refused
+returns-in-Err-clause-refused c =
     let vector = c.args.key.now.token.vector in
-    part_refusal (c.args.length == length_of vector) (not (is_part_of vector)) (rule_number c.in-Err.rule) c.in-Err.ensures
-    ∙ ap (λ operand. Some (refusal (rule_number c.in-Err.rule) operand)) (sym c.broken_by.ensures)
+    part_refusal (c.args.size == length_of vector) (not (is_part_of vector)) (rule_number c.in-Err.rule) c.in-Err.ensures
+    ∙ ap (λ operand. Some (refusal (rule_number c.in-Err.rule) operand)) (sym c.broken_by.ensures.operand)
