@@ -1,5 +1,5 @@
-"""Each file that is made by a script is what the script makes: the table of requests with what is made from it, and the test vectors. And
-the completion for bash, in bash."""
+"""Each file that is made by a script is what the script makes: the table of requests with what is made from it, the circuits of the
+S-boxes, and the test vectors. And the completion for bash, in bash."""
 import shutil
 import subprocess
 import sys
@@ -18,6 +18,9 @@ class Generated(unittest.TestCase):
 
     def test_table(self):
         self.checked("clients/make_verbs.py")
+
+    def test_circuits(self):
+        self.checked("tools/circuits/write")
 
     @unittest.skipUnless(shutil.which("openssl"), "openssl isn't installed")
     def test_vectors(self):

@@ -48,6 +48,11 @@ EDITED = {
         [Edit("docs/VERBS.md", r"(Point: RNG\. No master key is needed\. Rules: 01 to) 04", r"\1 05")],
         r"CSNBRNG: docs/VERBS\.md has other rules: 05",
     ),
+    "circuits": (
+        [sys.executable, "-m", "unittest", "tests.generated"],
+        [Edit("tools/circuits/boxes.txt", r"(?m)^7 and ", "7 or ")],
+        r"src/boxes\.rt isn't what",
+    ),
     "vectors": (
         [sys.executable, "-m", "unittest", "tests.generated"],
         [Edit("clients/vectors/macs.json", '"mac": "f1d30f', '"mac": "f1d30e')],
