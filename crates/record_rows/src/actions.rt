@@ -1,6 +1,4 @@
 //! Actions on a store of six cells, and the bodies that they leave.
-ghost use Rattle.std.specs.Prelude.{◌≡◌};
-ghost use Rattle.key_records.specs.declared.records.TheConstants.{STORE_LEN};
 
 use crate::bodies::{CURRENT, OLD, body_of, both_of, bytes_of, token_of};
 use crate::changing::{Change, carry_out};
@@ -18,9 +16,7 @@ pub(crate) fn run_as<D: Disk>(
     image: &[u8; 1536],
     action: StoreAction,
     store: &mut D,
-) -> Result<(u32, bool), Stop>
-    requires { (D.medium store.old).size ≡ STORE_LEN }
-{
+) -> Result<(u32, bool), Stop> {
     match carry_out(alloc, image, store, Change::Run(action)) {
         Ok((records, changed)) => Ok((changed, records.any_ahead())),
         Err(stop) => Err(stop),

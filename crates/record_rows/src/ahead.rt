@@ -4,9 +4,8 @@ use crate::actions::{cells_after, cells_ahead, module_ahead, run_as, selects, to
 use crate::bodies::{body_of, both_of, token_of};
 use crate::masters::{counting, module_after_set, module_image, module_of, module_with_new};
 use crate::stores::{Stop, store_of};
-use key_records::{RecordFault, STORE_LEN};
+use key_records::RecordFault;
 use reencipher::StoreAction;
-use slot_disk::Disk;
 use std::test::Fail;
 
 const NEW: u64 = 0x8b8d_2b13_69c2_d526;
@@ -40,7 +39,6 @@ fn ahead_and_back(rt: HostRuntime) -> Result<(), Fail> {
         (StoreAction::Drop, (4, false), 37, cells_after()),
         (StoreAction::Drop, (0, false), 38, cells_after()),
     ] {
-        assert!(rt; store.size() == STORE_LEN);
         assert_eq!(rt; run_as(rt.alloc(), &module, action, &mut store), Ok(wanted));
         assert_eq!(rt; store.noted(), noted, "{action:?}");
         assert!(rt; selects(&mut store, &cells)?, "{action:?}");
@@ -115,7 +113,6 @@ fn labels_of_each_kind(rt: HostRuntime) -> Result<(), Fail> {
         (StoreAction::Drop, (1, false), dropped),
     ] {
         let mut store = store_of(rt.alloc(), &kinds(), 100)?;
-        assert!(rt; store.size() == STORE_LEN);
         assert_eq!(rt; run_as(rt.alloc(), &module, action, &mut store), Ok(wanted));
         assert!(rt; selects(&mut store, &cells)?, "{action:?}");
     }
@@ -128,7 +125,6 @@ fn labels_of_each_kind(rt: HostRuntime) -> Result<(), Fail> {
         (StoreAction::Drop, (5, false), all_dropped),
         (StoreAction::Drop, (0, false), all_dropped),
     ] {
-        assert!(rt; store.size() == STORE_LEN);
         assert_eq!(rt; run_as(rt.alloc(), &module, action, &mut store), Ok(wanted));
         assert!(rt; selects(&mut store, &cells)?, "{action:?}");
     }
@@ -145,7 +141,6 @@ fn after_set(rt: HostRuntime) -> Result<(), Fail> {
         (StoreAction::Drop, Ok((0, false))),
         (StoreAction::Ahead, Err(Stop::Taken)),
     ] {
-        assert!(rt; store.size() == STORE_LEN);
         assert_eq!(rt; run_as(rt.alloc(), &module, action, &mut store), wanted);
         assert!(rt; selects(&mut store, &cells_ahead())?, "{action:?}");
     }
@@ -157,7 +152,6 @@ fn after_set(rt: HostRuntime) -> Result<(), Fail> {
 fn under_the_old_second_token(rt: HostRuntime) -> Result<(), Fail> {
     let module = module_image();
     let mut store = store_of(rt.alloc(), &cells_ahead(), 100)?;
-    assert!(rt; store.size() == STORE_LEN);
     assert_eq!(rt;
         run_as(rt.alloc(), &module, StoreAction::Renew, &mut store),
         Ok((4, false))
@@ -176,7 +170,6 @@ fn broken_second_tokens(rt: HostRuntime) -> Result<(), Fail> {
         (set_module(), Ok((0, false))),
     ] {
         let mut store = store_of(rt.alloc(), &cells, 100)?;
-        assert!(rt; store.size() == STORE_LEN);
         assert_eq!(rt;
             run_as(rt.alloc(), &module, StoreAction::Renew, &mut store),
             wanted
@@ -184,7 +177,6 @@ fn broken_second_tokens(rt: HostRuntime) -> Result<(), Fail> {
     }
     let cleared = module_of((0, [0; 24]), counting(0, 1), (0, [0; 24]));
     let mut store = store_of(rt.alloc(), &cells_ahead(), 100)?;
-    assert!(rt; store.size() == STORE_LEN);
     let found = run_as(rt.alloc(), &cleared, StoreAction::Renew, &mut store);
     assert_eq!(rt; found, Err(Stop::Open(RecordFault::Damaged(0))));
     // A byte after the second token, and the right half of a second token of a single-length key.
@@ -192,7 +184,6 @@ fn broken_second_tokens(rt: HostRuntime) -> Result<(), Fail> {
         let mut cells = cells_ahead();
         cells[label][at] ^= 1;
         let mut store = store_of(rt.alloc(), &cells, 100)?;
-        assert!(rt; store.size() == STORE_LEN);
         let found = run_as(rt.alloc(), &set_module(), StoreAction::Renew, &mut store);
         assert_eq!(rt;
             found,

@@ -4,7 +4,6 @@ ghost use Rattle.key_cells.specs.Lease.{bench_of};
 ghost use Rattle.key_records.specs.Directory.{label_at};
 ghost use Rattle.key_records.specs.Entries.{row_directory};
 ghost use Rattle.key_records.specs.StoreStands.{HasStore};
-ghost use Rattle.key_records.specs.declared.records.TheConstants.{STORE_LEN};
 ghost use Rattle.key_tokens.specs.declared.key_token.Asked.{Asked};
 ghost use Rattle.master_registers.specs.Loaded.{IsLoaded};
 
@@ -35,9 +34,7 @@ pub(crate) fn carry_out<D: Disk>(
     module: &[u8; 1536],
     store: &mut D,
     change: Change,
-) -> Result<(Records, u32), Stop>
-    requires { (D.medium store.old).size ≡ STORE_LEN }
-{
+) -> Result<(Records, u32), Stop> {
     if settle(store).is_err() {
         return Err(Stop::Settle);
     }

@@ -6,7 +6,7 @@ use crate::masters::module_image;
 use crate::stores::{Stop, cell_body, numbered, opened, put_body, store_of, sure_label};
 use key_cells::{Lease, Workbench};
 use key_records::{Label, RecordFault, Records, STORE_LEN};
-use slot_disk::{Disk, MemoryDisk, Steps};
+use slot_disk::{MemoryDisk, Steps};
 use std::alloc::Global;
 use std::cmp::Ordering;
 use std::test::Fail;
@@ -58,7 +58,6 @@ fn order_of_labels(rt: HostRuntime) -> Result<(), Fail> {
     let mut store = store_of(alloc, &bodies, 100)?;
     let mut bench = Workbench::new();
     let mut lease = Lease::open(&mut bench);
-    assert!(rt; store.size() == STORE_LEN);
     let records = opened(alloc, &module_image(), &mut store, &mut lease).or_else(|_| Err(
         "not opened",
     ))?;
@@ -113,7 +112,6 @@ fn a_full_store(rt: HostRuntime) -> Result<(), Fail> {
             Err(Stop::Change(RecordFault::Full)),
         ),
     ] {
-        assert!(rt; store.size() == STORE_LEN);
         let done = carry_out(alloc, &module_image(), &mut store, change).map(|_| ());
         assert!(rt; done == wanted, "{change:?}");
     }
@@ -148,7 +146,6 @@ fn labels_in_order(rt: HostRuntime) -> Result<(), Fail> {
     let mut store = full_store(alloc)?;
     let mut bench = Workbench::new();
     let mut lease = Lease::open(&mut bench);
-    assert!(rt; store.size() == STORE_LEN);
     let records = opened(alloc, &module_image(), &mut store, &mut lease).or_else(|_| Err(
         "not opened",
     ))?;

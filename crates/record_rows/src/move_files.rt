@@ -1,6 +1,4 @@
 //! The whole file and report of a small store, and a fault at each call of a device.
-ghost use Rattle.std.specs.Prelude.{◌≡◌};
-ghost use Rattle.key_records.specs.declared.records.TheConstants.{STORE_LEN};
 
 use crate::bodies::body_of;
 use crate::masters::load_masters;
@@ -72,9 +70,7 @@ pub(crate) fn move_store<D: Disk>(
     store: &mut D,
     file: &mut MemorySink,
     report: &mut MemorySink,
-) -> Result<Result<(), MoveFault>, Stop>
-    requires { (D.medium store.old).size ≡ STORE_LEN }
-{
+) -> Result<Result<(), MoveFault>, Stop> {
     let how = how_to_move()?;
     let mut bench = Workbench::new();
     let mut lease = Lease::open(&mut bench);
@@ -105,7 +101,6 @@ fn a_store_is_told(rt: HostRuntime) -> Result<(), Fail> {
     let mut store = store_of(alloc, 0)?;
     let mut file = sink_of(alloc, 1000, 6)?;
     let mut report = sink_of(alloc, 1000, 4)?;
-    assert!(rt; store.size() == STORE_LEN);
     let found = move_store(alloc, true, &mut store, &mut file, &mut report);
     assert_eq!(rt; found, Ok(Ok(())));
     assert_eq!(rt; file.bytes(), FILE);
@@ -139,7 +134,6 @@ fn a_sink_fails(rt: HostRuntime) -> Result<(), Fail> {
         let mut store = store_of(alloc, 0)?;
         let mut file = sink_of(alloc, file_room, file_write)?;
         let mut report = sink_of(alloc, report_room, report_write)?;
-        assert!(rt; store.size() == STORE_LEN);
         let found = move_store(alloc, true, &mut store, &mut file, &mut report);
         assert_eq!(rt; found, Ok(wanted), "{file_write} {report_write}");
         assert_eq!(rt; (file.bytes().len(), report.bytes().len()), (sent, told));
@@ -168,7 +162,6 @@ fn the_store_fails(rt: HostRuntime) -> Result<(), Fail> {
         let mut file = sink_of(alloc, 1000, 9)?;
         let mut report = sink_of(alloc, 1000, 9)?;
         store.fail_at(call);
-        assert!(rt; store.size() == STORE_LEN);
         let found = move_store(alloc, true, &mut store, &mut file, &mut report);
         assert_eq!(rt; found, Ok(wanted), "at call {call}");
         assert_eq!(rt; (file.bytes().len(), report.bytes().len()), (sent, told));
@@ -184,7 +177,6 @@ fn a_record_is_damaged(rt: HostRuntime) -> Result<(), Fail> {
     let mut store = store_of(alloc, 0)?;
     let mut file = sink_of(alloc, 1000, 9)?;
     let mut report = sink_of(alloc, 1000, 9)?;
-    assert!(rt; store.size() == STORE_LEN);
     let found = move_store(alloc, false, &mut store, &mut file, &mut report);
     let damaged = MoveFault::Store(RecordFault::Damaged(6));
     assert_eq!(rt; found, Ok(Err(damaged)));

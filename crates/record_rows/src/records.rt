@@ -1,6 +1,4 @@
 //! The records of labels by their bytes, what they show, and a fault at each call of the disk.
-ghost use Rattle.std.specs.Prelude.{◌≡◌};
-ghost use Rattle.key_records.specs.declared.records.TheConstants.{STORE_LEN};
 
 use crate::bodies::{body_of, bytes_of, with_byte, with_words};
 use crate::changing::{Change, carry_out};
@@ -49,9 +47,7 @@ fn shown<D: Disk>(
     alloc: Global,
     store: &mut D,
     label: &Label,
-) -> Result<Result<Option<[u8; 64]>, RecordFault>, Stop>
-    requires { (D.medium store.old).size ≡ STORE_LEN }
-{
+) -> Result<Result<Option<[u8; 64]>, RecordFault>, Stop> {
     let mut bench = Workbench::new();
     let mut lease = Lease::open(&mut bench);
     let records = opened(alloc, &module_image(), store, &mut lease)?;
@@ -98,17 +94,14 @@ fn changes(rt: HostRuntime) -> Result<(), Fail> {
         (Change::Delete(a), 0, [0; 192], (b, Some(with_flag))),
         (Change::Create(c), 0, body_of(1, b"C#1", &none), (c, None)),
     ] {
-        assert!(rt; store.size() == STORE_LEN);
         let done = carry_out(alloc, &module_image(), &mut store, change);
         assert!(rt; done.is_ok(), "{change:?}");
         assert!(rt; cell_body(&mut store, cell)? == body, "{change:?}");
-        assert!(rt; store.size() == STORE_LEN);
         assert!(rt;
             shown(alloc, &mut store, &shows.0) == Ok(Ok(shows.1)),
             "{change:?}"
         );
     }
-    assert!(rt; store.size() == STORE_LEN);
     assert!(rt; shown(alloc, &mut store, &a) == Err(Stop::Unknown));
     Ok(())
 }
@@ -130,7 +123,6 @@ fn keys_under_a_master_key(rt: HostRuntime) -> Result<(), Fail> {
         (Change::Write(a, with_flag), true, false),
         (Change::Delete(a), false, false),
     ] {
-        assert!(rt; store.size() == STORE_LEN);
         let done = carry_out(alloc, &module_image(), &mut store, change);
         let (records, _) = done.or_else(|_| Err("not changed"))?;
         assert_eq!(rt; records.any_under(&current), under_current, "{change:?}");
@@ -191,7 +183,6 @@ fn damaged_cells(rt: HostRuntime) -> Result<(), Fail> {
         put(&mut store, second.0, &second.1)?;
         let mut bench = Workbench::new();
         let mut lease = Lease::open(&mut bench);
-        assert!(rt; store.size() == STORE_LEN);
         let found = opened(alloc, &module_image(), &mut store, &mut lease).map(|_| ());
         assert!(rt; found == wanted, "{first:?}");
     }
@@ -210,7 +201,6 @@ fn a_record_is_read_once(rt: HostRuntime) -> Result<(), Fail> {
         let mut store = MemoryDisk::new(alloc, STORE_LEN, 10)?;
         put(&mut store, 0, &body_of(2, b"KEY", &token))?;
         store.fail_at(call);
-        assert!(rt; store.size() == STORE_LEN);
         assert!(rt; shown(alloc, &mut store, &key) == wanted, "at call {call}");
     }
     Ok(())
@@ -245,10 +235,8 @@ fn a_fault_at_each_call(rt: HostRuntime) -> Result<(), Fail> {
     ] {
         let mut store = MemoryDisk::new(alloc, STORE_LEN, 20)?;
         store.fail_at(call);
-        assert!(rt; store.size() == STORE_LEN);
         let done = carry_out(alloc, &module_image(), &mut store, Change::Create(a)).map(|_| ());
         assert!(rt; done == wanted, "at call {call}");
-        assert!(rt; store.size() == STORE_LEN);
         assert!(rt; shown(alloc, &mut store, &a) == left, "at call {call}");
     }
     Ok(())

@@ -1,20 +1,16 @@
 //! A store that is put under the current master key, with a fault at a call and a stop at each.
-ghost use Rattle.std.specs.Prelude.{◌≡◌};
-ghost use Rattle.key_records.specs.declared.records.TheConstants.{STORE_LEN};
 
 use crate::actions::{cells, cells_after, run_as, selects};
 use crate::masters::module_image;
 use crate::stores::{Stop, store_of};
-use key_records::{RecordFault, STORE_LEN};
+use key_records::RecordFault;
 use reencipher::StoreAction;
 use slot_disk::{Disk, MemoryDisk, Torn};
 use std::alloc::Global;
 use std::test::Fail;
 
 /// Settles a store, opens its records and puts them under the current master key.
-fn run<D: Disk>(alloc: Global, store: &mut D) -> Result<u32, Stop>
-    requires { (D.medium store.old).size ≡ STORE_LEN }
-{
+fn run<D: Disk>(alloc: Global, store: &mut D) -> Result<u32, Stop> {
     match run_as(alloc, &module_image(), StoreAction::Renew, store) {
         Ok((changed, _)) => Ok(changed),
         Err(stop) => Err(stop),
@@ -28,7 +24,6 @@ fn a_run_and_another(rt: HostRuntime) -> Result<(), Fail> {
     let mut store = store_of(rt.alloc(), &cells().map(|pair| pair[0]), 100)?;
     assert!(rt; !selects(&mut store, &cells_after())?);
     for (wanted, noted) in [(Ok(3), 13), (Ok(0), 14)] {
-        assert!(rt; store.size() == STORE_LEN);
         assert_eq!(rt; run(rt.alloc(), &mut store), wanted);
         assert!(rt; selects(&mut store, &cells_after())?);
         assert_eq!(rt; store.noted(), noted);
@@ -54,10 +49,8 @@ fn a_fault_at_a_call(rt: HostRuntime) -> Result<(), Fail> {
     ] {
         let mut store = store_of(rt.alloc(), &cells().map(|pair| pair[0]), 100)?;
         store.fail_at(call);
-        assert!(rt; store.size() == STORE_LEN);
         assert_eq!(rt; run(rt.alloc(), &mut store), wanted, "at call {call}");
         if call < 2074 {
-            assert!(rt; store.size() == STORE_LEN);
             assert_eq!(rt; run(rt.alloc(), &mut store), Ok(left), "at call {call}");
             assert!(rt; selects(&mut store, &cells_after())?, "at call {call}");
         }
@@ -76,9 +69,6 @@ fn left_after(
         return Err(Fail::from("no such call"));
     }
     let mut store = whole.crash(alloc, noted, torn, 100)?;
-    if store.size() != STORE_LEN {
-        return Err(Fail::from("another size"));
-    }
     let left = run(alloc, &mut store);
     if !selects(&mut store, &cells_after())? {
         return Err(Fail::from("another body"));
@@ -91,7 +81,6 @@ fn left_after(
 #[test]
 fn a_stop_at_each_body(rt: HostRuntime) -> Result<(), Fail> {
     let mut whole = store_of(rt.alloc(), &cells().map(|pair| pair[0]), 100)?;
-    assert!(rt; whole.size() == STORE_LEN);
     assert_eq!(rt; run(rt.alloc(), &mut whole), Ok(3));
     for (noted, left) in [(2, 3), (6, 2), (10, 1)] {
         for torn in [
@@ -112,7 +101,6 @@ fn a_stop_at_each_body(rt: HostRuntime) -> Result<(), Fail> {
 #[test]
 fn a_stop_at_each_selector(rt: HostRuntime) -> Result<(), Fail> {
     let mut whole = store_of(rt.alloc(), &cells().map(|pair| pair[0]), 100)?;
-    assert!(rt; whole.size() == STORE_LEN);
     assert_eq!(rt; run(rt.alloc(), &mut whole), Ok(3));
     for (noted, before, after) in [(4, 3, 2), (8, 2, 1), (12, 1, 0)] {
         for (torn, left) in [

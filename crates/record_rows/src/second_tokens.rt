@@ -1,6 +1,4 @@
 //! Records of keys with two tokens: damaged ones, what they show, a full store, and a fault at each call.
-ghost use Rattle.std.specs.Prelude.{◌≡◌};
-ghost use Rattle.key_records.specs.declared.records.TheConstants.{STORE_LEN};
 
 use crate::bodies::{CURRENT, OLD, body_of, both_of, bytes_of, second_of, with_byte, with_words};
 use crate::changing::{Change, carry_out};
@@ -104,9 +102,7 @@ fn shows<D: Disk>(
     alloc: Global,
     module: &[u8; 1536],
     store: &mut D,
-) -> Result<(bool, [u8; 64]), Stop>
-    requires { (D.medium store.old).size ≡ STORE_LEN }
-{
+) -> Result<(bool, [u8; 64]), Stop> {
     let mut bench = Workbench::new();
     let mut lease = Lease::open(&mut bench);
     let records = opened(alloc, module, store, &mut lease)?;
@@ -137,7 +133,6 @@ fn two_tokens(rt: HostRuntime) -> Result<(), Fail> {
         (set_module(), DOUBLE, DOUBLE_NEW, false, DOUBLE_NEW),
     ] {
         let mut store = store_with(alloc, &two_of(b"KEY", &first, &second))?;
-        assert!(rt; store.size() == STORE_LEN);
         let found = shows(alloc, &module, &mut store);
         assert!(rt;
             found == Ok((ahead, bytes_of(&token))),
@@ -189,7 +184,6 @@ fn damaged_second_forms(rt: HostRuntime) -> Result<(), Fail> {
         ),
     ] {
         let mut store = store_with(alloc, &two_of(b"KEY", &first, &second))?;
-        assert!(rt; store.size() == STORE_LEN);
         let found = shows(alloc, &module, &mut store);
         assert!(rt;
             found == Err(Stop::Open(RecordFault::Damaged(5))),
@@ -209,7 +203,6 @@ fn damaged_second_forms(rt: HostRuntime) -> Result<(), Fail> {
         with_byte(turned, 0, 4),
     ] {
         let mut store = store_with(alloc, &body)?;
-        assert!(rt; store.size() == STORE_LEN);
         let found = shows(alloc, &full, &mut store);
         assert!(rt;
             found == Err(Stop::Open(RecordFault::Damaged(5))),
@@ -232,7 +225,6 @@ fn turned_labels(rt: HostRuntime) -> Result<(), Fail> {
     let new = second_of(&NEW).pattern;
     let mut bench = Workbench::new();
     let mut lease = Lease::open(&mut bench);
-    assert!(rt; store.size() == STORE_LEN);
     let mut records = opened(alloc, &full_module(), &mut store, &mut lease).or_else(|_| Err(
         "not opened",
     ))?;
@@ -269,7 +261,6 @@ fn a_full_store_ahead(rt: HostRuntime) -> Result<(), Fail> {
     let mut store = MemoryDisk::from_image(alloc, &image, 20)?;
     let mut bench = Workbench::new();
     let mut lease = Lease::open(&mut bench);
-    assert!(rt; store.size() == STORE_LEN);
     let mut records = opened(alloc, &module, &mut store, &mut lease).or_else(|_| Err(
         "not opened",
     ))?;
@@ -279,16 +270,16 @@ fn a_full_store_ahead(rt: HostRuntime) -> Result<(), Fail> {
     assert!(rt; !records.any_ahead() && !records.any_under(&second_of(&CURRENT).pattern));
     let other = with_words(NEW, &[(2, OTHER_LEFT)]);
     put(&mut store, 1023, &two_of(b"L1023", &CURRENT, &other))?;
-    assert!(rt; store.size() == STORE_LEN);
     let found = opened(alloc, &module, &mut store, &mut lease).map(|_| ());
     assert!(rt; found == Err(Stop::Open(RecordFault::Damaged(1023))));
     Ok(())
 }
 
 /// The body of the first cell, where the disk gives it.
-fn body_left<D: Disk>(store: &mut D) -> Option<[u8; 192]>
-    requires { (D.medium store.old).size ≡ STORE_LEN }
-{
+fn body_left<D: Disk>(store: &mut D) -> Option<[u8; 192]> {
+    if store.size() != STORE_LEN {
+        return None;
+    }
     let mut body = [0; 192];
     match read_cell(store, Cell::new(0), &mut body) {
         Ok(()) => Some(body),
@@ -324,11 +315,9 @@ fn changes_of_labels_ahead(rt: HostRuntime) -> Result<(), Fail> {
     ] {
         let mut store = MemoryDisk::new(alloc, STORE_LEN, 30)?;
         put(&mut store, 0, &before)?;
-        assert!(rt; store.size() == STORE_LEN);
         let done = carry_out(alloc, &full_module(), &mut store, first);
         let (mut records, _) = done.or_else(|_| Err("not changed"))?;
         if let Some(second) = second {
-            assert!(rt; store.size() == STORE_LEN);
             let done = carry_out(alloc, &full_module(), &mut store, second);
             (records, _) = done.or_else(|_| Err("not changed"))?;
         }
@@ -360,11 +349,9 @@ fn a_fault_at_each_call_of_two_tokens(rt: HostRuntime) -> Result<(), Fail> {
         let mut store = MemoryDisk::new(alloc, STORE_LEN, 20)?;
         put(&mut store, 0, &one)?;
         store.fail_at(call);
-        assert!(rt; store.size() == STORE_LEN);
         let change = Change::Run(StoreAction::Ahead);
         let done = carry_out(alloc, &full_module(), &mut store, change).map(|_| ());
         assert!(rt; done == wanted, "at call {call}");
-        assert!(rt; store.size() == STORE_LEN);
         assert!(rt; body_left(&mut store) == left, "at call {call}");
     }
     Ok(())

@@ -2,9 +2,9 @@
 
 use crate::actions::{cells_after, cells_ahead, count_others, module_ahead, run_as, selects};
 use crate::stores::{Stop, store_of};
-use key_records::{RecordFault, STORE_LEN};
+use key_records::RecordFault;
 use reencipher::StoreAction;
-use slot_disk::{Disk, MemoryDisk, Torn};
+use slot_disk::{MemoryDisk, Torn};
 use std::alloc::Global;
 use std::test::Fail;
 
@@ -26,9 +26,6 @@ fn ends_of(action: StoreAction) -> [[[u8; 192]; 6]; 2] {
 fn finishes(alloc: Global, action: StoreAction, store: &mut MemoryDisk) -> Result<bool, Fail> {
     let [_, after] = ends_of(action);
     let left = count_others(store, &after)?;
-    if store.size() != STORE_LEN {
-        return Err(Fail::from("another size"));
-    }
     let wanted = (left, action == StoreAction::Ahead);
     let found = run_as(alloc, &module_ahead(), action, store);
     Ok(found == Ok(wanted) && selects(store, &after)?)
@@ -58,7 +55,6 @@ fn faults_of_ahead_and_drop(rt: HostRuntime) -> Result<(), Fail> {
         let [before, _] = ends_of(action);
         let mut store = store_of(rt.alloc(), &before, 100)?;
         store.fail_at(call);
-        assert!(rt; store.size() == STORE_LEN);
         let found = run_as(rt.alloc(), &module_ahead(), action, &mut store);
         if fails {
             let wanted = Err(Stop::Run(RecordFault::DiskFault));

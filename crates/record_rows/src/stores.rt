@@ -18,6 +18,8 @@ use verb_rules::Rule;
 #[derive(Clone, Copy, Debug, PartialEq, Eq)]
 pub(crate) enum Stop {
     Memory,
+    /// The disk has another size than a store.
+    Size,
     Settle,
     Load,
     Open(RecordFault),
@@ -35,17 +37,20 @@ pub(crate) enum Stop {
     Refused(Rule),
 }
 
-/// The records of a store, as they are opened.
+/// The records of a store, as they are opened, where the disk has the size of one.
 pub(crate) fn opened<D: Disk>(
     alloc: Global,
     module: &[u8; 1536],
     store: &mut D,
     lease: &mut Lease,
 ) -> Result<Records, Stop>
-    requires size { (D.medium store.old).size ≡ STORE_LEN }
+    ensures size { IfOk result (λ _. (D.medium store.old).size ≡ STORE_LEN) }
     ensures holds { IfOk result (λ records. Told (D.medium store.new) (HoldsRows records)) }
     ensures keeps { Keeps (D.medium store.old) (D.medium store.new) }
 {
+    if store.size() != STORE_LEN {
+        return Err(Stop::Size);
+    }
     let held = load_masters(alloc, module, lease)?;
     let Ok(mut records) = Records::new(alloc) else {
         return Err(Stop::Memory);

@@ -1,6 +1,5 @@
 //! Keys of a store, moved and judged.
 ghost use Rattle.std.specs.Prelude.{◌≡◌};
-ghost use Rattle.key_records.specs.declared.records.TheConstants.{STORE_LEN};
 
 use crate::bodies::{body_of, both_of, bytes_of, token_of};
 use crate::masters::load_masters;
@@ -59,9 +58,7 @@ fn moved_by<D: Disk>(
     store: &mut D,
     transport: u8,
     text: u8,
-) -> Result<Moved, Stop>
-    requires { (D.medium store.old).size ≡ STORE_LEN }
-{
+) -> Result<Moved, Stop> {
     let mut bench = Workbench::new();
     let mut lease = Lease::open(&mut bench);
     let records = opened(alloc, &module_image(), store, &mut lease)?;
@@ -78,9 +75,7 @@ pub(crate) fn moved<D: Disk>(
     store: &mut D,
     transport: u8,
     text: u8,
-) -> Result<Moved, Stop>
-    requires { (D.medium store.old).size ≡ STORE_LEN }
-{
+) -> Result<Moved, Stop> {
     moved_by(alloc, true, store, transport, text)
 }
 
@@ -148,7 +143,6 @@ fn what_comes_of_a_label(rt: HostRuntime) -> Result<(), Fail> {
     ] {
         for transport in [b'E', b'F'] {
             let mut store = store_of(rt.alloc(), 0)?;
-            assert!(rt; store.size() == STORE_LEN);
             let found = moved(rt.alloc(), &mut store, transport, label);
             assert_eq!(rt; found, Ok(wanted), "{label} under {transport}");
         }
@@ -161,9 +155,7 @@ fn judged<D: Disk>(
     alloc: Global,
     store: &mut D,
     text: u8,
-) -> Result<Result<Option<Age>, Rule>, Stop>
-    requires { (D.medium store.old).size ≡ STORE_LEN }
-{
+) -> Result<Result<Option<Age>, Rule>, Stop> {
     let mut bench = Workbench::new();
     let mut lease = Lease::open(&mut bench);
     let records = opened(alloc, &module_image(), store, &mut lease)?;
@@ -192,7 +184,6 @@ fn transport_keys_are_judged(rt: HostRuntime) -> Result<(), Fail> {
         (b'H', Err(Rule::TransportLength)),
     ] {
         let mut store = store_of(rt.alloc(), 0)?;
-        assert!(rt; store.size() == STORE_LEN);
         let found = judged(rt.alloc(), &mut store, label);
         assert_eq!(rt; found, Ok(wanted), "{label}");
     }
@@ -248,7 +239,6 @@ fn a_moved_key_comes_back(rt: HostRuntime) -> Result<(), Fail> {
         (b'F', keys[4]),
     ] {
         let mut store = store_of(rt.alloc(), 0)?;
-        assert!(rt; store.size() == STORE_LEN);
         let back = match moved(rt.alloc(), &mut store, b'E', label) {
             Ok(Moved::Token(token)) => imported(rt.alloc(), &token, &importer),
             Ok(Moved::Kept(rule)) => Err(Stop::Kept(rule)),
@@ -272,7 +262,6 @@ fn a_fault_at_a_read(rt: HostRuntime) -> Result<(), Fail> {
     ] {
         let mut store = store_of(rt.alloc(), 0)?;
         store.fail_at(call);
-        assert!(rt; store.size() == STORE_LEN);
         let found = moved(rt.alloc(), &mut store, b'E', b'N');
         assert_eq!(rt; found, wanted, "at call {call}");
     }
@@ -289,7 +278,6 @@ fn a_token_under_no_register(rt: HostRuntime) -> Result<(), Fail> {
         (b'X', Ok(Moved::Kept(Rule::Export))),
     ] {
         let mut store = store_of(rt.alloc(), 0)?;
-        assert!(rt; store.size() == STORE_LEN);
         let found = moved_by(rt.alloc(), false, &mut store, b'E', label);
         assert_eq!(rt; found, wanted, "{label}");
     }
