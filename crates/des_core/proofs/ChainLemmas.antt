@@ -31,7 +31,7 @@ bytes-xor_first (suc k) a b =
 pub bytes-xor : (a b : ℕ) → to_be_bytes w64 (bit_xor a b) ≡ xor (to_be_bytes w64 a) (to_be_bytes w64 b)
 bytes-xor a b = bytes-xor_first 8 a b
 
-bytes-of : (n : ℕ) → to_be_bytes w64 n ≡ to_bytes (bits 64 n)
+pub bytes-of : (n : ℕ) → to_be_bytes w64 n ≡ to_bytes (bits 64 n)
 bytes-of n = sym (to_bytes-byte_bits (to_be_bytes w64 n) (small-to_be_bytes n)) ∙ ap to_bytes (byte_bits-to_be_bytes n)
 
 -- a block combined with the chain and put through a cipher on bits
@@ -48,7 +48,7 @@ ded_bytes-word keys block word chain out p is =
 
 -- ---- pieces of a text
 
-pieces-append : (i k : ℕ) (xs ys : List ℕ) → length xs ≡ 8 * i → pieces (i + k) 8 (xs ++ ys) ≡ pieces i 8 xs ++ pieces k 8 ys
+pub pieces-append : (i k : ℕ) (xs ys : List ℕ) → length xs ≡ 8 * i → pieces (i + k) 8 (xs ++ ys) ≡ pieces i 8 xs ++ pieces k 8 ys
 unfolding pieces
 pieces-append zero k xs ys e =
     let none : xs ≡ [] = nil_from_length xs (omega arith) in
@@ -66,11 +66,11 @@ pieces-one : (xs : List ℕ) → pieces 1 8 xs ≡ take 8 xs ∷ []
 unfolding pieces
 pieces-one xs = refl
 
-pieces-none : (n : ℕ) (xs : List ℕ) → pieces 0 n xs ≡ []
+pub pieces-none : (n : ℕ) (xs : List ℕ) → pieces 0 n xs ≡ []
 unfolding pieces
 pieces-none n xs = refl
 
-pieces-take : (i : ℕ) (text : List ℕ) → 8 * i ≤ length text → pieces i 8 (take (8 * i) text) ≡ pieces i 8 text
+pub pieces-take : (i : ℕ) (text : List ℕ) → 8 * i ≤ length text → pieces i 8 (take (8 * i) text) ≡ pieces i 8 text
 pieces-take i text h =
     let size : length (take (8 * i) text) ≡ 8 * i = length-take (8 * i) text ∙ omega arith in
     let same : i + 0 ≡ i = omega arith in
@@ -247,7 +247,7 @@ stepped l old new w before long is size =
       schedules = ap (λ x. (bench_of x).schedules) stays;
     }
 
-length-ded_bytes : (keys : List Schedule) (block : List ℕ) → length (ded_bytes keys block) ≡ 8
+pub length-ded_bytes : (keys : List Schedule) (block : List ℕ) → length (ded_bytes keys block) ≡ 8
 unfolding to_bytes ded_under
 length-ded_bytes keys block =
     let xs = ded_under keys (byte_bits block) in

@@ -14,6 +14,10 @@ cbc_text e start text = joined (cbc e start (blocks text))
 abbrev pub uncbc_text : (List ℕ → List ℕ) → List ℕ → List ℕ → List ℕ
 uncbc_text d start text = joined (uncbc d start (blocks text))
 
+-- a text deciphered in a chain from a place on, and what stands before the place as it is
+abbrev pub uncbc_from : (List ℕ → List ℕ) → List ℕ → ℕ → List ℕ → List ℕ
+uncbc_from d chain at text = take at text ++ uncbc_text d chain (drop at text)
+
 -- the text of the bench that a lease holds
 abbrev pub text_in : Lease → List ℕ
 text_in lease = text_of (bench_of lease).text

@@ -4,10 +4,12 @@ ghost use Rattle.std.specs.Int.{to_be_bytes, w64};
 ghost use Rattle.key_cells.specs.Lease.{bench_of};
 ghost use Rattle.des_core.specs.Bits.{xor};
 ghost use Rattle.des_core.specs.Schedules.{AreOf, ded_bytes, ede_bytes};
-ghost use Rattle.des_core.specs.Texts.{cbc_text, put_at, schedules_in, text_in, uncbc_text, with_text_in};
+ghost use Rattle.des_core.specs.Texts.{cbc_text, put_at, schedules_in, text_in};
+ghost use Rattle.des_core.specs.Texts.{uncbc_from, uncbc_text, with_text_in};
 ghost use Rattle.des_core.specs.TripleDes as triple;
 
 use crate::blocks::{ded_two, ded_word, ede_word};
+use crate::lanes::{decipher_end, decipher_part};
 use crate::words::{put_word, word_at};
 use key_cells::Lease;
 
@@ -78,6 +80,28 @@ fn decipher_two(lease: &mut Lease, at: usize, chain: u64) -> u64
     second
 }
 
+/// Deciphers the text from a place on, in a chain from a block, in place, two blocks side by side.
+fn decipher_pairs(lease: &mut Lease, at: usize, start: u64)
+    requires place { at ≤ (bench_of lease.now).text.size }
+    requires pairs { at % 16 ≡ 0 }
+    requires whole { (bench_of lease.now).text.size % 8 ≡ 0 }
+    ensures text { text_in lease.new ≡ uncbc_from (ded_bytes (schedules_in lease.old))
+        (to_be_bytes w64 start) at (text_in lease.old) }
+    ensures stays { lease.new ≡ with_text_in lease.old (text_in lease.new) }
+{
+    let count = lease.text().len() / 8;
+    let mut chain = start;
+    for i in at / 16..count / 2 {
+        chain = decipher_two(lease, 16 * i, chain);
+    }
+    if count % 2 == 1 {
+        decipher_one(lease, 8 * (count - 1), chain);
+    }
+}
+
+/// The fewest bytes, 37 blocks, that are deciphered faster by the lanes than pair by pair.
+const FEWEST: usize = 296;
+
 /// Deciphers the text in a chain from an initial value, in place, by triple DES under the three schedules:
 /// the inverse of [`cbc_encipher`]. All other places and the text's length stay.
 pub fn cbc_decipher(lease: &mut Lease, start: &[u8; 8])
@@ -88,12 +112,15 @@ pub fn cbc_decipher(lease: &mut Lease, start: &[u8; 8])
         → text_in lease.new ≡ uncbc_text (triple.ded a b c) start.now (text_in lease.old) }
     ensures stays { lease.new ≡ with_text_in lease.old (text_in lease.new) }
 {
-    let count = lease.text().len() / 8;
+    let size = lease.text().len();
+    let parts = size / 1024;
     let mut chain = u64::from_be_bytes(*start);
-    for i in 0..count / 2 {
-        chain = decipher_two(lease, 16 * i, chain);
+    for part in 0..parts {
+        chain = decipher_part(lease, 1024 * part, chain);
     }
-    if count % 2 == 1 {
-        decipher_one(lease, 8 * (count - 1), chain);
+    if size % 1024 < FEWEST {
+        decipher_pairs(lease, 1024 * parts, chain);
+    } else {
+        decipher_end(lease, 1024 * parts, chain);
     }
 }

@@ -1,112 +1,116 @@
-use Rattle.std.proofs.Common.{◌≡◌, ◌-◌, ◌+◌, ◌/◌, ◌*◌, length, take, drop, sym, ap, ◌∙◌, refl, arith}
+use Rattle.std.proofs.Common.{◌≡◌, ◌+◌, ◌*◌, ◌/◌, ◌≤◌, length, sym, ap, ◌∙◌, refl, arith}
 use Rattle.std.specs.Int.{to_be_bytes, w64}
-use Rattle.std.proofs.lemmas.List.{length-drop, length-take}
 use Rattle.key_cells.specs.Bench.{text_of, with_text_of}
 use Rattle.key_cells.specs.Lease.{bench_of, holding}
-use Rattle.des_core.specs.Bits.{xor}
-use Rattle.des_core.specs.Modes.{blocks, uncbc}
+use Rattle.des_core.specs.Chains.{part_at, with_part}
+use Rattle.des_core.specs.Modes.{blocks}
 use Rattle.des_core.specs.Schedules.{ded_bytes}
-use Rattle.des_core.specs.Texts.{put_at}
-use Rattle.des_core.proofs.ChainLemmas.{last-one, lease-begun, length-put, length-xor_block, start-bytes, stepped, text-begun, two-more, uncbc-done, uncbc-keys}
+use Rattle.des_core.specs.Texts.{uncbc_from, uncbc_text}
+use Rattle.des_core.proofs.ChainLemmas.{lease-again, lease-begun, length-ded_bytes, start-bytes, uncbc-keys}
+use Rattle.des_core.proofs.PartLemmas.{from-more, length-part}
 use Rattle.des_core.proofs.chaining.cbc_decipher.Goals as goal
 
-pub loop-i-init : goal.loop-i-init
-loop-i-init c =
+pub loop-part-init : goal.loop-part-init
+loop-part-init c =
     let text = text_of (bench_of c.args.lease.now).text in
-    let size : length text ≡ (bench_of c.args.lease.now).text.size = sym (ap length c.text.ensures.value) ∙ c.text.ensures.size in
-    let count : length text / 8 ≡ length c.text.result.now / 8 = sym (ap (λ t. length t / 8) c.text.ensures.value) in
     record {
       stays = lease-begun c.args.lease.now;
-      size = size;
-      count = omega (arith, c.text.ensures.size, c.requires);
-      value = text-begun (length c.text.result.now / 8) text (uncbc (ded_bytes (bench_of c.args.lease.now).schedules) (to_be_bytes w64 c.from_be_bytes-chain.result)) count
-          ∙ ap (λ chain. uncbc (ded_bytes (bench_of c.args.lease.now).schedules) chain (blocks text)) (start-bytes c.args.start.now c.from_be_bytes-chain.result c.told-start c.fits-start c.from_be_bytes-chain.ensures);
+      size = sym (ap length c.text-size.ensures.value) ∙ c.text-size.ensures.size;
+      parts = omega (arith, c.text-size.ensures.size);
+      value = ap (λ chain. uncbc_text (ded_bytes (bench_of c.args.lease.now).schedules) chain text)
+          (start-bytes c.args.start.now c.from_be_bytes-chain.result c.told-start c.fits-start c.from_be_bytes-chain.ensures);
     }
 
-pub decipher_two-chain-requires : goal.decipher_two-chain-requires
-decipher_two-chain-requires c = omega (arith, ap (λ x. (bench_of x).text.size) c.loop-i.invariant.stays, c.loop-i.invariant.count)
+pub decipher_part-chain-requires : goal.decipher_part-chain-requires
+decipher_part-chain-requires c = omega (arith, ap (λ x. (bench_of x).text.size) c.loop-part.invariant.stays, c.loop-part.invariant.parts)
 
-pub loop-i-preserved : goal.loop-i-preserved
-loop-i-preserved c =
+pub loop-part-preserved : goal.loop-part-preserved
+loop-part-preserved c =
     let l = c.args.lease.now in
-    let old = c.loop-i.lease in
-    let new = c.decipher_two-chain.new.lease in
+    let old = c.loop-part.lease in
+    let new = c.decipher_part-chain.new.lease in
+    let inv = c.loop-part.invariant in
     let text = text_of (bench_of old).text in
-    let i = c.loop-i.i in
-    let count = length c.text.result.now / 8 in
-    let chain = to_be_bytes w64 c.loop-i.chain in
-    let inv = c.loop-i.invariant in
-    let p = take 8 (drop (16 * i) text) in
-    let q = take 8 (drop (16 * i + 8) text) in
+    let now = text_of (bench_of new).text in
+    let at = 1024 * c.loop-part.part in
+    let d = ded_bytes (bench_of l).schedules in
+    let chain = to_be_bytes w64 c.loop-part.chain in
     let keys : (bench_of old).schedules ≡ (bench_of l).schedules = ap (λ x. (bench_of x).schedules) inv.stays in
-    let long : length text ≡ 8 * count = inv.size ∙ inv.count in
-    let p_long : length p ≡ 8 = omega (arith, long, length-take 8 (drop (16 * i) text), length-drop (16 * i) text) in
-    let b1 = xor (ded_bytes (bench_of l).schedules p) chain in
-    let b2 = xor (ded_bytes (bench_of l).schedules q) p in
-    let e1 = length-xor_block (bench_of l).schedules p chain refl in
-    let e2 = length-xor_block (bench_of l).schedules q p p_long in
-    let w = put_at (put_at text (16 * i) b1) (16 * i + 8) b2 in
-    let size1 : length (put_at text (16 * i) b1) ≡ length text = length-put text b1 (16 * i) (omega (arith, long)) e1 in
-    let size : length w ≡ length text = length-put (put_at text (16 * i) b1) b2 (16 * i + 8) (omega (arith, long, size1)) e2 ∙ size1 in
-    let put : new ≡ holding old (with_text_of (bench_of old) w)
-    = c.decipher_two-chain.ensures.lease
-    ∙ ap (λ ks. holding old (with_text_of (bench_of old) (put_at (put_at text (16 * i) (xor (ded_bytes ks p) chain)) (16 * i + 8) (xor (ded_bytes ks q) p)))) keys in
-    let s = stepped l old new w inv.stays inv.size put (size ∙ inv.size) in
+    let within : at + 1024 ≤ length text = omega (arith, inv.size, inv.parts) in
+    let put : now ≡ with_part text at (uncbc_text d chain (part_at text at))
+    = c.decipher_part-chain.ensures.text ∙ ap (λ ks. with_part text at (uncbc_text (ded_bytes ks) chain (part_at text at))) keys in
+    let next : 1024 * (c.loop-part.part + 1) ≡ at + 1024 = omega arith in
     record {
-      stays = s.stays ∙ sym (ap (λ t. holding l (with_text_of (bench_of l) t)) s.text);
-      size = ap length s.text ∙ size ∙ inv.size;
-      count = inv.count;
-      value = two-more (ded_bytes (bench_of l).schedules) count i text chain (to_be_bytes w64 c.decipher_two-chain.result) (text_of (bench_of new).text) _ (omega arith) long e1 e2 c.decipher_two-chain.ensures.block s.text inv.value;
+      stays = c.decipher_part-chain.ensures.stays ∙ ap (λ x. holding x (with_text_of (bench_of x) now)) inv.stays ∙ lease-again l text now inv.size;
+      size = ap length put ∙ length-part d (length-ded_bytes (bench_of l).schedules) text chain at within refl ∙ inv.size;
+      parts = inv.parts;
+      value = ap (λ k. uncbc_from d (to_be_bytes w64 c.decipher_part-chain.result) k now) next
+          ∙ from-more d (length-ded_bytes (bench_of l).schedules) text chain (to_be_bytes w64 c.decipher_part-chain.result) now at within refl c.decipher_part-chain.ensures.block put ∙ inv.value;
     }
 
-pub returns-then-count-eq1-clause-text : goal.returns-then-count-eq1-clause-text
-returns-then-count-eq1-clause-text c =
+pub decipher_pairs-requires-clause-place : goal.decipher_pairs-requires-clause-place
+decipher_pairs-requires-clause-place c = omega (arith, ap (λ x. (bench_of x).text.size) c.loop-part.invariant.stays, c.text-size.ensures.size)
+
+pub decipher_pairs-requires-clause-whole : goal.decipher_pairs-requires-clause-whole
+decipher_pairs-requires-clause-whole c = omega (arith, ap (λ x. (bench_of x).text.size) c.loop-part.invariant.stays, c.text-size.ensures.size, c.requires)
+
+pub decipher_end-requires-clause-place : goal.decipher_end-requires-clause-place
+decipher_end-requires-clause-place c = omega (arith, ap (λ x. (bench_of x).text.size) c.loop-part.invariant.stays, c.text-size.ensures.size)
+
+pub decipher_end-requires-clause-most : goal.decipher_end-requires-clause-most
+decipher_end-requires-clause-most c = omega (arith, ap (λ x. (bench_of x).text.size) c.loop-part.invariant.stays, c.text-size.ensures.size)
+
+pub decipher_end-requires-clause-whole : goal.decipher_end-requires-clause-whole
+decipher_end-requires-clause-whole c = omega (arith, ap (λ x. (bench_of x).text.size) c.loop-part.invariant.stays, c.text-size.ensures.size, c.requires)
+
+pub returns-then-size-lt-FEWEST-clause-text : goal.returns-then-size-lt-FEWEST-clause-text
+returns-then-size-lt-FEWEST-clause-text c =
     let l = c.args.lease.now in
-    let old = c.loop-i.lease in
+    let old = c.loop-part.lease in
+    let inv = c.loop-part.invariant in
     let text = text_of (bench_of old).text in
-    let count = length c.text.result.now / 8 in
-    let chain = to_be_bytes w64 c.loop-i.chain in
-    let inv = c.loop-i.invariant in
-    let at = 8 * (count - 1) in
-    let p = take 8 (drop at text) in
-    let b = xor (ded_bytes (bench_of l).schedules p) chain in
-    let odd : 2 * c.loop-i.i + 1 ≡ count = omega (arith, c.if-count-eq1.true, c.loop-i-test.false) in
+    let parts = length c.text-size.result.now / 1024 in
     let keys : (bench_of old).schedules ≡ (bench_of l).schedules = ap (λ x. (bench_of x).schedules) inv.stays in
-    let long : length text ≡ 8 * count = inv.size ∙ inv.count in
-    let eight = length-xor_block (bench_of l).schedules p chain refl in
-    let size : length (put_at text at b) ≡ length text = length-put text b at (omega (arith, long, odd)) eight in
-    let put : c.decipher_one.new.lease ≡ holding old (with_text_of (bench_of old) (put_at text at b))
-    = c.decipher_one.ensures.lease ∙ ap (λ ks. holding old (with_text_of (bench_of old) (put_at text at (xor (ded_bytes ks p) chain)))) keys in
-    let s = stepped l old c.decipher_one.new.lease (put_at text at b) inv.stays inv.size put (size ∙ inv.size) in
-    last-one (ded_bytes (bench_of l).schedules) count (2 * c.loop-i.i) at text chain (text_of (bench_of c.decipher_one.new.lease).text) _ odd (omega (arith, odd)) long eight s.text inv.value
+    let all : c.loop-part.part ≡ parts = omega (arith, c.loop-part-test.false) in
+    c.decipher_pairs.ensures.text
+    ∙ ap (λ ks. uncbc_from (ded_bytes ks) (to_be_bytes w64 c.loop-part.chain) (1024 * parts) text) keys
+    ∙ ap (λ k. uncbc_from (ded_bytes (bench_of l).schedules) (to_be_bytes w64 c.loop-part.chain) (1024 * k) text) (sym all)
+    ∙ inv.value
 
-pub returns-then-count-eq1-clause-keys : goal.returns-then-count-eq1-clause-keys
-returns-then-count-eq1-clause-keys c a b d of =
-    uncbc-keys (bench_of c.args.lease.now).schedules a b d c.args.start.now _ (blocks (text_of (bench_of c.args.lease.now).text)) of (returns-then-count-eq1-clause-text c)
+pub returns-then-size-lt-FEWEST-clause-keys : goal.returns-then-size-lt-FEWEST-clause-keys
+returns-then-size-lt-FEWEST-clause-keys c a b d of =
+    uncbc-keys (bench_of c.args.lease.now).schedules a b d c.args.start.now _ (blocks (text_of (bench_of c.args.lease.now).text)) of (returns-then-size-lt-FEWEST-clause-text c)
 
-pub returns-then-count-eq1-clause-stays : goal.returns-then-count-eq1-clause-stays
-returns-then-count-eq1-clause-stays c =
+pub returns-then-size-lt-FEWEST-clause-stays : goal.returns-then-size-lt-FEWEST-clause-stays
+returns-then-size-lt-FEWEST-clause-stays c =
     let l = c.args.lease.now in
-    let old = c.loop-i.lease in
+    let old = c.loop-part.lease in
+    let inv = c.loop-part.invariant in
+    let w = text_of (bench_of c.decipher_pairs.new.lease).text in
+    c.decipher_pairs.ensures.stays ∙ ap (λ x. holding x (with_text_of (bench_of x) w)) inv.stays ∙ lease-again l (text_of (bench_of old).text) w inv.size
+
+pub returns-else-size-lt-FEWEST-clause-text : goal.returns-else-size-lt-FEWEST-clause-text
+returns-else-size-lt-FEWEST-clause-text c =
+    let l = c.args.lease.now in
+    let old = c.loop-part.lease in
+    let inv = c.loop-part.invariant in
     let text = text_of (bench_of old).text in
-    let count = length c.text.result.now / 8 in
-    let chain = to_be_bytes w64 c.loop-i.chain in
-    let inv = c.loop-i.invariant in
-    let at = 8 * (count - 1) in
-    let b = xor (ded_bytes (bench_of old).schedules (take 8 (drop at text))) chain in
-    let odd : 2 * c.loop-i.i + 1 ≡ count = omega (arith, c.if-count-eq1.true, c.loop-i-test.false) in
-    let long : length text ≡ 8 * count = inv.size ∙ inv.count in
-    let size : length (put_at text at b) ≡ length text = length-put text b at (omega (arith, long, odd)) (length-xor_block (bench_of old).schedules (take 8 (drop at text)) chain refl) in
-    let s = stepped l old c.decipher_one.new.lease (put_at text at b) inv.stays inv.size c.decipher_one.ensures.lease (size ∙ inv.size) in
-    s.stays ∙ sym (ap (λ t. holding l (with_text_of (bench_of l) t)) s.text)
+    let parts = length c.text-size.result.now / 1024 in
+    let keys : (bench_of old).schedules ≡ (bench_of l).schedules = ap (λ x. (bench_of x).schedules) inv.stays in
+    let all : c.loop-part.part ≡ parts = omega (arith, c.loop-part-test.false) in
+    c.decipher_end.ensures.text
+    ∙ ap (λ ks. uncbc_from (ded_bytes ks) (to_be_bytes w64 c.loop-part.chain) (1024 * parts) text) keys
+    ∙ ap (λ k. uncbc_from (ded_bytes (bench_of l).schedules) (to_be_bytes w64 c.loop-part.chain) (1024 * k) text) (sym all)
+    ∙ inv.value
 
-pub returns-else-count-eq1-clause-text : goal.returns-else-count-eq1-clause-text
-returns-else-count-eq1-clause-text c =
-    let inv = c.loop-i.invariant in
-    let count = length c.text.result.now / 8 in
-    let even : 2 * c.loop-i.i ≡ count = omega (arith, c.if-count-eq1.false, c.loop-i-test.false) in
-    uncbc-done (ded_bytes (bench_of c.args.lease.now).schedules) (to_be_bytes w64 c.loop-i.chain) count (2 * c.loop-i.i) (text_of (bench_of c.loop-i.lease).text) _ even (inv.size ∙ inv.count) inv.value
+pub returns-else-size-lt-FEWEST-clause-keys : goal.returns-else-size-lt-FEWEST-clause-keys
+returns-else-size-lt-FEWEST-clause-keys c a b d of =
+    uncbc-keys (bench_of c.args.lease.now).schedules a b d c.args.start.now _ (blocks (text_of (bench_of c.args.lease.now).text)) of (returns-else-size-lt-FEWEST-clause-text c)
 
-pub returns-else-count-eq1-clause-keys : goal.returns-else-count-eq1-clause-keys
-returns-else-count-eq1-clause-keys c a b d of =
-    uncbc-keys (bench_of c.args.lease.now).schedules a b d c.args.start.now _ (blocks (text_of (bench_of c.args.lease.now).text)) of (returns-else-count-eq1-clause-text c)
+pub returns-else-size-lt-FEWEST-clause-stays : goal.returns-else-size-lt-FEWEST-clause-stays
+returns-else-size-lt-FEWEST-clause-stays c =
+    let l = c.args.lease.now in
+    let old = c.loop-part.lease in
+    let inv = c.loop-part.invariant in
+    let w = text_of (bench_of c.decipher_end.new.lease).text in
+    c.decipher_end.ensures.stays ∙ ap (λ x. holding x (with_text_of (bench_of x) w)) inv.stays ∙ lease-again l (text_of (bench_of old).text) w inv.size

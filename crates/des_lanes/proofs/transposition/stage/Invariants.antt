@@ -1,9 +1,0 @@
-use Rattle.std.proofs.Common.{◌≡◌}
-use Rattle.des_lanes.specs.Stages.{first_row, second_row}
-use Rattle.des_lanes.proofs.StageLemmas.{paired}
-use Rattle.des_lanes.proofs.transposition.stage.Given as goal
-
-abbrev pub invariant-loop-pair : goal.invariant-loop-pair
-invariant-loop-pair l = record {
-  rows : l.words ≡ paired (first_row l.apart l.mask) (second_row l.apart l.mask) l.apart l.pair l.fn.words;
-}
