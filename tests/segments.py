@@ -1,7 +1,7 @@
 """Texts in segments: they are cut at every place, and each reply is compared with what OpenSSL makes of the whole text.
 
 A text of 24 bytes, and for codes one of 28 bytes, is cut in two and in three wherever it can be cut, under keys of 8 and of 16
-bytes. Then come segments of 0 to 4,089 bytes, chains with each byte wrong, and the rules that a segment is judged by. Each
+bytes. Then come segments of 0 to 4,089 bytes, whole texts of up to 4,096, chains with each byte wrong, and the rules that a segment is judged by. Each
 chain is given as OpenSSL has it, so each whole text costs one call of OpenSSL."""
 import functools
 import itertools
@@ -15,7 +15,8 @@ from tests.keys import ceremony
 FAULTS = [Fault(r'"$CCA" "$@" | sed -u "s/^\(OK.* chain=.*\)00\$/\101/"', case="test_padding", tells="wanted: OK text=.* chain=.*00$")]
 
 LONGEST = 4088  # bytes of a segment
-SIZES = [0, 1, 7, 8, 4081, LONGEST, LONGEST + 1]
+LANES = [36, 37, 127, 128, 129]  # blocks: the last that are deciphered pair by pair, the first in lanes, and about a part of these
+SIZES = [0, 1, 7, 8, *(8 * count for count in LANES), 4081, LONGEST, LONGEST + 1]
 BEGUN = [0, 7, 16]  # how many bytes came before a segment
 START = bytes.fromhex("1234567890abcdef")
 TEXT = b"Now is the time for all "
@@ -162,6 +163,13 @@ def sized(of_text, whole):
         yield ended.segment("LAST", begin, end)
 
 
+def wholes(make, key):
+    """Texts that aren't cut: of whole blocks, about the counts from which on they are deciphered in lanes, and of the most bytes."""
+    for count in (*LANES, 165, 512):
+        whole = make("NONE", key, LONG[: 8 * count])
+        yield f"{whole.words} {whole.begin}pad=NONE text={whole.given.hex()}", f"OK text={whole.replied.hex()}"
+
+
 def wrong_chains():
     """Each chain with one byte wrong: the number of carried bytes, or one of those that fill it up."""
     yield from (chain_of(START, b"", count) for count in range(8, 256))
@@ -224,6 +232,11 @@ class Segments(Case):
             with self.subTest(make.__name__, pad=pad, size=len(key.clear)):
                 self.replies(cuttings(make(pad, key, TEXT)))
                 self.replies(sized(of_text, of_text(LONG)))
+
+    def test_whole_texts(self):
+        for make, key in itertools.product((enciphering, deciphering), (SINGLE, DOUBLE)):
+            with self.subTest(make.__name__, size=len(key.clear)):
+                self.replies(wholes(make, key))
 
     def test_padding(self):
         for key in (SINGLE, DOUBLE):
