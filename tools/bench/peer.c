@@ -66,6 +66,20 @@ static uint64_t requests(uint64_t sum) {
     return sum;
 }
 
+static uint64_t short_texts(uint64_t sum) {
+    static unsigned char bytes[64];
+    DES_key_schedule s[3];
+    DES_cblock chain;
+    example_schedules(s);
+    for (uint64_t i = 0; i < COUNT; i++) {
+        uint64_t start = sum ^ i;
+        memcpy(chain, &start, 8);
+        DES_ede3_cbc_encrypt(bytes, bytes, sizeof bytes, &s[0], &s[1], &s[2], &chain, DES_DECRYPT);
+    }
+    memcpy(&sum, bytes, 8);
+    return sum;
+}
+
 static void report(const char *name, uint64_t (*round)(uint64_t)) {
     uint64_t fastest = UINT64_MAX, sum = 0;
     for (int i = 0; i < ROUNDS; i++) {
@@ -114,6 +128,7 @@ int main(void) {
     report("schedule", key_schedules);
     report("block", blocks);
     report("request", requests);
+    report("short", short_texts);
     measure_text();
     return 0;
 }

@@ -1,18 +1,23 @@
 -- The code over a filled text: one block more of the chain, and the last one; under a key.
-use Rattle.std.proofs.Common.{◌≡◌, ℕ, zero, suc, ◌+◌, ◌-◌, ◌*◌, ◌/◌, ◌%◌, ◌<◌, ◌≤◌, List, [], ◌∷◌, ◌++◌, length, take, drop, get_or, replicate, sym, ap, ◌∙◌, arith, inl, inr, lit<}
-use Rattle.std.specs.Int.{div_ceil}
+use Rattle.std.proofs.Common.{◌≡◌, ℕ, zero, suc, ◌+◌, ◌-◌, ◌*◌, ◌/◌, ◌%◌, ◌<◌, ◌≤◌, List, [], ◌∷◌, ◌++◌, length, take, drop, get_or, replicate, refl, sym, ap, ◌∙◌, arith, inl, inr, lit<, subst}
+use Rattle.std.specs.Int.{div_ceil, to_be_bytes, w64}
 use Rattle.std.specs.List.{All}
 use Rattle.std.proofs.lemmas.Bool.{cases_lt}
 use Rattle.std.proofs.lemmas.List.{append-nil, drop-append-le, drop-drop, drop-replicate, length-append, length-drop, length-replicate, length-take, take-append-le, take_all}
 use Rattle.key_cells.specs.declared.schedules.Schedule.{Schedule}
-use Rattle.des_core.specs.Bits.{byte_bits, pieces, to_bytes, xor}
-use Rattle.des_core.specs.Des.{decipher, encipher}
+use Rattle.des_core.specs.Bits.{AreBytes, bits, byte_bits, pieces, to_bytes, xor}
+use Rattle.des_core.specs.Des.{decipher, encipher, places}
+use Rattle.des_core.specs.Halves.{AreHalves}
 use Rattle.des_core.specs.Modes.{blocks, cbc, cbc_mac, fill, last_block, mac_x919, mac_x99, zero_block}
-use Rattle.des_core.specs.Schedules.{IsOf, deciphered_under, enciphered_under}
+use Rattle.des_core.specs.Schedules.{IsOf, deciphered_under, enciphered_under, keys_of}
+use Rattle.des_core.specs.Tables.{final_permutation, initial_permutation}
 use Rattle.des_core.specs.Texts.{fill_block}
 use Rattle.des_core.specs.TripleDes.{deciphered, enciphered}
-use Rattle.des_core.proofs.ByteLemmas.{to_bytes-byte_bits}
-use Rattle.des_core.proofs.ChainLemmas.{cbc-same, cbc-step-as}
+use Rattle.des_core.proofs.ByteLemmas.{byte_bits-to_be_bytes, small-to_be_bytes, to_bytes-byte_bits}
+use Rattle.des_core.proofs.ChainLemmas.{bytes-of, cbc-same, cbc-step-as}
+use Rattle.des_core.proofs.LawLemmas.{final-initial}
+use Rattle.des_core.proofs.ValueLemmas.{block-length, crypted, crypted-bits, crypted-bytes}
+use Rattle.des_core.proofs.XorLemmas.{byte_bits-xor}
 
 -- ---- the filled text
 
@@ -65,6 +70,14 @@ fill-at text i h =
 
 -- ---- the chain
 
+bytes-of_enciphered : (keys : Schedule) (block : List ℕ) → AreBytes 8 (enciphered_under keys block)
+unfolding crypted
+bytes-of_enciphered keys block = crypted-bytes (keys_of keys) block
+
+enciphered-bits : (keys : Schedule) (block : List ℕ) → byte_bits (enciphered_under keys block) ≡ encipher (keys_of keys) (byte_bits block)
+unfolding crypted
+enciphered-bits keys block = crypted-bits (keys_of keys) block
+
 -- the last block of the chain over the blocks from block i on
 abbrev pub mac_from : (List ℕ → List ℕ) → List ℕ → ℕ → List ℕ → List ℕ
 mac_from e chain i text = last_block chain (cbc e chain (pieces (length (fill text) / 8 - i) 8 (drop (8 * i) (fill text))))
@@ -98,6 +111,46 @@ unfolding pieces cbc
 mac-done e text chain i h before =
     let none : length (fill text) / 8 - i ≡ 0 = omega arith in
     sym (ap (λ k. last_block chain (cbc e chain (pieces k 8 (drop (8 * i) (fill text))))) none) ∙ before
+
+-- ---- the halves of the chain
+
+-- two words hold what IP makes of the last block so far, and the chain goes on from it to the code
+pub record Coding (e : List ℕ → List ℕ) (left right i : ℕ) (text : List ℕ) : Type 0 where
+  pub last : List ℕ
+  pub bytes : AreBytes 8 last
+  pub halves : AreHalves left right (places initial_permutation (byte_bits last))
+  pub value : mac_from e last i text ≡ cbc_mac e text
+
+pub coding-begun : (e : List ℕ → List ℕ) (left right : ℕ) (text : List ℕ) → AreHalves left right (places initial_permutation (bits 64 0)) → Coding e left right 0 text
+coding-begun e left right text are = record {
+  last = zero_block;
+  bytes = record { size = refl; each = small-to_be_bytes 0 };
+  halves = subst (λ xs. AreHalves left right (places initial_permutation xs)) (sym (byte_bits-to_be_bytes 0)) are;
+  value = mac-begun e text;
+}
+
+pub coding-more : (keys : Schedule) (left right next_left next_right word i : ℕ) (text : List ℕ) → i < length (fill text) / 8 → to_be_bytes w64 word ≡ fill_block (take 8 (drop (8 * i) text))
+    → ((before : List ℕ) → length before ≡ 64 → AreHalves left right (places initial_permutation before) → AreHalves next_left next_right (places initial_permutation (encipher (keys_of keys) (xor (bits 64 word) before))))
+    → Coding (enciphered_under keys) left right i text → Coding (enciphered_under keys) next_left next_right (i + 1) text
+coding-more keys left right next_left next_right word i text h is step before =
+    let block = to_be_bytes w64 word in
+    let last = before.last in
+    let size : length block ≡ length last = sym before.bytes.size in
+    let next = enciphered_under keys (xor block last) in
+    let bits_are : encipher (keys_of keys) (xor (bits 64 word) (byte_bits last)) ≡ byte_bits next
+    = sym (enciphered-bits keys (xor block last) ∙ ap (encipher (keys_of keys)) (byte_bits-xor block last size ∙ ap (λ xs. xor xs (byte_bits last)) (byte_bits-to_be_bytes word))) in
+    record {
+      last = next;
+      bytes = bytes-of_enciphered keys (xor block last);
+      halves = subst (λ xs. AreHalves next_left next_right (places initial_permutation xs)) bits_are (step (byte_bits last) (block-length last before.bytes) before.halves);
+      value = mac-more (enciphered_under keys) text last next block i h is refl before.value;
+    }
+
+pub coding-done : (e : List ℕ → List ℕ) (left right out i : ℕ) (text : List ℕ) → i ≡ length (fill text) / 8
+    → ((both : List ℕ) → AreHalves left right both → bits 64 out ≡ places final_permutation both) → Coding e left right i text → to_be_bytes w64 out ≡ cbc_mac e text
+coding-done e left right out i text h is coding =
+    bytes-of out ∙ ap to_bytes (is _ coding.halves ∙ final-initial (byte_bits coding.last) (block-length coding.last coding.bytes))
+    ∙ to_bytes-byte_bits coding.last coding.bytes.each ∙ mac-done e text coding.last i h coding.value
 
 -- ---- under a key
 

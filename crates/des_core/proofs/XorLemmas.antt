@@ -3,7 +3,7 @@ use Rattle.std.proofs.Common.{◌≡◌, ℕ, zero, suc, ◌-◌, ◌*◌, ◌/�
 use Rattle.std.specs.Int.{byte_at, bytes_high_first}
 use Rattle.std.specs.Int.Bits.{xor_zero_r}
 use Rattle.std.proofs.lemmas.Nat.{xor_comm, xor_mod, xor_shr}
-use Rattle.des_core.specs.Bits.{bits, xor}
+use Rattle.des_core.specs.Bits.{bits, byte_bits, xor}
 use Rattle.des_core.specs.Des.{places}
 use Rattle.des_core.specs.Halves.{spread}
 use Rattle.des_core.specs.Schedules.{group_bits}
@@ -71,3 +71,14 @@ groups-xor (suc k) a b =
 
 pub spread-xor : (a b : ℕ) → spread (bit_xor a b) ≡ xor (spread a) (spread b)
 spread-xor a b = groups-xor 8 a b
+
+-- ---- the bits of bytes
+
+pub byte_bits-xor : (xs ys : List ℕ) → length xs ≡ length ys → byte_bits (xor xs ys) ≡ xor (byte_bits xs) (byte_bits ys)
+unfolding xor byte_bits
+byte_bits-xor [] ys e = refl
+byte_bits-xor (x ∷ xs) [] e = absurd (omega arith)
+byte_bits-xor (x ∷ xs) (y ∷ ys) e =
+    ap (λ zs. zs ++ byte_bits (xor xs ys)) (bits-xor 8 x y)
+    ∙ ap (λ zs. xor (bits 8 x) (bits 8 y) ++ zs) (byte_bits-xor xs ys (omega arith))
+    ∙ sym (xor-append (bits 8 x) (byte_bits xs) (bits 8 y) (byte_bits ys) (length-bits 8 x ∙ sym (length-bits 8 y)))

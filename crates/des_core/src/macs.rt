@@ -6,7 +6,7 @@ ghost use Rattle.des_core.specs.Modes.{cbc_mac, mac_x919, mac_x99};
 ghost use Rattle.des_core.specs.Schedules.{IsOf, deciphered_under, enciphered_under};
 ghost use Rattle.des_core.specs.Texts.{fill_block};
 
-use crate::blocks::{decipher_block, encipher_block, encipher_word};
+use crate::blocks::{decipher_block, encipher_block, encipher_next, final_block, initial_halves};
 use crate::words::word_at;
 use byte_lists::put_front;
 use key_cells::Schedule;
@@ -41,11 +41,11 @@ pub fn cbc_mac(keys: &Schedule, text: &[u8]) -> [u8; 8]
     ensures schedule { result ≡ cbc_mac (enciphered_under keys.now) text.now }
     ensures key { (key : List ℕ) → IsOf keys.now key → result ≡ mac_x99 key text.now }
 {
-    let mut chain: u64 = 0;
+    let mut chain = initial_halves(0);
     for i in 0..text.len().div_ceil(8) {
-        chain = encipher_word(keys, filled_word_at(text, 8 * i) ^ chain);
+        chain = encipher_next(keys, chain, filled_word_at(text, 8 * i));
     }
-    chain.to_be_bytes()
+    final_block(chain).to_be_bytes()
 }
 
 /// The code X9.19OPT (ANSI X9.19): X9.9-1 under the left schedule, deciphered under the right one and

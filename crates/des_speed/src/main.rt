@@ -31,6 +31,7 @@ fn main(rt: HostRuntime) -> io::Result<()> {
         report(&rt, "schedule", Operation::KeySchedule)?;
         report(&rt, "block", Operation::Block)?;
         report(&rt, "request", Operation::Request)?;
+        report(&rt, "short", Operation::ShortText)?;
         measure_text(&rt)?;
     }
     Ok(())
@@ -42,6 +43,7 @@ enum Operation {
     KeySchedule,
     Block,
     Request,
+    ShortText,
 }
 
 /// A round of an operation.
@@ -50,6 +52,7 @@ fn round(operation: Operation, start: u64) -> u64 {
         Operation::KeySchedule => key_schedules(start),
         Operation::Block => blocks(start),
         Operation::Request => requests(start),
+        Operation::ShortText => short_texts(start),
     }
 }
 
@@ -114,6 +117,21 @@ fn requests(start: u64) -> u64 {
         }
     }
     sum
+}
+
+/// Texts of 64 bytes, deciphered in a chain one after another in one place.
+fn short_texts(start: u64) -> u64 {
+    let mut bench = Workbench::new();
+    let mut lease = Lease::open(&mut bench);
+    *lease.schedules_mut() = example_schedules();
+    for i in 0..COUNT {
+        lease.set_text_length(64);
+        cbc_decipher(&mut lease, &(start ^ i).to_be_bytes());
+    }
+    lease
+        .text()
+        .iter()
+        .fold(start, |sum, byte| sum.rotate_left(8) ^ *byte as u64)
 }
 
 /// Measures cipher block chaining and the message authentication code over texts of 4,096 bytes.
