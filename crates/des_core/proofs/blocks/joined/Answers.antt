@@ -6,4 +6,4 @@ use Rattle.des_core.proofs.blocks.joined.Goals as goal
 
 pub returns : goal.returns
 returns c before size are =
-    halves-joined _ _ _ _ (bits 64 c.args.block) before (length-bits 64 c.args.block ∙ sym size) c.initial_halves-own.ensures are
+    halves-joined _ _ _ _ (bits 64 c.args.block) before (length-bits 64 c.args.block ∙ sym size) c.initial_apart-own.ensures are
