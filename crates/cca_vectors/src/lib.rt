@@ -19,6 +19,3 @@ pub use key_length::Length;
 pub use key_part::a_part_and_its_key;
 pub use key_type::{KeyType, pairs};
 pub use key_usage::Usage;
-
-#[cfg(test)]
-mod tests;

@@ -15,6 +15,3 @@ pub use generating::{Form, GenerateFault, Generated, generate, vector_for};
 pub use importing::import;
 pub use prohibiting::prohibit_export;
 pub use writing::write_under;
-
-#[cfg(test)]
-mod tests;

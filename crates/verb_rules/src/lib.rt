@@ -18,6 +18,3 @@ pub use lengths::{MacRule, TextUse, judge_mac, judge_text};
 pub use needs::{EVERY_CLASS, Need, any_key, exported_key, transport_key};
 pub use rules::Rule;
 pub use types::{judge_length, judge_pair, judge_size};
-
-#[cfg(test)]
-mod tests;

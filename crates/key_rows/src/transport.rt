@@ -5,9 +5,11 @@ ghost use Rattle.verb_rules.specs.Keys.{HasHalves, IsDouble};
 
 mod unique_halves;
 
-use super::*;
 use cca_vectors::{Class, Length};
 use key_cells::{Lease, MasterPlace, Workbench};
+use key_transport::{
+    Form, GenerateFault, Generated, Target, export, generate, import, prohibit_export, token_change,
+};
 use master_registers::{NewState, Registers, pattern_of};
 use slot_disk::MemoryEntropy;
 use std::process::Abort;

@@ -1,6 +1,10 @@
+//! Control vectors, valid and not, what each permits, and the default ones of each type of key.
 ghost use Rattle.std.specs.Prelude.{◌<◌};
 
-use super::*;
+use cca_vectors::{
+    Class, KeyType, Length, Usage, Vector, VectorFault, default_of, default_of_size, pairs,
+    vector_of,
+};
 
 /// The sixteen bytes of two halves.
 fn bytes_of(left: u64, right: u64) -> [u8; 16] {

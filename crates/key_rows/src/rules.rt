@@ -1,9 +1,11 @@
 //! Tables of tokens, of lengths and of classes, with the rule that each breaks first.
-use super::*;
-use crate::judging::judge_use;
 use cca_vectors::{Class, Length, vector_of};
 use key_tokens::{Sealed, Token, tvv};
 use master_registers::{NewState, Pattern, Registers};
+use verb_rules::{
+    Age, Asked, Classes, Judged, KeyType, MacRule, Need, Rule, TextUse, Usage, judge_key,
+    judge_length, judge_mac, judge_pair, judge_part, judge_size, judge_stored, judge_text,
+};
 
 const CURRENT_PATTERN: [u8; 8] = [0x5a; 8];
 
@@ -250,12 +252,16 @@ fn keys_that_are_stored(rt: HostRuntime) {
     }
 }
 
-/// A double-length key that was read before: a DATA key part.
+/// A double-length DATA key part under the old master key: the rules behind those of its bytes.
 #[test]
-fn keys_that_were_read(rt: HostRuntime) {
-    let mut bytes = [0; 16];
-    bytes[..8].copy_from_slice(&0x0000_7d00_0348_0000u64.to_be_bytes());
-    bytes[8..].copy_from_slice(&0x0000_7d00_0328_0000u64.to_be_bytes());
+fn a_key_part_under_the_old_register(rt: HostRuntime) {
+    let mut vector = [0; 16];
+    vector[..8].copy_from_slice(&0x0000_7d00_0348_0000u64.to_be_bytes());
+    vector[8..].copy_from_slice(&0x0000_7d00_0328_0000u64.to_be_bytes());
+    let mut bytes = importer_token();
+    bytes[8..16].copy_from_slice(&OLD_PATTERN);
+    bytes[32..48].copy_from_slice(&vector);
+    let bytes = valued(bytes, false);
     let token = Token {
         kind: key_tokens::Kind::Internal,
         pattern: OLD_PATTERN,
@@ -263,7 +269,7 @@ fn keys_that_were_read(rt: HostRuntime) {
             left: [0x11; 8],
             right: [0x22; 8],
         },
-        vector: vector_of(&bytes).expect(&rt, "a control vector"),
+        vector: vector_of(&vector).expect(&rt, "a control vector"),
     };
     let data = Need {
         asked: Asked::Internal,
@@ -274,7 +280,7 @@ fn keys_that_were_read(rt: HostRuntime) {
         parts: true,
     };
     assert_eq!(rt;
-        judge_use(&token, Some(Age::Old), &data),
+        judge_key(&bytes, &data, &registers()),
         Ok(Judged {
             token,
             age: Some(Age::Old)
@@ -303,7 +309,7 @@ fn keys_that_were_read(rt: HostRuntime) {
             Rule::Usage,
         ),
     ] {
-        assert_eq!(rt; judge_use(&token, Some(Age::Old), &need), Err(rule));
+        assert_eq!(rt; first_rule(&bytes, &need), Some(rule));
     }
 }
 
