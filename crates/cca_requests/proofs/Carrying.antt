@@ -24,8 +24,10 @@ use Rattle.cca_machine.specs.Keys.{warning}
 use Rattle.cca_machine.specs.State.{State, IsStoreOf}
 use Rattle.cca_machine.specs.Verdict.{Questions, Refusal, questions, first_refusal, action_questions, create_questions}
 use Rattle.cca_machine.specs.Act.{Effect, Show, Become, DefineRole, RemoveRole, Create, Write, Delete, Reencipher, Outcome, effect, state_after, fields_after, state_between, module_cells_after, store_cells_after, effected, refused, or_act}
-use Rattle.cca_requests.specs.Serving.{Tables, tables, StandsInModule, StandsInStore, CarriesModule, CarriesStore, Carries}
-use Rattle.cca_requests.specs.Deciding.{WarnsNot, plainly, or_effected, labels_after, rows_after, IsTurnedBy, LosesNone, action_outcome, role_outcome, create_outcome, IsWritten, IsDeleted}
+use Rattle.request_rules.specs.Standing.{Tables, tables, StandsInModule, StandsInStore}
+use Rattle.cca_requests.specs.Serving.{CarriesModule, CarriesStore, Carries}
+use Rattle.request_verbs.specs.Deciding.{WarnsNot, labels_after, LosesNone, IsWritten, IsDeleted}
+use Rattle.cca_requests.specs.Changes.{plainly, or_effected, rows_after, IsTurnedBy, action_outcome, role_outcome, create_outcome}
 use Rattle.cca_requests.proofs.Ageing.{store_ages, memory_ages, none_ahead}
 use Rattle.cca_requests.proofs.Leaving.{ok_always}
 use Rattle.cca_requests.proofs.Serving.{module_carries, store_carries}

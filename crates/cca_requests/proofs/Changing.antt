@@ -20,8 +20,9 @@ use Rattle.script_buffers.specs.Replies.{Done, Text, spelled}
 use Rattle.cca_machine.specs.State.{State, IsModuleOf}
 use Rattle.cca_machine.specs.Verdict.{questions, first_refusal}
 use Rattle.cca_machine.specs.Act.{Outcome, NoCell, OneCell, Become, new_name}
-use Rattle.cca_requests.specs.Serving.{StandsInModule, IsEither, SameBut, CarriesModule, LeavesModule}
-use Rattle.cca_requests.specs.Deciding.{plainly, or_effected, state_name, change_stop, change_reply}
+use Rattle.request_rules.specs.Standing.{StandsInModule}
+use Rattle.cca_requests.specs.Serving.{IsEither, SameBut, CarriesModule, LeavesModule}
+use Rattle.cca_requests.specs.Changes.{plainly, or_effected, state_name, change_stop, change_reply}
 use Rattle.slot_disk.proofs.SpareLemmas.{becomes_turned}
 use Rattle.cca_requests.proofs.Leaving.{still_module_left}
 use Rattle.cca_requests.proofs.Contents.{at_content, becomes_holds, roles_alike, sound}

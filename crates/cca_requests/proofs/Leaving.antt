@@ -15,8 +15,9 @@ use Rattle.line_service.specs.Devices.{DiskLeft, devices}
 use Rattle.line_service.specs.declared.stops.Device.TheVariants.{Module}
 use Rattle.line_service.specs.declared.stops.Stop.{Stop}
 use Rattle.line_service.specs.declared.stops.Stop.TheVariants.{ModuleFault, StoreFault, Damaged}
-use Rattle.cca_requests.specs.Judging.{IsStoreStop}
-use Rattle.cca_requests.specs.Serving.{Tables, tables, IsSound, IsLoadedStop, LeavesModule, LeavesStore, Leaves}
+use Rattle.request_rules.specs.Judging.{IsStoreStop}
+use Rattle.request_rules.specs.Standing.{Tables, tables}
+use Rattle.cca_requests.specs.Serving.{IsSound, IsLoadedStop, LeavesModule, LeavesStore, Leaves}
 
 pub ok_always : {P : Type 0} (result : Result (Unit {0}) Stop) → P → OnOk result P
 ok_always (Ok u) p = p

@@ -11,11 +11,11 @@ use Rattle.verb_script.specs.Grammar.{Request}
 use Rattle.cca_machine.specs.Operands.{Operands, operands}
 use Rattle.cca_machine.specs.State.{State}
 use Rattle.cca_machine.specs.Verdict.{Refusal, general_checks, or_then, refusal, verdict_by}
-use Rattle.cca_requests.specs.Judging.{AreGranted, IsJudged}
-use Rattle.cca_requests.specs.declared.judging.Granted.{Granted}
-use Rattle.cca_requests.specs.declared.judging.Verdict.{Verdict}
-use Rattle.cca_requests.specs.declared.judging.Verdict.TheVariants as code
-use Rattle.cca_requests.proofs.Acting.{verdict_operands}
+use Rattle.request_rules.specs.Judging.{AreGranted, IsJudged}
+use Rattle.request_rules.specs.declared.judging.Granted.{Granted}
+use Rattle.request_rules.specs.declared.judging.Verdict.{Verdict}
+use Rattle.request_rules.specs.declared.judging.Verdict.TheVariants as code
+use Rattle.request_verbs.proofs.Acting.{verdict_operands}
 
 module _ (s : State) (bench : Bench) (request : Request) where
   module _ {rule : Option Rule} {os : Operands} {judged : Verdict} where

@@ -14,8 +14,9 @@ use Rattle.reencipher.specs.declared.actions.StoreAction.{StoreAction}
 use Rattle.reencipher.specs.Runs.{IsOnTheWay, Reenciphers}
 use Rattle.cca_machine.specs.State.{State, IsStoreOf}
 use Rattle.cca_machine.specs.Act.{Reencipher, Outcome}
-use Rattle.cca_requests.specs.Serving.{StandsInStore, IsEither, SameBut, CarriesStore}
-use Rattle.cca_requests.specs.Deciding.{plainly}
+use Rattle.request_rules.specs.Standing.{StandsInStore}
+use Rattle.cca_requests.specs.Serving.{IsEither, SameBut, CarriesStore}
+use Rattle.cca_requests.specs.Changes.{plainly}
 use Rattle.cca_requests.proofs.Contents.{holds_at}
 use Rattle.cca_requests.proofs.Serving.{told_some}
 

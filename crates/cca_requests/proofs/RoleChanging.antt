@@ -18,8 +18,9 @@ use Rattle.line_service.specs.declared.stops.Stop.TheVariants.{ModuleFault}
 use Rattle.cca_machine.specs.State.{State, IsModuleOf}
 use Rattle.cca_machine.specs.Verdict.{questions}
 use Rattle.cca_machine.specs.Act.{Effect, NoCell, OneCell, Outcome}
-use Rattle.cca_requests.specs.Serving.{StandsInModule, IsEither, SameBut, CarriesModule, IsSound, LeavesModule}
-use Rattle.cca_requests.specs.Deciding.{plainly, role_outcome, role_stop, role_reply}
+use Rattle.request_rules.specs.Standing.{StandsInModule}
+use Rattle.cca_requests.specs.Serving.{IsEither, SameBut, CarriesModule, IsSound, LeavesModule}
+use Rattle.cca_requests.specs.Changes.{plainly, role_outcome, role_stop, role_reply}
 use Rattle.slot_disk.proofs.SpareLemmas.{changed_turned}
 use Rattle.cca_requests.proofs.Leaving.{still_module_left}
 use Rattle.cca_requests.proofs.Contents.{at_content, becomes_holds, registers_alike, sound}

@@ -21,7 +21,9 @@ use Rattle.line_service.specs.declared.stops.Stop.TheVariants.{EntropyFault}
 use Rattle.line_service.specs.Answering.{Holds, Unwritten}
 use Rattle.line_service.specs.Machine.{world}
 use Rattle.std.proofs.KnownBytes.{Consumes-nil}
-use Rattle.cca_requests.specs.Serving.{Tables, tables, StandsInModule, StandsInStore, Stands, IsEither, ArePair, SameButCell, SameBut, IsFault, IsDoneInModule, CarriesModule, IsDoneInStore, CarriesStore, IsDone, Carries, HasDrawn, Serves}
+use Rattle.request_rules.specs.Standing.{Tables, tables, StandsInModule, StandsInStore, Stands}
+use Rattle.cca_requests.specs.Serving.{IsEither, ArePair, SameButCell, SameBut, IsFault, IsDoneInModule, CarriesModule, IsDoneInStore, CarriesStore, IsDone, Carries, Serves}
+use Rattle.request_verbs.specs.Deciding.{HasDrawn}
 
 -- ---- one disk
 

@@ -24,8 +24,10 @@ use Rattle.cca_machine.specs.State.{State, IsStoreOf}
 use Rattle.cca_machine.specs.Verdict.{refusal, questions, first_refusal}
 use Rattle.verb_script.specs.Grammar.{Request}
 use Rattle.cca_machine.specs.Act.{Effect, Create, Delete, Write, Cells, OneCell, Outcome, cell_or_none, deleted_in, effected, refused, written_in}
-use Rattle.cca_requests.specs.Serving.{StandsInStore, IsEither, SameBut, CarriesStore, LeavesStore}
-use Rattle.cca_requests.specs.Deciding.{IsDeleted, IsRecorded, IsWritten, or_effected, plainly, record_stop, record_reply}
+use Rattle.request_rules.specs.Standing.{StandsInStore}
+use Rattle.cca_requests.specs.Serving.{IsEither, SameBut, CarriesStore, LeavesStore}
+use Rattle.request_verbs.specs.Deciding.{IsDeleted, IsRecorded, IsWritten}
+use Rattle.cca_requests.specs.Changes.{or_effected, plainly, record_stop, record_reply}
 use Rattle.slot_disk.proofs.SpareLemmas.{becomes_turned}
 use Rattle.cca_requests.proofs.Leaving.{still_store_left}
 use Rattle.cca_requests.proofs.Contents.{at_content, holds_at}

@@ -12,7 +12,7 @@ use Rattle.master_registers.specs.declared.faults.RegisterFault.TheVariants.{Dis
 use Rattle.master_registers.specs.declared.registers.Registers.{Registers}
 use Rattle.cca_machine.specs.State.{State}
 use Rattle.cca_machine.specs.Verdict.{Refusal, or_refused}
-use Rattle.cca_requests.specs.Deciding.{IsTurnedBy, change_stop, rows_after, rows_by}
+use Rattle.cca_requests.specs.Changes.{IsTurnedBy, change_stop, rows_after, rows_by}
 
 abbrev verdict_by : Bool → Bool → Option Refusal
 verdict_by wrong same = or_refused (if wrong then Some 25 else if same then Some 26 else None) (codes "-") None

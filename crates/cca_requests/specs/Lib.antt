@@ -1,11 +1,2 @@
-pub mod ByRecords
 pub mod Changes
-pub mod CodePurposes
-pub mod Decided
-pub mod Deciding
-pub mod Drawing
-pub mod FieldWords
-pub mod Judging
 pub mod Serving
-pub mod Stored
-pub mod WholeTexts

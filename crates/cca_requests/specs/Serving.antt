@@ -8,55 +8,32 @@ use Rattle.script_buffers.specs.Reading.{line_limit}
 use Rattle.script_buffers.specs.Replies.{spelled}
 use Rattle.cca_roles.specs.RolesStand.{StandsForRoles}
 use Rattle.cca_roles.specs.declared.roles.Role.{Role}
-use Rattle.key_records.specs.StoreStands.{Agrees, HoldsRows}
+use Rattle.key_records.specs.StoreStands.{HoldsRows}
 use Rattle.key_records.specs.Entries.{row_directory}
 use Rattle.key_records.specs.declared.rows.Row.{Row}
 use Rattle.master_registers.specs.Masters.{Masters}
 use Rattle.master_registers.specs.RegisterBody.{StandsForMasters, IsDamaged}
 use Rattle.reencipher.specs.Runs.{LeavesRest}
-use Rattle.line_service.specs.Answering.{Holds, Unwritten}
+use Rattle.line_service.specs.Answering.{Unwritten}
 use Rattle.line_service.specs.Devices.{Span, Devices, DiskLeft, TellsFault, ModuleLeft, StoreLeft}
 use Rattle.line_service.specs.Machine.{World}
 use Rattle.line_service.specs.declared.stops.Device.TheVariants.{Module, Store}
 use Rattle.line_service.specs.declared.stops.Stop.{Stop}
 use Rattle.line_service.specs.declared.stops.Stop.TheVariants.{ReadFault, WriteFault, EntropyFault, ModuleFault, StoreFault, Damaged, InputLimit}
-use Rattle.verb_rules.specs.Keys.{keys_of}
 use Rattle.verb_script.specs.Grammar.{Request, Spells}
 use Rattle.cca_machine.specs.State.{State, IsModuleOf, IsStoreOf}
 use Rattle.cca_machine.specs.Operands.{needs_store}
-use Rattle.cca_requests.specs.Judging.{IsStoreStop}
+use Rattle.request_rules.specs.Judging.{IsStoreStop}
+use Rattle.request_rules.specs.Standing.{Tables, StandsInModule, StandsInStore, Stands}
+use Rattle.request_verbs.specs.Deciding.{HasDrawn}
 use Rattle.cca_machine.specs.Act.{Outcome, Cells, NoCell, OneCell, performed, ChangedCells}
 use Rattle.cca_machine.specs.Draws.{draws_random}
 use Rattle.cca_machine.specs.Lines.{MayDraw, taken_by}
 use Rattle.cca_machine.specs.Verdict.{early_verdict}
-use Rattle.std.specs.Io.KnownBytes.{Consumes}
 
 -- some line spells the request
 abbrev pub IsSpelled : Request → Type 0
 IsSpelled request = (line : List ℕ) × Spells request line × (length line ≤ line_limit)
-
--- what the memory has of the disks: the roles of the module, and what is known of the labels of the store
-pub record Tables : Type 0 where
-  pub roles : List (Option Role)
-  pub rows : List (Option Row)
-
-abbrev pub tables : List (Option Role) → List (Option Row) → Tables
-tables roles rows = record { roles = roles; rows = rows }
-
--- the module tells its content, which stands for the state, and the memory has the roles of the state
-pub record StandsInModule (s : State) (roles : List (Option Role)) (module_ : Medium) : Type 0 where
-  pub in_module : Holds module_ (IsModuleOf s)
-  pub memory : roles ≡ s.roles
-
--- the store tells its content, which stands for the labels of the state, and the memory knows them
-pub record StandsInStore (s : State) (rows : List (Option Row)) (store : Medium) : Type 0 where
-  pub in_store : Holds store (IsStoreOf s)
-  pub agrees : Agrees (keys_of s.registers) rows s.labels
-
--- both
-pub record Stands (s : State) (t : Tables) (m d : Medium) : Type 0 where
-  pub on_module : StandsInModule s t.roles m
-  pub on_store : StandsInStore s t.rows d
 
 -- ---- an outcome, carried out
 
@@ -156,11 +133,6 @@ pub record Carries (o : Outcome) (s : State) (result : Result (Unit {0}) Stop) (
   pub module_outside : EachImage m0 m1 (From (SameBut o.module_cells) m0)
   pub store_outside : EachImage d0 d1 (From (SameBut o.store_cells) d0)
   pub stops : IfErr result IsFault
-
--- the random bytes that were drawn are the next ones, and as many as the machine takes
-pub record HasDrawn (drawn : List ℕ) (count : ℕ) (before now : Option (List ℕ)) : Type 0 where
-  pub consumed : Consumes before now drawn
-  pub size : length drawn ≡ count
 
 -- what the machine makes of the request, with some random bytes, is carried out
 pub record Serves (s : State) (request : Request) (result : Result (Unit {0}) Stop) (reply : List ℕ)

@@ -3,8 +3,7 @@ ghost use Rattle.std.specs.Prelude.{◌≡◌, ◌<◌, [], OnErr, OnOk, length}
 ghost use Rattle.script_buffers.specs.Replies.{spelled};
 ghost use Rattle.cca_requests.specs.Changes.{made_reply, made_stop};
 
-use crate::endings::end;
-use crate::refusals::refuse;
+use crate::endings::{end, refuse};
 use line_service::Stop;
 use verb_rules::Rule;
 use verb_script::ReplyBuffer;

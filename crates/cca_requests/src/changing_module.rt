@@ -11,12 +11,11 @@ ghost use Rattle.cca_machine.specs.State.{State};
 ghost use Rattle.cca_machine.specs.Act.{NoCell, DefineRole, RemoveRole};
 ghost use Rattle.cca_machine.specs.Verdict.{define_questions, remove_questions};
 ghost use Rattle.cca_requests.specs.Serving.{CarriesModule, LeavesModule};
-ghost use Rattle.cca_requests.specs.Changes.{made_reply, made_stop};
-ghost use Rattle.cca_requests.specs.Deciding.{HasLoaded, AtModule, IsTurnedBy, rows_by, action_outcome, state_name, change_stop, change_reply, role_outcome, role_stop, role_reply};
+ghost use Rattle.cca_requests.specs.Changes.{made_reply, made_stop, IsTurnedBy, rows_by, action_outcome, state_name, change_stop, change_reply, role_outcome, role_stop, role_reply};
+ghost use Rattle.request_rules.specs.Standing.{HasLoaded, AtModule};
 
 use crate::changes::{Unmade, answer};
-use crate::endings::end;
-use crate::refusals::refuse;
+use crate::endings::{end, refuse};
 use cca_roles::{AccessPoints, RoleFault, RoleName, Roles};
 use key_cells::Lease;
 use key_records::Records;

@@ -1,7 +1,7 @@
 //! Changes of the records, with their replies.
 ghost use Rattle.std.specs.Prelude.{◌≡◌, [], List, Option, IsSome, OnOk, OnErr, codes};
 ghost use Rattle.key_records.specs.Entries.{Entry};
-ghost use Rattle.key_records.specs.StoreStands.{KeepsLabels};
+ghost use Rattle.key_records.specs.StoreStands.{KeepsLabels, HasStore};
 ghost use Rattle.master_registers.specs.Masters.{Masters};
 ghost use Rattle.reencipher.specs.Runs.{IsCell, LeavesAnyStore, Reenciphers, TurnsCells};
 ghost use Rattle.slot_disk.specs.Medium.{Told};
@@ -16,19 +16,20 @@ ghost use Rattle.cca_machine.specs.State.{State};
 ghost use Rattle.cca_machine.specs.Keys.{any_old};
 ghost use Rattle.cca_machine.specs.Operands.{operands, listed};
 ghost use Rattle.cca_machine.specs.Act.{Effect as MachineEffect, Reencipher, effected};
-ghost use Rattle.cca_requests.specs.declared.effects.Effect.TheVariants as code;
+ghost use Rattle.request_verbs.specs.declared.effects.Effect.TheVariants as code;
 ghost use Rattle.cca_requests.specs.Serving.{CarriesStore, LeavesStore};
-ghost use Rattle.cca_requests.specs.Changes.{made_reply, made_stop};
-ghost use Rattle.cca_requests.specs.Deciding.{HasStore, AtStore, IsReady, IsHeldAt, IsWritten, IsDeleted, plainly, create_outcome, record_stop, record_reply};
+ghost use Rattle.cca_requests.specs.Changes.{made_reply, made_stop, plainly, create_outcome, record_stop, record_reply};
+ghost use Rattle.request_rules.specs.Standing.{AtStore};
+ghost use Rattle.request_verbs.specs.Deciding.{IsReady, IsHeldAt, IsWritten, IsDeleted};
 
 use crate::changes::{Unmade, answer};
 use crate::endings::{end, finish};
-use crate::stored::stop_of;
 use key_cells::Lease;
 use key_records::{Label, Place, RecordFault, Records};
 use line_service::Stop;
 use master_registers::Registers;
 use reencipher::{StoreAction, ahead, drop_ahead, reencipher};
+use request_rules::stop_of;
 use slot_disk::Disk;
 use verb_rules::Rule;
 use verb_script::ReplyBuffer;

@@ -1,51 +1,28 @@
-//! What a verb leaves to be done, and how it is done: the only calls that write a disk.
+//! How what a verb left to be done is done: the only calls that write a disk.
 ghost use Rattle.std.specs.Prelude.{◌≡◌, ◌≢◌, ℕ, List, Err, OnErr, IfErr};
 ghost use Rattle.key_cells.specs.Lease.{bench_of, loan_of};
+ghost use Rattle.key_records.specs.StoreStands.{HasStore};
 ghost use Rattle.verb_script.specs.Grammar.{Request};
 ghost use Rattle.cca_machine.specs.State.{State};
 ghost use Rattle.cca_machine.specs.Keys.{any_old};
 ghost use Rattle.cca_machine.specs.Operands.{operands, listed};
 ghost use Rattle.cca_machine.specs.Act.{or_act};
 ghost use Rattle.cca_machine.specs.Verdict.{whole_verb_verdict};
-ghost use Rattle.cca_requests.specs.Serving.{Carries, Leaves, IsLoadedStop, tables};
-ghost use Rattle.cca_requests.specs.Deciding.{HasLoaded, HasStore, At, IsDecided, IsReady, WritesStore, GoesThrough};
+ghost use Rattle.cca_requests.specs.Serving.{Carries, Leaves, IsLoadedStop};
+ghost use Rattle.request_rules.specs.Standing.{tables, HasLoaded, At};
+ghost use Rattle.request_verbs.specs.Deciding.{IsDecided, IsReady, WritesStore, GoesThrough};
 
 use crate::changing_module::{change_registers, define_role, remove_role};
 use crate::changing_store::{create, delete, renew, write};
-use crate::endings::finish;
-use crate::refusals::refuse;
-use cca_roles::{AccessPoints, RoleName, Roles};
+use crate::endings::{finish, refuse};
+use cca_roles::Roles;
 use key_cells::Lease;
-use key_records::{Label, Place, Records};
+use key_records::Records;
 use line_service::{Shown, Stop};
-use master_registers::{Action, Registers};
-use reencipher::StoreAction;
+use master_registers::Registers;
+use request_verbs::Effect;
 use slot_disk::Disk;
-use verb_rules::Rule;
 use verb_script::ReplyBuffer;
-
-/// What a verb leaves to be done.
-#[derive(Clone, Copy)]
-pub(crate) enum Effect {
-    /// A rule of the verb is broken, by this operand.
-    Refused(Rule, &'static str),
-    /// The reply has its fields.
-    Shown,
-    /// An action on the registers, with the key part in the workbench.
-    Change(Action),
-    /// A role gets these access control points.
-    DefineRole(RoleName, AccessPoints),
-    /// A role is no longer held.
-    RemoveRole(RoleName),
-    /// A label is held, with nothing in its record.
-    Create(Label),
-    /// The record at this place gets the key of this token; the reply has its fields.
-    Write(Place, [u8; 64]),
-    /// The label at this place is no longer held.
-    Delete(Place),
-    /// Every label becomes what the action makes of it.
-    Reencipher(StoreAction),
-}
 
 /// Does what a verb left to be done. A change reads a disk once at most, and writes and syncs it twice; re-enciphering
 /// does so for each label, and reads it once more.

@@ -1,8 +1,10 @@
-//! How the reply to a request that was carried out ends.
-ghost use Rattle.std.specs.Prelude.{◌≡◌, ◌≤◌, ◌++◌, List, length};
-ghost use Rattle.script_buffers.specs.Replies.{Field, Done, spelled, written};
+//! How the reply to a request ends: one that was carried out, or one that a rule refuses.
+ghost use Rattle.std.specs.Prelude.{◌≡◌, ◌<◌, ◌≤◌, ◌+◌, ◌++◌, [], List, length};
+ghost use Rattle.script_buffers.specs.Replies.{Field, Done, Refused, spelled, written};
+ghost use Rattle.verb_rules.specs.Rules.{rule_number};
 ghost use Rattle.cca_machine.specs.Keys.{warning};
 
+use verb_rules::Rule;
 use verb_script::ReplyBuffer;
 
 /// Ends the reply to a request that was carried out, with the warning where a key is under the old master key.
@@ -23,5 +25,16 @@ pub(crate) fn end(reply: &mut ReplyBuffer)
     ensures { (fields : List Field) → reply.old ≡ written fields
         → reply.new ≡ spelled (Done fields) }
 {
+    reply.finish();
+}
+
+/// Writes the reply that names the rule and the operand.
+#[tactic(auto, unfolding(script_buffers::specs::Replies::refusal))]
+pub(crate) fn refuse(reply: &mut ReplyBuffer, rule: Rule, operand: &str)
+    requires empty { reply.old ≡ [] }
+    requires short { length operand.now < 100 }
+    ensures { reply.new ≡ spelled (Refused (rule_number rule) operand.now) }
+{
+    reply.refuse(rule.number(), operand);
     reply.finish();
 }

@@ -8,18 +8,9 @@
 mod changes;
 mod changing_module;
 mod changing_store;
-mod choices;
-mod deciding;
 mod effects;
 mod endings;
-mod general;
-mod grants;
-mod judging;
-mod operands;
 mod performing;
-mod refusals;
-mod stored;
-mod verbs;
 
 pub use line_service::{Device, Stop};
 pub use performing::perform;

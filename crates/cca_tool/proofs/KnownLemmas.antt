@@ -16,7 +16,8 @@ use Rattle.key_records.specs.StoreStands.{KeepsLabels, HoldsRows, labels_in}
 use Rattle.key_records.specs.declared.rows.Row.{Row}
 use Rattle.key_records.proofs.OpeningLaws.{stands_one as labels_one}
 use Rattle.cca_machine.specs.State.{State, IsModuleOf, IsStoreOf}
-use Rattle.cca_requests.specs.Serving.{Tables, tables, Stands as StandsFor, IsSound as IsRemembered, HasTold}
+use Rattle.request_rules.specs.Standing.{Tables, tables, Stands as StandsFor}
+use Rattle.cca_requests.specs.Serving.{IsSound as IsRemembered, HasTold}
 use Rattle.line_service.specs.Answering.{OnDisks, Stands, IsSound}
 use Rattle.line_service.specs.declared.stops.Stop.{Stop}
 use Rattle.cca_tool.specs.Coprocessor.{cca, remembers}

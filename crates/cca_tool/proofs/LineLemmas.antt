@@ -17,7 +17,9 @@ use Rattle.cca_machine.specs.Act.{Cells, NoCell, Outcome, or_act, performed}
 use Rattle.cca_machine.specs.Lines.{LineOutcome, MayDraw, taken_by, line_outcome}
 use Rattle.cca_machine.proofs.DrawLaws.{early_some, verdict_empty}
 use Rattle.cca_machine.proofs.LineLaws.{line-no_request, line-too_long, line-request, line-drawn}
-use Rattle.cca_requests.specs.Serving.{Tables, Stands as StandsFor, Serves as Performs, HasDrawn, IsDone, IsAround, IsEither, IsFault, SameBut}
+use Rattle.request_rules.specs.Standing.{Tables, Stands as StandsFor}
+use Rattle.cca_requests.specs.Serving.{Serves as Performs, IsDone, IsAround, IsEither, IsFault, SameBut}
+use Rattle.request_verbs.specs.Deciding.{HasDrawn}
 use Rattle.line_service.specs.Answering.{Holds, Stands, Steps, Around, Both, Moves, Stays, Serves, Unwritten, WritesWithin, Turns}
 use Rattle.line_service.specs.Machine.{World, world}
 use Rattle.line_service.specs.Stops.{IsLineStop}

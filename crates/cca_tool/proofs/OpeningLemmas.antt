@@ -27,7 +27,7 @@ use Rattle.line_service.specs.declared.stops.Device.TheVariants.{Module, Store}
 use Rattle.line_service.specs.declared.stops.Stop.{Stop}
 use Rattle.line_service.specs.declared.stops.Stop.TheVariants.{ReadFault, WriteFault, EntropyFault, ModuleFault, StoreFault, Damaged, InputLimit}
 use Rattle.cca_machine.specs.State.{State}
-use Rattle.cca_requests.specs.Serving.{tables}
+use Rattle.request_rules.specs.Standing.{tables}
 use Rattle.cca_tool.specs.Opening.{IsOpened}
 use Rattle.cca_tool.specs.Coprocessor.{cca, IsBrokenModule, IsBrokenStore, IsModuleStop, module_stands}
 

@@ -25,7 +25,8 @@ use Rattle.cca_machine.specs.Verdict.{verdict}
 use Rattle.cca_machine.specs.Act.{Outcome, Cells, performed}
 use Rattle.cca_machine.specs.Lines.{MayDraw, line_outcome}
 use Rattle.cca_machine.specs.Session.{line_step}
-use Rattle.cca_requests.specs.Serving.{Tables, SameBut}
+use Rattle.request_rules.specs.Standing.{Tables}
+use Rattle.cca_requests.specs.Serving.{SameBut}
 use Rattle.cca_requests.proofs.Serving.{same_but_spare}
 use Rattle.line_service.specs.Machine.{Machine}
 use Rattle.line_service.specs.declared.stops.Device.{Device}

@@ -8,7 +8,7 @@ use Rattle.slot_disk.specs.Medium.{Medium}
 use Rattle.verb_rules.specs.Keys.{keys_of}
 use Rattle.line_service.specs.Answering.{Holds}
 use Rattle.cca_machine.specs.State.{State}
-use Rattle.cca_requests.specs.Serving.{Tables}
+use Rattle.request_rules.specs.Standing.{Tables}
 
 -- the bench holds the registers of a state, the memory has its roles, and the store its labels, which the memory knows
 pub record IsOpened (s : State) (held : Registers) (bench : Bench) (t : Tables) (store : Medium) : Type 0 where

@@ -13,7 +13,8 @@ use Rattle.line_service.specs.declared.stops.Stop.TheVariants.{ReadFault, WriteF
 use Rattle.cca_roles.specs.Roles.{blank_roles}
 use Rattle.key_records.specs.StoreStands.{HoldsRows}
 use Rattle.cca_machine.specs.State.{State, IsModuleOf, IsStoreOf}
-use Rattle.cca_requests.specs.Serving.{Tables, tables, IsSound}
+use Rattle.request_rules.specs.Standing.{Tables, tables}
+use Rattle.cca_requests.specs.Serving.{IsSound}
 use Rattle.cca_tool.specs.Coprocessor.{remembers}
 
 pub record Memory : Type 0 where

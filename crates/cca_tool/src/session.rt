@@ -35,7 +35,7 @@ pub struct Session {
 }
 
 impl Model for Session {
-    ghost use Rattle.cca_requests.specs.Serving.{tables};
+    ghost use Rattle.request_rules.specs.Standing.{tables};
     ghost use Rattle.cca_tool.specs.Sessions.{Memory, ShowsWaiting};
 
     ghost Value = { Memory };

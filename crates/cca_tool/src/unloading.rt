@@ -11,7 +11,7 @@ ghost use Rattle.line_service.specs.Answering.{OnDisks, IsSound};
 ghost use Rattle.line_service.specs.Devices.{DamageTold, HaveSizes, OpeningLeft, TellsFault};
 ghost use Rattle.line_service.specs.Sending.{Grows};
 ghost use Rattle.cca_machine.specs.State.{State, module_size, store_size};
-ghost use Rattle.cca_requests.specs.Serving.{tables};
+ghost use Rattle.request_rules.specs.Standing.{tables};
 ghost use Rattle.move_file.specs.Judging.{IsStoreFault, RefusedAsRead};
 ghost use Rattle.move_file.specs.declared.moves.Move.{Move as AnyMove};
 ghost use Rattle.cca_tool.specs.Coprocessor.{cca};

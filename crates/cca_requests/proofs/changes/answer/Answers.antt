@@ -1,7 +1,7 @@
 use Rattle.std.proofs.Common.{◌∙◌, [], ap, sym}
 use Rattle.script_buffers.specs.Replies.{spelled}
 use Rattle.cca_requests.specs.Changes.{made_reply}
-use Rattle.cca_requests.proofs.Fields.{no_fields}
+use Rattle.request_verbs.proofs.Fields.{no_fields}
 use Rattle.cca_requests.proofs.changes.answer.Goals as goal
 
 pub returns-in-Ok-clause-reply : goal.returns-in-Ok-clause-reply

@@ -1,7 +1,7 @@
 use Rattle.std.proofs.Common.{◌∙◌, [], ◌∷◌, ◌++◌, codes, sym, ap}
 use Rattle.script_buffers.specs.Replies.{Text, spelled, text_field}
-use Rattle.cca_requests.specs.Deciding.{state_name, change_reply}
-use Rattle.cca_requests.proofs.Fields.{one_text}
+use Rattle.cca_requests.specs.Changes.{state_name, change_reply}
+use Rattle.request_verbs.proofs.Fields.{one_text}
 use Rattle.cca_requests.proofs.changing_module.answer_change.Goals as goal
 
 pub returns-in-Ok-clause-reply : goal.returns-in-Ok-clause-reply

@@ -9,7 +9,8 @@ use Rattle.master_registers.specs.declared.faults.RegisterFault.TheVariants.{Reg
 use Rattle.script_buffers.specs.Replies.{spelled}
 use Rattle.cca_requests.specs.Serving.{CarriesModule, LeavesModule}
 use Rattle.key_records.specs.StoreStands.{HoldsRows}
-use Rattle.cca_requests.specs.Deciding.{IsTurnedBy, action_outcome, labels_after, change_reply, change_stop, rows_by}
+use Rattle.cca_requests.specs.Changes.{IsTurnedBy, action_outcome, change_reply, change_stop, rows_by}
+use Rattle.request_verbs.specs.Deciding.{labels_after}
 use Rattle.cca_requests.proofs.TurnedRows.{is_turned, err_kept, held_after}
 use Rattle.cca_requests.proofs.Registers.{masters_are}
 use Rattle.cca_requests.proofs.Changing.{changes_as, still_as, left_as}

@@ -6,7 +6,7 @@ use Rattle.key_records.specs.RecordBody.{null_body}
 use Rattle.script_buffers.specs.Replies.{spelled}
 use Rattle.verb_rules.specs.Keys.{keys_of}
 use Rattle.cca_requests.specs.Serving.{CarriesStore, LeavesStore}
-use Rattle.cca_requests.specs.Deciding.{create_outcome, record_reply}
+use Rattle.cca_requests.specs.Changes.{create_outcome, record_reply}
 use Rattle.cca_requests.proofs.Storing.{kept_labels, known_directory, full_as, exists_as, creates_as, create_left_as}
 use Rattle.cca_requests.proofs.changing_store.create.Goals as goal
 

@@ -1,6 +1,6 @@
 use Rattle.std.proofs.Common.{[], Ok, Err}
 use Rattle.verb_rules.specs.Keys.{keys_of}
-use Rattle.cca_requests.proofs.Fields.{no_fields}
+use Rattle.request_verbs.proofs.Fields.{no_fields}
 use Rattle.cca_requests.proofs.Storing.{deletes_as, kept_labels, stored_left}
 use Rattle.cca_requests.proofs.changing_store.delete.Goals as goal
 

@@ -3,10 +3,10 @@ use Rattle.std.proofs.lemmas.Fmt.{length-decimal-le}
 use Rattle.slot_disk.proofs.Media.{told_at}
 use Rattle.script_buffers.specs.Replies.{Number}
 use Rattle.cca_machine.specs.Act.{Reencipher}
-use Rattle.cca_requests.specs.Deciding.{plainly}
+use Rattle.cca_requests.specs.Changes.{plainly}
 use Rattle.cca_requests.specs.Serving.{CarriesStore}
-use Rattle.cca_requests.specs.Stored.{read_stop}
-use Rattle.cca_requests.proofs.Fields.{one_number}
+use Rattle.request_rules.specs.Stored.{read_stop}
+use Rattle.request_verbs.proofs.Fields.{one_number}
 use Rattle.cca_requests.proofs.Renewing.{renewed, ended}
 use Rattle.cca_requests.proofs.Storing.{kept_labels}
 use Rattle.cca_requests.proofs.changing_store.renew.Goals as goal

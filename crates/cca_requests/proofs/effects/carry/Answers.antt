@@ -6,8 +6,8 @@ use Rattle.verb_rules.specs.Rules.{rule_number}
 use Rattle.cca_machine.specs.Act.{Show, effected, refused}
 use Rattle.cca_machine.specs.Keys.{warning}
 use Rattle.cca_machine.specs.Verdict.{refusal, define_questions, remove_questions}
-use Rattle.cca_requests.specs.Serving.{tables}
-use Rattle.cca_requests.specs.Deciding.{IsDecided}
+use Rattle.request_rules.specs.Standing.{tables}
+use Rattle.request_verbs.specs.Deciding.{IsDecided}
 use Rattle.cca_requests.proofs.Carrying.{action_carries, carries_as, create_carries, define_carries, delete_carries, outcome_is, refused_is, remove_carries, renew_carries, shown_is, write_carries}
 use Rattle.cca_requests.proofs.Contents.{sound}
 use Rattle.cca_requests.proofs.Leaving.{module_left, registers_left, still_left, store_left}

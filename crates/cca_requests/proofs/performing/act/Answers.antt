@@ -7,11 +7,12 @@ use Rattle.verb_script.specs.Parsed.{seen}
 use Rattle.cca_machine.specs.Act.{Outcome}
 use Rattle.cca_machine.specs.Operands.{operands}
 use Rattle.cca_machine.specs.Verdict.{verb_verdict, whole_verb_verdict}
-use Rattle.cca_requests.specs.Serving.{tables, Carries, IsFault}
-use Rattle.cca_requests.proofs.Acting.{any_old_are}
+use Rattle.request_rules.specs.Standing.{tables}
+use Rattle.cca_requests.specs.Serving.{Carries, IsFault}
+use Rattle.request_verbs.proofs.Acting.{any_old_are}
 use Rattle.cca_requests.proofs.Registers.{loaded_places}
 use Rattle.cca_requests.proofs.Serving.{performed_by, taken_for, drawn_serves, stopped_serves}
-use Rattle.cca_requests.proofs.Settling.{takes_on}
+use Rattle.request_verbs.proofs.Settling.{takes_on}
 use Rattle.cca_requests.proofs.Storing.{recorded}
 use Rattle.cca_requests.proofs.performing.act.Goals as goal
 

@@ -13,11 +13,12 @@ use Rattle.verb_script.specs.Grammar.{Request}
 use Rattle.verb_script.specs.Parsed.{seen}
 use Rattle.cca_machine.specs.Operands.{Operands, operands, listed, names_label, is_reencipher, needs_store}
 use Rattle.cca_machine.specs.Verdict.{refusal, general_checks, verb_verdict}
-use Rattle.cca_requests.specs.Serving.{tables, IsFault}
-use Rattle.cca_requests.proofs.Acting.{verdict_general}
-use Rattle.cca_requests.proofs.AsRead.{grants_by_records, on_ok_always, refusal_by_record}
-use Rattle.cca_requests.proofs.Delivering.{either_right}
-use Rattle.cca_requests.proofs.GrantsKept.{grants_kept, loaded_kept}
+use Rattle.request_rules.specs.Standing.{tables}
+use Rattle.cca_requests.specs.Serving.{IsFault}
+use Rattle.request_verbs.proofs.Acting.{verdict_general}
+use Rattle.request_rules.proofs.AsRead.{grants_by_records, on_ok_always, refusal_by_record}
+use Rattle.request_verbs.proofs.Delivering.{either_right}
+use Rattle.request_rules.proofs.GrantsKept.{grants_kept, loaded_kept}
 use Rattle.cca_requests.proofs.OperandsJudged.{operands_granted, operands_refused}
 use Rattle.cca_requests.proofs.Serving.{refused_serves, stopped_serves, serves_after_reads, stands_kept}
 use Rattle.cca_requests.proofs.Leaving.{still_turned, read_turned, leaves_after_reads}

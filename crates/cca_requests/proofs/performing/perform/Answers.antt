@@ -5,8 +5,8 @@ use Rattle.line_service.specs.declared.stops.Stop.TheVariants.{ModuleFault}
 use Rattle.slot_disk.proofs.Media.{keeps_still}
 use Rattle.verb_script.specs.Parsed.{seen}
 use Rattle.verb_script.proofs.GrammarLaws.{spelled_values}
-use Rattle.cca_requests.specs.Serving.{tables}
-use Rattle.cca_requests.proofs.AsRead.{rests_before}
+use Rattle.request_rules.specs.Standing.{tables}
+use Rattle.request_rules.proofs.AsRead.{rests_before}
 use Rattle.cca_requests.proofs.Leaving.{no_damage, leaves_after_reads}
 use Rattle.cca_requests.proofs.Registers.{registers_found, undamaged}
 use Rattle.cca_requests.proofs.Serving.{stopped_serves, serves_after_reads, stands_kept}

@@ -11,7 +11,7 @@ use Rattle.slot_disk.specs.Medium.{Medium, Told}
 use Rattle.slot_disk.proofs.Media.{told_earlier}
 use Rattle.slot_disk.proofs.WhereToldLemmas.{rose_wider}
 use Rattle.line_service.proofs.OpeningLemmas.{module_unbroken, store_unbroken, unbroken}
-use Rattle.cca_requests.specs.Serving.{Tables, tables}
+use Rattle.request_rules.specs.Standing.{Tables, tables}
 use Rattle.cca_tool.specs.Coprocessor.{cca}
 use Rattle.cca_tool.specs.Sessions.{AreKnown}
 use Rattle.cca_tool.specs.Unloading.{KnownAsRead}

@@ -1,7 +1,7 @@
 -- A line is a request, or breaks rule 01.
 use Rattle.std.proofs.Common.{sym, rules}
 use Rattle.verb_script.specs.Parsed.{seen}
-use Rattle.cca_requests.specs.Serving.{tables}
+use Rattle.request_rules.specs.Standing.{tables}
 use Rattle.cca_tool.specs.Coprocessor.{remembers}
 use Rattle.cca_tool.proofs.LineLemmas.{request_serves, unspelled_serves, leads_on, not_damaged}
 use Rattle.cca_tool.proofs.KnownLemmas.{roles_told, module_undamaged, never_told, known_after, stands_for}

@@ -1,6 +1,6 @@
 -- What opening the disks comes to, told as its stops alone.
 use Rattle.std.proofs.Common.{rules}
-use Rattle.cca_requests.specs.Serving.{tables}
+use Rattle.request_rules.specs.Standing.{tables}
 use Rattle.cca_tool.proofs.KnownLemmas.{known_remembers, known_sound}
 use Rattle.cca_tool.proofs.OpeningLemmas.{damage_as, left_as}
 use Rattle.cca_tool.proofs.coprocessor.CoprocessorDesk.open.Goals as goal

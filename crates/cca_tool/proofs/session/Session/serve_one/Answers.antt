@@ -1,7 +1,7 @@
 -- A line served over disks that are known.
 use Rattle.std.proofs.Common.{ap, sym, subst}
 use Rattle.script_buffers.specs.Reading.{Reading}
-use Rattle.cca_requests.specs.Serving.{Tables, tables}
+use Rattle.request_rules.specs.Standing.{Tables, tables}
 use Rattle.line_service.specs.Machine.{world}
 use Rattle.line_service.specs.Serving.{LineServed}
 use Rattle.cca_tool.specs.Coprocessor.{cca, remembers}

@@ -1,8 +1,0 @@
-use Rattle.std.proofs.Common.{rules}
-use Rattle.cca_requests.proofs.KeyedRows.{test_keyed}
-use Rattle.cca_requests.proofs.Settling.{keyed_settles}
-use Rattle.cca_requests.proofs.verbs.csnbkyt.csnbkyt.Goals as goal
-
-pub returns-clause-settles : goal.returns-clause-settles
-returns-clause-settles c = λ role key held rows.
-    keyed_settles (test_keyed role key) c.key_in.ensures.key c.key_in.ensures.under (search rules)

@@ -1,9 +1,0 @@
-use Rattle.std.proofs.Common.{refl}
-use Rattle.cca_requests.proofs.Settling.{left_settles}
-use Rattle.cca_requests.proofs.verbs.csuaaci.remove.Goals as goal
-
-pub returns : goal.returns
-returns c = record {
-  settles = λ role action granted held rows bench.
-      left_settles refl (λ s is. (refl, refl, refl)) (refl, c.requires.name) (λ writes. absurd writes) (λ through. absurd through);
-}

@@ -1,9 +1,0 @@
-use Rattle.std.proofs.Common.{refl}
-use Rattle.cca_requests.proofs.Settling.{left_settles}
-use Rattle.cca_requests.proofs.verbs.reenciphering.drop.Goals as goal
-
-pub returns : goal.returns
-returns c = record {
-  settles = λ role action granted held rows bench current loaded.
-      left_settles refl (λ s is. (refl, refl, refl)) (refl, current, λ is. cc is) (λ writes. refl) (λ through. refl);
-}

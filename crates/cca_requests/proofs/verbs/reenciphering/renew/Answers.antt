@@ -1,9 +1,0 @@
-use Rattle.std.proofs.Common.{refl}
-use Rattle.cca_requests.proofs.Settling.{left_settles}
-use Rattle.cca_requests.proofs.verbs.reenciphering.renew.Goals as goal
-
-pub returns : goal.returns
-returns c = record {
-  settles = λ role granted held rows bench current loaded.
-      left_settles refl (λ s is. (refl, refl, refl)) (refl, current, λ is. cc is) (λ writes. refl) (λ through. refl);
-}

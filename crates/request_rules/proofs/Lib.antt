@@ -1,0 +1,3 @@
+pub mod AsRead
+pub mod GrantsKept
+mod LabelsRead

@@ -1,0 +1,5 @@
+pub mod ByRecords
+pub mod FieldWords
+pub mod Judging
+pub mod Standing
+pub mod Stored

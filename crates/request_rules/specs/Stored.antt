@@ -1,0 +1,114 @@
+-- What is found of a label, and of the key in its record.
+use Rattle.std.specs.Prelude.{◌≡◌, ◌<◌, ◌⊎◌, ℕ, List, [], ◌∷◌, ◌++◌, get_or, is_none, Option, Some, None, Result, MatchResult, ⊤, Bool, true, false}
+use Rattle.cca_vectors.specs.Checks.{Check, check, first_failing}
+use Rattle.key_cells.specs.Bench.{Bench}
+use Rattle.key_records.specs.Changes.{IsReadOf, has_key}
+use Rattle.key_records.specs.Directory.{cell_of, label_at}
+use Rattle.key_records.specs.Entries.{row_directory}
+use Rattle.key_records.specs.Labels.{IsLabel}
+use Rattle.key_records.specs.declared.faults.RecordFault.{RecordFault}
+use Rattle.key_records.specs.declared.faults.RecordFault.TheVariants as record_fault
+use Rattle.key_records.specs.declared.rows.Row.{Row}
+use Rattle.key_tokens.specs.Denotes.{denoted}
+use Rattle.master_registers.specs.Masters.{Masters}
+use Rattle.line_service.specs.declared.stops.Device.TheVariants.{Store}
+use Rattle.line_service.specs.declared.stops.Stop.{Stop}
+use Rattle.line_service.specs.declared.stops.Stop.TheVariants.{StoreFault, Damaged}
+use Rattle.verb_rules.specs.KeyChecks.{use_checks}
+use Rattle.verb_rules.specs.Keys.{keys_of}
+use Rattle.verb_rules.specs.Rules.{rule_number}
+use Rattle.verb_rules.specs.StoredKeys.{IsStoredUse}
+use Rattle.verb_rules.specs.declared.judging.Judged.{Judged}
+use Rattle.verb_rules.specs.declared.needs.Need.{Need}
+use Rattle.verb_rules.specs.declared.rules.Rule.{Rule}
+use Rattle.verb_rules.specs.declared.rules.Rule.TheVariants.{Null}
+use Rattle.cca_machine.specs.Keys.{key_of_label, or_no_key}
+use Rattle.cca_machine.specs.Operands.{Operand, Operands, listed}
+use Rattle.cca_machine.specs.State.{State}
+use Rattle.cca_machine.specs.Verdict.{label_check, record_checks}
+use Rattle.cca_machine.specs.declared.asking.Ask.{Ask}
+use Rattle.request_rules.specs.ByRecords.{IfKeyOfLabel, IsHeldIn}
+use Rattle.request_rules.specs.Judging.{HasStoredKey, answered}
+use Rattle.request_rules.specs.declared.judging.Answer.{Answer}
+use Rattle.request_rules.specs.declared.judging.Answer.TheVariants as answer
+use Rattle.request_rules.specs.declared.judging.Grant.{Grant}
+use Rattle.request_rules.specs.declared.judging.Verdict.{Verdict}
+use Rattle.request_rules.specs.declared.judging.Verdict.TheVariants as verdict
+
+-- rules 06 and 07 of a label, by what the memory knows
+abbrev pub find_checks : List (Option Row) → List ℕ → List Check
+find_checks rows label = label_check label ∷ check 7 (is_none (cell_of label (row_directory rows))) ∷ []
+
+-- the place of a label that is held
+pub record IsFound (rows : List (Option Row)) (label : List ℕ) (place : ℕ) : Type 0 where
+  pub passes : first_failing (find_checks rows label) ≡ None
+  pub is : cell_of label (row_directory rows) ≡ Some place
+  pub held : label_at (row_directory rows) place ≡ Some label
+  pub label_is : IsLabel label
+  pub within : place < 1024
+
+-- the place, or the rule that the label breaks
+abbrev pub Finds : List (Option Row) → List ℕ → Result ℕ Rule → Type 0
+Finds rows label result =
+    MatchResult result (IsFound rows label) (λ rule. first_failing (find_checks rows label) ≡ Some (rule_number rule))
+
+-- the rules of a label whose key is asked for
+abbrev pub label_key_checks : State → Need → List ℕ → List Check
+label_key_checks s need label = record_checks s label ++ use_checks need (or_no_key (key_of_label s label)).clear.vector
+
+-- the first of them that is broken, or the key
+abbrev pub IsLabelAsked : State → Bench → Need → List ℕ → Answer → Type 0
+IsLabelAsked s bench need label (answer.Refused rule) = first_failing (label_key_checks s need label) ≡ Some (rule_number rule)
+IsLabelAsked s bench need label (answer.Granted grant) =
+    (first_failing (label_key_checks s need label) ≡ None) × HasStoredKey s.registers bench (key_of_label s label) grant
+
+-- What is answered by the body that was read of a record, whatever the store tells of its bytes: rule 08 where the memory
+-- knows the record as null, and else what the key of the token in it comes to. Of a token that stands for no key nothing is
+-- answered.
+pub record IsAnsweredAsRead (m : Masters) (bench : Bench) (need : Need) (row : Option Row) (bytes : List ℕ)
+    (given : Answer) : Type 0 where
+  pub found : Bool
+  pub token : List ℕ
+  pub read : IsReadOf row bytes found token
+  pub known : found ≡ has_key row
+  pub null : found ≡ false → given ≡ answer.Refused Null
+  pub judged : found ≡ true → (judged : Result Judged Rule)
+      × IsStoredUse bench need (denoted (keys_of m) token) (Some judged) × (given ≡ answered judged)
+
+-- of a label that the memory holds: there is such a body
+abbrev pub IsLabelAsRead : Masters → Bench → List (Option Row) → Answer → Need → List ℕ → Type 0
+IsLabelAsRead m bench rows given need label = (cell : ℕ) → IsHeldIn rows label cell
+    → (bytes : List ℕ) × IsAnsweredAsRead m bench need (get_or rows cell None) bytes given
+
+-- the same of an operand that asks for the key of such a label
+abbrev pub IsAskedAsRead : Masters → Bench → List (Option Row) → List ℕ → Ask → Answer → Type 0
+IsAskedAsRead m bench rows text ask given = IfKeyOfLabel (IsLabelAsRead m bench rows given) text ask
+
+-- an operand of this name is refused by this rule as read, and those before it are granted as read
+abbrev pub IsRefusedAsRead : Masters → Bench → List (Option Row) → List Operand → Rule → List ℕ → Type 0
+IsRefusedAsRead m bench rows [] _ _ = ⊥
+IsRefusedAsRead m bench rows (o ∷ os) rule name =
+    ((name ≡ o.name) × IsAskedAsRead m bench rows o.text o.ask (answer.Refused rule))
+    ⊎ ((grant : Grant) × IsAskedAsRead m bench rows o.text o.ask (answer.Granted grant)
+    × IsRefusedAsRead m bench rows os rule name)
+
+-- the same of all operands
+abbrev pub AreAskedAsRead : Masters → Bench → List (Option Row) → Operands → Verdict → Type 0
+AreAskedAsRead m bench rows os (verdict.Refused rule name) = IsRefusedAsRead m bench rows (listed os) rule name.now
+AreAskedAsRead m bench rows os (verdict.Granted g) =
+    IsAskedAsRead m bench rows os.first.text os.first.ask (answer.Granted g.first)
+    × IsAskedAsRead m bench rows os.second.text os.second.ask (answer.Granted g.second)
+    × IsAskedAsRead m bench rows os.third.text os.third.ask (answer.Granted g.third)
+
+-- reading a record fails by these alone
+abbrev pub IsReadFault : RecordFault → Type 0
+IsReadFault record_fault.DiskFault = ⊤
+IsReadFault (record_fault.Damaged cell) = ⊤
+IsReadFault record_fault.Full = ⊥
+IsReadFault record_fault.Exists = ⊥
+
+abbrev pub read_stop : RecordFault → Stop
+read_stop record_fault.DiskFault = StoreFault
+read_stop (record_fault.Damaged cell) = Damaged Store cell
+read_stop record_fault.Full = StoreFault
+read_stop record_fault.Exists = StoreFault

@@ -1,0 +1,280 @@
+//! The operands of a request, judged in their order.
+ghost use Rattle.std.specs.Prelude.{◌≡◌, [], Some, None, Err, IfOk, IfErr, IsOk, IsTrue, false, drop};
+ghost use Rattle.key_cells.specs.Bench.{Bench};
+ghost use Rattle.key_cells.specs.Lease.{bench_of};
+ghost use Rattle.key_records.specs.Changes.{KeepsAllButBody};
+ghost use Rattle.key_records.specs.StoreStands.{HasStore};
+ghost use Rattle.key_tokens.specs.declared.key_token.Asked.TheVariants.{Internal, External};
+ghost use Rattle.line_service.specs.Devices.{DiskLeft};
+ghost use Rattle.master_registers.specs.Loaded.{Loaded};
+ghost use Rattle.master_registers.specs.Masters.{Masters};
+ghost use Rattle.slot_disk.specs.Medium.{Keeps};
+ghost use Rattle.verb_script.specs.Grammar.{is_hex, accepts, key_text};
+ghost use Rattle.verb_script.specs.Named.{label_named};
+ghost use Rattle.verb_script.specs.Values.{hex_value};
+ghost use Rattle.cca_machine.specs.Operands.{is_named_by, names_label, listed};
+ghost use Rattle.cca_machine.specs.State.{State};
+ghost use Rattle.request_rules.specs.Standing.{AtStore};
+ghost use Rattle.request_rules.specs.Judging.{IsText, AreFit, answered, seen_operands, IsAsked, IsShaped, IsKeyedAnswer, IsStoreStop, IsJudged, AreShaped, AreKeyedOperands};
+ghost use Rattle.request_rules.specs.Stored.{IsAskedAsRead, AreAskedAsRead};
+
+use crate::operands::{Operand, Operands};
+use crate::stored::{judge_held, judge_label, judge_new_label, judge_target};
+use cca_machine::Ask;
+use key_cells::Lease;
+use key_records::{Place, Records};
+use key_tokens::{Asked, Token, read_token};
+use line_service::Stop;
+use master_registers::Registers;
+use slot_disk::Disk;
+use verb_rules::{Judged, Need, Rule, any_key, judge_key, token_rule};
+use verb_script::{decode, named_label};
+
+/// What an operand stands for, where it breaks no rule.
+#[derive(Clone, Copy)]
+pub struct Grant {
+    /// The key token, where one is asked for by its own rules.
+    pub token: Option<Token>,
+    /// The key, where one is asked for.
+    pub key: Option<Judged>,
+    /// The place of the label, where one that is held is asked for.
+    pub place: Option<Place>,
+}
+
+/// What the operands stand for.
+#[derive(Clone, Copy)]
+pub struct Granted {
+    /// The first one.
+    pub first: Grant,
+    /// The second one.
+    pub second: Grant,
+    /// The third one.
+    pub third: Grant,
+}
+
+/// The first rule that an operand breaks, or what it stands for.
+#[derive(Clone, Copy)]
+pub(crate) enum Answer {
+    Refused(Rule),
+    Granted(Grant),
+}
+
+/// The first rule that the operands break, with the name of the one that breaks it, or what they
+/// stand for.
+#[derive(Clone, Copy)]
+pub enum Verdict {
+    /// The rule, and the name of the operand that breaks it.
+    Refused(Rule, &'static str),
+    /// What each operand stands for.
+    Granted(Granted),
+}
+
+/// The bytes of a key token that 128 hexadecimal digits spell.
+pub fn token_bytes(digits: &[u8]) -> [u8; 64]
+    requires { IsTrue (is_hex 128 digits.now) }
+    ensures { result ≡ hex_value digits.now }
+{
+    let mut bytes = [0; 64];
+    decode(digits, &mut bytes);
+    bytes
+}
+
+impl Grant {
+    pub(crate) fn nothing() -> Grant
+        ensures { result ≡ record { token = None; key = None; place = None } }
+    {
+        Grant {
+            token: None,
+            key: None,
+            place: None,
+        }
+    }
+
+    fn of_token(token: Token) -> Grant
+        ensures { result ≡ record { token = Some token; key = None; place = None } }
+    {
+        Grant {
+            token: Some(token),
+            key: None,
+            place: None,
+        }
+    }
+
+    pub(crate) fn of_key(key: Judged) -> Grant
+        ensures { result ≡ record { token = None; key = Some key; place = None } }
+    {
+        Grant {
+            token: None,
+            key: Some(key),
+            place: None,
+        }
+    }
+
+    pub(crate) fn of_place(place: Place) -> Grant
+        ensures { result ≡ record { token = None; key = None; place = Some place } }
+    {
+        Grant {
+            token: None,
+            key: None,
+            place: Some(place),
+        }
+    }
+}
+
+impl Answer {
+    /// What is answered of a key that was judged.
+    pub(crate) fn of(judged: Result<Judged, Rule>) -> Answer
+        ensures { result ≡ answered judged }
+    {
+        match judged {
+            Ok(key) => Answer::Granted(Grant::of_key(key)),
+            Err(rule) => Answer::Refused(rule),
+        }
+    }
+}
+
+/// Judges a key token of either kind.
+fn judge_any_token(digits: &[u8]) -> Answer
+    requires { IsTrue (is_hex 128 digits.now) }
+    ensures asked { (s : State) (bench : Bench) → IsAsked s bench digits.now Ask.AnyToken result }
+    ensures shaped { IsShaped [] digits.now Ask.AnyToken result }
+{
+    match read_token(&token_bytes(digits), Asked::Either) {
+        Ok(token) => Answer::Granted(Grant::of_token(token)),
+        Err(fault) => Answer::Refused(token_rule(fault)),
+    }
+}
+
+/// The digits of a key token that stand behind `T:`.
+fn digits_of(text: &[u8]) -> &[u8]
+    requires key { IsTrue (accepts key_text text.now) }
+    requires token { label_named text.now ≡ None }
+    ensures text { result.now ≡ drop 2 text.now }
+    ensures digits { IsTrue (is_hex 128 result.now) }
+{
+    &text[2..]
+}
+
+/// Judges the internal key of a token that 128 digits spell.
+fn judge_token(digits: &[u8], need: &Need, held: &Registers) -> Answer
+    requires digits { IsTrue (is_hex 128 digits.now) }
+    requires asked { need.now.asked ≡ Internal }
+    ensures asked { (s : State) (bench : Bench) → Loaded s.registers held.now bench
+        → IsAsked s bench digits.now (Ask.Token need.now) result }
+    ensures shaped { IsShaped [] digits.now (Ask.Token need.now) result }
+    ensures keyed { (m : Masters) (bench : Bench) → Loaded m held.now bench
+        → IsKeyedAnswer m digits.now (Ask.Token need.now) result }
+{
+    Answer::of(judge_key(&token_bytes(digits), need, held))
+}
+
+/// Judges an external token that 128 digits spell.
+fn judge_external(digits: &[u8], need: &Need, held: &Registers) -> Answer
+    requires digits { IsTrue (is_hex 128 digits.now) }
+    requires asked { need.now.asked ≡ External }
+    ensures asked { (s : State) (bench : Bench) → Loaded s.registers held.now bench
+        → IsAsked s bench digits.now (Ask.External need.now) result }
+    ensures shaped { IsShaped [] digits.now (Ask.External need.now) result }
+{
+    Answer::of(judge_key(&token_bytes(digits), need, held))
+}
+
+/// Judges one operand. A label costs at most 11 comparisons, and that of a key one read of a cell.
+fn judge_one<D: Disk>(
+    operand: &Operand,
+    store: &mut D,
+    lease: &mut Lease,
+    held: &Registers,
+    records: &Records,
+) -> Result<Answer, Stop>
+    requires text { IsText operand.now.text.now operand.now.ask }
+    requires store { HasStore records.now (D.medium store.old) }
+    ensures asked { (s : State)
+        → AtStore s held.now (bench_of lease.old) records.now (D.medium store.old)
+        → IfOk result (IsAsked s (bench_of lease.old) operand.now.text.now operand.now.ask) }
+    ensures shaped { IfOk result (IsShaped records.now operand.now.text.now operand.now.ask) }
+    ensures keyed { (m : Masters) → Loaded m held.now (bench_of lease.old)
+        → IfOk result (IsKeyedAnswer m operand.now.text.now operand.now.ask) }
+    // By some record that is the memory's of a label that is held, whatever the store tells of its bytes.
+    ensures own { (m : Masters) → Loaded m held.now (bench_of lease.old)
+        → IfOk result (IsAskedAsRead m (bench_of lease.old) records.now
+        operand.now.text.now operand.now.ask) }
+    ensures faults { (s : State)
+        → AtStore s held.now (bench_of lease.old) records.now (D.medium store.old)
+        → IfErr result (λ stop. stop ≡ Stop.StoreFault) }
+    ensures keeps { Keeps (D.medium store.old) (D.medium store.new) }
+    ensures store { DiskLeft (D.medium store.old) (D.medium store.new)
+        (D.faults store.old) (D.faults store.new) (IsOk result) (result ≡ Err Stop.StoreFault) }
+    ensures spared { is_named_by operand.now.text.now operand.now.ask ≡ false
+        → store.new ≡ store.old }
+    ensures named { result ≡ Err Stop.StoreFault
+        → IsTrue (is_named_by operand.now.text.now operand.now.ask) }
+    ensures stops { IfErr result IsStoreStop }
+    ensures rest { KeepsAllButBody lease.old lease.new }
+{
+    match operand.ask {
+        Ask::AnyToken => Ok(judge_any_token(operand.text)),
+        Ask::Key(need) => match named_label(operand.text) {
+            Some(label) => judge_label(label, &need, store, lease, held, records),
+            None => Ok(judge_token(digits_of(operand.text), &need, held)),
+        },
+        Ask::Token(need) => Ok(judge_token(operand.text, &need, held)),
+        Ask::External(need) => Ok(judge_external(operand.text, &need, held)),
+        Ask::Record => judge_label(operand.text, &any_key(), store, lease, held, records),
+        Ask::Held => Ok(judge_held(operand.text, records)),
+        Ask::NewLabel => Ok(judge_new_label(operand.text)),
+        Ask::Target => Ok(judge_target(operand.text, records)),
+        Ask::Nothing => Ok(Answer::Granted(Grant::nothing())),
+    }
+}
+
+/// Judges the operands, and names the first rule that one of them breaks.
+pub fn judge<D: Disk>(
+    operands: &Operands,
+    store: &mut D,
+    lease: &mut Lease,
+    held: &Registers,
+    records: &Records,
+) -> Result<Verdict, Stop>
+    requires fit { AreFit (seen_operands operands.now) }
+    requires store { HasStore records.now (D.medium store.old) }
+    ensures judged { (s : State)
+        → AtStore s held.now (bench_of lease.old) records.now (D.medium store.old)
+        → IfOk result (IsJudged s (bench_of lease.old) (seen_operands operands.now)) }
+    ensures shaped { IfOk result (AreShaped records.now (seen_operands operands.now)) }
+    ensures keyed { (m : Masters) → Loaded m held.now (bench_of lease.old)
+        → IfOk result (AreKeyedOperands m (seen_operands operands.now)) }
+    ensures own { (m : Masters) → Loaded m held.now (bench_of lease.old)
+        → IfOk result (AreAskedAsRead m (bench_of lease.old) records.now
+        (seen_operands operands.now)) }
+    ensures faults { (s : State)
+        → AtStore s held.now (bench_of lease.old) records.now (D.medium store.old)
+        → IfErr result (λ stop. stop ≡ Stop.StoreFault) }
+    ensures keeps { Keeps (D.medium store.old) (D.medium store.new) }
+    ensures store { DiskLeft (D.medium store.old) (D.medium store.new)
+        (D.faults store.old) (D.faults store.new) (IsOk result) (result ≡ Err Stop.StoreFault) }
+    ensures spared { names_label (listed (seen_operands operands.now)) ≡ false
+        → store.new ≡ store.old }
+    ensures named { result ≡ Err Stop.StoreFault
+        → IsTrue (names_label (listed (seen_operands operands.now))) }
+    ensures stops { IfErr result IsStoreStop }
+    ensures rest { KeepsAllButBody lease.old lease.new }
+{
+    let first = match judge_one(&operands.first, store, lease, held, records)? {
+        Answer::Granted(grant) => grant,
+        Answer::Refused(rule) => return Ok(Verdict::Refused(rule, operands.first.name)),
+    };
+    let second = match judge_one(&operands.second, store, lease, held, records)? {
+        Answer::Granted(grant) => grant,
+        Answer::Refused(rule) => return Ok(Verdict::Refused(rule, operands.second.name)),
+    };
+    let third = match judge_one(&operands.third, store, lease, held, records)? {
+        Answer::Granted(grant) => grant,
+        Answer::Refused(rule) => return Ok(Verdict::Refused(rule, operands.third.name)),
+    };
+    Ok(Verdict::Granted(Granted {
+        first,
+        second,
+        third,
+    }))
+}

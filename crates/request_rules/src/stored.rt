@@ -1,0 +1,133 @@
+//! Labels, judged by what the memory knows of them, and the keys in their records.
+ghost use Rattle.std.specs.Prelude.{◌≡◌, ℕ, [], None, Some, Err, IfOk, IfErr, IsOk, get_or};
+ghost use Rattle.key_cells.specs.Bench.{Bench};
+ghost use Rattle.key_cells.specs.Lease.{bench_of};
+ghost use Rattle.key_records.specs.Changes.{KeepsAllButBody};
+ghost use Rattle.key_records.specs.StoreStands.{Agrees, HasStore};
+ghost use Rattle.line_service.specs.Devices.{DiskLeft};
+ghost use Rattle.master_registers.specs.Loaded.{Loaded};
+ghost use Rattle.master_registers.specs.Masters.{Masters};
+ghost use Rattle.slot_disk.specs.Medium.{Keeps};
+ghost use Rattle.verb_rules.specs.Keys.{keys_of};
+ghost use Rattle.cca_machine.specs.State.{State};
+ghost use Rattle.request_rules.specs.Standing.{AtStore};
+ghost use Rattle.request_rules.specs.Judging.{IsAsked, IsShaped, IsStoreStop};
+ghost use Rattle.request_rules.specs.ByRecords.{IsHeldIn};
+ghost use Rattle.request_rules.specs.Stored.{Finds, IsAnsweredAsRead, IsLabelAsked, IsReadFault, read_stop};
+
+use crate::judging::{Answer, Grant};
+use cca_machine::Ask;
+use key_cells::Lease;
+use key_records::{Label, Place, RecordFault, Records};
+use line_service::{Device, Stop};
+use master_registers::Registers;
+use slot_disk::{Disk, Steps};
+use verb_rules::{Need, Rule, judge_stored};
+use verb_script::named_label;
+
+/// The place of a label that is held, by rules 06 and 07. It costs at most 11 comparisons.
+fn find_label(text: &[u8], records: &Records) -> Result<Place, Rule>
+    ensures { Finds records.now text.now result }
+{
+    let Some(label) = Label::read(text) else {
+        return Err(Rule::LabelForm);
+    };
+    let mut steps: Steps<()> = Steps::new();
+    match records.find(&label, &mut steps) {
+        Some(place) => Ok(place),
+        None => Err(Rule::LabelUnknown),
+    }
+}
+
+/// Judges a label that is to be held.
+pub(crate) fn judge_held(text: &[u8], records: &Records) -> Answer
+    ensures asked { (s : State) (bench : Bench)
+        → Agrees (keys_of s.registers) records.now s.labels
+        → IsAsked s bench text.now Ask.Held result }
+    ensures shaped { IsShaped records.now text.now Ask.Held result }
+{
+    match find_label(text, records) {
+        Ok(place) => Answer::Granted(Grant::of_place(place)),
+        Err(rule) => Answer::Refused(rule),
+    }
+}
+
+/// Judges where a key goes: the reply, or the record of a label that is to be held.
+pub(crate) fn judge_target(text: &[u8], records: &Records) -> Answer
+    ensures asked { (s : State) (bench : Bench)
+        → Agrees (keys_of s.registers) records.now s.labels
+        → IsAsked s bench text.now Ask.Target result }
+    ensures shaped { IsShaped records.now text.now Ask.Target result }
+{
+    match named_label(text) {
+        Some(label) => judge_held(label, records),
+        None => Answer::Granted(Grant::nothing()),
+    }
+}
+
+/// Judges a label that may be held or not.
+pub(crate) fn judge_new_label(text: &[u8]) -> Answer
+    ensures asked { (s : State) (bench : Bench) → IsAsked s bench text.now Ask.NewLabel result }
+    ensures shaped { IsShaped [] text.now Ask.NewLabel result }
+{
+    match Label::read(text) {
+        Some(_) => Answer::Granted(Grant::nothing()),
+        None => Answer::Refused(Rule::LabelForm),
+    }
+}
+
+/// Why a record wasn't read, or a label not brought under another master key.
+pub fn stop_of(fault: RecordFault) -> Stop
+    requires { IsReadFault fault }
+    ensures { result ≡ read_stop fault }
+{
+    match fault {
+        RecordFault::DiskFault => Stop::StoreFault,
+        RecordFault::Damaged(cell) => Stop::Damaged(Device::Store, cell),
+        RecordFault::Full => unreachable!(),
+        RecordFault::Exists => unreachable!(),
+    }
+}
+
+/// Judges the key in the record of a label. One cell is read.
+pub(crate) fn judge_label<D: Disk>(
+    label: &[u8],
+    need: &Need,
+    store: &mut D,
+    lease: &mut Lease,
+    held: &Registers,
+    records: &Records,
+) -> Result<Answer, Stop>
+    requires { HasStore records.now (D.medium store.old) }
+    ensures asked { (s : State)
+        → AtStore s held.now (bench_of lease.old) records.now (D.medium store.old)
+        → IfOk result (IsLabelAsked s (bench_of lease.old) need.now label.now) }
+    // By what was read of the record of a label that is held, whatever the store tells of its bytes.
+    ensures own { (m : Masters) (place : ℕ) → Loaded m held.now (bench_of lease.old)
+        → IsHeldIn records.now label.now place
+        → IfOk result (IsAnsweredAsRead m (bench_of lease.old) need.now
+        (get_or records.now place None) (bench_of lease.new).body) }
+    ensures shaped { IfOk result (IsShaped [] [] (Ask.Key need.now)) }
+    ensures faults { (s : State)
+        → AtStore s held.now (bench_of lease.old) records.now (D.medium store.old)
+        → IfErr result (λ stop. stop ≡ Stop.StoreFault) }
+    ensures keeps { Keeps (D.medium store.old) (D.medium store.new) }
+    ensures store { DiskLeft (D.medium store.old) (D.medium store.new)
+        (D.faults store.old) (D.faults store.new) (IsOk result) (result ≡ Err Stop.StoreFault) }
+    ensures stops { IfErr result IsStoreStop }
+    ensures rest { KeepsAllButBody lease.old lease.new }
+{
+    let place = match find_label(label, records) {
+        Ok(place) => place,
+        Err(rule) => return Ok(Answer::Refused(rule)),
+    };
+    let mut token = [0; 64];
+    match records.read(store, lease, place, &mut token) {
+        Ok(true) => match judge_stored(&token, need, held) {
+            Some(judged) => Ok(Answer::of(judged)),
+            None => Err(Stop::Damaged(Device::Store, place.cell())),
+        },
+        Ok(false) => Ok(Answer::Refused(Rule::Null)),
+        Err(fault) => Err(stop_of(fault)),
+    }
+}

@@ -1,0 +1,13 @@
+use Rattle.std.proofs.Common.{[], ◌∷◌, ℕ, List, refl, subst, sym}
+use Rattle.verb_script.specs.Grammar.{csnbkrc}
+use Rattle.request_verbs.specs.Decided.{Settles, asked}
+use Rattle.request_verbs.specs.declared.effects.Effect.TheVariants as code
+use Rattle.request_verbs.proofs.Settling.{left_settles}
+use Rattle.request_verbs.proofs.verbs.csnbkrc.csnbkrc.Goals as goal
+
+pub returns : goal.returns
+returns c = record {
+  settles = λ role granted held rows bench.
+      subst (λ (label : List ℕ). Settles (asked csnbkrc (role ∷ c.args.label.now ∷ [])) granted held rows bench bench (code.Create label) []) (sym c.of.ensures)
+      (left_settles refl (λ s is. (refl, refl, refl)) refl (λ writes. refl) (λ through. absurd through));
+}

@@ -1,0 +1,20 @@
+use Rattle.std.proofs.Common.{◌∙◌, refl, sym}
+use Rattle.request_verbs.proofs.Delivering.{held_at}
+use Rattle.request_verbs.proofs.Settling.{settles}
+use Rattle.request_verbs.proofs.Acting.{decides}
+use Rattle.request_verbs.specs.Decided.{asked}
+use Rattle.verb_script.specs.Grammar.{csnbkrd}
+use Rattle.std.proofs.Common.{[], ◌∷◌}
+use Rattle.request_verbs.specs.declared.effects.Effect.TheVariants as code
+use Rattle.request_verbs.proofs.verbs.csnbkrd.csnbkrd.Goals as goal
+
+pub returns : goal.returns
+returns c = record {
+  settles = λ role label held rows bench.
+      let place = c.place_in.result in
+      settles
+      (λ shaped s is left. decides s bench (asked csnbkrd (role ∷ label ∷ [])) (code.Delete place) [] left refl
+      (refl, record { label = label; is = refl; placed = sym is.grants.0.0 ∙ c.place_in.ensures }, refl))
+      (λ shaped. (refl, held_at rows label c.args.granted.now.first place shaped.0 c.place_in.ensures))
+      (λ writes. refl) (λ through. absurd through);
+}

@@ -1,0 +1,9 @@
+use Rattle.std.proofs.Common.{refl}
+use Rattle.request_verbs.proofs.Settling.{left_settles}
+use Rattle.request_verbs.proofs.verbs.csuaaci.remove.Goals as goal
+
+pub returns : goal.returns
+returns c = record {
+  settles = λ role action granted held rows bench.
+      left_settles refl (λ s is. (refl, refl, refl)) (refl, c.requires.name) (λ writes. absurd writes) (λ through. absurd through);
+}

@@ -1,0 +1,90 @@
+-- What the verb of a request decided, whole: in every state that the memory and the bench stand for.
+use Rattle.std.specs.Prelude.{◌≡◌, true, false, IsTrue, IsSome, OnErr, IfErr, IfOk, ℕ, List, [], Option, Result, Ok, Err}
+use Rattle.key_cells.specs.Bench.{Bench}
+use Rattle.key_cells.specs.Lease.{bench_of}
+use Rattle.key_cells.specs.declared.leases.Lease.{Lease}
+use Rattle.key_records.specs.declared.rows.Row.{Row}
+use Rattle.line_service.specs.Devices.{TellsFault}
+use Rattle.line_service.specs.declared.stops.Stop.{Stop}
+use Rattle.line_service.specs.declared.stops.Stop.TheVariants.{EntropyFault}
+use Rattle.master_registers.specs.Loaded.{Loaded}
+use Rattle.master_registers.specs.declared.registers.Registers.{Registers}
+use Rattle.verb_script.specs.Grammar.{Request, RequestName}
+use Rattle.cca_machine.specs.Draws.{draws_random}
+use Rattle.cca_machine.specs.Operands.{operands, is_reencipher, needs_store}
+use Rattle.cca_machine.specs.State.{State}
+use Rattle.cca_machine.specs.Verdict.{verb_verdict}
+use Rattle.request_verbs.specs.Deciding.{GoesThrough, IsReady, IsRecorded, MayDecide, WritesStore}
+use Rattle.request_rules.specs.Judging.{AreGranted, HaveShapes}
+use Rattle.request_verbs.specs.declared.effects.Effect.{Effect as CodeEffect}
+use Rattle.request_rules.specs.declared.judging.Granted.{Granted}
+
+-- a request by its name and its values
+abbrev pub asked : RequestName → List (List ℕ) → Request
+asked name values = record { name = name; values = values }
+
+-- the bench has the registers of the state, the memory its labels, and the operands of the request were granted in it
+pub record IsGrantedIn (s : State) (request : Request) (granted : Granted) (held : Registers)
+    (rows : List (Option Row)) (bench : Bench) : Type 0 where
+  pub loaded : Loaded s.registers held bench
+  pub recorded : IsRecorded s rows
+  pub grants : AreGranted s bench (operands request) granted
+
+-- What was decided is the machine's in each such state, and can be carried out. The store is written only where the
+-- request needs it, and gone through only where the request goes through it. Only the random source stops a verb.
+pub record HasDecided (request : Request) (granted : Granted) (held : Registers)
+    (rows : List (Option Row)) (old new : Bench) (result : Result CodeEffect Stop) (reply : List ℕ)
+    (before now : Option (List ℕ)) : Type 0 where
+  pub decides : (s : State) → IsGrantedIn s request granted held rows old
+      → MayDecide s new request result reply before now
+  pub ready : IfOk result (λ effect. IsReady held new rows effect reply)
+  pub named : IfOk result (λ effect. WritesStore effect → IsTrue (needs_store request))
+  pub through : IfOk result (λ effect. GoesThrough effect
+      → IsTrue (is_reencipher request.name))
+  pub silent : OnErr result (reply ≡ [])
+  pub stops : IfErr result (λ stop. stop ≡ EntropyFault)
+
+-- the same of a verb that draws nothing, over operands that have their shapes
+abbrev pub Settles : Request → Granted → Registers → List (Option Row) → Bench → Bench
+    → CodeEffect → List ℕ → Type 0
+Settles request granted held rows old new e reply =
+    HaveShapes rows (operands request) granted → (left : Option (List ℕ))
+    → HasDecided request granted held rows old new (Ok e) reply left left
+
+-- the same whatever the registers hold and the memory knows, over the bench of a lease
+abbrev pub SettlesOver : Request → Granted → Lease → Lease → CodeEffect → List ℕ → Type 0
+SettlesOver request granted old new e reply =
+    (held : Registers) (rows : List (Option Row))
+    → Settles request granted held rows (bench_of old) (bench_of new) e reply
+
+-- a random source, with the bytes that are left where they are known, and the count of its faults
+pub record Source (E : Type 0) : Type 0 where
+  pub state : E
+  pub left : Option (List ℕ)
+  pub faults : ℕ
+
+abbrev pub source : {E : Type 0} → E → Option (List ℕ) → ℕ → Source E
+source state left faults = record { state = state; left = left; faults = faults }
+
+-- Random bytes are taken only where no rule of the verb that is asked before refuses the request, and where the request
+-- draws some; the random source fails only there too.
+pub record TakesOnly {E T : Type 0} (request : Request) (result : Result T Stop)
+    (before now : Source E) : Type 0 where
+  pub entropy : TellsFault before.faults now.faults (result ≡ Err EntropyFault)
+  pub untouched : (s : State) → IsSome (verb_verdict s request) → now.state ≡ before.state
+  pub undrawn : draws_random request ≡ false → now.state ≡ before.state
+  pub drawing : result ≡ Err EntropyFault → draws_random request ≡ true
+
+-- what was decided, and what it took of the random source
+pub record Decision {E : Type 0} (request : Request) (granted : Granted) (held : Registers)
+    (rows : List (Option Row)) (old new : Bench) (result : Result CodeEffect Stop)
+    (reply : List ℕ) (before now : Source E) : Type 0 where
+  pub decided : HasDecided request granted held rows old new result reply before.left now.left
+  pub takes : TakesOnly request result before now
+
+-- the same over operands that have their shapes, of a verb that may draw
+abbrev pub SettlesDrawing : {E : Type 0} → Request → Granted → Registers → List (Option Row)
+    → Bench → Bench → Result CodeEffect Stop → List ℕ → Source E → Source E → Type 0
+SettlesDrawing request granted held rows old new result reply before now =
+    HaveShapes rows (operands request) granted
+    → Decision request granted held rows old new result reply before now

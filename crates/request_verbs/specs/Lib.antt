@@ -1,0 +1,5 @@
+pub mod CodePurposes
+pub mod Decided
+pub mod Deciding
+pub mod Drawing
+pub mod WholeTexts

@@ -1,0 +1,285 @@
+//! CSNBKGN: keys generated, in six forms.
+ghost use Rattle.std.specs.Prelude.{◌≡◌, ◌≤◌, ◌<◌, ◌∷◌, [], ℕ, List, Option, Err, OnErr, IfErr, IfOk, IfSome, IsNone, IsSome, codes, length as size_of};
+ghost use Rattle.std.specs.Option.{option_copied};
+ghost use Rattle.cca_vectors.specs.KeyTypes.{type_name};
+ghost use Rattle.key_cells.specs.Lease.{bench_of};
+ghost use Rattle.key_records.specs.declared.rows.Row.{Row};
+ghost use Rattle.key_transport.specs.Changes.{ChangesKeys};
+ghost use Rattle.key_transport.specs.Generated.{AreGiven, HaveLength};
+ghost use Rattle.line_service.specs.Devices.{TellsFault};
+ghost use Rattle.master_registers.specs.Loaded.{IsLoaded};
+ghost use Rattle.script_buffers.specs.Replies.{Hex, written};
+ghost use Rattle.verb_script.specs.Grammar.{csnbkgn_op, csnbkgn_out, csnbkgn_pair};
+ghost use Rattle.verb_script.specs.Named.{label_named};
+ghost use Rattle.cca_machine.specs.Verdict.{Refusal as Refused, first_refusal, generate_questions, pair_questions};
+ghost use Rattle.request_verbs.specs.Decided.{SettlesDrawing, asked, source};
+ghost use Rattle.request_verbs.specs.Deciding.{ChangesPlaces, token2_fields};
+ghost use Rattle.request_verbs.specs.Drawing.{HasRefused, MakesKeys};
+ghost use Rattle.request_rules.specs.FieldWords.{IsOutForm, IsPairForm};
+ghost use Rattle.request_rules.specs.Judging.{HasDoubleKey, IsPlaceFor};
+
+use crate::effects::Effect;
+use crate::refusals::Refusal;
+use crate::verbs::delivering::{deliver, show_second};
+use cca_vectors::{KeyType, Length};
+use key_cells::Lease;
+use key_transport::{Form, GenerateFault, Generated, generate};
+use line_service::Stop;
+use master_registers::Registers;
+use request_rules::{Granted, double_key_in, key_length_of, out_form_of, pair_form_of};
+use slot_disk::Entropy;
+use verb_rules::{Judged, Rule, judge_length, judge_pair};
+use verb_script::ReplyBuffer;
+
+/// What comes of the random bytes of a key.
+#[derive(Clone, Copy)]
+pub(crate) enum Drawn {
+    /// The tokens of the key.
+    Keys(Generated),
+    /// A rule refuses the request: before any is drawn, or by the bytes themselves.
+    Refused(Refusal),
+}
+
+/// Rule 32 of one key.
+fn judge_one(kind: KeyType, length: Length) -> Option<Refusal>
+    ensures refused { HasRefused (first_refusal (generate_questions kind length)) result }
+    ensures short { IfSome result (λ r. size_of r.operand.now < 100) }
+{
+    match judge_length(kind, length) {
+        Ok(()) => None,
+        Err(rule) => Some(Refusal {
+            rule,
+            operand: "length",
+        }),
+    }
+}
+
+/// Rule 24 of two keys, and then rule 32 of each.
+fn judge_two(first: KeyType, second: KeyType, length: Length) -> Option<Refusal>
+    ensures refused { HasRefused (first_refusal (pair_questions first second length)) result }
+    ensures short { IfSome result (λ r. size_of r.operand.now < 100) }
+{
+    if let Err(rule) = judge_pair(first, second) {
+        return Some(Refusal {
+            rule,
+            operand: "type2",
+        });
+    }
+    if let Some(refusal) = judge_one(first, length) {
+        return Some(refusal);
+    }
+    judge_one(second, length)
+}
+
+/// Draws a key and makes its tokens, where no rule refuses the request before a byte is drawn. A
+/// key whose halves are repeated is refused after.
+fn draw<E: Entropy>(
+    broken: Option<Refusal>,
+    form: Form,
+    length: Length,
+    first: KeyType,
+    second: KeyType,
+    one: Option<&Judged>,
+    two: Option<&Judged>,
+    entropy: &mut E,
+    lease: &mut Lease,
+    held: &Registers,
+) -> Result<Drawn, Stop>
+    requires short { IfSome broken (λ r. size_of r.operand.now < 100) }
+    requires lengths { IsNone broken → HaveLength form first second length }
+    requires transports { AreGiven form (option_copied one) (option_copied two) }
+    requires master { IsSome held.now.current_pattern }
+    ensures drawn { (v : Option Refused) → HasRefused v broken
+        → IfOk result (MakesKeys v held.now (bench_of lease.old) form length first second
+        (option_copied one.entry) (option_copied two.entry)
+        (E.left entropy.old) (E.left entropy.new)) }
+    ensures permitted { OnErr result (IsNone broken) }
+    ensures untouched { IsSome broken → entropy.new ≡ entropy.old }
+    ensures fault { TellsFault (E.faults entropy.old) (E.faults entropy.new)
+        (result ≡ Err Stop.EntropyFault) }
+    ensures stops { IfErr result (λ stop. stop ≡ Stop.EntropyFault) }
+    ensures stays { ChangesKeys lease.old lease.new }
+{
+    if let Some(refusal) = broken {
+        return Ok(Drawn::Refused(refusal));
+    }
+    match generate(lease, held, form, length, first, second, one, two, entropy) {
+        Ok(keys) => Ok(Drawn::Keys(keys)),
+        Err(GenerateFault::Repeated) => Ok(Drawn::Refused(Refusal {
+            rule: Rule::UniqueHalves,
+            operand: "length",
+        })),
+        Err(GenerateFault::Failed) => Err(Stop::EntropyFault),
+    }
+}
+
+/// Generates a key for here, and delivers it. A type that hasn't the length is refused before a
+/// byte is drawn, and a key whose halves are repeated after.
+pub(crate) fn generate_one<E: Entropy>(
+    granted: &Granted,
+    length: &[u8],
+    kind: KeyType,
+    to: &[u8],
+    entropy: &mut E,
+    lease: &mut Lease,
+    held: &Registers,
+    reply: &mut ReplyBuffer,
+) -> Result<Effect, Stop>
+    requires target { IsPlaceFor (label_named to.now) granted.now.first.place }
+    requires master { IsSome held.now.current_pattern }
+    requires loaded { IsLoaded held.now (bench_of lease.old) }
+    requires empty { reply.old ≡ [] }
+    ensures settles { (role form : List ℕ) (rows : List (Option Row))
+        → SettlesDrawing (asked csnbkgn_op (role ∷ form ∷ length.now ∷ type_name kind ∷ to.now
+        ∷ []))
+        granted.now held.now rows (bench_of lease.old) (bench_of lease.new) result reply.new
+        (source entropy.old (E.left entropy.old) (E.faults entropy.old))
+        (source entropy.new (E.left entropy.new) (E.faults entropy.new)) }
+    ensures places { ChangesPlaces lease.old lease.new }
+{
+    let length = key_length_of(length);
+    let broken = judge_one(kind, length);
+    match draw(
+        broken,
+        Form::Op,
+        length,
+        kind,
+        kind,
+        None,
+        None,
+        entropy,
+        lease,
+        held,
+    ) {
+        Ok(Drawn::Keys(keys)) => Ok(deliver(
+            "token1",
+            &keys.first,
+            None,
+            to,
+            granted.first.place,
+            reply,
+        )),
+        Ok(Drawn::Refused(refusal)) => Ok(Effect::Refused(refusal.rule, refusal.operand)),
+        Err(stop) => Err(stop),
+    }
+}
+
+/// Generates a key for here and the same key for elsewhere, and delivers the first. Types that
+/// aren't a pair are refused, and a type that hasn't the length, before a byte is drawn.
+pub(crate) fn generate_pair<E: Entropy>(
+    granted: &Granted,
+    form: &[u8],
+    length: &[u8],
+    first: KeyType,
+    second: KeyType,
+    to: &[u8],
+    entropy: &mut E,
+    lease: &mut Lease,
+    held: &Registers,
+    reply: &mut ReplyBuffer,
+) -> Result<Effect, Stop>
+    requires form { IsPairForm form.now }
+    requires transport { HasDoubleKey granted.now.first }
+    requires target { IsPlaceFor (label_named to.now) granted.now.second.place }
+    requires master { IsSome held.now.current_pattern }
+    requires loaded { IsLoaded held.now (bench_of lease.old) }
+    requires empty { reply.old ≡ [] }
+    ensures settles { (role transport : List ℕ) (rows : List (Option Row))
+        → SettlesDrawing (asked csnbkgn_pair (role ∷ form.now ∷ length.now ∷ type_name first
+        ∷ type_name second ∷ transport ∷ to.now ∷ []))
+        granted.now held.now rows (bench_of lease.old) (bench_of lease.new) result reply.new
+        (source entropy.old (E.left entropy.old) (E.faults entropy.old))
+        (source entropy.new (E.left entropy.new) (E.faults entropy.new)) }
+    ensures places { ChangesPlaces lease.old lease.new }
+{
+    let length = key_length_of(length);
+    let broken = judge_two(first, second, length);
+    let transport = double_key_in(&granted.first);
+    match draw(
+        broken,
+        pair_form_of(form),
+        length,
+        first,
+        second,
+        None,
+        Some(transport),
+        entropy,
+        lease,
+        held,
+    ) {
+        Ok(Drawn::Keys(keys)) => Ok(deliver(
+            "token1",
+            &keys.first,
+            keys.second,
+            to,
+            granted.second.place,
+            reply,
+        )),
+        Ok(Drawn::Refused(refusal)) => Ok(Effect::Refused(refusal.rule, refusal.operand)),
+        Err(stop) => Err(stop),
+    }
+}
+
+/// Shows the tokens of two keys.
+fn show_keys(keys: &Generated, reply: &mut ReplyBuffer)
+    requires empty { reply.old ≡ [] }
+    ensures fields { reply.new
+        ≡ written (Hex (codes "token1") keys.now.first ∷ token2_fields keys.now.second) }
+    ensures size { size_of reply.new ≤ 69000 }
+{
+    reply.ok();
+    reply.hex("token1", &keys.first);
+    show_second(keys.second, reply);
+}
+
+/// Generates a key for elsewhere twice, and shows both tokens. Types that aren't a pair are
+/// refused, and a type that hasn't the length, before a byte is drawn.
+pub(crate) fn generate_out<E: Entropy>(
+    granted: &Granted,
+    form: &[u8],
+    length: &[u8],
+    first: KeyType,
+    second: KeyType,
+    entropy: &mut E,
+    lease: &mut Lease,
+    held: &Registers,
+    reply: &mut ReplyBuffer,
+) -> Result<Effect, Stop>
+    requires form { IsOutForm form.now }
+    requires one { HasDoubleKey granted.now.first }
+    requires two { HasDoubleKey granted.now.second }
+    requires master { IsSome held.now.current_pattern }
+    requires loaded { IsLoaded held.now (bench_of lease.old) }
+    requires empty { reply.old ≡ [] }
+    ensures settles { (role one two : List ℕ) (rows : List (Option Row))
+        → SettlesDrawing (asked csnbkgn_out (role ∷ form.now ∷ length.now ∷ type_name first
+        ∷ type_name second ∷ one ∷ two ∷ []))
+        granted.now held.now rows (bench_of lease.old) (bench_of lease.new) result reply.new
+        (source entropy.old (E.left entropy.old) (E.faults entropy.old))
+        (source entropy.new (E.left entropy.new) (E.faults entropy.new)) }
+    ensures places { ChangesPlaces lease.old lease.new }
+{
+    let length = key_length_of(length);
+    let broken = judge_two(first, second, length);
+    let one = double_key_in(&granted.first);
+    let two = double_key_in(&granted.second);
+    match draw(
+        broken,
+        out_form_of(form),
+        length,
+        first,
+        second,
+        Some(one),
+        Some(two),
+        entropy,
+        lease,
+        held,
+    ) {
+        Ok(Drawn::Keys(keys)) => {
+            show_keys(&keys, reply);
+            Ok(Effect::Shown)
+        }
+        Ok(Drawn::Refused(refusal)) => Ok(Effect::Refused(refusal.rule, refusal.operand)),
+        Err(stop) => Err(stop),
+    }
+}

@@ -1,0 +1,22 @@
+//! CSNBKRC: a label that is held from now on.
+ghost use Rattle.std.specs.Prelude.{◌∷◌, [], ℕ, List, Option};
+ghost use Rattle.key_cells.specs.Bench.{Bench};
+ghost use Rattle.key_records.specs.Labels.{IsLabel};
+ghost use Rattle.key_records.specs.declared.rows.Row.{Row};
+ghost use Rattle.master_registers.specs.declared.registers.Registers.{Registers};
+ghost use Rattle.verb_script.specs.Grammar.{csnbkrc as row};
+ghost use Rattle.request_verbs.specs.Decided.{Settles, asked};
+ghost use Rattle.request_rules.specs.declared.judging.Granted.{Granted};
+
+use crate::effects::Effect;
+use key_records::Label;
+
+/// Leaves the label to be held.
+pub(crate) fn csnbkrc(label: &[u8]) -> Effect
+    requires label { IsLabel label.now }
+    ensures settles { (role : List ℕ) (granted : Granted) (held : Registers)
+        (rows : List (Option Row)) (bench : Bench)
+        → Settles (asked row (role ∷ label.now ∷ [])) granted held rows bench bench result [] }
+{
+    Effect::Create(Label::of(label))
+}

@@ -1,0 +1,20 @@
+//! CSNBKRD: a label that is held no longer.
+ghost use Rattle.std.specs.Prelude.{◌∷◌, [], ℕ, IsSome, List, Option};
+ghost use Rattle.key_cells.specs.Bench.{Bench};
+ghost use Rattle.key_records.specs.declared.rows.Row.{Row};
+ghost use Rattle.master_registers.specs.declared.registers.Registers.{Registers};
+ghost use Rattle.verb_script.specs.Grammar.{csnbkrd as row};
+ghost use Rattle.request_verbs.specs.Decided.{Settles, asked};
+
+use crate::effects::Effect;
+use request_rules::{Granted, place_in};
+
+/// Leaves the label to be taken away.
+pub(crate) fn csnbkrd(granted: &Granted) -> Effect
+    requires place { IsSome granted.now.first.place }
+    ensures settles { (role label : List ℕ) (held : Registers) (rows : List (Option Row))
+        (bench : Bench)
+        → Settles (asked row (role ∷ label ∷ [])) granted.now held rows bench bench result [] }
+{
+    Effect::Delete(place_in(&granted.first))
+}

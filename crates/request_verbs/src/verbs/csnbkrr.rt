@@ -1,0 +1,42 @@
+//! CSNBKRR: the token in a record.
+ghost use Rattle.std.specs.Prelude.{◌≡◌, ◌∷◌, [], ℕ, List, Option};
+ghost use Rattle.cca_vectors.specs.Bytes.{AreBytes};
+ghost use Rattle.key_cells.specs.Bench.{Bench};
+ghost use Rattle.key_records.specs.declared.rows.Row.{Row};
+ghost use Rattle.master_registers.specs.declared.registers.Registers.{Registers};
+ghost use Rattle.verb_script.specs.Grammar.{csnbkrr as row};
+ghost use Rattle.request_verbs.specs.Decided.{Settles, asked};
+ghost use Rattle.request_rules.specs.Judging.{HasSomeJudged};
+
+use crate::effects::Effect;
+use key_tokens::{Kind, Token, write_token};
+use request_rules::{Granted, key_in};
+use verb_script::ReplyBuffer;
+
+/// Eight bytes are below 256: a fact that contracts use.
+fn are_bytes(bytes: &[u8; 8])
+    ensures { AreBytes 8 bytes.now }
+{
+    let _first = bytes[0];
+}
+
+/// Shows the token of the record that was judged, as it is written for its key.
+pub(crate) fn csnbkrr(granted: &Granted, reply: &mut ReplyBuffer) -> Effect
+    requires key { HasSomeJudged granted.now.first }
+    requires empty { reply.old ≡ [] }
+    ensures settles { (role label : List ℕ) (held : Registers) (rows : List (Option Row))
+        (bench : Bench)
+        → Settles (asked row (role ∷ label ∷ []))
+        granted.now held rows bench bench result reply.new }
+{
+    let key = key_in(&granted.first);
+    are_bytes(&key.token.sealed.left);
+    are_bytes(&key.token.sealed.right);
+    let token = Token {
+        kind: Kind::Internal,
+        ..key.token
+    };
+    reply.ok();
+    reply.hex("token", &write_token(&token));
+    Effect::Shown
+}

@@ -1,0 +1,32 @@
+//! CSNBKTR: a key translated from one transport key to another.
+ghost use Rattle.std.specs.Prelude.{◌≡◌, ◌∷◌, [], ℕ, List};
+ghost use Rattle.verb_script.specs.Grammar.{csnbktr as row};
+ghost use Rattle.request_verbs.specs.Decided.{SettlesOver, asked};
+ghost use Rattle.request_verbs.specs.Deciding.{ChangesPlaces};
+ghost use Rattle.request_rules.specs.Judging.{HasDoubleKey, HasJudgedExternal};
+
+use crate::effects::Effect;
+use key_cells::Lease;
+use key_parts::translate;
+use request_rules::{Granted, double_key_in, external_in};
+use verb_script::ReplyBuffer;
+
+/// Shows the external token, under the second transport key, of the key of an external token under
+/// the first.
+pub(crate) fn csnbktr(granted: &Granted, lease: &mut Lease, reply: &mut ReplyBuffer) -> Effect
+    requires source { HasJudgedExternal granted.now.first }
+    requires one { HasDoubleKey granted.now.second }
+    requires two { HasDoubleKey granted.now.third }
+    requires empty { reply.old ≡ [] }
+    ensures settles { (role token one two : List ℕ)
+        → SettlesOver (asked row (role ∷ token ∷ one ∷ two ∷ []))
+        granted.now lease.old lease.new result reply.new }
+    ensures places { ChangesPlaces lease.old lease.new }
+{
+    let source = external_in(&granted.first);
+    let one = double_key_in(&granted.second);
+    let token = translate(lease, source, one, double_key_in(&granted.third));
+    reply.ok();
+    reply.hex("token", &token);
+    Effect::Shown
+}

@@ -1,0 +1,94 @@
+//! CSNBMKP: the actions of a key ceremony on the master key registers.
+ghost use Rattle.std.specs.Prelude.{◌≡◌, ◌∷◌, [], ℕ, IsTrue, List, Option};
+ghost use Rattle.std.specs.Option.{option_map};
+ghost use Rattle.cca_vectors.specs.Checks.{first_failing};
+ghost use Rattle.key_cells.specs.Bench.{Bench, with_master};
+ghost use Rattle.key_cells.specs.Lease.{bench_of, holding};
+ghost use Rattle.key_records.specs.declared.rows.Row.{Row};
+ghost use Rattle.verb_script.specs.Grammar.{csnbmkp_clear, csnbmkp_part, csnbmkp_set, is_hex};
+ghost use Rattle.verb_script.specs.Values.{hex_value};
+ghost use Rattle.master_registers.specs.Loaded.{Loaded};
+ghost use Rattle.master_registers.specs.declared.registers.Registers.{Registers as HeldRegisters};
+ghost use Rattle.master_registers.specs.Masters.{Masters};
+ghost use Rattle.verb_rules.specs.Rules.{rule_number};
+ghost use Rattle.cca_machine.specs.Actions.{action_checks};
+ghost use Rattle.request_verbs.specs.Decided.{Settles, asked};
+ghost use Rattle.request_verbs.specs.Deciding.{ChangesPlaces};
+ghost use Rattle.request_rules.specs.FieldWords.{IsPartAction};
+ghost use Rattle.request_rules.specs.declared.judging.Granted.{Granted};
+
+use crate::effects::Effect;
+use crate::verbs::old_labels::any_old;
+use key_cells::{Lease, MasterPlace};
+use key_records::Records;
+use master_registers::{Action, NewState, Registers, pattern_of};
+use request_rules::part_action_of;
+use verb_rules::Rule;
+use verb_script::decode;
+
+/// Puts the key part that the digits spell into the workbench.
+fn put_part(digits: &[u8], lease: &mut Lease)
+    requires { IsTrue (is_hex 48 digits.now) }
+    ensures { lease.new ≡ holding lease.old
+        (with_master (bench_of lease.old) MasterPlace.Part (hex_value digits.now)) }
+{
+    decode(digits, lease.master_mut(MasterPlace::Part));
+}
+
+/// FIRST, MIDDLE and LAST: puts the key part into the workbench, and leaves the action to be
+/// carried out.
+pub(crate) fn combine(action: &[u8], part: &[u8], lease: &mut Lease) -> Effect
+    requires action { IsPartAction action.now }
+    requires part { IsTrue (is_hex 48 part.now) }
+    ensures settles { (role : List ℕ) (granted : Granted) (held : HeldRegisters)
+        (rows : List (Option Row))
+        → Settles (asked csnbmkp_part (role ∷ action.now ∷ part.now ∷ []))
+        granted held rows (bench_of lease.old) (bench_of lease.new) result [] }
+    ensures places { ChangesPlaces lease.old lease.new }
+{
+    put_part(part, lease);
+    Effect::Change(part_action_of(action))
+}
+
+/// CLEAR: leaves it to be carried out, or refuses it where a label is ahead. It goes over the
+/// labels once.
+pub(crate) fn clear(records: &Records) -> Effect
+    ensures settles { (role action : List ℕ) (granted : Granted) (held : HeldRegisters)
+        (bench : Bench)
+        → Settles (asked csnbmkp_clear (role ∷ action ∷ []))
+        granted held records.now bench bench result [] }
+{
+    if records.any_ahead() {
+        Effect::Refused(Rule::Ahead, "-")
+    } else {
+        Effect::Change(Action::Clear)
+    }
+}
+
+/// Rules 25 and 26 of SET.
+fn set_rule(lease: &Lease, held: &Registers) -> Option<Rule>
+    ensures rule { (m : Masters) → Loaded m held.now (bench_of lease.now)
+        → option_map rule_number result ≡ first_failing (action_checks Action.Set m) }
+{
+    if held.new_state != NewState::Full {
+        return Some(Rule::RegisterState);
+    }
+    if held.current_pattern == Some(pattern_of(lease, MasterPlace::New)) {
+        return Some(Rule::SamePattern);
+    }
+    None
+}
+
+/// SET: leaves it to be carried out, or refuses it: by rules 25 and 26, and where a label is under
+/// the old master key. It goes over the labels once.
+pub(crate) fn set(lease: &Lease, held: &Registers, records: &Records) -> Effect
+    ensures settles { (role action : List ℕ) (granted : Granted)
+        → Settles (asked csnbmkp_set (role ∷ action ∷ []))
+        granted held.now records.now (bench_of lease.now) (bench_of lease.now) result [] }
+{
+    match set_rule(lease, held) {
+        Some(rule) => Effect::Refused(rule, "-"),
+        None if any_old(held, records) => Effect::Refused(Rule::OldLabels, "-"),
+        None => Effect::Change(Action::Set),
+    }
+}

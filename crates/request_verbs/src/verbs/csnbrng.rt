@@ -1,0 +1,39 @@
+//! CSNBRNG: random bytes.
+ghost use Rattle.std.specs.Prelude.{◌≡◌, ◌∷◌, [], ℕ, List, Option};
+ghost use Rattle.key_cells.specs.Bench.{Bench};
+ghost use Rattle.key_records.specs.declared.rows.Row.{Row};
+ghost use Rattle.master_registers.specs.declared.registers.Registers.{Registers};
+ghost use Rattle.verb_script.specs.Grammar.{csnbrng as row};
+ghost use Rattle.request_verbs.specs.Decided.{SettlesDrawing, asked, source};
+ghost use Rattle.request_rules.specs.declared.judging.Granted.{Granted};
+
+use crate::effects::Effect;
+use cipher_verbs::random_number;
+use line_service::Stop;
+use request_rules::random_form_of;
+use slot_disk::Entropy;
+use verb_script::ReplyBuffer;
+
+/// Shows eight random bytes.
+pub(crate) fn csnbrng<E: Entropy>(
+    form: &[u8],
+    entropy: &mut E,
+    reply: &mut ReplyBuffer,
+) -> Result<Effect, Stop>
+    requires empty { reply.old ≡ [] }
+    ensures settles { (role : List ℕ) (granted : Granted) (held : Registers)
+        (rows : List (Option Row)) (bench : Bench)
+        → SettlesDrawing (asked row (role ∷ form.now ∷ []))
+        granted held rows bench bench result reply.new
+        (source entropy.old (E.left entropy.old) (E.faults entropy.old))
+        (source entropy.new (E.left entropy.new) (E.faults entropy.new)) }
+{
+    match random_number(random_form_of(form), entropy) {
+        Ok(bytes) => {
+            reply.ok();
+            reply.hex("random", &bytes);
+            Ok(Effect::Shown)
+        }
+        Err(_) => Err(Stop::EntropyFault),
+    }
+}

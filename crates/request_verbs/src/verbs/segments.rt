@@ -1,0 +1,208 @@
+//! CSNBENC and CSNBDEC over a text in segments.
+ghost use Rattle.std.specs.Prelude.{◌≡◌, ◌≤◌, ◌/◌, ◌∷◌, [], ℕ, IsTrue, MatchOption, Some, None, IfSome, codes, length, List};
+ghost use Rattle.cca_vectors.specs.Checks.{first_failing};
+ghost use Rattle.des_core.specs.Texts.{text_in};
+ghost use Rattle.key_cells.specs.Lease.{bench_of};
+ghost use Rattle.script_buffers.specs.Replies.{Hex, written};
+ghost use Rattle.text_segments.specs.Chains.{chain_bytes, chain_checks, chain_of};
+ghost use Rattle.text_segments.specs.Segments.{IsCipher};
+ghost use Rattle.verb_rules.specs.Keys.{HasHalves, opened};
+ghost use Rattle.verb_script.specs.Grammar.{accepts, hex_text, is_hex};
+ghost use Rattle.verb_script.specs.Values.{hex_value};
+ghost use Rattle.cca_machine.specs.Act.{last_text_fields, segment_fields};
+ghost use Rattle.cca_machine.specs.Choices.{pad_named};
+ghost use Rattle.cca_machine.specs.CutRequests.{first_row, last_row, middle_row};
+ghost use Rattle.cca_machine.specs.Verdict.{first_refusal, last_text_questions, segment_questions};
+ghost use Rattle.request_verbs.specs.Decided.{SettlesOver, asked};
+ghost use Rattle.request_verbs.specs.Deciding.{ChangesPlaces, ShowsOr};
+ghost use Rattle.request_rules.specs.Judging.{HasSomeJudged};
+
+use crate::effects::Effect;
+use crate::verbs::texts::{block_of, judge_digits, put_text, show_text};
+use key_cells::Lease;
+use request_rules::{Granted, key_in, pad_of};
+use text_segments::{Chain, Mode, last_text, segment};
+use verb_rules::{Judged, Rule, TextUse};
+use verb_script::{ReplyBuffer, decode};
+
+/// The 16 bytes that 32 digits spell.
+fn bytes_of(digits: &[u8]) -> [u8; 16]
+    requires { IsTrue (is_hex 32 digits.now) }
+    ensures { result ≡ hex_value digits.now }
+{
+    let mut bytes = [0; 16];
+    decode(digits, &mut bytes);
+    bytes
+}
+
+/// The chain that 32 digits spell. None by rule 36.
+pub(super) fn chain_in(digits: &[u8]) -> Option<Chain>
+    requires { IsTrue (is_hex 32 digits.now) }
+    ensures judges { MatchOption result
+        (first_failing (chain_checks (hex_value digits.now)) ≡ Some 36)
+        (λ chain. first_failing (chain_checks (hex_value digits.now)) ≡ None) }
+    ensures chain { IfSome result (λ chain. chain ≡ chain_of (hex_value digits.now)) }
+{
+    Chain::read(&bytes_of(digits))
+}
+
+/// Shows the text of the workbench, and the chain after it.
+fn show_segment(lease: &Lease, chain: &Chain, reply: &mut ReplyBuffer)
+    requires room { (bench_of lease.now).text.size ≤ 4096 }
+    requires empty { reply.old ≡ [] }
+    ensures fields { reply.new ≡ written
+        (Hex (codes "text") (text_in lease.now)
+        ∷ Hex (codes "chain") (chain_bytes chain.now) ∷ []) }
+    ensures size { length reply.new ≤ 69000 }
+{
+    reply.ok();
+    reply.hex("text", lease.text());
+    reply.hex("chain", &chain.bytes());
+}
+
+/// Shows the text of a segment that goes on from the chain, and the chain after it.
+fn go_on(
+    mode: Mode,
+    key: &Judged,
+    chain: &Chain,
+    text: &[u8],
+    lease: &mut Lease,
+    reply: &mut ReplyBuffer,
+) -> Effect
+    requires mode { IsCipher mode }
+    requires halves { HasHalves key.now }
+    requires text { IsTrue (accepts hex_text text.now) }
+    requires empty { reply.old ≡ [] }
+    ensures shows { let clear = opened (bench_of lease.old) key.now in
+        ShowsOr (first_refusal (segment_questions (length text.now / 2)))
+        (segment_fields clear mode chain.now (hex_value text.now))
+        result reply.new }
+    ensures places { ChangesPlaces lease.old lease.new }
+{
+    if let Err(rule) = judge_digits(TextUse::Segment, text) {
+        return Effect::Refused(rule, "text");
+    }
+    put_text(text, lease);
+    let next = segment(lease, key, mode, chain);
+    show_segment(lease, &next, reply);
+    Effect::Shown
+}
+
+/// Shows the text of the first segment, enciphered or deciphered under the key from `iv`, and the
+/// chain after it. A text that is too long is refused.
+pub(crate) fn first_segment(
+    mode: Mode,
+    granted: &Granted,
+    iv: &[u8],
+    text: &[u8],
+    lease: &mut Lease,
+    reply: &mut ReplyBuffer,
+) -> Effect
+    requires mode { IsCipher mode }
+    requires key { HasSomeJudged granted.now.first }
+    requires iv { IsTrue (is_hex 16 iv.now) }
+    requires text { IsTrue (accepts hex_text text.now) }
+    requires empty { reply.old ≡ [] }
+    ensures settles { (role key segment : List ℕ)
+        → SettlesOver (asked (first_row mode)
+        (role ∷ key ∷ segment ∷ iv.now ∷ text.now ∷ []))
+        granted.now lease.old lease.new result reply.new }
+    ensures places { ChangesPlaces lease.old lease.new }
+{
+    let key = key_in(&granted.first);
+    go_on(mode, key, &Chain::first(block_of(iv)), text, lease, reply)
+}
+
+/// Shows the text of a further segment, and the chain after it. A chain that no segment gives is
+/// refused, and a text that is too long.
+pub(crate) fn middle_segment(
+    mode: Mode,
+    granted: &Granted,
+    chain: &[u8],
+    text: &[u8],
+    lease: &mut Lease,
+    reply: &mut ReplyBuffer,
+) -> Effect
+    requires mode { IsCipher mode }
+    requires key { HasSomeJudged granted.now.first }
+    requires chain { IsTrue (is_hex 32 chain.now) }
+    requires text { IsTrue (accepts hex_text text.now) }
+    requires empty { reply.old ≡ [] }
+    ensures settles { (role key segment : List ℕ)
+        → SettlesOver (asked (middle_row mode)
+        (role ∷ key ∷ segment ∷ chain.now ∷ text.now ∷ []))
+        granted.now lease.old lease.new result reply.new }
+    ensures places { ChangesPlaces lease.old lease.new }
+{
+    let key = key_in(&granted.first);
+    match chain_in(chain) {
+        Some(before) => go_on(mode, key, &before, text, lease, reply),
+        None => Effect::Refused(Rule::Chain, "chain"),
+    }
+}
+
+/// Shows the text of the last segment, which goes on from the chain.
+fn end(
+    mode: Mode,
+    key: &Judged,
+    chain: &Chain,
+    pad: &[u8],
+    text: &[u8],
+    lease: &mut Lease,
+    reply: &mut ReplyBuffer,
+) -> Effect
+    requires mode { IsCipher mode }
+    requires halves { HasHalves key.now }
+    requires text { IsTrue (accepts hex_text text.now) }
+    requires empty { reply.old ≡ [] }
+    ensures shows { let clear = opened (bench_of lease.old) key.now in
+        let padding = pad_named pad.now in
+        ShowsOr (first_refusal (last_text_questions mode clear chain.now padding
+        (length text.now / 2) (hex_value text.now)))
+        (last_text_fields clear mode chain.now padding (hex_value text.now))
+        result reply.new }
+    ensures places { ChangesPlaces lease.old lease.new }
+{
+    let padding = pad_of(pad);
+    let carried = chain.carried.bytes().len();
+    if let Err(rule) = judge_digits(mode.use_of_last(padding, carried), text) {
+        return Effect::Refused(rule, "text");
+    }
+    put_text(text, lease);
+    match last_text(lease, key, mode, chain, padding) {
+        Ok(()) => {
+            show_text(lease, reply);
+            Effect::Shown
+        }
+        Err(rule) => Effect::Refused(rule, "text"),
+    }
+}
+
+/// Shows the text of the last segment. A chain that no segment gives is refused, a text of a wrong
+/// length, and a deciphered text whose last byte is no count of padding.
+pub(crate) fn last_segment(
+    mode: Mode,
+    granted: &Granted,
+    chain: &[u8],
+    pad: &[u8],
+    text: &[u8],
+    lease: &mut Lease,
+    reply: &mut ReplyBuffer,
+) -> Effect
+    requires mode { IsCipher mode }
+    requires key { HasSomeJudged granted.now.first }
+    requires chain { IsTrue (is_hex 32 chain.now) }
+    requires text { IsTrue (accepts hex_text text.now) }
+    requires empty { reply.old ≡ [] }
+    ensures settles { (role key segment : List ℕ)
+        → SettlesOver (asked (last_row mode)
+        (role ∷ key ∷ segment ∷ chain.now ∷ pad.now ∷ text.now ∷ []))
+        granted.now lease.old lease.new result reply.new }
+    ensures places { ChangesPlaces lease.old lease.new }
+{
+    let key = key_in(&granted.first);
+    match chain_in(chain) {
+        Some(before) => end(mode, key, &before, pad, text, lease, reply),
+        None => Effect::Refused(Rule::Chain, "chain"),
+    }
+}
