@@ -1,4 +1,4 @@
--- What is answered of a change of a disk.
+-- What is answered of a change of a disk, and what comes of an effect.
 use Rattle.std.specs.Prelude.{◌≡◌, ℕ, List, [], ◌∷◌, codes, Option, Some, None, Result, Ok, Err, map, OnOk}
 use Rattle.key_records.specs.Entries.{turned}
 use Rattle.key_records.specs.declared.faults.RecordFault.{RecordFault}

@@ -35,7 +35,6 @@ use Rattle.request_rules.specs.Standing.{Tables}
 use Rattle.request_rules.specs.Stored.{AreAskedAsRead, IsAnsweredAsRead, IsAskedAsRead, IsLabelAsRead, IsRefusedAsRead, find_checks}
 use Rattle.request_rules.specs.declared.judging.Answer.{Answer}
 use Rattle.request_rules.specs.declared.judging.Answer.TheVariants as answer
-use Rattle.request_rules.specs.declared.judging.Grant.{Grant}
 use Rattle.request_rules.specs.declared.judging.Granted.{Granted}
 use Rattle.request_rules.specs.declared.judging.Verdict.{Verdict}
 use Rattle.request_rules.specs.declared.judging.Verdict.TheVariants as verdict

@@ -12,8 +12,10 @@ mod judging;
 mod operands;
 mod stored;
 
-pub use choices::{is_last_part, key_length_of, mac_length_of, mac_rule_of, out_form_of};
-pub use choices::{pad_of, pair_form_of, part_action_of, random_form_of, target_of};
+pub use choices::{
+    is_last_part, key_length_of, mac_length_of, mac_rule_of, out_form_of, pad_of, pair_form_of,
+    part_action_of, random_form_of, target_of,
+};
 pub use general::general_rule;
 pub use grants::{double_key_in, external_in, is_old, key_in, place_in, token_in};
 pub use judging::{Grant, Granted, Verdict, judge, token_bytes};

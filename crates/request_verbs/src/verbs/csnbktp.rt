@@ -1,7 +1,6 @@
 //! CSNBKTP: the parts of a key token.
 ghost use Rattle.std.specs.Prelude.{◌≡◌, ◌+◌, ◌<◌, ◌≤◌, ◌++◌, ◌∷◌, [], ℕ, IsSome, List, Option, length, codes};
 ghost use Rattle.cca_machine.specs.Act.{token_fields, kind_name, class_name, shown_vector};
-ghost use Rattle.cca_vectors.specs.Vectors.{length_of};
 ghost use Rattle.key_cells.specs.Bench.{Bench};
 ghost use Rattle.key_records.specs.declared.rows.Row.{Row};
 ghost use Rattle.master_registers.specs.declared.registers.Registers.{Registers};

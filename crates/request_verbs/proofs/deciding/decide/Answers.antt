@@ -6,8 +6,7 @@ use Rattle.verb_script.specs.Grammar.{Request}
 use Rattle.verb_script.specs.Parsed.{seen}
 use Rattle.cca_machine.specs.Operands.{operands}
 use Rattle.cca_machine.specs.Verdict.{needs_master}
-use Rattle.request_verbs.specs.Decided.{Decision, source}
-use Rattle.request_rules.specs.Judging.{AreKeyed, HaveShapes}
+use Rattle.request_rules.specs.Judging.{AreKeyed}
 use Rattle.request_verbs.proofs.Settling.{handed_on, handed_on_drawing, handed_on_silent}
 use Rattle.request_verbs.proofs.deciding.decide.Goals as goal
 
