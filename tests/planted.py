@@ -51,7 +51,7 @@ EDITED = {
     "circuits": (
         [sys.executable, "-m", "unittest", "tests.generated"],
         [Edit("tools/circuits/boxes.txt", r"(?m)^7 and ", "7 or ")],
-        r"src/boxes\.rt isn't what",
+        r"src/lanes/boxes\.rt isn't what",
     ),
     "vectors": (
         [sys.executable, "-m", "unittest", "tests.generated"],
