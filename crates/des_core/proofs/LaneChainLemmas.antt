@@ -1,4 +1,4 @@
--- 128 blocks of a text deciphered in a chain, in place, pair by pair; and the chain over more of them.
+-- 128 blocks of a text deciphered in a chain, in place, pair by pair.
 use Rattle.std.proofs.Common.{◌≡◌, ℕ, zero, suc, ◌+◌, ◌-◌, ◌*◌, ◌/◌, ◌<◌, ◌≤◌, List, [], ◌∷◌, ◌++◌, length, take, drop, get_or, set, replicate, refl, sym, ap, ◌∙◌, arith, inl, inr, subst}
 use Rattle.std.specs.Int.{w64, to_be_bytes}
 use Rattle.std.proofs.lemmas.List.{drop_at, drop-drop, drop-take, get_or-set_other, get_or-set_same, length-drop, length-replicate, length-set, length-take, take-take}

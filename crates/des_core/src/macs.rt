@@ -1,6 +1,6 @@
 //! The message authentication codes of FIPS 113 and ANSI X9.9, and of ANSI X9.19, over a text of any length
 //! that is filled with zero bytes to whole blocks.
-ghost use Rattle.std.specs.Prelude.{List, ℕ, ◌≡◌, ◌+◌, ◌*◌, ◌<◌, ◌≤◌, ◌++◌, drop, length, replicate, take};
+ghost use Rattle.std.specs.Prelude.{List, ℕ, ◌≡◌, ◌+◌, ◌*◌, ◌<◌, ◌≤◌, ◌++◌, drop, length, take};
 ghost use Rattle.std.specs.Int.{to_be_bytes, w64};
 ghost use Rattle.des_core.specs.Modes.{cbc_mac, mac_x919, mac_x99};
 ghost use Rattle.des_core.specs.Schedules.{IsOf, deciphered_under, enciphered_under};

@@ -1,5 +1,5 @@
 -- Replies of no field and of one, as they are written.
-use Rattle.std.proofs.Common.{◌≡◌, ℕ, List, [], ◌∷◌, ◌++◌, sym, ap, ◌∙◌, append_assoc}
+use Rattle.std.proofs.Common.{◌≡◌, ℕ, List, [], ◌∷◌, ◌++◌, sym, ap, ◌∙◌}
 use Rattle.std.proofs.lemmas.List.{append-nil}
 use Rattle.script_buffers.specs.Replies.{Field, Hex, Text, Number, fields_text, written, ok_text, hex_field, text_field, number_field}
 
@@ -21,13 +21,3 @@ one_number name value a b d start ok field =
 
 pub no_fields : (a b : List ℕ) → a ≡ [] → b ≡ a ++ ok_text → b ≡ written []
 no_fields a b start ok = ok ∙ (ap (λ xs. xs ++ ok_text) start ∙ sym (append-nil ok_text))
-
-append_three : (ok field more : List ℕ) → (([] ++ ok) ++ field) ++ more ≡ ok ++ (field ++ more)
-append_three ok field more = append_assoc ok field more
-
--- a field, and the fields behind it
-pub hex_before : (name bytes : List ℕ) (others : List Field) (a b d e : List ℕ) → a ≡ [] → b ≡ a ++ ok_text → d ≡ b ++ hex_field name bytes
-    → e ≡ d ++ fields_text others → e ≡ written (Hex name bytes ∷ others)
-hex_before name bytes others a b d e start ok field more =
-    more ∙ (ap (λ xs. xs ++ fields_text others) (field ∙ ap (λ xs. xs ++ hex_field name bytes) (ok ∙ ap (λ xs. xs ++ ok_text) start))
-    ∙ append_three ok_text (hex_field name bytes) (fields_text others))
