@@ -85,38 +85,8 @@ or_then (Some r) others = Some r
 -- rule 05 is asked
 abbrev pub needs_master : RequestName → Bool
 needs_master csnbktp = false
-needs_master csnbenc = true
-needs_master csnbenc_first = true
-needs_master csnbenc_middle = true
-needs_master csnbenc_last = true
-needs_master csnbdec = true
-needs_master csnbdec_first = true
-needs_master csnbdec_middle = true
-needs_master csnbdec_last = true
-needs_master csnbmgn = true
-needs_master csnbmgn_first = true
-needs_master csnbmgn_middle = true
-needs_master csnbmgn_last = true
-needs_master csnbmvr = true
-needs_master csnbmvr_first = true
-needs_master csnbmvr_middle = true
-needs_master csnbmvr_last = true
-needs_master csnbkyt = true
-needs_master csnbcki = true
 needs_master csnbrng = false
-needs_master csnbkgn_op = true
-needs_master csnbkgn_pair = true
-needs_master csnbkgn_out = true
-needs_master csnbkim = true
-needs_master csnbkex = true
-needs_master csnbpex = true
-needs_master csnbktc = true
-needs_master csnbkpi_first = true
-needs_master csnbkpi_middle = true
-needs_master csnbktr = true
 needs_master csnbkrc = false
-needs_master csnbkrw = true
-needs_master csnbkrr = true
 needs_master csnbkrd = false
 needs_master csnbkrl = false
 needs_master csnbmkp_part = false
@@ -124,9 +94,7 @@ needs_master csnbmkp_clear = false
 needs_master csnbmkp_set = false
 needs_master csuaaci_define = false
 needs_master csuaaci_remove = false
-needs_master reencipher = true
-needs_master reencipher_ahead = true
-needs_master reencipher_drop = true
+needs_master _ = true
 
 -- the access control points that a request needs
 abbrev pub action_points : Action → ℕ
@@ -446,7 +414,6 @@ change_questions s Current = []
 change_questions s New = questions (codes "-") (check 25 (set_refused s.registers) ∷ []) ∷ []
 
 abbrev pub verb_questions : State → RequestName → Request → List Questions
-verb_questions s csnbktp r = []
 verb_questions s csnbenc r = encipher_questions (pad_named (value_of r (codes "pad"))) (text_size r)
 verb_questions s csnbenc_first r = segment_questions (text_size r)
 verb_questions s csnbenc_middle r = middle_questions r
@@ -465,34 +432,22 @@ verb_questions s csnbmvr r = code_questions s r
 verb_questions s csnbmvr_first r = first_code_questions s r
 verb_questions s csnbmvr_middle r = middle_code_questions s r
 verb_questions s csnbmvr_last r = last_code_questions s r
-verb_questions s csnbkyt r = []
-verb_questions s csnbcki r = []
-verb_questions s csnbrng r = []
 verb_questions s csnbkgn_op r = asked_of_one r
 verb_questions s csnbkgn_pair r = asked_of_two r
 verb_questions s csnbkgn_out r = asked_of_two r
-verb_questions s csnbkim r = []
-verb_questions s csnbkex r = []
-verb_questions s csnbpex r = []
 verb_questions s csnbktc r = change_questions s (target_named (value_of r (codes "rule")))
 verb_questions s csnbkpi_first r =
     first_part_questions (type_in (value_of r (codes "type"))) (part_size r)
 verb_questions s csnbkpi_middle r =
     further_part_questions (key_of_request s r).vector (part_size r)
-verb_questions s csnbktr r = []
 verb_questions s csnbkrc r = create_questions s (value_of r (codes "label"))
-verb_questions s csnbkrw r = []
-verb_questions s csnbkrr r = []
-verb_questions s csnbkrd r = []
-verb_questions s csnbkrl r = []
 verb_questions s csnbmkp_part r = action_questions s (part_action (value_of r (codes "action")))
 verb_questions s csnbmkp_clear r = clear_questions s
 verb_questions s csnbmkp_set r = set_questions s
 verb_questions s csuaaci_define r = define_questions s (value_of r (codes "name"))
 verb_questions s csuaaci_remove r = remove_questions s (value_of r (codes "name"))
-verb_questions s reencipher r = []
 verb_questions s reencipher_ahead r = ahead_questions s
-verb_questions s reencipher_drop r = []
+verb_questions s _ r = []
 
 -- the rules of the verb that are asked before a random byte is drawn
 abbrev pub verb_verdict : State → Request → Option Refusal
