@@ -11,16 +11,15 @@ use Rattle.key_records.specs.Directory.{cell_of}
 use Rattle.key_records.specs.Entries.{row_directory}
 use Rattle.key_records.specs.Labels.{is_label}
 use Rattle.key_records.specs.declared.rows.Row.{Row}
-use Rattle.key_tokens.specs.Denotes.{Denoted, denoted}
+use Rattle.key_tokens.specs.Denotes.{Denoted}
 use Rattle.line_service.specs.declared.stops.Stop.{Stop}
 use Rattle.master_registers.specs.Masters.{Masters}
 use Rattle.master_registers.specs.RegisterBody.{StandsForMasters}
 use Rattle.script_buffers.specs.Replies.{Refused, spelled}
 use Rattle.slot_disk.specs.Medium.{Keeps, Medium}
-use Rattle.verb_rules.specs.KeyChecks.{use_checks}
+use Rattle.store_move.specs.Stored.{IsStored, stored_checks}
 use Rattle.verb_rules.specs.Keys.{keys_of}
 use Rattle.verb_rules.specs.Rules.{rule_number}
-use Rattle.verb_rules.specs.StoredKeys.{IsStoredUse}
 use Rattle.verb_rules.specs.declared.judging.Judged.{Judged}
 use Rattle.verb_rules.specs.declared.needs.Need.{Need}
 use Rattle.verb_rules.specs.declared.rules.Rule.{Rule}
@@ -102,23 +101,19 @@ module _ (m : Masters) (bench : Bench) (rows : List (Option Row)) where
 abbrev with_body : Bench → List ℕ → Bench
 with_body bench bytes = record bench { body = bytes }
 
-use_before : (bench : Bench) (b : List ℕ) (need : Need) (what : Option Denoted) (r : Result Judged Rule) → IsStoredUse (with_body bench b) need what (Some r)
-    → IsStoredUse bench need what (Some r)
-use_before bench b need None r used = used
-use_before bench b need (Some key) (Ok judged) used = used
-use_before bench b need (Some key) (Err _) used = used
+stored_before : (bench : Bench) (b : List ℕ) (need : Need) (what : Option Denoted) (r : Result Judged Rule) → IsStored (with_body bench b) need what r
+    → IsStored bench need what r
+stored_before bench b need what (Ok judged) stored = stored
+stored_before bench b need what (Err _) stored = stored
 
 answered_before : (m : Masters) (bench : Bench) (b : List ℕ) (need : Need) (row : Option Row) (bytes : List ℕ) (given : Answer)
     → IsAnsweredAsRead m (with_body bench b) need row bytes given → IsAnsweredAsRead m bench need row bytes given
 answered_before m bench b need row bytes given as_read = record {
-  found = as_read.found;
-  token = as_read.token;
-  read = as_read.read;
-  known = as_read.known;
-  null = as_read.null;
-  judged = λ some.
-      let by = as_read.judged some in
-      (by.0, use_before bench b need (denoted (keys_of m) as_read.token) by.0 by.1, by.2);
+  what = as_read.what;
+  holds = as_read.holds;
+  judged = as_read.judged;
+  stored = stored_before bench b need as_read.what as_read.judged as_read.stored;
+  is = as_read.is;
 }
 
 pub as_read_before : (m : Masters) (rows : List (Option Row)) (old new : Lease) → KeepsAllButBody old new → (text : List ℕ) (ask : Ask) (given : Answer)
@@ -138,24 +133,18 @@ abbrev broken_by : Answer → Option ℕ
 broken_by (answer.Refused rule) = Some (rule_number rule)
 broken_by (answer.Granted grant) = None
 
-broken_key : (bench : Bench) (need : Need) (what : Option Denoted) (r : Result Judged Rule) (given : Answer) → IsStoredUse bench need what (Some r) → given ≡ answered r
-    → (key : Denoted) × (what ≡ Some key) × (broken_by given ≡ first_failing (use_checks need key.clear.vector))
-broken_key bench need None r given used is = absurd used
-broken_key bench need (Some key) (Ok judged) given used is = (key, refl, ap broken_by is ∙ sym used.0)
-broken_key bench need (Some key) (Err _) given used is = (key, refl, ap broken_by is ∙ sym used)
+broken_key : (bench : Bench) (need : Need) (what : Option Denoted) (r : Result Judged Rule) (given : Answer) → IsStored bench need what r → given ≡ answered r
+    → broken_by given ≡ first_failing (stored_checks need what)
+broken_key bench need what (Ok judged) given stored is = ap broken_by is ∙ sym stored.0
+broken_key bench need what (Err _) given stored is = ap broken_by is ∙ sym stored
 
 broken_record : (m : Masters) (bench : Bench) (need : Need) (row : Option Row) (bytes : List ℕ) (given : Answer) → IsAnsweredAsRead m bench need row bytes given
     → BreaksByRecord (keys_of m) need row (broken_by given)
 broken_record m bench need row bytes given as_read = record {
   body = bytes;
-  found = as_read.found;
-  token = as_read.token;
-  read = as_read.read;
-  known = as_read.known;
-  null = λ none. ap broken_by (as_read.null none);
-  judged = λ some.
-      let by = as_read.judged some in
-      broken_key bench need (denoted (keys_of m) as_read.token) by.0 given by.1 by.2;
+  what = as_read.what;
+  holds = as_read.holds;
+  breaks = broken_key bench need as_read.what as_read.judged given as_read.stored as_read.is;
 }
 
 module _ (m : Masters) (bench : Bench) (rows : List (Option Row)) (reply : List ℕ) where

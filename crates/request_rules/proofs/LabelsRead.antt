@@ -1,34 +1,34 @@
 -- The key that is read of a label's record is the machine's.
-use Rattle.std.proofs.Common.{◌≡◌, ◌∙◌, ℕ, Bool, true, false, List, [], ◌∷◌, ◌++◌, drop, Option, None, Some, refl, sym, ap, subst}
-use Rattle.std.specs.Prelude.{◌||◌, if◌then◌else◌, is_none, option_map, IfOk, IfSome, IsSome, IsTrue, Result, Ok, Err, slice_index}
+use Rattle.std.proofs.Common.{◌≡◌, ◌∙◌, ℕ, Bool, true, false, List, [], ◌∷◌, ◌++◌, drop, Option, None, Some, inl, inr, refl, sym, ap, subst}
+use Rattle.std.specs.Prelude.{◌||◌, ◌⊎◌, if◌then◌else◌, is_none, option_map, IfOk, IfSome, IsSome, IsTrue, Result, Ok, Err, slice_index}
 use Rattle.std.proofs.lemmas.Bool.{eqb-true}
 use Rattle.cca_vectors.specs.Checks.{Check, check, first_failing}
 use Rattle.cca_vectors.proofs.Judging.{none_in_first, passed_over, passes_first, stopped_in}
 use Rattle.key_cells.specs.Bench.{Bench}
 use Rattle.key_cells.specs.Lease.{bench_of}
 use Rattle.key_cells.specs.declared.leases.Lease.{Lease}
-use Rattle.key_records.specs.Changes.{KeepsAllButBody, ReadsToken}
-use Rattle.key_records.specs.Entries.{Entry}
-use Rattle.key_records.specs.RecordBody.{kept}
+use Rattle.key_records.specs.Changes.{KeepsAllButBody}
 use Rattle.key_records.specs.StoreStands.{Agrees, KeepsLabels, entry_at}
+use Rattle.key_records.specs.declared.faults.RecordFault.{RecordFault}
+use Rattle.key_records.specs.declared.faults.RecordFault.TheVariants.{Damaged, DiskFault}
 use Rattle.key_records.specs.declared.rows.Row.{Row}
-use Rattle.key_records.proofs.ReadKeys.{HasRead, read_key, read_null}
 use Rattle.key_tokens.specs.Denotes.{Denoted, denoted, denoted_under}
 use Rattle.key_tokens.specs.Fields.{kind_of, pattern_of_token, token_of}
 use Rattle.key_tokens.specs.Kinds.{is_asked, kind_at}
 use Rattle.key_tokens.specs.TokenChecks.{token_checks}
 use Rattle.key_tokens.specs.declared.key_token.Asked.TheVariants as asked
 use Rattle.key_tokens.specs.declared.key_token.Kind.TheVariants as kind
+use Rattle.line_service.specs.declared.stops.Stop.TheVariants.{StoreFault}
 use Rattle.master_registers.specs.Loaded.{Loaded, registers_of}
 use Rattle.master_registers.specs.Masters.{Masters}
 use Rattle.master_registers.specs.declared.registers.Registers.{Registers}
 use Rattle.slot_disk.specs.Medium.{Keeps, Medium, Told}
 use Rattle.slot_disk.proofs.Media.{told_at}
+use Rattle.store_move.specs.Stored.{IsStored, stored_checks}
 use Rattle.verb_rules.specs.Classes.{has}
 use Rattle.verb_rules.specs.KeyChecks.{age_in, age_of, key_checks, read_checks, use_checks}
 use Rattle.verb_rules.specs.Keys.{HasHalves, IsDouble, keys_of, opened_key, opened_under}
 use Rattle.verb_rules.specs.Rules.{Judges}
-use Rattle.verb_rules.specs.StoredKeys.{IsRead, IsStoredUse, IsUse}
 use Rattle.verb_rules.specs.declared.judging.Judged.{Judged}
 use Rattle.verb_rules.specs.declared.needs.Need.{Need}
 use Rattle.verb_rules.specs.declared.rules.Rule.{Rule}
@@ -43,8 +43,8 @@ use Rattle.cca_machine.proofs.KnownLabels.{cell_is}
 use Rattle.verb_script.specs.Named.{label_named}
 use Rattle.verb_script.specs.Values.{hex_value}
 use Rattle.request_rules.specs.Standing.{AtStore}
-use Rattle.request_rules.specs.Judging.{HasKey, IsAsked, IsGranted, HasStoredKey, IsJudged, IsKeyedAnswer, IsShaped, answered, target_cell}
-use Rattle.request_rules.specs.Stored.{IsFound, IsLabelAsked, find_checks, label_key_checks}
+use Rattle.request_rules.specs.Judging.{HasKey, IsAsked, IsGranted, IsJudged, IsKeyedAnswer, IsShaped, answered, target_cell}
+use Rattle.request_rules.specs.Stored.{IsFound, IsLabelAsked, find_checks, label_key_checks, read_stop}
 use Rattle.request_rules.specs.declared.judging.Answer.{Answer}
 use Rattle.request_rules.specs.declared.judging.Answer.TheVariants as answer
 use Rattle.request_rules.specs.declared.judging.Grant.{Grant}
@@ -65,19 +65,15 @@ module _ (s : State) (held : Registers) (bench : Bench) (rows : List (Option Row
       subst (λ (o : Option (List ℕ)). IfSome o (KeepsLabels (keys_of s.registers) rows s.labels)) (sym at.stands.in_store.told)
       (record { stands = at.stands.in_store.has; agrees = at.stands.agrees })
 
-  -- what is read at a place, where the answer is known
-  pub reads_at : (place : ℕ) (found answer : Bool) (token : List ℕ) → found ≡ answer
-      → ((labels : List (Option Entry)) → Told m (KeepsLabels (keys_of s.registers) rows labels) → Told m (λ _. ReadsToken (keys_of s.registers) (entry_at labels place) found token))
-      → ReadsToken (keys_of s.registers) (entry_at s.labels place) answer token
-  reads_at place found answer token is told =
-      subst (λ (b : Bool). ReadsToken (keys_of s.registers) (entry_at s.labels place) b token) is
-      (told_at m.content (λ _. ReadsToken (keys_of s.registers) (entry_at s.labels place) found token) at.stands.in_store.image at.stands.in_store.told (told s.labels told_labels))
+  -- what holds wherever the store tells that it keeps these labels
+  pub in_store : (P : Type 0) → (Told m (KeepsLabels (keys_of s.registers) rows s.labels) → Told m (λ _. P)) → P
+  in_store P gives = told_at m.content (λ _. P) at.stands.in_store.image at.stands.in_store.told (gives told_labels)
 
-  -- the key of the record whose token was read
-  pub key_read : (place : ℕ) (found : Bool) (token : List ℕ) → found ≡ true
-      → ((labels : List (Option Entry)) → Told m (KeepsLabels (keys_of s.registers) rows labels) → Told m (λ _. ReadsToken (keys_of s.registers) (entry_at labels place) found token))
-      → HasRead (keys_of s.registers) (entry_at s.labels place) token
-  key_read place found token is told = read_key (keys_of s.registers) (entry_at s.labels place) token (reads_at place found true token is told)
+-- why a record wasn't read, where it isn't damaged
+pub store_failed : (fault : RecordFault) (cell : ℕ) → (fault ≡ DiskFault) ⊎ (fault ≡ Damaged cell) → ((n : ℕ) → fault ≡ Damaged n → ⊥)
+    → read_stop fault ≡ StoreFault
+store_failed fault cell (inl failed) sound = ap read_stop failed
+store_failed fault cell (inr damaged) sound = absurd (sound cell damaged)
 
 -- ---- a label whose key is asked for
 
@@ -88,34 +84,30 @@ module _ (s : State) (rows : List (Option Row)) (agrees : Agrees (keys_of s.regi
   pub not_found : (n : ℕ) → first_failing (find_checks rows label) ≡ Some n → first_failing (label_key_checks s need label) ≡ Some n
   not_found n fails = stopped_in (held_checks s label) (after_found (key_of_label s label)) n (find_is s rows agrees label ∙ fails)
 
+  same_checks : (key : Option Denoted) → first_failing (after_found key) ≡ first_failing (stored_checks need key)
+  same_checks None = refl
+  same_checks (Some key) = refl
+
   module _ (place : ℕ) (found : IsFound rows label place) where
     what_is : key_of_label s label ≡ what_in (entry_at s.labels place)
     what_is = ap (what_at s.labels) (cell_is s rows agrees label ∙ found.is)
 
-    checks_of : (key : Option Denoted) → what_in (entry_at s.labels place) ≡ key → first_failing (label_key_checks s need label) ≡ first_failing (after_found key)
-    checks_of key is =
+    label_checks : first_failing (label_key_checks s need label) ≡ first_failing (stored_checks need (what_in (entry_at s.labels place)))
+    label_checks =
         passed_over (held_checks s label) (after_found (key_of_label s label)) (find_is s rows agrees label ∙ found.passes)
-        ∙ ap (λ (o : Option Denoted). first_failing (after_found o)) (what_is ∙ is)
+        ∙ same_checks (key_of_label s label)
+        ∙ ap (λ (o : Option Denoted). first_failing (stored_checks need o)) what_is
 
-    pub null_asked : (token : List ℕ) → ReadsToken (keys_of s.registers) (entry_at s.labels place) false token → first_failing (label_key_checks s need label) ≡ Some 8
-    null_asked token reads = checks_of None (read_null (keys_of s.registers) (entry_at s.labels place) token reads)
-
-    pub key_asked : (bench : Bench) (held : Registers) (token : List ℕ) (r : Result Judged Rule) → Loaded s.registers held bench
-        → HasRead (keys_of s.registers) (entry_at s.labels place) token → IsStoredUse bench need (denoted (keys_of s.registers) token) (Some r)
-        → IfOk r (IsRead held token) → IsLabelAsked s bench need label (answered r)
-    key_asked bench held token r loaded read used found =
-        by_result r (subst (λ (what : Option Denoted). IsStoredUse bench need what (Some r)) read.denotes used) found
-      where
-        by_result : (r : Result Judged Rule) → IsUse bench need read.key r → IfOk r (IsRead held token) → IsLabelAsked s bench need label (answered r)
-        by_result (Err _) used found = checks_of (Some read.key) read.is ∙ used
-        by_result (Ok judged) used found = (
-          checks_of (Some read.key) read.is ∙ used.0,
-          subst (λ (o : Option Denoted). HasStoredKey s.registers bench o (record { token = None; key = Some judged; place = None })) (sym (what_is ∙ read.is))
-              (record {
-                has = record { judged = judged; is = refl; key_is = sym used.1 };
-                age = found.age ∙ ap (λ (h : Registers). age_of h judged.token) loaded.told;
-              }),
-        )
+    pub stored_asked : (bench : Bench) (held : Registers) (r : Result Judged Rule) → Loaded s.registers held bench
+        → IsStored bench need (what_in (entry_at s.labels place)) r → IfOk r (λ judged. judged.age ≡ age_of held judged.token) → IsLabelAsked s bench need label (answered r)
+    stored_asked bench held (Err _) loaded stored age = label_checks ∙ stored
+    stored_asked bench held (Ok judged) loaded stored age = (
+      label_checks ∙ stored.0,
+      record {
+        has = record { judged = judged; is = refl; key_is = what_is ∙ sym stored.1 };
+        age = age ∙ ap (λ (h : Registers). age_of h judged.token) loaded.told;
+      },
+    )
 
 -- ---- what is answered of a key that was judged
 
@@ -124,11 +116,6 @@ pub judged_shape : (need : Need) (r : Result Judged Rule) → IfOk r HasHalves �
     → IsShaped [] [] (Key need) (answered r)
 judged_shape need (Err _) halves under double = tt
 judged_shape need (Ok judged) halves under double = record { judged = judged; is = refl; halves = halves; under = under; double = λ is. double is }
-
-pub key_shaped : (need : Need) (held : Registers) (token : List ℕ) (r : Result Judged Rule) → IfOk r (IsRead held token) → (IsTrue need.double → IfOk r IsDouble)
-    → IsShaped [] [] (Key need) (answered r)
-key_shaped need held token (Err _) found double = tt
-key_shaped need held token (Ok judged) found double = judged_shape need (Ok judged) found.halves found.under double
 
 pub external_shape : (need : Need) (r : Result Judged Rule) → IfOk r HasHalves → IsShaped [] [] (External need) (answered r)
 external_shape need (Err _) halves = tt

@@ -1,18 +1,18 @@
 -- What a reply rests on, whatever the store tells of its bytes: the keys of labels were read from records that are the
 -- memory's.
-use Rattle.std.specs.Prelude.{◌≡◌, ℕ, Bool, true, false, List, [], ◌∷◌, get_or, codes, Option, Some, None, IfSome, IsTrue, ⊤}
+use Rattle.std.specs.Prelude.{◌≡◌, ℕ, List, [], ◌∷◌, get_or, codes, Option, Some, None, IfSome, IsTrue, ⊤}
 use Rattle.cca_vectors.specs.Checks.{first_failing}
-use Rattle.key_records.specs.Changes.{IsReadOf, has_key}
 use Rattle.key_records.specs.Directory.{cell_of}
 use Rattle.key_records.specs.Entries.{row_directory}
 use Rattle.key_records.specs.Labels.{is_label}
 use Rattle.key_records.specs.declared.rows.Row.{Row}
-use Rattle.key_tokens.specs.Denotes.{Denoted, MasterKeys, denoted}
+use Rattle.key_tokens.specs.Denotes.{Denoted, MasterKeys}
 use Rattle.master_registers.specs.Masters.{Masters}
 use Rattle.master_registers.specs.RegisterBody.{StandsForMasters}
 use Rattle.script_buffers.specs.Replies.{Refused, spelled}
 use Rattle.slot_disk.specs.Medium.{Medium, Told}
-use Rattle.verb_rules.specs.KeyChecks.{use_checks}
+use Rattle.store_move.specs.Reading.{HoldsAsRead}
+use Rattle.store_move.specs.Stored.{stored_checks}
 use Rattle.verb_rules.specs.Keys.{keys_of}
 use Rattle.verb_rules.specs.declared.needs.Need.{Need}
 use Rattle.verb_script.specs.Grammar.{Request}
@@ -41,17 +41,13 @@ IfKeyOfLabel P text NewLabel = ⊤
 IfKeyOfLabel P text Target = ⊤
 IfKeyOfLabel P text Nothing = ⊤
 
--- Some body is a record of the label that the memory knows by this row, and its key breaks this rule first: rule 08 where
--- the record is null, and else one of use. A token that stands for no key breaks none.
+-- Some body is a record of the label that the memory knows by this row, and what it holds breaks this rule first: rule 08
+-- where the record is null, and else one of use. A token that stands for no key breaks none.
 pub record BreaksByRecord (keys : MasterKeys) (need : Need) (row : Option Row) (broken : Option ℕ) : Type 0 where
   pub body : List ℕ
-  pub found : Bool
-  pub token : List ℕ
-  pub read : IsReadOf row body found token
-  pub known : found ≡ has_key row
-  pub null : found ≡ false → broken ≡ Some 8
-  pub judged : found ≡ true → (key : Denoted) × (denoted keys token ≡ Some key)
-      × (broken ≡ first_failing (use_checks need key.clear.vector))
+  pub what : Option Denoted
+  pub holds : HoldsAsRead keys row body what
+  pub breaks : broken ≡ first_failing (stored_checks need what)
 
 -- the same of a label, where it is held
 abbrev pub LabelBreaks : MasterKeys → List (Option Row) → Option ℕ → Need → List ℕ → Type 0

@@ -1,27 +1,26 @@
 -- What is found of a label, and of the key in its record.
-use Rattle.std.specs.Prelude.{◌≡◌, ◌<◌, ◌⊎◌, ℕ, List, [], ◌∷◌, ◌++◌, get_or, is_none, Option, Some, None, Result, MatchResult, ⊤, Bool, true, false}
+use Rattle.std.specs.Prelude.{◌≡◌, ◌<◌, ◌⊎◌, ℕ, List, [], ◌∷◌, ◌++◌, get_or, is_none, Option, Some, None, Result, MatchResult, ⊤}
 use Rattle.cca_vectors.specs.Checks.{Check, check, first_failing}
 use Rattle.key_cells.specs.Bench.{Bench}
-use Rattle.key_records.specs.Changes.{IsReadOf, has_key}
 use Rattle.key_records.specs.Directory.{cell_of, label_at}
 use Rattle.key_records.specs.Entries.{row_directory}
 use Rattle.key_records.specs.Labels.{IsLabel}
 use Rattle.key_records.specs.declared.faults.RecordFault.{RecordFault}
 use Rattle.key_records.specs.declared.faults.RecordFault.TheVariants as record_fault
 use Rattle.key_records.specs.declared.rows.Row.{Row}
-use Rattle.key_tokens.specs.Denotes.{denoted}
+use Rattle.key_tokens.specs.Denotes.{Denoted}
 use Rattle.master_registers.specs.Masters.{Masters}
 use Rattle.line_service.specs.declared.stops.Device.TheVariants.{Store}
 use Rattle.line_service.specs.declared.stops.Stop.{Stop}
 use Rattle.line_service.specs.declared.stops.Stop.TheVariants.{StoreFault, Damaged}
+use Rattle.store_move.specs.Reading.{HoldsAsRead}
+use Rattle.store_move.specs.Stored.{IsStored}
 use Rattle.verb_rules.specs.KeyChecks.{use_checks}
 use Rattle.verb_rules.specs.Keys.{keys_of}
 use Rattle.verb_rules.specs.Rules.{rule_number}
-use Rattle.verb_rules.specs.StoredKeys.{IsStoredUse}
 use Rattle.verb_rules.specs.declared.judging.Judged.{Judged}
 use Rattle.verb_rules.specs.declared.needs.Need.{Need}
 use Rattle.verb_rules.specs.declared.rules.Rule.{Rule}
-use Rattle.verb_rules.specs.declared.rules.Rule.TheVariants.{Null}
 use Rattle.cca_machine.specs.Keys.{key_of_label, or_no_key}
 use Rattle.cca_machine.specs.Operands.{Operand, Operands, listed}
 use Rattle.cca_machine.specs.State.{State}
@@ -67,13 +66,11 @@ IsLabelAsked s bench need label (answer.Granted grant) =
 -- answered.
 pub record IsAnsweredAsRead (m : Masters) (bench : Bench) (need : Need) (row : Option Row) (bytes : List ℕ)
     (given : Answer) : Type 0 where
-  pub found : Bool
-  pub token : List ℕ
-  pub read : IsReadOf row bytes found token
-  pub known : found ≡ has_key row
-  pub null : found ≡ false → given ≡ answer.Refused Null
-  pub judged : found ≡ true → (judged : Result Judged Rule)
-      × IsStoredUse bench need (denoted (keys_of m) token) (Some judged) × (given ≡ answered judged)
+  pub what : Option Denoted
+  pub holds : HoldsAsRead (keys_of m) row bytes what
+  pub judged : Result Judged Rule
+  pub stored : IsStored bench need what judged
+  pub is : given ≡ answered judged
 
 -- of a label that the memory holds: there is such a body
 abbrev pub IsLabelAsRead : Masters → Bench → List (Option Row) → Answer → Need → List ℕ → Type 0

@@ -22,7 +22,8 @@ use key_records::{Label, Place, RecordFault, Records};
 use line_service::{Device, Stop};
 use master_registers::Registers;
 use slot_disk::{Disk, Steps};
-use verb_rules::{Need, Rule, judge_stored};
+use store_move::judge_record;
+use verb_rules::{Need, Rule};
 use verb_script::named_label;
 
 /// The place of a label that is held, by rules 06 and 07. It costs at most 11 comparisons.
@@ -121,13 +122,8 @@ pub(crate) fn judge_label<D: Disk>(
         Ok(place) => place,
         Err(rule) => return Ok(Answer::Refused(rule)),
     };
-    let mut token = [0; 64];
-    match records.read(store, lease, place, &mut token) {
-        Ok(true) => match judge_stored(&token, need, held) {
-            Some(judged) => Ok(Answer::of(judged)),
-            None => Err(Stop::Damaged(Device::Store, place.cell())),
-        },
-        Ok(false) => Ok(Answer::Refused(Rule::Null)),
+    match judge_record(lease, store, records, place, need, held) {
+        Ok(judged) => Ok(Answer::of(judged)),
         Err(fault) => Err(stop_of(fault)),
     }
 }

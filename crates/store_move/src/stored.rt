@@ -8,6 +8,7 @@ ghost use Rattle.key_records.specs.StoreStands.{HoldsRows, KeepsLabels, entry_at
 ghost use Rattle.master_registers.specs.Loaded.{Loaded};
 ghost use Rattle.master_registers.specs.Masters.{Masters};
 ghost use Rattle.slot_disk.specs.Medium.{Keeps, Told};
+ghost use Rattle.verb_rules.specs.KeyChecks.{age_of};
 ghost use Rattle.verb_rules.specs.Keys.{HasHalves, IsDouble, keys_of};
 ghost use Rattle.key_tokens.specs.Denotes.{Denoted};
 ghost use Rattle.store_move.specs.Reading.{FailsAt, HoldsAsRead};
@@ -23,7 +24,7 @@ use verb_rules::{Judged, Need, Rule, judge_stored};
 /// read, and nothing is written.
 ///
 /// Damaged comes where the body that was read isn't that of the record, or has a token under neither register.
-pub(crate) fn judge_record<D: Disk>(
+pub fn judge_record<D: Disk>(
     lease: &mut Lease,
     store: &mut D,
     records: &Records,
@@ -44,6 +45,9 @@ pub(crate) fn judge_record<D: Disk>(
         × HoldsAsRead (keys_of m) (get_or records.now place None) (bench_of lease.new).body what
         × IsStored (bench_of lease.old) need.now what judged) }
     ensures halves { IfOk result (λ judged. IfOk judged HasHalves) }
+    ensures age { IfOk result (λ judged.
+        IfOk judged (λ key. key.age ≡ age_of held.now key.token)) }
+    ensures under { IfOk result (λ judged. IfOk judged (λ key. IsSome key.age)) }
     ensures double { IsTrue need.now.double → IfOk result (λ judged. IfOk judged IsDouble) }
     ensures damaged { (m : Masters) (s : List (Option Entry)) → Loaded m held.now (bench_of lease.old)
         → Told (D.medium store.old) (KeepsLabels (keys_of m) records.now s)

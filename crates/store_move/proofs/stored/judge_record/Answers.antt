@@ -1,7 +1,9 @@
-use Rattle.std.proofs.Common.{None, ap, refl, sym, ◌∙◌}
+use Rattle.std.proofs.Common.{◌≡◌, None, ap, refl, sym, ◌∙◌}
+use Rattle.std.specs.Prelude.{IsSome}
 use Rattle.key_cells.specs.Lease.{bench_of}
 use Rattle.key_tokens.specs.Denotes.{denoted}
 use Rattle.key_records.specs.StoreStands.{entry_at}
+use Rattle.verb_rules.specs.KeyChecks.{age_of}
 use Rattle.verb_rules.specs.Keys.{HasHalves, keys_of}
 use Rattle.verb_rules.specs.StoredKeys.{IsRead}
 use Rattle.verb_rules.proofs.JudgeLemmas.{if_ok_gives}
@@ -20,6 +22,14 @@ returns-in-Some-clause-stored g c = λ m s loaded told.
 pub returns-in-Some-clause-halves : goal.returns-in-Some-clause-halves
 returns-in-Some-clause-halves g c =
     if_ok_gives c.in-Some.judged (IsRead c.args.held.now c.read.new.out) HasHalves (λ judged read. read.halves) c.in-Some.ensures.read
+
+pub returns-in-Some-clause-age : goal.returns-in-Some-clause-age
+returns-in-Some-clause-age g c =
+    if_ok_gives c.in-Some.judged (IsRead c.args.held.now c.read.new.out) (λ judged. judged.age ≡ age_of c.args.held.now judged.token) (λ judged read. read.age) c.in-Some.ensures.read
+
+pub returns-in-Some-clause-under : goal.returns-in-Some-clause-under
+returns-in-Some-clause-under g c =
+    if_ok_gives c.in-Some.judged (IsRead c.args.held.now c.read.new.out) (λ judged. IsSome judged.age) (λ judged read. read.under) c.in-Some.ensures.read
 
 pub returns-in-None-clause-damaged : goal.returns-in-None-clause-damaged
 returns-in-None-clause-damaged g c = λ m s loaded told cell failed.
