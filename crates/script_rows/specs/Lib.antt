@@ -1,1 +1,2 @@
 pub mod WorkedLines
+pub mod WorkedRows

@@ -1,50 +1,6 @@
-//! What may stand for a key and for where a key goes, and the verb, the role and the label of a request.
-use crate::lines::{KEY, is_none, is_parsed};
-use cca_roles::default_role;
-use verb_script::{Request, parse_request};
-
-#[test]
-fn keys_and_where_keys_go_are_parsed(rt: HostRuntime) {
-    let role = default_role();
-    let lines: [(&[u8], Request); 4] = [
-        (
-            b"CSNBPEX role=DEFAULT key=L:PAY.DATA to=-",
-            Request::Csnbpex {
-                role,
-                key: b"L:PAY.DATA",
-                to: b"-",
-            },
-        ),
-        (
-            b"CSNBPEX role=DEFAULT key=L:L: to=L:-",
-            Request::Csnbpex {
-                role,
-                key: b"L:L:",
-                to: b"L:-",
-            },
-        ),
-        (
-            b"CSNBPEX role=DEFAULT key=T:020000000000c00000000000000000008ca64de9c1b123a700000000000000000000000000000000000000000000000000000000000000000000000050583190 to=L:T:",
-            Request::Csnbpex {
-                role,
-                key: KEY,
-                to: b"L:T:",
-            },
-        ),
-        // what stands for a label needn't be one
-        (
-            b"CSNBPEX role=DEFAULT key=L:1one to=L:!~",
-            Request::Csnbpex {
-                role,
-                key: b"L:1one",
-                to: b"L:!~",
-            },
-        ),
-    ];
-    for (line, request) in lines.iter() {
-        assert!(rt; is_parsed(line, request));
-    }
-}
+//! What may not stand for a key or for where a key goes, and the verb, the role and the label of a request.
+use crate::other_lines::is_none;
+use verb_script::parse_request;
 
 #[test]
 fn other_texts_are_no_keys_and_nowhere_for_one(rt: HostRuntime) {

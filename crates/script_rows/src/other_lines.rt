@@ -1,5 +1,10 @@
 //! Lines that are no requests.
-use crate::lines::is_none;
+use verb_script::parse_request;
+
+/// Whether the line is no request.
+pub(crate) fn is_none(line: &[u8]) -> bool {
+    parse_request(line).is_err()
+}
 
 #[test]
 fn other_lines_are_no_requests(rt: HostRuntime) {

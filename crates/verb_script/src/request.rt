@@ -9,7 +9,7 @@ pub struct FormFault;
 /// A request. A field that is a slice is the part of the line that holds its value. A `key` is `T:` and the 128
 /// hexadecimal digits of a token, or `L:` and a label. Where a label is wanted, one or more characters from X'21' to
 /// X'7E' stand, which needn't be a label.
-#[derive(Clone, Copy, PartialEq, Eq)]
+#[derive(Clone, Copy)]
 pub enum Request<'a> {
     /// Key_Token_Parse: a key token, in 128 hexadecimal digits.
     Csnbktp {
