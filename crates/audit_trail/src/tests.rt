@@ -61,40 +61,68 @@ fn with_label(text: &[u8], label_length: u8) -> Entry {
     }
 }
 
-/// Entries whose fields have the forms of the format, and entries of which one has not.
+/// Entries whose fields have the forms of the format.
+fn whole_entries() -> [Entry; 9] {
+    [
+        plain(),
+        bare(2),
+        bare(99),
+        with_role(b"A\0\0\0\0\0\0\0"),
+        with_role(b"ROLE0009"),
+        with_verb(b"ABCDEFGHIJ"),
+        with_verb(b"X\0\0\0\0\0\0\0\0\0"),
+        with_label(b"A", 1),
+        with_label(&[b'@'; 64], 64),
+    ]
+}
+
+/// Entries whose rule, role or verb has not.
+fn broken_fields() -> [Entry; 10] {
+    [
+        bare(100),
+        with_role(b"9ROLE\0\0\0"),
+        with_role(b"role\0\0\0\0"),
+        with_role(b"DE\0AULT\0"),
+        with_role(b"\0DEFAULT"),
+        with_role(b"DEFAULT "),
+        with_verb(b"CSNBKT1\0\0\0"),
+        with_verb(b"CSNB KTP\0\0"),
+        with_verb(b"CSNBKTP\0\0X"),
+        with_verb(b"csnbktp\0\0\0"),
+    ]
+}
+
+/// Entries whose label has not.
+fn broken_labels() -> [Entry; 8] {
+    [
+        with_label(&[b'@'; 64], 65),
+        with_label(&[b'@'; 64], 255),
+        with_label(&[b'@'; 64], 63),
+        with_label(b"A", 0),
+        with_label(b"A", 2),
+        with_label(b"AB", 1),
+        with_label(b"1A", 2),
+        with_label(b".A", 2),
+    ]
+}
+
+/// How many entries are whole.
+fn count_whole(entries: &[Entry]) -> usize {
+    let mut count = 0usize;
+    for entry in entries {
+        if entry.is_whole() {
+            count = count.saturating_add(1);
+        }
+    }
+    count
+}
+
+/// Each entry whose fields have their forms is whole, and none of which one has not.
 #[test]
 fn entries_that_are_whole(rt: HostRuntime) {
-    for (entry, whole) in [
-        (plain(), true),
-        (bare(2), true),
-        (bare(99), true),
-        (bare(100), false),
-        (with_role(b"A\0\0\0\0\0\0\0"), true),
-        (with_role(b"ROLE0009"), true),
-        (with_role(b"9ROLE\0\0\0"), false),
-        (with_role(b"role\0\0\0\0"), false),
-        (with_role(b"DE\0AULT\0"), false),
-        (with_role(b"\0DEFAULT"), false),
-        (with_role(b"DEFAULT "), false),
-        (with_verb(b"ABCDEFGHIJ"), true),
-        (with_verb(b"X\0\0\0\0\0\0\0\0\0"), true),
-        (with_verb(b"CSNBKT1\0\0\0"), false),
-        (with_verb(b"CSNB KTP\0\0"), false),
-        (with_verb(b"CSNBKTP\0\0X"), false),
-        (with_verb(b"csnbktp\0\0\0"), false),
-        (with_label(b"A", 1), true),
-        (with_label(&[b'@'; 64], 64), true),
-        (with_label(&[b'@'; 64], 65), false),
-        (with_label(&[b'@'; 64], 255), false),
-        (with_label(&[b'@'; 64], 63), false),
-        (with_label(b"A", 0), false),
-        (with_label(b"A", 2), false),
-        (with_label(b"AB", 1), false),
-        (with_label(b"1A", 2), false),
-        (with_label(b".A", 2), false),
-    ] {
-        assert_eq!(rt; entry.is_whole(), whole, "{entry:?}");
-    }
+    assert!(rt; count_whole(&whole_entries()) == 9);
+    assert!(rt; count_whole(&broken_fields()) == 0);
+    assert!(rt; count_whole(&broken_labels()) == 0);
 }
 
 /// A trail as it is opened.
@@ -153,28 +181,42 @@ fn cell_body(trail: &mut MemoryDisk, cell: u16) -> Result<[u8; 192], Fail> {
     Ok(found)
 }
 
+/// The first bytes of a body, before bytes that are zero.
+fn beginning(bytes: &[u8]) -> [u8; 192] {
+    let mut body = [0; 192];
+    for at in 0..bytes.len().min(192) {
+        body[at] = bytes[at];
+    }
+    body
+}
+
+/// Whether the entry of the next number has this body, is read again, and was not before.
+fn is_recorded(
+    trail: &mut MemoryDisk,
+    cell: u16,
+    entry: &Entry,
+    body: &[u8; 192],
+) -> Result<bool, Fail> {
+    let number = cell.into();
+    if next_of(trail) != Ok(number) || read_one(trail, number) != Ok(None) {
+        return Ok(false);
+    }
+    if append_one(trail, entry).is_err() || cell_body(trail, cell)? != *body {
+        return Ok(false);
+    }
+    Ok(read_one(trail, number) == Ok(Some(*entry)))
+}
+
 /// Records by their bytes.
 #[test]
 fn bodies(rt: HostRuntime) -> Result<(), Fail> {
     let mut trail = MemoryDisk::new(rt.alloc(), TRAIL_LEN, 100)?;
-    let mut first = [0; 192];
-    first[0..28].copy_from_slice(b"\x01\0\0\0\0\0\0\0\0\0DEFAULT\0CSNBKTP\0\0\0");
-    let mut second = [0; 192];
-    second[0..12].copy_from_slice(b"\x01\x02\0\0\0\0\0\0\0\x01\0\0");
-    let mut third = [0; 192];
-    third[0..28].copy_from_slice(b"\x01\0\0\0\0\0\0\0\0\x02DEFAULT\0CSNBKTP\0\0\0");
-    third[28..34].copy_from_slice(b"\x05KEY.A");
-    for (number, entry, body) in [
-        (0u16, plain(), first),
-        (1, bare(2), second),
-        (2, with_label(b"KEY.A", 5), third),
-    ] {
-        assert_eq!(rt; next_of(&mut trail), Ok(number.into()));
-        assert_eq!(rt; read_one(&mut trail, number.into()), Ok(None));
-        assert!(rt; append_one(&mut trail, &entry).is_ok(), "{entry:?}");
-        assert_eq!(rt; cell_body(&mut trail, number)?, body, "{entry:?}");
-        assert_eq!(rt; read_one(&mut trail, number.into()), Ok(Some(entry)));
-    }
+    let first = beginning(b"\x01\0\0\0\0\0\0\0\0\0DEFAULT\0CSNBKTP\0\0\0");
+    assert!(rt; is_recorded(&mut trail, 0, &plain(), &first)?);
+    let second = beginning(b"\x01\x02\0\0\0\0\0\0\0\x01\0\0");
+    assert!(rt; is_recorded(&mut trail, 1, &bare(2), &second)?);
+    let third = beginning(b"\x01\0\0\0\0\0\0\0\0\x02DEFAULT\0CSNBKTP\0\0\0\x05KEY.A");
+    assert!(rt; is_recorded(&mut trail, 2, &with_label(b"KEY.A", 5), &third)?);
     Ok(())
 }
 
@@ -207,34 +249,59 @@ fn put(trail: &mut MemoryDisk, cell: u16, body: &[u8; 192]) -> Result<(), Fail> 
     Ok(())
 }
 
-/// Numbers in cells that are blank else: the first damaged cell, or the next number.
+/// Three numbers in cells of a trail.
+type Places = [(u16, u64); 3];
+
+/// Numbers that stand in their cells: the next number.
+fn numbers_in_order() -> [(Places, u64); 2] {
+    [([(0, 0), (0, 0), (0, 0)], 1), ([(0, 0), (1, 1), (2, 2)], 3)]
+}
+
+/// Other numbers: the first damaged cell.
+fn numbers_out_of_order() -> [(Places, u16); 12] {
+    [
+        // numbers that belong to another cell, or are none
+        ([(0, 1), (1, 1), (2, 2)], 0),
+        ([(0, 0), (1, 1), (9, 10)], 9),
+        ([(0, 0), (4095, 4094), (9, 8)], 9),
+        ([(0, 1 << 63), (1, 1), (2, 2)], 0),
+        // numbers that are missing, or older than they should be
+        ([(0, 0), (1, 1), (3, 3)], 2),
+        ([(0, 0), (2, 2), (3, 3)], 1),
+        ([(5, 5), (6, 6), (7, 7)], 0),
+        ([(0, 4096), (1, 1), (2, 2)], 3),
+        ([(0, 0), (1, 1), (2, 4098)], 0),
+        ([(0, 4096), (1, 1), (2, 4098)], 1),
+        ([(0, 0), (1, 1), (4095, 4095)], 2),
+        // a number of another cell before one that is missing
+        ([(0, 0), (2, 2), (4000, 1)], 4000),
+    ]
+}
+
+/// The next number of a trail with these numbers in cells that are blank else.
+fn next_with(alloc: Global, places: Places) -> Result<Result<u64, Stop>, Fail> {
+    let mut trail = MemoryDisk::new(alloc, TRAIL_LEN, 100)?;
+    for (cell, number) in places {
+        put(&mut trail, cell, &body_of(number, &plain()))?;
+    }
+    Ok(next_of(&mut trail))
+}
+
+fn damaged(cell: u16) -> Result<u64, Stop> {
+    Err(Stop::Open(TrailFault::Damaged(cell)))
+}
+
+/// Numbers in cells that are blank else.
 #[test]
 fn numbers_in_cells(rt: HostRuntime) -> Result<(), Fail> {
-    for (places, wanted) in [
-        ([(0, 0), (0, 0), (0, 0)], Ok(1)),
-        ([(0, 0), (1, 1), (2, 2)], Ok(3)),
-        // numbers that belong to another cell, or are none
-        ([(0, 1), (1, 1), (2, 2)], Err(0)),
-        ([(0, 0), (1, 1), (9, 10)], Err(9)),
-        ([(0, 0), (4095, 4094), (9, 8)], Err(9)),
-        ([(0, 1 << 63), (1, 1), (2, 2)], Err(0)),
-        // numbers that are missing, or older than they should be
-        ([(0, 0), (1, 1), (3, 3)], Err(2)),
-        ([(0, 0), (2, 2), (3, 3)], Err(1)),
-        ([(5, 5), (6, 6), (7, 7)], Err(0)),
-        ([(0, 4096), (1, 1), (2, 2)], Err(3)),
-        ([(0, 0), (1, 1), (2, 4098)], Err(0)),
-        ([(0, 4096), (1, 1), (2, 4098)], Err(1)),
-        ([(0, 0), (1, 1), (4095, 4095)], Err(2)),
-        // a number of another cell before one that is missing
-        ([(0, 0), (2, 2), (4000, 1)], Err(4000)),
-    ] {
-        let mut trail = MemoryDisk::new(rt.alloc(), TRAIL_LEN, 100)?;
-        for (cell, number) in places {
-            put(&mut trail, cell, &body_of(number, &plain()))?;
-        }
-        let wanted = wanted.map_err(|cell| Stop::Open(TrailFault::Damaged(cell)));
-        assert_eq!(rt; next_of(&mut trail), wanted, "{places:?}");
+    for (places, next) in numbers_in_order() {
+        assert!(rt; next_with(rt.alloc(), places)? == Ok(next), "{places:?}");
+    }
+    for (places, cell) in numbers_out_of_order() {
+        assert!(rt;
+            next_with(rt.alloc(), places)? == damaged(cell),
+            "{places:?}"
+        );
     }
     Ok(())
 }
@@ -254,11 +321,21 @@ fn full_trail(alloc: Global, last: u64) -> Result<MemoryDisk, Fail> {
     Ok(MemoryDisk::from_image(alloc, &image, 100)?)
 }
 
-/// A trail whose cells all hold records, of which one is put anew.
-#[test]
-fn numbers_in_a_full_trail(rt: HostRuntime) -> Result<(), Fail> {
-    let alloc = rt.alloc();
-    for (last, cell, number, wanted) in [
+/// The next number of a full trail up to a last number, of which one cell has another body.
+fn next_of_full(
+    alloc: Global,
+    last: u64,
+    cell: u16,
+    body: &[u8; 192],
+) -> Result<Result<u64, Stop>, Fail> {
+    let mut trail = full_trail(alloc, last)?;
+    put(&mut trail, cell, body)?;
+    Ok(next_of(&mut trail))
+}
+
+/// The last number, a cell, the number that is put there anew, and the next number then, or the first damaged cell.
+fn numbers_put_anew() -> [(u64, u16, u64, Result<u64, u16>); 9] {
+    [
         (4095, 0, 0, Ok(4096)),
         (4100, 0, 4096, Ok(4101)),
         // the newest record is gone, or the next one is there
@@ -270,37 +347,59 @@ fn numbers_in_a_full_trail(rt: HostRuntime) -> Result<(), Fail> {
         (4100, 6, 4102, Err(5)),
         (9000, 800, 4896, Err(800)),
         (9000, 800, 8991, Err(800)),
-    ] {
-        let mut trail = full_trail(alloc, last)?;
-        put(&mut trail, cell, &body_of(number, &plain()))?;
-        let wanted = wanted.map_err(|cell| Stop::Open(TrailFault::Damaged(cell)));
-        assert_eq!(rt; next_of(&mut trail), wanted, "{number} in cell {cell}");
+    ]
+}
+
+/// A trail whose cells all hold records, of which one is put anew.
+#[test]
+fn numbers_in_a_full_trail(rt: HostRuntime) -> Result<(), Fail> {
+    for (last, cell, number, wanted) in numbers_put_anew() {
+        let found = next_of_full(rt.alloc(), last, cell, &body_of(number, &plain()))?;
+        let wanted = match wanted {
+            Ok(next) => Ok(next),
+            Err(cell) => damaged(cell),
+        };
+        assert!(rt; found == wanted, "{number} in cell {cell}");
     }
     // a blank cell
-    let mut trail = full_trail(alloc, 4100)?;
-    put(&mut trail, 5, &[0; 192])?;
-    assert_eq!(rt;
-        next_of(&mut trail),
-        Err(Stop::Open(TrailFault::Damaged(5)))
-    );
+    assert!(rt; next_of_full(rt.alloc(), 4100, 5, &[0; 192])? == damaged(5));
     Ok(())
+}
+
+const LAST: u64 = (1 << 63) - 1;
+
+/// A trail to which the last record was appended.
+fn whole_trail(alloc: Global) -> Result<MemoryDisk, Fail> {
+    let mut trail = full_trail(alloc, LAST - 1)?;
+    if read_one(&mut trail, LAST) != Ok(None) || append_one(&mut trail, &bare(7)) != Ok(1 << 63) {
+        return Err(Fail::from("not appended"));
+    }
+    Ok(trail)
 }
 
 /// The last number, behind which the trail is full.
 #[test]
 fn the_last_number(rt: HostRuntime) -> Result<(), Fail> {
-    let last = (1 << 63) - 1;
-    let mut trail = full_trail(rt.alloc(), last - 1)?;
-    assert_eq!(rt; read_one(&mut trail, last), Ok(None));
-    assert_eq!(rt; append_one(&mut trail, &bare(7)), Ok(1 << 63));
-    assert!(rt; cell_body(&mut trail, 4095)? == body_of(last, &bare(7)));
+    let mut trail = whole_trail(rt.alloc())?;
+    assert!(rt; cell_body(&mut trail, 4095)? == body_of(LAST, &bare(7)));
     let full = Err(Stop::Append(TrailFault::Full));
-    assert_eq!(rt; append_one(&mut trail, &bare(8)), full);
-    assert_eq!(rt; next_of(&mut trail), Ok(1 << 63));
-    assert_eq!(rt; read_one(&mut trail, last), Ok(Some(bare(7))));
-    assert_eq!(rt; read_one(&mut trail, last - 4095), Ok(Some(plain())));
-    assert_eq!(rt; read_one(&mut trail, last - 4096), Ok(None));
-    assert_eq!(rt; read_one(&mut trail, 1 << 63), Ok(None));
+    assert!(rt; append_one(&mut trail, &bare(8)) == full);
+    assert!(rt; next_of(&mut trail) == Ok(1 << 63));
+    Ok(())
+}
+
+/// The last number and the oldest one are read, and none beside them.
+#[test]
+fn the_last_numbers_are_read(rt: HostRuntime) -> Result<(), Fail> {
+    let mut trail = whole_trail(rt.alloc())?;
+    for (number, wanted) in [
+        (LAST, Some(bare(7))),
+        (LAST - 4095, Some(plain())),
+        (LAST - 4096, None),
+        (1 << 63, None),
+    ] {
+        assert!(rt; read_one(&mut trail, number) == Ok(wanted), "{number}");
+    }
     Ok(())
 }
 
@@ -331,96 +430,170 @@ fn read_changed(trail: &mut MemoryDisk, entry: &Entry, at: usize, byte: u8) -> R
     }
 }
 
-/// Each byte of a record in the first cell, with another byte in its place: the table of the format says what it spells
-/// then. A number of another cell is damage of this one. A higher one of this cell leaves the next cell without its
-/// record.
-#[test]
-fn another_byte_at_each_place(rt: HostRuntime) -> Result<(), Fail> {
+/// Whether each byte of the first record from one place on and before another reads so with this byte in its place.
+fn reads_all(
+    trail: &mut MemoryDisk,
+    byte: u8,
+    (from, to): (usize, usize),
+    wanted: Reads,
+) -> Result<bool, Fail> {
     let entry = Entry {
         rule: 5,
         ..with_label(b"KEY.A", 5)
     };
-    let mut trail = MemoryDisk::new(rt.alloc(), TRAIL_LEN, 10_000)?;
-    for (byte, from, to, wanted) in [
-        (b'A', 0, 1, Reads::Damaged(0)),
-        // the rule 65
-        (b'A', 1, 2, Reads::AnotherEntry),
-        (b'A', 2, 8, Reads::Damaged(1)),
-        (b'A', 8, 10, Reads::Damaged(0)),
-        // each byte of the role; the verb, and one letter more
-        (b'A', 10, 13, Reads::AnotherEntry),
-        (b'A', 13, 14, Reads::Same),
-        (b'A', 14, 26, Reads::AnotherEntry),
-        (b'A', 26, 28, Reads::Damaged(0)),
-        // a length of 65
-        (b'A', 28, 29, Reads::Damaged(0)),
-        (b'A', 29, 33, Reads::AnotherEntry),
-        (b'A', 33, 34, Reads::Same),
-        (b'A', 34, 192, Reads::Damaged(0)),
-        (b'9', 0, 1, Reads::Damaged(0)),
-        // the rule 57
-        (b'9', 1, 2, Reads::AnotherEntry),
-        (b'9', 2, 8, Reads::Damaged(1)),
-        (b'9', 8, 10, Reads::Damaged(0)),
-        // the first byte of a role is no digit, and none of a verb
-        (b'9', 10, 11, Reads::Damaged(0)),
-        (b'9', 11, 18, Reads::AnotherEntry),
-        (b'9', 18, 28, Reads::Damaged(0)),
-        // a length of 57; the first byte of a label is no digit
-        (b'9', 28, 30, Reads::Damaged(0)),
-        (b'9', 30, 34, Reads::AnotherEntry),
-        (b'9', 34, 192, Reads::Damaged(0)),
-        (0, 0, 1, Reads::Damaged(0)),
-        (0, 1, 2, Reads::AnotherEntry),
-        (0, 2, 10, Reads::Same),
-        // a gap in the role, and then one letter less
-        (0, 10, 16, Reads::Damaged(0)),
-        (0, 16, 17, Reads::AnotherEntry),
-        (0, 17, 18, Reads::Same),
-        // a gap in the verb, and then one letter less
-        (0, 18, 24, Reads::Damaged(0)),
-        (0, 24, 25, Reads::AnotherEntry),
-        (0, 25, 28, Reads::Same),
-        // no length, or a gap in the label
-        (0, 28, 34, Reads::Damaged(0)),
-        (0, 34, 192, Reads::Same),
-        (0xff, 0, 2, Reads::Damaged(0)),
-        // a number from 2^63 on
-        (0xff, 2, 3, Reads::Damaged(0)),
-        (0xff, 3, 8, Reads::Damaged(1)),
-        (0xff, 8, 192, Reads::Damaged(0)),
-    ] {
-        for at in from..to {
-            let found = read_changed(&mut trail, &entry, at, byte)?;
-            assert_eq!(rt; found, wanted, "{byte} at {at}");
+    for at in from..to {
+        if read_changed(trail, &entry, at, byte)? != wanted {
+            return Ok(false);
         }
     }
+    Ok(true)
+}
+
+/// What the bytes of a record read as from one place on and before another, with the letter A in the place of each.
+fn reads_with_another_letter() -> [(usize, usize, Reads); 12] {
+    [
+        (0, 1, Reads::Damaged(0)),
+        // the rule 65
+        (1, 2, Reads::AnotherEntry),
+        (2, 8, Reads::Damaged(1)),
+        (8, 10, Reads::Damaged(0)),
+        // each byte of the role; the verb, and one letter more
+        (10, 13, Reads::AnotherEntry),
+        (13, 14, Reads::Same),
+        (14, 26, Reads::AnotherEntry),
+        (26, 28, Reads::Damaged(0)),
+        // a length of 65
+        (28, 29, Reads::Damaged(0)),
+        (29, 33, Reads::AnotherEntry),
+        (33, 34, Reads::Same),
+        (34, 192, Reads::Damaged(0)),
+    ]
+}
+
+/// What the bytes of a record read as from one place on and before another, with the digit 9 in the place of each.
+fn reads_with_another_digit() -> [(usize, usize, Reads); 10] {
+    [
+        (0, 1, Reads::Damaged(0)),
+        // the rule 57
+        (1, 2, Reads::AnotherEntry),
+        (2, 8, Reads::Damaged(1)),
+        (8, 10, Reads::Damaged(0)),
+        // the first byte of a role is no digit, and none of a verb
+        (10, 11, Reads::Damaged(0)),
+        (11, 18, Reads::AnotherEntry),
+        (18, 28, Reads::Damaged(0)),
+        // a length of 57; the first byte of a label is no digit
+        (28, 30, Reads::Damaged(0)),
+        (30, 34, Reads::AnotherEntry),
+        (34, 192, Reads::Damaged(0)),
+    ]
+}
+
+/// What the bytes of a record read as from one place on and before another, with zero in the place of each.
+fn reads_with_a_zero() -> [(usize, usize, Reads); 11] {
+    [
+        (0, 1, Reads::Damaged(0)),
+        (1, 2, Reads::AnotherEntry),
+        (2, 10, Reads::Same),
+        // a gap in the role, and then one letter less
+        (10, 16, Reads::Damaged(0)),
+        (16, 17, Reads::AnotherEntry),
+        (17, 18, Reads::Same),
+        // a gap in the verb, and then one letter less
+        (18, 24, Reads::Damaged(0)),
+        (24, 25, Reads::AnotherEntry),
+        (25, 28, Reads::Same),
+        // no length, or a gap in the label
+        (28, 34, Reads::Damaged(0)),
+        (34, 192, Reads::Same),
+    ]
+}
+
+/// What the bytes of a record read as from one place on and before another, with X'FF' in the place of each.
+fn reads_with_a_high_byte() -> [(usize, usize, Reads); 4] {
+    [
+        (0, 2, Reads::Damaged(0)),
+        // a number from 2^63 on
+        (2, 3, Reads::Damaged(0)),
+        (3, 8, Reads::Damaged(1)),
+        (8, 192, Reads::Damaged(0)),
+    ]
+}
+
+/// Each byte of a record in the first cell, with another byte in its place: the table of the format says what it spells
+/// then. A number of another cell is damage of this one. A higher one of this cell leaves the next cell without its
+/// record.
+#[test]
+fn another_letter_at_each_place(rt: HostRuntime) -> Result<(), Fail> {
+    let mut trail = MemoryDisk::new(rt.alloc(), TRAIL_LEN, 10_000)?;
+    for (from, to, wanted) in reads_with_another_letter() {
+        assert!(rt; reads_all(&mut trail, b'A', (from, to), wanted)?, "{from}");
+    }
     Ok(())
+}
+
+/// The same with the digit 9.
+#[test]
+fn another_digit_at_each_place(rt: HostRuntime) -> Result<(), Fail> {
+    let mut trail = MemoryDisk::new(rt.alloc(), TRAIL_LEN, 10_000)?;
+    for (from, to, wanted) in reads_with_another_digit() {
+        assert!(rt; reads_all(&mut trail, b'9', (from, to), wanted)?, "{from}");
+    }
+    Ok(())
+}
+
+/// The same with zero.
+#[test]
+fn a_zero_at_each_place(rt: HostRuntime) -> Result<(), Fail> {
+    let mut trail = MemoryDisk::new(rt.alloc(), TRAIL_LEN, 10_000)?;
+    for (from, to, wanted) in reads_with_a_zero() {
+        assert!(rt; reads_all(&mut trail, 0, (from, to), wanted)?, "{from}");
+    }
+    Ok(())
+}
+
+/// The same with X'FF'.
+#[test]
+fn a_high_byte_at_each_place(rt: HostRuntime) -> Result<(), Fail> {
+    let mut trail = MemoryDisk::new(rt.alloc(), TRAIL_LEN, 10_000)?;
+    for (from, to, wanted) in reads_with_a_high_byte() {
+        assert!(rt; reads_all(&mut trail, 0xff, (from, to), wanted)?, "{from}");
+    }
+    Ok(())
+}
+
+/// What an append answers that meets a fault at a call, and the next number then.
+fn append_with_fault(
+    alloc: Global,
+    call: u64,
+) -> Result<(Result<u64, Stop>, Result<u64, Stop>), Fail> {
+    let mut trail = MemoryDisk::new(alloc, TRAIL_LEN, 100)?;
+    trail.fail_at(call);
+    let found = append_one(&mut trail, &plain());
+    Ok((found, next_of(&mut trail)))
 }
 
 /// A fault at each call of an append leaves the records before, or these with the new one.
 #[test]
 fn a_fault_at_each_call(rt: HostRuntime) -> Result<(), Fail> {
-    let not_opened = Err(Stop::Open(TrailFault::DiskFault));
-    let failed = Err(Stop::Append(TrailFault::DiskFault));
+    let not_opened = Stop::Open(TrailFault::DiskFault);
+    let failed = Stop::Append(TrailFault::DiskFault);
     // A sync to settle, two reads for each of 4,096 cells, and for the record a read, two writes and a sync after each.
-    for (call, wanted, left) in [
-        (0, not_opened, Ok(0)),
-        (1, not_opened, Ok(0)),
-        (8192, not_opened, Ok(0)),
-        (8193, failed, Ok(0)),
-        (8194, failed, Ok(0)),
-        (8195, failed, Ok(0)),
-        (8196, failed, Ok(0)),
-        (8197, failed, Ok(1)),
-        // it made no further call
-        (8198, Ok(1), not_opened),
+    for (call, stop, left) in [
+        (0, not_opened, 0),
+        (1, not_opened, 0),
+        (8192, not_opened, 0),
+        (8193, failed, 0),
+        (8194, failed, 0),
+        (8195, failed, 0),
+        (8196, failed, 0),
+        (8197, failed, 1),
     ] {
-        let mut trail = MemoryDisk::new(rt.alloc(), TRAIL_LEN, 100)?;
-        trail.fail_at(call);
-        assert_eq!(rt; append_one(&mut trail, &plain()), wanted, "at call {call}");
-        assert_eq!(rt; next_of(&mut trail), left, "at call {call}");
+        let found = append_with_fault(rt.alloc(), call)?;
+        assert!(rt; found == (Err(stop), Ok(left)), "at call {call}");
     }
+    // it made no further call
+    assert!(rt; append_with_fault(rt.alloc(), 8198)? == (Ok(1), Err(not_opened)));
     Ok(())
 }
 
@@ -474,15 +647,10 @@ fn append_again<T: Disk>(trail: &mut T) -> Result<u64, Stop> {
     }
 }
 
-/// A stop at each write and sync of an append into the cell of an older record, whatever it leaves of what was written
-/// last.
-#[test]
-fn a_stop_at_each_call(rt: HostRuntime) -> Result<(), Fail> {
-    let alloc = rt.alloc();
-    let mut whole = full_trail(alloc, 4100)?;
-    assert_eq!(rt; append_one(&mut whole, &plain()), Ok(4102));
-    // Opening noted a sync, and the append the write of its body, a sync, the write of the selector and a sync.
-    for (noted, torn, left) in [
+/// The noted calls of an append, what a stop leaves of what was written last, and the next number then. Opening noted a
+/// sync, and the append the write of its body, a sync, the write of the selector and a sync.
+fn stops() -> [(u64, Torn, u64); 14] {
+    [
         (0, Torn::New, 4101),
         (1, Torn::New, 4101),
         (2, Torn::Old, 4101),
@@ -497,10 +665,34 @@ fn a_stop_at_each_call(rt: HostRuntime) -> Result<(), Fail> {
         (4, Torn::Fill(1), 4102),
         (4, Torn::Fill(165), 4102),
         (5, Torn::Old, 4102),
-    ] {
-        assert!(rt; noted <= whole.noted());
-        let mut trail = whole.crash(alloc, noted, torn, 100)?;
-        assert_eq!(rt; append_again(&mut trail), Ok(left), "{torn:?} at {noted}");
+    ]
+}
+
+/// What is left of a trail after a stop.
+fn left_of(
+    alloc: Global,
+    whole: &MemoryDisk,
+    noted: u64,
+    torn: Torn,
+) -> Result<Result<u64, Stop>, Fail> {
+    if noted > whole.noted() {
+        return Err(Fail::from("no such call"));
+    }
+    let mut trail = whole.crash(alloc, noted, torn, 100)?;
+    Ok(append_again(&mut trail))
+}
+
+/// A stop at each write and sync of an append into the cell of an older record, whatever it leaves of what was written
+/// last.
+#[test]
+fn a_stop_at_each_call(rt: HostRuntime) -> Result<(), Fail> {
+    let mut whole = full_trail(rt.alloc(), 4100)?;
+    assert!(rt; append_one(&mut whole, &plain()) == Ok(4102));
+    for (noted, torn, left) in stops() {
+        assert!(rt;
+            left_of(rt.alloc(), &whole, noted, torn)? == Ok(left),
+            "{torn:?} at {noted}"
+        );
     }
     Ok(())
 }
@@ -541,15 +733,20 @@ fn count_held<T: Disk>(trail: &mut T, count: u16) -> Result<(u16, u16), Stop> {
     Ok((same, missing))
 }
 
+/// Whether so many records are appended, of which these are missing then.
+fn holds_newest(alloc: Global, count: u16, missing: u16) -> Result<bool, Fail> {
+    let mut trail = MemoryDisk::new(alloc, TRAIL_LEN, 40_000)?;
+    if append_all(&mut trail, count) != Ok(()) || next_of(&mut trail) != Ok(count.into()) {
+        return Ok(false);
+    }
+    Ok(count_held(&mut trail, count) == Ok((count.saturating_sub(missing), missing)))
+}
+
 /// More records than there are cells: the newest 4,096 are read again, without a gap, and the older ones are not held.
 #[test]
 fn more_records_than_cells(rt: HostRuntime) -> Result<(), Fail> {
     for (count, missing) in [(4095, 0), (4096, 0), (4097, 1), (9000, 4904)] {
-        let mut trail = MemoryDisk::new(rt.alloc(), TRAIL_LEN, 40_000)?;
-        assert_eq!(rt; append_all(&mut trail, count), Ok(()));
-        assert_eq!(rt; next_of(&mut trail), Ok(count.into()));
-        let wanted = (count - missing, missing);
-        assert_eq!(rt; count_held(&mut trail, count), Ok(wanted), "of {count}");
+        assert!(rt; holds_newest(rt.alloc(), count, missing)?, "of {count}");
     }
     Ok(())
 }
