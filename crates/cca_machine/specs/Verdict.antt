@@ -175,13 +175,19 @@ lacks (Some held) needed = not (includes held needed)
 abbrev pub held_points : State → Request → Option ℕ
 held_points s request = points_of (value_of request (codes "role")) s.roles
 
--- rule 03: the role isn't held; rule 04: it lacks a point; rule 05: the current register is empty
+-- Of a role, by the points that it has where it is held, those that it needs, and whether it needs the master key. Rule
+-- 03: the role isn't held; rule 04: it lacks a point; rule 05: the current register is empty.
+abbrev pub checks_of_role : State → Option ℕ → ℕ → Bool → List Check
+checks_of_role s held needed master =
+    check 3 (is_none held)
+    ∷ check 4 (lacks held needed)
+    ∷ check 5 (master && is_none s.registers.current)
+    ∷ []
+
+-- the same of the role of a request
 abbrev pub general_checks : State → Request → List Check
 general_checks s request =
-    check 3 (is_none (held_points s request))
-    ∷ check 4 (lacks (held_points s request) (needed_points request.name request))
-    ∷ check 5 (needs_master request.name && is_none s.registers.current)
-    ∷ []
+    checks_of_role s (held_points s request) (needed_points request.name request) (needs_master request.name)
 
 -- ---- its operands
 

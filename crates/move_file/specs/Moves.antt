@@ -1,11 +1,11 @@
 -- A store that is moved to another module: what is judged, which labels are moved, and the request file and the report of
 -- it.
-use Rattle.std.specs.Prelude.{ℕ, bit_or, is_none, List, [], ◌∷◌, ◌++◌, codes, map, Option, Some, None, if◌then◌else◌}
+use Rattle.std.specs.Prelude.{ℕ, bit_or, true, List, [], ◌∷◌, ◌++◌, codes, map, Option, Some, None, if◌then◌else◌}
 use Rattle.std.specs.List.{concat, flat_map}
 use Rattle.std.specs.Option.{option_map}
 use Rattle.std.specs.Str.{bytes_eq}
 use Rattle.hex.specs.Hex.{encode_lower}
-use Rattle.cca_vectors.specs.Checks.{Check, check, first_failing}
+use Rattle.cca_vectors.specs.Checks.{Check, first_failing}
 use Rattle.key_tokens.specs.Denotes.{ClearKey}
 use Rattle.key_transport.specs.Tokens.{external_token}
 use Rattle.key_records.specs.Entries.{directory}
@@ -18,7 +18,7 @@ use Rattle.cca_machine.specs.Keys.{key_of_label, or_no_key}
 use Rattle.cca_machine.specs.Listing.{ascending}
 use Rattle.cca_machine.specs.Points.{point}
 use Rattle.cca_machine.specs.State.{State}
-use Rattle.cca_machine.specs.Verdict.{lacks, record_checks}
+use Rattle.cca_machine.specs.Verdict.{checks_of_role, record_checks}
 use Rattle.move_file.specs.declared.moves.Move.{Move}
 
 -- the clear key of a label that holds one
@@ -30,10 +30,7 @@ clear_of s label = (or_no_key (key_of_label s label)).clear
 -- rules 03 and 04 of the role, which needs the points of CSNBKEX and CSNBKRL, and rule 05
 abbrev pub role_checks : State → List ℕ → List Check
 role_checks s role =
-    check 3 (is_none (points_of role s.roles))
-    ∷ check 4 (lacks (points_of role s.roles) (bit_or (point (codes "KEX")) (point (codes "KRL"))))
-    ∷ check 5 (is_none s.registers.current)
-    ∷ []
+    checks_of_role s (points_of role s.roles) (bit_or (point (codes "KEX")) (point (codes "KRL"))) true
 
 -- and rules 06 to 08, 17 and 19 to 22 of the label whose key is the transport key
 abbrev pub move_checks : State → Move → List Check

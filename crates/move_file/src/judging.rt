@@ -22,6 +22,7 @@ use cca_roles::{AccessPoints, RoleName, Roles};
 use key_cells::Lease;
 use key_records::{Label, RecordFault, Records, STORE_LEN};
 use master_registers::Registers;
+use request_rules::role_rule;
 use slot_disk::{Disk, Steps};
 use store_move::judge_transport;
 use verb_rules::{Judged, Rule};
@@ -59,7 +60,7 @@ pub fn judge_move<D: Disk>(
     ensures rest { KeepsAllButBody lease.old lease.new }
 {
     is_named(&how.transport);
-    if let Some(rule) = role_rule(&how.role, held, roles) {
+    if let Some(rule) = move_rule(&how.role, held, roles) {
         return Ok(Err(rule));
     }
     let mut steps: Steps<()> = Steps::new();
@@ -77,15 +78,16 @@ fn is_named(label: &Label)
 }
 
 /// Rules 03, 04 and 05. The role needs the access control points of CSNBKEX and CSNBKRL.
-fn role_rule(role: &RoleName, held: &Registers, roles: &Roles) -> Option<Rule>
+fn move_rule(role: &RoleName, held: &Registers, roles: &Roles) -> Option<Rule>
     ensures rule { (s : State) (bench : Bench) → roles.now ≡ s.roles
         → Loaded s.registers held.now bench
         → option_map rule_number result ≡ first_failing (role_checks s role.now) }
 {
-    match roles.permits(role, AccessPoints::KEX.union(AccessPoints::KRL)) {
-        None => Some(Rule::Role),
-        Some(false) => Some(Rule::Point),
-        Some(true) if held.current_pattern.is_none() => Some(Rule::MasterKey),
-        Some(true) => None,
-    }
+    role_rule(
+        role,
+        AccessPoints::KEX.union(AccessPoints::KRL),
+        true,
+        held,
+        roles,
+    )
 }

@@ -14,6 +14,7 @@ ghost use Rattle.request_rules.specs.FieldWords.{IsPartAction};
 ghost use Rattle.request_rules.specs.Judging.{IsAccepted};
 
 use crate::choices::{part_action_of, target_of};
+use crate::role::role_rule;
 use cca_roles::{AccessPoints, Roles};
 use key_transport::Target;
 use master_registers::{Action, Registers};
@@ -29,14 +30,13 @@ pub fn general_rule(request: &Request, held: &Registers, roles: &Roles) -> Optio
     ensures master { IsNone result → IsTrue (needs_master (seen request.now).name)
         → IsSome held.now.current_pattern }
 {
-    match roles.permits(request.role_name(), needed_points(request)) {
-        None => Some(Rule::Role),
-        Some(false) => Some(Rule::Point),
-        Some(true) if needs_master(request) && held.current_pattern.is_none() => {
-            Some(Rule::MasterKey)
-        }
-        Some(true) => None,
-    }
+    role_rule(
+        request.role_name(),
+        needed_points(request),
+        needs_master(request),
+        held,
+        roles,
+    )
 }
 
 /// The access control points that an action needs.
