@@ -12,11 +12,12 @@ use Rattle.line_service.specs.declared.stops.Device.TheVariants.{Module, Store}
 use Rattle.line_service.specs.declared.stops.Stop.{Stop}
 use Rattle.line_service.specs.declared.stops.Stop.TheVariants as stop
 use Rattle.cca_machine.specs.State.{State, IsModuleOf, IsStoreOf}
+use Rattle.request_rules.specs.Stored.{read_stop}
 use Rattle.move_file.specs.Judging.{IsStoreFault}
 use Rattle.move_file.specs.declared.moves.Move.{Move}
 use Rattle.cca_tool.specs.Coprocessor.{IsCell, cca}
 use Rattle.cca_tool.specs.Statuses.{status_of_lem}
-use Rattle.cca_tool.specs.Unloading.{AreWordsOf, IsLabelStatus, MoveTold, TellsLabels, disk_stop, status_stop, store_status_of}
+use Rattle.cca_tool.specs.Unloading.{AreWordsOf, IsLabelStatus, MoveTold, TellsLabels, disk_stop, status_stop}
 use Rattle.cca_tool.specs.declared.command.Status.{Status}
 use Rattle.cca_tool.specs.declared.command.Status.TheVariants as status
 use Rattle.cca_tool.specs.declared.unloading.MoveStatus.{MoveStatus}
@@ -78,17 +79,17 @@ module _ (s : State) (w : Move) (file report : Option (List ℕ)) (X Y : Type 0)
   }
 
   by_record : (fault : RecordFault) → IsStoreFault fault → (fault ≡ record_fault.DiskFault → X → ⊥)
-      → ((cell : ℕ) → fault ≡ record_fault.Damaged cell → ⊥) → MoveTold s w (Run (store_status_of fault)) file file report report X Y
+      → ((cell : ℕ) → fault ≡ record_fault.Damaged cell → ⊥) → MoveTold s w (Run (status_of_lem (Err (read_stop fault)))) file file report report X Y
   by_record fault (inl is) failed undamaged =
-      subst (λ (f : RecordFault). MoveTold s w (Run (store_status_of f)) file file report report X Y) (sym is) (store_told (failed is))
+      subst (λ (f : RecordFault). MoveTold s w (Run (status_of_lem (Err (read_stop f)))) file file report report X Y) (sym is) (store_told (failed is))
   by_record fault (inr damaged) failed undamaged = absurd (undamaged damaged.0 damaged.2)
 
   -- the store failed while the transport key was judged
-  pub fault_told : (fault : RecordFault) (told : Status) → told ≡ store_status_of fault → IsStoreFault fault
+  pub fault_told : (fault : RecordFault) (why : Stop) (told : Status) → why ≡ read_stop fault → told ≡ status_of_lem (Err why) → IsStoreFault fault
       → (fault ≡ record_fault.DiskFault → X → ⊥) → ((cell : ℕ) → fault ≡ record_fault.Damaged cell → ⊥)
       → MoveTold s w (Run told) file file report report X Y
-  fault_told fault told is kind failed undamaged =
-      subst (λ (t : Status). MoveTold s w (Run t) file file report report X Y) (sym is) (by_record fault kind failed undamaged)
+  fault_told fault why told reads is kind failed undamaged =
+      subst (λ (t : Status). MoveTold s w (Run t) file file report report X Y) (sym (is ∙ ap (λ (x : Stop). status_of_lem (Err x)) reads)) (by_record fault kind failed undamaged)
 
   by_stop : (why : Stop) → IsOpeningStop why → (why ≡ stop.ModuleFault → X → ⊥) → (why ≡ stop.StoreFault → X → ⊥)
       → ((device : Device) (cell : ℕ) → why ≡ stop.Damaged device cell → ⊥)

@@ -8,8 +8,6 @@ use Rattle.key_cells.specs.declared.leases.Lease.{Lease}
 use Rattle.key_records.specs.Changes.{KeepsAllButBody}
 use Rattle.key_records.specs.Directory.{held_count}
 use Rattle.key_records.specs.Entries.{row_directory}
-use Rattle.key_records.specs.declared.faults.RecordFault.{RecordFault}
-use Rattle.key_records.specs.declared.faults.RecordFault.TheVariants as record_fault
 use Rattle.key_records.specs.declared.rows.Row.{Row}
 use Rattle.key_tokens.specs.Denotes.{ClearKey, Denoted}
 use Rattle.key_tokens.specs.declared.key_token.Age.{Age}
@@ -26,7 +24,7 @@ use Rattle.move_file.specs.Judging.{JudgedAsRead, RefusedAsRead, TransportAsRead
 use Rattle.move_file.specs.Writing.{GotParts, GotPartsTo}
 use Rattle.move_file.specs.declared.moves.Move.{Move}
 use Rattle.cca_tool.specs.Statuses.{status_of_lem}
-use Rattle.cca_tool.specs.Unloading.{MoveRests, MoveUntold, store_status_of}
+use Rattle.cca_tool.specs.Unloading.{MoveRests, MoveUntold}
 use Rattle.cca_tool.specs.declared.command.Status.{Status}
 use Rattle.cca_tool.specs.declared.command.Status.TheVariants as status
 use Rattle.cca_tool.specs.declared.unloading.MoveStatus.{MoveStatus}
@@ -121,16 +119,6 @@ stop_undone stop.StoreFault is = cc
 stop_undone (stop.Damaged device cell) is = cc
 stop_undone stop.InputLimit is = cc
 
--- the disks weren't opened
-pub unopened : (why : Stop) (told : Status) → told ≡ status_of_lem (Err why) → Run told ≡ Run status.Done → ⊥
-unopened why told is done = stop_undone why (ap Run (sym is) ∙ done)
-
-store_undone : (fault : RecordFault) → Run (store_status_of fault) ≡ Run status.Done → ⊥
-store_undone record_fault.DiskFault is = cc
-store_undone (record_fault.Damaged cell) is = cc
-store_undone record_fault.Full is = cc
-store_undone record_fault.Exists is = cc
-
--- the store failed
-pub undone : (fault : RecordFault) (told : Status) → told ≡ store_status_of fault → Run told ≡ Run status.Done → ⊥
-undone fault told is done = store_undone fault (ap Run (sym is) ∙ done)
+-- a disk wasn't opened, or the store wasn't read
+pub unread : (why : Stop) (told : Status) → told ≡ status_of_lem (Err why) → Run told ≡ Run status.Done → ⊥
+unread why told is done = stop_undone why (ap Run (sym is) ∙ done)

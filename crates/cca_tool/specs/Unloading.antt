@@ -9,8 +9,6 @@ use Rattle.slot_disk.specs.Medium.{Medium, Told}
 use Rattle.cca_vectors.specs.Checks.{first_failing}
 use Rattle.key_records.specs.Directory.{held_count}
 use Rattle.key_records.specs.Entries.{row_directory}
-use Rattle.key_records.specs.declared.faults.RecordFault.{RecordFault}
-use Rattle.key_records.specs.declared.faults.RecordFault.TheVariants.{DiskFault, Damaged, Full, Exists}
 use Rattle.key_records.specs.declared.rows.Row.{Row}
 use Rattle.key_records.specs.StoreStands.{HoldsRows}
 use Rattle.key_tokens.specs.Denotes.{Denoted}
@@ -109,13 +107,6 @@ abbrev pub disk_stop : MoveStatus → Result (Unit {0}) Stop
 disk_stop (Run told) = status_stop told
 disk_stop (Refused rule) = Ok tt
 disk_stop ReportFault = Ok tt
-
--- why the store wasn't read
-abbrev pub store_status_of : RecordFault → Status
-store_status_of DiskFault = status.StoreFault
-store_status_of (Damaged cell) = status.Damaged Store cell
-store_status_of Full = status.StoreFault
-store_status_of Exists = status.StoreFault
 
 -- labels were told: all of them, or up to one
 abbrev pub TellsLabels : MoveStatus → Type 0

@@ -12,13 +12,13 @@ ghost use Rattle.line_service.specs.Devices.{DamageTold, HaveSizes, OpeningLeft,
 ghost use Rattle.line_service.specs.Sending.{Grows};
 ghost use Rattle.cca_machine.specs.State.{State, module_size, store_size};
 ghost use Rattle.request_rules.specs.Standing.{tables};
-ghost use Rattle.move_file.specs.Judging.{IsStoreFault, RefusedAsRead};
+ghost use Rattle.move_file.specs.Judging.{RefusedAsRead};
 ghost use Rattle.move_file.specs.declared.moves.Move.{Move as AnyMove};
 ghost use Rattle.cca_tool.specs.Coprocessor.{cca};
 ghost use Rattle.cca_tool.specs.Opening.{IsOpened};
 ghost use Rattle.cca_tool.specs.Unloading.{AreWordsOf, IsLabelStatus, IsMove, IsMoveStatus, IsOpenStatus};
 ghost use Rattle.cca_tool.specs.Unloading.{MoveCallsNone, MoveRefusedAsRead, MoveRests, MoveTold, MoveUncalled, MoveUntold, MovesAsRead, Still, TellsMove, TellsNone};
-ghost use Rattle.cca_tool.specs.Unloading.{disk_stop, store_status_of};
+ghost use Rattle.cca_tool.specs.Unloading.{disk_stop};
 
 use crate::command::{Status, status_of};
 use crate::coprocessor::Coprocessor;
@@ -26,10 +26,11 @@ use crate::session::Session;
 use crate::words::Words;
 use cca_roles::Roles;
 use key_cells::{Lease, Workbench};
-use key_records::{RecordFault, Records};
-use line_service::{Device, Shown};
+use key_records::Records;
+use line_service::Shown;
 use master_registers::Registers;
 use move_file::{Move, MoveFault, judge_move, write_move};
+use request_rules::stop_of;
 use script_buffers::ReplyBuffer;
 use slot_disk::{Disk, Sink};
 use std::alloc::Global;
@@ -249,22 +250,9 @@ fn move_labels<K: Sink, P: Sink, D: Disk>(
             Ok(()) => MoveStatus::Run(Status::Done),
             Err(MoveFault::WriteFault) => MoveStatus::Run(Status::WriteFault),
             Err(MoveFault::ReportFault) => MoveStatus::ReportFault,
-            Err(MoveFault::Store(fault)) => MoveStatus::Run(store_status(fault)),
+            Err(MoveFault::Store(fault)) => MoveStatus::Run(status_of(Err(stop_of(fault)))),
         },
         Ok(Err(rule)) => MoveStatus::Refused(rule.number()),
-        Err(fault) => MoveStatus::Run(store_status(fault)),
-    }
-}
-
-/// Why the store wasn't read.
-fn store_status(fault: RecordFault) -> Status
-    requires { IsStoreFault fault }
-    ensures { result ≡ store_status_of fault }
-{
-    match fault {
-        RecordFault::DiskFault => Status::StoreFault,
-        RecordFault::Damaged(cell) => Status::Damaged(Device::Store, cell),
-        RecordFault::Full => unreachable!(),
-        RecordFault::Exists => unreachable!(),
+        Err(fault) => MoveStatus::Run(status_of(Err(stop_of(fault)))),
     }
 }

@@ -18,7 +18,7 @@ use Rattle.cca_tool.specs.Unloading.{KnownAsRead}
 use Rattle.cca_tool.proofs.KnownLemmas.{known_sound, roles_told}
 use Rattle.cca_tool.proofs.MoveLemmas.{cell_is_one, never_broken, no_ok, not_module, stop_again, stop_told, store_cell, told_wider}
 use Rattle.cca_tool.proofs.OpeningLemmas.{damage_as, left_as}
-use Rattle.cca_tool.proofs.RestLemmas.{none_told, unopened}
+use Rattle.cca_tool.proofs.RestLemmas.{none_told, unread}
 use Rattle.cca_tool.proofs.unloading.move_store.Goals as goal
 
 pub returns-in-Ok-clause-told : goal.returns-in-Ok-clause-told
@@ -106,7 +106,7 @@ returns-in-Err-clause-told g c = λ s disks.
 
 pub returns-in-Err-clause-own : goal.returns-in-Err-clause-own
 returns-in-Err-clause-own g c = λ told.
-    absurd (none_told (Run c.status_of.result) (unopened c.in-Err.stop c.status_of.result c.status_of.ensures) c.args.sink.now c.args.report.now told)
+    absurd (none_told (Run c.status_of.result) (unread c.in-Err.stop c.status_of.result c.status_of.ensures) c.args.sink.now c.args.report.now told)
 
 pub returns-in-Err-clause-damage : goal.returns-in-Err-clause-damage
 returns-in-Err-clause-damage g c =
