@@ -13,7 +13,8 @@ use cca_roles::{AccessPoints, RoleName, Roles};
 use master_registers::Registers;
 use verb_rules::Rule;
 
-/// Rules 03, 04 and 05 of a role that needs these access control points, and perhaps the current master key.
+/// The first of rules 03, 04 and 05 that fails: the role isn't held, lacks one of the access control points that it needs,
+/// or needs the current master key where that register is empty.
 pub fn role_rule(
     role: &RoleName,
     points: AccessPoints,

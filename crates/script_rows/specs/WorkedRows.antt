@@ -1,4 +1,4 @@
--- Lines of each row of the grammar, written from its table by hand, with the name and the values of the request that each spells.
+-- Lines of each row of the grammar, and the name and the values of the request that each spells.
 use Rattle.std.specs.Prelude.{◌≡◌, ℕ, List, [], ◌∷◌, ◌++◌, codes, Some, ⊤}
 use Rattle.verb_script.specs.Grammar.{RequestName, csnbcki, csnbdec, csnbdec_first, csnbdec_last, csnbdec_middle, csnbenc, csnbenc_first, csnbenc_last, csnbenc_middle, csnbkex, csnbkgn_op, csnbkgn_out, csnbkgn_pair, csnbkim, csnbkpi_first, csnbkpi_middle, csnbkrc, csnbkrd, csnbkrl, csnbkrr, csnbkrw, csnbktc, csnbktp, csnbktr, csnbkyt, csnbmgn, csnbmgn_first, csnbmgn_last, csnbmgn_middle, csnbmkp_clear, csnbmkp_part, csnbmkp_set, csnbmvr, csnbmvr_first, csnbmvr_last, csnbmvr_middle, csnbpex, csnbrng, csuaaci_define, csuaaci_remove, reencipher, reencipher_ahead, reencipher_drop}
 use Rattle.verb_script.specs.Requests.{request_of}
