@@ -1,7 +1,7 @@
 -- The entry of a line and its reply.
 use Rattle.std.specs.Prelude.{ℕ, ◌+◌, ◌-◌, ◌*◌, nat_le, nat_eq, List, [], length, replicate, slice_index, codes, unwrap_or, Option, None, Some, if◌then◌else◌}
 use Rattle.std.specs.List.{starts_with}
-use Rattle.byte_lists.specs.Characters.{is_digit}
+use Rattle.held_names.specs.Characters.{is_digit}
 use Rattle.script_buffers.specs.Reading.{line_limit}
 use Rattle.verb_script.specs.Grammar.{Request, row_of, value_of}
 use Rattle.verb_script.specs.Parts.{first_label}

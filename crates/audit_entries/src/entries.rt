@@ -7,7 +7,8 @@ ghost use Rattle.audit_trail.specs.Entries.{IsEntry, filled};
 ghost use Rattle.audit_entries.specs.LineEntries.{digit, rule_in, entry_with, entry_of};
 
 use audit_trail::Entry;
-use byte_lists::{is_digit, put_front};
+use byte_lists::put_front;
+use held_names::is_digit;
 use verb_script::{Request, parse_request};
 
 /// The entry of a line that is no longer than a line may be, and of its reply.

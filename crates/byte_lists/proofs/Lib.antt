@@ -1,3 +1,1 @@
 pub mod ByteLemmas
-pub mod DirectoryLaws
-pub mod NameLemmas

@@ -31,7 +31,7 @@ use Rattle.cipher_verbs.specs.declared.padding.Pad.{Pad}
 use Rattle.cipher_verbs.specs.declared.padding.Pad.TheVariants as padding
 use Rattle.cipher_verbs.specs.declared.random.RandomForm.{RandomForm}
 use Rattle.cipher_verbs.specs.declared.random.RandomForm.TheVariants.{Random, Odd, Even}
-use Rattle.clear_keys.specs.Parity.{odd_byte}
+use Rattle.verb_rules.specs.Parity.{odd_byte}
 use Rattle.des_core.specs.Bits.{pieces}
 use Rattle.des_core.specs.Modes.{blocks, cbc, cbc_mac, e, fill, is_padded, joined, last_block, mac_x99, pad_count, unpad, uncbc, une, zero_block}
 use Rattle.des_core.specs.Texts.{cbc_text, uncbc_text}

@@ -7,7 +7,7 @@ use Rattle.key_records.specs.Entries.{Entry}
 use Rattle.key_records.specs.StoreStands.{labels_in}
 use Rattle.key_records.proofs.OneBody.{same_bodies}
 use Rattle.key_records.proofs.OpeningLaws.{stands_one as labels_one}
-use Rattle.clear_keys.proofs.TokenLemmas.{keys_apart}
+use Rattle.verb_rules.proofs.TokenLemmas.{keys_apart}
 use Rattle.key_tokens.specs.Denotes.{HaveDistinctPatterns, MasterKey}
 use Rattle.master_registers.specs.Masters.{IsMasters, Masters, blank_masters}
 use Rattle.master_registers.specs.RegisterBody.{blank_body, registers_body}

@@ -1,5 +1,5 @@
 -- The bytes of a generated key: they are those that the definition of a draw names.
-use Rattle.std.proofs.Common.{◌≡◌, ℕ, zero, suc, ◌+◌, ◌-◌, ◌*◌, ◌/◌, ◌%◌, ◌<◌, ◌≤◌, Bool, true, false, not, ◌||◌, ◌==◌, eqb, List, [], ◌∷◌, ◌++◌, length, map, take, drop, append_assoc, get_or, inl, inr, refl, sym, ap, ap₂, ◌∙◌, subst, true≢false, arith}
+use Rattle.std.proofs.Common.{◌≡◌, ℕ, zero, suc, ◌+◌, ◌-◌, ◌*◌, ◌/◌, ◌%◌, ◌<◌, ◌≤◌, Bool, true, false, not, ◌||◌, eqb, List, [], ◌∷◌, ◌++◌, length, map, take, drop, append_assoc, get_or, inl, inr, refl, sym, ap, ap₂, ◌∙◌, subst, true≢false, arith}
 use Rattle.std.specs.Prelude.{All, count_ones}
 use Rattle.std.specs.List.{concat}
 use Rattle.std.proofs.lemmas.Bool.{agree_below_at, cases_Bool, cases_lt, eqb-true}
@@ -8,8 +8,8 @@ use Rattle.std.proofs.lemmas.List.Elements.{All-append, All-cons, All-drop, All-
 use Rattle.std.proofs.lemmas.Slice.Eq.{bytes_eq-Decides}
 use Rattle.cca_vectors.specs.declared.key_length.Length.{Length}
 use Rattle.cca_vectors.specs.declared.key_length.Length.TheVariants.{Eight, Sixteen, Unique}
-use Rattle.clear_keys.specs.Parity.{IsOdd, odd_byte}
-use Rattle.clear_keys.proofs.ParityLemmas.{odd_byte_odd}
+use Rattle.verb_rules.specs.Parity.{IsOdd, odd_byte}
+use Rattle.verb_rules.proofs.ParityLemmas.{odd_byte_odd}
 use Rattle.key_transport.specs.UniqueHalves.{halves_drawn, is_same_half, key_drawn, key_taken, repeats}
 use Rattle.key_transport.proofs.HalfLemmas.{last_where_apart, more_where_same}
 use Rattle.cca_laws.specs.DrawnKeys.{IsDraw, IsDrawnKey, IsOddForm, IsRepeated, IsUniqueDraw, SameButParity}

@@ -1,7 +1,7 @@
 -- What each effect of a permitted request may do to labels.
 use Rattle.std.proofs.Common.{◌≡◌, ◌≢◌, ◌⊎◌, inl, inr, ℕ, Bool, true, false, cond, not, List, Option, None, Some, refl, ap, codes}
 use Rattle.std.specs.Prelude.{⊤, is_some}
-use Rattle.byte_lists.proofs.DirectoryLaws.{none_of}
+use Rattle.held_names.proofs.DirectoryLaws.{none_of}
 use Rattle.key_records.specs.Entries.{Entry}
 use Rattle.key_records.specs.Labels.{IsLabel, is_label}
 use Rattle.key_records.specs.Turning.{aged}

@@ -1,6 +1,6 @@
 -- Where CSNBKGN leaves the keys that it makes.
 use Rattle.std.proofs.Common.{◌≡◌, ℕ, ◌<◌, Bool, true, false, List, [], ◌∷◌, ◌++◌, length, get_or, Option, None, Some, IsTrue, T, refl, sym, ap, subst, ◌∙◌, codes, arith}
-use Rattle.std.specs.Prelude.{All, IfSome, is_none, is_some, unwrap_or, if◌then◌else◌}
+use Rattle.std.specs.Prelude.{All, is_none, is_some, unwrap_or, if◌then◌else◌}
 use Rattle.std.specs.Str.{bytes_eq}
 use Rattle.std.proofs.lemmas.List.{length-map}
 use Rattle.std.proofs.lemmas.List.Elements.{All-map}
@@ -12,24 +12,23 @@ use Rattle.cca_vectors.specs.declared.key_length.Length.{Length}
 use Rattle.cca_vectors.specs.declared.key_length.Length.TheVariants.{Eight, Sixteen, Unique}
 use Rattle.cca_vectors.specs.declared.key_type.KeyType.{KeyType}
 use Rattle.cca_vectors.proofs.DefaultLemmas.{default_for_valid}
-use Rattle.clear_keys.specs.Parity.{odd_byte}
+use Rattle.verb_rules.specs.Parity.{odd_byte}
 use Rattle.key_tokens.specs.Denotes.{ClearKey}
 use Rattle.key_transport.specs.Generated.{HasKeyLength, generated_key, generated_vector}
 use Rattle.key_transport.specs.Tokens.{as_current, external_token}
 use Rattle.key_transport.specs.UniqueHalves.{key_drawn, key_taken, repeats}
 use Rattle.key_transport.proofs.GeneratedLemmas.{length-generated_vector}
 use Rattle.script_buffers.specs.Replies.{Done, Field, Hex}
-use Rattle.verb_rules.specs.Keys.{keys_of, token_for}
 use Rattle.verb_script.specs.Grammar.{AreValues, FieldForm, IsValue, Request, RequestName, Values, csnbkgn_op, csnbkgn_pair, csnbkgn_out, row_of, type_text, value_among, value_of}
 use Rattle.verb_script.specs.Named.{label_named}
-use Rattle.cca_machine.specs.Act.{Effect, Show, Outcome, delivered_with, effect, effected, fields_after, or_act, performed, state_after, token_out, type1_of, type2_of, written_in}
+use Rattle.cca_machine.specs.Act.{Effect, Show, Outcome, delivered_with, effect, effected, fields_after, performed, token_out, type1_of, type2_of}
 use Rattle.cca_machine.specs.Choices.{key_length_named, or_data, type_in}
 use Rattle.cca_machine.specs.Draws.{Draw, KeyBytes, bytes_drawn, draw_of, length_in}
-use Rattle.cca_machine.specs.Keys.{any_old, key_in_field, key_of_label, key_of_token, warning}
-use Rattle.cca_machine.specs.Lines.{drawn_where, taken_by}
+use Rattle.cca_machine.specs.Keys.{any_old, key_in_field, warning}
+use Rattle.cca_machine.specs.Lines.{drawn_where}
 use Rattle.cca_machine.specs.Operands.{listed, operands}
 use Rattle.cca_machine.specs.State.{State}
-use Rattle.cca_machine.specs.Verdict.{Refusal, draw_verdict, early_verdict, or_last, target_checks, verdict}
+use Rattle.cca_machine.specs.Verdict.{Refusal, draw_verdict, early_verdict, or_last, target_checks}
 use Rattle.cca_machine.proofs.DrawLaws.{early_none, verdict_splits}
 use Rattle.cca_laws.specs.DrawnKeys.{HasKeys, IsDrawnKey, IsFirstDelivered, IsGenerating, IsKeyDelivered, IsOneSent, IsSent, IsTyped, LeavesKey}
 use Rattle.cca_laws.specs.ReplyTokens.{field_in}

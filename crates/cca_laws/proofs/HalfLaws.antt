@@ -1,5 +1,5 @@
 -- Generated keys with unique halves.
-use Rattle.std.proofs.Common.{◌≡◌, ℕ, zero, suc, ◌+◌, ◌-◌, ◌*◌, ◌/◌, ◌≤◌, Bool, true, false, ◌&&◌, List, [], ◌∷◌, ◌++◌, length, map, take, drop, Option, None, Some, refl, sym, ap, ap₂, subst, ◌∙◌, codes, arith}
+use Rattle.std.proofs.Common.{◌≡◌, ℕ, zero, suc, ◌+◌, ◌-◌, ◌*◌, ◌/◌, ◌≤◌, Bool, true, false, ◌&&◌, List, [], ◌∷◌, ◌++◌, length, map, take, drop, Option, None, Some, refl, sym, ap, ap₂, ◌∙◌, codes, arith}
 use Rattle.std.specs.Prelude.{if◌then◌else◌, nat_le}
 use Rattle.std.specs.List.{list_all}
 use Rattle.std.specs.Str.{bytes_eq}
@@ -10,16 +10,12 @@ use Rattle.cca_vectors.specs.declared.key_length.Length.{Length}
 use Rattle.cca_vectors.specs.declared.key_length.Length.TheVariants.{Unique}
 use Rattle.cca_vectors.specs.declared.key_type.KeyType.{KeyType}
 use Rattle.cca_vectors.specs.declared.key_type.KeyType.TheVariants.{Data, Datac, Datam, Datamv, Cipher, Encipher, Decipher, Mac, Macver, Exporter, Importer, Okeyxlat, Ikeyxlat}
-use Rattle.clear_keys.specs.Parity.{odd_byte}
-use Rattle.key_transport.specs.Generated.{HasKeyLength, generated_key, generated_vector}
+use Rattle.verb_rules.specs.Parity.{odd_byte}
+use Rattle.key_transport.specs.Generated.{HasKeyLength, generated_vector}
 use Rattle.key_transport.specs.UniqueHalves.{halves_drawn, is_same_half, key_drawn, key_taken, pieces, repeats}
-use Rattle.verb_script.specs.Grammar.{Request, RequestName, csnbkgn_op, csnbkgn_pair, csnbkgn_out, value_of}
-use Rattle.cca_machine.specs.Choices.{key_length_named}
-use Rattle.cca_machine.specs.Draws.{Draw, KeyBytes, bytes_drawn, draw_of, length_in}
-use Rattle.cca_machine.specs.Lines.{drawn_where, taken_by}
-use Rattle.cca_machine.specs.State.{State}
-use Rattle.cca_machine.specs.Verdict.{Refusal, draw_verdict, early_verdict, or_last, refusal, verdict}
-use Rattle.cca_machine.proofs.DrawLaws.{early_none, verdict_splits}
+use Rattle.verb_script.specs.Grammar.{Request, RequestName, csnbkgn_op, csnbkgn_pair, csnbkgn_out}
+use Rattle.cca_machine.specs.Draws.{KeyBytes, draw_of, length_in}
+use Rattle.cca_machine.specs.Verdict.{Refusal, draw_verdict, or_last, refusal}
 use Rattle.cca_laws.specs.UniqueKeys.{HasUniqueHalves, generates}
 
 -- ---- the right halves that are drawn

@@ -1,7 +1,7 @@
 -- What a request leaves of the labels that it isn't given.
 use Rattle.std.proofs.Common.{◌≡◌, ◌≢◌, ℕ, Bool, true, false, List, [], ◌∷◌, Option, None, Some, ⊎_elim, refl, sym, ap, subst, ◌∙◌, codes, ◌||◌, IsSome, true≢false}
 use Rattle.std.specs.Prelude.{⊤, if◌then◌else◌}
-use Rattle.byte_lists.specs.Directory.{has_name}
+use Rattle.held_names.specs.Directory.{has_name}
 use Rattle.key_records.specs.Ages.{any_old, has_old_key, is_old, is_old_entry}
 use Rattle.key_records.specs.Directory.{cell_of, free_cell}
 use Rattle.key_records.specs.Changes.{null_entry, with_what}

@@ -4,7 +4,7 @@ use Rattle.std.proofs.Common.{◌≡◌, ℕ, Bool, true, List, [], ◌∷◌, �
 use Rattle.std.specs.Prelude.{is_none, not}
 use Rattle.std.specs.Option.{option_map}
 use Rattle.std.specs.Str.{bytes_eq}
-use Rattle.byte_lists.specs.Names.{IsLabel}
+use Rattle.held_names.specs.Names.{IsLabel}
 use Rattle.cca_roles.specs.Points.{includes}
 use Rattle.cca_roles.specs.Roles.{points_of}
 use Rattle.cca_vectors.specs.Checks.{Check, check, first_failing}

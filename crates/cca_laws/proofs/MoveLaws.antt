@@ -9,9 +9,9 @@ use Rattle.std.proofs.lemmas.Cmp.{nat_list_cmp_total, tied_itself}
 use Rattle.std.proofs.lemmas.List.{get_or-map, length-map, map-append, take-map}
 use Rattle.std.proofs.lemmas.List.FromFn.{get_or-range_with_len, length-range_with_len}
 use Rattle.std.proofs.lemmas.Slice.Eq.{bytes_eq-Decides}
-use Rattle.byte_lists.specs.Names.{IsLabel, is_label}
-use Rattle.byte_lists.specs.Directory.{AreApart}
-use Rattle.byte_lists.proofs.DirectoryLaws.{held_at, none_some}
+use Rattle.held_names.specs.Names.{IsLabel, is_label}
+use Rattle.held_names.specs.Directory.{AreApart}
+use Rattle.held_names.proofs.DirectoryLaws.{held_at, none_some}
 use Rattle.cca_vectors.specs.Checks.{first_failing}
 use Rattle.key_records.specs.Directory.{cell_of, held_count, label_at}
 use Rattle.key_records.specs.Entries.{directory}

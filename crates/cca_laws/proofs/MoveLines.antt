@@ -3,7 +3,7 @@ use Rattle.std.proofs.Common.{◌≡◌, ℕ, List, [], ◌∷◌, ◌++◌, len
 use Rattle.std.specs.Prelude.{nat_le, ◌&&◌}
 use Rattle.std.specs.List.{concat, flat_map, list_all}
 use Rattle.hex.specs.Hex.{encode_lower}
-use Rattle.byte_lists.specs.Names.{IsRoleName, is_name_byte, is_role_name, starts_name}
+use Rattle.held_names.specs.Names.{IsRoleName, is_name_byte, is_role_name, starts_name}
 use Rattle.key_records.specs.Entries.{directory}
 use Rattle.script_buffers.specs.Lines.{lines, newline}
 use Rattle.script_buffers.proofs.LineLemmas.{lines-nil, lines-whole}

@@ -3,8 +3,8 @@ use Rattle.std.proofs.Common.{◌≡◌, ◌≢◌, ◌⊎◌, inl, inr, ⊎_eli
 use Rattle.std.specs.Prelude.{◌==◌, ◌||◌, is_some, if◌then◌else◌}
 use Rattle.std.proofs.lemmas.List.{get_or-set_same, length-map, map-set, set-get_or}
 use Rattle.std.proofs.lemmas.List.Sums.{sum_by-cons, sum_by-set}
-use Rattle.byte_lists.specs.Directory.{has_name, name_at, free_from}
-use Rattle.byte_lists.proofs.DirectoryLaws.{has_name_is, has_name_not, held_at, held_nowhere, none_some, place_found}
+use Rattle.held_names.specs.Directory.{has_name, name_at, free_from}
+use Rattle.held_names.proofs.DirectoryLaws.{has_name_is, has_name_not, held_at, held_nowhere, none_some, place_found}
 use Rattle.key_records.specs.Changes.{created, null_entry, with_what}
 use Rattle.key_records.specs.Directory.{cell_of, free_cell, held_count}
 use Rattle.key_records.specs.Entries.{Entry, directory, entry, entry_label}

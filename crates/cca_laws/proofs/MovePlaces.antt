@@ -4,8 +4,8 @@ use Rattle.std.specs.Prelude.{◌==◌, ◌&&◌, ◌||◌, ⊤, Contains, filte
 use Rattle.std.specs.List.{AllByRecursion, flat_map, range_with_len}
 use Rattle.std.proofs.lemmas.Bool.{eqb-true}
 use Rattle.std.proofs.lemmas.List.{get_or-set_same}
-use Rattle.byte_lists.specs.Directory.{AreApart, free_from, name_at}
-use Rattle.byte_lists.proofs.DirectoryLaws.{apart_set, held_nowhere, place_is}
+use Rattle.held_names.specs.Directory.{AreApart, free_from, name_at}
+use Rattle.held_names.proofs.DirectoryLaws.{apart_set, held_nowhere, place_is}
 use Rattle.key_records.specs.Changes.{created}
 use Rattle.key_records.specs.Directory.{cell_of, free_cell, held_count}
 use Rattle.key_records.specs.Entries.{Entry, directory, entry_label}

@@ -6,8 +6,8 @@ use Rattle.std.proofs.lemmas.List.{append-nil}
 use Rattle.std.proofs.lemmas.List.Sums.{list_all-from_AllPass}
 use Rattle.hex.specs.Hex.{IsBytes, encode_lower, is_hex_digit, lower_digits}
 use Rattle.hex.proofs.HexLemmas.{decode_of-encode_lower, decode_of-ok, length-encode_with}
-use Rattle.byte_lists.proofs.NameLemmas.{label_short, role_short}
-use Rattle.byte_lists.specs.Names.{IsLabel, IsRoleName, is_label}
+use Rattle.held_names.proofs.NameLemmas.{label_short, role_short}
+use Rattle.held_names.specs.Names.{IsLabel, IsRoleName, is_label}
 use Rattle.script_buffers.specs.Reading.{line_limit}
 use Rattle.verb_script.specs.Grammar.{Request, Spells, csnbkim, csnbkrc}
 use Rattle.verb_script.specs.Requests.{request_of}

@@ -9,8 +9,8 @@ use Rattle.byte_lists.specs.Bytes.{AreBytes}
 use Rattle.byte_lists.proofs.ByteLemmas.{IsZero-replicate}
 use Rattle.cca_vectors.specs.Checks.{first_failing}
 use Rattle.cca_vectors.specs.Vectors.{IsValid}
-use Rattle.byte_lists.specs.Names.{IsLabel}
-use Rattle.byte_lists.proofs.DirectoryLaws.{held_at}
+use Rattle.held_names.specs.Names.{IsLabel}
+use Rattle.held_names.proofs.DirectoryLaws.{held_at}
 use Rattle.key_records.specs.Directory.{cell_of}
 use Rattle.key_records.specs.Entries.{Entry, directory, entry_label}
 use Rattle.key_records.specs.RecordBody.{ReadsEntry, ReadsWhat, kept}

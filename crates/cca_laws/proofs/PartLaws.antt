@@ -11,9 +11,9 @@ use Rattle.std.proofs.lemmas.List.Sums.{AllPass-from_list_all}
 use Rattle.hex.specs.Hex.{is_hex_digit}
 use Rattle.hex.proofs.HexLemmas.{decode_of-digits, decode_of-ok}
 use Rattle.byte_lists.specs.Bytes.{AreBytes}
-use Rattle.byte_lists.specs.Directory.{has_name}
+use Rattle.held_names.specs.Directory.{has_name}
 use Rattle.byte_lists.proofs.ByteLemmas.{are_bytes}
-use Rattle.byte_lists.proofs.DirectoryLaws.{held_at}
+use Rattle.held_names.proofs.DirectoryLaws.{held_at}
 use Rattle.cca_vectors.specs.Checks.{Check, check, first_failing}
 use Rattle.cca_vectors.specs.DefaultVectors.{default_vector}
 use Rattle.cca_vectors.specs.KeyTypes.{type_name}

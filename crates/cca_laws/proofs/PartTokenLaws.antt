@@ -1,5 +1,5 @@
 -- A key that is brought in by parts, from delivery to delivery.
-use Rattle.std.proofs.Common.{◌≡◌, ◌≢◌, ℕ, ◌/◌, ◌==◌, Bool, true, false, not, List, [], ◌∷◌, ◌++◌, length, map, Option, None, Some, IsTrue, refl, sym, ap, subst, ◌∙◌, codes}
+use Rattle.std.proofs.Common.{◌≡◌, ◌≢◌, ℕ, ◌/◌, ◌==◌, Bool, true, false, not, List, [], ◌∷◌, ◌++◌, length, map, Option, None, Some, refl, sym, ap, subst, ◌∙◌, codes}
 use Rattle.std.specs.Prelude.{All, fold, ◌&&◌, is_none}
 use Rattle.std.proofs.lemmas.Bool.Decides.{Decides-eqb}
 use Rattle.std.proofs.lemmas.List.Elements.{All-cons, All-head, All-nil, All-push, All-tail}
@@ -36,7 +36,7 @@ use Rattle.cca_machine.specs.Operands.{Operand, listed, operands}
 use Rattle.cca_machine.specs.State.{State}
 use Rattle.cca_machine.specs.Verdict.{key_questions, operand_checks, refusal, target_checks, verdict}
 use Rattle.cca_machine.specs.declared.asking.Ask.{Ask}
-use Rattle.cca_laws.specs.KeyInParts.{IsPermitted, IsReached, SameRecord}
+use Rattle.cca_laws.specs.KeyInParts.{IsReached, SameRecord}
 use Rattle.cca_laws.specs.PassedParts.{AreDelivered, AsksWholeKey, Delivers, Entered, Names, PartEntry, SparesLabel, entry_bytes, entry_parts, entry_size, first_entry, further_entry}
 use Rattle.cca_laws.specs.ReplyTokens.{field_in}
 use Rattle.cca_laws.proofs.Delivering.{acted, in_reply, nothing_written, token_of_it}

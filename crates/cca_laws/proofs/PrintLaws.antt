@@ -11,7 +11,7 @@ use Rattle.std.proofs.lemmas.List.Sums.{AllPass-from_list_all}
 use Rattle.hex.specs.Hex.{encode_with, lower_digits}
 use Rattle.std.specs.Str.{bytes_eq}
 use Rattle.slot_disk.specs.Cells.{body}
-use Rattle.byte_lists.specs.Characters.{is_label_byte}
+use Rattle.held_names.specs.Characters.{is_label_byte}
 use Rattle.cca_vectors.specs.Checks.{Check, first_failing}
 use Rattle.cca_vectors.specs.Classes.{class_of}
 use Rattle.cca_vectors.specs.declared.key_class.Class.{Class}

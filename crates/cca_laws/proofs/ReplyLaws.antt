@@ -3,7 +3,7 @@ use Rattle.std.proofs.Common.{◌≡◌, ℕ, ◌<◌, zero, suc, Bool, true, fa
 use Rattle.std.specs.Prelude.{⊤, ◌&&◌, nat_le, filter, nat_eq, if◌then◌else◌}
 use Rattle.std.specs.List.{list_all, range_with_len, starts_with}
 use Rattle.slot_disk.specs.Cells.{body}
-use Rattle.byte_lists.specs.Characters.{is_label_byte}
+use Rattle.held_names.specs.Characters.{is_label_byte}
 use Rattle.cca_vectors.specs.Checks.{first_failing}
 use Rattle.cca_vectors.specs.Classes.{class_of}
 use Rattle.cca_vectors.specs.declared.key_class.Class.{Class}

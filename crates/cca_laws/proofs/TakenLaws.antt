@@ -1,5 +1,5 @@
 -- The random bytes that lines take.
-use Rattle.std.proofs.Common.{◌≡◌, ℕ, zero, suc, ◌+◌, ◌*◌, ◌/◌, ◌%◌, ◌<◌, ◌≤◌, Bool, true, false, eqb, List, [], ◌∷◌, ◌++◌, length, get_or, map, take, drop, append_assoc, Option, None, Some, inl, inr, refl, sym, ap, ap₂, subst, ◌∙◌, codes, arith}
+use Rattle.std.proofs.Common.{◌≡◌, ℕ, zero, suc, ◌+◌, ◌*◌, ◌/◌, ◌%◌, ◌<◌, ◌≤◌, true, false, eqb, List, [], ◌∷◌, ◌++◌, length, get_or, map, take, drop, append_assoc, Option, None, Some, inl, inr, refl, sym, ap, ap₂, subst, ◌∙◌, codes, arith}
 use Rattle.std.specs.Prelude.{All, count_ones, nat_le}
 use Rattle.std.specs.List.{concat}
 use Rattle.std.proofs.lemmas.Bool.{agree_below_at, cases_Bool, cases_lt, eqb-true}
@@ -19,13 +19,13 @@ use Rattle.verb_script.specs.Requests.{request_of}
 use Rattle.cca_machine.specs.Act.{Outcome, effect, effected, or_act, performed}
 use Rattle.cca_machine.specs.Choices.{form_named}
 use Rattle.cca_machine.specs.Draws.{Draw, NoBytes, EightBytes, KeyBytes, bytes_drawn, draw_of, draws_random, is_drawing}
-use Rattle.cca_machine.specs.Lines.{LineOutcome, drawn_where, line_outcome, request_outcome, taken_by}
+use Rattle.cca_machine.specs.Lines.{LineOutcome, drawn_where, line_outcome, taken_by}
 use Rattle.cca_machine.specs.Session.{random_after}
 use Rattle.cca_machine.specs.State.{State}
 use Rattle.cca_machine.specs.Verdict.{Refusal, early_verdict, verdict}
 use Rattle.cca_machine.proofs.DrawLaws.{early_none, undrawing_takes, verdict_undrawing}
 use Rattle.cca_machine.proofs.LineLaws.{line-drawn, line-no_request, line-request, line-too_long}
-use Rattle.cca_laws.specs.DrawnKeys.{IsOddForm, SameButParity}
+use Rattle.cca_laws.specs.DrawnKeys.{IsOddForm}
 use Rattle.cca_laws.specs.TakenBytes.{IsEvenForm, IsInForm, all_taken, bytes_taken, count_by, count_taken, takes_random}
 use Rattle.cca_laws.proofs.DrawnLaws.{IsByte, halved, odd_form}
 use Rattle.cca_laws.proofs.Delivering.{acted}

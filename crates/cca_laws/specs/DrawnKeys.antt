@@ -1,12 +1,12 @@
 -- The keys that CSNBKGN makes of random bytes, and where it delivers them.
-use Rattle.std.specs.Prelude.{◌≡◌, ◌<◌, ◌/◌, ℕ, true, All, List, ◌++◌, codes, length, map, Option, None, Some}
+use Rattle.std.specs.Prelude.{◌≡◌, ◌<◌, ◌/◌, ℕ, true, All, List, ◌++◌, codes, length, map, None, Some}
 use Rattle.std.specs.List.{concat}
 use Rattle.cca_vectors.specs.DefaultVectors.{default_for, length_of_name}
 use Rattle.cca_vectors.specs.KeyTypes.{type_named}
 use Rattle.cca_vectors.specs.declared.key_length.Length.{Length}
 use Rattle.cca_vectors.specs.declared.key_length.Length.TheVariants.{Eight, Sixteen, Unique}
 use Rattle.cca_vectors.specs.declared.key_type.KeyType.{KeyType}
-use Rattle.clear_keys.specs.Parity.{IsOdd}
+use Rattle.verb_rules.specs.Parity.{IsOdd}
 use Rattle.key_tokens.specs.Denotes.{ClearKey, denoted_under}
 use Rattle.key_transport.specs.Tokens.{as_current}
 use Rattle.verb_script.specs.Grammar.{AreValues, Request, RequestName, csnbkgn_op, csnbkgn_pair, csnbkgn_out, row_of, value_of}

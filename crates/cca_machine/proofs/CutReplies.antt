@@ -5,7 +5,6 @@ use Rattle.std.specs.Prelude.{is_none, option_map}
 use Rattle.std.specs.Str.{bytes_eq}
 use Rattle.cca_vectors.specs.Checks.{check, first_failing}
 use Rattle.des_core.specs.Modes.{blocks, cbc, e, joined, zero_block}
-use Rattle.des_core.specs.TripleDes.{enciphered}
 use Rattle.des_core.proofs.ValueLemmas.{bytes-enciphered}
 use Rattle.key_tokens.specs.Denotes.{ClearKey}
 use Rattle.script_buffers.specs.Replies.{Field, Reply, Done, Hex, Text}

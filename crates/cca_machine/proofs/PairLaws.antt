@@ -17,13 +17,12 @@ use Rattle.key_records.specs.StoreStands.{StandsForLabels, labels_in}
 use Rattle.key_records.proofs.OpeningLaws.{stands_one as labels_one, stands_undamaged as labels_undamaged}
 use Rattle.key_records.proofs.TotalLaws.{stands_or_damaged as labels_or_damaged}
 use Rattle.master_registers.specs.BodyForm.{coming_at, kept_at, masters_at, IsBody, AreMasterKeys}
-use Rattle.master_registers.specs.Masters.{Masters, NewRegister, IsMaster, IsMasters, AreApart, blank_masters, new_bytes, kept_bytes, pattern_of_master}
-use Rattle.master_registers.specs.RegisterBody.{registers_body, blank_body, ReadsMasters, StandsForMasters, IsDamaged}
+use Rattle.master_registers.specs.Masters.{Masters, IsMaster, AreApart, blank_masters, new_bytes, kept_bytes, pattern_of_master}
+use Rattle.master_registers.specs.RegisterBody.{registers_body, blank_body, ReadsMasters}
 use Rattle.master_registers.proofs.BodyLaws.{reads_one, masters-again, master_piece}
 use Rattle.verb_rules.specs.Keys.{keys_of}
-use Rattle.cca_machine.specs.Broken.{IsBrokenModule, IsBrokenStore}
 use Rattle.cca_machine.specs.Pairs.{ArePairOf, IsBrokenPair}
-use Rattle.cca_machine.specs.State.{State, IsModuleOf, IsStoreOf}
+use Rattle.cca_machine.specs.State.{State}
 
 -- ---- cell 0 reads as some registers, or as none
 

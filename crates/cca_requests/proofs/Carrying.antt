@@ -5,7 +5,7 @@ use Rattle.std.proofs.lemmas.List.{append-nil}
 use Rattle.std.proofs.lemmas.Result.{on_ok_weaker}
 use Rattle.slot_disk.specs.Medium.{Medium, IsSettled}
 use Rattle.cca_roles.specs.declared.roles.Role.{Role}
-use Rattle.clear_keys.proofs.TokenLemmas.{keys_apart}
+use Rattle.verb_rules.proofs.TokenLemmas.{keys_apart}
 use Rattle.cca_vectors.specs.Checks.{check}
 use Rattle.key_records.specs.Ages.{any_ahead_entry}
 use Rattle.key_records.specs.StoreStands.{Agrees}

@@ -3,14 +3,14 @@ use Rattle.std.proofs.Common.{◌≡◌, ◌≤◌, ◌<◌, inl, inr, ⊎_elim,
 use Rattle.std.proofs.lemmas.Bool.{cases_eq, cases_lt}
 use Rattle.std.proofs.lemmas.List.{get_or-set_same, get_or-set_other}
 use Rattle.slot_disk.specs.Cells.{body}
-use Rattle.byte_lists.specs.Directory.{name_at, IsHeld}
+use Rattle.held_names.specs.Directory.{name_at, IsHeld}
 use Rattle.cca_roles.specs.Opening.{Opens, IsRefused, OpenedTo}
 use Rattle.cca_roles.specs.RoleBody.{ReadsPlace, slot_in}
 use Rattle.cca_roles.specs.Roles.{AreRoles, names, name_of, role_at, blank_roles}
 use Rattle.cca_roles.specs.RolesStand.{StandsForRoles, IsDamagedPlace, IsFirstDamaged, Repeats}
 use Rattle.cca_roles.specs.declared.roles.Role.{Role}
 use Rattle.cca_roles.proofs.BodyLaws.{reads_one, ReadsNothing}
-use Rattle.byte_lists.proofs.DirectoryLaws.{none_some}
+use Rattle.held_names.proofs.DirectoryLaws.{none_some}
 use Rattle.cca_roles.proofs.TableLaws.{name_of_place, role_named}
 
 module _ (image : List ℕ) (place : ℕ) (roles : List (Option Role)) (opened : OpenedTo image place roles) where

@@ -9,7 +9,7 @@ use Rattle.slot_disk.specs.Medium.{Medium, Told, From, Becomes, EachImage}
 use Rattle.slot_disk.specs.SpareBytes.{HasTurned}
 use Rattle.slot_disk.proofs.Media.{told_at, becomes_told, becomes_weaker, each_weaker}
 use Rattle.cca_roles.specs.Changes.{HoldsEither}
-use Rattle.byte_lists.specs.Directory.{name_at, AreApart}
+use Rattle.held_names.specs.Directory.{name_at, AreApart}
 use Rattle.cca_roles.specs.RoleBody.{ReadsPlace, slot_in}
 use Rattle.cca_roles.specs.Roles.{names, name_of, role_at}
 use Rattle.cca_roles.specs.RolesStand.{StandsForRoles, roles_in, IsDamagedPlace, IsFirstDamaged}

@@ -5,7 +5,7 @@ pub mod RoleBody
 pub mod RolesStand
 pub mod Changes
 pub mod Opening
-pub use Rattle.byte_lists.specs.Directory
+pub use Rattle.held_names.specs.Directory
 pub use Rattle.key_cells.specs.Bench
 pub use Rattle.key_cells.specs.Lease
 pub use Rattle.slot_disk.specs.Cells

@@ -2,9 +2,9 @@
 ghost use Rattle.std.specs.Prelude.{◌≡◌};
 ghost use Rattle.cca_roles.specs.RoleNames.{default_name, is_role_name};
 ghost use Rattle.std.proofs.Common.{arith};
-ghost use Rattle.byte_lists.proofs.NameLemmas.{role_short};
+ghost use Rattle.held_names.proofs.NameLemmas.{role_short};
 
-use byte_lists::{Form, FormedText, is_role_name};
+use held_names::{Form, FormedText, is_role_name};
 
 /// The form of a role's name.
 pub struct RoleForm;

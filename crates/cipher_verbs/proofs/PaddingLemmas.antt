@@ -2,7 +2,6 @@
 use Rattle.std.proofs.Common.{◌≡◌, ◌∙◌, ℕ, ◌+◌, ◌-◌, ◌<◌, List, [], ◌∷◌, ◌++◌, length, set, take, drop, replicate, refl, sym, ap, arith, append_assoc, length-append, length-drop}
 use Rattle.std.proofs.lemmas.List.{length-take-le, length-replicate}
 use Rattle.std.proofs.Math.Seq.{set-append_seam}
-use Rattle.cipher_verbs.specs.CipherTexts.{cleared}
 
 one_left : (xs : List ℕ) → length xs ≡ 1 → (y : ℕ) × (xs ≡ y ∷ [])
 one_left [] h = absurd (omega arith)

@@ -3,8 +3,8 @@ pub mod Imported
 pub mod RandomBytes
 pub use Rattle.des_core.specs.Modes
 pub use Rattle.des_core.specs.Texts
-pub use Rattle.clear_keys.specs.Parity
-pub use Rattle.clear_keys.specs.Written
+pub use Rattle.verb_rules.specs.Parity
+pub use Rattle.verb_rules.specs.Written
 pub use Rattle.key_cells.specs.Bench
 pub use Rattle.key_cells.specs.Lease
 pub use Rattle.verb_rules.specs.Keys

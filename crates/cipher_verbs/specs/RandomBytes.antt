@@ -3,7 +3,7 @@ use Rattle.std.specs.Prelude.{◌≡◌, ℕ, List, codes, length, map, Option, 
 use Rattle.std.specs.Str.{bytes_eq}
 use Rattle.std.specs.Io.KnownBytes.{Consumes}
 use Rattle.cca_vectors.specs.Bits.{even_byte}
-use Rattle.clear_keys.specs.Parity.{odd_byte}
+use Rattle.verb_rules.specs.Parity.{odd_byte}
 use Rattle.cipher_verbs.specs.declared.random.RandomForm.{RandomForm}
 use Rattle.cipher_verbs.specs.declared.random.RandomForm.TheVariants.{Random, Odd, Even}
 

@@ -12,10 +12,9 @@ ghost use Rattle.verb_rules.specs.Rules.{Judges};
 ghost use Rattle.cipher_verbs.specs.CipherTexts.{ChangesText, cleared, deciphered_text, enciphered_text, enciphering, pad_checks};
 
 use crate::padding::{Pad, pad_text, remove_padding};
-use clear_keys::schedule_key;
 use des_core::{cbc_decipher, cbc_encipher};
 use key_cells::Lease;
-use verb_rules::{Judged, Rule, TextUse};
+use verb_rules::{Judged, Rule, TextUse, schedule_key};
 
 /// The text of a lease has its length: a fact that contracts use.
 fn text_has_length(lease: &Lease)

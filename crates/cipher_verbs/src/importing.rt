@@ -9,9 +9,9 @@ ghost use Rattle.verb_rules.specs.Keys.{keys_of, token_for};
 ghost use Rattle.cipher_verbs.specs.Imported.{data_vector, imported_key};
 
 use cca_vectors::{Vector, vector_of};
-use clear_keys::write_current;
 use key_cells::Lease;
 use master_registers::Registers;
+use verb_rules::write_current;
 
 /// The control vector of a single-length DATA key.
 fn data_vector() -> Vector

@@ -3,8 +3,8 @@ ghost use Rattle.std.specs.Prelude.{◌≡◌, IfOk, length};
 ghost use Rattle.slot_disk.specs.Faults.{HasCause};
 ghost use Rattle.cipher_verbs.specs.RandomBytes.{Draws, random_form_of_name, in_form};
 
-use clear_keys::{set_even_parity, set_odd_parity};
 use slot_disk::{Entropy, Failed};
+use verb_rules::{set_even_parity, set_odd_parity};
 
 /// The form of random bytes.
 #[derive(Clone, Copy, Debug, PartialEq, Eq)]

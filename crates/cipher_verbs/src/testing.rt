@@ -5,10 +5,9 @@ ghost use Rattle.multi_encipher.specs.Bundles.{ChangesKeyAt};
 ghost use Rattle.verb_rules.specs.Keys.{HasHalves, opened};
 ghost use Rattle.cipher_verbs.specs.CipherTexts.{test_value};
 
-use clear_keys::schedule_key;
 use des_core::ede;
 use key_cells::{KeyPlace, Lease};
-use verb_rules::Judged;
+use verb_rules::{Judged, schedule_key};
 
 /// The first four bytes of a block.
 fn front(block: &[u8; 8]) -> [u8; 4]

@@ -1,5 +1,5 @@
 -- The control vectors of types are those of whole keys.
-use Rattle.std.proofs.Common.{◌≡◌, ℕ, Bool, true, false, List, [], ◌∷◌, Option, None, Some, eqb, refl, sym, ap, ◌∙◌, subst}
+use Rattle.std.proofs.Common.{◌≡◌, ℕ, Bool, true, false, List, [], ◌∷◌, Option, None, Some, eqb, refl, ap, ◌∙◌}
 use Rattle.std.specs.Prelude.{IfSome, is_none, not, option_map, unwrap_or, if◌then◌else◌}
 use Rattle.byte_lists.specs.Bytes.{is_zero}
 use Rattle.cca_vectors.specs.Checks.{check, first_failing}

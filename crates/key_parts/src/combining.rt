@@ -14,11 +14,10 @@ ghost use Rattle.key_parts.specs.Parts.{first_key, key_with_fresh};
 
 use crate::places::{clear_key, take_part};
 use cca_vectors::Vector;
-use clear_keys::{open_key, write_current};
 use key_cells::{KeyPlace, Lease};
 use key_transport::vector_for;
 use master_registers::Registers;
-use verb_rules::{Judged, KeyType};
+use verb_rules::{Judged, KeyType, open_key, write_current};
 
 /// The internal token, under the current master key, of the part in the first bytes of the place `Fresh`, with the control
 /// vector of a part of a key of this type and length in bytes. The parity of the part isn't changed. The part doesn't stay

@@ -6,11 +6,10 @@ ghost use Rattle.key_transport.specs.Changes.{ChangesKeys};
 ghost use Rattle.key_transport.specs.Tokens.{external_token, transported_key};
 ghost use Rattle.verb_rules.specs.Keys.{HasHalves, IsDouble, opened};
 
-use clear_keys::open_key;
 use key_cells::{KeyPlace, Lease};
 use key_transport::write_under;
 use multi_encipher::{Under, unseal};
-use verb_rules::Judged;
+use verb_rules::{Judged, open_key};
 
 /// The external token, under the clear key of the judged transport key `two`, of the clear key of a judged external token
 /// with its control vector, which is under the clear key of the judged transport key `one`. Only the places `First` and

@@ -17,7 +17,7 @@ use Rattle.key_records.specs.Entries.{Entry, remembered, pattern_for, pattern_un
 use Rattle.key_records.specs.RecordBody.{kept, ReadsEntry, ReadsWhat}
 use Rattle.key_records.specs.StoreStands.{KeepsLabels, entry_at}
 use Rattle.key_records.specs.declared.rows.Row.{Row}
-use Rattle.byte_lists.proofs.DirectoryLaws.{none_some}
+use Rattle.held_names.proofs.DirectoryLaws.{none_some}
 use Rattle.key_records.proofs.KeptLaws.{kept_flag, kept_with_flag}
 
 pub kept_denoted : (masters : MasterKeys) (token : List ℕ) (key : Denoted) → kept masters token ≡ Some key → denoted masters token ≡ Some key

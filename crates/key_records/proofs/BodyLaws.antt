@@ -4,7 +4,7 @@ use Rattle.std.specs.Prelude.{slice_index, bytes_eq, IsSome, IsTrue, is_some, no
 use Rattle.std.proofs.lemmas.Bool.{false_from_ne_true}
 use Rattle.std.proofs.lemmas.List.{append_assoc, take_at, drop_at, length-append, length-replicate}
 use Rattle.std.proofs.lemmas.Slice.Eq.{bytes_eq-Decides}
-use Rattle.byte_lists.proofs.NameLemmas.{label_short}
+use Rattle.held_names.proofs.NameLemmas.{label_short}
 use Rattle.byte_lists.specs.Bytes.{AreBytes}
 use Rattle.key_tokens.specs.Denotes.{MasterKeys, Denoted}
 use Rattle.key_records.specs.Labels.{IsLabel}

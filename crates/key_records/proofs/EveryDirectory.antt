@@ -10,7 +10,7 @@ use Rattle.key_records.specs.Directory.{label_at, held_count}
 use Rattle.key_records.specs.Entries.{row_directory, row_label}
 use Rattle.key_records.specs.Rows.{AreRows}
 use Rattle.key_records.specs.declared.rows.Row.{Row}
-use Rattle.byte_lists.proofs.DirectoryLaws.{none_some}
+use Rattle.held_names.proofs.DirectoryLaws.{none_some}
 use Rattle.key_records.proofs.OpeningLaws.{label_of_row}
 use Rattle.key_records.specs.Ascending.{AreAscending, IsBefore, IsPlace, text_at, slot_label}
 use Rattle.key_records.specs.Placed.{placed, row_in, AreSlots}

@@ -21,7 +21,7 @@ use Rattle.key_records.specs.Entries.{Entry, remembered, pattern_for, pattern_un
 use Rattle.byte_lists.specs.Bytes.{AreBytes}
 use Rattle.key_records.specs.RecordBody.{kept, IsKept, IsFirst, IsAhead, HasToken, StandsAs, ReadsEntry, ReadsWhat, ReadsRow, ReadsPattern}
 use Rattle.key_records.specs.declared.rows.Second.{Second}
-use Rattle.byte_lists.proofs.DirectoryLaws.{none_some}
+use Rattle.held_names.proofs.DirectoryLaws.{none_some}
 
 pub kept_flag : (masters : MasterKeys) (token : List ℕ) → slice_index token 6 ≢ 0xc0 → kept masters token ≡ None
 unfolding kept

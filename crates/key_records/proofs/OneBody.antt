@@ -20,7 +20,7 @@ use Rattle.key_records.specs.RecordBody.{kept, key_body, both_body, second_field
 use Rattle.key_records.specs.StoreStands.{StandsForLabels}
 use Rattle.key_records.specs.Written.{register_of, token_under, token_bytes, second_under, key_record, record_bytes, written_body}
 use Rattle.key_records.specs.declared.rows.Second.{Second}
-use Rattle.byte_lists.proofs.DirectoryLaws.{none_some}
+use Rattle.held_names.proofs.DirectoryLaws.{none_some}
 use Rattle.key_records.proofs.KeptLaws.{kept_flag, kept_with_flag}
 use Rattle.key_records.proofs.RowTurns.{is_next}
 use Rattle.key_records.proofs.SecondLaws.{same_second}

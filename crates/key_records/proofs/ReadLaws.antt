@@ -2,7 +2,7 @@
 use Rattle.std.proofs.Common.{◌≡◌, ◌<◌, inl, inr, ℕ, zero, suc, Bool, true, false, List, [], ◌∷◌, get_or, map, Option, None, Some, refl, sym, ap, subst, ◌∙◌}
 use Rattle.std.specs.Prelude.{is_some, option_map, slice_index}
 use Rattle.byte_lists.specs.Bytes.{AreBytes}
-use Rattle.byte_lists.proofs.DirectoryLaws.{none_some}
+use Rattle.held_names.proofs.DirectoryLaws.{none_some}
 use Rattle.slot_disk.specs.Cells.{body}
 use Rattle.key_tokens.specs.Denotes.{MasterKeys, Denoted}
 use Rattle.key_tokens.specs.Fields.{pattern_of_token}
@@ -14,7 +14,7 @@ use Rattle.key_records.specs.RecordBody.{record_body, token_in, second_in, kept,
 use Rattle.key_records.specs.StoreStands.{KeepsLabels, HoldsRows, entry_at}
 use Rattle.key_records.specs.declared.rows.Row.{Row}
 use Rattle.key_records.specs.declared.rows.Second.{Second}
-use Rattle.byte_lists.proofs.NameLemmas.{label_short}
+use Rattle.held_names.proofs.NameLemmas.{label_short}
 use Rattle.key_records.proofs.BodyLaws.{kind_again, token_again, second_again, length-no_token}
 use Rattle.key_records.proofs.KeptLaws.{kept_first, row_reads, stands_as, pattern as as_pattern}
 use Rattle.key_records.proofs.SecondLaws.{IsLong, none_long, second_long, second_pattern}

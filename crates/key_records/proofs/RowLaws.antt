@@ -7,7 +7,7 @@ use Rattle.key_records.specs.Entries.{row_directory, row_label}
 use Rattle.key_records.specs.Placed.{placed}
 use Rattle.key_records.specs.Rows.{AreRows, AreListed}
 use Rattle.key_records.specs.declared.rows.Row.{Row}
-use Rattle.byte_lists.proofs.DirectoryLaws.{apart_blank, none_some}
+use Rattle.held_names.proofs.DirectoryLaws.{apart_blank, none_some}
 
 blank_directory : (n : ℕ) → row_directory (replicate n None) ≡ replicate n None
 blank_directory zero = refl

@@ -13,7 +13,7 @@ use Rattle.std.proofs.lemmas.List.Sums.{sum_by-set}
 use Rattle.key_records.specs.Directory.{label_at, AreApart, held_count, cell_of, cell_from}
 use Rattle.key_records.specs.Entries.{row_directory, row_label}
 use Rattle.key_records.specs.declared.rows.Row.{Row}
-use Rattle.byte_lists.proofs.DirectoryLaws.{none_some, place_found, place_is}
+use Rattle.held_names.proofs.DirectoryLaws.{none_some, place_found, place_is}
 use Rattle.key_records.proofs.OpeningLaws.{label_of_row}
 use Rattle.key_records.specs.Ascending.{AreAscending, IsBefore, IsPlace, text_at, slot_label}
 use Rattle.key_records.specs.Placed.{placed, row_in, AreCells, AreSlots}

@@ -14,7 +14,7 @@ use Rattle.key_records.specs.RecordBody.{ReadsEntry, ReadsRow}
 use Rattle.key_records.specs.StoreStands.{StandsForLabels, KeepsLabels, HoldsRows, Agrees, entry_at}
 use Rattle.key_records.specs.declared.faults.RecordFault.{RecordFault}
 use Rattle.key_records.specs.declared.rows.Row.{Row}
-use Rattle.byte_lists.proofs.DirectoryLaws.{none_some}
+use Rattle.held_names.proofs.DirectoryLaws.{none_some}
 use Rattle.key_records.proofs.OpeningLaws.{directory_remembered, label_remembered, label_of_entry}
 
 module _ (masters : MasterKeys) (n : ℕ) (bytes : List ℕ) (slot : Option Entry) (s : List (Option Entry)) (within : n < 1024) (reads : ReadsEntry masters bytes slot) where

@@ -25,7 +25,7 @@ use Rattle.key_records.specs.declared.rows.Row.{Row}
 use Rattle.key_records.specs.declared.rows.Second.{Second}
 use Rattle.key_records.proofs.SecondLaws.{same_second, slice_bytes}
 use Rattle.key_records.proofs.BodyLaws.{spelled, spelled_label, spelled_again, spelled_what, entry_blank, entry_reads}
-use Rattle.byte_lists.proofs.DirectoryLaws.{none_some, apart_set, apart_none, held_somewhere, held_nowhere}
+use Rattle.held_names.proofs.DirectoryLaws.{none_some, apart_set, apart_none, held_somewhere, held_nowhere}
 use Rattle.key_records.proofs.OpeningLaws.{label_remembered, opened_none, opened_more, opened_all, refused_damaged}
 use Rattle.key_records.proofs.RowLaws.{blank_rows, rows_set}
 

@@ -17,12 +17,11 @@ use crate::bodies::{
 };
 use crate::labels::Label;
 use crate::rows::{Row, Second};
-use clear_keys::open_key;
 use key_cells::{KeyPlace, Lease, MasterPlace};
 use key_tokens::{Age, Asked, read_token};
 use master_registers::{NewState, Pattern, Registers, has_pattern, pattern_of};
 use multi_encipher::{Sealed, Under, seal};
-use verb_rules::Judged;
+use verb_rules::{Judged, open_key};
 
 /// The pattern of a full new register.
 pub(crate) fn coming_pattern(lease: &Lease, held: &Registers) -> Option<Pattern>

@@ -9,7 +9,7 @@ use Rattle.cca_vectors.specs.DefaultVectors.{default_for, default_vector, size_o
 use Rattle.cca_vectors.specs.Vectors.{length_of}
 use Rattle.cca_vectors.specs.declared.key_type.KeyType.{KeyType}
 use Rattle.cca_vectors.proofs.DefaultLemmas.{default_for_length, default_length}
-use Rattle.clear_keys.specs.Parity.{odd_byte}
+use Rattle.verb_rules.specs.Parity.{odd_byte}
 use Rattle.key_cells.specs.Bench.{Bench}
 use Rattle.key_tokens.specs.Denotes.{ClearKey}
 use Rattle.master_registers.specs.Masters.{Masters}

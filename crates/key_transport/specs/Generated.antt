@@ -6,7 +6,7 @@ use Rattle.cca_vectors.specs.declared.key_length.Length.{Length}
 use Rattle.cca_vectors.specs.declared.key_type.KeyType.{KeyType}
 use Rattle.cca_vectors.specs.Checks.{first_failing}
 use Rattle.cca_vectors.specs.DefaultVectors.{default_for, default_vector, size_of}
-use Rattle.clear_keys.specs.Parity.{odd_byte}
+use Rattle.verb_rules.specs.Parity.{odd_byte}
 use Rattle.key_cells.specs.Bench.{Bench}
 use Rattle.key_tokens.specs.Denotes.{ClearKey, denoted}
 use Rattle.master_registers.specs.Loaded.{Loaded}

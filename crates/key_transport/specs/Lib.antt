@@ -4,7 +4,7 @@ pub mod UniqueHalves
 pub mod Generated
 pub use Rattle.cca_vectors.specs.Closing
 pub use Rattle.cca_vectors.specs.DefaultVectors
-pub use Rattle.clear_keys.specs.Parity
+pub use Rattle.verb_rules.specs.Parity
 pub use Rattle.key_cells.specs.Bench
 pub use Rattle.key_cells.specs.Lease
 pub use Rattle.key_tokens.specs.Denotes

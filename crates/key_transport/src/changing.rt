@@ -10,10 +10,9 @@ ghost use Rattle.verb_rules.specs.Keys.{HasHalves, keys_of, opened};
 ghost use Rattle.key_transport.specs.Tokens.{as_current, changed_token, current_token, new_token, target_of_name};
 
 use crate::writing::write_new;
-use clear_keys::{open_key, write_current};
 use key_cells::{KeyPlace, Lease};
 use master_registers::{NewState, Registers};
-use verb_rules::Judged;
+use verb_rules::{Judged, open_key, write_current};
 
 /// The register to whose master key a token is changed.
 #[derive(Clone, Copy, Debug, PartialEq, Eq)]

@@ -7,9 +7,8 @@ ghost use Rattle.key_transport.specs.Changes.{ChangesKeys};
 ghost use Rattle.key_transport.specs.Tokens.{external_token};
 
 use crate::writing::write_under;
-use clear_keys::open_key;
 use key_cells::{KeyPlace, Lease};
-use verb_rules::Judged;
+use verb_rules::{Judged, open_key};
 
 /// The external token, under the clear key of a judged transport key, of the clear key of a judged internal token with
 /// its control vector. Only the places `First` and `Key` and the schedules of the lease change.

@@ -18,12 +18,11 @@ ghost use Rattle.key_transport.specs.UniqueHalves.{is_same_half};
 
 use crate::writing::write_under;
 use cca_vectors::{KeyType, Length, Vector, default_of, default_of_size};
-use clear_keys::{set_odd_parity, write_current};
 use key_cells::{KeyPlace, Lease};
 use master_registers::Registers;
 use slot_disk::Entropy;
 use thiserror::Error;
-use verb_rules::Judged;
+use verb_rules::{Judged, set_odd_parity, write_current};
 
 /// Where generated keys go: an operational key is under the current master key, a key that is exported is under an
 /// EXPORTER key, and a key that is to be imported is under an IMPORTER key.

@@ -8,11 +8,10 @@ ghost use Rattle.verb_rules.specs.Keys.{HasHalves, IsDouble, keys_of};
 ghost use Rattle.key_transport.specs.Changes.{ChangesKeys};
 ghost use Rattle.key_transport.specs.Tokens.{as_current, current_token, transported_key};
 
-use clear_keys::{open_key, write_current};
 use key_cells::{KeyPlace, Lease};
 use master_registers::Registers;
 use multi_encipher::{Under, unseal};
-use verb_rules::Judged;
+use verb_rules::{Judged, open_key, write_current};
 
 /// The internal token, under the current master key, of the clear key of a judged external token with its control vector,
 /// which is under the clear key of a judged transport key. Only the places `First` and `Key` and the schedules of the

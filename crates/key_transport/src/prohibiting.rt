@@ -9,10 +9,9 @@ ghost use Rattle.multi_encipher.specs.Bundles.{ChangesKeyAt};
 ghost use Rattle.verb_rules.specs.Keys.{HasHalves, keys_of, opened};
 ghost use Rattle.key_transport.specs.Tokens.{as_current, closed_key, current_token};
 
-use clear_keys::{open_key, write_current};
 use key_cells::{KeyPlace, Lease};
 use master_registers::Registers;
-use verb_rules::Judged;
+use verb_rules::{Judged, open_key, write_current};
 
 /// The internal token, under the current master key, of the clear key of a judged internal token with its control vector
 /// made one that forbids export. Only the place `Key` and the schedules of the lease change.

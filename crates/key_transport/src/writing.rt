@@ -11,12 +11,11 @@ ghost use Rattle.verb_rules.specs.Keys.{IsDouble, opened};
 ghost use Rattle.key_transport.specs.Tokens.{external_token, key_with, new_token};
 
 use cca_vectors::Vector;
-use clear_keys::open_key;
 use key_cells::{KeyPlace, Lease, MasterPlace};
 use key_tokens::{Kind, Token, write_token};
 use master_registers::{NewState, Registers, pattern_of};
 use multi_encipher::{Under, seal};
-use verb_rules::Judged;
+use verb_rules::{Judged, open_key};
 
 /// Sixteen bytes are below 256: a fact that contracts use.
 fn are_bytes(bytes: &[u8; 16])

@@ -8,8 +8,8 @@ use Rattle.des_core.specs.Schedules.{IsOf, schedule_at}
 use Rattle.key_cells.specs.declared.schedules.Schedule.{Schedule}
 use Rattle.verb_rules.specs.declared.lengths.MacRule.{MacRule}
 use Rattle.verb_rules.specs.LengthChecks.{mac_checks, mac_key_length}
-use Rattle.clear_keys.specs.Scheduled.{HoldKey}
-use Rattle.clear_keys.proofs.KeyLemmas.{double_right}
+use Rattle.verb_rules.specs.Scheduled.{HoldKey}
+use Rattle.verb_rules.proofs.KeyLemmas.{double_right}
 
 pub mac_length : (rule : MacRule) (size : ℕ) → first_failing (mac_checks rule size) ≡ None → size ≡ mac_key_length rule
 mac_length rule size passes = eqb-true size (mac_key_length rule) (passes_first 32 (eqb size (mac_key_length rule)) [] passes)

@@ -10,10 +10,9 @@ ghost use Rattle.verb_rules.specs.Keys.{HasHalves, opened};
 ghost use Rattle.verb_rules.specs.LengthChecks.{mac_checks, text_checks};
 ghost use Rattle.mac_verbs.specs.Codes.{code_of, is_code};
 
-use clear_keys::schedule_key;
 use des_core::{cbc_mac, x919_mac};
 use key_cells::{KeyPlace, Lease};
-use verb_rules::{Judged, MacRule, TextUse};
+use verb_rules::{Judged, MacRule, TextUse, schedule_key};
 
 /// The code of the text under the clear key of a judged internal token. A verb replies its leftmost bytes. Only the
 /// place `Key` and the schedules of the lease change.

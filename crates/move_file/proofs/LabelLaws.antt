@@ -3,7 +3,7 @@ use Rattle.std.proofs.Common.{◌≡◌, ◌∙◌, ℕ, Bool, true, false, List
 use Rattle.std.specs.Prelude.{if◌then◌else◌, is_some, IfErr, IsSome}
 use Rattle.std.specs.Option.{option_map}
 use Rattle.std.specs.Str.{bytes_eq}
-use Rattle.byte_lists.proofs.DirectoryLaws.{held_nowhere}
+use Rattle.held_names.proofs.DirectoryLaws.{held_nowhere}
 use Rattle.cca_vectors.specs.Checks.{first_failing}
 use Rattle.key_cells.specs.Bench.{Bench}
 use Rattle.key_records.specs.Directory.{cell_of, label_at}

@@ -47,7 +47,7 @@ pub(crate) fn write_remark(line: &mut ReplyBuffer, label: &Label, why: &[u8])
 }
 
 // Writes what begins a request of the role there, as far as its name.
-#[tactic(auto, using(byte_lists::proofs::NameLemmas::role_short))]
+#[tactic(auto, using(held_names::proofs::NameLemmas::role_short))]
 fn put_role(line: &mut ReplyBuffer, front: &[u8], how: &Move)
     requires empty { line.old ≡ [] }
     requires short { length front.now ≤ 13 }
@@ -59,7 +59,7 @@ fn put_role(line: &mut ReplyBuffer, front: &[u8], how: &Move)
 }
 
 // Writes a label.
-#[tactic(auto, using(byte_lists::proofs::NameLemmas::label_short))]
+#[tactic(auto, using(held_names::proofs::NameLemmas::label_short))]
 fn put_label(line: &mut ReplyBuffer, label: &Label)
     requires { length line.old ≤ 1000 }
     ensures bytes { line.new ≡ line.old ++ label.now }

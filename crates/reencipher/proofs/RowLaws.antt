@@ -7,7 +7,7 @@ use Rattle.slot_disk.specs.Medium.{Medium, Told, IsSettled, From, Becomes, EachI
 use Rattle.slot_disk.specs.SpareBytes.{Turned}
 use Rattle.slot_disk.proofs.Media.{told_at, each_weaker, each_still, goes_on, becomes_same, becomes_weaker, becomes_both, becomes_then, from_then}
 use Rattle.slot_disk.proofs.SpareLemmas.{turned_same}
-use Rattle.byte_lists.proofs.DirectoryLaws.{none_some}
+use Rattle.held_names.proofs.DirectoryLaws.{none_some}
 use Rattle.cca_vectors.specs.Checks.{first_failing}
 use Rattle.key_cells.specs.Bench.{Bench}
 use Rattle.key_tokens.specs.Denotes.{denoted}

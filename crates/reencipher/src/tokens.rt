@@ -17,13 +17,12 @@ ghost use Rattle.verb_rules.specs.Keys.{HasHalves, keys_of, opened_key};
 use crate::actions::StoreAction;
 use crate::writing::Tokens;
 use byte_lists::is_zero;
-use clear_keys::{open_key, write_current};
 use key_cells::{KeyPlace, Lease};
 use key_records::Second;
 use key_tokens::{Age, Asked, read_token};
 use master_registers::{Pattern, Registers, has_pattern};
 use multi_encipher::{Under, seal};
-use verb_rules::Judged;
+use verb_rules::{Judged, open_key, write_current};
 
 /// 64 bytes are below 256: a fact that contracts use.
 fn are_bytes(token: &[u8; 64])

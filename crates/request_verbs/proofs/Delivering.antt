@@ -2,7 +2,7 @@
 use Rattle.std.proofs.Common.{◌≡◌, ◌≤◌, ◌∙◌, ℕ, true, false, List, [], length, Option, None, Some, refl, sym, ap, subst, arith}
 use Rattle.std.specs.Prelude.{Bool, IsSome, IsTrue, is_some, ◌||◌}
 use Rattle.key_cells.specs.Bench.{Bench}
-use Rattle.byte_lists.proofs.NameLemmas.{label_short}
+use Rattle.held_names.proofs.NameLemmas.{label_short}
 use Rattle.key_records.specs.Directory.{label_at}
 use Rattle.key_records.specs.Entries.{row_directory}
 use Rattle.key_records.specs.declared.rows.Row.{Row}

@@ -1,7 +1,7 @@
 -- The rules of SET, CLEAR and AHEAD, by what the memory knows.
 use Rattle.std.proofs.Common.{◌≡◌, ℕ, Bool, true, false, List, [], ◌∷◌, Option, None, Some, refl, sym, ap, ◌∙◌, codes}
 use Rattle.std.specs.Prelude.{◌||◌, if◌then◌else◌}
-use Rattle.clear_keys.proofs.TokenLemmas.{keys_apart}
+use Rattle.verb_rules.proofs.TokenLemmas.{keys_apart}
 use Rattle.key_cells.specs.Bench.{Bench}
 use Rattle.key_records.proofs.AgeLaws.{old_labels, no_old_labels}
 use Rattle.key_records.specs.Ages.{any_old, any_ahead_entry}

@@ -21,7 +21,7 @@ use Rattle.verb_rules.specs.declared.judging.Judged.{Judged}
 use Rattle.verb_rules.specs.declared.needs.Need.{Need}
 use Rattle.verb_rules.specs.declared.rules.Rule.{Rule}
 use Rattle.verb_rules.proofs.NeedLemmas.{every_has}
-use Rattle.byte_lists.proofs.DirectoryLaws.{none_some}
+use Rattle.held_names.proofs.DirectoryLaws.{none_some}
 use Rattle.store_move.specs.Exports.{IsMoved, export_checks, vector_in}
 use Rattle.store_move.specs.Stored.{IsStored, stored_checks}
 use Rattle.store_move.specs.declared.moving.Moved.TheVariants.{Kept, Token}

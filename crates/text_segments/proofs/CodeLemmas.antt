@@ -7,7 +7,7 @@ use Rattle.key_tokens.specs.Denotes.{ClearKey}
 use Rattle.verb_rules.specs.declared.lengths.MacRule.{MacRule}
 use Rattle.verb_rules.specs.declared.lengths.MacRule.TheVariants.{X99, X919}
 use Rattle.verb_rules.specs.LengthChecks.{mac_key_length}
-use Rattle.clear_keys.specs.Scheduled.{HoldKey}
+use Rattle.verb_rules.specs.Scheduled.{HoldKey}
 use Rattle.mac_verbs.proofs.CodeLemmas.{left_schedule, single_schedule}
 use Rattle.text_segments.specs.Segments.{code_cipher}
 

@@ -17,11 +17,10 @@ use crate::chains::Chain;
 use crate::places::{combine_start, fill_text, put_carried};
 use byte_lists::ShortList;
 use cipher_verbs::clear_text;
-use clear_keys::schedule_key;
 use des_core::cbc_mac;
 use key_cells::{KeyPlace, Lease};
 use mac_verbs::mac_generate;
-use verb_rules::{Judged, MacRule, TextUse};
+use verb_rules::{Judged, MacRule, TextUse, schedule_key};
 
 /// How many bytes a block has.
 const BLOCK: usize = 8;

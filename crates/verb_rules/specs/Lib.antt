@@ -7,3 +7,11 @@ pub mod TypeChecks
 pub mod PartChecks
 pub mod Needs
 pub mod StoredKeys
+pub mod Parity
+pub mod Scheduled
+pub mod Written
+pub use Rattle.byte_lists.specs.Bytes
+pub use Rattle.cca_vectors.specs.Bits
+pub use Rattle.key_cells.specs.Bench
+pub use Rattle.key_cells.specs.Lease
+pub use Rattle.multi_encipher.specs.Bundles

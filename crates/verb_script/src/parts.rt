@@ -2,8 +2,8 @@
 ghost use Rattle.std.specs.Prelude.{◌≡◌, ◌⊎◌, Some, IfSome, true, codes, length, option_copied};
 ghost use Rattle.std.specs.Option.{option_or};
 ghost use Rattle.std.specs.List.{list_all};
-ghost use Rattle.byte_lists.specs.Characters.{is_letter};
-ghost use Rattle.byte_lists.specs.Names.{IsLabel, IsRoleName};
+ghost use Rattle.held_names.specs.Characters.{is_letter};
+ghost use Rattle.held_names.specs.Names.{IsLabel, IsRoleName};
 ghost use Rattle.verb_script.specs.Grammar.{row_of, value_of};
 ghost use Rattle.verb_script.specs.Named.{label_named};
 ghost use Rattle.verb_script.specs.Parsed.{seen};
@@ -11,8 +11,8 @@ ghost use Rattle.verb_script.specs.Parts.{as_label, first_label};
 
 use crate::labels::named_label;
 use crate::request::Request;
-use byte_lists::is_label;
 use cca_roles::RoleName;
+use held_names::is_label;
 use std::fmt;
 
 impl<'a> Request<'a> {

@@ -1,6 +1,6 @@
 -- The texts of a request fit into the fields of an entry.
 use Rattle.std.proofs.Common.{arith}
-use Rattle.byte_lists.proofs.NameLemmas.{label_short, role_short}
+use Rattle.held_names.proofs.NameLemmas.{label_short, role_short}
 use Rattle.audit_trail.proofs.FieldLaws.{role_size, label_size}
 use Rattle.audit_entries.proofs.entries.request_entry.Goals as goal
 

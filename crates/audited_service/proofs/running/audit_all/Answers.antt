@@ -20,7 +20,6 @@ use Rattle.audited_service.proofs.RestingLemmas.{grown_kept, grown_on}
 use Rattle.audited_service.proofs.RunLemmas.{trail_at_start, trail_more, on_ok, fault_is}
 use Rattle.slot_disk.proofs.Media.{keeps_still}
 use Rattle.slot_disk.proofs.WhereToldLemmas.{told_then}
-use Rattle.script_buffers.specs.Reading.{input_limit}
 use Rattle.audited_service.proofs.running.audit_all.Goals as goal
 
 pub each_line-init : goal.each_line-init

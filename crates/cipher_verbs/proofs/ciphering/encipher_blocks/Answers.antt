@@ -2,8 +2,8 @@ use Rattle.std.proofs.Common.{◌∙◌, ap}
 use Rattle.des_core.specs.Texts.{cbc_text, text_in}
 use Rattle.key_cells.specs.Lease.{bench_of}
 use Rattle.verb_rules.specs.Keys.{opened}
-use Rattle.clear_keys.specs.Scheduled.{left_key, right_key}
-use Rattle.clear_keys.proofs.ModeLemmas.{ede_of, enciphered_chain, key_length}
+use Rattle.verb_rules.specs.Scheduled.{left_key, right_key}
+use Rattle.verb_rules.proofs.ModeLemmas.{ede_of, enciphered_chain, key_length}
 use Rattle.cipher_verbs.proofs.ciphering.encipher_blocks.Goals as goal
 
 pub returns-clause-text : goal.returns-clause-text

@@ -3,8 +3,8 @@ use Rattle.des_core.specs.Modes.{zero_block}
 use Rattle.key_cells.specs.Lease.{bench_of}
 use Rattle.multi_encipher.proofs.SealLaws.{all_zeros}
 use Rattle.verb_rules.specs.Keys.{opened}
-use Rattle.clear_keys.specs.Scheduled.{HoldKey, left_key, right_key}
-use Rattle.clear_keys.proofs.ModeLemmas.{ede-key, key_length}
+use Rattle.verb_rules.specs.Scheduled.{HoldKey, left_key, right_key}
+use Rattle.verb_rules.proofs.ModeLemmas.{ede-key, key_length}
 use Rattle.cipher_verbs.proofs.testing.key_test.Goals as goal
 
 pub returns-clause-value : goal.returns-clause-value

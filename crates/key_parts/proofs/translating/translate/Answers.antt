@@ -4,7 +4,7 @@ use Rattle.key_tokens.specs.Denotes.{ClearKey, denoted_under}
 use Rattle.multi_encipher.specs.Bundles.{transport_bundle, with_zeros}
 use Rattle.multi_encipher.specs.Seals.{unseal}
 use Rattle.verb_rules.specs.Keys.{opened}
-use Rattle.clear_keys.proofs.KeyLemmas.{key_of_halves}
+use Rattle.verb_rules.proofs.KeyLemmas.{key_of_halves}
 use Rattle.key_transport.specs.Tokens.{external_token, key_with, transported_key}
 use Rattle.key_transport.proofs.PlaceLemmas.{double_put, key_put}
 use Rattle.key_parts.proofs.translating.translate.Goals as goal

@@ -1,7 +1,7 @@
 use Rattle.std.proofs.Common.{◌≡◌, map, take, ap, ◌∙◌}
 use borrow.Rule.Slice.PartMut.{post_of}
 use Rattle.cca_vectors.specs.DefaultVectors.{size_of}
-use Rattle.clear_keys.specs.Parity.{odd_byte}
+use Rattle.verb_rules.specs.Parity.{odd_byte}
 use Rattle.key_transport.proofs.GeneratedLemmas.{odd_drawn}
 use Rattle.key_transport.proofs.generating.fill_key.Goals as goal
 

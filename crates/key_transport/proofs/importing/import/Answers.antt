@@ -6,7 +6,7 @@ use Rattle.master_registers.specs.Masters.{Masters}
 use Rattle.multi_encipher.specs.Bundles.{transport_bundle, with_zeros}
 use Rattle.multi_encipher.specs.Seals.{unseal}
 use Rattle.verb_rules.specs.Keys.{opened}
-use Rattle.clear_keys.proofs.KeyLemmas.{key_of_halves}
+use Rattle.verb_rules.proofs.KeyLemmas.{key_of_halves}
 use Rattle.key_transport.specs.Tokens.{as_current, current_token, key_with, transported_key}
 use Rattle.key_transport.proofs.PlaceLemmas.{double_put, key_put, still_loaded}
 use Rattle.key_transport.proofs.importing.import.Goals as goal

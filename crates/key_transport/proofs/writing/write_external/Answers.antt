@@ -4,7 +4,7 @@ use Rattle.key_cells.specs.Lease.{bench_of}
 use Rattle.key_tokens.specs.Layout.{IsToken, made}
 use Rattle.key_tokens.specs.declared.key_token.Kind.TheVariants.{External}
 use Rattle.multi_encipher.proofs.SealLaws.{bytes_from}
-use Rattle.clear_keys.proofs.KeyLemmas.{key_in_place}
+use Rattle.verb_rules.proofs.KeyLemmas.{key_in_place}
 use Rattle.key_transport.specs.Tokens.{external_token, key_with}
 use Rattle.key_transport.proofs.PlaceLemmas.{stands_under}
 use Rattle.key_transport.proofs.writing.write_external.Goals as goal

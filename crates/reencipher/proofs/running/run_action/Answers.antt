@@ -1,6 +1,6 @@
 use Rattle.std.proofs.Common.{◌≡◌, ◌≤◌, ◌+◌, ℕ, Bool, true, false, cond, refl, sym, subst, ◌∙◌, arith, rules}
 use mir.Val.{bool_byte}
-use Rattle.clear_keys.proofs.TokenLemmas.{keys_apart}
+use Rattle.verb_rules.proofs.TokenLemmas.{keys_apart}
 use Rattle.verb_rules.specs.Keys.{keys_of}
 use Rattle.reencipher.specs.Further.{further}
 use Rattle.reencipher.proofs.LeftLaws.{left_start, left_on, left_failed}

@@ -1,7 +1,7 @@
 use Rattle.std.proofs.Common.{sym, ◌∙◌}
 use Rattle.cca_roles.specs.Roles.{names}
 use Rattle.cca_roles.proofs.BodyLaws.{reads_none}
-use Rattle.byte_lists.proofs.DirectoryLaws.{apart_none}
+use Rattle.held_names.proofs.DirectoryLaws.{apart_none}
 use Rattle.cca_roles.proofs.TableLaws.{place_not_first}
 use Rattle.cca_roles.proofs.roles.Roles.remove.Goals as goal
 

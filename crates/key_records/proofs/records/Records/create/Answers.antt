@@ -7,7 +7,7 @@ use Rattle.key_records.specs.RecordBody.{record_body, null_body, no_second, null
 use Rattle.key_records.specs.declared.rows.Row.{Row}
 use Rattle.key_records.specs.declared.rows.Second.{Second}
 use Rattle.key_records.proofs.BodyLaws.{no_token_is}
-use Rattle.byte_lists.proofs.DirectoryLaws.{held_nowhere, apart_set}
+use Rattle.held_names.proofs.DirectoryLaws.{held_nowhere, apart_set}
 use Rattle.key_records.proofs.StoreLaws.{created_is, labels_changed, replaces_is}
 use Rattle.key_records.proofs.records.Records.create.Goals as goal
 

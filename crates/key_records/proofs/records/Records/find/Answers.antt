@@ -3,7 +3,7 @@ use Rattle.key_records.specs.Directory.{label_at}
 use Rattle.key_records.specs.Entries.{row_directory}
 use Rattle.key_records.specs.Rows.{AreRows}
 use Rattle.key_records.specs.declared.rows.Row.{Row}
-use Rattle.byte_lists.proofs.DirectoryLaws.{held_at}
+use Rattle.held_names.proofs.DirectoryLaws.{held_at}
 use Rattle.key_records.proofs.RowLaws.{held_within}
 use Rattle.key_records.proofs.records.Records.find.Goals as goal
 

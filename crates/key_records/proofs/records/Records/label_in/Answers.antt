@@ -3,7 +3,7 @@ use Rattle.std.proofs.lemmas.List.{get_or_default}
 use Rattle.key_records.specs.Directory.{cell_of, label_at}
 use Rattle.key_records.specs.Entries.{row_directory, row_label}
 use Rattle.key_records.specs.declared.rows.Row.{Row}
-use Rattle.byte_lists.proofs.DirectoryLaws.{place_is}
+use Rattle.held_names.proofs.DirectoryLaws.{place_is}
 use Rattle.key_records.proofs.OpeningLaws.{label_of_row}
 use Rattle.key_records.proofs.records.Records.label_in.Goals as goal
 

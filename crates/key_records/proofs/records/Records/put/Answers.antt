@@ -3,7 +3,7 @@ use Rattle.key_records.specs.Directory.{AreApart}
 use Rattle.key_records.specs.Entries.{row_directory, row_label}
 use Rattle.key_records.specs.Rows.{AreRows}
 use Rattle.key_records.specs.declared.rows.Row.{Row}
-use Rattle.byte_lists.proofs.DirectoryLaws.{fresh_apart}
+use Rattle.held_names.proofs.DirectoryLaws.{fresh_apart}
 use Rattle.key_records.proofs.records.Records.put.Goals as goal
 
 pub returns-then-holds_label_of-clause-rows : goal.returns-then-holds_label_of-clause-rows

@@ -10,7 +10,7 @@ use Rattle.key_records.specs.declared.rows.Second.{Second}
 use Rattle.master_registers.specs.Loaded.{masters_in}
 use Rattle.master_registers.specs.declared.patterns.Pattern.{Pattern}
 use Rattle.verb_rules.specs.Keys.{keys_of}
-use Rattle.byte_lists.proofs.DirectoryLaws.{apart_same, some_of}
+use Rattle.held_names.proofs.DirectoryLaws.{apart_same, some_of}
 use Rattle.key_records.proofs.KeptLaws.{denoted_sound, denoted_pattern, pattern}
 use Rattle.key_records.proofs.StoreLaws.{written_is, labels_changed, replaces_is}
 use Rattle.key_records.proofs.records.Records.write.Goals as goal

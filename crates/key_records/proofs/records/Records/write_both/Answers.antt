@@ -15,7 +15,7 @@ use Rattle.key_records.specs.declared.rows.Second.{Second}
 use Rattle.master_registers.specs.Loaded.{masters_in}
 use Rattle.master_registers.specs.declared.patterns.Pattern.{Pattern}
 use Rattle.verb_rules.specs.Keys.{keys_of}
-use Rattle.byte_lists.proofs.DirectoryLaws.{apart_same}
+use Rattle.held_names.proofs.DirectoryLaws.{apart_same}
 use Rattle.key_records.proofs.KeptLaws.{denoted_sound, denoted_pattern, denoted_vector, pattern}
 use Rattle.key_records.proofs.SecondLaws.{second_pattern, stands_for_none, sealed_single}
 use Rattle.key_records.proofs.StoreLaws.{written_ahead_is, labels_changed, replaces_is}

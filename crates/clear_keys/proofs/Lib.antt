@@ -1,4 +1,0 @@
-pub mod KeyLemmas
-pub mod ModeLemmas
-pub mod ParityLemmas
-pub mod TokenLemmas

@@ -1,5 +1,0 @@
-use Rattle.clear_keys.proofs.ParityLemmas.{odd_byte_odd}
-use Rattle.clear_keys.proofs.parity.odd.Goals as goal
-
-pub returns-clause-odd : goal.returns-clause-odd
-returns-clause-odd c = odd_byte_odd c.args.byte c.ranges.byte.fits

@@ -1,7 +1,0 @@
-use Rattle.clear_keys.specs.Parity.{odd_byte}
-use Rattle.clear_keys.proofs.ParityLemmas.{mapped_more}
-use Rattle.clear_keys.proofs.parity.set_odd_parity.Goals as goal
-
-pub loop-byte-preserved : goal.loop-byte-preserved
-loop-byte-preserved c =
-    mapped_more odd_byte c.args.bytes.now c.loop-byte.bytes c.loop-byte.byte-index c.odd.result c.loop-byte-test.true c.loop-byte.invariant c.odd.ensures.value

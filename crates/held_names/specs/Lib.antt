@@ -1,0 +1,3 @@
+pub mod Characters
+pub mod Directory
+pub mod Names
