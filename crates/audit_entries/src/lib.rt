@@ -6,6 +6,3 @@ mod scribe;
 
 pub use entries::{line_entry, long_line_entry};
 pub use scribe::LineScribe;
-
-#[cfg(test)]
-mod tests;

@@ -14,6 +14,3 @@ pub use faults::TrailFault;
 pub use laws::{a_body_spells_one_record, a_trail_has_its_size, a_trail_is_sound_or_damaged};
 pub use opening::open_trail;
 pub use trail::{CELLS, TRAIL_LEN, Trail};
-
-#[cfg(test)]
-mod tests;

@@ -17,6 +17,3 @@ pub use laws::a_module_stands_for_one_table_of_roles;
 pub use names::{RoleForm, RoleName, default_role};
 pub use opening::open_roles;
 pub use roles::{MODULE_LEN, Role, Roles};
-
-#[cfg(test)]
-mod tests;

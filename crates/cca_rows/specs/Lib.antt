@@ -1,1 +1,2 @@
 pub mod WorkedCeremonies
+pub mod WorkedDemo

@@ -3,6 +3,7 @@
 #![tactic(auto)]
 
 ghost use Rattle.cca_rows.specs.WorkedCeremonies.{CeremoniesAnswered};
+ghost use Rattle.cca_rows.specs.WorkedDemo.{DemoSpelled};
 
 #[cfg(test)]
 mod ahead;
@@ -28,6 +29,8 @@ mod faults;
 mod keys;
 #[cfg(test)]
 mod labels;
+#[cfg(test)]
+mod listings;
 #[cfg(test)]
 mod masters;
 #[cfg(test)]
@@ -56,4 +59,10 @@ mod unloading;
 /// The machine gives the replies to two key ceremonies that are known from outside: the definitions compute them.
 pub fn worked_ceremonies()
     ensures { CeremoniesAnswered }
+{}
+
+/// The lines of a demo over three labels are those that another program wrote from their description: the definitions compute
+/// them.
+pub fn worked_demo()
+    ensures { DemoSpelled }
 {}

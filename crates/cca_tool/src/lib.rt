@@ -25,6 +25,3 @@ pub use showing::show_trail;
 pub use unloading::{MoveStatus, unload};
 pub use verb_script::Taken;
 pub use words::{Command, Words};
-
-#[cfg(test)]
-mod tests;

@@ -86,6 +86,3 @@ fn status_of_listing(outcome: Result<(), ListFault>) -> AuditStatus
         Err(ListFault::Trail(TrailFault::Full)) => AuditStatus::TrailFull,
     }
 }
-
-#[cfg(test)]
-mod tests;

@@ -22,6 +22,3 @@ pub use faults::{LoadFault, RegisterFault};
 pub use loading::{a_body_reads_as_one, load};
 pub use patterns::{Pattern, has_pattern, pattern_of};
 pub use registers::{NewState, Registers};
-
-#[cfg(test)]
-mod tests;

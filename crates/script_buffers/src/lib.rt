@@ -4,8 +4,6 @@
 
 mod lines;
 mod reply;
-#[cfg(test)]
-mod tests;
 
 pub use lines::{INPUT_LIMIT, LINE_LIMIT, LineBuffer, LineFault, Taken, read_line};
 pub use reply::{REPLY_ROOM, ReplyBuffer};

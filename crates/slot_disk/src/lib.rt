@@ -34,6 +34,3 @@ pub use sink::Sink;
 pub use source::Source;
 pub use steps::Steps;
 pub use streams::{StreamEntropy, StreamSink, StreamSource};
-
-#[cfg(test)]
-mod tests;

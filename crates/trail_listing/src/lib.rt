@@ -5,6 +5,3 @@ mod lines;
 mod listing;
 
 pub use listing::{ListFault, list_trail};
-
-#[cfg(test)]
-mod tests;
