@@ -2,11 +2,10 @@
 //! made by Python's `cryptography`, whose triple DES is OpenSSL's, and `hashlib` from the clear keys, after the definition of
 //! a token.
 
-use crate::ahead::{AHEAD, KEYS, NEXT, SET};
-use crate::disks::{CALLS, copy_of, run_on};
-use crate::keys::MASTER_KEY;
+use crate::disks::{copy_of, run_on};
 use crate::pairs::{Pair, blank, with};
 use crate::runs::{MODULE_SIZE, STORE_SIZE};
+use crate::tables::{AHEAD, KEYS, MASTER_KEY, NEXT, SET};
 use cca_tool::{Device, Status};
 use hex::FromHex;
 use slot_disk::{Disk, MemoryDisk};

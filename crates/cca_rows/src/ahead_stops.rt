@@ -1,9 +1,8 @@
 //! AHEAD and DROP stopped at each call of the store, and run again.
 
-use crate::ahead::{AHEAD, CURRENT_AT_ONCE, KEYS, NEXT, OLD_AGAIN, REFUSED};
-use crate::keys::MASTER_KEY;
 use crate::pairs::{Pair, blank, with};
 use crate::stops::{Renewal, expect_chains, expect_second_runs};
+use crate::tables::{AHEAD, KEYS, MASTER_KEY, NEXT};
 use std::alloc::Global;
 use std::process::Abort;
 use std::test::Fail;
@@ -53,6 +52,55 @@ OK value=d5d44ff7
 OK value=d5d44ff7
 ",
 };
+
+// SET brings the labels that are ahead under the new master key.
+const CURRENT_AT_ONCE: &[(&str, &str)] = &[
+    ("REENCIPHER role=DEFAULT action=AHEAD", "OK changed=3"),
+    ("REENCIPHER role=DEFAULT action=AHEAD", "OK changed=0"),
+    ("CSNBMKP role=DEFAULT action=CLEAR", "NO 33 -"),
+    ("CSNBMKP role=DEFAULT action=SET", "OK new=empty"),
+    ("CSNBKYT role=DEFAULT key=L:A", "OK value=d5d44ff7"),
+    ("REENCIPHER role=DEFAULT", "OK changed=0"),
+];
+
+// No key is ahead of the next one.
+const OLD_AGAIN: &[(&str, &str)] = &[
+    ("REENCIPHER role=DEFAULT action=AHEAD", "NO 25 -"),
+    (
+        "CSNBMKP role=DEFAULT action=FIRST part=aaaaaaaaaaaaaaaaaaaaaaaaaaaaaaaaaaaaaaaaaaaaaaaa",
+        "OK new=partial",
+    ),
+    (
+        "CSNBMKP role=DEFAULT action=LAST part=000000000000000000000000000000000000000000000000",
+        "OK new=full",
+    ),
+    ("CSNBMKP role=DEFAULT action=SET", "OK new=empty"),
+    ("CSNBKYT role=DEFAULT key=L:A", "OK value=d5d44ff7 warn=old"),
+];
+
+// A new register with the pattern of the old one, and labels under the old master key, are refused.
+const REFUSED: &[(&str, &str)] = &[
+    (
+        "CSNBMKP role=DEFAULT action=FIRST part=ffffffffffffffffffffffffffffffffffffffffffffffff",
+        "OK new=partial",
+    ),
+    (
+        "CSNBMKP role=DEFAULT action=LAST part=000000000000000000000000000000000000000000000000",
+        "OK new=full",
+    ),
+    ("REENCIPHER role=DEFAULT action=AHEAD", "NO 26 -"),
+    ("CSNBMKP role=DEFAULT action=CLEAR", "OK new=empty"),
+    (
+        "CSNBMKP role=DEFAULT action=FIRST part=bbbbbbbbbbbbbbbbbbbbbbbbbbbbbbbbbbbbbbbbbbbbbbbb",
+        "OK new=partial",
+    ),
+    (
+        "CSNBMKP role=DEFAULT action=LAST part=000000000000000000000000000000000000000000000000",
+        "OK new=full",
+    ),
+    ("REENCIPHER role=DEFAULT action=AHEAD", "NO 27 -"),
+    ("REENCIPHER role=DEFAULT", "OK changed=3"),
+];
 
 // Three keys under the third master key, and a fourth one in the new register.
 fn before_ahead(rt: &impl Abort, alloc: Global) -> Result<Pair, Fail> {

@@ -29,17 +29,15 @@ struct Ended {
     got: Vec<u8>,
 }
 
-// Serves requests for this word beside a trail, over new disks, with the call of this number failing.
+// Serves the requests beside a trail, over new disks, with the call of this number failing.
 fn audited(
     alloc: Global,
-    requests: &[u8],
-    word: &str,
     failing: Failing,
     call: u64,
     trail: &mut MemoryDisk,
 ) -> Result<Ended, Fail> {
-    let words = words_of(alloc, &[word])?;
-    let mut source = MemorySource::new(alloc, requests, 1_000)?;
+    let words = words_of(alloc, &["audit"])?;
+    let mut source = MemorySource::new(alloc, REQUESTS, 1_000)?;
     let mut sink = MemorySink::new(alloc, ROOM)?;
     let mut module = MemoryDisk::new(alloc, MODULE_SIZE, CALLS)?;
     let mut store = MemoryDisk::new(alloc, STORE_SIZE, CALLS)?;
@@ -72,9 +70,9 @@ fn audited(
     Ok(Ended { status, got })
 }
 
-// What is shown of a trail, with its call of this number failing, where there is one.
-fn shown(alloc: Global, word: &str, trail: &mut MemoryDisk) -> Result<Ended, Fail> {
-    let words = words_of(alloc, &[word])?;
+// What is shown of a trail.
+fn shown(alloc: Global, trail: &mut MemoryDisk) -> Result<Ended, Fail> {
+    let words = words_of(alloc, &["trail"])?;
     let mut sink = MemorySink::new(alloc, ROOM)?;
     if trail.size() != TRAIL_LEN {
         return Err(Fail::from("a trail of another size"));
@@ -95,10 +93,10 @@ fn expect(
     records: &[u8],
 ) -> Result<(), Fail> {
     let mut trail = MemoryDisk::new(alloc, TRAIL_LEN, CALLS)?;
-    let ended = audited(alloc, REQUESTS, "audit", failing.0, failing.1, &mut trail)?;
+    let ended = audited(alloc, failing.0, failing.1, &mut trail)?;
     assert_eq!(rt; ended.status, status, "{failing:?}");
     assert_eq!(rt; ended.got.as_slice(), replies, "{failing:?}");
-    let listed = shown(alloc, "trail", &mut trail)?;
+    let listed = shown(alloc, &mut trail)?;
     assert_eq!(rt; listed.status, AuditStatus::Run(Status::Done));
     assert_eq!(rt; listed.got.as_slice(), records, "{failing:?}");
     Ok(())
@@ -108,58 +106,6 @@ fn expect(
 fn each_line_has_its_record(rt: HostRuntime) -> Result<(), Fail> {
     let done = AuditStatus::Run(Status::Done);
     expect(&rt, rt.alloc(), (Failing::None, 0), done, REPLIES, RECORDS)
-}
-
-// REENCIPHER with an action, refused and carried out: a record has the verb alone.
-const RENEWALS: &[u8] = b"\
-REENCIPHER role=DEFAULT action=AHEAD
-CSNBMKP role=DEFAULT action=FIRST part=0102030405060708090a0b0c0d0e0f101112131415161718
-CSNBMKP role=DEFAULT action=LAST part=000000000000000000000000000000000000000000000000
-CSNBMKP role=DEFAULT action=SET
-CSNBMKP role=DEFAULT action=FIRST part=ffffffffffffffffffffffffffffffffffffffffffffffff
-CSNBMKP role=DEFAULT action=LAST part=000000000000000000000000000000000000000000000000
-REENCIPHER role=DEFAULT action=AHEAD
-REENCIPHER role=DEFAULT action=DROP
-REENCIPHER role=DEFAULT action=BACK
-";
-
-const RENEWAL_REPLIES: &[u8] =
-    b"NO 05 -\nOK new=partial\nOK new=full\nOK new=empty\nOK new=partial\nOK new=full\nOK changed=0\nOK changed=0\nNO 01 -\n";
-
-const RENEWAL_RECORDS: &[u8] = b"\
-0 05 DEFAULT REENCIPHER -
-1 00 DEFAULT CSNBMKP -
-2 00 DEFAULT CSNBMKP -
-3 00 DEFAULT CSNBMKP -
-4 00 DEFAULT CSNBMKP -
-5 00 DEFAULT CSNBMKP -
-6 00 DEFAULT REENCIPHER -
-7 00 DEFAULT REENCIPHER -
-8 01 - - -
-";
-
-#[test]
-fn an_action_of_reencipher_is_recorded_by_its_verb(rt: HostRuntime) -> Result<(), Fail> {
-    let alloc = rt.alloc();
-    let mut trail = MemoryDisk::new(alloc, TRAIL_LEN, CALLS)?;
-    let ended = audited(alloc, RENEWALS, "audit", Failing::None, 0, &mut trail)?;
-    assert_eq!(rt; ended.status, AuditStatus::Run(Status::Done));
-    assert_eq!(rt; ended.got.as_slice(), RENEWAL_REPLIES);
-    let listed = shown(alloc, "trail", &mut trail)?;
-    assert_eq!(rt; listed.got.as_slice(), RENEWAL_RECORDS);
-    Ok(())
-}
-
-#[test]
-fn other_words_are_no_command(rt: HostRuntime) -> Result<(), Fail> {
-    let usage = AuditStatus::Run(Status::Usage);
-    let mut trail = MemoryDisk::new(rt.alloc(), TRAIL_LEN, CALLS)?;
-    let ended = audited(rt.alloc(), REQUESTS, "run", Failing::None, 0, &mut trail)?;
-    assert_eq!(rt; ended.status, usage);
-    let listed = shown(rt.alloc(), "audit", &mut trail)?;
-    assert_eq!(rt; listed.status, usage);
-    assert_eq!(rt; trail.noted(), 0);
-    Ok(())
 }
 
 // A sync and two reads of each cell open a blank trail. A record is a read, and twice a write and a sync.
@@ -230,12 +176,12 @@ fn is_front(records: &[u8]) -> bool {
 fn a_stop_leaves_the_records_of_some_first_lines(rt: HostRuntime) -> Result<(), Fail> {
     let alloc = rt.alloc();
     let mut trail = MemoryDisk::new(alloc, TRAIL_LEN, CALLS)?;
-    let ended = audited(alloc, REQUESTS, "audit", Failing::None, 0, &mut trail)?;
+    let ended = audited(alloc, Failing::None, 0, &mut trail)?;
     assert_eq!(rt; ended.got.as_slice(), REPLIES);
     for noted in 0..trail.noted() {
         for torn in TEARS {
             let mut left = trail.crash(alloc, noted, torn, CALLS)?;
-            let listed = shown(alloc, "trail", &mut left)?;
+            let listed = shown(alloc, &mut left)?;
             assert_eq!(rt; listed.status, AuditStatus::Run(Status::Done));
             assert!(rt; is_front(listed.got.as_slice()), "{noted} {torn:?}");
         }
@@ -251,10 +197,10 @@ fn a_damaged_trail_ends_the_run(rt: HostRuntime) -> Result<(), Fail> {
     // cell 7 has a body whose first byte is that of no record
     image[7 * 1_536 + 512] = 9;
     let mut trail = MemoryDisk::from_image(alloc, image.as_slice(), CALLS)?;
-    let ended = audited(alloc, REQUESTS, "audit", Failing::None, 0, &mut trail)?;
+    let ended = audited(alloc, Failing::None, 0, &mut trail)?;
     assert_eq!(rt; ended.status, AuditStatus::TrailDamaged(7));
     assert_eq!(rt; ended.got.as_slice(), b"".as_slice());
-    let listed = shown(alloc, "trail", &mut trail)?;
+    let listed = shown(alloc, &mut trail)?;
     assert_eq!(rt; listed.status, AuditStatus::TrailDamaged(7));
     assert_eq!(rt; listed.got.as_slice(), b"".as_slice());
     Ok(())

@@ -3,9 +3,9 @@
 
 use crate::changed_disk::{Change, ChangedDisk};
 use crate::disks::copy_of;
-use crate::labels::LABELLED;
 use crate::pairs::{Pair, blank, with};
 use crate::runs::{Ended, MODULE_SIZE, ROOM, STORE_SIZE, has_ended, words_of};
+use crate::tables::LABELLED;
 use crate::unloading::{FILE, MOVE, REPORT, Unloaded, here, is_so, joined};
 use cca_tool::{Device, MoveStatus, Status, run, unload};
 use key_cells::Workbench;

@@ -25,24 +25,6 @@ fn expect_demo(
 }
 
 #[test]
-fn a_demo_tells_how_its_lines_were_answered(rt: HostRuntime) -> Result<(), Fail> {
-    expect_demo(
-        &rt,
-        rt.alloc(),
-        "1",
-        (Failing::None, 0),
-        (Status::Done, b"demo 1: lines=15 ok=14 refused=1 old=1\n"),
-    )?;
-    expect_demo(
-        &rt,
-        rt.alloc(),
-        "3",
-        (Failing::None, 0),
-        (Status::Done, b"demo 3: lines=24 ok=23 refused=1 old=1\n"),
-    )
-}
-
-#[test]
 fn a_demo_whose_store_fails_sends_nothing(rt: HostRuntime) -> Result<(), Fail> {
     expect_demo(
         &rt,

@@ -1,12 +1,10 @@
-//! Replies that are known from outside: whole runs of the top call as tests, and key ceremonies that the machine's
-//! definitions compute. It is a crate of tests.
+//! Whole runs of the top calls as tests: devices that fail, stops, and disks that another program changed. And key ceremonies
+//! that the machine's definitions compute. It is a crate of tests.
 #![tactic(auto)]
 
 ghost use Rattle.cca_rows.specs.WorkedCeremonies.{CeremoniesAnswered};
 ghost use Rattle.cca_rows.specs.WorkedDemo.{DemoSpelled};
 
-#[cfg(test)]
-mod ahead;
 #[cfg(test)]
 mod ahead_bodies;
 #[cfg(test)]
@@ -18,29 +16,17 @@ mod changed_disk;
 #[cfg(test)]
 mod changed_stores;
 #[cfg(test)]
-mod cuts;
-#[cfg(test)]
 mod demo;
 #[cfg(test)]
 mod disks;
 #[cfg(test)]
 mod faults;
 #[cfg(test)]
-mod keys;
-#[cfg(test)]
-mod labels;
-#[cfg(test)]
 mod listings;
 #[cfg(test)]
-mod masters;
-#[cfg(test)]
-mod moves;
+mod morning;
 #[cfg(test)]
 mod pairs;
-#[cfg(test)]
-mod roles;
-#[cfg(test)]
-mod rows;
 #[cfg(test)]
 mod runs;
 #[cfg(test)]
@@ -49,8 +35,6 @@ mod sessions;
 mod stops;
 #[cfg(test)]
 mod tables;
-#[cfg(test)]
-mod tokens;
 #[cfg(test)]
 mod unique_halves;
 #[cfg(test)]

@@ -56,18 +56,3 @@ pub(crate) fn with(
     let (requests, replies) = lines_of(alloc, tables)?;
     after(rt, alloc, pair, requests.as_bytes(), replies.as_bytes())
 }
-
-// The same, with a run for each line of a table: the disks are opened again after each one.
-pub(crate) fn line_by_line(
-    rt: &impl Abort,
-    alloc: Global,
-    pair: &Pair,
-    table: &[(&str, &str)],
-) -> Result<Pair, Fail> {
-    let mut now = after(rt, alloc, pair, b"", b"")?;
-    for (request, reply) in table {
-        let reply = format!(in alloc; "{reply}\n")?;
-        now = after(rt, alloc, &now, request.as_bytes(), reply.as_bytes())?;
-    }
-    Ok(now)
-}

@@ -134,24 +134,3 @@ pub(crate) fn has_ended(rt: &impl Abort, ended: &Ended, status: Status, replies:
     assert_eq!(rt; ended.status, status);
     assert_eq!(rt; ended.replies.as_slice(), replies);
 }
-
-// Runs requests over two disks, with no random bytes, and asserts the status and the replies.
-pub(crate) fn expect_over(
-    rt: &impl Abort,
-    alloc: Global,
-    module: &mut MemoryDisk,
-    store: &mut MemoryDisk,
-    input: &str,
-    want: (Status, &str),
-) -> Result<(), Fail>
-    requires module { (⟦<MemoryDisk as Disk>⟧.medium «module».old).size ≡ 50688 }
-    requires store { (⟦<MemoryDisk as Disk>⟧.medium store.old).size ≡ 1572864 }
-    ensures module { (⟦<MemoryDisk as Disk>⟧.medium «module».new).size ≡ 50688 }
-    ensures store { (⟦<MemoryDisk as Disk>⟧.medium store.new).size ≡ 1572864 }
-{
-    let ended = run_over(alloc, &Trial::of(input.as_bytes(), &[]), module, store);
-    assert!(rt; module.size() == MODULE_SIZE);
-    assert!(rt; store.size() == STORE_SIZE);
-    has_ended(rt, &ended?, want.0, want.1.as_bytes());
-    Ok(())
-}

@@ -195,11 +195,7 @@ fn renewed(
 }
 
 // Whether the first five cells of two stores select the same bodies.
-pub(crate) fn have_same_bodies(
-    alloc: Global,
-    one: &MemoryDisk,
-    other: &MemoryDisk,
-) -> Result<bool, Fail> {
+fn have_same_bodies(alloc: Global, one: &MemoryDisk, other: &MemoryDisk) -> Result<bool, Fail> {
     let mut one = copy_of(alloc, one)?;
     let mut other = copy_of(alloc, other)?;
     let mut first = [0; 192];

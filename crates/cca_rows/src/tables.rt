@@ -1,10 +1,6 @@
-//! Tables of rows, each a request line and the reply to it, and runs of the top call over them.
-ghost use Rattle.std.specs.Prelude.{◌<◌};
+//! Tables of rows, each a request line and the reply to it.
 
-use crate::runs::{Trial, has_ended, run_new};
-use cca_tool::Status;
 use std::alloc::Global;
-use std::process::Abort;
 use std::test::Fail;
 
 // The request lines of some tables, and the replies to them.
@@ -30,48 +26,101 @@ fn append(table: &[(&str, &str)], requests: &mut String, replies: &mut String) -
     Ok(())
 }
 
-// Runs requests over a blank module, a blank store and these random bytes, and asserts the replies.
-pub(crate) fn expect_replies(
-    rt: &impl Abort,
-    alloc: Global,
-    requests: &String,
-    replies: &String,
-    random: &[u8],
-) -> Result<(), Fail> {
-    expect_in_pieces(rt, alloc, requests.as_bytes(), replies, random, 1_000)
-}
+// A master key.
+pub(crate) const MASTER_KEY: &[(&str, &str)] = &[
+    (
+        "CSNBMKP role=DEFAULT action=FIRST part=0102030405060708090a0b0c0d0e0f101112131415161718",
+        "OK new=partial",
+    ),
+    (
+        "CSNBMKP role=DEFAULT action=LAST part=000000000000000000000000000000000000000000000000",
+        "OK new=full",
+    ),
+    ("CSNBMKP role=DEFAULT action=SET", "OK new=empty"),
+];
 
-// The same for requests that come in pieces of this size.
-pub(crate) fn expect_in_pieces(
-    rt: &impl Abort,
-    alloc: Global,
-    requests: &[u8],
-    replies: &String,
-    random: &[u8],
-    piece: usize,
-) -> Result<(), Fail>
-    requires { 0 < piece }
-{
-    let trial = Trial {
-        piece,
-        ..Trial::of(requests, random)
-    };
-    has_ended(
-        rt,
-        &run_new(alloc, &trial)?,
-        Status::Done,
-        replies.as_bytes(),
-    );
-    Ok(())
-}
+// A master key, and keys under labels.
+pub(crate) const LABELLED: &[(&str, &str)] = &[
+    (
+        "CSNBMKP role=DEFAULT action=FIRST part=0102030405060708090a0b0c0d0e0f101112131415161718",
+        "OK new=partial",
+    ),
+    (
+        "CSNBMKP role=DEFAULT action=LAST part=000000000000000000000000000000000000000000000000",
+        "OK new=full",
+    ),
+    ("CSNBMKP role=DEFAULT action=SET", "OK new=empty"),
+    ("CSNBKRC role=DEFAULT label=K", "OK"),
+    (
+        "CSNBCKI role=DEFAULT clear=0123456789abcdef to=L:K",
+        "OK stored=K",
+    ),
+    ("CSNBKRC role=DEFAULT label=Z", "OK"),
+    (
+        "CSNBCKI role=DEFAULT clear=0000000000000000 to=L:Z",
+        "OK stored=Z",
+    ),
+];
 
-// The same for the requests of some tables.
-pub(crate) fn expect(
-    rt: &impl Abort,
-    alloc: Global,
-    tables: &[&[(&str, &str)]],
-    random: &[u8],
-) -> Result<(), Fail> {
-    let (requests, replies) = lines_of(alloc, tables)?;
-    expect_replies(rt, alloc, &requests, &replies, random)
-}
+// A master key, two transport keys, and a label for a key.
+pub(crate) const TRANSPORT: &[(&str, &str)] = &[
+    (
+        "CSNBMKP role=DEFAULT action=FIRST part=0102030405060708090a0b0c0d0e0f101112131415161718",
+        "OK new=partial",
+    ),
+    (
+        "CSNBMKP role=DEFAULT action=LAST part=000000000000000000000000000000000000000000000000",
+        "OK new=full",
+    ),
+    ("CSNBMKP role=DEFAULT action=SET", "OK new=empty"),
+    ("CSNBKRC role=DEFAULT label=IMP", "OK"),
+    ("CSNBKRC role=DEFAULT label=EXP", "OK"),
+    ("CSNBKRC role=DEFAULT label=ZERO", "OK"),
+    (
+        "CSNBKGN role=DEFAULT form=OP length=16 type1=IMPORTER to=L:IMP",
+        "OK stored=IMP",
+    ),
+    (
+        "CSNBKGN role=DEFAULT form=OP length=16 type1=EXPORTER to=L:EXP",
+        "OK stored=EXP",
+    ),
+];
+
+// One key under three labels.
+pub(crate) const KEYS: &[(&str, &str)] = &[
+    ("CSNBKRC role=DEFAULT label=A", "OK"),
+    (
+        "CSNBCKI role=DEFAULT clear=0123456789abcdef to=L:A",
+        "OK stored=A",
+    ),
+    ("CSNBKRC role=DEFAULT label=B", "OK"),
+    (
+        "CSNBCKI role=DEFAULT clear=0123456789abcdef to=L:B",
+        "OK stored=B",
+    ),
+    ("CSNBKRC role=DEFAULT label=C", "OK"),
+    (
+        "CSNBCKI role=DEFAULT clear=0123456789abcdef to=L:C",
+        "OK stored=C",
+    ),
+];
+
+// The next master key, which isn't set yet.
+pub(crate) const NEXT: &[(&str, &str)] = &[
+    (
+        "CSNBMKP role=DEFAULT action=FIRST part=ffffffffffffffffffffffffffffffffffffffffffffffff",
+        "OK new=partial",
+    ),
+    (
+        "CSNBMKP role=DEFAULT action=LAST part=000000000000000000000000000000000000000000000000",
+        "OK new=full",
+    ),
+];
+
+pub(crate) const SET: &[(&str, &str)] = &[("CSNBMKP role=DEFAULT action=SET", "OK new=empty")];
+
+// Three labels are put ahead.
+pub(crate) const AHEAD: &[(&str, &str)] = &[(
+    "REENCIPHER role=DEFAULT action=AHEAD",
+    "OK changed=3",
+)];

@@ -1,14 +1,11 @@
-//! Stores that are moved to another module: what `unload` writes, what the other module makes of it, what is refused, and
-//! how it ends where a device fails or a disk is damaged. The tokens here were made by another program's triple DES and
-//! SHA-1 from the clear keys, after the definition of a token; each key that is drawn has the bytes 01.
+//! A store that is moved to another module, and how a move ends where a device fails or a disk is damaged. The tokens here
+//! were made by another program's triple DES and SHA-1 from the clear keys, after the definition of a token; each key that is
+//! drawn has the bytes 01.
 
-use crate::ahead::{AHEAD, NEXT};
 use crate::disks::{CALLS, copy_of};
-use crate::keys::MASTER_KEY;
-use crate::moves::TRANSPORT;
 use crate::pairs::{Pair, after, blank, with};
 use crate::runs::{MODULE_SIZE, STORE_SIZE, words_of};
-use crate::stops::have_same_bodies;
+use crate::tables::{MASTER_KEY, TRANSPORT};
 use cca_tool::{Device, MoveStatus, Status, unload};
 use key_cells::Workbench;
 use slot_disk::{Disk, MemoryDisk, MemorySink, Torn};
@@ -162,17 +159,16 @@ pub(crate) fn is_so(
     assert_eq!(rt; ended.report.as_slice(), report.as_bytes());
 }
 
-// Asserts what comes of these words where nothing fails.
+// Asserts what comes of the move where nothing fails.
 fn expect(
     rt: &impl Abort,
     alloc: Global,
     pair: &Pair,
-    words: &[&str],
     status: MoveStatus,
     file: &str,
     report: &str,
 ) -> Result<(), Fail> {
-    let ended = unload_failing(alloc, pair, words, (Failing::None, 0), (ROOM, ROOM))?;
+    let ended = unload_failing(alloc, pair, &MOVE, (Failing::None, 0), (ROOM, ROOM))?;
     is_so(rt, &ended, status, file, report);
     Ok(())
 }
@@ -186,284 +182,12 @@ fn a_store_is_moved_and_moved_again(rt: HostRuntime) -> Result<(), Fail> {
     let alloc = rt.alloc();
     let file = joined(alloc, &FILE, FILE.len())?;
     let from = here(&rt, alloc)?;
-    expect(&rt, alloc, &from, &MOVE, DONE, file.as_str(), REPORT)?;
+    expect(&rt, alloc, &from, DONE, file.as_str(), REPORT)?;
     let to = there(&rt, alloc, MASTER_KEY)?;
     let requests = file.as_bytes();
     let to = after(&rt, alloc, &to, requests, FIRST_REPLIES.as_bytes())?;
     let to = after(&rt, alloc, &to, requests, NEXT_REPLIES.as_bytes())?;
     with(&rt, alloc, &to, &[EXPORTED])?;
-    Ok(())
-}
-
-// Some first lines of the file, again and again, and then all of them: each cell of the store selects what one run over the
-// file leaves in it.
-#[test]
-fn a_move_is_begun_again(rt: HostRuntime) -> Result<(), Fail> {
-    let alloc = rt.alloc();
-    let file = joined(alloc, &FILE, FILE.len())?;
-    let blank = there(&rt, alloc, NEXT_MASTER_KEY)?;
-    let once = after(
-        &rt,
-        alloc,
-        &blank,
-        file.as_bytes(),
-        FIRST_REPLIES.as_bytes(),
-    )?;
-    let listed: &[(&str, &str)] = &[
-        (
-            "CSNBKRL role=DEFAULT prefix=",
-            "OK count=3 labels=EXP,IMP,ZERO",
-        ),
-        ("CSNBKYT role=DEFAULT key=L:ZERO", "OK value=8ca64de9"),
-    ];
-    with(&rt, alloc, &once, &[EXPORTED, listed])?;
-    let table = [
-        ([FILE[0], "", "", ""], "OK\n"),
-        (
-            [FILE[0], FILE[1], FILE[2], ""],
-            "NO 29 label\nOK stored=EXP\nOK\n",
-        ),
-        ([FILE[0], FILE[1], "", ""], "NO 29 label\nOK stored=EXP\n"),
-        (FILE, NEXT_REPLIES),
-    ];
-    let mut to = blank;
-    for (lines, replies) in table {
-        let part = joined(alloc, &lines, lines.len())?;
-        to = after(&rt, alloc, &to, part.as_bytes(), replies.as_bytes())?;
-    }
-    with(&rt, alloc, &to, &[EXPORTED, listed])?;
-    assert!(rt; have_same_bodies(alloc, &to.store, &once.store)?);
-    Ok(())
-}
-
-#[test]
-fn a_key_closed_to_export_stays(rt: HostRuntime) -> Result<(), Fail> {
-    let alloc = rt.alloc();
-    let closed: &[(&str, &str)] = &[(
-        "CSNBPEX role=DEFAULT key=L:ZERO to=L:ZERO",
-        "OK stored=ZERO",
-    )];
-    let from = with(&rt, alloc, &here(&rt, alloc)?, &[closed])?;
-    let file = joined(alloc, &FILE, 2)?;
-    let report = "kept IMP target\nkept ZERO 21\n";
-    expect(&rt, alloc, &from, &MOVE, DONE, file.as_str(), report)
-}
-
-// Labels in ascending order: one that has no key, two of keys in parts, of which one is as long as a transport key, one of
-// a key that is moved, the transport key, and one that is named as the transport key's there, though it has no key.
-#[test]
-fn what_is_no_key_stays(rt: HostRuntime) -> Result<(), Fail> {
-    let alloc = rt.alloc();
-    let labels: &[(&str, &str)] = &[
-        ("CSNBKRC role=DEFAULT label=THERE", "OK"),
-        ("CSNBKRC role=DEFAULT label=A.B", "OK"),
-        ("CSNBKRC role=DEFAULT label=#", "OK"),
-        ("CSNBKRC role=DEFAULT label=A", "OK"),
-        (
-            "CSNBKPI role=DEFAULT rule=FIRST type=EXPORTER part=01010101010101010101010101010101 to=L:A",
-            "OK stored=A",
-        ),
-        (
-            "CSNBKPI role=DEFAULT rule=FIRST type=DATA part=0101010101010101 to=L:A.B",
-            "OK stored=A.B",
-        ),
-        ("CSNBKRD role=DEFAULT label=IMP", "OK"),
-    ];
-    let from = with(&rt, alloc, &here(&rt, alloc)?, &[labels])?;
-    let words = ["unload", "DEFAULT", "EXP", "MOVER", "THERE"];
-    let file = "\
-CSNBKRC role=MOVER label=EXP
-CSNBKIM role=MOVER token=020000000000c000000000000000000023f2c4edba8eb3cb23246490b3c57f7400417d000341000000417d0003210000000000000000000000000000be5116bc transport=L:THERE to=L:EXP
-CSNBKRC role=MOVER label=ZERO
-CSNBKIM role=MOVER token=020000000000c00000000000000000008ca64de9c1b123a700000000000000000000000000000000000000000000000000000000000000000000000050583190 transport=L:THERE to=L:ZERO
-";
-    let report = "kept # 08\nkept A 17\nkept A.B 17\nkept THERE target\n";
-    expect(&rt, alloc, &from, &words, DONE, file, report)
-}
-
-// The key of EXP is exported under itself, and keys that are ahead and keys under the old master key are moved as others
-// are.
-#[test]
-fn the_file_depends_on_no_master_key(rt: HostRuntime) -> Result<(), Fail> {
-    let alloc = rt.alloc();
-    let file = joined(alloc, &FILE, FILE.len())?;
-    let from = with(&rt, alloc, &here(&rt, alloc)?, &[NEXT, AHEAD])?;
-    expect(&rt, alloc, &from, &MOVE, DONE, file.as_str(), REPORT)?;
-    let from = with(&rt, alloc, &here(&rt, alloc)?, &[NEXT_MASTER_KEY])?;
-    expect(&rt, alloc, &from, &MOVE, DONE, file.as_str(), REPORT)?;
-    let renewed: &[(&str, &str)] = &[("REENCIPHER role=DEFAULT", "OK changed=3")];
-    let from = with(&rt, alloc, &from, &[renewed])?;
-    expect(&rt, alloc, &from, &MOVE, DONE, file.as_str(), REPORT)
-}
-
-// The other module, with another master key, unloads the same file, and the first one takes it in again.
-#[test]
-fn a_store_is_moved_there_and_back(rt: HostRuntime) -> Result<(), Fail> {
-    let alloc = rt.alloc();
-    let file = joined(alloc, &FILE, FILE.len())?;
-    let from = here(&rt, alloc)?;
-    let to = there(&rt, alloc, NEXT_MASTER_KEY)?;
-    let to = after(&rt, alloc, &to, file.as_bytes(), FIRST_REPLIES.as_bytes())?;
-    expect(&rt, alloc, &to, &MOVE, DONE, file.as_str(), REPORT)?;
-    let back = after(&rt, alloc, &from, file.as_bytes(), NEXT_REPLIES.as_bytes())?;
-    let listed: &[(&str, &str)] = &[(
-        "CSNBKRL role=DEFAULT prefix=",
-        "OK count=3 labels=EXP,IMP,ZERO",
-    )];
-    with(&rt, alloc, &back, &[EXPORTED, listed])?;
-    Ok(())
-}
-
-// ---- what is refused
-
-// Labels that hold no transport key for exports, and roles that lack a point.
-const NO_TRANSPORT: &[(&str, &str)] = &[
-    ("CSNBKRC role=DEFAULT label=NULL", "OK"),
-    ("CSNBKRC role=DEFAULT label=PART", "OK"),
-    ("CSNBKRC role=DEFAULT label=OUT", "OK"),
-    ("CSNBKRC role=DEFAULT label=ONE", "OK"),
-    (
-        "CSNBKPI role=DEFAULT rule=FIRST type=IMPORTER part=01010101010101010101010101010101 to=L:PART",
-        "OK stored=PART",
-    ),
-    (
-        "CSNBKGN role=DEFAULT form=OP length=16 type1=OKEYXLAT to=L:OUT",
-        "OK stored=OUT",
-    ),
-    (
-        "CSNBKRW role=DEFAULT label=ONE token=010000000000c000083bf1025be34c441111111111111111000000000000000000417d000300000000000000000000000000000000000000000000008a839c68",
-        "OK",
-    ),
-    (
-        "CSUAACI role=DEFAULT action=DEFINE name=EXPORTS points=1ff7ffff",
-        "OK",
-    ),
-    (
-        "CSUAACI role=DEFAULT action=DEFINE name=LISTS points=1ffff7ff",
-        "OK",
-    ),
-    (
-        "CSUAACI role=DEFAULT action=DEFINE name=BOTH points=00080800",
-        "OK",
-    ),
-];
-
-#[test]
-fn the_first_broken_rule_refuses(rt: HostRuntime) -> Result<(), Fail> {
-    let alloc = rt.alloc();
-    let from = with(&rt, alloc, &here(&rt, alloc)?, &[NO_TRANSPORT])?;
-    let table = [
-        ("NOBODY", "EXP", 3),
-        ("NOBODY", "NONE", 3),
-        ("EXPORTS", "EXP", 4),
-        ("LISTS", "EXP", 4),
-        ("LISTS", "NULL", 4),
-        ("BOTH", "NONE", 7),
-        ("BOTH", "NULL", 8),
-        ("DEFAULT", "PART", 17),
-        ("DEFAULT", "IMP", 19),
-        ("DEFAULT", "ZERO", 19),
-        ("DEFAULT", "OUT", 20),
-        ("DEFAULT", "ONE", 22),
-    ];
-    for (role, label, rule) in table {
-        let words = ["unload", role, label, "DEFAULT", "IMP"];
-        let ended = unload_failing(alloc, &from, &words, (Failing::None, 0), (ROOM, ROOM))?;
-        assert_eq!(rt; ended.status, MoveStatus::Refused(rule), "{role} {label}");
-        is_so(&rt, &ended, MoveStatus::Refused(rule), "", "");
-    }
-    Ok(())
-}
-
-// Without a master key, though a role or a label may lack too.
-#[test]
-fn without_a_master_key_rule_05_refuses(rt: HostRuntime) -> Result<(), Fail> {
-    let alloc = rt.alloc();
-    let blank = blank(alloc)?;
-    let refused = MoveStatus::Refused(5);
-    expect(&rt, alloc, &blank, &MOVE, refused, "", "")?;
-    let nobody = ["unload", "NOBODY", "EXP", "DEFAULT", "IMP"];
-    expect(&rt, alloc, &blank, &nobody, MoveStatus::Refused(3), "", "")
-}
-
-// A role with both points and no other one may move a store, also where neither name of the other module is known here.
-#[test]
-fn two_points_are_enough(rt: HostRuntime) -> Result<(), Fail> {
-    let alloc = rt.alloc();
-    let from = with(&rt, alloc, &here(&rt, alloc)?, &[NO_TRANSPORT])?;
-    let words = ["unload", "BOTH", "EXP", "X", "Y"];
-    let ended = unload_failing(alloc, &from, &words, (Failing::None, 0), (ROOM, ROOM))?;
-    assert_eq!(rt; ended.status, DONE);
-    assert_eq!(rt;
-        ended.report.as_slice(),
-        b"kept NULL 08\nkept PART 17\n".as_slice()
-    );
-    Ok(())
-}
-
-// Whether these words are no command, with every device failing at its first call.
-fn are_usage(alloc: Global, words: &[&str]) -> Result<bool, Fail> {
-    let words = words_of(alloc, words)?;
-    let mut file = MemorySink::new(alloc, 0)?;
-    let mut report = MemorySink::new(alloc, 0)?;
-    let mut module = MemoryDisk::new(alloc, MODULE_SIZE, 0)?;
-    let mut store = MemoryDisk::new(alloc, STORE_SIZE, 0)?;
-    file.fail_at(0);
-    report.fail_at(0);
-    module.fail_at(0);
-    store.fail_at(0);
-    let status = unload(
-        alloc,
-        &words,
-        &mut Workbench::new(),
-        &mut file,
-        &mut report,
-        &mut module,
-        &mut store,
-    );
-    Ok(status == MoveStatus::Run(Status::Usage))
-}
-
-const LONGEST: &str = "ABCDEFGHIJKLMNOPQRSTUVWXYZ.0123456789#$@ABCDEFGHIJKLMNOPQRSTUVWXY";
-
-#[test]
-fn other_words_are_no_command(rt: HostRuntime) -> Result<(), Fail> {
-    let lists: [&[&str]; 20] = [
-        &[],
-        &["run"],
-        &["unload"],
-        &["unload", "R", "L", "R"],
-        &["unload", "R", "L", "R", "L", ""],
-        &["unload", "R", "L", "R", "L", "L"],
-        &["", "R", "L", "R", "L"],
-        &["Unload", "R", "L", "R", "L"],
-        &["trail", "R", "L", "R", "L"],
-        &["unload", "", "L", "R", "L"],
-        &["unload", "R", "", "R", "L"],
-        &["unload", "R", "L", "", "L"],
-        &["unload", "R", "L", "R", ""],
-        &["unload", "r", "L", "R", "L"],
-        &["unload", "R", "L", "ABCDEFGHI", "L"],
-        &["unload", "1R", "L", "R", "L"],
-        &["unload", "R#", "L", "R", "L"],
-        &["unload", "R", "1L", "R", "L"],
-        &["unload", "R", "L", "R", ".L"],
-        &["unload", "R", "L:L", "R", "L"],
-    ];
-    for words in lists {
-        assert!(rt; are_usage(rt.alloc(), words)?, "{words:?}");
-    }
-    let long = ["unload", "R", "L", "R", LONGEST];
-    assert!(rt; are_usage(rt.alloc(), &long)?);
-    Ok(())
-}
-
-// The longest role and label are names: the first thing that is found is that a device fails.
-#[test]
-fn names_have_8_and_64_characters(rt: HostRuntime) -> Result<(), Fail> {
-    let longest = LONGEST.get(0..64).unwrap_or("");
-    let words = ["unload", "ABCDEFG8", longest, "A", longest];
-    assert!(rt; !are_usage(rt.alloc(), &words)?);
     Ok(())
 }
 
@@ -648,7 +372,7 @@ fn a_damaged_cell_is_named(rt: HostRuntime) -> Result<(), Fail> {
             },
         };
         let status = MoveStatus::Run(Status::Damaged(device, cell));
-        expect(&rt, alloc, &pair, &MOVE, status, "", "")?;
+        expect(&rt, alloc, &pair, status, "", "")?;
     }
     Ok(())
 }
@@ -664,5 +388,5 @@ fn a_store_of_another_module_is_damaged(rt: HostRuntime) -> Result<(), Fail> {
         store: copy_of(alloc, &from.store)?,
     };
     let status = MoveStatus::Run(Status::Damaged(Device::Store, 0));
-    expect(&rt, alloc, &pair, &MOVE, status, "", "")
+    expect(&rt, alloc, &pair, status, "", "")
 }
