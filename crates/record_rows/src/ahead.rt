@@ -1,10 +1,9 @@
-//! A store ahead of SET, after SET and back: labels of each kind, and second tokens that are broken.
+//! A store ahead of SET and back, with labels of each kind.
 
 use crate::actions::{cells_after, cells_ahead, module_ahead, run_as, selects, tokens};
 use crate::bodies::{body_of, both_of, token_of};
-use crate::masters::{counting, module_after_set, module_image, module_of, module_with_new};
-use crate::stores::{Stop, store_of};
-use key_records::RecordFault;
+use crate::masters::{counting, module_with_new};
+use crate::stores::store_of;
 use reencipher::StoreAction;
 use std::test::Fail;
 
@@ -49,11 +48,6 @@ fn ahead_and_back(rt: HostRuntime) -> Result<(), Fail> {
 /// A module with three master keys.
 fn module_of_three() -> [u8; 1536] {
     module_with_new(counting(0, 3))
-}
-
-/// The module that is ahead, after SET.
-fn set_module() -> [u8; 1536] {
-    module_after_set(counting(23, 255))
 }
 
 /// A label of each kind: A has one token under the current master key, N is null, B has one token under the old one, D
@@ -127,69 +121,6 @@ fn labels_of_each_kind(rt: HostRuntime) -> Result<(), Fail> {
     ] {
         assert_eq!(rt; run_as(rt.alloc(), &module, action, &mut store), Ok(wanted));
         assert!(rt; selects(&mut store, &cells)?, "{action:?}");
-    }
-    Ok(())
-}
-
-/// After SET the labels that were ahead are current by their second tokens, and no run writes anything.
-#[test]
-fn after_set(rt: HostRuntime) -> Result<(), Fail> {
-    let module = set_module();
-    let mut store = store_of(rt.alloc(), &cells_ahead(), 100)?;
-    for (action, wanted) in [
-        (StoreAction::Renew, Ok((0, false))),
-        (StoreAction::Drop, Ok((0, false))),
-        (StoreAction::Ahead, Err(Stop::Taken)),
-    ] {
-        assert_eq!(rt; run_as(rt.alloc(), &module, action, &mut store), wanted);
-        assert!(rt; selects(&mut store, &cells_ahead())?, "{action:?}");
-    }
-    Ok(())
-}
-
-/// Where the second token is under the old register, the label is under it, and a run without an action renews it.
-#[test]
-fn under_the_old_second_token(rt: HostRuntime) -> Result<(), Fail> {
-    let module = module_image();
-    let mut store = store_of(rt.alloc(), &cells_ahead(), 100)?;
-    assert_eq!(rt;
-        run_as(rt.alloc(), &module, StoreAction::Renew, &mut store),
-        Ok((4, false))
-    );
-    assert!(rt; selects(&mut store, &cells_after())?);
-    Ok(())
-}
-
-/// A second token that holds another key, or is under no register, breaks its cell; after SET it isn't compared.
-#[test]
-fn broken_second_tokens(rt: HostRuntime) -> Result<(), Fail> {
-    let mut cells = cells_ahead();
-    cells[2][153] ^= 1;
-    for (module, wanted) in [
-        (module_ahead(), Err(Stop::Open(RecordFault::Damaged(2)))),
-        (set_module(), Ok((0, false))),
-    ] {
-        let mut store = store_of(rt.alloc(), &cells, 100)?;
-        assert_eq!(rt;
-            run_as(rt.alloc(), &module, StoreAction::Renew, &mut store),
-            wanted
-        );
-    }
-    let cleared = module_of((0, [0; 24]), counting(0, 1), (0, [0; 24]));
-    let mut store = store_of(rt.alloc(), &cells_ahead(), 100)?;
-    let found = run_as(rt.alloc(), &cleared, StoreAction::Renew, &mut store);
-    assert_eq!(rt; found, Err(Stop::Open(RecordFault::Damaged(0))));
-    // A byte after the second token, and the right half of a second token of a single-length key.
-    for (at, label) in [(154, 0), (146, 0), (191, 0), (130, 1)] {
-        let mut cells = cells_ahead();
-        cells[label][at] ^= 1;
-        let mut store = store_of(rt.alloc(), &cells, 100)?;
-        let found = run_as(rt.alloc(), &set_module(), StoreAction::Renew, &mut store);
-        assert_eq!(rt;
-            found,
-            Err(Stop::Open(RecordFault::Damaged(label as u16))),
-            "{at}"
-        );
     }
     Ok(())
 }

@@ -1,10 +1,10 @@
-//! AHEAD and DROP that fail at a call or are stopped at one, and runs that do what is left.
+//! AHEAD and DROP that fail at a call, and runs that do what is left.
 
 use crate::actions::{cells_after, cells_ahead, count_others, module_ahead, run_as, selects};
 use crate::stores::{Stop, store_of};
 use key_records::RecordFault;
 use reencipher::StoreAction;
-use slot_disk::{MemoryDisk, Torn};
+use slot_disk::MemoryDisk;
 use std::alloc::Global;
 use std::test::Fail;
 
@@ -21,7 +21,7 @@ fn ends_of(action: StoreAction) -> [[[u8; 192]; 6]; 2] {
     ends
 }
 
-/// Runs an action over what a stop or a fault left: it changes the labels that are left, and leaves what one run
+/// Runs an action over what a fault left: it changes the labels that are left, and leaves what one run
 /// leaves.
 fn finishes(alloc: Global, action: StoreAction, store: &mut MemoryDisk) -> Result<bool, Fail> {
     let [_, after] = ends_of(action);
@@ -65,63 +65,6 @@ fn faults_of_ahead_and_drop(rt: HostRuntime) -> Result<(), Fail> {
             );
         } else {
             assert_eq!(rt; found, Ok((2, action == StoreAction::Ahead)));
-        }
-    }
-    Ok(())
-}
-
-/// Whether runs of an action that are stopped at each noted call finish, whatever the stop leaves of what was written.
-fn finishes_after_stops(alloc: Global, action: StoreAction) -> Result<bool, Fail> {
-    let [before, _] = ends_of(action);
-    let mut whole = store_of(alloc, &before, 100)?;
-    let mut all = finishes(alloc, action, &mut whole)?;
-    for noted in 0..whole.noted() {
-        for torn in [
-            Torn::Old,
-            Torn::New,
-            Torn::Fill(0),
-            Torn::Fill(1),
-            Torn::Fill(165),
-        ] {
-            // After a sync a stop leaves what was written.
-            if noted % 2 == 0 || torn == Torn::New {
-                let mut store = whole.crash(alloc, noted, torn, 100)?;
-                all &= finishes(alloc, action, &mut store)?;
-            }
-        }
-    }
-    Ok(all)
-}
-
-#[test]
-fn stops_of_ahead(rt: HostRuntime) -> Result<(), Fail> {
-    assert!(rt; finishes_after_stops(rt.alloc(), StoreAction::Ahead)?);
-    Ok(())
-}
-
-#[test]
-fn stops_of_drop(rt: HostRuntime) -> Result<(), Fail> {
-    assert!(rt; finishes_after_stops(rt.alloc(), StoreAction::Drop)?);
-    Ok(())
-}
-
-/// A run of AHEAD is stopped at its first body, and one of DROP at its first selector; the next one at each of its noted
-/// calls.
-#[test]
-fn chains_of_two_stops(rt: HostRuntime) -> Result<(), Fail> {
-    for (action, first) in [(StoreAction::Ahead, 2), (StoreAction::Drop, 4)] {
-        let [before, _] = ends_of(action);
-        let mut whole = store_of(rt.alloc(), &before, 100)?;
-        assert!(rt; finishes(rt.alloc(), action, &mut whole)?);
-        assert!(rt; first <= whole.noted());
-        let mut again = whole.crash(rt.alloc(), first, Torn::Fill(165), 100)?;
-        assert!(rt; finishes(rt.alloc(), action, &mut again)?, "{first}");
-        for second in 0..again.noted() {
-            let mut store = again.crash(rt.alloc(), second, Torn::Fill(1), 100)?;
-            assert!(rt;
-                finishes(rt.alloc(), action, &mut store)?,
-                "{second} of {first}"
-            );
         }
     }
     Ok(())

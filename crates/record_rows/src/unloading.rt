@@ -1,19 +1,16 @@
 //! Keys of a store, moved and judged.
-ghost use Rattle.std.specs.Prelude.{◌≡◌};
 
 use crate::bodies::{body_of, both_of, bytes_of, token_of};
 use crate::masters::load_masters;
 use crate::moved_keys::{KEYS, exporter_of, internal_token, keys, module_image, without_old};
 use crate::stores::{Stop, label, opened, place_of, put_body};
-use cca_vectors::Class;
 use key_cells::{Lease, Workbench};
 use key_records::{RecordFault, STORE_LEN};
-use key_transport::import;
 use slot_disk::{Disk, MemoryDisk};
 use std::alloc::Global;
 use std::test::Fail;
 use store_move::{Moved, judge_transport, unload_label};
-use verb_rules::{Age, Asked, Classes, Need, Rule, judge_key};
+use verb_rules::{Age, Rule};
 
 /// The halves of the key of A under the new master key.
 const UNDER_NEW: [u64; 8] = [
@@ -186,65 +183,6 @@ fn transport_keys_are_judged(rt: HostRuntime) -> Result<(), Fail> {
         let mut store = store_of(rt.alloc(), 0)?;
         let found = judged(rt.alloc(), &mut store, label);
         assert_eq!(rt; found, Ok(wanted), "{label}");
-    }
-    Ok(())
-}
-
-/// A key of these classes, of a kind of token, with the use that is asked for left free.
-fn need_of(asked: Asked, classes: Classes, double: bool) -> Need
-    ensures asked { result.asked ≡ asked }
-    ensures double { result.double ≡ double }
-{
-    Need {
-        asked,
-        classes,
-        usage: None,
-        export: false,
-        double,
-        parts: false,
-    }
-}
-
-/// Imports a token that was moved, under the token of an IMPORTER key.
-fn imported(alloc: Global, token: &[u8; 64], importer: &[u8; 64]) -> Result<[u8; 64], Stop> {
-    let mut bench = Workbench::new();
-    let mut lease = Lease::open(&mut bench);
-    let held = load_masters(alloc, &module_image(), &mut lease)?;
-    if held.current_pattern.is_none() {
-        return Err(Stop::Load);
-    }
-    let any = Classes::of(&[Class::Data, Class::Exporter]);
-    let source = match judge_key(token, &need_of(Asked::External, any, false), &held) {
-        Ok(source) => source,
-        Err(rule) => return Err(Stop::Refused(rule)),
-    };
-    let importers = Classes::of(&[Class::Importer]);
-    match judge_key(importer, &need_of(Asked::Internal, importers, true), &held) {
-        Ok(transport) => Ok(import(&mut lease, &held, &source, &transport)),
-        Err(rule) => Err(Stop::Refused(rule)),
-    }
-}
-
-/// A key that is moved and imported has the token that it had; one under the old master key has that of the same key
-/// under the current one.
-#[test]
-fn a_moved_key_comes_back(rt: HostRuntime) -> Result<(), Fail> {
-    let keys = keys();
-    let importer = internal_token(&keys[8]);
-    for (label, wanted) in [
-        (b'A', keys[0]),
-        (b'B', keys[1]),
-        (b'C', keys[0]),
-        (b'D', keys[3]),
-        (b'F', keys[4]),
-    ] {
-        let mut store = store_of(rt.alloc(), 0)?;
-        let back = match moved(rt.alloc(), &mut store, b'E', label) {
-            Ok(Moved::Token(token)) => imported(rt.alloc(), &token, &importer),
-            Ok(Moved::Kept(rule)) => Err(Stop::Kept(rule)),
-            Err(stop) => Err(stop),
-        };
-        assert_eq!(rt; back, Ok(internal_token(&wanted)), "{label}");
     }
     Ok(())
 }
