@@ -1,14 +1,14 @@
 -- A change of the records is what the machine makes of it.
 use Rattle.std.proofs.Common.{◌≡◌, ◌≢◌, ℕ, Bool, true, false, List, [], ◌∷◌, Option, None, Some, Result, Ok, Err, codes, refl, sym, ap, ◌∙◌, subst, inl, inr, ⊎_elim, arith}
-use Rattle.std.specs.Prelude.{◌⊎◌, ◌↔◌, ◌≤◌, ◌==◌, IsTrue, IfErr, OnOk, OnErr, is_some}
+use Rattle.std.specs.Prelude.{◌⊎◌, ◌↔◌, ◌==◌, IsTrue, OnOk, OnErr, is_some}
 use Rattle.std.proofs.lemmas.Bool.{false_from_ne_true}
 use Rattle.std.proofs.lemmas.Bool.Decides.{Decides-eqb}
+use Rattle.key_cells.specs.declared.leases.Lease.{Lease}
 use Rattle.slot_disk.specs.Cells.{IsReplacing}
-use Rattle.slot_disk.specs.Faults.{Rose}
 use Rattle.slot_disk.specs.Medium.{Medium, Told, IsSettled, From}
 use Rattle.slot_disk.proofs.Media.{each_weaker, told_from, told_before}
 use Rattle.cca_vectors.specs.Checks.{check}
-use Rattle.key_records.specs.Changes.{HoldsEither, ReplacesBody, ChangesLabels, Remembers, HasRecordCause, created, deleted, written}
+use Rattle.key_records.specs.Changes.{HoldsEither, ChangesLabels, ChangesRecord, RefusesLabel, Remembers, created, deleted, written}
 use Rattle.key_records.specs.Directory.{free_cell, cell_of}
 use Rattle.key_records.specs.Entries.{Entry, directory, row_directory}
 use Rattle.key_records.specs.StoreStands.{KeepsLabels, HoldsRows}
@@ -199,48 +199,49 @@ module _ {A : Type 0} (medium : A → Medium) (old new : A) (s : State) (rows la
 
 -- ---- whatever the store holds
 
-module _ (d0 d1 : Medium) (before now : ℕ) (rows later : List (Option Row)) (reply : List ℕ) (cell : ℕ) (bytes : List ℕ) where
-  pub stored_left : (u : Unit {0}) → ReplacesBody cell bytes d0 d1 (Ok u) → Told d1 (HoldsRows later) → now ≡ before
-      → LeavesStore d0 d1 before now (Ok tt) reply rows later
-  stored_left u replaces holds quiet = record {
-    disk = record { size = replaces.replacing.size; still = replaces.replacing.still; settled = λ ok. replaces.settled; later = omega (arith, quiet); fault = λ is. cc is; quiet = λ none. quiet };
-    told = told_before (IsReplacing cell bytes) d0 d1 replaces.replacing;
-    turned = becomes_turned cell 1024 d0 d1 bytes replaces.replaced;
-    holds = holds;
-    silent = tt;
-    memory = tt;
-    stops = tt;
-  }
+module _ {A : Type 0} (medium : A → Medium) (faults : A → ℕ) (old new : A) (rows later : List (Option Row)) (reply : List ℕ) (cell : ℕ) (bytes : List ℕ) (row : Option Row) (lease after : Lease) where
+  abbrev Changed : Result (Unit {0}) RecordFault → Type 0
+  Changed r = ChangesRecord medium faults cell bytes row rows later lease after old new r
 
-  pub failed_left : (fault : RecordFault) → ReplacesBody cell bytes d0 d1 (Err fault) → later ≡ rows → before ≤ now → Rose before now → reply ≡ []
-      → LeavesStore d0 d1 before now (Err StoreFault) reply rows later
-  failed_left fault replaces memory count rose silent = record {
-    disk = record { size = replaces.replacing.size; still = replaces.replacing.still; settled = λ ok. absurd (cc ok); later = count; fault = λ is. rose; quiet = λ none. absurd (none refl) };
-    told = told_before (IsReplacing cell bytes) d0 d1 replaces.replacing;
+  abbrev Left : Result (Unit {0}) Stop → Type 0
+  Left result = LeavesStore (medium old) (medium new) (faults old) (faults new) result reply rows later
+
+  pub stored_left : (u : Unit {0}) → Changed (Ok u) → Left (Ok tt)
+  stored_left u changes =
+      let quiet : faults new ≡ faults old = changes.cause.quiet (λ is. cc is) in
+      record {
+        disk = record { size = changes.cell.replacing.size; still = changes.cell.replacing.still; settled = λ ok. changes.cell.settled; later = omega (arith, quiet); fault = λ is. cc is; quiet = λ none. quiet };
+        told = told_before (IsReplacing cell bytes) (medium old) (medium new) changes.cell.replacing;
+        turned = becomes_turned cell 1024 (medium old) (medium new) bytes changes.cell.replaced;
+        holds = changes.holds;
+        silent = tt;
+        memory = tt;
+        stops = tt;
+      }
+
+  failed_left : Changed (Err DiskFault) → reply ≡ [] → Left (Err StoreFault)
+  failed_left changes silent = record {
+    disk = record { size = changes.cell.replacing.size; still = changes.cell.replacing.still; settled = λ ok. absurd (cc ok); later = changes.cause.later; fault = λ is. changes.cause.failed refl; quiet = λ none. absurd (none refl) };
+    told = told_before (IsReplacing cell bytes) (medium old) (medium new) changes.cell.replacing;
     turned = tt;
     holds = tt;
     silent = silent;
-    memory = ap row_directory memory;
+    memory = ap row_directory changes.memory.kept;
     stops = tt;
   }
 
-module _ {A : Type 0} (medium : A → Medium) (faults : A → ℕ) (old new : A) (rows later next : List (Option Row)) (reply : List ℕ) (cell : ℕ) (bytes : List ℕ)
-    (settled : IsSettled (medium old)) (holds : Told (medium old) (HoldsRows rows)) where
-  refused_left : new ≡ old → later ≡ rows → LeavesStore (medium old) (medium new) (faults old) (faults new) (Ok tt) reply rows later
-  refused_left untouched memory =
-      subst (λ x. LeavesStore (medium old) (medium x) (faults old) (faults x) (Ok tt) reply rows later) (sym untouched)
-      (subst (λ rs. LeavesStore (medium old) (medium old) (faults old) (faults old) (Ok tt) reply rows rs) (sym memory)
-      (still_store_left (medium old) (faults old) reply rows settled holds))
+  module _ (settled : IsSettled (medium old)) (holds : Told (medium old) (HoldsRows rows)) where
+    refused_left : new ≡ old → later ≡ rows → Left (Ok tt)
+    refused_left untouched memory =
+        subst (λ x. LeavesStore (medium old) (medium x) (faults old) (faults x) (Ok tt) reply rows later) (sym untouched)
+        (subst (λ rs. LeavesStore (medium old) (medium old) (faults old) (faults old) (Ok tt) reply rows rs) (sym memory)
+        (still_store_left (medium old) (faults old) reply rows settled holds))
 
-  -- what holding another label leaves
-  pub create_left_as : (r : Result (Unit {0}) RecordFault) → ReplacesBody cell bytes (medium old) (medium new) r → IfErr r (λ fault. (n : ℕ) → fault ≢ Damaged n)
-      → ((r ≡ Err Full) ⊎ (r ≡ Err Exists) → new ≡ old) → Remembers rows next later r → OnOk r (Told (medium new) (HoldsRows later))
-      → HasRecordCause (faults old) (faults new) r → OnErr (record_stop r) (reply ≡ [])
-      → LeavesStore (medium old) (medium new) (faults old) (faults new) (record_stop r) reply rows later
-  create_left_as (Ok u) replaces undamaged untouched memory holds_now cause silent =
-      stored_left (medium old) (medium new) (faults old) (faults new) rows later reply cell bytes u replaces holds_now (cause.quiet (λ is. cc is))
-  create_left_as (Err DiskFault) replaces undamaged untouched memory holds_now cause silent =
-      failed_left (medium old) (medium new) (faults old) (faults new) rows later reply cell bytes DiskFault replaces memory.kept cause.later (cause.failed refl) silent
-  create_left_as (Err (Damaged n)) replaces undamaged untouched memory holds_now cause silent = absurd (undamaged n refl)
-  create_left_as (Err Full) replaces undamaged untouched memory holds_now cause silent = refused_left (untouched (inl refl)) memory.kept
-  create_left_as (Err Exists) replaces undamaged untouched memory holds_now cause silent = refused_left (untouched (inr refl)) memory.kept
+    -- what holding another label leaves
+    pub create_left_as : (held : List (Option (List ℕ))) (label : List ℕ) (r : Result (Unit {0}) RecordFault) → Changed r → RefusesLabel held label lease after old new r
+        → OnErr (record_stop r) (reply ≡ []) → Left (record_stop r)
+    create_left_as held label (Ok u) changes refuses silent = stored_left u changes
+    create_left_as held label (Err DiskFault) changes refuses silent = failed_left changes silent
+    create_left_as held label (Err (Damaged n)) changes refuses silent = absurd (refuses.undamaged n refl)
+    create_left_as held label (Err Full) changes refuses silent = refused_left (refuses.untouched (inl refl)) changes.memory.kept
+    create_left_as held label (Err Exists) changes refuses silent = refused_left (refuses.untouched (inr refl)) changes.memory.kept

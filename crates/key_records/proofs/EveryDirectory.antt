@@ -1,25 +1,17 @@
--- Every directory whose labels are apart has them in ascending order too: so for each index below the count there is a label.
-use Rattle.std.proofs.Common.{◌≡◌, ◌≢◌, ◌≤◌, ◌<◌, ⊎_elim, ℕ, zero, suc, Less, Equal, Greater, Ordering, List, [], length, get_or, map, Option, None, Some, refl, sym, ap, subst, ◌∙◌, arith}
-use Rattle.std.specs.Prelude.{if◌then◌else◌}
+-- The labels of every directory whose labels are apart can be listed in ascending order: so for each index below the count there is one.
+use Rattle.std.proofs.Common.{◌≡◌, ◌≢◌, ◌≤◌, ◌<◌, ⊎_elim, ℕ, zero, suc, Less, Equal, Greater, Ordering, List, [], length, get_or, take, Option, None, Some, refl, sym, ap, subst, ◌∙◌, arith}
 use Rattle.std.specs.Cmp.Lexicographic.{slice_cmp}
 use Rattle.std.specs.List.{insert}
 use Rattle.std.specs.Ordering.{nat_cmp}
 use Rattle.std.proofs.lemmas.Bool.{cases_eq, cases_lt}
-use Rattle.std.proofs.lemmas.List.{ext_get_or, length-map}
-use Rattle.key_records.specs.Directory.{label_at, held_count}
-use Rattle.key_records.specs.Entries.{row_directory, row_label}
-use Rattle.key_records.specs.Rows.{AreRows}
-use Rattle.key_records.specs.declared.rows.Row.{Row}
-use Rattle.held_names.proofs.DirectoryLaws.{none_some}
-use Rattle.key_records.proofs.OpeningLaws.{label_of_row}
-use Rattle.key_records.specs.Ascending.{AreAscending, IsBefore, IsPlace, text_at, slot_label}
-use Rattle.key_records.specs.Placed.{placed, row_in, AreSlots}
+use Rattle.std.proofs.lemmas.List.{get_or-take, get_or_past, length-take, length-map, take_all}
+use Rattle.key_records.specs.Ascending.{AreAscending, IsBefore, IsPlace, Lists, labels_of, text_at, text_in}
+use Rattle.key_records.specs.Directory.{AreApart, label_at, held_count}
 use Rattle.key_records.specs.Rank.{IsNth}
-use Rattle.key_records.specs.declared.rows.Slot.{Slot}
+use Rattle.held_names.proofs.DirectoryLaws.{none_some}
 use Rattle.key_records.proofs.HalvingLaws.{greater_before, equal_same, before_middle}
-use Rattle.key_records.proofs.PlacedLaws.{length-placed, placed_at, row_held, row_insert, same_true, same_false}
-use Rattle.key_records.proofs.RankLaws.{nth_placed}
-use Rattle.key_records.proofs.SortedLaws.{blank_slot, text_is, slots_insert, count_placed}
+use Rattle.key_records.proofs.ListedLaws.{label_listed, lists_insert, lists_none, lists_same}
+use Rattle.key_records.proofs.RankLaws.{count_listed, nth_listed}
 
 module _ (labels : List (List ℕ)) (ascending : AreAscending labels) (label : List ℕ) (fresh : (k : ℕ) → k < length labels → text_at labels k ≢ label) where
   place_from : (n : ℕ) → n ≤ length labels → ((k : ℕ) → n ≤ k → k < length labels → IsBefore label (text_at labels k)) → (at : ℕ) × IsPlace labels label at
@@ -33,62 +25,47 @@ module _ (labels : List (List ℕ)) (ascending : AreAscending labels) (label : L
       by_order lower Equal is = absurd (fresh n (omega (arith, within)) (sym (equal_same label (text_at labels n) is)))
       by_order lower Greater is = (suc n, record { within = within; before = λ k low. before_middle labels ascending label n (omega (arith, within)) (greater_before label (text_at labels n) is) k (omega (arith, low)); after = after })
 
--- the slots of the first n cells
-record Slots (rows : List (Option Row)) (n : ℕ) : Type 0 where
-  slots : List Slot
-  are : AreSlots slots
-  low : (k : ℕ) → k < n → row_in slots k ≡ get_or rows k None
-  high : (k : ℕ) → n ≤ k → row_in slots k ≡ None
+module _ (d : List (Option (List ℕ))) (apart : AreApart d) where
+  -- the labels of the first places
+  taken_below : (n k : ℕ) → k < n → label_at (take n d) k ≡ label_at d k
+  taken_below n k below = get_or-take n d k None below
 
-module _ (rows : List (Option Row)) (are_rows : AreRows rows) where
-  one_more : (n : ℕ) (row : Option Row) → n < 1024 → get_or rows n None ≡ row → Slots rows n → Slots rows (suc n)
-  one_more n None below is s = record {
-    slots = s.slots;
-    are = s.are;
-    low = λ k low. ⊎_elim (λ (here : k ≡ n). ap (row_in s.slots) here ∙ s.high n (omega arith) ∙ sym (ap (λ m. get_or rows m None) here ∙ is)) (λ (other : k ≡ n → ⊥). s.low k (omega (arith, low, other))) (cases_eq k n);
-    high = λ k above. s.high k (omega (arith, above));
-  }
-  one_more n (Some r) below is s =
-      let slot : Slot = record { row = r; cell = n } in
-      let place = place_from (map slot_label s.slots) s.are.ascending r.label fresh (length (map slot_label s.slots)) (omega arith) (λ k above below. absurd (omega arith)) in
-      record {
-        slots = insert s.slots place.0 slot;
-        are = slots_insert s.slots place.0 slot s.are below (s.high n (omega arith)) place.1;
-        low = λ k low. row_insert s.slots place.0 slot (s.high n (omega arith)) k ∙ ⊎_elim
-            (λ (here : k ≡ n). ap (λ t. if t then Some r else row_in s.slots k) (same_true k n here) ∙ sym (ap (λ m. get_or rows m None) here ∙ is))
-            (λ (other : k ≡ n → ⊥). ap (λ t. if t then Some r else row_in s.slots k) (same_false k n other) ∙ s.low k (omega (arith, low, other))) (cases_eq k n);
-        high = λ k above. row_insert s.slots place.0 slot (s.high n (omega arith)) k ∙ ap (λ t. if t then Some r else row_in s.slots k) (same_false k n (omega (arith, above))) ∙ s.high k (omega (arith, above));
-      }
+  taken_past : (n k : ℕ) → n ≤ length d → n ≤ k → label_at (take n d) k ≡ None
+  taken_past n k within past = get_or_past (take n d) k None (omega (arith, past, length-take n d, within))
+
+  taken_more : (n : ℕ) → n < length d → (k : ℕ) → k ≢ n → label_at (take (suc n) d) k ≡ label_at (take n d) k
+  taken_more n within k other = ⊎_elim
+      (λ (below : k < n). taken_below (suc n) k (omega (arith, below)) ∙ sym (taken_below n k below))
+      (λ (past : n ≤ k). taken_past (suc n) k (omega (arith, within)) (omega (arith, past, other)) ∙ sym (taken_past n k (omega (arith, within)) past))
+      (cases_lt k n)
+
+  one_more : (n : ℕ) (o : Option (List ℕ)) → n < length d → label_at d n ≡ o → (cells : List ℕ) → Lists (take n d) cells → (more : List ℕ) × Lists (take (suc n) d) more
+  one_more n None within is cells lists = (cells, lists_same (take n d) (take (suc n) d) cells same lists)
     where
-      fresh : (k : ℕ) → k < length (map slot_label s.slots) → text_at (map slot_label s.slots) k ≢ r.label
-      fresh k within same =
-          let inside : k < length s.slots = omega (arith, within, length-map s.slots slot_label) in
-          let other : Slot = get_or s.slots k blank_slot in
-          let held : row_in s.slots other.cell ≡ Some other.row = row_held s.slots k blank_slot s.are.cells inside in
-          let label : other.row.label ≡ r.label = sym (text_is s.slots k blank_slot inside) ∙ same in
+      same : (k : ℕ) → label_at (take (suc n) d) k ≡ label_at (take n d) k
+      same k = ⊎_elim
+          (λ (here : k ≡ n). ap (label_at (take (suc n) d)) here ∙ taken_below (suc n) n (omega arith) ∙ is ∙ sym (ap (label_at (take n d)) here ∙ taken_past n n (omega (arith, within)) (omega arith)))
+          (λ (other : k ≡ n → ⊥). taken_more n within k other) (cases_eq k n)
+  one_more n (Some label) within is cells lists =
+      let place = place_from (labels_of (take n d) cells) lists.ascending label fresh (length (labels_of (take n d) cells)) (omega arith) (λ k above below. absurd (omega (arith, above, below))) in
+      (insert cells place.0 n, lists_insert (take n d) cells lists (take (suc n) d) n label (taken_past n n (omega (arith, within)) (omega arith)) (taken_below (suc n) n (omega arith) ∙ is) (taken_more n within) place.0 place.1)
+    where
+      fresh : (k : ℕ) → k < length (labels_of (take n d) cells) → text_at (labels_of (take n d) cells) k ≢ label
+      fresh k inside same =
+          let listed = label_listed (take n d) cells lists k (omega (arith, inside, length-map cells (λ c. text_in (take n d) c))) ∙ ap (λ l. Some l) same in
           ⊎_elim
-          (λ (before : other.cell < n).
-          let first : label_at (row_directory rows) other.cell ≡ Some r.label = label_of_row rows other.cell ∙ ap row_label (sym (s.low other.cell before) ∙ held) ∙ ap (λ (l : List ℕ). Some l) label in
-          let second : label_at (row_directory rows) n ≡ Some r.label = label_of_row rows n ∙ ap row_label is in
-          omega (arith, are_rows.apart other.cell n r.label first second, before))
-          (λ (past : n ≤ other.cell). none_some other.row (sym (s.high other.cell past) ∙ held))
-          (cases_lt other.cell n)
+          (λ (below : get_or cells k 0 < n). let here = apart (get_or cells k 0) n label (sym (taken_below n (get_or cells k 0) below) ∙ listed) is in omega (arith, below, here))
+          (λ (past : n ≤ get_or cells k 0). none_some label (sym (taken_past n (get_or cells k 0) (omega (arith, within)) past) ∙ listed))
+          (cases_lt (get_or cells k 0) n)
 
-  slots_for : (n : ℕ) → n ≤ 1024 → Slots rows n
-  slots_for zero within = record { slots = []; are = record { cells = tt; ascending = record { each = λ i j below inside. absurd (omega (arith, inside)) } }; low = λ k low. absurd (omega arith); high = λ k above. refl }
-  slots_for (suc n) within = one_more n (get_or rows n None) (omega (arith, within)) refl (slots_for n (omega (arith, within)))
+  list_first : (n : ℕ) → n ≤ length d → (cells : List ℕ) × Lists (take n d) cells
+  list_first zero within = ([], lists_none (take 0 d) (λ n. refl))
+  list_first (suc n) within =
+      let first = list_first n (omega (arith, within)) in
+      one_more n (label_at d n) (omega (arith, within)) refl first.0 first.1
 
-  whole : Slots rows 1024
-  whole = slots_for 1024 (omega arith)
-
-  slots_are : placed whole.slots ≡ rows
-  slots_are =
-      let s = whole in
-      ext_get_or None (placed s.slots) rows (length-placed s.slots ∙ sym are_rows.size)
-      (λ n within. let below : n < 1024 = omega (arith, within, length-placed s.slots) in placed_at s.slots n below ∙ s.low n below)
-
-  pub nth_label : (index : ℕ) → index < held_count (row_directory rows) → (label : List ℕ) × IsNth index (row_directory rows) label
+  pub nth_label : (index : ℕ) → index < held_count d → (label : List ℕ) × IsNth index d label
   nth_label index below =
-      let s = whole in
-      let count : held_count (row_directory rows) ≡ length s.slots = ap (λ r. held_count (row_directory r)) (sym slots_are) ∙ count_placed s.slots s.are.cells in
-      ((get_or s.slots index blank_slot).row.label, subst (λ (r : List (Option Row)). IsNth index (row_directory r) (get_or s.slots index blank_slot).row.label) slots_are (nth_placed s.slots s.are index (omega (arith, below, count)) blank_slot))
+      let all = list_first (length d) (omega arith) in
+      let lists : Lists d all.0 = subst (λ (x : List (Option (List ℕ))). Lists x all.0) (take_all (length d) d (omega arith)) all.1 in
+      (text_at (labels_of d all.0) index, nth_listed d all.0 lists index (omega (arith, below, count_listed d all.0 lists)))

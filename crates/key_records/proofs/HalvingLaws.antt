@@ -1,5 +1,5 @@
 -- Halving an ascending list.
-use Rattle.std.proofs.Common.{◌≡◌, ◌≤◌, ◌<◌, ◌+◌, ◌*◌, ◌^◌, ℕ, List, [], length, get_or, map, Equal, Greater, refl, sym, ap, subst, ◌∙◌, ⊎_elim, arith}
+use Rattle.std.proofs.Common.{◌≡◌, ◌≤◌, ◌<◌, ◌+◌, ◌*◌, ◌^◌, ℕ, List, length, Equal, Greater, refl, sym, ap, subst, ◌∙◌, ⊎_elim, arith}
 use Rattle.std.specs.Cmp.Lexicographic.{slice_cmp}
 use Rattle.std.specs.Ordering.{nat_cmp, is_eq, ordering_reverse}
 use Rattle.std.specs.Str.{bytes_eq}
@@ -7,14 +7,9 @@ use Rattle.std.proofs.Math.Nat.{mul_assoc}
 use Rattle.std.proofs.lemmas.Bool.{cases_eq}
 use Rattle.std.proofs.lemmas.Bool.Decides.{nat_tests}
 use Rattle.std.proofs.lemmas.Cmp.{nat_list_cmp_total, same_from_slice_cmp}
-use Rattle.std.proofs.lemmas.List.{get_or-map}
 use Rattle.std.proofs.lemmas.Nat.{mul-le, pow-add}
 use Rattle.std.proofs.lemmas.Slice.Eq.{bytes_eq-Decides}
-use Rattle.key_records.specs.Ascending.{AreAscending, IsBefore, text_at, slot_label}
-use Rattle.key_records.specs.declared.rows.Slot.{Slot}
-
-pub text_there : (slots : List Slot) (n : ℕ) (s : Slot) → n < length slots → text_at (map slot_label slots) n ≡ (get_or slots n s).row.label
-text_there slots n s within = get_or-map slot_label slots n s [] within
+use Rattle.key_records.specs.Ascending.{AreAscending, IsBefore, text_at}
 
 pub greater_before : (a b : List ℕ) → slice_cmp nat_cmp a b ≡ Greater → IsBefore b a
 greater_before a b is = nat_list_cmp_total.antisymm b a ∙ ap ordering_reverse is

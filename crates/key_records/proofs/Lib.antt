@@ -13,8 +13,8 @@ pub mod RowLaws
 pub mod StoreLaws
 pub mod TotalLaws
 pub mod HalvingLaws
-pub mod PlacedLaws
 pub mod SortedLaws
+pub mod ListedLaws
 pub mod RankLaws
 pub mod EveryDirectory
 pub mod AgeLaws

@@ -1,19 +1,17 @@
 -- What a label stands for has one body.
-use Rattle.std.proofs.Common.{◌≡◌, ◌<◌, ◌+◌, ⊎_elim, ℕ, List, [], length, Bool, true, false, inl, inr, Option, None, Some, sym, ap, subst, ◌∙◌, arith}
-use Rattle.std.specs.Prelude.{slice_index, slice_range}
+use Rattle.std.proofs.Common.{◌≡◌, ◌<◌, ⊎_elim, ℕ, List, [], Bool, true, false, inl, inr, Option, None, Some, sym, ap, subst, ◌∙◌}
+use Rattle.std.specs.Prelude.{slice_index}
 use Rattle.std.proofs.lemmas.Bool.{cases_eq}
 use Rattle.byte_lists.specs.Bytes.{AreBytes}
 use Rattle.slot_disk.specs.Cells.{body}
-use Rattle.slot_disk.proofs.CellSteps.{length-range}
 use Rattle.key_tokens.specs.Denotes.{ClearKey, Denoted, MasterKey, MasterKeys, IsTokenOf, Denotes, HaveDistinctPatterns}
-use Rattle.key_tokens.specs.Layout.{IsToken, made}
+use Rattle.key_tokens.specs.Layout.{made}
 use Rattle.key_tokens.specs.declared.key_token.Age.{Age}
 use Rattle.key_tokens.specs.declared.key_token.Age.TheVariants.{Current, Old}
 use Rattle.key_tokens.specs.declared.key_token.Kind.TheVariants.{Internal}
 use Rattle.key_tokens.proofs.DenotedKeys.{denotes_one}
 use Rattle.key_tokens.proofs.Layouts.{token_is}
-use Rattle.key_tokens.proofs.Written.{made-token}
-use Rattle.key_records.proofs.TokenLaws.{made_only}
+use Rattle.key_records.proofs.TokenLaws.{made_again}
 use Rattle.key_tokens.specs.declared.key_token.Token.{Token}
 use Rattle.key_records.specs.Entries.{Entry}
 use Rattle.key_records.specs.RecordBody.{kept, key_body, both_body, second_fields, second_token, IsTurned, IsAhead, IsFirst, IsSecond, HasToken, ReadsEntry, ReadsKey, ReadsWhat}
@@ -25,21 +23,9 @@ use Rattle.key_records.proofs.KeptLaws.{kept_flag, kept_with_flag}
 use Rattle.key_records.proofs.RowTurns.{is_next}
 use Rattle.key_records.proofs.SecondLaws.{same_second}
 
-part_long : (bytes part : List ℕ) (at size : ℕ) → length bytes ≡ 64 → at + size < 65 → slice_range bytes at (at + size) ≡ part → length part ≡ size
-part_long bytes part at size whole within is = sym (ap length is) ∙ length-range bytes at size ∙ omega (arith, whole, within)
-
 -- a token of a key under a master key, with flag c0
 one_token : (token : List ℕ) (master : MasterKey) (clear : ClearKey) → slice_index token 6 ≡ 0xc0 → IsTokenOf Internal master.pattern master.key token clear → token ≡ made (token_under master clear)
-one_token token master clear flag is =
-    let t : IsToken token (token_under master clear) = is.token in
-    let p = t.places in
-    made_only (token_under master clear) token
-    (made-token (token_under master clear)
-    (part_long token (token_under master clear).pattern 8 8 t.whole (omega arith) p.1.1.1.1.1.1.0)
-    (part_long token (token_under master clear).sealed.left 16 8 t.whole (omega arith) p.1.1.1.1.1.1.1.0)
-    (part_long token (token_under master clear).sealed.right 24 8 t.whole (omega arith) p.1.1.1.1.1.1.1.1.0)
-    t.vector t.pattern t.right)
-    t flag
+one_token token master clear flag is = made_again (token_under master clear) token is.token flag
 
 module _ (masters : MasterKeys) (apart : HaveDistinctPatterns masters) where
   by_age : (token : List ℕ) (clear : ClearKey) (age : Age) → slice_index token 6 ≡ 0xc0 → Denotes masters token clear age → token ≡ token_bytes (register_of masters age) clear

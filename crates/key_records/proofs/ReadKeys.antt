@@ -1,5 +1,5 @@
 -- The token that is read of a record stands for the key that the record holds.
-use Rattle.std.proofs.Common.{◌≡◌, ℕ, true, false, List, Option, None, Some, refl}
+use Rattle.std.proofs.Common.{◌≡◌, ℕ, true, List, Option, None, Some, refl}
 use Rattle.std.specs.Prelude.{is_some}
 use Rattle.key_tokens.specs.Denotes.{Denoted, MasterKeys, denoted}
 use Rattle.key_records.specs.Changes.{ReadsToken}
@@ -20,11 +20,3 @@ read_key masters (Some e) token reads = by_what e.what reads.0 reads.1
         → HasRead masters (Some (record e { what = what })) token
     by_what None found keeps = cc found
     by_what (Some key) found keeps = record { key = key; is = refl; denotes = kept_denoted masters token key (keeps key refl) }
-
-pub read_null : (masters : MasterKeys) (entry : Option Entry) (token : List ℕ) → ReadsToken masters entry false token → what_in entry ≡ None
-read_null masters None token reads = refl
-read_null masters (Some e) token reads = by_what e.what reads.0
-  where
-    by_what : (what : Option Denoted) → false ≡ is_some what → what ≡ None
-    by_what None found = refl
-    by_what (Some key) found = cc found

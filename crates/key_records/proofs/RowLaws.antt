@@ -1,17 +1,30 @@
 -- Rows of the memory.
-use Rattle.std.proofs.Common.{◌≡◌, ◌<◌, ◌≤◌, ⊎_elim, ℕ, zero, suc, List, [], ◌∷◌, ◌++◌, length, take, drop, set, replicate, Option, None, Some, refl, sym, ap, subst, ◌∙◌, arith}
+use Rattle.std.proofs.Common.{◌≡◌, ◌<◌, ◌≤◌, ⊎_elim, ℕ, zero, suc, List, [], ◌∷◌, ◌++◌, length, get_or, take, drop, set, replicate, Option, None, Some, refl, sym, ap, subst, ◌∙◌, arith}
 use Rattle.std.proofs.lemmas.Bool.{cases_lt}
-use Rattle.std.proofs.lemmas.List.{take_at, length-set, length-replicate, map-set, length-map, get_or_past}
+use Rattle.std.proofs.lemmas.List.{take_at, length-set, length-replicate, map-set, length-map, get_or-replicate, get_or_past}
+use Rattle.key_records.specs.Ascending.{Lists}
 use Rattle.key_records.specs.Directory.{AreApart, label_at}
 use Rattle.key_records.specs.Entries.{row_directory, row_label}
-use Rattle.key_records.specs.Placed.{placed}
 use Rattle.key_records.specs.Rows.{AreRows, AreListed}
 use Rattle.key_records.specs.declared.rows.Row.{Row}
 use Rattle.held_names.proofs.DirectoryLaws.{apart_blank, none_some}
+use Rattle.key_records.proofs.ListedLaws.{lists_none}
+use Rattle.key_records.proofs.OpeningLaws.{label_of_row}
+
+-- ---- no labels
 
 blank_directory : (n : ℕ) → row_directory (replicate n None) ≡ replicate n None
 blank_directory zero = refl
 blank_directory (suc n) = ap (λ d. None ∷ d) (blank_directory n)
+
+abbrev no_rows : ℕ → List (Option Row)
+no_rows size = replicate size None
+
+blank_at : (size n : ℕ) → get_or (no_rows size) n None ≡ None
+blank_at size n = ⊎_elim
+    (λ (within : n < size). get_or-replicate size n None None within)
+    (λ (past : size ≤ n). get_or_past (no_rows size) n None (omega (arith, past, length-replicate {A = Option Row} size None)))
+    (cases_lt n size)
 
 pub blank_rows : (rows : List (Option Row)) (n : ℕ) → n ≡ 1024 → rows ≡ replicate n None → AreRows rows
 blank_rows rows n all is = record {
@@ -25,19 +38,27 @@ rows_set rows now cell row are is apart = record {
   apart = subst AreApart (sym (map-set row_label rows cell row ∙ ap (λ r. set (row_directory r) cell (row_label row)) is)) apart;
 }
 
+-- one row became another, and the cells are listed for it
+pub set_listed : (rows now : List (Option Row)) (cells : List ℕ) (cell : ℕ) (row : Option Row) → AreRows rows → rows ≡ now → AreApart (set (row_directory now) cell (row_label row)) → Lists (set (row_directory rows) cell (row_label row)) cells → AreListed (set rows cell row) cells
+set_listed rows now cells cell row are is apart lists = record {
+  are = rows_set rows now cell row are is apart;
+  listed = subst (λ d. Lists d cells) (sym (map-set row_label rows cell row)) lists;
+}
+
 -- a vector whose slice became blank
 pub cleared : (items new : List (Option Row)) (len : ℕ) → new ≡ replicate (length items) None → length items ≡ 1024 → len ≡ length items → take len (new ++ drop (length new) items) ≡ replicate 1024 None
 cleared items new len is all long =
     take_at new (drop (length new) items) len (ap length is ∙ length-replicate (length items) None ∙ sym long) ∙ is ∙ ap (λ (n : ℕ). replicate n None) all
 
--- a directory of no labels
-pub none_placed : placed [] ≡ replicate 1024 None
-unfolding placed
-none_placed = refl
-
 -- the rows and the directory of no labels
-pub none_listed : (rows directory : List (Option Row)) → rows ≡ replicate 1024 None → directory ≡ placed [] → AreListed rows directory
-none_listed rows directory is none = record { are = blank_rows rows 1024 refl is; same = none ∙ none_placed ∙ sym is }
+pub none_listed : (rows : List (Option Row)) (cells : List ℕ) → rows ≡ replicate 1024 None → cells ≡ [] → AreListed rows cells
+none_listed rows cells is none = record {
+  are = blank_rows rows 1024 refl is;
+  listed = subst (Lists (row_directory rows)) (sym none) (lists_none (row_directory rows) blank);
+}
+  where
+    blank : (n : ℕ) → label_at (row_directory rows) n ≡ None
+    blank n = label_of_row rows n ∙ ap (λ r. row_label (get_or r n None)) is ∙ ap row_label (blank_at 1024 n)
 
 -- a label that is held stands in one of the cells
 pub held_within : (rows : List (Option Row)) (cell : ℕ) (label : List ℕ) → AreRows rows → label_at (row_directory rows) cell ≡ Some label → cell < 1024

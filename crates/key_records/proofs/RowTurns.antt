@@ -19,7 +19,7 @@ use Rattle.key_records.specs.declared.rows.Row.{Row}
 use Rattle.key_records.specs.declared.rows.Second.{Second}
 use Rattle.key_records.proofs.SecondLaws.{second_bytes, second_pattern}
 
-fits : (bytes : List ℕ) → AreBytes 64 bytes → (k : ℕ) → get_or bytes k 0 < 256
+pub fits : (bytes : List ℕ) → AreBytes 64 bytes → (k : ℕ) → get_or bytes k 0 < 256
 fits bytes are k =
     ⊎_elim (λ (within : k < 64). are.each k 0 (omega (arith, are.size)))
     (λ (past : 64 ≤ k). let zero : get_or bytes k 0 ≡ 0 = get_or_past bytes k 0 (omega (arith, are.size)) in omega arith)

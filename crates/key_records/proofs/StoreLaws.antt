@@ -3,11 +3,12 @@ use Rattle.std.proofs.Common.{◌≡◌, ◌≢◌, ◌<◌, inl, inr, ⊎_elim,
 use Rattle.std.specs.Prelude.{OnOk, is_err}
 use Rattle.std.proofs.lemmas.Bool.{cases_eq}
 use Rattle.std.proofs.lemmas.List.{get_or-set_same, get_or-set_other, length-set, map-set}
+use Rattle.key_cells.specs.declared.leases.Lease.{Lease}
 use Rattle.slot_disk.specs.Cells.{body, IsReplaced, IsReplacing}
 use Rattle.slot_disk.specs.Medium.{Medium, Told, From, Becomes}
 use Rattle.slot_disk.proofs.Media.{told_from, told_at, becomes_told, each_weaker}
 use Rattle.key_tokens.specs.Denotes.{ClearKey, MasterKeys, Denoted}
-use Rattle.key_records.specs.Changes.{HoldsEither, ReplacesBody, ChangesLabels, null_entry, created, written, with_what, ahead_entry, with_both, written_ahead}
+use Rattle.key_records.specs.Changes.{HoldsEither, ReplacesBody, ChangesLabels, ChangesRecord, KeepsAllButBody, Remembers, null_entry, created, written, with_what, ahead_entry, with_both, written_ahead}
 use Rattle.key_records.specs.Directory.{AreApart, label_at, free_cell}
 use Rattle.key_records.specs.Entries.{Entry, entry, directory, entry_label, row_directory, row_label, remembered}
 use Rattle.key_records.specs.RecordBody.{ReadsEntry, ReadsRow}
@@ -150,3 +151,14 @@ told_all m P all = told_from m.content P (λ c is. all c)
 pub replaces_is : (m0 m1 : Medium) (result : Result (Unit {0}) RecordFault) (n k : ℕ) (a b : List ℕ) → n ≡ k → a ≡ b → ReplacesBody n a m0 m1 result → ReplacesBody k b m0 m1 result
 replaces_is m0 m1 result n k a b cells bodies replaces =
     subst (λ (c : ℕ). ReplacesBody c b m0 m1 result) cells (subst (λ (x : List ℕ). ReplacesBody n x m0 m1 result) bodies replaces)
+
+-- and of the record in it, from a lease whose body alone has changed
+pub changed_as : {D : Type 0} (medium : D → Medium) (faults : D → ℕ) (n k : ℕ) (a b : List ℕ) (row next : Option Row) (rows now : List (Option Row)) (lease later : Lease) (old new : D) (result : Result (Unit {0}) RecordFault)
+    → n ≡ k → a ≡ b → row ≡ next → KeepsAllButBody lease later → ChangesRecord medium faults n a row rows now later later old new result → ChangesRecord medium faults k b next rows now lease later old new result
+changed_as medium faults n k a b row next rows now lease later old new result cells bodies rows_are rest changes = record {
+  cell = replaces_is (medium old) (medium new) result n k a b cells bodies changes.cell;
+  memory = subst (λ (r : List (Option Row)). Remembers rows r now result) (ap (λ c. set rows c row) cells ∙ ap (set rows k) rows_are) changes.memory;
+  holds = changes.holds;
+  rest = rest;
+  cause = changes.cause;
+}

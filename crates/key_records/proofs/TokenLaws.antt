@@ -1,13 +1,14 @@
 -- A token with flag c0 is the one that is written with its fields.
-use Rattle.std.proofs.Common.{◌≡◌, ◌≤◌, ◌+◌, ◌-◌, ℕ, List, [], ◌∷◌, ◌++◌, take, drop, refl, sym, ap, subst, ◌∙◌, arith}
+use Rattle.std.proofs.Common.{◌≡◌, ◌≤◌, ◌<◌, ◌+◌, ◌-◌, ℕ, List, [], ◌∷◌, ◌++◌, take, drop, length, refl, sym, ap, subst, ◌∙◌, arith}
 use Rattle.std.specs.Prelude.{slice_index, slice_range, ⊤}
 use Rattle.std.specs.Int.{to_be_bytes, w32}
 use Rattle.std.proofs.lemmas.List.{take-append-drop, take-take, drop-take, take_all}
+use Rattle.slot_disk.proofs.CellSteps.{length-range}
 use Rattle.key_tokens.specs.Layout.{HasPlaces, IsToken, Place, layout, made, place, zeros}
 use Rattle.key_tokens.specs.Kinds.{kind_byte}
 use Rattle.key_tokens.specs.Tvv.{tvv_of}
 use Rattle.key_tokens.specs.declared.key_token.Token.{Token}
-use Rattle.key_tokens.proofs.Written.{flag-made, tvv_of-front}
+use Rattle.key_tokens.proofs.Written.{flag-made, made-token, tvv_of-front}
 
 -- each place begins where the one before it ends
 abbrev FollowOn : ℕ → List Place → Type 0
@@ -66,5 +67,21 @@ module _ (token : Token) where
       (subst (λ (v : ℕ). HasPlaces b (layout token 0xc0 v)) (sym tvv) has_b) refl in
       sym (take_all 64 a (omega (arith, is_a.whole))) ∙ whole ∙ take_all 64 b (omega (arith, is_b.whole))
 
-  pub made_only : (bytes : List ℕ) → IsToken (made token) token → IsToken bytes token → slice_index bytes 6 ≡ 0xc0 → bytes ≡ made token
+  made_only : (bytes : List ℕ) → IsToken (made token) token → IsToken bytes token → slice_index bytes 6 ≡ 0xc0 → bytes ≡ made token
   made_only bytes is_made is flag = same_token bytes (made token) is is_made flag (flag-made token)
+
+-- ---- a token that is read and has flag c0 is written as it is
+
+part_long : (bytes part : List ℕ) (at size : ℕ) → length bytes ≡ 64 → at + size < 65 → slice_range bytes at (at + size) ≡ part → length part ≡ size
+part_long bytes part at size whole within is = sym (ap length is) ∙ length-range bytes at size ∙ omega (arith, whole, within)
+
+pub made_again : (token : Token) (bytes : List ℕ) → IsToken bytes token → slice_index bytes 6 ≡ 0xc0 → bytes ≡ made token
+made_again token bytes is flag =
+    let p = is.places in
+    made_only token bytes
+    (made-token token
+    (part_long bytes token.pattern 8 8 is.whole (omega arith) p.1.1.1.1.1.1.0)
+    (part_long bytes token.sealed.left 16 8 is.whole (omega arith) p.1.1.1.1.1.1.1.0)
+    (part_long bytes token.sealed.right 24 8 is.whole (omega arith) p.1.1.1.1.1.1.1.1.0)
+    is.vector is.pattern is.right)
+    is flag

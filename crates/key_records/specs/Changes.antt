@@ -1,6 +1,6 @@
 -- What a change of one record does to the store and to the memory, and when each answer comes.
-use Rattle.std.specs.Prelude.{◌≡◌, ◌≢◌, ◌≤◌, ◌⊎◌, ◌*◌, ℕ, List, Option, None, Some, set, slice_index}
-use Rattle.std.specs.Prelude.{Result, Err, OnOk, OnErr, IsSome, is_some, Bool, true, false, bytes_eq}
+use Rattle.std.specs.Prelude.{◌≡◌, ◌≢◌, ◌≤◌, ◌↔◌, ◌⊎◌, ◌*◌, ℕ, List, Option, None, Some, set, slice_index}
+use Rattle.std.specs.Prelude.{Result, Err, IfErr, OnOk, OnErr, IsSome, is_some, Bool, true, false, bytes_eq}
 use Rattle.std.specs.List.{list_any}
 use Rattle.key_cells.specs.Lease.{bench_of, holding}
 use Rattle.key_cells.specs.declared.leases.Lease.{Lease}
@@ -11,12 +11,12 @@ use Rattle.slot_disk.specs.Ranges.{SameOutside}
 use Rattle.key_tokens.specs.Denotes.{ClearKey, MasterKey, MasterKeys, Denoted, denoted}
 use Rattle.key_tokens.specs.declared.key_token.Age.TheVariants.{Current}
 use Rattle.master_registers.specs.declared.patterns.Pattern.{Pattern}
-use Rattle.key_records.specs.Directory.{free_cell}
+use Rattle.key_records.specs.Directory.{cell_of, free_cell}
 use Rattle.key_records.specs.Entries.{Entry, entry, directory}
 use Rattle.key_records.specs.RecordBody.{IsKept, ReadsRow, StandsAs, kept, second_of}
-use Rattle.key_records.specs.StoreStands.{StandsForLabels, KeepsLabels, entry_at}
+use Rattle.key_records.specs.StoreStands.{StandsForLabels, HoldsRows, KeepsLabels, entry_at}
 use Rattle.key_records.specs.declared.faults.RecordFault.{RecordFault}
-use Rattle.key_records.specs.declared.faults.RecordFault.TheVariants.{DiskFault}
+use Rattle.key_records.specs.declared.faults.RecordFault.TheVariants.{Damaged, DiskFault, Exists, Full}
 use Rattle.key_records.specs.declared.rows.Row.{Row}
 use Rattle.key_records.specs.declared.rows.Second.{Second}
 
@@ -114,6 +114,33 @@ ChangesKeyAndBody old new = new ≡ holding old (record (bench_of old) {
   schedules = (bench_of new).schedules;
   body = (bench_of new).body;
 })
+
+-- What a change of one record does, which gives the cell this body and the memory this row. The store shows a medium and a
+-- count of faults.
+pub record ChangesRecord {D : Type 0} (medium : D → Medium) (faults : D → ℕ) (place : ℕ)
+    (bytes : List ℕ) (row : Option Row) (rows now : List (Option Row)) (lease later : Lease)
+    (old new : D) (result : Result (Unit {0}) RecordFault) : Type 0 where
+  -- the cell selects the body
+  pub cell : ReplacesBody place bytes (medium old) (medium new) result
+  -- the memory has the row in its place
+  pub memory : Remembers rows (set rows place row) now result
+  -- after Ok the memory knows the store
+  pub holds : OnOk result (Told (medium new) (HoldsRows now))
+  -- of the lease the body alone has changed
+  pub rest : KeepsAllButBody lease later
+  -- a fault of the store is told, and nothing else is told as one
+  pub cause : HasRecordCause (faults old) (faults new) result
+
+-- When another label is refused: a full store refuses each label, and another one each label that is held. A refusal
+-- calls no device and writes nothing.
+pub record RefusesLabel {D : Type 0} (held : List (Option (List ℕ))) (label : List ℕ)
+    (lease later : Lease) (old new : D) (result : Result (Unit {0}) RecordFault) : Type 0 where
+  pub full : (result ≡ Err Full) ↔ (free_cell held ≡ 1024)
+  pub exists : (result ≡ Err Exists)
+      ↔ ((free_cell held ≢ 1024) × (cell_of label held ≢ None))
+  pub undamaged : IfErr result (λ fault. (n : ℕ) → fault ≢ Damaged n)
+  pub untouched : (result ≡ Err Full) ⊎ (result ≡ Err Exists) → new ≡ old
+  pub lease_untouched : (result ≡ Err Full) ⊎ (result ≡ Err Exists) → later ≡ lease
 
 -- A token under the current master key, and the second token of the same key under a full new register, whose
 -- pattern is neither that of the current nor that of the old one.

@@ -3,7 +3,6 @@ pub mod Directory
 pub mod Entries
 pub mod Rows
 pub mod Ascending
-pub mod Placed
 pub mod Rank
 pub mod RecordBody
 pub mod StoreStands

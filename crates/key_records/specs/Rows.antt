@@ -1,5 +1,6 @@
 -- The rows of the memory: 1,024 places, each label in one alone.
-use Rattle.std.specs.Prelude.{◌≡◌, List, Option, length}
+use Rattle.std.specs.Prelude.{◌≡◌, ℕ, List, Option, length}
+use Rattle.key_records.specs.Ascending.{Lists}
 use Rattle.key_records.specs.Directory.{AreApart}
 use Rattle.key_records.specs.Entries.{row_directory}
 use Rattle.key_records.specs.declared.rows.Row.{Row}
@@ -8,7 +9,7 @@ pub record AreRows (rows : List (Option Row)) : Type 0 where
   pub size : length rows ≡ 1024
   pub apart : AreApart (row_directory rows)
 
--- the rows by their cells, and a directory of the same
-pub record AreListed (rows directory : List (Option Row)) : Type 0 where
+-- the rows by their cells, and the cells that hold a label in ascending order of their labels
+pub record AreListed (rows : List (Option Row)) (cells : List ℕ) : Type 0 where
   pub are : AreRows rows
-  pub same : directory ≡ rows
+  pub listed : Lists (row_directory rows) cells

@@ -228,7 +228,7 @@ pub(crate) fn label_in(body: &[u8; 192]) -> Option<Label>
     Label::read(&body[2..2 + length])
 }
 
-/// The token as it is kept: with flag C0, and its validation value made anew.
+/// The token as it is kept: with flag C0, and its validation value made anew. One with this flag is kept as it is.
 pub(crate) fn kept_token(token: &[u8; 64]) -> [u8; 64]
     requires { first_failing (token_checks Asked.Internal token.now) ≡ None }
     ensures renewed { result ≡ renewed token.now }
@@ -236,6 +236,10 @@ pub(crate) fn kept_token(token: &[u8; 64]) -> [u8; 64]
     ensures kept { (masters : MasterKeys) → kept masters result ≡ denoted masters token.now }
     ensures known { IsKept result (record { bytes = pattern_of_token token.now }) }
 {
+    are_bytes(token);
+    if token[6] == KEY_AND_VECTOR {
+        return *token;
+    }
     match read_token(token, Asked::Internal) {
         Ok(token) => {
             let written = write_token(&token);

@@ -1,12 +1,11 @@
 //! Changes of one record. Each writes one cell, which costs two writes and two syncs: a stop at any moment
 //! leaves the labels before or after.
-ghost use Rattle.std.specs.Prelude.{◌≡◌, ◌≢◌, ◌↔◌, ◌⊎◌, ◌+◌, ◌*◌, ◌≤◌, ◌<◌, ℕ, List, Option, None, Some};
-ghost use Rattle.std.specs.Prelude.{Result, Ok, Err, set, get_or, IfErr, OnOk, OnErr, IsSome};
+ghost use Rattle.std.specs.Prelude.{◌≡◌, ◌<◌, List, Option, None, Some, set, get_or, IfErr, IsSome};
 ghost use Rattle.key_cells.specs.Lease.{bench_of};
 ghost use Rattle.key_tokens.specs.Denotes.{ClearKey, MasterKeys, Denoted, denoted};
-ghost use Rattle.key_records.specs.Changes.{ReplacesBody, ChangesLabels, Remembers, HasRecordCause};
-ghost use Rattle.key_records.specs.Changes.{KeepsAllButBody, AreBoth, created, deleted, written, written_ahead};
-ghost use Rattle.key_records.specs.Directory.{free_cell, cell_of, AreApart, label_at};
+ghost use Rattle.key_records.specs.Changes.{AreBoth, ChangesLabels, ChangesRecord, RefusesLabel};
+ghost use Rattle.key_records.specs.Changes.{created, deleted, written, written_ahead};
+ghost use Rattle.key_records.specs.Directory.{free_cell, AreApart, label_at};
 ghost use Rattle.key_records.specs.Entries.{Entry, row_directory, row_label, label_or, null_row, key_row, both_row};
 ghost use Rattle.key_records.specs.RecordBody.{null_body, key_body, both_body, blank_body, renewed, ReadsRow};
 ghost use Rattle.key_records.specs.StoreStands.{KeepsLabels, HoldsRows};
@@ -38,31 +37,15 @@ impl Records {
         requires settled { IsSettled (D.medium store.old) }
         requires holds { Told (D.medium store.old) (HoldsRows self.old) }
 
-        ensures cell { ReplacesBody (free_cell (row_directory self.old))
-            (null_body label.now)
-            (D.medium store.old) (D.medium store.new) result }
+        ensures changes { ChangesRecord D.medium D.faults (free_cell (row_directory self.old))
+            (null_body label.now) (Some (null_row label.now))
+            self.old self.new lease.old lease.new store.old store.new result }
         ensures labels { (masters : MasterKeys) (s : List (Option Entry))
             → Told (D.medium store.old) (KeepsLabels masters self.old s)
             → ChangesLabels masters (free_cell (row_directory self.old)) s (created label.now s)
             self.new (D.medium store.old) (D.medium store.new) result }
-        ensures memory { Remembers self.old
-            (set self.old (free_cell (row_directory self.old)) (Some (null_row label.now)))
-            self.new result }
-        ensures holds { OnOk result (Told (D.medium store.new) (HoldsRows self.new)) }
-        ensures rest { KeepsAllButBody lease.old lease.new }
-        ensures cause { HasRecordCause (D.faults store.old) (D.faults store.new) result }
-
-        // a full store refuses each label, and another one each label that is held
-        ensures full { (result ≡ Err RecordFault.Full)
-            ↔ (free_cell (row_directory self.old) ≡ 1024) }
-        ensures exists { (result ≡ Err RecordFault.Exists)
-            ↔ ((free_cell (row_directory self.old) ≢ 1024)
-            × (cell_of label.now (row_directory self.old) ≢ None)) }
-        ensures undamaged { IfErr result (λ fault. (n : ℕ) → fault ≢ RecordFault.Damaged n) }
-        ensures untouched { (result ≡ Err RecordFault.Full) ⊎ (result ≡ Err RecordFault.Exists)
-            → store.new ≡ store.old }
-        ensures lease_untouched { (result ≡ Err RecordFault.Full)
-            ⊎ (result ≡ Err RecordFault.Exists) → lease.new ≡ lease.old }
+        ensures refuses { RefusesLabel (row_directory self.old) label.now
+            lease.old lease.new store.old store.new result }
     {
         let Some(cell) = self.free_cell() else {
             return Err(RecordFault::Full);
@@ -77,7 +60,7 @@ impl Records {
             pattern: None,
             ahead: None,
         };
-        self.change(store, cell, lease.body(), Some(row))
+        self.change(store, lease, cell, Some(row))
     }
 
     /// No longer holds a label. After `DiskFault` the records are to be opened again.
@@ -92,21 +75,17 @@ impl Records {
         requires settled { IsSettled (D.medium store.old) }
         requires holds { Told (D.medium store.old) (HoldsRows self.old) }
 
-        ensures cell { ReplacesBody place blank_body
-            (D.medium store.old) (D.medium store.new) result }
+        ensures changes { ChangesRecord D.medium D.faults place blank_body None
+            self.old self.new lease.old lease.new store.old store.new result }
         ensures labels { (masters : MasterKeys) (s : List (Option Entry))
             → Told (D.medium store.old) (KeepsLabels masters self.old s)
             → ChangesLabels masters place s (deleted place s)
             self.new (D.medium store.old) (D.medium store.new) result }
-        ensures memory { Remembers self.old (set self.old place None) self.new result }
-        ensures holds { OnOk result (Told (D.medium store.new) (HoldsRows self.new)) }
-        ensures rest { KeepsAllButBody lease.old lease.new }
-        ensures cause { HasRecordCause (D.faults store.old) (D.faults store.new) result }
         ensures faults { IfErr result (λ fault. fault ≡ RecordFault.DiskFault) }
     {
         let cell = self.cell(place);
         write_blank(lease.body_mut());
-        self.change(store, cell, lease.body(), None)
+        self.change(store, lease, cell, None)
     }
 
     /// Gives a held label a key: the token is written with flag C0 and its validation value made anew. After
@@ -127,20 +106,15 @@ impl Records {
         requires key { IsSome
             (denoted (keys_of (masters_in held.now (bench_of lease.old))) token.now) }
 
-        ensures cell { ReplacesBody place
+        ensures changes { ChangesRecord D.medium D.faults place
             (key_body (label_or (get_or self.old place None)) (renewed token.now))
-            (D.medium store.old) (D.medium store.new) result }
+            (Some (key_row (label_or (get_or self.old place None)) token.now))
+            self.old self.new lease.old lease.new store.old store.new result }
         ensures labels { (masters : MasterKeys) (s : List (Option Entry)) (key : Denoted)
             → Told (D.medium store.old) (KeepsLabels masters self.old s)
             → denoted masters token.now ≡ Some key
             → ChangesLabels masters place s (written place key s)
             self.new (D.medium store.old) (D.medium store.new) result }
-        ensures memory { Remembers self.old
-            (set self.old place (Some (key_row (label_or (get_or self.old place None)) token.now)))
-            self.new result }
-        ensures holds { OnOk result (Told (D.medium store.new) (HoldsRows self.new)) }
-        ensures rest { KeepsAllButBody lease.old lease.new }
-        ensures cause { HasRecordCause (D.faults store.old) (D.faults store.new) result }
         ensures faults { IfErr result (λ fault. fault ≡ RecordFault.DiskFault) }
     {
         let cell = self.cell(place);
@@ -153,7 +127,7 @@ impl Records {
             pattern: Some(pattern),
             ahead: None,
         };
-        self.change(store, cell, lease.body(), Some(row))
+        self.change(store, lease, cell, Some(row))
     }
 
     /// Gives a held label two tokens of one key: one under the current master key, which is written as `write`
@@ -177,20 +151,15 @@ impl Records {
             × AreBoth (keys_of (masters_in held.now (bench_of lease.old)))
             token.now second.now clear }
 
-        ensures cell { ReplacesBody place
+        ensures changes { ChangesRecord D.medium D.faults place
             (both_body (label_or (get_or self.old place None)) (renewed token.now) second.now)
-            (D.medium store.old) (D.medium store.new) result }
+            (Some (both_row (label_or (get_or self.old place None)) token.now second.now.pattern))
+            self.old self.new lease.old lease.new store.old store.new result }
         ensures labels { (masters : MasterKeys) (s : List (Option Entry)) (clear : ClearKey)
             → Told (D.medium store.old) (KeepsLabels masters self.old s)
             → AreBoth masters token.now second.now clear
             → ChangesLabels masters place s (written_ahead place clear s)
             self.new (D.medium store.old) (D.medium store.new) result }
-        ensures memory { Remembers self.old (set self.old place
-            (Some (both_row (label_or (get_or self.old place None)) token.now second.now.pattern)))
-            self.new result }
-        ensures holds { OnOk result (Told (D.medium store.new) (HoldsRows self.new)) }
-        ensures rest { KeepsAllButBody lease.old lease.new }
-        ensures cause { HasRecordCause (D.faults store.old) (D.faults store.new) result }
         ensures faults { IfErr result (λ fault. fault ≡ RecordFault.DiskFault) }
     {
         let cell = self.cell(place);
@@ -204,30 +173,28 @@ impl Records {
             pattern: Some(pattern),
             ahead: Some(second.pattern),
         };
-        self.change(store, cell, lease.body(), Some(row))
+        self.change(store, lease, cell, Some(row))
     }
 
-    /// Writes a body into a cell, and remembers what it holds.
+    /// Writes the body in the lease into a cell, and remembers what it holds.
     fn change<D: Disk>(
         &mut self,
         store: &mut D,
+        lease: &Lease,
         cell: u16,
-        body: &[u8; 192],
         row: Option<Row>,
     ) -> Result<(), RecordFault>
         requires within { cell < 1024 }
         requires size { (D.medium store.old).size ≡ STORE_LEN }
         requires settled { IsSettled (D.medium store.old) }
-        requires reads { ReadsRow body.now row }
+        requires reads { ReadsRow (bench_of lease.now).body row }
         requires apart { AreApart (set (row_directory self.old) cell (row_label row)) }
         requires holds { Told (D.medium store.old) (HoldsRows self.old) }
-        ensures cell { ReplacesBody cell body.now (D.medium store.old) (D.medium store.new) result }
-        ensures memory { Remembers self.old (set self.old cell row) self.new result }
-        ensures holds { OnOk result (Told (D.medium store.new) (HoldsRows self.new)) }
+        ensures changes { ChangesRecord D.medium D.faults cell (bench_of lease.now).body row
+            self.old self.new lease.now lease.now store.old store.new result }
         ensures faults { IfErr result (λ fault. fault ≡ RecordFault.DiskFault) }
-        ensures cause { HasRecordCause (D.faults store.old) (D.faults store.new) result }
     {
-        if replace_cell(store, Cell::new(cell), body).is_err() {
+        if replace_cell(store, Cell::new(cell), lease.body()).is_err() {
             return Err(RecordFault::DiskFault);
         }
         self.set_row(cell, row);

@@ -1,146 +1,147 @@
-//! The labels that are held in ascending order, each with its cell.
-ghost use Rattle.std.specs.Prelude.{◌≡◌, ◌≢◌, ◌==◌, if◌then◌else◌, [], ◌+◌, ◌-◌, ◌*◌, ◌^◌, ◌≤◌, ◌<◌, ℕ};
-ghost use Rattle.std.specs.Prelude.{List, Option, None, Some, length, map, set, IfOk};
+//! The cells that hold labels, in ascending order of these.
+ghost use Rattle.std.specs.Prelude.{◌≡◌, ◌≢◌, ◌+◌, ◌-◌, ◌*◌, ◌^◌, ◌≤◌, ◌<◌, [], ℕ};
+ghost use Rattle.std.specs.Prelude.{None, Some, length, get_or, set, IfOk, IsTrue};
 ghost use Rattle.std.specs.Vec.{vec_capacity};
-ghost use Rattle.key_records.specs.Directory.{AreApart, cell_of, held_count};
-ghost use Rattle.key_records.specs.Entries.{row_directory, row_label, turned};
-ghost use Rattle.key_records.specs.Placed.{placed, row_in, turned_slot, AreSlots};
-ghost use Rattle.key_records.specs.Rank.{IsNth};
-ghost use Rattle.key_records.specs.Ascending.{text_at, slot_label};
+ghost use Rattle.key_records.specs.Ascending.{Lists};
+ghost use Rattle.key_records.specs.Directory.{AreApart, cell_of, held_count, label_at};
+ghost use Rattle.key_records.specs.Entries.{row_directory, row_label};
+ghost use Rattle.key_records.specs.Rows.{AreListed};
 
 use crate::halving::search;
 use crate::labels::Label;
-use crate::rows::{Row, Slot, turned_row};
+use crate::rows::Row;
 use slot_disk::{NoMemory, Steps};
 use std::alloc::Global;
 use std::marker::Model;
 
-/// The labels that are held, in ascending order of their bytes. A change moves at most 1,024 slots.
+/// The cells that hold labels, in ascending order of the bytes of these. The rows beside it have the labels. A change
+/// moves at most 1,024 numbers.
 #[derive(Drop)]
 pub(crate) struct Directory {
-    slots: Vec<Slot>,
+    cells: Vec<u16>,
 }
 
-// Clauses see a list of 1,024 places, one for each cell.
+// Clauses see the cells.
 impl Model for Directory {
-    ghost use Rattle.std.specs.Prelude.{List, Option};
+    ghost use Rattle.std.specs.Prelude.{◌≤◌, ℕ, List};
     ghost use Rattle.std.specs.Vec.{vec_capacity};
-    ghost use Rattle.key_records.specs.declared.rows.Row.{Row};
-    ghost use Rattle.key_records.specs.Placed.{placed, IsSorted};
 
-    ghost Value = { List (Option Row) };
+    ghost Value = { List ℕ };
 
-    ghost view = { λ d. placed d.slots.items };
+    ghost view = { λ d. d.cells.items };
 
-    ghost invariant = { λ d. IsSorted d.slots.items (vec_capacity d.slots) };
+    ghost invariant = { λ d. 1024 ≤ vec_capacity d.cells };
 }
 
 impl Directory {
     /// No labels, with all the memory that the directory needs.
     pub(crate) fn new(alloc: Global) -> Result<Directory, NoMemory>
-        ensures { IfOk result (λ d. d ≡ placed []) }
+        ensures { IfOk result (λ d. d ≡ []) }
     {
-        let slots = Vec::with_capacity(alloc, 1024)?;
-        Ok(Directory { slots })
+        let cells = Vec::with_capacity(alloc, 1024)?;
+        Ok(Directory { cells })
     }
 
     /// The cell of the label.
-    pub(crate) fn find<L>(&self, label: &Label, steps: &mut Steps<L>) -> Option<u16>
-        ensures found { result ≡ cell_of label.now (row_directory self.now) }
-        ensures few { 2 ^ (steps.new - steps.old) ≤ 2 * held_count (row_directory self.now) + 1 }
+    pub(crate) fn find<L>(
+        &self,
+        rows: &[Option<Row>],
+        label: &Label,
+        steps: &mut Steps<L>,
+    ) -> Option<u16>
+        requires { AreListed rows.now self.now }
+        ensures found { result ≡ cell_of label.now (row_directory rows.now) }
+        ensures few { 2 ^ (steps.new - steps.old) ≤ 2 * held_count (row_directory rows.now) + 1 }
         ensures later { steps.old ≤ steps.new }
     {
-        match search(&self.slots, label, steps) {
-            Ok(at) => Some(self.slots[at].cell),
+        match search(&self.cells, rows, label, steps) {
+            Ok(at) => Some(self.cells[at]),
             Err(_) => None,
         }
     }
 
     /// How many labels there are.
     pub(crate) fn count(&self) -> usize
-        ensures { result ≡ held_count (row_directory self.now) }
+        ensures { result ≡ length self.now }
     {
-        self.slots.len()
+        self.cells.len()
     }
 
-    /// The label with this many smaller ones.
-    pub(crate) fn label_at(&self, index: usize) -> &Label
-        requires { index < held_count (row_directory self.now) }
-        ensures { IsNth index (row_directory self.now) result.now }
+    /// The cell of the label with this many smaller ones.
+    pub(crate) fn cell_at(&self, index: usize) -> u16
+        requires { index < length self.now }
+        ensures { result ≡ get_or self.now index 0 }
     {
-        &self.slots[index].row.label
+        self.cells[index]
     }
 
-    /// Makes the row of a cell another one.
-    pub(crate) fn set_row(&mut self, cell: u16, row: &Option<Row>)
+    /// Lists the cells that hold labels once this one has another row. Where it keeps its label, nothing moves.
+    pub(crate) fn set_row(&mut self, rows: &[Option<Row>], cell: u16, row: &Option<Row>)
         requires within { cell < 1024 }
-        requires apart { AreApart (set (row_directory self.old) cell (row_label row.now)) }
-        ensures { self.new ≡ set self.old cell row.now }
+        requires listed { AreListed rows.now self.old }
+        requires apart { AreApart (set (row_directory rows.now) cell (row_label row.now)) }
+        ensures { Lists (set (row_directory rows.now) cell (row_label row.now)) self.new }
     {
-        take_out(&mut self.slots, cell);
-        if let Some(row) = row {
-            put_in(&mut self.slots, cell, row);
+        if have_one_label(&rows[cell as usize], row) {
+            return;
         }
-    }
-
-    /// Makes every label that is ahead one that is under its second token.
-    pub(crate) fn turn(&mut self)
-        ensures { self.new ≡ map turned self.old }
-    {
-        turn_slots(self.slots.as_mut_slice());
+        take_out(&mut self.cells, rows, cell);
+        if let Some(row) = row {
+            put_in(&mut self.cells, rows, cell, &row.label);
+        }
     }
 
     /// No labels.
     pub(crate) fn clear(&mut self)
-        ensures { self.new ≡ placed [] }
+        ensures { self.new ≡ [] }
     {
-        self.slots.clear();
+        self.cells.clear();
     }
 }
 
-fn turn_slots(slots: &mut [Slot])
-    ensures { slots.new ≡ map turned_slot slots.old }
+/// Whether two rows have the same label.
+fn have_one_label(one: &Option<Row>, other: &Option<Row>) -> bool
+    ensures { IsTrue result → row_label one.now ≡ row_label other.now }
 {
-    for slot in slots.iter_mut() {
-        slot.row = turned_row(&slot.row);
-    }
+    let (Some(one), Some(other)) = (one, other) else {
+        return false;
+    };
+    let mut steps: Steps<()> = Steps::new();
+    one.label.compare(&other.label, &mut steps).is_eq()
 }
 
-/// Takes the slot of a cell out, where there is one.
-fn take_out(slots: &mut Vec<Slot>, cell: u16)
-    requires { AreSlots slots.old.items }
-    ensures slots { AreSlots slots.new.items }
-    ensures rows { (n : ℕ) → row_in slots.new.items n
-        ≡ (if n == cell then None else row_in slots.old.items n) }
-    ensures capacity { vec_capacity slots.new ≡ vec_capacity slots.old }
+/// Takes a cell out, where it holds a label.
+fn take_out(cells: &mut Vec<u16>, rows: &[Option<Row>], cell: u16)
+    requires within { cell < 1024 }
+    requires listed { AreListed rows.now cells.old.items }
+    ensures listed { Lists (set (row_directory rows.now) cell None) cells.new.items }
+    ensures capacity { vec_capacity cells.new ≡ vec_capacity cells.old }
 {
-    for at in 0..slots.len() {
-        if slots[at].cell == cell {
-            slots.remove(at);
-            return;
+    if let Some(row) = &rows[cell as usize] {
+        let mut steps: Steps<()> = Steps::new();
+        match search(cells, rows, &row.label, &mut steps) {
+            Ok(at) => {
+                cells.remove(at);
+            }
+            Err(_) => {}
         }
     }
 }
 
-/// Puts a row in for a cell that has none.
-fn put_in(slots: &mut Vec<Slot>, cell: u16, row: &Row)
-    requires slots { AreSlots slots.old.items }
-    requires free { row_in slots.old.items cell ≡ None }
-    requires within { cell < 1024 }
-    requires fresh { (k : ℕ) → k < length slots.old.items
-        → text_at (map slot_label slots.old.items) k ≢ row.now.label }
-    requires room { length slots.old.items < vec_capacity slots.old }
-    ensures slots { AreSlots slots.new.items }
-    ensures rows { (n : ℕ) → row_in slots.new.items n
-        ≡ (if n == cell then Some row.now else row_in slots.old.items n) }
-    ensures capacity { vec_capacity slots.new ≡ vec_capacity slots.old }
+/// Puts a cell in, where its label is to stand.
+fn put_in(cells: &mut Vec<u16>, rows: &[Option<Row>], cell: u16, label: &Label)
+    requires within { cell < length rows.now }
+    requires listed { Lists (set (row_directory rows.now) cell None) cells.old.items }
+    requires fresh { (n : ℕ) → label_at (set (row_directory rows.now) cell None) n ≢ Some label.now }
+    requires room { length cells.old.items < vec_capacity cells.old }
+    ensures listed { Lists (set (row_directory rows.now) cell (Some label.now)) cells.new.items }
+    ensures capacity { vec_capacity cells.new ≡ vec_capacity cells.old }
 {
     let mut steps: Steps<()> = Steps::new();
-    match search(slots, &row.label, &mut steps) {
+    match search(cells, rows, label, &mut steps) {
         Ok(_) => {}
         Err(at) => {
-            let slot = Slot { row: *row, cell };
-            slots.insert(at, slot).unwrap();
+            cells.insert(at, cell).unwrap();
         }
     }
 }

@@ -9,7 +9,7 @@ ghost use Rattle.key_records.specs.Rows.{AreRows};
 
 use crate::directory::Directory;
 use crate::labels::Label;
-use crate::rows::{Row, turned_row};
+use crate::rows::{Row, label_of, turned_row};
 use master_registers::Pattern;
 use slot_disk::{NoMemory, Steps};
 use std::alloc::Global;
@@ -87,7 +87,7 @@ impl Records {
         ensures few { 2 ^ (steps.new - steps.old) ≤ 2 * held_count (row_directory self.now) + 1 }
         ensures later { steps.old ≤ steps.new }
     {
-        match self.directory.find(label, steps) {
+        match self.directory.find(&self.rows, label, steps) {
             Some(cell) => Some(Place { cell }),
             None => None,
         }
@@ -122,7 +122,7 @@ impl Records {
         requires { index < held_count (row_directory self.now) }
         ensures { IsNth index (row_directory self.now) result.now }
     {
-        self.directory.label_at(index)
+        label_of(&self.rows, self.directory.cell_at(index))
     }
 
     /// Whether some key is under the master key with this pattern.
@@ -153,7 +153,6 @@ impl Records {
         ensures { self.new ≡ map turned self.old }
     {
         turn_rows(self.rows.as_mut_slice());
-        self.directory.turn();
     }
 
     /// The lowest cell that holds no label.
@@ -247,7 +246,7 @@ impl Records {
         ensures set { self.new ≡ set self.old cell row }
         ensures rows { AreRows self.new }
     {
-        self.directory.set_row(cell, &row);
+        self.directory.set_row(&self.rows, cell, &row);
         self.rows[cell as usize] = row;
     }
 }

@@ -1,6 +1,7 @@
 //! What the memory knows of a record.
-ghost use Rattle.std.specs.Prelude.{◌≡◌};
-ghost use Rattle.key_records.specs.Entries.{turned_row};
+ghost use Rattle.std.specs.Prelude.{◌≡◌, Some, IsSome};
+ghost use Rattle.key_records.specs.Directory.{label_at};
+ghost use Rattle.key_records.specs.Entries.{row_directory, turned_row};
 
 use crate::labels::Label;
 use master_registers::Pattern;
@@ -41,9 +42,13 @@ pub(crate) fn turned_row(row: &Row) -> Row
     }
 }
 
-/// A row with its cell.
-#[derive(Clone, Copy, Debug, PartialEq, Eq)]
-pub(crate) struct Slot {
-    pub(crate) row: Row,
-    pub(crate) cell: u16,
+/// The label of a cell that holds one.
+pub(crate) fn label_of(rows: &[Option<Row>], cell: u16) -> &Label
+    requires { IsSome (label_at (row_directory rows.now) cell) }
+    ensures { label_at (row_directory rows.now) cell ≡ Some result.now }
+{
+    match &rows[cell as usize] {
+        Some(row) => &row.label,
+        None => unreachable!(),
+    }
 }

@@ -1,7 +1,7 @@
 //! The tokens that an action puts into a record.
-ghost use Rattle.std.specs.Prelude.{◌≡◌, ◌≢◌, ◌<◌, ℕ, List, Option, None, Some, Result, Err, IfErr, OnOk, OnErr, IsSome, get_or};
+ghost use Rattle.std.specs.Prelude.{◌≡◌, List, Option, None, Some, IfErr, OnOk, IsSome, get_or};
 ghost use Rattle.key_cells.specs.Lease.{bench_of};
-ghost use Rattle.key_records.specs.Changes.{ReplacesBody, ChangesLabels, HasRecordCause, KeepsAllButBody};
+ghost use Rattle.key_records.specs.Changes.{ChangesLabels, ChangesRecord};
 ghost use Rattle.key_records.specs.Directory.{label_at};
 ghost use Rattle.key_records.specs.Entries.{Entry, row_directory, label_or};
 ghost use Rattle.key_records.specs.StoreStands.{HoldsRows, KeepsLabels};
@@ -42,23 +42,16 @@ pub(crate) fn put<D: Disk>(
     requires loaded { IsLoaded held.now (bench_of lease.old) }
     requires ready { CanBeWritten (keys_of (masters_in held.now (bench_of lease.old))) tokens.now }
 
-    ensures cell { ReplacesBody place
+    ensures changes { ChangesRecord D.medium D.faults place
         (body_of (label_or (get_or records.old place None)) tokens.now)
-        (D.medium store.old) (D.medium store.new) result }
+        (Some (row_of (label_or (get_or records.old place None)) tokens.now))
+        records.old records.new lease.old lease.new store.old store.new result }
     ensures labels { (masters : MasterKeys) (s : List (Option Entry)) (key : Denoted)
         → Told (D.medium store.old) (KeepsLabels masters records.old s)
         → StandFor masters tokens.now key
         → ChangesLabels masters place s (put_in tokens.now place key s)
         records.new (D.medium store.old) (D.medium store.new) result }
     ensures directory { OnOk result (row_directory records.new ≡ row_directory records.old) }
-    ensures row { OnOk result (get_or records.new place None
-        ≡ Some (row_of (label_or (get_or records.old place None)) tokens.now)) }
-    ensures kept { OnErr result (records.new ≡ records.old) }
-    ensures others { (n : ℕ) → n ≢ place
-        → get_or records.new n None ≡ get_or records.old n None }
-    ensures holds { OnOk result (Told (D.medium store.new) (HoldsRows records.new)) }
-    ensures rest { KeepsAllButBody lease.old lease.new }
-    ensures cause { HasRecordCause (D.faults store.old) (D.faults store.new) result }
     ensures faults { IfErr result (λ fault. fault ≡ RecordFault.DiskFault) }
 {
     match tokens {

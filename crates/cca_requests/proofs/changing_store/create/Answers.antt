@@ -24,11 +24,11 @@ returns-clause-carries g c = λ s held at.
     subst (λ x. CarriesStore (create_outcome s label) s x c.answer_create.new.reply now old new) (sym c.answer_create.ensures.stop)
     (creates_as g.D.Disk.medium c.args.store.now c.create-outcome.new.store s rows now label c.answer_create.new.reply c.requires.store.settled at.stands
     (free_cell labels == 1024) (is_some (cell_of label labels)) (set rows (free_cell known) (Some (null_row label))) r
-    (full_as r labels known same c.create-outcome.ensures.full)
-    (exists_as r label labels known same c.create-outcome.ensures.exists)
+    (full_as r labels known same c.create-outcome.ensures.refuses.full)
+    (exists_as r label labels known same c.create-outcome.ensures.refuses.exists)
     (c.create-outcome.ensures.labels (keys_of s.registers) s.labels (kept_labels s rows old at.stands))
-    c.create-outcome.ensures.untouched
-    c.create-outcome.ensures.memory
+    c.create-outcome.ensures.refuses.untouched
+    c.create-outcome.ensures.changes.memory
     (subst (λ x. OnOk x (c.answer_create.new.reply ≡ spelled (record_reply r))) c.answer_create.ensures.stop c.answer_create.ensures.reply))
 
 pub returns-clause-left : goal.returns-clause-left
@@ -42,8 +42,6 @@ returns-clause-left g c =
     let now = c.create-outcome.new.self in
     subst (λ x. LeavesStore (medium c.args.store.now) (medium c.create-outcome.new.store) (faults c.args.store.now) (faults c.create-outcome.new.store)
     x c.answer_create.new.reply rows now) (sym c.answer_create.ensures.stop)
-    (create_left_as medium faults c.args.store.now c.create-outcome.new.store rows now (set rows cell (Some (null_row label))) c.answer_create.new.reply
-    cell (null_body label) c.requires.store.settled c.requires.store.holds r
-    c.create-outcome.ensures.cell c.create-outcome.ensures.undamaged c.create-outcome.ensures.untouched c.create-outcome.ensures.memory
-    c.create-outcome.ensures.holds c.create-outcome.ensures.cause
+    (create_left_as medium faults c.args.store.now c.create-outcome.new.store rows now c.answer_create.new.reply cell (null_body label) (Some (null_row label)) c.args.lease.now c.create-outcome.new.lease
+    c.requires.store.settled c.requires.store.holds (row_directory rows) label r c.create-outcome.ensures.changes c.create-outcome.ensures.refuses
     (subst (λ x. OnErr x (c.answer_create.new.reply ≡ [])) c.answer_create.ensures.stop c.answer_create.ensures.silent))

@@ -24,5 +24,5 @@ returns-in-Err-clause-carries g c = λ s request e at warns goes.
 
 pub returns-in-Ok-clause-left : goal.returns-in-Ok-clause-left
 returns-in-Ok-clause-left g c =
-    stored_left (g.D.Disk.medium c.args.store.now) (g.D.Disk.medium c.write.new.store) (g.D.Disk.faults c.args.store.now) (g.D.Disk.faults c.write.new.store)
-    c.args.records.now c.write.new.self c.finish.new.reply c.args.place _ c.in-Ok.field-0 c.in-Ok.ensures.cell c.in-Ok.ensures.holds (c.in-Ok.ensures.cause.quiet (λ is. cc is))
+    stored_left g.D.Disk.medium g.D.Disk.faults c.args.store.now c.write.new.store c.args.records.now c.write.new.self c.finish.new.reply c.args.place _ _ c.args.lease.now c.write.new.lease
+    c.in-Ok.field-0 c.in-Ok.ensures.changes

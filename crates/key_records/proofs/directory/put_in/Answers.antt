@@ -1,25 +1,32 @@
-use Rattle.std.proofs.Common.{◌≡◌, List, map, sym, ap, subst, ◌∙◌}
-use Rattle.std.specs.Prelude.{if◌then◌else◌, is_ok}
+use Rattle.std.proofs.Common.{◌≡◌, ◌<◌, List, Some, length, get_or, set, sym, subst, ◌∙◌, ap, arith}
+use Rattle.std.specs.Prelude.{is_ok, if◌then◌else◌}
 use Rattle.std.specs.List.{insert}
-use Rattle.key_records.specs.Placed.{row_in, AreSlots}
-use Rattle.key_records.specs.Ascending.{IsPlace, slot_label}
-use Rattle.key_records.specs.declared.rows.Slot.{Slot}
-use Rattle.key_records.proofs.PlacedLaws.{row_insert}
-use Rattle.key_records.proofs.SortedLaws.{slots_insert}
+use Rattle.std.proofs.lemmas.List.{length-map}
+use Rattle.key_records.specs.Ascending.{AreAscending, IsPlace, Lists, labels_of}
+use Rattle.key_records.specs.Directory.{label_at}
+use Rattle.key_records.specs.Entries.{row_directory, row_label}
+use Rattle.key_records.proofs.ListedLaws.{left_ascending, lists_put, not_left}
 use Rattle.key_records.proofs.directory.put_in.Goals as goal
 
-pub returns-clause-slots : goal.returns-clause-slots
-returns-clause-slots c =
-    let slots : List Slot = c.args.slots.now.items in
-    let s : Slot = record { row = c.args.row.now; cell = c.args.cell } in
-    let value : c.deref.result.now ≡ slots = cc c.deref.ensures.value in
-    let place : IsPlace (map slot_label slots) c.args.row.now.label c.in-Err.at = subst (λ (l : List Slot). IsPlace (map slot_label l) c.args.row.now.label c.in-Err.at) value c.in-Err.ensures.missing in
-    let items : c.insert.new.self.items ≡ insert slots c.in-Err.at s = c.insert.ensures.items ∙ ap (λ r. if is_ok r then insert slots c.in-Err.at s else slots) c.unwrap.ensures in
-    subst AreSlots (sym items) (slots_insert slots c.in-Err.at s c.requires.slots c.requires.within c.requires.free place)
+pub search-requires-clause-ascending : goal.search-requires-clause-ascending
+search-requires-clause-ascending c =
+    let d = row_directory c.args.rows.now in
+    let within : c.args.cell < length d = omega (arith, c.requires.within, length-map c.args.rows.now row_label) in
+    subst (λ (l : List _). AreAscending (labels_of d l)) (cc c.deref.ensures.value) (left_ascending d c.args.cell within c.args.cells.now.items c.requires.listed)
 
-pub returns-clause-rows : goal.returns-clause-rows
-returns-clause-rows c n =
-    let slots : List Slot = c.args.slots.now.items in
-    let s : Slot = record { row = c.args.row.now; cell = c.args.cell } in
-    let items : c.insert.new.self.items ≡ insert slots c.in-Err.at s = c.insert.ensures.items ∙ ap (λ r. if is_ok r then insert slots c.in-Err.at s else slots) c.unwrap.ensures in
-    ap (λ (l : List Slot). row_in l n) items ∙ row_insert slots c.in-Err.at s c.requires.free n
+pub returns-in-Ok-clause-listed : goal.returns-in-Ok-clause-listed
+returns-in-Ok-clause-listed c =
+    let d = row_directory c.args.rows.now in
+    let within : c.args.cell < length d = omega (arith, c.requires.within, length-map c.args.rows.now row_label) in
+    let value : c.deref.result.now ≡ c.args.cells.now.items = cc c.deref.ensures.value in
+    let found = subst (λ (l : List _). (c.in-Ok.field-0 < length l) × (label_at d (get_or l c.in-Ok.field-0 0) ≡ Some c.args.label.now)) value c.in-Ok.ensures.found in
+    absurd (not_left d c.args.cell within c.args.cells.now.items c.in-Ok.field-0 c.args.label.now c.requires.listed found.0 found.1 c.requires.fresh)
+
+pub returns-clause-listed : goal.returns-clause-listed
+returns-clause-listed c =
+    let d = row_directory c.args.rows.now in
+    let cells : List _ = c.args.cells.now.items in
+    let within : c.args.cell < length d = omega (arith, c.requires.within, length-map c.args.rows.now row_label) in
+    let place : IsPlace (labels_of d cells) c.args.label.now c.in-Err.at = subst (λ (l : List _). IsPlace (labels_of d l) c.args.label.now c.in-Err.at) (cc c.deref.ensures.value) c.in-Err.ensures.missing in
+    let items : c.insert.new.self.items ≡ insert cells c.in-Err.at c.args.cell = c.insert.ensures.items ∙ ap (λ r. if is_ok r then insert cells c.in-Err.at c.args.cell else cells) c.unwrap.ensures in
+    subst (Lists (set d c.args.cell (Some c.args.label.now))) (sym items) (lists_put d c.args.cell within cells c.in-Err.at c.args.label.now c.requires.listed place)

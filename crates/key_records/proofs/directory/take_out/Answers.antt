@@ -1,36 +1,37 @@
-use Rattle.std.proofs.Common.{◌≡◌, ◌<◌, ℕ, List, None, length, get_or, sym, ap, subst, ◌∙◌, arith}
-use Rattle.std.specs.Prelude.{◌==◌, if◌then◌else◌}
-use Rattle.std.specs.List.{remove}
-use Rattle.key_records.specs.Placed.{row_in, AreSlots}
-use Rattle.key_records.specs.declared.rows.Slot.{Slot}
-use Rattle.key_records.proofs.PlacedLaws.{row_remove, gone_same}
-use Rattle.key_records.proofs.SortedLaws.{blank_slot, slots_remove, no_slot}
+use Rattle.std.proofs.Common.{◌≡◌, ◌<◌, List, None, Some, length, get_or, set, sym, subst, ◌∙◌, ap, arith}
+use Rattle.std.proofs.lemmas.List.{length-map}
+use Rattle.key_records.specs.Ascending.{IsPlace, Lists, labels_of}
+use Rattle.key_records.specs.Directory.{label_at}
+use Rattle.key_records.specs.Entries.{row_directory, row_label}
+use Rattle.key_records.proofs.ListedLaws.{find_missing, lists_still, lists_taken}
+use Rattle.key_records.proofs.OpeningLaws.{label_read}
 use Rattle.key_records.proofs.directory.take_out.Goals as goal
 
-pub returns-then-index-cell-clause-slots : goal.returns-then-index-cell-clause-slots
-returns-then-index-cell-clause-slots c =
-    let slots : List Slot = c.args.slots.now.items in
-    let same : c.loop-at.slots.items ≡ slots = cc c.loop-at.invariant.same in
-    let within : c.loop-at.at < length slots = omega (arith, ap length same, c.loop-at-test.true) in
-    subst AreSlots (sym (c.remove.ensures.items ∙ ap (λ (l : List Slot). remove l c.loop-at.at) same)) (slots_remove slots c.loop-at.at c.remove.result c.requires within)
+pub returns-in-Ok-clause-listed : goal.returns-in-Ok-clause-listed
+returns-in-Ok-clause-listed c =
+    let rows = c.args.rows.now in
+    let d = row_directory rows in
+    let cells : List _ = c.args.cells.now.items in
+    let at = c.in-Ok.at in
+    let long : length d ≡ 1024 = length-map rows row_label ∙ c.requires.listed.are.size in
+    let here : label_at d c.args.cell ≡ Some c.in-Some.row.label = label_read rows c.args.cell c.index-rows-cell.result (omega (arith, c.requires.within, c.requires.listed.are.size)) c.index-rows-cell.is ∙ ap row_label c.in-Some.is in
+    let found : (at < length cells) × (label_at d (get_or cells at 0) ≡ Some c.in-Some.row.label) = subst (λ (l : List _). (at < length l) × (label_at d (get_or l at 0) ≡ Some c.in-Some.row.label)) (cc c.deref.ensures.value) c.in-Ok.ensures.found in
+    subst (Lists (set d c.args.cell None)) (sym c.remove.ensures.items)
+    (lists_taken d c.args.cell (omega (arith, long, c.requires.within)) cells at c.requires.listed.listed found.0 (c.requires.listed.are.apart (get_or cells at 0) c.args.cell c.in-Some.row.label found.1 here))
 
-pub returns-then-index-cell-clause-rows : goal.returns-then-index-cell-clause-rows
-returns-then-index-cell-clause-rows c n =
-    let slots : List Slot = c.args.slots.now.items in
-    let d : Slot = c.index.result.now in
-    let same : c.loop-at.slots.items ≡ slots = cc c.loop-at.invariant.same in
-    let within : c.loop-at.at < length slots = omega (arith, ap length same, c.loop-at-test.true) in
-    let cell : (get_or slots c.loop-at.at d).cell ≡ c.args.cell = ap (λ (l : List Slot). (get_or l c.loop-at.at d).cell) (sym same) ∙ ap (λ (x : Slot). x.cell) (sym c.index.ensures) ∙ c.if-index-cell.true in
-    ap (λ (l : List Slot). row_in l n) (c.remove.ensures.items ∙ ap (λ (l : List Slot). remove l c.loop-at.at) same)
-    ∙ row_remove slots c.loop-at.at d c.requires.cells within n
-    ∙ ap (λ (k : ℕ). if n == k then None else row_in slots n) cell
+pub returns-in-Some-clause-listed : goal.returns-in-Some-clause-listed
+returns-in-Some-clause-listed c =
+    let rows = c.args.rows.now in
+    let d = row_directory rows in
+    let cells : List _ = c.args.cells.now.items in
+    let here : label_at d c.args.cell ≡ Some c.in-Some.row.label = label_read rows c.args.cell c.index-rows-cell.result (omega (arith, c.requires.within, c.requires.listed.are.size)) c.index-rows-cell.is ∙ ap row_label c.in-Some.is in
+    let place : IsPlace (labels_of d cells) c.in-Some.row.label c.in-Err.field-0 = subst (λ (l : List _). IsPlace (labels_of d l) c.in-Some.row.label c.in-Err.field-0) (cc c.deref.ensures.value) c.in-Err.ensures.missing in
+    absurd (find_missing d cells c.requires.listed.listed c.in-Err.field-0 c.in-Some.row.label place c.args.cell here)
 
-pub returns-clause-slots : goal.returns-clause-slots
-returns-clause-slots c = let same : c.loop-at.slots.items ≡ c.args.slots.now.items = cc c.loop-at.invariant.same in subst AreSlots (sym same) c.requires
-
-pub returns-clause-rows : goal.returns-clause-rows
-returns-clause-rows c n =
-    let slots : List Slot = c.args.slots.now.items in
-    let same : c.loop-at.slots.items ≡ slots = cc c.loop-at.invariant.same in
-    ap (λ (l : List Slot). row_in l n) same
-    ∙ gone_same slots c.args.cell (no_slot slots c.args.cell blank_slot (λ k below there. c.loop-at.invariant.none k blank_slot (omega (arith, below, c.loop-at-test.false, ap length same)) (ap (λ (l : List Slot). (get_or l k blank_slot).cell) same ∙ there))) n
+pub returns-clause-listed : goal.returns-clause-listed
+returns-clause-listed c =
+    let rows = c.args.rows.now in
+    let d = row_directory rows in
+    let long : length d ≡ 1024 = length-map rows row_label ∙ c.requires.listed.are.size in
+    let free : label_at d c.args.cell ≡ None = label_read rows c.args.cell c.index-rows-cell.result (omega (arith, c.requires.within, c.requires.listed.are.size)) c.index-rows-cell.is ∙ ap row_label c.in_default.is in
+    lists_still d c.args.cell (omega (arith, long, c.requires.within)) c.args.cells.now.items None free c.requires.listed.listed

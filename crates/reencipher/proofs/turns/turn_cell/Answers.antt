@@ -24,7 +24,8 @@ use Rattle.reencipher.specs.Turns.{ChangesCell, StaysAsRead, TurnsAsRead, TurnsC
 use Rattle.reencipher.specs.declared.actions.StoreAction.{StoreAction}
 use Rattle.reencipher.proofs.RowLaws.{marked_row_stays, no_row_stays, null_row_stays, row_changes, turns_kept, turns_failed, turns_written}
 use Rattle.reencipher.proofs.TokenLaws.{loaded_after}
-use Rattle.reencipher.proofs.TurnLaws.{IsMade, IsTurn, and_true, reads_what, reads_null, null_changes, no_label, may_not, does_not, is_turn, made_is, can_write, loaded_body, changes_none, changes_failed, changes_written}
+use Rattle.reencipher.proofs.TurnLaws.{IsMade, IsTurn, and_true, reads_what, reads_null, null_changes, no_label, may_not, does_not, is_turn, made_is, can_write, loaded_body, changes_none, changes_failed, changes_written, row_put}
+use Rattle.std.proofs.lemmas.List.{get_or-set_other}
 use Rattle.reencipher.proofs.turns.turn_cell.Goals as goal
 use Rattle.reencipher.proofs.turns.turn_cell.Goals.{After-made_tokens, In-Some-made_tokens}
 
@@ -136,7 +137,7 @@ returns-in_err-put-clause-changes g c m s loaded told =
     let failed : c.from_residual.result ≡ Err c.in_err-put.field-0.0 = search rules in
     subst (λ r. ChangesCell a masters c.args.cell s rows c.put.new.records m0 m2 r) (sym failed)
     (subst (λ n. ChangesCell a masters n s rows c.put.new.records m0 m2 (Err c.in_err-put.field-0.0)) c.in-Some.ensures.place
-    (changes_failed a masters place s (next_at g at m now s) m0 m1 m2 rows c.put.new.records c.requires.store.settled c.read.ensures.keeps told (turn_at g at m now s told) c.in_err-put.field-0.0 c.in_err-put.ensures.kept
+    (changes_failed a masters place s (next_at g at m now s) m0 m1 m2 rows c.put.new.records c.requires.store.settled c.read.ensures.keeps told (turn_at g at m now s told) c.in_err-put.field-0.0 c.in_err-put.ensures.changes.memory.kept
     (c.in_err-put.ensures.labels masters s made.key (told_still m0 m1 (KeepsLabels masters rows s) c.read.ensures.keeps told) made.stand)))
 
 pub returns-clause-changes : goal.returns-clause-changes
@@ -152,7 +153,7 @@ returns-clause-changes g c m s loaded told =
     let now = loaded_body m c.args.held.now c.args.lease.now c.read.new.lease loaded c.read.ensures.rest in
     let made = made_at g at m now in
     subst (λ n. ChangesCell a masters n s rows c.put.new.records m0 m2 (Ok true)) c.in-Some.ensures.place
-    (changes_written a masters place s (next_at g at m now s) m0 m1 m2 rows c.put.new.records c.requires.store.settled c.read.ensures.keeps told (turn_at g at m now s told) _ c.in_ok-put.ensures.cell
+    (changes_written a masters place s (next_at g at m now s) m0 m1 m2 rows c.put.new.records c.requires.store.settled c.read.ensures.keeps told (turn_at g at m now s told) _ c.in_ok-put.ensures.changes.cell
     (c.in_ok-put.ensures.labels masters s made.key (told_still m0 m1 (KeepsLabels masters rows s) c.read.ensures.keeps told) made.stand))
 
 -- ---- the bytes and the rows, whatever the labels stand for
@@ -208,13 +209,13 @@ returns-in_err-put-clause-turns g c =
     (subst (λ n. TurnsCell (IsChangedRow a held rows n) n m0 m2 (Err c.in_err-put.field-0.0)) c.in-Some.ensures.place
     (turns_failed (IsChangedRow a held rows place) place m0 (g.D.Disk.medium c.read.new.store) c.requires.store.settled c.read.ensures.keeps m2 _
     (is_written a held rows place m0 (row_is g (goal.at.returns-in_err-put-clause-turns g c).After-made_tokens true c.in-Some-made_tokens.ensures.some))
-    c.in_err-put.field-0.0 _ c.in_err-put.ensures.cell))
+    c.in_err-put.field-0.0 _ c.in_err-put.ensures.changes.cell))
 
 pub returns-in_err-put-clause-row : goal.returns-in_err-put-clause-row
-returns-in_err-put-clause-row g c = λ none. ap (λ (r : List (Option Row)). get_or r c.args.cell None) c.in_err-put.ensures.kept
+returns-in_err-put-clause-row g c = λ none. ap (λ (r : List (Option Row)). get_or r c.args.cell None) c.in_err-put.ensures.changes.memory.kept
 
 pub returns-in_err-put-clause-others : goal.returns-in_err-put-clause-others
-returns-in_err-put-clause-others g c n other = ap (λ (r : List (Option Row)). get_or r n None) c.in_err-put.ensures.kept
+returns-in_err-put-clause-others g c n other = ap (λ (r : List (Option Row)). get_or r n None) c.in_err-put.ensures.changes.memory.kept
 
 pub returns-clause-turns : goal.returns-clause-turns
 returns-clause-turns g c =
@@ -226,7 +227,7 @@ returns-clause-turns g c =
     let place : ℕ = c.in-Some.place in
     subst (λ n. TurnsCell (IsChangedRow a held rows n) n m0 m2 (Ok true)) c.in-Some.ensures.place
     (turns_written (IsChangedRow a held rows place) place m0 (g.D.Disk.medium c.read.new.store) c.requires.store.settled c.read.ensures.keeps m2 _
-    (is_written a held rows place m0 (row_is g (goal.at.returns-clause-turns g c).After-made_tokens true c.in-Some-made_tokens.ensures.some)) c.in_ok-put.ensures.cell)
+    (is_written a held rows place m0 (row_is g (goal.at.returns-clause-turns g c).After-made_tokens true c.in-Some-made_tokens.ensures.some)) c.in_ok-put.ensures.changes.cell)
 
 pub returns-clause-row : goal.returns-clause-row
 returns-clause-row g c = λ none.
@@ -234,7 +235,9 @@ returns-clause-row g c = λ none.
     (sym (row_is g (goal.at.returns-clause-row g c).After-made_tokens true c.in-Some-made_tokens.ensures.some))))
 
 pub returns-clause-others : goal.returns-clause-others
-returns-clause-others g c n other = c.in_ok-put.ensures.others n (λ is. other (is ∙ c.in-Some.ensures.place))
+returns-clause-others g c n other =
+    ap (λ (r : List (Option Row)). get_or r n None) c.in_ok-put.ensures.changes.memory.done
+    ∙ get_or-set_other c.args.records.now c.in-Some.place n _ None (λ is. other (is ∙ c.in-Some.ensures.place))
 
 -- ---- the count
 
@@ -331,6 +334,6 @@ returns-clause-own g c = λ m loaded held may.
         changes = sym (c.in-Some-made_tokens.ensures.some m now);
         tokens = c.in-Some-made_tokens.tokens;
         made = c.in-Some-made_tokens.ensures.made m now;
-        row = c.in_ok-put.ensures.row;
+        row = ap (λ (r : List (Option Row)). get_or r c.in-Some.place None) c.in_ok-put.ensures.changes.memory.done ∙ row_put rows c.in-Some.place _ c.in-Some.ensures.held;
       };
     })

@@ -1,41 +1,40 @@
-use Rattle.std.proofs.Common.{◌≡◌, ℕ, List, Option, length, sym, ap, subst, ◌∙◌}
+use Rattle.std.proofs.Common.{◌≡◌, ℕ, List, Option, length, sym, ap, subst, ◌∙◌, refl, rules}
 use Rattle.std.proofs.lemmas.List.{length-set}
-use Rattle.slot_disk.specs.Cells.{IsReplaced, IsReplacing}
-use Rattle.slot_disk.specs.Medium.{Told, Becomes, EachImage, From}
+use Rattle.key_cells.specs.Lease.{bench_of}
+use Rattle.slot_disk.specs.Medium.{Told}
 use Rattle.key_records.specs.StoreStands.{HoldsRows}
 use Rattle.key_records.specs.declared.rows.Row.{Row}
-use Rattle.key_records.proofs.StoreLaws.{rows_changed, unless_err}
+use Rattle.key_records.proofs.StoreLaws.{replaces_is, rows_changed, unless_err}
 use Rattle.key_records.proofs.records.Records.change.Goals as goal
 
-pub returns-then-is_err-clause-cell : goal.returns-then-is_err-clause-cell
-returns-then-is_err-clause-cell g c =
-    let bytes : List ℕ = c.args.body.now in
-    let m0 = g.D.Disk.medium c.args.store.now in
-    let m1 = g.D.Disk.medium c.replace_cell.new.disk in
-    record {
-      settled = tt;
-      replaced = tt;
-      replacing = subst (λ (n : ℕ). Becomes (IsReplacing n bytes) m0 m1) c.new.ensures c.replace_cell.ensures.replacing;
-      moments = subst (λ (n : ℕ). EachImage m0 m1 (From (IsReplacing n bytes) m0)) c.new.ensures c.replace_cell.ensures.moments;
-    }
+pub returns-then-is_err-clause-changes : goal.returns-then-is_err-clause-changes
+returns-then-is_err-clause-changes g c = record {
+  cell = replaces_is (g.D.Disk.medium c.args.store.now) (g.D.Disk.medium c.replace_cell.new.disk) _ c.new.result c.args.cell c.body.result.now (bench_of c.args.lease.now).body c.new.ensures c.body.ensures
+      (record { settled = tt; replaced = tt; replacing = c.replace_cell.ensures.replacing; moments = c.replace_cell.ensures.moments });
+  memory = search rules;
+  holds = tt;
+  rest = refl;
+  cause = search rules;
+}
 
-pub returns-clause-cell : goal.returns-clause-cell
-returns-clause-cell g c =
-    let bytes : List ℕ = c.args.body.now in
-    let m0 = g.D.Disk.medium c.args.store.now in
-    let m1 = g.D.Disk.medium c.replace_cell.new.disk in
-    record {
-      settled = unless_err c.replace_cell.result (sym c.is_err.ensures.value ∙ c.if-is_err.false) c.replace_cell.ensures.settled;
-      replaced = subst (λ (n : ℕ). Becomes (IsReplaced n bytes) m0 m1) c.new.ensures
-          (unless_err c.replace_cell.result (sym c.is_err.ensures.value ∙ c.if-is_err.false) c.replace_cell.ensures.replaced);
-      replacing = subst (λ (n : ℕ). Becomes (IsReplacing n bytes) m0 m1) c.new.ensures c.replace_cell.ensures.replacing;
-      moments = subst (λ (n : ℕ). EachImage m0 m1 (From (IsReplacing n bytes) m0)) c.new.ensures c.replace_cell.ensures.moments;
-    }
-
-pub returns-clause-holds : goal.returns-clause-holds
-returns-clause-holds g c =
+pub returns-clause-changes : goal.returns-clause-changes
+returns-clause-changes g c =
     let rows : List (Option Row) = c.args.self.now in
+    let body : List ℕ = (bench_of c.args.lease.now).body in
+    let m0 = g.D.Disk.medium c.args.store.now in
     let m1 = g.D.Disk.medium c.replace_cell.new.disk in
     let size : length rows ≡ 1024 = sym (length-set rows c.args.cell c.args.row) ∙ ap length (sym c.set_row.ensures.set) ∙ c.set_row.ensures.rows.size in
-    subst (λ (r : List (Option Row)). Told m1 (HoldsRows r)) (sym c.set_row.ensures.set)
-    (rows_changed c.args.cell c.args.body.now c.args.row rows c.requires.within size c.requires.reads (g.D.Disk.medium c.args.store.now) m1 c.requires.holds (returns-clause-cell g c).replaced)
+    let cell = replaces_is m0 m1 _ c.new.result c.args.cell c.body.result.now body c.new.ensures c.body.ensures (record {
+      settled = unless_err c.replace_cell.result (sym c.is_err.ensures.value ∙ c.if-is_err.false) c.replace_cell.ensures.settled;
+      replaced = unless_err c.replace_cell.result (sym c.is_err.ensures.value ∙ c.if-is_err.false) c.replace_cell.ensures.replaced;
+      replacing = c.replace_cell.ensures.replacing;
+      moments = c.replace_cell.ensures.moments;
+    }) in
+    record {
+      cell = cell;
+      memory = search rules;
+      holds = subst (λ (r : List (Option Row)). Told m1 (HoldsRows r)) (sym c.set_row.ensures.set)
+          (rows_changed c.args.cell body c.args.row rows c.requires.within size c.requires.reads m0 m1 c.requires.holds cell.replaced);
+      rest = refl;
+      cause = search rules;
+    }

@@ -8,29 +8,32 @@ use Rattle.key_records.specs.declared.rows.Row.{Row}
 use Rattle.key_records.specs.declared.rows.Second.{Second}
 use Rattle.key_records.proofs.BodyLaws.{no_token_is}
 use Rattle.held_names.proofs.DirectoryLaws.{held_nowhere, apart_set}
-use Rattle.key_records.proofs.StoreLaws.{created_is, labels_changed, replaces_is}
+use Rattle.key_records.proofs.StoreLaws.{changed_as, created_is, labels_changed}
 use Rattle.key_records.proofs.records.Records.create.Goals as goal
 
 -- the body that was written
-wrote_null : (label bytes body : List ℕ) (second : Second) → body ≡ bytes → bytes ≡ record_body null_kind label (replicate 64 0) second → second ≡ no_second → body ≡ null_body label
-wrote_null label bytes body second is wrote none =
-    is ∙ wrote ∙ ap (record_body null_kind label (replicate 64 0)) none ∙ ap (λ t. record_body null_kind label t no_second) (no_token_is _ refl)
+wrote_null : (label body : List ℕ) (second : Second) → body ≡ record_body null_kind label (replicate 64 0) second → second ≡ no_second → body ≡ null_body label
+wrote_null label body second is none =
+    is ∙ ap (record_body null_kind label (replicate 64 0)) none ∙ ap (λ t. record_body null_kind label t no_second) (no_token_is _ refl)
 
 -- a label that isn't found may be put into a cell
 new_apart : (label : List ℕ) (d : List (Option (List ℕ))) (n : ℕ) (found : Option ℕ) (test : Bool) → AreApart d → test ≡ is_some found → found ≡ cell_of label d → test ≡ false → AreApart (set d n (Some label))
 new_apart label d n found test apart tested is missing = apart_set d n label apart (held_nowhere label d (sym (tested ∙ ap (λ o. is_some o) is) ∙ missing))
 
 pub change-requires-clause-reads : goal.change-requires-clause-reads
-change-requires-clause-reads g c = (c.write_record.ensures.label, (wrote_null c.args.label.now _ _ c.no_second.result c.body.ensures c.write_record.ensures.body c.no_second.ensures, refl))
+change-requires-clause-reads g c = (c.write_record.ensures.label, (wrote_null c.args.label.now c.write_record.new.body c.no_second.result c.write_record.ensures.body c.no_second.ensures, refl))
 
 pub change-requires-clause-apart : goal.change-requires-clause-apart
 change-requires-clause-apart g c =
     new_apart c.args.label.now (row_directory c.args.self.now) c.in-Some.cell c.find.result c.is_some.result c.free_cell.ensures.rows.apart c.is_some.ensures c.find.ensures.found c.if-is_some.false
 
-pub returns-clause-cell : goal.returns-clause-cell
-returns-clause-cell g c =
-    replaces_is (g.D.Disk.medium c.args.store.now) (g.D.Disk.medium c.change.new.store) c.change.result c.in-Some.cell (free_cell (row_directory c.args.self.now)) c.body.result.now (null_body c.args.label.now)
-    c.in-Some.ensures.free.0 (wrote_null c.args.label.now _ _ c.no_second.result c.body.ensures c.write_record.ensures.body c.no_second.ensures) c.change.ensures.cell
+pub returns-clause-changes : goal.returns-clause-changes
+returns-clause-changes g c =
+    let label : List ℕ = c.args.label.now in
+    let rows : List (Option Row) = c.args.self.now in
+    changed_as g.D.Disk.medium g.D.Disk.faults c.in-Some.cell (free_cell (row_directory rows)) c.write_record.new.body (null_body label) (Some (null_row label)) (Some (null_row label)) rows c.change.new.self
+    c.args.lease.now _ c.args.store.now c.change.new.store c.change.result c.in-Some.ensures.free.0
+    (wrote_null label c.write_record.new.body c.no_second.result c.write_record.ensures.body c.no_second.ensures) refl refl c.change.ensures.changes
 
 pub returns-clause-labels : goal.returns-clause-labels
 returns-clause-labels g c masters s start =
@@ -38,10 +41,11 @@ returns-clause-labels g c masters s start =
     let rows : List (Option Row) = c.args.self.now in
     let m0 = g.D.Disk.medium c.args.store.now in
     let m1 = g.D.Disk.medium c.change.new.store in
-    let wrote : c.body.result.now ≡ null_body label = wrote_null label _ _ c.no_second.result c.body.ensures c.write_record.ensures.body c.no_second.ensures in
+    let bytes : List ℕ = c.write_record.new.body in
+    let wrote : bytes ≡ null_body label = wrote_null label bytes c.no_second.result c.write_record.ensures.body c.no_second.ensures in
     subst (λ (n : ℕ). ChangesLabels masters n s (created label s) c.change.new.self m0 m1 c.change.result) c.in-Some.ensures.free.0
-    (labels_changed masters c.in-Some.cell c.body.result.now (Some (null_entry label)) rows (Some (null_row label)) s (created label s) c.in-Some.ensures.free.1
+    (labels_changed masters c.in-Some.cell bytes (Some (null_entry label)) rows (Some (null_row label)) s (created label s) c.in-Some.ensures.free.1
     (c.write_record.ensures.label, (wrote, refl, refl)) refl
     (new_apart label (row_directory rows) c.in-Some.cell c.find.result c.is_some.result c.free_cell.ensures.rows.apart c.is_some.ensures c.find.ensures.found c.if-is_some.false)
     (created_is masters rows s label c.in-Some.cell c.in-Some.ensures.free.0)
-    m0 m1 start c.change.result c.change.new.self c.change.ensures.cell c.change.ensures.memory.done)
+    m0 m1 start c.change.result c.change.new.self c.change.ensures.changes.cell c.change.ensures.changes.memory.done)

@@ -1,10 +1,10 @@
 use Rattle.std.proofs.Common.{◌≡◌, ◌∙◌, ◌++◌, List, Option, length, drop, map, take, ap, sym, subst}
 use Rattle.std.proofs.lemmas.List.{length-map}
 use Rattle.key_records.specs.Entries.{turned}
-use Rattle.key_records.specs.Rows.{AreRows}
+use Rattle.key_records.specs.Rows.{AreListed}
 use Rattle.key_records.specs.declared.rows.Row.{Row}
 use Rattle.key_records.proofs.RowLaws.{sliced}
-use Rattle.key_records.proofs.TurnedLaws.{rows_turned}
+use Rattle.key_records.proofs.TurnedLaws.{listed_turned}
 use Rattle.key_records.proofs.records.Records.turn.Goals as goal
 
 rows_are : (items slice new : List (Option Row)) (len : _) → new ≡ map turned slice → slice ≡ items → len ≡ length items → take len (new ++ drop (length new) items) ≡ map turned items
@@ -16,7 +16,4 @@ pub invariant_of-self : goal.invariant_of-self
 invariant_of-self c =
     let items : List (Option Row) = c.self.inside.rows.items in
     let are = rows_are items c.as_mut_slice.result.now c.turn_rows.new.rows c.self.inside.rows.len c.turn_rows.ensures c.as_mut_slice.ensures.value c.self.inside.rows.ok.0 in
-    record {
-      are = subst AreRows (sym are) (rows_turned items c.self.invariant.are);
-      same = c.turn.ensures ∙ ap (map turned) c.self.invariant.same ∙ sym are;
-    }
+    subst (λ (r : List (Option Row)). AreListed r c.self.inside.directory) (sym are) (listed_turned items c.self.inside.directory c.self.invariant)

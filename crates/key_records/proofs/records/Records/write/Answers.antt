@@ -1,18 +1,17 @@
-use Rattle.std.proofs.Common.{◌≡◌, inl, ℕ, List, Option, None, Some, get_or, set, refl, sym, ap, subst, ◌∙◌}
+use Rattle.std.proofs.Common.{◌≡◌, inl, ℕ, List, Option, None, Some, refl, sym, ap, subst, ◌∙◌}
 use Rattle.key_cells.specs.Lease.{bench_of}
 use Rattle.key_tokens.specs.Denotes.{denoted}
-use Rattle.key_records.specs.Changes.{ChangesLabels, Remembers, written}
+use Rattle.key_records.specs.Changes.{ChangesLabels, written}
 use Rattle.key_records.specs.Directory.{label_at}
-use Rattle.key_records.specs.Entries.{entry, row_directory, label_or, pattern_for}
-use Rattle.key_records.specs.RecordBody.{record_body, key_body, key_kind, no_second, renewed, IsKept}
+use Rattle.key_records.specs.Entries.{entry, row_directory, pattern_for}
+use Rattle.key_records.specs.RecordBody.{record_body, key_body, key_kind, IsKept}
 use Rattle.key_records.specs.declared.rows.Row.{Row}
-use Rattle.key_records.specs.declared.rows.Second.{Second}
 use Rattle.master_registers.specs.Loaded.{masters_in}
 use Rattle.master_registers.specs.declared.patterns.Pattern.{Pattern}
 use Rattle.verb_rules.specs.Keys.{keys_of}
 use Rattle.held_names.proofs.DirectoryLaws.{apart_same, some_of}
 use Rattle.key_records.proofs.KeptLaws.{denoted_sound, denoted_pattern, pattern}
-use Rattle.key_records.proofs.StoreLaws.{written_is, labels_changed, replaces_is}
+use Rattle.key_records.proofs.StoreLaws.{written_is, labels_changed}
 use Rattle.key_records.proofs.records.Records.write.Goals as goal
 
 pub kept_token-token-requires : goal.kept_token-token-requires
@@ -24,21 +23,13 @@ kept_token-token-requires g c =
 abbrev row : List ℕ → Pattern → Row
 row label p = record { label = label; pattern = Some p; ahead = None }
 
--- the body that was written
-wrote : (label token bytes body : List ℕ) (second : Second) → body ≡ bytes → bytes ≡ record_body key_kind label token second → second ≡ no_second → body ≡ key_body label token
-wrote label token bytes body second is spelled none = is ∙ spelled ∙ ap (record_body key_kind label token) none
-
--- and the same of the label as the memory has it, and the token as it was handed in
-wrote_as : (label label_is token token_is body : List ℕ) → body ≡ key_body label token → label ≡ label_is → token ≡ token_is → body ≡ key_body label_is token_is
-wrote_as label label_is token token_is body is labels tokens = is ∙ ap (λ l. key_body l token) labels ∙ ap (key_body label_is) tokens
-
 pub change-requires-clause-reads : goal.change-requires-clause-reads
 change-requires-clause-reads g c = (
   c.write_record.ensures.label,
   record {
     token = c.kept_token-token.result;
     is_kept = subst (λ (p : Pattern). IsKept c.kept_token-token.result p) (ap pattern (sym c.pattern_in-pattern.ensures)) c.kept_token-token.ensures.known;
-    body = inl (wrote c.label-label.result c.kept_token-token.result _ _ c.no_second.result c.body.ensures c.write_record.ensures.body c.no_second.ensures);
+    body = inl (c.write_record.ensures.body ∙ ap (record_body key_kind c.label-label.result c.kept_token-token.result) c.no_second.ensures);
   },
 )
 
@@ -48,13 +39,6 @@ change-requires-clause-apart g c =
     apart_same (row_directory c.args.self.now) c.cell-cell.result label c.cell-cell.ensures.rows.apart
     (ap (label_at (row_directory c.args.self.now)) c.cell-cell.ensures.cell ∙ c.label-label.ensures.held)
 
-pub returns-clause-cell : goal.returns-clause-cell
-returns-clause-cell g c =
-    replaces_is (g.D.Disk.medium c.args.store.now) (g.D.Disk.medium c.change.new.store) c.change.result c.cell-cell.result c.args.place c.body.result.now (key_body (label_or (get_or c.args.self.now c.args.place None)) (renewed c.args.token.now))
-    c.cell-cell.ensures.cell
-    (wrote_as c.label-label.result _ c.kept_token-token.result _ c.body.result.now (wrote c.label-label.result c.kept_token-token.result _ _ c.no_second.result c.body.ensures c.write_record.ensures.body c.no_second.ensures)
-    c.label-label.ensures.label c.kept_token-token.ensures.renewed) c.change.ensures.cell
-
 pub returns-clause-labels : goal.returns-clause-labels
 returns-clause-labels g c masters s key start denotes =
     let label : List ℕ = c.label-label.result in
@@ -63,18 +47,10 @@ returns-clause-labels g c masters s key start denotes =
     let m1 = g.D.Disk.medium c.change.new.store in
     let same : c.pattern_in-pattern.result ≡ pattern_for masters key = ap pattern c.pattern_in-pattern.ensures ∙ sym (denoted_pattern masters c.args.token.now key denotes) in
     let held : label_at (row_directory rows) c.cell-cell.result ≡ Some label = ap (label_at (row_directory rows)) c.cell-cell.ensures.cell ∙ c.label-label.ensures.held in
-    let body : c.body.result.now ≡ key_body label c.kept_token-token.result = wrote label c.kept_token-token.result _ _ c.no_second.result c.body.ensures c.write_record.ensures.body c.no_second.ensures in
+    let bytes : List ℕ = c.write_record.new.body in
+    let body : bytes ≡ key_body label c.kept_token-token.result = c.write_record.ensures.body ∙ ap (record_body key_kind label c.kept_token-token.result) c.no_second.ensures in
     subst (λ (n : ℕ). ChangesLabels masters n s (written n key s) c.change.new.self m0 m1 c.change.result) c.cell-cell.ensures.cell
-    (labels_changed masters c.cell-cell.result c.body.result.now (Some (entry label (Some key))) rows (Some (row label c.pattern_in-pattern.result)) s (written c.cell-cell.result key s) c.cell-cell.ensures.within
+    (labels_changed masters c.cell-cell.result bytes (Some (entry label (Some key))) rows (Some (row label c.pattern_in-pattern.result)) s (written c.cell-cell.result key s) c.cell-cell.ensures.within
     (c.write_record.ensures.label, record { token = c.kept_token-token.result; are = c.kept_token-token.ensures.known.bytes; is_kept = c.kept_token-token.ensures.kept masters ∙ denotes; body = inl (body, refl) })
     (ap (λ p. Some (row label p)) same) (apart_same (row_directory rows) c.cell-cell.result label c.cell-cell.ensures.rows.apart held) (written_is masters rows s label c.cell-cell.result key held)
-    m0 m1 start c.change.result c.change.new.self c.change.ensures.cell c.change.ensures.memory.done)
-
-pub returns-clause-memory : goal.returns-clause-memory
-returns-clause-memory g c =
-    let rows : List (Option Row) = c.args.self.now in
-    subst (λ (next : List (Option Row)). Remembers rows next c.change.new.self c.change.result)
-    (ap (λ n. set rows n (Some (row c.label-label.result c.pattern_in-pattern.result))) c.cell-cell.ensures.cell
-    ∙ ap (λ l. set rows c.args.place (Some (row l c.pattern_in-pattern.result))) c.label-label.ensures.label
-    ∙ ap (λ p. set rows c.args.place (Some (row (label_or (get_or rows c.args.place None)) p))) (ap pattern c.pattern_in-pattern.ensures))
-    c.change.ensures.memory
+    m0 m1 start c.change.result c.change.new.self c.change.ensures.changes.cell c.change.ensures.changes.memory.done)

@@ -1,4 +1,4 @@
-use Rattle.std.proofs.Common.{◌≡◌, ℕ, List, Option, None, Some, get_or, set, refl, sym, ap, subst, ◌∙◌}
+use Rattle.std.proofs.Common.{◌≡◌, ℕ, List, Option, Some, refl, sym, ap, subst, ◌∙◌}
 use Rattle.byte_lists.specs.Bytes.{AreBytes}
 use Rattle.cca_vectors.specs.Vectors.{length_of}
 use Rattle.key_cells.specs.Lease.{bench_of}
@@ -6,10 +6,10 @@ use Rattle.key_tokens.specs.Denotes.{ClearKey, Denoted, MasterKeys}
 use Rattle.key_tokens.specs.Fields.{vector_bytes_of}
 use Rattle.key_tokens.specs.declared.key_token.Age.TheVariants.{Current}
 use Rattle.key_tokens.specs.declared.key_token.Token.{Token}
-use Rattle.key_records.specs.Changes.{AreBoth, ChangesLabels, Remembers, ahead_entry, written_ahead}
+use Rattle.key_records.specs.Changes.{AreBoth, ChangesLabels, ahead_entry, written_ahead}
 use Rattle.key_records.specs.Directory.{label_at}
-use Rattle.key_records.specs.Entries.{row_directory, label_or, pattern_for, pattern_or}
-use Rattle.key_records.specs.RecordBody.{both_body, renewed, second_token, IsKept, IsSecond}
+use Rattle.key_records.specs.Entries.{row_directory, pattern_for, pattern_or}
+use Rattle.key_records.specs.RecordBody.{both_body, second_token, IsKept, IsSecond}
 use Rattle.key_records.specs.declared.rows.Row.{Row}
 use Rattle.key_records.specs.declared.rows.Second.{Second}
 use Rattle.master_registers.specs.Loaded.{masters_in}
@@ -18,7 +18,7 @@ use Rattle.verb_rules.specs.Keys.{keys_of}
 use Rattle.held_names.proofs.DirectoryLaws.{apart_same}
 use Rattle.key_records.proofs.KeptLaws.{denoted_sound, denoted_pattern, denoted_vector, pattern}
 use Rattle.key_records.proofs.SecondLaws.{second_pattern, stands_for_none, sealed_single}
-use Rattle.key_records.proofs.StoreLaws.{written_ahead_is, labels_changed, replaces_is}
+use Rattle.key_records.proofs.StoreLaws.{written_ahead_is, labels_changed}
 use Rattle.key_records.proofs.records.Records.write_both.Goals as goal
 
 pub kept_token-token-requires : goal.kept_token-token-requires
@@ -40,9 +40,6 @@ is_second masters token written second clear both vectors patterns lefts rights 
   single = λ single. sealed_single both.coming clear second both.is_second (ap length_of (denoted_vector masters token (record { clear = clear; age = Current }) both.first ∙ sym vectors) ∙ single);
 }
 
-wrote_as : (label label_is token token_is body : List ℕ) (second : Second) → body ≡ both_body label token second → label ≡ label_is → token ≡ token_is → body ≡ both_body label_is token_is second
-wrote_as label label_is token token_is body second is labels tokens = is ∙ ap (λ l. both_body l token second) labels ∙ ap (λ t. both_body label_is t second) tokens
-
 pub change-requires-clause-reads : goal.change-requires-clause-reads
 change-requires-clause-reads g c =
     let masters = keys_of (masters_in c.args.held.now (bench_of c.args.lease.now)) in (
@@ -55,7 +52,7 @@ change-requires-clause-reads g c =
           is_second = is_second masters c.args.token.now c.kept_token-token.result c.args.second.now c.requires.both.0 c.requires.both.1 (ap (λ (t : Token). t.vector) c.kept_token-token.ensures.fields)
               c.are_second.ensures.pattern c.are_second.ensures.left c.are_second.ensures.right;
           beside = refl;
-          body = c.body.ensures ∙ c.write_record.ensures.body;
+          body = c.write_record.ensures.body;
         };
       },
     )
@@ -65,13 +62,6 @@ change-requires-clause-apart g c =
     let label : List ℕ = c.label-label.result in
     apart_same (row_directory c.args.self.now) c.cell-cell.result label c.cell-cell.ensures.rows.apart
     (ap (label_at (row_directory c.args.self.now)) c.cell-cell.ensures.cell ∙ c.label-label.ensures.held)
-
-pub returns-clause-cell : goal.returns-clause-cell
-returns-clause-cell g c =
-    replaces_is (g.D.Disk.medium c.args.store.now) (g.D.Disk.medium c.change.new.store) c.change.result c.cell-cell.result c.args.place c.body.result.now
-    (both_body (label_or (get_or c.args.self.now c.args.place None)) (renewed c.args.token.now) c.args.second.now) c.cell-cell.ensures.cell
-    (wrote_as c.label-label.result _ c.kept_token-token.result _ c.body.result.now c.args.second.now (c.body.ensures ∙ c.write_record.ensures.body) c.label-label.ensures.label c.kept_token-token.ensures.renewed)
-    c.change.ensures.cell
 
 pub returns-clause-labels : goal.returns-clause-labels
 returns-clause-labels g c masters s clear start both =
@@ -85,11 +75,12 @@ returns-clause-labels g c masters s clear start both =
     let same : c.pattern_in-pattern.result ≡ pattern_for masters key = ap pattern c.pattern_in-pattern.ensures ∙ sym (denoted_pattern masters c.args.token.now key both.first) in
     let ahead : second.pattern ≡ pattern_or masters.coming = ap (λ (x : Second). x.pattern) both.is_second ∙ ap pattern_or (sym both.is_coming) in
     let held : label_at (row_directory rows) c.cell-cell.result ≡ Some label = ap (label_at (row_directory rows)) c.cell-cell.ensures.cell ∙ c.label-label.ensures.held in
-    let body : c.body.result.now ≡ both_body label token second = c.body.ensures ∙ c.write_record.ensures.body in
+    let bytes : List ℕ = c.write_record.new.body in
+    let body : bytes ≡ both_body label token second = c.write_record.ensures.body in
     let beside : IsSecond token second = is_second masters c.args.token.now token second clear both (ap (λ (t : Token). t.vector) c.kept_token-token.ensures.fields) c.are_second.ensures.pattern c.are_second.ensures.left c.are_second.ensures.right in
     let patterns = second_pattern token second beside.pattern.size ∙ ap (λ (x : Second). x.pattern.bytes) both.is_second in
     subst (λ (n : ℕ). ChangesLabels masters n s (written_ahead n clear s) c.change.new.self m0 m1 c.change.result) c.cell-cell.ensures.cell
-    (labels_changed masters c.cell-cell.result c.body.result.now (Some (ahead_entry label clear)) rows (Some (row label c.pattern_in-pattern.result second.pattern)) s (written_ahead c.cell-cell.result clear s) c.cell-cell.ensures.within (
+    (labels_changed masters c.cell-cell.result bytes (Some (ahead_entry label clear)) rows (Some (row label c.pattern_in-pattern.result second.pattern)) s (written_ahead c.cell-cell.result clear s) c.cell-cell.ensures.within (
       c.write_record.ensures.label,
       record {
         token = token;
@@ -112,14 +103,4 @@ returns-clause-labels g c masters s clear start both =
     )
     (ap (λ p. Some (row label p second.pattern)) same ∙ ap (λ p. Some (row label (pattern_for masters key) p)) ahead)
     (apart_same (row_directory rows) c.cell-cell.result label c.cell-cell.ensures.rows.apart held) (written_ahead_is masters rows s label c.cell-cell.result clear held)
-    m0 m1 start c.change.result c.change.new.self c.change.ensures.cell c.change.ensures.memory.done)
-
-pub returns-clause-memory : goal.returns-clause-memory
-returns-clause-memory g c =
-    let rows : List (Option Row) = c.args.self.now in
-    let ahead : Pattern = c.args.second.now.pattern in
-    subst (λ (next : List (Option Row)). Remembers rows next c.change.new.self c.change.result)
-    (ap (λ n. set rows n (Some (row c.label-label.result c.pattern_in-pattern.result ahead))) c.cell-cell.ensures.cell
-    ∙ ap (λ l. set rows c.args.place (Some (row l c.pattern_in-pattern.result ahead))) c.label-label.ensures.label
-    ∙ ap (λ p. set rows c.args.place (Some (row (label_or (get_or rows c.args.place None)) p ahead))) (ap pattern c.pattern_in-pattern.ensures))
-    c.change.ensures.memory
+    m0 m1 start c.change.result c.change.new.self c.change.ensures.changes.cell c.change.ensures.changes.memory.done)
