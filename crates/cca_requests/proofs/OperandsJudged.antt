@@ -1,10 +1,10 @@
 -- What follows for the verdict where the operands were judged.
-use Rattle.std.proofs.Common.{◌≡◌, ◌∙◌, ℕ, Option, None, Some, sym, ap, subst}
-use Rattle.std.specs.Borrow.{Bor}
+use Rattle.std.proofs.Common.{◌≡◌, ◌∙◌, ℕ, List, Option, None, Some, codes, length, sym, ap, subst, arith}
 use Rattle.std.specs.Option.{option_map}
-use Rattle.std.specs.Prelude.{List}
+use Rattle.std.specs.Prelude.{◌<◌}
 use Rattle.cca_vectors.specs.Checks.{first_failing}
 use Rattle.key_cells.specs.Bench.{Bench}
+use Rattle.script_buffers.specs.Replies.{Refused, spelled}
 use Rattle.verb_rules.specs.Rules.{rule_number}
 use Rattle.verb_rules.specs.declared.rules.Rule.{Rule}
 use Rattle.verb_script.specs.Grammar.{Request}
@@ -12,22 +12,35 @@ use Rattle.cca_machine.specs.Operands.{Operands, operands}
 use Rattle.cca_machine.specs.State.{State}
 use Rattle.cca_machine.specs.Verdict.{Refusal, general_checks, or_then, refusal, verdict_by}
 use Rattle.request_rules.specs.Judging.{AreGranted, IsJudged}
+use Rattle.request_rules.specs.Refusals.{refusal_of}
 use Rattle.request_rules.specs.declared.judging.Granted.{Granted}
 use Rattle.request_rules.specs.declared.judging.Verdict.{Verdict}
 use Rattle.request_rules.specs.declared.judging.Verdict.TheVariants as code
+use Rattle.request_rules.specs.declared.refusals.Refusal.{Refusal as CodeRefusal}
 use Rattle.request_verbs.proofs.Acting.{verdict_operands}
+
+-- ---- a rule that the request as a whole breaks
+
+module _ (r : CodeRefusal) {n : ℕ} (same : refusal_of r ≡ refusal n (codes "-")) where
+  pub whole_short : length r.operand.now < 100
+  whole_short = subst (λ (x : Refusal). length x.operand < 100) (sym same) (omega arith)
+
+  pub whole_spelled : {reply : List ℕ} → reply ≡ spelled (Refused (rule_number r.rule) r.operand.now) → reply ≡ spelled (Refused n (codes "-"))
+  whole_spelled is = is ∙ ap (λ (x : Refusal). spelled (Refused x.rule x.operand)) same
+
+-- ---- the operands
 
 module _ (s : State) (bench : Bench) (request : Request) where
   module _ {rule : Option Rule} {os : Operands} {judged : Verdict} where
     -- a rule that an operand breaks is the verdict
-    pub operands_refused : (broken : Rule) (operand : Bor (List ℕ))
+    pub operands_refused : (r : CodeRefusal)
         → option_map rule_number rule ≡ first_failing (general_checks s request) → rule ≡ None → os ≡ operands request
-        → IsJudged s bench os judged → judged ≡ code.Refused broken operand
-        → (verb : Option Refusal) → verdict_by s request verb ≡ or_then (Some (refusal (rule_number broken) operand.now)) verb
-    operands_refused broken operand general none table verdict is =
+        → IsJudged s bench os judged → judged ≡ code.Refused r
+        → (verb : Option Refusal) → verdict_by s request verb ≡ or_then (Some (refusal_of r)) verb
+    operands_refused r general none table verdict is =
         let passes : first_failing (general_checks s request) ≡ None = sym general ∙ ap (option_map rule_number) none in
         let own = subst (λ (o : Operands). IsJudged s bench o judged) table verdict in
-        verdict_operands s request (Some (refusal (rule_number broken) operand.now)) passes
+        verdict_operands s request (Some (refusal_of r)) passes
         (subst (λ (v : Verdict). IsJudged s bench (operands request) v) is own)
 
     -- where they break none the verdict is the verb's

@@ -1,5 +1,5 @@
 -- What is answered of a change of a disk, and what comes of an effect.
-use Rattle.std.specs.Prelude.{◌≡◌, ℕ, List, [], ◌∷◌, codes, Option, Some, None, Result, Ok, Err, map, OnOk}
+use Rattle.std.specs.Prelude.{◌≡◌, ℕ, List, [], ◌∷◌, codes, Option, Some, None, Result, Ok, Err, map, OnErr, OnOk, length, ◌<◌, ⊤}
 use Rattle.key_records.specs.Entries.{turned}
 use Rattle.key_records.specs.declared.faults.RecordFault.{RecordFault}
 use Rattle.key_records.specs.declared.faults.RecordFault.TheVariants as record_fault
@@ -14,7 +14,7 @@ use Rattle.master_registers.specs.declared.registers.NewState.TheVariants as new
 use Rattle.master_registers.specs.declared.registers.Registers.{Registers}
 use Rattle.master_registers.specs.declared.faults.RegisterFault.{RegisterFault}
 use Rattle.master_registers.specs.declared.faults.RegisterFault.TheVariants as fault
-use Rattle.script_buffers.specs.Replies.{Reply, Refused, Done, Text}
+use Rattle.script_buffers.specs.Replies.{Reply, Refused, Done, Text, spelled}
 use Rattle.line_service.specs.declared.stops.Stop.{Stop}
 use Rattle.line_service.specs.declared.stops.Stop.TheVariants.{ModuleFault, StoreFault}
 use Rattle.verb_rules.specs.Rules.{rule_number}
@@ -31,11 +31,24 @@ made_stop (Ok done) = Ok tt
 made_stop (Err (unmade.Refused _)) = Ok tt
 made_stop (Err (unmade.Stopped stop)) = Err stop
 
--- the reply, where a rule is broken by this operand; a stop has none
-abbrev pub made_reply : List ℕ → Result (Unit {0}) Unmade → Reply
-made_reply operand (Ok done) = Done []
-made_reply operand (Err (unmade.Refused broken)) = Refused (rule_number broken) operand
-made_reply operand (Err (unmade.Stopped _)) = Done []
+-- the reply; a stop has none
+abbrev pub made_reply : Result (Unit {0}) Unmade → Reply
+made_reply (Ok done) = Done []
+made_reply (Err (unmade.Refused r)) = Refused (rule_number r.rule) r.operand.now
+made_reply (Err (unmade.Stopped _)) = Done []
+
+-- where a rule is broken the name of the operand is short
+abbrev pub IsShortlyNamed : Result (Unit {0}) Unmade → Type 0
+IsShortlyNamed (Ok done) = ⊤
+IsShortlyNamed (Err (unmade.Refused r)) = length r.operand.now < 100
+IsShortlyNamed (Err (unmade.Stopped _)) = ⊤
+
+-- a call ends as it should, with its reply, and after a stop with none
+pub record IsAnswer (ending : Result (Unit {0}) Stop) (what : Reply) (result : Result (Unit {0}) Stop)
+    (text : List ℕ) : Type 0 where
+  pub stop : result ≡ ending
+  pub reply : OnOk result (text ≡ spelled what)
+  pub silent : OnErr result (text ≡ [])
 
 -- ---- what comes of an effect
 

@@ -8,11 +8,15 @@ use Rattle.script_buffers.specs.Reading.{line_limit}
 use Rattle.script_buffers.specs.Replies.{spelled}
 use Rattle.cca_roles.specs.RolesStand.{StandsForRoles}
 use Rattle.cca_roles.specs.declared.roles.Role.{Role}
-use Rattle.key_records.specs.StoreStands.{HoldsRows}
+use Rattle.key_cells.specs.Bench.{Bench}
+use Rattle.key_cells.specs.Lease.{loan_of}
+use Rattle.key_cells.specs.declared.leases.Lease.{Lease}
+use Rattle.key_records.specs.StoreStands.{HasStore, HoldsRows}
 use Rattle.key_records.specs.Entries.{row_directory}
 use Rattle.key_records.specs.declared.rows.Row.{Row}
 use Rattle.master_registers.specs.Masters.{Masters}
 use Rattle.master_registers.specs.RegisterBody.{StandsForMasters, IsDamaged}
+use Rattle.master_registers.specs.declared.registers.Registers.{Registers}
 use Rattle.reencipher.specs.Runs.{LeavesRest}
 use Rattle.line_service.specs.Answering.{Unwritten}
 use Rattle.line_service.specs.Devices.{Span, Devices, DiskLeft, TellsFault, ModuleLeft, StoreLeft}
@@ -24,7 +28,7 @@ use Rattle.verb_script.specs.Grammar.{Request, Spells}
 use Rattle.cca_machine.specs.State.{State, IsModuleOf, IsStoreOf}
 use Rattle.cca_machine.specs.Operands.{needs_store}
 use Rattle.request_rules.specs.Judging.{IsStoreStop}
-use Rattle.request_rules.specs.Standing.{Tables, StandsInModule, StandsInStore, Stands}
+use Rattle.request_rules.specs.Standing.{HasLoaded, Tables, StandsInModule, StandsInStore, Stands}
 use Rattle.request_verbs.specs.Deciding.{HasDrawn}
 use Rattle.cca_machine.specs.Act.{Outcome, Cells, NoCell, OneCell, performed, ChangedCells}
 use Rattle.cca_machine.specs.Draws.{draws_random}
@@ -73,6 +77,11 @@ IsFault WriteFault = ⊥
 IsFault InputLimit = ⊥
 IsFault (Damaged device cell) = ⊥
 
+-- the bench holds the registers of the module, and the memory has of both disks what they hold; nothing of them is unsynced
+pub record HasDisks (held : Registers) (bench : Bench) (t : Tables) (m d : Medium) : Type 0 where
+  pub at : HasLoaded held bench t.roles m
+  pub store : HasStore t.rows d
+
 -- ---- of the module alone
 
 pub record IsDoneInModule (o : Outcome) (reply : List ℕ) (roles : List (Option Role))
@@ -87,6 +96,13 @@ pub record CarriesModule (o : Outcome) (s : State) (result : Result (Unit {0}) S
   pub moments : EachImage m0 m1 (IsEither IsModuleOf s o)
   pub outside : EachImage m0 m1 (From (SameBut o.module_cells) m0)
   pub stops : IfErr result IsFault
+
+-- the same, where the module isn't called if no cell is to be written
+pub record CallsModule {M : Type 0} (medium : M → Medium) (o : Outcome) (s : State)
+    (result : Result (Unit {0}) Stop) (reply : List ℕ) (roles : List (Option Role)) (old new : M)
+    : Type 0 where
+  pub carries : CarriesModule o s result reply roles (medium old) (medium new)
+  pub still : o.module_cells ≡ NoCell → new ≡ old
 
 -- ---- of the store alone
 
@@ -206,6 +222,14 @@ pub record LeavesStore (old new : Medium) (before now : ℕ) (result : Result (U
   pub silent : OnErr result (reply ≡ [])
   pub memory : OnErr result (row_directory later ≡ row_directory rows)
   pub stops : IfErr result IsStoreStop
+
+-- The same of a change of one record: after an error the memory is as it was. The lease is still that of its bench.
+pub record LeavesRecords {D : Type 0} (medium : D → Medium) (faults : D → ℕ) (lease still : Lease)
+    (old new : D) (result : Result (Unit {0}) Stop) (reply : List ℕ)
+    (rows later : List (Option Row)) : Type 0 where
+  pub left : LeavesStore (medium old) (medium new) (faults old) (faults new) result reply rows later
+  pub kept : OnErr result (later ≡ rows)
+  pub loan : loan_of still ≡ loan_of lease
 
 -- what a call leaves of both disks, of the reply and of the memory
 pub record Leaves (result : Result (Unit {0}) Stop) (reply : List ℕ) (d : Span Devices)

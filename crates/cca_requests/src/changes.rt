@@ -1,33 +1,26 @@
 //! How a change of a disk is answered.
-ghost use Rattle.std.specs.Prelude.{◌≡◌, ◌<◌, [], OnErr, OnOk, length};
-ghost use Rattle.script_buffers.specs.Replies.{spelled};
-ghost use Rattle.cca_requests.specs.Changes.{made_reply, made_stop};
+ghost use Rattle.std.specs.Prelude.{◌≡◌, []};
+ghost use Rattle.cca_requests.specs.Changes.{IsAnswer, IsShortlyNamed, made_reply, made_stop};
 
 use crate::endings::{end, refuse};
 use line_service::Stop;
-use verb_rules::Rule;
+use request_rules::Refusal;
 use verb_script::ReplyBuffer;
 
 /// Why a change isn't made.
 #[derive(Clone, Copy)]
 pub(crate) enum Unmade {
-    /// This rule is broken.
-    Refused(Rule),
+    /// A rule is broken.
+    Refused(Refusal),
     /// A disk failed.
     Stopped(Stop),
 }
 
-/// Says that a change is made, or which rule the operand breaks.
-pub(crate) fn answer(
-    made: Result<(), Unmade>,
-    operand: &str,
-    reply: &mut ReplyBuffer,
-) -> Result<(), Stop>
-    requires short { length operand.now < 100 }
+/// Says that a change is made, or which rule is broken.
+pub(crate) fn answer(made: Result<(), Unmade>, reply: &mut ReplyBuffer) -> Result<(), Stop>
+    requires short { IsShortlyNamed made }
     requires empty { reply.old ≡ [] }
-    ensures stop { result ≡ made_stop made }
-    ensures reply { OnOk result (reply.new ≡ spelled (made_reply operand.now made)) }
-    ensures silent { OnErr result (reply.new ≡ []) }
+    ensures { IsAnswer (made_stop made) (made_reply made) result reply.new }
 {
     match made {
         Ok(()) => {
@@ -35,8 +28,8 @@ pub(crate) fn answer(
             end(reply);
             Ok(())
         }
-        Err(Unmade::Refused(rule)) => {
-            refuse(reply, rule, operand);
+        Err(Unmade::Refused(refusal)) => {
+            refuse(reply, &refusal);
             Ok(())
         }
         Err(Unmade::Stopped(stop)) => Err(stop),

@@ -1,17 +1,16 @@
 //! Changes of the registers and of the roles, with their replies.
 ghost use Rattle.cca_roles.specs.RoleNames.{default_name};
 ghost use Rattle.key_records.specs.StoreStands.{HoldsRows};
-ghost use Rattle.std.specs.Prelude.{ℕ, List, ◌≡◌, ◌≢◌, ◌≤◌, ◌↔◌, [], Err, IsTrue, OnOk, OnErr, length, codes};
+ghost use Rattle.std.specs.Prelude.{ℕ, List, ◌≡◌, ◌≢◌, ◌≤◌, ◌↔◌, [], Err, IsTrue, OnErr, length, codes};
 ghost use Rattle.master_registers.specs.Actions.{after_action, has_wrong_state, repeats_pattern};
 ghost use Rattle.master_registers.specs.Changes.{CarriesOut, IsLoadedFrom};
 ghost use Rattle.master_registers.specs.Loaded.{masters_in};
 ghost use Rattle.key_cells.specs.Lease.{bench_of, loan_of};
-ghost use Rattle.script_buffers.specs.Replies.{spelled};
 ghost use Rattle.cca_machine.specs.State.{State};
-ghost use Rattle.cca_machine.specs.Act.{NoCell, DefineRole, RemoveRole};
+ghost use Rattle.cca_machine.specs.Act.{DefineRole, RemoveRole};
 ghost use Rattle.cca_machine.specs.Verdict.{define_questions, remove_questions};
-ghost use Rattle.cca_requests.specs.Serving.{CarriesModule, LeavesModule};
-ghost use Rattle.cca_requests.specs.Changes.{made_reply, made_stop, IsTurnedBy, rows_by, action_outcome, state_name, change_stop, change_reply, role_outcome, role_stop, role_reply};
+ghost use Rattle.cca_requests.specs.Serving.{CallsModule, LeavesModule};
+ghost use Rattle.cca_requests.specs.Changes.{IsAnswer, IsShortlyNamed, made_reply, made_stop, IsTurnedBy, rows_by, action_outcome, state_name, change_stop, change_reply, role_outcome, role_stop, role_reply};
 ghost use Rattle.request_rules.specs.Standing.{HasLoaded, AtModule};
 
 use crate::changes::{Unmade, answer};
@@ -23,6 +22,7 @@ use line_service::Stop;
 use master_registers::{
     Action, NewState, RegisterFault, Registers, clear, first, last, middle, set,
 };
+use request_rules::Refusal;
 use slot_disk::Disk;
 use verb_rules::Rule;
 use verb_script::ReplyBuffer;
@@ -44,9 +44,7 @@ fn answer_change(
     reply: &mut ReplyBuffer,
 ) -> Result<(), Stop>
     requires { reply.old ≡ [] }
-    ensures stop { result ≡ change_stop outcome }
-    ensures reply { OnOk result (reply.new ≡ spelled (change_reply outcome)) }
-    ensures silent { OnErr result (reply.new ≡ []) }
+    ensures { IsAnswer (change_stop outcome) (change_reply outcome) result reply.new }
 {
     match outcome {
         Ok(held) => {
@@ -57,11 +55,11 @@ fn answer_change(
         }
         Err(RegisterFault::DiskFault) => Err(Stop::ModuleFault),
         Err(RegisterFault::RegisterState) => {
-            refuse(reply, Rule::RegisterState, "-");
+            refuse(reply, &Refusal::of_request(Rule::RegisterState));
             Ok(())
         }
         Err(RegisterFault::SamePattern) => {
-            refuse(reply, Rule::SamePattern, "-");
+            refuse(reply, &Refusal::of_request(Rule::SamePattern));
             Ok(())
         }
     }
@@ -116,13 +114,8 @@ pub(crate) fn change_registers<M: Disk>(
     requires empty { reply.old ≡ [] }
     ensures carries { (s : State) → AtModule s held.now (bench_of lease.old) roles.now
         (M.medium «module».old)
-        → CarriesModule (action_outcome s action (bench_of lease.old).part) s
-        result reply.new roles.now
-        (M.medium «module».old) (M.medium «module».new) }
-    ensures still { (s : State) → AtModule s held.now (bench_of lease.old) roles.now
-        (M.medium «module».old)
-        → (action_outcome s action (bench_of lease.old).part).module_cells ≡ NoCell
-        → «module».new ≡ «module».old }
+        → CallsModule M.medium (action_outcome s action (bench_of lease.old).part) s
+        result reply.new roles.now «module».old «module».new }
     ensures left { LeavesModule (M.medium «module».old) (M.medium «module».new)
         (M.faults «module».old) (M.faults «module».new) result reply.new roles.now roles.now }
     ensures turned { (s : State) → AtModule s held.now (bench_of lease.old) roles.now
@@ -139,25 +132,26 @@ pub(crate) fn change_registers<M: Disk>(
 /// Why the roles aren't changed.
 fn roles_made(outcome: Result<(), RoleFault>) -> Result<(), Unmade>
     ensures stop { made_stop result ≡ role_stop outcome }
-    ensures reply { made_reply (codes "name") result ≡ role_reply outcome }
+    ensures reply { made_reply result ≡ role_reply outcome }
+    ensures short { IsShortlyNamed result }
 {
     match outcome {
         Ok(()) => Ok(()),
         Err(RoleFault::DiskFault) => Err(Unmade::Stopped(Stop::ModuleFault)),
         Err(RoleFault::Damaged(_)) => Err(Unmade::Stopped(Stop::ModuleFault)),
-        Err(RoleFault::TableFull) => Err(Unmade::Refused(Rule::RoleTable)),
-        Err(RoleFault::Unknown) => Err(Unmade::Refused(Rule::RoleTable)),
+        Err(RoleFault::TableFull | RoleFault::Unknown) => Err(Unmade::Refused(Refusal {
+            rule: Rule::RoleTable,
+            operand: "name",
+        })),
     }
 }
 
 /// Says that the roles are changed, or which rule refused the change.
 fn answer_roles(outcome: Result<(), RoleFault>, reply: &mut ReplyBuffer) -> Result<(), Stop>
     requires { reply.old ≡ [] }
-    ensures stop { result ≡ role_stop outcome }
-    ensures reply { OnOk result (reply.new ≡ spelled (role_reply outcome)) }
-    ensures silent { OnErr result (reply.new ≡ []) }
+    ensures { IsAnswer (role_stop outcome) (role_reply outcome) result reply.new }
 {
-    answer(roles_made(outcome), "name", reply)
+    answer(roles_made(outcome), reply)
 }
 
 /// Gives a role these access control points.
@@ -174,14 +168,9 @@ pub(crate) fn define_role<M: Disk>(
     requires empty { reply.old ≡ [] }
     ensures carries { (s : State) → AtModule s held.now (bench_of lease.old) roles.old
         (M.medium «module».old)
-        → CarriesModule (role_outcome (define_questions s name.now) s
+        → CallsModule M.medium (role_outcome (define_questions s name.now) s
         (DefineRole name.now points)) s
-        result reply.new roles.new (M.medium «module».old) (M.medium «module».new) }
-    ensures still { (s : State) → AtModule s held.now (bench_of lease.old) roles.old
-        (M.medium «module».old)
-        → (role_outcome (define_questions s name.now) s (DefineRole name.now points)).module_cells
-        ≡ NoCell
-        → «module».new ≡ «module».old }
+        result reply.new roles.new «module».old «module».new }
     ensures left { LeavesModule (M.medium «module».old) (M.medium «module».new)
         (M.faults «module».old) (M.faults «module».new) result reply.new roles.old roles.new }
     ensures loan { loan_of lease.new ≡ loan_of lease.old }
@@ -204,12 +193,9 @@ pub(crate) fn remove_role<M: Disk>(
     requires other { name.now ≢ default_name }
     ensures carries { (s : State) → AtModule s held.now (bench_of lease.old) roles.old
         (M.medium «module».old)
-        → CarriesModule (role_outcome (remove_questions s name.now) s (RemoveRole name.now)) s
-        result reply.new roles.new (M.medium «module».old) (M.medium «module».new) }
-    ensures still { (s : State) → AtModule s held.now (bench_of lease.old) roles.old
-        (M.medium «module».old)
-        → (role_outcome (remove_questions s name.now) s (RemoveRole name.now)).module_cells ≡ NoCell
-        → «module».new ≡ «module».old }
+        → CallsModule M.medium (role_outcome (remove_questions s name.now) s
+        (RemoveRole name.now)) s
+        result reply.new roles.new «module».old «module».new }
     ensures left { LeavesModule (M.medium «module».old) (M.medium «module».new)
         (M.faults «module».old) (M.faults «module».new) result reply.new roles.old roles.new }
     ensures loan { loan_of lease.new ≡ loan_of lease.old }

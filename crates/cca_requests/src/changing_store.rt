@@ -1,5 +1,5 @@
 //! Changes of the records, with their replies.
-ghost use Rattle.std.specs.Prelude.{◌≡◌, [], List, Option, IsSome, OnOk, OnErr, codes};
+ghost use Rattle.std.specs.Prelude.{◌≡◌, [], List, Option, IsSome};
 ghost use Rattle.key_records.specs.Entries.{Entry};
 ghost use Rattle.key_records.specs.StoreStands.{KeepsLabels, HasStore};
 ghost use Rattle.master_registers.specs.Masters.{Masters};
@@ -9,7 +9,6 @@ ghost use Rattle.verb_rules.specs.Keys.{keys_of};
 ghost use Rattle.key_cells.specs.Lease.{bench_of, loan_of};
 ghost use Rattle.master_registers.specs.Loaded.{IsLoaded, Loaded};
 ghost use Rattle.master_registers.specs.declared.registers.Registers.{Registers as HeldRegisters};
-ghost use Rattle.script_buffers.specs.Replies.{spelled};
 ghost use Rattle.verb_script.specs.Grammar.{Request};
 ghost use Rattle.reencipher.specs.Tokens.{IsReadyFor};
 ghost use Rattle.cca_machine.specs.State.{State};
@@ -17,8 +16,8 @@ ghost use Rattle.cca_machine.specs.Keys.{any_old};
 ghost use Rattle.cca_machine.specs.Operands.{operands, listed};
 ghost use Rattle.cca_machine.specs.Act.{Effect as MachineEffect, Reencipher, effected};
 ghost use Rattle.request_verbs.specs.declared.effects.Effect.TheVariants as code;
-ghost use Rattle.cca_requests.specs.Serving.{CarriesStore, LeavesStore};
-ghost use Rattle.cca_requests.specs.Changes.{made_reply, made_stop, plainly, create_outcome, record_stop, record_reply};
+ghost use Rattle.cca_requests.specs.Serving.{CarriesStore, LeavesRecords, LeavesStore};
+ghost use Rattle.cca_requests.specs.Changes.{IsAnswer, IsShortlyNamed, made_reply, made_stop, plainly, create_outcome, record_stop, record_reply};
 ghost use Rattle.request_rules.specs.Standing.{AtStore};
 ghost use Rattle.request_verbs.specs.Deciding.{IsReady, IsHeldAt, IsWritten, IsDeleted};
 
@@ -29,7 +28,7 @@ use key_records::{Label, Place, RecordFault, Records};
 use line_service::Stop;
 use master_registers::Registers;
 use reencipher::{StoreAction, ahead, drop_ahead, reencipher};
-use request_rules::stop_of;
+use request_rules::{Refusal, stop_of};
 use slot_disk::Disk;
 use verb_rules::Rule;
 use verb_script::ReplyBuffer;
@@ -37,25 +36,30 @@ use verb_script::ReplyBuffer;
 /// Why a label isn't held.
 fn label_made(outcome: Result<(), RecordFault>) -> Result<(), Unmade>
     ensures stop { made_stop result ≡ record_stop outcome }
-    ensures reply { made_reply (codes "label") result ≡ record_reply outcome }
+    ensures reply { made_reply result ≡ record_reply outcome }
+    ensures short { IsShortlyNamed result }
 {
     match outcome {
         Ok(()) => Ok(()),
         Err(RecordFault::DiskFault) => Err(Unmade::Stopped(Stop::StoreFault)),
         Err(RecordFault::Damaged(_)) => Err(Unmade::Stopped(Stop::StoreFault)),
-        Err(RecordFault::Full) => Err(Unmade::Refused(Rule::StoreFull)),
-        Err(RecordFault::Exists) => Err(Unmade::Refused(Rule::LabelExists)),
+        Err(RecordFault::Full) => Err(Unmade::Refused(Refusal {
+            rule: Rule::StoreFull,
+            operand: "label",
+        })),
+        Err(RecordFault::Exists) => Err(Unmade::Refused(Refusal {
+            rule: Rule::LabelExists,
+            operand: "label",
+        })),
     }
 }
 
 /// Says that a label is held, or which rule refused it.
 fn answer_create(outcome: Result<(), RecordFault>, reply: &mut ReplyBuffer) -> Result<(), Stop>
     requires { reply.old ≡ [] }
-    ensures stop { result ≡ record_stop outcome }
-    ensures reply { OnOk result (reply.new ≡ spelled (record_reply outcome)) }
-    ensures silent { OnErr result (reply.new ≡ []) }
+    ensures { IsAnswer (record_stop outcome) (record_reply outcome) result reply.new }
 {
-    answer(label_made(outcome), "label", reply)
+    answer(label_made(outcome), reply)
 }
 
 /// Holds a label, with nothing in its record.
@@ -72,10 +76,8 @@ pub(crate) fn create<D: Disk>(
         → AtStore s held (bench_of lease.old) records.old (D.medium store.old)
         → CarriesStore (create_outcome s label.now) s result reply.new records.new
         (D.medium store.old) (D.medium store.new) }
-    ensures left { LeavesStore (D.medium store.old) (D.medium store.new)
-        (D.faults store.old) (D.faults store.new) result reply.new records.old records.new }
-    ensures kept { OnErr result (records.new ≡ records.old) }
-    ensures loan { loan_of lease.new ≡ loan_of lease.old }
+    ensures left { LeavesRecords D.medium D.faults lease.old lease.new store.old store.new
+        result reply.new records.old records.new }
 {
     let outcome = records.create(store, lease, label);
     answer_create(outcome, reply)
@@ -102,10 +104,8 @@ pub(crate) fn write<D: Disk>(
         → IsWritten s e place token.now reply.old
         → CarriesStore (effected s request e) s result reply.new records.new
         (D.medium store.old) (D.medium store.new) }
-    ensures left { LeavesStore (D.medium store.old) (D.medium store.new)
-        (D.faults store.old) (D.faults store.new) result reply.new records.old records.new }
-    ensures kept { OnErr result (records.new ≡ records.old) }
-    ensures loan { loan_of lease.new ≡ loan_of lease.old }
+    ensures left { LeavesRecords D.medium D.faults lease.old lease.new store.old store.new
+        result reply.new records.old records.new }
 {
     match records.write(store, lease, held, place, token) {
         Ok(()) => {
@@ -135,10 +135,8 @@ pub(crate) fn delete<D: Disk>(
         → IsDeleted s e place
         → CarriesStore (plainly s e) s result reply.new records.new
         (D.medium store.old) (D.medium store.new) }
-    ensures left { LeavesStore (D.medium store.old) (D.medium store.new)
-        (D.faults store.old) (D.faults store.new) result reply.new records.old records.new }
-    ensures kept { OnErr result (records.new ≡ records.old) }
-    ensures loan { loan_of lease.new ≡ loan_of lease.old }
+    ensures left { LeavesRecords D.medium D.faults lease.old lease.new store.old store.new
+        result reply.new records.old records.new }
 {
     match records.delete(store, lease, place) {
         Ok(()) => {

@@ -1,15 +1,14 @@
 //! How what a verb left to be done is done: the only calls that write a disk.
 ghost use Rattle.std.specs.Prelude.{◌≡◌, ◌≢◌, ℕ, List, Err, OnErr, IfErr};
 ghost use Rattle.key_cells.specs.Lease.{bench_of, loan_of};
-ghost use Rattle.key_records.specs.StoreStands.{HasStore};
 ghost use Rattle.verb_script.specs.Grammar.{Request};
 ghost use Rattle.cca_machine.specs.State.{State};
 ghost use Rattle.cca_machine.specs.Keys.{any_old};
 ghost use Rattle.cca_machine.specs.Operands.{operands, listed};
 ghost use Rattle.cca_machine.specs.Act.{or_act};
 ghost use Rattle.cca_machine.specs.Verdict.{whole_verb_verdict};
-ghost use Rattle.cca_requests.specs.Serving.{Carries, Leaves, IsLoadedStop};
-ghost use Rattle.request_rules.specs.Standing.{tables, HasLoaded, At};
+ghost use Rattle.cca_requests.specs.Serving.{Carries, HasDisks, Leaves, IsLoadedStop};
+ghost use Rattle.request_rules.specs.Standing.{tables, At};
 ghost use Rattle.request_verbs.specs.Deciding.{IsDecided, IsReady, WritesStore, GoesThrough};
 
 use crate::changing_module::{change_registers, define_role, remove_role};
@@ -37,8 +36,8 @@ pub(crate) fn carry<M: Disk, D: Disk>(
     records: &mut Records,
     reply: &mut ReplyBuffer,
 ) -> Result<(), Stop>
-    requires at { HasLoaded held.now (bench_of lease.old) roles.old (M.medium «module».old) }
-    requires store { HasStore records.old (D.medium store.old) }
+    requires disks { HasDisks held.now (bench_of lease.old) (tables roles.old records.old)
+        (M.medium «module».old) (D.medium store.old) }
     requires ready { IsReady held.now (bench_of lease.old) records.old effect.now reply.old }
     ensures carries { (s : State) (request : Request) (drawn : List ℕ)
         → At s held.now (bench_of lease.old) (tables roles.old records.old)
@@ -59,8 +58,8 @@ pub(crate) fn carry<M: Disk, D: Disk>(
     ensures loan { loan_of lease.new ≡ loan_of lease.old }
 {
     match effect {
-        Effect::Refused(rule, operand) => {
-            refuse(reply, *rule, operand);
+        Effect::Refused(refusal) => {
+            refuse(reply, refusal);
             Ok(())
         }
         Effect::Shown => {

@@ -4,7 +4,7 @@ ghost use Rattle.script_buffers.specs.Replies.{Field, Done, Refused, spelled, wr
 ghost use Rattle.verb_rules.specs.Rules.{rule_number};
 ghost use Rattle.cca_machine.specs.Keys.{warning};
 
-use verb_rules::Rule;
+use request_rules::Refusal;
 use verb_script::ReplyBuffer;
 
 /// Ends the reply to a request that was carried out, with the warning where a key is under the old master key.
@@ -30,11 +30,12 @@ pub(crate) fn end(reply: &mut ReplyBuffer)
 
 /// Writes the reply that names the rule and the operand.
 #[tactic(auto, unfolding(script_buffers::specs::Replies::refusal))]
-pub(crate) fn refuse(reply: &mut ReplyBuffer, rule: Rule, operand: &str)
+pub(crate) fn refuse(reply: &mut ReplyBuffer, refusal: &Refusal)
     requires empty { reply.old ≡ [] }
-    requires short { length operand.now < 100 }
-    ensures { reply.new ≡ spelled (Refused (rule_number rule) operand.now) }
+    requires short { length refusal.now.operand.now < 100 }
+    ensures { reply.new
+        ≡ spelled (Refused (rule_number refusal.now.rule) refusal.now.operand.now) }
 {
-    reply.refuse(rule.number(), operand);
+    reply.refuse(refusal.rule.number(), refusal.operand);
     reply.finish();
 }

@@ -1,21 +1,18 @@
 //! A request, judged and carried out.
-ghost use Rattle.std.specs.Prelude.{◌≡◌, false, [], Option, Err, OnOk, OnErr, IfErr, IsSome, IsTrue};
+ghost use Rattle.std.specs.Prelude.{◌≡◌, false, [], Option, Err, OnOk, OnErr, IfErr};
 ghost use Rattle.key_cells.specs.Bench.{blank_bench};
 ghost use Rattle.key_cells.specs.Lease.{bench_of, loan_of};
-ghost use Rattle.key_records.specs.StoreStands.{HasStore};
 ghost use Rattle.line_service.specs.Machine.{world};
-ghost use Rattle.master_registers.specs.Loaded.{Loaded};
-ghost use Rattle.master_registers.specs.Masters.{Masters};
 ghost use Rattle.line_service.specs.Devices.{AreSettled};
 ghost use Rattle.verb_script.specs.Parsed.{seen};
 ghost use Rattle.cca_machine.specs.State.{State, module_size, store_size};
 ghost use Rattle.cca_machine.specs.Operands.{operands, is_reencipher};
-ghost use Rattle.cca_machine.specs.Verdict.{Refusal, needs_master, verdict_by};
+ghost use Rattle.cca_machine.specs.Verdict.{Refusal as Refused, verdict_by};
 ghost use Rattle.request_rules.specs.ByRecords.{RestsOnRecords};
-ghost use Rattle.cca_requests.specs.Serving.{IsSpelled, IsRequestStop, IsLoadedStop, Serves, Leaves, FindsDamage, SparesStore, DrawsOnly, AreRemembered};
-ghost use Rattle.request_rules.specs.Standing.{Stands, tables, HasLoaded, At};
-ghost use Rattle.request_rules.specs.Judging.{IsAccepted, HaveShapes, AreGranted, AreKeyed};
-ghost use Rattle.request_verbs.specs.Decided.{TakesOnly, source};
+ghost use Rattle.cca_requests.specs.Serving.{HasDisks, IsSpelled, IsRequestStop, IsLoadedStop, Serves, Leaves, FindsDamage, SparesStore, DrawsOnly, AreRemembered};
+ghost use Rattle.request_rules.specs.Standing.{Stands, tables, At};
+ghost use Rattle.request_rules.specs.Judging.{IsAccepted, AreGranted};
+ghost use Rattle.request_verbs.specs.Decided.{HasPassed, TakesOnly, source};
 
 use crate::effects::carry;
 use crate::endings::refuse;
@@ -24,7 +21,7 @@ use key_cells::{Lease, Workbench};
 use key_records::Records;
 use line_service::{Device, Shown, Stop};
 use master_registers::{LoadFault, Registers, load};
-use request_rules::{Granted, Verdict, general_rule, is_old, judge, operands_of};
+use request_rules::{Granted, Refusal, Verdict, general_rule, is_old, judge, operands_of};
 use request_verbs::{Effect, decide};
 use slot_disk::{Disk, Entropy};
 use verb_script::{ReplyBuffer, Request};
@@ -101,8 +98,8 @@ fn carry_out<M: Disk, D: Disk, E: Entropy>(
     reply: &mut ReplyBuffer,
 ) -> Result<(), Stop>
     requires accepted { IsAccepted (seen request.now) }
-    requires at { HasLoaded held.now (bench_of lease.old) roles.old (M.medium «module».old) }
-    requires store { HasStore records.old (D.medium store.old) }
+    requires disks { HasDisks held.now (bench_of lease.old) (tables roles.old records.old)
+        (M.medium «module».old) (D.medium store.old) }
     requires empty { reply.old ≡ [] }
 
     ensures serves { (s : State) → At s held.now (bench_of lease.old) (tables roles.old records.old)
@@ -126,12 +123,12 @@ fn carry_out<M: Disk, D: Disk, E: Entropy>(
     ensures loan { loan_of lease.new ≡ loan_of lease.old }
 {
     if let Some(rule) = general_rule(request, held, roles) {
-        refuse(reply, rule, "-");
+        refuse(reply, &Refusal::of_request(rule));
         return Ok(());
     }
     match judge(&operands_of(request), store, lease, held, records) {
-        Ok(Verdict::Refused(rule, operand)) => {
-            refuse(reply, rule, operand);
+        Ok(Verdict::Refused(refusal)) => {
+            refuse(reply, &refusal);
             Ok(())
         }
         Ok(Verdict::Granted(granted)) => act(
@@ -154,20 +151,16 @@ fn act<M: Disk, D: Disk, E: Entropy>(
     records: &mut Records,
     reply: &mut ReplyBuffer,
 ) -> Result<(), Stop>
-    requires accepted { IsAccepted (seen request.now) }
-    requires shaped { HaveShapes records.old (operands (seen request.now)) granted.now }
-    requires keyed { (m : Masters) → Loaded m held.now (bench_of lease.old)
-        → AreKeyed m (operands (seen request.now)) }
-    requires master { IsTrue (needs_master (seen request.now).name)
-        → IsSome held.now.current_pattern }
-    requires at { HasLoaded held.now (bench_of lease.old) roles.old (M.medium «module».old) }
-    requires store { HasStore records.old (D.medium store.old) }
+    requires passed { HasPassed (seen request.now) granted.now held.now records.old
+        (bench_of lease.old) }
+    requires disks { HasDisks held.now (bench_of lease.old) (tables roles.old records.old)
+        (M.medium «module».old) (D.medium store.old) }
     requires empty { reply.old ≡ [] }
 
     ensures serves { (s : State) → At s held.now (bench_of lease.old) (tables roles.old records.old)
         (M.medium «module».old) (D.medium store.old)
         → AreGranted s (bench_of lease.old) (operands (seen request.now)) granted.now
-        → ((v : Option Refusal) → verdict_by s (seen request.now) v ≡ v)
+        → ((v : Option Refused) → verdict_by s (seen request.now) v ≡ v)
         → Serves s (seen request.now) result reply.new (tables roles.new records.new)
         (world (M.medium «module».old) (D.medium store.old) (E.left entropy.old))
         (world (M.medium «module».new) (D.medium store.new) (E.left entropy.new)) }

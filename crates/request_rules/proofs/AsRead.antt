@@ -1,6 +1,5 @@
 -- What is answered of the labels that are held, by what was read of their records.
 use Rattle.std.proofs.Common.{◌≡◌, ◌∙◌, ℕ, Bool, true, false, List, [], ◌∷◌, Option, None, Some, Result, Ok, Err, refl, sym, ap, subst, inl, inr}
-use Rattle.std.specs.Borrow.{Bor}
 use Rattle.std.specs.Prelude.{get_or, is_none, not, IfOk, IfSome, IsTrue, OnOk}
 use Rattle.cca_vectors.specs.Checks.{check, first_failing}
 use Rattle.key_cells.specs.Bench.{Bench}
@@ -32,11 +31,11 @@ use Rattle.request_rules.specs.ByRecords.{AreJudgedByRecords, BreaksByRecord, If
 use Rattle.request_rules.specs.Judging.{answered}
 use Rattle.request_rules.specs.Standing.{Tables}
 use Rattle.request_rules.specs.Stored.{AreAskedAsRead, IsAnsweredAsRead, IsAskedAsRead, IsLabelAsRead, IsRefusedAsRead, find_checks}
-use Rattle.request_rules.specs.declared.judging.Answer.{Answer}
-use Rattle.request_rules.specs.declared.judging.Answer.TheVariants as answer
+use Rattle.request_rules.specs.declared.judging.Grant.{Grant}
 use Rattle.request_rules.specs.declared.judging.Granted.{Granted}
 use Rattle.request_rules.specs.declared.judging.Verdict.{Verdict}
 use Rattle.request_rules.specs.declared.judging.Verdict.TheVariants as verdict
+use Rattle.request_rules.specs.declared.refusals.Refusal.{Refusal}
 
 -- ---- a label that is held breaks neither rule of labels
 
@@ -68,13 +67,13 @@ module _ (P Q : Need → List ℕ → Type 0) (weaker : (need : Need) (label : L
 
 module _ (m : Masters) (bench : Bench) (rows : List (Option Row)) where
   -- what was read of the record of a label
-  label_as_read : (need : Need) (label bytes : List ℕ) (r : Result Answer Stop)
+  label_as_read : (need : Need) (label bytes : List ℕ) (r : Result (Result Grant Rule) Stop)
       → ((cell : ℕ) → IsHeldIn rows label cell → IfOk r (IsAnsweredAsRead m bench need (get_or rows cell None) bytes))
       → IfOk r (λ given. IsLabelAsRead m bench rows given need label)
   label_as_read need label bytes (Ok given) says = λ cell held. (bytes, says cell held)
   label_as_read need label bytes (Err stop) says = tt
 
-  pub named_as_read : (text label bytes : List ℕ) (ask : Ask) (need : Need) (r : Result Answer Stop) → ask ≡ Key need → label_named text ≡ Some label
+  pub named_as_read : (text label bytes : List ℕ) (ask : Ask) (need : Need) (r : Result (Result Grant Rule) Stop) → ask ≡ Key need → label_named text ≡ Some label
       → ((cell : ℕ) → IsHeldIn rows label cell → IfOk r (IsAnsweredAsRead m bench need (get_or rows cell None) bytes))
       → IfOk r (IsAskedAsRead m bench rows text ask)
   named_as_read text label bytes ask need (Err stop) is named says = tt
@@ -82,7 +81,7 @@ module _ (m : Masters) (bench : Bench) (rows : List (Option Row)) where
       subst (λ (a : Ask). IsAskedAsRead m bench rows text a given) (sym is)
       (subst (λ (o : Option (List ℕ)). IfSome o (IsLabelAsRead m bench rows given need)) (sym named) (label_as_read need label bytes (Ok given) says))
 
-  pub record_as_read : (text bytes : List ℕ) (ask : Ask) (need : Need) (r : Result Answer Stop) → ask ≡ Record → need ≡ any_key
+  pub record_as_read : (text bytes : List ℕ) (ask : Ask) (need : Need) (r : Result (Result Grant Rule) Stop) → ask ≡ Record → need ≡ any_key
       → ((cell : ℕ) → IsHeldIn rows text cell → IfOk r (IsAnsweredAsRead m bench need (get_or rows cell None) bytes))
       → IfOk r (IsAskedAsRead m bench rows text ask)
   record_as_read text bytes ask need (Err stop) is any says = tt
@@ -90,7 +89,7 @@ module _ (m : Masters) (bench : Bench) (rows : List (Option Row)) where
       subst (λ (a : Ask). IsAskedAsRead m bench rows text a given) (sym is)
       (subst (λ (n : Need). IsLabelAsRead m bench rows given n text) any (label_as_read need text bytes (Ok given) says))
 
-  pub unnamed_as_read : (text : List ℕ) (ask : Ask) (need : Need) (given : Answer) → ask ≡ Key need → label_named text ≡ None
+  pub unnamed_as_read : (text : List ℕ) (ask : Ask) (need : Need) (given : Result Grant Rule) → ask ≡ Key need → label_named text ≡ None
       → IsAskedAsRead m bench rows text ask given
   unnamed_as_read text ask need given is none =
       subst (λ (a : Ask). IsAskedAsRead m bench rows text a given) (sym is)
@@ -106,7 +105,7 @@ stored_before : (bench : Bench) (b : List ℕ) (need : Need) (what : Option Deno
 stored_before bench b need what (Ok judged) stored = stored
 stored_before bench b need what (Err _) stored = stored
 
-answered_before : (m : Masters) (bench : Bench) (b : List ℕ) (need : Need) (row : Option Row) (bytes : List ℕ) (given : Answer)
+answered_before : (m : Masters) (bench : Bench) (b : List ℕ) (need : Need) (row : Option Row) (bytes : List ℕ) (given : Result Grant Rule)
     → IsAnsweredAsRead m (with_body bench b) need row bytes given → IsAnsweredAsRead m bench need row bytes given
 answered_before m bench b need row bytes given as_read = record {
   what = as_read.what;
@@ -116,7 +115,7 @@ answered_before m bench b need row bytes given as_read = record {
   is = as_read.is;
 }
 
-pub as_read_before : (m : Masters) (rows : List (Option Row)) (old new : Lease) → KeepsAllButBody old new → (text : List ℕ) (ask : Ask) (given : Answer)
+pub as_read_before : (m : Masters) (rows : List (Option Row)) (old new : Lease) → KeepsAllButBody old new → (text : List ℕ) (ask : Ask) (given : Result Grant Rule)
     → IsAskedAsRead m (bench_of new) rows text ask given → IsAskedAsRead m (bench_of old) rows text ask given
 as_read_before m rows old new keeps text ask given as_read =
     let bench = bench_of old in
@@ -129,16 +128,16 @@ as_read_before m rows old new keeps text ask given as_read =
 
 -- ---- the rule that an answer names
 
-abbrev broken_by : Answer → Option ℕ
-broken_by (answer.Refused rule) = Some (rule_number rule)
-broken_by (answer.Granted grant) = None
+abbrev broken_by : Result Grant Rule → Option ℕ
+broken_by (Err rule) = Some (rule_number rule)
+broken_by (Ok grant) = None
 
-broken_key : (bench : Bench) (need : Need) (what : Option Denoted) (r : Result Judged Rule) (given : Answer) → IsStored bench need what r → given ≡ answered r
+broken_key : (bench : Bench) (need : Need) (what : Option Denoted) (r : Result Judged Rule) (given : Result Grant Rule) → IsStored bench need what r → given ≡ answered r
     → broken_by given ≡ first_failing (stored_checks need what)
 broken_key bench need what (Ok judged) given stored is = ap broken_by is ∙ sym stored.0
 broken_key bench need what (Err _) given stored is = ap broken_by is ∙ sym stored
 
-broken_record : (m : Masters) (bench : Bench) (need : Need) (row : Option Row) (bytes : List ℕ) (given : Answer) → IsAnsweredAsRead m bench need row bytes given
+broken_record : (m : Masters) (bench : Bench) (need : Need) (row : Option Row) (bytes : List ℕ) (given : Result Grant Rule) → IsAnsweredAsRead m bench need row bytes given
     → BreaksByRecord (keys_of m) need row (broken_by given)
 broken_record m bench need row bytes given as_read = record {
   body = bytes;
@@ -148,7 +147,7 @@ broken_record m bench need row bytes given as_read = record {
 }
 
 module _ (m : Masters) (bench : Bench) (rows : List (Option Row)) (reply : List ℕ) where
-  broken_operand : (text : List ℕ) (ask : Ask) (given : Answer) → IsAskedAsRead m bench rows text ask given
+  broken_operand : (text : List ℕ) (ask : Ask) (given : Result Grant Rule) → IsAskedAsRead m bench rows text ask given
       → IfKeyOfLabel (LabelBreaks (keys_of m) rows (broken_by given)) text ask
   broken_operand text ask given as_read =
       asked_weaker (IsLabelAsRead m bench rows given) (LabelBreaks (keys_of m) rows (broken_by given))
@@ -156,18 +155,18 @@ module _ (m : Masters) (bench : Bench) (rows : List (Option Row)) (reply : List 
       text ask as_read
 
   -- the reply is the refusal of one of the operands
-  pub refused_by_record : (os : List Operand) (rule : Rule) (name : List ℕ) → IsRefusedAsRead m bench rows os rule name
-      → reply ≡ spelled (Refused (rule_number rule) name) → AreJudgedByRecords (keys_of m) rows os reply
-  refused_by_record [] _ _ refused is = absurd refused
-  refused_by_record (o ∷ os) rule name (inl here) is = (
-    Some (rule_number rule),
-    broken_operand o.text o.ask (answer.Refused rule) here.1,
-    is ∙ ap (λ (n : List ℕ). spelled (Refused (rule_number rule) n)) here.0,
+  pub refused_by_record : (os : List Operand) (r : Refusal) → IsRefusedAsRead m bench rows os r
+      → reply ≡ spelled (Refused (rule_number r.rule) r.operand.now) → AreJudgedByRecords (keys_of m) rows os reply
+  refused_by_record [] r refused is = absurd refused
+  refused_by_record (o ∷ os) r (inl here) is = (
+    Some (rule_number r.rule),
+    broken_operand o.text o.ask (Err r.rule) here.1,
+    is ∙ ap (λ (n : List ℕ). spelled (Refused (rule_number r.rule) n)) here.0,
   )
-  refused_by_record (o ∷ os) rule name (inr later) is = (
+  refused_by_record (o ∷ os) r (inr later) is = (
     None,
-    broken_operand o.text o.ask (answer.Granted later.0) later.1,
-    refused_by_record os rule name later.2 is,
+    broken_operand o.text o.ask (Ok later.0) later.1,
+    refused_by_record os r later.2 is,
   )
 
   -- or none is refused
@@ -175,22 +174,22 @@ module _ (m : Masters) (bench : Bench) (rows : List (Option Row)) (reply : List 
       → AreJudgedByRecords (keys_of m) rows (listed os) reply
   granted_by_records os g granted = (
     None,
-    broken_operand os.first.text os.first.ask (answer.Granted g.first) granted.0,
+    broken_operand os.first.text os.first.ask (Ok g.first) granted.0,
     (
       None,
-      broken_operand os.second.text os.second.ask (answer.Granted g.second) granted.1,
-      (None, broken_operand os.third.text os.third.ask (answer.Granted g.third) granted.2, tt),
+      broken_operand os.second.text os.second.ask (Ok g.second) granted.1,
+      (None, broken_operand os.third.text os.third.ask (Ok g.third) granted.2, tt),
     ),
   )
 
 -- the same of what was judged of a request
 module _ (m : Masters) (bench : Bench) (rows : List (Option Row)) (request : Request) (reply : List ℕ) where
   module _ {os : Operands} {judged : Verdict} where
-    pub refusal_by_record : (rule : Rule) (operand : Bor (List ℕ)) → os ≡ operands request → AreAskedAsRead m bench rows os judged
-        → judged ≡ verdict.Refused rule operand → reply ≡ spelled (Refused (rule_number rule) operand.now)
+    pub refusal_by_record : (r : Refusal) → os ≡ operands request → AreAskedAsRead m bench rows os judged
+        → judged ≡ verdict.Refused r → reply ≡ spelled (Refused (rule_number r.rule) r.operand.now)
         → AreJudgedByRecords (keys_of m) rows (listed (operands request)) reply
-    refusal_by_record rule operand table as_read is told =
-        refused_by_record m bench rows reply (listed (operands request)) rule operand.now
+    refusal_by_record r table as_read is told =
+        refused_by_record m bench rows reply (listed (operands request)) r
         (subst (λ (v : Verdict). AreAskedAsRead m bench rows (operands request) v) is
         (subst (λ (o : Operands). AreAskedAsRead m bench rows o judged) table as_read))
         told

@@ -1,6 +1,6 @@
 -- The key that is read of a label's record is the machine's.
-use Rattle.std.proofs.Common.{◌≡◌, ◌∙◌, ℕ, Bool, true, false, List, [], ◌∷◌, ◌++◌, drop, Option, None, Some, inl, inr, refl, sym, ap, subst}
-use Rattle.std.specs.Prelude.{◌||◌, ◌⊎◌, if◌then◌else◌, is_none, option_map, IfOk, IfSome, IsSome, IsTrue, Result, Ok, Err, slice_index}
+use Rattle.std.proofs.Common.{◌≡◌, ◌∙◌, ℕ, List, [], ◌∷◌, ◌++◌, drop, Option, None, Some, inl, inr, refl, sym, ap, subst}
+use Rattle.std.specs.Prelude.{◌⊎◌, if◌then◌else◌, is_none, option_map, IfOk, IfSome, IsSome, IsTrue, Result, Ok, Err, slice_index}
 use Rattle.std.proofs.lemmas.Bool.{eqb-true}
 use Rattle.cca_vectors.specs.Checks.{Check, check, first_failing}
 use Rattle.cca_vectors.proofs.Judging.{none_in_first, passed_over, passes_first, stopped_in}
@@ -45,8 +45,6 @@ use Rattle.verb_script.specs.Values.{hex_value}
 use Rattle.request_rules.specs.Standing.{AtStore}
 use Rattle.request_rules.specs.Judging.{HasKey, IsAsked, IsGranted, IsJudged, IsKeyedAnswer, IsShaped, answered, target_cell}
 use Rattle.request_rules.specs.Stored.{IsFound, IsLabelAsked, find_checks, label_key_checks, read_stop}
-use Rattle.request_rules.specs.declared.judging.Answer.{Answer}
-use Rattle.request_rules.specs.declared.judging.Answer.TheVariants as answer
 use Rattle.request_rules.specs.declared.judging.Grant.{Grant}
 use Rattle.request_rules.specs.declared.judging.Granted.{Granted}
 use Rattle.request_rules.specs.declared.judging.Verdict.TheVariants as verdict
@@ -182,25 +180,25 @@ module _ (digits bytes : List ℕ) (spelled : bytes ≡ hex_value digits) (need 
 
 -- ---- the rules of an operand that names a label
 
-pub target_asked : (s : State) (bench : Bench) (text label : List ℕ) (a : Answer) → label_named text ≡ Some label → IsAsked s bench label Held a → IsAsked s bench text Target a
-target_asked s bench text label (answer.Refused _) named says = ap (λ (o : Option (List ℕ)). first_failing (target_checks s o)) named ∙ says
-target_asked s bench text label (answer.Granted grant) named says = (
+pub target_asked : (s : State) (bench : Bench) (text label : List ℕ) (a : Result Grant Rule) → label_named text ≡ Some label → IsAsked s bench label Held a → IsAsked s bench text Target a
+target_asked s bench text label (Err _) named says = ap (λ (o : Option (List ℕ)). first_failing (target_checks s o)) named ∙ says
+target_asked s bench text label (Ok grant) named says = (
   ap (λ (o : Option (List ℕ)). first_failing (target_checks s o)) named ∙ says.0,
   (says.1.0 ∙ ap (target_cell s) (sym named), says.1.1),
 )
 
-pub key_by_label : (s : State) (bench : Bench) (text label : List ℕ) (need : Need) (a : Answer) → label_named text ≡ Some label → IsLabelAsked s bench need label a
+pub key_by_label : (s : State) (bench : Bench) (text label : List ℕ) (need : Need) (a : Result Grant Rule) → label_named text ≡ Some label → IsLabelAsked s bench need label a
     → IsAsked s bench text (Key need) a
-key_by_label s bench text label need (answer.Refused _) named says = ap (λ (o : Option (List ℕ)). first_failing (key_questions s need o text)) named ∙ says
-key_by_label s bench text label need (answer.Granted grant) named says = (
+key_by_label s bench text label need (Err _) named says = ap (λ (o : Option (List ℕ)). first_failing (key_questions s need o text)) named ∙ says
+key_by_label s bench text label need (Ok grant) named says = (
   ap (λ (o : Option (List ℕ)). first_failing (key_questions s need o text)) named ∙ says.0,
   subst (λ (o : Option (List ℕ)). HasKey bench (key_named s o text) grant) (sym named) says.1.has,
 )
 
-pub key_by_token : (s : State) (bench : Bench) (text : List ℕ) (need : Need) (a : Answer) → label_named text ≡ None → IsAsked s bench (drop 2 text) (Token need) a
+pub key_by_token : (s : State) (bench : Bench) (text : List ℕ) (need : Need) (a : Result Grant Rule) → label_named text ≡ None → IsAsked s bench (drop 2 text) (Token need) a
     → IsAsked s bench text (Key need) a
-key_by_token s bench text need (answer.Refused _) named says = ap (λ (o : Option (List ℕ)). first_failing (key_questions s need o text)) named ∙ says
-key_by_token s bench text need (answer.Granted grant) named says = (
+key_by_token s bench text need (Err _) named says = ap (λ (o : Option (List ℕ)). first_failing (key_questions s need o text)) named ∙ says
+key_by_token s bench text need (Ok grant) named says = (
   ap (λ (o : Option (List ℕ)). first_failing (key_questions s need o text)) named ∙ says.0,
   subst (λ (o : Option (List ℕ)). HasKey bench (key_named s o text) grant) (sym named) says.1,
 )
@@ -210,10 +208,10 @@ before_none [] second none = none
 before_none (c ∷ checks) second none = ap (λ (o : Option ℕ). if c.fails then Some c.rule else o) (before_none checks second none)
 
 -- any key may be in a record that is asked for
-pub record_asked : (s : State) (bench : Bench) (label : List ℕ) (a : Answer) → IsLabelAsked s bench any_key label a → IsAsked s bench label Record a
-record_asked s bench label (answer.Refused _) says =
+pub record_asked : (s : State) (bench : Bench) (label : List ℕ) (a : Result Grant Rule) → IsLabelAsked s bench any_key label a → IsAsked s bench label Record a
+record_asked s bench label (Err _) says =
     sym (before_none (record_checks s label) (use_checks any_key (or_no_key (key_of_label s label)).clear.vector) (any_use (or_no_key (key_of_label s label)).clear.vector)) ∙ says
-record_asked s bench label (answer.Granted grant) says = (
+record_asked s bench label (Ok grant) says = (
   sym (before_none (record_checks s label) (use_checks any_key (or_no_key (key_of_label s label)).clear.vector) (any_use (or_no_key (key_of_label s label)).clear.vector)) ∙ says.0,
   says.1,
 )
@@ -237,7 +235,7 @@ granted_before s bench b text Nothing grant granted = granted
 
 module _ (s : State) (old new : Lease) (keeps : KeepsAllButBody old new) where
   -- of a later bench, which differs in its body alone
-  pub asked_before : (text : List ℕ) (ask : Ask) (grant : Grant) → IsAsked s (bench_of new) text ask (answer.Granted grant) → IsAsked s (bench_of old) text ask (answer.Granted grant)
+  pub asked_before : (text : List ℕ) (ask : Ask) (grant : Grant) → IsAsked s (bench_of new) text ask (Ok grant) → IsAsked s (bench_of old) text ask (Ok grant)
   asked_before text ask grant says = (
     says.0,
     granted_before s (bench_of old) (bench_of new).body text ask grant (subst (λ (l : Lease). IsGranted s (bench_of l) text ask grant) keeps says.1),
@@ -255,15 +253,9 @@ module _ (s : State) (old new : Lease) (keeps : KeepsAllButBody old new) where
 
 -- ---- the operands in their order
 
-pub none_named : (a b c : Bool) → (a || (b || (c || false))) ≡ false → (a ≡ false) × (b ≡ false) × (c ≡ false)
-none_named true b c is = cc is
-none_named false true c is = cc is
-none_named false false true is = cc is
-none_named false false false is = (refl, refl, refl)
-
 pub all_granted : (s : State) (bench : Bench) (os : Operands) (granted : Granted)
-    → IsAsked s bench os.first.text os.first.ask (answer.Granted granted.first)
-    → IsAsked s bench os.second.text os.second.ask (answer.Granted granted.second)
-    → IsAsked s bench os.third.text os.third.ask (answer.Granted granted.third)
+    → IsAsked s bench os.first.text os.first.ask (Ok granted.first)
+    → IsAsked s bench os.second.text os.second.ask (Ok granted.second)
+    → IsAsked s bench os.third.text os.third.ask (Ok granted.third)
     → IsJudged s bench os (verdict.Granted granted)
 all_granted s bench os granted first second third = (rw (first.0, second.0, third.0) refl, (first.1, second.1, third.1))

@@ -1,3 +1,4 @@
 pub mod AsRead
 pub mod GrantsKept
 mod LabelsRead
+mod StoreReads

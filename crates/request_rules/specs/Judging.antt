@@ -28,15 +28,14 @@ use Rattle.verb_script.specs.Named.{label_named}
 use Rattle.verb_script.specs.Values.{hex_value}
 use Rattle.cca_machine.specs.State.{State}
 use Rattle.cca_machine.specs.Operands.{Operand, Operands, any_key, listed}
-use Rattle.cca_machine.specs.Verdict.{refusal, first_refusal, operand_checks, operand_questions}
+use Rattle.cca_machine.specs.Verdict.{first_refusal, operand_checks, operand_questions}
 use Rattle.cca_machine.specs.declared.asking.Ask.{Ask}
 use Rattle.cca_machine.specs.declared.asking.Ask.TheVariants.{AnyToken, Key, Token, External, Record, Held, NewLabel, Target, Nothing}
+use Rattle.request_rules.specs.Refusals.{refusal_of}
 use Rattle.request_rules.specs.declared.operands.Operand.{Operand as CodeOperand}
 use Rattle.request_rules.specs.declared.operands.Operands.{Operands as CodeOperands}
 use Rattle.request_rules.specs.declared.judging.Grant.{Grant}
 use Rattle.request_rules.specs.declared.judging.Granted.{Granted}
-use Rattle.request_rules.specs.declared.judging.Answer.{Answer}
-use Rattle.request_rules.specs.declared.judging.Answer.TheVariants as answer
 use Rattle.request_rules.specs.declared.judging.Verdict.{Verdict}
 use Rattle.request_rules.specs.declared.judging.Verdict.TheVariants as verdict
 
@@ -69,9 +68,9 @@ abbrev pub AreFit : Operands → Type 0
 AreFit os = IsFit os.first × IsFit os.second × IsFit os.third
 
 -- what is answered of a key that was judged
-abbrev pub answered : Result Judged Rule → Answer
-answered (Ok judged) = answer.Granted (record { token = None; key = Some judged; place = None })
-answered (Err broken) = answer.Refused broken
+abbrev pub answered : Result Judged Rule → Result Grant Rule
+answered (Ok judged) = Ok (record { token = None; key = Some judged; place = None })
+answered (Err broken) = Err broken
 
 -- the key of a grant is this one, under a master key of the bench
 pub record HasKey (bench : Bench) (key : Option Denoted) (grant : Grant) : Type 0 where
@@ -146,6 +145,12 @@ pub record HasDoubleKey (grant : Grant) : Type 0 where
   pub has : HasJudged need grant
   pub double : need.double ≡ true
 
+-- the key of a grant is this one: it has its halves, under some register
+pub record IsGrantedKey (grant : Grant) (judged : Judged) : Type 0 where
+  pub is : grant.key ≡ Some judged
+  pub halves : HasHalves judged
+  pub under : IsSome judged.age
+
 -- an external token that was judged
 pub record HasJudgedExternal (grant : Grant) : Type 0 where
   pub judged : Judged
@@ -205,29 +210,29 @@ AreKeyed m os =
     × IsKeyed m os.third.text os.third.ask
 
 -- the first rule that an operand breaks, or what it stands for
-abbrev pub IsAsked : State → Bench → List ℕ → Ask → Answer → Type 0
-IsAsked s bench text ask (answer.Refused rule) = first_failing (operand_checks s text ask) ≡ Some (rule_number rule)
-IsAsked s bench text ask (answer.Granted grant) = (first_failing (operand_checks s text ask) ≡ None) × IsGranted s bench text ask grant
+abbrev pub IsAsked : State → Bench → List ℕ → Ask → Result Grant Rule → Type 0
+IsAsked s bench text ask (Err rule) = first_failing (operand_checks s text ask) ≡ Some (rule_number rule)
+IsAsked s bench text ask (Ok grant) = (first_failing (operand_checks s text ask) ≡ None) × IsGranted s bench text ask grant
 
-abbrev pub IsShaped : List (Option Row) → List ℕ → Ask → Answer → Type 0
-IsShaped rows text ask (answer.Refused _) = ⊤
-IsShaped rows text ask (answer.Granted grant) = HasShape rows text ask grant
+abbrev pub IsShaped : List (Option Row) → List ℕ → Ask → Result Grant Rule → Type 0
+IsShaped rows text ask (Err _) = ⊤
+IsShaped rows text ask (Ok grant) = HasShape rows text ask grant
 
-abbrev pub IsKeyedAnswer : Masters → List ℕ → Ask → Answer → Type 0
-IsKeyedAnswer m text ask (answer.Refused _) = ⊤
-IsKeyedAnswer m text ask (answer.Granted grant) = IsKeyed m text ask
+abbrev pub IsKeyedAnswer : Masters → List ℕ → Ask → Result Grant Rule → Type 0
+IsKeyedAnswer m text ask (Err _) = ⊤
+IsKeyedAnswer m text ask (Ok grant) = IsKeyed m text ask
 
 -- the same of all operands
 abbrev pub IsJudged : State → Bench → Operands → Verdict → Type 0
-IsJudged s bench os (verdict.Refused rule name) = first_refusal (operand_questions s (listed os)) ≡ Some (refusal (rule_number rule) name.now)
+IsJudged s bench os (verdict.Refused r) = first_refusal (operand_questions s (listed os)) ≡ Some (refusal_of r)
 IsJudged s bench os (verdict.Granted granted) = (first_refusal (operand_questions s (listed os)) ≡ None) × AreGranted s bench os granted
 
 abbrev pub AreShaped : List (Option Row) → Operands → Verdict → Type 0
-AreShaped rows os (verdict.Refused _ name) = length name.now < 100
+AreShaped rows os (verdict.Refused r) = length r.operand.now < 100
 AreShaped rows os (verdict.Granted granted) = HaveShapes rows os granted
 
 abbrev pub AreKeyedOperands : Masters → Operands → Verdict → Type 0
-AreKeyedOperands m os (verdict.Refused _ _) = ⊤
+AreKeyedOperands m os (verdict.Refused _) = ⊤
 AreKeyedOperands m os (verdict.Granted granted) = AreKeyed m os
 
 -- reading the store may stop for these

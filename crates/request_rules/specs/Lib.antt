@@ -1,5 +1,6 @@
 pub mod ByRecords
 pub mod FieldWords
 pub mod Judging
+pub mod Refusals
 pub mod Standing
 pub mod Stored

@@ -1,7 +1,7 @@
 //! What the operands of a request stand for, by their shapes.
 ghost use Rattle.std.specs.Prelude.{◌≡◌, Some, IsSome};
 ghost use Rattle.verb_rules.specs.Keys.{HasHalves, IsDouble};
-ghost use Rattle.request_rules.specs.Judging.{HasDoubleKey, HasJudgedExternal, HasSomeJudged, is_old_key, any_old_key};
+ghost use Rattle.request_rules.specs.Judging.{HasDoubleKey, HasJudgedExternal, HasSomeJudged, IsGrantedKey, is_old_key, any_old_key};
 
 use crate::judging::{Grant, Granted};
 use key_records::Place;
@@ -11,9 +11,7 @@ use verb_rules::Judged;
 /// The key that was judged.
 pub fn key_in(grant: &Grant) -> &Judged
     requires { HasSomeJudged grant.now }
-    ensures key { grant.now.key ≡ Some result.now }
-    ensures halves { HasHalves result.now }
-    ensures under { IsSome result.now.age }
+    ensures { IsGrantedKey grant.now result.now }
 {
     grant.key.as_ref().unwrap()
 }
@@ -21,9 +19,8 @@ pub fn key_in(grant: &Grant) -> &Judged
 /// The key that was judged, where it has two halves.
 pub fn double_key_in(grant: &Grant) -> &Judged
     requires { HasDoubleKey grant.now }
-    ensures key { grant.now.key ≡ Some result.now }
+    ensures key { IsGrantedKey grant.now result.now }
     ensures double { IsDouble result.now }
-    ensures under { IsSome result.now.age }
 {
     grant.key.as_ref().unwrap()
 }

@@ -1,24 +1,22 @@
 //! The operands of a request, judged in their order.
-ghost use Rattle.std.specs.Prelude.{◌≡◌, [], Some, None, Err, IfOk, IfErr, IsOk, IsTrue, false, drop};
+ghost use Rattle.std.specs.Prelude.{◌≡◌, [], Some, None, IfOk, IsTrue, drop};
 ghost use Rattle.key_cells.specs.Bench.{Bench};
 ghost use Rattle.key_cells.specs.Lease.{bench_of};
-ghost use Rattle.key_records.specs.Changes.{KeepsAllButBody};
 ghost use Rattle.key_records.specs.StoreStands.{HasStore};
 ghost use Rattle.key_tokens.specs.declared.key_token.Asked.TheVariants.{Internal, External};
-ghost use Rattle.line_service.specs.Devices.{DiskLeft};
 ghost use Rattle.master_registers.specs.Loaded.{Loaded};
 ghost use Rattle.master_registers.specs.Masters.{Masters};
-ghost use Rattle.slot_disk.specs.Medium.{Keeps};
 ghost use Rattle.verb_script.specs.Grammar.{is_hex, accepts, key_text};
 ghost use Rattle.verb_script.specs.Named.{label_named};
 ghost use Rattle.verb_script.specs.Values.{hex_value};
 ghost use Rattle.cca_machine.specs.Operands.{is_named_by, names_label, listed};
 ghost use Rattle.cca_machine.specs.State.{State};
 ghost use Rattle.request_rules.specs.Standing.{AtStore};
-ghost use Rattle.request_rules.specs.Judging.{IsText, AreFit, answered, seen_operands, IsAsked, IsShaped, IsKeyedAnswer, IsStoreStop, IsJudged, AreShaped, AreKeyedOperands};
-ghost use Rattle.request_rules.specs.Stored.{IsAskedAsRead, AreAskedAsRead};
+ghost use Rattle.request_rules.specs.Judging.{IsText, AreFit, answered, seen_operands, IsAsked, IsShaped, IsKeyedAnswer, IsJudged, AreShaped, AreKeyedOperands};
+ghost use Rattle.request_rules.specs.Stored.{IsAskedAsRead, AreAskedAsRead, ReadsStore};
 
 use crate::operands::{Operand, Operands};
+use crate::refusals::Refusal;
 use crate::stored::{judge_held, judge_label, judge_new_label, judge_target};
 use cca_machine::Ask;
 use key_cells::Lease;
@@ -52,19 +50,12 @@ pub struct Granted {
     pub third: Grant,
 }
 
-/// The first rule that an operand breaks, or what it stands for.
-#[derive(Clone, Copy)]
-pub(crate) enum Answer {
-    Refused(Rule),
-    Granted(Grant),
-}
-
 /// The first rule that the operands break, with the name of the one that breaks it, or what they
 /// stand for.
 #[derive(Clone, Copy)]
 pub enum Verdict {
-    /// The rule, and the name of the operand that breaks it.
-    Refused(Rule, &'static str),
+    /// The rule, and the operand that breaks it.
+    Refused(Refusal),
     /// What each operand stands for.
     Granted(Granted),
 }
@@ -121,27 +112,25 @@ impl Grant {
     }
 }
 
-impl Answer {
-    /// What is answered of a key that was judged.
-    pub(crate) fn of(judged: Result<Judged, Rule>) -> Answer
-        ensures { result ≡ answered judged }
-    {
-        match judged {
-            Ok(key) => Answer::Granted(Grant::of_key(key)),
-            Err(rule) => Answer::Refused(rule),
-        }
+/// What is answered of a key that was judged.
+pub(crate) fn answer_of(judged: Result<Judged, Rule>) -> Result<Grant, Rule>
+    ensures { result ≡ answered judged }
+{
+    match judged {
+        Ok(key) => Ok(Grant::of_key(key)),
+        Err(rule) => Err(rule),
     }
 }
 
 /// Judges a key token of either kind.
-fn judge_any_token(digits: &[u8]) -> Answer
+fn judge_any_token(digits: &[u8]) -> Result<Grant, Rule>
     requires { IsTrue (is_hex 128 digits.now) }
     ensures asked { (s : State) (bench : Bench) → IsAsked s bench digits.now Ask.AnyToken result }
     ensures shaped { IsShaped [] digits.now Ask.AnyToken result }
 {
     match read_token(&token_bytes(digits), Asked::Either) {
-        Ok(token) => Answer::Granted(Grant::of_token(token)),
-        Err(fault) => Answer::Refused(token_rule(fault)),
+        Ok(token) => Ok(Grant::of_token(token)),
+        Err(fault) => Err(token_rule(fault)),
     }
 }
 
@@ -156,7 +145,7 @@ fn digits_of(text: &[u8]) -> &[u8]
 }
 
 /// Judges the internal key of a token that 128 digits spell.
-fn judge_token(digits: &[u8], need: &Need, held: &Registers) -> Answer
+fn judge_token(digits: &[u8], need: &Need, held: &Registers) -> Result<Grant, Rule>
     requires digits { IsTrue (is_hex 128 digits.now) }
     requires asked { need.now.asked ≡ Internal }
     ensures asked { (s : State) (bench : Bench) → Loaded s.registers held.now bench
@@ -165,18 +154,18 @@ fn judge_token(digits: &[u8], need: &Need, held: &Registers) -> Answer
     ensures keyed { (m : Masters) (bench : Bench) → Loaded m held.now bench
         → IsKeyedAnswer m digits.now (Ask.Token need.now) result }
 {
-    Answer::of(judge_key(&token_bytes(digits), need, held))
+    answer_of(judge_key(&token_bytes(digits), need, held))
 }
 
 /// Judges an external token that 128 digits spell.
-fn judge_external(digits: &[u8], need: &Need, held: &Registers) -> Answer
+fn judge_external(digits: &[u8], need: &Need, held: &Registers) -> Result<Grant, Rule>
     requires digits { IsTrue (is_hex 128 digits.now) }
     requires asked { need.now.asked ≡ External }
     ensures asked { (s : State) (bench : Bench) → Loaded s.registers held.now bench
         → IsAsked s bench digits.now (Ask.External need.now) result }
     ensures shaped { IsShaped [] digits.now (Ask.External need.now) result }
 {
-    Answer::of(judge_key(&token_bytes(digits), need, held))
+    answer_of(judge_key(&token_bytes(digits), need, held))
 }
 
 /// Judges one operand. A label costs at most 11 comparisons, and that of a key one read of a cell.
@@ -186,7 +175,7 @@ fn judge_one<D: Disk>(
     lease: &mut Lease,
     held: &Registers,
     records: &Records,
-) -> Result<Answer, Stop>
+) -> Result<Result<Grant, Rule>, Stop>
     requires text { IsText operand.now.text.now operand.now.ask }
     requires store { HasStore records.now (D.medium store.old) }
     ensures asked { (s : State)
@@ -199,18 +188,9 @@ fn judge_one<D: Disk>(
     ensures own { (m : Masters) → Loaded m held.now (bench_of lease.old)
         → IfOk result (IsAskedAsRead m (bench_of lease.old) records.now
         operand.now.text.now operand.now.ask) }
-    ensures faults { (s : State)
-        → AtStore s held.now (bench_of lease.old) records.now (D.medium store.old)
-        → IfErr result (λ stop. stop ≡ Stop.StoreFault) }
-    ensures keeps { Keeps (D.medium store.old) (D.medium store.new) }
-    ensures store { DiskLeft (D.medium store.old) (D.medium store.new)
-        (D.faults store.old) (D.faults store.new) (IsOk result) (result ≡ Err Stop.StoreFault) }
-    ensures spared { is_named_by operand.now.text.now operand.now.ask ≡ false
-        → store.new ≡ store.old }
-    ensures named { result ≡ Err Stop.StoreFault
-        → IsTrue (is_named_by operand.now.text.now operand.now.ask) }
-    ensures stops { IfErr result IsStoreStop }
-    ensures rest { KeepsAllButBody lease.old lease.new }
+    ensures reads { ReadsStore D.medium D.faults
+        (is_named_by operand.now.text.now operand.now.ask) held.now records.now
+        lease.old lease.new store.old store.new result }
 {
     match operand.ask {
         Ask::AnyToken => Ok(judge_any_token(operand.text)),
@@ -224,7 +204,7 @@ fn judge_one<D: Disk>(
         Ask::Held => Ok(judge_held(operand.text, records)),
         Ask::NewLabel => Ok(judge_new_label(operand.text)),
         Ask::Target => Ok(judge_target(operand.text, records)),
-        Ask::Nothing => Ok(Answer::Granted(Grant::nothing())),
+        Ask::Nothing => Ok(Ok(Grant::nothing())),
     }
 }
 
@@ -247,30 +227,36 @@ pub fn judge<D: Disk>(
     ensures own { (m : Masters) → Loaded m held.now (bench_of lease.old)
         → IfOk result (AreAskedAsRead m (bench_of lease.old) records.now
         (seen_operands operands.now)) }
-    ensures faults { (s : State)
-        → AtStore s held.now (bench_of lease.old) records.now (D.medium store.old)
-        → IfErr result (λ stop. stop ≡ Stop.StoreFault) }
-    ensures keeps { Keeps (D.medium store.old) (D.medium store.new) }
-    ensures store { DiskLeft (D.medium store.old) (D.medium store.new)
-        (D.faults store.old) (D.faults store.new) (IsOk result) (result ≡ Err Stop.StoreFault) }
-    ensures spared { names_label (listed (seen_operands operands.now)) ≡ false
-        → store.new ≡ store.old }
-    ensures named { result ≡ Err Stop.StoreFault
-        → IsTrue (names_label (listed (seen_operands operands.now))) }
-    ensures stops { IfErr result IsStoreStop }
-    ensures rest { KeepsAllButBody lease.old lease.new }
+    ensures reads { ReadsStore D.medium D.faults
+        (names_label (listed (seen_operands operands.now))) held.now records.now
+        lease.old lease.new store.old store.new result }
 {
     let first = match judge_one(&operands.first, store, lease, held, records)? {
-        Answer::Granted(grant) => grant,
-        Answer::Refused(rule) => return Ok(Verdict::Refused(rule, operands.first.name)),
+        Ok(grant) => grant,
+        Err(rule) => {
+            return Ok(Verdict::Refused(Refusal {
+                rule,
+                operand: operands.first.name,
+            }));
+        }
     };
     let second = match judge_one(&operands.second, store, lease, held, records)? {
-        Answer::Granted(grant) => grant,
-        Answer::Refused(rule) => return Ok(Verdict::Refused(rule, operands.second.name)),
+        Ok(grant) => grant,
+        Err(rule) => {
+            return Ok(Verdict::Refused(Refusal {
+                rule,
+                operand: operands.second.name,
+            }));
+        }
     };
     let third = match judge_one(&operands.third, store, lease, held, records)? {
-        Answer::Granted(grant) => grant,
-        Answer::Refused(rule) => return Ok(Verdict::Refused(rule, operands.third.name)),
+        Ok(grant) => grant,
+        Err(rule) => {
+            return Ok(Verdict::Refused(Refusal {
+                rule,
+                operand: operands.third.name,
+            }));
+        }
     };
     Ok(Verdict::Granted(Granted {
         first,

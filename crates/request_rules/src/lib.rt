@@ -10,6 +10,7 @@ mod general;
 mod grants;
 mod judging;
 mod operands;
+mod refusals;
 mod role;
 mod stored;
 
@@ -21,5 +22,6 @@ pub use general::general_rule;
 pub use grants::{double_key_in, external_in, is_old, key_in, place_in, token_in};
 pub use judging::{Grant, Granted, Verdict, judge, token_bytes};
 pub use operands::{Operand, Operands, operands_of};
+pub use refusals::Refusal;
 pub use role::role_rule;
 pub use stored::stop_of;

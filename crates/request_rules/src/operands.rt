@@ -31,17 +31,14 @@ pub struct Operand<'a> {
 
 impl<'a> Operand<'a> {
     fn new(name: &'static str, text: &'a [u8], ask: Ask) -> Operand<'a>
-        ensures name { result.name.now ≡ name.now }
-        ensures text { result.text.now ≡ text.now }
-        ensures ask { result.ask ≡ ask }
+        ensures { seen_operand result ≡ record { name = name.now; text = text.now; ask = ask } }
     {
         Operand { name, text, ask }
     }
 
     fn none() -> Operand<'a>
-        ensures name { result.name.now ≡ codes "-" }
-        ensures text { result.text.now ≡ [] }
-        ensures ask { result.ask ≡ Ask.Nothing }
+        ensures { seen_operand result
+            ≡ record { name = codes "-"; text = []; ask = Ask.Nothing } }
     {
         Operand {
             name: "-",

@@ -1,21 +1,18 @@
 //! Labels, judged by what the memory knows of them, and the keys in their records.
-ghost use Rattle.std.specs.Prelude.{◌≡◌, ℕ, [], None, Some, Err, IfOk, IfErr, IsOk, get_or};
+ghost use Rattle.std.specs.Prelude.{◌≡◌, ℕ, [], None, Some, IfOk, true, get_or};
 ghost use Rattle.key_cells.specs.Bench.{Bench};
 ghost use Rattle.key_cells.specs.Lease.{bench_of};
-ghost use Rattle.key_records.specs.Changes.{KeepsAllButBody};
 ghost use Rattle.key_records.specs.StoreStands.{Agrees, HasStore};
-ghost use Rattle.line_service.specs.Devices.{DiskLeft};
 ghost use Rattle.master_registers.specs.Loaded.{Loaded};
 ghost use Rattle.master_registers.specs.Masters.{Masters};
-ghost use Rattle.slot_disk.specs.Medium.{Keeps};
 ghost use Rattle.verb_rules.specs.Keys.{keys_of};
 ghost use Rattle.cca_machine.specs.State.{State};
 ghost use Rattle.request_rules.specs.Standing.{AtStore};
-ghost use Rattle.request_rules.specs.Judging.{IsAsked, IsShaped, IsStoreStop};
+ghost use Rattle.request_rules.specs.Judging.{IsAsked, IsShaped};
 ghost use Rattle.request_rules.specs.ByRecords.{IsHeldIn};
-ghost use Rattle.request_rules.specs.Stored.{Finds, IsAnsweredAsRead, IsLabelAsked, IsReadFault, read_stop};
+ghost use Rattle.request_rules.specs.Stored.{Finds, IsAnsweredAsRead, IsLabelAsked, IsReadFault, ReadsStore, read_stop};
 
-use crate::judging::{Answer, Grant};
+use crate::judging::{Grant, answer_of};
 use cca_machine::Ask;
 use key_cells::Lease;
 use key_records::{Label, Place, RecordFault, Records};
@@ -41,20 +38,20 @@ fn find_label(text: &[u8], records: &Records) -> Result<Place, Rule>
 }
 
 /// Judges a label that is to be held.
-pub(crate) fn judge_held(text: &[u8], records: &Records) -> Answer
+pub(crate) fn judge_held(text: &[u8], records: &Records) -> Result<Grant, Rule>
     ensures asked { (s : State) (bench : Bench)
         → Agrees (keys_of s.registers) records.now s.labels
         → IsAsked s bench text.now Ask.Held result }
     ensures shaped { IsShaped records.now text.now Ask.Held result }
 {
     match find_label(text, records) {
-        Ok(place) => Answer::Granted(Grant::of_place(place)),
-        Err(rule) => Answer::Refused(rule),
+        Ok(place) => Ok(Grant::of_place(place)),
+        Err(rule) => Err(rule),
     }
 }
 
 /// Judges where a key goes: the reply, or the record of a label that is to be held.
-pub(crate) fn judge_target(text: &[u8], records: &Records) -> Answer
+pub(crate) fn judge_target(text: &[u8], records: &Records) -> Result<Grant, Rule>
     ensures asked { (s : State) (bench : Bench)
         → Agrees (keys_of s.registers) records.now s.labels
         → IsAsked s bench text.now Ask.Target result }
@@ -62,18 +59,18 @@ pub(crate) fn judge_target(text: &[u8], records: &Records) -> Answer
 {
     match named_label(text) {
         Some(label) => judge_held(label, records),
-        None => Answer::Granted(Grant::nothing()),
+        None => Ok(Grant::nothing()),
     }
 }
 
 /// Judges a label that may be held or not.
-pub(crate) fn judge_new_label(text: &[u8]) -> Answer
+pub(crate) fn judge_new_label(text: &[u8]) -> Result<Grant, Rule>
     ensures asked { (s : State) (bench : Bench) → IsAsked s bench text.now Ask.NewLabel result }
     ensures shaped { IsShaped [] text.now Ask.NewLabel result }
 {
     match Label::read(text) {
-        Some(_) => Answer::Granted(Grant::nothing()),
-        None => Answer::Refused(Rule::LabelForm),
+        Some(_) => Ok(Grant::nothing()),
+        None => Err(Rule::LabelForm),
     }
 }
 
@@ -98,7 +95,7 @@ pub(crate) fn judge_label<D: Disk>(
     lease: &mut Lease,
     held: &Registers,
     records: &Records,
-) -> Result<Answer, Stop>
+) -> Result<Result<Grant, Rule>, Stop>
     requires { HasStore records.now (D.medium store.old) }
     ensures asked { (s : State)
         → AtStore s held.now (bench_of lease.old) records.now (D.medium store.old)
@@ -109,21 +106,15 @@ pub(crate) fn judge_label<D: Disk>(
         → IfOk result (IsAnsweredAsRead m (bench_of lease.old) need.now
         (get_or records.now place None) (bench_of lease.new).body) }
     ensures shaped { IfOk result (IsShaped [] [] (Ask.Key need.now)) }
-    ensures faults { (s : State)
-        → AtStore s held.now (bench_of lease.old) records.now (D.medium store.old)
-        → IfErr result (λ stop. stop ≡ Stop.StoreFault) }
-    ensures keeps { Keeps (D.medium store.old) (D.medium store.new) }
-    ensures store { DiskLeft (D.medium store.old) (D.medium store.new)
-        (D.faults store.old) (D.faults store.new) (IsOk result) (result ≡ Err Stop.StoreFault) }
-    ensures stops { IfErr result IsStoreStop }
-    ensures rest { KeepsAllButBody lease.old lease.new }
+    ensures reads { ReadsStore D.medium D.faults true held.now records.now
+        lease.old lease.new store.old store.new result }
 {
     let place = match find_label(label, records) {
         Ok(place) => place,
-        Err(rule) => return Ok(Answer::Refused(rule)),
+        Err(rule) => return Ok(Err(rule)),
     };
     match judge_record(lease, store, records, place, need, held) {
-        Ok(judged) => Ok(Answer::of(judged)),
+        Ok(judged) => Ok(answer_of(judged)),
         Err(fault) => Err(stop_of(fault)),
     }
 }

@@ -125,8 +125,8 @@ shows_or s bench request v fields e reply left none verdict is shown = record {
     whole = undrawn_verdict s [] request none ∙ verdict
 
     by_effect : (e : CodeEffect) → ShowsOr v fields e reply → IsDecided s bench [] request e reply
-    by_effect (code.Refused _ name) shown = whole ∙ shown.0
-    by_effect code.Shown shown = (whole ∙ shown.0, record { fields = fields; is = is; reply_is = shown.1 })
+    by_effect (code.Refused r) shown = whole ∙ shown.0.is
+    by_effect code.Shown shown = (whole ∙ shown.0, record { fields = fields; is = is; reply_is = shown.1.is })
     by_effect (code.Change action) shown = absurd shown
     by_effect (code.DefineRole name points) shown = absurd shown
     by_effect (code.RemoveRole name) shown = absurd shown

@@ -46,7 +46,7 @@ module _ (rows : List (Option Row)) (place : Option ℕ) (token : List ℕ) (hel
   -- what is certain of a delivery in every state
   pub delivery_ready : (held : Registers) (bench : Bench) (e : CodeEffect) (reply : List ℕ) → IsDelivery token place e
       → IsSome (denoted (keys_of (masters_in held bench)) token) → length reply ≤ 69000 → IsReady held bench rows e reply
-  delivery_ready held bench (code.Refused _ name) reply delivery key size = absurd delivery
+  delivery_ready held bench (code.Refused r) reply delivery key size = absurd delivery
   delivery_ready held bench code.Shown reply delivery key size = size
   delivery_ready held bench (code.Change action) reply delivery key size = absurd delivery
   delivery_ready held bench (code.DefineRole name points) reply delivery key size = absurd delivery
@@ -78,7 +78,7 @@ no_fields_short = omega arith
 -- it goes into a record only where a label is named
 pub delivery_named : (named : Option (List ℕ)) (place : Option ℕ) (token : List ℕ) (e : CodeEffect)
     → IsPlaceFor named place → IsDelivery token place e → WritesStore e → IsTrue (is_some named)
-delivery_named named place token (code.Refused _ name) target delivery writes = absurd writes
+delivery_named named place token (code.Refused r) target delivery writes = absurd writes
 delivery_named named place token code.Shown target delivery writes = absurd writes
 delivery_named named place token (code.Change action) target delivery writes = absurd writes
 delivery_named named place token (code.DefineRole name points) target delivery writes = absurd writes
@@ -92,7 +92,7 @@ delivery_named named place token (code.Delete other) target delivery writes = ab
 delivery_named named place token (code.Reencipher a) target delivery writes = absurd delivery
 
 pub delivery_single : (place : Option ℕ) (token : List ℕ) (e : CodeEffect) → IsDelivery token place e → GoesThrough e → ⊥
-delivery_single place token (code.Refused _ name) delivery through = absurd through
+delivery_single place token (code.Refused r) delivery through = absurd through
 delivery_single place token code.Shown delivery through = absurd through
 delivery_single place token (code.Change action) delivery through = absurd through
 delivery_single place token (code.DefineRole name points) delivery through = absurd through
@@ -113,7 +113,7 @@ stands_after new token {held} {old} {key} same loaded stands =
 -- a key that is delivered is what a verb left to be done
 pub delivered_left : (s : State) (bench : Bench) (request : Request) (v : Option Refusal) (made : Effect) (e : CodeEffect) (reply : List ℕ)
     → v ≡ None → IsDelivered s made e reply → IsLeft s bench request v made e reply
-delivered_left s bench request v made (code.Refused _ name) reply none delivered = absurd delivered
+delivered_left s bench request v made (code.Refused r) reply none delivered = absurd delivered
 delivered_left s bench request v made code.Shown reply none delivered = (none, delivered)
 delivered_left s bench request v made (code.Change action) reply none delivered = absurd delivered
 delivered_left s bench request v made (code.DefineRole name points) reply none delivered = absurd delivered

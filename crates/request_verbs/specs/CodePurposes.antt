@@ -1,7 +1,14 @@
 -- What the code of a text is for, and what is shown of it.
-use Rattle.std.specs.Prelude.{⊤, ℕ, List, [], ◌∷◌, IsTrue, codes, length, take}
+use Rattle.std.specs.Prelude.{◌≡◌, ⊤, ℕ, List, [], ◌∷◌, IsTrue, None, codes, length, take}
 use Rattle.std.specs.Str.{bytes_eq}
+use Rattle.cca_vectors.specs.Checks.{first_failing}
+use Rattle.cca_vectors.specs.Vectors.{length_of}
 use Rattle.script_buffers.specs.Replies.{Field, Hex, Text}
+use Rattle.verb_rules.specs.Keys.{HasHalves}
+use Rattle.verb_rules.specs.LengthChecks.{mac_checks, text_checks}
+use Rattle.verb_rules.specs.declared.judging.Judged.{Judged}
+use Rattle.verb_rules.specs.declared.lengths.TextUse.TheVariants as use_of
+use Rattle.verb_rules.specs.declared.lengths.MacRule.{MacRule}
 use Rattle.verb_script.specs.Grammar.{RequestName, accepts, mac_text, csnbmgn, csnbmgn_last, csnbmvr, csnbmvr_last}
 use Rattle.verb_script.specs.Values.{hex_value}
 use Rattle.cca_machine.specs.Act.{yes_or_no}
@@ -35,3 +42,9 @@ code_fields (Generate count) code =
 code_fields (Verify mac) code =
     Text (codes "match") (yes_or_no
     (bytes_eq (hex_value mac.now) (take (length (hex_value mac.now)) code))) ∷ []
+
+-- a text of this many bytes has a code by the rule under the key, which has its halves
+pub record IsCoded (method : MacRule) (judged : Judged) (size : ℕ) : Type 0 where
+  pub halves : HasHalves judged
+  pub text : first_failing (text_checks use_of.Mac size) ≡ None
+  pub key : first_failing (mac_checks method (length_of judged.token.vector)) ≡ None

@@ -7,15 +7,19 @@ use Rattle.key_records.specs.declared.rows.Row.{Row}
 use Rattle.line_service.specs.Devices.{TellsFault}
 use Rattle.line_service.specs.declared.stops.Stop.{Stop}
 use Rattle.line_service.specs.declared.stops.Stop.TheVariants.{EntropyFault}
-use Rattle.master_registers.specs.Loaded.{Loaded}
+use Rattle.master_registers.specs.Loaded.{IsLoaded, Loaded}
+use Rattle.master_registers.specs.Masters.{Masters}
 use Rattle.master_registers.specs.declared.registers.Registers.{Registers}
-use Rattle.verb_script.specs.Grammar.{Request, RequestName}
+use Rattle.verb_rules.specs.Keys.{HasHalves}
+use Rattle.verb_rules.specs.declared.judging.Judged.{Judged}
+use Rattle.verb_script.specs.Grammar.{Request, RequestName, accepts, hex_text}
+use Rattle.verb_script.specs.Named.{label_named}
 use Rattle.cca_machine.specs.Draws.{draws_random}
 use Rattle.cca_machine.specs.Operands.{operands, is_reencipher, needs_store}
 use Rattle.cca_machine.specs.State.{State}
-use Rattle.cca_machine.specs.Verdict.{verb_verdict}
-use Rattle.request_verbs.specs.Deciding.{GoesThrough, IsReady, IsRecorded, MayDecide, WritesStore}
-use Rattle.request_rules.specs.Judging.{AreGranted, HaveShapes}
+use Rattle.cca_machine.specs.Verdict.{needs_master, verb_verdict}
+use Rattle.request_verbs.specs.Deciding.{ChangesPlaces, GoesThrough, IsReady, IsRecorded, MayDecide, WritesStore}
+use Rattle.request_rules.specs.Judging.{AreGranted, AreKeyed, HasSomeJudged, HaveShapes, IsAccepted, IsPlaceFor}
 use Rattle.request_verbs.specs.declared.effects.Effect.{Effect as CodeEffect}
 use Rattle.request_rules.specs.declared.judging.Granted.{Granted}
 
@@ -44,18 +48,18 @@ pub record HasDecided (request : Request) (granted : Granted) (held : Registers)
   pub silent : OnErr result (reply ≡ [])
   pub stops : IfErr result (λ stop. stop ≡ EntropyFault)
 
--- the same of a verb that draws nothing, over operands that have their shapes
-abbrev pub Settles : Request → Granted → Registers → List (Option Row) → Bench → Bench
-    → CodeEffect → List ℕ → Type 0
-Settles request granted held rows old new e reply =
-    HaveShapes rows (operands request) granted → (left : Option (List ℕ))
-    → HasDecided request granted held rows old new (Ok e) reply left left
+-- The same of a verb that draws nothing, over operands that have their shapes. Of the lease no more
+-- than the places of a verb changed.
+pub record Settles (request : Request) (granted : Granted) (held : Registers)
+    (rows : List (Option Row)) (old new : Lease) (e : CodeEffect) (reply : List ℕ) : Type 0 where
+  pub decided : HaveShapes rows (operands request) granted → (left : Option (List ℕ))
+      → HasDecided request granted held rows (bench_of old) (bench_of new) (Ok e) reply left left
+  pub places : ChangesPlaces old new
 
--- the same whatever the registers hold and the memory knows, over the bench of a lease
+-- the same whatever the registers hold and the memory knows
 abbrev pub SettlesOver : Request → Granted → Lease → Lease → CodeEffect → List ℕ → Type 0
 SettlesOver request granted old new e reply =
-    (held : Registers) (rows : List (Option Row))
-    → Settles request granted held rows (bench_of old) (bench_of new) e reply
+    (held : Registers) (rows : List (Option Row)) → Settles request granted held rows old new e reply
 
 -- a random source, with the bytes that are left where they are known, and the count of its faults
 pub record Source (E : Type 0) : Type 0 where
@@ -75,16 +79,55 @@ pub record TakesOnly {E T : Type 0} (request : Request) (result : Result T Stop)
   pub undrawn : draws_random request ≡ false → now.state ≡ before.state
   pub drawing : result ≡ Err EntropyFault → draws_random request ≡ true
 
--- what was decided, and what it took of the random source
+-- what was decided, what it took of the random source, and what it left of the lease
 pub record Decision {E : Type 0} (request : Request) (granted : Granted) (held : Registers)
-    (rows : List (Option Row)) (old new : Bench) (result : Result CodeEffect Stop)
+    (rows : List (Option Row)) (old new : Lease) (result : Result CodeEffect Stop)
     (reply : List ℕ) (before now : Source E) : Type 0 where
-  pub decided : HasDecided request granted held rows old new result reply before.left now.left
+  pub decided : HasDecided request granted held rows (bench_of old) (bench_of new) result reply
+      before.left now.left
   pub takes : TakesOnly request result before now
+  pub places : ChangesPlaces old new
 
--- the same over operands that have their shapes, of a verb that may draw
-abbrev pub SettlesDrawing : {E : Type 0} → Request → Granted → Registers → List (Option Row)
-    → Bench → Bench → Result CodeEffect Stop → List ℕ → Source E → Source E → Type 0
-SettlesDrawing request granted held rows old new result reply before now =
-    HaveShapes rows (operands request) granted
-    → Decision request granted held rows old new result reply before now
+-- the same of a verb that may draw, decided over operands that have their shapes
+pub record SettlesDrawing {E : Type 0} (request : Request) (granted : Granted) (held : Registers)
+    (rows : List (Option Row)) (old new : Lease) (result : Result CodeEffect Stop)
+    (reply : List ℕ) (before now : Source E) : Type 0 where
+  pub decided : HaveShapes rows (operands request) granted
+      → HasDecided request granted held rows (bench_of old) (bench_of new) result reply
+      before.left now.left
+  pub takes : TakesOnly request result before now
+  pub places : ChangesPlaces old new
+
+-- ---- what a verb rests on
+
+-- What a request and its operands were judged to meet before its verb decides.
+pub record HasPassed (request : Request) (granted : Granted) (held : Registers)
+    (rows : List (Option Row)) (bench : Bench) : Type 0 where
+  -- the fields say what they may
+  pub accepted : IsAccepted request
+  pub shaped : HaveShapes rows (operands request) granted
+  -- a token that is asked for as one stands for a key
+  pub keyed : (m : Masters) → Loaded m held bench → AreKeyed m (operands request)
+  -- the current master key is there, where it is needed
+  pub master : IsTrue (needs_master request.name) → IsSome held.current_pattern
+
+-- A key can be delivered under the current master key: where it goes is known, and no reply is
+-- written yet.
+pub record CanDeliver (held : Registers) (bench : Bench) (to : List ℕ) (place : Option ℕ)
+    (reply : List ℕ) : Type 0 where
+  pub target : IsPlaceFor (label_named to) place
+  pub master : IsSome held.current_pattern
+  pub loaded : IsLoaded held bench
+  pub empty : reply ≡ []
+
+-- A text that digits spell stands beside a key, which has its halves; no reply is written yet.
+pub record HasText (key : Judged) (text reply : List ℕ) : Type 0 where
+  pub halves : HasHalves key
+  pub digits : IsTrue (accepts hex_text text)
+  pub empty : reply ≡ []
+
+-- the same where the first operand was granted as the key
+pub record HasTextFor (granted : Granted) (text reply : List ℕ) : Type 0 where
+  pub key : HasSomeJudged granted.first
+  pub digits : IsTrue (accepts hex_text text)
+  pub empty : reply ≡ []

@@ -13,7 +13,8 @@ use Rattle.key_cells.specs.Bench.{Bench}
 use Rattle.key_cells.specs.Lease.{bench_of, holding}
 use Rattle.key_cells.specs.declared.leases.Lease.{Lease}
 use Rattle.master_registers.specs.Actions.{after_action}
-use Rattle.master_registers.specs.Loaded.{masters_in}
+use Rattle.master_registers.specs.Loaded.{Loaded, masters_in}
+use Rattle.master_registers.specs.Masters.{Masters}
 use Rattle.master_registers.specs.declared.actions.Action.{Action}
 use Rattle.master_registers.specs.declared.actions.Action.TheVariants.{First, Middle, Last, Clear, Set}
 use Rattle.master_registers.specs.declared.registers.Registers.{Registers}
@@ -25,11 +26,11 @@ use Rattle.cca_machine.specs.Keys.{any_old, cell_with}
 use Rattle.cca_machine.specs.Draws.{bytes_drawn, draw_of, draws_random}
 use Rattle.cca_machine.specs.Lines.{drawn_where}
 use Rattle.cca_machine.specs.Operands.{operands, listed}
-use Rattle.verb_rules.specs.Keys.{keys_of}
-use Rattle.verb_rules.specs.Rules.{rule_number}
+use Rattle.verb_rules.specs.Keys.{keys_of, token_for}
 use Rattle.cca_machine.specs.State.{State}
-use Rattle.cca_machine.specs.Verdict.{Refusal, refusal, first_refusal, action_questions, create_questions, define_questions, remove_questions, verb_verdict, whole_verb_verdict}
+use Rattle.cca_machine.specs.Verdict.{Refusal, first_refusal, action_questions, create_questions, define_questions, remove_questions, verb_verdict, whole_verb_verdict}
 use Rattle.cca_machine.specs.Act.{Effect, Show, Become, DefineRole, RemoveRole, Create, Write, Delete, Reencipher, effect}
+use Rattle.request_rules.specs.Refusals.{IsRefusal, refusal_of}
 use Rattle.request_verbs.specs.declared.effects.Effect.{Effect as CodeEffect}
 use Rattle.request_verbs.specs.declared.effects.Effect.TheVariants as code
 
@@ -82,7 +83,7 @@ pub record IsDeleted (s : State) (e : Effect) (place : ℕ) : Type 0 where
 
 -- what is still to be carried out gives this verdict and this effect
 abbrev pub IsLeft : State → Bench → Request → Option Refusal → Effect → CodeEffect → List ℕ → Type 0
-IsLeft s bench request v e (code.Refused rule name) reply = v ≡ Some (refusal (rule_number rule) name.now)
+IsLeft s bench request v e (code.Refused r) reply = v ≡ Some (refusal_of r)
 IsLeft s bench request v e code.Shown reply = (v ≡ None) × IsShown e reply
 IsLeft s bench request v e (code.Change action) reply =
     (v ≡ first_refusal (action_questions s action))
@@ -121,7 +122,7 @@ MayDecide s bench request (Err stop) reply before now = (verb_verdict s request 
 
 -- a key goes into a record, or into the reply
 abbrev pub IsDelivered : State → Effect → CodeEffect → List ℕ → Type 0
-IsDelivered s e (code.Refused _ name) reply = ⊥
+IsDelivered s e (code.Refused r) reply = ⊥
 IsDelivered s e code.Shown reply = IsShown e reply
 IsDelivered s e (code.Change action) reply = ⊥
 IsDelivered s e (code.DefineRole name points) reply = ⊥
@@ -138,7 +139,7 @@ token2_fields (Some token) = Hex (codes "token2") token ∷ []
 
 -- the same, whatever the state: this token goes to this place, or into the reply
 abbrev pub IsDelivery : List ℕ → Option ℕ → CodeEffect → Type 0
-IsDelivery token place (code.Refused _ name) = ⊥
+IsDelivery token place (code.Refused r) = ⊥
 IsDelivery token place code.Shown = ⊤
 IsDelivery token place (code.Change action) = ⊥
 IsDelivery token place (code.DefineRole name points) = ⊥
@@ -148,13 +149,18 @@ IsDelivery token place (code.Write other bytes) = (place ≡ Some other) × (byt
 IsDelivery token place (code.Delete other) = ⊥
 IsDelivery token place (code.Reencipher a) = ⊥
 
+-- the reply has these fields, and room for its end
+pub record Shows (fields : List Field) (reply : List ℕ) : Type 0 where
+  pub is : reply ≡ written fields
+  pub size : length reply ≤ 69000
+
 -- a verb that shows these fields, or is refused with this verdict; it can be carried out in every
 -- state
 abbrev pub ShowsOr : Option Refusal → List Field → CodeEffect → List ℕ → Type 0
-ShowsOr v fields (code.Refused rule name) reply =
-    (v ≡ Some (refusal (rule_number rule) name.now)) × (reply ≡ []) × (length name.now < 100)
+ShowsOr v fields (code.Refused r) reply =
+    IsRefusal v r × (reply ≡ [])
 ShowsOr v fields code.Shown reply =
-    (v ≡ None) × (reply ≡ written fields) × (length reply ≤ 69000)
+    (v ≡ None) × Shows fields reply
 ShowsOr v fields (code.Change action) reply = ⊥
 ShowsOr v fields (code.DefineRole name points) reply = ⊥
 ShowsOr v fields (code.RemoveRole name) reply = ⊥
@@ -169,7 +175,7 @@ IsHeldAt rows place = IsSome (label_at (row_directory rows) place)
 
 -- what is certain of it in every state
 abbrev pub IsReady : Registers → Bench → List (Option Row) → CodeEffect → List ℕ → Type 0
-IsReady held bench rows (code.Refused _ name) reply = (reply ≡ []) × (length name.now < 100)
+IsReady held bench rows (code.Refused r) reply = (reply ≡ []) × (length r.operand.now < 100)
 IsReady held bench rows code.Shown reply = length reply ≤ 69000
 IsReady held bench rows (code.Change action) reply = reply ≡ []
 IsReady held bench rows (code.DefineRole name points) reply = reply ≡ []
@@ -183,7 +189,7 @@ IsReady held bench rows (code.Reencipher a) reply =
 
 -- the effect writes the store
 abbrev pub WritesStore : CodeEffect → Type 0
-WritesStore (code.Refused _ name) = ⊥
+WritesStore (code.Refused r) = ⊥
 WritesStore code.Shown = ⊥
 WritesStore (code.Change action) = ⊥
 WritesStore (code.DefineRole name points) = ⊥
@@ -195,7 +201,7 @@ WritesStore (code.Reencipher a) = ⊤
 
 -- the effect goes through every label of the store
 abbrev pub GoesThrough : CodeEffect → Type 0
-GoesThrough (code.Refused _ name) = ⊥
+GoesThrough (code.Refused r) = ⊥
 GoesThrough code.Shown = ⊥
 GoesThrough (code.Change action) = ⊥
 GoesThrough (code.DefineRole name points) = ⊥
@@ -221,3 +227,18 @@ with_places bench other =
 -- of a lease no more than these places may have changed
 abbrev pub ChangesPlaces : Lease → Lease → Type 0
 ChangesPlaces old new = new ≡ holding old (with_places (bench_of old) (bench_of new))
+
+-- the same of the verb, or of a part of it, over a lease
+pub record ShowsOver (old new : Lease) (v : Option Refusal) (fields : List Field) (e : CodeEffect)
+    (reply : List ℕ) : Type 0 where
+  pub shows : ShowsOr v fields e reply
+  pub places : ChangesPlaces old new
+
+-- The token of this key under the current master key, in every state that has the registers, and it
+-- stands for the key. Of the lease no more than the places of a verb changed.
+pub record MakesToken (held : Registers) (key : Denoted) (old new : Lease) (token : List ℕ)
+    : Type 0 where
+  pub made : (m : Masters) → Loaded m held (bench_of old) → token ≡ token_for (keys_of m) key
+  pub stands : (m : Masters) → Loaded m held (bench_of old)
+      → denoted (keys_of m) token ≡ Some key
+  pub places : ChangesPlaces old new

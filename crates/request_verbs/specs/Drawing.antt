@@ -1,5 +1,5 @@
 -- Random bytes that are drawn for a key, and what comes of them.
-use Rattle.std.specs.Prelude.{◌≡◌, ◌<◌, ℕ, List, length, Option, Some, None, ⊤}
+use Rattle.std.specs.Prelude.{◌≡◌, ℕ, List, Option, Some, None, ⊤}
 use Rattle.cca_vectors.specs.declared.key_length.Length.{Length}
 use Rattle.cca_vectors.specs.declared.key_type.KeyType.{KeyType}
 use Rattle.key_cells.specs.Bench.{Bench}
@@ -9,19 +9,14 @@ use Rattle.key_transport.specs.UniqueHalves.{key_taken}
 use Rattle.key_transport.specs.declared.generating.Form.{Form}
 use Rattle.master_registers.specs.declared.registers.Registers.{Registers}
 use Rattle.verb_rules.specs.declared.judging.Judged.{Judged}
-use Rattle.verb_rules.specs.Rules.{rule_number}
 use Rattle.cca_machine.specs.Draws.{KeyBytes}
 use Rattle.cca_machine.specs.Lines.{drawn_where}
-use Rattle.cca_machine.specs.Verdict.{Refusal, draw_verdict, or_last, refusal}
+use Rattle.cca_machine.specs.Verdict.{Refusal, draw_verdict, or_last}
+use Rattle.request_rules.specs.Refusals.{IsRefusal}
+use Rattle.request_rules.specs.declared.refusals.Refusal.{Refusal as CodeRefusal}
 use Rattle.request_verbs.specs.Deciding.{IsHeldAt, HasDrawn}
-use Rattle.request_verbs.specs.declared.refusals.Refusal.{Refusal as CodeRefusal}
 use Rattle.request_verbs.specs.declared.verbs.csnbkgn.Drawn.{Drawn}
 use Rattle.request_verbs.specs.declared.verbs.csnbkgn.Drawn.TheVariants.{Keys, Refused}
-
--- the code's refusal is the machine's
-abbrev pub HasRefused : Option Refusal → Option CodeRefusal → Type 0
-HasRefused v None = v ≡ None
-HasRefused v (Some r) = v ≡ Some (refusal (rule_number r.rule) r.operand.now)
 
 -- the memory knows the label at a place, where there is one
 abbrev pub IsHeldPlace : List (Option Row) → Option ℕ → Type 0
@@ -33,9 +28,7 @@ IsHeldPlace rows (Some place) = IsHeldAt rows place
 pub record RefusesDrawn (v : Option Refusal) (key_length : Length) (before now : Option (List ℕ))
     (r : CodeRefusal) : Type 0 where
   pub drawn : List ℕ
-  pub refused : or_last v (draw_verdict (KeyBytes key_length) drawn)
-      ≡ Some (refusal (rule_number r.rule) r.operand.now)
-  pub short : length r.operand.now < 100
+  pub refused : IsRefusal (or_last v (draw_verdict (KeyBytes key_length) drawn)) r
   pub random : HasDrawn drawn (drawn_where v (key_taken key_length drawn)) before now
 
 -- the tokens of a form are made of them, or they refuse the request

@@ -1,15 +1,10 @@
 //! What each verb decides of its request: over the operands that were granted, in every state that
 //! the memory and the workbench stand for.
-ghost use Rattle.std.specs.Prelude.{◌≡◌, [], IsSome, IsTrue};
+ghost use Rattle.std.specs.Prelude.{◌≡◌, []};
 ghost use Rattle.key_cells.specs.Lease.{bench_of};
-ghost use Rattle.master_registers.specs.Loaded.{Loaded, IsLoaded};
-ghost use Rattle.master_registers.specs.Masters.{Masters};
+ghost use Rattle.master_registers.specs.Loaded.{IsLoaded};
 ghost use Rattle.verb_script.specs.Parsed.{seen};
-ghost use Rattle.cca_machine.specs.Operands.{operands};
-ghost use Rattle.cca_machine.specs.Verdict.{needs_master};
-ghost use Rattle.request_verbs.specs.Decided.{Decision, source};
-ghost use Rattle.request_verbs.specs.Deciding.{ChangesPlaces};
-ghost use Rattle.request_rules.specs.Judging.{IsAccepted, HaveShapes, AreKeyed};
+ghost use Rattle.request_verbs.specs.Decided.{Decision, HasPassed, source};
 
 use crate::effects::Effect;
 use crate::verbs::code_segments::{first_code_segment, last_code_segment, middle_code_segment};
@@ -51,19 +46,14 @@ pub fn decide<E: Entropy>(
     records: &Records,
     reply: &mut ReplyBuffer,
 ) -> Result<Effect, Stop>
-    requires accepted { IsAccepted (seen request.now) }
-    requires shaped { HaveShapes records.now (operands (seen request.now)) granted.now }
-    requires keyed { (m : Masters) → Loaded m held.now (bench_of lease.old)
-        → AreKeyed m (operands (seen request.now)) }
-    requires master { IsTrue (needs_master (seen request.now).name)
-        → IsSome held.now.current_pattern }
+    requires passed { HasPassed (seen request.now) granted.now held.now records.now
+        (bench_of lease.old) }
     requires loaded { IsLoaded held.now (bench_of lease.old) }
     requires empty { reply.old ≡ [] }
     ensures decision { Decision (seen request.now) granted.now held.now records.now
-        (bench_of lease.old) (bench_of lease.new) result reply.new
+        lease.old lease.new result reply.new
         (source entropy.old (E.left entropy.old) (E.faults entropy.old))
         (source entropy.new (E.left entropy.new) (E.faults entropy.new)) }
-    ensures places { ChangesPlaces lease.old lease.new }
 {
     match request {
         Request::Csnbktp { .. } => Ok(csnbktp(granted, reply)),

@@ -4,13 +4,13 @@ use cca_roles::{AccessPoints, RoleName};
 use key_records::{Label, Place};
 use master_registers::Action;
 use reencipher::StoreAction;
-use verb_rules::Rule;
+use request_rules::Refusal;
 
 /// What a verb leaves to be done.
 #[derive(Clone, Copy)]
 pub enum Effect {
-    /// A rule of the verb is broken, by this operand.
-    Refused(Rule, &'static str),
+    /// A rule of the verb is broken.
+    Refused(Refusal),
     /// The reply has its fields.
     Shown,
     /// An action on the registers, with the key part in the workbench.

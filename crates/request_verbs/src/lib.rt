@@ -6,7 +6,6 @@
 
 mod deciding;
 mod effects;
-mod refusals;
 mod verbs;
 
 pub use deciding::decide;

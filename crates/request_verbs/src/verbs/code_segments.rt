@@ -1,29 +1,28 @@
 //! CSNBMGN and CSNBMVR over a text in segments.
-ghost use Rattle.std.specs.Prelude.{◌≡◌, ◌≤◌, ◌/◌, ◌∷◌, [], ℕ, Bool, IsTrue, codes, length, List};
+ghost use Rattle.std.specs.Prelude.{◌≡◌, ◌/◌, ◌∷◌, [], ℕ, Bool, IsTrue, codes, length, List};
 ghost use Rattle.cipher_verbs.specs.declared.padding.Pad.{Pad};
 ghost use Rattle.key_cells.specs.Lease.{bench_of};
-ghost use Rattle.script_buffers.specs.Replies.{Hex, written};
+ghost use Rattle.script_buffers.specs.Replies.{Hex};
 ghost use Rattle.text_segments.specs.Chains.{chain_bytes};
 ghost use Rattle.text_segments.specs.Segments.{last_code};
 ghost use Rattle.text_segments.specs.declared.modes.Mode.TheVariants.{Mac};
-ghost use Rattle.verb_rules.specs.Keys.{HasHalves, opened};
-ghost use Rattle.verb_script.specs.Grammar.{accepts, hex_text, is_hex};
+ghost use Rattle.verb_rules.specs.Keys.{opened};
+ghost use Rattle.verb_script.specs.Grammar.{is_hex};
 ghost use Rattle.verb_script.specs.Values.{hex_value};
 ghost use Rattle.cca_machine.specs.Act.{code_segment_fields};
 ghost use Rattle.cca_machine.specs.Choices.{mac_rule_named};
 ghost use Rattle.cca_machine.specs.CutRequests.{first_code_row, middle_code_row};
 ghost use Rattle.cca_machine.specs.Verdict.{first_refusal, code_key_questions, last_segment_questions, segment_questions};
 ghost use Rattle.request_verbs.specs.CodePurposes.{IsPurpose, code_fields, last_code_row, purpose_text};
-ghost use Rattle.request_verbs.specs.Decided.{SettlesOver, asked};
-ghost use Rattle.request_verbs.specs.Deciding.{ChangesPlaces, ShowsOr};
-ghost use Rattle.request_rules.specs.Judging.{HasSomeJudged};
+ghost use Rattle.request_verbs.specs.Decided.{SettlesOver, asked, HasText, HasTextFor};
+ghost use Rattle.request_verbs.specs.Deciding.{Shows, ShowsOver};
 
 use crate::effects::Effect;
 use crate::verbs::codes::{Purpose, show_for};
 use crate::verbs::segments::chain_in;
 use crate::verbs::texts::{judge_code, put_text};
 use key_cells::Lease;
-use request_rules::{Granted, key_in, mac_rule_of};
+use request_rules::{Granted, Refusal, key_in, mac_rule_of};
 use text_segments::{Chain, Mode, last_mac, segment};
 use verb_rules::{Judged, Rule, TextUse};
 use verb_script::ReplyBuffer;
@@ -31,8 +30,7 @@ use verb_script::ReplyBuffer;
 /// Shows a chain.
 fn show_chain(chain: &Chain, reply: &mut ReplyBuffer)
     requires { reply.old ≡ [] }
-    ensures fields { reply.new ≡ written (Hex (codes "chain") (chain_bytes chain.now) ∷ []) }
-    ensures size { length reply.new ≤ 69000 }
+    ensures { Shows (Hex (codes "chain") (chain_bytes chain.now) ∷ []) reply.new }
 {
     reply.ok();
     reply.hex("chain", &chain.bytes());
@@ -47,20 +45,17 @@ fn go_on(
     lease: &mut Lease,
     reply: &mut ReplyBuffer,
 ) -> Effect
-    requires halves { HasHalves key.now }
-    requires text { IsTrue (accepts hex_text text.now) }
-    requires empty { reply.old ≡ [] }
+    requires given { HasText key.now text.now reply.old }
     ensures shows { let clear = opened (bench_of lease.old) key.now in
         let method = mac_rule_named rule.now in
-        ShowsOr (first_refusal (code_key_questions method clear
+        ShowsOver lease.old lease.new (first_refusal (code_key_questions method clear
         (segment_questions (length text.now / 2))))
         (code_segment_fields clear method chain.now (hex_value text.now))
         result reply.new }
-    ensures places { ChangesPlaces lease.old lease.new }
 {
     let method = mac_rule_of(rule);
     if let Err(broken) = judge_code(TextUse::Segment, text, method, key) {
-        return Effect::Refused(broken.rule, broken.operand);
+        return Effect::Refused(broken);
     }
     put_text(text, lease);
     let next = segment(lease, key, Mode::Mac(method), chain);
@@ -77,14 +72,11 @@ pub(crate) fn first_code_segment(
     lease: &mut Lease,
     reply: &mut ReplyBuffer,
 ) -> Effect
-    requires key { HasSomeJudged granted.now.first }
-    requires text { IsTrue (accepts hex_text text.now) }
-    requires empty { reply.old ≡ [] }
+    requires given { HasTextFor granted.now text.now reply.old }
     ensures settles { (verifies : Bool) (role key segment : List ℕ)
         → SettlesOver (asked (first_code_row verifies)
         (role ∷ key ∷ rule.now ∷ segment ∷ text.now ∷ []))
         granted.now lease.old lease.new result reply.new }
-    ensures places { ChangesPlaces lease.old lease.new }
 {
     let key = key_in(&granted.first);
     let start = Chain::first([0; 8]);
@@ -101,20 +93,20 @@ pub(crate) fn middle_code_segment(
     lease: &mut Lease,
     reply: &mut ReplyBuffer,
 ) -> Effect
-    requires key { HasSomeJudged granted.now.first }
+    requires given { HasTextFor granted.now text.now reply.old }
     requires chain { IsTrue (is_hex 32 chain.now) }
-    requires text { IsTrue (accepts hex_text text.now) }
-    requires empty { reply.old ≡ [] }
     ensures settles { (verifies : Bool) (role key segment : List ℕ)
         → SettlesOver (asked (middle_code_row verifies)
         (role ∷ key ∷ rule.now ∷ segment ∷ chain.now ∷ text.now ∷ []))
         granted.now lease.old lease.new result reply.new }
-    ensures places { ChangesPlaces lease.old lease.new }
 {
     let key = key_in(&granted.first);
     match chain_in(chain) {
         Some(before) => go_on(key, rule, &before, text, lease, reply),
-        None => Effect::Refused(Rule::Chain, "chain"),
+        None => Effect::Refused(Refusal {
+            rule: Rule::Chain,
+            operand: "chain",
+        }),
     }
 }
 
@@ -128,22 +120,19 @@ fn end_code(
     lease: &mut Lease,
     reply: &mut ReplyBuffer,
 ) -> Effect
-    requires halves { HasHalves key.now }
+    requires given { HasText key.now text.now reply.old }
     requires purpose { IsPurpose purpose }
-    requires text { IsTrue (accepts hex_text text.now) }
-    requires empty { reply.old ≡ [] }
     ensures shows { let clear = opened (bench_of lease.old) key.now in
         let method = mac_rule_named rule.now in
-        ShowsOr (first_refusal (code_key_questions method clear
+        ShowsOver lease.old lease.new (first_refusal (code_key_questions method clear
         (last_segment_questions (Mac method) Pad.None chain.now (length text.now / 2))))
         (code_fields purpose.entry (last_code clear method chain.now (hex_value text.now)))
         result reply.new }
-    ensures places { ChangesPlaces lease.old lease.new }
 {
     let method = mac_rule_of(rule);
     let carried = chain.carried.bytes().len();
     if let Err(broken) = judge_code(TextUse::LastMac { carried }, text, method, key) {
-        return Effect::Refused(broken.rule, broken.operand);
+        return Effect::Refused(broken);
     }
     put_text(text, lease);
     show_for(purpose, &last_mac(lease, key, method, chain), reply);
@@ -161,21 +150,21 @@ pub(crate) fn last_code_segment(
     lease: &mut Lease,
     reply: &mut ReplyBuffer,
 ) -> Effect
-    requires key { HasSomeJudged granted.now.first }
+    requires given { HasTextFor granted.now text.now reply.old }
     requires chain { IsTrue (is_hex 32 chain.now) }
     requires purpose { IsPurpose purpose }
-    requires text { IsTrue (accepts hex_text text.now) }
-    requires empty { reply.old ≡ [] }
     ensures settles { (role key segment : List ℕ)
         → SettlesOver (asked (last_code_row purpose.entry)
         (role ∷ key ∷ rule.now ∷ segment ∷ purpose_text purpose.entry
         ∷ chain.now ∷ text.now ∷ []))
         granted.now lease.old lease.new result reply.new }
-    ensures places { ChangesPlaces lease.old lease.new }
 {
     let key = key_in(&granted.first);
     match chain_in(chain) {
         Some(before) => end_code(key, rule, &before, purpose, text, lease, reply),
-        None => Effect::Refused(Rule::Chain, "chain"),
+        None => Effect::Refused(Refusal {
+            rule: Rule::Chain,
+            operand: "chain",
+        }),
     }
 }

@@ -1,23 +1,19 @@
 //! CSNBMGN and CSNBMVR over a whole text, and what is shown of its code.
-ghost use Rattle.std.specs.Prelude.{◌≡◌, ◌≤◌, ◌/◌, ◌∷◌, [], ℕ, None, IsTrue, codes, length, take, List};
+ghost use Rattle.std.specs.Prelude.{◌≡◌, ◌≤◌, ◌/◌, ◌∷◌, [], ℕ, IsTrue, codes, length, take, List};
 ghost use Rattle.std.specs.Str.{bytes_eq};
-ghost use Rattle.cca_vectors.specs.Checks.{first_failing};
-ghost use Rattle.cca_vectors.specs.Vectors.{length_of};
 ghost use Rattle.des_core.specs.Texts.{text_in};
 ghost use Rattle.key_cells.specs.Lease.{bench_of};
 ghost use Rattle.mac_verbs.specs.Codes.{code_of, is_code};
 ghost use Rattle.multi_encipher.specs.Bundles.{ChangesKeyAt};
-ghost use Rattle.script_buffers.specs.Replies.{Hex, Text, written};
-ghost use Rattle.verb_rules.specs.Keys.{HasHalves, opened};
-ghost use Rattle.verb_rules.specs.LengthChecks.{mac_checks, text_checks};
-ghost use Rattle.verb_script.specs.Grammar.{accepts, hex_text, mac_text};
+ghost use Rattle.script_buffers.specs.Replies.{Hex, Text};
+ghost use Rattle.verb_rules.specs.Keys.{opened};
+ghost use Rattle.verb_script.specs.Grammar.{accepts, mac_text};
 ghost use Rattle.verb_script.specs.Values.{hex_value};
 ghost use Rattle.cca_machine.specs.Act.{yes_or_no};
 ghost use Rattle.cca_machine.specs.Choices.{mac_length_named};
-ghost use Rattle.request_verbs.specs.CodePurposes.{IsPurpose, code_fields, purpose_text, whole_code_row};
-ghost use Rattle.request_verbs.specs.Decided.{SettlesOver, asked};
-ghost use Rattle.request_verbs.specs.Deciding.{ChangesPlaces};
-ghost use Rattle.request_rules.specs.Judging.{HasSomeJudged};
+ghost use Rattle.request_verbs.specs.CodePurposes.{IsPurpose, code_fields, purpose_text, whole_code_row, IsCoded};
+ghost use Rattle.request_verbs.specs.Decided.{SettlesOver, asked, HasTextFor};
+ghost use Rattle.request_verbs.specs.Deciding.{Shows};
 
 use crate::effects::Effect;
 use crate::verbs::texts::{judge_code, put_text};
@@ -70,9 +66,7 @@ fn begins(code: &[u8; 8], digits: &[u8]) -> bool
 
 /// Whether the text in the workbench has the code that the digits spell.
 fn has_code(lease: &mut Lease, key: &Judged, method: MacRule, digits: &[u8]) -> bool
-    requires halves { HasHalves key.now }
-    requires text { first_failing (text_checks TextUse.Mac (bench_of lease.old).text.size) ≡ None }
-    requires key { first_failing (mac_checks method (length_of key.now.token.vector)) ≡ None }
+    requires coded { IsCoded method key.now (bench_of lease.old).text.size }
     requires digits { IsTrue (accepts mac_text digits.now) }
     ensures same { let bench = bench_of lease.old in
         result ≡ is_code method (opened bench key.now) (text_in lease.old) (hex_value digits.now) }
@@ -85,9 +79,8 @@ fn has_code(lease: &mut Lease, key: &Judged, method: MacRule, digits: &[u8]) -> 
 
 fn show_code(code: &[u8; 8], count: &[u8], reply: &mut ReplyBuffer)
     requires empty { reply.old ≡ [] }
-    ensures fields { reply.new ≡ written
-        (Hex (codes "mac") (take (mac_length_named count.now) code.now) ∷ []) }
-    ensures size { length reply.new ≤ 69000 }
+    ensures { Shows (Hex (codes "mac") (take (mac_length_named count.now) code.now) ∷ [])
+        reply.new }
 {
     reply.ok();
     reply.hex("mac", front(code, mac_length_of(count)));
@@ -95,8 +88,7 @@ fn show_code(code: &[u8; 8], count: &[u8], reply: &mut ReplyBuffer)
 
 fn show_match(same: bool, reply: &mut ReplyBuffer)
     requires { reply.old ≡ [] }
-    ensures fields { reply.new ≡ written (Text (codes "match") (yes_or_no same) ∷ []) }
-    ensures size { length reply.new ≤ 69000 }
+    ensures { Shows (Text (codes "match") (yes_or_no same) ∷ []) reply.new }
 {
     reply.ok();
     if same {
@@ -110,8 +102,7 @@ fn show_match(same: bool, reply: &mut ReplyBuffer)
 pub(super) fn show_for(purpose: Purpose<'_>, code: &[u8; 8], reply: &mut ReplyBuffer)
     requires purpose { IsPurpose purpose }
     requires empty { reply.old ≡ [] }
-    ensures fields { reply.new ≡ written (code_fields purpose.entry code.now) }
-    ensures size { length reply.new ≤ 69000 }
+    ensures { Shows (code_fields purpose.entry code.now) reply.new }
 {
     match purpose {
         Purpose::Generate(length) => show_code(code, length, reply),
@@ -128,13 +119,10 @@ fn show_whole(
     reply: &mut ReplyBuffer,
 )
     requires purpose { IsPurpose purpose }
-    requires halves { HasHalves key.now }
-    requires text { first_failing (text_checks TextUse.Mac (bench_of lease.old).text.size) ≡ None }
-    requires key { first_failing (mac_checks method (length_of key.now.token.vector)) ≡ None }
+    requires coded { IsCoded method key.now (bench_of lease.old).text.size }
     requires empty { reply.old ≡ [] }
-    ensures fields { let clear = opened (bench_of lease.old) key.now in
-        reply.new ≡ written (code_fields purpose.entry (code_of method clear (text_in lease.old))) }
-    ensures size { length reply.new ≤ 69000 }
+    ensures shows { let clear = opened (bench_of lease.old) key.now in
+        Shows (code_fields purpose.entry (code_of method clear (text_in lease.old))) reply.new }
     ensures stays { ChangesKeyAt KeyPlace.Key lease.old lease.new }
 {
     match purpose {
@@ -153,20 +141,17 @@ pub(crate) fn whole_code(
     lease: &mut Lease,
     reply: &mut ReplyBuffer,
 ) -> Effect
-    requires key { HasSomeJudged granted.now.first }
+    requires given { HasTextFor granted.now text.now reply.old }
     requires purpose { IsPurpose purpose }
-    requires text { IsTrue (accepts hex_text text.now) }
-    requires empty { reply.old ≡ [] }
     ensures settles { (role key : List ℕ)
         → SettlesOver (asked (whole_code_row purpose.entry)
         (role ∷ key ∷ rule.now ∷ purpose_text purpose.entry ∷ text.now ∷ []))
         granted.now lease.old lease.new result reply.new }
-    ensures places { ChangesPlaces lease.old lease.new }
 {
     let key = key_in(&granted.first);
     let method = mac_rule_of(rule);
     if let Err(broken) = judge_code(TextUse::Mac, text, method, key) {
-        return Effect::Refused(broken.rule, broken.operand);
+        return Effect::Refused(broken);
     }
     put_text(text, lease);
     show_whole(purpose, key, method, lease, reply);

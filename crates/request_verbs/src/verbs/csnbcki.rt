@@ -1,19 +1,13 @@
 //! CSNBCKI: a clear key imported.
-ghost use Rattle.std.specs.Prelude.{◌≡◌, ◌∷◌, [], ℕ, IsSome, IsTrue, List, Option, Some, take};
+ghost use Rattle.std.specs.Prelude.{◌≡◌, ◌∷◌, [], ℕ, IsSome, IsTrue, List, Option, take};
 ghost use Rattle.key_cells.specs.Bench.{key_of, with_key};
 ghost use Rattle.key_cells.specs.Lease.{bench_of, holding};
 ghost use Rattle.key_records.specs.declared.rows.Row.{Row};
-ghost use Rattle.key_tokens.specs.Denotes.{denoted};
-ghost use Rattle.master_registers.specs.Loaded.{IsLoaded, Loaded};
-ghost use Rattle.master_registers.specs.Masters.{Masters};
-ghost use Rattle.verb_rules.specs.Keys.{keys_of, token_for};
 ghost use Rattle.verb_script.specs.Grammar.{is_hex, csnbcki as row};
-ghost use Rattle.verb_script.specs.Named.{label_named};
 ghost use Rattle.verb_script.specs.Values.{hex_value};
 ghost use Rattle.cipher_verbs.specs.Imported.{imported_key};
-ghost use Rattle.request_verbs.specs.Decided.{Settles, asked};
-ghost use Rattle.request_verbs.specs.Deciding.{ChangesPlaces};
-ghost use Rattle.request_rules.specs.Judging.{IsPlaceFor};
+ghost use Rattle.request_verbs.specs.Decided.{Settles, asked, CanDeliver};
+ghost use Rattle.request_verbs.specs.Deciding.{MakesToken};
 
 use crate::effects::Effect;
 use crate::verbs::delivering::deliver;
@@ -39,11 +33,8 @@ fn put_clear(digits: &[u8], lease: &mut Lease)
 fn import(clear: &[u8], lease: &mut Lease, held: &Registers) -> [u8; 64]
     requires clear { IsTrue (is_hex 16 clear.now) }
     requires master { IsSome held.now.current_pattern }
-    ensures token { (m : Masters) → Loaded m held.now (bench_of lease.old)
-        → result ≡ token_for (keys_of m) (imported_key (hex_value clear.now)) }
-    ensures denoted { (m : Masters) → Loaded m held.now (bench_of lease.old)
-        → denoted (keys_of m) result ≡ Some (imported_key (hex_value clear.now)) }
-    ensures places { ChangesPlaces lease.old lease.new }
+    ensures { MakesToken held.now (imported_key (hex_value clear.now))
+        lease.old lease.new result }
 {
     put_clear(clear, lease);
     clear_key_import(lease, held)
@@ -59,14 +50,11 @@ pub(crate) fn csnbcki(
     reply: &mut ReplyBuffer,
 ) -> Effect
     requires clear { IsTrue (is_hex 16 clear.now) }
-    requires target { IsPlaceFor (label_named to.now) granted.now.first.place }
-    requires master { IsSome held.now.current_pattern }
-    requires loaded { IsLoaded held.now (bench_of lease.old) }
-    requires empty { reply.old ≡ [] }
+    requires delivers { CanDeliver held.now (bench_of lease.old) to.now
+        granted.now.first.place reply.old }
     ensures settles { (role : List ℕ) (rows : List (Option Row))
         → Settles (asked row (role ∷ clear.now ∷ to.now ∷ []))
-        granted.now held.now rows (bench_of lease.old) (bench_of lease.new) result reply.new }
-    ensures places { ChangesPlaces lease.old lease.new }
+        granted.now held.now rows lease.old lease.new result reply.new }
 {
     let token = import(clear, lease, held);
     deliver("token", &token, None, to, granted.first.place, reply)

@@ -2,7 +2,6 @@
 ghost use Rattle.std.specs.Prelude.{◌≡◌, ◌∷◌, [], ℕ, List};
 ghost use Rattle.verb_script.specs.Grammar.{csnbkex as row};
 ghost use Rattle.request_verbs.specs.Decided.{SettlesOver, asked};
-ghost use Rattle.request_verbs.specs.Deciding.{ChangesPlaces};
 ghost use Rattle.request_rules.specs.Judging.{HasDoubleKey, HasSomeJudged};
 
 use crate::effects::Effect;
@@ -19,7 +18,6 @@ pub(crate) fn csnbkex(granted: &Granted, lease: &mut Lease, reply: &mut ReplyBuf
     ensures settles { (role key transport : List ℕ)
         → SettlesOver (asked row (role ∷ key ∷ transport ∷ []))
         granted.now lease.old lease.new result reply.new }
-    ensures places { ChangesPlaces lease.old lease.new }
 {
     let key = key_in(&granted.first);
     let token = export(lease, key, double_key_in(&granted.second));

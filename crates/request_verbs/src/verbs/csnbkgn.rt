@@ -1,5 +1,5 @@
 //! CSNBKGN: keys generated, in six forms.
-ghost use Rattle.std.specs.Prelude.{◌≡◌, ◌≤◌, ◌<◌, ◌∷◌, [], ℕ, List, Option, Err, OnErr, IfErr, IfOk, IfSome, IsNone, IsSome, codes, length as size_of};
+ghost use Rattle.std.specs.Prelude.{◌≡◌, ◌∷◌, [], ℕ, List, Option, Err, OnErr, IfErr, IfOk, IsNone, IsSome, codes};
 ghost use Rattle.std.specs.Option.{option_copied};
 ghost use Rattle.cca_vectors.specs.KeyTypes.{type_name};
 ghost use Rattle.key_cells.specs.Lease.{bench_of};
@@ -8,25 +8,24 @@ ghost use Rattle.key_transport.specs.Changes.{ChangesKeys};
 ghost use Rattle.key_transport.specs.Generated.{AreGiven, HaveLength};
 ghost use Rattle.line_service.specs.Devices.{TellsFault};
 ghost use Rattle.master_registers.specs.Loaded.{IsLoaded};
-ghost use Rattle.script_buffers.specs.Replies.{Hex, written};
+ghost use Rattle.script_buffers.specs.Replies.{Hex};
 ghost use Rattle.verb_script.specs.Grammar.{csnbkgn_op, csnbkgn_out, csnbkgn_pair};
-ghost use Rattle.verb_script.specs.Named.{label_named};
 ghost use Rattle.cca_machine.specs.Verdict.{Refusal as Refused, first_refusal, generate_questions, pair_questions};
-ghost use Rattle.request_verbs.specs.Decided.{SettlesDrawing, asked, source};
-ghost use Rattle.request_verbs.specs.Deciding.{ChangesPlaces, token2_fields};
-ghost use Rattle.request_verbs.specs.Drawing.{HasRefused, MakesKeys};
+ghost use Rattle.request_verbs.specs.Decided.{SettlesDrawing, asked, source, CanDeliver};
+ghost use Rattle.request_verbs.specs.Deciding.{token2_fields, Shows};
+ghost use Rattle.request_verbs.specs.Drawing.{MakesKeys};
 ghost use Rattle.request_rules.specs.FieldWords.{IsOutForm, IsPairForm};
-ghost use Rattle.request_rules.specs.Judging.{HasDoubleKey, IsPlaceFor};
+ghost use Rattle.request_rules.specs.Judging.{HasDoubleKey};
+ghost use Rattle.request_rules.specs.Refusals.{HasRefused};
 
 use crate::effects::Effect;
-use crate::refusals::Refusal;
 use crate::verbs::delivering::{deliver, show_second};
 use cca_vectors::{KeyType, Length};
 use key_cells::Lease;
 use key_transport::{Form, GenerateFault, Generated, generate};
 use line_service::Stop;
 use master_registers::Registers;
-use request_rules::{Granted, double_key_in, key_length_of, out_form_of, pair_form_of};
+use request_rules::{Granted, Refusal, double_key_in, key_length_of, out_form_of, pair_form_of};
 use slot_disk::Entropy;
 use verb_rules::{Judged, Rule, judge_length, judge_pair};
 use verb_script::ReplyBuffer;
@@ -42,8 +41,7 @@ pub(crate) enum Drawn {
 
 /// Rule 32 of one key.
 fn judge_one(kind: KeyType, length: Length) -> Option<Refusal>
-    ensures refused { HasRefused (first_refusal (generate_questions kind length)) result }
-    ensures short { IfSome result (λ r. size_of r.operand.now < 100) }
+    ensures { HasRefused (first_refusal (generate_questions kind length)) result }
 {
     match judge_length(kind, length) {
         Ok(()) => None,
@@ -56,8 +54,7 @@ fn judge_one(kind: KeyType, length: Length) -> Option<Refusal>
 
 /// Rule 24 of two keys, and then rule 32 of each.
 fn judge_two(first: KeyType, second: KeyType, length: Length) -> Option<Refusal>
-    ensures refused { HasRefused (first_refusal (pair_questions first second length)) result }
-    ensures short { IfSome result (λ r. size_of r.operand.now < 100) }
+    ensures { HasRefused (first_refusal (pair_questions first second length)) result }
 {
     if let Err(rule) = judge_pair(first, second) {
         return Some(Refusal {
@@ -85,7 +82,6 @@ fn draw<E: Entropy>(
     lease: &mut Lease,
     held: &Registers,
 ) -> Result<Drawn, Stop>
-    requires short { IfSome broken (λ r. size_of r.operand.now < 100) }
     requires lengths { IsNone broken → HaveLength form first second length }
     requires transports { AreGiven form (option_copied one) (option_copied two) }
     requires master { IsSome held.now.current_pattern }
@@ -125,17 +121,14 @@ pub(crate) fn generate_one<E: Entropy>(
     held: &Registers,
     reply: &mut ReplyBuffer,
 ) -> Result<Effect, Stop>
-    requires target { IsPlaceFor (label_named to.now) granted.now.first.place }
-    requires master { IsSome held.now.current_pattern }
-    requires loaded { IsLoaded held.now (bench_of lease.old) }
-    requires empty { reply.old ≡ [] }
+    requires delivers { CanDeliver held.now (bench_of lease.old) to.now
+        granted.now.first.place reply.old }
     ensures settles { (role form : List ℕ) (rows : List (Option Row))
         → SettlesDrawing (asked csnbkgn_op (role ∷ form ∷ length.now ∷ type_name kind ∷ to.now
         ∷ []))
-        granted.now held.now rows (bench_of lease.old) (bench_of lease.new) result reply.new
+        granted.now held.now rows lease.old lease.new result reply.new
         (source entropy.old (E.left entropy.old) (E.faults entropy.old))
         (source entropy.new (E.left entropy.new) (E.faults entropy.new)) }
-    ensures places { ChangesPlaces lease.old lease.new }
 {
     let length = key_length_of(length);
     let broken = judge_one(kind, length);
@@ -159,7 +152,7 @@ pub(crate) fn generate_one<E: Entropy>(
             granted.first.place,
             reply,
         )),
-        Ok(Drawn::Refused(refusal)) => Ok(Effect::Refused(refusal.rule, refusal.operand)),
+        Ok(Drawn::Refused(refusal)) => Ok(Effect::Refused(refusal)),
         Err(stop) => Err(stop),
     }
 }
@@ -180,17 +173,14 @@ pub(crate) fn generate_pair<E: Entropy>(
 ) -> Result<Effect, Stop>
     requires form { IsPairForm form.now }
     requires transport { HasDoubleKey granted.now.first }
-    requires target { IsPlaceFor (label_named to.now) granted.now.second.place }
-    requires master { IsSome held.now.current_pattern }
-    requires loaded { IsLoaded held.now (bench_of lease.old) }
-    requires empty { reply.old ≡ [] }
+    requires delivers { CanDeliver held.now (bench_of lease.old) to.now
+        granted.now.second.place reply.old }
     ensures settles { (role transport : List ℕ) (rows : List (Option Row))
         → SettlesDrawing (asked csnbkgn_pair (role ∷ form.now ∷ length.now ∷ type_name first
         ∷ type_name second ∷ transport ∷ to.now ∷ []))
-        granted.now held.now rows (bench_of lease.old) (bench_of lease.new) result reply.new
+        granted.now held.now rows lease.old lease.new result reply.new
         (source entropy.old (E.left entropy.old) (E.faults entropy.old))
         (source entropy.new (E.left entropy.new) (E.faults entropy.new)) }
-    ensures places { ChangesPlaces lease.old lease.new }
 {
     let length = key_length_of(length);
     let broken = judge_two(first, second, length);
@@ -215,7 +205,7 @@ pub(crate) fn generate_pair<E: Entropy>(
             granted.second.place,
             reply,
         )),
-        Ok(Drawn::Refused(refusal)) => Ok(Effect::Refused(refusal.rule, refusal.operand)),
+        Ok(Drawn::Refused(refusal)) => Ok(Effect::Refused(refusal)),
         Err(stop) => Err(stop),
     }
 }
@@ -223,9 +213,8 @@ pub(crate) fn generate_pair<E: Entropy>(
 /// Shows the tokens of two keys.
 fn show_keys(keys: &Generated, reply: &mut ReplyBuffer)
     requires empty { reply.old ≡ [] }
-    ensures fields { reply.new
-        ≡ written (Hex (codes "token1") keys.now.first ∷ token2_fields keys.now.second) }
-    ensures size { size_of reply.new ≤ 69000 }
+    ensures { Shows (Hex (codes "token1") keys.now.first ∷ token2_fields keys.now.second)
+        reply.new }
 {
     reply.ok();
     reply.hex("token1", &keys.first);
@@ -254,10 +243,9 @@ pub(crate) fn generate_out<E: Entropy>(
     ensures settles { (role one two : List ℕ) (rows : List (Option Row))
         → SettlesDrawing (asked csnbkgn_out (role ∷ form.now ∷ length.now ∷ type_name first
         ∷ type_name second ∷ one ∷ two ∷ []))
-        granted.now held.now rows (bench_of lease.old) (bench_of lease.new) result reply.new
+        granted.now held.now rows lease.old lease.new result reply.new
         (source entropy.old (E.left entropy.old) (E.faults entropy.old))
         (source entropy.new (E.left entropy.new) (E.faults entropy.new)) }
-    ensures places { ChangesPlaces lease.old lease.new }
 {
     let length = key_length_of(length);
     let broken = judge_two(first, second, length);
@@ -279,7 +267,7 @@ pub(crate) fn generate_out<E: Entropy>(
             show_keys(&keys, reply);
             Ok(Effect::Shown)
         }
-        Ok(Drawn::Refused(refusal)) => Ok(Effect::Refused(refusal.rule, refusal.operand)),
+        Ok(Drawn::Refused(refusal)) => Ok(Effect::Refused(refusal)),
         Err(stop) => Err(stop),
     }
 }

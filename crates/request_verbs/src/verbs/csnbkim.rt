@@ -1,13 +1,10 @@
 //! CSNBKIM: a key imported from under a transport key.
-ghost use Rattle.std.specs.Prelude.{◌≡◌, ◌∷◌, [], ℕ, IsSome, List, Option};
+ghost use Rattle.std.specs.Prelude.{◌∷◌, [], ℕ, List, Option};
 ghost use Rattle.key_cells.specs.Lease.{bench_of};
 ghost use Rattle.key_records.specs.declared.rows.Row.{Row};
-ghost use Rattle.master_registers.specs.Loaded.{IsLoaded};
 ghost use Rattle.verb_script.specs.Grammar.{csnbkim as row};
-ghost use Rattle.verb_script.specs.Named.{label_named};
-ghost use Rattle.request_verbs.specs.Decided.{Settles, asked};
-ghost use Rattle.request_verbs.specs.Deciding.{ChangesPlaces};
-ghost use Rattle.request_rules.specs.Judging.{HasDoubleKey, HasJudgedExternal, IsPlaceFor};
+ghost use Rattle.request_verbs.specs.Decided.{Settles, asked, CanDeliver};
+ghost use Rattle.request_rules.specs.Judging.{HasDoubleKey, HasJudgedExternal};
 
 use crate::effects::Effect;
 use crate::verbs::delivering::deliver;
@@ -27,14 +24,11 @@ pub(crate) fn csnbkim(
 ) -> Effect
     requires source { HasJudgedExternal granted.now.first }
     requires transport { HasDoubleKey granted.now.second }
-    requires target { IsPlaceFor (label_named to.now) granted.now.third.place }
-    requires master { IsSome held.now.current_pattern }
-    requires loaded { IsLoaded held.now (bench_of lease.old) }
-    requires empty { reply.old ≡ [] }
+    requires delivers { CanDeliver held.now (bench_of lease.old) to.now
+        granted.now.third.place reply.old }
     ensures settles { (role token transport : List ℕ) (rows : List (Option Row))
         → Settles (asked row (role ∷ token ∷ transport ∷ to.now ∷ []))
-        granted.now held.now rows (bench_of lease.old) (bench_of lease.new) result reply.new }
-    ensures places { ChangesPlaces lease.old lease.new }
+        granted.now held.now rows lease.old lease.new result reply.new }
 {
     let source = external_in(&granted.first);
     let token = import(lease, held, source, double_key_in(&granted.second));

@@ -1,35 +1,30 @@
 //! CSNBKPI: a key brought in by parts.
-ghost use Rattle.std.specs.Prelude.{◌≡◌, ◌==◌, ◌<◌, ◌/◌, ◌∷◌, [], ℕ, List, None, Option, Some, IfSome, IsSome, IsTrue, codes, length, take, if◌then◌else◌};
+ghost use Rattle.std.specs.Prelude.{◌≡◌, ◌==◌, ◌<◌, ◌/◌, ◌∷◌, [], ℕ, List, None, Option, IsSome, IsTrue, codes, length, take, if◌then◌else◌};
 ghost use Rattle.cca_vectors.specs.KeyTypes.{type_name};
 ghost use Rattle.cca_vectors.specs.Vectors.{length_of};
 ghost use Rattle.key_cells.specs.Bench.{key_of, with_key};
 ghost use Rattle.key_cells.specs.Lease.{bench_of, holding};
 ghost use Rattle.key_parts.specs.Parts.{combined_key, first_key};
 ghost use Rattle.key_records.specs.declared.rows.Row.{Row};
-ghost use Rattle.key_tokens.specs.Denotes.{denoted};
 ghost use Rattle.key_transport.specs.Generated.{HasLength};
-ghost use Rattle.key_transport.specs.Tokens.{as_current, current_token};
-ghost use Rattle.master_registers.specs.Loaded.{IsLoaded, Loaded};
-ghost use Rattle.master_registers.specs.Masters.{Masters};
-ghost use Rattle.verb_rules.specs.Keys.{HasHalves, keys_of, opened};
+ghost use Rattle.key_transport.specs.Tokens.{as_current};
+ghost use Rattle.verb_rules.specs.Keys.{HasHalves, opened};
 ghost use Rattle.verb_script.specs.Grammar.{accepts, csnbkpi_first, csnbkpi_middle, part_text};
-ghost use Rattle.verb_script.specs.Named.{label_named};
 ghost use Rattle.verb_script.specs.Values.{hex_value};
 ghost use Rattle.cca_machine.specs.Verdict.{first_refusal, further_part_questions};
-ghost use Rattle.request_verbs.specs.Decided.{Settles, asked};
-ghost use Rattle.request_verbs.specs.Deciding.{ChangesPlaces};
-ghost use Rattle.request_verbs.specs.Drawing.{HasRefused};
-ghost use Rattle.request_rules.specs.Judging.{HasSomeJudged, IsPlaceFor};
+ghost use Rattle.request_verbs.specs.Decided.{Settles, asked, CanDeliver};
+ghost use Rattle.request_verbs.specs.Deciding.{MakesToken};
+ghost use Rattle.request_rules.specs.Judging.{HasSomeJudged};
+ghost use Rattle.request_rules.specs.Refusals.{HasRefused};
 
 use crate::effects::Effect;
-use crate::refusals::Refusal;
 use crate::verbs::delivering::deliver;
 use crate::verbs::key_digits::put_key;
 use cca_vectors::KeyType;
 use key_cells::{KeyPlace, Lease};
 use key_parts::{combine_part, first_part};
 use master_registers::Registers;
-use request_rules::{Granted, is_last_part, key_in};
+use request_rules::{Granted, Refusal, is_last_part, key_in};
 use verb_rules::{Judged, judge_part, judge_size};
 use verb_script::ReplyBuffer;
 
@@ -50,11 +45,8 @@ fn first_token(kind: KeyType, part: &[u8], lease: &mut Lease, held: &Registers) 
     requires part { IsTrue (accepts part_text part.now) }
     requires length { HasLength kind (length part.now / 2) }
     requires master { IsSome held.now.current_pattern }
-    ensures token { (m : Masters) → Loaded m held.now (bench_of lease.old)
-        → result ≡ current_token m (first_key kind (hex_value part.now)) }
-    ensures denoted { (m : Masters) → Loaded m held.now (bench_of lease.old)
-        → denoted (keys_of m) result ≡ Some (as_current (first_key kind (hex_value part.now))) }
-    ensures places { ChangesPlaces lease.old lease.new }
+    ensures { MakesToken held.now (as_current (first_key kind (hex_value part.now)))
+        lease.old lease.new result }
 {
     put_part(part, lease);
     first_part(lease, held, kind, part.len() / 2)
@@ -72,17 +64,17 @@ pub(crate) fn first(
     reply: &mut ReplyBuffer,
 ) -> Effect
     requires part { IsTrue (accepts part_text part.now) }
-    requires target { IsPlaceFor (label_named to.now) granted.now.first.place }
-    requires master { IsSome held.now.current_pattern }
-    requires loaded { IsLoaded held.now (bench_of lease.old) }
-    requires empty { reply.old ≡ [] }
+    requires delivers { CanDeliver held.now (bench_of lease.old) to.now
+        granted.now.first.place reply.old }
     ensures settles { (role rule : List ℕ) (rows : List (Option Row))
         → Settles (asked csnbkpi_first (role ∷ rule ∷ type_name kind ∷ part.now ∷ to.now ∷ []))
-        granted.now held.now rows (bench_of lease.old) (bench_of lease.new) result reply.new }
-    ensures places { ChangesPlaces lease.old lease.new }
+        granted.now held.now rows lease.old lease.new result reply.new }
 {
     if let Err(rule) = judge_size(kind, part.len() / 2) {
-        return Effect::Refused(rule, "part");
+        return Effect::Refused(Refusal {
+            rule,
+            operand: "part",
+        });
     }
     let token = first_token(kind, part, lease, held);
     deliver("token", &token, None, to, granted.first.place, reply)
@@ -104,9 +96,8 @@ fn broken_by(key: &Judged, size: usize) -> &'static str
 
 /// Rule 32 of the part, and rule 35 of the key.
 fn judge(key: &Judged, size: usize) -> Option<Refusal>
-    ensures refused { HasRefused (first_refusal
-        (further_part_questions key.now.token.vector size)) result }
-    ensures short { IfSome result (λ r. length r.operand.now < 100) }
+    ensures { HasRefused (first_refusal (further_part_questions key.now.token.vector size))
+        result }
 {
     match judge_part(key, size) {
         Ok(()) => None,
@@ -130,14 +121,9 @@ fn combined_token(
     requires permitted { first_refusal
         (further_part_questions key.now.token.vector (length part.now / 2)) ≡ None }
     requires master { IsSome held.now.current_pattern }
-    ensures token { let clear = opened (bench_of lease.old) key.now in
-        (m : Masters) → Loaded m held.now (bench_of lease.old)
-        → result ≡ current_token m (combined_key last clear (hex_value part.now)) }
-    ensures denoted { let clear = opened (bench_of lease.old) key.now in
-        (m : Masters) → Loaded m held.now (bench_of lease.old)
-        → denoted (keys_of m) result
-        ≡ Some (as_current (combined_key last clear (hex_value part.now))) }
-    ensures places { ChangesPlaces lease.old lease.new }
+    ensures { let clear = opened (bench_of lease.old) key.now in
+        MakesToken held.now (as_current (combined_key last clear (hex_value part.now)))
+        lease.old lease.new result }
 {
     put_part(part, lease);
     combine_part(lease, held, key, last)
@@ -156,18 +142,15 @@ pub(crate) fn further(
 ) -> Effect
     requires key { HasSomeJudged granted.now.first }
     requires part { IsTrue (accepts part_text part.now) }
-    requires target { IsPlaceFor (label_named to.now) granted.now.second.place }
-    requires master { IsSome held.now.current_pattern }
-    requires loaded { IsLoaded held.now (bench_of lease.old) }
-    requires empty { reply.old ≡ [] }
+    requires delivers { CanDeliver held.now (bench_of lease.old) to.now
+        granted.now.second.place reply.old }
     ensures settles { (role key : List ℕ) (rows : List (Option Row))
         → Settles (asked csnbkpi_middle (role ∷ rule.now ∷ key ∷ part.now ∷ to.now ∷ []))
-        granted.now held.now rows (bench_of lease.old) (bench_of lease.new) result reply.new }
-    ensures places { ChangesPlaces lease.old lease.new }
+        granted.now held.now rows lease.old lease.new result reply.new }
 {
     let key = key_in(&granted.first);
     if let Some(refusal) = judge(key, part.len() / 2) {
-        return Effect::Refused(refusal.rule, refusal.operand);
+        return Effect::Refused(refusal);
     }
     let token = combined_token(key, is_last_part(rule), part, lease, held);
     deliver("token", &token, None, to, granted.second.place, reply)

@@ -1,6 +1,6 @@
 //! CSNBKRC: a label that is held from now on.
 ghost use Rattle.std.specs.Prelude.{◌∷◌, [], ℕ, List, Option};
-ghost use Rattle.key_cells.specs.Bench.{Bench};
+ghost use Rattle.key_cells.specs.declared.leases.Lease.{Lease};
 ghost use Rattle.key_records.specs.Labels.{IsLabel};
 ghost use Rattle.key_records.specs.declared.rows.Row.{Row};
 ghost use Rattle.master_registers.specs.declared.registers.Registers.{Registers};
@@ -15,8 +15,8 @@ use key_records::Label;
 pub(crate) fn csnbkrc(label: &[u8]) -> Effect
     requires label { IsLabel label.now }
     ensures settles { (role : List ℕ) (granted : Granted) (held : Registers)
-        (rows : List (Option Row)) (bench : Bench)
-        → Settles (asked row (role ∷ label.now ∷ [])) granted held rows bench bench result [] }
+        (rows : List (Option Row)) (lease : Lease)
+        → Settles (asked row (role ∷ label.now ∷ [])) granted held rows lease lease result [] }
 {
     Effect::Create(Label::of(label))
 }

@@ -1,6 +1,6 @@
 //! CSNBKRD: a label that is held no longer.
 ghost use Rattle.std.specs.Prelude.{◌∷◌, [], ℕ, IsSome, List, Option};
-ghost use Rattle.key_cells.specs.Bench.{Bench};
+ghost use Rattle.key_cells.specs.declared.leases.Lease.{Lease};
 ghost use Rattle.key_records.specs.declared.rows.Row.{Row};
 ghost use Rattle.master_registers.specs.declared.registers.Registers.{Registers};
 ghost use Rattle.verb_script.specs.Grammar.{csnbkrd as row};
@@ -13,8 +13,8 @@ use request_rules::{Granted, place_in};
 pub(crate) fn csnbkrd(granted: &Granted) -> Effect
     requires place { IsSome granted.now.first.place }
     ensures settles { (role label : List ℕ) (held : Registers) (rows : List (Option Row))
-        (bench : Bench)
-        → Settles (asked row (role ∷ label ∷ [])) granted.now held rows bench bench result [] }
+        (lease : Lease)
+        → Settles (asked row (role ∷ label ∷ [])) granted.now held rows lease lease result [] }
 {
     Effect::Delete(place_in(&granted.first))
 }

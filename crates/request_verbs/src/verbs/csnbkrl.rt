@@ -1,6 +1,6 @@
 //! CSNBKRL: the labels that begin with a prefix.
 ghost use Rattle.std.specs.Prelude.{◌≡◌, ◌+◌, ◌*◌, ◌≤◌, ◌++◌, ◌∷◌, [], ℕ, List, length, if◌then◌else◌, codes};
-ghost use Rattle.key_cells.specs.Bench.{Bench};
+ghost use Rattle.key_cells.specs.declared.leases.Lease.{Lease};
 ghost use Rattle.key_records.specs.Entries.{row_directory};
 ghost use Rattle.master_registers.specs.declared.registers.Registers.{Registers};
 ghost use Rattle.verb_script.specs.Grammar.{csnbkrl as row};
@@ -59,9 +59,9 @@ fn put_beginning(prefix: &[u8], records: &Records, reply: &mut ReplyBuffer)
 /// labels twice, and compares no two of them.
 pub(crate) fn csnbkrl(prefix: &[u8], records: &Records, reply: &mut ReplyBuffer) -> Effect
     requires empty { reply.old ≡ [] }
-    ensures settles { (role : List ℕ) (granted : Granted) (held : Registers) (bench : Bench)
+    ensures settles { (role : List ℕ) (granted : Granted) (held : Registers) (lease : Lease)
         → Settles (asked row (role ∷ prefix.now ∷ []))
-        granted held records.now bench bench result reply.new }
+        granted held records.now lease lease result reply.new }
 {
     reply.ok();
     reply.number("count", count_beginning(prefix, records));

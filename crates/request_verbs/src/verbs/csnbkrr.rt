@@ -1,7 +1,7 @@
 //! CSNBKRR: the token in a record.
 ghost use Rattle.std.specs.Prelude.{◌≡◌, ◌∷◌, [], ℕ, List, Option};
 ghost use Rattle.cca_vectors.specs.Bytes.{AreBytes};
-ghost use Rattle.key_cells.specs.Bench.{Bench};
+ghost use Rattle.key_cells.specs.declared.leases.Lease.{Lease};
 ghost use Rattle.key_records.specs.declared.rows.Row.{Row};
 ghost use Rattle.master_registers.specs.declared.registers.Registers.{Registers};
 ghost use Rattle.verb_script.specs.Grammar.{csnbkrr as row};
@@ -25,9 +25,9 @@ pub(crate) fn csnbkrr(granted: &Granted, reply: &mut ReplyBuffer) -> Effect
     requires key { HasSomeJudged granted.now.first }
     requires empty { reply.old ≡ [] }
     ensures settles { (role label : List ℕ) (held : Registers) (rows : List (Option Row))
-        (bench : Bench)
+        (lease : Lease)
         → Settles (asked row (role ∷ label ∷ []))
-        granted.now held rows bench bench result reply.new }
+        granted.now held rows lease lease result reply.new }
 {
     let key = key_in(&granted.first);
     are_bytes(&key.token.sealed.left);

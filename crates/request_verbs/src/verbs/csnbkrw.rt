@@ -1,6 +1,7 @@
 //! CSNBKRW: the key of a token put into a record.
 ghost use Rattle.std.specs.Prelude.{◌≡◌, ◌∷◌, [], ℕ, IsSome, IsTrue, List, Option};
-ghost use Rattle.key_cells.specs.Bench.{Bench};
+ghost use Rattle.key_cells.specs.Lease.{bench_of};
+ghost use Rattle.key_cells.specs.declared.leases.Lease.{Lease};
 ghost use Rattle.key_records.specs.declared.rows.Row.{Row};
 ghost use Rattle.key_tokens.specs.Denotes.{denoted};
 ghost use Rattle.master_registers.specs.Loaded.{masters_in};
@@ -20,10 +21,10 @@ pub(crate) fn csnbkrw(granted: &Granted, token: &[u8], reply: &mut ReplyBuffer) 
     requires token { IsTrue (is_hex 128 token.now) }
     requires empty { reply.old ≡ [] }
     ensures settles { (role label : List ℕ) (held : Registers) (rows : List (Option Row))
-        (bench : Bench)
-        → IsSome (denoted (keys_of (masters_in held bench)) (hex_value token.now))
+        (lease : Lease)
+        → IsSome (denoted (keys_of (masters_in held (bench_of lease))) (hex_value token.now))
         → Settles (asked row (role ∷ label ∷ token.now ∷ []))
-        granted.now held rows bench bench result reply.new }
+        granted.now held rows lease lease result reply.new }
 {
     reply.ok();
     Effect::Write(place_in(&granted.first), token_bytes(token))

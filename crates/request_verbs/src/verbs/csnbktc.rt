@@ -1,17 +1,15 @@
 //! CSNBKTC: a token changed to another master key.
 ghost use Rattle.std.specs.Prelude.{◌≡◌, ◌∷◌, [], ℕ, IsSome, List, Option};
-ghost use Rattle.key_cells.specs.Lease.{bench_of};
 ghost use Rattle.key_records.specs.declared.rows.Row.{Row};
 ghost use Rattle.verb_script.specs.Grammar.{csnbktc as row};
 ghost use Rattle.request_verbs.specs.Decided.{Settles, asked};
-ghost use Rattle.request_verbs.specs.Deciding.{ChangesPlaces};
 ghost use Rattle.request_rules.specs.Judging.{HasSomeJudged};
 
 use crate::effects::Effect;
 use key_cells::Lease;
 use key_transport::{Target, token_change};
 use master_registers::{NewState, Registers};
-use request_rules::{Granted, key_in, target_of};
+use request_rules::{Granted, Refusal, key_in, target_of};
 use verb_rules::Rule;
 use verb_script::ReplyBuffer;
 
@@ -29,12 +27,11 @@ pub(crate) fn csnbktc(
     requires empty { reply.old ≡ [] }
     ensures settles { (role token : List ℕ) (rows : List (Option Row))
         → Settles (asked row (role ∷ rule.now ∷ token ∷ []))
-        granted.now held.now rows (bench_of lease.old) (bench_of lease.new) result reply.new }
-    ensures places { ChangesPlaces lease.old lease.new }
+        granted.now held.now rows lease.old lease.new result reply.new }
 {
     let target = target_of(rule);
     if target == Target::New && held.new_state != NewState::Full {
-        return Effect::Refused(Rule::RegisterState, "-");
+        return Effect::Refused(Refusal::of_request(Rule::RegisterState));
     }
     let changed = token_change(lease, held, key_in(&granted.first), target);
     reply.ok();

@@ -1,7 +1,7 @@
 //! CSNBKTP: the parts of a key token.
 ghost use Rattle.std.specs.Prelude.{◌≡◌, ◌+◌, ◌<◌, ◌≤◌, ◌++◌, ◌∷◌, [], ℕ, IsSome, List, Option, length, codes};
 ghost use Rattle.cca_machine.specs.Act.{token_fields, kind_name, class_name, shown_vector};
-ghost use Rattle.key_cells.specs.Bench.{Bench};
+ghost use Rattle.key_cells.specs.declared.leases.Lease.{Lease};
 ghost use Rattle.key_records.specs.declared.rows.Row.{Row};
 ghost use Rattle.master_registers.specs.declared.registers.Registers.{Registers};
 ghost use Rattle.script_buffers.specs.Replies.{written, hex_field, text_field, number_field};
@@ -19,9 +19,9 @@ pub(crate) fn csnbktp(granted: &Granted, reply: &mut ReplyBuffer) -> Effect
     requires token { IsSome granted.now.first.token }
     requires empty { reply.old ≡ [] }
     ensures settles { (role token : List ℕ) (held : Registers) (rows : List (Option Row))
-        (bench : Bench)
+        (lease : Lease)
         → Settles (asked row (role ∷ token ∷ []))
-        granted.now held rows bench bench result reply.new }
+        granted.now held rows lease lease result reply.new }
 {
     show_parts(token_in(&granted.first), reply);
     Effect::Shown

@@ -2,7 +2,6 @@
 ghost use Rattle.std.specs.Prelude.{◌≡◌, ◌∷◌, [], ℕ, List};
 ghost use Rattle.verb_script.specs.Grammar.{csnbktr as row};
 ghost use Rattle.request_verbs.specs.Decided.{SettlesOver, asked};
-ghost use Rattle.request_verbs.specs.Deciding.{ChangesPlaces};
 ghost use Rattle.request_rules.specs.Judging.{HasDoubleKey, HasJudgedExternal};
 
 use crate::effects::Effect;
@@ -21,7 +20,6 @@ pub(crate) fn csnbktr(granted: &Granted, lease: &mut Lease, reply: &mut ReplyBuf
     ensures settles { (role token one two : List ℕ)
         → SettlesOver (asked row (role ∷ token ∷ one ∷ two ∷ []))
         granted.now lease.old lease.new result reply.new }
-    ensures places { ChangesPlaces lease.old lease.new }
 {
     let source = external_in(&granted.first);
     let one = double_key_in(&granted.second);

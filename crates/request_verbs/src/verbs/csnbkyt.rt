@@ -2,7 +2,6 @@
 ghost use Rattle.std.specs.Prelude.{◌≡◌, ◌∷◌, [], ℕ, List};
 ghost use Rattle.verb_script.specs.Grammar.{csnbkyt as row};
 ghost use Rattle.request_verbs.specs.Decided.{SettlesOver, asked};
-ghost use Rattle.request_verbs.specs.Deciding.{ChangesPlaces};
 ghost use Rattle.request_rules.specs.Judging.{HasSomeJudged};
 
 use crate::effects::Effect;
@@ -18,7 +17,6 @@ pub(crate) fn csnbkyt(granted: &Granted, lease: &mut Lease, reply: &mut ReplyBuf
     ensures settles { (role key : List ℕ)
         → SettlesOver (asked row (role ∷ key ∷ []))
         granted.now lease.old lease.new result reply.new }
-    ensures places { ChangesPlaces lease.old lease.new }
 {
     let value = key_test(lease, key_in(&granted.first));
     reply.ok();

@@ -2,8 +2,9 @@
 ghost use Rattle.std.specs.Prelude.{◌≡◌, ◌∷◌, [], ℕ, IsTrue, List, Option};
 ghost use Rattle.std.specs.Option.{option_map};
 ghost use Rattle.cca_vectors.specs.Checks.{first_failing};
-ghost use Rattle.key_cells.specs.Bench.{Bench, with_master};
+ghost use Rattle.key_cells.specs.Bench.{with_master};
 ghost use Rattle.key_cells.specs.Lease.{bench_of, holding};
+ghost use Rattle.key_cells.specs.declared.leases.Lease.{Lease as AnyLease};
 ghost use Rattle.key_records.specs.declared.rows.Row.{Row};
 ghost use Rattle.verb_script.specs.Grammar.{csnbmkp_clear, csnbmkp_part, csnbmkp_set, is_hex};
 ghost use Rattle.verb_script.specs.Values.{hex_value};
@@ -13,7 +14,6 @@ ghost use Rattle.master_registers.specs.Masters.{Masters};
 ghost use Rattle.verb_rules.specs.Rules.{rule_number};
 ghost use Rattle.cca_machine.specs.Actions.{action_checks};
 ghost use Rattle.request_verbs.specs.Decided.{Settles, asked};
-ghost use Rattle.request_verbs.specs.Deciding.{ChangesPlaces};
 ghost use Rattle.request_rules.specs.FieldWords.{IsPartAction};
 ghost use Rattle.request_rules.specs.declared.judging.Granted.{Granted};
 
@@ -22,7 +22,7 @@ use crate::verbs::old_labels::any_old;
 use key_cells::{Lease, MasterPlace};
 use key_records::Records;
 use master_registers::{Action, NewState, Registers, pattern_of};
-use request_rules::part_action_of;
+use request_rules::{Refusal, part_action_of};
 use verb_rules::Rule;
 use verb_script::decode;
 
@@ -43,8 +43,7 @@ pub(crate) fn combine(action: &[u8], part: &[u8], lease: &mut Lease) -> Effect
     ensures settles { (role : List ℕ) (granted : Granted) (held : HeldRegisters)
         (rows : List (Option Row))
         → Settles (asked csnbmkp_part (role ∷ action.now ∷ part.now ∷ []))
-        granted held rows (bench_of lease.old) (bench_of lease.new) result [] }
-    ensures places { ChangesPlaces lease.old lease.new }
+        granted held rows lease.old lease.new result [] }
 {
     put_part(part, lease);
     Effect::Change(part_action_of(action))
@@ -54,12 +53,12 @@ pub(crate) fn combine(action: &[u8], part: &[u8], lease: &mut Lease) -> Effect
 /// labels once.
 pub(crate) fn clear(records: &Records) -> Effect
     ensures settles { (role action : List ℕ) (granted : Granted) (held : HeldRegisters)
-        (bench : Bench)
+        (lease : AnyLease)
         → Settles (asked csnbmkp_clear (role ∷ action ∷ []))
-        granted held records.now bench bench result [] }
+        granted held records.now lease lease result [] }
 {
     if records.any_ahead() {
-        Effect::Refused(Rule::Ahead, "-")
+        Effect::Refused(Refusal::of_request(Rule::Ahead))
     } else {
         Effect::Change(Action::Clear)
     }
@@ -84,11 +83,11 @@ fn set_rule(lease: &Lease, held: &Registers) -> Option<Rule>
 pub(crate) fn set(lease: &Lease, held: &Registers, records: &Records) -> Effect
     ensures settles { (role action : List ℕ) (granted : Granted)
         → Settles (asked csnbmkp_set (role ∷ action ∷ []))
-        granted held.now records.now (bench_of lease.now) (bench_of lease.now) result [] }
+        granted held.now records.now lease.now lease.now result [] }
 {
     match set_rule(lease, held) {
-        Some(rule) => Effect::Refused(rule, "-"),
-        None if any_old(held, records) => Effect::Refused(Rule::OldLabels, "-"),
+        Some(rule) => Effect::Refused(Refusal::of_request(rule)),
+        None if any_old(held, records) => Effect::Refused(Refusal::of_request(Rule::OldLabels)),
         None => Effect::Change(Action::Set),
     }
 }

@@ -1,6 +1,6 @@
 //! CSNBRNG: random bytes.
 ghost use Rattle.std.specs.Prelude.{◌≡◌, ◌∷◌, [], ℕ, List, Option};
-ghost use Rattle.key_cells.specs.Bench.{Bench};
+ghost use Rattle.key_cells.specs.declared.leases.Lease.{Lease};
 ghost use Rattle.key_records.specs.declared.rows.Row.{Row};
 ghost use Rattle.master_registers.specs.declared.registers.Registers.{Registers};
 ghost use Rattle.verb_script.specs.Grammar.{csnbrng as row};
@@ -22,9 +22,9 @@ pub(crate) fn csnbrng<E: Entropy>(
 ) -> Result<Effect, Stop>
     requires empty { reply.old ≡ [] }
     ensures settles { (role : List ℕ) (granted : Granted) (held : Registers)
-        (rows : List (Option Row)) (bench : Bench)
+        (rows : List (Option Row)) (lease : Lease)
         → SettlesDrawing (asked row (role ∷ form.now ∷ []))
-        granted held rows bench bench result reply.new
+        granted held rows lease lease result reply.new
         (source entropy.old (E.left entropy.old) (E.faults entropy.old))
         (source entropy.new (E.left entropy.new) (E.faults entropy.new)) }
 {

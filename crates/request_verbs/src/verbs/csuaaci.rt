@@ -2,7 +2,7 @@
 ghost use Rattle.std.specs.Prelude.{◌≢◌, ◌∷◌, [], ℕ, List, Option};
 ghost use Rattle.std.specs.Int.{to_be_bytes, w32};
 ghost use Rattle.cca_roles.specs.RoleNames.{default_name};
-ghost use Rattle.key_cells.specs.Bench.{Bench};
+ghost use Rattle.key_cells.specs.declared.leases.Lease.{Lease};
 ghost use Rattle.key_records.specs.declared.rows.Row.{Row};
 ghost use Rattle.master_registers.specs.declared.registers.Registers.{Registers};
 ghost use Rattle.verb_script.specs.Grammar.{csuaaci_define, csuaaci_remove};
@@ -15,10 +15,10 @@ use cca_roles::{AccessPoints, RoleName};
 /// DEFINE: leaves the role to get these points.
 pub(crate) fn define(name: &RoleName, points: &AccessPoints) -> Effect
     ensures settles { (role action : List ℕ) (granted : Granted) (held : Registers)
-        (rows : List (Option Row)) (bench : Bench)
+        (rows : List (Option Row)) (lease : Lease)
         → Settles (asked csuaaci_define (role ∷ action ∷ name.now ∷ to_be_bytes w32 points.now
         ∷ []))
-        granted held rows bench bench result [] }
+        granted held rows lease lease result [] }
 {
     let _number = points.bits();
     Effect::DefineRole(*name, *points)
@@ -28,9 +28,9 @@ pub(crate) fn define(name: &RoleName, points: &AccessPoints) -> Effect
 pub(crate) fn remove(name: &RoleName) -> Effect
     requires name { name.now ≢ default_name }
     ensures settles { (role action : List ℕ) (granted : Granted) (held : Registers)
-        (rows : List (Option Row)) (bench : Bench)
+        (rows : List (Option Row)) (lease : Lease)
         → Settles (asked csuaaci_remove (role ∷ action ∷ name.now ∷ []))
-        granted held rows bench bench result [] }
+        granted held rows lease lease result [] }
 {
     Effect::RemoveRole(*name)
 }

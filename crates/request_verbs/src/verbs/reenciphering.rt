@@ -2,8 +2,8 @@
 ghost use Rattle.std.specs.Prelude.{◌≡◌, ◌||◌, [], ◌∷◌, ℕ, IsSome, List, None, Option};
 ghost use Rattle.std.specs.Option.{option_map};
 ghost use Rattle.cca_vectors.specs.Checks.{check, first_failing};
-ghost use Rattle.key_cells.specs.Bench.{Bench};
 ghost use Rattle.key_cells.specs.Lease.{bench_of};
+ghost use Rattle.key_cells.specs.declared.leases.Lease.{Lease as AnyLease};
 ghost use Rattle.key_records.specs.declared.rows.Row.{Row};
 ghost use Rattle.master_registers.specs.Loaded.{IsLoaded, Loaded};
 ghost use Rattle.master_registers.specs.Masters.{Masters, set_refused, has_pattern_of};
@@ -20,14 +20,15 @@ use key_cells::Lease;
 use key_records::Records;
 use master_registers::{NewState, Registers};
 use reencipher::{StoreAction, is_taken};
+use request_rules::Refusal;
 use verb_rules::Rule;
 
 /// Leaves every label to be brought under the current master key.
 pub(crate) fn renew() -> Effect
     ensures settles { (role : List ℕ) (granted : Granted) (held : HeldRegisters)
-        (rows : List (Option Row)) (bench : Bench)
-        → IsSome held.current_pattern → IsLoaded held bench
-        → Settles (asked reencipher (role ∷ [])) granted held rows bench bench result [] }
+        (rows : List (Option Row)) (lease : AnyLease)
+        → IsSome held.current_pattern → IsLoaded held (bench_of lease)
+        → Settles (asked reencipher (role ∷ [])) granted held rows lease lease result [] }
 {
     Effect::Reencipher(StoreAction::Renew)
 }
@@ -56,11 +57,11 @@ pub(crate) fn ahead(lease: &Lease, held: &Registers, records: &Records) -> Effec
     requires current { IsSome held.now.current_pattern }
     ensures settles { (role action : List ℕ) (granted : Granted)
         → Settles (asked reencipher_ahead (role ∷ action ∷ []))
-        granted held.now records.now (bench_of lease.now) (bench_of lease.now) result [] }
+        granted held.now records.now lease.now lease.now result [] }
 {
     match ahead_rule(lease, held) {
-        Some(rule) => Effect::Refused(rule, "-"),
-        None if any_old(held, records) => Effect::Refused(Rule::OldLabels, "-"),
+        Some(rule) => Effect::Refused(Refusal::of_request(rule)),
+        None if any_old(held, records) => Effect::Refused(Refusal::of_request(Rule::OldLabels)),
         None => Effect::Reencipher(StoreAction::Ahead),
     }
 }
@@ -68,10 +69,10 @@ pub(crate) fn ahead(lease: &Lease, held: &Registers, records: &Records) -> Effec
 /// DROP: leaves every label to be prepared no longer.
 pub(crate) fn drop() -> Effect
     ensures settles { (role action : List ℕ) (granted : Granted) (held : HeldRegisters)
-        (rows : List (Option Row)) (bench : Bench)
-        → IsSome held.current_pattern → IsLoaded held bench
+        (rows : List (Option Row)) (lease : AnyLease)
+        → IsSome held.current_pattern → IsLoaded held (bench_of lease)
         → Settles (asked reencipher_drop (role ∷ action ∷ []))
-        granted held rows bench bench result [] }
+        granted held rows lease lease result [] }
 {
     Effect::Reencipher(StoreAction::Drop)
 }

@@ -3,24 +3,23 @@ ghost use Rattle.std.specs.Prelude.{◌≡◌, ◌≤◌, ◌/◌, ◌∷◌, []
 ghost use Rattle.cca_vectors.specs.Checks.{first_failing};
 ghost use Rattle.des_core.specs.Texts.{text_in};
 ghost use Rattle.key_cells.specs.Lease.{bench_of};
-ghost use Rattle.script_buffers.specs.Replies.{Hex, written};
+ghost use Rattle.script_buffers.specs.Replies.{Hex};
 ghost use Rattle.text_segments.specs.Chains.{chain_bytes, chain_checks, chain_of};
 ghost use Rattle.text_segments.specs.Segments.{IsCipher};
-ghost use Rattle.verb_rules.specs.Keys.{HasHalves, opened};
-ghost use Rattle.verb_script.specs.Grammar.{accepts, hex_text, is_hex};
+ghost use Rattle.verb_rules.specs.Keys.{opened};
+ghost use Rattle.verb_script.specs.Grammar.{is_hex};
 ghost use Rattle.verb_script.specs.Values.{hex_value};
 ghost use Rattle.cca_machine.specs.Act.{last_text_fields, segment_fields};
 ghost use Rattle.cca_machine.specs.Choices.{pad_named};
 ghost use Rattle.cca_machine.specs.CutRequests.{first_row, last_row, middle_row};
 ghost use Rattle.cca_machine.specs.Verdict.{first_refusal, last_text_questions, segment_questions};
-ghost use Rattle.request_verbs.specs.Decided.{SettlesOver, asked};
-ghost use Rattle.request_verbs.specs.Deciding.{ChangesPlaces, ShowsOr};
-ghost use Rattle.request_rules.specs.Judging.{HasSomeJudged};
+ghost use Rattle.request_verbs.specs.Decided.{SettlesOver, asked, HasText, HasTextFor};
+ghost use Rattle.request_verbs.specs.Deciding.{Shows, ShowsOver};
 
 use crate::effects::Effect;
 use crate::verbs::texts::{block_of, judge_digits, put_text, show_text};
 use key_cells::Lease;
-use request_rules::{Granted, key_in, pad_of};
+use request_rules::{Granted, Refusal, key_in, pad_of};
 use text_segments::{Chain, Mode, last_text, segment};
 use verb_rules::{Judged, Rule, TextUse};
 use verb_script::{ReplyBuffer, decode};
@@ -50,10 +49,8 @@ pub(super) fn chain_in(digits: &[u8]) -> Option<Chain>
 fn show_segment(lease: &Lease, chain: &Chain, reply: &mut ReplyBuffer)
     requires room { (bench_of lease.now).text.size ≤ 4096 }
     requires empty { reply.old ≡ [] }
-    ensures fields { reply.new ≡ written
-        (Hex (codes "text") (text_in lease.now)
-        ∷ Hex (codes "chain") (chain_bytes chain.now) ∷ []) }
-    ensures size { length reply.new ≤ 69000 }
+    ensures { Shows (Hex (codes "text") (text_in lease.now)
+        ∷ Hex (codes "chain") (chain_bytes chain.now) ∷ []) reply.new }
 {
     reply.ok();
     reply.hex("text", lease.text());
@@ -70,17 +67,17 @@ fn go_on(
     reply: &mut ReplyBuffer,
 ) -> Effect
     requires mode { IsCipher mode }
-    requires halves { HasHalves key.now }
-    requires text { IsTrue (accepts hex_text text.now) }
-    requires empty { reply.old ≡ [] }
+    requires given { HasText key.now text.now reply.old }
     ensures shows { let clear = opened (bench_of lease.old) key.now in
-        ShowsOr (first_refusal (segment_questions (length text.now / 2)))
+        ShowsOver lease.old lease.new (first_refusal (segment_questions (length text.now / 2)))
         (segment_fields clear mode chain.now (hex_value text.now))
         result reply.new }
-    ensures places { ChangesPlaces lease.old lease.new }
 {
     if let Err(rule) = judge_digits(TextUse::Segment, text) {
-        return Effect::Refused(rule, "text");
+        return Effect::Refused(Refusal {
+            rule,
+            operand: "text",
+        });
     }
     put_text(text, lease);
     let next = segment(lease, key, mode, chain);
@@ -99,15 +96,12 @@ pub(crate) fn first_segment(
     reply: &mut ReplyBuffer,
 ) -> Effect
     requires mode { IsCipher mode }
-    requires key { HasSomeJudged granted.now.first }
+    requires given { HasTextFor granted.now text.now reply.old }
     requires iv { IsTrue (is_hex 16 iv.now) }
-    requires text { IsTrue (accepts hex_text text.now) }
-    requires empty { reply.old ≡ [] }
     ensures settles { (role key segment : List ℕ)
         → SettlesOver (asked (first_row mode)
         (role ∷ key ∷ segment ∷ iv.now ∷ text.now ∷ []))
         granted.now lease.old lease.new result reply.new }
-    ensures places { ChangesPlaces lease.old lease.new }
 {
     let key = key_in(&granted.first);
     go_on(mode, key, &Chain::first(block_of(iv)), text, lease, reply)
@@ -124,20 +118,20 @@ pub(crate) fn middle_segment(
     reply: &mut ReplyBuffer,
 ) -> Effect
     requires mode { IsCipher mode }
-    requires key { HasSomeJudged granted.now.first }
+    requires given { HasTextFor granted.now text.now reply.old }
     requires chain { IsTrue (is_hex 32 chain.now) }
-    requires text { IsTrue (accepts hex_text text.now) }
-    requires empty { reply.old ≡ [] }
     ensures settles { (role key segment : List ℕ)
         → SettlesOver (asked (middle_row mode)
         (role ∷ key ∷ segment ∷ chain.now ∷ text.now ∷ []))
         granted.now lease.old lease.new result reply.new }
-    ensures places { ChangesPlaces lease.old lease.new }
 {
     let key = key_in(&granted.first);
     match chain_in(chain) {
         Some(before) => go_on(mode, key, &before, text, lease, reply),
-        None => Effect::Refused(Rule::Chain, "chain"),
+        None => Effect::Refused(Refusal {
+            rule: Rule::Chain,
+            operand: "chain",
+        }),
     }
 }
 
@@ -152,21 +146,21 @@ fn end(
     reply: &mut ReplyBuffer,
 ) -> Effect
     requires mode { IsCipher mode }
-    requires halves { HasHalves key.now }
-    requires text { IsTrue (accepts hex_text text.now) }
-    requires empty { reply.old ≡ [] }
+    requires given { HasText key.now text.now reply.old }
     ensures shows { let clear = opened (bench_of lease.old) key.now in
         let padding = pad_named pad.now in
-        ShowsOr (first_refusal (last_text_questions mode clear chain.now padding
+        ShowsOver lease.old lease.new (first_refusal (last_text_questions mode clear chain.now padding
         (length text.now / 2) (hex_value text.now)))
         (last_text_fields clear mode chain.now padding (hex_value text.now))
         result reply.new }
-    ensures places { ChangesPlaces lease.old lease.new }
 {
     let padding = pad_of(pad);
     let carried = chain.carried.bytes().len();
     if let Err(rule) = judge_digits(mode.use_of_last(padding, carried), text) {
-        return Effect::Refused(rule, "text");
+        return Effect::Refused(Refusal {
+            rule,
+            operand: "text",
+        });
     }
     put_text(text, lease);
     match last_text(lease, key, mode, chain, padding) {
@@ -174,7 +168,10 @@ fn end(
             show_text(lease, reply);
             Effect::Shown
         }
-        Err(rule) => Effect::Refused(rule, "text"),
+        Err(rule) => Effect::Refused(Refusal {
+            rule,
+            operand: "text",
+        }),
     }
 }
 
@@ -190,19 +187,19 @@ pub(crate) fn last_segment(
     reply: &mut ReplyBuffer,
 ) -> Effect
     requires mode { IsCipher mode }
-    requires key { HasSomeJudged granted.now.first }
+    requires given { HasTextFor granted.now text.now reply.old }
     requires chain { IsTrue (is_hex 32 chain.now) }
-    requires text { IsTrue (accepts hex_text text.now) }
-    requires empty { reply.old ≡ [] }
     ensures settles { (role key segment : List ℕ)
         → SettlesOver (asked (last_row mode)
         (role ∷ key ∷ segment ∷ chain.now ∷ pad.now ∷ text.now ∷ []))
         granted.now lease.old lease.new result reply.new }
-    ensures places { ChangesPlaces lease.old lease.new }
 {
     let key = key_in(&granted.first);
     match chain_in(chain) {
         Some(before) => end(mode, key, &before, pad, text, lease, reply),
-        None => Effect::Refused(Rule::Chain, "chain"),
+        None => Effect::Refused(Refusal {
+            rule: Rule::Chain,
+            operand: "chain",
+        }),
     }
 }

@@ -1,18 +1,20 @@
 //! Texts and chaining values in the fields of a request.
-ghost use Rattle.std.specs.Prelude.{◌≡◌, ◌≤◌, ◌<◌, ◌/◌, ◌∷◌, [], None, Some, OnOk, IfErr, IsTrue, codes, length};
+ghost use Rattle.std.specs.Prelude.{◌≡◌, ◌≤◌, ◌/◌, ◌∷◌, [], None, OnOk, IfErr, IsTrue, codes, length};
 ghost use Rattle.cca_vectors.specs.Checks.{first_failing};
 ghost use Rattle.cca_vectors.specs.Vectors.{length_of};
 ghost use Rattle.key_cells.specs.Bench.{text_of};
 ghost use Rattle.key_cells.specs.Lease.{bench_of, holding};
-ghost use Rattle.script_buffers.specs.Replies.{Hex, written};
+ghost use Rattle.script_buffers.specs.Replies.{Hex};
 ghost use Rattle.verb_rules.specs.LengthChecks.{mac_checks, text_checks};
-ghost use Rattle.verb_rules.specs.Rules.{Judges, rule_number};
+ghost use Rattle.verb_rules.specs.Rules.{Judges};
 ghost use Rattle.verb_script.specs.Grammar.{accepts, hex_text, is_hex};
 ghost use Rattle.verb_script.specs.Values.{hex_value};
-ghost use Rattle.cca_machine.specs.Verdict.{first_refusal, questions, refusal};
+ghost use Rattle.cca_machine.specs.Verdict.{first_refusal, questions};
+ghost use Rattle.request_rules.specs.Refusals.{IsRefusal};
+ghost use Rattle.request_verbs.specs.Deciding.{Shows};
 
-use crate::refusals::Refusal;
 use key_cells::Lease;
+use request_rules::Refusal;
 use verb_rules::{Judged, MacRule, Rule, TextUse, judge_mac, judge_text};
 use verb_script::{ReplyBuffer, decode};
 
@@ -32,11 +34,9 @@ pub(super) fn judge_code(
     method: MacRule,
     key: &Judged,
 ) -> Result<(), Refusal>
-    ensures refused { IfErr result (λ r. first_refusal (
+    ensures refused { IfErr result (IsRefusal (first_refusal (
         questions (codes "text") (text_checks use_of (length digits.now / 2))
-        ∷ questions (codes "key") (mac_checks method (length_of key.now.token.vector)) ∷ [])
-        ≡ Some (refusal (rule_number r.rule) r.operand.now)) }
-    ensures short { IfErr result (λ r. length r.operand.now < 100) }
+        ∷ questions (codes "key") (mac_checks method (length_of key.now.token.vector)) ∷ []))) }
     ensures text { OnOk result (first_failing (text_checks use_of (length digits.now / 2)) ≡ None) }
     ensures key { OnOk result
         (first_failing (mac_checks method (length_of key.now.token.vector)) ≡ None) }
@@ -84,9 +84,7 @@ pub(super) fn block_of(digits: &[u8]) -> [u8; 8]
 pub(super) fn show_text(lease: &Lease, reply: &mut ReplyBuffer)
     requires room { (bench_of lease.now).text.size ≤ 4096 }
     requires empty { reply.old ≡ [] }
-    ensures fields { reply.new ≡ written
-        (Hex (codes "text") (text_of (bench_of lease.now).text) ∷ []) }
-    ensures size { length reply.new ≤ 69000 }
+    ensures { Shows (Hex (codes "text") (text_of (bench_of lease.now).text) ∷ []) reply.new }
 {
     reply.ok();
     reply.hex("text", lease.text());

@@ -9,21 +9,20 @@ ghost use Rattle.text_segments.specs.Segments.{IsCipher, last_checks, last_text}
 ghost use Rattle.verb_rules.specs.Keys.{HasHalves, opened};
 ghost use Rattle.verb_rules.specs.LengthChecks.{text_checks};
 ghost use Rattle.verb_rules.specs.Rules.{Judges};
-ghost use Rattle.verb_script.specs.Grammar.{accepts, hex_text, is_hex};
+ghost use Rattle.verb_script.specs.Grammar.{is_hex};
 ghost use Rattle.verb_script.specs.Values.{hex_value};
 ghost use Rattle.cca_machine.specs.Act.{last_text_fields};
 ghost use Rattle.cca_machine.specs.Choices.{pad_named};
 ghost use Rattle.cca_machine.specs.Verdict.{first_refusal};
-ghost use Rattle.request_verbs.specs.Decided.{SettlesOver, asked};
-ghost use Rattle.request_verbs.specs.Deciding.{ChangesPlaces, ShowsOr};
-ghost use Rattle.request_rules.specs.Judging.{HasSomeJudged};
+ghost use Rattle.request_verbs.specs.Decided.{SettlesOver, asked, HasText, HasTextFor};
+ghost use Rattle.request_verbs.specs.Deciding.{ShowsOver};
 ghost use Rattle.request_verbs.specs.WholeTexts.{whole_questions, whole_row, whole_use};
 
 use crate::effects::Effect;
 use crate::verbs::texts::{block_of, judge_digits, put_text, show_text};
 use cipher_verbs::{Pad, decipher, encipher};
 use key_cells::Lease;
-use request_rules::{Granted, key_in, pad_of};
+use request_rules::{Granted, Refusal, key_in, pad_of};
 use text_segments::Mode;
 use verb_rules::{Judged, Rule, TextUse};
 use verb_script::ReplyBuffer;
@@ -79,22 +78,22 @@ fn show_changed(
     reply: &mut ReplyBuffer,
 ) -> Effect
     requires mode { IsCipher mode }
-    requires halves { HasHalves key.now }
+    requires given { HasText key.now text.now reply.old }
     requires iv { IsTrue (is_hex 16 iv.now) }
-    requires text { IsTrue (accepts hex_text text.now) }
-    requires empty { reply.old ≡ [] }
     ensures shows { let clear = opened (bench_of lease.old) key.now in
         let start = hex_value iv.now in
         let padding = pad_named pad.now in
-        ShowsOr (first_refusal (whole_questions mode clear start padding
+        ShowsOver lease.old lease.new (first_refusal (whole_questions mode clear start padding
         (length text.now / 2) (hex_value text.now)))
         (last_text_fields clear mode (first_chain start) padding (hex_value text.now))
         result reply.new }
-    ensures places { ChangesPlaces lease.old lease.new }
 {
     let padding = pad_of(pad);
     if let Err(rule) = judge_digits(use_of(mode, padding), text) {
-        return Effect::Refused(rule, "text");
+        return Effect::Refused(Refusal {
+            rule,
+            operand: "text",
+        });
     }
     put_text(text, lease);
     match change_text(mode, key, &block_of(iv), padding, lease) {
@@ -102,7 +101,10 @@ fn show_changed(
             show_text(lease, reply);
             Effect::Shown
         }
-        Err(rule) => Effect::Refused(rule, "text"),
+        Err(rule) => Effect::Refused(Refusal {
+            rule,
+            operand: "text",
+        }),
     }
 }
 
@@ -119,15 +121,12 @@ pub(crate) fn whole_text(
     reply: &mut ReplyBuffer,
 ) -> Effect
     requires mode { IsCipher mode }
-    requires key { HasSomeJudged granted.now.first }
+    requires given { HasTextFor granted.now text.now reply.old }
     requires iv { IsTrue (is_hex 16 iv.now) }
-    requires text { IsTrue (accepts hex_text text.now) }
-    requires empty { reply.old ≡ [] }
     ensures settles { (role key : List ℕ)
         → SettlesOver (asked (whole_row mode)
         (role ∷ key ∷ iv.now ∷ pad.now ∷ text.now ∷ []))
         granted.now lease.old lease.new result reply.new }
-    ensures places { ChangesPlaces lease.old lease.new }
 {
     show_changed(mode, key_in(&granted.first), iv, pad, text, lease, reply)
 }

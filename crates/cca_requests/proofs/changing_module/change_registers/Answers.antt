@@ -17,36 +17,36 @@ use Rattle.cca_requests.proofs.Changing.{changes_as, still_as, left_as}
 use Rattle.cca_requests.proofs.changing_module.change_registers.Goals as goal
 
 pub returns-clause-carries : goal.returns-clause-carries
-returns-clause-carries g c = λ s at.
-    let bench = bench_of c.args.lease.now in
-    let later = bench_of c.carry_out-outcome.new.lease in
-    let action = c.args.action in
-    let result = c.carry_out-outcome.result in
-    let old = g.M.Disk.medium c.args.module.now in
-    let new = g.M.Disk.medium c.carry_out-outcome.new.module in
-    let is = sym (masters_are s.registers c.args.held.now bench at.loaded) in
-    subst (λ r. CarriesModule (action_outcome s action bench.part) s r
-    c.answer_change.new.reply c.args.roles.now old new) (sym c.answer_change.ensures.stop)
-    (changes_as g.M.Disk.medium c.args.module.now c.carry_out-outcome.new.module s c.args.roles.now (after_action action bench.part s.registers) (labels_after action s) later
-    c.requires.at.settled at.stands (has_wrong_state action s.registers) (repeats_pattern action s.registers) result c.answer_change.new.reply
-    (subst (λ (m : Masters). (result ≡ Err RegisterState) ↔ IsTrue (has_wrong_state action m)) is c.carry_out-outcome.ensures.state)
-    (subst (λ (m : Masters). (result ≡ Err SamePattern) ↔ IsTrue (repeats_pattern action m)) is c.carry_out-outcome.ensures.same)
-    (subst (λ (m : Masters). ChangesModule m (after_action action bench.part m) old new result) is c.carry_out-outcome.ensures.registers.changed)
-    c.carry_out-outcome.ensures.registers.untouched
-    (subst (λ (m : Masters). IfOk result (λ now. Loaded (after_action action bench.part m) now later)) is c.carry_out-outcome.ensures.registers.loaded)
-    (subst (λ r. OnOk r (c.answer_change.new.reply ≡ spelled (change_reply result))) c.answer_change.ensures.stop c.answer_change.ensures.reply))
-
-pub returns-clause-still : goal.returns-clause-still
-returns-clause-still g c = λ s at none.
-    let bench = bench_of c.args.lease.now in
-    let action = c.args.action in
-    let result = c.carry_out-outcome.result in
-    let is = sym (masters_are s.registers c.args.held.now bench at.loaded) in
-    still_as g.M.Disk.medium c.args.module.now c.carry_out-outcome.new.module s c.args.roles.now (after_action action bench.part s.registers) (labels_after action s) bench
-    c.requires.at.settled at.stands (has_wrong_state action s.registers) (repeats_pattern action s.registers) result
-    (subst (λ (m : Masters). (result ≡ Err RegisterState) ↔ IsTrue (has_wrong_state action m)) is c.carry_out-outcome.ensures.state)
-    (subst (λ (m : Masters). (result ≡ Err SamePattern) ↔ IsTrue (repeats_pattern action m)) is c.carry_out-outcome.ensures.same)
-    c.carry_out-outcome.ensures.registers.untouched none
+returns-clause-carries g c = λ s at. record {
+  carries =
+      let bench = bench_of c.args.lease.now in
+      let later = bench_of c.carry_out-outcome.new.lease in
+      let action = c.args.action in
+      let result = c.carry_out-outcome.result in
+      let old = g.M.Disk.medium c.args.module.now in
+      let new = g.M.Disk.medium c.carry_out-outcome.new.module in
+      let is = sym (masters_are s.registers c.args.held.now bench at.loaded) in
+      subst (λ r. CarriesModule (action_outcome s action bench.part) s r
+      c.answer_change.new.reply c.args.roles.now old new) (sym c.answer_change.ensures.stop)
+      (changes_as g.M.Disk.medium c.args.module.now c.carry_out-outcome.new.module s c.args.roles.now (after_action action bench.part s.registers) (labels_after action s) later
+      c.requires.at.settled at.stands (has_wrong_state action s.registers) (repeats_pattern action s.registers) result c.answer_change.new.reply
+      (subst (λ (m : Masters). (result ≡ Err RegisterState) ↔ IsTrue (has_wrong_state action m)) is c.carry_out-outcome.ensures.state)
+      (subst (λ (m : Masters). (result ≡ Err SamePattern) ↔ IsTrue (repeats_pattern action m)) is c.carry_out-outcome.ensures.same)
+      (subst (λ (m : Masters). ChangesModule m (after_action action bench.part m) old new result) is c.carry_out-outcome.ensures.registers.changed)
+      c.carry_out-outcome.ensures.registers.untouched
+      (subst (λ (m : Masters). IfOk result (λ now. Loaded (after_action action bench.part m) now later)) is c.carry_out-outcome.ensures.registers.loaded)
+      (subst (λ r. OnOk r (c.answer_change.new.reply ≡ spelled (change_reply result))) c.answer_change.ensures.stop c.answer_change.ensures.reply));
+  still = λ none.
+      let bench = bench_of c.args.lease.now in
+      let action = c.args.action in
+      let result = c.carry_out-outcome.result in
+      let is = sym (masters_are s.registers c.args.held.now bench at.loaded) in
+      still_as g.M.Disk.medium c.args.module.now c.carry_out-outcome.new.module s c.args.roles.now (after_action action bench.part s.registers) (labels_after action s) bench
+      c.requires.at.settled at.stands (has_wrong_state action s.registers) (repeats_pattern action s.registers) result
+      (subst (λ (m : Masters). (result ≡ Err RegisterState) ↔ IsTrue (has_wrong_state action m)) is c.carry_out-outcome.ensures.state)
+      (subst (λ (m : Masters). (result ≡ Err SamePattern) ↔ IsTrue (repeats_pattern action m)) is c.carry_out-outcome.ensures.same)
+      c.carry_out-outcome.ensures.registers.untouched none;
+}
 
 pub returns-clause-left : goal.returns-clause-left
 returns-clause-left g c =

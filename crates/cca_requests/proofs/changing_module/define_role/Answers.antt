@@ -10,30 +10,30 @@ use Rattle.cca_requests.proofs.RoleChanging.{role_changes_as, role_still_as, rol
 use Rattle.cca_requests.proofs.changing_module.define_role.Goals as goal
 
 pub returns-clause-carries : goal.returns-clause-carries
-returns-clause-carries g c = λ s at.
-    let name = c.args.name.now in
-    let r = c.define-outcome.result in
-    let old = g.M.Disk.medium c.args.module.now in
-    let new = g.M.Disk.medium c.define-outcome.new.module in
-    let now = c.define-outcome.new.self in
-    let is = at.stands.memory in
-    role_changes_as g.M.Disk.medium c.args.module.now c.define-outcome.new.module s c.args.roles.now now (define_place name s.roles) (after_define name c.args.points s.roles) (DefineRole name c.args.points) refl
-    TableFull (record { stop = refl; reply = refl }) c.requires.at.settled at.stands c.answer_roles.new.reply (define_refused name s.roles) r c.answer_roles.result c.answer_roles.ensures.stop
-    (subst (λ rs. (r ≡ Err TableFull) ↔ IsTrue (define_refused name rs)) is c.define-outcome.ensures.full)
-    c.define-outcome.ensures.faults
-    (subst (λ rs. ChangesRoles (define_place name rs) rs (after_define name c.args.points rs) old new r) is c.define-outcome.ensures.changed)
-    c.define-outcome.ensures.untouched
-    (subst (λ rs. Remembers c.args.roles.now (after_define name c.args.points rs) now r) is c.define-outcome.ensures.memory)
-    c.answer_roles.ensures.reply
-
-pub returns-clause-still : goal.returns-clause-still
-returns-clause-still g c = λ s at none.
-    let name = c.args.name.now in
-    let r = c.define-outcome.result in
-    role_still_as g.M.Disk.medium c.args.module.now c.define-outcome.new.module s c.args.roles.now c.define-outcome.new.self (define_place name s.roles) (after_define name c.args.points s.roles) (DefineRole name c.args.points) refl
-    TableFull (record { stop = refl; reply = refl }) c.requires.at.settled at.stands (define_refused name s.roles) r
-    (subst (λ rs. (r ≡ Err TableFull) ↔ IsTrue (define_refused name rs)) at.stands.memory c.define-outcome.ensures.full)
-    c.define-outcome.ensures.untouched none
+returns-clause-carries g c = λ s at. record {
+  carries =
+      let name = c.args.name.now in
+      let r = c.define-outcome.result in
+      let old = g.M.Disk.medium c.args.module.now in
+      let new = g.M.Disk.medium c.define-outcome.new.module in
+      let now = c.define-outcome.new.self in
+      let is = at.stands.memory in
+      role_changes_as g.M.Disk.medium c.args.module.now c.define-outcome.new.module s c.args.roles.now now (define_place name s.roles) (after_define name c.args.points s.roles) (DefineRole name c.args.points) refl
+      TableFull (record { stop = refl; reply = refl }) c.requires.at.settled at.stands c.answer_roles.new.reply (define_refused name s.roles) r c.answer_roles.result c.answer_roles.ensures.stop
+      (subst (λ rs. (r ≡ Err TableFull) ↔ IsTrue (define_refused name rs)) is c.define-outcome.ensures.full)
+      c.define-outcome.ensures.faults
+      (subst (λ rs. ChangesRoles (define_place name rs) rs (after_define name c.args.points rs) old new r) is c.define-outcome.ensures.changed)
+      c.define-outcome.ensures.untouched
+      (subst (λ rs. Remembers c.args.roles.now (after_define name c.args.points rs) now r) is c.define-outcome.ensures.memory)
+      c.answer_roles.ensures.reply;
+  still = λ none.
+      let name = c.args.name.now in
+      let r = c.define-outcome.result in
+      role_still_as g.M.Disk.medium c.args.module.now c.define-outcome.new.module s c.args.roles.now c.define-outcome.new.self (define_place name s.roles) (after_define name c.args.points s.roles) (DefineRole name c.args.points) refl
+      TableFull (record { stop = refl; reply = refl }) c.requires.at.settled at.stands (define_refused name s.roles) r
+      (subst (λ rs. (r ≡ Err TableFull) ↔ IsTrue (define_refused name rs)) at.stands.memory c.define-outcome.ensures.full)
+      c.define-outcome.ensures.untouched none;
+}
 
 pub returns-clause-left : goal.returns-clause-left
 returns-clause-left g c =

@@ -10,30 +10,30 @@ use Rattle.cca_requests.proofs.RoleChanging.{role_changes_as, role_still_as, rol
 use Rattle.cca_requests.proofs.changing_module.remove_role.Goals as goal
 
 pub returns-clause-carries : goal.returns-clause-carries
-returns-clause-carries g c = λ s at.
-    let name = c.args.name.now in
-    let r = c.remove-outcome.result in
-    let old = g.M.Disk.medium c.args.module.now in
-    let new = g.M.Disk.medium c.remove-outcome.new.module in
-    let now = c.remove-outcome.new.self in
-    let is = at.stands.memory in
-    role_changes_as g.M.Disk.medium c.args.module.now c.remove-outcome.new.module s c.args.roles.now now (remove_place name s.roles) (after_remove name s.roles) (RemoveRole name) refl
-    Unknown (record { stop = refl; reply = refl }) c.requires.at.settled at.stands c.answer_roles.new.reply (remove_refused name s.roles) r c.answer_roles.result c.answer_roles.ensures.stop
-    (subst (λ rs. (r ≡ Err Unknown) ↔ IsTrue (remove_refused name rs)) is c.remove-outcome.ensures.unknown)
-    c.remove-outcome.ensures.faults
-    (subst (λ rs. ChangesRoles (remove_place name rs) rs (after_remove name rs) old new r) is c.remove-outcome.ensures.changed)
-    c.remove-outcome.ensures.untouched
-    (subst (λ rs. Remembers c.args.roles.now (after_remove name rs) now r) is c.remove-outcome.ensures.memory)
-    c.answer_roles.ensures.reply
-
-pub returns-clause-still : goal.returns-clause-still
-returns-clause-still g c = λ s at none.
-    let name = c.args.name.now in
-    let r = c.remove-outcome.result in
-    role_still_as g.M.Disk.medium c.args.module.now c.remove-outcome.new.module s c.args.roles.now c.remove-outcome.new.self (remove_place name s.roles) (after_remove name s.roles) (RemoveRole name) refl
-    Unknown (record { stop = refl; reply = refl }) c.requires.at.settled at.stands (remove_refused name s.roles) r
-    (subst (λ rs. (r ≡ Err Unknown) ↔ IsTrue (remove_refused name rs)) at.stands.memory c.remove-outcome.ensures.unknown)
-    c.remove-outcome.ensures.untouched none
+returns-clause-carries g c = λ s at. record {
+  carries =
+      let name = c.args.name.now in
+      let r = c.remove-outcome.result in
+      let old = g.M.Disk.medium c.args.module.now in
+      let new = g.M.Disk.medium c.remove-outcome.new.module in
+      let now = c.remove-outcome.new.self in
+      let is = at.stands.memory in
+      role_changes_as g.M.Disk.medium c.args.module.now c.remove-outcome.new.module s c.args.roles.now now (remove_place name s.roles) (after_remove name s.roles) (RemoveRole name) refl
+      Unknown (record { stop = refl; reply = refl }) c.requires.at.settled at.stands c.answer_roles.new.reply (remove_refused name s.roles) r c.answer_roles.result c.answer_roles.ensures.stop
+      (subst (λ rs. (r ≡ Err Unknown) ↔ IsTrue (remove_refused name rs)) is c.remove-outcome.ensures.unknown)
+      c.remove-outcome.ensures.faults
+      (subst (λ rs. ChangesRoles (remove_place name rs) rs (after_remove name rs) old new r) is c.remove-outcome.ensures.changed)
+      c.remove-outcome.ensures.untouched
+      (subst (λ rs. Remembers c.args.roles.now (after_remove name rs) now r) is c.remove-outcome.ensures.memory)
+      c.answer_roles.ensures.reply;
+  still = λ none.
+      let name = c.args.name.now in
+      let r = c.remove-outcome.result in
+      role_still_as g.M.Disk.medium c.args.module.now c.remove-outcome.new.module s c.args.roles.now c.remove-outcome.new.self (remove_place name s.roles) (after_remove name s.roles) (RemoveRole name) refl
+      Unknown (record { stop = refl; reply = refl }) c.requires.at.settled at.stands (remove_refused name s.roles) r
+      (subst (λ rs. (r ≡ Err Unknown) ↔ IsTrue (remove_refused name rs)) at.stands.memory c.remove-outcome.ensures.unknown)
+      c.remove-outcome.ensures.untouched none;
+}
 
 pub returns-clause-left : goal.returns-clause-left
 returns-clause-left g c =

@@ -1,4 +1,4 @@
-use Rattle.std.proofs.Common.{◌≡◌, [], Some, OnOk, sym, subst}
+use Rattle.std.proofs.Common.{◌≡◌, [], Some, OnOk, sym, subst, rules}
 use Rattle.std.specs.Prelude.{◌==◌, OnErr, is_some, set}
 use Rattle.key_records.specs.Directory.{free_cell, cell_of}
 use Rattle.key_records.specs.Entries.{directory, row_directory, null_row}
@@ -32,16 +32,20 @@ returns-clause-carries g c = λ s held at.
     (subst (λ x. OnOk x (c.answer_create.new.reply ≡ spelled (record_reply r))) c.answer_create.ensures.stop c.answer_create.ensures.reply))
 
 pub returns-clause-left : goal.returns-clause-left
-returns-clause-left g c =
-    let label = c.args.label.now in
-    let rows = c.args.records.now in
-    let cell = free_cell (row_directory rows) in
-    let r = c.create-outcome.result in
-    let medium = g.D.Disk.medium in
-    let faults = g.D.Disk.faults in
-    let now = c.create-outcome.new.self in
-    subst (λ x. LeavesStore (medium c.args.store.now) (medium c.create-outcome.new.store) (faults c.args.store.now) (faults c.create-outcome.new.store)
-    x c.answer_create.new.reply rows now) (sym c.answer_create.ensures.stop)
-    (create_left_as medium faults c.args.store.now c.create-outcome.new.store rows now c.answer_create.new.reply cell (null_body label) (Some (null_row label)) c.args.lease.now c.create-outcome.new.lease
-    c.requires.store.settled c.requires.store.holds (row_directory rows) label r c.create-outcome.ensures.changes c.create-outcome.ensures.refuses
-    (subst (λ x. OnErr x (c.answer_create.new.reply ≡ [])) c.answer_create.ensures.stop c.answer_create.ensures.silent))
+returns-clause-left g c = record {
+  left =
+      let label = c.args.label.now in
+      let rows = c.args.records.now in
+      let cell = free_cell (row_directory rows) in
+      let r = c.create-outcome.result in
+      let medium = g.D.Disk.medium in
+      let faults = g.D.Disk.faults in
+      let now = c.create-outcome.new.self in
+      subst (λ x. LeavesStore (medium c.args.store.now) (medium c.create-outcome.new.store) (faults c.args.store.now) (faults c.create-outcome.new.store)
+      x c.answer_create.new.reply rows now) (sym c.answer_create.ensures.stop)
+      (create_left_as medium faults c.args.store.now c.create-outcome.new.store rows now c.answer_create.new.reply cell (null_body label) (Some (null_row label)) c.args.lease.now c.create-outcome.new.lease
+      c.requires.store.settled c.requires.store.holds (row_directory rows) label r c.create-outcome.ensures.changes c.create-outcome.ensures.refuses
+      (subst (λ x. OnErr x (c.answer_create.new.reply ≡ [])) c.answer_create.ensures.stop c.answer_create.ensures.silent));
+  kept = search rules;
+  loan = search rules;
+}

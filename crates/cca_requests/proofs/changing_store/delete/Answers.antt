@@ -1,4 +1,4 @@
-use Rattle.std.proofs.Common.{[], Ok, Err}
+use Rattle.std.proofs.Common.{[], Ok, Err, rules}
 use Rattle.verb_rules.specs.Keys.{keys_of}
 use Rattle.request_verbs.proofs.Fields.{no_fields}
 use Rattle.cca_requests.proofs.Storing.{deletes_as, kept_labels, stored_left}
@@ -20,6 +20,10 @@ returns-in-Err-clause-carries g c = λ s held e at gone.
     (c.in-Err.ensures.labels (keys_of s.registers) s.labels (kept_labels s rows old at.stands)) tt
 
 pub returns-in-Ok-clause-left : goal.returns-in-Ok-clause-left
-returns-in-Ok-clause-left g c =
-    stored_left g.D.Disk.medium g.D.Disk.faults c.args.store.now c.delete.new.store c.args.records.now c.delete.new.self c.end.new.reply c.args.place _ _ c.args.lease.now c.delete.new.lease
-    c.in-Ok.field-0 c.in-Ok.ensures.changes
+returns-in-Ok-clause-left g c = record {
+  left =
+      stored_left g.D.Disk.medium g.D.Disk.faults c.args.store.now c.delete.new.store c.args.records.now c.delete.new.self c.end.new.reply c.args.place _ _ c.args.lease.now c.delete.new.lease
+      c.in-Ok.field-0 c.in-Ok.ensures.changes;
+  kept = search rules;
+  loan = search rules;
+}

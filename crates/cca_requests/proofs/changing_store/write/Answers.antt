@@ -1,4 +1,4 @@
-use Rattle.std.proofs.Common.{◌∙◌, ◌++◌, Bool, Ok, Err, ap, sym}
+use Rattle.std.proofs.Common.{◌∙◌, ◌++◌, Bool, Ok, Err, ap, sym, rules}
 use Rattle.script_buffers.specs.Replies.{Done, spelled}
 use Rattle.verb_rules.specs.Keys.{keys_of}
 use Rattle.cca_machine.specs.Keys.{warning}
@@ -23,6 +23,10 @@ returns-in-Err-clause-carries g c = λ s request e at warns goes.
     (c.in-Err.ensures.labels (keys_of s.registers) s.labels goes.key (kept_labels s rows old at.stands) goes.stands) tt
 
 pub returns-in-Ok-clause-left : goal.returns-in-Ok-clause-left
-returns-in-Ok-clause-left g c =
-    stored_left g.D.Disk.medium g.D.Disk.faults c.args.store.now c.write.new.store c.args.records.now c.write.new.self c.finish.new.reply c.args.place _ _ c.args.lease.now c.write.new.lease
-    c.in-Ok.field-0 c.in-Ok.ensures.changes
+returns-in-Ok-clause-left g c = record {
+  left =
+      stored_left g.D.Disk.medium g.D.Disk.faults c.args.store.now c.write.new.store c.args.records.now c.write.new.self c.finish.new.reply c.args.place _ _ c.args.lease.now c.write.new.lease
+      c.in-Ok.field-0 c.in-Ok.ensures.changes;
+  kept = search rules;
+  loan = search rules;
+}

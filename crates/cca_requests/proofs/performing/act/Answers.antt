@@ -29,7 +29,7 @@ returns-in-Ok-clause-serves g c = λ s at granted is.
     let decides = c.in-Ok.ensures.decision.decided.decides s
     (record { loaded = at.loaded; recorded = recorded s c.args.records.now d0 at.stands.on_store; grants = granted }) in
     let loaded : Loaded s.registers c.args.held.now other =
-    subst (λ b. Loaded s.registers c.args.held.now b) (sym (ap bench_of c.decide.ensures.places)) (loaded_places s.registers c.args.held.now bench other at.loaded) in
+    subst (λ b. Loaded s.registers c.args.held.now b) (sym (ap bench_of c.decide.ensures.decision.places)) (loaded_places s.registers c.args.held.now bench other at.loaded) in
     drawn_serves s request decides.drawn c.carry.result c.carry.new.reply t m0 m1 d0 d1 (g.E.Entropy.left c.args.entropy.now) (g.E.Entropy.left c.decide.new.entropy)
     (subst (λ (x : Outcome). Carries x s c.carry.result c.carry.new.reply t m0 m1 d0 d1)
     (sym (performed_by s decides.drawn request (whole_verb_verdict s decides.drawn request) (is (whole_verb_verdict s decides.drawn request))))
@@ -52,7 +52,7 @@ returns-in-Err-clause-serves g c = λ s at granted is.
     stopped_serves s request c.in-Err.stop c.decide.new.reply t t m m d d (g.E.Entropy.left c.args.entropy.now) (g.E.Entropy.left c.decide.new.entropy)
     (subst IsFault (sym c.in-Err.ensures.decision.decided.stops) tt)
     (λ fault. record { drawing = may.1; permitted = is (verb_verdict s request) ∙ may.0 })
-    c.requires.at.settled c.requires.store.settled (keeps_still m) (keeps_still d) at.stands
+    c.requires.disks.at.settled c.requires.disks.store.settled (keeps_still m) (keeps_still d) at.stands
 
 pub returns-in-Ok-clause-takes : goal.returns-in-Ok-clause-takes
 returns-in-Ok-clause-takes g c = takes_on c.decide.ensures.decision.takes (λ is. absurd (c.carry.ensures.entropy is))

@@ -13,16 +13,20 @@ use Rattle.verb_script.specs.Grammar.{Request}
 use Rattle.verb_script.specs.Parsed.{seen}
 use Rattle.cca_machine.specs.Operands.{Operands, operands, listed, names_label, is_reencipher, needs_store}
 use Rattle.cca_machine.specs.Verdict.{refusal, general_checks, verb_verdict}
+use Rattle.request_rules.specs.Refusals.{refusal_of}
 use Rattle.request_rules.specs.Standing.{tables}
 use Rattle.cca_requests.specs.Serving.{IsFault}
 use Rattle.request_verbs.proofs.Acting.{verdict_general}
 use Rattle.request_rules.proofs.AsRead.{grants_by_records, on_ok_always, refusal_by_record}
 use Rattle.request_verbs.proofs.Delivering.{either_right}
 use Rattle.request_rules.proofs.GrantsKept.{grants_kept, loaded_kept}
-use Rattle.cca_requests.proofs.OperandsJudged.{operands_granted, operands_refused}
+use Rattle.cca_requests.proofs.OperandsJudged.{operands_granted, operands_refused, whole_short, whole_spelled}
 use Rattle.cca_requests.proofs.Serving.{refused_serves, stopped_serves, serves_after_reads, stands_kept}
 use Rattle.cca_requests.proofs.Leaving.{still_turned, read_turned, leaves_after_reads}
 use Rattle.cca_requests.proofs.performing.carry_out.Goals as goal
+
+pub refuse-requires-clause-short : goal.refuse-requires-clause-short
+refuse-requires-clause-short g c = whole_short c.of_request.result c.of_request.ensures
 
 pub returns-in-Some-clause-serves : goal.returns-in-Some-clause-serves
 returns-in-Some-clause-serves g c = λ s at.
@@ -32,7 +36,7 @@ returns-in-Some-clause-serves g c = λ s at.
     let fails : first_failing (general_checks s request) ≡ Some (rule_number c.in-Some.rule) =
     sym (c.general_rule.ensures.rule s (bench_of c.args.lease.now) at.stands.on_module.memory at.loaded) ∙ ap (option_map rule_number) c.in-Some.is in
     refused_serves s request (refusal (rule_number c.in-Some.rule) (codes "-")) c.refuse.new.reply t (g.M.Disk.medium c.args.module.now) d d (g.E.Entropy.left c.args.entropy.now)
-    (verdict_general s request (rule_number c.in-Some.rule) fails) c.refuse.ensures c.requires.at.settled c.requires.store.settled (keeps_still d) at.stands
+    (verdict_general s request (rule_number c.in-Some.rule) fails) (whole_spelled c.of_request.result c.of_request.ensures c.refuse.ensures) c.requires.disks.at.settled c.requires.disks.store.settled (keeps_still d) at.stands
 
 pub returns-in-Ok-Refused-clause-serves : goal.returns-in-Ok-Refused-clause-serves
 returns-in-Ok-Refused-clause-serves g c = λ s at.
@@ -42,12 +46,12 @@ returns-in-Ok-Refused-clause-serves g c = λ s at.
     let m = g.M.Disk.medium c.args.module.now in
     let d0 = g.D.Disk.medium c.args.store.now in
     let d1 = g.D.Disk.medium c.judge.new.store in
-    let r = refusal (rule_number c.in-Ok-Refused.rule) c.in-Ok-Refused.operand.now in
-    let fails = operands_refused s bench request c.in-Ok-Refused.rule c.in-Ok-Refused.operand
+    let r = refusal_of c.in-Ok-Refused.refusal in
+    let fails = operands_refused s bench request c.in-Ok-Refused.refusal
     (c.general_rule.ensures.rule s bench at.stands.on_module.memory at.loaded) c.in_default.is c.operands_of.ensures.table
     (c.in-Ok-Refused.ensures.judged s (record { loaded = at.loaded; stands = at.stands.on_store })) c.in-Ok-Refused.field-0-is in
     refused_serves s request r c.refuse-in-Ok-Refused.new.reply t m d0 d1 (g.E.Entropy.left c.args.entropy.now)
-    fails c.refuse-in-Ok-Refused.ensures c.requires.at.settled c.requires.store.settled c.judge.ensures.keeps at.stands
+    fails c.refuse-in-Ok-Refused.ensures c.requires.disks.at.settled c.requires.disks.store.settled c.judge.ensures.reads.keeps at.stands
 
 pub returns-in-Ok-Granted-clause-serves : goal.returns-in-Ok-Granted-clause-serves
 returns-in-Ok-Granted-clause-serves g c = λ s at.
@@ -63,11 +67,11 @@ returns-in-Ok-Granted-clause-serves g c = λ s at.
     serves_after_reads s request c.act.result c.act.new.reply t (tables c.act.new.roles c.act.new.records)
     m m (g.M.Disk.medium c.act.new.module) d0 d1 (g.D.Disk.medium c.act.new.store)
     (g.E.Entropy.left c.args.entropy.now) (g.E.Entropy.left c.act.new.entropy)
-    c.requires.at.settled c.requires.store.settled (keeps_still m) c.judge.ensures.keeps at.stands
+    c.requires.disks.at.settled c.requires.disks.store.settled (keeps_still m) c.judge.ensures.reads.keeps at.stands
     (c.act.ensures.serves s (record {
-      loaded = loaded_kept s.registers c.args.held.now c.args.lease.now c.judge.new.lease c.judge.ensures.rest at.loaded;
-      stands = stands_kept s t m m d0 d1 (keeps_still m) c.judge.ensures.keeps at.stands;
-    }) (grants_kept s c.args.lease.now c.judge.new.lease (operands request) c.in-Ok-Granted.granted c.judge.ensures.rest granted.0)
+      loaded = loaded_kept s.registers c.args.held.now c.args.lease.now c.judge.new.lease c.judge.ensures.reads.rest at.loaded;
+      stands = stands_kept s t m m d0 d1 (keeps_still m) c.judge.ensures.reads.keeps at.stands;
+    }) (grants_kept s c.args.lease.now c.judge.new.lease (operands request) c.in-Ok-Granted.granted c.judge.ensures.reads.rest granted.0)
     granted.1)
 
 pub returns-in-Ok-Granted-clause-random : goal.returns-in-Ok-Granted-clause-random
@@ -89,10 +93,10 @@ returns-in-Err-clause-serves g c = λ s at.
     let t = tables c.args.roles.now c.args.records.now in
     let m = g.M.Disk.medium c.args.module.now in
     let left = g.E.Entropy.left c.args.entropy.now in
-    let fault : c.in-Err.stop ≡ StoreFault = c.in-Err.ensures.faults s (record { loaded = at.loaded; stands = at.stands.on_store }) in
+    let fault : c.in-Err.stop ≡ StoreFault = c.in-Err.ensures.reads.sound s (record { loaded = at.loaded; stands = at.stands.on_store }) in
     stopped_serves s request c.in-Err.stop c.args.reply.now t t m m (g.D.Disk.medium c.args.store.now) (g.D.Disk.medium c.judge.new.store) left left
     (subst IsFault (sym fault) tt) (λ is. let no : StoreFault ≡ EntropyFault = sym fault ∙ is in cc no)
-    c.requires.at.settled c.requires.store.settled (keeps_still m) c.judge.ensures.keeps at.stands
+    c.requires.disks.at.settled c.requires.disks.store.settled (keeps_still m) c.judge.ensures.reads.keeps at.stands
 
 -- ---- where the store isn't needed
 
@@ -114,21 +118,21 @@ unnamed r os same none =
 
 pub returns-in-Err-clause-store : goal.returns-in-Err-clause-store
 returns-in-Err-clause-store g c = record {
-  named = λ is. needed (seen c.args.request.now) _ c.operands_of.ensures.table (c.judge.ensures.named (c.in-Err.is ∙ ap Err (same_stop c.in-Err.stop StoreFault is)));
-  spared = λ none. c.judge.ensures.spared (unnamed (seen c.args.request.now) _ c.operands_of.ensures.table none);
+  named = λ is. needed (seen c.args.request.now) _ c.operands_of.ensures.table (c.judge.ensures.reads.named (c.in-Err.is ∙ ap Err (same_stop c.in-Err.stop StoreFault is)));
+  spared = λ none. c.judge.ensures.reads.spared (unnamed (seen c.args.request.now) _ c.operands_of.ensures.table none);
 }
 
 pub returns-in-Ok-Refused-clause-store : goal.returns-in-Ok-Refused-clause-store
 returns-in-Ok-Refused-clause-store g c = record {
   named = λ is. cc is;
-  spared = λ none. c.judge.ensures.spared (unnamed (seen c.args.request.now) _ c.operands_of.ensures.table none);
+  spared = λ none. c.judge.ensures.reads.spared (unnamed (seen c.args.request.now) _ c.operands_of.ensures.table none);
 }
 
 pub returns-in-Ok-Granted-clause-store : goal.returns-in-Ok-Granted-clause-store
 returns-in-Ok-Granted-clause-store g c = record {
   named = c.act.ensures.store.named;
   spared = λ none.
-      c.act.ensures.store.spared none ∙ c.judge.ensures.spared (unnamed (seen c.args.request.now) _ c.operands_of.ensures.table none);
+      c.act.ensures.store.spared none ∙ c.judge.ensures.reads.spared (unnamed (seen c.args.request.now) _ c.operands_of.ensures.table none);
 }
 
 -- ---- what is left
@@ -155,7 +159,7 @@ returns-in-Ok-Refused-clause-left g c = record {
   module_told = search rules;
   store_told = search rules;
   module_turned = still_turned 33 (g.M.Disk.medium c.args.module.now) (g.M.Disk.medium c.args.module.now) refl refl;
-  store_turned = read_turned 1024 (g.D.Disk.medium c.args.store.now) (g.D.Disk.medium c.judge.new.store) c.judge.ensures.keeps;
+  store_turned = read_turned 1024 (g.D.Disk.medium c.args.store.now) (g.D.Disk.medium c.judge.new.store) c.judge.ensures.reads.keeps;
   sound = search rules;
   holds = search rules;
   silent = search rules;
@@ -167,7 +171,7 @@ pub returns-in-Ok-Granted-clause-left : goal.returns-in-Ok-Granted-clause-left
 returns-in-Ok-Granted-clause-left g c =
     let m = g.M.Disk.medium c.args.module.now in
     leaves_after_reads
-    (keeps_still m) refl c.judge.ensures.keeps (c.in-Ok-Granted.ensures.store.quiet (λ is. cc is)) c.act.ensures.left
+    (keeps_still m) refl c.judge.ensures.reads.keeps (c.in-Ok-Granted.ensures.reads.disk.quiet (λ is. cc is)) c.act.ensures.left
 
 -- ---- what the reply rests on
 
@@ -177,11 +181,11 @@ returns-in-Some-clause-own g c =
     let bench = bench_of c.args.lease.now in
     record {
       registers = masters_in held bench;
-      in_module = c.requires.at.stands;
+      in_module = c.requires.disks.at.stands;
       general = Some (rule_number c.in-Some.rule);
       as_whole = λ s registers roles.
-          sym (c.general_rule.ensures.rule s bench (sym roles) (subst (λ m. Loaded m held bench) (sym registers) c.requires.at.loaded)) ∙ ap (option_map rule_number) c.in-Some.is;
-      judged = c.refuse.ensures;
+          sym (c.general_rule.ensures.rule s bench (sym roles) (subst (λ m. Loaded m held bench) (sym registers) c.requires.disks.at.loaded)) ∙ ap (option_map rule_number) c.in-Some.is;
+      judged = whole_spelled c.of_request.result c.of_request.ensures c.refuse.ensures;
     }
 
 pub returns-in-Ok-Refused-clause-own : goal.returns-in-Ok-Refused-clause-own
@@ -190,13 +194,13 @@ returns-in-Ok-Refused-clause-own g c =
     let bench = bench_of c.args.lease.now in
     record {
       registers = masters_in held bench;
-      in_module = c.requires.at.stands;
+      in_module = c.requires.disks.at.stands;
       general = None;
       as_whole = λ s registers roles.
-          sym (c.general_rule.ensures.rule s bench (sym roles) (subst (λ m. Loaded m held bench) (sym registers) c.requires.at.loaded)) ∙ ap (option_map rule_number) c.in_default.is;
+          sym (c.general_rule.ensures.rule s bench (sym roles) (subst (λ m. Loaded m held bench) (sym registers) c.requires.disks.at.loaded)) ∙ ap (option_map rule_number) c.in_default.is;
       judged = refusal_by_record (masters_in held bench) bench c.args.records.now (seen c.args.request.now) c.refuse-in-Ok-Refused.new.reply
-          c.in-Ok-Refused.rule c.in-Ok-Refused.operand c.operands_of.ensures.table
-          (c.in-Ok-Refused.ensures.own (masters_in held bench) c.requires.at.loaded) c.in-Ok-Refused.field-0-is c.refuse-in-Ok-Refused.ensures;
+          c.in-Ok-Refused.refusal c.operands_of.ensures.table
+          (c.in-Ok-Refused.ensures.own (masters_in held bench) c.requires.disks.at.loaded) c.in-Ok-Refused.field-0-is c.refuse-in-Ok-Refused.ensures;
     }
 
 pub returns-in-Ok-Granted-clause-own : goal.returns-in-Ok-Granted-clause-own
@@ -205,11 +209,11 @@ returns-in-Ok-Granted-clause-own g c =
     let bench = bench_of c.args.lease.now in
     on_ok_always c.act.result _ (record {
       registers = masters_in held bench;
-      in_module = c.requires.at.stands;
+      in_module = c.requires.disks.at.stands;
       general = None;
       as_whole = λ s registers roles.
-          sym (c.general_rule.ensures.rule s bench (sym roles) (subst (λ m. Loaded m held bench) (sym registers) c.requires.at.loaded)) ∙ ap (option_map rule_number) c.in_default.is;
+          sym (c.general_rule.ensures.rule s bench (sym roles) (subst (λ m. Loaded m held bench) (sym registers) c.requires.disks.at.loaded)) ∙ ap (option_map rule_number) c.in_default.is;
       judged = grants_by_records (masters_in held bench) bench c.args.records.now (seen c.args.request.now) c.act.new.reply
           c.in-Ok-Granted.granted c.operands_of.ensures.table
-          (c.in-Ok-Granted.ensures.own (masters_in held bench) c.requires.at.loaded) c.in-Ok-Granted.field-0-is;
+          (c.in-Ok-Granted.ensures.own (masters_in held bench) c.requires.disks.at.loaded) c.in-Ok-Granted.field-0-is;
     })

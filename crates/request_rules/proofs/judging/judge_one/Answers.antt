@@ -1,15 +1,17 @@
 use Rattle.std.proofs.Common.{◌≡◌, ◌∙◌, None, Some, sym, ap, subst}
-use Rattle.std.specs.Prelude.{option_copied}
+use Rattle.std.specs.Prelude.{is_some, option_copied}
 use Rattle.key_cells.specs.Lease.{bench_of}
 use Rattle.verb_rules.specs.declared.needs.Need.{Need}
 use Rattle.verb_rules.proofs.JudgeLemmas.{if_ok_gives}
 use Rattle.verb_script.specs.Named.{label_named}
+use Rattle.cca_machine.specs.Operands.{is_named_by}
 use Rattle.cca_machine.specs.declared.asking.Ask.{Ask}
 use Rattle.cca_machine.specs.declared.asking.Ask.TheVariants.{Token}
 use Rattle.request_rules.specs.Judging.{IsAsked, IsKeyedAnswer}
 use Rattle.request_rules.specs.Stored.{IsLabelAsked}
 use Rattle.request_rules.proofs.AsRead.{named_as_read, record_as_read, unnamed_as_read}
 use Rattle.request_rules.proofs.LabelsRead.{key_by_label, key_by_token, record_asked}
+use Rattle.request_rules.proofs.StoreReads.{reads_label}
 use Rattle.request_rules.proofs.judging.judge_one.Goals as goal
 
 pub returns-in-AnyToken-clause-asked : goal.returns-in-AnyToken-clause-asked
@@ -74,6 +76,17 @@ pub returns-in-Target-clause-asked : goal.returns-in-Target-clause-asked
 returns-in-Target-clause-asked g c = λ s at.
     subst (λ (a : Ask). IsAsked s (bench_of c.args.lease.now) c.args.operand.now.text.now a c.judge_target.result) (sym c.in-Target.is)
     (c.judge_target.ensures.asked s (bench_of c.args.lease.now) at.stands.agrees)
+
+-- ---- what is read
+
+pub returns-in-Some-clause-reads : goal.returns-in-Some-clause-reads
+returns-in-Some-clause-reads g c =
+    let text = c.args.operand.now.text.now in
+    let named : label_named text ≡ Some c.in-Some.label.now = sym c.named_label.ensures ∙ ap option_copied c.in-Some.is in
+    reads_label (ap (is_named_by text) c.in-Key.is ∙ ap is_some named) c.judge_label.ensures.reads
+
+pub returns-in-Record-clause-reads : goal.returns-in-Record-clause-reads
+returns-in-Record-clause-reads g c = reads_label (ap (is_named_by c.args.operand.now.text.now) c.in-Record.is) c.judge_label-in-Record.ensures.reads
 
 -- ---- by what was read of the record of a label
 

@@ -1,4 +1,4 @@
-use Rattle.std.proofs.Common.{◌≡◌, ◌∙◌, ℕ, List, [], Option, None, Some, get_or, sym, ap, subst}
+use Rattle.std.proofs.Common.{◌≡◌, ◌∙◌, ℕ, List, [], Option, None, Some, get_or, refl, sym, ap, subst, rules}
 use Rattle.std.specs.Prelude.{Err}
 use Rattle.key_cells.specs.Lease.{bench_of}
 use Rattle.key_records.specs.StoreStands.{entry_at}
@@ -25,22 +25,30 @@ returns-in-Ok-judge_record-clause-asked g c = λ s at.
     let stored : IsStored bench c.args.need.now (what_in (entry_at s.labels c.in-Ok.place)) here.judged =
     in_store s c.args.held.now bench c.args.records.now (g.D.Disk.medium c.args.store.now) at _
     (here.ensures.stored s.registers s.labels at.loaded) in
-    subst (IsLabelAsked s bench c.args.need.now c.args.label.now) (sym c.of.ensures)
+    subst (IsLabelAsked s bench c.args.need.now c.args.label.now) (sym c.answer_of.ensures)
     (stored_asked s c.args.records.now at.stands.agrees c.args.label.now c.args.need.now c.in-Ok.place c.in-Ok.ensures bench c.args.held.now
     here.judged at.loaded stored here.ensures.age)
 
 pub returns-in-Ok-judge_record-clause-shaped : goal.returns-in-Ok-judge_record-clause-shaped
 returns-in-Ok-judge_record-clause-shaped g c =
     let here = c.in-Ok-judge_record in
-    subst (IsShaped [] [] (Ask.Key c.args.need.now)) (sym c.of.ensures)
+    subst (IsShaped [] [] (Ask.Key c.args.need.now)) (sym c.answer_of.ensures)
     (judged_shape c.args.need.now here.judged here.ensures.halves here.ensures.under here.ensures.double)
 
-pub returns-in-Err-judge_record-clause-faults : goal.returns-in-Err-judge_record-clause-faults
-returns-in-Err-judge_record-clause-faults g c = λ s at.
-    let here = c.in-Err-judge_record in
-    c.stop_of.ensures ∙ store_failed here.fault c.in-Ok.place here.ensures.fails.faults (λ cell is.
-    in_store s c.args.held.now (bench_of c.args.lease.now) c.args.records.now (g.D.Disk.medium c.args.store.now) at ⊥
-    (λ told. here.ensures.damaged s.registers s.labels at.loaded told cell (ap Err is)))
+pub returns-in-Err-judge_record-clause-reads : goal.returns-in-Err-judge_record-clause-reads
+returns-in-Err-judge_record-clause-reads g c = record {
+  keeps = search rules;
+  disk = search rules;
+  spared = λ none. cc none;
+  named = λ is. refl;
+  stops = search rules;
+  sound = λ s at.
+      let here = c.in-Err-judge_record in
+      c.stop_of.ensures ∙ store_failed here.fault c.in-Ok.place here.ensures.fails.faults (λ cell is.
+      in_store s c.args.held.now (bench_of c.args.lease.now) c.args.records.now (g.D.Disk.medium c.args.store.now) at ⊥
+      (λ told. here.ensures.damaged s.registers s.labels at.loaded told cell (ap Err is)));
+  rest = search rules;
+}
 
 -- ---- by what was read of its record
 
@@ -58,6 +66,6 @@ pub returns-in-Ok-judge_record-clause-own : goal.returns-in-Ok-judge_record-clau
 returns-in-Ok-judge_record-clause-own g c = λ m place loaded found.
     let rows : List (Option Row) = c.args.records.now in
     let read = c.in-Ok-judge_record.ensures.own m loaded in
-    subst (λ (n : ℕ). IsAnsweredAsRead m (bench_of c.args.lease.now) c.args.need.now (get_or rows n None) (bench_of c.judge_record.new.lease).body c.of.result)
+    subst (λ (n : ℕ). IsAnsweredAsRead m (bench_of c.args.lease.now) c.args.need.now (get_or rows n None) (bench_of c.judge_record.new.lease).body c.answer_of.result)
     (same_place rows c.args.label.now c.in-Ok.place place c.in-Ok.ensures found)
-    (record { what = read.0; holds = read.1; judged = c.in-Ok-judge_record.judged; stored = read.2; is = c.of.ensures })
+    (record { what = read.0; holds = read.1; judged = c.in-Ok-judge_record.judged; stored = read.2; is = c.answer_of.ensures })

@@ -3,12 +3,16 @@ use Rattle.request_verbs.proofs.KeyedRows.{whole_code_keyed}
 use Rattle.request_verbs.proofs.Settling.{keyed_settles}
 use Rattle.request_verbs.proofs.verbs.codes.whole_code.Goals as goal
 
-pub returns-in-Err-clause-settles : goal.returns-in-Err-clause-settles
-returns-in-Err-clause-settles c = λ role key held rows.
-    keyed_settles (whole_code_keyed c.args.purpose role key c.args.rule.now c.args.text.now)
-    c.key_in-key.ensures.key c.key_in-key.ensures.under (search rules)
+pub returns-in-Err : goal.returns-in-Err
+returns-in-Err c = record {
+  settles = λ role key held rows.
+      keyed_settles (whole_code_keyed c.args.purpose role key c.args.rule.now c.args.text.now)
+      c.key_in-key.ensures.is c.key_in-key.ensures.under (search rules);
+}
 
-pub returns-clause-settles : goal.returns-clause-settles
-returns-clause-settles c = λ role key held rows.
-    keyed_settles (whole_code_keyed c.args.purpose role key c.args.rule.now c.args.text.now)
-    c.key_in-key.ensures.key c.key_in-key.ensures.under (search rules)
+pub returns : goal.returns
+returns c = record {
+  settles = λ role key held rows.
+      keyed_settles (whole_code_keyed c.args.purpose role key c.args.rule.now c.args.text.now)
+      c.key_in-key.ensures.is c.key_in-key.ensures.under (search rules);
+}

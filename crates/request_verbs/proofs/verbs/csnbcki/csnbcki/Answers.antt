@@ -10,16 +10,18 @@ use Rattle.request_verbs.proofs.Delivering.{either_left, stands_after, target_pl
 use Rattle.request_verbs.proofs.Settling.{delivery_settles}
 use Rattle.request_verbs.proofs.verbs.csnbcki.csnbcki.Goals as goal
 
-pub returns-clause-settles : goal.returns-clause-settles
-returns-clause-settles c = λ role rows.
-    let held = c.args.held.now in
-    let named = label_named c.args.to.now in
-    let key = imported_key (hex_value c.args.clear.now) in
-    let kept : masters_in held (bench_of c.import-token.new.lease) ≡ masters_in held (bench_of c.args.lease.now) = ap (λ (l : Lease). masters_in held (bench_of l)) c.import-token.ensures.places in
-    delivery_settles named c.args.granted.now.first.place c.import-token.result refl (either_left (is_some named) false) (λ s is. refl)
-    (λ s is. c.deliver.ensures.delivered s key (c.import-token.ensures.token s.registers is.loaded)
-    (c.import-token.ensures.denoted s.registers is.loaded) is.grants.0.0)
-    (λ shaped. target_place rows named c.args.granted.now.first shaped.0)
-    c.requires.target c.deliver.ensures.delivery
-    (stands_after (bench_of c.import-token.new.lease) c.import-token.result kept c.requires.loaded c.import-token.ensures.denoted)
-    c.deliver.ensures.size
+pub returns : goal.returns
+returns c = record {
+  settles = λ role rows.
+      let held = c.args.held.now in
+      let named = label_named c.args.to.now in
+      let key = imported_key (hex_value c.args.clear.now) in
+      let kept : masters_in held (bench_of c.import-token.new.lease) ≡ masters_in held (bench_of c.args.lease.now) = ap (λ (l : Lease). masters_in held (bench_of l)) c.import-token.ensures.places in
+      delivery_settles c.import-token.ensures.places named c.args.granted.now.first.place c.import-token.result refl (either_left (is_some named) false) (λ s is. refl)
+      (λ s is. c.deliver.ensures.delivered s key (c.import-token.ensures.made s.registers is.loaded)
+      (c.import-token.ensures.stands s.registers is.loaded) is.grants.0.0)
+      (λ shaped. target_place rows named c.args.granted.now.first shaped.0)
+      c.requires.delivers.target c.deliver.ensures.delivery
+      (stands_after (bench_of c.import-token.new.lease) c.import-token.result kept c.requires.delivers.loaded c.import-token.ensures.stands)
+      c.deliver.ensures.size;
+}

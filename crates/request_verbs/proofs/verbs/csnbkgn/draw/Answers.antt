@@ -1,14 +1,11 @@
-use Rattle.std.proofs.Common.{Err, Option, IfSome, length, refl, ap, subst}
-use Rattle.std.specs.Prelude.{◌<◌}
-use Rattle.request_verbs.specs.Drawing.{HasRefused}
-use Rattle.request_verbs.specs.declared.refusals.Refusal.{Refusal}
+use Rattle.std.proofs.Common.{Err, refl, ap, subst}
+use Rattle.request_rules.specs.Refusals.{HasRefused}
 use Rattle.request_verbs.proofs.DrawnKeys.{refuses_early, refuses_late}
 use Rattle.request_verbs.proofs.verbs.csnbkgn.draw.Goals as goal
 
 pub returns-in-Some-clause-drawn : goal.returns-in-Some-clause-drawn
 returns-in-Some-clause-drawn g c = λ v has.
     refuses_early v c.args.length (g.E.Entropy.left c.args.entropy.now) c.in-Some.refusal (subst (HasRefused v) c.in-Some.is has)
-    (subst (λ (r : Option Refusal). IfSome r (λ r. length r.operand.now < 100)) c.in-Some.is c.requires.short)
 
 pub returns-in-Ok-clause-drawn : goal.returns-in-Ok-clause-drawn
 returns-in-Ok-clause-drawn g c = λ v has. (subst (HasRefused v) c.in_default.is has, c.in-Ok.ensures.generated)

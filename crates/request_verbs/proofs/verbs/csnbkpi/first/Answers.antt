@@ -16,29 +16,33 @@ use Rattle.request_verbs.proofs.Generating.{type_is}
 use Rattle.request_verbs.proofs.Settling.{delivery_settles, refused_settles}
 use Rattle.request_verbs.proofs.verbs.csnbkpi.first.Goals as goal
 
-pub returns-in-Err-clause-settles : goal.returns-in-Err-clause-settles
-returns-in-Err-clause-settles c = λ role rule rows.
-    let size = length c.args.part.now / 2 in
-    refused_settles refl
-    (λ s is. ap (λ (k : KeyType). first_refusal (first_part_questions k size)) (type_is c.args.kind)
-    ∙ ap (λ rule. or_refused rule (codes "part") None) c.in-Err.ensures)
-    c.requires.empty (omega arith)
+pub returns-in-Err : goal.returns-in-Err
+returns-in-Err c = record {
+  settles = λ role rule rows.
+      let size = length c.args.part.now / 2 in
+      refused_settles refl refl
+      (λ s is. ap (λ (k : KeyType). first_refusal (first_part_questions k size)) (type_is c.args.kind)
+      ∙ ap (λ rule. or_refused rule (codes "part") None) c.in-Err.ensures)
+      c.requires.delivers.empty (omega arith);
+}
 
-pub returns-clause-settles : goal.returns-clause-settles
-returns-clause-settles c = λ role rule rows.
-    let held = c.args.held.now in
-    let named = label_named c.args.to.now in
-    let part = hex_value c.args.part.now in
-    let size = length c.args.part.now / 2 in
-    let kept : masters_in held (bench_of c.first_token-token.new.lease) ≡ masters_in held (bench_of c.args.lease.now) = ap (λ (l : Lease). masters_in held (bench_of l)) c.first_token-token.ensures.places in
-    delivery_settles named c.args.granted.now.first.place c.first_token-token.result refl (either_left (is_some named) false)
-    (λ s is. ap (λ (k : KeyType). first_refusal (first_part_questions k size)) (type_is c.args.kind)
-    ∙ ap (λ rule. or_refused rule (codes "part") None) c.in_default.ensures)
-    (λ s is. subst (λ (k : KeyType). IsDelivered s (delivered s (codes "token") named (as_current (first_key k part))) c.deliver.result c.deliver.new.reply)
-    (sym (type_is c.args.kind))
-    (c.deliver.ensures.delivered s (as_current (first_key c.args.kind part)) (c.first_token-token.ensures.token s.registers is.loaded)
-    (c.first_token-token.ensures.denoted s.registers is.loaded) is.grants.0.0))
-    (λ shaped. target_place rows named c.args.granted.now.first shaped.0)
-    c.requires.target c.deliver.ensures.delivery
-    (stands_after (bench_of c.first_token-token.new.lease) c.first_token-token.result kept c.requires.loaded c.first_token-token.ensures.denoted)
-    c.deliver.ensures.size
+pub returns : goal.returns
+returns c = record {
+  settles = λ role rule rows.
+      let held = c.args.held.now in
+      let named = label_named c.args.to.now in
+      let part = hex_value c.args.part.now in
+      let size = length c.args.part.now / 2 in
+      let kept : masters_in held (bench_of c.first_token-token.new.lease) ≡ masters_in held (bench_of c.args.lease.now) = ap (λ (l : Lease). masters_in held (bench_of l)) c.first_token-token.ensures.places in
+      delivery_settles c.first_token-token.ensures.places named c.args.granted.now.first.place c.first_token-token.result refl (either_left (is_some named) false)
+      (λ s is. ap (λ (k : KeyType). first_refusal (first_part_questions k size)) (type_is c.args.kind)
+      ∙ ap (λ rule. or_refused rule (codes "part") None) c.in_default.ensures)
+      (λ s is. subst (λ (k : KeyType). IsDelivered s (delivered s (codes "token") named (as_current (first_key k part))) c.deliver.result c.deliver.new.reply)
+      (sym (type_is c.args.kind))
+      (c.deliver.ensures.delivered s (as_current (first_key c.args.kind part)) (c.first_token-token.ensures.made s.registers is.loaded)
+      (c.first_token-token.ensures.stands s.registers is.loaded) is.grants.0.0))
+      (λ shaped. target_place rows named c.args.granted.now.first shaped.0)
+      c.requires.delivers.target c.deliver.ensures.delivery
+      (stands_after (bench_of c.first_token-token.new.lease) c.first_token-token.result kept c.requires.delivers.loaded c.first_token-token.ensures.stands)
+      c.deliver.ensures.size;
+}

@@ -7,13 +7,16 @@ use Rattle.cca_machine.specs.Verdict.{refusal}
 use Rattle.request_verbs.proofs.KeyParts.{part_permitted, part_refusal}
 use Rattle.request_verbs.proofs.verbs.csnbkpi.judge.Goals as goal
 
-pub returns-in-Ok-clause-refused : goal.returns-in-Ok-clause-refused
-returns-in-Ok-clause-refused c =
+pub returns-in-Ok : goal.returns-in-Ok
+returns-in-Ok c =
     let vector = c.args.key.now.token.vector in
     part_permitted (c.args.size == length_of vector) (not (is_part_of vector)) c.in-Ok.ensures
 
-pub returns-in-Err-clause-refused : goal.returns-in-Err-clause-refused
-returns-in-Err-clause-refused c =
+pub returns-in-Err : goal.returns-in-Err
+returns-in-Err c =
     let vector = c.args.key.now.token.vector in
-    part_refusal (c.args.size == length_of vector) (not (is_part_of vector)) (rule_number c.in-Err.rule) c.in-Err.ensures
-    ∙ ap (λ operand. Some (refusal (rule_number c.in-Err.rule) operand)) (sym c.broken_by.ensures.operand)
+    record {
+      is = part_refusal (c.args.size == length_of vector) (not (is_part_of vector)) (rule_number c.in-Err.rule) c.in-Err.ensures
+          ∙ ap (λ operand. Some (refusal (rule_number c.in-Err.rule) operand)) (sym c.broken_by.ensures.operand);
+      short = c.broken_by.ensures.short;
+    }

@@ -7,7 +7,7 @@ use Rattle.request_verbs.proofs.verbs.csnbkrc.csnbkrc.Goals as goal
 
 pub returns : goal.returns
 returns c = record {
-  settles = λ role granted held rows bench.
-      subst (λ (label : List ℕ). Settles (asked csnbkrc (role ∷ c.args.label.now ∷ [])) granted held rows bench bench (code.Create label) []) (sym c.of.ensures)
-      (left_settles refl (λ s is. (refl, refl, refl)) refl (λ writes. refl) (λ through. absurd through));
+  settles = λ role granted held rows lease.
+      subst (λ (label : List ℕ). Settles (asked csnbkrc (role ∷ c.args.label.now ∷ [])) granted held rows lease lease (code.Create label) []) (sym c.of.ensures)
+      (left_settles refl refl (λ s is. (refl, refl, refl)) refl (λ writes. refl) (λ through. absurd through));
 }

@@ -15,7 +15,7 @@ number-requires c = omega (arith, length-decimal-le_succ c.count_beginning.resul
 pub returns : goal.returns
 unfolding label_fields
 returns c = record {
-  settles = λ role granted held bench.
+  settles = λ role granted held lease.
       let prefix = c.args.prefix.now in
       let d = row_directory c.args.records.now in
       let labels = beginning prefix (ascending d) in
@@ -25,7 +25,7 @@ returns c = record {
       ∙ (ap (λ t. t ++ number_field (codes "count") c.count_beginning.result) (c.ok.ensures.bytes ∙ ap (λ t. t ++ ok_text) c.requires.empty)
       ∙ ap (λ n. ok_text ++ number_field (codes "count") n) c.count_beginning.ensures.count)))
       ∙ counted_labels (length labels) (with_commas labels) in
-      shown_settles (λ s. label_fields prefix (directory s.labels)) refl (λ s. refl) (λ s. refl)
+      shown_settles refl (λ s. label_fields prefix (directory s.labels)) refl (λ s. refl) (λ s. refl)
       (λ s is. reply ∙ ap (λ d. written (label_fields prefix d)) (sym (same_directory (keys_of s.registers) c.args.records.now s.labels is.recorded.keeps.agrees)))
       (search rules);
 }

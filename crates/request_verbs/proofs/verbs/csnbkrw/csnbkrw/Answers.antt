@@ -1,5 +1,6 @@
 use Rattle.std.proofs.Common.{◌≡◌, [], ◌∷◌, ℕ, List, Option, refl, sym, subst, ◌∙◌}
 use Rattle.std.specs.Prelude.{IsSome}
+use Rattle.key_cells.specs.Lease.{bench_of}
 use Rattle.key_tokens.specs.Denotes.{Denoted}
 use Rattle.verb_rules.specs.declared.judging.Judged.{Judged}
 use Rattle.cca_machine.specs.Keys.{key_of_token, or_no_key}
@@ -16,13 +17,14 @@ use Rattle.request_verbs.proofs.verbs.csnbkrw.csnbkrw.Goals as goal
 
 pub returns : goal.returns
 returns c = record {
-  settles = λ role label held rows bench keyed.
+  settles = λ role label held rows lease keyed.
+      let bench = bench_of lease in
       let place = c.place_in.result in
       let request = asked csnbkrw (role ∷ label ∷ c.args.token.now ∷ []) in
       let effect = code.Write place (hex_value c.args.token.now) in
-      subst (λ (token : List ℕ). Settles request c.args.granted.now held rows bench bench (code.Write place token) c.ok.new.self) (sym c.token_bytes.ensures)
-      (subst (λ (reply : List ℕ). Settles request c.args.granted.now held rows bench bench effect reply) (sym (no_fields c.args.reply.now c.ok.new.self c.requires.empty c.ok.ensures.bytes))
-      (settles
+      subst (λ (token : List ℕ). Settles request c.args.granted.now held rows lease lease (code.Write place token) c.ok.new.self) (sym c.token_bytes.ensures)
+      (subst (λ (reply : List ℕ). Settles request c.args.granted.now held rows lease lease effect reply) (sym (no_fields c.args.reply.now c.ok.new.self c.requires.empty c.ok.ensures.bytes))
+      (settles refl
       (λ shaped s is left.
       let key = key_of_token s (hex_value c.args.token.now) in
       let has = is.grants.1 in

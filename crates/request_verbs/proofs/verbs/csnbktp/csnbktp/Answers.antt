@@ -9,8 +9,8 @@ use Rattle.request_verbs.proofs.verbs.csnbktp.csnbktp.Goals as goal
 
 pub returns : goal.returns
 returns c = record {
-  settles = λ role token held rows bench.
-      shown_settles (λ s. token_fields (token_of (hex_value token))) refl (λ s. refl) (λ s. refl)
+  settles = λ role token held rows lease.
+      shown_settles refl (λ s. token_fields (token_of (hex_value token))) refl (λ s. refl) (λ s. refl)
       (λ s is. let same : c.token_in.result.now ≡ token_of (hex_value token) = cc (is.grants.0.0, c.token_in.ensures) in
       c.show_parts.ensures.fields ∙ ap (λ (t : Token). written (token_fields t)) same)
       (omega (arith, c.show_parts.ensures.size));

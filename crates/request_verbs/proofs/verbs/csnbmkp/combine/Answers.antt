@@ -10,23 +10,24 @@ use Rattle.request_verbs.specs.Decided.{Settles, asked}
 use Rattle.request_verbs.specs.Deciding.{labels_after}
 use Rattle.request_verbs.specs.declared.effects.Effect.TheVariants as code
 use Rattle.request_verbs.proofs.Acting.{labels_kept, none_lost}
-use Rattle.request_verbs.proofs.Settling.{left_settles}
+use Rattle.request_verbs.proofs.Settling.{left_settles, part_within}
 use Rattle.request_verbs.proofs.verbs.csnbmkp.combine.Goals as goal
 
-pub returns-clause-settles : goal.returns-clause-settles
-returns-clause-settles c = λ role granted held rows.
-    let old = bench_of c.args.lease.now in
-    let bench = bench_of c.put_part.new.lease in
-    let action = c.args.action.now in
-    let key_part = hex_value c.args.part.now in
-    let request = asked csnbmkp_part (role ∷ action ∷ c.args.part.now ∷ []) in
-    let part : bench.part ≡ key_part = ap (λ l. (bench_of l).part) c.put_part.ensures in
-    subst (λ (a : Action). Settles request granted held rows old bench (code.Change a) []) (sym c.part_action_of.ensures)
-    (left_settles refl
-    (λ s is.
-    let becomes : Become (after_action (part_action action) key_part s.registers) s.labels
-    ≡ Become (after_action (part_action action) bench.part s.registers) (labels_after (part_action action) s) =
-    ap (λ p. Become (after_action (part_action action) p s.registers) s.labels) (sym part)
-    ∙ ap (Become (after_action (part_action action) bench.part s.registers)) (sym (labels_kept action s)) in
-    (refl, becomes, none_lost action s, refl))
-    refl (λ writes. absurd writes) (λ through. absurd through))
+pub returns : goal.returns
+returns c = record {
+  settles = λ role granted held rows.
+      let bench = bench_of c.put_part.new.lease in
+      let action = c.args.action.now in
+      let key_part = hex_value c.args.part.now in
+      let request = asked csnbmkp_part (role ∷ action ∷ c.args.part.now ∷ []) in
+      let part : bench.part ≡ key_part = ap (λ l. (bench_of l).part) c.put_part.ensures in
+      subst (λ (a : Action). Settles request granted held rows c.args.lease.now c.put_part.new.lease (code.Change a) []) (sym c.part_action_of.ensures)
+      (left_settles (part_within c.args.lease.now c.put_part.new.lease key_part c.put_part.ensures) refl
+      (λ s is.
+      let becomes : Become (after_action (part_action action) key_part s.registers) s.labels
+      ≡ Become (after_action (part_action action) bench.part s.registers) (labels_after (part_action action) s) =
+      ap (λ p. Become (after_action (part_action action) p s.registers) s.labels) (sym part)
+      ∙ ap (Become (after_action (part_action action) bench.part s.registers)) (sym (labels_kept action s)) in
+      (refl, becomes, none_lost action s, refl))
+      refl (λ writes. absurd writes) (λ through. absurd through));
+}

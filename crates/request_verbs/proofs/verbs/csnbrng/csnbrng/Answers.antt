@@ -7,10 +7,10 @@ use Rattle.request_verbs.proofs.verbs.csnbrng.csnbrng.Goals as goal
 
 pub returns-in-Ok : goal.returns-in-Ok
 returns-in-Ok g c = record {
-  settles = λ role granted held rows bench shaped.
+  settles = λ role granted held rows lease.
       let drawn = c.in-Ok.ensures.drawn in
       record {
-        decided = record {
+        decided = λ shaped. record {
           decides = λ s is. record {
             drawn = drawn.drawn;
             decided = (
@@ -31,13 +31,15 @@ returns-in-Ok g c = record {
           stops = tt;
         };
         takes = takes_drawn c.in-Ok.ensures.cause.quiet (λ s refused. cc refused) refl;
+        places = refl;
       };
 }
 
 pub returns-in-Err : goal.returns-in-Err
 returns-in-Err g c = record {
-  settles = λ role granted held rows bench shaped. record {
-    decided = stopped_decides (λ s. refl) refl c.requires.empty;
+  settles = λ role granted held rows lease. record {
+    decided = λ shaped. stopped_decides (λ s. refl) refl c.requires.empty;
     takes = takes_failed c.random_number.ensures.cause.later c.in-Err.ensures.cause.failed (λ s refused. cc refused) refl;
+    places = refl;
   };
 }

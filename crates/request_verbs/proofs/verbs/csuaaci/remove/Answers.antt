@@ -4,6 +4,6 @@ use Rattle.request_verbs.proofs.verbs.csuaaci.remove.Goals as goal
 
 pub returns : goal.returns
 returns c = record {
-  settles = λ role action granted held rows bench.
-      left_settles refl (λ s is. (refl, refl, refl)) (refl, c.requires.name) (λ writes. absurd writes) (λ through. absurd through);
+  settles = λ role action granted held rows lease.
+      left_settles refl refl (λ s is. (refl, refl, refl)) (refl, c.requires.name) (λ writes. absurd writes) (λ through. absurd through);
 }

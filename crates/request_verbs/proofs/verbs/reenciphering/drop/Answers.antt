@@ -4,6 +4,6 @@ use Rattle.request_verbs.proofs.verbs.reenciphering.drop.Goals as goal
 
 pub returns : goal.returns
 returns c = record {
-  settles = λ role action granted held rows bench current loaded.
-      left_settles refl (λ s is. (refl, refl, refl)) (refl, current, λ is. cc is) (λ writes. refl) (λ through. refl);
+  settles = λ role action granted held rows lease current loaded.
+      left_settles refl refl (λ s is. (refl, refl, refl)) (refl, current, λ is. cc is) (λ writes. refl) (λ through. refl);
 }

@@ -7,16 +7,18 @@ use Rattle.verb_rules.specs.Keys.{opened}
 use Rattle.verb_script.specs.Values.{hex_value}
 use Rattle.cca_machine.specs.Act.{segment_fields}
 use Rattle.cca_machine.specs.Verdict.{first_refusal, segment_questions}
-use Rattle.request_verbs.specs.Deciding.{ShowsOr}
+use Rattle.request_verbs.specs.Deciding.{ShowsOver}
 use Rattle.request_verbs.proofs.KeyedRows.{first_keyed}
 use Rattle.request_verbs.proofs.Settling.{keyed_settles}
 use Rattle.request_verbs.proofs.verbs.segments.first_segment.Goals as goal
 
-pub returns-clause-settles : goal.returns-clause-settles
-returns-clause-settles c = λ role key segment held rows.
-    let clear = opened (bench_of c.args.lease.now) c.key_in-key.result.now in
-    let text = c.args.text.now in
-    keyed_settles (first_keyed c.args.mode c.requires.mode role key segment c.args.iv.now text)
-    c.key_in-key.ensures.key c.key_in-key.ensures.under
-    (subst (λ (k : Chain). ShowsOr (first_refusal (segment_questions (length text / 2))) (segment_fields clear c.args.mode k (hex_value text)) c.go_on.result c.go_on.new.reply)
-    (c.first.ensures ∙ ap first_chain c.block_of.ensures) c.go_on.ensures.shows)
+pub returns : goal.returns
+returns c = record {
+  settles = λ role key segment held rows.
+      let clear = opened (bench_of c.args.lease.now) c.key_in-key.result.now in
+      let text = c.args.text.now in
+      keyed_settles (first_keyed c.args.mode c.requires.mode role key segment c.args.iv.now text)
+      c.key_in-key.ensures.is c.key_in-key.ensures.under
+      (subst (λ (k : Chain). ShowsOver c.args.lease.now c.go_on.new.lease (first_refusal (segment_questions (length text / 2))) (segment_fields clear c.args.mode k (hex_value text)) c.go_on.result c.go_on.new.reply)
+      (c.first.ensures ∙ ap first_chain c.block_of.ensures) c.go_on.ensures.shows);
+}

@@ -1,0 +1,77 @@
+-- What calls that judge leave of the store, one after the other.
+use Rattle.std.proofs.Common.{◌≡◌, ◌∙◌, ℕ, Bool, true, List, Option, Result, Ok, Err, refl, sym, ap, subst}
+use Rattle.std.specs.Prelude.{◌||◌, IsErrAnd, IsOk}
+use Rattle.std.proofs.lemmas.Bool.{or_left, or_parts, or_right}
+use Rattle.key_cells.specs.Lease.{bench_of, holding}
+use Rattle.key_cells.specs.declared.leases.Lease.{Lease}
+use Rattle.key_records.specs.Changes.{KeepsAllButBody}
+use Rattle.key_records.specs.declared.rows.Row.{Row}
+use Rattle.line_service.specs.declared.stops.Stop.{Stop}
+use Rattle.line_service.specs.declared.stops.Stop.TheVariants.{StoreFault}
+use Rattle.line_service.proofs.StopLemmas.{disk_on, disk_stopped}
+use Rattle.master_registers.specs.declared.registers.Registers.{Registers}
+use Rattle.slot_disk.specs.Medium.{Medium}
+use Rattle.slot_disk.proofs.Media.{keeps_then}
+use Rattle.request_rules.specs.Stored.{ReadsStore}
+use Rattle.request_rules.proofs.LabelsRead.{at_after}
+
+rest_then : (l0 l1 l2 : Lease) → KeepsAllButBody l0 l1 → KeepsAllButBody l1 l2 → KeepsAllButBody l0 l2
+rest_then l0 l1 l2 one two = two ∙ ap (λ (l : Lease). holding l (record (bench_of l) { body = (bench_of l2).body })) one
+
+module _ {D : Type 0} {medium : D → Medium} {faults : D → ℕ} {held : Registers} {rows : List (Option Row)} where
+  -- the call is the last one, and is done; other labels may be named too
+  pub reads_done : {T U : Type 0} {one : Bool} (two : Bool) {l0 l1 : Lease} {d0 d1 : D} {a : T} {b : U}
+      → ReadsStore medium faults one held rows l0 l1 d0 d1 (Ok a) → ReadsStore medium faults (one || two) held rows l0 l1 d0 d1 (Ok b)
+  reads_done {one = one} two reads = record {
+    keeps = reads.keeps;
+    disk = record {
+      size = reads.disk.size;
+      still = reads.disk.still;
+      settled = λ done. reads.disk.settled refl;
+      later = reads.disk.later;
+      fault = λ is. cc is;
+      quiet = λ none. reads.disk.quiet (λ is. cc is);
+    };
+    spared = λ none. reads.spared (or_parts one two none).0;
+    named = λ is. cc is;
+    stops = tt;
+    sound = λ s at. tt;
+    rest = reads.rest;
+  }
+
+  -- or it stops
+  pub reads_stopped : {T U : Type 0} {one : Bool} (two : Bool) {l0 l1 : Lease} {d0 d1 : D} {stop : Stop} (q : Result U Stop) → IsErrAnd q (λ e. e ≡ stop)
+      → ReadsStore {T = T} medium faults one held rows l0 l1 d0 d1 (Err stop) → ReadsStore medium faults (one || two) held rows l0 l1 d0 d1 q
+  reads_stopped two (Ok b) is reads = absurd is
+  reads_stopped {T} {U} {one = one} two {l0} {l1} {d0} {d1} {stop} (Err other) is reads =
+      subst (λ (x : Stop). ReadsStore {T = U} medium faults (one || two) held rows l0 l1 d0 d1 (Err x)) (sym is)
+      (record {
+        keeps = reads.keeps;
+        disk = disk_stopped (medium d0) (medium d1) (faults d0) (faults d1) stop StoreFault reads.disk;
+        spared = λ none. reads.spared (or_parts one two none).0;
+        named = λ is. let same : stop ≡ StoreFault = cc is in or_left one two (reads.named (ap Err same));
+        stops = reads.stops;
+        sound = reads.sound;
+        rest = reads.rest;
+      })
+
+  -- a call for a label that is named
+  pub reads_label : {T : Type 0} {named : Bool} {l0 l1 : Lease} {d0 d1 : D} {r : Result T Stop} → named ≡ true
+      → ReadsStore medium faults true held rows l0 l1 d0 d1 r → ReadsStore medium faults named held rows l0 l1 d0 d1 r
+  reads_label {l0 = l0} {l1 = l1} {d0 = d0} {d1 = d1} {r = r} is reads =
+      subst (λ (b : Bool). ReadsStore medium faults b held rows l0 l1 d0 d1 r) (sym is) reads
+
+  -- a call after one that was done
+  pub reads_then : {T U : Type 0} {one two : Bool} {l0 l1 l2 : Lease} {d0 d1 d2 : D} {a : T} {q : Result U Stop}
+      → ReadsStore {T = T} medium faults one held rows l0 l1 d0 d1 (Ok a) → ReadsStore medium faults two held rows l1 l2 d1 d2 q
+      → ReadsStore medium faults (one || two) held rows l0 l2 d0 d2 q
+  reads_then {one = one} {two = two} {l0} {l1} {l2} {d0} {d1} {d2} {q = q} first second = record {
+    keeps = keeps_then (medium d0) (medium d1) (medium d2) first.keeps second.keeps;
+    disk = disk_on (medium d0) (medium d1) (medium d2) (faults d0) (faults d1) (faults d2) (IsOk q) (q ≡ Err StoreFault)
+        first.disk.size first.disk.still (first.disk.quiet (λ is. cc is)) second.disk;
+    spared = λ none. let each = or_parts one two none in second.spared each.1 ∙ first.spared each.0;
+    named = λ is. or_right one two (second.named is);
+    stops = second.stops;
+    sound = λ s at. second.sound s (at_after s l0 l1 first.rest held rows (medium d0) (medium d1) first.keeps at);
+    rest = rest_then l0 l1 l2 first.rest second.rest;
+  }
