@@ -1,9 +1,10 @@
 -- What a run leaves at its last line, on the disks and on the trail.
-use Rattle.std.proofs.Common.{◌≡◌, ◌^◌, ℕ, List, length, Option, Result, Ok, Err, ap, sym, subst, inl, inr}
-use Rattle.std.specs.Prelude.{◌⊎◌, OnErr, IfErr, IsSome}
+use Rattle.std.proofs.Common.{◌≡◌, ◌+◌, ◌^◌, ◌<◌, ℕ, List, length, Option, Result, Ok, Err, ap, refl, sym, subst, inl, inr}
+use Rattle.std.specs.Prelude.{◌⊎◌, OnErr, IfErr, IfOk, IsOk, IsSome}
 use Rattle.slot_disk.specs.Medium.{Medium, EachImage, IsSettled, Told}
 use Rattle.slot_disk.specs.WhereTold.{WhereTold}
 use Rattle.slot_disk.proofs.WhereToldLemmas.{told_weaker}
+use Rattle.script_buffers.specs.Lines.{lines}
 use Rattle.script_buffers.specs.Reading.{Reading}
 use Rattle.audit_trail.specs.TrailStands.{IsTrail}
 use Rattle.audit_trail.specs.declared.entries.Entry.{Entry}
@@ -11,22 +12,24 @@ use Rattle.audit_trail.specs.declared.faults.TrailFault.{TrailFault}
 use Rattle.audit_trail.specs.declared.faults.TrailFault.TheVariants as trail_fault
 use Rattle.line_service.specs.Machine.{Machine, World}
 use Rattle.line_service.specs.Answering.{Stands}
-use Rattle.line_service.specs.Devices.{Span, Outside}
-use Rattle.line_service.specs.Running.{LineTaken}
+use Rattle.line_service.specs.Devices.{Span, BothSettled, Outside, OutsideLeft, Undamaged}
+use Rattle.line_service.specs.Running.{InputTaken, LineTaken}
 use Rattle.line_service.specs.Serving.{IsOnTheWay, AllAnswered, WholeLinesAnswered, LineLost}
 use Rattle.line_service.specs.Stops.{IsLineStop, IsUnanswered}
 use Rattle.line_service.specs.declared.serving.Served.{Served}
 use Rattle.line_service.specs.declared.serving.Served.TheVariants.{Replied, Ended}
 use Rattle.line_service.specs.declared.stops.Stop.{Stop}
 use Rattle.line_service.specs.declared.stops.Stop.TheVariants.{ReadFault, WriteFault, EntropyFault, InputLimit}
-use Rattle.line_service.proofs.CourseLemmas.{IsNextLine, run_ended, run_stopped}
+use Rattle.line_service.proofs.CourseLemmas.{IsNextLine, IsOnCourse, course_left, course_settled, course_taken, course_undamaged, course_within, run_ended, run_stopped}
 use Rattle.line_service.proofs.SessionLemmas.{HasServed}
 use Rattle.line_service.proofs.SpareLaws.{SparesSo, spares_last, spares_always}
-use Rattle.line_service.proofs.StopLemmas.{same_stop, stopped_as, not_ended, not_replied, not_cut, line_not_cut, ended_unsent, ended_uncut}
+use Rattle.line_service.proofs.StopLemmas.{Follows, follows_ok, follows_stop, ok_no_stop, same_stop, stopped_as, not_ended, not_replied, not_cut, line_not_cut, ended_unsent, ended_uncut}
+use Rattle.audited_service.specs.Answers.{run_part}
 use Rattle.audited_service.specs.Noting.{Noted, noting, Recorded}
 use Rattle.audited_service.specs.Recording.{ReplyUnsent, RunRecorded}
-use Rattle.audited_service.specs.EachLine.{Agrees, IsAppendFault, LineAudited, RecordedBy, line_part}
+use Rattle.audited_service.specs.EachLine.{Agrees, IsAppendFault, LineAudited, RecordedBy, RecordsLeft, TrailAppended, line_part}
 use Rattle.audited_service.proofs.RunLemmas.{TrailOn, module_way, store_way, trail_way, exit_all, exit_whole, exit_cut, exit_lost, exit_unsent, carried_at_rest, run_is, fault_is, stop_not_done, done_not_stop, run_not_fault, fault_not_run}
+use Rattle.audited_service.proofs.TrailLemmas.{trail_then}
 
 unread_unsent : (r : Result Served Stop) → IsUnanswered r → r ≡ Ok Replied → ⊥
 unread_unsent r (inl ended) = ended_unsent r ended
@@ -195,3 +198,68 @@ module _ (A : Machine) (entry : List ℕ → List ℕ → Entry) (s : Noted A.St
           carried_at_rest A entry s k k1 t0 t t1 w0 w w1 next.was_settled start.input o.old.input o.new.input start.output o.old.output o.new.output old new _ next.served next.taken.counted
           (λ u st. (next.leaves u st).turns);
     }
+
+-- ---- whatever the disks hold
+
+-- the run ends as the call for its last line did
+pub record EndsAs (line : Result (Result Served Stop) TrailFault) (q : Result (Result (Unit {0}) Stop) TrailFault) : Type 0 where
+  pub follows : Follows (line_part line) (run_part q)
+  pub ended : (r : Result (Unit {0}) Stop) → q ≡ Ok r → IsOk r → line_part line ≡ Ok Ended
+  pub fault : (f : TrailFault) → q ≡ Err f → line ≡ Err f
+  pub back : (f : TrailFault) → line ≡ Err f → q ≡ Err f
+
+pub ends_done : (r : Result Served Stop) → r ≡ Ok Ended → EndsAs (Ok r) (Ok (Ok tt))
+ends_done r is = record {
+  follows = follows_ok r Ended (Ok tt) is refl;
+  ended = λ q h ok. is;
+  fault = λ f h. absurd (cc h);
+  back = λ f h. absurd (cc h);
+}
+
+pub ends_stopped : (r : Result Served Stop) (stop : Stop) → r ≡ Err stop → EndsAs (Ok r) (Ok (Err stop))
+ends_stopped r stop is = record {
+  follows = follows_stop r stop is;
+  ended = λ q h ok. absurd (ok_no_stop q stop ok (sym (run_is _ _ h)));
+  fault = λ f h. absurd (cc h);
+  back = λ f h. absurd (cc h);
+}
+
+pub ends_failed : (f : TrailFault) → EndsAs (Err f) (Err f)
+ends_failed f = record {
+  follows = follows_ok (Ok Replied) Replied (Ok tt) refl refl;
+  ended = λ q h ok. absurd (cc h);
+  fault = λ other h. ap Err (fault_is _ _ h);
+  back = λ other h. let same : f ≡ other = cc h in ap Err same;
+}
+
+module _ (A : Machine) (entry : List ℕ → List ℕ → Entry) (start : Outside) (o : Span Outside) (old new : Reading) (course : IsOnCourse start o.old old)
+    (line : Result (Result Served Stop) TrailFault) (q : Result (Result (Unit {0}) Stop) TrailFault) (ends : EndsAs line q) where
+  run_taken : LineTaken (line_part line) o old new → (r : Result (Result (Unit {0}) Stop) TrailFault) → q ≡ r → IfOk r (λ x. InputTaken x (record { old = start; new = o.new }))
+  run_taken taken (Err f) is = tt
+  run_taken taken (Ok r) is =
+      course_taken A start o old course (line_part line) r new taken (subst (λ (x : Result (Result (Unit {0}) Stop) TrailFault). Follows (line_part line) (run_part x)) is ends.follows) (ends.ended r is)
+
+  -- what the run leaves, by what its last line left; the trail is `t0` at the start, `t` before the line and `t1` after it
+  pub records_left : (K : A.State → Type 0) (t0 t t1 : Medium) (f0 f f1 : ℕ)
+      → ((s : Noted A.State) → Stands (noting A entry) s (Agrees K t0) start.devices.world.module_ start.devices.world.store
+      → RunRecorded A entry s q start.devices.world o.new.devices.world t0 t1 start.input o.new.input start.output o.new.output)
+      → ((s : Noted A.State) → Stands (noting A entry) s (Agrees K t0) start.devices.world.module_ start.devices.world.store → IsSome t0.content → q ≡ Err trail_fault.Full
+      → WhereTold start.input o.new.input (λ i r. 2 ^ 63 < length s.entries + length (lines i)))
+      → LineTaken (line_part line) o old new → (IsUnanswered (line_part line) → o.new.devices.world ≡ o.old.devices.world) → (line_part line ≡ Err WriteFault → BothSettled o.new.devices)
+      → Undamaged A (line_part line) o.old.devices → OutsideLeft (line_part line) o
+      → TrailAppended t0 t f0 f ⊥ → TrailAppended t t1 f f1 (line ≡ Err trail_fault.DiskFault) → IfErr line IsAppendFault
+      → RecordsLeft A entry K q (record { old = start; new = o.new }) t0 t1 f0 f1
+  records_left K t0 t t1 f0 f f1 serves full taken unanswered cut undamaged left one two kinds = record {
+    serves = serves;
+    full = full;
+    taken = record { run = run_taken taken q refl; within = course_within A start o old course (line_part line) (run_part q) new taken };
+    settled = course_settled A start o old course (line_part line) (run_part q) unanswered cut left ends.follows;
+    undamaged = course_undamaged A start o old course (line_part line) (run_part q) ends.follows undamaged;
+    left = course_left A start o old course (line_part line) (run_part q) ends.follows left;
+    trail = trail_then t0 t t1 f0 f f1 _ _ (ends.fault trail_fault.DiskFault) (ends.back trail_fault.DiskFault) one two;
+    kinds = by_fault q refl;
+  }
+    where
+      by_fault : (r : Result (Result (Unit {0}) Stop) TrailFault) → q ≡ r → IfErr r IsAppendFault
+      by_fault (Ok r) is = tt
+      by_fault (Err f) is = subst (λ (x : Result (Result Served Stop) TrailFault). IfErr x IsAppendFault) (ends.fault f is) kinds

@@ -1,7 +1,6 @@
 -- What holds however an audited run ended.
-use Rattle.std.proofs.Common.{◌≡◌, ℕ, ◌+◌, ◌<◌, ◌≤◌, List, [], ◌∷◌, length, Option, Result, Ok, Err, refl, ap, sym, ◌∙◌, inl, inr, append_assoc}
-use Rattle.std.specs.Prelude.{◌⊎◌, IsOk, IfOk}
-use Rattle.std.specs.Io.KnownBytes.{IsAtEnd}
+use Rattle.std.proofs.Common.{◌≡◌, ℕ, ◌+◌, ◌≤◌, List, [], ◌∷◌, length, Option, Result, Ok, Err, refl, ap, sym, ◌∙◌, inl, inr, append_assoc}
+use Rattle.std.specs.Prelude.{◌⊎◌, IfOk}
 use Rattle.std.proofs.lemmas.List.{append-nil}
 use Rattle.slot_disk.specs.Medium.{Medium, Keeps}
 use Rattle.slot_disk.specs.WhereTold.{WhereTold}
@@ -12,16 +11,17 @@ use Rattle.audit_trail.specs.declared.entries.Entry.{Entry}
 use Rattle.audit_trail.specs.declared.faults.TrailFault.{TrailFault}
 use Rattle.audit_trail.specs.declared.faults.TrailFault.TheVariants as trail_fault
 use Rattle.line_service.specs.Machine.{Machine, World}
-use Rattle.line_service.specs.Devices.{Span, Outside}
+use Rattle.line_service.specs.Devices.{Span, Devices, Outside}
 use Rattle.line_service.specs.Running.{NoneFailed, LinesServed, InputTaken}
 use Rattle.line_service.specs.Serving.{LineLost, Unopened, PrefixSent, RunServed}
 use Rattle.line_service.specs.declared.stops.Stop.{Stop}
 use Rattle.line_service.specs.declared.stops.Stop.TheVariants.{ReadFault, InputLimit}
-use Rattle.line_service.proofs.RunLemmas.{NoStop, prefix_none, prefix_sent, completes, limit_is}
+use Rattle.line_service.proofs.RunLemmas.{NoStop, prefix_none, prefix_sent, completes}
 use Rattle.audited_service.specs.Answers.{run_part}
 use Rattle.audited_service.specs.Noting.{Noted, noting, Recorded, RecordedEither}
 use Rattle.audited_service.specs.Recording.{ReplyUnsent, RunRecorded}
 use Rattle.audited_service.proofs.PlainLemmas.{run_plain, prefix_plain}
+use Rattle.audited_service.proofs.RunLemmas.{run_is}
 
 module _ (A : Machine) (entry : List ℕ → List ℕ → Entry) (s : Noted A.State) (old new : World) (t0 t1 : Medium) (a b p q : Option (List ℕ)) where
   -- all that a run leaves
@@ -77,23 +77,17 @@ module _ (A : Machine) (entry : List ℕ → List ℕ → Entry) (s : Noted A.St
 
 -- ---- how far the input was taken
 
-pub taken_all : (result : Result (Result (Unit {0}) Stop) TrailFault) (o : Span Outside) → (result ≡ Ok (Ok tt) → IsAtEnd o.new.input)
+-- from devices as they were before they were opened
+pub taken_at : (result : Result (Result (Unit {0}) Stop) TrailFault) (o : Span Outside) (d : Devices) → IfOk result (λ r. InputTaken r o)
+    → IfOk result (λ r. InputTaken r (record { old = record o.old { devices = d }; new = o.new }))
+taken_at (Err fault) o d taken = tt
+taken_at (Ok r) o d taken = record { at_end = taken.at_end; limit = taken.limit; within = taken.within }
+
+pub limit_of : (result : Result (Result (Unit {0}) Stop) TrailFault) (o : Span Outside) → IfOk result (λ r. InputTaken r o)
+    → WhereTold o.old.input o.new.input (λ i r. length i ≤ length r + input_limit)
     → WhereTold o.old.input o.new.input (λ i r. result ≡ Ok (Err InputLimit) → length i ≡ length r + input_limit)
-    → WhereTold o.old.input o.new.input (λ i r. result ≡ Ok (Ok tt) → length i < length r + input_limit)
-    → WhereTold o.old.input o.new.input (λ i r. length i ≤ length r + input_limit) → IfOk result (λ r. InputTaken r o)
-taken_all (Err fault) o at_end limit short within = tt
-taken_all (Ok r) o at_end limit short within = record {
-  at_end = λ ok. at_end (ap Ok (done r ok));
-  limit =
-      let run_limit : WhereTold o.old.input o.new.input (λ i x. r ≡ Err InputLimit → length i ≡ length x + input_limit) = told_weaker o.old.input o.new.input _ _ (λ i x told h. told (ap Ok h)) limit in
-      let run_short : WhereTold o.old.input o.new.input (λ i x. IsOk r → length i < length x + input_limit) = told_weaker o.old.input o.new.input _ _ (λ i x told ok. told (ap Ok (done r ok))) short in
-      limit_is r o.old.input o.new.input run_limit run_short;
-  within = within;
-}
-  where
-    done : (r : Result (Unit {0}) Stop) → IsOk r → r ≡ Ok tt
-    done (Ok u) ok = refl
-    done (Err stop) ok = absurd (cc ok)
+limit_of (Err fault) o taken within = told_weaker o.old.input o.new.input _ _ (λ i r few h. absurd (cc h)) within
+limit_of (Ok r) o taken within = told_weaker o.old.input o.new.input _ _ (λ i x limit h. (limit.0 (run_is _ _ h)).0) taken.limit
 
 -- ---- what a run leaves
 

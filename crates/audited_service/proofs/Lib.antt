@@ -3,6 +3,7 @@ pub mod PlainLemmas
 pub mod RecordLemmas
 pub mod GrowingLemmas
 pub mod RestingLemmas
+pub mod TrailLemmas
 pub mod RunLemmas
 pub mod FullLemmas
 pub mod OpeningLemmas

@@ -1,20 +1,18 @@
 -- The bytes of a trail at rest, from append to append.
-use Rattle.std.proofs.Common.{◌≡◌, ◌<◌, ◌≤◌, ◌-◌, ◌*◌, ◌%◌, inl, inr, ⊎_elim, ℕ, List, [], ◌∷◌, ◌++◌, length, get_or, Ok, refl, sym, subst, ◌∙◌, append_assoc, arith}
+use Rattle.std.proofs.Common.{◌<◌, ◌≤◌, ◌-◌, ◌*◌, ◌%◌, inl, inr, ⊎_elim, ℕ, List, [], ◌∷◌, ◌++◌, length, get_or, Ok, refl, sym, subst, ◌∙◌, append_assoc, arith}
 use Rattle.std.specs.Prelude.{◌⊎◌}
 use Rattle.std.proofs.lemmas.Bool.{cases_lt}
 use Rattle.std.proofs.lemmas.List.{append-nil, length-append, get_or_append_left}
 use Rattle.slot_disk.specs.Cells.{body, other_body, IsReplaced}
 use Rattle.slot_disk.specs.Medium.{Medium, Becomes, Keeps}
 use Rattle.slot_disk.specs.SpareBytes.{SameCell, Turned}
-use Rattle.slot_disk.proofs.Media.{becomes_weaker, becomes_both, becomes_same, becomes_then, keeps_still}
+use Rattle.slot_disk.proofs.Media.{becomes_weaker, becomes_both, becomes_same, becomes_then}
 use Rattle.slot_disk.proofs.SpareLemmas.{same_spare, same_spare_then, replaced_turned}
 use Rattle.audit_trail.specs.Changes.{Appending, AppendsEntry}
 use Rattle.audit_trail.specs.Entries.{entry_at, no_entry}
 use Rattle.audit_trail.specs.RecordBody.{record_body, Spells}
 use Rattle.audit_trail.specs.TrailStands.{IsTrail}
 use Rattle.audit_trail.specs.declared.entries.Entry.{Entry}
-use Rattle.audit_trail.specs.declared.faults.TrailFault.{TrailFault}
-use Rattle.audit_trail.specs.declared.faults.TrailFault.TheVariants as trail_fault
 use Rattle.audit_trail.proofs.TrailLaws.{newest_of}
 use Rattle.line_service.proofs.SpareLaws.{same_selector, same_other}
 use Rattle.audited_service.specs.Growing.{IsRecordOf, HasGrown, Grown}
@@ -104,12 +102,6 @@ grown_appended n e t0 t1 x appends =
     becomes_weaker t0 t1 (λ b c. Appending n e b c × IsReplaced (n % 4096) (record_body n e) b c) Grown
     (becomes_both t0 t1 (Appending n e) (IsReplaced (n % 4096) (record_body n e)) appends.either appends.replaced)
     (λ b c both. one_grown n e b c both.0 both.1)
-
--- an append that didn't fail wasn't made
-pub grown_unfailed : (fault : TrailFault) (t0 t1 : Medium) → (fault ≡ trail_fault.DiskFault) ⊎ (fault ≡ trail_fault.Full) → (fault ≡ trail_fault.Full → t1 ≡ t0)
-    → (fault ≡ trail_fault.DiskFault → ⊥) → Becomes Grown t0 t1
-grown_unfailed fault t0 t1 (inl failed) untouched unfailed = absurd (unfailed failed)
-grown_unfailed fault t0 t1 (inr full) untouched unfailed = subst (λ (t : Medium). Becomes Grown t0 t) (sym (untouched full)) (grown_kept t0 t0 (keeps_still t0))
 
 pub grown_on : (t0 t1 t2 : Medium) → Becomes Grown t0 t1 → Becomes Grown t1 t2 → Becomes Grown t0 t2
 grown_on t0 t1 t2 one two = becomes_then t0 t1 t2 Grown Grown Grown one two grown_then

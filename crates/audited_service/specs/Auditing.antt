@@ -1,21 +1,23 @@
 -- What a call leaves that serves lines beside a trail, in a few records.
 use Rattle.std.specs.Prelude.{◌≡◌, ◌+◌, ◌^◌, ◌<◌, ◌≤◌, ℕ, List, length, IsSome, Result, Ok, Err, IfOk}
 use Rattle.slot_disk.specs.Faults.{Rose}
-use Rattle.slot_disk.specs.Medium.{Medium, Told}
+use Rattle.slot_disk.specs.Medium.{Medium, Told, Becomes}
 use Rattle.slot_disk.specs.WhereTold.{WhereTold}
 use Rattle.script_buffers.specs.Lines.{lines}
 use Rattle.script_buffers.specs.Reading.{input_limit}
+use Rattle.audit_trail.specs.Changes.{TrailLeft}
 use Rattle.audit_trail.specs.TrailStands.{IsTrail, IsFirstDamaged}
 use Rattle.audit_trail.specs.declared.entries.Entry.{Entry}
 use Rattle.audit_trail.specs.declared.faults.TrailFault.{TrailFault}
-use Rattle.audit_trail.specs.declared.faults.TrailFault.TheVariants.{Full, Damaged}
+use Rattle.audit_trail.specs.declared.faults.TrailFault.TheVariants.{DiskFault, Full, Damaged}
 use Rattle.line_service.specs.Machine.{Machine}
 use Rattle.line_service.specs.Answering.{OnDisks, Holds}
-use Rattle.line_service.specs.Devices.{Span, Devices, Outside}
+use Rattle.line_service.specs.Devices.{Span, Devices, DamageTold, Outside, OutsideLeft, behind}
 use Rattle.line_service.specs.Running.{NoneFailed, LinesServed, InputTaken, ServesSound}
 use Rattle.line_service.specs.Serving.{PrefixSent}
 use Rattle.line_service.specs.declared.stops.Stop.{Stop}
 use Rattle.audited_service.specs.Answers.{run_part, AuditsLines}
+use Rattle.audited_service.specs.Growing.{Grown}
 use Rattle.audited_service.specs.Noting.{noted}
 use Rattle.audited_service.specs.Recording.{RunRecorded}
 
@@ -66,3 +68,23 @@ pub record TrailDamageTold (A : Machine) (result : Result (Result (Unit {0}) Sto
       → (Rose d.old.store_faults d.new.store_faults → ⊥) → (Rose before now → ⊥)
       → (s : A.State) → OnDisks A s d.old.world.module_ d.old.world.store
       → Told t0 (λ c. (cell : ℕ) → IsFirstDamaged c cell → result ≡ Err (Damaged cell))
+
+-- What a call leaves that opens disks and trail, and serves lines to the end of the input, each recorded. The trail is
+-- `t0` before and `t1` now, and has failed so often.
+pub record AuditLeft (A : Machine) (entry : List ℕ → List ℕ → Entry)
+    (result : Result (Result (Unit {0}) Stop) TrailFault) (o : Span Outside)
+    (t0 t1 : Medium) (before now : ℕ) : Type 0 where
+  -- what the lines come to, from each state for which the disks stand and the entries for which the trail stands
+  pub lines : (s : A.State) (es : List Entry)
+      → OnDisks A s o.old.devices.world.module_ o.old.devices.world.store
+      → Told t0 (λ c. IsTrail c es) → LinesRecorded A entry s es result o t0 t1 before now
+  pub taken : AuditTaken result o
+  pub sound : AuditsSound A result (behind o) t0
+  -- damage of the module is told first, then that of the store, then that of the trail
+  pub damage : DamageTold A (run_part result) (behind o)
+  pub trail_damage : TrailDamageTold A result (behind o) t0 before now
+  -- what is left of each device, and why it stopped
+  pub left : OutsideLeft (run_part result) o
+  pub trail_left : TrailLeft t0 t1 before now (AuditsLines result) (result ≡ Err DiskFault)
+  -- where its disk doesn't fail, the bodies that aren't selected are those that were there, or older records
+  pub rests : (result ≡ Err DiskFault → ⊥) → Becomes Grown t0 t1

@@ -1,21 +1,29 @@
--- For the functions of this crate alone: what one line leaves that is recorded before its reply is sent.
-use Rattle.std.specs.Prelude.{⊤, ◌≡◌, ◌^◌, ℕ, List, ◌++◌, Bool, Option, Ok, Err, Result, OnErr, IfErr, IfOk}
+-- For the functions of this crate alone: what one line leaves that is recorded before its reply is sent, and what all
+-- lines leave once disks and trail are opened.
+use Rattle.std.specs.Prelude.{⊤, ◌≡◌, ◌+◌, ◌^◌, ◌<◌, ℕ, List, ◌++◌, Bool, Option, Ok, Err, Result, OnErr, IfErr, IfOk, IsSome, length}
 use Rattle.std.specs.Io.KnownBytes.{Consumes}
-use Rattle.slot_disk.specs.Medium.{Medium, Told, IsSettled, EachImage}
+use Rattle.slot_disk.specs.Medium.{Medium, Told, IsSettled, Becomes, EachImage}
 use Rattle.slot_disk.specs.WhereTold.{WhereTold}
+use Rattle.script_buffers.specs.Lines.{lines}
 use Rattle.script_buffers.specs.Reading.{TakesLine, Reading}
+use Rattle.audit_trail.specs.Changes.{TrailLeft}
 use Rattle.audit_trail.specs.TrailStands.{IsTrail}
 use Rattle.audit_trail.specs.declared.entries.Entry.{Entry}
 use Rattle.audit_trail.specs.declared.faults.TrailFault.{TrailFault}
 use Rattle.audit_trail.specs.declared.faults.TrailFault.TheVariants.{DiskFault, Full, Damaged}
 use Rattle.line_service.specs.Machine.{Machine, World}
-use Rattle.line_service.specs.Answering.{Steps, OnDisks, Turns}
-use Rattle.line_service.specs.Devices.{Span, Outside}
+use Rattle.line_service.specs.Answering.{Steps, OnDisks, Stands, Turns}
+use Rattle.line_service.specs.Devices.{Span, BothSettled, Outside, OutsideLeft, Undamaged}
 use Rattle.line_service.specs.Serving.{EachPairStands, LineServed, IsAroundLine, KeepsSpare}
+use Rattle.line_service.specs.Stops.{AnswersLines}
 use Rattle.line_service.specs.declared.serving.Served.{Served}
 use Rattle.line_service.specs.declared.serving.Served.TheVariants.{Replied}
 use Rattle.line_service.specs.declared.stops.Stop.{Stop}
+use Rattle.audited_service.specs.Answers.{run_part}
+use Rattle.audited_service.specs.Auditing.{AuditTaken}
+use Rattle.audited_service.specs.Growing.{TrailGrows, Grown}
 use Rattle.audited_service.specs.Noting.{Noted, noting, Recorded, RecordedEither}
+use Rattle.audited_service.specs.Recording.{RunRecorded}
 
 -- ---- answers
 
@@ -41,6 +49,13 @@ pub record IsSettledTrail (size : ℕ) (t : Medium) : Type 0 where
 -- memory agrees with the state, and the trail stands for its entries
 abbrev pub Agrees : {S : Type 0} → (S → Type 0) → Medium → Noted S → Type 0
 Agrees K trail t = K t.state × Told trail (λ c. IsTrail c t.entries)
+
+-- What calls that may append leave of a trail, which is `t0` before and `t1` now, and has failed so often: entries are
+-- only added, and it is at rest unless its disk failed.
+pub record TrailAppended (t0 t1 : Medium) (before now : ℕ) (failed : Type 0) : Type 0 where
+  pub left : TrailLeft t0 t1 before now (failed → ⊥) failed
+  pub grows : TrailGrows t0 t1
+  pub rests : (failed → ⊥) → Becomes Grown t0 t1
 
 -- what the trail holds after this answer: the entries before a line, or these and perhaps the line's too
 abbrev pub RecordedBy : TrailFault → Medium → List Entry → List Entry → Type 0
@@ -102,3 +117,25 @@ pub record AppendFails {T K : Type 0} (result : Result (Result Served Stop) Trai
   pub unsent : OnErr result (sink1 ≡ sink0)
   pub number : result ≡ Err Full → next ≡ 2 ^ 63
   pub uncalled : result ≡ Err Full → trail1 ≡ trail0
+
+-- ---- all lines
+
+-- What serving lines leaves once disks and trail are opened. Memory agrees with the states that have K.
+pub record RecordsLeft (A : Machine) (entry : List ℕ → List ℕ → Entry) (K : A.State → Type 0)
+    (result : Result (Result (Unit {0}) Stop) TrailFault) (o : Span Outside)
+    (t0 t1 : Medium) (before now : ℕ) : Type 0 where
+  pub serves : (s : Noted A.State) → Stands (noting A entry) s (Agrees K t0)
+      o.old.devices.world.module_ o.old.devices.world.store
+      → RunRecorded A entry s result o.old.devices.world o.new.devices.world
+      t0 t1 o.old.input o.new.input o.old.output o.new.output
+  -- a trail that tells its content is full only where the entries come to 2^63
+  pub full : (s : Noted A.State) → Stands (noting A entry) s (Agrees K t0)
+      o.old.devices.world.module_ o.old.devices.world.store
+      → IsSome t0.content → result ≡ Err Full
+      → WhereTold o.old.input o.new.input (λ i r. 2 ^ 63 < length s.entries + length (lines i))
+  pub taken : AuditTaken result o
+  pub settled : AnswersLines (run_part result) → BothSettled o.new.devices
+  pub undamaged : Undamaged A (run_part result) o.old.devices
+  pub left : OutsideLeft (run_part result) o
+  pub trail : TrailAppended t0 t1 before now (result ≡ Err DiskFault)
+  pub kinds : IfErr result IsAppendFault

@@ -2,15 +2,13 @@
 ghost use Rattle.std.specs.Prelude.{◌≡◌, IsTrue, Ok, Err, OnOk};
 ghost use Rattle.std.specs.Io.KnownBytes.{IsAtEnd};
 ghost use Rattle.key_cells.specs.Bench.{blank_bench};
-ghost use Rattle.slot_disk.specs.Medium.{Told, Becomes};
-ghost use Rattle.audit_trail.specs.Changes.{TrailLeft};
+ghost use Rattle.slot_disk.specs.Medium.{Told};
 ghost use Rattle.audit_trail.specs.TrailStands.{trail_size, StandsForTrail};
 ghost use Rattle.line_service.specs.Answering.{Stands};
 ghost use Rattle.line_service.specs.Devices.{AreSettled, BothSettled, OutsideLeft, Undamaged};
 ghost use Rattle.line_service.specs.Running.{LineTaken, Unmoved};
-ghost use Rattle.audited_service.specs.Growing.{TrailGrows, Grown};
 ghost use Rattle.audited_service.specs.Noting.{Noted, noting};
-ghost use Rattle.audited_service.specs.EachLine.{Agrees, AppendFails, IsSettledTrail, LineAudited, line_part};
+ghost use Rattle.audited_service.specs.EachLine.{Agrees, AppendFails, IsSettledTrail, LineAudited, TrailAppended, line_part};
 
 use crate::scribe::{Scribe, entry_taken};
 use audit_trail::{Trail, TrailFault};
@@ -90,12 +88,8 @@ pub(crate) fn audit_one<
         (⟦<(M, D) as Shown>⟧.shown («module».old, store.old)) }
     ensures cut { result ≡ Ok (Err Stop.WriteFault) → BothSettled
         (⟦<(M, D) as Shown>⟧.shown («module».new, store.new)) }
-    ensures trail_left { TrailLeft (T.medium trail.old) (T.medium trail.new)
-        (T.faults trail.old) (T.faults trail.new)
-        (result ≡ Err TrailFault.DiskFault → ⊥) (result ≡ Err TrailFault.DiskFault) }
-    ensures grows { TrailGrows (T.medium trail.old) (T.medium trail.new) }
-    ensures rests { (result ≡ Err TrailFault.DiskFault → ⊥)
-        → Becomes Grown (T.medium trail.old) (T.medium trail.new) }
+    ensures trail { TrailAppended (T.medium trail.old) (T.medium trail.new)
+        (T.faults trail.old) (T.faults trail.new) (result ≡ Err TrailFault.DiskFault) }
     ensures failed { AppendFails result held.old trail.old trail.new sink.old sink.new }
     ensures bench { bench.new ≡ blank_bench }
 {

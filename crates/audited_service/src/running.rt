@@ -1,25 +1,15 @@
 //! Line after line, each recorded, to the end of the input.
-ghost use Rattle.std.specs.Prelude.{◌≡◌, ◌+◌, ◌^◌, ◌<◌, ◌≤◌, List, IsSome, Ok, Err, IfErr, length};
-ghost use Rattle.std.specs.Io.KnownBytes.{IsAtEnd};
+ghost use Rattle.std.specs.Prelude.{◌≡◌};
 ghost use Rattle.key_cells.specs.Bench.{blank_bench};
-ghost use Rattle.slot_disk.specs.Medium.{Told, Becomes, Keeps};
-ghost use Rattle.slot_disk.specs.WhereTold.{WhereTold};
-ghost use Rattle.script_buffers.specs.Lines.{lines as lines_of};
-ghost use Rattle.script_buffers.specs.Reading.{blank, input_limit};
-ghost use Rattle.audit_trail.specs.Changes.{TrailLeft};
-ghost use Rattle.audit_trail.specs.TrailStands.{trail_size, IsTrail, StandsForTrail};
-ghost use Rattle.audit_trail.specs.declared.entries.Entry.{Entry as AnyEntry};
-ghost use Rattle.line_service.specs.Machine.{world};
-ghost use Rattle.line_service.specs.Answering.{OnDisks, IsSound, Stands};
-ghost use Rattle.line_service.specs.Devices.{AreSettled, HaveSizes, BothSettled, DamageTold, OutsideLeft, Undamaged};
+ghost use Rattle.slot_disk.specs.Medium.{Told, Keeps};
+ghost use Rattle.script_buffers.specs.Reading.{blank};
+ghost use Rattle.audit_trail.specs.TrailStands.{trail_size, StandsForTrail};
+ghost use Rattle.line_service.specs.Answering.{IsSound};
+ghost use Rattle.line_service.specs.Devices.{AreSettled, HaveSizes};
 ghost use Rattle.line_service.specs.Running.{Untouched};
-ghost use Rattle.line_service.specs.Stops.{AnswersLines};
-ghost use Rattle.audited_service.specs.Answers.{run_part, AuditsLines};
-ghost use Rattle.audited_service.specs.Auditing.{IsUnsoundTrail, LinesRecorded, AuditTaken, AuditsSound, TrailDamageTold};
-ghost use Rattle.audited_service.specs.Growing.{TrailGrows, Grown};
-ghost use Rattle.audited_service.specs.Noting.{Noted, noting};
-ghost use Rattle.audited_service.specs.Recording.{RunRecorded};
-ghost use Rattle.audited_service.specs.EachLine.{Agrees, IsAppendFault, IsSettledTrail};
+ghost use Rattle.audited_service.specs.Auditing.{AuditLeft, IsUnsoundTrail};
+ghost use Rattle.audited_service.specs.EachLine.{IsSettledTrail, RecordsLeft};
+ghost use Rattle.audited_service.specs.Growing.{TrailGrows};
 
 use crate::auditing::audit_one;
 use crate::scribe::Scribe;
@@ -52,43 +42,11 @@ fn audit_all<A: Desk, W: Scribe, S: Source, K: Sink, M: Disk, D: Disk, E: Entrop
     requires held { Told (T.medium trail.old) (λ image. StandsForTrail image held.old) }
     requires bench { bench.old ≡ blank_bench }
 
-    ensures serves { (s : Noted A.machine.State)
-        → Stands (noting A.machine W.entry_of) s (Agrees (A.knows desk.old) (T.medium trail.old))
-        (M.medium «module».old) (D.medium store.old)
-        → RunRecorded A.machine W.entry_of s result
-        (world (M.medium «module».old) (D.medium store.old) (E.left entropy.old))
-        (world (M.medium «module».new) (D.medium store.new) (E.left entropy.new))
-        (T.medium trail.old) (T.medium trail.new)
-        (S.left source.old) (S.left source.new) (K.held sink.old) (K.held sink.new) }
-    ensures at_end { result ≡ Ok (Ok tt) → IsAtEnd (S.left source.new) }
-    ensures limit { WhereTold (S.left source.old) (S.left source.new) (λ input rest.
-        result ≡ Ok (Err Stop.InputLimit) → length input ≡ length rest + input_limit) }
-    ensures short { WhereTold (S.left source.old) (S.left source.new) (λ input rest.
-        result ≡ Ok (Ok tt) → length input < length rest + input_limit) }
-    ensures within { WhereTold (S.left source.old) (S.left source.new) (λ input rest.
-        length input ≤ length rest + input_limit) }
-    ensures settled { AnswersLines (run_part result) → BothSettled
-        (⟦<(M, D) as Shown>⟧.shown («module».new, store.new)) }
-    ensures left { OutsideLeft (run_part result)
+    ensures ends { RecordsLeft A.machine W.entry_of (A.knows desk.old) result
         (⟦<(S, K, M, D, E) as ShownOutside>⟧.between
         (source.old, sink.old, «module».old, store.old, entropy.old)
-        (source.new, sink.new, «module».new, store.new, entropy.new)) }
-    ensures undamaged { Undamaged A.machine (run_part result)
-        (⟦<(M, D) as Shown>⟧.shown («module».old, store.old)) }
-    ensures trail_left { TrailLeft (T.medium trail.old) (T.medium trail.new)
-        (T.faults trail.old) (T.faults trail.new)
-        (result ≡ Err TrailFault.DiskFault → ⊥) (result ≡ Err TrailFault.DiskFault) }
-    ensures grows { TrailGrows (T.medium trail.old) (T.medium trail.new) }
-    ensures rests { (result ≡ Err TrailFault.DiskFault → ⊥)
-        → Becomes Grown (T.medium trail.old) (T.medium trail.new) }
-    // A trail that tells its content is full only where the entries come to 2^63.
-    ensures full { (s : Noted A.machine.State)
-        → Stands (noting A.machine W.entry_of) s (Agrees (A.knows desk.old) (T.medium trail.old))
-        (M.medium «module».old) (D.medium store.old)
-        → IsSome (T.medium trail.old).content → result ≡ Err TrailFault.Full
-        → WhereTold (S.left source.old) (S.left source.new) (λ input rest.
-        2 ^ 63 < length s.entries + length (lines_of input)) }
-    ensures kinds { IfErr result IsAppendFault }
+        (source.new, sink.new, «module».new, store.new, entropy.new))
+        (T.medium trail.old) (T.medium trail.new) (T.faults trail.old) (T.faults trail.new) }
     ensures bench { bench.new ≡ blank_bench }
 {
     'each_line: loop {
@@ -129,23 +87,13 @@ pub fn serve_audited<A: Desk, W: Scribe, S: Source, K: Sink, M: Disk, D: Disk, E
     requires trail { (T.medium trail.old).size ≡ trail_size }
     requires bench { bench.old ≡ blank_bench }
 
-    // What the lines come to, from the state for which the disks stand and the entries for which the trail stands.
-    ensures lines { (s : A.machine.State) (es : List AnyEntry)
-        → OnDisks A.machine s (M.medium «module».old) (D.medium store.old)
-        → Told (T.medium trail.old) (λ c. IsTrail c es)
-        → LinesRecorded A.machine W.entry_of s es result
+    // What it leaves of all that is outside, what the lines come to, and what the trail holds.
+    ensures ends { AuditLeft A.machine W.entry_of result
         (⟦<(S, K, M, D, E) as ShownOutside>⟧.between
         (source.old, sink.old, «module».old, store.old, entropy.old)
         (source.new, sink.new, «module».new, store.new, entropy.new))
         (T.medium trail.old) (T.medium trail.new) (T.faults trail.old) (T.faults trail.new) }
-    ensures taken { AuditTaken result (⟦<(S, K, M, D, E) as ShownOutside>⟧.between
-        (source.old, sink.old, «module».old, store.old, entropy.old)
-        (source.new, sink.new, «module».new, store.new, entropy.new)) }
-
-    // Lines are served only where the disks stand for a state and the trail for some entries. Where they don't, all is
-    // as before.
-    ensures sound { AuditsSound A.machine result (⟦<(M, D) as Shown>⟧.between
-        («module».old, store.old) («module».new, store.new)) (T.medium trail.old) }
+    // Where the disks stand for no state, or the trail for no entries, all is as before.
     ensures unsound { (IsSound A.machine (M.medium «module».old) (D.medium store.old) → ⊥)
         → Untouched source.old source.new sink.old sink.new entropy.old entropy.new
         (⟦<(M, D) as Shown>⟧.between («module».old, store.old) («module».new, store.new))
@@ -154,27 +102,8 @@ pub fn serve_audited<A: Desk, W: Scribe, S: Source, K: Sink, M: Disk, D: Disk, E
         → Untouched source.old source.new sink.old sink.new entropy.old entropy.new
         (⟦<(M, D) as Shown>⟧.between («module».old, store.old) («module».new, store.new))
         × Keeps (T.medium trail.old) (T.medium trail.new) }
-
-    // Damage of the module is told first, then that of the store, then that of the trail.
-    ensures damage { DamageTold A.machine (run_part result) (⟦<(M, D) as Shown>⟧.between
-        («module».old, store.old) («module».new, store.new)) }
-    ensures trail_damage { TrailDamageTold A.machine result (⟦<(M, D) as Shown>⟧.between
-        («module».old, store.old) («module».new, store.new))
-        (T.medium trail.old) (T.faults trail.old) (T.faults trail.new) }
-
-    // What is left of each device, and why it stopped.
-    ensures left { OutsideLeft (run_part result)
-        (⟦<(S, K, M, D, E) as ShownOutside>⟧.between
-        (source.old, sink.old, «module».old, store.old, entropy.old)
-        (source.new, sink.new, «module».new, store.new, entropy.new)) }
-    ensures trail_left { TrailLeft (T.medium trail.old) (T.medium trail.new)
-        (T.faults trail.old) (T.faults trail.new)
-        (AuditsLines result) (result ≡ Err TrailFault.DiskFault) }
     // Whatever the disks hold, entries are only added to the trail.
     ensures trail_grows { TrailGrows (T.medium trail.old) (T.medium trail.new) }
-    // Where its disk doesn't fail, the bodies that aren't selected are those that were there, or older records.
-    ensures trail_rests { (result ≡ Err TrailFault.DiskFault → ⊥)
-        → Becomes Grown (T.medium trail.old) (T.medium trail.new) }
     ensures bench { bench.new ≡ blank_bench }
 {
     lines.clear();

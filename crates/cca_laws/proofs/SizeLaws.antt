@@ -32,7 +32,7 @@ use Rattle.key_records.specs.Labels.{is_label}
 use Rattle.key_records.specs.RecordBody.{ReadsEntry, ReadsWhat, kept}
 use Rattle.key_records.specs.StoreStands.{entry_at}
 use Rattle.held_names.proofs.NameLemmas.{label_short}
-use Rattle.key_records.proofs.SortedLaws.{count_bound}
+use Rattle.key_records.proofs.RankLaws.{count_bound}
 use Rattle.key_tokens.specs.Denotes.{ClearKey, Denoted, MasterKey, MasterKeys, clear_of, denoted, denoted_or, denoted_under, is_token}
 use Rattle.key_tokens.specs.Fields.{pattern_of_token, token_of}
 use Rattle.key_tokens.specs.declared.key_token.Age.{Age}

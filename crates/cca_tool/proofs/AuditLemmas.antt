@@ -1,12 +1,16 @@
 -- The status of an audited run tells how its lines ended.
-use Rattle.std.proofs.Common.{◌≡◌, Result, Ok, Err, refl, sym, ap, ◌∙◌, subst}
+use Rattle.std.proofs.Common.{◌≡◌, Result, Ok, Err, refl, sym, ap, ◌∙◌, subst, inl, inr}
+use Rattle.std.specs.Prelude.{◌⊎◌}
 use Rattle.audit_trail.specs.declared.faults.TrailFault.{TrailFault}
 use Rattle.audit_trail.specs.declared.faults.TrailFault.TheVariants.{DiskFault, Full, Damaged}
 use Rattle.line_service.specs.declared.stops.Stop.{Stop}
-use Rattle.cca_tool.specs.Auditing.{audit_status_of_lem, AuditEnded}
+use Rattle.cca_tool.specs.Auditing.{audit_status_of_lem, AuditEnded, AuditCallsNone}
+use Rattle.cca_tool.specs.Statuses.{status_of_lem}
+use Rattle.cca_tool.specs.declared.command.Status.{Status}
+use Rattle.cca_tool.specs.declared.command.Status.TheVariants as status
 use Rattle.cca_tool.specs.declared.auditing.AuditStatus.{AuditStatus}
 use Rattle.cca_tool.specs.declared.auditing.AuditStatus.TheVariants as audit_status
-use Rattle.cca_tool.proofs.StatusLemmas.{outcome_of, outcome_is}
+use Rattle.cca_tool.proofs.StatusLemmas.{never_told, outcome_of, outcome_is}
 
 -- the outcome of which a status tells
 abbrev outcome_audited : AuditStatus → Result (Result (Unit {0}) Stop) TrailFault
@@ -25,3 +29,27 @@ audited_is (Err Full) = refl
 pub audited_as : (P : Result (Result (Unit {0}) Stop) TrailFault → Type 0) (r : Result (Result (Unit {0}) Stop) TrailFault) (outcome : AuditStatus)
     → outcome ≡ audit_status_of_lem r → P r → AuditEnded outcome P
 audited_as P r outcome is p = λ q h. subst P (sym (audited_is r) ∙ (ap outcome_audited (sym is ∙ h) ∙ audited_is q)) p
+
+run_told : (a b : Status) → audit_status.Run a ≡ audit_status.Run b → a ≡ b
+run_told a b h = cc h
+
+never_audited : (r : Result (Result (Unit {0}) Stop) TrailFault) → (audit_status.Run status.NoMemory ≡ audit_status_of_lem r) ⊎ (audit_status.Run status.Usage ≡ audit_status_of_lem r) → ⊥
+never_audited (Ok r) (inl h) = never_told r (inl (run_told status.NoMemory (status_of_lem r) h))
+never_audited (Ok r) (inr h) = never_told r (inr (run_told status.Usage (status_of_lem r) h))
+never_audited (Err DiskFault) (inl h) = cc h
+never_audited (Err DiskFault) (inr h) = cc h
+never_audited (Err (Damaged cell)) (inl h) = cc h
+never_audited (Err (Damaged cell)) (inr h) = cc h
+never_audited (Err Full) (inl h) = cc h
+never_audited (Err Full) (inr h) = cc h
+
+pub no_memory_audited : (P : Result (Result (Unit {0}) Stop) TrailFault → Type 0) → AuditEnded (audit_status.Run status.NoMemory) P
+no_memory_audited P = λ r h. absurd (never_audited r (inl h))
+
+pub usage_audited : (P : Result (Result (Unit {0}) Stop) TrailFault → Type 0) → AuditEnded (audit_status.Run status.Usage) P
+usage_audited P = λ r h. absurd (never_audited r (inr h))
+
+-- where the status tells how lines ended, devices were called
+pub audits_some : (outcome : AuditStatus) (r : Result (Result (Unit {0}) Stop) TrailFault) → outcome ≡ audit_status_of_lem r → AuditCallsNone outcome → ⊥
+audits_some outcome r is (inl usage) = never_audited r (inr (sym usage ∙ is))
+audits_some outcome r is (inr memory) = never_audited r (inl (sym memory ∙ is))

@@ -7,7 +7,7 @@ use Rattle.slot_disk.specs.WhereTold.{WhereTold}
 use Rattle.slot_disk.proofs.Media.{told_from, told_at}
 use Rattle.script_buffers.specs.Lines.{lines, EndsLine}
 use Rattle.script_buffers.specs.Reading.{input_limit}
-use Rattle.line_service.specs.Devices.{Span, DiskLeft, TellsFault, DamageTold, Devices, devices, Outside, outside, OutsideLeft}
+use Rattle.line_service.specs.Devices.{Span, DiskLeft, TellsFault, DamageTold, Devices, devices, Outside, outside}
 use Rattle.line_service.specs.Machine.{World, world}
 use Rattle.line_service.specs.Running.{ServesSound}
 use Rattle.line_service.specs.Sending.{GotPart, Grows}
@@ -21,7 +21,7 @@ use Rattle.cca_tool.specs.Coprocessor.{cca, IsBrokenModule, IsBrokenStore}
 use Rattle.cca_tool.specs.Counting.{counted, counted_summary}
 use Rattle.cca_tool.specs.Demo.{demo_lines, demo_text, summary, summary_text, are_ok, are_refused}
 use Rattle.cca_tool.specs.DemoRun.{SummarySent, SummaryCut, DemoLost}
-use Rattle.cca_tool.specs.Running.{DemoLines, DemoLeft}
+use Rattle.cca_tool.specs.Running.{DemoLeft, DemoRan}
 use Rattle.cca_tool.specs.Statuses.{status_of_lem}
 use Rattle.cca_tool.specs.declared.command.Status.{Status}
 use Rattle.cca_tool.specs.declared.command.Status.TheVariants as status
@@ -112,35 +112,17 @@ module _ (n : ℕ) (text : List ℕ) (is : text ≡ demo_text n) where
 
 -- ---- in records
 
--- the same sink and disks beside a source and a random source
-abbrev with_random : Outside → Option (List ℕ) → ℕ → Option (List ℕ) → ℕ → Outside
-with_random o input i_count random e_count =
-    outside input i_count o.output o.sink_faults
-    (devices o.devices.world.module_ o.devices.module_faults o.devices.world.store o.devices.store_faults random e_count)
-
--- what is left of sink and disks, beside a source and a random source that weren't called
-pub demo_outside : (out : Status) (r : Result (Unit {0}) Stop) → out ≡ status_of_lem r → (out ≡ status.ReadFault → ⊥) → (out ≡ status.EntropyFault → ⊥)
-    → (o : Span Outside) (input : Option (List ℕ)) (i_count : ℕ) (random : Option (List ℕ)) (e_count : ℕ) → DemoLeft r o
-    → OutsideLeft r (record { old = with_random o.old input i_count random e_count; new = with_random o.new input i_count random e_count })
-demo_outside out r is unread undrawn o input i_count random e_count left = record {
-  devices_left = record {
-    module_left = left.module_left;
-    store_left = left.store_left;
-    entropy_left = record { later = omega arith; fault = λ h. absurd (undrawn (is ∙ ap status_of_lem h)); quiet = λ never. refl };
-  };
-  source_left = record { later = omega arith; fault = λ h. absurd (unread (is ∙ ap status_of_lem h)); quiet = λ never. refl };
-  sink_left = left.sink_left;
-  sink_grows = left.sink_grows;
-}
-
 pub sound_at : {d : Span Devices} (r q : Result (Unit {0}) Stop) → r ≡ q → ServesSound cca r d → ServesSound cca q d
 sound_at {d} r q is sound = subst (λ (u : Result (Unit {0}) Stop). ServesSound cca u d) is sound
 
 pub damage_at : {d : Span Devices} (r q : Result (Unit {0}) Stop) → r ≡ q → DamageTold cca r d → DamageTold cca q d
 damage_at {d} r q is damage = subst (λ (u : Result (Unit {0}) Stop). DamageTold cca u d) is damage
 
-pub demo_lines_at : {o : Span Outside} (n k : ℕ) (s : State) (out : Status) → n ≡ k → DemoLines n s out o → DemoLines k s out o
-demo_lines_at {o} n k s out is lines = subst (λ (x : ℕ). DemoLines x s out o) is lines
+pub ran_at : {K : Type 0} {k0 k1 : K} {o : Span Outside} {out : Status} (n m : ℕ) → n ≡ m → DemoRan n out k0 k1 o → DemoRan m out k0 k1 o
+ran_at {K} {k0} {k1} {o} {out} n m is ran = subst (λ (x : ℕ). DemoRan x out k0 k1 o) is ran
+
+pub ran_as : {K : Type 0} {k0 k1 : K} {o : Span Outside} {n : ℕ} (out told : Status) → told ≡ out → DemoRan n out k0 k1 o → DemoRan n told k0 k1 o
+ran_as {K} {k0} {k1} {o} {n} out told is ran = subst (λ (x : Status). DemoRan n x k0 k1 o) (sym is) ran
 
 abbrev ok_of : Unit {0} → Result (Unit {0}) Stop
 ok_of done = Ok done
@@ -148,10 +130,10 @@ ok_of done = Ok done
 -- all lines were served, and what came of the summary
 module _ (done : Unit {0}) (q : Result (Unit {0}) Stop) (undamaged : (device : Device) (cell : ℕ) → q ≡ Err (Damaged device cell) → ⊥)
     (unfailed : (q ≡ Err ModuleFault → ⊥) × (q ≡ Err StoreFault → ⊥)) where
-  pub summary_sound : {d : Span Devices} → ServesSound cca (Ok done) d → ServesSound cca q d
+  summary_sound : {d : Span Devices} → ServesSound cca (Ok done) d → ServesSound cca q d
   summary_sound sound = record { sound = λ h. sound.sound (inl refl); settled = λ h. sound.settled (inl refl) }
 
-  pub summary_damage : {d : Span Devices} → DamageTold cca (Ok done) d → DamageTold cca q d
+  summary_damage : {d : Span Devices} → DamageTold cca (Ok done) d → DamageTold cca q d
   summary_damage {d} damage = record {
     module_damaged = λ cell h. absurd (undamaged Module cell h);
     store_damaged = λ cell h. absurd (undamaged Store cell h);
@@ -177,6 +159,8 @@ module _ (done : Unit {0}) (q : Result (Unit {0}) Stop) (undamaged : (device : D
   }
 
   pub summary_left : (m0 m1 d0 d1 : Medium) (m_before m_now d_before d_now sink_before sink_now : ℕ) (p q' : Option (List ℕ))
+      → ServesSound cca (Ok done) (record { old = devices m0 m_before d0 d_before None 0; new = devices m1 m_now d1 d_now None 0 })
+      → DamageTold cca (ok_of done) (record { old = devices m0 m_before d0 d_before None 0; new = devices m1 m_now d1 d_now None 0 })
       → DiskLeft m0 m1 m_before m_now (IsOk (ok_of done)) (ok_of done ≡ Err ModuleFault)
       → DiskLeft d0 d1 d_before d_now (IsOk (ok_of done)) (ok_of done ≡ Err StoreFault)
       → TellsFault sink_before sink_now (q ≡ Err WriteFault) → WhereTold p q' Grows
@@ -184,7 +168,9 @@ module _ (done : Unit {0}) (q : Result (Unit {0}) Stop) (undamaged : (device : D
         old = outside None 0 p sink_before (devices m0 m_before d0 d_before None 0);
         new = outside None 0 q' sink_now (devices m1 m_now d1 d_now None 0);
       })
-  summary_left m0 m1 d0 d1 m_before m_now d_before d_now sink_before sink_now p q' on_module on_store told grows = record {
+  summary_left m0 m1 d0 d1 m_before m_now d_before d_now sink_before sink_now p q' sound damage on_module on_store told grows = record {
+    sound = summary_sound sound;
+    damage = summary_damage damage;
     sink_left = told;
     sink_grows = grows;
     module_left = disk_after m0 m1 m_before m_now ModuleFault unfailed.0 on_module;

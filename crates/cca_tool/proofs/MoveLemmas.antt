@@ -1,4 +1,4 @@
--- How the status of a move tells of disks, of the move's words, and of what was told.
+-- How the status of a move tells of disks, and of what was told.
 use Rattle.std.proofs.Common.{◌≡◌, ◌∙◌, ℕ, List, Option, Result, Ok, Err, refl, sym, ap, subst, inl, inr}
 use Rattle.std.specs.Prelude.{◌<◌, IfSome, IsOk}
 use Rattle.slot_disk.specs.Medium.{Medium, Told}
@@ -17,29 +17,21 @@ use Rattle.move_file.specs.Judging.{IsStoreFault}
 use Rattle.move_file.specs.declared.moves.Move.{Move}
 use Rattle.cca_tool.specs.Coprocessor.{IsCell, cca}
 use Rattle.cca_tool.specs.Statuses.{status_of_lem}
-use Rattle.cca_tool.specs.Unloading.{AreWordsOf, IsLabelStatus, MoveTold, TellsLabels, disk_stop, status_stop}
+use Rattle.cca_tool.specs.Unloading.{IsLabelStatus, MoveTold, TellsLabels, disk_stop, status_stop}
 use Rattle.cca_tool.specs.declared.command.Status.{Status}
 use Rattle.cca_tool.specs.declared.command.Status.TheVariants as status
 use Rattle.cca_tool.specs.declared.unloading.MoveStatus.{MoveStatus}
 use Rattle.cca_tool.specs.declared.unloading.MoveStatus.TheVariants.{Run, Refused, ReportFault}
 
--- ---- the words
-
-abbrev move : List ℕ → List ℕ → List ℕ → List ℕ → Move
-move role transport role_there transport_there =
-    record { role = role; transport = transport; role_there = role_there; transport_there = transport_there }
-
--- words ask for one move
-pub one_move : (w v : Move) (words : List (List ℕ)) → AreWordsOf w words → AreWordsOf v words → w ≡ v
-one_move w v words one other =
-    let role : w.role ≡ v.role = cc (one.are, other.are) in
-    let transport : w.transport ≡ v.transport = cc (one.are, other.are) in
-    let role_there : w.role_there ≡ v.role_there = cc (one.are, other.are) in
-    let transport_there : w.transport_there ≡ v.transport_there = cc (one.are, other.are) in
-    ap (λ r. move r w.transport w.role_there w.transport_there) role
-    ∙ ap (λ t. move v.role t w.role_there w.transport_there) transport
-    ∙ ap (λ r. move v.role v.transport r w.transport_there) role_there
-    ∙ ap (λ t. move v.role v.transport v.role_there t) transport_there
+-- disks that weren't opened don't tell that the file failed
+pub unwritten : (why : Stop) (told : Status) → IsOpeningStop why → told ≡ status_of_lem (Err why) → Run told ≡ Run status.WriteFault → ⊥
+unwritten stop.ModuleFault told kind is h = cc (is, h)
+unwritten stop.StoreFault told kind is h = cc (is, h)
+unwritten (stop.Damaged device cell) told kind is h = cc (is, h)
+unwritten stop.ReadFault told kind is h = kind
+unwritten stop.WriteFault told kind is h = kind
+unwritten stop.EntropyFault told kind is h = kind
+unwritten stop.InputLimit told kind is h = kind
 
 -- ---- what is told where a disk failed before a label was told
 

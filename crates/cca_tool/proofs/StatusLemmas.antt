@@ -40,7 +40,7 @@ module _ (r : Result (Unit {0}) Stop) (outcome : Status) (is : outcome ≡ statu
 pub ended_as : (P : Result (Unit {0}) Stop → Type 0) (r : Result (Unit {0}) Stop) (outcome : Status) → outcome ≡ status_of_lem r → P r → Ended outcome P
 ended_as P r outcome is p = λ q h. subst P (sym (outcome_is r) ∙ (ap outcome_of (sym is ∙ h) ∙ outcome_is q)) p
 
-never_told : (r : Result (Unit {0}) Stop) → (status.NoMemory ≡ status_of_lem r) ⊎ (status.Usage ≡ status_of_lem r) → ⊥
+pub never_told : (r : Result (Unit {0}) Stop) → (status.NoMemory ≡ status_of_lem r) ⊎ (status.Usage ≡ status_of_lem r) → ⊥
 never_told (Ok done) (inl h) = cc h
 never_told (Ok done) (inr h) = cc h
 never_told (Err ReadFault) (inl h) = cc h

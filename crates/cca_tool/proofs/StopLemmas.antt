@@ -1,5 +1,5 @@
 -- The stops of a session.
-use Rattle.std.proofs.Common.{◌≡◌, ℕ, List, Result, Err, refl, ap, ◌∙◌, subst}
+use Rattle.std.proofs.Common.{◌≡◌, ℕ, List, Result, Ok, Err, refl, ap, ◌∙◌, subst}
 use Rattle.std.specs.Prelude.{IfErr}
 use Rattle.line_service.specs.declared.stops.Device.{Device}
 use Rattle.line_service.specs.declared.stops.Device.TheVariants.{Module, Store}
@@ -21,6 +21,10 @@ of_stop EntropyFault cells = tt
 of_stop ModuleFault cells = tt
 of_stop StoreFault cells = tt
 of_stop (Damaged device cell) cells = cells device cell refl
+
+pub stops_in : (r : Result (Unit {0}) Stop) → ((device : Device) (cell : ℕ) → r ≡ Err (Damaged device cell) → IsCell device cell) → IfErr r IsStop
+stops_in (Ok done) cells = tt
+stops_in (Err stop) cells = of_stop stop (λ device cell h. cells device cell (ap Err h))
 
 -- of the module's cells, cell 0 alone is found damaged
 pub cell_zero : (r : Result (Unit {0}) Stop) (cell : ℕ) → IfErr r IsRequestStop → r ≡ Err (Damaged Module cell) → r ≡ Err (Damaged Module 0)

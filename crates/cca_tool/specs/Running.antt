@@ -4,7 +4,8 @@ use Rattle.slot_disk.specs.Faults.{Rose}
 use Rattle.slot_disk.specs.Medium.{EachImage, Keeps}
 use Rattle.slot_disk.specs.WhereTold.{WhereTold}
 use Rattle.line_service.specs.Answering.{OnDisks}
-use Rattle.line_service.specs.Devices.{Span, Devices, Outside, TellsFault, ModuleLeft, StoreLeft, behind}
+use Rattle.line_service.specs.Devices.{Span, Devices, DamageTold, Outside, TellsFault, ModuleLeft, StoreLeft, behind}
+use Rattle.line_service.specs.Running.{ServesSound}
 use Rattle.line_service.specs.Sending.{Grows}
 use Rattle.line_service.specs.Serving.{IsOnTheWay, AtRest, SparesAlways}
 use Rattle.line_service.specs.declared.stops.Stop.{Stop}
@@ -69,24 +70,34 @@ pub record DemoAnswers {K : Type 0} (outcome : Status) (sink0 sink1 : K) : Type 
   pub demo_limit : outcome ≢ status.InputLimit
   pub demo_drawn : outcome ≢ status.EntropyFault
 
--- what a run of a demo leaves, over a source and a random source that it doesn't call
-pub record DemoServed {S K E : Type 0} (n : ℕ) (outcome : Status) (source0 source1 : S)
-    (sink0 sink1 : K) (entropy0 entropy1 : E) (o : Span Outside) : Type 0 where
-  pub demo_source : source1 ≡ source0
-  pub demo_entropy : entropy1 ≡ entropy0
-  pub answers : DemoAnswers outcome sink0 sink1
-  pub lines : (s : State) → OnDisks cca s o.old.devices.world.module_ o.old.devices.world.store
-      → DemoLines n s outcome o
-
 -- where the disks stand for no state, sink and disks are as before
 pub record DemoUntouched {K : Type 0} (sink0 sink1 : K) (d : Span Devices) : Type 0 where
   pub unsound_sink : sink1 ≡ sink0
   pub unsound_module : Keeps d.old.world.module_ d.new.world.module_
   pub unsound_store : Keeps d.old.world.store d.new.world.store
 
--- what is left of sink and disks, and why it stopped
+-- What a demo leaves of sink and disks that ended so, and why it stopped.
 pub record DemoLeft (r : Result (Unit {0}) Stop) (o : Span Outside) : Type 0 where
+  -- lines are served only where the disks stand for a state
+  pub sound : ServesSound cca r (behind o)
+  -- damage is told where a cell is broken, and then always, unless a disk failed
+  pub damage : DamageTold cca r (behind o)
   pub sink_left : TellsFault o.old.sink_faults o.new.sink_faults (r ≡ Err WriteFault)
   pub sink_grows : WhereTold o.old.output o.new.output Grows
   pub module_left : ModuleLeft (behind o) (IsOk r) (r ≡ Err ModuleFault)
   pub store_left : StoreLeft (behind o) (IsOk r) (r ≡ Err StoreFault)
+
+-- what serving the lines of a demo leaves, and sending what they came to
+pub record DemoRan {K : Type 0} (n : ℕ) (outcome : Status) (sink0 sink1 : K) (o : Span Outside)
+    : Type 0 where
+  pub answers : DemoAnswers outcome sink0 sink1
+  pub lines : (s : State) → OnDisks cca s o.old.devices.world.module_ o.old.devices.world.store
+      → DemoLines n s outcome o
+  pub ends : Ended outcome (λ r. DemoLeft r o)
+
+-- the same over a source and a random source, which a demo doesn't call
+pub record DemoServed {S K E : Type 0} (n : ℕ) (outcome : Status) (source0 source1 : S)
+    (sink0 sink1 : K) (entropy0 entropy1 : E) (o : Span Outside) : Type 0 where
+  pub demo_source : source1 ≡ source0
+  pub demo_entropy : entropy1 ≡ entropy0
+  pub ran : DemoRan n outcome sink0 sink1 o

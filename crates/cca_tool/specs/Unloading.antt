@@ -6,6 +6,7 @@ use Rattle.cca_roles.specs.declared.roles.Role.{Role}
 use Rattle.key_records.specs.Labels.{IsLabel}
 use Rattle.slot_disk.specs.Faults.{Rose}
 use Rattle.slot_disk.specs.Medium.{Medium, Told}
+use Rattle.slot_disk.specs.WhereTold.{WhereTold}
 use Rattle.cca_vectors.specs.Checks.{first_failing}
 use Rattle.key_records.specs.Directory.{held_count}
 use Rattle.key_records.specs.Entries.{row_directory}
@@ -15,6 +16,9 @@ use Rattle.key_tokens.specs.Denotes.{Denoted}
 use Rattle.master_registers.specs.Masters.{Masters}
 use Rattle.master_registers.specs.RegisterBody.{StandsForMasters}
 use Rattle.verb_rules.specs.Keys.{keys_of}
+use Rattle.line_service.specs.Answering.{IsSound, OnDisks}
+use Rattle.line_service.specs.Devices.{DamageTold, Devices, OpeningLeft, Span, TellsFault}
+use Rattle.line_service.specs.Sending.{Grows}
 use Rattle.line_service.specs.declared.stops.Device.{Device}
 use Rattle.line_service.specs.declared.stops.Device.TheVariants.{Module, Store}
 use Rattle.line_service.specs.declared.stops.Stop.{Stop}
@@ -24,7 +28,7 @@ use Rattle.move_file.specs.Judging.{RefusedAsRead, TransportAsRead}
 use Rattle.move_file.specs.Moves.{move_checks}
 use Rattle.move_file.specs.Writing.{GotParts, GotPartsTo, ToldAll, ToldTo}
 use Rattle.move_file.specs.declared.moves.Move.{Move}
-use Rattle.cca_tool.specs.Coprocessor.{IsCell}
+use Rattle.cca_tool.specs.Coprocessor.{cca, IsCell}
 use Rattle.cca_tool.specs.declared.command.Status.{Status}
 use Rattle.cca_tool.specs.declared.command.Status.TheVariants as status
 use Rattle.cca_tool.specs.declared.unloading.MoveStatus.{MoveStatus}
@@ -211,3 +215,55 @@ pub record MoveUncalled {K P M D : Type 0} (file0 file1 : K) (report0 report1 : 
 pub record MoveUntold {K P : Type 0} (file0 file1 : K) (report0 report1 : P) : Type 0 where
   pub no_file : file1 ≡ file0
   pub no_report : report1 ≡ report0
+
+-- ---- all that it leaves
+
+-- file and report at a moment, and how often each has failed
+pub record Outputs : Type 1 where
+  pub file : Option (List ℕ)
+  pub file_faults : ℕ
+  pub report : Option (List ℕ)
+  pub report_faults : ℕ
+
+abbrev pub outputs : Option (List ℕ) → ℕ → Option (List ℕ) → ℕ → Outputs
+outputs file file_faults report report_faults = record {
+  file = file;
+  file_faults = file_faults;
+  report = report;
+  report_faults = report_faults;
+}
+
+-- what is left of file and report, and why the move ended: bytes are only added
+pub record OutputsLeft (outcome : MoveStatus) (o : Span Outputs) : Type 0 where
+  pub file_left : TellsFault o.old.file_faults o.new.file_faults (outcome ≡ Run status.WriteFault)
+  pub report_left : TellsFault o.old.report_faults o.new.report_faults (outcome ≡ ReportFault)
+  pub file_grows : WhereTold o.old.file o.new.file Grows
+  pub report_grows : WhereTold o.old.report o.new.report Grows
+
+-- What a move leaves that calls the devices.
+pub record MoveLeft {K P : Type 0} (w : Move) (outcome : MoveStatus) (file0 file1 : K)
+    (report0 report1 : P) (d : Span Devices) (o : Span Outputs) : Type 0 where
+  -- what it comes to, from each state for which the disks stand: which file and which report, and why it ended
+  pub told : (s : State) → OnDisks cca s d.old.world.module_ d.old.world.store
+      → MoveTold s w outcome o.old.file o.new.file o.old.report o.new.report
+      (Still d.old.module_faults d.new.module_faults
+      × Still d.old.store_faults d.new.store_faults)
+      (Still o.old.file_faults o.new.file_faults × Still o.old.report_faults o.new.report_faults)
+  -- what file and report got by what was read of each label's record, at Done, and wherever one of them isn't as before
+  pub own : (outcome ≡ Run status.Done) ⊎ (MoveUntold file0 file1 report0 report1 → ⊥)
+      → MovesAsRead d.old.world.module_ d.old.world.store w outcome
+      o.old.file o.new.file o.old.report o.new.report
+  -- the rule that refuses it, by what was read of the module and of the transport label's record
+  pub refusal : (rule : ℕ) → outcome ≡ Refused rule
+      → MoveRefusedAsRead d.old.world.module_ d.old.world.store w rule
+  -- it is judged and told only where the disks stand for a state
+  pub sound : TellsMove outcome → IsSound cca d.old.world.module_ d.old.world.store
+  -- where they don't, and where a rule refuses it or the module failed, nothing was told
+  pub unsound : (IsSound cca d.old.world.module_ d.old.world.store → ⊥)
+      → MoveUntold file0 file1 report0 report1
+  pub untold : TellsNone outcome → MoveUntold file0 file1 report0 report1
+  -- damage is told where a cell is broken, and then always, unless a disk failed
+  pub damage : DamageTold cca (disk_stop outcome) d
+  -- the disks aren't written
+  pub disks_left : OpeningLeft (disk_stop outcome) d
+  pub outputs_left : OutputsLeft outcome o

@@ -1,17 +1,14 @@
 //! The top call of an audited run.
-ghost use Rattle.std.specs.Prelude.{◌≡◌, ◌↔◌, ◌∷◌, ℕ, [], List, codes, Err};
+ghost use Rattle.std.specs.Prelude.{◌≡◌, ◌↔◌, ◌∷◌, ℕ, [], List, codes};
 ghost use Rattle.key_cells.specs.Bench.{blank_bench};
-ghost use Rattle.slot_disk.specs.Medium.{Told, Keeps};
+ghost use Rattle.slot_disk.specs.Medium.{Keeps};
 ghost use Rattle.audit_entries.specs.LineEntries.{entry_of};
-ghost use Rattle.audit_trail.specs.Changes.{TrailLeft};
-ghost use Rattle.audit_trail.specs.TrailStands.{IsTrail};
 ghost use Rattle.audit_trail.specs.declared.entries.Entry.{Entry};
-ghost use Rattle.audited_service.specs.Answers.{run_part, AuditsLines};
-ghost use Rattle.audited_service.specs.Auditing.{IsUnsoundTrail, LinesRecorded, AuditTaken, AuditsSound, TrailDamageTold};
+ghost use Rattle.audited_service.specs.Auditing.{AuditLeft, IsUnsoundTrail};
 ghost use Rattle.audited_service.specs.Growing.{TrailGrows};
 ghost use Rattle.audited_service.specs.Noting.{Noted, NotesLines, noted, noting};
-ghost use Rattle.line_service.specs.Answering.{OnDisks, IsSound};
-ghost use Rattle.line_service.specs.Devices.{HaveSizes, DamageTold, OutsideLeft};
+ghost use Rattle.line_service.specs.Answering.{IsSound};
+ghost use Rattle.line_service.specs.Devices.{HaveSizes};
 ghost use Rattle.line_service.specs.Running.{Untouched};
 ghost use Rattle.line_service.specs.Serving.{Runs};
 ghost use Rattle.cca_machine.specs.State.{State, module_size, store_size};
@@ -69,29 +66,16 @@ pub fn run_audited<S: Source, K: Sink, M: Disk, D: Disk, E: Entropy, T: Disk>(
         → AllUncalled source.old source.new sink.old sink.new «module».old «module».new
         store.old store.new entropy.old entropy.new trail.old trail.new }
 
-    // What the lines come to, from the state for which the disks stand and the entries for which the trail stands: what
-    // the sink got, what disks and trail stand for, each of them at every moment, and that every line is recorded and
-    // answered where no device fails.
-    ensures lines { (s : State) (es : List Entry)
-        → OnDisks cca s (M.medium «module».old) (D.medium store.old)
-        → Told (T.medium trail.old) (λ c. IsTrail c es)
-        → AuditEnded result (λ outcome. LinesRecorded cca entry_of s es outcome
+    // What it leaves of all that is outside, and what the lines come to, from the state for which the disks stand and the
+    // entries for which the trail stands: what the sink got, what disks and trail stand for, each of them at every moment,
+    // and that every line is recorded and answered where no device fails.
+    ensures ends { AuditEnded result (λ outcome. AuditLeft cca entry_of outcome
         (⟦<(S, K, M, D, E) as ShownOutside>⟧.between
         (source.old, sink.old, «module».old, store.old, entropy.old)
         (source.new, sink.new, «module».new, store.new, entropy.new))
         (T.medium trail.old) (T.medium trail.new) (T.faults trail.old) (T.faults trail.new)) }
 
-    // How far the input was taken.
-    ensures taken { AuditEnded result (λ outcome. AuditTaken outcome
-        (⟦<(S, K, M, D, E) as ShownOutside>⟧.between
-        (source.old, sink.old, «module».old, store.old, entropy.old)
-        (source.new, sink.new, «module».new, store.new, entropy.new))) }
-
-    // Lines are served only where the disks stand for a state and the trail for some entries. Where they don't, all is
-    // as before.
-    ensures sound { AuditEnded result (λ outcome. AuditsSound cca outcome
-        (⟦<(M, D) as Shown>⟧.between («module».old, store.old) («module».new, store.new))
-        (T.medium trail.old)) }
+    // Where the disks stand for no state, or the trail for no entries, all is as before.
     ensures unsound { (IsSound cca (M.medium «module».old) (D.medium store.old) → ⊥)
         → Untouched source.old source.new sink.old sink.new entropy.old entropy.new
         (⟦<(M, D) as Shown>⟧.between («module».old, store.old) («module».new, store.new))
@@ -101,22 +85,6 @@ pub fn run_audited<S: Source, K: Sink, M: Disk, D: Disk, E: Entropy, T: Disk>(
         (⟦<(M, D) as Shown>⟧.between («module».old, store.old) («module».new, store.new))
         × Keeps (T.medium trail.old) (T.medium trail.new) }
 
-    // Damage is told where a cell is broken, and then always, unless a device failed: that of the module first, then that
-    // of the store, then that of the trail.
-    ensures damage { AuditEnded result (λ outcome. DamageTold cca (run_part outcome)
-        (⟦<(M, D) as Shown>⟧.between («module».old, store.old) («module».new, store.new))) }
-    ensures trail_damage { AuditEnded result (λ outcome. TrailDamageTold cca outcome
-        (⟦<(M, D) as Shown>⟧.between («module».old, store.old) («module».new, store.new))
-        (T.medium trail.old) (T.faults trail.old) (T.faults trail.new)) }
-
-    // What is left of each device, and why it ended.
-    ensures left { AuditEnded result (λ outcome. OutsideLeft (run_part outcome)
-        (⟦<(S, K, M, D, E) as ShownOutside>⟧.between
-        (source.old, sink.old, «module».old, store.old, entropy.old)
-        (source.new, sink.new, «module».new, store.new, entropy.new))) }
-    ensures trail_left { AuditEnded result (λ outcome. TrailLeft
-        (T.medium trail.old) (T.medium trail.new) (T.faults trail.old) (T.faults trail.new)
-        (AuditsLines outcome) (outcome ≡ Err TrailFault.DiskFault)) }
     // Whatever the disks hold, entries are only added to the trail.
     ensures trail_grows { TrailGrows (T.medium trail.old) (T.medium trail.new) }
 

@@ -1,10 +1,10 @@
 //! The top call.
 ghost use Rattle.std.specs.Prelude.{◌≡◌, ◌↔◌, ◌∷◌, [], ℕ, codes};
 ghost use Rattle.key_cells.specs.Bench.{blank_bench};
-ghost use Rattle.line_service.specs.Answering.{OnDisks, IsSound};
-ghost use Rattle.line_service.specs.Devices.{HaveSizes, DamageTold, OutsideLeft};
-ghost use Rattle.line_service.specs.Running.{LinesServed, InputTaken, ServesSound, Untouched};
-ghost use Rattle.cca_machine.specs.State.{State, module_size, store_size};
+ghost use Rattle.line_service.specs.Answering.{IsSound};
+ghost use Rattle.line_service.specs.Devices.{HaveSizes};
+ghost use Rattle.line_service.specs.Running.{SessionLeft, Untouched};
+ghost use Rattle.cca_machine.specs.State.{module_size, store_size};
 ghost use Rattle.cca_tool.specs.Coprocessor.{cca};
 ghost use Rattle.cca_tool.specs.Demo.{IsDemo, IsCommandLine};
 ghost use Rattle.cca_tool.specs.Running.{Ended, Uncalled, DemoServed};
@@ -70,11 +70,9 @@ pub fn run<S: Source, K: Sink, M: Disk, D: Disk, E: Entropy>(
     ensures uncalled { CallsNone result → Uncalled source.old source.new sink.old sink.new
         «module».old «module».new store.old store.new entropy.old entropy.new }
 
-    // For the word `run`, what the lines come to, from the state for which the disks stand: what the sink got, the state
+    // For the word `run`, what it leaves of all that is outside, and what the lines come to: what the sink got, the state
     // that the disks stand for, each disk at every moment, and that every line is answered where no device fails.
-    ensures lines { words.now ≡ codes "run" ∷ [] → (s : State)
-        → OnDisks cca s (M.medium «module».old) (D.medium store.old)
-        → Ended result (λ outcome. LinesServed cca s outcome
+    ensures ends { words.now ≡ codes "run" ∷ [] → Ended result (λ outcome. SessionLeft cca outcome
         (⟦<(S, K, M, D, E) as ShownOutside>⟧.between
         (source.old, sink.old, «module».old, store.old, entropy.old)
         (source.new, sink.new, «module».new, store.new, entropy.new))) }
@@ -84,27 +82,10 @@ pub fn run<S: Source, K: Sink, M: Disk, D: Disk, E: Entropy>(
         entropy.old entropy.new (⟦<(K, M, D) as ShownOutside>⟧.between
         (sink.old, «module».old, store.old) (sink.new, «module».new, store.new)) }
 
-    // How far the input was taken.
-    ensures taken { words.now ≡ codes "run" ∷ [] → Ended result (λ outcome. InputTaken outcome
-        (⟦<(S, K, M, D, E) as ShownOutside>⟧.between
-        (source.old, sink.old, «module».old, store.old, entropy.old)
-        (source.new, sink.new, «module».new, store.new, entropy.new))) }
-
-    // Lines are served only where the disks stand for a state. Where they don't, all is as before.
-    ensures sound { Ended result (λ outcome. ServesSound cca outcome (⟦<(M, D) as Shown>⟧.between
-        («module».old, store.old) («module».new, store.new))) }
+    // Where the disks stand for no state, all is as before.
     ensures unsound { (IsSound cca (M.medium «module».old) (D.medium store.old) → ⊥)
         → Untouched source.old source.new sink.old sink.new entropy.old entropy.new
         (⟦<(M, D) as Shown>⟧.between («module».old, store.old) («module».new, store.new)) }
-
-    // Damage is told where a cell is broken, and then always, unless a disk failed.
-    ensures damage { Ended result (λ outcome. DamageTold cca outcome (⟦<(M, D) as Shown>⟧.between
-        («module».old, store.old) («module».new, store.new))) }
-    // What is left of each device, and why it ended.
-    ensures left { Ended result (λ outcome. OutsideLeft outcome
-        (⟦<(S, K, M, D, E) as ShownOutside>⟧.between
-        (source.old, sink.old, «module».old, store.old, entropy.old)
-        (source.new, sink.new, «module».new, store.new, entropy.new))) }
 
     // No key is left in the bench.
     ensures bench { bench.new ≡ blank_bench }

@@ -6,7 +6,7 @@ ghost use Rattle.script_buffers.specs.Reading.{blank};
 ghost use Rattle.line_service.specs.Answering.{OnDisks, IsSound, Serves};
 ghost use Rattle.line_service.specs.Devices.{HaveSizes, AreSettled, BothSettled, DamageTold, DevicesLeft, OpeningLeft, OutsideLeft, TellsFault, Undamaged};
 ghost use Rattle.line_service.specs.Machine.{world};
-ghost use Rattle.line_service.specs.Running.{LineLeaves, LinesServed, InputTaken, ServesSound, Untouched, LineTaken, Unmoved};
+ghost use Rattle.line_service.specs.Running.{LineLeaves, LineTaken, SessionLeft, Unmoved, Untouched};
 ghost use Rattle.line_service.specs.Stops.{IsDeskStop, IsOpeningStop};
 ghost use Rattle.cca_machine.specs.State.{State, module_size, store_size};
 ghost use Rattle.cca_tool.specs.Sessions.{blank_memory, AreKnown, InputRead, IsReadingStop, IsWaitingLine, waiting_after};
@@ -277,28 +277,14 @@ impl Session {
         requires { HaveSizes module_size store_size
             (⟦<(M, D) as Shown>⟧.shown («module».old, store.old)) }
 
-        // What the lines come to, from the state for which the disks stand.
-        ensures lines { (s : State) → OnDisks cca s (M.medium «module».old) (D.medium store.old)
-            → LinesServed cca s result (⟦<(S, K, M, D, E) as ShownOutside>⟧.between
+        // What it leaves of all that is outside, and what the lines come to.
+        ensures ends { SessionLeft cca result (⟦<(S, K, M, D, E) as ShownOutside>⟧.between
             (source.old, sink.old, «module».old, store.old, entropy.old)
             (source.new, sink.new, «module».new, store.new, entropy.new)) }
-        ensures taken { InputTaken result (⟦<(S, K, M, D, E) as ShownOutside>⟧.between
-            (source.old, sink.old, «module».old, store.old, entropy.old)
-            (source.new, sink.new, «module».new, store.new, entropy.new)) }
-
-        // Lines are served only where the disks stand for a state. Where they don't, all is as before.
-        ensures sound { ServesSound cca result (⟦<(M, D) as Shown>⟧.between
-            («module».old, store.old) («module».new, store.new)) }
+        // Where the disks stand for no state, all is as before.
         ensures unsound { (IsSound cca (M.medium «module».old) (D.medium store.old) → ⊥)
             → Untouched source.old source.new sink.old sink.new entropy.old entropy.new
             (⟦<(M, D) as Shown>⟧.between («module».old, store.old) («module».new, store.new)) }
-
-        ensures damage { DamageTold cca result (⟦<(M, D) as Shown>⟧.between
-            («module».old, store.old) («module».new, store.new)) }
-        // What is left of each device, and why it stopped.
-        ensures left { OutsideLeft result (⟦<(S, K, M, D, E) as ShownOutside>⟧.between
-            (source.old, sink.old, «module».old, store.old, entropy.old)
-            (source.new, sink.new, «module».new, store.new, entropy.new)) }
         ensures stops { IfErr result IsStop }
         ensures bench { bench.new ≡ blank_bench }
     {

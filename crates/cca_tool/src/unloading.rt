@@ -1,24 +1,19 @@
 //! The top call that moves a store to another module.
-ghost use Rattle.std.specs.Prelude.{◌≡◌, ◌⊎◌, ◌↔◌, ℕ, List, Err};
+ghost use Rattle.std.specs.Prelude.{◌≡◌, ◌⊎◌, ◌↔◌, ℕ, List};
 ghost use Rattle.key_cells.specs.Bench.{blank_bench};
 ghost use Rattle.key_cells.specs.Lease.{bench_of, loan_of};
 ghost use Rattle.key_records.specs.StoreStands.{HoldsRows};
 ghost use Rattle.master_registers.specs.Loaded.{Loaded};
 ghost use Rattle.master_registers.specs.Masters.{Masters};
 ghost use Rattle.slot_disk.specs.Medium.{Keeps, Told};
-ghost use Rattle.slot_disk.specs.WhereTold.{WhereTold};
-ghost use Rattle.line_service.specs.Answering.{OnDisks, IsSound};
-ghost use Rattle.line_service.specs.Devices.{DamageTold, HaveSizes, OpeningLeft, TellsFault};
-ghost use Rattle.line_service.specs.Sending.{Grows};
+ghost use Rattle.line_service.specs.Devices.{HaveSizes, TellsFault};
 ghost use Rattle.cca_machine.specs.State.{State, module_size, store_size};
 ghost use Rattle.request_rules.specs.Standing.{tables};
 ghost use Rattle.move_file.specs.Judging.{RefusedAsRead};
 ghost use Rattle.move_file.specs.declared.moves.Move.{Move as AnyMove};
-ghost use Rattle.cca_tool.specs.Coprocessor.{cca};
 ghost use Rattle.cca_tool.specs.Opening.{IsOpened};
 ghost use Rattle.cca_tool.specs.Unloading.{AreWordsOf, IsLabelStatus, IsMove, IsMoveStatus, IsOpenStatus};
-ghost use Rattle.cca_tool.specs.Unloading.{MoveCallsNone, MoveRefusedAsRead, MoveRests, MoveTold, MoveUncalled, MoveUntold, MovesAsRead, Still, TellsMove, TellsNone};
-ghost use Rattle.cca_tool.specs.Unloading.{disk_stop};
+ghost use Rattle.cca_tool.specs.Unloading.{MoveCallsNone, MoveLeft, MoveRests, MoveTold, MoveUncalled, MoveUntold, OutputsLeft, Still, TellsNone, outputs};
 
 use crate::command::{Status, status_of};
 use crate::coprocessor::Coprocessor;
@@ -72,48 +67,15 @@ pub fn unload<K: Sink, P: Sink, M: Disk, D: Disk>(
     ensures uncalled { MoveCallsNone result → MoveUncalled sink.old sink.new report.old report.new
         «module».old «module».new store.old store.new }
 
-    // What the move comes to, from the state for which the disks stand: which file and which report, and why it ended.
-    ensures told { (w : AnyMove) → AreWordsOf w words.now → (s : State)
-        → OnDisks cca s (M.medium «module».old) (D.medium store.old)
-        → MoveTold s w result (K.held sink.old) (K.held sink.new) (P.held report.old) (P.held report.new)
-        (Still (M.faults «module».old) (M.faults «module».new)
-        × Still (D.faults store.old) (D.faults store.new))
-        (Still (K.faults sink.old) (K.faults sink.new)
-        × Still (P.faults report.old) (P.faults report.new)) }
-
-    // What file and report got by what was read of each label's record, whatever the disks tell of their bytes: at Done,
-    // and wherever one of them isn't as before. It is under the key that was read of the transport label's record.
-    ensures own { (w : AnyMove) → AreWordsOf w words.now
-        → (result ≡ MoveStatus.Run Status.Done)
-        ⊎ (MoveUntold sink.old sink.new report.old report.new → ⊥)
-        → MovesAsRead (M.medium «module».old) (D.medium store.old) w result
-        (K.held sink.old) (K.held sink.new) (P.held report.old) (P.held report.new) }
-
-    // The rule that refuses a move, by what was read of the module and of the transport label's record.
-    ensures refusal { (w : AnyMove) → AreWordsOf w words.now
-        → (rule : ℕ) → result ≡ MoveStatus.Refused rule
-        → MoveRefusedAsRead (M.medium «module».old) (D.medium store.old) w rule }
-
-    // A move is judged and told only where the disks stand for a state. Where they don't, and where a rule refuses the
-    // move or the module failed, nothing was told.
-    ensures sound { TellsMove result → IsSound cca (M.medium «module».old) (D.medium store.old) }
-    ensures unsound { (IsSound cca (M.medium «module».old) (D.medium store.old) → ⊥)
-        → MoveUntold sink.old sink.new report.old report.new }
-    ensures untold { TellsNone result → MoveUntold sink.old sink.new report.old report.new }
-
-    // Damage is told where a cell is broken, and then always, unless a disk failed.
-    ensures damage { (MoveCallsNone result → ⊥) → DamageTold cca (disk_stop result)
-        (⟦<(M, D) as Shown>⟧.between («module».old, store.old) («module».new, store.new)) }
-
-    // What is left of each device, and why it ended: the disks aren't written, and bytes are only added.
-    ensures left { (MoveCallsNone result → ⊥) → OpeningLeft (disk_stop result)
-        (⟦<(M, D) as Shown>⟧.between («module».old, store.old) («module».new, store.new)) }
-    ensures sink_left { TellsFault (K.faults sink.old) (K.faults sink.new)
-        (result ≡ MoveStatus.Run Status.WriteFault) }
-    ensures report_left { TellsFault (P.faults report.old) (P.faults report.new)
-        (result ≡ MoveStatus.ReportFault) }
-    ensures sink_grows { WhereTold (K.held sink.old) (K.held sink.new) Grows }
-    ensures report_grows { WhereTold (P.held report.old) (P.held report.new) Grows }
+    // Once a device is called, the words ask for a move, and this is what it leaves: what it comes to, from the state for
+    // which the disks stand, and by what was read of them; and what is left of each device, and why it ended.
+    ensures ends { (MoveCallsNone result → ⊥) → (w : AnyMove) × AreWordsOf w words.now
+        × MoveLeft w result sink.old sink.new report.old report.new
+        (⟦<(M, D) as Shown>⟧.between («module».old, store.old) («module».new, store.new))
+        (record {
+          old = outputs (K.held sink.old) (K.faults sink.old) (P.held report.old) (P.faults report.old);
+          new = outputs (K.held sink.new) (K.faults sink.new) (P.held report.new) (P.faults report.new);
+        }) }
 
     // No key is left in the bench.
     ensures bench { bench.new ≡ blank_bench }
@@ -155,33 +117,12 @@ fn move_store<K: Sink, P: Sink, M: Disk, D: Disk>(
         (⟦<(M, D) as Shown>⟧.shown («module».old, store.old)) }
 
     ensures statuses { IsOpenStatus result }
-    ensures told { (s : State) → OnDisks cca s (M.medium «module».old) (D.medium store.old)
-        → MoveTold s how.now result
-        (K.held sink.old) (K.held sink.new) (P.held report.old) (P.held report.new)
-        (Still (M.faults «module».old) (M.faults «module».new)
-        × Still (D.faults store.old) (D.faults store.new))
-        (Still (K.faults sink.old) (K.faults sink.new)
-        × Still (P.faults report.old) (P.faults report.new)) }
-    ensures own { (result ≡ MoveStatus.Run Status.Done)
-        ⊎ (MoveUntold sink.old sink.new report.old report.new → ⊥)
-        → MovesAsRead (M.medium «module».old) (D.medium store.old) how.now result
-        (K.held sink.old) (K.held sink.new) (P.held report.old) (P.held report.new) }
-    ensures refusal { (rule : ℕ) → result ≡ MoveStatus.Refused rule
-        → MoveRefusedAsRead (M.medium «module».old) (D.medium store.old) how.now rule }
-    ensures sound { TellsMove result → IsSound cca (M.medium «module».old) (D.medium store.old) }
-    ensures unsound { (IsSound cca (M.medium «module».old) (D.medium store.old) → ⊥)
-        → MoveUntold sink.old sink.new report.old report.new }
-    ensures untold { TellsNone result → MoveUntold sink.old sink.new report.old report.new }
-    ensures damage { DamageTold cca (disk_stop result)
-        (⟦<(M, D) as Shown>⟧.between («module».old, store.old) («module».new, store.new)) }
-    ensures left { OpeningLeft (disk_stop result)
-        (⟦<(M, D) as Shown>⟧.between («module».old, store.old) («module».new, store.new)) }
-    ensures sink_left { TellsFault (K.faults sink.old) (K.faults sink.new)
-        (result ≡ MoveStatus.Run Status.WriteFault) }
-    ensures report_left { TellsFault (P.faults report.old) (P.faults report.new)
-        (result ≡ MoveStatus.ReportFault) }
-    ensures sink_grows { WhereTold (K.held sink.old) (K.held sink.new) Grows }
-    ensures report_grows { WhereTold (P.held report.old) (P.held report.new) Grows }
+    ensures ends { MoveLeft how.now result sink.old sink.new report.old report.new
+        (⟦<(M, D) as Shown>⟧.between («module».old, store.old) («module».new, store.new))
+        (record {
+          old = outputs (K.held sink.old) (K.faults sink.old) (P.held report.old) (P.faults report.old);
+          new = outputs (K.held sink.new) (K.faults sink.new) (P.held report.new) (P.faults report.new);
+        }) }
     ensures loan { loan_of lease.new ≡ loan_of lease.old }
 {
     match desk.open_disks(lease, module, store) {
@@ -235,12 +176,10 @@ fn move_labels<K: Sink, P: Sink, D: Disk>(
     ensures keeps { Keeps (D.medium store.old) (D.medium store.new) }
     ensures store_left { TellsFault (D.faults store.old) (D.faults store.new)
         (result ≡ MoveStatus.Run Status.StoreFault) }
-    ensures sink_left { TellsFault (K.faults sink.old) (K.faults sink.new)
-        (result ≡ MoveStatus.Run Status.WriteFault) }
-    ensures report_left { TellsFault (P.faults report.old) (P.faults report.new)
-        (result ≡ MoveStatus.ReportFault) }
-    ensures sink_grows { WhereTold (K.held sink.old) (K.held sink.new) Grows }
-    ensures report_grows { WhereTold (P.held report.old) (P.held report.new) Grows }
+    ensures outputs { OutputsLeft result (record {
+      old = outputs (K.held sink.old) (K.faults sink.old) (P.held report.old) (P.faults report.old);
+      new = outputs (K.held sink.new) (K.faults sink.new) (P.held report.new) (P.faults report.new);
+    }) }
     ensures loan { loan_of lease.new ≡ loan_of lease.old }
 {
     match judge_move(how, lease, held, roles, store, records) {

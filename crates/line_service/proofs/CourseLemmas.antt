@@ -1,6 +1,6 @@
 -- How far a run has come, and what it leaves at its last line.
-use Rattle.std.proofs.Common.{◌≡◌, ◌+◌, ◌≤◌, ℕ, List, Option, Result, Ok, Err, length, ap, refl, sym, subst, ◌∙◌, inl, inr}
-use Rattle.std.specs.Prelude.{◌⊎◌, IsTrue, IsSome, IsOk}
+use Rattle.std.proofs.Common.{◌≡◌, ◌+◌, ◌<◌, ◌≤◌, ℕ, List, Option, None, Some, Result, Ok, Err, length, ap, refl, sym, subst, ◌∙◌, inl, inr, arith}
+use Rattle.std.specs.Prelude.{◌⊎◌, IsTrue, IsSome, IfSome, IsOk}
 use Rattle.std.specs.Io.KnownBytes.{IsAtEnd}
 use Rattle.slot_disk.specs.Medium.{Medium, IsSettled}
 use Rattle.slot_disk.specs.WhereTold.{WhereTold}
@@ -8,18 +8,43 @@ use Rattle.slot_disk.proofs.WhereToldLemmas.{told_weaker}
 use Rattle.script_buffers.specs.Reading.{Reading, blank, input_limit}
 use Rattle.line_service.specs.Machine.{Machine, World, world}
 use Rattle.line_service.specs.Answering.{Stands}
-use Rattle.line_service.specs.Devices.{Span, Outside, DevicesLeft, OutsideLeft, behind}
-use Rattle.line_service.specs.Running.{LineLeaves, LineTaken, Unmoved}
+use Rattle.line_service.specs.Devices.{Span, Outside, BothSettled, DevicesLeft, OutsideLeft, Undamaged, behind}
+use Rattle.line_service.specs.Running.{InputTaken, LineLeaves, LineTaken, LinesLeft, RunLeaves, Unmoved}
 use Rattle.line_service.specs.Sending.{Grows}
 use Rattle.line_service.specs.Serving.{AllAnswered, WholeLinesAnswered, LineLost, AtRest, SparesAlways, RunServed}
-use Rattle.line_service.specs.Stops.{IsLineStop, IsUnanswered}
+use Rattle.line_service.specs.Stops.{AnswersLines, IsLineStop, IsUnanswered}
+use Rattle.line_service.specs.declared.stops.Device.TheVariants.{Module, Store}
 use Rattle.line_service.specs.declared.serving.Served.{Served}
 use Rattle.line_service.specs.declared.serving.Served.TheVariants.{Replied, Ended}
 use Rattle.line_service.specs.declared.stops.Stop.{Stop}
 use Rattle.line_service.specs.declared.stops.Stop.TheVariants.{ReadFault, WriteFault, EntropyFault, ModuleFault, StoreFault, InputLimit, Damaged}
+use Rattle.line_service.proofs.RunLemmas.{limit_is}
 use Rattle.line_service.proofs.SessionLemmas.{HasServed, has_served_all, has_served_whole, has_served_cut, has_served_lost, module_moments, store_moments, cut_at_rest, at_rest_now, counted_on, counted_nothing, blank_open, blank_within}
 use Rattle.line_service.proofs.SpareLaws.{SparesSo, spares_last, spares_always}
-use Rattle.line_service.proofs.StopLemmas.{ok_no_stop, devices_stopped, count_stopped, count_on, disk_on, by_answer, same_stop, stopped_as, no_stop, not_ended, grows_on, grows_none, not_replied, not_cut, line_not_cut, ended_unsent, ended_uncut}
+use Rattle.line_service.proofs.StopLemmas.{Follows, ok_no_stop, count_as, devices_as, count_on, disk_on, by_answer, same_stop, stopped_as, no_stop, not_ended, grows_on, grows_none, not_replied, not_cut, line_not_cut, ended_unsent, ended_uncut}
+
+-- ---- small facts
+
+at_limit : (taken rest all limit : ℕ) → taken + rest ≡ all → taken ≡ limit → all ≡ rest + limit
+at_limit taken rest all limit sum is = omega (arith, sum, is)
+
+below_limit : (taken rest all limit : ℕ) → taken + rest ≡ all → taken < limit → all < rest + limit
+below_limit taken rest all limit sum below = omega (arith, sum, below)
+
+up_to_limit : (taken rest all limit : ℕ) → taken + rest ≡ all → taken ≤ limit → all ≤ rest + limit
+up_to_limit taken rest all limit sum within = omega (arith, sum, within)
+
+-- what a disk that told its bytes still tells
+never_still : (a b : Option (List ℕ)) (P : List ℕ → Type 0) → (IsSome a → IsSome b) → IfSome b (λ c. ⊥) → IfSome a P
+never_still None b P still never = tt
+never_still (Some x) (Some y) P still never = absurd never
+never_still (Some x) None P still never = absurd (cc (still refl))
+
+never_both_still : (a b c d : Option (List ℕ)) (P : List ℕ → List ℕ → Type 0) → (IsSome a → IsSome b) → (IsSome c → IsSome d)
+    → IfSome b (λ x. IfSome d (λ y. ⊥)) → IfSome a (λ x. IfSome c (P x))
+never_both_still None b c d P still still' never = tt
+never_both_still (Some x) (Some y) c d P still still' never = never_still c d (P x) still' never
+never_both_still (Some x) None c d P still still' never = absurd (cc (still refl))
 
 -- ---- whatever the disks hold
 
@@ -80,20 +105,80 @@ module _ (A : Machine) (start : Outside) (o : Span Outside) (old : Reading) (cou
     entropy_quiet = left.devices_left.entropy_left.quiet (ok_no_stop result EntropyFault ok) ∙ course.entropy_quiet;
   }
 
-  -- the stop of the last line is the run's
-  pub course_stopped : (stop : Stop) → OutsideLeft {T = Served} (Err stop) o → OutsideLeft {T = Unit {0}} (Err stop) (record { old = start; new = o.new })
-  course_stopped stop left =
-      let devices : DevicesLeft {T = Unit {0}} (Err stop) (behind o) = devices_stopped A stop (behind o) left.devices_left in
-      record {
-        devices_left = record {
-          module_left = disk_on _ _ _ _ _ _ _ _ course.module_size course.module_still course.module_quiet devices.module_left;
-          store_left = disk_on _ _ _ _ _ _ _ _ course.store_size course.store_still course.store_quiet devices.store_left;
-          entropy_left = count_on _ _ _ _ course.entropy_quiet devices.entropy_left;
-        };
-        source_left = count_on _ _ _ _ course.reads_quiet (count_stopped o.old.source_faults o.new.source_faults stop ReadFault left.source_left);
-        sink_left = count_on _ _ _ _ course.writes_quiet (count_stopped o.old.sink_faults o.new.sink_faults stop WriteFault left.sink_left);
-        sink_grows = grows_on start.output o.old.output o.new.output course.sink_grows left.sink_grows;
+  module _ (result : Result Served Stop) (q : Result (Unit {0}) Stop) where
+    -- the run ends as its last line did
+    pub course_left : Follows result q → OutsideLeft result o → OutsideLeft q (record { old = start; new = o.new })
+    course_left follows left =
+        let devices : DevicesLeft q (behind o) = devices_as result q follows A (behind o) left.devices_left in
+        record {
+          devices_left = record {
+            module_left = disk_on _ _ _ _ _ _ _ _ course.module_size course.module_still course.module_quiet devices.module_left;
+            store_left = disk_on _ _ _ _ _ _ _ _ course.store_size course.store_still course.store_quiet devices.store_left;
+            entropy_left = count_on _ _ _ _ course.entropy_quiet devices.entropy_left;
+          };
+          source_left = count_on _ _ _ _ course.reads_quiet (count_as result q follows o.old.source_faults o.new.source_faults ReadFault left.source_left);
+          sink_left = count_on _ _ _ _ course.writes_quiet (count_as result q follows o.old.sink_faults o.new.sink_faults WriteFault left.sink_left);
+          sink_grows = grows_on start.output o.old.output o.new.output course.sink_grows left.sink_grows;
+        }
+
+    -- how far the input was taken since the start
+    module _ (new : Reading) (taken : LineTaken result o old new) where
+      counted_now : WhereTold start.input o.new.input (λ i r. new.taken + length r ≡ length i)
+      counted_now = counted_on start.input o.old.input o.new.input old.taken new.taken course.counted taken.counted
+
+      pub course_within : WhereTold start.input o.new.input (λ i r. length i ≤ length r + input_limit)
+      course_within = told_weaker start.input o.new.input _ _ (λ i r sum. up_to_limit new.taken (length r) (length i) input_limit sum taken.within) counted_now
+
+      pub course_taken : Follows result q → (IsOk q → result ≡ Ok Ended) → InputTaken q (record { old = start; new = o.new })
+      course_taken follows ended = record {
+        at_end = λ ok. taken.at_end (taken.ends (ended ok));
+        limit = limit_is q start.input o.new.input
+            (told_weaker start.input o.new.input _ _ (λ i r sum h. at_limit new.taken (length r) (length i) input_limit sum (taken.full (follows.stops InputLimit h))) counted_now)
+            (told_weaker start.input o.new.input _ _ (λ i r sum ok. below_limit new.taken (length r) (length i) input_limit sum (taken.short (inr (ended ok)))) counted_now);
+        within = course_within;
       }
+
+    -- lines that were answered up to this leave nothing unsynced
+    module _ (unanswered : IsUnanswered result → o.new.devices.world ≡ o.old.devices.world) (cut : result ≡ Err WriteFault → BothSettled o.new.devices)
+        (left : OutsideLeft result o) where
+      settled_still : IsUnanswered result → BothSettled o.new.devices
+      settled_still none = record {
+        module_settled = subst (λ (w : World). IsSettled w.module_) (sym (unanswered none)) course.module_settled;
+        store_settled = subst (λ (w : World). IsSettled w.store) (sym (unanswered none)) course.store_settled;
+      }
+
+      pub course_settled : Follows result q → AnswersLines q → BothSettled o.new.devices
+      course_settled follows (inl ok) = record {
+        module_settled = left.devices_left.module_left.settled (follows.ok ok);
+        store_settled = left.devices_left.store_left.settled (follows.ok ok);
+      }
+      course_settled follows (inr (inl h)) = settled_still (inr (inl (follows.stops ReadFault h)))
+      course_settled follows (inr (inr (inl h))) = settled_still (inr (inr (follows.stops InputLimit h)))
+      course_settled follows (inr (inr (inr h))) = cut (follows.stops WriteFault h)
+
+    -- a disk that told its bytes at the start tells them still
+    pub course_undamaged : Follows result q → Undamaged A result o.old.devices → Undamaged A q start.devices
+    course_undamaged follows here = record {
+      module_sound = λ cell h. never_still start.devices.world.module_.content o.old.devices.world.module_.content (λ c. ⊥) course.module_still (here.module_sound cell (follows.stops (Damaged Module cell) h));
+      store_sound = λ cell h.
+          never_both_still start.devices.world.module_.content o.old.devices.world.module_.content start.devices.world.store.content o.old.devices.world.store.content (λ c d. ⊥)
+          course.module_still course.store_still (here.store_sound cell (follows.stops (Damaged Store cell) h));
+      cells = λ device cell h. here.cells device cell (follows.stops (Damaged device cell) h);
+      reread = λ device cell h. here.reread device cell (follows.stops (Damaged device cell) h);
+    }
+
+  -- what the run leaves, by what its last line left
+  pub lines_left : (K : A.State → Type 0) (new : Reading) (result : Result Served Stop) (q : Result (Unit {0}) Stop) → Follows result q → (IsOk q → result ≡ Ok Ended)
+      → ((s : A.State) → Stands A s K start.devices.world.module_ start.devices.world.store → RunLeaves A s q (record { old = start; new = o.new }))
+      → LineTaken result o old new → (IsUnanswered result → o.new.devices.world ≡ o.old.devices.world) → (result ≡ Err WriteFault → BothSettled o.new.devices)
+      → Undamaged A result o.old.devices → OutsideLeft result o → LinesLeft A K q (record { old = start; new = o.new })
+  lines_left K new result q follows ended serves taken unanswered cut undamaged left = record {
+    serves = serves;
+    taken = course_taken result q new taken follows ended;
+    settled = course_settled result q unanswered cut left follows;
+    undamaged = course_undamaged result q follows undamaged;
+    left = course_left result q follows left;
+  }
 
 -- ---- from the state for which the disks stand
 

@@ -74,33 +74,58 @@ ended_uncut r is h = cc (is, h)
 
 -- ---- what is left of the devices
 
-pub disk_stopped : {T U : Type 0} (old new : Medium) (before now : ℕ) (stop other : Stop)
-    → DiskLeft old new before now (IsOk {T = T} (Err stop)) (◌≡◌ {A = Result T Stop} (Err stop) (Err other))
-    → DiskLeft old new before now (IsOk {T = U} (Err stop)) (◌≡◌ {A = Result U Stop} (Err stop) (Err other))
-disk_stopped old new before now stop other left = record {
-  size = left.size;
-  still = left.still;
-  settled = λ ok. absurd (cc ok);
-  later = left.later;
-  fault = λ h. let same : stop ≡ other = cc h in left.fault (ap Err same);
-  quiet = λ none. left.quiet (λ h. let same : stop ≡ other = cc h in none (ap Err same));
-}
+-- a call that succeeds tells no failure
+pub ok_no_stop : {T : Type 0} (r : Result T Stop) (stop : Stop) → IsOk r → r ≡ Err stop → ⊥
+ok_no_stop {T} r stop ok h = let wrong : IsOk {T = T} (Err stop) = subst (λ (x : Result T Stop). IsOk x) h ok in cc wrong
 
-pub count_stopped : {T U : Type 0} (before now : ℕ) (stop other : Stop) → TellsFault before now (◌≡◌ {A = Result T Stop} (Err stop) (Err other))
-    → TellsFault before now (◌≡◌ {A = Result U Stop} (Err stop) (Err other))
-count_stopped before now stop other left = record {
-  later = left.later;
-  fault = λ h. let same : stop ≡ other = cc h in left.fault (ap Err same);
-  quiet = λ none. left.quiet (λ h. let same : stop ≡ other = cc h in none (ap Err same));
-}
+-- a call ends as one before it did: it tells no more, and the same stop
+pub record Follows {T U : Type 0} (r : Result T Stop) (q : Result U Stop) : Type 0 where
+  pub ok : IsOk q → IsOk r
+  pub stops : (stop : Stop) → q ≡ Err stop → r ≡ Err stop
+  pub back : (stop : Stop) → r ≡ Err stop → q ≡ Err stop
 
 -- a stop that is handed on
-pub devices_stopped : {T U : Type 0} (A : Machine) (stop : Stop) (d : Span Devices) → DevicesLeft {T = T} (Err stop) d → DevicesLeft {T = U} (Err stop) d
-devices_stopped A stop d left = record {
-  module_left = disk_stopped d.old.world.module_ d.new.world.module_ d.old.module_faults d.new.module_faults stop ModuleFault left.module_left;
-  store_left = disk_stopped d.old.world.store d.new.world.store d.old.store_faults d.new.store_faults stop StoreFault left.store_left;
-  entropy_left = count_stopped d.old.entropy_faults d.new.entropy_faults stop EntropyFault left.entropy_left;
+pub follows_stop : {T U : Type 0} (r : Result T Stop) (stop : Stop) → r ≡ Err stop → Follows {U = U} r (Err stop)
+follows_stop r stop is = record {
+  ok = λ ok. absurd (cc ok);
+  stops = λ other h. let same : stop ≡ other = cc h in is ∙ ap Err same;
+  back = λ other h. let same : stop ≡ other = cc (is, h) in ap Err same;
 }
+
+pub follows_ok : {T U : Type 0} (r : Result T Stop) (value : T) (q : Result U Stop) → r ≡ Ok value → IsOk q → Follows r q
+follows_ok r value q is done = record {
+  ok = λ ok. subst IsOk (sym is) refl;
+  stops = λ stop h. absurd (ok_no_stop q stop done h);
+  back = λ stop h. absurd (cc (is, h));
+}
+
+module _ {T U : Type 0} (r : Result T Stop) (q : Result U Stop) (follows : Follows r q) where
+  pub disk_as : (old new : Medium) (before now : ℕ) (stop : Stop) → DiskLeft old new before now (IsOk r) (r ≡ Err stop) → DiskLeft old new before now (IsOk q) (q ≡ Err stop)
+  disk_as old new before now stop left = record {
+    size = left.size;
+    still = left.still;
+    settled = λ ok. left.settled (follows.ok ok);
+    later = left.later;
+    fault = λ h. left.fault (follows.stops stop h);
+    quiet = λ none. left.quiet (λ h. none (follows.back stop h));
+  }
+
+  pub count_as : (before now : ℕ) (stop : Stop) → TellsFault before now (r ≡ Err stop) → TellsFault before now (q ≡ Err stop)
+  count_as before now stop left = record {
+    later = left.later;
+    fault = λ h. left.fault (follows.stops stop h);
+    quiet = λ none. left.quiet (λ h. none (follows.back stop h));
+  }
+
+  pub devices_as : (A : Machine) (d : Span Devices) → DevicesLeft r d → DevicesLeft q d
+  devices_as A d left = record {
+    module_left = disk_as d.old.world.module_ d.new.world.module_ d.old.module_faults d.new.module_faults ModuleFault left.module_left;
+    store_left = disk_as d.old.world.store d.new.world.store d.old.store_faults d.new.store_faults StoreFault left.store_left;
+    entropy_left = count_as d.old.entropy_faults d.new.entropy_faults EntropyFault left.entropy_left;
+  }
+
+pub devices_stopped : {T U : Type 0} (A : Machine) (stop : Stop) (d : Span Devices) → DevicesLeft {T = T} (Err stop) d → DevicesLeft {T = U} (Err stop) d
+devices_stopped {T} {U} A stop d left = devices_as (Err stop) (Err stop) (follows_stop {T = T} {U = U} (Err stop) stop refl) A d left
 
 -- what a call leaves that comes after others, which left the count as it was
 pub count_on : (before mid now : ℕ) (failed : Type 0) → mid ≡ before → TellsFault mid now failed → TellsFault before now failed
@@ -142,10 +167,6 @@ devices_unread A now = record {
   store_left = disk_still now.world.store now.store_faults _ _ (λ ok. absurd (cc ok)) (λ h. cc h);
   entropy_left = count_still now.entropy_faults _ (λ h. cc h);
 }
-
--- a call that succeeds tells no failure
-pub ok_no_stop : {T : Type 0} (r : Result T Stop) (stop : Stop) → IsOk r → r ≡ Err stop → ⊥
-ok_no_stop {T} r stop ok h = let wrong : IsOk {T = T} (Err stop) = subst (λ (x : Result T Stop). IsOk x) h ok in cc wrong
 
 pub no_desk_read : {T : Type 0} (stop : Stop) → IsDeskStop stop → ◌≡◌ {A = Result T Stop} (Err stop) (Err ReadFault) → ⊥
 no_desk_read stop kind h = let same : stop ≡ ReadFault = cc h in subst IsDeskStop same kind

@@ -9,8 +9,8 @@ use Rattle.script_buffers.specs.Reading.{Reading, blank, given, input_limit, Tak
 use Rattle.script_buffers.specs.declared.lines.Taken.{Taken}
 use Rattle.script_buffers.specs.declared.lines.Taken.TheVariants.{End}
 use Rattle.line_service.specs.Machine.{Machine}
-use Rattle.line_service.specs.Answering.{IsSound}
-use Rattle.line_service.specs.Devices.{Span, Devices, BothSettled, Outside}
+use Rattle.line_service.specs.Answering.{IsSound, OnDisks, Stands}
+use Rattle.line_service.specs.Devices.{Span, Devices, BothSettled, DamageTold, Undamaged, Outside, OutsideLeft, behind}
 use Rattle.line_service.specs.Serving.{LineServed, RunServed, PrefixSent}
 use Rattle.line_service.specs.Stops.{AnswersLines, IsUnanswered, IsFaultless}
 use Rattle.line_service.specs.declared.serving.Served.{Served}
@@ -58,6 +58,30 @@ pub record ServesSound (A : Machine) (result : Result (Unit {0}) Stop) (d : Span
     : Type 0 where
   pub sound : AnswersLines result → IsSound A d.old.world.module_ d.old.world.store
   pub settled : AnswersLines result → BothSettled d.new
+
+-- What a call leaves that opens the disks and serves lines to the end of the input.
+pub record SessionLeft (A : Machine) (result : Result (Unit {0}) Stop) (o : Span Outside)
+    : Type 0 where
+  -- what the lines come to, from each state for which the disks stand
+  pub lines : (s : A.State) → OnDisks A s o.old.devices.world.module_ o.old.devices.world.store
+      → LinesServed A s result o
+  pub taken : InputTaken result o
+  pub sound : ServesSound A result (behind o)
+  -- damage is told where a cell is broken, and then always, unless a disk failed
+  pub damage : DamageTold A result (behind o)
+  -- what is left of each device, and why it stopped
+  pub left : OutsideLeft result o
+
+-- What serving lines leaves once the disks are opened. Memory agrees with the states that have K.
+pub record LinesLeft (A : Machine) (K : A.State → Type 0) (result : Result (Unit {0}) Stop)
+    (o : Span Outside) : Type 0 where
+  pub serves : (s : A.State)
+      → Stands A s K o.old.devices.world.module_ o.old.devices.world.store
+      → RunLeaves A s result o
+  pub taken : InputTaken result o
+  pub settled : AnswersLines result → BothSettled o.new.devices
+  pub undamaged : Undamaged A result o.old.devices
+  pub left : OutsideLeft result o
 
 -- Source, sink and random source are as before, and so is what a disk holds and what a stop may leave of it.
 pub record Untouched {S K E : Type 0} (source0 source1 : S) (sink0 sink1 : K)

@@ -8,7 +8,7 @@ use Rattle.key_records.specs.Changes.{KeepsAllButBody}
 use Rattle.key_records.specs.declared.rows.Row.{Row}
 use Rattle.line_service.specs.declared.stops.Stop.{Stop}
 use Rattle.line_service.specs.declared.stops.Stop.TheVariants.{StoreFault}
-use Rattle.line_service.proofs.StopLemmas.{disk_on, disk_stopped}
+use Rattle.line_service.proofs.StopLemmas.{disk_as, disk_on, follows_stop}
 use Rattle.master_registers.specs.declared.registers.Registers.{Registers}
 use Rattle.slot_disk.specs.Medium.{Medium}
 use Rattle.slot_disk.proofs.Media.{keeps_then}
@@ -47,7 +47,7 @@ module _ {D : Type 0} {medium : D → Medium} {faults : D → ℕ} {held : Regis
       subst (λ (x : Stop). ReadsStore {T = U} medium faults (one || two) held rows l0 l1 d0 d1 (Err x)) (sym is)
       (record {
         keeps = reads.keeps;
-        disk = disk_stopped (medium d0) (medium d1) (faults d0) (faults d1) stop StoreFault reads.disk;
+        disk = disk_as (Err stop) (Err stop) (follows_stop {T = T} {U = U} (Err stop) stop refl) (medium d0) (medium d1) (faults d0) (faults d1) StoreFault reads.disk;
         spared = λ none. reads.spared (or_parts one two none).0;
         named = λ is. let same : stop ≡ StoreFault = cc is in or_left one two (reads.named (ap Err same));
         stops = reads.stops;

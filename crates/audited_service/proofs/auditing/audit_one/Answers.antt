@@ -6,9 +6,9 @@ use Rattle.line_service.specs.Sending.{GotPart}
 use Rattle.line_service.specs.declared.serving.Served.TheVariants.{Replied}
 use Rattle.line_service.proofs.StopLemmas.{devices_stopped, devices_unread, no_desk_read, no_desk_write, count_still, grows_none}
 use Rattle.audited_service.specs.EachLine.{Agrees}
-use Rattle.slot_disk.proofs.Media.{keeps_still}
-use Rattle.audited_service.proofs.GrowingLemmas.{grows_kept, grows_appended}
-use Rattle.audited_service.proofs.RestingLemmas.{grown_kept, grown_appended, grown_unfailed}
+use Rattle.audit_trail.specs.declared.faults.TrailFault.TheVariants as trail_fault
+use Rattle.audit_trail.proofs.MediumLaws.{same_fault}
+use Rattle.audited_service.proofs.TrailLemmas.{trail_appended, trail_still}
 use Rattle.audited_service.proofs.RecordLemmas.{stands_off, line_sent, line_cut_off, line_unsent, line_failed, devices_carried, at_end_recorded, unread_recorded, over_recorded, recorded_by}
 use Rattle.audited_service.proofs.auditing.audit_one.Goals as goal
 
@@ -122,51 +122,31 @@ returns-in-Err-ReadFault-clause-left g c = record {
   sink_grows = grows_none (g.K.Sink.held c.args.sink.now);
 }
 
-pub returns-in-Ok-send-clause-grows : goal.returns-in-Ok-send-clause-grows
-returns-in-Ok-send-clause-grows g c =
-    grows_appended c.args.held.now c.entry_taken-entry.result (g.T.Disk.medium c.args.trail.now) (g.T.Disk.medium c.append.new.trail) _ c.in-Ok-append.ensures.appended
+pub returns-in-Ok-send-clause-trail : goal.returns-in-Ok-send-clause-trail
+returns-in-Ok-send-clause-trail g c =
+    trail_appended c.args.held.now c.entry_taken-entry.result (g.T.Disk.medium c.args.trail.now) (g.T.Disk.medium c.append.new.trail) _ _ _ c.requires.trail.settled
+    _ c.in-Ok-append.ensures.appended c.in-Ok-append.ensures.left tt (λ h. absurd (cc h)) (λ h. absurd (cc h)) (λ h. absurd (cc h))
 
-pub returns-in-Err-send-clause-grows : goal.returns-in-Err-send-clause-grows
-returns-in-Err-send-clause-grows g c =
-    grows_appended c.args.held.now c.entry_taken-entry.result (g.T.Disk.medium c.args.trail.now) (g.T.Disk.medium c.append.new.trail) _ c.in-Ok-append.ensures.appended
+pub returns-in-Err-send-clause-trail : goal.returns-in-Err-send-clause-trail
+returns-in-Err-send-clause-trail g c =
+    trail_appended c.args.held.now c.entry_taken-entry.result (g.T.Disk.medium c.args.trail.now) (g.T.Disk.medium c.append.new.trail) _ _ _ c.requires.trail.settled
+    _ c.in-Ok-append.ensures.appended c.in-Ok-append.ensures.left tt (λ h. absurd (cc h)) (λ h. absurd (cc h)) (λ h. absurd (cc h))
 
-pub returns-in-Err-append-clause-grows : goal.returns-in-Err-append-clause-grows
-returns-in-Err-append-clause-grows g c =
-    grows_appended c.args.held.now c.entry_taken-entry.result (g.T.Disk.medium c.args.trail.now) (g.T.Disk.medium c.append.new.trail) _ c.in-Err-append.ensures.appended
+pub returns-in-Err-append-clause-trail : goal.returns-in-Err-append-clause-trail
+returns-in-Err-append-clause-trail g c =
+    trail_appended c.args.held.now c.entry_taken-entry.result (g.T.Disk.medium c.args.trail.now) (g.T.Disk.medium c.append.new.trail) _ _ _ c.requires.trail.settled
+    (Err c.in-Err-append.fault) c.in-Err-append.ensures.appended c.in-Err-append.ensures.left c.in-Err-append.ensures.faults
+    (λ h. ap g.T.Disk.medium (c.append.ensures.untouched (c.in-Err-append.is ∙ h)))
+    (λ h. ap Err (same_fault c.in-Err-append.fault trail_fault.DiskFault h)) (λ h. ap Err (same_fault c.in-Err-append.fault trail_fault.DiskFault h))
 
-pub returns-in-End-clause-grows : goal.returns-in-End-clause-grows
-returns-in-End-clause-grows g c = grows_kept (g.T.Disk.medium c.args.trail.now) (g.T.Disk.medium c.args.trail.now) (keeps_still (g.T.Disk.medium c.args.trail.now))
+pub returns-in-End-clause-trail : goal.returns-in-End-clause-trail
+returns-in-End-clause-trail g c = trail_still (g.T.Disk.medium c.args.trail.now) (g.T.Disk.faults c.args.trail.now) _ c.requires.trail.settled (λ h. cc h)
 
-pub returns-in-Err-clause-grows : goal.returns-in-Err-clause-grows
-returns-in-Err-clause-grows g c = grows_kept (g.T.Disk.medium c.args.trail.now) (g.T.Disk.medium c.args.trail.now) (keeps_still (g.T.Disk.medium c.args.trail.now))
+pub returns-in-Err-clause-trail : goal.returns-in-Err-clause-trail
+returns-in-Err-clause-trail g c = trail_still (g.T.Disk.medium c.args.trail.now) (g.T.Disk.faults c.args.trail.now) _ c.requires.trail.settled (λ h. cc h)
 
-pub returns-in-Err-ReadFault-clause-grows : goal.returns-in-Err-ReadFault-clause-grows
-returns-in-Err-ReadFault-clause-grows g c = grows_kept (g.T.Disk.medium c.args.trail.now) (g.T.Disk.medium c.args.trail.now) (keeps_still (g.T.Disk.medium c.args.trail.now))
+pub returns-in-Err-ReadFault-clause-trail : goal.returns-in-Err-ReadFault-clause-trail
+returns-in-Err-ReadFault-clause-trail g c = trail_still (g.T.Disk.medium c.args.trail.now) (g.T.Disk.faults c.args.trail.now) _ c.requires.trail.settled (λ h. cc h)
 
-pub returns-in-Err-InputLimit-clause-grows : goal.returns-in-Err-InputLimit-clause-grows
-returns-in-Err-InputLimit-clause-grows g c = grows_kept (g.T.Disk.medium c.args.trail.now) (g.T.Disk.medium c.args.trail.now) (keeps_still (g.T.Disk.medium c.args.trail.now))
-
-pub returns-in-Ok-send-clause-rests : goal.returns-in-Ok-send-clause-rests
-returns-in-Ok-send-clause-rests g c = λ unfailed.
-    grown_appended c.args.held.now c.entry_taken-entry.result (g.T.Disk.medium c.args.trail.now) (g.T.Disk.medium c.append.new.trail) _ c.in-Ok-append.ensures.appended
-
-pub returns-in-Err-send-clause-rests : goal.returns-in-Err-send-clause-rests
-returns-in-Err-send-clause-rests g c = λ unfailed.
-    grown_appended c.args.held.now c.entry_taken-entry.result (g.T.Disk.medium c.args.trail.now) (g.T.Disk.medium c.append.new.trail) _ c.in-Ok-append.ensures.appended
-
-pub returns-in-Err-append-clause-rests : goal.returns-in-Err-append-clause-rests
-returns-in-Err-append-clause-rests g c = λ unfailed.
-    grown_unfailed c.in-Err-append.fault (g.T.Disk.medium c.args.trail.now) (g.T.Disk.medium c.append.new.trail) c.in-Err-append.ensures.faults
-    (λ full. ap g.T.Disk.medium (c.append.ensures.untouched (c.in-Err-append.is ∙ ap Err full))) (λ failed. unfailed (ap Err failed))
-
-pub returns-in-End-clause-rests : goal.returns-in-End-clause-rests
-returns-in-End-clause-rests g c = λ unfailed. grown_kept (g.T.Disk.medium c.args.trail.now) (g.T.Disk.medium c.args.trail.now) (keeps_still (g.T.Disk.medium c.args.trail.now))
-
-pub returns-in-Err-clause-rests : goal.returns-in-Err-clause-rests
-returns-in-Err-clause-rests g c = λ unfailed. grown_kept (g.T.Disk.medium c.args.trail.now) (g.T.Disk.medium c.args.trail.now) (keeps_still (g.T.Disk.medium c.args.trail.now))
-
-pub returns-in-Err-ReadFault-clause-rests : goal.returns-in-Err-ReadFault-clause-rests
-returns-in-Err-ReadFault-clause-rests g c = λ unfailed. grown_kept (g.T.Disk.medium c.args.trail.now) (g.T.Disk.medium c.args.trail.now) (keeps_still (g.T.Disk.medium c.args.trail.now))
-
-pub returns-in-Err-InputLimit-clause-rests : goal.returns-in-Err-InputLimit-clause-rests
-returns-in-Err-InputLimit-clause-rests g c = λ unfailed. grown_kept (g.T.Disk.medium c.args.trail.now) (g.T.Disk.medium c.args.trail.now) (keeps_still (g.T.Disk.medium c.args.trail.now))
+pub returns-in-Err-InputLimit-clause-trail : goal.returns-in-Err-InputLimit-clause-trail
+returns-in-Err-InputLimit-clause-trail g c = trail_still (g.T.Disk.medium c.args.trail.now) (g.T.Disk.faults c.args.trail.now) _ c.requires.trail.settled (λ h. cc h)

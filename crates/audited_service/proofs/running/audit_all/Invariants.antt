@@ -1,7 +1,6 @@
 use Rattle.std.proofs.Common.{◌≡◌}
-use Rattle.std.specs.Prelude.{IsSome}
 use Rattle.key_cells.specs.Bench.{blank_bench}
-use Rattle.slot_disk.specs.Medium.{IsSettled, Told, Becomes}
+use Rattle.slot_disk.specs.Medium.{Told}
 use Rattle.slot_disk.specs.WhereTold.{WhereTold}
 use Rattle.script_buffers.specs.Reading.{bytes_ahead}
 use Rattle.audit_trail.specs.TrailStands.{StandsForTrail}
@@ -11,9 +10,8 @@ use Rattle.line_service.specs.Devices.{outside, devices}
 use Rattle.line_service.proofs.CourseLemmas.{IsOnCourse}
 use Rattle.line_service.proofs.SessionLemmas.{HasServed}
 use Rattle.line_service.proofs.SpareLaws.{SparesSo}
-use Rattle.audited_service.specs.Growing.{TrailGrows, Grown}
 use Rattle.audited_service.specs.Noting.{Noted, noting}
-use Rattle.audited_service.specs.EachLine.{Agrees}
+use Rattle.audited_service.specs.EachLine.{Agrees, TrailAppended}
 use Rattle.audited_service.proofs.RunLemmas.{TrailOn}
 use Rattle.audited_service.proofs.running.audit_all.Given as goal
 
@@ -35,8 +33,6 @@ invariant-each_line g l =
           → (u : Noted g.A.Desk.machine.State) × Stands (noting g.A.Desk.machine g.W.Scribe.entry_of) u (Agrees (g.A.Desk.knows l.desk) t1) m1 d1;
       on_trail : (s : Noted g.A.Desk.machine.State) → Stands (noting g.A.Desk.machine g.W.Scribe.entry_of) s (Agrees (g.A.Desk.knows l.fn.desk) t0) m0 d0
           → WhereTold (g.S.Source.left l.fn.source) (g.S.Source.left l.source) (λ i r. TrailOn g.A.Desk.machine g.W.Scribe.entry_of s (g.E.Entropy.left l.fn.entropy) i t0 t1);
-      grows : TrailGrows t0 t1;
-      rests : Becomes Grown t0 t1;
       ready : g.A.Desk.ready l.desk m1 d1;
       blank : l.bench ≡ blank_bench;
       held : Told t1 (λ image. StandsForTrail image l.held);
@@ -45,10 +41,7 @@ invariant-each_line g l =
           (devices m0 (g.M.Disk.faults l.fn.module) d0 (g.D.Disk.faults l.fn.store) (g.E.Entropy.left l.fn.entropy) (g.E.Entropy.faults l.fn.entropy)))
           (outside (g.S.Source.left l.source) (g.S.Source.faults l.source) (g.K.Sink.held l.sink) (g.K.Sink.faults l.sink)
           (devices m1 (g.M.Disk.faults l.module) d1 (g.D.Disk.faults l.store) (g.E.Entropy.left l.entropy) (g.E.Entropy.faults l.entropy))) l.lines;
-      trail_settled : IsSettled t1;
-      trail_size : t1.size ≡ t0.size;
-      trail_still : IsSome t0.content → IsSome t1.content;
-      trail_quiet : g.T.Disk.faults l.trail ≡ g.T.Disk.faults l.fn.trail;
+      trail : TrailAppended t0 t1 (g.T.Disk.faults l.fn.trail) (g.T.Disk.faults l.trail) ⊥;
     }
 
 abbrev pub decreases-each_line : goal.decreases-each_line

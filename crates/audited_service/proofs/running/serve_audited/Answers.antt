@@ -12,209 +12,234 @@ use Rattle.line_service.proofs.StopLemmas.{disk_on, count_still, grows_none}
 use Rattle.audited_service.specs.Answers.{run_part}
 use Rattle.audited_service.specs.Noting.{noted}
 use Rattle.audited_service.specs.Recording.{RunRecorded}
-use Rattle.audited_service.proofs.EndingLemmas.{lines_served, prefix_left, taken_all}
+use Rattle.audited_service.proofs.EndingLemmas.{limit_of, lines_served, prefix_left, taken_at}
 use Rattle.audited_service.proofs.FullLemmas.{completes, no_opening_stop, no_trail_fault, not_full, audits_full, damaged_within, stood_before, stood_for_some, told_on, append_undamaged}
 use Rattle.audited_service.proofs.RunLemmas.{fault_is}
 use Rattle.audited_service.proofs.GrowingLemmas.{grows_kept, grows_then}
 use Rattle.audited_service.proofs.RestingLemmas.{grown_kept, grown_on}
 use Rattle.audited_service.proofs.OpeningLemmas.{stands_all, opened_recorded, unopened_stop, unopened_fault}
+use Rattle.audited_service.proofs.TrailLemmas.{opened_left, unopened_trail}
 use Rattle.audited_service.proofs.running.serve_audited.Goals as goal
 
-pub returns-in-Ok-open_trail-clause-lines : goal.returns-in-Ok-open_trail-clause-lines
-returns-in-Ok-open_trail-clause-lines g c = λ s es disks trail.
-    let A = g.A.Desk.machine in
-    let entry = g.W.Scribe.entry_of in
-    let m0 = g.M.Disk.medium c.args.module.now in
-    let m1 = g.M.Disk.medium c.open.new.module in
-    let d0 = g.D.Disk.medium c.args.store.now in
-    let d1 = g.D.Disk.medium c.open.new.store in
-    let t0 = g.T.Disk.medium c.args.trail.now in
-    let t1 = g.T.Disk.medium c.open_trail.new.trail in
-    let t2 = g.T.Disk.medium c.audit_all.new.trail in
-    let random = g.E.Entropy.left c.args.entropy.now in
-    let kept_m = c.open.ensures.left.module_kept in
-    let kept_d = c.open.ensures.left.store_kept in
-    let kept_t = c.open_trail.ensures.keeps in
-    let first = world m0 d0 random in
-    let last = world (g.M.Disk.medium c.audit_all.new.module) (g.D.Disk.medium c.audit_all.new.store) (g.E.Entropy.left c.audit_all.new.entropy) in
-    let i0 = g.S.Source.left c.args.source.now in
-    let i1 = g.S.Source.left c.audit_all.new.source in
-    let o0 = g.K.Sink.held c.args.sink.now in
-    let o1 = g.K.Sink.held c.audit_all.new.sink in
-    let after = c.audit_all.ensures in
-    let stands = stands_all A entry m0 m1 d0 d1 t0 t1 random kept_m kept_d kept_t s es (g.A.Desk.knows c.open.new.self) disks (c.in-Ok.ensures.knows s disks) trail in
-    let recorded : RunRecorded A entry (noted s es) c.audit_all.result first last t0 t2 i0 i1 o0 o1 =
-    opened_recorded A entry m0 m1 d0 d1 t0 t1 random kept_m kept_d kept_t (noted s es) c.audit_all.result last t2 i0 i1 o0 o1 (after.serves (noted s es) stands) in
-    let still : NoneFailed _ → NoStop (run_part c.audit_all.result) = λ none.
-    not_stopped A (run_part c.audit_all.result) _ _ after.left none (omega arith) (omega arith) c.open.ensures.left.module_left.later c.open.ensures.left.store_left.later (omega arith) in
-    record {
-      recorded = recorded;
-      run = lines_served A entry (noted s es) _ t0 t2 c.audit_all.result recorded still (taken_all c.audit_all.result _ after.at_end after.limit after.short after.within);
-      prefix = prefix_left A entry (noted s es) first last t0 t2 i0 i1 o0 o1 c.audit_all.result recorded;
-      complete = λ none trail_still some.
-          completes A entry (noted s es) es c.audit_all.result first last t0 t2 i0 i1 o0 o1 recorded (still none)
-          (λ h. trail_still (rose_wider _ _ _ _ c.open_trail.ensures.left.later after.trail_left.later (omega arith) (after.trail_left.fault h)))
-          after.kinds
-          (λ h. after.full (noted s es) stands (subst (λ (o : Option (List ℕ)). IsSome o) (sym kept_t.content) some) h)
-          after.limit;
-      full = λ some h. after.full (noted s es) stands (subst (λ (o : Option (List ℕ)). IsSome o) (sym kept_t.content) some) h;
-    }
-
-pub returns-in-Err-open_trail-clause-lines : goal.returns-in-Err-open_trail-clause-lines
-returns-in-Err-open_trail-clause-lines g c = λ s es disks trail.
-    let A = g.A.Desk.machine in
-    let entry = g.W.Scribe.entry_of in
-    let m0 = g.M.Disk.medium c.args.module.now in
-    let m1 = g.M.Disk.medium c.open.new.module in
-    let d0 = g.D.Disk.medium c.args.store.now in
-    let d1 = g.D.Disk.medium c.open.new.store in
-    let t0 = g.T.Disk.medium c.args.trail.now in
-    let t1 = g.T.Disk.medium c.open_trail.new.trail in
-    let random = g.E.Entropy.left c.args.entropy.now in
-    let i = g.S.Source.left c.args.source.now in
-    let o = g.K.Sink.held c.args.sink.now in
-    let fault = c.in-Err-open_trail.fault in
-    let faults = c.in-Err-open_trail.ensures.faults in
-    let recorded : RunRecorded A entry (noted s es) (Err fault) (world m0 d0 random) (world m1 d1 random) t0 t1 i i o o =
-    unopened_fault A entry m0 m1 d0 d1 t0 t1 random c.open.ensures.left.module_kept c.open.ensures.left.store_kept c.open_trail.ensures.keeps (noted s es) fault i o (not_full fault faults) in
-    record {
-      recorded = recorded;
-      run = tt;
-      prefix = prefix_left A entry (noted s es) (world m0 d0 random) (world m1 d1 random) t0 t1 i i o o (Err fault) recorded;
-      complete = λ none still some.
-          absurd (no_trail_fault t0 es fault some trail faults
-          (λ failed. still (c.open_trail.ensures.left.fault (c.in-Err-open_trail.is ∙ ap Err failed)))
-          (λ cell named. c.open_trail.ensures.damaged cell (c.in-Err-open_trail.is ∙ ap Err named)));
-      full = λ some h. absurd (not_full fault faults (cc h));
-    }
-
-pub returns-in-Err-clause-taken : goal.returns-in-Err-clause-taken
-returns-in-Err-clause-taken g c = record {
-  run = unopened_taken c.in-Err.stop _ c.in-Err.ensures.stops refl;
-  within = told_same (g.S.Source.left c.args.source.now) _ (λ x. omega arith);
-}
-
-pub returns-in-Err-clause-lines : goal.returns-in-Err-clause-lines
-returns-in-Err-clause-lines g c = λ s es disks trail.
-    let A = g.A.Desk.machine in
-    let entry = g.W.Scribe.entry_of in
-    let m0 = g.M.Disk.medium c.args.module.now in
-    let m1 = g.M.Disk.medium c.open.new.module in
-    let d0 = g.D.Disk.medium c.args.store.now in
-    let d1 = g.D.Disk.medium c.open.new.store in
-    let t0 = g.T.Disk.medium c.args.trail.now in
-    let random = g.E.Entropy.left c.args.entropy.now in
-    let i = g.S.Source.left c.args.source.now in
-    let o = g.K.Sink.held c.args.sink.now in
-    let stop = c.in-Err.stop in
-    let undamaged =
-    unbroken A m0 d0 s stop disks (λ cell h. c.open.ensures.damage.module_damaged cell (c.in-Err.is ∙ ap Err h))
-    (λ cell h. c.open.ensures.damage.store_damaged cell (c.in-Err.is ∙ ap Err h)) in
-    let recorded : RunRecorded A entry (noted s es) (Ok (Err stop)) (world m0 d0 random) (world m1 d1 random) t0 t0 i i o o =
-    unopened_stop A entry m0 m1 d0 d1 t0 t0 random c.open.ensures.left.module_kept c.open.ensures.left.store_kept (keeps_still t0) (noted s es) stop i o c.in-Err.ensures.stops undamaged in
-    record {
-      recorded = recorded;
-      run = lines_served A entry (noted s es) _ t0 t0 (Ok (Err stop)) recorded
-          (λ none.
-          unopened_no_stop stop c.in-Err.ensures.stops (λ h. none.on_module (c.open.ensures.left.module_left.fault (c.in-Err.is ∙ h)))
-          (λ h. none.on_store (c.open.ensures.left.store_left.fault (c.in-Err.is ∙ h))))
-          (returns-in-Err-clause-taken g c).run;
-      prefix = prefix_left A entry (noted s es) (world m0 d0 random) (world m1 d1 random) t0 t0 i i o o (Ok (Err stop)) recorded;
-      complete = λ none still some.
-          absurd (no_opening_stop stop c.in-Err.ensures.stops
-          (λ h. none.on_module (c.open.ensures.left.module_left.fault (c.in-Err.is ∙ ap Err h)))
-          (λ h. none.on_store (c.open.ensures.left.store_left.fault (c.in-Err.is ∙ ap Err h)))
-          undamaged);
-      full = λ some h. absurd (cc h);
-    }
-
-pub returns-in-Ok-open_trail-clause-taken : goal.returns-in-Ok-open_trail-clause-taken
-returns-in-Ok-open_trail-clause-taken g c = record {
-  run = taken_all c.audit_all.result _ c.audit_all.ensures.at_end c.audit_all.ensures.limit c.audit_all.ensures.short c.audit_all.ensures.within;
-  within = c.audit_all.ensures.within;
-}
-
-pub returns-in-Err-open_trail-clause-taken : goal.returns-in-Err-open_trail-clause-taken
-returns-in-Err-open_trail-clause-taken g c = record { run = tt; within = told_same (g.S.Source.left c.args.source.now) _ (λ x. omega arith) }
-
-pub returns-in-Ok-open_trail-clause-sound : goal.returns-in-Ok-open_trail-clause-sound
-returns-in-Ok-open_trail-clause-sound g c = record {
-  disks = record { sound = λ h. c.in-Ok.ensures.sound; settled = c.audit_all.ensures.settled };
-  trail = λ h. stood_before (g.T.Disk.medium c.args.trail.now) (g.T.Disk.medium c.open_trail.new.trail) c.open_trail.new.held c.open_trail.ensures.keeps c.in-Ok-open_trail.ensures.stands;
-}
-
-pub returns-in-Err-open_trail-clause-sound : goal.returns-in-Err-open_trail-clause-sound
-returns-in-Err-open_trail-clause-sound g c = record {
-  disks = record {
-    sound = λ h. c.in-Ok.ensures.sound;
-    settled = λ h. record { module_settled = c.in-Ok.ensures.left.module_left.settled refl; store_settled = c.in-Ok.ensures.left.store_left.settled refl };
+pub returns-in-Ok-open_trail-clause-ends : goal.returns-in-Ok-open_trail-clause-ends
+returns-in-Ok-open_trail-clause-ends g c = record {
+  lines = λ s es disks trail.
+      let A = g.A.Desk.machine in
+      let entry = g.W.Scribe.entry_of in
+      let m0 = g.M.Disk.medium c.args.module.now in
+      let m1 = g.M.Disk.medium c.open.new.module in
+      let d0 = g.D.Disk.medium c.args.store.now in
+      let d1 = g.D.Disk.medium c.open.new.store in
+      let t0 = g.T.Disk.medium c.args.trail.now in
+      let t1 = g.T.Disk.medium c.open_trail.new.trail in
+      let t2 = g.T.Disk.medium c.audit_all.new.trail in
+      let random = g.E.Entropy.left c.args.entropy.now in
+      let kept_m = c.open.ensures.left.module_kept in
+      let kept_d = c.open.ensures.left.store_kept in
+      let kept_t = c.open_trail.ensures.keeps in
+      let first = world m0 d0 random in
+      let last = world (g.M.Disk.medium c.audit_all.new.module) (g.D.Disk.medium c.audit_all.new.store) (g.E.Entropy.left c.audit_all.new.entropy) in
+      let i0 = g.S.Source.left c.args.source.now in
+      let i1 = g.S.Source.left c.audit_all.new.source in
+      let o0 = g.K.Sink.held c.args.sink.now in
+      let o1 = g.K.Sink.held c.audit_all.new.sink in
+      let after = c.audit_all.ensures.ends in
+      let stands = stands_all A entry m0 m1 d0 d1 t0 t1 random kept_m kept_d kept_t s es (g.A.Desk.knows c.open.new.self) disks (c.in-Ok.ensures.knows s disks) trail in
+      let recorded : RunRecorded A entry (noted s es) c.audit_all.result first last t0 t2 i0 i1 o0 o1 =
+      opened_recorded A entry m0 m1 d0 d1 t0 t1 random kept_m kept_d kept_t (noted s es) c.audit_all.result last t2 i0 i1 o0 o1 (after.serves (noted s es) stands) in
+      let still : NoneFailed _ → NoStop (run_part c.audit_all.result) = λ none.
+      not_stopped A (run_part c.audit_all.result) _ _ after.left none (omega arith) (omega arith) c.open.ensures.left.module_left.later c.open.ensures.left.store_left.later (omega arith) in
+      record {
+        recorded = recorded;
+        run = lines_served A entry (noted s es) _ t0 t2 c.audit_all.result recorded still (taken_at c.audit_all.result _ _ after.taken.run);
+        prefix = prefix_left A entry (noted s es) first last t0 t2 i0 i1 o0 o1 c.audit_all.result recorded;
+        complete = λ none trail_still some.
+            completes A entry (noted s es) es c.audit_all.result first last t0 t2 i0 i1 o0 o1 recorded (still none)
+            (λ h. trail_still (rose_wider _ _ _ _ c.open_trail.ensures.left.later after.trail.left.later (omega arith) (after.trail.left.fault h)))
+            after.kinds
+            (λ h. after.full (noted s es) stands (subst (λ (o : Option (List ℕ)). IsSome o) (sym kept_t.content) some) h)
+            (limit_of c.audit_all.result _ after.taken.run after.taken.within);
+        full = λ some h. after.full (noted s es) stands (subst (λ (o : Option (List ℕ)). IsSome o) (sym kept_t.content) some) h;
+      };
+  taken = record { run = taken_at c.audit_all.result _ _ c.audit_all.ensures.ends.taken.run; within = c.audit_all.ensures.ends.taken.within };
+  sound = record {
+    disks = record { sound = λ h. c.in-Ok.ensures.sound; settled = λ h. record { module_settled = (c.audit_all.ensures.ends.settled h).module_settled; store_settled = (c.audit_all.ensures.ends.settled h).store_settled } };
+    trail = λ h. stood_before (g.T.Disk.medium c.args.trail.now) (g.T.Disk.medium c.open_trail.new.trail) c.open_trail.new.held c.open_trail.ensures.keeps c.in-Ok-open_trail.ensures.stands;
   };
-  trail = λ audits. absurd (not_full c.in-Err-open_trail.fault c.in-Err-open_trail.ensures.faults (audits_full c.in-Err-open_trail.fault audits));
+  damage = opened_damage g.A.Desk.machine (run_part c.audit_all.result) _ _ c.open.ensures.left.module_kept c.open.ensures.left.store_kept c.in-Ok.ensures.sound c.audit_all.ensures.ends.undamaged;
+  trail_damage = record {
+    damaged = λ cell h. absurd (append_undamaged c.audit_all.result cell c.audit_all.ensures.ends.kinds h);
+    cells = λ cell h. absurd (append_undamaged c.audit_all.result cell c.audit_all.ensures.ends.kinds h);
+    judged = λ still_m still_d still_t s disks.
+        told_on (g.T.Disk.medium c.args.trail.now) _ _ (λ image exact cell first. let named = exact cell first in cc (named, c.in-Ok-open_trail.is))
+        (c.open_trail.ensures.exact (λ rose. still_t (rose_wider _ _ _ _ (omega arith) c.open_trail.ensures.left.later c.audit_all.ensures.ends.trail.left.later rose)));
+  };
+  left = let opened = c.in-Ok.ensures.left in
+      let left = c.audit_all.ensures.ends.left in
+      record {
+        devices_left = record {
+          module_left = disk_on _ _ _ _ _ _ _ _ opened.module_left.size opened.module_left.still (opened.module_left.quiet (λ h. cc h)) left.devices_left.module_left;
+          store_left = disk_on _ _ _ _ _ _ _ _ opened.store_left.size opened.store_left.still (opened.store_left.quiet (λ h. cc h)) left.devices_left.store_left;
+          entropy_left = left.devices_left.entropy_left;
+        };
+        source_left = left.source_left;
+        sink_left = left.sink_left;
+        sink_grows = left.sink_grows;
+      };
+  trail_left = opened_left (g.T.Disk.medium c.args.trail.now) (g.T.Disk.medium c.open_trail.new.trail) (g.T.Disk.medium c.audit_all.new.trail) _ _ _ _ _ c.audit_all.result c.in-Ok-open_trail.ensures.left (λ h. cc h) c.audit_all.ensures.ends.trail.left;
+  rests = λ unfailed.
+      let t0 = g.T.Disk.medium c.args.trail.now in
+      let t1 = g.T.Disk.medium c.open_trail.new.trail in
+      grown_on t0 t1 (g.T.Disk.medium c.audit_all.new.trail) (grown_kept t0 t1 c.open_trail.ensures.keeps) (c.audit_all.ensures.ends.trail.rests unfailed);
 }
 
-pub returns-in-Err-clause-sound : goal.returns-in-Err-clause-sound
-returns-in-Err-clause-sound g c = record {
-  disks = unopened_sound g.A.Desk.machine c.in-Err.stop _ c.in-Err.ensures.stops;
-  trail = λ h. absurd (no_opening_answer c.in-Err.stop c.in-Err.ensures.stops h);
+pub returns-in-Err-open_trail-clause-ends : goal.returns-in-Err-open_trail-clause-ends
+returns-in-Err-open_trail-clause-ends g c = record {
+  lines = λ s es disks trail.
+      let A = g.A.Desk.machine in
+      let entry = g.W.Scribe.entry_of in
+      let m0 = g.M.Disk.medium c.args.module.now in
+      let m1 = g.M.Disk.medium c.open.new.module in
+      let d0 = g.D.Disk.medium c.args.store.now in
+      let d1 = g.D.Disk.medium c.open.new.store in
+      let t0 = g.T.Disk.medium c.args.trail.now in
+      let t1 = g.T.Disk.medium c.open_trail.new.trail in
+      let random = g.E.Entropy.left c.args.entropy.now in
+      let i = g.S.Source.left c.args.source.now in
+      let o = g.K.Sink.held c.args.sink.now in
+      let fault = c.in-Err-open_trail.fault in
+      let faults = c.in-Err-open_trail.ensures.faults in
+      let recorded : RunRecorded A entry (noted s es) (Err fault) (world m0 d0 random) (world m1 d1 random) t0 t1 i i o o =
+      unopened_fault A entry m0 m1 d0 d1 t0 t1 random c.open.ensures.left.module_kept c.open.ensures.left.store_kept c.open_trail.ensures.keeps (noted s es) fault i o (not_full fault faults) in
+      record {
+        recorded = recorded;
+        run = tt;
+        prefix = prefix_left A entry (noted s es) (world m0 d0 random) (world m1 d1 random) t0 t1 i i o o (Err fault) recorded;
+        complete = λ none still some.
+            absurd (no_trail_fault t0 es fault some trail faults
+            (λ failed. still (c.open_trail.ensures.left.fault (c.in-Err-open_trail.is ∙ ap Err failed)))
+            (λ cell named. c.open_trail.ensures.damaged cell (c.in-Err-open_trail.is ∙ ap Err named)));
+        full = λ some h. absurd (not_full fault faults (cc h));
+      };
+  taken = record { run = tt; within = told_same (g.S.Source.left c.args.source.now) _ (λ x. omega arith) };
+  sound = record {
+    disks = record {
+      sound = λ h. c.in-Ok.ensures.sound;
+      settled = λ h. record { module_settled = c.in-Ok.ensures.left.module_left.settled refl; store_settled = c.in-Ok.ensures.left.store_left.settled refl };
+    };
+    trail = λ audits. absurd (not_full c.in-Err-open_trail.fault c.in-Err-open_trail.ensures.faults (audits_full c.in-Err-open_trail.fault audits));
+  };
+  damage = let A = g.A.Desk.machine in
+      let m0 = g.M.Disk.medium c.args.module.now in
+      let d0 = g.D.Disk.medium c.args.store.now in
+      record {
+        module_damaged = λ cell h. absurd (cc h);
+        store_damaged = λ cell h. absurd (cc h);
+        module_judged = λ still. module_unbroken A m0 d0 _ c.in-Ok.ensures.sound;
+        store_judged = λ still_m still_d. store_unbroken A m0 d0 _ c.in-Ok.ensures.sound;
+        cells = λ device cell h. absurd (cc h);
+      };
+  trail_damage = let fault = c.in-Err-open_trail.fault in
+      let is = c.in-Err-open_trail.is in
+      record {
+        damaged = λ cell h. c.open_trail.ensures.damaged cell (is ∙ ap Err (fault_is fault (Damaged cell) h));
+        cells = λ cell h. damaged_within fault cell c.in-Err-open_trail.ensures.faults (fault_is fault (Damaged cell) h);
+        judged = λ still_m still_d still_t s disks.
+            told_on (g.T.Disk.medium c.args.trail.now) _ _ (λ image exact cell first. let same : fault ≡ Damaged cell = cc (exact cell first, is) in ap Err same)
+            (c.open_trail.ensures.exact still_t);
+      };
+  left = record {
+    devices_left = record {
+      module_left = c.in-Ok.ensures.left.module_left;
+      store_left = c.in-Ok.ensures.left.store_left;
+      entropy_left = count_still _ _ (λ h. cc h);
+    };
+    source_left = count_still _ _ (λ h. cc h);
+    sink_left = count_still _ _ (λ h. cc h);
+    sink_grows = grows_none (g.K.Sink.held c.args.sink.now);
+  };
+  trail_left = unopened_trail (g.T.Disk.medium c.args.trail.now) (g.T.Disk.medium c.open_trail.new.trail) _ _ c.in-Err-open_trail.fault c.in-Err-open_trail.ensures.faults c.in-Err-open_trail.ensures.left;
+  rests = λ unfailed.
+      grown_kept (g.T.Disk.medium c.args.trail.now) (g.T.Disk.medium c.open_trail.new.trail) c.open_trail.ensures.keeps;
+}
+
+pub returns-in-Err-clause-ends : goal.returns-in-Err-clause-ends
+returns-in-Err-clause-ends g c = record {
+  lines = λ s es disks trail.
+      let A = g.A.Desk.machine in
+      let entry = g.W.Scribe.entry_of in
+      let m0 = g.M.Disk.medium c.args.module.now in
+      let m1 = g.M.Disk.medium c.open.new.module in
+      let d0 = g.D.Disk.medium c.args.store.now in
+      let d1 = g.D.Disk.medium c.open.new.store in
+      let t0 = g.T.Disk.medium c.args.trail.now in
+      let random = g.E.Entropy.left c.args.entropy.now in
+      let i = g.S.Source.left c.args.source.now in
+      let o = g.K.Sink.held c.args.sink.now in
+      let stop = c.in-Err.stop in
+      let undamaged =
+      unbroken A m0 d0 s stop disks (λ cell h. c.open.ensures.damage.module_damaged cell (c.in-Err.is ∙ ap Err h))
+      (λ cell h. c.open.ensures.damage.store_damaged cell (c.in-Err.is ∙ ap Err h)) in
+      let recorded : RunRecorded A entry (noted s es) (Ok (Err stop)) (world m0 d0 random) (world m1 d1 random) t0 t0 i i o o =
+      unopened_stop A entry m0 m1 d0 d1 t0 t0 random c.open.ensures.left.module_kept c.open.ensures.left.store_kept (keeps_still t0) (noted s es) stop i o c.in-Err.ensures.stops undamaged in
+      record {
+        recorded = recorded;
+        run = lines_served A entry (noted s es) _ t0 t0 (Ok (Err stop)) recorded
+            (λ none.
+            unopened_no_stop stop c.in-Err.ensures.stops (λ h. none.on_module (c.open.ensures.left.module_left.fault (c.in-Err.is ∙ h)))
+            (λ h. none.on_store (c.open.ensures.left.store_left.fault (c.in-Err.is ∙ h))))
+            (unopened_taken stop _ c.in-Err.ensures.stops refl);
+        prefix = prefix_left A entry (noted s es) (world m0 d0 random) (world m1 d1 random) t0 t0 i i o o (Ok (Err stop)) recorded;
+        complete = λ none still some.
+            absurd (no_opening_stop stop c.in-Err.ensures.stops
+            (λ h. none.on_module (c.open.ensures.left.module_left.fault (c.in-Err.is ∙ ap Err h)))
+            (λ h. none.on_store (c.open.ensures.left.store_left.fault (c.in-Err.is ∙ ap Err h)))
+            undamaged);
+        full = λ some h. absurd (cc h);
+      };
+  taken = record {
+    run = unopened_taken c.in-Err.stop _ c.in-Err.ensures.stops refl;
+    within = told_same (g.S.Source.left c.args.source.now) _ (λ x. omega arith);
+  };
+  sound = record {
+    disks = unopened_sound g.A.Desk.machine c.in-Err.stop _ c.in-Err.ensures.stops;
+    trail = λ h. absurd (no_opening_answer c.in-Err.stop c.in-Err.ensures.stops h);
+  };
+  damage = record {
+    module_damaged = c.in-Err.ensures.damage.module_damaged;
+    store_damaged = c.in-Err.ensures.damage.store_damaged;
+    module_judged = c.in-Err.ensures.damage.module_judged;
+    store_judged = c.in-Err.ensures.damage.store_judged;
+    cells = c.in-Err.ensures.damage.cells;
+  };
+  trail_damage = let A = g.A.Desk.machine in
+      let stop = c.in-Err.stop in
+      record {
+        damaged = λ cell h. absurd (cc h);
+        cells = λ cell h. absurd (cc h);
+        judged = λ still_m still_d still_t s disks.
+            absurd (no_opening_stop stop c.in-Err.ensures.stops
+            (λ h. still_m (c.open.ensures.left.module_left.fault (c.in-Err.is ∙ ap Err h)))
+            (λ h. still_d (c.open.ensures.left.store_left.fault (c.in-Err.is ∙ ap Err h)))
+            (unbroken A (g.M.Disk.medium c.args.module.now) (g.D.Disk.medium c.args.store.now) s stop disks (λ cell h. c.open.ensures.damage.module_damaged cell (c.in-Err.is ∙ ap Err h))
+            (λ cell h. c.open.ensures.damage.store_damaged cell (c.in-Err.is ∙ ap Err h))));
+      };
+  left = unopened_left g.A.Desk.machine c.in-Err.stop _ c.in-Err.ensures.stops c.in-Err.ensures.left.module_left c.in-Err.ensures.left.store_left refl refl refl refl;
+  trail_left = record {
+    size = refl;
+    still = λ some. some;
+    settled = λ h. absurd (no_opening_answer c.in-Err.stop c.in-Err.ensures.stops h);
+    later = omega arith;
+    fault = λ h. absurd (cc h);
+    quiet = λ none. refl;
+  };
+  rests = λ unfailed. grown_kept (g.T.Disk.medium c.args.trail.now) (g.T.Disk.medium c.args.trail.now) (keeps_still (g.T.Disk.medium c.args.trail.now));
 }
 
 pub returns-in-Ok-open_trail-clause-unsound_trail : goal.returns-in-Ok-open_trail-clause-unsound_trail
 returns-in-Ok-open_trail-clause-unsound_trail g c = λ unsound.
     absurd (stood_for_some (g.T.Disk.medium c.args.trail.now) unsound
     (stood_before (g.T.Disk.medium c.args.trail.now) (g.T.Disk.medium c.open_trail.new.trail) c.open_trail.new.held c.open_trail.ensures.keeps c.in-Ok-open_trail.ensures.stands))
-
-pub returns-in-Ok-open_trail-clause-damage : goal.returns-in-Ok-open_trail-clause-damage
-returns-in-Ok-open_trail-clause-damage g c =
-    opened_damage g.A.Desk.machine (run_part c.audit_all.result) _ _ c.open.ensures.left.module_kept c.open.ensures.left.store_kept c.in-Ok.ensures.sound c.audit_all.ensures.undamaged
-
-pub returns-in-Err-open_trail-clause-damage : goal.returns-in-Err-open_trail-clause-damage
-returns-in-Err-open_trail-clause-damage g c =
-    let A = g.A.Desk.machine in
-    let m0 = g.M.Disk.medium c.args.module.now in
-    let d0 = g.D.Disk.medium c.args.store.now in
-    record {
-      module_damaged = λ cell h. absurd (cc h);
-      store_damaged = λ cell h. absurd (cc h);
-      module_judged = λ still. module_unbroken A m0 d0 _ c.in-Ok.ensures.sound;
-      store_judged = λ still_m still_d. store_unbroken A m0 d0 _ c.in-Ok.ensures.sound;
-      cells = λ device cell h. absurd (cc h);
-    }
-
-pub returns-in-Ok-open_trail-clause-trail_damage : goal.returns-in-Ok-open_trail-clause-trail_damage
-returns-in-Ok-open_trail-clause-trail_damage g c = record {
-  damaged = λ cell h. absurd (append_undamaged c.audit_all.result cell c.audit_all.ensures.kinds h);
-  cells = λ cell h. absurd (append_undamaged c.audit_all.result cell c.audit_all.ensures.kinds h);
-  judged = λ still_m still_d still_t s disks.
-      told_on (g.T.Disk.medium c.args.trail.now) _ _ (λ image exact cell first. let named = exact cell first in cc (named, c.in-Ok-open_trail.is))
-      (c.open_trail.ensures.exact (λ rose. still_t (rose_wider _ _ _ _ (omega arith) c.open_trail.ensures.left.later c.audit_all.ensures.trail_left.later rose)));
-}
-
-pub returns-in-Err-open_trail-clause-trail_damage : goal.returns-in-Err-open_trail-clause-trail_damage
-returns-in-Err-open_trail-clause-trail_damage g c =
-    let fault = c.in-Err-open_trail.fault in
-    let is = c.in-Err-open_trail.is in
-    record {
-      damaged = λ cell h. c.open_trail.ensures.damaged cell (is ∙ ap Err (fault_is fault (Damaged cell) h));
-      cells = λ cell h. damaged_within fault cell c.in-Err-open_trail.ensures.faults (fault_is fault (Damaged cell) h);
-      judged = λ still_m still_d still_t s disks.
-          told_on (g.T.Disk.medium c.args.trail.now) _ _ (λ image exact cell first. let same : fault ≡ Damaged cell = cc (exact cell first, is) in ap Err same)
-          (c.open_trail.ensures.exact still_t);
-    }
-
-pub returns-in-Err-clause-trail_damage : goal.returns-in-Err-clause-trail_damage
-returns-in-Err-clause-trail_damage g c =
-    let A = g.A.Desk.machine in
-    let stop = c.in-Err.stop in
-    record {
-      damaged = λ cell h. absurd (cc h);
-      cells = λ cell h. absurd (cc h);
-      judged = λ still_m still_d still_t s disks.
-          absurd (no_opening_stop stop c.in-Err.ensures.stops
-          (λ h. still_m (c.open.ensures.left.module_left.fault (c.in-Err.is ∙ ap Err h)))
-          (λ h. still_d (c.open.ensures.left.store_left.fault (c.in-Err.is ∙ ap Err h)))
-          (unbroken A (g.M.Disk.medium c.args.module.now) (g.D.Disk.medium c.args.store.now) s stop disks (λ cell h. c.open.ensures.damage.module_damaged cell (c.in-Err.is ∙ ap Err h))
-          (λ cell h. c.open.ensures.damage.store_damaged cell (c.in-Err.is ∙ ap Err h))));
-    }
 
 pub returns-in-Err-clause-unsound_trail : goal.returns-in-Err-clause-unsound_trail
 returns-in-Err-clause-unsound_trail g c = λ unsound. (
@@ -228,67 +253,14 @@ returns-in-Err-clause-unsound_trail g c = λ unsound. (
   keeps_still (g.T.Disk.medium c.args.trail.now),
 )
 
-pub returns-in-Err-open_trail-clause-left : goal.returns-in-Err-open_trail-clause-left
-returns-in-Err-open_trail-clause-left g c = record {
-  devices_left = record {
-    module_left = c.in-Ok.ensures.left.module_left;
-    store_left = c.in-Ok.ensures.left.store_left;
-    entropy_left = count_still _ _ (λ h. cc h);
-  };
-  source_left = count_still _ _ (λ h. cc h);
-  sink_left = count_still _ _ (λ h. cc h);
-  sink_grows = grows_none (g.K.Sink.held c.args.sink.now);
-}
-
-pub returns-in-Err-clause-left : goal.returns-in-Err-clause-left
-returns-in-Err-clause-left g c = unopened_left g.A.Desk.machine c.in-Err.stop _ c.in-Err.ensures.stops c.in-Err.ensures.left.module_left c.in-Err.ensures.left.store_left refl refl refl refl
-
-pub returns-in-Err-clause-trail_left : goal.returns-in-Err-clause-trail_left
-returns-in-Err-clause-trail_left g c = record {
-  size = refl;
-  still = λ some. some;
-  settled = λ h. absurd (no_opening_answer c.in-Err.stop c.in-Err.ensures.stops h);
-  later = omega arith;
-  fault = λ h. absurd (cc h);
-  quiet = λ none. refl;
-}
-
 pub returns-in-Ok-open_trail-clause-trail_grows : goal.returns-in-Ok-open_trail-clause-trail_grows
 returns-in-Ok-open_trail-clause-trail_grows g c =
     let t0 = g.T.Disk.medium c.args.trail.now in
     let t1 = g.T.Disk.medium c.open_trail.new.trail in
-    grows_then t0 t1 (g.T.Disk.medium c.audit_all.new.trail) (grows_kept t0 t1 c.open_trail.ensures.keeps) c.audit_all.ensures.grows
+    grows_then t0 t1 (g.T.Disk.medium c.audit_all.new.trail) (grows_kept t0 t1 c.open_trail.ensures.keeps) c.audit_all.ensures.ends.trail.grows
 
 pub returns-in-Err-open_trail-clause-trail_grows : goal.returns-in-Err-open_trail-clause-trail_grows
 returns-in-Err-open_trail-clause-trail_grows g c = grows_kept (g.T.Disk.medium c.args.trail.now) (g.T.Disk.medium c.open_trail.new.trail) c.open_trail.ensures.keeps
 
 pub returns-in-Err-clause-trail_grows : goal.returns-in-Err-clause-trail_grows
 returns-in-Err-clause-trail_grows g c = grows_kept (g.T.Disk.medium c.args.trail.now) (g.T.Disk.medium c.args.trail.now) (keeps_still (g.T.Disk.medium c.args.trail.now))
-
-pub returns-in-Ok-open_trail-clause-trail_rests : goal.returns-in-Ok-open_trail-clause-trail_rests
-returns-in-Ok-open_trail-clause-trail_rests g c = λ unfailed.
-    let t0 = g.T.Disk.medium c.args.trail.now in
-    let t1 = g.T.Disk.medium c.open_trail.new.trail in
-    grown_on t0 t1 (g.T.Disk.medium c.audit_all.new.trail) (grown_kept t0 t1 c.open_trail.ensures.keeps) (c.audit_all.ensures.rests unfailed)
-
-pub returns-in-Err-open_trail-clause-trail_rests : goal.returns-in-Err-open_trail-clause-trail_rests
-returns-in-Err-open_trail-clause-trail_rests g c = λ unfailed.
-    grown_kept (g.T.Disk.medium c.args.trail.now) (g.T.Disk.medium c.open_trail.new.trail) c.open_trail.ensures.keeps
-
-pub returns-in-Err-clause-trail_rests : goal.returns-in-Err-clause-trail_rests
-returns-in-Err-clause-trail_rests g c = λ unfailed. grown_kept (g.T.Disk.medium c.args.trail.now) (g.T.Disk.medium c.args.trail.now) (keeps_still (g.T.Disk.medium c.args.trail.now))
-
-pub returns-in-Ok-open_trail-clause-left : goal.returns-in-Ok-open_trail-clause-left
-returns-in-Ok-open_trail-clause-left g c =
-    let opened = c.in-Ok.ensures.left in
-    let left = c.audit_all.ensures.left in
-    record {
-      devices_left = record {
-        module_left = disk_on _ _ _ _ _ _ _ _ opened.module_left.size opened.module_left.still (opened.module_left.quiet (λ h. cc h)) left.devices_left.module_left;
-        store_left = disk_on _ _ _ _ _ _ _ _ opened.store_left.size opened.store_left.still (opened.store_left.quiet (λ h. cc h)) left.devices_left.store_left;
-        entropy_left = left.devices_left.entropy_left;
-      };
-      source_left = left.source_left;
-      sink_left = left.sink_left;
-      sink_grows = left.sink_grows;
-    }

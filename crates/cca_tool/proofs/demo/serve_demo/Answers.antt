@@ -1,191 +1,21 @@
--- The lines are served as any others are, and then the summary is sent.
-use Rattle.std.specs.Prelude.{IsOk, None}
-use Rattle.std.proofs.Common.{◌≡◌, ◌∙◌, Result, Ok, Err, refl, sym, ap, subst, inl, ⊎_elim, arith, rules}
-use Rattle.slot_disk.proofs.WhereToldLemmas.{told_weaker}
-use Rattle.line_service.specs.Sending.{Grows}
-use Rattle.line_service.proofs.StopLemmas.{grows_none}
-use Rattle.cca_machine.specs.State.{IsModuleOf, IsStoreOf}
-use Rattle.line_service.specs.Devices.{DiskLeft}
-use Rattle.line_service.specs.Machine.{world}
-use Rattle.line_service.specs.declared.stops.Stop.{Stop}
-use Rattle.line_service.specs.declared.stops.Stop.TheVariants.{ReadFault, WriteFault, EntropyFault, ModuleFault, StoreFault, InputLimit}
-use Rattle.cca_tool.specs.Statuses.{status_of_lem}
-use Rattle.cca_tool.specs.declared.command.Status.TheVariants as status
-use Rattle.cca_tool.proofs.StatusLemmas.{as_told, ended_as}
-use Rattle.cca_tool.proofs.DemoRunLemmas.{never_rose, never_usage, short, within_limit, moments_of, at_rest_of, lost_of, summary_sent, summary_cut, summary_sound, summary_damage, summary_left, sound_at, damage_at}
+-- The status tells how the demo ended.
+use Rattle.std.proofs.Common.{refl, rules}
+use Rattle.cca_tool.proofs.StatusLemmas.{no_memory_ended}
+use Rattle.cca_tool.proofs.DemoRunLemmas.{ran_as}
 use Rattle.cca_tool.proofs.demo.serve_demo.Goals as goal
 
--- ---- the summary was sent
+pub returns-in-Ok-clause-ran : goal.returns-in-Ok-clause-ran
+returns-in-Ok-clause-ran g c = ran_as _ c.status_of.result c.status_of.ensures c.serve_text.ensures.ran
 
-pub returns-in-Ok-send-clause-lines : goal.returns-in-Ok-send-clause-lines
-returns-in-Ok-send-clause-lines g c = λ s disks.
-    let run = (c.serve.ensures.lines s disks).serves in
-    record {
-      demo_done = λ h.
-          summary_sent c.args.number c.in-Ok-new.text c.in-Ok-new.ensures s (g.M.Disk.medium c.serve.new.module) (g.D.Disk.medium c.serve.new.store) c.new-tally.result c.serve.new.sink c.new-tally.ensures
-          (run.done c.in-Ok-serve.is)
-          c.bytes.result.now (c.bytes.ensures.bytes ∙ c.put_summary.ensures) (g.K.Sink.held c.args.sink.now) (g.K.Sink.held c.send.new.sink) c.in-Ok-send.ensures.all;
-      demo_cut = λ h. absurd (cc h);
-      demo_lost = λ h. absurd (cc h);
-      demo_store_lost = λ h. absurd (cc h);
-      demo_moments = moments_of c.args.number c.in-Ok-new.text c.in-Ok-new.ensures s IsModuleOf (g.M.Disk.medium c.args.module.now) (g.M.Disk.medium c.serve.new.module) run.on_module;
-      demo_store_moments = moments_of c.args.number c.in-Ok-new.text c.in-Ok-new.ensures s IsStoreOf (g.D.Disk.medium c.args.store.now) (g.D.Disk.medium c.serve.new.store) run.on_store;
-      demo_spare = run.spare;
-      demo_at_rest = λ h. at_rest_of c.args.number c.in-Ok-new.text c.in-Ok-new.ensures s
-          (world (g.M.Disk.medium c.args.module.now) (g.D.Disk.medium c.args.store.now) None) (world (g.M.Disk.medium c.serve.new.module) (g.D.Disk.medium c.serve.new.store) None)
-          (run.at_rest (inl (subst IsOk (sym c.in-Ok-serve.is) refl)));
-      demo_complete = λ sink_still still still_d. inl refl;
-    }
-
-pub returns-in-Ok-send-clause-sound : goal.returns-in-Ok-send-clause-sound
-returns-in-Ok-send-clause-sound g c =
-    let done = c.in-Ok-serve.field-0 in
-    ended_as _ (Ok done) status.Done refl (sound_at c.serve.result (Ok done) c.in-Ok-serve.is c.serve.ensures.sound)
-
-pub returns-in-Ok-send-clause-damage : goal.returns-in-Ok-send-clause-damage
-returns-in-Ok-send-clause-damage g c =
-    let done = c.in-Ok-serve.field-0 in
-    ended_as _ (Ok done) status.Done refl (damage_at c.serve.result (Ok done) c.in-Ok-serve.is c.serve.ensures.damage)
-
-pub returns-in-Ok-send-clause-left : goal.returns-in-Ok-send-clause-left
-returns-in-Ok-send-clause-left g c =
-    let done = c.in-Ok-serve.field-0 in
-    let m0 = g.M.Disk.medium c.args.module.now in
-    let m1 = g.M.Disk.medium c.serve.new.module in
-    let d0 = g.D.Disk.medium c.args.store.now in
-    let d1 = g.D.Disk.medium c.serve.new.store in
-    let m_before = g.M.Disk.faults c.args.module.now in
-    let m_now = g.M.Disk.faults c.serve.new.module in
-    let d_before = g.D.Disk.faults c.args.store.now in
-    let d_now = g.D.Disk.faults c.serve.new.store in
-    let left = c.serve.ensures.left.devices_left in
-    ended_as _ (Ok done) status.Done refl
-    (summary_left done (Ok done) (λ device cell h. cc h) ((λ h. cc h), (λ h. cc h)) m0 m1 d0 d1 m_before m_now d_before d_now
-    (g.K.Sink.faults c.args.sink.now) (g.K.Sink.faults c.send.new.sink) (g.K.Sink.held c.args.sink.now) (g.K.Sink.held c.send.new.sink)
-    (subst (λ (r : Result (Unit {0}) Stop). DiskLeft m0 m1 m_before m_now (IsOk r) (r ≡ Err ModuleFault)) c.in-Ok-serve.is left.module_left)
-    (subst (λ (r : Result (Unit {0}) Stop). DiskLeft d0 d1 d_before d_now (IsOk r) (r ≡ Err StoreFault)) c.in-Ok-serve.is left.store_left)
-    (record { later = c.send.ensures.cause.later; fault = λ h. cc h; quiet = λ never. c.in-Ok-send.ensures.cause.quiet })
-    (told_weaker (g.K.Sink.held c.args.sink.now) (g.K.Sink.held c.send.new.sink) _ Grows (λ x y h. (_, h)) c.in-Ok-send.ensures.all))
-
--- ---- the summary was cut
-
-pub returns-in-Ok-serve-clause-lines : goal.returns-in-Ok-serve-clause-lines
-returns-in-Ok-serve-clause-lines g c = λ s disks.
-    let run = (c.serve.ensures.lines s disks).serves in
-    record {
-      demo_done = λ h. absurd (cc h);
-      demo_cut = λ h.
-          summary_cut c.args.number c.in-Ok-new.text c.in-Ok-new.ensures s (g.M.Disk.medium c.serve.new.module) (g.D.Disk.medium c.serve.new.store) c.new-tally.result c.serve.new.sink c.new-tally.ensures
-          (run.done c.in-Ok-serve.is)
-          c.bytes.result.now (c.bytes.ensures.bytes ∙ c.put_summary.ensures) (g.K.Sink.held c.args.sink.now) (g.K.Sink.held c.send.new.sink) c.in-Err-send.ensures.part;
-      demo_lost = λ h. absurd (cc h);
-      demo_store_lost = λ h. absurd (cc h);
-      demo_moments = moments_of c.args.number c.in-Ok-new.text c.in-Ok-new.ensures s IsModuleOf (g.M.Disk.medium c.args.module.now) (g.M.Disk.medium c.serve.new.module) run.on_module;
-      demo_store_moments = moments_of c.args.number c.in-Ok-new.text c.in-Ok-new.ensures s IsStoreOf (g.D.Disk.medium c.args.store.now) (g.D.Disk.medium c.serve.new.store) run.on_store;
-      demo_spare = run.spare;
-      demo_at_rest = λ h. at_rest_of c.args.number c.in-Ok-new.text c.in-Ok-new.ensures s
-          (world (g.M.Disk.medium c.args.module.now) (g.D.Disk.medium c.args.store.now) None) (world (g.M.Disk.medium c.serve.new.module) (g.D.Disk.medium c.serve.new.store) None)
-          (run.at_rest (inl (subst IsOk (sym c.in-Ok-serve.is) refl)));
-      demo_complete = λ sink_still still still_d. absurd (sink_still c.in-Err-send.ensures.cause.failed);
-    }
-
-pub returns-in-Ok-serve-clause-sound : goal.returns-in-Ok-serve-clause-sound
-returns-in-Ok-serve-clause-sound g c =
-    let done = c.in-Ok-serve.field-0 in
-    ended_as _ (Err WriteFault) status.WriteFault refl
-    (summary_sound done (Err WriteFault) (λ device cell h. cc h) ((λ h. cc h), (λ h. cc h))
-    (sound_at c.serve.result (Ok done) c.in-Ok-serve.is c.serve.ensures.sound))
-
-pub returns-in-Ok-serve-clause-damage : goal.returns-in-Ok-serve-clause-damage
-returns-in-Ok-serve-clause-damage g c =
-    let done = c.in-Ok-serve.field-0 in
-    ended_as _ (Err WriteFault) status.WriteFault refl
-    (summary_damage done (Err WriteFault) (λ device cell h. cc h) ((λ h. cc h), (λ h. cc h))
-    (damage_at c.serve.result (Ok done) c.in-Ok-serve.is c.serve.ensures.damage))
-
-pub returns-in-Ok-serve-clause-left : goal.returns-in-Ok-serve-clause-left
-returns-in-Ok-serve-clause-left g c =
-    let done = c.in-Ok-serve.field-0 in
-    let m0 = g.M.Disk.medium c.args.module.now in
-    let m1 = g.M.Disk.medium c.serve.new.module in
-    let d0 = g.D.Disk.medium c.args.store.now in
-    let d1 = g.D.Disk.medium c.serve.new.store in
-    let m_before = g.M.Disk.faults c.args.module.now in
-    let m_now = g.M.Disk.faults c.serve.new.module in
-    let d_before = g.D.Disk.faults c.args.store.now in
-    let d_now = g.D.Disk.faults c.serve.new.store in
-    let left = c.serve.ensures.left.devices_left in
-    ended_as _ (Err WriteFault) status.WriteFault refl
-    (summary_left done (Err WriteFault) (λ device cell h. cc h) ((λ h. cc h), (λ h. cc h)) m0 m1 d0 d1 m_before m_now d_before d_now
-    (g.K.Sink.faults c.args.sink.now) (g.K.Sink.faults c.send.new.sink) (g.K.Sink.held c.args.sink.now) (g.K.Sink.held c.send.new.sink)
-    (subst (λ (r : Result (Unit {0}) Stop). DiskLeft m0 m1 m_before m_now (IsOk r) (r ≡ Err ModuleFault)) c.in-Ok-serve.is left.module_left)
-    (subst (λ (r : Result (Unit {0}) Stop). DiskLeft d0 d1 d_before d_now (IsOk r) (r ≡ Err StoreFault)) c.in-Ok-serve.is left.store_left)
-    (record { later = c.send.ensures.cause.later; fault = λ h. c.in-Err-send.ensures.cause.failed; quiet = λ never. absurd (never refl) })
-    (told_weaker (g.K.Sink.held c.args.sink.now) (g.K.Sink.held c.send.new.sink) _ Grows (λ x y got. (got.sent, got.held)) c.in-Err-send.ensures.part))
-
--- ---- the lines were not all answered
-
-pub returns-clause-answers : goal.returns-clause-answers
-returns-clause-answers g c =
-    let is = c.status_of.ensures ∙ ap status_of_lem (sym c.in-Err.is) in
-    let left = c.serve.ensures.left in
-    record {
-      demo_sink = λ undone uncut. refl;
-      demo_words = λ h. never_usage c.serve.result (sym is ∙ h);
-      demo_read = λ h. never_rose (left.source_left.fault (as_told c.serve.result c.status_of.result is status.ReadFault h));
-      demo_limit = λ h. within_limit c.args.number c.in-Ok-new.text c.in-Ok-new.ensures c.requires.number.1 c.serve.new.source
-          (c.serve.ensures.taken.limit.0 (as_told c.serve.result c.status_of.result is status.InputLimit h)).0;
-      demo_drawn = λ h. never_rose (left.devices_left.entropy_left.fault (as_told c.serve.result c.status_of.result is status.EntropyFault h));
-    }
-
-pub returns-clause-lines : goal.returns-clause-lines
-returns-clause-lines g c = λ s disks.
-    let is = c.status_of.ensures ∙ ap status_of_lem (sym c.in-Err.is) in
-    let lines = c.serve.ensures.lines s disks in
-    let run = lines.serves in
-    record {
-      demo_done = λ h. absurd (search rules);
-      demo_cut = λ h. absurd (never_rose (c.serve.ensures.left.sink_left.fault (as_told c.serve.result c.status_of.result is status.WriteFault h)));
-      demo_lost = λ h.
-          lost_of c.args.number c.in-Ok-new.text c.in-Ok-new.ensures ModuleFault s (g.M.Disk.medium c.args.module.now) (g.M.Disk.medium c.serve.new.module)
-          (g.D.Disk.medium c.args.store.now) (g.D.Disk.medium c.serve.new.store) c.serve.new.source _ _
-          (run.lost ModuleFault tt (as_told c.serve.result c.status_of.result is status.ModuleFault h));
-      demo_store_lost = λ h.
-          lost_of c.args.number c.in-Ok-new.text c.in-Ok-new.ensures StoreFault s (g.M.Disk.medium c.args.module.now) (g.M.Disk.medium c.serve.new.module)
-          (g.D.Disk.medium c.args.store.now) (g.D.Disk.medium c.serve.new.store) c.serve.new.source _ _
-          (run.lost StoreFault tt (as_told c.serve.result c.status_of.result is status.StoreFault h));
-      demo_moments = moments_of c.args.number c.in-Ok-new.text c.in-Ok-new.ensures s IsModuleOf (g.M.Disk.medium c.args.module.now) (g.M.Disk.medium c.serve.new.module) run.on_module;
-      demo_store_moments = moments_of c.args.number c.in-Ok-new.text c.in-Ok-new.ensures s IsStoreOf (g.D.Disk.medium c.args.store.now) (g.D.Disk.medium c.serve.new.store) run.on_store;
-      demo_spare = run.spare;
-      demo_at_rest = λ h. absurd (⊎_elim (λ (done : c.status_of.result ≡ status.Done).
-          let ended = as_told c.serve.result c.status_of.result is status.Done done in cc (ended, c.in-Err.is))
-          (λ (cut : c.status_of.result ≡ status.WriteFault). never_rose (c.serve.ensures.left.sink_left.fault (as_told c.serve.result c.status_of.result is status.WriteFault cut))) h);
-      demo_complete = λ sink_still still still_d.
-          let all = lines.complete (record { reads = never_rose; writes = never_rose; on_module = still; on_store = still_d; draws = never_rose })
-          (short c.args.number c.in-Ok-new.text c.in-Ok-new.ensures c.requires.number.1) in
-          cc (all, c.in-Err.is);
-    }
-
-pub returns-clause-sound : goal.returns-clause-sound
-returns-clause-sound g c =
-    ended_as _ c.serve.result c.status_of.result (c.status_of.ensures ∙ ap status_of_lem (sym c.in-Err.is)) c.serve.ensures.sound
-
-pub returns-clause-damage : goal.returns-clause-damage
-returns-clause-damage g c =
-    ended_as _ c.serve.result c.status_of.result (c.status_of.ensures ∙ ap status_of_lem (sym c.in-Err.is)) c.serve.ensures.damage
-
-pub returns-clause-left : goal.returns-clause-left
-returns-clause-left g c =
-    let left = c.serve.ensures.left in
-    ended_as _ c.serve.result c.status_of.result (c.status_of.ensures ∙ ap status_of_lem (sym c.in-Err.is))
-    (record {
-      sink_left = record { later = omega arith; fault = λ h. absurd (never_rose (left.sink_left.fault h)); quiet = λ never. refl };
-      sink_grows = grows_none (g.K.Sink.held c.args.sink.now);
-      module_left = left.devices_left.module_left;
-      store_left = left.devices_left.store_left;
-    })
-
-pub returns-clause-unsound : goal.returns-clause-unsound
-returns-clause-unsound g c = λ none.
-    let all = c.serve.ensures.unsound none in
-    record { unsound_sink = refl; unsound_module = all.unsound_module; unsound_store = all.unsound_store }
+pub returns-in-Err-clause-ran : goal.returns-in-Err-clause-ran
+returns-in-Err-clause-ran g c = record {
+  answers = record {
+    demo_sink = λ undone uncut. refl;
+    demo_words = λ h. cc h;
+    demo_read = λ h. cc h;
+    demo_limit = λ h. cc h;
+    demo_drawn = λ h. cc h;
+  };
+  lines = λ s disks. search rules;
+  ends = no_memory_ended _;
+}

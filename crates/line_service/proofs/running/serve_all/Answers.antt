@@ -2,8 +2,10 @@
 use Rattle.std.proofs.Common.{Ok, ap, ◌∙◌, refl, inl}
 use Rattle.line_service.specs.Machine.{world}
 use Rattle.line_service.specs.Devices.{outside, devices}
-use Rattle.line_service.proofs.CourseLemmas.{IsNextLine, course_begins, course_goes_on, course_stopped, unmoved_world, run_ended, run_stopped}
+use Rattle.line_service.proofs.CourseLemmas.{IsNextLine, course_begins, course_goes_on, lines_left, unmoved_world, run_ended, run_stopped}
 use Rattle.line_service.proofs.SessionLemmas.{has_served_nothing, has_served_more}
+use Rattle.line_service.proofs.StopLemmas.{follows_ok, follows_stop}
+use Rattle.line_service.specs.declared.serving.Served.TheVariants.{Ended}
 use Rattle.line_service.proofs.SpareLaws.{spares_nothing, spares_more}
 use Rattle.line_service.proofs.running.serve_all.Goals as goal
 
@@ -46,11 +48,16 @@ each_line-preserved g c =
       course = course_goes_on g.A.Desk.machine _ _ c.each_line.lines now.course c.serve_one.new.lines _ refl c.in-Ok-Replied.ensures.taken c.in-Ok-Replied.ensures.left;
     }
 
-pub returns-in-Err-clause-serves : goal.returns-in-Err-clause-serves
-returns-in-Err-clause-serves g c = λ s stands.
+pub returns-in-Err-clause-ends : goal.returns-in-Err-clause-ends
+returns-in-Err-clause-ends g c =
+    let A = g.A.Desk.machine in
+    let k = g.A.Desk.knows c.args.desk.now in
     let now = c.each_line.invariant in
     let after = c.serve_one.ensures in
-    let next : IsNextLine g.A.Desk.machine s (g.A.Desk.knows c.each_line.desk) (g.A.Desk.knows c.serve_one.new.desk)
+    let unanswered = unmoved_world g.M.Disk.medium g.D.Disk.medium g.E.Entropy.left c.serve_one.result _ _ _ _ _ _ _ _ _ _ after.unmoved in
+    lines_left A _ _ c.each_line.lines now.course k c.serve_one.new.lines c.serve_one.result _ (follows_stop c.serve_one.result c.in-Err.stop c.in-Err.is) (λ ok. absurd (cc ok))
+    (λ s stands.
+    let next : IsNextLine A s (g.A.Desk.knows c.each_line.desk) (g.A.Desk.knows c.serve_one.new.desk)
     (outside (g.S.Source.left c.args.source.now) (g.S.Source.faults c.args.source.now) (g.K.Sink.held c.args.sink.now) (g.K.Sink.faults c.args.sink.now)
     (devices (g.M.Disk.medium c.args.module.now) (g.M.Disk.faults c.args.module.now) (g.D.Disk.medium c.args.store.now) (g.D.Disk.faults c.args.store.now)
     (g.E.Entropy.left c.args.entropy.now) (g.E.Entropy.faults c.args.entropy.now))) _ c.each_line.lines c.serve_one.new.lines c.serve_one.result =
@@ -60,16 +67,24 @@ returns-in-Err-clause-serves g c = λ s stands.
       stands = now.stands s stands;
       taken = after.taken;
       leaves = after.serves;
-      unanswered = unmoved_world g.M.Disk.medium g.D.Disk.medium g.E.Entropy.left c.serve_one.result _ _ _ _ _ _ _ _ _ _ after.unmoved;
+      unanswered = unanswered;
       unsent = λ unreplied uncut. ap g.K.Sink.held (after.unmoved.sink_unmoved unreplied uncut);
     } in
-    run_stopped _ s _ _ _ _ _ _ _ next c.in-Err.stop c.in-Err.is
+    run_stopped _ s _ _ _ _ _ _ _ next c.in-Err.stop c.in-Err.is)
+    after.taken unanswered (λ h. record { module_settled = (after.cut h).module_settled; store_settled = (after.cut h).store_settled })
+    (record { module_sound = after.undamaged.module_sound; store_sound = after.undamaged.store_sound; cells = after.undamaged.cells; reread = after.undamaged.reread })
+    after.left
 
-pub returns-in-Ok-Ended-clause-serves : goal.returns-in-Ok-Ended-clause-serves
-returns-in-Ok-Ended-clause-serves g c = λ s stands.
+pub returns-in-Ok-Ended-clause-ends : goal.returns-in-Ok-Ended-clause-ends
+returns-in-Ok-Ended-clause-ends g c =
+    let A = g.A.Desk.machine in
+    let k = g.A.Desk.knows c.args.desk.now in
     let now = c.each_line.invariant in
     let after = c.serve_one.ensures in
-    let next : IsNextLine g.A.Desk.machine s (g.A.Desk.knows c.each_line.desk) (g.A.Desk.knows c.serve_one.new.desk)
+    let unanswered = unmoved_world g.M.Disk.medium g.D.Disk.medium g.E.Entropy.left c.serve_one.result _ _ _ _ _ _ _ _ _ _ after.unmoved in
+    lines_left A _ _ c.each_line.lines now.course k c.serve_one.new.lines c.serve_one.result _ (follows_ok c.serve_one.result Ended (Ok tt) (c.in-Ok-Ended.is ∙ ap Ok c.in-Ok-Ended.field-0-is) refl) (λ ok. c.in-Ok-Ended.is ∙ ap Ok c.in-Ok-Ended.field-0-is)
+    (λ s stands.
+    let next : IsNextLine A s (g.A.Desk.knows c.each_line.desk) (g.A.Desk.knows c.serve_one.new.desk)
     (outside (g.S.Source.left c.args.source.now) (g.S.Source.faults c.args.source.now) (g.K.Sink.held c.args.sink.now) (g.K.Sink.faults c.args.sink.now)
     (devices (g.M.Disk.medium c.args.module.now) (g.M.Disk.faults c.args.module.now) (g.D.Disk.medium c.args.store.now) (g.D.Disk.faults c.args.store.now)
     (g.E.Entropy.left c.args.entropy.now) (g.E.Entropy.faults c.args.entropy.now))) _ c.each_line.lines c.serve_one.new.lines c.serve_one.result =
@@ -79,10 +94,10 @@ returns-in-Ok-Ended-clause-serves g c = λ s stands.
       stands = now.stands s stands;
       taken = after.taken;
       leaves = after.serves;
-      unanswered = unmoved_world g.M.Disk.medium g.D.Disk.medium g.E.Entropy.left c.serve_one.result _ _ _ _ _ _ _ _ _ _ after.unmoved;
+      unanswered = unanswered;
       unsent = λ unreplied uncut. ap g.K.Sink.held (after.unmoved.sink_unmoved unreplied uncut);
     } in
-    run_ended _ s _ _ _ _ _ _ _ next (c.in-Ok-Ended.is ∙ ap Ok c.in-Ok-Ended.field-0-is)
-
-pub returns-in-Err-clause-left : goal.returns-in-Err-clause-left
-returns-in-Err-clause-left g c = course_stopped g.A.Desk.machine _ _ c.each_line.lines c.each_line.invariant.course c.in-Err.stop c.in-Err.ensures.left
+    run_ended _ s _ _ _ _ _ _ _ next (c.in-Ok-Ended.is ∙ ap Ok c.in-Ok-Ended.field-0-is))
+    after.taken unanswered (λ h. record { module_settled = (after.cut h).module_settled; store_settled = (after.cut h).store_settled })
+    (record { module_sound = after.undamaged.module_sound; store_sound = after.undamaged.store_sound; cells = after.undamaged.cells; reread = after.undamaged.reread })
+    after.left
