@@ -1,5 +1,5 @@
 -- Words gathered from small tables: where each entry is what a table of places makes of its bits, the whole word is.
-use Rattle.std.proofs.Common.{◌≡◌, ℕ, zero, suc, ◌+◌, ◌*◌, ◌/◌, ◌%◌, ◌^◌, ◌<◌, Bool, true, false, ◌&&◌, nat_eq, List, [], ◌∷◌, length, drop, get_or, slice_index, bit_xor, refl, sym, ap, ◌∙◌, arith, subst, inl, inr}
+use Rattle.std.proofs.Common.{◌≡◌, ℕ, zero, suc, ◌+◌, ◌-◌, ◌*◌, ◌/◌, ◌%◌, ◌^◌, ◌<◌, Bool, true, false, ◌&&◌, nat_eq, nat_lt, List, [], ◌∷◌, length, drop, get_or, slice_index, bit_xor, refl, sym, ap, ◌∙◌, arith, subst, inl, inr}
 use Rattle.std.specs.Int.Bits.{xor_assoc, xor_zero_r}
 use Rattle.std.proofs.lemmas.Bool.{cases_lt}
 use Rattle.std.proofs.lemmas.Bool.Decides.{nat_tests}
@@ -60,12 +60,15 @@ same [] (y ∷ ys) = false
 same (x ∷ xs) [] = false
 same (x ∷ xs) (y ∷ ys) = nat_eq x y && same xs ys
 
-both-true : (a b : Bool) → (a && b) ≡ true → (a ≡ true) × (b ≡ true)
+pub both-true : (a b : Bool) → (a && b) ≡ true → (a ≡ true) × (b ≡ true)
 both-true true b h = (refl, h)
 both-true false b h = cc
 
-nat-same : (x y : ℕ) → nat_eq x y ≡ true → x ≡ y
+pub nat-same : (x y : ℕ) → nat_eq x y ≡ true → x ≡ y
 nat-same x y h = grind (arith, nat_tests)
+
+pub nat-below : (x n : ℕ) → nat_lt x n ≡ true → x < n
+nat-below x n h = grind (arith, nat_tests)
 
 pub from-same : (xs ys : List ℕ) → same xs ys ≡ true → xs ≡ ys
 unfolding same
@@ -95,10 +98,58 @@ pub record Reads (read : ℕ → List ℕ) : Type 0 where
   pub sum : (a b : ℕ) → read (bit_xor a b) ≡ xor (read a) (read b)
   pub size : (a b : ℕ) → length (read a) ≡ length (read b)
 
--- each entry, read by `out`, is what a table of places makes of the bits of its piece, read by `inp`, at bit k of a word
+-- Of each bit of a piece, and of none, the row's entry, read by `out`, is what a table of places makes of it, read by `inp`, at bit k of a
+-- word. The entry of a value whose highest bit is s is the exclusive or of that bit's and the others'.
+unfoldable pub row_holds : (ℕ → List ℕ) → (ℕ → List ℕ) → List ℕ → ℕ → ℕ → ℕ → List ℕ → Bool
+row_holds out inp t n k zero row = same (out (slice_index row (0 % n))) (places t (inp (0 * 2 ^ k)))
+row_holds out inp t n k (suc s) row =
+    row_holds out inp t n k s row
+    && (same (out (slice_index row (2 ^ s % n))) (places t (inp (2 ^ s * 2 ^ k)))
+    && all_below (λ v. nat_eq (slice_index row ((v + 2 ^ s) % n)) (bit_xor (slice_index row (v % n)) (slice_index row (2 ^ s % n)))) (2 ^ s))
+
+-- so it is of each row, one piece after another from bit k up
 unfoldable pub rows_hold : (ℕ → List ℕ) → (ℕ → List ℕ) → List ℕ → ℕ → ℕ → ℕ → List (List ℕ) → Bool
 rows_hold out inp t n s k [] = same (out 0) (places t (inp 0))
-rows_hold out inp t n s k (row ∷ rows) = all_below (λ v. same (out (slice_index row (v % n))) (places t (inp (v * 2 ^ k)))) (2 ^ s) && rows_hold out inp t n s (k + s) rows
+rows_hold out inp t n s k (row ∷ rows) = row_holds out inp t n k s row && rows_hold out inp t n s (k + s) rows
+
+-- a power of two joined to a number below it
+xor-above : (s w : ℕ) → w < 2 ^ s → bit_xor w (2 ^ s) ≡ w + 2 ^ s
+xor-above s w h =
+    let p : w ≡ 0 * 2 ^ s + w = omega arith in
+    let q : 2 ^ s ≡ 1 * 2 ^ s + 0 = omega arith in
+    let one : bit_xor 0 1 ≡ 1 = xor_comm 0 1 ∙ xor_zero_r 1 in
+    ap (λ n. bit_xor n (2 ^ s)) p ∙ ap (bit_xor (0 * 2 ^ s + w)) q ∙ xor_block s 0 1 w 0 h (pow_pos s)
+    ∙ ap (λ n. n * 2 ^ s + bit_xor w 0) one ∙ ap (λ n. 1 * 2 ^ s + n) (xor_zero_r w) ∙ omega arith
+
+-- then each entry is what the table of places makes of the bits of its value
+row-is : (out inp : ℕ → List ℕ) → Reads out → Reads inp → (t : List ℕ) (n k s : ℕ) (row : List ℕ) → row_holds out inp t n k s row ≡ true
+    → (v : ℕ) → v < 2 ^ s → out (slice_index row (v % n)) ≡ places t (inp (v * 2 ^ k))
+unfolding row_holds
+row-is out inp o i t n k zero row h v small =
+    let below : v < 1 = small in
+    let none : v ≡ 0 = omega arith in
+    ap (λ m. out (slice_index row (m % n))) none ∙ from-same (out (slice_index row (0 % n))) (places t (inp (0 * 2 ^ k))) h ∙ sym (ap (λ m. places t (inp (m * 2 ^ k))) none)
+row-is out inp o i t n k (suc s) row h v small =
+    let high = slice_index row (2 ^ s % n) in
+    let joins = λ (w : ℕ). nat_eq (slice_index row ((w + 2 ^ s) % n)) (bit_xor (slice_index row (w % n)) high) in
+    let tests = both-true (row_holds out inp t n k s row) (same (out high) (places t (inp (2 ^ s * 2 ^ k))) && all_below joins (2 ^ s)) h in
+    let bits = both-true (same (out high) (places t (inp (2 ^ s * 2 ^ k)))) (all_below joins (2 ^ s)) tests.1 in
+    let more : suc s ≡ s + 1 = omega arith in
+    let double : 2 ^ suc s ≡ 2 ^ s + 2 ^ s = ap (λ m. 2 ^ m) more ∙ pow-add 2 s 1 ∙ omega arith in
+    elim (cases_lt v (2 ^ s)) [
+      | inl below ↦ row-is out inp o i t n k s row tests.0 v below
+      | inr above ↦
+          let back : v - 2 ^ s + 2 ^ s ≡ v = omega arith in
+          let under : v - 2 ^ s < 2 ^ s = omega (arith, double) in
+          let entry : slice_index row ((v - 2 ^ s + 2 ^ s) % n) ≡ bit_xor (slice_index row ((v - 2 ^ s) % n)) high
+          = nat-same _ _ (from-all_below joins (2 ^ s) (v - 2 ^ s) bits.1 under) in
+          sym (ap (λ m. out (slice_index row (m % n))) back) ∙ ap out entry ∙ o.sum (slice_index row ((v - 2 ^ s) % n)) high
+          ∙ ap (λ xs. xor xs (out high)) (row-is out inp o i t n k s row tests.0 (v - 2 ^ s) under)
+          ∙ ap (xor (places t (inp ((v - 2 ^ s) * 2 ^ k)))) (from-same (out high) (places t (inp (2 ^ s * 2 ^ k))) bits.0)
+          ∙ sym (places-xor t (inp ((v - 2 ^ s) * 2 ^ k)) (inp (2 ^ s * 2 ^ k)) (i.size _ _))
+          ∙ sym (ap (places t) (i.sum ((v - 2 ^ s) * 2 ^ k) (2 ^ s * 2 ^ k)))
+          ∙ ap (λ m. places t (inp m)) (shl-xor k (v - 2 ^ s) (2 ^ s) ∙ ap (λ m. m * 2 ^ k) (xor-above s (v - 2 ^ s) under ∙ back))
+    ]
 
 gathered-is : (out inp : ℕ → List ℕ) → Reads out → Reads inp → (t : List ℕ) (n s k : ℕ) → ((x : ℕ) → x % 2 ^ s % n ≡ x % n)
     → (rows : List (List ℕ)) (x : ℕ) → rows_hold out inp t n s k rows ≡ true → x < 2 ^ (s * length rows)
@@ -111,9 +162,9 @@ gathered-is out inp o i t n s k low [] x h small =
     let none : 0 ≡ x * 2 ^ k = sym (ap (λ n. n * 2 ^ k) e ∙ omega arith) in
     from-same (out 0) (places t (inp 0)) h ∙ ap (λ n. places t (inp n)) none
 gathered-is out inp o i t n s k low (row ∷ rows) x h small =
-    let tests = both-true (all_below (λ v. same (out (slice_index row (v % n))) (places t (inp (v * 2 ^ k)))) (2 ^ s)) (rows_hold out inp t n s (k + s) rows) h in
+    let tests = both-true (row_holds out inp t n k s row) (rows_hold out inp t n s (k + s) rows) h in
     let first : out (slice_index row (x % 2 ^ s % n)) ≡ places t (inp (x % 2 ^ s * 2 ^ k))
-    = from-same _ _ (from-all_below (λ v. same (out (slice_index row (v % n))) (places t (inp (v * 2 ^ k)))) (2 ^ s) (x % 2 ^ s) tests.0 (mod_below x (2 ^ s) (pow_pos s))) in
+    = row-is out inp o i t n k s row tests.0 (x % 2 ^ s) (mod_below x (2 ^ s) (pow_pos s)) in
     let size : s * length (row ∷ rows) ≡ s * length rows + s = omega arith in
     let whole : 2 ^ (s * length (row ∷ rows)) ≡ 2 ^ (s * length rows) * 2 ^ s = ap (λ n. 2 ^ n) size ∙ pow-add 2 (s * length rows) s in
     let rest : x / 2 ^ s < 2 ^ (s * length rows) = div_below x (2 ^ s) (2 ^ (s * length rows)) (pow_pos s) (omega arith) in
