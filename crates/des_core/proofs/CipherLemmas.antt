@@ -1,5 +1,5 @@
 -- Ciphers over lanes: IP and its inverse, the rounds one after another, three ciphers, and the words before and after.
-use Rattle.std.proofs.Common.{◌≡◌, ℕ, zero, suc, ◌+◌, ◌-◌, ◌*◌, ◌<◌, List, [], ◌∷◌, ◌++◌, length, map, take, drop, get_or, reverse, refl, sym, ap, ◌∙◌, arith, Bool, true, false, ◌&&◌, nat_lt}
+use Rattle.std.proofs.Common.{◌≡◌, ℕ, zero, suc, ◌+◌, ◌-◌, ◌*◌, ◌<◌, List, [], ◌∷◌, ◌++◌, length, map, take, drop, get_or, reverse, refl, sym, ap, ◌∙◌, arith, Bool, true, ◌&&◌, nat_lt}
 use Rattle.std.specs.Int.{bit_at}
 use Rattle.std.proofs.lemmas.List.{drop_all, drop_at, drop_more, length-append, length-map, take_all, take_at}
 use Rattle.std.proofs.lemmas.Bool.Decides.{nat_tests}
@@ -12,6 +12,7 @@ use Rattle.des_core.proofs.LawLemmas.{initial-final}
 use Rattle.des_core.specs.Lanes.{AreVectors, bit_of, lane, word}
 use Rattle.des_core.proofs.CircuitLemmas.{pick}
 use Rattle.des_core.proofs.LaneHalfLemmas.{numbers, pick-take, vectors-append}
+use Rattle.des_core.proofs.GatherLemmas.{both-true}
 
 -- ---- rounds
 
@@ -100,10 +101,6 @@ halves left right = written 32 left ++ written 32 right
 pub final-lanes : (e i : ℕ) (left right : List (List ℕ)) → reverse (lane e i (pick [] word_places (halves left right))) ≡ places final_permutation (lane e i (written 32 left) ++ lane e i (written 32 right))
 unfolding places written halves word_places
 final-lanes e i left right = refl
-
-both-true : (a b : Bool) → (a && b) ≡ true → (a ≡ true) × (b ≡ true)
-both-true true b h = (refl, h)
-both-true false b h = cc
 
 abbrev pub are_below : ℕ → List ℕ → Bool
 are_below n [] = true

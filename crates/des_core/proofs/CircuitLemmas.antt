@@ -1,5 +1,5 @@
 -- Circuits as data: what one makes of words is, at each lane, what it makes of the bits there.
-use Rattle.std.proofs.Common.{◌≡◌, ℕ, zero, suc, ◌+◌, ◌-◌, ◌%◌, ◌^◌, ◌<◌, Bool, true, false, ◌&&◌, List, [], ◌∷◌, length, map, get_or, bit_and, bit_or, bit_xor, min, max, refl, sym, ap, ◌∙◌, arith, inl, inr}
+use Rattle.std.proofs.Common.{◌≡◌, ℕ, zero, suc, ◌+◌, ◌-◌, ◌%◌, ◌^◌, ◌<◌, Bool, true, ◌&&◌, List, [], ◌∷◌, length, map, get_or, bit_and, bit_or, bit_xor, min, max, refl, sym, ap, ◌∙◌, arith, inl, inr}
 use Rattle.std.specs.Int.{bit_at, w64}
 use Rattle.std.proofs.lemmas.Bool.{cases_lt}
 use Rattle.std.specs.Simd.Lanes.{zip2, Each1}
@@ -10,7 +10,7 @@ use Rattle.std.proofs.lemmas.Nat.{and_le_l, or_lt, xor_lt}
 use Rattle.std.proofs.lemmas.Nat.Bits.{bit_at-zero, bit_at_and, bit_at_or, bit_at_xor, bit_at_not, bit_at-lt}
 use Rattle.des_core.specs.Des.{look_up}
 use Rattle.des_core.specs.Tables.{Box}
-use Rattle.des_core.proofs.GatherLemmas.{same, from-same}
+use Rattle.des_core.proofs.GatherLemmas.{both-true, from-same, same}
 use Rattle.des_core.specs.Lanes.{AreVectors, lane}
 
 -- a gate over earlier words, which it names by how many stand between
@@ -156,10 +156,6 @@ lanes-all e i (w ∷ ws) h p (suc k) = lanes-all e i ws h p.1 k
 abbrev all_bits : ℕ → (List ℕ → Bool) → Bool
 all_bits zero test = test []
 all_bits (suc n) test = all_bits n (λ bs. test (0 ∷ bs)) && all_bits n (λ bs. test (1 ∷ bs))
-
-both-true : (a b : Bool) → (a && b) ≡ true → (a ≡ true) × (b ≡ true)
-both-true true b h = (refl, h)
-both-true false b h = cc
 
 from-all_bits : (n : ℕ) (test : List ℕ → Bool) (e i : ℕ) (ws : List (List ℕ)) → length ws ≡ n → all_bits n test ≡ true → test (lane e i ws) ≡ true
 from-all_bits zero test e i [] p h = h

@@ -1,5 +1,5 @@
 -- A round over lanes: vectors taken by a table of places, joined with others, and with the bits of a round key.
-use Rattle.std.proofs.Common.{◌≡◌, ℕ, zero, suc, ◌+◌, ◌-◌, ◌%◌, ◌/◌, ◌^◌, ◌<◌, ◌≤◌, Bool, true, false, ◌&&◌, nat_lt, nat_le, List, [], ◌∷◌, ◌++◌, length, map, take, drop, get_or, bit_xor, refl, sym, ap, ◌∙◌, arith}
+use Rattle.std.proofs.Common.{◌≡◌, ℕ, zero, suc, ◌+◌, ◌-◌, ◌%◌, ◌/◌, ◌^◌, ◌<◌, ◌≤◌, true, ◌&&◌, nat_lt, nat_le, List, [], ◌∷◌, ◌++◌, length, map, take, drop, get_or, bit_xor, refl, sym, ap, ◌∙◌, arith}
 use Rattle.std.specs.Int.{bit_at, w64}
 use Rattle.std.specs.Simd.Lanes.{zip2}
 use Rattle.std.proofs.lemmas.List.{take_all, drop-drop, get_or-drop, length-append, length-drop}
@@ -15,6 +15,7 @@ use Rattle.des_core.proofs.Numbers.{are_numbers}
 use Rattle.des_core.proofs.PlaceLemmas.{drop-places, take-places}
 use Rattle.des_core.specs.Lanes.{AreVectors, bit_of, joined_at, lane}
 use Rattle.des_core.proofs.CircuitLemmas.{pick}
+use Rattle.des_core.proofs.GatherLemmas.{both-true}
 
 -- the elements at the places of a table
 abbrev pub taken : {A : Type 0} → A → List ℕ → List A → List A
@@ -114,10 +115,6 @@ drop-xor zero xs ys = refl
 drop-xor (suc n) [] ys = refl
 drop-xor (suc n) (x ∷ xs) [] = sym (xor-nil (drop n xs))
 drop-xor (suc n) (x ∷ xs) (y ∷ ys) = drop-xor n xs ys
-
-both-true : (a b : Bool) → (a && b) ≡ true → (a ≡ true) × (b ≡ true)
-both-true true b h = (refl, h)
-both-true false b h = cc
 
 vectors-taken : (table : List ℕ) (vs : List (List ℕ)) → length vs ≡ 32 → AreVectors vs → are_numbers 32 table ≡ true → AreVectors (taken [] table vs)
 vectors-taken [] vs e p t k h = absurd (omega arith)

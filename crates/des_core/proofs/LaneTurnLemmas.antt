@@ -1,8 +1,8 @@
 -- The six stages of the transposition: their masks, and that together they exchange rows and columns.
-use Rattle.std.proofs.Common.{◌≡◌, ℕ, ◌-◌, ◌%◌, ◌/◌, ◌<◌, ◌^◌, Bool, true, false, ◌&&◌, nat_eq, nat_lt, List, [], ◌∷◌, get_or, refl, ap, ◌∙◌, arith}
+use Rattle.std.proofs.Common.{◌≡◌, ℕ, ◌-◌, ◌%◌, ◌/◌, ◌<◌, ◌^◌, Bool, true, ◌&&◌, nat_eq, nat_lt, List, [], ◌∷◌, get_or, refl, ap, ◌∙◌, arith}
 use Rattle.std.specs.Int.{bit_at}
 use Rattle.std.proofs.lemmas.Bool.Decides.{nat_tests}
-use Rattle.des_core.proofs.GatherLemmas.{all_below, from-all_below}
+use Rattle.des_core.proofs.GatherLemmas.{all_below, both-true, from-all_below, nat-same}
 use Rattle.des_core.specs.Lanes.{bit_of}
 use Rattle.des_core.specs.Stages.{IsStage, with_bit}
 
@@ -11,13 +11,10 @@ use Rattle.des_core.specs.Stages.{IsStage, with_bit}
 abbrev is_column : ℕ → ℕ → ℕ → Bool
 is_column apart mask c = nat_eq (bit_at mask c) (1 - c / apart % 2)
 
-same-number : (a b : ℕ) → nat_eq a b ≡ true → a ≡ b
-same-number a b h = grind (arith, nat_tests, h)
-
 stage-of : (k mask : ℕ) → k < 6 → all_below (is_column (2 ^ k) mask) 64 ≡ true → IsStage (2 ^ k) mask
 stage-of k mask h all = record {
   power = (k, h, refl);
-  columns = λ c l. same-number (bit_at mask c) (1 - c / 2 ^ k % 2) (from-all_below (is_column (2 ^ k) mask) 64 c all l);
+  columns = λ c l. nat-same (bit_at mask c) (1 - c / 2 ^ k % 2) (from-all_below (is_column (2 ^ k) mask) 64 c all l);
 }
 
 pub stage-32 : IsStage 32 4294967295
@@ -59,10 +56,6 @@ ends-at : (r c : ℕ) → r < 64 → c < 64 → ends (1 ∷ 2 ∷ 4 ∷ 8 ∷ 16
 unfolding row_ends
 ends-at r c h k = from-all_below (λ d. ends (1 ∷ 2 ∷ 4 ∷ 8 ∷ 16 ∷ 32 ∷ []) d r r d) 64 c (from-all_below row_ends 64 r all-ends h) k
 
-both-true : (a b : Bool) → (a && b) ≡ true → (a ≡ true) × (b ≡ true)
-both-true true b h = (refl, h)
-both-true false b h = cc
-
 -- one stage back
 record Back (apart : ℕ) (more : List ℕ) (x y r c : ℕ) : Type 0 where
   pub row : with_bit apart r c < 64
@@ -103,7 +96,7 @@ transposed w0 w1 w2 w3 w4 w5 w6 s32 s16 s8 s4 s2 s1 e r c h hr hc =
     let r6 = with_bit 32 r5 c5 in
     let c6 = with_bit 32 c5 r5 in
     let last = both-true (nat_eq r6 c) (nat_eq c6 r) b32.rest in
-    let row : r6 ≡ c = same-number r6 c last.0 in
-    let column : c6 ≡ r = same-number c6 r last.1 in
+    let row : r6 ≡ c = nat-same r6 c last.0 in
+    let column : c6 ≡ r = nat-same c6 r last.1 in
     s1 e r c h hr hc ∙ s2 e r1 c1 h b1.row b1.column ∙ s4 e r2 c2 h b2.row b2.column ∙ s8 e r3 c3 h b4.row b4.column ∙ s16 e r4 c4 h b8.row b8.column ∙ s32 e r5 c5 h b16.row b16.column
     ∙ ap (λ n. bit_of e n (get_or w0 r6 [])) column ∙ ap (λ n. bit_of e r (get_or w0 n [])) row
