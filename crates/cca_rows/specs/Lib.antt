@@ -1,2 +1,4 @@
 pub mod WorkedCeremonies
 pub mod WorkedDemo
+pub mod WorkedLines
+pub mod WorkedRows

@@ -1,44 +1,25 @@
-//! Whole runs of the top calls as tests: devices that fail, stops, and disks that another program changed. And key ceremonies
-//! that the machine's definitions compute. It is a crate of tests.
+//! Whole runs of the top calls as tests: sessions line by line, devices that fail at a call, and a stop. And what the
+//! definitions compute: key ceremonies of the machine, the lines of a demo, and the requests that lines spell. It is a crate
+//! of tests.
 #![tactic(auto)]
 
 ghost use Rattle.cca_rows.specs.WorkedCeremonies.{CeremoniesAnswered};
 ghost use Rattle.cca_rows.specs.WorkedDemo.{DemoSpelled};
+ghost use Rattle.cca_rows.specs.WorkedLines.{LinesSpell};
+ghost use Rattle.cca_rows.specs.WorkedRows.{AreSpelled, code_lines, control_lines, form_lines, key_lines, record_lines, single_key_lines, text_lines};
 
-#[cfg(test)]
-mod ahead_bodies;
-#[cfg(test)]
-mod ahead_stops;
 #[cfg(test)]
 mod audits;
 #[cfg(test)]
-mod changed_disk;
-#[cfg(test)]
-mod changed_stores;
-#[cfg(test)]
-mod demo;
-#[cfg(test)]
-mod disks;
-#[cfg(test)]
 mod faults;
 #[cfg(test)]
-mod listings;
-#[cfg(test)]
-mod morning;
-#[cfg(test)]
-mod pairs;
+mod moves;
 #[cfg(test)]
 mod runs;
 #[cfg(test)]
 mod sessions;
 #[cfg(test)]
 mod stops;
-#[cfg(test)]
-mod tables;
-#[cfg(test)]
-mod unique_halves;
-#[cfg(test)]
-mod unloading;
 
 /// The machine gives the replies to two key ceremonies that are known from outside: the definitions compute them.
 pub fn worked_ceremonies()
@@ -49,4 +30,20 @@ pub fn worked_ceremonies()
 /// them.
 pub fn worked_demo()
     ensures { DemoSpelled }
+{}
+
+/// What some lines spell: the definitions of the grammar compute it.
+pub fn worked_lines()
+    ensures { LinesSpell }
+{}
+
+/// What lines of each row spell: the definitions of the grammar compute it.
+pub fn each_row_is_spelled()
+    ensures text_lines { AreSpelled text_lines }
+    ensures code_lines { AreSpelled code_lines }
+    ensures single_key_lines { AreSpelled single_key_lines }
+    ensures key_lines { AreSpelled key_lines }
+    ensures record_lines { AreSpelled record_lines }
+    ensures control_lines { AreSpelled control_lines }
+    ensures form_lines { AreSpelled form_lines }
 {}

@@ -1,1 +1,2 @@
+pub mod PublishedVectors
 pub mod WorkedTypes

@@ -1,11 +1,8 @@
-//! Tables of tokens, of lengths and of classes, with the rule that each breaks first.
-use cca_vectors::{Class, Length, vector_of};
-use key_tokens::{Sealed, Token, tvv};
+//! Tokens with the rule that each breaks first, and lengths of texts.
+use cca_vectors::Class;
+use key_tokens::tvv;
 use master_registers::{NewState, Pattern, Registers};
-use verb_rules::{
-    Age, Asked, Classes, Judged, KeyType, MacRule, Need, Rule, TextUse, Usage, judge_key,
-    judge_length, judge_mac, judge_pair, judge_part, judge_size, judge_stored, judge_text,
-};
+use verb_rules::{Asked, Classes, Need, Rule, TextUse, Usage, judge_key, judge_text};
 
 const CURRENT_PATTERN: [u8; 8] = [0x5a; 8];
 
@@ -138,178 +135,22 @@ fn first_rule(token: &[u8; 64], need: &Need) -> Option<Rule> {
     judge_key(token, need, &registers()).err()
 }
 
+/// Each rule alone, and with the one behind it.
 #[test]
-fn each_rule_comes_first(rt: HostRuntime) {
+fn the_earlier_rule_comes_first(rt: HostRuntime) {
     let need = importer_need();
-    assert_eq!(rt; first_rule(&broken(&[]), &need), None);
-    for rule in RULES {
-        assert_eq!(rt; first_rule(&broken(&[rule]), &need), Some(rule), "{rule:?}");
-    }
-}
-
-#[test]
-fn the_earlier_of_two_rules_comes_first(rt: HostRuntime) {
-    let need = importer_need();
-    for pair in RULES.windows(2) {
-        assert_eq!(rt; pair.len(), 2);
-        assert_eq!(rt; first_rule(&broken(pair), &need), Some(pair[0]), "{pair:?}");
-    }
-}
-
-/// Rules that a need doesn't ask, on tokens that break them.
-#[test]
-fn rules_that_are_not_asked(rt: HostRuntime) {
-    let need = importer_need();
-    for (rule, other) in [
-        (
-            Rule::KeyPart,
-            Need {
-                parts: true,
-                ..need
-            },
-        ),
-        (
-            Rule::Class,
-            Need {
-                classes: Classes::of(&[Class::Data, Class::Exporter]),
-                ..need
-            },
-        ),
-        (
-            Rule::Usage,
-            Need {
-                usage: None,
-                ..need
-            },
-        ),
-        (
-            Rule::Export,
-            Need {
-                export: false,
-                ..need
-            },
-        ),
-        (
-            Rule::TransportLength,
-            Need {
-                double: false,
-                ..need
-            },
-        ),
-    ] {
-        assert_eq!(rt; first_rule(&broken(&[rule]), &other), None, "{rule:?}");
-    }
-}
-
-/// The register of a token, by its pattern; an external token has none.
-#[test]
-fn ages(rt: HostRuntime) {
-    let need = importer_need();
-    let current = broken(&[]);
-    let mut old = current;
-    old[8..16].copy_from_slice(&OLD_PATTERN);
-    let mut external = current;
-    external[0] = 0x02;
-    external[8..16].fill(0);
-    for (token, asked, age) in [
-        (current, Asked::Internal, Some(Age::Current)),
-        (valued(old, false), Asked::Internal, Some(Age::Old)),
-        (valued(external, false), Asked::External, None),
-    ] {
-        let need = Need { asked, ..need };
-        assert!(rt; need.asked != Asked::Either);
-        let judged = judge_key(&token, &need, &registers()).expect(
-            &rt,
-            "a token that breaks no rule",
+    assert!(rt; first_rule(&broken(&[]), &need) == None);
+    for at in 0..RULES.len() {
+        let rule = RULES[at];
+        let next = RULES[(at + 1).min(13)];
+        assert!(rt;
+            first_rule(&broken(&[rule]), &need) == Some(rule),
+            "{rule:?}"
         );
-        assert_eq!(rt; judged.age, age);
-        assert_eq!(rt; judged.token.sealed.left, [0x11; 8]);
-        assert_eq!(rt; judged.token.vector.class(), Class::Importer);
-    }
-}
-
-/// The rule that a stored key breaks, where the bytes are one.
-fn stored_rule(token: &[u8; 64], need: &Need) -> Option<Option<Rule>> {
-    match judge_stored(token, need, &registers()) {
-        Some(Ok(_)) => Some(None),
-        Some(Err(rule)) => Some(Some(rule)),
-        None => None,
-    }
-}
-
-#[test]
-fn keys_that_are_stored(rt: HostRuntime) {
-    let need = importer_need();
-    assert_eq!(rt; stored_rule(&broken(&[]), &need), Some(None));
-    for rule in RULES {
-        let wanted = match rule {
-            Rule::KeyPart | Rule::Class | Rule::Usage | Rule::Export | Rule::TransportLength => {
-                Some(Some(rule))
-            }
-            _ => None,
-        };
-        assert_eq!(rt; stored_rule(&broken(&[rule]), &need), wanted, "{rule:?}");
-    }
-}
-
-/// A double-length DATA key part under the old master key: the rules behind those of its bytes.
-#[test]
-fn a_key_part_under_the_old_register(rt: HostRuntime) {
-    let mut vector = [0; 16];
-    vector[..8].copy_from_slice(&0x0000_7d00_0348_0000u64.to_be_bytes());
-    vector[8..].copy_from_slice(&0x0000_7d00_0328_0000u64.to_be_bytes());
-    let mut bytes = importer_token();
-    bytes[8..16].copy_from_slice(&OLD_PATTERN);
-    bytes[32..48].copy_from_slice(&vector);
-    let bytes = valued(bytes, false);
-    let token = Token {
-        kind: key_tokens::Kind::Internal,
-        pattern: OLD_PATTERN,
-        sealed: Sealed {
-            left: [0x11; 8],
-            right: [0x22; 8],
-        },
-        vector: vector_of(&vector).expect(&rt, "a control vector"),
-    };
-    let data = Need {
-        asked: Asked::Internal,
-        classes: Classes::of(&[Class::Data, Class::Mac]),
-        usage: Some(Usage::MacVerify),
-        export: false,
-        double: false,
-        parts: true,
-    };
-    assert_eq!(rt;
-        judge_key(&bytes, &data, &registers()),
-        Ok(Judged {
-            token,
-            age: Some(Age::Old)
-        })
-    );
-    for (need, rule) in [
-        (
-            Need {
-                parts: false,
-                ..data
-            },
-            Rule::KeyPart,
-        ),
-        (
-            Need {
-                classes: Classes::of(&[Class::Mac]),
-                ..data
-            },
-            Rule::Class,
-        ),
-        (
-            Need {
-                usage: Some(Usage::Translate),
-                ..data
-            },
-            Rule::Usage,
-        ),
-    ] {
-        assert_eq!(rt; first_rule(&bytes, &need), Some(rule));
+        assert!(rt;
+            first_rule(&broken(&[rule, next]), &need) == Some(rule),
+            "{rule:?}"
+        );
     }
 }
 
@@ -356,156 +197,4 @@ fn lengths_of_texts(rt: HostRuntime) {
         let wanted = if fits { Ok(()) } else { Err(Rule::TextLength) };
         assert_eq!(rt; judge_text(use_of, length), wanted, "{use_of:?} {length}");
     }
-}
-
-#[test]
-fn lengths_of_mac_keys(rt: HostRuntime) {
-    for (rule, length, wanted) in [
-        (MacRule::X99, 8, Ok(())),
-        (MacRule::X99, 16, Err(Rule::KeyLength)),
-        (MacRule::X919, 8, Err(Rule::KeyLength)),
-        (MacRule::X919, 16, Ok(())),
-    ] {
-        assert_eq!(rt; judge_mac(rule, length), wanted, "{rule:?} {length}");
-    }
-}
-
-#[test]
-fn sets_of_classes(rt: HostRuntime) {
-    let transport = Classes::of(&[Class::Exporter, Class::Importer]);
-    for (class, wanted) in [
-        (Class::Data, false),
-        (Class::Cipher, false),
-        (Class::Mac, false),
-        (Class::Exporter, true),
-        (Class::Importer, true),
-        (Class::Other, false),
-    ] {
-        assert_eq!(rt; transport.has(class), wanted, "{class:?}");
-    }
-}
-
-#[test]
-fn pairs_of_types(rt: HostRuntime) {
-    for (first, second, wanted) in [
-        (KeyType::Data, KeyType::Data, Ok(())),
-        (KeyType::Macver, KeyType::Mac, Ok(())),
-        (KeyType::Importer, KeyType::Okeyxlat, Ok(())),
-        (KeyType::Data, KeyType::Mac, Err(Rule::Pair)),
-        (KeyType::Exporter, KeyType::Exporter, Err(Rule::Pair)),
-        (KeyType::Exporter, KeyType::Okeyxlat, Err(Rule::Pair)),
-    ] {
-        assert_eq!(rt; judge_pair(first, second), wanted, "{first:?} {second:?}");
-    }
-}
-
-/// Each type, and whether it has keys of 8 bytes, keys of 16 bytes, and keys whose halves are guaranteed unique.
-const LENGTHS: [(KeyType, bool, bool, bool); 13] = [
-    (KeyType::Data, true, true, true),
-    (KeyType::Datac, false, true, true),
-    (KeyType::Datam, false, true, true),
-    (KeyType::Datamv, false, true, true),
-    (KeyType::Cipher, true, false, false),
-    (KeyType::Encipher, true, false, false),
-    (KeyType::Decipher, true, false, false),
-    (KeyType::Mac, true, true, true),
-    (KeyType::Macver, true, true, true),
-    (KeyType::Exporter, false, true, true),
-    (KeyType::Importer, false, true, true),
-    (KeyType::Okeyxlat, false, true, true),
-    (KeyType::Ikeyxlat, false, true, true),
-];
-
-fn judged_length(had: bool) -> Result<(), Rule> {
-    if had { Ok(()) } else { Err(Rule::KeyLength) }
-}
-
-#[test]
-fn lengths_of_types(rt: HostRuntime) {
-    for (kind, eight, sixteen, unique) in LENGTHS {
-        for (length, had) in [
-            (Length::Eight, eight),
-            (Length::Sixteen, sixteen),
-            (Length::Unique, unique),
-        ] {
-            assert_eq!(rt;
-                judge_length(kind, length),
-                judged_length(had),
-                "{kind:?} {length:?}"
-            );
-        }
-    }
-}
-
-#[test]
-fn sizes_of_types(rt: HostRuntime) {
-    for (kind, eight, sixteen, _) in LENGTHS {
-        for (size, had) in [
-            (0, false),
-            (8, eight),
-            (12, false),
-            (16, sixteen),
-            (24, false),
-        ] {
-            assert_eq!(rt;
-                judge_size(kind, size),
-                judged_length(had),
-                "{kind:?} {size}"
-            );
-        }
-    }
-}
-
-/// A part is combined with a part of its length alone; the length is judged first.
-#[test]
-fn parts_that_are_combined(rt: HostRuntime) {
-    for (left, right, length, wanted) in [
-        (0x0000_7d00_0309_0000u64, 0u64, 8, Ok(())),
-        (0x0000_7d00_0309_0000, 0, 16, Err(Rule::KeyLength)),
-        (0x0000_7d00_0300_0000, 0, 8, Err(Rule::WholeKey)),
-        (0x0000_7d00_0300_0000, 0, 16, Err(Rule::KeyLength)),
-        (0x0041_7d00_0348_0000, 0x0041_7d00_0328_0000, 16, Ok(())),
-        (
-            0x0041_7d00_0348_0000,
-            0x0041_7d00_0328_0000,
-            8,
-            Err(Rule::KeyLength),
-        ),
-        (
-            0x0041_7d00_0341_0000,
-            0x0041_7d00_0321_0000,
-            16,
-            Err(Rule::WholeKey),
-        ),
-        (0x0041_7d00_03c9_0000, 0x0041_7d00_03a9_0000, 16, Ok(())),
-        (
-            0x0041_7d00_03c0_0000,
-            0x0041_7d00_03a0_0000,
-            16,
-            Err(Rule::WholeKey),
-        ),
-    ] {
-        let mut bytes = [0; 16];
-        bytes[..8].copy_from_slice(&left.to_be_bytes());
-        bytes[8..].copy_from_slice(&right.to_be_bytes());
-        let token = Token {
-            kind: key_tokens::Kind::Internal,
-            pattern: CURRENT_PATTERN,
-            sealed: Sealed {
-                left: [0x11; 8],
-                right: [0; 8],
-            },
-            vector: vector_of(&bytes).expect(&rt, "a control vector"),
-        };
-        let key = Judged {
-            token,
-            age: Some(Age::Current),
-        };
-        assert_eq!(rt; judge_part(&key, length), wanted, "{left:x} {length}");
-    }
-    assert_eq!(rt; Rule::KeyLength.number(), 32);
-    assert_eq!(rt; Rule::Ahead.number(), 33);
-    assert_eq!(rt; Rule::UniqueHalves.number(), 34);
-    assert_eq!(rt; Rule::WholeKey.number(), 35);
-    assert_eq!(rt; Rule::Chain.number(), 36);
 }

@@ -3,15 +3,12 @@
 ghost use Rattle.std.specs.Prelude.{◌≡◌, ◌≢◌, ◌<◌, IsSome};
 ghost use Rattle.verb_rules.specs.Keys.{HasHalves, IsDouble};
 
-mod unique_halves;
-
 use cca_vectors::{Class, Length};
 use key_cells::{Lease, MasterPlace, Workbench};
-use key_transport::{
-    Form, GenerateFault, Generated, Target, export, generate, import, prohibit_export, token_change,
-};
+use key_transport::{Form, GenerateFault, Target, export, generate, import, token_change};
 use master_registers::{NewState, Registers, pattern_of};
-use slot_disk::MemoryEntropy;
+use slot_disk::{MemoryEntropy, NoMemory};
+use std::alloc::Global;
 use std::process::Abort;
 use std::test::Fail;
 use verb_rules::{Asked, Classes, Judged, KeyType, Need, judge_key};
@@ -168,108 +165,6 @@ const NEW_DOUBLE: [u64; 8] = [
 /// The random bytes that keys are generated from.
 const RANDOM: [u8; 16] = [
     0x00, 0x11, 0x22, 0x33, 0x44, 0x55, 0x66, 0x77, 0x88, 0x99, 0xaa, 0xbb, 0xcc, 0xdd, 0xee, 0xff,
-];
-
-/// The key of the sixteen random bytes as a MAC key and as a MACVER key: under the current master key, and out under the
-/// EXPORTER or the IMPORTER key.
-const MAC: [u64; 8] = [
-    0x0100_0000_0000_c000,
-    0x083b_f102_5be3_4c44,
-    0x3626_8a46_f884_33e7,
-    0xf76e_cb2f_a3ed_abc8,
-    0x0005_4d00_0341_0000,
-    0x0005_4d00_0321_0000,
-    0,
-    0x0000_0000_3593_cc6a,
-];
-
-const MACVER_EXPORTED: [u64; 8] = [
-    0x0200_0000_0000_c000,
-    0,
-    0xc52c_ea2f_cde2_6551,
-    0xf93d_aec1_427a_a31b,
-    0x0005_4400_0341_0000,
-    0x0005_4400_0321_0000,
-    0,
-    0x0000_0000_d734_e95c,
-];
-
-const MACVER_IMPORTABLE: [u64; 8] = [
-    0x0200_0000_0000_c000,
-    0,
-    0x8727_6c61_47f4_0d2c,
-    0x53b2_f60f_7c51_3dcc,
-    0x0005_4400_0341_0000,
-    0x0005_4400_0321_0000,
-    0,
-    0x0000_0000_a78c_f568,
-];
-
-const MAC_EXPORTED: [u64; 8] = [
-    0x0200_0000_0000_c000,
-    0,
-    0x0d6b_0a83_bae6_5c96,
-    0x083b_a7c3_5bce_364a,
-    0x0005_4d00_0341_0000,
-    0x0005_4d00_0321_0000,
-    0,
-    0x0000_0000_34c8_9f26,
-];
-
-/// The key of the first eight random bytes as an ENCIPHER, a DECIPHER and a DATA key.
-const ENCIPHER: [u64; 8] = [
-    0x0100_0000_0000_c000,
-    0x083b_f102_5be3_4c44,
-    0x010e_017a_10c3_d98b,
-    0,
-    0x0003_6000_0300_0000,
-    0,
-    0,
-    0x0000_0000_79f5_384b,
-];
-
-const DECIPHER_IMPORTABLE: [u64; 8] = [
-    0x0200_0000_0000_c000,
-    0,
-    0x01b5_ad9a_7608_a771,
-    0,
-    0x0003_5000_0300_0000,
-    0,
-    0,
-    0x0000_0000_7cc2_650b,
-];
-
-const ENCIPHER_EXPORTED: [u64; 8] = [
-    0x0200_0000_0000_c000,
-    0,
-    0x2f60_634e_83d3_9531,
-    0,
-    0x0003_6000_0300_0000,
-    0,
-    0,
-    0x0000_0000_b838_187f,
-];
-
-const DATA_EXPORTED: [u64; 8] = [
-    0x0200_0000_0000_c000,
-    0,
-    0x086f_72d7_ab0f_80fe,
-    0,
-    0x0000_7d00_0300_0000,
-    0,
-    0,
-    0x0000_0000_b880_30d5,
-];
-
-const DATA_IMPORTABLE: [u64; 8] = [
-    0x0200_0000_0000_c000,
-    0,
-    0xc155_25fd_d47f_09c8,
-    0,
-    0x0000_7d00_0300_0000,
-    0,
-    0,
-    0x0000_0000_9ad5_6cc5,
 ];
 
 fn bytes_of(words: &[u64; 8]) -> [u8; 64] {
@@ -438,59 +333,6 @@ fn keys_are_imported(rt: HostRuntime) {
     }
 }
 
-/// The all-zero vector, the vectors of both lengths, and one that forbids export already.
-#[test]
-fn export_is_prohibited(rt: HostRuntime) {
-    let closed_double = [
-        0x0100_0000_0000_c000,
-        0x083b_f102_5be3_4c44,
-        0x1286_781e_0833_f67e,
-        0x7a3e_d284_ced8_c625,
-        0x0000_3c00_0341_0000,
-        0x0000_3c00_0321_0000,
-        0,
-        0x0000_0000_cf54_7c8b,
-    ];
-    let mut bench = Workbench::new();
-    let mut lease = Lease::open(&mut bench);
-    let held = put_masters(&mut lease);
-    for (key, wanted) in [
-        (
-            ZERO,
-            [
-                0x0100_0000_0000_c000,
-                0x083b_f102_5be3_4c44,
-                0xf7dc_06d6_0921_c272,
-                0,
-                0x0000_3c00_0300_0000,
-                0,
-                0,
-                0x0000_0000_691e_028e,
-            ],
-        ),
-        (
-            OLD_SINGLE,
-            [
-                0x0100_0000_0000_c000,
-                0x083b_f102_5be3_4c44,
-                0x5185_9e6b_c1de_3ab7,
-                0,
-                0x0000_3c00_0300_0000,
-                0,
-                0,
-                0x0000_0000_7b84_1268,
-            ],
-        ),
-        (DOUBLE, closed_double),
-        (closed_double, closed_double),
-    ]
-    .iter()
-    {
-        let key = judged(&rt, &held, Asked::Internal, key);
-        assert_eq!(rt; prohibit_export(&mut lease, &held, &key), bytes_of(wanted));
-    }
-}
-
 #[test]
 fn tokens_are_changed(rt: HostRuntime) {
     let mut bench = Workbench::new();
@@ -513,175 +355,105 @@ fn tokens_are_changed(rt: HostRuntime) {
     }
 }
 
-/// A key of each length, of which each draws its length in one fill, until no random byte is left. A second fill for
-/// the first key would fail.
+/// A right half that is the same as the first eight random bytes, their low-order bits aside.
+const SAME: [u8; 8] = [0x01, 0x10, 0x22, 0x33, 0x45, 0x54, 0x66, 0x76];
+
+/// The first eight random bytes, so many right halves that are the same, and then others, each of its own.
+fn random_with(alloc: Global, same: usize) -> Result<MemoryEntropy, NoMemory> {
+    let mut bytes = [0; 80];
+    bytes[..8].copy_from_slice(&RANDOM[..8]);
+    for i in 0..9 {
+        let half = &mut bytes[8 + 8 * i..16 + 8 * i];
+        if i < same {
+            half.copy_from_slice(&SAME);
+        } else {
+            half.copy_from_slice(&RANDOM[8..]);
+            half[7] = 0xe0 + 2 * i as u8;
+        }
+    }
+    MemoryEntropy::new(alloc, &bytes)
+}
+
+/// The token of a MAC key with unique halves.
+fn make_mac(
+    lease: &mut Lease,
+    held: &Registers,
+    entropy: &mut MemoryEntropy,
+) -> Result<[u8; 64], GenerateFault>
+    requires { IsSome held.now.current_pattern }
+{
+    let made = generate(
+        lease,
+        held,
+        Form::Op,
+        Length::Unique,
+        KeyType::Mac,
+        KeyType::Mac,
+        None,
+        None,
+        entropy,
+    )?;
+    Ok(made.first)
+}
+
+/// How many right halves are the same as the left one, how many fills there are, of which one more would fail, and the
+/// token. The eighth right half is the last.
 #[test]
-fn one_key_is_generated(rt: HostRuntime) -> Result<(), Fail> {
+fn right_halves_are_drawn_again(rt: HostRuntime) -> Result<(), Fail> {
     let mut bench = Workbench::new();
     let mut lease = Lease::open(&mut bench);
     let held = put_masters(&mut lease);
-    let mut zeros = MemoryEntropy::new(rt.alloc(), &[0; 16])?;
-    zeros.fail_at(1);
-    let made = generate(
-        &mut lease,
-        &held,
-        Form::Op,
-        Length::Sixteen,
-        KeyType::Importer,
-        KeyType::Cipher,
-        None,
-        None,
-        &mut zeros,
-    );
-    let wanted = Generated {
-        first: bytes_of(&ONES_IMPORTER),
-        second: None,
-    };
-    assert_eq!(rt; made.ok(), Some(wanted));
-    let mut entropy = MemoryEntropy::new(rt.alloc(), &RANDOM)?;
-    for wanted in [
-        Some([
-            0x0100_0000_0000_c000,
-            0x083b_f102_5be3_4c44,
-            0xdd41_996b_a143_ab3b,
+    for (same, fills, wanted) in [
+        (
             0,
-            0x0000_7d00_0300_0000,
-            0,
-            0,
-            0x0000_0000_e6a5_beec,
-        ]),
-        Some([
-            0x0100_0000_0000_c000,
-            0x083b_f102_5be3_4c44,
-            0xc0c3_11a9_f3e4_3a36,
-            0,
-            0x0000_7d00_0300_0000,
-            0,
-            0,
-            0x0000_0000_1cc7_c625,
-        ]),
-        None,
+            1,
+            Ok([
+                0x0100_0000_0000_c000,
+                0x083b_f102_5be3_4c44,
+                0xb3c4_6f65_2365_ce33,
+                0xa7ef_ab71_e4c0_c550,
+                0x0005_4d00_03c0_0000,
+                0x0005_4d00_03a0_0000,
+                0,
+                0x0000_0000_d065_459f,
+            ]),
+        ),
+        (
+            1,
+            2,
+            Ok([
+                0x0100_0000_0000_c000,
+                0x083b_f102_5be3_4c44,
+                0xb3c4_6f65_2365_ce33,
+                0xff6e_4766_f746_9617,
+                0x0005_4d00_03c0_0000,
+                0x0005_4d00_03a0_0000,
+                0,
+                0x0000_0000_3a69_b25b,
+            ]),
+        ),
+        (
+            7,
+            8,
+            Ok([
+                0x0100_0000_0000_c000,
+                0x083b_f102_5be3_4c44,
+                0xb3c4_6f65_2365_ce33,
+                0xc5b0_86b0_b6b1_52e5,
+                0x0005_4d00_03c0_0000,
+                0x0005_4d00_03a0_0000,
+                0,
+                0x0000_0000_c016_ae73,
+            ]),
+        ),
+        (8, 8, Err(GenerateFault::Repeated)),
     ]
     .iter()
     {
-        let made = generate(
-            &mut lease,
-            &held,
-            Form::Op,
-            Length::Eight,
-            KeyType::Data,
-            KeyType::Data,
-            None,
-            None,
-            &mut entropy,
-        );
-        let wanted = wanted.map(|words| Generated {
-            first: bytes_of(&words),
-            second: None,
-        });
-        assert_eq!(rt; made.ok(), wanted);
+        let mut entropy = random_with(rt.alloc(), *same)?;
+        entropy.fail_at(*fills);
+        let made = make_mac(&mut lease, &held, &mut entropy);
+        assert_eq!(rt; made, wanted.map(|words| bytes_of(&words)), "{same}");
     }
-    Ok(())
-}
-
-fn pair_of(first: &[u64; 8], second: &[u64; 8]) -> Option<Generated> {
-    Some(Generated {
-        first: bytes_of(first),
-        second: Some(bytes_of(second)),
-    })
-}
-
-/// The operational key, and the other one under the second transport key. A second fill would fail.
-#[test]
-fn pairs_with_an_operational_key(rt: HostRuntime) -> Result<(), Fail> {
-    let mut bench = Workbench::new();
-    let mut lease = Lease::open(&mut bench);
-    let held = put_masters(&mut lease);
-    let exporter = transport(&rt, &held, &EXPORTER);
-    let importer = transport(&rt, &held, &IMPORTER);
-    let mut entropy = MemoryEntropy::new(rt.alloc(), &RANDOM)?;
-    entropy.fail_at(1);
-    let made = generate(
-        &mut lease,
-        &held,
-        Form::Opex,
-        Length::Sixteen,
-        KeyType::Mac,
-        KeyType::Macver,
-        None,
-        Some(&exporter),
-        &mut entropy,
-    );
-    assert_eq!(rt; made.ok(), pair_of(&MAC, &MACVER_EXPORTED));
-    let mut entropy = MemoryEntropy::new(rt.alloc(), &RANDOM)?;
-    entropy.fail_at(1);
-    let made = generate(
-        &mut lease,
-        &held,
-        Form::Opim,
-        Length::Eight,
-        KeyType::Encipher,
-        KeyType::Decipher,
-        None,
-        Some(&importer),
-        &mut entropy,
-    );
-    assert_eq!(rt; made.ok(), pair_of(&ENCIPHER, &DECIPHER_IMPORTABLE));
-    Ok(())
-}
-
-/// Both keys under transport keys, the first one under the first. A second fill would fail.
-#[test]
-fn pairs_without_an_operational_key(rt: HostRuntime) -> Result<(), Fail> {
-    let mut bench = Workbench::new();
-    let mut lease = Lease::open(&mut bench);
-    let held = put_masters(&mut lease);
-    let exporter = transport(&rt, &held, &EXPORTER);
-    let importer = transport(&rt, &held, &IMPORTER);
-    let mut entropy = MemoryEntropy::new(rt.alloc(), &RANDOM)?;
-    entropy.fail_at(1);
-    let made = generate(
-        &mut lease,
-        &held,
-        Form::Imex,
-        Length::Sixteen,
-        KeyType::Macver,
-        KeyType::Mac,
-        Some(&importer),
-        Some(&exporter),
-        &mut entropy,
-    );
-    assert_eq!(rt; made.ok(), pair_of(&MACVER_IMPORTABLE, &MAC_EXPORTED));
-    let mut entropy = MemoryEntropy::new(rt.alloc(), &RANDOM)?;
-    entropy.fail_at(1);
-    let made = generate(
-        &mut lease,
-        &held,
-        Form::Exex,
-        Length::Eight,
-        KeyType::Data,
-        KeyType::Data,
-        Some(&exporter),
-        Some(&importer),
-        &mut entropy,
-    );
-    assert_eq!(rt; made.ok(), pair_of(&DATA_EXPORTED, &DATA_IMPORTABLE));
-    let mut entropy = MemoryEntropy::new(rt.alloc(), &RANDOM)?;
-    entropy.fail_at(1);
-    let made = generate(
-        &mut lease,
-        &held,
-        Form::Imim,
-        Length::Eight,
-        KeyType::Decipher,
-        KeyType::Encipher,
-        Some(&importer),
-        Some(&exporter),
-        &mut entropy,
-    );
-    assert_eq!(rt;
-        made.ok(),
-        pair_of(&DECIPHER_IMPORTABLE, &ENCIPHER_EXPORTED)
-    );
     Ok(())
 }

@@ -1,10 +1,6 @@
 //! Key tokens and the bodies of records, each from the tables of their formats. Every sealed word and pattern is from
 //! other implementations of triple DES and SHA-1, Python's package `cryptography` and its library.
 
-use key_records::Second;
-use master_registers::Pattern;
-use multi_encipher::Sealed;
-
 /// The key 0123456789abcdef under the master keys that count up and down.
 pub(crate) const CURRENT: [u64; 8] = [
     0x0100_0000_0000_c000,
@@ -59,19 +55,6 @@ pub(crate) fn token_of(
     ]);
     bytes[0] = kind;
     bytes
-}
-
-/// The pattern and the halves of a token.
-pub(crate) fn second_of(words: &[u64; 8]) -> Second {
-    Second {
-        pattern: Pattern {
-            bytes: words[1].to_be_bytes(),
-        },
-        sealed: Sealed {
-            left: words[2].to_be_bytes(),
-            right: words[3].to_be_bytes(),
-        },
-    }
 }
 
 /// The body of a record.

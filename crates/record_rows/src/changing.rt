@@ -28,13 +28,14 @@ pub(crate) enum Change {
     Run(StoreAction),
 }
 
-/// Settles a store, opens its records and makes a change. It answers the records, and how many labels a run changed.
+/// Settles a store, opens its records and makes a change. It answers how many labels were changed, and whether one is ahead
+/// then.
 pub(crate) fn carry_out<D: Disk>(
     alloc: Global,
     module: &[u8; 1536],
     store: &mut D,
     change: Change,
-) -> Result<(Records, u32), Stop> {
+) -> Result<(u32, bool), Stop> {
     if settle(store).is_err() {
         return Err(Stop::Settle);
     }
@@ -43,7 +44,7 @@ pub(crate) fn carry_out<D: Disk>(
     let mut records = opened(alloc, module, store, &mut lease)?;
     let held = load_masters(alloc, module, &mut lease)?;
     let changed = make(store, &mut lease, &held, &mut records, change)?;
-    Ok((records, changed))
+    Ok((changed, records.any_ahead()))
 }
 
 fn make<D: Disk>(

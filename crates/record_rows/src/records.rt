@@ -3,16 +3,12 @@
 use crate::bodies::{body_of, bytes_of, with_byte, with_words};
 use crate::changing::{Change, carry_out};
 use crate::masters::module_image;
-use crate::stores::{Stop, cell_body, opened, place_of, put, sure_label};
+use crate::stores::{Stop, cell_body, opened, place_of, store_of, sure_label};
 use key_cells::{Lease, Workbench};
 use key_records::{Label, RecordFault, STORE_LEN};
-use master_registers::Pattern;
 use slot_disk::{Disk, MemoryDisk};
 use std::alloc::Global;
 use std::test::Fail;
-
-/// The pattern of the old master key.
-const OLD_PATTERN: [u8; 8] = [0x24, 0x6f, 0xe0, 0x1f, 0x94, 0xfd, 0xae, 0x31];
 
 /// A single-length DATA key under the current master key, with the flag and the validation value to be put in.
 const DATA_TOKEN: [u64; 8] = [
@@ -26,19 +22,20 @@ const DATA_TOKEN: [u64; 8] = [
     0,
 ];
 
-/// The token with flag X'C0', the one with flag X'80', and one under the old master key.
-fn tokens() -> [[u8; 64]; 3] {
+/// The token with a flag, a pattern and a validation value.
+fn token_with(flag: u64, pattern: u64, value: u64) -> [u8; 64] {
+    let first = 0x0100_0000_0000_0000 | flag;
+    bytes_of(&with_words(DATA_TOKEN, &[(0, first), (1, pattern), (7, value)]))
+}
+
+/// The token with flag X'C0', the one with flag X'80', one under the old master key, and one under no master key here.
+fn tokens() -> [[u8; 64]; 4] {
+    let current = DATA_TOKEN[1];
     [
-        bytes_of(&with_words(DATA_TOKEN, &[(0, 0x0100_0000_0000_c000), (7, 0x2065_decb)])),
-        bytes_of(&with_words(DATA_TOKEN, &[(0, 0x0100_0000_0000_8000), (7, 0x2065_9ecb)])),
-        bytes_of(&with_words(
-            DATA_TOKEN,
-            &[
-                (0, 0x0100_0000_0000_c000),
-                (1, 0x246f_e01f_94fd_ae31),
-                (7, 0x08c5_bfe0),
-            ],
-        )),
+        token_with(0xc000, current, 0x2065_decb),
+        token_with(0x8000, current, 0x2065_9ecb),
+        token_with(0xc000, 0x246f_e01f_94fd_ae31, 0x08c5_bfe0),
+        token_with(0xc000, 0x5a5a_5a5a_5a5a_5a5a, 0x040c_e644),
     ]
 }
 
@@ -65,143 +62,114 @@ fn shown<D: Disk>(
 fn changes(rt: HostRuntime) -> Result<(), Fail> {
     let alloc = rt.alloc();
     let mut store = MemoryDisk::new(alloc, STORE_LEN, 100)?;
-    let [with_flag, without_flag, old] = tokens();
-    let none = [0; 64];
+    let [with_flag, without_flag, old, _] = tokens();
     let a = sure_label(b"A")?;
     let b = sure_label(b"KEY.B")?;
-    let c = sure_label(b"C#1")?;
-    for (change, cell, body, shows) in [
-        (Change::Create(a), 0, body_of(1, b"A", &none), (a, None)),
-        (Change::Create(b), 1, body_of(1, b"KEY.B", &none), (b, None)),
+    let null_b = body_of(1, b"KEY.B", &[0; 64]);
+    let with_b = body_of(2, b"KEY.B", &with_flag);
+    let old_a = body_of(2, b"A", &old);
+    for (change, cell, body, label, token) in [
+        (Change::Create(a), 0, body_of(1, b"A", &[0; 64]), a, None),
+        (Change::Create(b), 1, null_b, b, None),
         (
             Change::Write(b, without_flag),
             1,
-            body_of(2, b"KEY.B", &with_flag),
-            (b, Some(with_flag)),
+            with_b,
+            b,
+            Some(with_flag),
         ),
-        (
-            Change::Write(a, old),
-            0,
-            body_of(2, b"A", &old),
-            (a, Some(old)),
-        ),
-        (
-            Change::Write(a, with_flag),
-            0,
-            body_of(2, b"A", &with_flag),
-            (a, Some(with_flag)),
-        ),
-        (Change::Delete(a), 0, [0; 192], (b, Some(with_flag))),
-        (Change::Create(c), 0, body_of(1, b"C#1", &none), (c, None)),
+        (Change::Write(a, old), 0, old_a, a, Some(old)),
+        (Change::Delete(a), 0, [0; 192], b, Some(with_flag)),
     ] {
         let done = carry_out(alloc, &module_image(), &mut store, change);
-        assert!(rt; done.is_ok(), "{change:?}");
+        assert!(rt; done == Ok((1, false)), "{change:?}");
         assert!(rt; cell_body(&mut store, cell)? == body, "{change:?}");
-        assert!(rt;
-            shown(alloc, &mut store, &shows.0) == Ok(Ok(shows.1)),
-            "{change:?}"
-        );
+        let found = shown(alloc, &mut store, &label);
+        assert!(rt; found == Ok(Ok(token)), "{change:?}");
     }
-    assert!(rt; shown(alloc, &mut store, &a) == Err(Stop::Unknown));
     Ok(())
 }
 
-/// Whether a key is under the current, the old or another master key.
-#[test]
-fn keys_under_a_master_key(rt: HostRuntime) -> Result<(), Fail> {
-    let alloc = rt.alloc();
-    let mut store = MemoryDisk::new(alloc, STORE_LEN, 100)?;
-    let a = sure_label(b"A")?;
-    let [with_flag, _, old] = tokens();
-    let current = Pattern {
-        bytes: DATA_TOKEN[1].to_be_bytes(),
-    };
-    let former = Pattern { bytes: OLD_PATTERN };
-    for (change, under_current, under_old) in [
-        (Change::Create(a), false, false),
-        (Change::Write(a, old), false, true),
-        (Change::Write(a, with_flag), true, false),
-        (Change::Delete(a), false, false),
-    ] {
-        let done = carry_out(alloc, &module_image(), &mut store, change);
-        let (records, _) = done.or_else(|_| Err("not changed"))?;
-        assert_eq!(rt; records.any_under(&current), under_current, "{change:?}");
-        assert_eq!(rt; records.any_under(&former), under_old, "{change:?}");
+/// What opening a store comes to, whose cells have these bodies.
+fn opens(alloc: Global, bodies: &[(usize, [u8; 192])]) -> Result<Result<(), Stop>, Fail> {
+    let mut store = store_of(alloc, bodies, 1)?;
+    let mut bench = Workbench::new();
+    let mut lease = Lease::open(&mut bench);
+    match opened(alloc, &module_image(), &mut store, &mut lease) {
+        Ok(_) => Ok(Ok(())),
+        Err(stop) => Ok(Err(stop)),
     }
-    Ok(())
+}
+
+/// Bodies of the fifth cell that read as no record, and of another cell.
+fn broken_bodies() -> [([u8; 192], usize, [u8; 192]); 19] {
+    let [token, without_flag, _, nobody] = tokens();
+    let key = body_of(2, b"KEY", &token);
+    let null = body_of(1, b"NULL", &[0; 64]);
+    [
+        // another kind, lengths that there aren't, a label that is none or isn't filled with zeros
+        (with_byte(key, 0, 3), 6, null),
+        (with_byte(key, 0, 7), 6, null),
+        (with_byte(key, 1, 0), 6, null),
+        (with_byte(key, 1, 2), 6, null),
+        (with_byte(key, 1, 65), 6, null),
+        (with_byte(key, 2, b'k'), 6, null),
+        (with_byte(key, 65, b'A'), 6, null),
+        // a null record with a token, and a key without
+        (with_byte(key, 0, 1), 6, null),
+        (with_byte(null, 0, 2), 6, key),
+        // a token with another flag, validation value or pattern
+        (body_of(2, b"KEY", &without_flag), 6, null),
+        (with_byte(key, 129, 0), 6, null),
+        (body_of(2, b"KEY", &nobody), 6, null),
+        // bytes outside the table
+        (with_byte(key, 130, 1), 6, null),
+        (with_byte(null, 130, 1), 6, key),
+        (with_byte(null, 191, 1), 6, key),
+        // a label twice, and two damaged cells
+        (key, 3, key),
+        (body_of(1, b"KEY", &[0; 64]), 3, key),
+        (with_byte(key, 0, 7), 1000, with_byte(null, 0, 7)),
+        (with_byte(key, 0, 7), 1023, null),
+    ]
 }
 
 /// Bodies that read as no record, and labels that stand twice: the first damaged cell is named.
 #[test]
 fn damaged_cells(rt: HostRuntime) -> Result<(), Fail> {
-    let alloc = rt.alloc();
-    let [token, without_flag, old] = tokens();
-    let key = body_of(2, b"KEY", &token);
+    let [token, _, old, _] = tokens();
     let null = body_of(1, b"NULL", &[0; 64]);
-    let nobody = bytes_of(&with_words(
-        DATA_TOKEN,
-        &[
-            (0, 0x0100_0000_0000_c000),
-            (1, 0x5a5a_5a5a_5a5a_5a5a),
-            (7, 0x040c_e644),
-        ],
-    ));
-    let fifth = Err(Stop::Open(RecordFault::Damaged(5)));
-    for (first, second, wanted) in [
-        // records, alone and beside others
-        ((5, key), (1023, null), Ok(())),
-        ((5, body_of(2, b"KEY", &old)), (0, null), Ok(())),
-        // another kind, lengths that there aren't, a label that is none or isn't filled with zeros
-        ((5, with_byte(key, 0, 3)), (6, null), fifth),
-        ((5, with_byte(key, 0, 7)), (6, null), fifth),
-        ((5, with_byte(key, 1, 0)), (6, null), fifth),
-        ((5, with_byte(key, 1, 2)), (6, null), fifth),
-        ((5, with_byte(key, 1, 65)), (6, null), fifth),
-        ((5, with_byte(key, 2, b'k')), (6, null), fifth),
-        ((5, with_byte(key, 65, b'A')), (6, null), fifth),
-        // a null record with a token, and a key without
-        ((5, with_byte(key, 0, 1)), (6, null), fifth),
-        ((5, with_byte(null, 0, 2)), (6, key), fifth),
-        // a token with another flag, validation value or pattern
-        ((5, body_of(2, b"KEY", &without_flag)), (6, null), fifth),
-        ((5, with_byte(key, 129, 0)), (6, null), fifth),
-        ((5, body_of(2, b"KEY", &nobody)), (6, null), fifth),
-        // bytes outside the table
-        ((5, with_byte(null, 130, 1)), (6, key), fifth),
-        ((5, with_byte(null, 191, 1)), (6, key), fifth),
-        // a label twice, and two damaged cells
-        ((5, key), (3, key), fifth),
-        ((5, body_of(1, b"KEY", &[0; 64])), (3, key), fifth),
-        (
-            (5, with_byte(key, 0, 7)),
-            (1000, with_byte(null, 0, 7)),
-            fifth,
-        ),
-    ] {
-        let mut store = MemoryDisk::new(alloc, STORE_LEN, 10)?;
-        put(&mut store, first.0, &first.1)?;
-        put(&mut store, second.0, &second.1)?;
-        let mut bench = Workbench::new();
-        let mut lease = Lease::open(&mut bench);
-        let found = opened(alloc, &module_image(), &mut store, &mut lease).map(|_| ());
-        assert!(rt; found == wanted, "{first:?}");
+    for key in [token, old] {
+        let found = opens(rt.alloc(), &[(5, body_of(2, b"KEY", &key)), (1023, null)])?;
+        assert!(rt; found == Ok(()), "{key:?}");
+    }
+    for (body, other, beside) in broken_bodies() {
+        let found = opens(rt.alloc(), &[(5, body), (other, beside)])?;
+        let wanted = Err(Stop::Open(RecordFault::Damaged(5)));
+        assert!(rt; found == wanted, "{body:?} {other}");
     }
     Ok(())
 }
 
-/// The record of a label is read by two reads of its cell. Neither is made twice, also where it fails.
+/// A store is opened by two reads for each of 1,024 cells, and a record is read by two more. Neither is made twice, also
+/// where it fails.
 #[test]
 fn a_record_is_read_once(rt: HostRuntime) -> Result<(), Fail> {
-    let alloc = rt.alloc();
+    let [token, ..] = tokens();
     let key = sure_label(b"KEY")?;
-    let [token, _, _] = tokens();
+    let not_opened = Err(Stop::Open(RecordFault::DiskFault));
     let failed = Ok(Err(RecordFault::DiskFault));
-    // Six calls put the record, and two reads for each of 1,024 cells open the store.
-    for (call, wanted) in [(2054, failed), (2055, failed), (2056, Ok(Ok(Some(token))))] {
-        let mut store = MemoryDisk::new(alloc, STORE_LEN, 10)?;
-        put(&mut store, 0, &body_of(2, b"KEY", &token))?;
+    for (call, wanted) in [
+        (0, not_opened),
+        (2047, not_opened),
+        (2048, failed),
+        (2049, failed),
+        (2050, Ok(Ok(Some(token)))),
+    ] {
+        let mut store = store_of(rt.alloc(), &[(0, body_of(2, b"KEY", &token))], 0)?;
         store.fail_at(call);
-        assert!(rt; shown(alloc, &mut store, &key) == wanted, "at call {call}");
+        let found = shown(rt.alloc(), &mut store, &key);
+        assert!(rt; found == wanted, "at call {call}");
     }
     Ok(())
 }
@@ -211,33 +179,32 @@ fn a_record_is_read_once(rt: HostRuntime) -> Result<(), Fail> {
 fn a_fault_at_each_call(rt: HostRuntime) -> Result<(), Fail> {
     let alloc = rt.alloc();
     let a = sure_label(b"A")?;
+    let not_opened = Err(Stop::Open(RecordFault::DiskFault));
     let failed = Err(Stop::Change(RecordFault::DiskFault));
+    let unknown = Err(Stop::Unknown);
     // A sync to settle, two reads for each of 1,024 cells, and for the change a read, two writes and a sync after each.
     for (call, wanted, left) in [
-        (0, Err(Stop::Settle), Err(Stop::Unknown)),
-        (
-            1,
-            Err(Stop::Open(RecordFault::DiskFault)),
-            Err(Stop::Unknown),
-        ),
-        (
-            2048,
-            Err(Stop::Open(RecordFault::DiskFault)),
-            Err(Stop::Unknown),
-        ),
-        (2049, failed, Err(Stop::Unknown)),
-        (2050, failed, Err(Stop::Unknown)),
-        (2051, failed, Err(Stop::Unknown)),
-        (2052, failed, Err(Stop::Unknown)),
+        (0, Err(Stop::Settle), unknown),
+        (1, not_opened, unknown),
+        (2048, not_opened, unknown),
+        (2049, failed, unknown),
+        (2050, failed, unknown),
+        (2051, failed, unknown),
+        (2052, failed, unknown),
         (2053, failed, Ok(Ok(None))),
         // it made no further call
-        (2054, Ok(()), Err(Stop::Open(RecordFault::DiskFault))),
+        (
+            2054,
+            Ok((1, false)),
+            Err(Stop::Open(RecordFault::DiskFault)),
+        ),
     ] {
         let mut store = MemoryDisk::new(alloc, STORE_LEN, 20)?;
         store.fail_at(call);
-        let done = carry_out(alloc, &module_image(), &mut store, Change::Create(a)).map(|_| ());
+        let done = carry_out(alloc, &module_image(), &mut store, Change::Create(a));
         assert!(rt; done == wanted, "at call {call}");
-        assert!(rt; shown(alloc, &mut store, &a) == left, "at call {call}");
+        let found = shown(alloc, &mut store, &a);
+        assert!(rt; found == left, "at call {call}");
     }
     Ok(())
 }

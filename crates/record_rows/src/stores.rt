@@ -1,5 +1,5 @@
 //! Stores with records, and what is found in them.
-ghost use Rattle.std.specs.Prelude.{◌≡◌, ◌<◌, IfOk, IsSome};
+ghost use Rattle.std.specs.Prelude.{◌≡◌, IfOk, IsSome};
 ghost use Rattle.key_records.specs.Directory.{label_at};
 ghost use Rattle.key_records.specs.Entries.{row_directory};
 ghost use Rattle.key_records.specs.StoreStands.{HoldsRows};
@@ -9,10 +9,9 @@ ghost use Rattle.slot_disk.specs.Medium.{Keeps, Told};
 use crate::masters::load_masters;
 use key_cells::Lease;
 use key_records::{Label, Place, RecordFault, Records, STORE_LEN, open_records};
-use slot_disk::{Cell, Disk, MemoryDisk, Steps, read_cell, replace_cell, settle};
+use slot_disk::{Cell, Disk, MemoryDisk, Steps, read_cell};
 use std::alloc::Global;
 use std::test::Fail;
-use verb_rules::Rule;
 
 /// Why a step before the one that is looked at, or this one itself, didn't come to its end.
 #[derive(Clone, Copy, Debug, PartialEq, Eq)]
@@ -32,9 +31,6 @@ pub(crate) enum Stop {
     Taken,
     Run(RecordFault),
     Read(RecordFault),
-    Transport(Rule),
-    Kept(Rule),
-    Refused(Rule),
 }
 
 /// The records of a store, as they are opened, where the disk has the size of one.
@@ -61,10 +57,6 @@ pub(crate) fn opened<D: Disk>(
     }
 }
 
-pub(crate) fn label(text: &[u8]) -> Result<Label, Stop> {
-    Label::read(text).ok_or(Stop::Unknown)
-}
-
 /// The label, in a test that ends where it is none.
 pub(crate) fn sure_label(text: &[u8]) -> Result<Label, Fail> {
     Ok(Label::read(text).ok_or("no label")?)
@@ -78,39 +70,25 @@ pub(crate) fn place_of(records: &Records, label: &Label) -> Result<Place, Stop>
     records.find(label, &mut steps).ok_or(Stop::Unknown)
 }
 
-/// A label of four digits.
-pub(crate) fn numbered(number: u16) -> [u8; 5] {
-    let digit = |place: u16| b'0' + (number / place % 10) as u8;
-    [b'L', digit(1000), digit(100), digit(10), digit(1)]
-}
-
 /// Puts a body where the first selector points.
-pub(crate) fn put_body(image: &mut [u8], cell: usize, body: &[u8; 192])
-    requires { cell < 1024 }
-{
-    let at = 1536 * cell + 512;
+fn put_body(image: &mut [u8], cell: usize, body: &[u8; 192]) {
+    let at = 1536 * (cell % 1024) + 512;
     if at + 192 <= image.len() {
         image[at..at + 192].copy_from_slice(body);
     }
 }
 
-/// A store whose first cells have these bodies, with room to note so many writes and syncs.
-pub(crate) fn store_of(alloc: Global, bodies: &[[u8; 192]], room: u64) -> Result<MemoryDisk, Fail> {
+/// A store whose cells have these bodies, with room to note so many writes and syncs.
+pub(crate) fn store_of(
+    alloc: Global,
+    bodies: &[(usize, [u8; 192])],
+    room: u64,
+) -> Result<MemoryDisk, Fail> {
     let mut image = vec![in alloc; 0u8; STORE_LEN as usize]?;
-    for cell in 0..bodies.len().min(1024) {
-        put_body(&mut image, cell, &bodies[cell]);
+    for (cell, body) in bodies {
+        put_body(&mut image, *cell, body);
     }
     Ok(MemoryDisk::from_image(alloc, &image, room)?)
-}
-
-/// Makes a body that of a cell.
-pub(crate) fn put(store: &mut MemoryDisk, cell: u16, body: &[u8; 192]) -> Result<(), Fail> {
-    if store.size() != STORE_LEN || cell > 1023 {
-        return Err(Fail::from("no such cell"));
-    }
-    settle(store).or_else(|_| Err("not settled"))?;
-    replace_cell(store, Cell::new(cell), body).or_else(|_| Err("not put"))?;
-    Ok(())
 }
 
 /// The selected body of a cell of a store.

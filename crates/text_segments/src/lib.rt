@@ -15,6 +15,3 @@ pub use codes::last_mac;
 pub use laws::{cut_codes_are_whole, cut_texts_are_whole};
 pub use modes::Mode;
 pub use segments::{last_text, segment};
-
-#[cfg(test)]
-mod tests;

@@ -1,0 +1,3 @@
+pub mod ListedLines
+pub mod SpelledReplies
+pub mod WorkedPatterns

@@ -1,2 +1,0 @@
-pub mod WorkedLines
-pub mod WorkedRows
