@@ -1,4 +1,4 @@
-//! Tests of devices and of what stands on them: the adapters over files and streams, memory devices that fail, the bytes of
+//! Tests of devices and of what stands on them: the adapters over files and streams, the bytes of
 //! registers and roles, and the records of a trail. And patterns of master keys, replies and lines of a listing that the
 //! definitions compute. It is a crate of tests.
 #![tactic(auto)]
@@ -11,8 +11,6 @@ ghost use Rattle.device_rows.specs.WorkedPatterns.{PatternsStand};
 mod entries;
 #[cfg(test)]
 mod files;
-#[cfg(test)]
-mod memories;
 #[cfg(test)]
 mod modules;
 #[cfg(test)]

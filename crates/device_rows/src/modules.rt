@@ -17,19 +17,29 @@ fn loaded(alloc: Global, image: &[u8]) -> Result<Result<Registers, LoadFault>, F
     Ok(load(&mut module, &mut lease))
 }
 
-fn registers(new_state: NewState, current: Option<[u8; 8]>, old: Option<[u8; 8]>) -> Registers {
+fn registers(
+    new_state: NewState,
+    current_pattern: Option<Pattern>,
+    old_pattern: Option<Pattern>,
+) -> Registers {
     Registers {
         new_state,
-        current_pattern: current.map(|bytes| Pattern { bytes }),
-        old_pattern: old.map(|bytes| Pattern { bytes }),
+        current_pattern,
+        old_pattern,
     }
 }
 
-const ZEROS_PATTERN: [u8; 8] = [0x86, 0x2e, 0x4f, 0x6e, 0x22, 0xd5, 0x5a, 0xe0];
+const ZEROS_PATTERN: Pattern = Pattern {
+    bytes: [0x86, 0x2e, 0x4f, 0x6e, 0x22, 0xd5, 0x5a, 0xe0],
+};
 
-const TWOS_PATTERN: [u8; 8] = [0x8e, 0x10, 0x4d, 0x69, 0x87, 0xe6, 0xf2, 0x0a];
+const TWOS_PATTERN: Pattern = Pattern {
+    bytes: [0x8e, 0x10, 0x4d, 0x69, 0x87, 0xe6, 0xf2, 0x0a],
+};
 
-const THREES_PATTERN: [u8; 8] = [0xfd, 0x08, 0x31, 0x44, 0x92, 0x1e, 0xea, 0x80];
+const THREES_PATTERN: Pattern = Pattern {
+    bytes: [0xfd, 0x08, 0x31, 0x44, 0x92, 0x1e, 0xea, 0x80],
+};
 
 /// A body whose three registers are full, with the byte at one place another one.
 fn full_body(at: usize, byte: u8) -> [u8; 192] {
@@ -153,8 +163,12 @@ fn role_body(length: u8, name: [u8; 8], points: [u8; 4]) -> [u8; 192] {
     let mut body = [0; 192];
     body[0] = 1;
     body[1] = length;
-    body[2..10].copy_from_slice(&name);
-    body[10..14].copy_from_slice(&points);
+    for at in 0..8 {
+        body[2 + at] = name[at];
+    }
+    for at in 0..4 {
+        body[10 + at] = points[at];
+    }
     body
 }
 
@@ -220,7 +234,6 @@ fn bodies_of_roles(rt: HostRuntime) -> Result<(), Fail> {
 /// Each point has its value, and no other value is one.
 #[test]
 fn points(rt: HostRuntime) {
-    let mut every = AccessPoints::empty();
     for (points, bits) in [
         (AccessPoints::ENC, 0x0000_0001),
         (AccessPoints::DEC, 0x0000_0002),
@@ -252,15 +265,10 @@ fn points(rt: HostRuntime) {
         (AccessPoints::KPI_COMBINE, 0x0800_0000),
         (AccessPoints::KTR, 0x1000_0000),
     ] {
-        assert_eq!(rt; points.bits(), bits);
-        assert!(rt; AccessPoints::all().contains(points));
-        assert!(rt; !every.contains(points));
-        every = every.union(points);
+        assert!(rt; points.bits() == bits, "{bits:x}");
     }
-    assert_eq!(rt; every, AccessPoints::all());
-    assert_eq!(rt; every.bits(), 0x1fff_ffff);
+    assert!(rt; AccessPoints::all().bits() == 0x1fff_ffff);
     for bits in [0x2000_0000, 0x2000_0001, 0x8000_0000, 0xffff_ffff] {
-        assert_eq!(rt; AccessPoints::from_bits(bits), None);
+        assert!(rt; AccessPoints::from_bits(bits).is_none(), "{bits:x}");
     }
-    assert_eq!(rt; AccessPoints::from_bits(0), Some(AccessPoints::empty()));
 }

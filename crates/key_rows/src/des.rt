@@ -63,8 +63,8 @@ fn put_text(lease: &mut Lease, text: &[u8])
 /// 512 blocks, of which no two are alike.
 fn long_text() -> [u8; 4096] {
     let mut text = [0; 4096];
-    for (i, byte) in text.iter_mut().enumerate() {
-        *byte = (i % 251 ^ i / 251) as u8;
+    for at in 0..4096 {
+        text[at] = (at % 251) as u8 ^ (at / 251) as u8;
     }
     text
 }

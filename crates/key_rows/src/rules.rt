@@ -1,8 +1,8 @@
-//! Tokens with the rule that each breaks first, and lengths of texts.
+//! Tokens with the rule that each breaks first.
 use cca_vectors::Class;
 use key_tokens::tvv;
 use master_registers::{NewState, Pattern, Registers};
-use verb_rules::{Asked, Classes, Need, Rule, TextUse, Usage, judge_key, judge_text};
+use verb_rules::{Asked, Classes, Need, Rule, Usage, judge_key};
 
 const CURRENT_PATTERN: [u8; 8] = [0x5a; 8];
 
@@ -151,50 +151,5 @@ fn the_earlier_rule_comes_first(rt: HostRuntime) {
             first_rule(&broken(&[rule, next]), &need) == Some(rule),
             "{rule:?}"
         );
-    }
-}
-
-#[test]
-fn lengths_of_texts(rt: HostRuntime) {
-    for (use_of, length, fits) in [
-        (TextUse::EncipherPlain, 0, false),
-        (TextUse::EncipherPlain, 8, true),
-        (TextUse::EncipherPlain, 12, false),
-        (TextUse::EncipherPlain, 4096, true),
-        (TextUse::EncipherPlain, 4104, false),
-        (TextUse::EncipherPadded, 0, true),
-        (TextUse::EncipherPadded, 4095, true),
-        (TextUse::EncipherPadded, 4096, false),
-        (TextUse::Decipher, 0, false),
-        (TextUse::Decipher, 3, false),
-        (TextUse::Decipher, 16, true),
-        (TextUse::Decipher, 4096, true),
-        (TextUse::Decipher, 4104, false),
-        (TextUse::Mac, 0, false),
-        (TextUse::Mac, 1, true),
-        (TextUse::Mac, 4096, true),
-        (TextUse::Mac, 4097, false),
-        (TextUse::Segment, 0, true),
-        (TextUse::Segment, 4088, true),
-        (TextUse::Segment, 4089, false),
-        (TextUse::LastPlain { carried: 0 }, 0, false),
-        (TextUse::LastPlain { carried: 7 }, 1, true),
-        (TextUse::LastPlain { carried: 7 }, 8, false),
-        (TextUse::LastPlain { carried: 0 }, 4088, true),
-        (TextUse::LastPlain { carried: 0 }, 4096, false),
-        (TextUse::LastPadded, 0, true),
-        (TextUse::LastPadded, 4088, true),
-        (TextUse::LastPadded, 4089, false),
-        (TextUse::LastDecipher { carried: 0 }, 0, false),
-        (TextUse::LastDecipher { carried: 3 }, 5, true),
-        (TextUse::LastDecipher { carried: 3 }, 4, false),
-        (TextUse::LastDecipher { carried: 3 }, 4093, false),
-        (TextUse::LastMac { carried: 0 }, 0, false),
-        (TextUse::LastMac { carried: 1 }, 0, true),
-        (TextUse::LastMac { carried: 0 }, 1, true),
-        (TextUse::LastMac { carried: 0 }, 4089, false),
-    ] {
-        let wanted = if fits { Ok(()) } else { Err(Rule::TextLength) };
-        assert_eq!(rt; judge_text(use_of, length), wanted, "{use_of:?} {length}");
     }
 }

@@ -1,6 +1,6 @@
 //! Tokens under the master key of the bytes 01 to 18 and others, made by another program with the triple DES and SHA-1 of
 //! Python's libraries.
-ghost use Rattle.std.specs.Prelude.{◌≡◌, ◌≢◌, ◌<◌, IsSome};
+ghost use Rattle.std.specs.Prelude.{◌≡◌, ◌≢◌, IsSome};
 ghost use Rattle.verb_rules.specs.Keys.{HasHalves, IsDouble};
 
 use cca_vectors::{Class, Length};
@@ -176,11 +176,9 @@ fn bytes_of(words: &[u64; 8]) -> [u8; 64] {
 }
 
 /// The bytes from a first one upwards.
-fn put_master(master: &mut [u8; 24], first: u8)
-    requires { first < 200 }
-{
+fn put_master(master: &mut [u8; 24], first: u8) {
     for i in 0..24 {
-        master[i] = first + i as u8;
+        master[i] = first.wrapping_add(i as u8);
     }
 }
 
