@@ -19,8 +19,9 @@ fn served_one(alloc: Global) -> Result<(Served, Vec<u8>), Fail> {
     let mut sink = MemorySink::new(alloc, ROOM)?;
     let mut module = MemoryDisk::new(alloc, MODULE_SIZE, CALLS)?;
     let mut store = MemoryDisk::new(alloc, STORE_SIZE, CALLS)?;
-    if session.begin(&mut bench, &mut module, &mut store).is_err() {
-        return Err(Fail::from("not begun"));
+    match session.begin(&mut bench, &mut module, &mut store) {
+        Ok(()) => {}
+        Err(_) => return Err(Fail::from("not begun")),
     }
     match session.serve_one(
         &mut bench,
@@ -71,8 +72,9 @@ fn answered(alloc: Global) -> Result<(Vec<u8>, Vec<u8>), Fail> {
     let mut source = MemorySource::new(alloc, LINE, 10)?;
     let mut module = MemoryDisk::new(alloc, MODULE_SIZE, CALLS)?;
     let mut store = MemoryDisk::new(alloc, STORE_SIZE, CALLS)?;
-    if session.begin(&mut bench, &mut module, &mut store).is_err() {
-        return Err(Fail::from("not begun"));
+    match session.begin(&mut bench, &mut module, &mut store) {
+        Ok(()) => {}
+        Err(_) => return Err(Fail::from("not begun")),
     }
     match session.take_line(&mut source) {
         Ok(Taken::Line) => {}

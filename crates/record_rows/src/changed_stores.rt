@@ -83,11 +83,11 @@ fn some_bodies() -> [(usize, [u8; 192]); 4] {
 fn read_changed(
     alloc: Global,
     text: &[u8],
-    cell: usize,
+    cell: u16,
     body: [u8; 192],
 ) -> Result<(Result<bool, RecordFault>, [u8; 64]), Fail> {
     let mut changed = some_bodies();
-    changed[cell % 4].1 = body;
+    changed[usize::from(cell) % 4].1 = body;
     let mut store = ChangedStore {
         before: store_of(alloc, &some_bodies(), 0)?,
         after: store_of(alloc, &changed, 0)?,
@@ -105,7 +105,7 @@ fn read_changed(
 }
 
 /// Labels with their cells, and bodies that come there.
-fn other_bodies() -> [(&'static [u8], usize, [u8; 192]); 12] {
+fn other_bodies() -> [(&'static [u8], u16, [u8; 192]); 12] {
     [
         // another label
         (b"A", 0, one_of(b"C", &CURRENT)),
@@ -131,7 +131,7 @@ fn other_bodies() -> [(&'static [u8], usize, [u8; 192]); 12] {
 fn a_record_that_changed_after_opening(rt: HostRuntime) -> Result<(), Fail> {
     for (text, cell, body) in other_bodies() {
         let found = read_changed(rt.alloc(), text, cell, body)?;
-        let wanted = (Err(RecordFault::Damaged(cell as u16)), UNTOUCHED);
+        let wanted = (Err(RecordFault::Damaged(cell)), UNTOUCHED);
         assert!(rt; found == wanted, "{text:?} {body:?}");
     }
     let found = read_changed(rt.alloc(), b"A", 1, null_of(b"M"))?;

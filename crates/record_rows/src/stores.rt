@@ -97,6 +97,8 @@ pub(crate) fn cell_body(store: &mut MemoryDisk, cell: u16) -> Result<[u8; 192], 
     if store.size() != STORE_LEN || cell > 1023 {
         return Err(Fail::from("no such cell"));
     }
-    read_cell(store, Cell::new(cell), &mut found).or_else(|_| Err("not read"))?;
-    Ok(found)
+    match read_cell(store, Cell::new(cell), &mut found) {
+        Ok(()) => Ok(found),
+        Err(_) => Err(Fail::from("not read")),
+    }
 }
