@@ -1,5 +1,5 @@
 -- Verification patterns of master keys, by Python's hashlib.
-use Rattle.std.specs.Prelude.{◌≡◌, [], ◌∷◌, ℕ, List, replicate}
+use Rattle.std.specs.Prelude.{◌≡◌, replicate}
 use Rattle.std.specs.Int.{to_be_bytes, w64}
 use Rattle.std.specs.List.{range_with_len}
 use Rattle.master_registers.specs.Masters.{pattern_of_master}
