@@ -10,6 +10,3 @@ pub use combining::{xor, xor_secret};
 pub use copying::{put_front, put_secret};
 pub use short_lists::ShortList;
 pub use testing::is_zero;
-
-#[cfg(test)]
-mod tests;

@@ -13,6 +13,3 @@ pub use importing::clear_key_import;
 pub use padding::{Pad, clear_text};
 pub use random::{RandomForm, random_number};
 pub use testing::key_test;
-
-#[cfg(test)]
-mod tests;

@@ -9,6 +9,3 @@ mod names;
 pub use characters::{is_digit, is_label_byte, is_letter};
 pub use formed_texts::{Form, FormedText};
 pub use names::{is_label, is_role_name};
-
-#[cfg(test)]
-mod tests;

@@ -17,6 +17,3 @@ pub use leases::Lease;
 pub use places::{KeyPlace, MasterPlace};
 pub use schedules::Schedule;
 pub use secrets::Secret;
-
-#[cfg(test)]
-mod tests;

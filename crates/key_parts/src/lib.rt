@@ -10,6 +10,3 @@ mod translating;
 pub use combining::{combine_part, first_part};
 pub use laws::{a_key_in_parts, the_other_parts_say_nothing};
 pub use translating::translate;
-
-#[cfg(test)]
-mod tests;

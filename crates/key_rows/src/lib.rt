@@ -7,9 +7,25 @@ ghost use Rattle.key_rows.specs.PublishedVectors.{AreAnswered, single_vectors, T
 ghost use Rattle.key_rows.specs.WorkedTypes.{TypesStand};
 
 #[cfg(test)]
+mod benches;
+#[cfg(test)]
+mod codes;
+#[cfg(test)]
 mod des;
 #[cfg(test)]
+mod names;
+#[cfg(test)]
+mod opened_keys;
+#[cfg(test)]
+mod parts;
+#[cfg(test)]
 mod rules;
+#[cfg(test)]
+mod sealing;
+#[cfg(test)]
+mod texts;
+#[cfg(test)]
+mod tokens;
 #[cfg(test)]
 mod transport;
 #[cfg(test)]

@@ -13,6 +13,3 @@ pub use multi_encipher::Sealed;
 pub use reading::read_token;
 pub use validation::tvv;
 pub use writing::write_token;
-
-#[cfg(test)]
-mod tests;

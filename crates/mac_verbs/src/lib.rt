@@ -4,6 +4,3 @@
 mod codes;
 
 pub use codes::{mac_generate, mac_verify};
-
-#[cfg(test)]
-mod tests;

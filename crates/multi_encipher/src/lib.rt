@@ -9,6 +9,3 @@ mod sealing;
 pub use halves::{Sealed, Under};
 pub use mixing::put_schedule;
 pub use sealing::{seal, seal_is_one_to_one, unseal};
-
-#[cfg(test)]
-mod tests;

@@ -28,6 +28,3 @@ pub use rules::Rule;
 pub use scheduling::schedule_key;
 pub use types::{judge_length, judge_pair, judge_size};
 pub use writing::write_current;
-
-#[cfg(test)]
-mod tests;

@@ -2,10 +2,10 @@
 ghost use Rattle.std.specs.Prelude.{◌≡◌, ◌≤◌, length};
 ghost use Rattle.verb_rules.specs.Keys.{HasHalves};
 
-use super::*;
 use cca_vectors::{Vector, vector_of};
 use key_cells::{KeyPlace, Lease, Workbench};
 use key_tokens::{Kind, Token};
+use mac_verbs::{mac_generate, mac_verify};
 use multi_encipher::{Under, seal};
 use std::process::Abort;
 use verb_rules::{Age, Judged, MacRule, TextUse, judge_mac, judge_text};

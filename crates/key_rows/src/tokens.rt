@@ -1,5 +1,6 @@
-use super::*;
+//! Tokens that are read and written, and tokens with one byte or one bit changed.
 use cca_vectors::Class;
+use key_tokens::{Asked, Kind, TokenFault, read_token, tvv, write_token};
 
 /// A single-length DATA key under a transport key, with a zero control vector.
 const DATA_TOKEN: [u32; 16] = [

@@ -2,7 +2,6 @@
 ghost use Rattle.std.specs.Prelude.{◌≡◌};
 ghost use Rattle.verb_rules.specs.Keys.{HasHalves};
 
-use super::*;
 use cca_vectors::{Class, Vector, vector_of};
 use des_core::encipher_block;
 use key_cells::{KeyPlace, Lease, MasterPlace, Workbench};
@@ -10,6 +9,10 @@ use key_tokens::{Kind, Token};
 use master_registers::{NewState, Registers, pattern_of};
 use multi_encipher::{Under, seal};
 use std::process::Abort;
+use verb_rules::{
+    Age, Asked, Classes, Judged, Need, judge_key, open_key, schedule_key, set_even_parity,
+    set_odd_parity, write_current,
+};
 
 const DOUBLE_KEY: [u8; 16] = *b"0123456789abcdef";
 

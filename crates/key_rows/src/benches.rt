@@ -4,7 +4,7 @@ ghost use Rattle.std.specs.Prelude.{◌≡◌, replicate};
 ghost use Rattle.key_cells.specs.Bench.{blank_bench, with_key};
 ghost use Rattle.key_cells.specs.Lease.{bench_of, holding};
 
-use super::{KeyPlace, Lease, MasterPlace, Secret, Workbench};
+use key_cells::{KeyPlace, Lease, MasterPlace, Secret, Workbench};
 
 const MASTERS: [MasterPlace; 4] = [
     MasterPlace::Current,

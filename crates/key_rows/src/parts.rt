@@ -3,9 +3,9 @@
 ghost use Rattle.std.specs.Prelude.{◌≡◌, ◌≢◌, ◌<◌, IsSome};
 ghost use Rattle.verb_rules.specs.Keys.{HasHalves, IsDouble};
 
-use super::*;
 use cca_vectors::Class;
 use key_cells::{KeyPlace, Lease, MasterPlace, Workbench};
+use key_parts::{combine_part, first_part, translate};
 use master_registers::{NewState, Registers, pattern_of};
 use std::process::Abort;
 use verb_rules::{Asked, Classes, Judged, KeyType, Need, judge_key, judge_size};

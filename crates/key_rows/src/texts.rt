@@ -2,8 +2,10 @@
 ghost use Rattle.std.specs.Prelude.{◌≡◌, IsSome};
 ghost use Rattle.verb_rules.specs.Keys.{HasHalves};
 
-use super::*;
 use cca_vectors::{Vector, vector_of};
+use cipher_verbs::{
+    Pad, RandomForm, clear_key_import, decipher, encipher, key_test, random_number,
+};
 use key_cells::{KeyPlace, Lease, MasterPlace, Workbench};
 use key_tokens::{Kind, Token, read_token};
 use master_registers::{NewState, Registers, pattern_of};

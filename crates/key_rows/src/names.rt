@@ -1,5 +1,6 @@
 //! Kinds of characters, and texts that are names.
-use crate::*;
+
+use held_names::{is_digit, is_label, is_label_byte, is_letter, is_role_name};
 
 #[test]
 fn kinds_of_characters(rt: HostRuntime) {

@@ -1,11 +1,12 @@
+//! Keys of zeros under a transport key and under a master key.
 ghost use Rattle.std.specs.Prelude.{◌≡◌};
 ghost use Rattle.cca_vectors.specs.Vectors.{length_of};
 ghost use Rattle.byte_lists.specs.Bytes.{IsZero};
 ghost use Rattle.multi_encipher.specs.Bundles.{IsElsewhere};
 
-use super::*;
 use cca_vectors::{Vector, vector_of};
 use key_cells::{KeyPlace, Lease, MasterPlace, Workbench};
+use multi_encipher::{Sealed, Under, seal, unseal};
 use std::process::Abort;
 
 /// A zero block under the DES key of zeros.
