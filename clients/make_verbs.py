@@ -37,7 +37,8 @@ KINDS = {
 }
 
 STORED = "token|stored"  # of a reply one of two fields, by the request's `to`
-# Of each row its reply's fields, and its rules: those of the line, then those of each field in the order of the checks.
+# Of the rows that share a section of the page its reply's fields, and its rules: those of the line, then those of each field in
+# the order of the checks. Of a row that has a section of its own the page says them.
 ROWS = {
     "csnbenc": ("text", "01-05; key 06-20; text 23"),
     "csnbenc_first": ("text chain", "01-05; key 06-20; text 23"),
@@ -55,25 +56,11 @@ ROWS = {
     "csnbmvr_first": ("chain", "01-05; key 06-20; text 23; key 32"),
     "csnbmvr_middle": ("chain", "01-05; key 06-20; chain 36; text 23; key 32"),
     "csnbmvr_last": ("match", "01-05; key 06-20; chain 36; text 23; key 32"),
-    "csnbktp": ("kind class length vector pattern", "01-03; token 09-16"),
-    "csnbkyt": ("value", "01-05; key 06-19"),
-    "csnbcki": (STORED, "01-05; to 06 07"),
-    "csnbrng": ("random", "01-04"),
     "csnbkgn_op": ("token1|stored", "01-05; to 06 07; length 32 34"),
     "csnbkgn_pair": ("token1|stored token2", "01-05; transport2 06-20 22; to 06 07; type2 24; length 32 34"),
     "csnbkgn_out": ("token1 token2", "01-05; transport1 06-20 22; transport2 06-20 22; type2 24; length 32 34"),
-    "csnbkim": (STORED, "01-05; token 09-17; transport 06-20 22; to 06 07"),
-    "csnbkex": ("token", "01-05; key 06-18 21; transport 06-20 22"),
-    "csnbpex": (STORED, "01-05; key 06-19; to 06 07"),
-    "csnbktc": ("token", "01-05; token 09-16 18; - 25"),
     "csnbkpi_first": (STORED, "01-05; to 06 07; part 32"),
     "csnbkpi_middle": (STORED, "01-05; key 06-16 18 19; to 06 07; part 32; key 35"),
-    "csnbktr": ("token", "01-05; token 09-17; transport1 06-20 22; transport2 06-20 22"),
-    "csnbkrc": ("", "01-04; label 06 28 29"),
-    "csnbkrw": ("", "01-05; label 06 07; token 09-16 18"),
-    "csnbkrr": ("token", "01-05; label 06 07 08"),
-    "csnbkrd": ("", "01-04; label 06 07"),
-    "csnbkrl": ("count labels", "01-04"),
     "csnbmkp_part": ("new", "01-04; - 25"),
     "csnbmkp_clear": ("new", "01-04; - 33"),
     "csnbmkp_set": ("new", "01-04; - 25 26 27"),
@@ -119,6 +106,24 @@ def rules_of(text):
     return found
 
 
+def rules_told(text):
+    """The rules of a section that has one row, as it tells them: `Rules: 01 to 05, then 06 and 07 on \`to\`.`"""
+    told = re.search(r"\bRules: (.*?)(?=\.\s)", text, re.S)[1]
+    found, ranges, last = [], [], []
+    for first, end, field, word in re.findall(r"(\d\d)(?: to (\d\d))?|on\s+`(\w+)`|(, then|for)|$", told):
+        if first:
+            ranges.append(f"{first}-{end or first}")
+        elif field or ranges:
+            last, ranges = ranges or last, []
+            found.append({"field": field or "-", "rules": list(numbers(last))})
+    return found
+
+
+def reply_of(text):
+    """The fields of the reply of a section that has one row: of `token` and `stored` one, where a key goes where `to` says."""
+    return " ".join(replied(text)).replace("token stored", STORED)
+
+
 def field_of(name, values):
     kind, *arguments = values
     more = {"hex_digits": "digits", "one_of": "words"}.get(kind)
@@ -129,7 +134,7 @@ def rows():
     """The rows of the grammar, each with its reply and its rules."""
     found = []
     for row, verb, fields in named_rows():
-        reply, rules = ROWS[row]
+        reply, rules = ROWS[row] if row in ROWS else (reply_of(section(verb)), rules_told(section(verb)))
         name = re.search(rf"\b{verb} \((\w+)\)|\b{verb}-(\w+)", section(verb))
         found.append(
             {
@@ -138,7 +143,7 @@ def rows():
                 "name": name[1] if name and name[1] else "",
                 "fields": [field_of(*it) for it in fields],
                 "reply": [it.split("|") for it in reply.split()],
-                "rules": rules_of(rules),
+                "rules": rules_of(rules) if isinstance(rules, str) else rules,
             }
         )
     return found
@@ -194,15 +199,19 @@ def page_numbers(text):
     return found
 
 
-def page_replies(text):
+def replied(text):
     """The fields of replies that a section has in a table."""
     if SAME_REPLY in text:
         text += section("CSNBCKI")
-    found = set()
-    for head, *lines in re.findall(r"(?m)^\| Field of the reply \| Value \|\n(\|---\|---\|\n)((?:\|.*\n)*)", text):
-        for line in "".join(lines).splitlines():
-            found.update(re.findall(r"`(\w+)`", line.split("|")[1]))
-    return found | ({"stored"} if "`stored` with the label instead" in text else set())
+    found = []
+    for lines in re.findall(r"(?m)^\| Field of the reply \| Value \|\n\|---\|---\|\n((?:\|.*\n)*)", text):
+        for line in lines.splitlines():
+            found += re.findall(r"`(\w+)`", line.split("|")[1])
+    return found
+
+
+def page_replies(text):
+    return {*replied(text), *(["stored"] if "`stored` with the label instead" in text else [])}
 
 
 def group_of(verb):
