@@ -1,5 +1,6 @@
 pub mod DigitLemmas
 pub mod FieldLaws
+pub mod FormLaws
 pub mod GrammarLaws
 pub mod PlainRows
 pub mod PointLemmas

@@ -6,12 +6,12 @@ ghost use Rattle.cca_vectors.specs.KeyTypes.{type_name, type_named};
 ghost use Rattle.verb_script.specs.Grammar.{Request as Spelled, Spells, IsOfParts, AreAccepted, accepts, points as points_text, meanings, row_of};
 ghost use Rattle.verb_script.specs.Parsed.{answered, seen, seen_option};
 ghost use Rattle.verb_script.specs.Requests.{request_of, request_in, first_request};
-ghost use Rattle.verb_script.specs.Rows.{name_seen, text_at, texts_at};
+ghost use Rattle.verb_script.specs.Rows.{AreRows, IsRow, name_seen, row_name, text_at, texts_at};
 ghost use Rattle.verb_script.specs.Values.{hex_value};
 ghost use Rattle.verb_script.specs.Words.{unread};
 
 use crate::request::{FormFault, Request};
-use crate::rows::{Row, rows_with};
+use crate::rows::{Row, RowForm, rows_with};
 use crate::values::points_of;
 use crate::words::{Texts, Words};
 use cca_roles::{AccessPoints, RoleName};
@@ -296,22 +296,24 @@ fn request_with<'a>(row: Row, texts: Texts<'a>) -> Request<'a>
 }
 
 /// The request of the row, whose verb and fields these are.
-fn request_of_row<'a>(row: Row, verb: &[u8], words: Words<'a>) -> Option<Request<'a>>
-    ensures { seen_option result ≡ request_in (name_seen row) (verb.now ∷ unread words.entry) }
+fn request_of_row<'a>(form: &RowForm, verb: &[u8], words: Words<'a>) -> Option<Request<'a>>
+    requires { IsRow form.now }
+    ensures { seen_option result ≡ request_in (row_name form.now) (verb.now ∷ unread words.entry) }
 {
-    if verb == row.verb() {
-        Some(request_with(row, words.texts(row.fields())?))
+    if verb == form.verb {
+        Some(request_with(form.row, words.texts(form.fields)?))
     } else {
         None
     }
 }
 
 /// The request of the first of the rows whose verb and fields these are.
-fn first_of<'a>(rows: &[Row], verb: &[u8], words: Words<'a>) -> Option<Request<'a>>
-    ensures { seen_option result ≡ first_request (map name_seen rows.now) (verb.now ∷ unread words.entry) }
+fn first_of<'a>(rows: &[RowForm], verb: &[u8], words: Words<'a>) -> Option<Request<'a>>
+    requires { AreRows rows.now }
+    ensures { seen_option result ≡ first_request (map row_name rows.now) (verb.now ∷ unread words.entry) }
 {
-    for row in rows {
-        if let Some(request) = request_of_row(*row, verb, words) {
+    for form in rows {
+        if let Some(request) = request_of_row(form, verb, words) {
             return Some(request);
         }
     }

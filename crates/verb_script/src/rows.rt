@@ -1,7 +1,7 @@
 //! The rows of the grammar: of each its verb, and its fields in their order.
 ghost use Rattle.std.specs.Prelude.{◌≡◌, filter, map};
-ghost use Rattle.verb_script.specs.Grammar.{all_requests, row_of};
-ghost use Rattle.verb_script.specs.Rows.{field_seen, has_seventh, name_seen};
+ghost use Rattle.verb_script.specs.Grammar.{all_requests};
+ghost use Rattle.verb_script.specs.Rows.{form_seen, has_seventh, named_row};
 
 use crate::fields::Field;
 
@@ -53,278 +53,377 @@ pub(crate) enum Row {
     ReencipherDrop,
 }
 
+/// A row with its verb, and its fields in their order.
+#[derive(Clone, Copy)]
+pub(crate) struct RowForm {
+    pub(crate) row: Row,
+    pub(crate) verb: &'static [u8],
+    pub(crate) fields: &'static [Field],
+}
+
 /// The rows whose verbs have this seventh letter, in their order. Most verbs differ in it.
-pub(crate) fn rows_with(letter: u8) -> &'static [Row]
-    ensures { map name_seen result.now ≡ filter (has_seventh letter) all_requests }
+pub(crate) fn rows_with(letter: u8) -> &'static [RowForm]
+    ensures { map form_seen result.now ≡ map named_row (filter (has_seventh letter) all_requests) }
 {
     match letter {
         b'C' => &[
-            Row::Csnbenc,
-            Row::CsnbencFirst,
-            Row::CsnbencMiddle,
-            Row::CsnbencLast,
-            Row::Csnbdec,
-            Row::CsnbdecFirst,
-            Row::CsnbdecMiddle,
-            Row::CsnbdecLast,
-            Row::Csnbktc,
-            Row::Csnbkrc,
+            RowForm {
+                row: Row::Csnbenc,
+                verb: b"CSNBENC",
+                fields: &[Field::Role, Field::Key, Field::Iv, Field::Pad, Field::Text],
+            },
+            RowForm {
+                row: Row::CsnbencFirst,
+                verb: b"CSNBENC",
+                fields: &[
+                    Field::Role,
+                    Field::Key,
+                    Field::SegmentFirst,
+                    Field::Iv,
+                    Field::Text,
+                ],
+            },
+            RowForm {
+                row: Row::CsnbencMiddle,
+                verb: b"CSNBENC",
+                fields: &[
+                    Field::Role,
+                    Field::Key,
+                    Field::SegmentMiddle,
+                    Field::Chain,
+                    Field::Text,
+                ],
+            },
+            RowForm {
+                row: Row::CsnbencLast,
+                verb: b"CSNBENC",
+                fields: &[
+                    Field::Role,
+                    Field::Key,
+                    Field::SegmentLast,
+                    Field::Chain,
+                    Field::Pad,
+                    Field::Text,
+                ],
+            },
+            RowForm {
+                row: Row::Csnbdec,
+                verb: b"CSNBDEC",
+                fields: &[Field::Role, Field::Key, Field::Iv, Field::Pad, Field::Text],
+            },
+            RowForm {
+                row: Row::CsnbdecFirst,
+                verb: b"CSNBDEC",
+                fields: &[
+                    Field::Role,
+                    Field::Key,
+                    Field::SegmentFirst,
+                    Field::Iv,
+                    Field::Text,
+                ],
+            },
+            RowForm {
+                row: Row::CsnbdecMiddle,
+                verb: b"CSNBDEC",
+                fields: &[
+                    Field::Role,
+                    Field::Key,
+                    Field::SegmentMiddle,
+                    Field::Chain,
+                    Field::Text,
+                ],
+            },
+            RowForm {
+                row: Row::CsnbdecLast,
+                verb: b"CSNBDEC",
+                fields: &[
+                    Field::Role,
+                    Field::Key,
+                    Field::SegmentLast,
+                    Field::Chain,
+                    Field::Pad,
+                    Field::Text,
+                ],
+            },
+            RowForm {
+                row: Row::Csnbktc,
+                verb: b"CSNBKTC",
+                fields: &[Field::Role, Field::ChangeRule, Field::Token],
+            },
+            RowForm {
+                row: Row::Csnbkrc,
+                verb: b"CSNBKRC",
+                fields: &[Field::Role, Field::Label],
+            },
         ],
         b'N' => &[
-            Row::Csnbmgn,
-            Row::CsnbmgnFirst,
-            Row::CsnbmgnMiddle,
-            Row::CsnbmgnLast,
-            Row::CsnbkgnOp,
-            Row::CsnbkgnPair,
-            Row::CsnbkgnOut,
+            RowForm {
+                row: Row::Csnbmgn,
+                verb: b"CSNBMGN",
+                fields: &[
+                    Field::Role,
+                    Field::Key,
+                    Field::Rule,
+                    Field::MacLength,
+                    Field::Text,
+                ],
+            },
+            RowForm {
+                row: Row::CsnbmgnFirst,
+                verb: b"CSNBMGN",
+                fields: &[
+                    Field::Role,
+                    Field::Key,
+                    Field::Rule,
+                    Field::SegmentFirst,
+                    Field::Text,
+                ],
+            },
+            RowForm {
+                row: Row::CsnbmgnMiddle,
+                verb: b"CSNBMGN",
+                fields: &[
+                    Field::Role,
+                    Field::Key,
+                    Field::Rule,
+                    Field::SegmentMiddle,
+                    Field::Chain,
+                    Field::Text,
+                ],
+            },
+            RowForm {
+                row: Row::CsnbmgnLast,
+                verb: b"CSNBMGN",
+                fields: &[
+                    Field::Role,
+                    Field::Key,
+                    Field::Rule,
+                    Field::SegmentLast,
+                    Field::MacLength,
+                    Field::Chain,
+                    Field::Text,
+                ],
+            },
+            RowForm {
+                row: Row::CsnbkgnOp,
+                verb: b"CSNBKGN",
+                fields: &[
+                    Field::Role,
+                    Field::OpForm,
+                    Field::Length,
+                    Field::Type1,
+                    Field::To,
+                ],
+            },
+            RowForm {
+                row: Row::CsnbkgnPair,
+                verb: b"CSNBKGN",
+                fields: &[
+                    Field::Role,
+                    Field::PairForm,
+                    Field::Length,
+                    Field::Type1,
+                    Field::Type2,
+                    Field::Transport2,
+                    Field::To,
+                ],
+            },
+            RowForm {
+                row: Row::CsnbkgnOut,
+                verb: b"CSNBKGN",
+                fields: &[
+                    Field::Role,
+                    Field::OutForm,
+                    Field::Length,
+                    Field::Type1,
+                    Field::Type2,
+                    Field::Transport1,
+                    Field::Transport2,
+                ],
+            },
         ],
         b'R' => &[
-            Row::Csnbmvr,
-            Row::CsnbmvrFirst,
-            Row::CsnbmvrMiddle,
-            Row::CsnbmvrLast,
-            Row::Csnbktr,
-            Row::Csnbkrr,
+            RowForm {
+                row: Row::Csnbmvr,
+                verb: b"CSNBMVR",
+                fields: &[
+                    Field::Role,
+                    Field::Key,
+                    Field::Rule,
+                    Field::Mac,
+                    Field::Text,
+                ],
+            },
+            RowForm {
+                row: Row::CsnbmvrFirst,
+                verb: b"CSNBMVR",
+                fields: &[
+                    Field::Role,
+                    Field::Key,
+                    Field::Rule,
+                    Field::SegmentFirst,
+                    Field::Text,
+                ],
+            },
+            RowForm {
+                row: Row::CsnbmvrMiddle,
+                verb: b"CSNBMVR",
+                fields: &[
+                    Field::Role,
+                    Field::Key,
+                    Field::Rule,
+                    Field::SegmentMiddle,
+                    Field::Chain,
+                    Field::Text,
+                ],
+            },
+            RowForm {
+                row: Row::CsnbmvrLast,
+                verb: b"CSNBMVR",
+                fields: &[
+                    Field::Role,
+                    Field::Key,
+                    Field::Rule,
+                    Field::SegmentLast,
+                    Field::Mac,
+                    Field::Chain,
+                    Field::Text,
+                ],
+            },
+            RowForm {
+                row: Row::Csnbktr,
+                verb: b"CSNBKTR",
+                fields: &[
+                    Field::Role,
+                    Field::Token,
+                    Field::Transport1,
+                    Field::Transport2,
+                ],
+            },
+            RowForm {
+                row: Row::Csnbkrr,
+                verb: b"CSNBKRR",
+                fields: &[Field::Role, Field::Label],
+            },
         ],
         b'P' => &[
-            Row::Csnbktp,
-            Row::CsnbmkpPart,
-            Row::CsnbmkpClear,
-            Row::CsnbmkpSet,
-            Row::Reencipher,
-            Row::ReencipherAhead,
-            Row::ReencipherDrop,
+            RowForm {
+                row: Row::Csnbktp,
+                verb: b"CSNBKTP",
+                fields: &[Field::Role, Field::Token],
+            },
+            RowForm {
+                row: Row::CsnbmkpPart,
+                verb: b"CSNBMKP",
+                fields: &[Field::Role, Field::PartAction, Field::Part],
+            },
+            RowForm {
+                row: Row::CsnbmkpClear,
+                verb: b"CSNBMKP",
+                fields: &[Field::Role, Field::ActionClear],
+            },
+            RowForm {
+                row: Row::CsnbmkpSet,
+                verb: b"CSNBMKP",
+                fields: &[Field::Role, Field::ActionSet],
+            },
+            RowForm {
+                row: Row::Reencipher,
+                verb: b"REENCIPHER",
+                fields: &[Field::Role],
+            },
+            RowForm {
+                row: Row::ReencipherAhead,
+                verb: b"REENCIPHER",
+                fields: &[Field::Role, Field::ActionAhead],
+            },
+            RowForm {
+                row: Row::ReencipherDrop,
+                verb: b"REENCIPHER",
+                fields: &[Field::Role, Field::ActionDrop],
+            },
         ],
         b'I' => &[
-            Row::Csnbcki,
-            Row::CsnbkpiFirst,
-            Row::CsnbkpiMiddle,
-            Row::CsuaaciDefine,
-            Row::CsuaaciRemove,
+            RowForm {
+                row: Row::Csnbcki,
+                verb: b"CSNBCKI",
+                fields: &[Field::Role, Field::ClearKey, Field::To],
+            },
+            RowForm {
+                row: Row::CsnbkpiFirst,
+                verb: b"CSNBKPI",
+                fields: &[
+                    Field::Role,
+                    Field::FirstPart,
+                    Field::Type,
+                    Field::KeyPart,
+                    Field::To,
+                ],
+            },
+            RowForm {
+                row: Row::CsnbkpiMiddle,
+                verb: b"CSNBKPI",
+                fields: &[
+                    Field::Role,
+                    Field::FurtherPart,
+                    Field::Key,
+                    Field::KeyPart,
+                    Field::To,
+                ],
+            },
+            RowForm {
+                row: Row::CsuaaciDefine,
+                verb: b"CSUAACI",
+                fields: &[Field::Role, Field::ActionDefine, Field::Name, Field::Points],
+            },
+            RowForm {
+                row: Row::CsuaaciRemove,
+                verb: b"CSUAACI",
+                fields: &[Field::Role, Field::ActionRemove, Field::OtherName],
+            },
         ],
-        b'X' => &[Row::Csnbkex, Row::Csnbpex],
-        b'T' => &[Row::Csnbkyt],
-        b'G' => &[Row::Csnbrng],
-        b'M' => &[Row::Csnbkim],
-        b'W' => &[Row::Csnbkrw],
-        b'D' => &[Row::Csnbkrd],
-        b'L' => &[Row::Csnbkrl],
+        b'X' => &[
+            RowForm {
+                row: Row::Csnbkex,
+                verb: b"CSNBKEX",
+                fields: &[Field::Role, Field::Key, Field::Transport],
+            },
+            RowForm {
+                row: Row::Csnbpex,
+                verb: b"CSNBPEX",
+                fields: &[Field::Role, Field::Key, Field::To],
+            },
+        ],
+        b'T' => &[RowForm {
+            row: Row::Csnbkyt,
+            verb: b"CSNBKYT",
+            fields: &[Field::Role, Field::Key],
+        }],
+        b'G' => &[RowForm {
+            row: Row::Csnbrng,
+            verb: b"CSNBRNG",
+            fields: &[Field::Role, Field::NumberForm],
+        }],
+        b'M' => &[RowForm {
+            row: Row::Csnbkim,
+            verb: b"CSNBKIM",
+            fields: &[Field::Role, Field::Token, Field::Transport, Field::To],
+        }],
+        b'W' => &[RowForm {
+            row: Row::Csnbkrw,
+            verb: b"CSNBKRW",
+            fields: &[Field::Role, Field::Label, Field::Token],
+        }],
+        b'D' => &[RowForm {
+            row: Row::Csnbkrd,
+            verb: b"CSNBKRD",
+            fields: &[Field::Role, Field::Label],
+        }],
+        b'L' => &[RowForm {
+            row: Row::Csnbkrl,
+            verb: b"CSNBKRL",
+            fields: &[Field::Role, Field::Prefix],
+        }],
         _ => &[],
-    }
-}
-
-impl Row {
-    /// Its verb.
-    pub(crate) fn verb(self) -> &'static [u8]
-        ensures { result.now ≡ (row_of (name_seen self)).verb }
-    {
-        match self {
-            Row::Csnbenc | Row::CsnbencFirst | Row::CsnbencMiddle | Row::CsnbencLast => b"CSNBENC",
-            Row::Csnbdec | Row::CsnbdecFirst | Row::CsnbdecMiddle | Row::CsnbdecLast => b"CSNBDEC",
-            Row::Csnbmgn | Row::CsnbmgnFirst | Row::CsnbmgnMiddle | Row::CsnbmgnLast => b"CSNBMGN",
-            Row::Csnbmvr | Row::CsnbmvrFirst | Row::CsnbmvrMiddle | Row::CsnbmvrLast => b"CSNBMVR",
-            Row::Csnbktp => b"CSNBKTP",
-            Row::Csnbkyt => b"CSNBKYT",
-            Row::Csnbcki => b"CSNBCKI",
-            Row::Csnbrng => b"CSNBRNG",
-            Row::CsnbkgnOp | Row::CsnbkgnPair | Row::CsnbkgnOut => b"CSNBKGN",
-            Row::Csnbkim => b"CSNBKIM",
-            Row::Csnbkex => b"CSNBKEX",
-            Row::Csnbpex => b"CSNBPEX",
-            Row::Csnbktc => b"CSNBKTC",
-            Row::CsnbkpiFirst | Row::CsnbkpiMiddle => b"CSNBKPI",
-            Row::Csnbktr => b"CSNBKTR",
-            Row::Csnbkrc => b"CSNBKRC",
-            Row::Csnbkrw => b"CSNBKRW",
-            Row::Csnbkrr => b"CSNBKRR",
-            Row::Csnbkrd => b"CSNBKRD",
-            Row::Csnbkrl => b"CSNBKRL",
-            Row::CsnbmkpPart | Row::CsnbmkpClear | Row::CsnbmkpSet => b"CSNBMKP",
-            Row::CsuaaciDefine | Row::CsuaaciRemove => b"CSUAACI",
-            Row::Reencipher | Row::ReencipherAhead | Row::ReencipherDrop => b"REENCIPHER",
-        }
-    }
-
-    /// Its fields in their order.
-    pub(crate) fn fields(self) -> &'static [Field]
-        ensures { map field_seen result.now ≡ (row_of (name_seen self)).fields }
-    {
-        match self {
-            Row::Csnbenc => &[Field::Role, Field::Key, Field::Iv, Field::Pad, Field::Text],
-            Row::CsnbencFirst => &[
-                Field::Role,
-                Field::Key,
-                Field::SegmentFirst,
-                Field::Iv,
-                Field::Text,
-            ],
-            Row::CsnbencMiddle => &[
-                Field::Role,
-                Field::Key,
-                Field::SegmentMiddle,
-                Field::Chain,
-                Field::Text,
-            ],
-            Row::CsnbencLast => &[
-                Field::Role,
-                Field::Key,
-                Field::SegmentLast,
-                Field::Chain,
-                Field::Pad,
-                Field::Text,
-            ],
-            Row::Csnbdec => &[Field::Role, Field::Key, Field::Iv, Field::Pad, Field::Text],
-            Row::CsnbdecFirst => &[
-                Field::Role,
-                Field::Key,
-                Field::SegmentFirst,
-                Field::Iv,
-                Field::Text,
-            ],
-            Row::CsnbdecMiddle => &[
-                Field::Role,
-                Field::Key,
-                Field::SegmentMiddle,
-                Field::Chain,
-                Field::Text,
-            ],
-            Row::CsnbdecLast => &[
-                Field::Role,
-                Field::Key,
-                Field::SegmentLast,
-                Field::Chain,
-                Field::Pad,
-                Field::Text,
-            ],
-            Row::Csnbmgn => &[
-                Field::Role,
-                Field::Key,
-                Field::Rule,
-                Field::MacLength,
-                Field::Text,
-            ],
-            Row::CsnbmgnFirst => &[
-                Field::Role,
-                Field::Key,
-                Field::Rule,
-                Field::SegmentFirst,
-                Field::Text,
-            ],
-            Row::CsnbmgnMiddle => &[
-                Field::Role,
-                Field::Key,
-                Field::Rule,
-                Field::SegmentMiddle,
-                Field::Chain,
-                Field::Text,
-            ],
-            Row::CsnbmgnLast => &[
-                Field::Role,
-                Field::Key,
-                Field::Rule,
-                Field::SegmentLast,
-                Field::MacLength,
-                Field::Chain,
-                Field::Text,
-            ],
-            Row::Csnbmvr => &[
-                Field::Role,
-                Field::Key,
-                Field::Rule,
-                Field::Mac,
-                Field::Text,
-            ],
-            Row::CsnbmvrFirst => &[
-                Field::Role,
-                Field::Key,
-                Field::Rule,
-                Field::SegmentFirst,
-                Field::Text,
-            ],
-            Row::CsnbmvrMiddle => &[
-                Field::Role,
-                Field::Key,
-                Field::Rule,
-                Field::SegmentMiddle,
-                Field::Chain,
-                Field::Text,
-            ],
-            Row::CsnbmvrLast => &[
-                Field::Role,
-                Field::Key,
-                Field::Rule,
-                Field::SegmentLast,
-                Field::Mac,
-                Field::Chain,
-                Field::Text,
-            ],
-            Row::Csnbktp => &[Field::Role, Field::Token],
-            Row::Csnbkyt => &[Field::Role, Field::Key],
-            Row::Csnbcki => &[Field::Role, Field::ClearKey, Field::To],
-            Row::Csnbrng => &[Field::Role, Field::NumberForm],
-            Row::CsnbkgnOp => &[
-                Field::Role,
-                Field::OpForm,
-                Field::Length,
-                Field::Type1,
-                Field::To,
-            ],
-            Row::CsnbkgnPair => &[
-                Field::Role,
-                Field::PairForm,
-                Field::Length,
-                Field::Type1,
-                Field::Type2,
-                Field::Transport2,
-                Field::To,
-            ],
-            Row::CsnbkgnOut => &[
-                Field::Role,
-                Field::OutForm,
-                Field::Length,
-                Field::Type1,
-                Field::Type2,
-                Field::Transport1,
-                Field::Transport2,
-            ],
-            Row::Csnbkim => &[Field::Role, Field::Token, Field::Transport, Field::To],
-            Row::Csnbkex => &[Field::Role, Field::Key, Field::Transport],
-            Row::Csnbpex => &[Field::Role, Field::Key, Field::To],
-            Row::Csnbktc => &[Field::Role, Field::ChangeRule, Field::Token],
-            Row::CsnbkpiFirst => &[
-                Field::Role,
-                Field::FirstPart,
-                Field::Type,
-                Field::KeyPart,
-                Field::To,
-            ],
-            Row::CsnbkpiMiddle => &[
-                Field::Role,
-                Field::FurtherPart,
-                Field::Key,
-                Field::KeyPart,
-                Field::To,
-            ],
-            Row::Csnbktr => &[
-                Field::Role,
-                Field::Token,
-                Field::Transport1,
-                Field::Transport2,
-            ],
-            Row::Csnbkrc => &[Field::Role, Field::Label],
-            Row::Csnbkrw => &[Field::Role, Field::Label, Field::Token],
-            Row::Csnbkrr => &[Field::Role, Field::Label],
-            Row::Csnbkrd => &[Field::Role, Field::Label],
-            Row::Csnbkrl => &[Field::Role, Field::Prefix],
-            Row::CsnbmkpPart => &[Field::Role, Field::PartAction, Field::Part],
-            Row::CsnbmkpClear => &[Field::Role, Field::ActionClear],
-            Row::CsnbmkpSet => &[Field::Role, Field::ActionSet],
-            Row::CsuaaciDefine => &[Field::Role, Field::ActionDefine, Field::Name, Field::Points],
-            Row::CsuaaciRemove => &[Field::Role, Field::ActionRemove, Field::OtherName],
-            Row::Reencipher => &[Field::Role],
-            Row::ReencipherAhead => &[Field::Role, Field::ActionAhead],
-            Row::ReencipherDrop => &[Field::Role, Field::ActionDrop],
-        }
     }
 }
