@@ -1,5 +1,5 @@
 //! What a request says of itself: its verb, its role, and the first label that it names. Printed it shows its verb.
-ghost use Rattle.std.specs.Prelude.{◌≡◌, ◌⊎◌, Some, IfSome, true, codes, length, option_copied};
+ghost use Rattle.std.specs.Prelude.{◌≡◌, ◌⊎◌, None, Some, IfSome, true, codes, length, option_copied};
 ghost use Rattle.std.specs.Option.{option_or};
 ghost use Rattle.std.specs.List.{list_all};
 ghost use Rattle.held_names.specs.Characters.{is_letter};
@@ -7,7 +7,7 @@ ghost use Rattle.held_names.specs.Names.{IsLabel, IsRoleName};
 ghost use Rattle.verb_script.specs.Grammar.{row_of, value_of};
 ghost use Rattle.verb_script.specs.Named.{label_named};
 ghost use Rattle.verb_script.specs.Parsed.{seen};
-ghost use Rattle.verb_script.specs.Parts.{as_label, first_label};
+ghost use Rattle.verb_script.specs.Parts.{Says, as_label, first_label};
 
 use crate::labels::named_label;
 use crate::request::Request;
@@ -15,55 +15,158 @@ use cca_roles::RoleName;
 use held_names::is_label;
 use std::fmt;
 
+/// What may name the first label of a request.
+#[derive(Clone, Copy)]
+enum Named<'a> {
+    /// What stands where a label is wanted.
+    Label(&'a [u8]),
+    /// Two fields that may name a key by its label, of which those that the request doesn't have are empty.
+    Keys(&'a [u8], &'a [u8]),
+}
+
+/// What a request says of itself.
+#[derive(Clone, Copy)]
+struct Parts<'a> {
+    verb: &'static str,
+    role: &'a RoleName,
+    named: Named<'a>,
+}
+
+/// It names no label.
+fn plain<'a>(verb: &'static str, role: &'a RoleName) -> Parts<'a>
+    ensures { Says verb.now role.now None result }
+{
+    Parts {
+        verb,
+        role,
+        named: Named::Keys(b"", b""),
+    }
+}
+
+/// It names a label.
+fn of_label<'a>(verb: &'static str, role: &'a RoleName, label: &'a [u8]) -> Parts<'a>
+    ensures { Says verb.now role.now (option_or (as_label (Some label.now)) None) result }
+{
+    Parts {
+        verb,
+        role,
+        named: Named::Label(label),
+    }
+}
+
+/// One of its fields may name a key by its label.
+fn of_key<'a>(verb: &'static str, role: &'a RoleName, key: &'a [u8]) -> Parts<'a>
+    ensures { Says verb.now role.now (option_or (as_label (label_named key.now)) None) result }
+{
+    Parts {
+        verb,
+        role,
+        named: Named::Keys(key, b""),
+    }
+}
+
+/// Two of its fields may.
+fn of_keys<'a>(
+    verb: &'static str,
+    role: &'a RoleName,
+    first: &'a [u8],
+    second: &'a [u8],
+) -> Parts<'a>
+    ensures { Says verb.now role.now (option_or (as_label (label_named first.now))
+        (option_or (as_label (label_named second.now)) None)) result }
+{
+    Parts {
+        verb,
+        role,
+        named: Named::Keys(first, second),
+    }
+}
+
 impl<'a> Request<'a> {
+    /// The table.
+    fn parts(&self) -> Parts<'_>
+        ensures { Says (row_of (seen self.now).name).verb (value_of (seen self.now) (codes "role"))
+            (first_label (seen self.now)) result }
+    {
+        match self {
+            Request::Csnbktp { role, .. } => plain("CSNBKTP", role),
+            Request::Csnbenc { role, key, .. }
+            | Request::CsnbencFirst { role, key, .. }
+            | Request::CsnbencMiddle { role, key, .. }
+            | Request::CsnbencLast { role, key, .. } => of_key("CSNBENC", role, key),
+            Request::Csnbdec { role, key, .. }
+            | Request::CsnbdecFirst { role, key, .. }
+            | Request::CsnbdecMiddle { role, key, .. }
+            | Request::CsnbdecLast { role, key, .. } => of_key("CSNBDEC", role, key),
+            Request::Csnbmgn { role, key, .. }
+            | Request::CsnbmgnFirst { role, key, .. }
+            | Request::CsnbmgnMiddle { role, key, .. }
+            | Request::CsnbmgnLast { role, key, .. } => of_key("CSNBMGN", role, key),
+            Request::Csnbmvr { role, key, .. }
+            | Request::CsnbmvrFirst { role, key, .. }
+            | Request::CsnbmvrMiddle { role, key, .. }
+            | Request::CsnbmvrLast { role, key, .. } => of_key("CSNBMVR", role, key),
+            Request::Csnbkyt { role, key } => of_key("CSNBKYT", role, key),
+            Request::Csnbcki { role, to, .. } => of_key("CSNBCKI", role, to),
+            Request::Csnbrng { role, .. } => plain("CSNBRNG", role),
+            Request::CsnbkgnOp { role, to, .. } => of_key("CSNBKGN", role, to),
+            Request::CsnbkgnPair {
+                role,
+                transport2,
+                to,
+                ..
+            } => of_keys("CSNBKGN", role, transport2, to),
+            Request::CsnbkgnOut {
+                role,
+                transport1,
+                transport2,
+                ..
+            } => of_keys("CSNBKGN", role, transport1, transport2),
+            Request::Csnbkim {
+                role,
+                transport,
+                to,
+                ..
+            } => of_keys("CSNBKIM", role, transport, to),
+            Request::Csnbkex {
+                role,
+                key,
+                transport,
+            } => of_keys("CSNBKEX", role, key, transport),
+            Request::Csnbpex { role, key, to } => of_keys("CSNBPEX", role, key, to),
+            Request::Csnbktc { role, .. } => plain("CSNBKTC", role),
+            Request::CsnbkpiFirst { role, to, .. } => of_key("CSNBKPI", role, to),
+            Request::CsnbkpiMiddle { role, key, to, .. } => of_keys("CSNBKPI", role, key, to),
+            Request::Csnbktr {
+                role,
+                transport1,
+                transport2,
+                ..
+            } => of_keys("CSNBKTR", role, transport1, transport2),
+            Request::Csnbkrc { role, label } => of_label("CSNBKRC", role, label),
+            Request::Csnbkrw { role, label, .. } => of_label("CSNBKRW", role, label),
+            Request::Csnbkrr { role, label } => of_label("CSNBKRR", role, label),
+            Request::Csnbkrd { role, label } => of_label("CSNBKRD", role, label),
+            Request::Csnbkrl { role, .. } => plain("CSNBKRL", role),
+            Request::CsnbmkpPart { role, .. }
+            | Request::CsnbmkpClear { role, .. }
+            | Request::CsnbmkpSet { role, .. } => plain("CSNBMKP", role),
+            Request::CsuaaciDefine { role, .. } | Request::CsuaaciRemove { role, .. } => plain(
+                "CSUAACI", role,
+            ),
+            Request::Reencipher { role }
+            | Request::ReencipherAhead { role, .. }
+            | Request::ReencipherDrop { role, .. } => plain("REENCIPHER", role),
+        }
+    }
+
     /// Its verb, 7 or 10 letters.
     pub fn verb(&self) -> &str
         ensures verb { result.now ≡ (row_of (seen self.now).name).verb }
         ensures letters { list_all is_letter result.now ≡ true }
         ensures size { (length result.now ≡ 7) ⊎ (length result.now ≡ 10) }
     {
-        match self {
-            Request::Csnbktp { .. } => "CSNBKTP",
-            Request::Csnbenc { .. }
-            | Request::CsnbencFirst { .. }
-            | Request::CsnbencMiddle { .. }
-            | Request::CsnbencLast { .. } => "CSNBENC",
-            Request::Csnbdec { .. }
-            | Request::CsnbdecFirst { .. }
-            | Request::CsnbdecMiddle { .. }
-            | Request::CsnbdecLast { .. } => "CSNBDEC",
-            Request::Csnbmgn { .. }
-            | Request::CsnbmgnFirst { .. }
-            | Request::CsnbmgnMiddle { .. }
-            | Request::CsnbmgnLast { .. } => "CSNBMGN",
-            Request::Csnbmvr { .. }
-            | Request::CsnbmvrFirst { .. }
-            | Request::CsnbmvrMiddle { .. }
-            | Request::CsnbmvrLast { .. } => "CSNBMVR",
-            Request::Csnbkyt { .. } => "CSNBKYT",
-            Request::Csnbcki { .. } => "CSNBCKI",
-            Request::Csnbrng { .. } => "CSNBRNG",
-            Request::CsnbkgnOp { .. } | Request::CsnbkgnPair { .. } | Request::CsnbkgnOut { .. } =>
-                "CSNBKGN",
-            Request::Csnbkim { .. } => "CSNBKIM",
-            Request::Csnbkex { .. } => "CSNBKEX",
-            Request::Csnbpex { .. } => "CSNBPEX",
-            Request::Csnbktc { .. } => "CSNBKTC",
-            Request::CsnbkpiFirst { .. } | Request::CsnbkpiMiddle { .. } => "CSNBKPI",
-            Request::Csnbktr { .. } => "CSNBKTR",
-            Request::Csnbkrc { .. } => "CSNBKRC",
-            Request::Csnbkrw { .. } => "CSNBKRW",
-            Request::Csnbkrr { .. } => "CSNBKRR",
-            Request::Csnbkrd { .. } => "CSNBKRD",
-            Request::Csnbkrl { .. } => "CSNBKRL",
-            Request::CsnbmkpPart { .. }
-            | Request::CsnbmkpClear { .. }
-            | Request::CsnbmkpSet { .. } => "CSNBMKP",
-            Request::CsuaaciDefine { .. } | Request::CsuaaciRemove { .. } => "CSUAACI",
-            Request::Reencipher { .. }
-            | Request::ReencipherAhead { .. }
-            | Request::ReencipherDrop { .. } => "REENCIPHER",
-        }
+        self.parts().verb
     }
 
     /// The name of its role, 1 to 8 characters.
@@ -78,51 +181,7 @@ impl<'a> Request<'a> {
     pub fn role_name(&self) -> &RoleName
         ensures { result.now ≡ value_of (seen self.now) (codes "role") }
     {
-        match self {
-            Request::Csnbktp { role, .. } => role,
-            Request::Csnbenc { role, .. } => role,
-            Request::CsnbencFirst { role, .. } => role,
-            Request::CsnbencMiddle { role, .. } => role,
-            Request::CsnbencLast { role, .. } => role,
-            Request::Csnbdec { role, .. } => role,
-            Request::CsnbdecFirst { role, .. } => role,
-            Request::CsnbdecMiddle { role, .. } => role,
-            Request::CsnbdecLast { role, .. } => role,
-            Request::Csnbmgn { role, .. } => role,
-            Request::CsnbmgnFirst { role, .. } => role,
-            Request::CsnbmgnMiddle { role, .. } => role,
-            Request::CsnbmgnLast { role, .. } => role,
-            Request::Csnbmvr { role, .. } => role,
-            Request::CsnbmvrFirst { role, .. } => role,
-            Request::CsnbmvrMiddle { role, .. } => role,
-            Request::CsnbmvrLast { role, .. } => role,
-            Request::Csnbkyt { role, .. } => role,
-            Request::Csnbcki { role, .. } => role,
-            Request::Csnbrng { role, .. } => role,
-            Request::CsnbkgnOp { role, .. } => role,
-            Request::CsnbkgnPair { role, .. } => role,
-            Request::CsnbkgnOut { role, .. } => role,
-            Request::Csnbkim { role, .. } => role,
-            Request::Csnbkex { role, .. } => role,
-            Request::Csnbpex { role, .. } => role,
-            Request::Csnbktc { role, .. } => role,
-            Request::CsnbkpiFirst { role, .. } => role,
-            Request::CsnbkpiMiddle { role, .. } => role,
-            Request::Csnbktr { role, .. } => role,
-            Request::Csnbkrc { role, .. } => role,
-            Request::Csnbkrw { role, .. } => role,
-            Request::Csnbkrr { role, .. } => role,
-            Request::Csnbkrd { role, .. } => role,
-            Request::Csnbkrl { role, .. } => role,
-            Request::CsnbmkpPart { role, .. } => role,
-            Request::CsnbmkpClear { role, .. } => role,
-            Request::CsnbmkpSet { role, .. } => role,
-            Request::CsuaaciDefine { role, .. } => role,
-            Request::CsuaaciRemove { role, .. } => role,
-            Request::Reencipher { role } => role,
-            Request::ReencipherAhead { role, .. } => role,
-            Request::ReencipherDrop { role, .. } => role,
-        }
+        self.parts().role
     }
 
     /// The first label that it names, in the order of its fields. What stands where a label is wanted and isn't one
@@ -131,59 +190,9 @@ impl<'a> Request<'a> {
         ensures first { option_copied result ≡ first_label (seen self.now) }
         ensures label { IfSome result (λ text. IsLabel text.now) }
     {
-        match self {
-            Request::Csnbenc { key, .. }
-            | Request::CsnbencFirst { key, .. }
-            | Request::CsnbencMiddle { key, .. }
-            | Request::CsnbencLast { key, .. }
-            | Request::Csnbdec { key, .. }
-            | Request::CsnbdecFirst { key, .. }
-            | Request::CsnbdecMiddle { key, .. }
-            | Request::CsnbdecLast { key, .. }
-            | Request::Csnbmgn { key, .. }
-            | Request::CsnbmgnFirst { key, .. }
-            | Request::CsnbmgnMiddle { key, .. }
-            | Request::CsnbmgnLast { key, .. }
-            | Request::Csnbmvr { key, .. }
-            | Request::CsnbmvrFirst { key, .. }
-            | Request::CsnbmvrMiddle { key, .. }
-            | Request::CsnbmvrLast { key, .. }
-            | Request::Csnbkyt { key, .. } => label_in(key),
-            Request::Csnbcki { to, .. }
-            | Request::CsnbkgnOp { to, .. }
-            | Request::CsnbkpiFirst { to, .. } => label_in(to),
-            Request::CsnbkgnPair { transport2, to, .. } => first_in(transport2, to),
-            Request::CsnbkgnOut {
-                transport1,
-                transport2,
-                ..
-            }
-            | Request::Csnbktr {
-                transport1,
-                transport2,
-                ..
-            } => first_in(transport1, transport2),
-            Request::Csnbkim { transport, to, .. } => first_in(transport, to),
-            Request::Csnbkex { key, transport, .. } => first_in(key, transport),
-            Request::Csnbpex { key, to, .. } | Request::CsnbkpiMiddle { key, to, .. } => first_in(
-                key, to,
-            ),
-            Request::Csnbkrc { label, .. }
-            | Request::Csnbkrw { label, .. }
-            | Request::Csnbkrr { label, .. }
-            | Request::Csnbkrd { label, .. } => if_label(label),
-            Request::Csnbktp { .. }
-            | Request::Csnbrng { .. }
-            | Request::Csnbktc { .. }
-            | Request::Csnbkrl { .. }
-            | Request::CsnbmkpPart { .. }
-            | Request::CsnbmkpClear { .. }
-            | Request::CsnbmkpSet { .. }
-            | Request::CsuaaciDefine { .. }
-            | Request::CsuaaciRemove { .. }
-            | Request::Reencipher { .. }
-            | Request::ReencipherAhead { .. }
-            | Request::ReencipherDrop { .. } => None,
+        match self.parts().named {
+            Named::Label(label) => if_label(label),
+            Named::Keys(first, second) => first_in(first, second),
         }
     }
 }
