@@ -1,6 +1,6 @@
 -- Lines of each row of the grammar, and the name and the values of the request that each spells.
-use Rattle.std.specs.Prelude.{◌≡◌, ℕ, List, [], ◌∷◌, ◌++◌, codes, Some, ⊤}
-use Rattle.verb_script.specs.Grammar.{RequestName, csnbcki, csnbdec, csnbdec_first, csnbdec_last, csnbdec_middle, csnbenc, csnbenc_first, csnbenc_last, csnbenc_middle, csnbkex, csnbkgn_op, csnbkgn_out, csnbkgn_pair, csnbkim, csnbkpi_first, csnbkpi_middle, csnbkrc, csnbkrd, csnbkrl, csnbkrr, csnbkrw, csnbktc, csnbktp, csnbktr, csnbkyt, csnbmgn, csnbmgn_first, csnbmgn_last, csnbmgn_middle, csnbmkp_clear, csnbmkp_part, csnbmkp_set, csnbmvr, csnbmvr_first, csnbmvr_last, csnbmvr_middle, csnbpex, csnbrng, csuaaci_define, csuaaci_remove, reencipher, reencipher_ahead, reencipher_drop}
+use Rattle.std.specs.Prelude.{◌≡◌, ℕ, List, [], ◌∷◌, ◌++◌, codes, Option, Some, map}
+use Rattle.verb_script.specs.Grammar.{Request, RequestName, csnbcki, csnbdec, csnbdec_first, csnbdec_last, csnbdec_middle, csnbenc, csnbenc_first, csnbenc_last, csnbenc_middle, csnbkex, csnbkgn_op, csnbkgn_out, csnbkgn_pair, csnbkim, csnbkpi_first, csnbkpi_middle, csnbkrc, csnbkrd, csnbkrl, csnbkrr, csnbkrw, csnbktc, csnbktp, csnbktr, csnbkyt, csnbmgn, csnbmgn_first, csnbmgn_last, csnbmgn_middle, csnbmkp_clear, csnbmkp_part, csnbmkp_set, csnbmvr, csnbmvr_first, csnbmvr_last, csnbmvr_middle, csnbpex, csnbrng, csuaaci_define, csuaaci_remove, reencipher, reencipher_ahead, reencipher_drop}
 use Rattle.verb_script.specs.Requests.{request_of}
 
 -- a line, and the name and the values of a request
@@ -12,10 +12,12 @@ pub record Worked : Type 0 where
 abbrev pub worked : List ℕ → RequestName → List (List ℕ) → Worked
 worked line name values = record { line = line; name = name; values = values }
 
+abbrev pub request_worked : Worked → Option Request
+request_worked w = Some (record { name = w.name; values = w.values })
+
 -- each line spells its request
 abbrev pub AreSpelled : List Worked → Type 0
-AreSpelled [] = ⊤
-AreSpelled (w ∷ ws) = (request_of w.line ≡ Some (record { name = w.name; values = w.values })) × AreSpelled ws
+AreSpelled ws = map (λ (w : Worked). request_of w.line) ws ≡ map request_worked ws
 
 -- a key token, in hexadecimal digits
 abbrev pub a_token : List ℕ
