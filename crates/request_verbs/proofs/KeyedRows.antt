@@ -1,16 +1,13 @@
--- What the rows over one key show of it: of each, its rules and its fields.
-use Rattle.std.proofs.Common.{Bool, true, false, List, [], ◌∷◌, ℕ, None, codes, refl}
+-- What the rows of texts and codes show of their key: of each, its rules and its fields. A row of its own has it in its answer.
+use Rattle.std.proofs.Common.{Bool, true, false, List, [], ◌∷◌, ℕ, refl}
 use Rattle.std.specs.Prelude.{◌/◌, length}
-use Rattle.cipher_verbs.specs.CipherTexts.{test_value}
 use Rattle.cipher_verbs.specs.declared.padding.Pad.TheVariants as padding
 use Rattle.des_core.specs.Modes.{zero_block}
 use Rattle.mac_verbs.specs.Codes.{code_of}
-use Rattle.script_buffers.specs.Replies.{Hex}
 use Rattle.text_segments.specs.Chains.{chain_of, first_chain}
 use Rattle.text_segments.specs.Segments.{IsCipher, last_code}
 use Rattle.text_segments.specs.declared.modes.Mode.{Mode}
 use Rattle.text_segments.specs.declared.modes.Mode.TheVariants.{Encipher, Decipher, Mac}
-use Rattle.verb_script.specs.Grammar.{csnbkyt}
 use Rattle.verb_script.specs.Values.{hex_value}
 use Rattle.cca_machine.specs.Act.{code_segment_fields, last_text_fields, segment_fields}
 use Rattle.cca_machine.specs.Choices.{mac_rule_named, pad_named}
@@ -22,9 +19,6 @@ use Rattle.request_verbs.specs.WholeTexts.{whole_questions, whole_row}
 use Rattle.request_verbs.specs.declared.verbs.codes.Purpose.{Purpose}
 use Rattle.request_verbs.specs.declared.verbs.codes.Purpose.TheVariants.{Generate, Verify}
 use Rattle.request_verbs.proofs.KeyedVerbs.{IsKeyed}
-
-pub test_keyed : (role key : List ℕ) → IsKeyed (asked csnbkyt (role ∷ key ∷ [])) (λ k. None) (λ k. Hex (codes "value") (test_value k) ∷ [])
-test_keyed role key = record { undrawn = refl; has = λ s bench g is. is.0; verdict = λ s. refl; makes = λ s. refl }
 
 -- ---- texts that are enciphered and deciphered
 

@@ -1,10 +1,18 @@
-use Rattle.std.proofs.Common.{rules}
-use Rattle.request_verbs.proofs.KeyedRows.{test_keyed}
+-- What the row shows of its key, which computes.
+use Rattle.std.proofs.Common.{List, [], ◌∷◌, ℕ, None, codes, refl, rules}
+use Rattle.cipher_verbs.specs.CipherTexts.{test_value}
+use Rattle.script_buffers.specs.Replies.{Hex}
+use Rattle.verb_script.specs.Grammar.{csnbkyt}
+use Rattle.request_verbs.specs.Decided.{asked}
+use Rattle.request_verbs.proofs.KeyedVerbs.{IsKeyed}
 use Rattle.request_verbs.proofs.Settling.{keyed_settles}
 use Rattle.request_verbs.proofs.verbs.csnbkyt.csnbkyt.Goals as goal
+
+keyed : (role key : List ℕ) → IsKeyed (asked csnbkyt (role ∷ key ∷ [])) (λ k. None) (λ k. Hex (codes "value") (test_value k) ∷ [])
+keyed role key = record { undrawn = refl; has = λ s bench g is. is.0; verdict = λ s. refl; makes = λ s. refl }
 
 pub returns : goal.returns
 returns c = record {
   settles = λ role key held rows.
-      keyed_settles (test_keyed role key) c.key_in.ensures.is c.key_in.ensures.under (search rules);
+      keyed_settles (keyed role key) c.key_in.ensures.is c.key_in.ensures.under (search rules);
 }
