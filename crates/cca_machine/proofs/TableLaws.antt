@@ -11,7 +11,7 @@ use Rattle.key_transport.specs.declared.changing.Target.{Target}
 use Rattle.key_transport.specs.declared.changing.Target.TheVariants.{Current, New}
 use Rattle.key_transport.specs.declared.generating.Form.TheVariants.{Opex, Opim, Imex, Exex, Imim}
 use Rattle.verb_rules.specs.declared.needs.Need.{Need}
-use Rattle.verb_script.specs.Grammar.{Request, RequestName, csnbktp, csnbenc, csnbenc_first, csnbenc_middle, csnbenc_last, csnbdec, csnbdec_first, csnbdec_middle, csnbdec_last, csnbmgn, csnbmgn_first, csnbmgn_middle, csnbmgn_last, csnbmvr, csnbmvr_first, csnbmvr_middle, csnbmvr_last, csnbkyt, csnbcki, csnbrng, csnbkgn_op, csnbkgn_pair, csnbkgn_out, csnbkim, csnbkex, csnbpex, csnbktc, csnbkpi_first, csnbkpi_middle, csnbktr, csnbkrc, csnbkrw, csnbkrr, csnbkrd, csnbkrl, csnbmkp_part, csnbmkp_clear, csnbmkp_set, csuaaci_define, csuaaci_remove, reencipher, value_of, reencipher_ahead, reencipher_drop}
+use Rattle.verb_script.specs.Grammar.{Request, RequestName, value_of, csnbktp, csnbcki, csnbkgn_op, csnbkgn_pair, csnbkim, csnbpex, csnbktc, csnbkpi_first, csnbkpi_middle, csnbmkp_part}
 use Rattle.verb_script.specs.Named.{label_named}
 use Rattle.cca_machine.specs.Actions.{part_action}
 use Rattle.cca_machine.specs.Choices.{out_form_named, pair_form_named, target_named}
@@ -40,48 +40,16 @@ of_action Set = refl
 
 pub of_table : (name : RequestName) (r : Request) → ArePoints (needed_points name r)
 of_table csnbktp r = refl
-of_table csnbenc r = refl
-of_table csnbenc_first r = refl
-of_table csnbenc_middle r = refl
-of_table csnbenc_last r = refl
-of_table csnbdec r = refl
-of_table csnbdec_first r = refl
-of_table csnbdec_middle r = refl
-of_table csnbdec_last r = refl
-of_table csnbmgn r = refl
-of_table csnbmgn_first r = refl
-of_table csnbmgn_middle r = refl
-of_table csnbmgn_last r = refl
-of_table csnbmvr r = refl
-of_table csnbmvr_first r = refl
-of_table csnbmvr_middle r = refl
-of_table csnbmvr_last r = refl
-of_table csnbkyt r = refl
 of_table csnbcki r = with_target (point (codes "CKI")) (label_named (value_of r (codes "to"))) refl refl
-of_table csnbrng r = refl
 of_table csnbkgn_op r = with_target (point (codes "KGN_OP")) (label_named (value_of r (codes "to"))) refl refl
 of_table csnbkgn_pair r = with_target (point (codes "KGN_PAIR")) (label_named (value_of r (codes "to"))) refl refl
-of_table csnbkgn_out r = refl
 of_table csnbkim r = with_target (point (codes "KIM")) (label_named (value_of r (codes "to"))) refl refl
-of_table csnbkex r = refl
 of_table csnbpex r = with_target (point (codes "PEX")) (label_named (value_of r (codes "to"))) refl refl
 of_table csnbktc r = of_target (target_named (value_of r (codes "rule")))
 of_table csnbkpi_first r = with_target (point (codes "KPI_FIRST")) (label_named (value_of r (codes "to"))) refl refl
 of_table csnbkpi_middle r = with_target (point (codes "KPI_COMBINE")) (label_named (value_of r (codes "to"))) refl refl
-of_table csnbktr r = refl
-of_table csnbkrc r = refl
-of_table csnbkrw r = refl
-of_table csnbkrr r = refl
-of_table csnbkrd r = refl
-of_table csnbkrl r = refl
 of_table csnbmkp_part r = of_action (part_action (value_of r (codes "action")))
-of_table csnbmkp_clear r = refl
-of_table csnbmkp_set r = refl
-of_table csuaaci_define r = refl
-of_table csuaaci_remove r = refl
-of_table reencipher r = refl
-of_table reencipher_ahead r = refl
-of_table reencipher_drop r = refl
+of_table _ r = refl
 
 -- ---- transport keys
 

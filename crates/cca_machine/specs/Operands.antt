@@ -1,5 +1,6 @@
--- The operands of a request that name a key or a label, as a table.
-use Rattle.std.specs.Prelude.{ℕ, Bool, true, false, ◌||◌, is_some, List, [], ◌∷◌, codes, Option, None, Some}
+-- What a request needs before its verb decides, as a table: access control points, the master key, and its operands, which
+-- name a key or a label.
+use Rattle.std.specs.Prelude.{ℕ, bit_or, Bool, true, false, ◌||◌, is_some, List, [], ◌∷◌, codes, Option, None, Some}
 use Rattle.verb_script.specs.Grammar.{Request, RequestName, csnbktp, csnbenc, csnbenc_first, csnbenc_middle, csnbenc_last, csnbdec, csnbdec_first, csnbdec_middle, csnbdec_last, csnbmgn, csnbmgn_first, csnbmgn_middle, csnbmgn_last, csnbmvr, csnbmvr_first, csnbmvr_middle, csnbmvr_last, csnbkyt, csnbcki, csnbrng, csnbkgn_op, csnbkgn_pair, csnbkgn_out, csnbkim, csnbkex, csnbpex, csnbktc, csnbkpi_first, csnbkpi_middle, csnbktr, csnbkrc, csnbkrw, csnbkrr, csnbkrd, csnbkrl, csnbmkp_part, csnbmkp_clear, csnbmkp_set, csuaaci_define, csuaaci_remove, reencipher, value_of, reencipher_ahead, reencipher_drop}
 use Rattle.cca_vectors.specs.declared.key_class.Class.{Class}
 use Rattle.cca_vectors.specs.declared.key_class.Class.TheVariants.{Data, Cipher, Mac, Exporter, Importer}
@@ -12,7 +13,10 @@ use Rattle.verb_script.specs.Named.{label_named}
 use Rattle.verb_rules.specs.Classes.{classes_of}
 pub use Rattle.verb_rules.specs.Needs.{any_key, every_class, exported_key, transport_key}
 use Rattle.verb_rules.specs.declared.needs.Need.{Need}
-use Rattle.cca_machine.specs.Choices.{pair_form_named, out_form_named}
+use Rattle.cca_machine.specs.Actions.{part_action}
+use Rattle.cca_machine.specs.Choices.{pair_form_named, out_form_named, target_named}
+use Rattle.cca_machine.specs.Points.{action_points, change_points, point, target_points}
+use Rattle.master_registers.specs.declared.actions.Action.TheVariants.{Clear, Set}
 use Rattle.cca_machine.specs.declared.asking.Ask.{Ask}
 use Rattle.cca_machine.specs.declared.asking.Ask.TheVariants.{AnyToken, Key, Token, External as ExternalToken, Record, Held, NewLabel, Target, Nothing}
 
@@ -115,68 +119,128 @@ abbrev pub key_operand : Request → List Class → Option Usage → Operands
 key_operand r classes usage =
     one_operand (operand r (codes "key") (Key (internal_key classes usage)))
 
+-- ---- what a request needs before its verb decides: access control points, the master key, and what is asked of its operands
+
+pub record Needed : Type 0 where
+  pub points : Request → ℕ
+  -- rule 05 is asked
+  pub master : Bool
+  pub operands : Request → Operands
+
+-- most need the master key
+abbrev pub needs_points : (Request → ℕ) → (Request → Operands) → Needed
+needs_points points operands = record { points = points; master = true; operands = operands }
+
+-- and one access control point, whatever their fields say
+abbrev pub needs : List ℕ → (Request → Operands) → Needed
+needs name operands = needs_points (λ r. point name) operands
+
+-- a key that goes into a record needs the point of CSNBKRW too
+abbrev pub needs_with_target : List ℕ → (Request → Operands) → Needed
+needs_with_target name operands =
+    needs_points (λ r. bit_or (point name) (target_points (value_of r (codes "to")))) operands
+
+abbrev pub needs_key : List ℕ → List Class → Option Usage → Needed
+needs_key name classes usage = needs name (λ r. key_operand r classes usage)
+
+abbrev pub without_master : Needed → Needed
+without_master it = record it { master = false }
+
+abbrev pub without_operands : Request → Operands
+without_operands r = no_operands
+
+abbrev pub to_target : Request → Operands
+to_target r = one_operand (operand r (codes "to") Target)
+
 -- the table
-abbrev pub operands_of : RequestName → Request → Operands
-operands_of csnbktp r = one_operand (operand r (codes "token") AnyToken)
-operands_of csnbenc r = key_operand r (Data ∷ Cipher ∷ []) (Some Encipher)
-operands_of csnbenc_first r = key_operand r (Data ∷ Cipher ∷ []) (Some Encipher)
-operands_of csnbenc_middle r = key_operand r (Data ∷ Cipher ∷ []) (Some Encipher)
-operands_of csnbenc_last r = key_operand r (Data ∷ Cipher ∷ []) (Some Encipher)
-operands_of csnbdec r = key_operand r (Data ∷ Cipher ∷ []) (Some Decipher)
-operands_of csnbdec_first r = key_operand r (Data ∷ Cipher ∷ []) (Some Decipher)
-operands_of csnbdec_middle r = key_operand r (Data ∷ Cipher ∷ []) (Some Decipher)
-operands_of csnbdec_last r = key_operand r (Data ∷ Cipher ∷ []) (Some Decipher)
-operands_of csnbmgn r = key_operand r (Data ∷ Mac ∷ []) (Some MacGenerate)
-operands_of csnbmgn_first r = key_operand r (Data ∷ Mac ∷ []) (Some MacGenerate)
-operands_of csnbmgn_middle r = key_operand r (Data ∷ Mac ∷ []) (Some MacGenerate)
-operands_of csnbmgn_last r = key_operand r (Data ∷ Mac ∷ []) (Some MacGenerate)
-operands_of csnbmvr r = key_operand r (Data ∷ Mac ∷ []) (Some MacVerify)
-operands_of csnbmvr_first r = key_operand r (Data ∷ Mac ∷ []) (Some MacVerify)
-operands_of csnbmvr_middle r = key_operand r (Data ∷ Mac ∷ []) (Some MacVerify)
-operands_of csnbmvr_last r = key_operand r (Data ∷ Mac ∷ []) (Some MacVerify)
-operands_of csnbkyt r = key_operand r five_classes None
-operands_of csnbcki r = one_operand (operand r (codes "to") Target)
-operands_of csnbrng r = no_operands
-operands_of csnbkgn_op r = one_operand (operand r (codes "to") Target)
-operands_of csnbkgn_pair r =
-    two_operands (operand r (codes "transport2")
-    (Key (second_transport (pair_form_named (value_of r (codes "form"))))))
-    (operand r (codes "to") Target)
-operands_of csnbkgn_out r =
-    two_operands (operand r (codes "transport1")
-    (Key (first_transport (out_form_named (value_of r (codes "form"))))))
-    (operand r (codes "transport2")
-    (Key (second_transport (out_form_named (value_of r (codes "form"))))))
-operands_of csnbkim r = three_operands (operand r (codes "token") (ExternalToken external_key))
+abbrev pub needed : RequestName → Needed
+needed csnbktp =
+    without_master (needs_points (λ r. 0) (λ r. one_operand (operand r (codes "token") AnyToken)))
+needed csnbenc = needs_key (codes "ENC") (Data ∷ Cipher ∷ []) (Some Encipher)
+needed csnbenc_first = needs_key (codes "ENC") (Data ∷ Cipher ∷ []) (Some Encipher)
+needed csnbenc_middle = needs_key (codes "ENC") (Data ∷ Cipher ∷ []) (Some Encipher)
+needed csnbenc_last = needs_key (codes "ENC") (Data ∷ Cipher ∷ []) (Some Encipher)
+needed csnbdec = needs_key (codes "DEC") (Data ∷ Cipher ∷ []) (Some Decipher)
+needed csnbdec_first = needs_key (codes "DEC") (Data ∷ Cipher ∷ []) (Some Decipher)
+needed csnbdec_middle = needs_key (codes "DEC") (Data ∷ Cipher ∷ []) (Some Decipher)
+needed csnbdec_last = needs_key (codes "DEC") (Data ∷ Cipher ∷ []) (Some Decipher)
+needed csnbmgn = needs_key (codes "MGN") (Data ∷ Mac ∷ []) (Some MacGenerate)
+needed csnbmgn_first = needs_key (codes "MGN") (Data ∷ Mac ∷ []) (Some MacGenerate)
+needed csnbmgn_middle = needs_key (codes "MGN") (Data ∷ Mac ∷ []) (Some MacGenerate)
+needed csnbmgn_last = needs_key (codes "MGN") (Data ∷ Mac ∷ []) (Some MacGenerate)
+needed csnbmvr = needs_key (codes "MVR") (Data ∷ Mac ∷ []) (Some MacVerify)
+needed csnbmvr_first = needs_key (codes "MVR") (Data ∷ Mac ∷ []) (Some MacVerify)
+needed csnbmvr_middle = needs_key (codes "MVR") (Data ∷ Mac ∷ []) (Some MacVerify)
+needed csnbmvr_last = needs_key (codes "MVR") (Data ∷ Mac ∷ []) (Some MacVerify)
+needed csnbkyt = needs_key (codes "KYT") five_classes None
+needed csnbcki = needs_with_target (codes "CKI") to_target
+needed csnbrng = without_master (needs (codes "RNG") without_operands)
+needed csnbkgn_op = needs_with_target (codes "KGN_OP") to_target
+needed csnbkgn_pair =
+    needs_with_target (codes "KGN_PAIR") (λ r. two_operands
+    (operand r (codes "transport2") (Key (second_transport (pair_form_named (value_of r (codes "form"))))))
+    (operand r (codes "to") Target))
+needed csnbkgn_out =
+    needs (codes "KGN_OUT") (λ r. two_operands
+    (operand r (codes "transport1") (Key (first_transport (out_form_named (value_of r (codes "form"))))))
+    (operand r (codes "transport2") (Key (second_transport (out_form_named (value_of r (codes "form")))))))
+needed csnbkim =
+    needs_with_target (codes "KIM") (λ r. three_operands
+    (operand r (codes "token") (ExternalToken external_key))
     (operand r (codes "transport") (Key (transport_key Importer Transport)))
-    (operand r (codes "to") Target)
-operands_of csnbkex r = two_operands (operand r (codes "key") (Key exported_key))
-    (operand r (codes "transport") (Key (transport_key Exporter Transport)))
-operands_of csnbpex r =
-    two_operands (operand r (codes "key") (Key (internal_key five_classes None)))
-    (operand r (codes "to") Target)
-operands_of csnbktc r = one_operand (operand r (codes "token") (Token any_key))
-operands_of csnbkpi_first r = one_operand (operand r (codes "to") Target)
-operands_of csnbkpi_middle r =
-    two_operands (operand r (codes "key") (Key part_key)) (operand r (codes "to") Target)
-operands_of csnbktr r =
-    three_operands (operand r (codes "token") (ExternalToken external_key))
+    (operand r (codes "to") Target))
+needed csnbkex =
+    needs (codes "KEX") (λ r. two_operands
+    (operand r (codes "key") (Key exported_key))
+    (operand r (codes "transport") (Key (transport_key Exporter Transport))))
+needed csnbpex =
+    needs_with_target (codes "PEX") (λ r. two_operands
+    (operand r (codes "key") (Key (internal_key five_classes None)))
+    (operand r (codes "to") Target))
+needed csnbktc =
+    needs_points (λ r. change_points (target_named (value_of r (codes "rule"))))
+    (λ r. one_operand (operand r (codes "token") (Token any_key)))
+needed csnbkpi_first = needs_with_target (codes "KPI_FIRST") to_target
+needed csnbkpi_middle =
+    needs_with_target (codes "KPI_COMBINE") (λ r. two_operands
+    (operand r (codes "key") (Key part_key))
+    (operand r (codes "to") Target))
+needed csnbktr =
+    needs (codes "KTR") (λ r. three_operands
+    (operand r (codes "token") (ExternalToken external_key))
     (operand r (codes "transport1") (Key (transport_key Importer Translate)))
-    (operand r (codes "transport2") (Key (transport_key Exporter Translate)))
-operands_of csnbkrc r = one_operand (operand r (codes "label") NewLabel)
-operands_of csnbkrw r =
-    two_operands (operand r (codes "label") Held) (operand r (codes "token") (Token any_key))
-operands_of csnbkrr r = one_operand (operand r (codes "label") Record)
-operands_of csnbkrd r = one_operand (operand r (codes "label") Held)
-operands_of csnbkrl r = no_operands
-operands_of csnbmkp_part r = no_operands
-operands_of csnbmkp_clear r = no_operands
-operands_of csnbmkp_set r = no_operands
-operands_of csuaaci_define r = no_operands
-operands_of csuaaci_remove r = no_operands
-operands_of reencipher r = no_operands
-operands_of reencipher_ahead r = no_operands
-operands_of reencipher_drop r = no_operands
+    (operand r (codes "transport2") (Key (transport_key Exporter Translate))))
+needed csnbkrc =
+    without_master (needs (codes "KRC") (λ r. one_operand (operand r (codes "label") NewLabel)))
+needed csnbkrw =
+    needs (codes "KRW") (λ r. two_operands
+    (operand r (codes "label") Held)
+    (operand r (codes "token") (Token any_key)))
+needed csnbkrr = needs (codes "KRR") (λ r. one_operand (operand r (codes "label") Record))
+needed csnbkrd =
+    without_master (needs (codes "KRD") (λ r. one_operand (operand r (codes "label") Held)))
+needed csnbkrl = without_master (needs (codes "KRL") without_operands)
+needed csnbmkp_part =
+    without_master (needs_points (λ r. action_points (part_action (value_of r (codes "action"))))
+    without_operands)
+needed csnbmkp_clear = without_master (needs_points (λ r. action_points Clear) without_operands)
+needed csnbmkp_set = without_master (needs_points (λ r. action_points Set) without_operands)
+needed csuaaci_define = without_master (needs (codes "ROLES") without_operands)
+needed csuaaci_remove = without_master (needs (codes "ROLES") without_operands)
+needed reencipher = needs (codes "REENC") without_operands
+needed reencipher_ahead = needs (codes "REENC") without_operands
+needed reencipher_drop = needs (codes "REENC") without_operands
+
+-- the access control points that a request needs
+abbrev pub needed_points : RequestName → Request → ℕ
+needed_points name request = (needed name).points request
+
+-- rule 05 is asked
+abbrev pub needs_master : RequestName → Bool
+needs_master name = (needed name).master
+
+abbrev pub operands_of : RequestName → Request → Operands
+operands_of name request = (needed name).operands request
 
 abbrev pub operands : Request → Operands
 operands request = operands_of request.name request

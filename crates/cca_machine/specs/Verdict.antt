@@ -1,14 +1,14 @@
 -- The verdict on a request: the first rule that it breaks, with the operand that breaks it. The rules stand in tables, and
 -- each is asked as the tables say. A rule that needs an earlier one doesn't fail where that one does. Rule 34 alone asks
 -- the random bytes to come.
-use Rattle.std.specs.Prelude.{ℕ, ◌/◌, ◌==◌, bit_or, Bool, true, false, not, ◌&&◌, ◌||◌, is_none, is_some, if◌then◌else◌, List, [], ◌∷◌, ◌++◌, length, codes, Option, Some, None}
+use Rattle.std.specs.Prelude.{ℕ, ◌/◌, ◌==◌, Bool, false, not, ◌&&◌, ◌||◌, is_none, is_some, if◌then◌else◌, List, [], ◌∷◌, ◌++◌, length, codes, Option, Some, None}
 use Rattle.cca_vectors.specs.Checks.{Check, check, first_failing}
 use Rattle.cca_roles.specs.Points.{includes}
 use Rattle.cca_roles.specs.Roles.{points_of, define_refused, remove_refused}
-use Rattle.cca_machine.specs.Points.{point}
+pub use Rattle.cca_machine.specs.Points.{action_points, change_points, points_for, target_points}
 use Rattle.key_tokens.specs.TokenChecks.{token_checks}
 use Rattle.key_tokens.specs.declared.key_token.Asked.TheVariants.{Either}
-use Rattle.verb_script.specs.Grammar.{Request, RequestName, csnbktp, csnbenc, csnbenc_first, csnbenc_middle, csnbenc_last, csnbdec, csnbdec_first, csnbdec_middle, csnbdec_last, csnbmgn, csnbmgn_first, csnbmgn_middle, csnbmgn_last, csnbmvr, csnbmvr_first, csnbmvr_middle, csnbmvr_last, csnbkyt, csnbcki, csnbrng, csnbkgn_op, csnbkgn_pair, csnbkgn_out, csnbkim, csnbkex, csnbpex, csnbktc, csnbkpi_first, csnbkpi_middle, csnbktr, csnbkrc, csnbkrw, csnbkrr, csnbkrd, csnbkrl, csnbmkp_part, csnbmkp_clear, csnbmkp_set, csuaaci_define, csuaaci_remove, reencipher, value_of, reencipher_ahead, reencipher_drop}
+use Rattle.verb_script.specs.Grammar.{Request, RequestName, csnbenc, csnbenc_first, csnbenc_middle, csnbenc_last, csnbdec, csnbdec_first, csnbdec_middle, csnbdec_last, csnbmgn, csnbmgn_first, csnbmgn_middle, csnbmgn_last, csnbmvr, csnbmvr_first, csnbmvr_middle, csnbmvr_last, csnbkgn_op, csnbkgn_pair, csnbkgn_out, csnbktc, csnbkpi_first, csnbkpi_middle, csnbkrc, csnbmkp_part, csnbmkp_clear, csnbmkp_set, csuaaci_define, csuaaci_remove, value_of, reencipher_ahead}
 use Rattle.verb_script.specs.Named.{label_named}
 use Rattle.verb_script.specs.Values.{hex_value}
 use Rattle.cca_vectors.specs.Vectors.{length_of}
@@ -44,9 +44,10 @@ use Rattle.cca_machine.specs.Choices.{pad_named, mac_rule_named, type_in, target
 use Rattle.cca_machine.specs.Draws.{Draw, NoBytes, EightBytes, KeyBytes, draw_of, length_in}
 use Rattle.cca_machine.specs.Keys.{key_bytes, key_of_request, key_of_label, cell_with, or_no_key}
 use Rattle.cca_machine.specs.Operands.{Operand, operands, listed}
+pub use Rattle.cca_machine.specs.Operands.{needed_points, needs_master}
 use Rattle.cca_machine.specs.Actions.{part_action, action_checks}
 use Rattle.master_registers.specs.declared.actions.Action.{Action}
-use Rattle.master_registers.specs.declared.actions.Action.TheVariants.{First, Middle, Last, Clear, Set}
+use Rattle.master_registers.specs.declared.actions.Action.TheVariants.{Clear, Set}
 use Rattle.cca_machine.specs.declared.asking.Ask.{Ask}
 use Rattle.cca_machine.specs.declared.asking.Ask.TheVariants as ask
 
@@ -81,90 +82,6 @@ or_then None others = others
 or_then (Some r) others = Some r
 
 -- ---- the request as a whole
-
--- rule 05 is asked
-abbrev pub needs_master : RequestName → Bool
-needs_master csnbktp = false
-needs_master csnbrng = false
-needs_master csnbkrc = false
-needs_master csnbkrd = false
-needs_master csnbkrl = false
-needs_master csnbmkp_part = false
-needs_master csnbmkp_clear = false
-needs_master csnbmkp_set = false
-needs_master csuaaci_define = false
-needs_master csuaaci_remove = false
-needs_master _ = true
-
--- the access control points that a request needs
-abbrev pub action_points : Action → ℕ
-action_points First = point (codes "MK_FIRST")
-action_points Middle = point (codes "MK_COMBINE")
-action_points Last = point (codes "MK_COMBINE")
-action_points Clear = point (codes "MK_CLEAR")
-action_points Set = point (codes "MK_SET")
-
-abbrev pub points_for : Option (List ℕ) → ℕ
-points_for None = 0
-points_for (Some label) = point (codes "KRW")
-
--- a key that goes into a record needs the point of CSNBKRW too
-abbrev pub target_points : List ℕ → ℕ
-target_points to = points_for (label_named to)
-
--- RTCMK or RTNMK
-abbrev pub change_points : Target → ℕ
-change_points Current = point (codes "KTC_CURRENT")
-change_points New = point (codes "KTC_NEW")
-
-abbrev pub needed_points : RequestName → Request → ℕ
-needed_points csnbktp r = 0
-needed_points csnbenc r = point (codes "ENC")
-needed_points csnbenc_first r = point (codes "ENC")
-needed_points csnbenc_middle r = point (codes "ENC")
-needed_points csnbenc_last r = point (codes "ENC")
-needed_points csnbdec r = point (codes "DEC")
-needed_points csnbdec_first r = point (codes "DEC")
-needed_points csnbdec_middle r = point (codes "DEC")
-needed_points csnbdec_last r = point (codes "DEC")
-needed_points csnbmgn r = point (codes "MGN")
-needed_points csnbmgn_first r = point (codes "MGN")
-needed_points csnbmgn_middle r = point (codes "MGN")
-needed_points csnbmgn_last r = point (codes "MGN")
-needed_points csnbmvr r = point (codes "MVR")
-needed_points csnbmvr_first r = point (codes "MVR")
-needed_points csnbmvr_middle r = point (codes "MVR")
-needed_points csnbmvr_last r = point (codes "MVR")
-needed_points csnbkyt r = point (codes "KYT")
-needed_points csnbcki r = bit_or (point (codes "CKI")) (target_points (value_of r (codes "to")))
-needed_points csnbrng r = point (codes "RNG")
-needed_points csnbkgn_op r =
-    bit_or (point (codes "KGN_OP")) (target_points (value_of r (codes "to")))
-needed_points csnbkgn_pair r =
-    bit_or (point (codes "KGN_PAIR")) (target_points (value_of r (codes "to")))
-needed_points csnbkgn_out r = point (codes "KGN_OUT")
-needed_points csnbkim r = bit_or (point (codes "KIM")) (target_points (value_of r (codes "to")))
-needed_points csnbkex r = point (codes "KEX")
-needed_points csnbpex r = bit_or (point (codes "PEX")) (target_points (value_of r (codes "to")))
-needed_points csnbktc r = change_points (target_named (value_of r (codes "rule")))
-needed_points csnbkpi_first r =
-    bit_or (point (codes "KPI_FIRST")) (target_points (value_of r (codes "to")))
-needed_points csnbkpi_middle r =
-    bit_or (point (codes "KPI_COMBINE")) (target_points (value_of r (codes "to")))
-needed_points csnbktr r = point (codes "KTR")
-needed_points csnbkrc r = point (codes "KRC")
-needed_points csnbkrw r = point (codes "KRW")
-needed_points csnbkrr r = point (codes "KRR")
-needed_points csnbkrd r = point (codes "KRD")
-needed_points csnbkrl r = point (codes "KRL")
-needed_points csnbmkp_part r = action_points (part_action (value_of r (codes "action")))
-needed_points csnbmkp_clear r = action_points Clear
-needed_points csnbmkp_set r = action_points Set
-needed_points csuaaci_define r = point (codes "ROLES")
-needed_points csuaaci_remove r = point (codes "ROLES")
-needed_points reencipher r = point (codes "REENC")
-needed_points reencipher_ahead r = point (codes "REENC")
-needed_points reencipher_drop r = point (codes "REENC")
 
 -- a role that is held lacks a point
 abbrev pub lacks : Option ℕ → ℕ → Bool

@@ -6,7 +6,7 @@ use Rattle.reencipher.specs.Further.{further}
 use Rattle.reencipher.specs.declared.actions.StoreAction.{StoreAction}
 use Rattle.reencipher.specs.declared.actions.StoreAction.TheVariants.{Renew, Ahead, Drop}
 use Rattle.script_buffers.specs.Replies.{Field}
-use Rattle.verb_script.specs.Grammar.{Request, RequestName, csnbktp, csnbenc, csnbdec, csnbmgn, csnbmvr, csnbenc_first, csnbenc_middle, csnbenc_last, csnbdec_first, csnbdec_middle, csnbdec_last, csnbmgn_first, csnbmgn_middle, csnbmgn_last, csnbmvr_first, csnbmvr_middle, csnbmvr_last, csnbkyt, csnbcki, csnbrng, csnbkgn_op, csnbkgn_pair, csnbkgn_out, csnbkpi_first, csnbkpi_middle, csnbkim, csnbkex, csnbktr, csnbpex, csnbktc, csnbkrc, csnbkrw, csnbkrr, csnbkrd, csnbkrl, csnbmkp_part, csnbmkp_clear, csnbmkp_set, csuaaci_define, csuaaci_remove, reencipher, reencipher_ahead, reencipher_drop, Spells}
+use Rattle.verb_script.specs.Grammar.{Request, RequestName, csnbktp, csnbcki, csnbkgn_op, csnbkgn_pair, csnbkpi_first, csnbkpi_middle, csnbkim, csnbpex, reencipher, reencipher_ahead, reencipher_drop, Spells}
 use Rattle.cca_machine.specs.Reruns.{row_with}
 use Rattle.cca_machine.specs.State.{State}
 use Rattle.cca_machine.specs.Verdict.{Refusal, verdict}
@@ -28,48 +28,17 @@ StaysOrRenews s drawn name r cell =
 
 by_name : (s : State) (drawn : List ℕ) (name : RequestName) (r : Request) (cell : ℕ) → StaysOrRenews s drawn name r cell
 by_name s drawn csnbktp r cell = inl refl
-by_name s drawn csnbenc r cell = inl refl
-by_name s drawn csnbdec r cell = inl refl
-by_name s drawn csnbmgn r cell = inl refl
-by_name s drawn csnbmvr r cell = inl refl
-by_name s drawn csnbenc_first r cell = inl refl
-by_name s drawn csnbenc_middle r cell = inl refl
-by_name s drawn csnbenc_last r cell = inl refl
-by_name s drawn csnbdec_first r cell = inl refl
-by_name s drawn csnbdec_middle r cell = inl refl
-by_name s drawn csnbdec_last r cell = inl refl
-by_name s drawn csnbmgn_first r cell = inl refl
-by_name s drawn csnbmgn_middle r cell = inl refl
-by_name s drawn csnbmgn_last r cell = inl refl
-by_name s drawn csnbmvr_first r cell = inl refl
-by_name s drawn csnbmvr_middle r cell = inl refl
-by_name s drawn csnbmvr_last r cell = inl refl
-by_name s drawn csnbkyt r cell = inl refl
 by_name s drawn csnbcki r cell = inl (delivered_between s _ _ _ _ cell)
-by_name s drawn csnbrng r cell = inl refl
 by_name s drawn csnbkgn_op r cell = inl (delivered_between s _ _ _ _ cell)
 by_name s drawn csnbkgn_pair r cell = inl (delivered_between s _ _ _ _ cell)
-by_name s drawn csnbkgn_out r cell = inl refl
 by_name s drawn csnbkpi_first r cell = inl (delivered_between s _ _ _ _ cell)
 by_name s drawn csnbkpi_middle r cell = inl (delivered_between s _ _ _ _ cell)
 by_name s drawn csnbkim r cell = inl (delivered_between s _ _ _ _ cell)
-by_name s drawn csnbkex r cell = inl refl
-by_name s drawn csnbktr r cell = inl refl
 by_name s drawn csnbpex r cell = inl (delivered_between s _ _ _ _ cell)
-by_name s drawn csnbktc r cell = inl refl
-by_name s drawn csnbkrc r cell = inl refl
-by_name s drawn csnbkrw r cell = inl refl
-by_name s drawn csnbkrr r cell = inl refl
-by_name s drawn csnbkrd r cell = inl refl
-by_name s drawn csnbkrl r cell = inl refl
-by_name s drawn csnbmkp_part r cell = inl refl
-by_name s drawn csnbmkp_clear r cell = inl refl
-by_name s drawn csnbmkp_set r cell = inl refl
-by_name s drawn csuaaci_define r cell = inl refl
-by_name s drawn csuaaci_remove r cell = inl refl
 by_name s drawn reencipher r cell = inr (Renew, refl, refl)
 by_name s drawn reencipher_ahead r cell = inr (Ahead, refl, refl)
 by_name s drawn reencipher_drop r cell = inr (Drop, refl, refl)
+by_name s drawn _ r cell = inl refl
 
 -- the state before it, or one on the way of a permitted REENCIPHER
 abbrev MayLeave : State → List ℕ → State → Type 0
