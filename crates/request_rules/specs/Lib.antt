@@ -1,6 +1,7 @@
 pub mod ByRecords
 pub mod FieldWords
 pub mod Judging
+pub mod Needing
 pub mod Refusals
 pub mod Standing
 pub mod Stored

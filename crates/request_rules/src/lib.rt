@@ -9,6 +9,7 @@ mod choices;
 mod general;
 mod grants;
 mod judging;
+mod needed;
 mod operands;
 mod refusals;
 mod role;

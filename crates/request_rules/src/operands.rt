@@ -1,4 +1,4 @@
-//! The table of operands: of each request, what is asked of which field.
+//! Operands: what is asked of which field of a request.
 ghost use Rattle.std.specs.Prelude.{◌≡◌, ◌∷◌, [], Some, codes};
 ghost use Rattle.verb_script.specs.Parsed.{seen};
 ghost use Rattle.cca_machine.specs.Operands.{operands, no_operands};
@@ -12,6 +12,7 @@ ghost use Rattle.request_rules.specs.FieldWords.{IsOutForm, IsPairForm};
 ghost use Rattle.request_rules.specs.Judging.{IsAccepted, seen_operand, seen_operands, AreFit};
 
 use crate::choices::{out_form_of, pair_form_of};
+use crate::needed::needed_by;
 use cca_machine::Ask;
 use cca_vectors::Class;
 use key_transport::Form;
@@ -92,94 +93,30 @@ impl<'a> Operands<'a> {
     }
 }
 
-/// The table: of each request, what is asked of which field.
+/// What is asked of which field of a request.
 pub fn operands_of<'a>(request: &Request<'a>) -> Operands<'a>
     requires accepted { IsAccepted (seen request.now) }
     ensures table { seen_operands result ≡ operands (seen request.now) }
     ensures fit { AreFit (operands (seen request.now)) }
 {
-    match request {
-        Request::Csnbktp { token, .. } => one_operand("token", token, Ask::AnyToken),
-        Request::Csnbenc { key, .. }
-        | Request::CsnbencFirst { key, .. }
-        | Request::CsnbencMiddle { key, .. }
-        | Request::CsnbencLast { key, .. } => cipher_key(key, Usage::Encipher),
-        Request::Csnbdec { key, .. }
-        | Request::CsnbdecFirst { key, .. }
-        | Request::CsnbdecMiddle { key, .. }
-        | Request::CsnbdecLast { key, .. } => cipher_key(key, Usage::Decipher),
-        Request::Csnbmgn { key, .. }
-        | Request::CsnbmgnFirst { key, .. }
-        | Request::CsnbmgnMiddle { key, .. }
-        | Request::CsnbmgnLast { key, .. } => code_key(key, Usage::MacGenerate),
-        Request::Csnbmvr { key, .. }
-        | Request::CsnbmvrFirst { key, .. }
-        | Request::CsnbmvrMiddle { key, .. }
-        | Request::CsnbmvrLast { key, .. } => code_key(key, Usage::MacVerify),
-        Request::Csnbkyt { key, .. } => key_operand(key, &FIVE_CLASSES, None),
-        Request::Csnbcki { to, .. }
-        | Request::CsnbkgnOp { to, .. }
-        | Request::CsnbkpiFirst { to, .. } => one_operand("to", to, Ask::Target),
-        Request::CsnbkgnPair {
-            form,
-            transport2,
-            to,
-            ..
-        } => csnbkgn_pair(form, transport2, to),
-        Request::CsnbkgnOut {
-            form,
-            transport1,
-            transport2,
-            ..
-        } => csnbkgn_out(form, transport1, transport2),
-        Request::Csnbkim {
-            token,
-            transport,
-            to,
-            ..
-        } => csnbkim(token, transport, to),
-        Request::Csnbkex { key, transport, .. } => csnbkex(key, transport),
-        Request::Csnbpex { key, to, .. } => csnbpex(key, to),
-        Request::Csnbktc { token, .. } => one_operand("token", token, Ask::Token(any_key())),
-        Request::CsnbkpiMiddle { key, to, .. } => csnbkpi_middle(key, to),
-        Request::Csnbktr {
-            token,
-            transport1,
-            transport2,
-            ..
-        } => csnbktr(token, transport1, transport2),
-        Request::Csnbkrc { label, .. } => one_operand("label", label, Ask::NewLabel),
-        Request::Csnbkrw { label, token, .. } => csnbkrw(label, token),
-        Request::Csnbkrr { label, .. } => one_operand("label", label, Ask::Record),
-        Request::Csnbkrd { label, .. } => one_operand("label", label, Ask::Held),
-        Request::Csnbkrl { prefix, .. } => no_operands(prefix),
-        Request::Csnbrng { .. }
-        | Request::CsnbmkpPart { .. }
-        | Request::CsnbmkpClear { .. }
-        | Request::CsnbmkpSet { .. }
-        | Request::CsuaaciDefine { .. }
-        | Request::CsuaaciRemove { .. }
-        | Request::Reencipher { .. }
-        | Request::ReencipherAhead { .. }
-        | Request::ReencipherDrop { .. } => no_operands(b""),
-    }
+    needed_by(request).operands
 }
 
 // The arms of a match are to hold references alike, so this one takes one too.
-fn no_operands<'a>(_text: &'a [u8]) -> Operands<'a>
+pub(crate) fn no_operands<'a>(_text: &'a [u8]) -> Operands<'a>
     ensures { seen_operands result ≡ no_operands }
 {
     Operands::none()
 }
 
-fn one_operand<'a>(name: &'static str, text: &'a [u8], ask: Ask) -> Operands<'a>
+pub(crate) fn one_operand<'a>(name: &'static str, text: &'a [u8], ask: Ask) -> Operands<'a>
     ensures { seen_operands result
         ≡ one_operand (record { name = name.now; text = text.now; ask = ask }) }
 {
     Operands::one(Operand::new(name, text, ask))
 }
 
-fn csnbkrw<'a>(label: &'a [u8], token: &'a [u8]) -> Operands<'a>
+pub(crate) fn csnbkrw<'a>(label: &'a [u8], token: &'a [u8]) -> Operands<'a>
     ensures { seen_operands result
         ≡ two_operands (record { name = codes "label"; text = label.now; ask = Ask.Held })
         (record { name = codes "token"; text = token.now; ask = Ask.Token any_key }) }
@@ -192,7 +129,7 @@ fn csnbkrw<'a>(label: &'a [u8], token: &'a [u8]) -> Operands<'a>
 
 /// The transport key of the second of two generated keys, of which the first is internal, and where
 /// the first one goes.
-fn csnbkgn_pair<'a>(form: &[u8], transport2: &'a [u8], to: &'a [u8]) -> Operands<'a>
+pub(crate) fn csnbkgn_pair<'a>(form: &[u8], transport2: &'a [u8], to: &'a [u8]) -> Operands<'a>
     requires { IsPairForm form.now }
     ensures { seen_operands result ≡ two_operands
         (record {
@@ -210,7 +147,11 @@ fn csnbkgn_pair<'a>(form: &[u8], transport2: &'a [u8], to: &'a [u8]) -> Operands
 }
 
 /// The transport keys of two generated keys that are both external.
-fn csnbkgn_out<'a>(form: &[u8], transport1: &'a [u8], transport2: &'a [u8]) -> Operands<'a>
+pub(crate) fn csnbkgn_out<'a>(
+    form: &[u8],
+    transport1: &'a [u8],
+    transport2: &'a [u8],
+) -> Operands<'a>
     requires { IsOutForm form.now }
     ensures { seen_operands result ≡ two_operands
         (record {
@@ -231,7 +172,7 @@ fn csnbkgn_out<'a>(form: &[u8], transport1: &'a [u8], transport2: &'a [u8]) -> O
     )
 }
 
-fn csnbkim<'a>(token: &'a [u8], transport: &'a [u8], to: &'a [u8]) -> Operands<'a>
+pub(crate) fn csnbkim<'a>(token: &'a [u8], transport: &'a [u8], to: &'a [u8]) -> Operands<'a>
     ensures { seen_operands result ≡ three_operands
         (record { name = codes "token"; text = token.now; ask = Ask.External external_key })
         (record {
@@ -252,7 +193,7 @@ fn csnbkim<'a>(token: &'a [u8], transport: &'a [u8], to: &'a [u8]) -> Operands<'
     }
 }
 
-fn csnbkex<'a>(key: &'a [u8], transport: &'a [u8]) -> Operands<'a>
+pub(crate) fn csnbkex<'a>(key: &'a [u8], transport: &'a [u8]) -> Operands<'a>
     ensures { seen_operands result ≡ two_operands
         (record { name = codes "key"; text = key.now; ask = Ask.Key exported_key })
         (record {
@@ -271,7 +212,7 @@ fn csnbkex<'a>(key: &'a [u8], transport: &'a [u8]) -> Operands<'a>
     )
 }
 
-fn csnbpex<'a>(key: &'a [u8], to: &'a [u8]) -> Operands<'a>
+pub(crate) fn csnbpex<'a>(key: &'a [u8], to: &'a [u8]) -> Operands<'a>
     ensures { seen_operands result ≡ two_operands
         (record {
           name = codes "key";
@@ -287,7 +228,7 @@ fn csnbpex<'a>(key: &'a [u8], to: &'a [u8]) -> Operands<'a>
 }
 
 /// A key that enciphers or deciphers texts.
-fn cipher_key<'a>(key: &'a [u8], usage: Usage) -> Operands<'a>
+pub(crate) fn cipher_key<'a>(key: &'a [u8], usage: Usage) -> Operands<'a>
     ensures { seen_operands result ≡ one_operand (record {
       name = codes "key";
       text = key.now;
@@ -298,7 +239,7 @@ fn cipher_key<'a>(key: &'a [u8], usage: Usage) -> Operands<'a>
 }
 
 /// A key that makes or verifies codes.
-fn code_key<'a>(key: &'a [u8], usage: Usage) -> Operands<'a>
+pub(crate) fn code_key<'a>(key: &'a [u8], usage: Usage) -> Operands<'a>
     ensures { seen_operands result ≡ one_operand (record {
       name = codes "key";
       text = key.now;
@@ -309,7 +250,7 @@ fn code_key<'a>(key: &'a [u8], usage: Usage) -> Operands<'a>
 }
 
 /// The key part that a further part is combined with, and where the key goes.
-fn csnbkpi_middle<'a>(key: &'a [u8], to: &'a [u8]) -> Operands<'a>
+pub(crate) fn csnbkpi_middle<'a>(key: &'a [u8], to: &'a [u8]) -> Operands<'a>
     ensures { seen_operands result ≡ two_operands
         (record { name = codes "key"; text = key.now; ask = Ask.Key part_key })
         (record { name = codes "to"; text = to.now; ask = Ask.Target }) }
@@ -321,7 +262,11 @@ fn csnbkpi_middle<'a>(key: &'a [u8], to: &'a [u8]) -> Operands<'a>
 }
 
 /// A key to be translated, and the transport keys that it is translated from and to.
-fn csnbktr<'a>(token: &'a [u8], transport1: &'a [u8], transport2: &'a [u8]) -> Operands<'a>
+pub(crate) fn csnbktr<'a>(
+    token: &'a [u8],
+    transport1: &'a [u8],
+    transport2: &'a [u8],
+) -> Operands<'a>
     ensures { seen_operands result ≡ three_operands
         (record { name = codes "token"; text = token.now; ask = Ask.External external_key })
         (record {
@@ -405,7 +350,7 @@ fn external_key() -> Need
 }
 
 /// Every class but OTHER.
-const FIVE_CLASSES: [Class; 5] = [
+pub(crate) const FIVE_CLASSES: [Class; 5] = [
     Class::Data,
     Class::Cipher,
     Class::Mac,
@@ -441,7 +386,11 @@ fn internal_key(classes: &[Class], usage: Option<Usage>) -> Need
     }
 }
 
-fn key_operand<'a>(key: &'a [u8], classes: &[Class], usage: Option<Usage>) -> Operands<'a>
+pub(crate) fn key_operand<'a>(
+    key: &'a [u8],
+    classes: &[Class],
+    usage: Option<Usage>,
+) -> Operands<'a>
     ensures { seen_operands result ≡ one_operand (record {
       name = codes "key";
       text = key.now;

@@ -16,4 +16,4 @@ module _ (s : State) {role role_now : List ℕ} {points points_now : ℕ} {maste
 
 pub returns-clause-rule : goal.returns-clause-rule
 returns-clause-rule c = λ s bench roles loaded.
-    c.role_rule.ensures.rule s bench roles loaded ∙ same_rule s c.role_name.ensures c.needed_points.ensures c.needs_master.ensures
+    c.role_rule.ensures.rule s bench roles loaded ∙ same_rule s c.role_name.ensures c.needed_by-needed.ensures.points c.needed_by-needed.ensures.master
