@@ -261,6 +261,10 @@ module _ (a : StoreAction) (masters : MasterKeys) (cell : ℕ) (s : List (Option
   kept_moments = each_weaker m0 m1 m0.images (From (HoldsTurn a masters cell s) m0) keeps.moments
       (λ c image. (c, settled.only c image, same_turn c (settled.only c image)))
 
+  -- a read failed
+  pub changes_unread : (fault : RecordFault) → ChangesCell a masters cell s rows rows m0 m1 (Err fault)
+  changes_unread fault = record { keeps = tt; other = tt; count = tt; kept = refl; either = kept_either; moments = kept_moments }
+
   pub changes_none : Told m0 (λ _. is_changed a (entry_at s cell) ≡ false) → ChangesCell a masters cell s rows rows m0 m1 (Ok false)
   changes_none stays = record {
     keeps = told_still m0 m1 (KeepsLabels masters rows (changed_at a cell s)) keeps

@@ -24,7 +24,7 @@ use Rattle.reencipher.specs.Turns.{ChangesCell, StaysAsRead, TurnsAsRead, TurnsC
 use Rattle.reencipher.specs.declared.actions.StoreAction.{StoreAction}
 use Rattle.reencipher.proofs.RowLaws.{marked_row_stays, no_row_stays, null_row_stays, row_changes, turns_kept, turns_failed, turns_written}
 use Rattle.reencipher.proofs.TokenLaws.{loaded_after}
-use Rattle.reencipher.proofs.TurnLaws.{IsMade, IsTurn, and_true, reads_what, reads_null, null_changes, no_label, may_not, does_not, is_turn, made_is, can_write, loaded_body, changes_none, changes_failed, changes_written, row_put}
+use Rattle.reencipher.proofs.TurnLaws.{IsMade, IsTurn, and_true, reads_what, reads_null, null_changes, no_label, may_not, does_not, is_turn, made_is, can_write, loaded_body, changes_none, changes_unread, changes_failed, changes_written, row_put}
 use Rattle.std.proofs.lemmas.List.{get_or-set_other}
 use Rattle.reencipher.proofs.turns.turn_cell.Goals as goal
 use Rattle.reencipher.proofs.turns.turn_cell.Goals.{After-made_tokens, In-Some-made_tokens}
@@ -48,6 +48,10 @@ returns-then-not-may_change-clause-changes g c m s loaded told =
     (changes_none c.args.action masters place s m0 m0 c.args.records.now c.requires.store.settled (keeps_still m0) told
     (told_map m0 (KeepsLabels masters c.args.records.now s) (λ _. is_changed c.args.action (entry_at s place) ≡ false) told
     (λ image keeps. may_not c.args.action masters c.args.records.now s place image keeps within (sym c.may_change.ensures ∙ c.if-not-may_change.true))))
+
+pub returns-in-Err-clause-changes : goal.returns-in-Err-clause-changes
+returns-in-Err-clause-changes g c m s loaded told =
+    changes_unread c.args.action (keys_of m) c.args.cell s (g.D.Disk.medium c.args.store.now) (g.D.Disk.medium c.read.new.store) c.args.records.now c.requires.store.settled c.read.ensures.keeps told c.in-Err.fault
 
 pub returns-then-not-found-clause-changes : goal.returns-then-not-found-clause-changes
 returns-then-not-found-clause-changes g c m s loaded told =
@@ -258,6 +262,9 @@ returns-then-not-found-clause-count g c =
     subst (λ n. false ≡ changes_row c.args.action c.args.held.now (get_or rows n None)) c.in-Some.ensures.place
     (sym (null_row_stays c.args.action c.args.held.now (get_or rows c.in-Some.place None) (sym c.in-Ok.ensures.null ∙ c.if-not-found.true)))
 
+pub returns-in-Err-clause-count : goal.returns-in-Err-clause-count
+returns-in-Err-clause-count g c = tt
+
 pub returns-in-None-made_tokens-clause-count : goal.returns-in-None-made_tokens-clause-count
 returns-in-None-made_tokens-clause-count g c =
     subst (λ n. false ≡ changes_row c.args.action c.args.held.now (get_or c.args.records.now n None)) c.in-Some.ensures.place
@@ -285,6 +292,9 @@ returns-then-not-may_change-clause-own g c = λ m loaded held may.
     let rows : List (Option Row) = c.args.records.now in
     absurd (not_both _ (sym c.may_change.ensures ∙ c.if-not-may_change.true)
     (subst (λ n. may_change c.args.action (is_ahead_row (get_or rows n None)) ≡ true) (sym c.in-Some.ensures.place) may))
+
+pub returns-in-Err-clause-own : goal.returns-in-Err-clause-own
+returns-in-Err-clause-own g c m loaded held may = tt
 
 pub returns-then-not-found-clause-own : goal.returns-then-not-found-clause-own
 returns-then-not-found-clause-own g c = λ m loaded held may.
