@@ -1,17 +1,20 @@
 -- Reading a record that is held.
 use Rattle.std.proofs.Common.{◌≡◌, ◌<◌, inl, inr, ℕ, zero, suc, Bool, true, false, List, [], ◌∷◌, get_or, map, Option, None, Some, refl, sym, ap, subst, ◌∙◌}
-use Rattle.std.specs.Prelude.{is_some, option_map, slice_index}
+use Rattle.std.specs.Prelude.{is_some, is_err, option_map, slice_index, Result, Ok, Err}
 use Rattle.byte_lists.specs.Bytes.{AreBytes}
 use Rattle.held_names.proofs.DirectoryLaws.{none_some}
 use Rattle.slot_disk.specs.Cells.{body}
+use Rattle.slot_disk.specs.Faults.{HasCause}
 use Rattle.key_tokens.specs.Denotes.{MasterKeys, Denoted}
 use Rattle.key_tokens.specs.Fields.{pattern_of_token}
 use Rattle.master_registers.specs.declared.patterns.Pattern.{Pattern}
-use Rattle.key_records.specs.Changes.{IsKeptWith, IsTokenOf, ReadsToken}
+use Rattle.key_records.specs.Changes.{HasReadCause, IsKeptWith, IsTokenOf, ReadsToken}
 use Rattle.key_records.specs.Entries.{Entry, remembered, pattern_for, pattern_ahead}
 use Rattle.key_records.specs.Labels.{IsLabel}
 use Rattle.key_records.specs.RecordBody.{record_body, token_in, second_in, kept, no_token, no_second, held_token, ReadsEntry, ReadsWhat, ReadsRow, ReadsPattern, HoldsToken, HoldsUnder, StandsAs, IsKept, IsFirst, IsSecond, null_kind, key_kind, both_kind}
 use Rattle.key_records.specs.StoreStands.{KeepsLabels, HoldsRows, entry_at}
+use Rattle.key_records.specs.declared.faults.RecordFault.{RecordFault}
+use Rattle.key_records.specs.declared.faults.RecordFault.TheVariants.{DiskFault}
 use Rattle.key_records.specs.declared.rows.Row.{Row}
 use Rattle.key_records.specs.declared.rows.Second.{Second}
 use Rattle.held_names.proofs.NameLemmas.{label_short}
@@ -39,6 +42,11 @@ row_entry masters (Some e) row is = record { entry = e; is = refl; label = cc is
 pub some_mapped : {A B : Type 0} (f : A → B) (o : Option A) → is_some (option_map f o) ≡ is_some o
 some_mapped f None = refl
 some_mapped f (Some x) = refl
+
+-- a cell was read, so no fault was counted
+pub cause_read : {T E : Type 0} (before now : ℕ) (r : Result T E) → HasCause before now r → is_err r ≡ false → (result : Result Bool RecordFault) → (result ≡ Err DiskFault → ⊥) → HasReadCause before now result
+cause_read before now (Ok x) cause read result other = record { later = cause.later; failed = λ is. absurd (other is); quiet = λ _. cause.quiet }
+cause_read before now (Err e) cause read result other = let wrong : true ≡ false = read in absurd (cc)
 
 -- ---- what stands in the body of a key
 

@@ -1,5 +1,5 @@
-use Rattle.std.proofs.Common.{◌≡◌, ◌<◌, ℕ, List, Bool, true, Option, Some, None, get_or, sym, ap, subst, ◌∙◌, rules}
-use Rattle.std.specs.Prelude.{is_some, slice_index}
+use Rattle.std.proofs.Common.{◌≡◌, ◌<◌, ℕ, List, Bool, true, false, Option, Some, None, Ok, Err, get_or, refl, sym, ap, subst, ◌∙◌}
+use Rattle.std.specs.Prelude.{is_some, slice_index, IfSome}
 use Rattle.slot_disk.proofs.Media.{told_joined, told_map}
 use Rattle.slot_disk.specs.Cells.{body}
 use Rattle.slot_disk.specs.Medium.{Told}
@@ -8,8 +8,9 @@ use Rattle.key_records.specs.Changes.{IsTokenOf, ReadsToken, ahead_at}
 use Rattle.key_records.specs.Entries.{Entry, label_or}
 use Rattle.key_records.specs.RecordBody.{token_in, second_in, held_token, ReadsRow, StandsAs}
 use Rattle.key_records.specs.StoreStands.{KeepsLabels, entry_at}
+use Rattle.key_records.specs.declared.faults.RecordFault.TheVariants.{Damaged}
 use Rattle.key_records.specs.declared.rows.Row.{Row}
-use Rattle.key_records.proofs.ReadLaws.{read_token, token_is_held}
+use Rattle.key_records.proofs.ReadLaws.{cause_read, read_token, token_is_held}
 use Rattle.key_records.proofs.StoreLaws.{unless_err}
 use Rattle.key_records.proofs.records.Records.read.Goals as goal
 
@@ -37,9 +38,9 @@ returns-in-Some-Some-clause-token g c masters s start =
     let row : Row = c.row-row.result in
     let token : List ℕ = c.in-Some-Some.token in
     let rows : List (Option Row) = c.args.self.now in
-    let some : true ≡ is_some row.pattern = search rules in
-    let reads : ReadsRow c.body.result.now (Some row) = search rules in
-    let is : IsTokenOf c.body.result.now row token = search rules in
+    let some : true ≡ is_some row.pattern = ap (λ (o : Option (List ℕ)). is_some o) (sym c.in-Some-Some.field-0-is) ∙ c.in-Some-Some.ensures.null in
+    let reads : ReadsRow c.body.result.now (Some row) = c.in-Some-Some.ensures.reads refl in
+    let is : IsTokenOf c.body.result.now row token = subst (λ (o : Option (List ℕ)). IfSome o (IsTokenOf c.body.result.now row)) c.in-Some-Some.field-0-is c.in-Some-Some.ensures.token in
     let held : get_or rows cell None ≡ Some row = ap (λ k. get_or rows k None) c.cell-cell.ensures.cell ∙ c.row-row.ensures in
     let read : Told m (λ image. c.read_cell.new.out ≡ body image cell) = subst (λ k. Told m (λ image. c.read_cell.new.out ≡ body image k)) c.new.ensures
     (unless_err c.read_cell.result (sym c.is_err.ensures.value ∙ c.if-is_err.false) c.read_cell.ensures.bytes) in
@@ -54,9 +55,26 @@ returns-in-Some-Some-clause-bytes g c _ =
     let row : Row = c.row-row.result in
     let token : List ℕ = c.in-Some-Some.token in
     let rows : List (Option Row) = c.args.self.now in
-    let is : IsTokenOf c.body.result.now row token = search rules in
+    let is : IsTokenOf c.body.result.now row token = subst (λ (o : Option (List ℕ)). IfSome o (IsTokenOf c.body.result.now row)) c.in-Some-Some.field-0-is c.in-Some-Some.ensures.token in
     let held : get_or rows cell None ≡ Some row = ap (λ k. get_or rows k None) c.cell-cell.ensures.cell ∙ c.row-row.ensures in
     let read : Told m (λ image. c.read_cell.new.out ≡ body image cell) = subst (λ k. Told m (λ image. c.read_cell.new.out ≡ body image k)) c.new.ensures
     (unless_err c.read_cell.result (sym c.is_err.ensures.value ∙ c.if-is_err.false) c.read_cell.ensures.bytes) in
     told_map m (λ image. c.read_cell.new.out ≡ body image cell) (λ image. StandsAs (body image c.args.place) (label_or (get_or rows c.args.place None)) token (ahead_at (get_or rows c.args.place None))) read
     (λ image here. token_stands rows cell c.args.place row c.body.result.now token image c.cell-cell.ensures.cell c.cell-cell.ensures.within held (c.body.ensures ∙ here) is)
+
+-- ---- no fault was counted, and nothing is written where no token is answered
+
+pub returns-in-Some-Some-clause-cause : goal.returns-in-Some-Some-clause-cause
+returns-in-Some-Some-clause-cause g c =
+    cause_read (g.D.Disk.faults c.args.store.now) (g.D.Disk.faults c.read_cell.new.disk) c.read_cell.result c.read_cell.ensures.cause (sym c.is_err.ensures.value ∙ c.if-is_err.false) (Ok true) (λ is. cc is)
+
+pub returns-in-Some-None-clause-cause : goal.returns-in-Some-None-clause-cause
+returns-in-Some-None-clause-cause g c =
+    cause_read (g.D.Disk.faults c.args.store.now) (g.D.Disk.faults c.read_cell.new.disk) c.read_cell.result c.read_cell.ensures.cause (sym c.is_err.ensures.value ∙ c.if-is_err.false) (Ok false) (λ is. cc is)
+
+pub returns-in-None-clause-cause : goal.returns-in-None-clause-cause
+returns-in-None-clause-cause g c =
+    cause_read (g.D.Disk.faults c.args.store.now) (g.D.Disk.faults c.read_cell.new.disk) c.read_cell.result c.read_cell.ensures.cause (sym c.is_err.ensures.value ∙ c.if-is_err.false) (Err (Damaged c.cell-cell.result)) (λ is. cc is)
+
+pub returns-in-Some-None-clause-untouched : goal.returns-in-Some-None-clause-untouched
+returns-in-Some-None-clause-untouched g c _ = refl
