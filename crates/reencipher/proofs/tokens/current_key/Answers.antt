@@ -21,3 +21,6 @@ returns-clause-key c m bench loaded =
 
 pub returns-clause-current : goal.returns-clause-current
 returns-clause-current c m bench loaded = sym (ap has_current_key (returns-clause-key c m bench loaded))
+
+pub returns-clause-halves : goal.returns-clause-halves
+returns-clause-halves c = c.in-Ok.ensures.layout.0.right

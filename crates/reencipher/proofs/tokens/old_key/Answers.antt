@@ -27,3 +27,6 @@ returns-clause-key c m bench loaded =
 
 pub returns-clause-old : goal.returns-clause-old
 returns-clause-old c m bench loaded = sym (ap has_old_key (returns-clause-key c m bench loaded))
+
+pub returns-clause-halves : goal.returns-clause-halves
+returns-clause-halves c = c.in-Ok.ensures.layout.0.right
