@@ -6,3 +6,4 @@ pub mod StopLemmas
 pub mod OpeningLemmas
 pub mod RunLemmas
 pub mod CourseLemmas
+pub mod TakenLemmas

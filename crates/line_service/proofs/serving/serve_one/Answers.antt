@@ -1,10 +1,11 @@
 -- What a line leaves, by how far it came.
-use Rattle.std.proofs.Common.{◌≡◌, ◌++◌, ℕ, List, subst, refl, rules}
+use Rattle.std.proofs.Common.{◌≡◌, ◌++◌, ℕ, List, Ok, Err, subst, refl, rules}
 use Rattle.slot_disk.specs.WhereTold.{WhereTold}
 use Rattle.line_service.specs.Machine.{world}
 use Rattle.line_service.specs.Sending.{GotPart}
 use Rattle.line_service.proofs.LineLemmas.{line_replied, line_cut, line_lost, line_ended, line_unread, line_over}
 use Rattle.line_service.proofs.StopLemmas.{devices_stopped, devices_unread, no_desk_read, no_desk_write, count_still, grows_none}
+use Rattle.line_service.proofs.TakenLemmas.{line_was_taken, no_line_was_taken, answered_replied, answered_cut, answered_stop, read_ended, read_failed, read_over}
 use Rattle.line_service.proofs.serving.serve_one.Goals as goal
 
 pub returns-in-Ok-send-clause-serves : goal.returns-in-Ok-send-clause-serves
@@ -53,6 +54,36 @@ returns-in-Err-InputLimit-clause-serves g c = λ s stands.
     line_over g.A.Desk.machine s (g.A.Desk.knows c.args.desk.now) (world (g.M.Disk.medium c.args.module.now) (g.D.Disk.medium c.args.store.now) (g.E.Entropy.left c.args.entropy.now))
     (g.S.Source.left c.args.source.now) (g.S.Source.left c.read_line.new.source) (g.K.Sink.held c.args.sink.now) (g.K.Sink.held c.args.sink.now)
     c.args.lines.now c.read_line.new.buffer _ c.read_line.ensures.counted stands c.requires.disks.module_settled c.requires.disks.store_settled
+
+pub returns-in-Ok-send-clause-taken : goal.returns-in-Ok-send-clause-taken
+returns-in-Ok-send-clause-taken g c =
+    line_was_taken c.in-Ok.taken c.in_default.not-End _ c.args.lines.now c.read_line.new.buffer c.in-Ok.ensures.answer c.in-Ok.ensures.shown c.in-Ok.ensures.advances c.in-Ok.ensures.end
+    c.read_line.ensures.ended c.read_line.ensures.at_end c.read_line.ensures.counted c.read_line.ensures.within c.in-Ok.ensures.limit _ answered_replied
+
+pub returns-in-Err-send-clause-taken : goal.returns-in-Err-send-clause-taken
+returns-in-Err-send-clause-taken g c =
+    line_was_taken c.in-Ok.taken c.in_default.not-End _ c.args.lines.now c.read_line.new.buffer c.in-Ok.ensures.answer c.in-Ok.ensures.shown c.in-Ok.ensures.advances c.in-Ok.ensures.end
+    c.read_line.ensures.ended c.read_line.ensures.at_end c.read_line.ensures.counted c.read_line.ensures.within c.in-Ok.ensures.limit _ answered_cut
+
+pub returns-in-Err-clause-taken : goal.returns-in-Err-clause-taken
+returns-in-Err-clause-taken g c =
+    line_was_taken c.in-Ok.taken c.in_default.not-End _ c.args.lines.now c.read_line.new.buffer c.in-Ok.ensures.answer c.in-Ok.ensures.shown c.in-Ok.ensures.advances c.in-Ok.ensures.end
+    c.read_line.ensures.ended c.read_line.ensures.at_end c.read_line.ensures.counted c.read_line.ensures.within c.in-Ok.ensures.limit _ (answered_stop c.in-Err.stop c.in-Err.ensures.stops)
+
+pub returns-in-End-clause-taken : goal.returns-in-End-clause-taken
+returns-in-End-clause-taken g c =
+    no_line_was_taken (Ok c.in-Ok.taken) _ c.args.lines.now c.read_line.new.buffer _ (read_ended _ c.in-End.is) c.in-Ok.ensures.answer c.in-Ok.ensures.shown c.in-Ok.ensures.end c.read_line.ensures.ended c.in-Ok.ensures.ends
+    c.read_line.ensures.at_end c.read_line.ensures.counted c.read_line.ensures.within c.read_line.ensures.early c.in-Ok.ensures.limit c.in-Ok.ensures.full c.in-Ok.ensures.short tt tt
+
+pub returns-in-Err-ReadFault-clause-taken : goal.returns-in-Err-ReadFault-clause-taken
+returns-in-Err-ReadFault-clause-taken g c =
+    no_line_was_taken (Err c.in-Err-ReadFault.field-0) _ c.args.lines.now c.read_line.new.buffer _ (read_failed _ c.in-Err-ReadFault.field-0-is) tt tt c.in-Err-ReadFault.ensures.end c.read_line.ensures.ended c.in-Err-ReadFault.ensures.ends
+    c.read_line.ensures.at_end c.read_line.ensures.counted c.read_line.ensures.within c.read_line.ensures.early c.in-Err-ReadFault.ensures.limit c.in-Err-ReadFault.ensures.full c.in-Err-ReadFault.ensures.short c.in-Err-ReadFault.ensures.emptied c.in-Err-ReadFault.ensures.lost
+
+pub returns-in-Err-InputLimit-clause-taken : goal.returns-in-Err-InputLimit-clause-taken
+returns-in-Err-InputLimit-clause-taken g c =
+    no_line_was_taken (Err c.in-Err-InputLimit.field-0) _ c.args.lines.now c.read_line.new.buffer _ (read_over _ c.in-Err-InputLimit.field-0-is) tt tt c.in-Err-InputLimit.ensures.end c.read_line.ensures.ended c.in-Err-InputLimit.ensures.ends
+    c.read_line.ensures.at_end c.read_line.ensures.counted c.read_line.ensures.within c.read_line.ensures.early c.in-Err-InputLimit.ensures.limit c.in-Err-InputLimit.ensures.full c.in-Err-InputLimit.ensures.short c.in-Err-InputLimit.ensures.emptied c.in-Err-InputLimit.ensures.lost
 
 pub returns-in-Err-clause-left : goal.returns-in-Err-clause-left
 returns-in-Err-clause-left g c = record {
