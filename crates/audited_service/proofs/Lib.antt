@@ -9,3 +9,4 @@ pub mod FullLemmas
 pub mod OpeningLemmas
 pub mod EndingLemmas
 pub mod CourseLemmas
+mod SentLemmas

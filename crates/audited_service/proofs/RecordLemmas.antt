@@ -14,7 +14,6 @@ use Rattle.audit_trail.specs.declared.entries.Entry.{Entry}
 use Rattle.audit_trail.specs.declared.faults.TrailFault.{TrailFault}
 use Rattle.audit_trail.specs.declared.faults.TrailFault.TheVariants as trail_fault
 use Rattle.line_service.specs.Machine.{Machine, Outcome, World}
-use Rattle.line_service.specs.Devices.{Span, Devices, DevicesLeft}
 use Rattle.line_service.specs.Answering.{Holds, OnDisks, Stands, Steps, Moves, Serves}
 use Rattle.line_service.specs.Serving.{IsTheLine, IsAroundLine, EachPairStands, LineServed}
 use Rattle.line_service.specs.declared.serving.Served.{Served}
@@ -199,34 +198,6 @@ module _ (A : Machine) (entry : List ℕ → List ℕ → Entry) (s : Noted A.St
 
     pub over_recorded : LineRecorded A entry s (Agrees k t) (Ok (Err InputLimit)) w w t t a b p p r0 r1
     over_recorded = recorded_ok A entry s (Agrees k t) (Err InputLimit) w w t t a b p p r0 r1 (line_over (noting A entry) s (Agrees k t) w a b p p r0 r1 X told stands m d) still
-
--- ---- what is left of the devices
-
--- what a call leaves that is done, another leaves with another answer
-pub devices_carried : {T U : Type 0} (A : Machine) (x : T) (y : U) (d : Span Devices) → DevicesLeft {T = T} (Ok x) d → DevicesLeft {T = U} (Ok y) d
-devices_carried A x y d left = record {
-  module_left = record {
-    size = left.module_left.size;
-    still = left.module_left.still;
-    settled = λ ok. left.module_left.settled refl;
-    later = left.module_left.later;
-    fault = λ h. absurd (cc h);
-    quiet = λ none. left.module_left.quiet (λ h. cc h);
-  };
-  store_left = record {
-    size = left.store_left.size;
-    still = left.store_left.still;
-    settled = λ ok. left.store_left.settled refl;
-    later = left.store_left.later;
-    fault = λ h. absurd (cc h);
-    quiet = λ none. left.store_left.quiet (λ h. cc h);
-  };
-  entropy_left = record {
-    later = left.entropy_left.later;
-    fault = λ h. absurd (cc h);
-    quiet = λ none. left.entropy_left.quiet (λ h. cc h);
-  };
-}
 
 -- ---- what the trail holds after an append that failed
 

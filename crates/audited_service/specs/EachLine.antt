@@ -1,24 +1,27 @@
 -- For the functions of this crate alone: what one line leaves that is recorded before its reply is sent, and what all
 -- lines leave once disks and trail are opened.
-use Rattle.std.specs.Prelude.{⊤, ◌≡◌, ◌+◌, ◌^◌, ◌<◌, ℕ, List, ◌++◌, Bool, Option, Ok, Err, Result, OnErr, IfErr, IfOk, IsSome, length}
+use Rattle.std.specs.Prelude.{⊤, ◌≡◌, ◌⊎◌, ◌+◌, ◌^◌, ◌<◌, ℕ, List, ◌++◌, Bool, Option, Ok, Err, Result, OnOk, OnErr, IfErr, IfOk, IsSome, length}
 use Rattle.std.specs.Io.KnownBytes.{Consumes}
 use Rattle.slot_disk.specs.Medium.{Medium, Told, IsSettled, Becomes, EachImage}
 use Rattle.slot_disk.specs.WhereTold.{WhereTold}
 use Rattle.script_buffers.specs.Lines.{lines}
 use Rattle.script_buffers.specs.Reading.{TakesLine, Reading}
-use Rattle.audit_trail.specs.Changes.{TrailLeft}
+use Rattle.audit_trail.specs.Changes.{AppendsEntry, TrailLeft}
 use Rattle.audit_trail.specs.TrailStands.{IsTrail}
 use Rattle.audit_trail.specs.declared.entries.Entry.{Entry}
 use Rattle.audit_trail.specs.declared.faults.TrailFault.{TrailFault}
 use Rattle.audit_trail.specs.declared.faults.TrailFault.TheVariants.{DiskFault, Full, Damaged}
 use Rattle.line_service.specs.Machine.{Machine, World}
 use Rattle.line_service.specs.Answering.{Steps, OnDisks, Stands, Turns}
-use Rattle.line_service.specs.Devices.{Span, BothSettled, Outside, OutsideLeft, Undamaged}
+use Rattle.line_service.specs.Devices.{Span, BothSettled, Outside, OutsideLeft, TellsFault, Undamaged}
+use Rattle.line_service.specs.Running.{LineTaken}
+use Rattle.line_service.specs.Sending.{GotPart, Grows}
 use Rattle.line_service.specs.Serving.{EachPairStands, LineServed, IsAroundLine, KeepsSpare}
 use Rattle.line_service.specs.Stops.{AnswersLines}
 use Rattle.line_service.specs.declared.serving.Served.{Served}
 use Rattle.line_service.specs.declared.serving.Served.TheVariants.{Replied}
 use Rattle.line_service.specs.declared.stops.Stop.{Stop}
+use Rattle.line_service.specs.declared.stops.Stop.TheVariants.{WriteFault}
 use Rattle.audited_service.specs.Answers.{run_part}
 use Rattle.audited_service.specs.Auditing.{AuditTaken}
 use Rattle.audited_service.specs.Growing.{TrailGrows, Grown}
@@ -117,6 +120,42 @@ pub record AppendFails {T K : Type 0} (result : Result (Result Served Stop) Trai
   pub unsent : OnErr result (sink1 ≡ sink0)
   pub number : result ≡ Err Full → next ≡ 2 ^ 63
   pub uncalled : result ≡ Err Full → trail1 ≡ trail0
+
+-- how an append came out, where a call sends the reply after it
+abbrev pub append_part : Result (Result Served Stop) TrailFault → Result (Unit {0}) TrailFault
+append_part (Ok r) = Ok tt
+append_part (Err fault) = Err fault
+
+-- the answers of that call
+abbrev pub IsSent : Result (Result Served Stop) TrailFault → Type 0
+IsSent (Ok r) = (r ≡ Ok Replied) ⊎ (r ≡ Err WriteFault)
+IsSent (Err fault) = ⊤
+
+-- The entry of a line was appended, and then its reply was sent. A trail is `t0` before and `t1` now, and has failed so
+-- often; a sink holds `o0` before and `o1` now.
+pub record EntrySent (next : ℕ) (e : Entry) (reply : List ℕ)
+    (result : Result (Result Served Stop) TrailFault) (t0 t1 : Medium) (before now : ℕ)
+    (o0 o1 : Option (List ℕ)) (writes_before writes_now : ℕ) : Type 0 where
+  pub answers : IsSent result
+  pub appended : AppendsEntry next e t0 t1 (append_part result)
+  pub trail : TrailAppended t0 t1 before now (result ≡ Err DiskFault)
+  pub all : result ≡ Ok (Ok Replied) → WhereTold o0 o1 (λ x y. y ≡ x ++ reply)
+  pub part : result ≡ Ok (Err WriteFault) → WhereTold o0 o1 (λ x y. GotPart x y reply)
+  pub grows : WhereTold o0 o1 Grows
+  pub count : TellsFault writes_before writes_now (line_part result ≡ Err WriteFault)
+
+-- What a line leaves besides, whatever disks and trail stand for: how far the input was taken and which line is shown,
+-- what is left of each device and why it stopped, and that the desk and the trail's number are right for a next line.
+pub record LineKept (A : Machine) (Ready Holds : Type 0)
+    (result : Result (Result Served Stop) TrailFault) (o : Span Outside) (t0 t1 : Medium)
+    (before now : ℕ) (r0 r1 : Reading) : Type 0 where
+  pub ready : result ≡ Ok (Ok Replied) → Ready
+  pub held : OnOk result Holds
+  pub taken : LineTaken (line_part result) o r0 r1
+  pub left : OutsideLeft (line_part result) o
+  pub undamaged : Undamaged A (line_part result) o.old.devices
+  pub cut : result ≡ Ok (Err WriteFault) → BothSettled o.new.devices
+  pub trail : TrailAppended t0 t1 before now (result ≡ Err DiskFault)
 
 -- ---- all lines
 

@@ -3,19 +3,48 @@ ghost use Rattle.std.specs.Prelude.{◌≡◌, IsTrue, Ok, Err, OnOk};
 ghost use Rattle.std.specs.Io.KnownBytes.{IsAtEnd};
 ghost use Rattle.key_cells.specs.Bench.{blank_bench};
 ghost use Rattle.slot_disk.specs.Medium.{Told};
+ghost use Rattle.audit_trail.specs.Entries.{IsEntry};
 ghost use Rattle.audit_trail.specs.TrailStands.{trail_size, StandsForTrail};
 ghost use Rattle.line_service.specs.Answering.{Stands};
-ghost use Rattle.line_service.specs.Devices.{AreSettled, BothSettled, OutsideLeft, Undamaged};
-ghost use Rattle.line_service.specs.Running.{LineTaken, Unmoved};
+ghost use Rattle.line_service.specs.Devices.{AreSettled};
+ghost use Rattle.line_service.specs.Running.{Unmoved};
 ghost use Rattle.audited_service.specs.Noting.{Noted, noting};
-ghost use Rattle.audited_service.specs.EachLine.{Agrees, AppendFails, IsSettledTrail, LineAudited, TrailAppended, line_part};
+ghost use Rattle.audited_service.specs.EachLine.{Agrees, AppendFails, EntrySent, IsSettledTrail, LineAudited, LineKept, line_part};
 
 use crate::scribe::{Scribe, entry_taken};
-use audit_trail::{Trail, TrailFault};
+use audit_trail::{Entry, Trail, TrailFault};
 use key_cells::Workbench;
 use line_service::{Desk, Served, Shown, ShownOutside, Stop, answer_taken, send};
 use script_buffers::{LineBuffer, LineFault, ReplyBuffer, Taken, read_line};
 use slot_disk::{Disk, Entropy, Sink, Source};
+
+// Appends the entry of a line that was answered, and sends the reply then. Where the trail fails no byte is sent.
+fn append_and_send<K: Sink, T: Disk>(
+    entry: &Entry,
+    reply: &[u8],
+    sink: &mut K,
+    held: &mut Trail,
+    trail: &mut T,
+) -> Result<Result<Served, Stop>, TrailFault>
+    requires trail { IsSettledTrail trail_size (T.medium trail.old) }
+    requires held { Told (T.medium trail.old) (λ image. StandsForTrail image held.old) }
+    requires entry { IsEntry entry.now }
+
+    ensures sent { EntrySent held.old entry.now reply.now result
+        (T.medium trail.old) (T.medium trail.new) (T.faults trail.old) (T.faults trail.new)
+        (K.held sink.old) (K.held sink.new) (K.faults sink.old) (K.faults sink.new) }
+    ensures held { OnOk result
+        (Told (T.medium trail.new) (λ image. StandsForTrail image held.new)) }
+    ensures failed { AppendFails result held.old trail.old trail.new sink.old sink.new }
+{
+    match held.append(trail, entry) {
+        Ok(()) => match send(sink, reply) {
+            Ok(()) => Ok(Ok(Served::Replied)),
+            Err(_) => Ok(Err(Stop::WriteFault)),
+        },
+        Err(fault) => Err(fault),
+    }
+}
 
 // Serves one line: it is taken from the source and answered, recorded on the trail, and the reply is sent. The reply
 // goes to the sink only after every image of the disks stands for the state that the line leaves, and every image of
@@ -62,15 +91,16 @@ pub(crate) fn audit_one<
         (source.old, sink.old, «module».old, store.old, entropy.old)
         (source.new, sink.new, «module».new, store.new, entropy.new))
         (T.medium trail.old) (T.medium trail.new) lines.old lines.new }
-    ensures ready { result ≡ Ok (Ok Served.Replied)
-        → A.ready desk.new (M.medium «module».new) (D.medium store.new) }
-    ensures held { OnOk result
-        (Told (T.medium trail.new) (λ image. StandsForTrail image held.new)) }
 
-    // How far the input was taken, and which line is shown.
-    ensures taken { LineTaken (line_part result) (⟦<(S, K, M, D, E) as ShownOutside>⟧.between
+    // How far the input was taken, what is left of each device and why it stopped; and what memory knows then.
+    ensures kept { LineKept A.machine
+        (A.ready desk.new (M.medium «module».new) (D.medium store.new))
+        (Told (T.medium trail.new) (λ image. StandsForTrail image held.new)) result
+        (⟦<(S, K, M, D, E) as ShownOutside>⟧.between
         (source.old, sink.old, «module».old, store.old, entropy.old)
-        (source.new, sink.new, «module».new, store.new, entropy.new)) lines.old lines.new }
+        (source.new, sink.new, «module».new, store.new, entropy.new))
+        (T.medium trail.old) (T.medium trail.new) (T.faults trail.old) (T.faults trail.new)
+        lines.old lines.new }
 
     // Where no reply is sent, the sink is as before; where no line was answered, so is all else. Where the trail fails,
     // no reply is sent.
@@ -78,18 +108,6 @@ pub(crate) fn audit_one<
         store.old store.new entropy.old entropy.new desk.old desk.new }
     ensures untrailed { (line_part result ≡ Ok Served.Replied → ⊥)
         → (line_part result ≡ Err Stop.WriteFault → ⊥) → trail.new ≡ trail.old }
-
-    // What is left of each device, and why it stopped.
-    ensures left { OutsideLeft (line_part result)
-        (⟦<(S, K, M, D, E) as ShownOutside>⟧.between
-        (source.old, sink.old, «module».old, store.old, entropy.old)
-        (source.new, sink.new, «module».new, store.new, entropy.new)) }
-    ensures undamaged { Undamaged A.machine (line_part result)
-        (⟦<(M, D) as Shown>⟧.shown («module».old, store.old)) }
-    ensures cut { result ≡ Ok (Err Stop.WriteFault) → BothSettled
-        (⟦<(M, D) as Shown>⟧.shown («module».new, store.new)) }
-    ensures trail { TrailAppended (T.medium trail.old) (T.medium trail.new)
-        (T.faults trail.old) (T.faults trail.new) (result ≡ Err TrailFault.DiskFault) }
     ensures failed { AppendFails result held.old trail.old trail.new sink.old sink.new }
     ensures bench { bench.new ≡ blank_bench }
 {
@@ -98,14 +116,9 @@ pub(crate) fn audit_one<
             Taken::End => Ok(Ok(Served::Ended)),
             _ => match answer_taken(desk, taken, lines, reply, bench, module, store, entropy) {
                 Ok(()) => {
-                    let entry = entry_taken(scribe, taken, lines, reply.bytes());
-                    match held.append(trail, &entry) {
-                        Ok(()) => match send(sink, reply.bytes()) {
-                            Ok(()) => Ok(Ok(Served::Replied)),
-                            Err(_) => Ok(Err(Stop::WriteFault)),
-                        },
-                        Err(fault) => Err(fault),
-                    }
+                    let bytes = reply.bytes();
+                    let entry = entry_taken(scribe, taken, lines, bytes);
+                    append_and_send(&entry, bytes, sink, held, trail)
                 }
                 Err(stop) => Ok(Err(stop)),
             },

@@ -60,19 +60,19 @@ each_line-preserved g c =
     record {
       served = λ s stands.
           has_served_more (noting A entry) s (Agrees k1 t1) (Agrees k2 t2) w0 w1 w2 i0 i1 i2 o0 o1 o2 c.each_line.lines c.audit_one.new.lines _ c.in-Ok.served
-          (now.served s stands) here.taken.counted (λ u st. (here.serves u st).served) replied;
+          (now.served s stands) here.kept.taken.counted (λ u st. (here.serves u st).served) replied;
       spares = λ s stands.
           let at = now.stands s stands in
           let line = here.serves at.0 at.1 in
           spares_more (noting A entry) w0 w1 w2 (now.spares s stands) line.spare (line.served.turns (inl replied));
       stands = λ s stands. let at = now.stands s stands in on_ok c.in-Ok.served _ replied (here.serves at.0 at.1).served.goes_on;
       on_trail = λ s stands.
-          trail_more A entry s k1 k2 t0 t1 t2 w0 w1 w2 (now.trail.left.settled (λ h. h)) i0 i1 i2 o0 o1 c.each_line.lines _ (now.served s stands) (now.on_trail s stands) here.taken.counted (λ u st. (here.serves u st).on_trail);
-      ready = here.ready (ap Ok replied);
+          trail_more A entry s k1 k2 t0 t1 t2 w0 w1 w2 (now.trail.left.settled (λ h. h)) i0 i1 i2 o0 o1 c.each_line.lines _ (now.served s stands) (now.on_trail s stands) here.kept.taken.counted (λ u st. (here.serves u st).on_trail);
+      ready = here.kept.ready (ap Ok replied);
       blank = c.audit_one.ensures.bench;
-      held = here.held;
-      course = course_goes_on A _ _ c.each_line.lines now.course c.audit_one.new.lines c.in-Ok.served (subst IsOk (sym replied) refl) here.taken here.left;
-      trail = trail_then t0 t1 t2 _ _ _ _ _ (λ h. absurd h) (λ h. cc h) now.trail here.trail;
+      held = here.kept.held;
+      course = course_goes_on A _ _ c.each_line.lines now.course c.audit_one.new.lines c.in-Ok.served (subst IsOk (sym replied) refl) here.kept.taken here.kept.left;
+      trail = trail_then t0 t1 t2 _ _ _ _ _ (λ h. absurd h) (λ h. cc h) now.trail here.kept.trail;
     }
 
 pub returns-in-Ended-clause-ends : goal.returns-in-Ended-clause-ends
@@ -100,21 +100,21 @@ returns-in-Ended-clause-ends g c =
       stands = now.stands s stands;
       on_trail = now.on_trail s stands;
       was_settled = now.trail.left.settled (λ h. h);
-      taken = here.taken;
+      taken = here.kept.taken;
       leaves = here.serves;
       unanswered = unanswered;
       unsent = λ unreplied uncut. ap g.K.Sink.held (here.unmoved.sink_unmoved unreplied uncut);
       untrailed = λ unreplied uncut. ap g.T.Disk.medium (here.untrailed unreplied uncut);
       failed_unsent = tt;
-      settled = here.trail.left.settled;
+      settled = here.kept.trail.left.settled;
       kinds = tt;
       numbered = λ h. absurd (cc h);
     } in
     audit_ended _ _ s _ _ _ _ _ _ _ _ _ _ next (c.in-Ok-served.is ∙ ap Ok c.in-Ended.is))
     (λ s stands told h. absurd (cc h))
-    here.taken unanswered (λ h. let both = here.cut (ap Ok h) in record { module_settled = both.module_settled; store_settled = both.store_settled })
-    (record { module_sound = here.undamaged.module_sound; store_sound = here.undamaged.store_sound; cells = here.undamaged.cells; reread = here.undamaged.reread })
-    here.left now.trail here.trail tt
+    here.kept.taken unanswered (λ h. let both = here.kept.cut (ap Ok h) in record { module_settled = both.module_settled; store_settled = both.store_settled })
+    (record { module_sound = here.kept.undamaged.module_sound; store_sound = here.kept.undamaged.store_sound; cells = here.kept.undamaged.cells; reread = here.kept.undamaged.reread })
+    here.kept.left now.trail here.kept.trail tt
 
 pub returns-in-Err-served-clause-ends : goal.returns-in-Err-served-clause-ends
 returns-in-Err-served-clause-ends g c =
@@ -141,21 +141,21 @@ returns-in-Err-served-clause-ends g c =
       stands = now.stands s stands;
       on_trail = now.on_trail s stands;
       was_settled = now.trail.left.settled (λ h. h);
-      taken = here.taken;
+      taken = here.kept.taken;
       leaves = here.serves;
       unanswered = unanswered;
       unsent = λ unreplied uncut. ap g.K.Sink.held (here.unmoved.sink_unmoved unreplied uncut);
       untrailed = λ unreplied uncut. ap g.T.Disk.medium (here.untrailed unreplied uncut);
       failed_unsent = tt;
-      settled = here.trail.left.settled;
+      settled = here.kept.trail.left.settled;
       kinds = tt;
       numbered = λ h. absurd (cc h);
     } in
     audit_stopped _ _ s _ _ _ _ _ _ _ _ _ _ next c.in-Err-served.stop c.in-Err-served.is)
     (λ s stands told h. absurd (cc h))
-    here.taken unanswered (λ h. let both = here.cut (ap Ok h) in record { module_settled = both.module_settled; store_settled = both.store_settled })
-    (record { module_sound = here.undamaged.module_sound; store_sound = here.undamaged.store_sound; cells = here.undamaged.cells; reread = here.undamaged.reread })
-    here.left now.trail here.trail tt
+    here.kept.taken unanswered (λ h. let both = here.kept.cut (ap Ok h) in record { module_settled = both.module_settled; store_settled = both.store_settled })
+    (record { module_sound = here.kept.undamaged.module_sound; store_sound = here.kept.undamaged.store_sound; cells = here.kept.undamaged.cells; reread = here.kept.undamaged.reread })
+    here.kept.left now.trail here.kept.trail tt
 
 pub returns-in-Err-clause-ends : goal.returns-in-Err-clause-ends
 returns-in-Err-clause-ends g c =
@@ -182,13 +182,13 @@ returns-in-Err-clause-ends g c =
       stands = now.stands s stands;
       on_trail = now.on_trail s stands;
       was_settled = now.trail.left.settled (λ h. h);
-      taken = here.taken;
+      taken = here.kept.taken;
       leaves = here.serves;
       unanswered = unanswered;
       unsent = λ unreplied uncut. ap g.K.Sink.held (here.unmoved.sink_unmoved unreplied uncut);
       untrailed = λ unreplied uncut. ap g.T.Disk.medium (here.untrailed unreplied uncut);
       failed_unsent = ap g.K.Sink.held here.failed.unsent;
-      settled = here.trail.left.settled;
+      settled = here.kept.trail.left.settled;
       kinds = here.failed.kinds;
       numbered = λ h told es trail. told_number t1 c.each_line.held es (now.trail.left.still told) now.held trail ∙ here.failed.number h;
     } in
@@ -200,8 +200,8 @@ returns-in-Err-clause-ends g c =
     let full = ap Err (fault_is c.in-Err.fault trail_fault.Full is) in
     exit_full A entry s (g.A.Desk.knows c.each_line.desk) (g.A.Desk.knows c.audit_one.new.desk) t1 w0 w1 w2 c.each_line.held (now.trail.left.still told) now.held (here.failed.number full) t2
     (g.S.Source.left c.args.source.now) (g.S.Source.left c.each_line.source) (g.S.Source.left c.audit_one.new.source) (g.K.Sink.held c.args.sink.now) (g.K.Sink.held c.each_line.sink)
-    c.each_line.lines c.audit_one.new.lines _ (now.served s stands) here.taken.counted
+    c.each_line.lines c.audit_one.new.lines _ (now.served s stands) here.kept.taken.counted
     (λ u st. (here.serves u st).unsent trail_fault.Full full))
-    here.taken unanswered (λ h. absurd (cc h))
-    (record { module_sound = here.undamaged.module_sound; store_sound = here.undamaged.store_sound; cells = here.undamaged.cells; reread = here.undamaged.reread })
-    here.left now.trail here.trail here.failed.kinds
+    here.kept.taken unanswered (λ h. absurd (cc h))
+    (record { module_sound = here.kept.undamaged.module_sound; store_sound = here.kept.undamaged.store_sound; cells = here.kept.undamaged.cells; reread = here.kept.undamaged.reread })
+    here.kept.left now.trail here.kept.trail here.failed.kinds

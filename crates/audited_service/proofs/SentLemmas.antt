@@ -1,0 +1,167 @@
+-- What a line leaves whose entry was appended before its reply was sent, and what a line leaves that wasn't answered.
+use Rattle.std.proofs.Common.{◌≡◌, ◌≤◌, ◌++◌, ℕ, List, Option, Result, Ok, Err, refl, ap, sym, subst, inl, inr, ⊎_elim}
+use Rattle.std.specs.Prelude.{◌⊎◌, OnErr}
+use Rattle.slot_disk.specs.Medium.{Medium, IsSettled, Told}
+use Rattle.slot_disk.specs.WhereTold.{WhereTold}
+use Rattle.script_buffers.specs.Reading.{Reading, Takes}
+use Rattle.script_buffers.specs.declared.lines.Taken.{Taken}
+use Rattle.script_buffers.specs.declared.lines.Taken.TheVariants.{End}
+use Rattle.audit_trail.specs.TrailStands.{IsTrail}
+use Rattle.audit_trail.specs.declared.entries.Entry.{Entry}
+use Rattle.audit_trail.specs.declared.faults.TrailFault.{TrailFault}
+use Rattle.audit_trail.specs.declared.faults.TrailFault.TheVariants as trail_fault
+use Rattle.line_service.specs.Answering.{Serves}
+use Rattle.line_service.specs.Devices.{Span, Devices, DevicesLeft, TellsFault, Undamaged, devices}
+use Rattle.line_service.specs.Machine.{Machine, World}
+use Rattle.line_service.specs.Serving.{IsTheLine}
+use Rattle.line_service.specs.Stops.{IsDeskStop, IsUnanswered}
+use Rattle.line_service.specs.declared.serving.Served.{Served}
+use Rattle.line_service.specs.declared.serving.Served.TheVariants.{Replied}
+use Rattle.line_service.specs.declared.stops.Stop.{Stop}
+use Rattle.line_service.specs.declared.stops.Stop.TheVariants.{ReadFault, WriteFault, InputLimit, Damaged}
+use Rattle.line_service.specs.declared.stops.Device.{Device}
+use Rattle.line_service.proofs.StopLemmas.{disk_still, count_still}
+use Rattle.audited_service.specs.EachLine.{Agrees, AppendFails, EntrySent, IsAppendFault, IsSent, LineRecorded, line_part}
+use Rattle.audited_service.specs.Noting.{Noted}
+use Rattle.audited_service.proofs.RecordLemmas.{line_sent, line_cut_off, line_unsent, recorded_by}
+
+-- ---- the answers
+
+pub sent_part : (r : Result (Result Served Stop) TrailFault) → IsSent r → (line_part r ≡ Ok Replied) ⊎ (line_part r ≡ Err WriteFault)
+sent_part (Ok q) sent = sent
+sent_part (Err fault) sent = inl refl
+
+-- a line was answered, whether or not its reply was sent
+pub sent_answered : (r : Result (Result Served Stop) TrailFault) → IsSent r → IsUnanswered (line_part r) → ⊥
+sent_answered r sent unanswered = apart (line_part r) (sent_part r sent) unanswered
+  where
+    apart : (q : Result Served Stop) → (q ≡ Ok Replied) ⊎ (q ≡ Err WriteFault) → IsUnanswered q → ⊥
+    apart q (inl is) (inl h) = cc (is, h)
+    apart q (inl is) (inr (inl h)) = cc (is, h)
+    apart q (inl is) (inr (inr h)) = cc (is, h)
+    apart q (inr is) (inl h) = cc (is, h)
+    apart q (inr is) (inr (inl h)) = cc (is, h)
+    apart q (inr is) (inr (inr h)) = cc (is, h)
+
+-- a stop that a sent line has is that of the sink
+pub sent_stop : (r : Result (Result Served Stop) TrailFault) → IsSent r → (stop : Stop) → line_part r ≡ Err stop → stop ≡ WriteFault
+sent_stop r sent stop h = of_sink (line_part r) (sent_part r sent) h
+  where
+    of_sink : (q : Result Served Stop) → (q ≡ Ok Replied) ⊎ (q ≡ Err WriteFault) → q ≡ Err stop → stop ≡ WriteFault
+    of_sink q (inl is) h = absurd (cc (is, h))
+    of_sink q (inr is) h = cc (is, h)
+
+-- ---- the devices
+
+-- the devices are left as by the call that answered
+pub devices_sent : (d : Span Devices) (r : Result (Result Served Stop) TrailFault) → IsSent r → DevicesLeft {T = Unit {0}} (Ok tt) d → DevicesLeft (line_part r) d
+devices_sent d r sent left = record {
+  module_left = record {
+    size = left.module_left.size;
+    still = left.module_left.still;
+    settled = λ ok. left.module_left.settled refl;
+    later = left.module_left.later;
+    fault = λ h. absurd (cc (sent_stop r sent _ h));
+    quiet = λ none. left.module_left.quiet (λ h. cc h);
+  };
+  store_left = record {
+    size = left.store_left.size;
+    still = left.store_left.still;
+    settled = λ ok. left.store_left.settled refl;
+    later = left.store_left.later;
+    fault = λ h. absurd (cc (sent_stop r sent _ h));
+    quiet = λ none. left.store_left.quiet (λ h. cc h);
+  };
+  entropy_left = record {
+    later = left.entropy_left.later;
+    fault = λ h. absurd (cc (sent_stop r sent _ h));
+    quiet = λ none. left.entropy_left.quiet (λ h. cc h);
+  };
+}
+
+pub undamaged_sent : (A : Machine) (old : Devices) (r : Result (Result Served Stop) TrailFault) → IsSent r → Undamaged A (line_part r) old
+undamaged_sent A old r sent = record {
+  module_sound = λ cell h. absurd (cc (sent_stop r sent _ h));
+  store_sound = λ cell h. absurd (cc (sent_stop r sent _ h));
+  cells = λ device cell h. absurd (cc (sent_stop r sent _ h));
+  reread = λ device cell h. absurd (cc (sent_stop r sent _ h));
+}
+
+-- and so is the sink, where no byte was sent
+pub sent_unmoved : {K : Type 0} (r : Result (Result Served Stop) TrailFault) → IsSent r → (sink0 sink1 : K) → OnErr r (sink1 ≡ sink0) → (line_part r ≡ Ok Replied → ⊥) → (line_part r ≡ Err WriteFault → ⊥) → sink1 ≡ sink0
+sent_unmoved (Ok q) sent sink0 sink1 unsent unreplied uncut = absurd (⊎_elim unreplied uncut sent)
+sent_unmoved (Err fault) sent sink0 sink1 unsent unreplied uncut = unsent
+
+-- a stop is handed on
+pub handed_on : {T U : Type 0} (stop other : Stop) → ◌≡◌ {A = Result T Stop} (Err stop) (Err other) → ◌≡◌ {A = Result U Stop} (Err stop) (Err other)
+handed_on stop other h = let same : stop ≡ other = cc h in ap Err same
+
+pub undamaged_as : {T U : Type 0} (A : Machine) (stop : Stop) (m d : Medium) (i j k l : ℕ) (e f : Option (List ℕ)) → Undamaged {T = T} A (Err stop) (devices m i d j e k) → Undamaged {T = U} A (Err stop) (devices m i d j f l)
+undamaged_as {T} {U} A stop m d i j k l e f undamaged = record {
+  module_sound = λ cell h. undamaged.module_sound cell (handed_on {T = U} {U = T} stop _ h);
+  store_sound = λ cell h. undamaged.store_sound cell (handed_on {T = U} {U = T} stop _ h);
+  cells = λ device cell h. undamaged.cells device cell (handed_on {T = U} {U = T} stop _ h);
+  reread = λ device cell h. undamaged.reread device cell (handed_on {T = U} {U = T} stop _ h);
+}
+
+pub not_cut_by : (stop : Stop) → IsDeskStop stop → ◌≡◌ {A = Result (Result Served Stop) TrailFault} (Ok (Err stop)) (Ok (Err WriteFault)) → ⊥
+not_cut_by stop kind h = let same : stop ≡ WriteFault = cc h in subst IsDeskStop same kind
+
+-- the source gave a line
+pub source_read : (before now : ℕ) (q : Result Served Stop) → (IsUnanswered q → ⊥) → before ≤ now → now ≡ before → TellsFault before now (q ≡ Err ReadFault)
+source_read before now q answered later same = record { later = later; fault = λ h. absurd (answered (inr (inl h))); quiet = λ none. same }
+
+-- ---- no line was answered
+
+unanswered_stop : (q : Result Served Stop) → IsUnanswered q → (stop : Stop) → q ≡ Err stop → (stop ≡ ReadFault) ⊎ (stop ≡ InputLimit)
+unanswered_stop q (inl is) stop h = absurd (cc (is, h))
+unanswered_stop q (inr (inl is)) stop h = inl (cc (is, h))
+unanswered_stop q (inr (inr is)) stop h = inr (cc (is, h))
+
+-- no device behind the machine was called
+pub devices_untouched : (now : Devices) (q : Result Served Stop) → IsUnanswered q → IsSettled now.world.module_ → IsSettled now.world.store → DevicesLeft q (record { old = now; new = now })
+devices_untouched now q unanswered m d = record {
+  module_left = disk_still now.world.module_ now.module_faults _ _ (λ ok. m) (λ h. ⊎_elim (λ is. cc is) (λ is. cc is) (unanswered_stop q unanswered _ h));
+  store_left = disk_still now.world.store now.store_faults _ _ (λ ok. d) (λ h. ⊎_elim (λ is. cc is) (λ is. cc is) (unanswered_stop q unanswered _ h));
+  entropy_left = count_still now.entropy_faults _ (λ h. ⊎_elim (λ is. cc is) (λ is. cc is) (unanswered_stop q unanswered _ h));
+}
+
+pub undamaged_untouched : (A : Machine) (old : Devices) (q : Result Served Stop) → IsUnanswered q → Undamaged A q old
+undamaged_untouched A old q unanswered = record {
+  module_sound = λ cell h. absurd (never h);
+  store_sound = λ cell h. absurd (never h);
+  cells = λ device cell h. absurd (never h);
+  reread = λ device cell h. absurd (never h);
+}
+  where
+    never : {device : Device} {cell : ℕ} → q ≡ Err (Damaged device cell) → ⊥
+    never h = ⊎_elim (λ is. cc is) (λ is. cc is) (unanswered_stop q unanswered _ h)
+
+-- ---- what the line comes to
+
+module _ (A : Machine) (entry : List ℕ → List ℕ → Entry) (s : Noted A.State) (k : A.State → Type 0) (taken : Taken) (now : Reading) (some : taken ≡ End → ⊥) (reply : List ℕ)
+    (old new : World) (m : IsSettled new.module_) (d : IsSettled new.store)
+    (serves : (line : List ℕ) → IsTheLine taken now line → Serves A s.state k line (Ok tt) reply old new) (n : ℕ) (e : Entry)
+    (e_is : (line : List ℕ) → IsTheLine taken now line → e ≡ entry line reply) (r0 : Reading) (a b : Option (List ℕ))
+    (takes : WhereTold a b (λ i r. Takes taken (r0.pending ++ i) now (now.pending ++ r))) where
+  pub line_after_append : (T K : Type 0) (medium : T → Medium) (trail0 trail1 : T) (sink0 sink1 : K) (r : Result (Result Served Stop) TrailFault) (before after : ℕ) (p q : Option (List ℕ)) (f0 f1 : ℕ)
+      → EntrySent n e reply r (medium trail0) (medium trail1) before after p q f0 f1 → AppendFails r n trail0 trail1 sink0 sink1 → IsSettled (medium trail0) → Told (medium trail0) (λ c. IsTrail c s.entries)
+      → LineRecorded A entry s (Agrees k (medium trail1)) r old new (medium trail0) (medium trail1) a b p q r0 now
+  line_after_append T K medium trail0 trail1 sink0 sink1 (Ok answer) before after p q f0 f1 sent failed settled told = by_answer answer sent.answers sent
+    where
+      by_answer : (answer : Result Served Stop) → (answer ≡ Ok Replied) ⊎ (answer ≡ Err WriteFault) → EntrySent n e reply (Ok answer) (medium trail0) (medium trail1) before after p q f0 f1
+          → LineRecorded A entry s (Agrees k (medium trail1)) (Ok answer) old new (medium trail0) (medium trail1) a b p q r0 now
+      by_answer answer (inl is) sent =
+          subst (λ (x : Result Served Stop). LineRecorded A entry s (Agrees k (medium trail1)) (Ok x) old new (medium trail0) (medium trail1) a b p q r0 now) (sym is)
+          (line_sent A entry s k (medium trail0) (medium trail1) taken now some reply old new serves n e e_is told r0 a b p q takes sent.appended (sent.all (ap Ok is)))
+      by_answer answer (inr is) sent =
+          subst (λ (x : Result Served Stop). LineRecorded A entry s (Agrees k (medium trail1)) (Ok x) old new (medium trail0) (medium trail1) a b p q r0 now) (sym is)
+          (line_cut_off A entry s k (medium trail0) (medium trail1) taken now some reply old new serves n e e_is told r0 a b p q takes sent.appended (sent.part (ap Ok is)))
+  line_after_append T K medium trail0 trail1 sink0 sink1 (Err fault) before after p q f0 f1 sent failed settled told =
+      line_unsent A entry s k (medium trail0) (medium trail1) taken now some reply old new serves n e e_is told r0 a b p q takes (Agrees k (medium trail1)) fault m d sent.appended
+      (recorded_by fault n e (medium trail0) (medium trail1) s.entries sent.appended settled told (of_append fault failed.kinds) (λ full. ap medium (failed.uncalled (ap Err full))))
+    where
+      of_append : (fault : TrailFault) → IsAppendFault fault → (fault ≡ trail_fault.DiskFault) ⊎ (fault ≡ trail_fault.Full)
+      of_append trail_fault.DiskFault is = inl refl
+      of_append trail_fault.Full is = inr refl
+      of_append (trail_fault.Damaged cell) is = absurd is
