@@ -4,6 +4,7 @@ ghost use Rattle.key_cells.specs.Lease.{bench_of};
 
 use des_core::{cbc_decipher, cbc_encipher, cbc_mac, schedule, x919_mac};
 use key_cells::{Lease, Schedule, Secret, Workbench};
+use std::process::Abort;
 
 /// The initial value of the example of cipher block chaining in FIPS 81.
 const START: [u8; 8] = [0x12, 0x34, 0x56, 0x78, 0x90, 0xab, 0xcd, 0xef];
@@ -69,33 +70,63 @@ fn long_text() -> [u8; 4096] {
     text
 }
 
+/// Puts the three schedules.
+fn put_schedules(lease: &mut Lease) {
+    *lease.schedules_mut() = [
+        schedule_of(KEYS[0]),
+        schedule_of(KEYS[1]),
+        schedule_of(KEYS[2]),
+    ];
+}
+
+/// Enciphers a text: the last block is as wanted.
+fn encipher(rt: &impl Abort, lease: &mut Lease, text: &[u8], last: u64)
+    requires { length text.now ≤ 4096 }
+{
+    put_text(lease, text);
+    assert!(rt; lease.text().len() % 8 == 0);
+    cbc_encipher(lease, &START);
+    assert!(rt; lease.text().ends_with(&last.to_be_bytes()));
+}
+
+/// Deciphers what the bench holds: it is the text.
+fn decipher(rt: &impl Abort, lease: &mut Lease, chain: &[u8; 8], text: &[u8]) {
+    assert!(rt; lease.text().len() % 8 == 0);
+    cbc_decipher(lease, chain);
+    assert!(rt; lease.text() == text);
+}
+
+/// Takes the first 280 bytes away from the text of the bench, and answers the last eight of these.
+fn cut_segment(rt: &impl Abort, lease: &mut Lease) -> [u8; 8] {
+    let mut sealed = [0; 4096];
+    let count = lease.text().len();
+    assert!(rt; 280 <= count && count <= 4096);
+    sealed[..count].copy_from_slice(lease.text());
+    put_text(lease, &sealed[280..count]);
+    let mut chain = [0; 8];
+    chain.copy_from_slice(&sealed[272..280]);
+    chain
+}
+
+/// Enciphers a text and deciphers it, whole and from its second segment on.
+fn goes_both_ways(rt: &impl Abort, text: &[u8], last: u64) {
+    assert!(rt; 280 <= text.len() && text.len() <= 4096);
+    let mut bench = Workbench::new();
+    let mut lease = Lease::open(&mut bench);
+    put_schedules(&mut lease);
+    encipher(rt, &mut lease, text, last);
+    decipher(rt, &mut lease, &START, text);
+    encipher(rt, &mut lease, text, last);
+    let chain = cut_segment(rt, &mut lease);
+    decipher(rt, &mut lease, &chain, &text[280..]);
+}
+
 #[test]
 fn long_chains_hold_both_ways_whole_and_in_two_segments(rt: HostRuntime) {
     let text = long_text();
     for (count, last) in LONG_CHAINS {
-        assert!(rt; count >= 36 && count <= 512);
-        let mut bench = Workbench::new();
-        let mut lease = Lease::open(&mut bench);
-        *lease.schedules_mut() = [
-            schedule_of(KEYS[0]),
-            schedule_of(KEYS[1]),
-            schedule_of(KEYS[2]),
-        ];
-        put_text(&mut lease, &text[..8 * count]);
-        cbc_encipher(&mut lease, &START);
-        let mut sealed = [0; 4096];
-        sealed[..8 * count].copy_from_slice(lease.text());
-        assert_eq!(rt;
-            &sealed[8 * count - 8..8 * count],
-            last.to_be_bytes().as_slice()
-        );
-        cbc_decipher(&mut lease, &START);
-        assert_eq!(rt; lease.text(), &text[..8 * count]);
-        let mut chain = [0; 8];
-        chain.copy_from_slice(&sealed[272..280]);
-        put_text(&mut lease, &sealed[280..8 * count]);
-        cbc_decipher(&mut lease, &chain);
-        assert_eq!(rt; lease.text(), &text[280..8 * count]);
+        assert!(rt; count <= 512);
+        goes_both_ways(&rt, &text[..8 * count], last);
     }
 }
 
@@ -106,7 +137,10 @@ fn codes_of_texts_of_every_kind_of_length_hold(rt: HostRuntime) {
     for (length, x99, x919) in MACS {
         assert!(rt; length > 0 && length <= 28);
         let text = &MAC_TEXT[..length];
-        assert_eq!(rt; u64::from_be_bytes(cbc_mac(&left, text)), x99);
-        assert_eq!(rt; u64::from_be_bytes(x919_mac(&left, &right, text)), x919);
+        let found = (cbc_mac(&left, text), x919_mac(&left, &right, text));
+        assert!(rt;
+            found == (x99.to_be_bytes(), x919.to_be_bytes()),
+            "{length}"
+        );
     }
 }

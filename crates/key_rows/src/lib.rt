@@ -1,6 +1,7 @@
-//! Tests of keys: chains under DES and codes, control vectors and types of keys by tables, the rule that a token breaks first,
-//! and tokens under transport keys, as other programs make them; and published answers of DES and a few types of keys that the
-//! definitions compute. It is a crate of tests.
+//! Tests of keys, and of the verbs over keys that are given as tokens: CSNBENC, CSNBDEC, CSNBMGN, CSNBMVR, CSNBKYT, CSNBCKI,
+//! CSNBRNG, CSNBKGN, CSNBKIM, CSNBKEX, CSNBKTC, CSNBKPI and CSNBKTR. They are chains under DES and codes, control vectors and
+//! types of keys by tables, the rule that a token breaks first, and tokens under transport keys, as other programs make them;
+//! and published answers of DES and a few types of keys that the definitions compute. It is a crate of tests.
 #![tactic(auto)]
 
 ghost use Rattle.key_rows.specs.PublishedVectors.{AreAnswered, single_vectors, TripleAnswered};
@@ -13,6 +14,8 @@ mod codes;
 #[cfg(test)]
 mod des;
 #[cfg(test)]
+mod given_keys;
+#[cfg(test)]
 mod names;
 #[cfg(test)]
 mod opened_keys;
@@ -20,6 +23,8 @@ mod opened_keys;
 mod parts;
 #[cfg(test)]
 mod rules;
+#[cfg(test)]
+mod sealed_keys;
 #[cfg(test)]
 mod sealing;
 #[cfg(test)]

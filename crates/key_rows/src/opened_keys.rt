@@ -1,8 +1,10 @@
 //! Keys that are opened, scheduled and written, and the parity of bytes.
-ghost use Rattle.std.specs.Prelude.{◌≡◌};
+ghost use Rattle.std.specs.Prelude.{◌≡◌, IsSome};
+ghost use Rattle.key_tokens.specs.declared.key_token.Asked.{Asked};
 ghost use Rattle.verb_rules.specs.Keys.{HasHalves};
 
-use cca_vectors::{Class, Vector, vector_of};
+use crate::sealed_keys::vector;
+use cca_vectors::{Class, Vector};
 use des_core::encipher_block;
 use key_cells::{KeyPlace, Lease, MasterPlace, Workbench};
 use key_tokens::{Kind, Token};
@@ -19,43 +21,57 @@ const DOUBLE_KEY: [u8; 16] = *b"0123456789abcdef";
 const SINGLE_KEY: [u8; 16] = *b"01234567\0\0\0\0\0\0\0\0";
 
 fn single(rt: &impl Abort) -> Vector {
-    vector_of(&[0; 16]).expect(rt, "a control vector")
+    vector(rt, 0, 0)
 }
 
 fn double(rt: &impl Abort) -> Vector {
-    let mut bytes = [0; 16];
-    bytes[..8].copy_from_slice(&0x0000_7d00_0341_0000u64.to_be_bytes());
-    bytes[8..].copy_from_slice(&0x0000_7d00_0321_0000u64.to_be_bytes());
-    vector_of(&bytes).expect(rt, "a control vector")
+    vector(rt, 0x0000_7d00_0341_0000, 0x0000_7d00_0321_0000)
 }
 
-/// A token that is written under the current master key opens to its key.
-#[test]
-fn a_written_key_is_opened(rt: HostRuntime) {
-    let mut bench = Workbench::new();
-    let mut lease = Lease::open(&mut bench);
-    *lease.master_mut(MasterPlace::Current) = *b"abcdefghijklmnopqrstuvwx";
-    let held = Registers {
+/// Registers that hold this pattern of the current master key.
+fn registers(lease: &Lease) -> Registers
+    ensures { IsSome result.current_pattern }
+{
+    Registers {
         new_state: NewState::Empty,
-        current_pattern: Some(pattern_of(&lease, MasterPlace::Current)),
+        current_pattern: Some(pattern_of(lease, MasterPlace::Current)),
         old_pattern: None,
-    };
-    let need = Need {
+    }
+}
+
+/// Asks for an internal token of a DATA key.
+fn data_need() -> Need
+    ensures { result.asked ≡ Asked.Internal }
+{
+    Need {
         asked: Asked::Internal,
         classes: Classes::of(&[Class::Data]),
         usage: None,
         export: false,
         double: false,
         parts: false,
-    };
-    for (vector, key) in [(single(&rt), SINGLE_KEY), (double(&rt), DOUBLE_KEY)] {
-        *lease.key_mut(KeyPlace::Key) = key;
-        let token = write_current(&mut lease, &held, &vector);
-        let judged = judge_key(&token, &need, &held).expect(&rt, "a key token");
-        assert_eq!(rt; judged.age, Some(Age::Current));
-        open_key(&mut lease, &judged, KeyPlace::First);
-        assert_eq!(rt; *lease.key(KeyPlace::First), key);
     }
+}
+
+/// What a key opens to that was written under the current master key.
+fn written(rt: &impl Abort, vector: &Vector, key: [u8; 16]) -> [u8; 16] {
+    let mut bench = Workbench::new();
+    let mut lease = Lease::open(&mut bench);
+    *lease.master_mut(MasterPlace::Current) = *b"abcdefghijklmnopqrstuvwx";
+    let held = registers(&lease);
+    *lease.key_mut(KeyPlace::Key) = key;
+    let token = write_current(&mut lease, &held, vector);
+    let judged = judge_key(&token, &data_need(), &held).expect(rt, "a key token");
+    assert!(rt; judged.age == Some(Age::Current));
+    open_key(&mut lease, &judged, KeyPlace::First);
+    *lease.key(KeyPlace::First)
+}
+
+/// A token that is written under the current master key opens to its key.
+#[test]
+fn a_written_key_is_opened(rt: HostRuntime) {
+    assert!(rt; written(&rt, &single(&rt), SINGLE_KEY) == SINGLE_KEY);
+    assert!(rt; written(&rt, &double(&rt), DOUBLE_KEY) == DOUBLE_KEY);
 }
 
 /// A key in the place `Key`, enciphered under the old master key.
@@ -82,13 +98,13 @@ fn a_key_under_the_old_master_key(rt: HostRuntime) {
     *lease.key_mut(KeyPlace::Key) = DOUBLE_KEY;
     let key = old_key(&mut lease, &double(&rt));
     open_key(&mut lease, &key, KeyPlace::Second);
-    assert_eq!(rt; *lease.key(KeyPlace::Second), DOUBLE_KEY);
+    assert!(rt; *lease.key(KeyPlace::Second) == DOUBLE_KEY);
     let current = Judged {
         age: Some(Age::Current),
         ..key
     };
     open_key(&mut lease, &current, KeyPlace::Second);
-    assert_ne!(rt; *lease.key(KeyPlace::Second), DOUBLE_KEY);
+    assert!(rt; *lease.key(KeyPlace::Second) != DOUBLE_KEY);
 }
 
 /// The published encipherment of a block, under each of the three schedules.
@@ -100,10 +116,8 @@ fn a_single_length_key_three_times(rt: HostRuntime) {
     let key = old_key(&mut lease, &single(&rt));
     schedule_key(&mut lease, &key);
     for schedule in lease.schedules() {
-        assert_eq!(rt;
-            encipher_block(schedule, &0x4e6f_7720_6973_2074u64.to_be_bytes()),
-            0x3fa4_0e8a_984d_4815u64.to_be_bytes()
-        );
+        let block = encipher_block(schedule, &0x4e6f_7720_6973_2074u64.to_be_bytes());
+        assert!(rt; u64::from_be_bytes(block) == 0x3fa4_0e8a_984d_4815);
     }
 }
 
@@ -119,8 +133,8 @@ fn parity(rt: HostRuntime) {
     ] {
         let mut bytes = [byte; 2];
         set_odd_parity(&mut bytes);
-        assert_eq!(rt; bytes, [odd; 2]);
+        assert!(rt; bytes == [odd; 2]);
         set_even_parity(&mut bytes);
-        assert_eq!(rt; bytes, [even; 2]);
+        assert!(rt; bytes == [even; 2]);
     }
 }

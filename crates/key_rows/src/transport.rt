@@ -1,17 +1,16 @@
 //! Tokens under the master key of the bytes 01 to 18 and others, made by another program with the triple DES and SHA-1 of
 //! Python's libraries.
-ghost use Rattle.std.specs.Prelude.{◌≡◌, ◌≢◌, IsSome};
-ghost use Rattle.verb_rules.specs.Keys.{HasHalves, IsDouble};
+ghost use Rattle.std.specs.Prelude.{IsSome};
 
-use cca_vectors::{Class, Length};
-use key_cells::{Lease, MasterPlace, Workbench};
+use crate::given_keys::{bytes_of, judged, put_masters, transport};
+use cca_vectors::Length;
+use key_cells::{Lease, Workbench};
 use key_transport::{Form, GenerateFault, Target, export, generate, import, token_change};
-use master_registers::{NewState, Registers, pattern_of};
-use slot_disk::{MemoryEntropy, NoMemory};
+use master_registers::Registers;
+use slot_disk::MemoryEntropy;
 use std::alloc::Global;
 use std::process::Abort;
-use std::test::Fail;
-use verb_rules::{Asked, Classes, Judged, KeyType, Need, judge_key};
+use verb_rules::{Asked, KeyType};
 
 /// A token of an EXPORTER key, 0123456789abcdeffedcba9876543210, under the current master key, and under the old one.
 const EXPORTER: [u64; 8] = [
@@ -167,63 +166,94 @@ const RANDOM: [u8; 16] = [
     0x00, 0x11, 0x22, 0x33, 0x44, 0x55, 0x66, 0x77, 0x88, 0x99, 0xaa, 0xbb, 0xcc, 0xdd, 0xee, 0xff,
 ];
 
-fn bytes_of(words: &[u64; 8]) -> [u8; 64] {
-    let mut bytes = [0; 64];
-    for i in 0..8 {
-        bytes[8 * i..8 * i + 8].copy_from_slice(&words[i].to_be_bytes());
-    }
-    bytes
-}
+/// A key, a transport key, and the key under it.
+const EXPORTED: [[[u64; 8]; 3]; 4] = [
+    [ZERO, ONES_EXPORTER, ZERO_OUT],
+    [
+        SINGLE,
+        EXPORTER,
+        [
+            0x0200_0000_0000_c000,
+            0,
+            0xf380_7f9d_f067_3f29,
+            0,
+            0x0000_7d00_0300_0000,
+            0,
+            0,
+            0x0000_0000_e8e8_fbc6,
+        ],
+    ],
+    [
+        OLD_DOUBLE,
+        EXPORTER,
+        [
+            0x0200_0000_0000_c000,
+            0,
+            0x57ef_661e_8e45_b08e,
+            0xa55d_dd6a_b95e_7aee,
+            0x0000_7d00_0341_0000,
+            0x0000_7d00_0321_0000,
+            0,
+            0x0000_0000_4d55_2904,
+        ],
+    ],
+    [
+        DOUBLE,
+        OLD_EXPORTER,
+        [
+            0x0200_0000_0000_c000,
+            0,
+            0x57ef_661e_8e45_b08e,
+            0xa55d_dd6a_b95e_7aee,
+            0x0000_7d00_0341_0000,
+            0x0000_7d00_0321_0000,
+            0,
+            0x0000_0000_4d55_2904,
+        ],
+    ],
+];
 
-/// The bytes from a first one upwards.
-fn put_master(master: &mut [u8; 24], first: u8) {
-    for i in 0..24 {
-        master[i] = first.wrapping_add(i as u8);
-    }
-}
+/// A key under a transport key, that key, and the key under the master key.
+const IMPORTED: [[[u64; 8]; 3]; 3] = [
+    [ZERO_OUT, ONES_IMPORTER, ZERO],
+    [
+        [
+            0x0200_0000_0000_c000,
+            0,
+            0x229d_fb21_b972_ff6d,
+            0,
+            0x0000_7d00_0300_0000,
+            0,
+            0,
+            0x0000_0000_e112_378e,
+        ],
+        IMPORTER,
+        SINGLE,
+    ],
+    [
+        [
+            0x0200_0000_0000_c000,
+            0,
+            0x6ca9_343d_19f6_dd73,
+            0x4dc5_d2af_f022_09a9,
+            0x0000_7d00_0341_0000,
+            0x0000_7d00_0321_0000,
+            0,
+            0x0000_0000_cceb_a808,
+        ],
+        IMPORTER,
+        DOUBLE,
+    ],
+];
 
-/// Fills the three registers.
-fn put_masters(lease: &mut Lease) -> Registers
-    ensures current { IsSome result.current_pattern }
-    ensures full { result.new_state ≡ NewState.Full }
-{
-    put_master(lease.master_mut(MasterPlace::Current), 0x01);
-    put_master(lease.master_mut(MasterPlace::New), 0x21);
-    put_master(lease.master_mut(MasterPlace::Old), 0x41);
-    Registers {
-        new_state: NewState::Full,
-        current_pattern: Some(pattern_of(lease, MasterPlace::Current)),
-        old_pattern: Some(pattern_of(lease, MasterPlace::Old)),
-    }
-}
-
-/// A key of any class.
-fn need_of(asked: Asked, double: bool) -> Need
-    ensures asked { result.asked ≡ asked }
-    ensures double { result.double ≡ double }
-{
-    Need {
-        asked,
-        classes: Classes::of(&[Class::Data, Class::Mac, Class::Exporter, Class::Importer]),
-        usage: None,
-        export: false,
-        double,
-        parts: false,
-    }
-}
-
-fn judged(rt: &impl Abort, held: &Registers, asked: Asked, token: &[u64; 8]) -> Judged
-    requires { asked ≢ Asked.Either }
-    ensures { HasHalves result }
-{
-    judge_key(&bytes_of(token), &need_of(asked, false), held).expect(rt, "a key token")
-}
-
-fn transport(rt: &impl Abort, held: &Registers, token: &[u64; 8]) -> Judged
-    ensures { IsDouble result }
-{
-    judge_key(&bytes_of(token), &need_of(Asked::Internal, true), held).expect(rt, "a transport key")
-}
+/// A token, the register whose key it is to be under, and the token under it.
+const CHANGED: [([u64; 8], Target, [u64; 8]); 5] = [
+    (SINGLE, Target::Current, SINGLE),
+    (OLD_SINGLE, Target::Current, SINGLE),
+    (OLD_DOUBLE, Target::Current, DOUBLE),
+    (SINGLE, Target::New, NEW_SINGLE),
+    (OLD_DOUBLE, Target::New, NEW_DOUBLE),
+];
 
 /// Keys of both lengths, under the current and the old master key, under transport keys that are under these.
 #[test]
@@ -231,56 +261,10 @@ fn keys_are_exported(rt: HostRuntime) {
     let mut bench = Workbench::new();
     let mut lease = Lease::open(&mut bench);
     let held = put_masters(&mut lease);
-    for (key, transport_key, wanted) in [
-        (ZERO, ONES_EXPORTER, ZERO_OUT),
-        (
-            SINGLE,
-            EXPORTER,
-            [
-                0x0200_0000_0000_c000,
-                0,
-                0xf380_7f9d_f067_3f29,
-                0,
-                0x0000_7d00_0300_0000,
-                0,
-                0,
-                0x0000_0000_e8e8_fbc6,
-            ],
-        ),
-        (
-            OLD_DOUBLE,
-            EXPORTER,
-            [
-                0x0200_0000_0000_c000,
-                0,
-                0x57ef_661e_8e45_b08e,
-                0xa55d_dd6a_b95e_7aee,
-                0x0000_7d00_0341_0000,
-                0x0000_7d00_0321_0000,
-                0,
-                0x0000_0000_4d55_2904,
-            ],
-        ),
-        (
-            DOUBLE,
-            OLD_EXPORTER,
-            [
-                0x0200_0000_0000_c000,
-                0,
-                0x57ef_661e_8e45_b08e,
-                0xa55d_dd6a_b95e_7aee,
-                0x0000_7d00_0341_0000,
-                0x0000_7d00_0321_0000,
-                0,
-                0x0000_0000_4d55_2904,
-            ],
-        ),
-    ]
-    .iter()
-    {
+    for [key, transport_key, wanted] in &EXPORTED {
         let key = judged(&rt, &held, Asked::Internal, key);
         let exporter = transport(&rt, &held, transport_key);
-        assert_eq!(rt; export(&mut lease, &key, &exporter), bytes_of(wanted));
+        assert!(rt; export(&mut lease, &key, &exporter) == bytes_of(wanted));
     }
 }
 
@@ -289,45 +273,10 @@ fn keys_are_imported(rt: HostRuntime) {
     let mut bench = Workbench::new();
     let mut lease = Lease::open(&mut bench);
     let held = put_masters(&mut lease);
-    for (source, transport_key, wanted) in [
-        (ZERO_OUT, ONES_IMPORTER, ZERO),
-        (
-            [
-                0x0200_0000_0000_c000,
-                0,
-                0x229d_fb21_b972_ff6d,
-                0,
-                0x0000_7d00_0300_0000,
-                0,
-                0,
-                0x0000_0000_e112_378e,
-            ],
-            IMPORTER,
-            SINGLE,
-        ),
-        (
-            [
-                0x0200_0000_0000_c000,
-                0,
-                0x6ca9_343d_19f6_dd73,
-                0x4dc5_d2af_f022_09a9,
-                0x0000_7d00_0341_0000,
-                0x0000_7d00_0321_0000,
-                0,
-                0x0000_0000_cceb_a808,
-            ],
-            IMPORTER,
-            DOUBLE,
-        ),
-    ]
-    .iter()
-    {
+    for [source, transport_key, wanted] in &IMPORTED {
         let source = judged(&rt, &held, Asked::External, source);
         let importer = transport(&rt, &held, transport_key);
-        assert_eq!(rt;
-            import(&mut lease, &held, &source, &importer),
-            bytes_of(wanted)
-        );
+        assert!(rt; import(&mut lease, &held, &source, &importer) == bytes_of(wanted));
     }
 }
 
@@ -336,20 +285,9 @@ fn tokens_are_changed(rt: HostRuntime) {
     let mut bench = Workbench::new();
     let mut lease = Lease::open(&mut bench);
     let held = put_masters(&mut lease);
-    for (token, target, wanted) in [
-        (SINGLE, Target::Current, SINGLE),
-        (OLD_SINGLE, Target::Current, SINGLE),
-        (OLD_DOUBLE, Target::Current, DOUBLE),
-        (SINGLE, Target::New, NEW_SINGLE),
-        (OLD_DOUBLE, Target::New, NEW_DOUBLE),
-    ]
-    .iter()
-    {
+    for (token, target, wanted) in &CHANGED {
         let token = judged(&rt, &held, Asked::Internal, token);
-        assert_eq!(rt;
-            token_change(&mut lease, &held, &token, *target),
-            bytes_of(wanted)
-        );
+        assert!(rt; token_change(&mut lease, &held, &token, *target) == bytes_of(wanted));
     }
 }
 
@@ -357,7 +295,7 @@ fn tokens_are_changed(rt: HostRuntime) {
 const SAME: [u8; 8] = [0x01, 0x10, 0x22, 0x33, 0x45, 0x54, 0x66, 0x76];
 
 /// The first eight random bytes, so many right halves that are the same, and then others, each of its own.
-fn random_with(alloc: Global, same: usize) -> Result<MemoryEntropy, NoMemory> {
+fn random_with(rt: &impl Abort, alloc: Global, same: usize) -> MemoryEntropy {
     let mut bytes = [0; 80];
     bytes[..8].copy_from_slice(&RANDOM[..8]);
     for i in 0..9 {
@@ -369,7 +307,7 @@ fn random_with(alloc: Global, same: usize) -> Result<MemoryEntropy, NoMemory> {
             half[7] = 0xe0 + 2 * i as u8;
         }
     }
-    MemoryEntropy::new(alloc, &bytes)
+    MemoryEntropy::new(alloc, &bytes).expect(rt, "random bytes")
 }
 
 /// The token of a MAC key with unique halves.
@@ -380,7 +318,7 @@ fn make_mac(
 ) -> Result<[u8; 64], GenerateFault>
     requires { IsSome held.now.current_pattern }
 {
-    let made = generate(
+    match generate(
         lease,
         held,
         Form::Op,
@@ -390,68 +328,73 @@ fn make_mac(
         None,
         None,
         entropy,
-    )?;
-    Ok(made.first)
+    ) {
+        Ok(made) => Ok(made.first),
+        Err(fault) => Err(fault),
+    }
 }
 
 /// How many right halves are the same as the left one, how many fills there are, of which one more would fail, and the
 /// token. The eighth right half is the last.
+const DRAWN: [(usize, u64, Option<[u64; 8]>); 4] = [
+    (
+        0,
+        1,
+        Some([
+            0x0100_0000_0000_c000,
+            0x083b_f102_5be3_4c44,
+            0xb3c4_6f65_2365_ce33,
+            0xa7ef_ab71_e4c0_c550,
+            0x0005_4d00_03c0_0000,
+            0x0005_4d00_03a0_0000,
+            0,
+            0x0000_0000_d065_459f,
+        ]),
+    ),
+    (
+        1,
+        2,
+        Some([
+            0x0100_0000_0000_c000,
+            0x083b_f102_5be3_4c44,
+            0xb3c4_6f65_2365_ce33,
+            0xff6e_4766_f746_9617,
+            0x0005_4d00_03c0_0000,
+            0x0005_4d00_03a0_0000,
+            0,
+            0x0000_0000_3a69_b25b,
+        ]),
+    ),
+    (
+        7,
+        8,
+        Some([
+            0x0100_0000_0000_c000,
+            0x083b_f102_5be3_4c44,
+            0xb3c4_6f65_2365_ce33,
+            0xc5b0_86b0_b6b1_52e5,
+            0x0005_4d00_03c0_0000,
+            0x0005_4d00_03a0_0000,
+            0,
+            0x0000_0000_c016_ae73,
+        ]),
+    ),
+    (8, 8, None),
+];
+
 #[test]
-fn right_halves_are_drawn_again(rt: HostRuntime) -> Result<(), Fail> {
+fn right_halves_are_drawn_again(rt: HostRuntime) {
     let mut bench = Workbench::new();
     let mut lease = Lease::open(&mut bench);
     let held = put_masters(&mut lease);
-    for (same, fills, wanted) in [
-        (
-            0,
-            1,
-            Ok([
-                0x0100_0000_0000_c000,
-                0x083b_f102_5be3_4c44,
-                0xb3c4_6f65_2365_ce33,
-                0xa7ef_ab71_e4c0_c550,
-                0x0005_4d00_03c0_0000,
-                0x0005_4d00_03a0_0000,
-                0,
-                0x0000_0000_d065_459f,
-            ]),
-        ),
-        (
-            1,
-            2,
-            Ok([
-                0x0100_0000_0000_c000,
-                0x083b_f102_5be3_4c44,
-                0xb3c4_6f65_2365_ce33,
-                0xff6e_4766_f746_9617,
-                0x0005_4d00_03c0_0000,
-                0x0005_4d00_03a0_0000,
-                0,
-                0x0000_0000_3a69_b25b,
-            ]),
-        ),
-        (
-            7,
-            8,
-            Ok([
-                0x0100_0000_0000_c000,
-                0x083b_f102_5be3_4c44,
-                0xb3c4_6f65_2365_ce33,
-                0xc5b0_86b0_b6b1_52e5,
-                0x0005_4d00_03c0_0000,
-                0x0005_4d00_03a0_0000,
-                0,
-                0x0000_0000_c016_ae73,
-            ]),
-        ),
-        (8, 8, Err(GenerateFault::Repeated)),
-    ]
-    .iter()
-    {
-        let mut entropy = random_with(rt.alloc(), *same)?;
+    for (same, fills, words) in &DRAWN {
+        let mut entropy = random_with(&rt, rt.alloc(), *same);
         entropy.fail_at(*fills);
         let made = make_mac(&mut lease, &held, &mut entropy);
-        assert_eq!(rt; made, wanted.map(|words| bytes_of(&words)), "{same}");
+        let wanted = match words {
+            Some(words) => Ok(bytes_of(words)),
+            None => Err(GenerateFault::Repeated),
+        };
+        assert!(rt; made == wanted, "{same}");
     }
-    Ok(())
 }

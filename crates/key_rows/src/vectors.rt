@@ -1,13 +1,6 @@
 //! Control vectors, valid and not, what each permits, and the default ones of each type of key.
+use crate::sealed_keys::bytes_of;
 use cca_vectors::{KeyType, Length, Usage, VectorFault, default_of, vector_of};
-
-/// The sixteen bytes of two halves.
-fn bytes_of(left: u64, right: u64) -> [u8; 16] {
-    let mut bytes = [0; 16];
-    bytes[..8].copy_from_slice(&left.to_be_bytes());
-    bytes[8..].copy_from_slice(&right.to_be_bytes());
-    bytes
-}
 
 /// Halves that are no control vector, and why: bytes of odd parity, bits of the anti-variant that are turned, a key form that
 /// there isn't, and halves that don't belong together.
@@ -142,23 +135,26 @@ fn uses_of(bits: u8) -> [bool; 9] {
     ]
 }
 
-/// The all-zero vector, the default vectors, and a DATA key that may not be exported.
+/// The all-zero vector, the default vectors, and a DATA key that may not be exported: the bits of their uses, and whether
+/// the key may be exported.
+const PERMITTED: [(u64, u64, u8, bool); 12] = [
+    (0x0000_0000_0000_0000, 0, 0b11110, true),
+    (0x0000_3c00_0300_0000, 0, 0b11110, false),
+    (0x0000_7d00_0300_0000, 0, 0b11110, true),
+    (0x0000_7100_0341_0000, 0x0000_7100_0321_0000, 0b11000, true),
+    (0x0000_4d00_0341_0000, 0x0000_4d00_0321_0000, 0b00110, true),
+    (0x0003_6000_0300_0000, 0, 0b10000, true),
+    (0x0003_5000_0300_0000, 0, 0b01000, true),
+    (0x0005_4400_0300_0000, 0, 0b00010, true),
+    (0x0041_7d00_0341_0000, 0x0041_7d00_0321_0000, 0b11110, true),
+    (0x0041_4200_0341_0000, 0x0041_4200_0321_0000, 0b00001, true),
+    (0x0041_7d00_03c0_0000, 0x0041_7d00_03a0_0000, 0b11110, true),
+    (0x0000_3c00_03c0_0000, 0x0000_3c00_03a0_0000, 0b11110, false),
+];
+
 #[test]
 fn vectors_permit(rt: HostRuntime) {
-    for (left, right, bits, export) in [
-        (0x0000_0000_0000_0000, 0, 0b11110, true),
-        (0x0000_3c00_0300_0000, 0, 0b11110, false),
-        (0x0000_7d00_0300_0000, 0, 0b11110, true),
-        (0x0000_7100_0341_0000, 0x0000_7100_0321_0000, 0b11000, true),
-        (0x0000_4d00_0341_0000, 0x0000_4d00_0321_0000, 0b00110, true),
-        (0x0003_6000_0300_0000, 0, 0b10000, true),
-        (0x0003_5000_0300_0000, 0, 0b01000, true),
-        (0x0005_4400_0300_0000, 0, 0b00010, true),
-        (0x0041_7d00_0341_0000, 0x0041_7d00_0321_0000, 0b11110, true),
-        (0x0041_4200_0341_0000, 0x0041_4200_0321_0000, 0b00001, true),
-        (0x0041_7d00_03c0_0000, 0x0041_7d00_03a0_0000, 0b11110, true),
-        (0x0000_3c00_03c0_0000, 0x0000_3c00_03a0_0000, 0b11110, false),
-    ] {
+    for (left, right, bits, export) in PERMITTED {
         let found = permissions(left, right);
         assert!(rt; found == (uses_of(bits), export), "at {left:x}");
     }
@@ -263,9 +259,12 @@ fn halves_of(kind: KeyType, length: Length) -> Halves {
 #[test]
 fn default_vectors(rt: HostRuntime) {
     for (kind, single, double, unique) in DEFAULTS {
-        assert!(rt; halves_of(kind, Length::Eight) == single, "{kind:?}");
-        assert!(rt; halves_of(kind, Length::Sixteen) == double, "{kind:?}");
-        assert!(rt; halves_of(kind, Length::Unique) == unique, "{kind:?}");
+        let found = [
+            halves_of(kind, Length::Eight),
+            halves_of(kind, Length::Sixteen),
+            halves_of(kind, Length::Unique),
+        ];
+        assert!(rt; found == [single, double, unique], "{kind:?}");
     }
 }
 
@@ -349,7 +348,7 @@ fn vectors_of_vectors(rt: HostRuntime) {
     for (left, right, part_left, part_right) in PARTS {
         let there = made_of(left, right, true);
         let back = made_of(part_left, part_right, true);
-        assert!(rt; there == Some((part_left, part_right)), "{left:x}");
-        assert!(rt; back == Some((left, right)), "{left:x}");
+        let wanted = (Some((part_left, part_right)), Some((left, right)));
+        assert!(rt; (there, back) == wanted, "{left:x}");
     }
 }
