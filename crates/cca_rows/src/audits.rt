@@ -1,12 +1,14 @@
 //! An audited run with the call of a number of its trail failing: the replies, and the records that are shown then.
 
-use crate::runs::{CALLS, MODULE_SIZE, ROOM, STORE_SIZE, left, words_of};
+use crate::runs::{
+    CALLS, MODULE_SIZE, STORE_SIZE, blank, disk_of, ends_of, left, sent, sink_of, words_of,
+};
 use audit_trail::TRAIL_LEN;
 use cca_tool::{AuditStatus, Status, run_audited, show_trail};
 use key_cells::Workbench;
-use slot_disk::{Disk, MemoryDisk, MemoryEntropy, MemorySink, MemorySource, Torn};
+use slot_disk::{Disk, MemoryDisk, Torn};
 use std::alloc::Global;
-use std::test::Fail;
+use std::process::Abort;
 
 const REQUESTS: &[u8] = b"CSNBMKP role=DEFAULT action=CLEAR\nCSNBRNG role=DEFAULT form=ODD\nx\n";
 
@@ -15,70 +17,67 @@ const REPLIES: &[u8] = b"OK new=empty\nOK random=0101010101010101\nNO 01 -\n";
 const RECORDS: &[u8] = b"0 00 DEFAULT CSNBMKP -\n1 00 DEFAULT CSNBRNG -\n2 01 - - -\n";
 
 // How an audited run over blank disks ends, and how many bytes of its replies are sent.
-fn audited(alloc: Global, trail: &mut MemoryDisk) -> Result<(AuditStatus, usize), Fail> {
-    let words = words_of(alloc, &["audit"])?;
-    let mut source = MemorySource::new(alloc, REQUESTS, 1_000)?;
-    let mut sink = MemorySink::new(alloc, ROOM)?;
-    let mut module = MemoryDisk::new(alloc, MODULE_SIZE, CALLS)?;
-    let mut store = MemoryDisk::new(alloc, STORE_SIZE, CALLS)?;
-    let mut entropy = MemoryEntropy::new(alloc, &[0; 8])?;
-    if trail.size() != TRAIL_LEN {
-        return Err(Fail::from("another size"));
-    }
+fn audited(rt: &impl Abort, alloc: Global, trail: &mut MemoryDisk) -> (AuditStatus, usize) {
+    let words = words_of(rt, alloc, &["audit"]);
+    let mut ends = ends_of(rt, alloc, REQUESTS, 1_000);
+    let mut pair = blank(rt, alloc);
+    assert!(rt; pair.module.size() == MODULE_SIZE && pair.store.size() == STORE_SIZE);
+    assert!(rt; trail.size() == TRAIL_LEN);
     let status = run_audited(
         alloc,
         &words,
         &mut Workbench::new(),
-        &mut source,
-        &mut sink,
-        &mut module,
-        &mut store,
-        &mut entropy,
+        &mut ends.source,
+        &mut ends.sink,
+        &mut pair.module,
+        &mut pair.store,
+        &mut ends.entropy,
         trail,
     );
-    if !REPLIES.starts_with(sink.bytes()) {
-        return Err(Fail::from("other replies"));
-    }
-    Ok((status, sink.bytes().len()))
+    (status, sent(rt, &ends.sink, REPLIES))
 }
 
 // How many bytes are shown of what a run left of a trail.
-fn shown(alloc: Global, trail: &MemoryDisk) -> Result<usize, Fail> {
-    let words = words_of(alloc, &["trail"])?;
-    let mut sink = MemorySink::new(alloc, ROOM)?;
-    let mut trail = left(alloc, trail, trail.noted(), Torn::New, CALLS)?;
-    if trail.size() != TRAIL_LEN {
-        return Err(Fail::from("another size"));
-    }
+fn shown(rt: &impl Abort, alloc: Global, trail: &MemoryDisk) -> usize {
+    let words = words_of(rt, alloc, &["trail"]);
+    let mut sink = sink_of(rt, alloc);
+    let mut trail = left(rt, alloc, trail, trail.noted(), Torn::New, CALLS);
+    assert!(rt; trail.size() == TRAIL_LEN);
     let status = show_trail(alloc, &words, &mut sink, &mut trail);
-    if status != AuditStatus::Run(Status::Done) || !RECORDS.starts_with(sink.bytes()) {
-        return Err(Fail::from("other records"));
-    }
-    Ok(sink.bytes().len())
+    assert!(rt; status == DONE);
+    sent(rt, &sink, RECORDS)
 }
 
+// How an audited run ends, a call of whose trail fails, and how many bytes are sent and shown.
+fn ended(rt: &impl Abort, alloc: Global, call: u64) -> (AuditStatus, usize, usize) {
+    let mut trail = disk_of(rt, alloc, TRAIL_LEN);
+    trail.fail_at(call);
+    let (status, replied) = audited(rt, alloc, &mut trail);
+    (status, replied, shown(rt, alloc, &trail))
+}
+
+const DONE: AuditStatus = AuditStatus::Run(Status::Done);
+
+const FAULT: AuditStatus = AuditStatus::TrailFault;
+
 // A sync and two reads of each cell open a blank trail. A record is a read, and twice a write and a sync, before its reply.
+const ENDS: [(u64, AuditStatus, usize, usize); 9] = [
+    (0, FAULT, 0, 0),
+    (8_192, FAULT, 0, 0),
+    (8_193, FAULT, 0, 0),
+    (8_194, FAULT, 0, 0),
+    // the last sync of a record: it reads as written
+    (8_197, FAULT, 0, 23),
+    (8_198, FAULT, 13, 23),
+    (8_202, FAULT, 13, 46),
+    (8_207, FAULT, 40, 57),
+    (8_208, DONE, 48, 57),
+];
+
 #[test]
-fn a_trail_takes_so_many_calls(rt: HostRuntime) -> Result<(), Fail> {
-    let alloc = rt.alloc();
-    let fault = AuditStatus::TrailFault;
-    for (call, status, replied, recorded) in [
-        (0, fault, 0, 0),
-        (8_192, fault, 0, 0),
-        (8_193, fault, 0, 0),
-        (8_194, fault, 0, 0),
-        // the last sync of a record: it reads as written
-        (8_197, fault, 0, 23),
-        (8_198, fault, 13, 23),
-        (8_202, fault, 13, 46),
-        (8_207, fault, 40, 57),
-        (8_208, AuditStatus::Run(Status::Done), 48, 57),
-    ] {
-        let mut trail = MemoryDisk::new(alloc, TRAIL_LEN, CALLS)?;
-        trail.fail_at(call);
-        let found = audited(alloc, &mut trail)?;
-        assert_eq!(rt; found, (status, replied), "at call {call}");
-        assert_eq!(rt; shown(alloc, &trail)?, recorded, "at call {call}");
+fn a_trail_takes_so_many_calls(rt: HostRuntime) {
+    for (call, status, replied, recorded) in ENDS {
+        let found = ended(&rt, rt.alloc(), call);
+        assert!(rt; found == (status, replied, recorded), "at call {call}");
     }
-    Ok(())
 }

@@ -1,9 +1,9 @@
 //! Runs and a demo with one call of one device failing, and runs that meet no such call: so many calls are made.
 
-use crate::runs::{Failing, blank, run_on};
+use crate::runs::{Failing, blank, run_on, sent};
 use cca_tool::Status;
 use std::alloc::Global;
-use std::test::Fail;
+use std::process::Abort;
 
 // A request that changes the module, one that draws random bytes, one that changes the store, and one that defines a role.
 const REQUESTS: &[u8] = b"\
@@ -17,24 +17,19 @@ const REPLIES: &[u8] = b"OK new=empty\nOK random=0101010101010101\nOK\nOK\n";
 
 // How a run over blank disks ends, and how many bytes of its replies are sent.
 fn ended(
+    rt: &impl Abort,
     alloc: Global,
     words: &[&str],
     input: &[u8],
     failing: Failing,
-) -> Result<(Status, usize), Fail> {
-    let mut pair = blank(alloc)?;
-    let (status, replies) = run_on(alloc, words, input, failing, &mut pair)?;
-    if !REPLIES.starts_with(replies.as_slice()) {
-        return Err(Fail::from("other replies"));
-    }
-    Ok((status, replies.len()))
+) -> (Status, usize) {
+    let (status, sink) = run_on(rt, alloc, words, input, failing, &mut blank(rt, alloc));
+    (status, sent(rt, &sink, REPLIES))
 }
 
 #[test]
-fn an_empty_input_has_no_reply(rt: HostRuntime) -> Result<(), Fail> {
-    let found = ended(rt.alloc(), &["run"], b"", Failing::None)?;
-    assert_eq!(rt; found, (Status::Done, 0));
-    Ok(())
+fn an_empty_input_has_no_reply(rt: HostRuntime) {
+    assert!(rt; ended(&rt, rt.alloc(), &["run"], b"", Failing::None) == (Status::Done, 0));
 }
 
 // The calls of a run that fail, the first that isn't made any more, and how many bytes are sent before.
@@ -73,24 +68,22 @@ const ENDS: [(Failing, Status, usize); 26] = [
 ];
 
 #[test]
-fn a_run_makes_so_many_calls(rt: HostRuntime) -> Result<(), Fail> {
-    for (failing, status, sent) in ENDS {
-        let found = ended(rt.alloc(), &["run"], REQUESTS, failing)?;
-        assert!(rt; found == (status, sent), "{failing:?}");
+fn a_run_makes_so_many_calls(rt: HostRuntime) {
+    for (failing, status, count) in ENDS {
+        let found = ended(&rt, rt.alloc(), &["run"], REQUESTS, failing);
+        assert!(rt; found == (status, count), "{failing:?}");
     }
-    Ok(())
 }
 
 // A demo sends its one line at its end.
 #[test]
-fn a_demo_that_fails_sends_nothing(rt: HostRuntime) -> Result<(), Fail> {
+fn a_demo_that_fails_sends_nothing(rt: HostRuntime) {
     for (failing, status) in [
         (Failing::Sink(0), Status::WriteFault),
         (Failing::Module(70), Status::ModuleFault),
         (Failing::Store(9), Status::StoreFault),
     ] {
-        let found = ended(rt.alloc(), &["demo", "3"], b"x\n", failing)?;
+        let found = ended(&rt, rt.alloc(), &["demo", "3"], b"x\n", failing);
         assert!(rt; found == (status, 0), "{failing:?}");
     }
-    Ok(())
 }

@@ -2,13 +2,13 @@
 //! program's triple DES and SHA-1 from the clear keys, after the definition of a token; each key that is drawn has the bytes 01.
 
 use crate::runs::{
-    CALLS, Failing, MODULE_SIZE, Pair, ROOM, STORE_SIZE, blank, left, run_on, words_of,
+    CALLS, Failing, MODULE_SIZE, Pair, STORE_SIZE, blank, left_of, run_on, sent, sink_of, words_of,
 };
 use cca_tool::{MoveStatus, Status, unload};
 use key_cells::Workbench;
-use slot_disk::{Disk, MemorySink, Torn};
+use slot_disk::{Disk, MemorySink};
 use std::alloc::Global;
-use std::test::Fail;
+use std::process::Abort;
 
 // A master key, two transport keys, and the key of zeros, which came under a transport key.
 const REQUESTS: &[u8] = b"\
@@ -45,36 +45,54 @@ enum Fault {
     Store(u64),
 }
 
-// How the move of a pair ends, and how many bytes of the file and of the report are sent. Each disk notes one call, the
-// sync that opens it: a write, or a further sync, would fail.
-fn moved(alloc: Global, from: &Pair, fault: Fault) -> Result<(MoveStatus, usize, usize), Fail> {
-    let words = words_of(alloc, &MOVE)?;
-    let mut file = MemorySink::new(alloc, ROOM)?;
-    let mut report = MemorySink::new(alloc, ROOM)?;
-    let mut module = left(alloc, &from.module, from.module.noted(), Torn::New, 1)?;
-    let mut store = left(alloc, &from.store, from.store.noted(), Torn::New, 1)?;
+// A file, a report and a pair.
+#[derive(Drop)]
+struct Move {
+    file: MemorySink,
+    report: MemorySink,
+    pair: Pair,
+}
+
+// Makes the call of the device fail.
+fn fail(fault: Fault, to: &mut Move) {
     match fault {
-        Fault::File(call) => file.fail_at(call),
-        Fault::Report(call) => report.fail_at(call),
-        Fault::Module(call) => module.fail_at(call),
-        Fault::Store(call) => store.fail_at(call),
+        Fault::File(call) => to.file.fail_at(call),
+        Fault::Report(call) => to.report.fail_at(call),
+        Fault::Module(call) => to.pair.module.fail_at(call),
+        Fault::Store(call) => to.pair.store.fail_at(call),
     }
-    if module.size() != MODULE_SIZE || store.size() != STORE_SIZE {
-        return Err(Fail::from("another size"));
-    }
+}
+
+// Each disk notes one call, the sync that opens it: a write, or a further sync, would fail.
+fn prepared(rt: &impl Abort, alloc: Global, from: &Pair, fault: Fault) -> Move {
+    let mut to = Move {
+        file: sink_of(rt, alloc),
+        report: sink_of(rt, alloc),
+        pair: left_of(rt, alloc, from),
+    };
+    fail(fault, &mut to);
+    to
+}
+
+// How the move of a pair ends, and how many bytes of the file and of the report are sent.
+fn moved(rt: &impl Abort, alloc: Global, from: &Pair, fault: Fault) -> (MoveStatus, usize, usize) {
+    let words = words_of(rt, alloc, &MOVE);
+    let mut to = prepared(rt, alloc, from, fault);
+    assert!(rt; to.pair.module.size() == MODULE_SIZE && to.pair.store.size() == STORE_SIZE);
     let status = unload(
         alloc,
         &words,
         &mut Workbench::new(),
-        &mut file,
-        &mut report,
-        &mut module,
-        &mut store,
+        &mut to.file,
+        &mut to.report,
+        &mut to.pair.module,
+        &mut to.pair.store,
     );
-    if !FILE.starts_with(file.bytes()) || !REPORT.starts_with(report.bytes()) {
-        return Err(Fail::from("other lines"));
-    }
-    Ok((status, file.bytes().len(), report.bytes().len()))
+    (
+        status,
+        sent(rt, &to.file, FILE),
+        sent(rt, &to.report, REPORT),
+    )
 }
 
 const DONE: MoveStatus = MoveStatus::Run(Status::Done);
@@ -108,13 +126,19 @@ const ENDS: [(Fault, MoveStatus, usize, usize); 15] = [
 ];
 
 #[test]
-fn a_move_makes_so_many_calls(rt: HostRuntime) -> Result<(), Fail> {
-    let mut from = blank(rt.alloc())?;
-    run_on(rt.alloc(), &["run"], REQUESTS, Failing::None, &mut from)?;
+fn a_move_makes_so_many_calls(rt: HostRuntime) {
+    let mut from = blank(&rt, rt.alloc());
+    let _run = run_on(
+        &rt,
+        rt.alloc(),
+        &["run"],
+        REQUESTS,
+        Failing::None,
+        &mut from,
+    );
     assert!(rt; from.store.noted() < CALLS);
-    for (fault, status, sent, told) in ENDS {
-        let found = moved(rt.alloc(), &from, fault)?;
-        assert!(rt; found == (status, sent, told), "{fault:?}");
+    for (fault, status, count, told) in ENDS {
+        let found = moved(&rt, rt.alloc(), &from, fault);
+        assert!(rt; found == (status, count, told), "{fault:?}");
     }
-    Ok(())
 }
