@@ -10,7 +10,7 @@ use key_cells::{Lease, Workbench};
 use key_records::{RecordFault, STORE_LEN};
 use slot_disk::{Disk, Failed, MemoryDisk};
 use std::alloc::Global;
-use std::test::Fail;
+use std::process::Abort;
 
 /// The bytes of a store, and others after so many reads. It tells none of them.
 #[derive(Drop)]
@@ -78,30 +78,33 @@ fn some_bodies() -> [(usize, [u8; 192]); 4] {
     ]
 }
 
-/// What a read of a label answers once a cell has another body, and the 64 bytes that it leaves. The store is opened by
-/// 2,048 reads.
+/// A store of which a cell has another body once it was opened, by 2,048 reads.
+fn changed_store(rt: &impl Abort, alloc: Global, cell: u16, body: [u8; 192]) -> ChangedStore {
+    let mut changed = some_bodies();
+    changed[usize::from(cell) % 4].1 = body;
+    ChangedStore {
+        before: store_of(rt, alloc, &some_bodies(), 0),
+        after: store_of(rt, alloc, &changed, 0),
+        reads: 2048,
+    }
+}
+
+/// What a read of a label answers once a cell has another body, and the 64 bytes that it leaves.
 fn read_changed(
+    rt: &impl Abort,
     alloc: Global,
     text: &[u8],
     cell: u16,
     body: [u8; 192],
-) -> Result<(Result<bool, RecordFault>, [u8; 64]), Fail> {
-    let mut changed = some_bodies();
-    changed[usize::from(cell) % 4].1 = body;
-    let mut store = ChangedStore {
-        before: store_of(alloc, &some_bodies(), 0)?,
-        after: store_of(alloc, &changed, 0)?,
-        reads: 2048,
-    };
+) -> (Result<bool, RecordFault>, [u8; 64]) {
+    let mut store = changed_store(rt, alloc, cell, body);
     let mut bench = Workbench::new();
     let mut lease = Lease::open(&mut bench);
-    let records = opened(alloc, &full_module(), &mut store, &mut lease).or_else(|_| Err(
-        "not opened",
-    ))?;
-    let place = place_of(&records, &sure_label(text)?).or_else(|_| Err("not found"))?;
+    let records = opened(alloc, &full_module(), &mut store, &mut lease).expect(rt, "opened");
+    let place = place_of(&records, &sure_label(rt, text)).expect(rt, "found");
     let mut token = UNTOUCHED;
     let found = records.read(&mut store, &mut lease, place, &mut token);
-    Ok((found, token))
+    (found, token)
 }
 
 /// Labels with their cells, and bodies that come there.
@@ -128,13 +131,12 @@ fn other_bodies() -> [(&'static [u8], u16, [u8; 192]); 12] {
 
 /// A change of another cell is nothing to the label.
 #[test]
-fn a_record_that_changed_after_opening(rt: HostRuntime) -> Result<(), Fail> {
+fn a_record_that_changed_after_opening(rt: HostRuntime) {
     for (text, cell, body) in other_bodies() {
-        let found = read_changed(rt.alloc(), text, cell, body)?;
+        let found = read_changed(&rt, rt.alloc(), text, cell, body);
         let wanted = (Err(RecordFault::Damaged(cell)), UNTOUCHED);
         assert!(rt; found == wanted, "{text:?} {body:?}");
     }
-    let found = read_changed(rt.alloc(), b"A", 1, null_of(b"M"))?;
+    let found = read_changed(&rt, rt.alloc(), b"A", 1, null_of(b"M"));
     assert!(rt; found == (Ok(true), bytes_of(&CURRENT)));
-    Ok(())
 }

@@ -8,7 +8,7 @@ use key_cells::{Lease, Workbench};
 use key_records::{Label, RecordFault, STORE_LEN};
 use slot_disk::{Disk, MemoryDisk};
 use std::alloc::Global;
-use std::test::Fail;
+use std::process::Abort;
 
 /// A single-length DATA key under the current master key, with the flag and the validation value to be put in.
 const DATA_TOKEN: [u64; 8] = [
@@ -57,19 +57,32 @@ fn shown<D: Disk>(
     }
 }
 
-/// Each change writes the body of the format into its cell, a token is kept with flag X'C0', and a restart shows it.
-#[test]
-fn changes(rt: HostRuntime) -> Result<(), Fail> {
-    let alloc = rt.alloc();
-    let mut store = MemoryDisk::new(alloc, STORE_LEN, 100)?;
+/// Carries a change out, after which the cell has this body.
+fn changes_cell(
+    rt: &impl Abort,
+    alloc: Global,
+    store: &mut MemoryDisk,
+    change: Change,
+    cell: u16,
+    body: &[u8; 192],
+) {
+    let done = carry_out(alloc, &module_image(), store, change);
+    assert!(rt; done == Ok((1, false)), "{change:?}");
+    assert!(rt; cell_body(rt, store, cell) == *body, "{change:?}");
+}
+
+/// A change, the cell that it changes, the body there then, and a label with the token that it shows.
+type Row = (Change, u16, [u8; 192], Label, Option<[u8; 64]>);
+
+/// Each change writes the body of the format into its cell, and a token is kept with flag X'C0'.
+fn changes_of(a: Label, b: Label) -> [Row; 5] {
     let [with_flag, without_flag, old, _] = tokens();
-    let a = sure_label(b"A")?;
-    let b = sure_label(b"KEY.B")?;
+    let null_a = body_of(1, b"A", &[0; 64]);
     let null_b = body_of(1, b"KEY.B", &[0; 64]);
     let with_b = body_of(2, b"KEY.B", &with_flag);
     let old_a = body_of(2, b"A", &old);
-    for (change, cell, body, label, token) in [
-        (Change::Create(a), 0, body_of(1, b"A", &[0; 64]), a, None),
+    [
+        (Change::Create(a), 0, null_a, a, None),
         (Change::Create(b), 1, null_b, b, None),
         (
             Change::Write(b, without_flag),
@@ -80,24 +93,29 @@ fn changes(rt: HostRuntime) -> Result<(), Fail> {
         ),
         (Change::Write(a, old), 0, old_a, a, Some(old)),
         (Change::Delete(a), 0, [0; 192], b, Some(with_flag)),
-    ] {
-        let done = carry_out(alloc, &module_image(), &mut store, change);
-        assert!(rt; done == Ok((1, false)), "{change:?}");
-        assert!(rt; cell_body(&mut store, cell)? == body, "{change:?}");
-        let found = shown(alloc, &mut store, &label);
+    ]
+}
+
+/// A restart shows what was changed.
+#[test]
+fn changes(rt: HostRuntime) {
+    let mut store = MemoryDisk::new(rt.alloc(), STORE_LEN, 100).expect(&rt, "a disk");
+    let rows = changes_of(sure_label(&rt, b"A"), sure_label(&rt, b"KEY.B"));
+    for (change, cell, body, label, token) in rows {
+        changes_cell(&rt, rt.alloc(), &mut store, change, cell, &body);
+        let found = shown(rt.alloc(), &mut store, &label);
         assert!(rt; found == Ok(Ok(token)), "{change:?}");
     }
-    Ok(())
 }
 
 /// What opening a store comes to, whose cells have these bodies.
-fn opens(alloc: Global, bodies: &[(usize, [u8; 192])]) -> Result<Result<(), Stop>, Fail> {
-    let mut store = store_of(alloc, bodies, 1)?;
+fn opens(rt: &impl Abort, alloc: Global, bodies: &[(usize, [u8; 192])]) -> Result<(), Stop> {
+    let mut store = store_of(rt, alloc, bodies, 1);
     let mut bench = Workbench::new();
     let mut lease = Lease::open(&mut bench);
     match opened(alloc, &module_image(), &mut store, &mut lease) {
-        Ok(_) => Ok(Ok(())),
-        Err(stop) => Ok(Err(stop)),
+        Ok(_) => Ok(()),
+        Err(stop) => Err(stop),
     }
 }
 
@@ -136,75 +154,72 @@ fn broken_bodies() -> [([u8; 192], usize, [u8; 192]); 19] {
 
 /// Bodies that read as no record, and labels that stand twice: the first damaged cell is named.
 #[test]
-fn damaged_cells(rt: HostRuntime) -> Result<(), Fail> {
+fn damaged_cells(rt: HostRuntime) {
     let [token, _, old, _] = tokens();
     let null = body_of(1, b"NULL", &[0; 64]);
     for key in [token, old] {
-        let found = opens(rt.alloc(), &[(5, body_of(2, b"KEY", &key)), (1023, null)])?;
-        assert!(rt; found == Ok(()), "{key:?}");
+        let bodies = [(5, body_of(2, b"KEY", &key)), (1023, null)];
+        assert!(rt; opens(&rt, rt.alloc(), &bodies) == Ok(()), "{key:?}");
     }
     for (body, other, beside) in broken_bodies() {
-        let found = opens(rt.alloc(), &[(5, body), (other, beside)])?;
+        let found = opens(&rt, rt.alloc(), &[(5, body), (other, beside)]);
         let wanted = Err(Stop::Open(RecordFault::Damaged(5)));
         assert!(rt; found == wanted, "{body:?} {other}");
     }
-    Ok(())
 }
+
+const NOT_OPENED: Stop = Stop::Open(RecordFault::DiskFault);
+
+const FAILED: Stop = Stop::Change(RecordFault::DiskFault);
 
 /// A store is opened by two reads for each of 1,024 cells, and a record is read by two more. Neither is made twice, also
 /// where it fails.
 #[test]
-fn a_record_is_read_once(rt: HostRuntime) -> Result<(), Fail> {
+fn a_record_is_read_once(rt: HostRuntime) {
     let [token, ..] = tokens();
-    let key = sure_label(b"KEY")?;
-    let not_opened = Err(Stop::Open(RecordFault::DiskFault));
+    let key = sure_label(&rt, b"KEY");
     let failed = Ok(Err(RecordFault::DiskFault));
     for (call, wanted) in [
-        (0, not_opened),
-        (2047, not_opened),
+        (0, Err(NOT_OPENED)),
+        (2047, Err(NOT_OPENED)),
         (2048, failed),
         (2049, failed),
         (2050, Ok(Ok(Some(token)))),
     ] {
-        let mut store = store_of(rt.alloc(), &[(0, body_of(2, b"KEY", &token))], 0)?;
+        let mut store = store_of(&rt, rt.alloc(), &[(0, body_of(2, b"KEY", &token))], 0);
         store.fail_at(call);
         let found = shown(rt.alloc(), &mut store, &key);
         assert!(rt; found == wanted, "at call {call}");
     }
-    Ok(())
 }
+
+/// The call that fails, what the change answers, and why the label A shows nothing then, if so.
+type Faulty = (u64, Result<(u32, bool), Stop>, Option<Stop>);
+
+/// A sync to settle, two reads for each of 1,024 cells, and for the change a read, two writes and a sync after each.
+const FAULTS: [Faulty; 9] = [
+    (0, Err(Stop::Settle), Some(Stop::Unknown)),
+    (1, Err(NOT_OPENED), Some(Stop::Unknown)),
+    (2048, Err(NOT_OPENED), Some(Stop::Unknown)),
+    (2049, Err(FAILED), Some(Stop::Unknown)),
+    (2050, Err(FAILED), Some(Stop::Unknown)),
+    (2051, Err(FAILED), Some(Stop::Unknown)),
+    (2052, Err(FAILED), Some(Stop::Unknown)),
+    (2053, Err(FAILED), None),
+    // it made no further call
+    (2054, Ok((1, false)), Some(NOT_OPENED)),
+];
 
 /// A fault at each call leaves the labels before or after.
 #[test]
-fn a_fault_at_each_call(rt: HostRuntime) -> Result<(), Fail> {
-    let alloc = rt.alloc();
-    let a = sure_label(b"A")?;
-    let not_opened = Err(Stop::Open(RecordFault::DiskFault));
-    let failed = Err(Stop::Change(RecordFault::DiskFault));
-    let unknown = Err(Stop::Unknown);
-    // A sync to settle, two reads for each of 1,024 cells, and for the change a read, two writes and a sync after each.
-    for (call, wanted, left) in [
-        (0, Err(Stop::Settle), unknown),
-        (1, not_opened, unknown),
-        (2048, not_opened, unknown),
-        (2049, failed, unknown),
-        (2050, failed, unknown),
-        (2051, failed, unknown),
-        (2052, failed, unknown),
-        (2053, failed, Ok(Ok(None))),
-        // it made no further call
-        (
-            2054,
-            Ok((1, false)),
-            Err(Stop::Open(RecordFault::DiskFault)),
-        ),
-    ] {
-        let mut store = MemoryDisk::new(alloc, STORE_LEN, 20)?;
+fn a_fault_at_each_call(rt: HostRuntime) {
+    let a = sure_label(&rt, b"A");
+    for (call, wanted, left) in FAULTS {
+        let mut store = MemoryDisk::new(rt.alloc(), STORE_LEN, 20).expect(&rt, "a disk");
         store.fail_at(call);
-        let done = carry_out(alloc, &module_image(), &mut store, Change::Create(a));
+        let done = carry_out(rt.alloc(), &module_image(), &mut store, Change::Create(a));
         assert!(rt; done == wanted, "at call {call}");
-        let found = shown(alloc, &mut store, &a);
-        assert!(rt; found == left, "at call {call}");
+        let found = shown(rt.alloc(), &mut store, &a);
+        assert!(rt; found.err() == left, "at call {call}");
     }
-    Ok(())
 }

@@ -8,7 +8,7 @@ use key_records::RecordFault;
 use reencipher::StoreAction;
 use slot_disk::MemoryDisk;
 use std::alloc::Global;
-use std::test::Fail;
+use std::process::Abort;
 
 /// The DATA key 0123456789abcdef under the old and the current master key, and the EXPORTER key
 /// 0123456789abcdeffedcba9876543210 under both.
@@ -77,39 +77,61 @@ fn kinds_with(keys: [[u8; 192]; 5]) -> [[u8; 192]; 6] {
     [a, body_of(1, b"N", &[0; 64]), b, d, c, e]
 }
 
-/// What REENCIPHER, AHEAD and DROP make of them, each of them alone, and AHEAD and DROP after REENCIPHER.
-fn kinds_after() -> [[[u8; 192]; 6]; 5] {
-    let [_, current, old_exporter, current_exporter] = tokens();
+/// The tokens of a label's key under the current and the new master key: A and C have the DATA key.
+fn tokens_of(label: u8) -> [[u8; 64]; 2] {
+    let [_, current, _, current_exporter] = tokens();
     let [new, new_exporter] = new_tokens();
-    let [a, _, b, d, c, e] = kinds();
-    let [b_now, d_now, e_now] = [b"B", b"D", b"E"].map(|label| body_of(
-        2,
-        label,
-        &current_exporter,
-    ));
-    let [a_now, c_now] = [b"A", b"C"].map(|label| body_of(2, label, &current));
-    let [b_both, d_both, e_both] = [b"B", b"D", b"E"].map(|label| both_of(
-        label,
-        &current_exporter,
-        &new_exporter,
-    ));
-    let [a_both, c_both] = [b"A", b"C"].map(|label| both_of(label, &current, &new));
-    [
-        kinds_with([a, b_now, d, c, e_now]),
-        kinds_with([a_both, b, d, c_both, e]),
-        kinds_with([a, b, d_now, c, e]),
-        kinds_with([a_both, b_both, d_both, c_both, e_both]),
-        kinds_with([a_now, b_now, d_now, c_now, e_now]),
-    ]
+    if label == b'A' || label == b'C' {
+        [current, new]
+    } else {
+        [current_exporter, new_exporter]
+    }
+}
+
+/// A label with one token, under the current master key.
+fn one(label: u8) -> [u8; 192] {
+    let [current, _] = tokens_of(label);
+    body_of(2, &[label], &current)
+}
+
+/// A label that is ahead.
+fn two(label: u8) -> [u8; 192] {
+    let [current, new] = tokens_of(label);
+    both_of(&[label], &current, &new)
+}
+
+/// The labels after REENCIPHER, AHEAD and DROP, each of them alone.
+fn renewed() -> [[u8; 192]; 6] {
+    let [a, _, _, d, c, _] = kinds();
+    kinds_with([a, one(b'B'), d, c, one(b'E')])
+}
+
+fn prepared() -> [[u8; 192]; 6] {
+    let [_, _, b, d, _, e] = kinds();
+    kinds_with([two(b'A'), b, d, two(b'C'), e])
+}
+
+fn dropped() -> [[u8; 192]; 6] {
+    let [a, _, b, _, c, e] = kinds();
+    kinds_with([a, b, one(b'D'), c, e])
+}
+
+/// The labels after AHEAD and after DROP, after REENCIPHER.
+fn all_prepared() -> [[u8; 192]; 6] {
+    kinds_with([two(b'A'), two(b'B'), two(b'D'), two(b'C'), two(b'E')])
+}
+
+fn all_dropped() -> [[u8; 192]; 6] {
+    kinds_with([one(b'A'), one(b'B'), one(b'D'), one(b'C'), one(b'E')])
 }
 
 /// A store of labels of each kind.
-fn store_of_kinds(alloc: Global) -> Result<MemoryDisk, Fail> {
+fn store_of_kinds(rt: &impl Abort, alloc: Global) -> MemoryDisk {
     let mut bodies = [(0, [0; 192]); 6];
     for (cell, body) in kinds().iter().enumerate() {
         bodies[cell % 6] = (cell, *body);
     }
-    store_of(alloc, &bodies, 100)
+    store_of(rt, alloc, &bodies, 100)
 }
 
 /// Carries an action out: how many labels it changed, and whether one is ahead then.
@@ -118,65 +140,97 @@ fn run(alloc: Global, store: &mut MemoryDisk, action: StoreAction) -> Result<(u3
 }
 
 /// Whether the first six cells select these bodies.
-fn selects(store: &mut MemoryDisk, cells: &[[u8; 192]; 6]) -> Result<bool, Fail> {
+fn selects(rt: &impl Abort, store: &mut MemoryDisk, cells: &[[u8; 192]; 6]) -> bool {
     for cell in 0..6u16 {
-        if cell_body(store, cell)? != cells[usize::from(cell)] {
-            return Ok(false);
+        if cell_body(rt, store, cell) != cells[usize::from(cell)] {
+            return false;
         }
     }
-    Ok(true)
+    true
+}
+
+/// Carries an action out on a store of labels of each kind.
+fn alone(
+    rt: &impl Abort,
+    alloc: Global,
+    action: StoreAction,
+    wanted: (u32, bool),
+    cells: &[[u8; 192]; 6],
+) {
+    let mut store = store_of_kinds(rt, alloc);
+    assert!(rt; run(alloc, &mut store, action) == Ok(wanted));
+    assert!(rt; selects(rt, &mut store, cells));
+}
+
+/// Carries an action out twice: the second time it changes nothing.
+fn twice(
+    rt: &impl Abort,
+    alloc: Global,
+    store: &mut MemoryDisk,
+    action: StoreAction,
+    wanted: (u32, bool),
+    cells: &[[u8; 192]; 6],
+) {
+    assert!(rt; run(alloc, store, action) == Ok(wanted));
+    assert!(rt; run(alloc, store, action) == Ok((0, wanted.1)));
+    assert!(rt; selects(rt, store, cells));
 }
 
 /// Each action changes the labels that it is for, once, and leaves the others as they stand.
 #[test]
-fn labels_of_each_kind(rt: HostRuntime) -> Result<(), Fail> {
-    let [renewed, ahead, dropped, all_ahead, all_dropped] = kinds_after();
-    for (action, wanted, cells) in [
-        (StoreAction::Ahead, (2, true), ahead),
-        (StoreAction::Drop, (1, false), dropped),
-    ] {
-        let mut store = store_of_kinds(rt.alloc())?;
-        assert!(rt;
-            run(rt.alloc(), &mut store, action) == Ok(wanted),
-            "{action:?}"
-        );
-        assert!(rt; selects(&mut store, &cells)?, "{action:?}");
-    }
-    let mut store = store_of_kinds(rt.alloc())?;
-    for (action, wanted, cells) in [
-        (StoreAction::Renew, (2, true), renewed),
-        (StoreAction::Renew, (0, true), renewed),
-        (StoreAction::Ahead, (4, true), all_ahead),
-        (StoreAction::Ahead, (0, true), all_ahead),
-        (StoreAction::Drop, (5, false), all_dropped),
-        (StoreAction::Drop, (0, false), all_dropped),
-    ] {
-        assert!(rt;
-            run(rt.alloc(), &mut store, action) == Ok(wanted),
-            "{action:?}"
-        );
-        assert!(rt; selects(&mut store, &cells)?, "{action:?}");
-    }
-    Ok(())
+fn labels_of_each_kind(rt: HostRuntime) {
+    let alloc = rt.alloc();
+    alone(&rt, alloc, StoreAction::Ahead, (2, true), &prepared());
+    alone(&rt, alloc, StoreAction::Drop, (1, false), &dropped());
+    let mut store = store_of_kinds(&rt, alloc);
+    twice(
+        &rt,
+        alloc,
+        &mut store,
+        StoreAction::Renew,
+        (2, true),
+        &renewed(),
+    );
+    twice(
+        &rt,
+        alloc,
+        &mut store,
+        StoreAction::Ahead,
+        (4, true),
+        &all_prepared(),
+    );
+    twice(
+        &rt,
+        alloc,
+        &mut store,
+        StoreAction::Drop,
+        (5, false),
+        &all_dropped(),
+    );
 }
 
-/// How many calls an action makes: the last one may fail, and none behind it is made. A sync and two reads for each of
-/// 1,024 cells open a store. Each label that may be changed is two reads, and one that is changed a read, and twice a write
-/// and a sync.
+const FAILED: Result<(u32, bool), Stop> = Err(Stop::Run(RecordFault::DiskFault));
+
+/// The calls of an action that fail, and the first that isn't made any more. A sync and two reads for each of 1,024 cells
+/// open a store. Each label that may be changed is two reads, and one that is changed a read, and twice a write and a sync.
+const CALLS: [(StoreAction, u64, Result<(u32, bool), Stop>); 9] = [
+    (StoreAction::Renew, 2049, FAILED),
+    (StoreAction::Renew, 2070, FAILED),
+    (StoreAction::Renew, 2071, Ok((2, true))),
+    (StoreAction::Ahead, 2049, FAILED),
+    (StoreAction::Ahead, 2068, FAILED),
+    (StoreAction::Ahead, 2069, Ok((2, true))),
+    (StoreAction::Drop, 2049, FAILED),
+    (StoreAction::Drop, 2055, FAILED),
+    (StoreAction::Drop, 2056, Ok((1, false))),
+];
+
 #[test]
-fn an_action_makes_so_many_calls(rt: HostRuntime) -> Result<(), Fail> {
-    for (action, calls, wanted) in [
-        (StoreAction::Renew, 2071, (2, true)),
-        (StoreAction::Ahead, 2069, (2, true)),
-        (StoreAction::Drop, 2056, (1, false)),
-    ] {
-        let failed = Err(Stop::Run(RecordFault::DiskFault));
-        for (call, wanted) in [(2049, failed), (calls - 1, failed), (calls, Ok(wanted))] {
-            let mut store = store_of_kinds(rt.alloc())?;
-            store.fail_at(call);
-            let found = run(rt.alloc(), &mut store, action);
-            assert!(rt; found == wanted, "{action:?} at call {call}");
-        }
+fn an_action_makes_so_many_calls(rt: HostRuntime) {
+    for (action, call, wanted) in CALLS {
+        let mut store = store_of_kinds(&rt, rt.alloc());
+        store.fail_at(call);
+        let found = run(rt.alloc(), &mut store, action);
+        assert!(rt; found == wanted, "{action:?} at call {call}");
     }
-    Ok(())
 }

@@ -6,7 +6,7 @@ use crate::stores::{Stop, opened, place_of, store_of, sure_label};
 use key_cells::{Lease, Workbench};
 use key_records::RecordFault;
 use std::alloc::Global;
-use std::test::Fail;
+use std::process::Abort;
 
 /// The key 0123456789abcdef under the new master key, which is the 24 bytes from 40 on.
 pub(crate) const NEW: [u64; 8] = [
@@ -71,79 +71,83 @@ pub(crate) fn full_module() -> [u8; 1536] {
     module_with_new(counting(0x40, 1))
 }
 
-/// The module after SET.
-fn set_module() -> [u8; 1536] {
-    module_after_set(counting(0x40, 1))
+/// A module with the same current key, or the one after SET.
+#[derive(Clone, Copy, Debug)]
+enum Module {
+    Full,
+    Partial,
+    Empty,
+    AfterSet,
 }
 
-/// The module with a new register that is partly full.
-fn partial_module() -> [u8; 1536] {
-    module_of(
-        (1, counting(0x40, 1)),
-        counting(0, 1),
-        (1, counting(23, 255)),
-    )
+fn image_of(module: Module) -> [u8; 1536] {
+    match module {
+        Module::Full => full_module(),
+        Module::Partial => module_of(
+            (1, counting(0x40, 1)),
+            counting(0, 1),
+            (1, counting(23, 255)),
+        ),
+        Module::Empty => module_image(),
+        Module::AfterSet => module_after_set(counting(0x40, 1)),
+    }
 }
 
 /// What the label KEY, whose record is in cell 5, shows: whether it is ahead, and the token that it is under.
 type Shown = Result<(bool, [u8; 64]), Stop>;
 
 /// What the label shows whose record has this body.
-fn shows(alloc: Global, module: &[u8; 1536], body: [u8; 192]) -> Result<Shown, Fail> {
-    let mut store = store_of(alloc, &[(5, body)], 0)?;
-    let key = sure_label(b"KEY")?;
+fn shows(rt: &impl Abort, alloc: Global, module: Module, body: [u8; 192]) -> Shown {
+    let mut store = store_of(rt, alloc, &[(5, body)], 0);
     let mut bench = Workbench::new();
     let mut lease = Lease::open(&mut bench);
-    let records = match opened(alloc, module, &mut store, &mut lease) {
-        Ok(records) => records,
-        Err(stop) => return Ok(Err(stop)),
-    };
-    let place = match place_of(&records, &key) {
-        Ok(place) => place,
-        Err(stop) => return Ok(Err(stop)),
-    };
+    let records = opened(alloc, &image_of(module), &mut store, &mut lease)?;
+    let place = place_of(&records, &sure_label(rt, b"KEY"))?;
     let mut token = [0; 64];
     match records.read(&mut store, &mut lease, place, &mut token) {
-        Ok(true) => Ok(Ok((records.is_ahead(place), token))),
-        Ok(false) => Ok(Err(Stop::Token)),
-        Err(fault) => Ok(Err(Stop::Read(fault))),
+        Ok(true) => Ok((records.is_ahead(place), token)),
+        Ok(false) => Err(Stop::Token),
+        Err(fault) => Err(Stop::Read(fault)),
     }
 }
+
+/// A module, the two tokens of a key, whether it is ahead, and the token that it is under.
+type Pair = (Module, [u64; 8], [u64; 8], bool, [u64; 8]);
+
+const PAIRS: [Pair; 9] = [
+    (Module::Full, CURRENT, NEW, true, CURRENT),
+    (Module::Full, DOUBLE, DOUBLE_NEW, true, DOUBLE),
+    (Module::Full, OLD, CURRENT, false, CURRENT),
+    (Module::Full, UNHELD, CURRENT, false, CURRENT),
+    (Module::Full, UNHELD, OLD, false, OLD),
+    (Module::Full, CURRENT, OLD, false, OLD),
+    (Module::Empty, CURRENT, OLD, false, OLD),
+    (Module::AfterSet, CURRENT, NEW, false, NEW),
+    (Module::AfterSet, DOUBLE, DOUBLE_NEW, false, DOUBLE_NEW),
+];
 
 /// Two tokens of a key: the second is looked at first, and the first one further only where no register but the new one
 /// holds the second.
 #[test]
-fn two_tokens(rt: HostRuntime) -> Result<(), Fail> {
-    let full = full_module();
-    for (module, first, second, ahead, token) in [
-        (full, CURRENT, NEW, true, CURRENT),
-        (full, DOUBLE, DOUBLE_NEW, true, DOUBLE),
-        (full, OLD, CURRENT, false, CURRENT),
-        (full, UNHELD, CURRENT, false, CURRENT),
-        (full, UNHELD, OLD, false, OLD),
-        (full, CURRENT, OLD, false, OLD),
-        (module_image(), CURRENT, OLD, false, OLD),
-        (set_module(), CURRENT, NEW, false, NEW),
-        (set_module(), DOUBLE, DOUBLE_NEW, false, DOUBLE_NEW),
-    ] {
-        let found = shows(rt.alloc(), &module, two_of(b"KEY", &first, &second))?;
+fn two_tokens(rt: HostRuntime) {
+    for (module, first, second, ahead, token) in PAIRS {
+        let found = shows(&rt, rt.alloc(), module, two_of(b"KEY", &first, &second));
         let wanted = Ok((ahead, bytes_of(&token)));
         assert!(rt; found == wanted, "{first:?} {second:?}");
     }
-    Ok(())
 }
 
 /// Pairs of tokens that read as no record.
-fn broken_tokens() -> [([u8; 1536], [u64; 8], [u64; 8]); 14] {
-    let full = full_module();
+fn broken_tokens() -> [(Module, [u64; 8], [u64; 8]); 14] {
+    let full = Module::Full;
     let other_flag = [(0, 0x0100_0000_0000_8000), (7, 0x4074_c9d2)];
     let external = [(0, 0x0200_0000_0000_c000), (1, 0), (7, 0x7067_5c97)];
     let other_vector = [(4, 0x0100_0000_0000_0000), (7, 0x4175_09d2)];
     [
         // a pattern of no register, also where the new one isn't full
         (full, CURRENT, UNHELD),
-        (module_image(), CURRENT, NEW),
-        (partial_module(), CURRENT, NEW),
+        (Module::Empty, CURRENT, NEW),
+        (Module::Partial, CURRENT, NEW),
         // a first token that isn't under the current master key
         (full, OLD, NEW),
         (full, UNHELD, NEW),
@@ -178,15 +182,14 @@ fn broken_pairs() -> [[u8; 192]; 6] {
 }
 
 #[test]
-fn damaged_second_forms(rt: HostRuntime) -> Result<(), Fail> {
+fn damaged_second_forms(rt: HostRuntime) {
     let damaged = Err(Stop::Open(RecordFault::Damaged(5)));
     for (module, first, second) in broken_tokens() {
-        let found = shows(rt.alloc(), &module, two_of(b"KEY", &first, &second))?;
+        let found = shows(&rt, rt.alloc(), module, two_of(b"KEY", &first, &second));
         assert!(rt; found == damaged, "{first:?} {second:?}");
     }
     for body in broken_pairs() {
-        let found = shows(rt.alloc(), &full_module(), body)?;
+        let found = shows(&rt, rt.alloc(), Module::Full, body);
         assert!(rt; found == damaged, "{body:?}");
     }
-    Ok(())
 }

@@ -11,7 +11,7 @@ use key_cells::Lease;
 use key_records::{Label, Place, RecordFault, Records, STORE_LEN, open_records};
 use slot_disk::{Cell, Disk, MemoryDisk, Steps, read_cell};
 use std::alloc::Global;
-use std::test::Fail;
+use std::process::Abort;
 
 /// Why a step before the one that is looked at, or this one itself, didn't come to its end.
 #[derive(Clone, Copy, Debug, PartialEq, Eq)]
@@ -58,8 +58,8 @@ pub(crate) fn opened<D: Disk>(
 }
 
 /// The label, in a test that ends where it is none.
-pub(crate) fn sure_label(text: &[u8]) -> Result<Label, Fail> {
-    Ok(Label::read(text).ok_or("no label")?)
+pub(crate) fn sure_label(rt: &impl Abort, text: &[u8]) -> Label {
+    Label::read(text).expect(rt, "a label")
 }
 
 /// Where a label is held.
@@ -80,25 +80,22 @@ fn put_body(image: &mut [u8], cell: usize, body: &[u8; 192]) {
 
 /// A store whose cells have these bodies, with room to note so many writes and syncs.
 pub(crate) fn store_of(
+    rt: &impl Abort,
     alloc: Global,
     bodies: &[(usize, [u8; 192])],
     room: u64,
-) -> Result<MemoryDisk, Fail> {
-    let mut image = vec![in alloc; 0u8; STORE_LEN as usize]?;
+) -> MemoryDisk {
+    let mut image = vec![in alloc; 0u8; STORE_LEN as usize].expect(rt, "an image");
     for (cell, body) in bodies {
         put_body(&mut image, *cell, body);
     }
-    Ok(MemoryDisk::from_image(alloc, &image, room)?)
+    MemoryDisk::from_image(alloc, &image, room).expect(rt, "a disk")
 }
 
 /// The selected body of a cell of a store.
-pub(crate) fn cell_body(store: &mut MemoryDisk, cell: u16) -> Result<[u8; 192], Fail> {
+pub(crate) fn cell_body(rt: &impl Abort, store: &mut MemoryDisk, cell: u16) -> [u8; 192] {
     let mut found = [0xff; 192];
-    if store.size() != STORE_LEN || cell > 1023 {
-        return Err(Fail::from("no such cell"));
-    }
-    match read_cell(store, Cell::new(cell), &mut found) {
-        Ok(()) => Ok(found),
-        Err(_) => Err(Fail::from("not read")),
-    }
+    assert!(rt; store.size() == STORE_LEN && cell <= 1023);
+    assert!(rt; read_cell(store, Cell::new(cell), &mut found).is_ok());
+    found
 }
