@@ -4,17 +4,15 @@ use key_cells::{Lease, Workbench};
 use master_registers::{LoadFault, NewState, Pattern, Registers, load};
 use slot_disk::{Disk, MemoryDisk};
 use std::alloc::Global;
-use std::test::Fail;
+use std::process::Abort;
 
 /// What the registers of a module of these bytes are.
-fn loaded(alloc: Global, image: &[u8]) -> Result<Result<Registers, LoadFault>, Fail> {
-    let mut module = MemoryDisk::from_image(alloc, image, 1)?;
-    if module.size() < 1_536 {
-        return Err(Fail::from("no cell"));
-    }
+fn loaded(rt: &impl Abort, alloc: Global, image: &[u8]) -> Result<Registers, LoadFault> {
+    let mut module = MemoryDisk::from_image(alloc, image, 1).expect(rt, "a disk");
+    assert!(rt; module.size() >= 1_536);
     let mut bench = Workbench::new();
     let mut lease = Lease::open(&mut bench);
-    Ok(load(&mut module, &mut lease))
+    load(&mut module, &mut lease)
 }
 
 fn registers(
@@ -121,33 +119,33 @@ fn damaged_bodies() -> [[u8; 192]; 15] {
 
 /// Bodies of the table, in each of the two places of their cell. The patterns are from another implementation of SHA-1.
 #[test]
-fn bodies_of_registers(rt: HostRuntime) -> Result<(), Fail> {
-    for selector in [0, 5] {
-        for (body, held) in whole_bodies() {
-            assert!(rt; loaded(rt.alloc(), &image_of(selector, &body))? == Ok(held));
-        }
-        for body in damaged_bodies() {
-            let found = loaded(rt.alloc(), &image_of(selector, &body))?;
-            assert!(rt; found == Err(LoadFault::Damaged), "{body:?}");
-        }
+fn bodies_of_registers(rt: HostRuntime) {
+    for (body, held) in whole_bodies() {
+        assert!(rt; loaded(&rt, rt.alloc(), &image_of(0, &body)) == Ok(held));
+        assert!(rt; loaded(&rt, rt.alloc(), &image_of(5, &body)) == Ok(held));
     }
-    Ok(())
+    for body in damaged_bodies() {
+        let found = loaded(&rt, rt.alloc(), &image_of(5, &body));
+        assert!(rt; found == Err(LoadFault::Damaged), "{body:?}");
+    }
 }
 
-/// What opening the roles of a module comes to, whose cells have these bodies.
-fn opened(alloc: Global, bodies: &[(usize, [u8; 192])]) -> Result<Result<(), RoleFault>, Fail> {
-    let mut image = vec![in alloc; 0u8; MODULE_LEN as usize]?;
+/// A module whose cells have these bodies.
+fn module_of(rt: &impl Abort, alloc: Global, bodies: &[(usize, [u8; 192])]) -> MemoryDisk {
+    let mut image = vec![in alloc; 0u8; MODULE_LEN as usize].expect(rt, "an image");
     for (cell, body) in bodies {
         put(&mut image, *cell, body);
     }
-    let mut module = MemoryDisk::from_image(alloc, &image, 1)?;
-    if module.size() != MODULE_LEN {
-        return Err(Fail::from("another size"));
-    }
+    MemoryDisk::from_image(alloc, &image, 1).expect(rt, "a disk")
+}
+
+/// What opening the roles of a module comes to, whose cells have these bodies.
+fn opened(rt: &impl Abort, alloc: Global, bodies: &[(usize, [u8; 192])]) -> Result<(), RoleFault> {
+    let mut module = module_of(rt, alloc, bodies);
+    assert!(rt; module.size() == MODULE_LEN);
     let mut bench = Workbench::new();
     let mut lease = Lease::open(&mut bench);
-    let mut roles = Roles::new();
-    Ok(open_roles(&mut module, &mut lease, &mut roles))
+    open_roles(&mut module, &mut lease, &mut Roles::new())
 }
 
 /// Puts a body where the first selector of a cell points.
@@ -180,7 +178,16 @@ fn teller_with(at: usize, byte: u8) -> [u8; 192] {
 }
 
 /// The bodies of two cells, and the first of them that is damaged.
-type TwoRoles = ((usize, [u8; 192]), (usize, [u8; 192]), Option<u16>);
+type TwoRoles = (
+    (usize, [u8; 192]),
+    (usize, [u8; 192]),
+    Result<(), RoleFault>,
+);
+
+/// The answer where this cell is damaged.
+fn damaged(cell: u16) -> Result<(), RoleFault> {
+    Err(RoleFault::Damaged(cell))
+}
 
 /// Roles, alone and beside others; a role in another cell than its own; a name that stands twice; and two damaged cells.
 fn roles_in_cells() -> [TwoRoles; 8] {
@@ -189,14 +196,14 @@ fn roles_in_cells() -> [TwoRoles; 8] {
     let default_role = role_body(7, *b"DEFAULT\0", [0, 0, 0, 1]);
     let bad = teller_with(0, 2);
     [
-        ((2, teller), (32, clerk), None),
-        ((1, default_role), (3, teller), None),
-        ((1, teller), (3, clerk), Some(1)),
-        ((4, default_role), (3, clerk), Some(4)),
-        ((2, teller), (5, teller), Some(5)),
-        ((5, bad), (4, bad), Some(4)),
-        ((2, bad), (1, clerk), Some(1)),
-        ((32, teller_with(191, 1)), (3, clerk), Some(32)),
+        ((2, teller), (32, clerk), Ok(())),
+        ((1, default_role), (3, teller), Ok(())),
+        ((1, teller), (3, clerk), damaged(1)),
+        ((4, default_role), (3, clerk), damaged(4)),
+        ((2, teller), (5, teller), damaged(5)),
+        ((5, bad), (4, bad), damaged(4)),
+        ((2, bad), (1, clerk), damaged(1)),
+        ((32, teller_with(191, 1)), (3, clerk), damaged(32)),
     ]
 }
 
@@ -215,57 +222,57 @@ const BROKEN_ROLES: [(usize, u8); 8] = [
 
 /// The first damaged cell is named.
 #[test]
-fn bodies_of_roles(rt: HostRuntime) -> Result<(), Fail> {
-    for (first, second, cell) in roles_in_cells() {
-        let wanted = match cell {
-            Some(cell) => Err(RoleFault::Damaged(cell)),
-            None => Ok(()),
-        };
-        let found = opened(rt.alloc(), &[first, second])?;
+fn bodies_of_roles(rt: HostRuntime) {
+    for (first, second, wanted) in roles_in_cells() {
+        let found = opened(&rt, rt.alloc(), &[first, second]);
         assert!(rt; found == wanted, "{first:?} {second:?}");
     }
     for (at, byte) in BROKEN_ROLES {
-        let found = opened(rt.alloc(), &[(2, teller_with(at, byte))])?;
+        let found = opened(&rt, rt.alloc(), &[(2, teller_with(at, byte))]);
         assert!(rt; found == Err(RoleFault::Damaged(2)), "{byte} at {at}");
     }
-    Ok(())
 }
+
+/// The points, of which each has the value of one bit, from the lowest one on.
+const POINTS: [AccessPoints; 29] = [
+    AccessPoints::ENC,
+    AccessPoints::DEC,
+    AccessPoints::MGN,
+    AccessPoints::MVR,
+    AccessPoints::KYT,
+    AccessPoints::CKI,
+    AccessPoints::RNG,
+    AccessPoints::KGN_OP,
+    AccessPoints::KGN_PAIR,
+    AccessPoints::KGN_OUT,
+    AccessPoints::KIM,
+    AccessPoints::KEX,
+    AccessPoints::PEX,
+    AccessPoints::KTC_CURRENT,
+    AccessPoints::KTC_NEW,
+    AccessPoints::KRC,
+    AccessPoints::KRW,
+    AccessPoints::KRR,
+    AccessPoints::KRD,
+    AccessPoints::KRL,
+    AccessPoints::MK_FIRST,
+    AccessPoints::MK_COMBINE,
+    AccessPoints::MK_CLEAR,
+    AccessPoints::MK_SET,
+    AccessPoints::ROLES,
+    AccessPoints::REENC,
+    AccessPoints::KPI_FIRST,
+    AccessPoints::KPI_COMBINE,
+    AccessPoints::KTR,
+];
 
 /// Each point has its value, and no other value is one.
 #[test]
 fn points(rt: HostRuntime) {
-    for (points, bits) in [
-        (AccessPoints::ENC, 0x0000_0001),
-        (AccessPoints::DEC, 0x0000_0002),
-        (AccessPoints::MGN, 0x0000_0004),
-        (AccessPoints::MVR, 0x0000_0008),
-        (AccessPoints::KYT, 0x0000_0010),
-        (AccessPoints::CKI, 0x0000_0020),
-        (AccessPoints::RNG, 0x0000_0040),
-        (AccessPoints::KGN_OP, 0x0000_0080),
-        (AccessPoints::KGN_PAIR, 0x0000_0100),
-        (AccessPoints::KGN_OUT, 0x0000_0200),
-        (AccessPoints::KIM, 0x0000_0400),
-        (AccessPoints::KEX, 0x0000_0800),
-        (AccessPoints::PEX, 0x0000_1000),
-        (AccessPoints::KTC_CURRENT, 0x0000_2000),
-        (AccessPoints::KTC_NEW, 0x0000_4000),
-        (AccessPoints::KRC, 0x0000_8000),
-        (AccessPoints::KRW, 0x0001_0000),
-        (AccessPoints::KRR, 0x0002_0000),
-        (AccessPoints::KRD, 0x0004_0000),
-        (AccessPoints::KRL, 0x0008_0000),
-        (AccessPoints::MK_FIRST, 0x0010_0000),
-        (AccessPoints::MK_COMBINE, 0x0020_0000),
-        (AccessPoints::MK_CLEAR, 0x0040_0000),
-        (AccessPoints::MK_SET, 0x0080_0000),
-        (AccessPoints::ROLES, 0x0100_0000),
-        (AccessPoints::REENC, 0x0200_0000),
-        (AccessPoints::KPI_FIRST, 0x0400_0000),
-        (AccessPoints::KPI_COMBINE, 0x0800_0000),
-        (AccessPoints::KTR, 0x1000_0000),
-    ] {
+    let mut bits = 1;
+    for points in POINTS {
         assert!(rt; points.bits() == bits, "{bits:x}");
+        bits = bits.wrapping_mul(2);
     }
     assert!(rt; AccessPoints::all().bits() == 0x1fff_ffff);
     for bits in [0x2000_0000, 0x2000_0001, 0x8000_0000, 0xffff_ffff] {

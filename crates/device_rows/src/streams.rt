@@ -84,6 +84,17 @@ impl Write for Scripted {
     }
 }
 
+/// What each read answers, and the bytes that it leaves.
+const READ: [(Result<usize, Failed>, &[u8; 3]); 7] = [
+    (Ok(2), b"ab."),
+    (Ok(1), b"c.."),
+    (Err(Failed), b"..."),
+    (Ok(2), b"de."),
+    (Ok(0), b"..."),
+    (Ok(1), b"f.."),
+    (Err(Failed), b"..."),
+];
+
 /// Each read of a stream that gives bytes in pieces, fails in their midst and ends.
 #[test]
 fn a_stream_is_read(rt: HostRuntime) {
@@ -96,20 +107,21 @@ fn a_stream_is_read(rt: HostRuntime) {
         Turn::Give(b"f"),
     ];
     let mut source = StreamSource::new(Scripted::new(TURNS));
-    for (want, bytes) in [
-        (Ok(2), b"ab."),
-        (Ok(1), b"c.."),
-        (Err(Failed), b"..."),
-        (Ok(2), b"de."),
-        (Ok(0), b"..."),
-        (Ok(1), b"f.."),
-        (Err(Failed), b"..."),
-    ] {
+    for (want, bytes) in READ {
         let mut out = *b"...";
-        assert_eq!(rt; source.read(&mut out), want);
-        assert_eq!(rt; out, *bytes);
+        let read = source.read(&mut out);
+        assert!(rt; read == want && out == *bytes);
     }
 }
+
+/// What is written, and what each write answers.
+const WRITTEN: [(&[u8; 2], Result<usize, Failed>); 5] = [
+    (b"ab", Ok(1)),
+    (b"cd", Ok(2)),
+    (b"ef", Err(Failed)),
+    (b"gh", Err(Failed)),
+    (b"ij", Ok(2)),
+];
 
 /// Each write to a stream that takes a part, nothing, or fails.
 #[test]
@@ -124,23 +136,25 @@ fn a_stream_is_written(rt: HostRuntime) {
     let mut stream = Scripted::new(TURNS);
     {
         let mut sink = StreamSink::new(&mut stream);
-        for (piece, want) in [
-            (b"ab", Ok(1)),
-            (b"cd", Ok(2)),
-            (b"ef", Err(Failed)),
-            (b"gh", Err(Failed)),
-            (b"ij", Ok(2)),
-        ] {
-            assert_eq!(rt; sink.write(piece), want);
+        for (piece, want) in WRITTEN {
+            assert!(rt; sink.write(piece) == want);
         }
     }
-    assert_eq!(rt; stream.taken, *b"acdij...");
-    assert_eq!(rt; stream.flushes, 4);
+    assert!(rt; stream.taken == *b"acdij..." && stream.flushes == 4);
     stream.flush_fails = true;
     stream.at = 0;
     let mut sink = StreamSink::new(&mut stream);
-    assert_eq!(rt; sink.write(b"kl"), Err(Failed));
+    assert!(rt; sink.write(b"kl") == Err(Failed));
 }
+
+/// What each fill answers, and the bytes that it leaves.
+const FILLED: [(Result<(), Failed>, &[u8; 3]); 5] = [
+    (Ok(()), b"abc"),
+    (Ok(()), b"efg"),
+    (Err(Failed), b"hi."),
+    (Err(Failed), b"j.."),
+    (Ok(()), b"klm"),
+];
 
 /// Each fill of three bytes from a stream: whole over its pieces, and failed where it ends or fails.
 #[test]
@@ -156,15 +170,9 @@ fn a_stream_fills(rt: HostRuntime) {
         Turn::Give(b"klm"),
     ];
     let mut entropy = StreamEntropy::new(Scripted::new(TURNS));
-    for (want, bytes) in [
-        (Ok(()), b"abc"),
-        (Ok(()), b"efg"),
-        (Err(Failed), b"hi."),
-        (Err(Failed), b"j.."),
-        (Ok(()), b"klm"),
-    ] {
+    for (want, bytes) in FILLED {
         let mut out = *b"...";
-        assert_eq!(rt; entropy.fill(&mut out), want);
-        assert_eq!(rt; out, *bytes);
+        let filled = entropy.fill(&mut out);
+        assert!(rt; filled == want && out == *bytes);
     }
 }
