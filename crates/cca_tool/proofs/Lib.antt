@@ -2,14 +2,17 @@ mod AuditLemmas
 mod CountingLemmas
 mod DemoLemmas
 mod DemoRunLemmas
+mod DiskLemmas
 mod ListLemmas
 mod OpeningLemmas
 mod BetweenLemmas
 mod KnownLemmas
 mod LineLemmas
+mod ListingLemmas
 mod MoveLemmas
 mod RestLemmas
 mod StopLemmas
 mod StatusLemmas
+mod ToldLemmas
 mod Walks
 mod WordLemmas

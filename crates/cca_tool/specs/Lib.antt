@@ -10,3 +10,4 @@ pub mod Opening
 pub mod Running
 pub mod Auditing
 pub mod Showing
+pub mod Stops

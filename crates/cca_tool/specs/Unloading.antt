@@ -28,7 +28,11 @@ use Rattle.move_file.specs.Judging.{RefusedAsRead, TransportAsRead}
 use Rattle.move_file.specs.Moves.{move_checks}
 use Rattle.move_file.specs.Writing.{GotParts, GotPartsTo, ToldAll, ToldTo}
 use Rattle.move_file.specs.declared.moves.Move.{Move}
+use Rattle.move_file.specs.declared.writing.MoveFault.{MoveFault}
+use Rattle.move_file.specs.declared.writing.MoveFault.TheVariants as move_fault
+use Rattle.request_rules.specs.Stored.{read_stop}
 use Rattle.cca_tool.specs.Coprocessor.{cca, IsCell}
+use Rattle.cca_tool.specs.Statuses.{status_of_lem}
 use Rattle.cca_tool.specs.declared.command.Status.{Status}
 use Rattle.cca_tool.specs.declared.command.Status.TheVariants as status
 use Rattle.cca_tool.specs.declared.unloading.MoveStatus.{MoveStatus}
@@ -95,6 +99,13 @@ IsOpenStatus (Run status.EntropyFault) = ⊥
 IsOpenStatus (Run status.InputLimit) = ⊥
 IsOpenStatus (Refused rule) = ⊤
 IsOpenStatus ReportFault = ⊤
+
+-- how a move ends whose labels were told, or up to one
+abbrev pub told_status : Result (Unit {0}) MoveFault → MoveStatus
+told_status (Ok done) = Run status.Done
+told_status (Err move_fault.WriteFault) = Run status.WriteFault
+told_status (Err move_fault.ReportFault) = ReportFault
+told_status (Err (move_fault.Store fault)) = Run (status_of_lem (Err (read_stop fault)))
 
 -- no device was called
 abbrev pub MoveCallsNone : MoveStatus → Type 0

@@ -18,13 +18,15 @@ ghost use Rattle.request_rules.specs.Standing.{tables};
 ghost use Rattle.cca_tool.specs.Coprocessor.{cca, remembers, IsBrokenModule, IsModuleStop};
 ghost use Rattle.cca_tool.specs.Opening.{IsOpened};
 ghost use Rattle.cca_tool.specs.Sessions.{AreKnown};
+ghost use Rattle.cca_tool.specs.Stops.{load_stop, role_stop};
 
 use cca_requests::perform;
 use cca_roles::{RoleFault, Roles, open_roles};
 use key_cells::{Lease, Workbench};
-use key_records::{RecordFault, Records, open_records};
+use key_records::{Records, open_records};
 use line_service::{Desk, Device, Shown, Stop};
 use master_registers::{LoadFault, Registers, load};
+use request_rules::stop_of;
 use slot_disk::{Disk, Entropy, settle};
 use verb_script::{ReplyBuffer, parse_request};
 
@@ -150,17 +152,35 @@ fn open_module<M: Disk>(
     ensures stops { IfErr result IsModuleStop }
     ensures loan { loan_of lease.new ≡ loan_of lease.old }
 {
-    if settle(module).is_err() {
-        return Err(Stop::ModuleFault);
-    }
-    match load(module, lease) {
-        Ok(held) => match open_roles(module, lease, roles) {
-            Ok(()) => Ok(held),
-            Err(RoleFault::Damaged(cell)) => Err(Stop::Damaged(Device::Module, cell)),
-            Err(_) => Err(Stop::ModuleFault),
+    match settle(module) {
+        Ok(()) => match load(module, lease) {
+            Ok(held) => match open_roles(module, lease, roles) {
+                Ok(()) => Ok(held),
+                Err(fault) => Err(stop_of_roles(fault)),
+            },
+            Err(fault) => Err(stop_of_load(fault)),
         },
-        Err(LoadFault::DiskFault) => Err(Stop::ModuleFault),
-        Err(LoadFault::Damaged) => Err(Stop::Damaged(Device::Module, 0)),
+        Err(_) => Err(Stop::ModuleFault),
+    }
+}
+
+/// Why the registers weren't loaded.
+fn stop_of_load(fault: LoadFault) -> Stop
+    ensures { result ≡ load_stop fault }
+{
+    match fault {
+        LoadFault::DiskFault => Stop::ModuleFault,
+        LoadFault::Damaged => Stop::Damaged(Device::Module, 0),
+    }
+}
+
+/// Why the roles weren't read.
+fn stop_of_roles(fault: RoleFault) -> Stop
+    ensures { result ≡ role_stop fault }
+{
+    match fault {
+        RoleFault::Damaged(cell) => Stop::Damaged(Device::Module, cell),
+        RoleFault::DiskFault | RoleFault::TableFull | RoleFault::Unknown => Stop::ModuleFault,
     }
 }
 
@@ -192,12 +212,11 @@ fn open_store<D: Disk>(
     ensures stops { IfErr result IsStoreStop }
     ensures rest { ChangesKeyAndBody lease.old lease.new }
 {
-    if settle(store).is_err() {
-        return Err(Stop::StoreFault);
-    }
-    match open_records(store, lease, held, records) {
-        Ok(()) => Ok(()),
-        Err(RecordFault::Damaged(cell)) => Err(Stop::Damaged(Device::Store, cell)),
+    match settle(store) {
+        Ok(()) => match open_records(store, lease, held, records) {
+            Ok(()) => Ok(()),
+            Err(fault) => Err(stop_of(fault)),
+        },
         Err(_) => Err(Stop::StoreFault),
     }
 }

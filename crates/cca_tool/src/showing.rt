@@ -1,5 +1,5 @@
 //! The top call that lists the trail.
-ghost use Rattle.std.specs.Prelude.{◌≡◌, ◌⊎◌, ◌↔◌, ◌∷◌, [], ℕ, List, codes};
+ghost use Rattle.std.specs.Prelude.{◌≡◌, ◌⊎◌, ◌↔◌, ◌∷◌, [], ℕ, List, Err, IfErr, codes};
 ghost use Rattle.slot_disk.specs.Faults.{Rose};
 ghost use Rattle.slot_disk.specs.Medium.{Told, Keeps};
 ghost use Rattle.slot_disk.specs.WhereTold.{WhereTold};
@@ -10,6 +10,7 @@ ghost use Rattle.line_service.specs.Devices.{TellsFault};
 ghost use Rattle.line_service.specs.Sending.{Grows};
 ghost use Rattle.trail_listing.specs.Listing.{Listed, ListsAsRead, TellsDamage};
 ghost use Rattle.cca_tool.specs.Auditing.{AuditCallsNone};
+ghost use Rattle.cca_tool.specs.Statuses.{CallsNone};
 ghost use Rattle.cca_tool.specs.Showing.{listing_status, ListingEnded, IsListingStatus, ListingUncalled};
 
 use crate::auditing::AuditStatus;
@@ -66,12 +67,23 @@ pub fn show_trail<K: Sink, T: Disk>(
     ensures sink_left { TellsFault (K.faults sink.old) (K.faults sink.new)
         (result ≡ AuditStatus.Run Status.WriteFault) }
 {
+    match line_for(alloc, words) {
+        Ok(mut line) => status_of_listing(list_trail(&mut line, sink, trail)),
+        Err(status) => AuditStatus::Run(status),
+    }
+}
+
+// The line of a listing, where the words ask for one.
+fn line_for(alloc: Global, words: &Words) -> Result<ReplyBuffer, Status>
+    ensures usage { (result ≡ Err Status.Usage) ↔ (words.now ≡ codes "trail" ∷ [] → ⊥) }
+    ensures uncalled { IfErr result CallsNone }
+{
     if !words.are_just("trail") {
-        return AuditStatus::Run(Status::Usage);
+        return Err(Status::Usage);
     }
     match ReplyBuffer::new(alloc) {
-        Ok(mut line) => status_of_listing(list_trail(&mut line, sink, trail)),
-        Err(_) => AuditStatus::Run(Status::NoMemory),
+        Ok(line) => Ok(line),
+        Err(_) => Err(Status::NoMemory),
     }
 }
 

@@ -1,5 +1,5 @@
 //! The top call that moves a store to another module.
-ghost use Rattle.std.specs.Prelude.{◌≡◌, ◌⊎◌, ◌↔◌, ℕ, List};
+ghost use Rattle.std.specs.Prelude.{◌≡◌, ◌⊎◌, ◌↔◌, ℕ, List, IfErr};
 ghost use Rattle.key_cells.specs.Bench.{blank_bench};
 ghost use Rattle.key_cells.specs.Lease.{bench_of, loan_of};
 ghost use Rattle.key_records.specs.StoreStands.{HoldsRows};
@@ -10,10 +10,11 @@ ghost use Rattle.line_service.specs.Devices.{HaveSizes, TellsFault};
 ghost use Rattle.cca_machine.specs.State.{State, module_size, store_size};
 ghost use Rattle.request_rules.specs.Standing.{tables};
 ghost use Rattle.move_file.specs.Judging.{RefusedAsRead};
+ghost use Rattle.move_file.specs.Writing.{IsFault};
 ghost use Rattle.move_file.specs.declared.moves.Move.{Move as AnyMove};
 ghost use Rattle.cca_tool.specs.Opening.{IsOpened};
 ghost use Rattle.cca_tool.specs.Unloading.{AreWordsOf, IsLabelStatus, IsMove, IsMoveStatus, IsOpenStatus};
-ghost use Rattle.cca_tool.specs.Unloading.{MoveCallsNone, MoveLeft, MoveRests, MoveTold, MoveUncalled, MoveUntold, OutputsLeft, Still, TellsNone, outputs};
+ghost use Rattle.cca_tool.specs.Unloading.{MoveCallsNone, MoveLeft, MoveRests, MoveTold, MoveUncalled, MoveUntold, OutputsLeft, Still, TellsNone, outputs, told_status};
 
 use crate::command::{Status, status_of};
 use crate::coprocessor::Coprocessor;
@@ -183,15 +184,23 @@ fn move_labels<K: Sink, P: Sink, D: Disk>(
     ensures loan { loan_of lease.new ≡ loan_of lease.old }
 {
     match judge_move(how, lease, held, roles, store, records) {
-        Ok(Ok(transport)) => match write_move(
+        Ok(Ok(transport)) => status_of_told(write_move(
             how, line, lease, held, &transport, sink, report, store, records,
-        ) {
-            Ok(()) => MoveStatus::Run(Status::Done),
-            Err(MoveFault::WriteFault) => MoveStatus::Run(Status::WriteFault),
-            Err(MoveFault::ReportFault) => MoveStatus::ReportFault,
-            Err(MoveFault::Store(fault)) => MoveStatus::Run(status_of(Err(stop_of(fault)))),
-        },
+        )),
         Ok(Err(rule)) => MoveStatus::Refused(rule.number()),
-        Err(fault) => MoveStatus::Run(status_of(Err(stop_of(fault)))),
+        Err(fault) => status_of_told(Err(MoveFault::Store(fault))),
+    }
+}
+
+/// How a move ends whose labels were told, or up to one.
+fn status_of_told(outcome: Result<(), MoveFault>) -> MoveStatus
+    requires { IfErr outcome IsFault }
+    ensures { result ≡ told_status outcome }
+{
+    match outcome {
+        Ok(()) => MoveStatus::Run(Status::Done),
+        Err(MoveFault::WriteFault) => MoveStatus::Run(Status::WriteFault),
+        Err(MoveFault::ReportFault) => MoveStatus::ReportFault,
+        Err(MoveFault::Store(fault)) => MoveStatus::Run(status_of(Err(stop_of(fault)))),
     }
 }
