@@ -6,7 +6,7 @@ use cca_tool::{AuditStatus, Device, MoveStatus, Status};
 use thiserror::Error;
 
 /// Why the program didn't end well, with its text.
-#[derive(Clone, Copy, Debug, PartialEq, Eq, Error)]
+#[derive(Clone, Copy, Debug, Error)]
 pub enum Fault {
     /// The words are no command, or one of them isn't UTF-8.
     #[error("cca: usage: cca run, cca demo N with N from 1 to 1000, cca audit, cca trail, or cca unload ROLE LABEL ROLE LABEL")]
@@ -88,7 +88,7 @@ impl Fault {
 }
 
 /// How a command ended.
-#[derive(Clone, Copy, Debug, PartialEq, Eq)]
+#[derive(Clone, Copy)]
 pub enum Ending {
     /// That of a run, with an audit trail or without, or of a listing of the trail.
     Run(AuditStatus),

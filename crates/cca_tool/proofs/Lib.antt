@@ -1,6 +1,7 @@
 mod AuditLemmas
 mod CountingLemmas
 mod DemoLemmas
+mod DemoEndLemmas
 mod DemoRunLemmas
 mod DiskLemmas
 mod ListLemmas

@@ -1,5 +1,5 @@
 //! The top call.
-ghost use Rattle.std.specs.Prelude.{◌≡◌, ◌↔◌, ◌∷◌, [], ℕ, codes};
+ghost use Rattle.std.specs.Prelude.{◌≡◌, ◌≢◌, ◌↔◌, ◌∷◌, [], ℕ, codes};
 ghost use Rattle.key_cells.specs.Bench.{blank_bench};
 ghost use Rattle.line_service.specs.Answering.{IsSound};
 ghost use Rattle.line_service.specs.Devices.{HaveSizes};
@@ -92,14 +92,41 @@ pub fn run<S: Source, K: Sink, M: Disk, D: Disk, E: Entropy>(
 {
     bench.wipe();
     match words.command() {
-        Some(Command::Run) => match Session::new(alloc) {
-            Ok(mut session) => {
-                status_of(session.serve(bench, source, sink, module, store, entropy))
-            }
-            Err(_) => Status::NoMemory,
-        },
+        Some(Command::Run) => serve_source(alloc, bench, source, sink, module, store, entropy),
         Some(Command::Demo(number)) => serve_demo(alloc, number, bench, sink, module, store),
         None => Status::Usage,
+    }
+}
+
+/// Takes the memory of a session, and serves the lines of the source.
+fn serve_source<S: Source, K: Sink, M: Disk, D: Disk, E: Entropy>(
+    alloc: Global,
+    bench: &mut Workbench,
+    source: &mut S,
+    sink: &mut K,
+    module: &mut M,
+    store: &mut D,
+    entropy: &mut E,
+) -> Status
+    requires blank { bench.old ≡ blank_bench }
+    requires disks { HaveSizes module_size store_size
+        (⟦<(M, D) as Shown>⟧.shown («module».old, store.old)) }
+
+    ensures words { result ≢ Status.Usage }
+    ensures uncalled { CallsNone result → Uncalled source.old source.new sink.old sink.new
+        «module».old «module».new store.old store.new entropy.old entropy.new }
+    ensures ends { Ended result (λ outcome. SessionLeft cca outcome
+        (⟦<(S, K, M, D, E) as ShownOutside>⟧.between
+        (source.old, sink.old, «module».old, store.old, entropy.old)
+        (source.new, sink.new, «module».new, store.new, entropy.new))) }
+    ensures unsound { (IsSound cca (M.medium «module».old) (D.medium store.old) → ⊥)
+        → Untouched source.old source.new sink.old sink.new entropy.old entropy.new
+        (⟦<(M, D) as Shown>⟧.between («module».old, store.old) («module».new, store.new)) }
+    ensures bench { bench.new ≡ blank_bench }
+{
+    match Session::new(alloc) {
+        Ok(mut session) => status_of(session.serve(bench, source, sink, module, store, entropy)),
+        Err(_) => Status::NoMemory,
     }
 }
 

@@ -1,22 +1,32 @@
 -- The status tells how the lines ended; and where no device was called, nothing has changed.
-use Rattle.std.proofs.Common.{refl, inr}
-use Rattle.cca_tool.proofs.StatusLemmas.{ended_as, no_memory_ended, usage_ended, calls_some}
+use Rattle.std.proofs.Common.{◌∙◌, Some, ap, refl, inl, inr}
+use Rattle.cca_tool.proofs.StatusLemmas.{usage_ended}
 use Rattle.cca_tool.proofs.DemoRunLemmas.{ran_at}
 use Rattle.cca_tool.proofs.WordLemmas.{the_number, one_number, not_both}
 use Rattle.cca_tool.proofs.command.run.Goals as goal
 
 -- ---- the lines of the source
 
-pub returns-in-Ok-clause-ends : goal.returns-in-Ok-clause-ends
-returns-in-Ok-clause-ends g c = λ words. ended_as _ c.serve.result c.status_of.result c.status_of.ensures c.serve.ensures.ends
+pub returns-in-Some-Run-clause-usage : goal.returns-in-Some-Run-clause-usage
+returns-in-Some-Run-clause-usage g c =
+    let words = c.command.ensures.run.0 (c.in-Some-Run.is ∙ ap Some c.in-Some-Run.field-0-is) in
+    (λ h. absurd (c.serve_source.ensures.words h), λ none. absurd (none (inl words)))
 
-pub returns-in-Ok-clause-uncalled : goal.returns-in-Ok-clause-uncalled
-returns-in-Ok-clause-uncalled g c = λ none. absurd (calls_some c.status_of.result c.serve.result c.status_of.ensures none)
+pub returns-in-Some-Run-clause-uncalled : goal.returns-in-Some-Run-clause-uncalled
+returns-in-Some-Run-clause-uncalled g c = c.serve_source.ensures.uncalled
+
+pub returns-in-Some-Run-clause-ends : goal.returns-in-Some-Run-clause-ends
+returns-in-Some-Run-clause-ends g c = λ words. c.serve_source.ensures.ends
+
+pub returns-in-Some-Run-clause-demo : goal.returns-in-Some-Run-clause-demo
+returns-in-Some-Run-clause-demo g c = λ n demo.
+    let words = c.command.ensures.run.0 (c.in-Some-Run.is ∙ ap Some c.in-Some-Run.field-0-is) in
+    absurd (not_both n c.args.words.now words demo)
+
+pub returns-in-Some-Run-clause-unsound : goal.returns-in-Some-Run-clause-unsound
+returns-in-Some-Run-clause-unsound g c = c.serve_source.ensures.unsound
 
 -- ---- no device was called
-
-pub returns-in-Err-clause-ends : goal.returns-in-Err-clause-ends
-returns-in-Err-clause-ends g c = λ words. no_memory_ended _
 
 pub returns-in-None-clause-ends : goal.returns-in-None-clause-ends
 returns-in-None-clause-ends g c = λ words. usage_ended _
