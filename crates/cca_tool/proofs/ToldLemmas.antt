@@ -1,8 +1,8 @@
 -- How a move ends whose labels were told, or up to one.
 use Rattle.std.proofs.Common.{◌≡◌, ◌∙◌, ℕ, List, Option, None, Some, Result, Ok, Err, refl, sym, ap, subst, arith, inl, inr}
-use Rattle.std.specs.Prelude.{◌<◌, ◌⊎◌, IfErr}
-use Rattle.slot_disk.specs.Medium.{Medium, Told}
-use Rattle.slot_disk.proofs.Media.{told_at}
+use Rattle.std.specs.Prelude.{◌<◌, ◌⊎◌, IfErr, IsOk, IsSome}
+use Rattle.slot_disk.specs.Medium.{Keeps, Medium, Told}
+use Rattle.slot_disk.proofs.Media.{keeps_then, settled_kept, told_at}
 use Rattle.slot_disk.proofs.WhereToldLemmas.{rose_wider}
 use Rattle.cca_roles.specs.declared.roles.Role.{Role}
 use Rattle.cca_vectors.specs.Checks.{first_failing}
@@ -15,7 +15,11 @@ use Rattle.key_records.specs.declared.faults.RecordFault.TheVariants as record_f
 use Rattle.key_records.specs.declared.rows.Row.{Row}
 use Rattle.key_tokens.specs.Denotes.{ClearKey}
 use Rattle.line_service.specs.Answering.{Holds}
-use Rattle.line_service.specs.Devices.{TellsFault}
+use Rattle.line_service.specs.Devices.{OpeningLeft, TellsFault, devices}
+use Rattle.line_service.specs.Stops.{IsOpeningStop}
+use Rattle.line_service.specs.declared.stops.Device.TheVariants.{Module, Store}
+use Rattle.line_service.specs.declared.stops.Stop.{Stop}
+use Rattle.line_service.specs.declared.stops.Stop.TheVariants as stop
 use Rattle.cca_machine.specs.State.{State}
 use Rattle.master_registers.specs.Masters.{Masters}
 use Rattle.request_rules.specs.Stored.{read_stop}
@@ -29,10 +33,13 @@ use Rattle.move_file.specs.Writing.{IsFault, RestsOnRecords, Tells}
 use Rattle.move_file.specs.declared.moves.Move.{Move}
 use Rattle.move_file.specs.declared.writing.MoveFault.{MoveFault}
 use Rattle.move_file.specs.declared.writing.MoveFault.TheVariants as move_fault
-use Rattle.cca_tool.specs.Unloading.{IsLabelStatus, MoveRests, MoveTold, TellsLabels, TellsNone, told_status}
+use Rattle.cca_tool.specs.Statuses.{status_of_lem}
+use Rattle.cca_tool.specs.Unloading.{IsLabelStatus, MoveRests, MoveTold, TellsLabels, TellsMove, TellsNone, disk_stop, told_status}
+use Rattle.cca_tool.specs.declared.command.Status.{Status}
 use Rattle.cca_tool.specs.declared.command.Status.TheVariants as status
 use Rattle.cca_tool.specs.declared.unloading.MoveStatus.{MoveStatus}
 use Rattle.cca_tool.specs.declared.unloading.MoveStatus.TheVariants.{Run, Refused, ReportFault}
+use Rattle.cca_tool.proofs.MoveLemmas.{unwritten}
 use Rattle.cca_tool.proofs.RestLemmas.{IsReadKey, rests_cut, rests_done, unread}
 
 -- ---- the faults of a move
@@ -245,3 +252,71 @@ module _ (m : Masters) (roles : List (Option Role)) (w : Move) (rows : List (Opt
   rests_told (Err move_fault.ReportFault) rests = rests_cut m roles w rows body clear key f0 f1 r0 r1 ReportFault (λ h. cc h) rests.cut
   rests_told (Err (move_fault.Store fault)) rests =
       rests_cut m roles w rows body clear key f0 f1 r0 r1 (told_status (Err (move_fault.Store fault))) (unread (read_stop fault) _ refl) rests.cut
+
+-- ---- the disks
+
+no_module : (outcome : MoveStatus) → IsLabelStatus outcome → disk_stop outcome ≡ Err stop.ModuleFault → ⊥
+no_module (Run status.Done) kind h = cc h
+no_module (Run status.WriteFault) kind h = cc h
+no_module (Run status.StoreFault) kind h = cc h
+no_module (Run status.ModuleFault) kind h = kind
+no_module (Run (status.Damaged Store cell)) kind h = cc h
+no_module (Run (status.Damaged Module cell)) kind h = kind
+no_module (Run status.Usage) kind h = kind
+no_module (Run status.NoMemory) kind h = kind
+no_module (Run status.ReadFault) kind h = kind
+no_module (Run status.EntropyFault) kind h = kind
+no_module (Run status.InputLimit) kind h = kind
+no_module (Refused rule) kind h = cc h
+no_module ReportFault kind h = cc h
+
+as_store : (outcome : MoveStatus) → IsLabelStatus outcome → disk_stop outcome ≡ Err stop.StoreFault → outcome ≡ Run status.StoreFault
+as_store (Run status.Done) kind h = absurd (cc h)
+as_store (Run status.WriteFault) kind h = absurd (cc h)
+as_store (Run status.StoreFault) kind h = refl
+as_store (Run status.ModuleFault) kind h = absurd kind
+as_store (Run (status.Damaged Store cell)) kind h = absurd (cc h)
+as_store (Run (status.Damaged Module cell)) kind h = absurd kind
+as_store (Run status.Usage) kind h = absurd kind
+as_store (Run status.NoMemory) kind h = absurd kind
+as_store (Run status.ReadFault) kind h = absurd kind
+as_store (Run status.EntropyFault) kind h = absurd kind
+as_store (Run status.InputLimit) kind h = absurd kind
+as_store (Refused rule) kind h = absurd (cc h)
+as_store ReportFault kind h = absurd (cc h)
+
+-- disks that were opened, and the store read then
+pub disks_after : {T : Type 0} (r : Result T Stop) (held : T) → r ≡ Ok held → (outcome : MoveStatus) → IsLabelStatus outcome
+    → (m0 m1 d0 d1 d2 : Medium) (m_before m_now d_before d_then d_now : ℕ)
+    → OpeningLeft r (record { old = devices m0 m_before d0 d_before None 0; new = devices m1 m_now d1 d_then None 0 })
+    → Keeps d1 d2 → TellsFault d_then d_now (outcome ≡ Run status.StoreFault)
+    → OpeningLeft (disk_stop outcome) (record { old = devices m0 m_before d0 d_before None 0; new = devices m1 m_now d2 d_now None 0 })
+disks_after r held is outcome kind m0 m1 d0 d1 d2 m_before m_now d_before d_then d_now left keeps told =
+    let opened : IsOk r = subst IsOk (sym is) refl in
+    record {
+      module_kept = left.module_kept;
+      store_kept = keeps_then d0 d1 d2 left.store_kept keeps;
+      module_left = record {
+        size = left.module_left.size;
+        still = left.module_left.still;
+        settled = λ ok. left.module_left.settled opened;
+        later = left.module_left.later;
+        fault = λ h. absurd (no_module outcome kind h);
+        quiet = λ never. left.module_left.quiet (λ h. cc (h, is));
+      };
+      store_left = record {
+        size = keeps.moments.size ∙ left.store_left.size;
+        still = λ some. subst IsSome (sym keeps.content) (left.store_left.still some);
+        settled = λ ok. settled_kept d1 d2 keeps (left.store_left.settled opened);
+        later = omega (arith, left.store_left.later, told.later);
+        fault = λ h. rose_wider d_before d_then d_now d_now left.store_left.later told.later (omega arith) (told.fault (as_store outcome kind h));
+        quiet = λ never. told.quiet (λ h. never (ap disk_stop h)) ∙ left.store_left.quiet (λ h. cc (h, is));
+      };
+    }
+
+-- disks that weren't opened: the move isn't judged
+pub never_tells : (why : Stop) (told : Status) → IsOpeningStop why → told ≡ status_of_lem (Err why) → TellsMove (Run told) → ⊥
+never_tells why told kind is (inl refused) = cc refused.1
+never_tells why told kind is (inr (inl h)) = unread why told is h
+never_tells why told kind is (inr (inr (inl h))) = unwritten why told kind is h
+never_tells why told kind is (inr (inr (inr h))) = cc h

@@ -1,5 +1,5 @@
 -- The disks that were opened stand for a state.
-use Rattle.std.proofs.Common.{◌≡◌, ◌∙◌, Err, ap, refl, arith, rules}
+use Rattle.std.proofs.Common.{◌≡◌, ◌∙◌, Err, ap, refl, arith}
 use Rattle.key_cells.specs.Lease.{bench_of}
 use Rattle.master_registers.specs.Loaded.{masters_in}
 use Rattle.cca_tool.specs.declared.unloading.MoveStatus.TheVariants.{Run}
@@ -20,6 +20,7 @@ use Rattle.cca_tool.proofs.KnownLemmas.{known_sound, roles_told}
 use Rattle.cca_tool.proofs.MoveLemmas.{cell_is_one, never_broken, no_ok, not_module, stop_again, stop_told, store_cell, told_wider, unwritten}
 use Rattle.cca_tool.proofs.OpeningLemmas.{damage_as, left_as}
 use Rattle.cca_tool.proofs.RestLemmas.{none_told, unread}
+use Rattle.cca_tool.proofs.ToldLemmas.{disks_after, never_tells}
 use Rattle.cca_tool.proofs.unloading.move_store.Goals as goal
 
 -- what was read of the disks that were opened
@@ -86,7 +87,13 @@ returns-in-Ok-clause-ends g c = record {
         store_judged = λ still_m still_d. store_unbroken cca m0 d0 _ sound;
         cells = λ device cell h. cell_is_one c.move_labels.result device cell (store_cell c.move_labels.result c.move_labels.ensures.statuses device cell h);
       };
-  disks_left = search rules;
+  disks_left =
+      disks_after c.open_disks.result c.in-Ok.held c.in-Ok.is c.move_labels.result c.move_labels.ensures.statuses
+      (g.M.Disk.medium c.args.module.now) (g.M.Disk.medium c.open_disks.new.module)
+      (g.D.Disk.medium c.args.store.now) (g.D.Disk.medium c.open_disks.new.store) (g.D.Disk.medium c.move_labels.new.store)
+      (g.M.Disk.faults c.args.module.now) (g.M.Disk.faults c.open_disks.new.module)
+      (g.D.Disk.faults c.args.store.now) (g.D.Disk.faults c.open_disks.new.store) (g.D.Disk.faults c.move_labels.new.store)
+      c.open_disks.ensures.left c.move_labels.ensures.keeps c.move_labels.ensures.store_left;
   outputs_left = c.move_labels.ensures.outputs;
 }
 
@@ -102,8 +109,8 @@ returns-in-Err-clause-ends g c = record {
       (λ cell is. c.open_disks.ensures.damage.store_damaged cell (c.in-Err.is ∙ ap Err is)));
   own = λ told.
       absurd (none_told (Run c.status_of.result) (unread c.in-Err.stop c.status_of.result c.status_of.ensures) c.args.sink.now c.args.report.now told);
-  refusal = search rules;
-  sound = search rules;
+  refusal = λ rule is. absurd (cc is);
+  sound = λ tells. absurd (never_tells c.in-Err.stop c.status_of.result c.in-Err.ensures.stops c.status_of.ensures tells);
   unsound = λ never. record { no_file = refl; no_report = refl };
   untold = λ none. record { no_file = refl; no_report = refl };
   damage =
