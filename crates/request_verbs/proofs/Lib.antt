@@ -12,6 +12,7 @@ mod Points
 mod SegmentRules
 mod SetRules
 pub mod Settling
+mod TextWorks
 mod Texts
 mod TokenReply
 mod TokensAgain

@@ -7,8 +7,7 @@ ghost use Rattle.verb_script.specs.Parsed.{seen};
 ghost use Rattle.request_verbs.specs.Decided.{Decision, HasPassed, source};
 
 use crate::effects::Effect;
-use crate::verbs::code_segments::{first_code_segment, last_code_segment, middle_code_segment};
-use crate::verbs::codes::{Purpose, whole_code};
+use crate::verbs::codes::Purpose;
 use crate::verbs::csnbcki::csnbcki;
 use crate::verbs::csnbkex::csnbkex;
 use crate::verbs::csnbkgn::{generate_one, generate_out, generate_pair};
@@ -24,8 +23,7 @@ use crate::verbs::csnbktr::csnbktr;
 use crate::verbs::csnbkyt::csnbkyt;
 use crate::verbs::csnbpex::csnbpex;
 use crate::verbs::csnbrng::csnbrng;
-use crate::verbs::segments::{first_segment, last_segment, middle_segment};
-use crate::verbs::whole_texts::whole_text;
+use crate::verbs::text_work::{TextWork, over_text};
 use crate::verbs::{csnbkpi, csnbmkp, csuaaci, reenciphering};
 use key_cells::Lease;
 use key_records::Records;
@@ -55,139 +53,77 @@ pub fn decide<E: Entropy>(
         (source entropy.old (E.left entropy.old) (E.faults entropy.old))
         (source entropy.new (E.left entropy.new) (E.faults entropy.new)) }
 {
-    match request {
-        Request::Csnbktp { .. } => Ok(csnbktp(granted, reply)),
-        Request::Csnbenc { iv, pad, text, .. } => Ok(whole_text(
-            Mode::Encipher,
-            granted,
-            iv,
-            pad,
-            text,
-            lease,
-            reply,
-        )),
-        Request::CsnbencFirst { iv, text, .. } => Ok(first_segment(
-            Mode::Encipher,
-            granted,
-            iv,
-            text,
-            lease,
-            reply,
-        )),
-        Request::CsnbencMiddle { chain, text, .. } => Ok(middle_segment(
-            Mode::Encipher,
-            granted,
-            chain,
-            text,
-            lease,
-            reply,
-        )),
+    let work = match request {
+        Request::Csnbktp { .. } => return Ok(csnbktp(granted, reply)),
+        Request::Csnbenc { iv, pad, text, .. } => TextWork::Whole(Mode::Encipher, iv, pad, text),
+        Request::CsnbencFirst { iv, text, .. } => TextWork::First(Mode::Encipher, iv, text),
+        Request::CsnbencMiddle { chain, text, .. } => TextWork::Middle(Mode::Encipher, chain, text),
         Request::CsnbencLast {
             chain,
             pad,
             text,
             ..
-        } => Ok(last_segment(Mode::Encipher, granted, chain, pad, text, lease, reply)),
-        Request::Csnbdec { iv, pad, text, .. } => Ok(whole_text(
-            Mode::Decipher,
-            granted,
-            iv,
-            pad,
-            text,
-            lease,
-            reply,
-        )),
-        Request::CsnbdecFirst { iv, text, .. } => Ok(first_segment(
-            Mode::Decipher,
-            granted,
-            iv,
-            text,
-            lease,
-            reply,
-        )),
-        Request::CsnbdecMiddle { chain, text, .. } => Ok(middle_segment(
-            Mode::Decipher,
-            granted,
-            chain,
-            text,
-            lease,
-            reply,
-        )),
+        } => TextWork::Last(Mode::Encipher, chain, pad, text),
+        Request::Csnbdec { iv, pad, text, .. } => TextWork::Whole(Mode::Decipher, iv, pad, text),
+        Request::CsnbdecFirst { iv, text, .. } => TextWork::First(Mode::Decipher, iv, text),
+        Request::CsnbdecMiddle { chain, text, .. } => TextWork::Middle(Mode::Decipher, chain, text),
         Request::CsnbdecLast {
             chain,
             pad,
             text,
             ..
-        } => Ok(last_segment(Mode::Decipher, granted, chain, pad, text, lease, reply)),
+        } => TextWork::Last(Mode::Decipher, chain, pad, text),
         Request::Csnbmgn {
             rule,
             length,
             text,
             ..
-        } => Ok(whole_code(granted, rule, Purpose::Generate(length), text, lease, reply)),
-        Request::CsnbmgnFirst { rule, text, .. } => Ok(first_code_segment(
-            granted, rule, text, lease, reply,
-        )),
+        } => TextWork::WholeCode(rule, Purpose::Generate(length), text),
+        Request::CsnbmgnFirst { rule, text, .. } => TextWork::FirstCode(rule, text),
         Request::CsnbmgnMiddle {
             rule,
             chain,
             text,
             ..
-        } => Ok(middle_code_segment(granted, rule, chain, text, lease, reply)),
+        } => TextWork::MiddleCode(rule, chain, text),
         Request::CsnbmgnLast {
             rule,
             length,
             chain,
             text,
             ..
-        } => Ok(last_code_segment(
-            granted,
-            rule,
-            chain,
-            Purpose::Generate(length),
-            text,
-            lease,
-            reply,
-        )),
+        } => TextWork::LastCode(rule, chain, Purpose::Generate(length), text),
         Request::Csnbmvr {
             rule,
             mac,
             text,
             ..
-        } => Ok(whole_code(granted, rule, Purpose::Verify(mac), text, lease, reply)),
-        Request::CsnbmvrFirst { rule, text, .. } => Ok(first_code_segment(
-            granted, rule, text, lease, reply,
-        )),
+        } => TextWork::WholeCode(rule, Purpose::Verify(mac), text),
+        Request::CsnbmvrFirst { rule, text, .. } => TextWork::FirstCode(rule, text),
         Request::CsnbmvrMiddle {
             rule,
             chain,
             text,
             ..
-        } => Ok(middle_code_segment(granted, rule, chain, text, lease, reply)),
+        } => TextWork::MiddleCode(rule, chain, text),
         Request::CsnbmvrLast {
             rule,
             mac,
             chain,
             text,
             ..
-        } => Ok(last_code_segment(
-            granted,
-            rule,
-            chain,
-            Purpose::Verify(mac),
-            text,
-            lease,
-            reply,
+        } => TextWork::LastCode(rule, chain, Purpose::Verify(mac), text),
+        Request::Csnbkyt { .. } => return Ok(csnbkyt(granted, lease, reply)),
+        Request::Csnbcki { clear, to, .. } => return Ok(csnbcki(
+            granted, clear, to, lease, held, reply,
         )),
-        Request::Csnbkyt { .. } => Ok(csnbkyt(granted, lease, reply)),
-        Request::Csnbcki { clear, to, .. } => Ok(csnbcki(granted, clear, to, lease, held, reply)),
-        Request::Csnbrng { form, .. } => csnbrng(form, entropy, reply),
+        Request::Csnbrng { form, .. } => return csnbrng(form, entropy, reply),
         Request::CsnbkgnOp {
             length,
             type1,
             to,
             ..
-        } => generate_one(granted, length, *type1, to, entropy, lease, held, reply),
+        } => return generate_one(granted, length, *type1, to, entropy, lease, held, reply),
         Request::CsnbkgnPair {
             form,
             length,
@@ -195,7 +131,7 @@ pub fn decide<E: Entropy>(
             type2,
             to,
             ..
-        } => generate_pair(
+        } => return generate_pair(
             granted, form, length, *type1, *type2, to, entropy, lease, held, reply,
         ),
         Request::CsnbkgnOut {
@@ -204,32 +140,35 @@ pub fn decide<E: Entropy>(
             type1,
             type2,
             ..
-        } => generate_out(
+        } => return generate_out(
             granted, form, length, *type1, *type2, entropy, lease, held, reply,
         ),
-        Request::Csnbkim { to, .. } => Ok(csnbkim(granted, to, lease, held, reply)),
-        Request::Csnbkex { .. } => Ok(csnbkex(granted, lease, reply)),
-        Request::Csnbpex { to, .. } => Ok(csnbpex(granted, to, lease, held, reply)),
-        Request::Csnbktc { rule, .. } => Ok(csnbktc(granted, rule, lease, held, reply)),
-        Request::CsnbkpiFirst { kind, part, to, .. } => Ok(csnbkpi::first(
+        Request::Csnbkim { to, .. } => return Ok(csnbkim(granted, to, lease, held, reply)),
+        Request::Csnbkex { .. } => return Ok(csnbkex(granted, lease, reply)),
+        Request::Csnbpex { to, .. } => return Ok(csnbpex(granted, to, lease, held, reply)),
+        Request::Csnbktc { rule, .. } => return Ok(csnbktc(granted, rule, lease, held, reply)),
+        Request::CsnbkpiFirst { kind, part, to, .. } => return Ok(csnbkpi::first(
             granted, *kind, part, to, lease, held, reply,
         )),
-        Request::CsnbkpiMiddle { rule, part, to, .. } => Ok(csnbkpi::further(
+        Request::CsnbkpiMiddle { rule, part, to, .. } => return Ok(csnbkpi::further(
             granted, rule, part, to, lease, held, reply,
         )),
-        Request::Csnbktr { .. } => Ok(csnbktr(granted, lease, reply)),
-        Request::Csnbkrc { label, .. } => Ok(csnbkrc(label)),
-        Request::Csnbkrw { token, .. } => Ok(csnbkrw(granted, token, reply)),
-        Request::Csnbkrr { .. } => Ok(csnbkrr(granted, reply)),
-        Request::Csnbkrd { .. } => Ok(csnbkrd(granted)),
-        Request::Csnbkrl { prefix, .. } => Ok(csnbkrl(prefix, records, reply)),
-        Request::CsnbmkpPart { action, part, .. } => Ok(csnbmkp::combine(action, part, lease)),
-        Request::CsnbmkpClear { .. } => Ok(csnbmkp::clear(records)),
-        Request::CsnbmkpSet { .. } => Ok(csnbmkp::set(lease, held, records)),
-        Request::CsuaaciDefine { name, points, .. } => Ok(csuaaci::define(name, points)),
-        Request::CsuaaciRemove { name, .. } => Ok(csuaaci::remove(name)),
-        Request::Reencipher { .. } => Ok(reenciphering::renew()),
-        Request::ReencipherAhead { .. } => Ok(reenciphering::ahead(lease, held, records)),
-        Request::ReencipherDrop { .. } => Ok(reenciphering::drop()),
-    }
+        Request::Csnbktr { .. } => return Ok(csnbktr(granted, lease, reply)),
+        Request::Csnbkrc { label, .. } => return Ok(csnbkrc(label)),
+        Request::Csnbkrw { token, .. } => return Ok(csnbkrw(granted, token, reply)),
+        Request::Csnbkrr { .. } => return Ok(csnbkrr(granted, reply)),
+        Request::Csnbkrd { .. } => return Ok(csnbkrd(granted)),
+        Request::Csnbkrl { prefix, .. } => return Ok(csnbkrl(prefix, records, reply)),
+        Request::CsnbmkpPart { action, part, .. } => return Ok(csnbmkp::combine(
+            action, part, lease,
+        )),
+        Request::CsnbmkpClear { .. } => return Ok(csnbmkp::clear(records)),
+        Request::CsnbmkpSet { .. } => return Ok(csnbmkp::set(lease, held, records)),
+        Request::CsuaaciDefine { name, points, .. } => return Ok(csuaaci::define(name, points)),
+        Request::CsuaaciRemove { name, .. } => return Ok(csuaaci::remove(name)),
+        Request::Reencipher { .. } => return Ok(reenciphering::renew()),
+        Request::ReencipherAhead { .. } => return Ok(reenciphering::ahead(lease, held, records)),
+        Request::ReencipherDrop { .. } => return Ok(reenciphering::drop()),
+    };
+    Ok(over_text(work, granted, lease, reply))
 }

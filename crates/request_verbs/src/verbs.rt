@@ -25,5 +25,6 @@ mod key_digits;
 mod old_labels;
 pub(crate) mod reenciphering;
 pub(crate) mod segments;
+pub(crate) mod text_work;
 mod texts;
 pub(crate) mod whole_texts;

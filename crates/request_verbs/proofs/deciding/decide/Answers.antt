@@ -1,4 +1,4 @@
-use Rattle.std.proofs.Common.{true, false, refl, sym, ap, subst}
+use Rattle.std.proofs.Common.{◌≡◌, [], true, false, refl, sym, ap, subst}
 use Rattle.std.specs.Prelude.{IsTrue}
 use Rattle.key_cells.specs.Lease.{bench_of}
 use Rattle.master_registers.specs.Loaded.{masters_in}
@@ -7,109 +7,41 @@ use Rattle.verb_script.specs.Parsed.{seen}
 use Rattle.cca_machine.specs.Operands.{operands}
 use Rattle.cca_machine.specs.Verdict.{needs_master}
 use Rattle.request_rules.specs.Judging.{AreKeyed}
+use Rattle.request_verbs.specs.declared.verbs.text_work.TextWork.{TextWork}
+use Rattle.request_verbs.proofs.TextWorks.{IsWorkOf, may_work}
 use Rattle.request_verbs.proofs.Settling.{handed_on, handed_on_drawing, handed_on_silent}
 use Rattle.request_verbs.proofs.deciding.decide.Goals as goal
+use Rattle.request_verbs.proofs.deciding.decide.Goals.{in-Csnbenc, in-CsnbencFirst, in-CsnbencMiddle, in-CsnbencLast, in-Csnbdec, in-CsnbdecFirst, in-CsnbdecMiddle, in-CsnbdecLast, in-Csnbmgn, in-CsnbmgnFirst, in-CsnbmgnMiddle, in-CsnbmgnLast, in-Csnbmvr, in-CsnbmvrFirst, in-CsnbmvrMiddle, in-CsnbmvrLast}
+
+of_work : {request : Request} {work made : TextWork} → work ≡ made → IsWorkOf request made → IsWorkOf request work
+of_work {request} is of = subst (λ (w : TextWork). IsWorkOf request w) (sym is) of
+
+-- which request over a text it is
+the_work : (g : _) (c : goal.After-over_text-arg-2-1 g) → IsWorkOf (seen c.args.request.now) c.match-request.work
+the_work g c =
+    elim c.match-request.branch [
+      | in-Csnbenc w ↦ of_work w.work-is (record { verifies = false; role = w.in-Csnbenc.role; key = w.in-Csnbenc.key.now; segment = []; is = ap seen w.in-Csnbenc.is; cipher = tt })
+      | in-CsnbencFirst w ↦ of_work w.work-is (record { verifies = false; role = w.in-CsnbencFirst.role; key = w.in-CsnbencFirst.key.now; segment = w.in-CsnbencFirst.segment.now; is = ap seen w.in-CsnbencFirst.is; cipher = tt })
+      | in-CsnbencMiddle w ↦ of_work w.work-is (record { verifies = false; role = w.in-CsnbencMiddle.role; key = w.in-CsnbencMiddle.key.now; segment = w.in-CsnbencMiddle.segment.now; is = ap seen w.in-CsnbencMiddle.is; cipher = tt })
+      | in-CsnbencLast w ↦ of_work w.work-is (record { verifies = false; role = w.in-CsnbencLast.role; key = w.in-CsnbencLast.key.now; segment = w.in-CsnbencLast.segment.now; is = ap seen w.in-CsnbencLast.is; cipher = tt })
+      | in-Csnbdec w ↦ of_work w.work-is (record { verifies = false; role = w.in-Csnbdec.role; key = w.in-Csnbdec.key.now; segment = []; is = ap seen w.in-Csnbdec.is; cipher = tt })
+      | in-CsnbdecFirst w ↦ of_work w.work-is (record { verifies = false; role = w.in-CsnbdecFirst.role; key = w.in-CsnbdecFirst.key.now; segment = w.in-CsnbdecFirst.segment.now; is = ap seen w.in-CsnbdecFirst.is; cipher = tt })
+      | in-CsnbdecMiddle w ↦ of_work w.work-is (record { verifies = false; role = w.in-CsnbdecMiddle.role; key = w.in-CsnbdecMiddle.key.now; segment = w.in-CsnbdecMiddle.segment.now; is = ap seen w.in-CsnbdecMiddle.is; cipher = tt })
+      | in-CsnbdecLast w ↦ of_work w.work-is (record { verifies = false; role = w.in-CsnbdecLast.role; key = w.in-CsnbdecLast.key.now; segment = w.in-CsnbdecLast.segment.now; is = ap seen w.in-CsnbdecLast.is; cipher = tt })
+      | in-Csnbmgn w ↦ of_work w.work-is (record { verifies = false; role = w.in-Csnbmgn.role; key = w.in-Csnbmgn.key.now; segment = []; is = ap seen w.in-Csnbmgn.is; cipher = tt })
+      | in-CsnbmgnFirst w ↦ of_work w.work-is (record { verifies = false; role = w.in-CsnbmgnFirst.role; key = w.in-CsnbmgnFirst.key.now; segment = w.in-CsnbmgnFirst.segment.now; is = ap seen w.in-CsnbmgnFirst.is; cipher = tt })
+      | in-CsnbmgnMiddle w ↦ of_work w.work-is (record { verifies = false; role = w.in-CsnbmgnMiddle.role; key = w.in-CsnbmgnMiddle.key.now; segment = w.in-CsnbmgnMiddle.segment.now; is = ap seen w.in-CsnbmgnMiddle.is; cipher = tt })
+      | in-CsnbmgnLast w ↦ of_work w.work-is (record { verifies = false; role = w.in-CsnbmgnLast.role; key = w.in-CsnbmgnLast.key.now; segment = w.in-CsnbmgnLast.segment.now; is = ap seen w.in-CsnbmgnLast.is; cipher = tt })
+      | in-Csnbmvr w ↦ of_work w.work-is (record { verifies = true; role = w.in-Csnbmvr.role; key = w.in-Csnbmvr.key.now; segment = []; is = ap seen w.in-Csnbmvr.is; cipher = tt })
+      | in-CsnbmvrFirst w ↦ of_work w.work-is (record { verifies = true; role = w.in-CsnbmvrFirst.role; key = w.in-CsnbmvrFirst.key.now; segment = w.in-CsnbmvrFirst.segment.now; is = ap seen w.in-CsnbmvrFirst.is; cipher = tt })
+      | in-CsnbmvrMiddle w ↦ of_work w.work-is (record { verifies = true; role = w.in-CsnbmvrMiddle.role; key = w.in-CsnbmvrMiddle.key.now; segment = w.in-CsnbmvrMiddle.segment.now; is = ap seen w.in-CsnbmvrMiddle.is; cipher = tt })
+      | in-CsnbmvrLast w ↦ of_work w.work-is (record { verifies = true; role = w.in-CsnbmvrLast.role; key = w.in-CsnbmvrLast.key.now; segment = w.in-CsnbmvrLast.segment.now; is = ap seen w.in-CsnbmvrLast.is; cipher = tt })
+    ]
 
 pub returns-in-Csnbktp : goal.returns-in-Csnbktp
 returns-in-Csnbktp g c = record {
   decision =
       handed_on (ap seen c.in-Csnbktp.is) (c.csnbktp.ensures.settles c.in-Csnbktp.role c.in-Csnbktp.token.now c.args.held.now c.args.records.now c.args.lease.now) c.requires.passed.shaped;
-}
-
-pub returns-in-Csnbenc : goal.returns-in-Csnbenc
-returns-in-Csnbenc g c = record {
-  decision =
-      handed_on (ap seen c.in-Csnbenc.is) (c.whole_text.ensures.settles _ _ c.args.held.now c.args.records.now) c.requires.passed.shaped;
-}
-
-pub returns-in-CsnbencFirst : goal.returns-in-CsnbencFirst
-returns-in-CsnbencFirst g c = record {
-  decision =
-      handed_on (ap seen c.in-CsnbencFirst.is) (c.first_segment.ensures.settles _ _ _ c.args.held.now c.args.records.now) c.requires.passed.shaped;
-}
-
-pub returns-in-CsnbencMiddle : goal.returns-in-CsnbencMiddle
-returns-in-CsnbencMiddle g c = record {
-  decision =
-      handed_on (ap seen c.in-CsnbencMiddle.is) (c.middle_segment.ensures.settles _ _ _ c.args.held.now c.args.records.now) c.requires.passed.shaped;
-}
-
-pub returns-in-CsnbencLast : goal.returns-in-CsnbencLast
-returns-in-CsnbencLast g c = record {
-  decision =
-      handed_on (ap seen c.in-CsnbencLast.is) (c.last_segment.ensures.settles _ _ _ c.args.held.now c.args.records.now) c.requires.passed.shaped;
-}
-
-pub returns-in-Csnbdec : goal.returns-in-Csnbdec
-returns-in-Csnbdec g c = record {
-  decision =
-      handed_on (ap seen c.in-Csnbdec.is) (c.whole_text-in-Csnbdec.ensures.settles _ _ c.args.held.now c.args.records.now) c.requires.passed.shaped;
-}
-
-pub returns-in-CsnbdecFirst : goal.returns-in-CsnbdecFirst
-returns-in-CsnbdecFirst g c = record {
-  decision =
-      handed_on (ap seen c.in-CsnbdecFirst.is) (c.first_segment-in-CsnbdecFirst.ensures.settles _ _ _ c.args.held.now c.args.records.now) c.requires.passed.shaped;
-}
-
-pub returns-in-CsnbdecMiddle : goal.returns-in-CsnbdecMiddle
-returns-in-CsnbdecMiddle g c = record {
-  decision =
-      handed_on (ap seen c.in-CsnbdecMiddle.is) (c.middle_segment-in-CsnbdecMiddle.ensures.settles _ _ _ c.args.held.now c.args.records.now) c.requires.passed.shaped;
-}
-
-pub returns-in-CsnbdecLast : goal.returns-in-CsnbdecLast
-returns-in-CsnbdecLast g c = record {
-  decision =
-      handed_on (ap seen c.in-CsnbdecLast.is) (c.last_segment-in-CsnbdecLast.ensures.settles _ _ _ c.args.held.now c.args.records.now) c.requires.passed.shaped;
-}
-
-pub returns-in-Csnbmgn : goal.returns-in-Csnbmgn
-returns-in-Csnbmgn g c = record {
-  decision =
-      handed_on (ap seen c.in-Csnbmgn.is) (c.whole_code.ensures.settles _ _ c.args.held.now c.args.records.now) c.requires.passed.shaped;
-}
-
-pub returns-in-CsnbmgnFirst : goal.returns-in-CsnbmgnFirst
-returns-in-CsnbmgnFirst g c = record {
-  decision =
-      handed_on (ap seen c.in-CsnbmgnFirst.is) (c.first_code_segment.ensures.settles false _ _ _ c.args.held.now c.args.records.now) c.requires.passed.shaped;
-}
-
-pub returns-in-CsnbmgnMiddle : goal.returns-in-CsnbmgnMiddle
-returns-in-CsnbmgnMiddle g c = record {
-  decision =
-      handed_on (ap seen c.in-CsnbmgnMiddle.is) (c.middle_code_segment.ensures.settles false _ _ _ c.args.held.now c.args.records.now) c.requires.passed.shaped;
-}
-
-pub returns-in-CsnbmgnLast : goal.returns-in-CsnbmgnLast
-returns-in-CsnbmgnLast g c = record {
-  decision =
-      handed_on (ap seen c.in-CsnbmgnLast.is) (c.last_code_segment.ensures.settles _ _ _ c.args.held.now c.args.records.now) c.requires.passed.shaped;
-}
-
-pub returns-in-Csnbmvr : goal.returns-in-Csnbmvr
-returns-in-Csnbmvr g c = record {
-  decision =
-      handed_on (ap seen c.in-Csnbmvr.is) (c.whole_code-in-Csnbmvr.ensures.settles _ _ c.args.held.now c.args.records.now) c.requires.passed.shaped;
-}
-
-pub returns-in-CsnbmvrFirst : goal.returns-in-CsnbmvrFirst
-returns-in-CsnbmvrFirst g c = record {
-  decision =
-      handed_on (ap seen c.in-CsnbmvrFirst.is) (c.first_code_segment-in-CsnbmvrFirst.ensures.settles true _ _ _ c.args.held.now c.args.records.now) c.requires.passed.shaped;
-}
-
-pub returns-in-CsnbmvrMiddle : goal.returns-in-CsnbmvrMiddle
-returns-in-CsnbmvrMiddle g c = record {
-  decision =
-      handed_on (ap seen c.in-CsnbmvrMiddle.is) (c.middle_code_segment-in-CsnbmvrMiddle.ensures.settles true _ _ _ c.args.held.now c.args.records.now) c.requires.passed.shaped;
-}
-
-pub returns-in-CsnbmvrLast : goal.returns-in-CsnbmvrLast
-returns-in-CsnbmvrLast g c = record {
-  decision =
-      handed_on (ap seen c.in-CsnbmvrLast.is) (c.last_code_segment-in-CsnbmvrLast.ensures.settles _ _ _ c.args.held.now c.args.records.now) c.requires.passed.shaped;
 }
 
 pub returns-in-Csnbkyt : goal.returns-in-Csnbkyt
@@ -270,3 +202,17 @@ returns-in-ReencipherDrop g c = record {
       handed_on_silent (ap seen c.in-ReencipherDrop.is) c.requires.empty (c.drop.ensures.settles c.in-ReencipherDrop.role c.in-ReencipherDrop.action.now c.args.granted.now c.args.held.now c.args.records.now c.args.lease.now
       (c.requires.passed.master (subst (λ (r : Request). IsTrue (needs_master r.name)) (sym (ap seen c.in-ReencipherDrop.is)) refl)) c.requires.loaded) c.requires.passed.shaped;
 }
+
+pub over_text-requires-clause-given : goal.over_text-requires-clause-given
+over_text-requires-clause-given g c = (may_work (the_work g c) c.requires.passed c.requires.empty).given
+
+pub over_text-requires-clause-work : goal.over_text-requires-clause-work
+over_text-requires-clause-work g c = (may_work (the_work g c) c.requires.passed c.requires.empty).fields
+
+pub returns : goal.returns
+returns g c =
+    let of = the_work g c.before in
+    record {
+      decision =
+          handed_on of.is (c.over_text.ensures.settles of.verifies of.role of.key of.segment c.args.held.now c.args.records.now) c.requires.passed.shaped;
+    }
