@@ -100,10 +100,15 @@ def value(term, known, bound):
     return (name, *arguments)
 
 
+def in_words(name):
+    """A name as the tables of the clients have it: CsnbencFirst is csnbenc_first."""
+    return re.sub(r"(?<!^)(?=[A-Z])", "_", name).lower()
+
+
 def named_rows():
     """The rows of the grammar: each name with its verb and its fields, a name and values each."""
     known = definitions()
     clauses = {patterns[0]: text for patterns, text in known["row_of"]}
-    for name in value(("name", "all_requests"), known, {}):
-        row = value(Reader(clauses[name[0]]).expression(), known, {})
-        yield name[0], row["verb"], [(it["name"], it["values"]) for it in row["fields"]]
+    for name, *_ in value(("name", "all_requests"), known, {}):
+        row = value(Reader(clauses[name]).expression(), known, {})
+        yield in_words(name), row["verb"], [(it["name"], it["values"]) for it in row["fields"]]

@@ -15,7 +15,9 @@ use Rattle.reencipher.specs.Further.{changed, changed_entry, further, has_curren
 use Rattle.reencipher.specs.declared.actions.StoreAction.{StoreAction}
 use Rattle.reencipher.specs.declared.actions.StoreAction.TheVariants.{Ahead}
 use Rattle.verb_rules.specs.Keys.{keys_of}
-use Rattle.verb_script.specs.Grammar.{Request, RequestName, csnbmkp_clear, csnbmkp_set}
+use Rattle.verb_script.specs.Grammar.{Request}
+use Rattle.verb_script.specs.declared.rows.RequestName.{RequestName}
+use Rattle.verb_script.specs.declared.rows.RequestName.TheVariants.{CsnbmkpClear, CsnbmkpSet}
 use Rattle.cca_machine.specs.Act.{effect, or_act, performed, state_after as after_effect}
 use Rattle.cca_machine.specs.Keys.{cell_with, key_of_label, what_in}
 use Rattle.cca_machine.specs.Reruns.{reencipher_for}
@@ -119,7 +121,7 @@ becomes_current : (masters : MasterKeys) (e : Option Entry) → BecomesCurrent e
 becomes_current masters None key is marked = absurd (none_some key is)
 becomes_current masters (Some e) key is marked = aged_ahead e.what e.ahead key is marked
 
-pub current_after : (s : State) (drawn label : List ℕ) (r : Request) (key : Denoted) → r.name ≡ csnbmkp_set → verdict s drawn r ≡ None
+pub current_after : (s : State) (drawn label : List ℕ) (r : Request) (key : Denoted) → r.name ≡ CsnbmkpSet → verdict s drawn r ≡ None
     → key_of_label s label ≡ Some key → is_ahead_label s label ≡ true → key_of_label (performed s drawn r).state label ≡ Some (as_current key.clear)
 current_after s drawn label r key set permits is marked =
     let becomes : BecomesCurrent (entry_for label s.labels) (entry_for label (aged (keys_of s.registers) s.labels)) =
@@ -143,12 +145,12 @@ ahead_there label (e ∷ es) is = by_test (has_name label (entry_label e)) is (a
     by_test true here later = ap (λ b. b || any_ahead_entry es) here
     by_test false there later = ap (λ b. is_ahead_entry e || b) (later there) ∙ or_true (is_ahead_entry e)
 
-clear_passes : (s : State) (r : Request) (name : RequestName) → name ≡ csnbmkp_clear → first_refusal (verb_questions s name r) ≡ None → any_ahead_entry s.labels ≡ false
+clear_passes : (s : State) (r : Request) (name : RequestName) → name ≡ CsnbmkpClear → first_refusal (verb_questions s name r) ≡ None → any_ahead_entry s.labels ≡ false
 clear_passes s r name is none =
-    let at : first_refusal (verb_questions s csnbmkp_clear r) ≡ None = subst (λ (n : RequestName). first_refusal (verb_questions s n r) ≡ None) is none in
+    let at : first_refusal (verb_questions s CsnbmkpClear r) ≡ None = subst (λ (n : RequestName). first_refusal (verb_questions s n r) ≡ None) is none in
     third_passed false false (any_ahead_entry s.labels) 25 26 33 (refused_none _ _ _ at).0
 
-pub clear_waits : (s : State) (random label : List ℕ) (r : Request) → r.name ≡ csnbmkp_clear → is_ahead_label s label ≡ true → IsSome (verdict s random r)
+pub clear_waits : (s : State) (random label : List ℕ) (r : Request) → r.name ≡ CsnbmkpClear → is_ahead_label s label ≡ true → IsSome (verdict s random r)
 clear_waits s random label r clear marked = by_verdict (verdict s random r) refl
   where
     by_verdict : (v : Option Refusal) → verdict s random r ≡ v → IsSome v

@@ -7,9 +7,11 @@ use Rattle.master_registers.specs.Masters.{Masters, NewRegister, Empty, is_full,
 use Rattle.master_registers.specs.declared.actions.Action.{Action}
 use Rattle.master_registers.specs.declared.actions.Action.TheVariants.{First, Middle, Last, Clear, Set}
 use Rattle.script_buffers.specs.Replies.{Field}
-use Rattle.verb_script.specs.Grammar.{Request, RequestName, csnbcki, csnbkgn_op, csnbkgn_pair, csnbkim, csnbpex, csnbkpi_first, csnbkpi_middle, csnbmkp_part, csnbmkp_clear, csnbmkp_set, value_of}
+use Rattle.verb_script.specs.Grammar.{Request, value_of}
+use Rattle.verb_script.specs.declared.rows.RequestName.{RequestName}
+use Rattle.verb_script.specs.declared.rows.RequestName.TheVariants.{Csnbcki, CsnbkgnOp, CsnbkgnPair, Csnbkim, Csnbpex, CsnbkpiFirst, CsnbkpiMiddle, CsnbmkpPart, CsnbmkpClear, CsnbmkpSet}
 use Rattle.verb_script.specs.Named.{label_named}
-use Rattle.cca_machine.specs.Act.{Effect, Show, Become, DefineRole, RemoveRole, Create, Write, Delete, Reencipher, delivered_with, effect, state_after as after_effect}
+use Rattle.cca_machine.specs.Act.{Effect, Show, Become, DefineRole, RemoveRole, Create, Write, Delete, ChangeLabels, delivered_with, effect, state_after as after_effect}
 use Rattle.cca_machine.specs.Actions.{part_action}
 use Rattle.cca_machine.specs.Session.{state_after}
 use Rattle.cca_machine.specs.State.{State}
@@ -55,14 +57,14 @@ second_of_three false false c one two three is = refl
 
 module _ (s : State) (drawn : List ℕ) where
   pub becomes : (name : RequestName) (r : Request) → first_refusal (verb_questions s name r) ≡ None → Becomes s (effect s drawn name r) (needed_points name r)
-  becomes csnbcki r verb = delivers s _ (label_named (value_of r (codes "to"))) _ _ _
-  becomes csnbkgn_op r verb = delivers s _ (label_named (value_of r (codes "to"))) _ _ _
-  becomes csnbkgn_pair r verb = delivers s _ (label_named (value_of r (codes "to"))) _ _ _
-  becomes csnbkim r verb = delivers s _ (label_named (value_of r (codes "to"))) _ _ _
-  becomes csnbpex r verb = delivers s _ (label_named (value_of r (codes "to"))) _ _ _
-  becomes csnbkpi_first r verb = delivers s _ (label_named (value_of r (codes "to"))) _ _ _
-  becomes csnbkpi_middle r verb = delivers s _ (label_named (value_of r (codes "to"))) _ _ _
-  becomes csnbmkp_part r verb = record {
+  becomes Csnbcki r verb = delivers s _ (label_named (value_of r (codes "to"))) _ _ _
+  becomes CsnbkgnOp r verb = delivers s _ (label_named (value_of r (codes "to"))) _ _ _
+  becomes CsnbkgnPair r verb = delivers s _ (label_named (value_of r (codes "to"))) _ _ _
+  becomes Csnbkim r verb = delivers s _ (label_named (value_of r (codes "to"))) _ _ _
+  becomes Csnbpex r verb = delivers s _ (label_named (value_of r (codes "to"))) _ _ _
+  becomes CsnbkpiFirst r verb = delivers s _ (label_named (value_of r (codes "to"))) _ _ _
+  becomes CsnbkpiMiddle r verb = delivers s _ (label_named (value_of r (codes "to"))) _ _ _
+  becomes CsnbmkpPart r verb = record {
     action = part_action (value_of r (codes "action"));
     part = bytes_in r (codes "part");
     points = refl;
@@ -71,8 +73,8 @@ module _ (s : State) (drawn : List ℕ) where
         (repeats_pattern (part_action (value_of r (codes "action"))) s.registers) 25 26 (refused_none _ _ _ verb).0;
     becomes = refl;
   }
-  becomes csnbmkp_clear r verb = record { action = Clear; part = []; points = refl; ready = refl; fresh = refl; becomes = refl }
-  becomes csnbmkp_set r verb = record {
+  becomes CsnbmkpClear r verb = record { action = Clear; part = []; points = refl; ready = refl; fresh = refl; becomes = refl }
+  becomes CsnbmkpSet r verb = record {
     action = Set;
     part = [];
     points = refl;
@@ -93,7 +95,7 @@ registers_after P step s (RemoveRole name) needed now is = now
 registers_after P step s (Create label) needed now is = now
 registers_after P step s (Write label key fields) needed now is = now
 registers_after P step s (Delete label) needed now is = now
-registers_after P step s (Reencipher a) needed now is = now
+registers_after P step s (ChangeLabels a) needed now is = now
 
 -- a property of the registers that lasts over each step but those that need one of the points
 module _ (points : ℕ) (P : Masters → Type 0)
@@ -108,7 +110,7 @@ module _ (points : ℕ) (P : Masters → Type 0)
   by_effect s (Create label) needed none now is = now
   by_effect s (Write label key fields) needed none now is = now
   by_effect s (Delete label) needed none now is = now
-  by_effect s (Reencipher a) needed none now is = now
+  by_effect s (ChangeLabels a) needed none now is = now
 
   pub over_steps : (s : State) (random : List ℕ) (lines : List (List ℕ)) → P s.registers → EachRequest (HoldsNone points) s random lines
       → P (state_after s random lines).registers

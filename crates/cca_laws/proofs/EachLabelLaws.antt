@@ -14,7 +14,9 @@ use Rattle.reencipher.specs.Further.{changed_entry, further, made_by, under_curr
 use Rattle.reencipher.specs.declared.actions.StoreAction.{StoreAction}
 use Rattle.reencipher.specs.declared.actions.StoreAction.TheVariants.{Renew, Ahead, Drop}
 use Rattle.verb_rules.specs.Keys.{keys_of}
-use Rattle.verb_script.specs.Grammar.{Request, RequestName, csnbmkp_set, reencipher, reencipher_ahead, reencipher_drop}
+use Rattle.verb_script.specs.Grammar.{Request}
+use Rattle.verb_script.specs.declared.rows.RequestName.{RequestName}
+use Rattle.verb_script.specs.declared.rows.RequestName.TheVariants.{CsnbmkpSet, Reencipher, ReencipherAhead, ReencipherDrop}
 use Rattle.cca_machine.specs.Act.{effect, performed, state_after as after_effect}
 use Rattle.cca_machine.specs.Keys.{is_old, key_of_label, what_in}
 use Rattle.cca_machine.specs.State.{State, IsStoreOf}
@@ -64,11 +66,11 @@ module _ (s : State) (label : List ℕ) where
       record { cell = cell_kept s label (Marks ahead) t alike; entry = compared s label (Marks ahead) (inl refl) t alike }
 
   marks_named : (drawn : List ℕ) (name : RequestName) (r : Request) (ahead : Bool) → mark_of name ≡ Some ahead → SameButMark ahead s (after_effect s (effect s drawn name r)) label
-  marks_named drawn reencipher_ahead r ahead is = marks_all Ahead ahead (λ e. ap (λ (b : Bool). marked b (Some e)) (same_some true ahead is))
+  marks_named drawn ReencipherAhead r ahead is = marks_all Ahead ahead (λ e. ap (λ (b : Bool). marked b (Some e)) (same_some true ahead is))
     where
       same_some : (a b : Bool) → Some a ≡ Some b → a ≡ b
       same_some a b same = cc
-  marks_named drawn reencipher_drop r ahead is = marks_all Drop ahead (λ e. ap (λ (b : Bool). marked b (Some e)) (same_some false ahead is))
+  marks_named drawn ReencipherDrop r ahead is = marks_all Drop ahead (λ e. ap (λ (b : Bool). marked b (Some e)) (same_some false ahead is))
     where
       same_some : (a b : Bool) → Some a ≡ Some b → a ≡ b
       same_some a b same = cc
@@ -91,7 +93,7 @@ none_ahead (Some e) = by_test e.ahead refl
 abbrev EndsUnmarked : Compare
 EndsUnmarked a b = is_ahead_entry b ≡ false
 
-pub dropped : (s : State) (image drawn label : List ℕ) (r : Request) → IsStoreOf s image → r.name ≡ reencipher_drop → verdict s drawn r ≡ None
+pub dropped : (s : State) (image drawn label : List ℕ) (r : Request) → IsStoreOf s image → r.name ≡ ReencipherDrop → verdict s drawn r ≡ None
     → is_ahead_label (performed s drawn r).state label ≡ false
 dropped s image drawn label r stands drop permits =
     let now : (after s drawn r).labels ≡ map (changed_entry Drop) s.labels =
@@ -116,7 +118,7 @@ turns_one : (masters : MasterKeys) (e : Option Entry) → Turns e (aged_entry ma
 turns_one masters None = (refl, refl)
 turns_one masters (Some e) = (turns_key e.what e.ahead, refl)
 
-pub set_turns : (s : State) (drawn label : List ℕ) (r : Request) → r.name ≡ csnbmkp_set → verdict s drawn r ≡ None → IsTurnedBySet s (performed s drawn r).state label
+pub set_turns : (s : State) (drawn label : List ℕ) (r : Request) → r.name ≡ CsnbmkpSet → verdict s drawn r ≡ None → IsTurnedBySet s (performed s drawn r).state label
 set_turns s drawn label r set permits = subst (λ (t : State). IsTurnedBySet s t label) (sym (performed_is s drawn r permits)) turned
   where
     now : (after s drawn r).labels ≡ aged (keys_of s.registers) s.labels
@@ -170,7 +172,7 @@ renews_one label (Some e) has = (
     named : e.label ≡ label
     named = same_some e.label label (has_name_is label (Some e.label) has)
 
-pub renewed : (s : State) (image drawn label : List ℕ) (r : Request) → IsStoreOf s image → r.name ≡ reencipher → verdict s drawn r ≡ None
+pub renewed : (s : State) (image drawn label : List ℕ) (r : Request) → IsStoreOf s image → r.name ≡ Reencipher → verdict s drawn r ≡ None
     → IsRenewed s (performed s drawn r).state label
 renewed s image drawn label r stands renew permits = subst (λ (t : State). IsRenewed s t label) (sym (performed_is s drawn r permits)) all
   where

@@ -7,9 +7,11 @@ use Rattle.key_records.specs.Labels.{IsLabel, is_label}
 use Rattle.key_records.specs.Turning.{aged}
 use Rattle.key_tokens.specs.Denotes.{Denoted}
 use Rattle.script_buffers.specs.Replies.{Field}
-use Rattle.verb_script.specs.Grammar.{Request, RequestName, csnbcki, csnbkgn_op, csnbkgn_pair, csnbkim, csnbpex, csnbkpi_first, csnbkpi_middle, csnbkrc, csnbkrw, csnbkrd, csnbmkp_part, csnbmkp_clear, csnbmkp_set, value_of}
+use Rattle.verb_script.specs.Grammar.{Request, value_of}
+use Rattle.verb_script.specs.declared.rows.RequestName.{RequestName}
+use Rattle.verb_script.specs.declared.rows.RequestName.TheVariants.{Csnbcki, CsnbkgnOp, CsnbkgnPair, Csnbkim, Csnbpex, CsnbkpiFirst, CsnbkpiMiddle, Csnbkrc, Csnbkrw, Csnbkrd, CsnbmkpPart, CsnbmkpClear, CsnbmkpSet}
 use Rattle.verb_script.specs.Named.{label_named}
-use Rattle.cca_machine.specs.Act.{Effect, Show, Become, DefineRole, RemoveRole, Create, Write, Delete, Reencipher, delivered_with, effect}
+use Rattle.cca_machine.specs.Act.{Effect, Show, Become, DefineRole, RemoveRole, Create, Write, Delete, ChangeLabels, delivered_with, effect}
 use Rattle.verb_rules.specs.Keys.{keys_of}
 use Rattle.cca_machine.specs.Keys.{cell_with}
 use Rattle.cca_machine.specs.Operands.{Operand, listed, operands_of}
@@ -22,7 +24,7 @@ use Rattle.cca_laws.proofs.LineCases.{permitted, refused_none}
 pub record IsNewLabel (s : State) (name : RequestName) (r : Request) (label : List ℕ) : Type 0 where
   pub well : IsLabel label
   pub fresh : cell_with s label ≡ None
-  pub verb : name ≡ csnbkrc
+  pub verb : name ≡ Csnbkrc
   pub named : label ≡ value_of r (codes "label")
 
 -- the labels stay, or are what SET makes of them
@@ -41,7 +43,7 @@ Fits s name r (RemoveRole role) = ⊤
 Fits s name r (Create label) = IsNewLabel s name r label
 Fits s name r (Write label key fields) = IsGiven label (listed (operands_of name r))
 Fits s name r (Delete label) = IsGiven label (listed (operands_of name r))
-Fits s name r (Reencipher a) = ⊤
+Fits s name r (ChangeLabels a) = ⊤
 
 -- ---- what passed
 
@@ -69,24 +71,24 @@ module _ (s : State) (drawn : List ℕ) where
   fits_named : (name : RequestName) (r : Request)
       → first_refusal (operand_questions s (listed (operands_of name r))) ≡ None → first_refusal (verb_questions s name r) ≡ None
       → Fits s name r (effect s drawn name r)
-  fits_named csnbcki r ops verb = delivers s csnbcki r _ (label_named (value_of r (codes "to"))) _ _ (λ other spared. spared.0)
-  fits_named csnbkgn_op r ops verb = delivers s csnbkgn_op r _ (label_named (value_of r (codes "to"))) _ _ (λ other spared. spared.0)
-  fits_named csnbkgn_pair r ops verb = delivers s csnbkgn_pair r _ (label_named (value_of r (codes "to"))) _ _ (λ other spared. spared.1.0)
-  fits_named csnbkim r ops verb = delivers s csnbkim r _ (label_named (value_of r (codes "to"))) _ _ (λ other spared. spared.1.1.0)
-  fits_named csnbpex r ops verb = delivers s csnbpex r _ (label_named (value_of r (codes "to"))) _ _ (λ other spared. spared.1.0)
-  fits_named csnbkpi_first r ops verb = delivers s csnbkpi_first r _ (label_named (value_of r (codes "to"))) _ _ (λ other spared. spared.0)
-  fits_named csnbkpi_middle r ops verb = delivers s csnbkpi_middle r _ (label_named (value_of r (codes "to"))) _ _ (λ other spared. spared.1.0)
-  fits_named csnbkrc r ops verb = record {
+  fits_named Csnbcki r ops verb = delivers s Csnbcki r _ (label_named (value_of r (codes "to"))) _ _ (λ other spared. spared.0)
+  fits_named CsnbkgnOp r ops verb = delivers s CsnbkgnOp r _ (label_named (value_of r (codes "to"))) _ _ (λ other spared. spared.0)
+  fits_named CsnbkgnPair r ops verb = delivers s CsnbkgnPair r _ (label_named (value_of r (codes "to"))) _ _ (λ other spared. spared.1.0)
+  fits_named Csnbkim r ops verb = delivers s Csnbkim r _ (label_named (value_of r (codes "to"))) _ _ (λ other spared. spared.1.1.0)
+  fits_named Csnbpex r ops verb = delivers s Csnbpex r _ (label_named (value_of r (codes "to"))) _ _ (λ other spared. spared.1.0)
+  fits_named CsnbkpiFirst r ops verb = delivers s CsnbkpiFirst r _ (label_named (value_of r (codes "to"))) _ _ (λ other spared. spared.0)
+  fits_named CsnbkpiMiddle r ops verb = delivers s CsnbkpiMiddle r _ (label_named (value_of r (codes "to"))) _ _ (λ other spared. spared.1.0)
+  fits_named Csnbkrc r ops verb = record {
     well = passed (is_label (value_of r (codes "label"))) 6 (refused_none _ _ _ ops).0;
     fresh = none_of (cell_with s (value_of r (codes "label"))) (second_passed _ (is_some (cell_with s (value_of r (codes "label")))) 28 29 (refused_none _ _ _ verb).0);
     verb = refl;
     named = refl;
   }
-  fits_named csnbkrw r ops verb = λ other spared same. spared.0 (ap (λ x. Some x) same)
-  fits_named csnbkrd r ops verb = λ other spared same. spared.0 (ap (λ x. Some x) same)
-  fits_named csnbmkp_part r ops verb = inl refl
-  fits_named csnbmkp_clear r ops verb = inl refl
-  fits_named csnbmkp_set r ops verb = inr refl
+  fits_named Csnbkrw r ops verb = λ other spared same. spared.0 (ap (λ x. Some x) same)
+  fits_named Csnbkrd r ops verb = λ other spared same. spared.0 (ap (λ x. Some x) same)
+  fits_named CsnbmkpPart r ops verb = inl refl
+  fits_named CsnbmkpClear r ops verb = inl refl
+  fits_named CsnbmkpSet r ops verb = inr refl
   fits_named _ r ops verb = tt
 
   -- the effect of a permitted request

@@ -29,7 +29,9 @@ use Rattle.multi_encipher.specs.Bundles.{transport_bundle}
 use Rattle.script_buffers.specs.Replies.{Field, Hex}
 use Rattle.verb_rules.specs.KeyChecks.{read_checks}
 use Rattle.verb_rules.specs.Keys.{keys_of, master_key, master_under, sealed_token, token_for}
-use Rattle.verb_script.specs.Grammar.{Request, RequestName, csnbkim, csnbkex, csnbpex, csnbktc, csnbkpi_middle, csnbktr, csnbkrw, csnbkrr, value_of}
+use Rattle.verb_script.specs.Grammar.{Request, value_of}
+use Rattle.verb_script.specs.declared.rows.RequestName.{RequestName}
+use Rattle.verb_script.specs.declared.rows.RequestName.TheVariants.{Csnbkim, Csnbkex, Csnbpex, Csnbktc, CsnbkpiMiddle, Csnbktr, Csnbkrw, Csnbkrr}
 use Rattle.verb_script.specs.Named.{label_named}
 use Rattle.cca_machine.specs.Act.{Effect, Show, Write, delivered_with, effect, fields_after, or_act, performed, state_after, token_out, written_in}
 use Rattle.cca_machine.specs.Choices.{is_last_part, target_named}
@@ -298,33 +300,33 @@ module _ (s : State) (image drawn : List ℕ) (stands : IsStoreOf s image) (r : 
   closed : (name : RequestName) (vector : List ℕ) → first_refusal (operand_questions s (listed (operands_of name r))) ≡ None
       → first_refusal (verb_questions s name r) ≡ None
       → (needs_master name && is_none s.registers.current) ≡ false → passed_by s name r ≡ Some vector → is_exportable vector ≡ false → IsClosed (effect s drawn name r)
-  closed csnbpex vector ops verb some is off =
+  closed Csnbpex vector ops verb some is off =
       let f = passed_forbids s _ (key_passed vector is off) in
       delivered_closed s (label_named (value_of r (codes "to"))) (closed_key (key_of_request s r)) some
       (subst Forbids (sym (closed_is (key_of_request s r).vector f.off)) f)
-  closed csnbkex vector ops verb some is off =
+  closed Csnbkex vector ops verb some is off =
       one_token (token_out s r (codes "transport") (key_of_request s r))
       (external_forbids (key_in_field s r (codes "transport")).key (key_of_request s r) (passed_forbids s _ (key_passed vector is off)))
-  closed csnbkpi_middle vector ops verb some is off =
+  closed CsnbkpiMiddle vector ops verb some is off =
       let p = key_passed vector is off in
       let passes : first_failing (vector_checks (key_of_request s r).vector) ≡ None =
       subst (λ (d : Denoted). first_failing (vector_checks d.clear.vector) ≡ None) (sym (passed_key s _ p)) (vector_passes s p.key p.token) in
       delivered_closed s (label_named (value_of r (codes "to"))) (combined_key (is_last_part (value_of r (codes "rule"))) (key_of_request s r) (part_in r)) some
       (combined_forbids (is_last_part (value_of r (codes "rule"))) (key_of_request s r) (part_in r) passes (passed_forbids s _ p))
-  closed csnbkim vector ops verb some is off =
+  closed Csnbkim vector ops verb some is off =
       delivered_closed s (label_named (value_of r (codes "to"))) (imported (key_in_field s r (codes "transport")) (bytes_in r (codes "token"))) some
-      (imported_forbids (key_in_field s r (codes "transport")) (bytes_in r (codes "token")) vector (external_passes s r (behind csnbkim r) ops) is off)
-  closed csnbktr vector ops verb some is off =
+      (imported_forbids (key_in_field s r (codes "transport")) (bytes_in r (codes "token")) vector (external_passes s r (behind Csnbkim r) ops) is off)
+  closed Csnbktr vector ops verb some is off =
       one_token (token_out s r (codes "transport2") (imported (key_in_field s r (codes "transport1")) (bytes_in r (codes "token"))))
       (external_forbids (key_in_field s r (codes "transport2")).key (imported (key_in_field s r (codes "transport1")) (bytes_in r (codes "token")))
-      (imported_forbids (key_in_field s r (codes "transport1")) (bytes_in r (codes "token")) vector (external_passes s r (behind csnbktr r) ops) is off))
-  closed csnbktc vector ops verb some is off =
+      (imported_forbids (key_in_field s r (codes "transport1")) (bytes_in r (codes "token")) vector (external_passes s r (behind Csnbktr r) ops) is off))
+  closed Csnbktc vector ops verb some is off =
       one_token (changed_token s.registers (target_named (value_of r (codes "rule"))) (or_no_key (key_of_token s (bytes_in r (codes "token")))).clear)
       (changed_forbids s (target_named (value_of r (codes "rule"))) (or_no_key (key_of_token s (bytes_in r (codes "token")))).clear some verb
       (passed_forbids s _ (token_passed vector is off)))
-  closed csnbkrw vector ops verb some is off =
+  closed Csnbkrw vector ops verb some is off =
       one_written (value_of r (codes "label")) (or_no_key (key_of_token s (bytes_in r (codes "token")))) [] tt (passed_forbids s _ (token_passed vector is off)).off
-  closed csnbkrr vector ops verb some is off =
+  closed Csnbkrr vector ops verb some is off =
       let o : Option Denoted = key_of_label s (value_of r (codes "label")) in
       let p = is_passed s (key_of_label s (value_of r (codes "label"))) vector (λ key has. label_token s image (value_of r (codes "label")) key stands has) is off in
       one_token (token_for (keys_of s.registers) (or_no_key (key_of_label s (value_of r (codes "label")))))
@@ -360,17 +362,17 @@ delivers_there s field (Some other) key fields label not_other = same_label othe
 -- a label that a request doesn't spare is the one that it writes
 there : (s : State) (drawn : List ℕ) (name : RequestName) (r : Request) (vector : List ℕ) → passed_by s name r ≡ Some vector → (label : List ℕ)
     → (AreOther label (listed (operands_of name r)) → ⊥) → Writes label (effect s drawn name r)
-there s drawn csnbpex r vector is label given =
+there s drawn Csnbpex r vector is label given =
     delivers_there s (codes "token") (label_named (value_of r (codes "to"))) _ [] label (λ apart. given (none_some label, (apart, (none_some label, tt))))
-there s drawn csnbkex r vector is label given = given (none_some label, (none_some label, (none_some label, tt)))
-there s drawn csnbkpi_middle r vector is label given =
+there s drawn Csnbkex r vector is label given = given (none_some label, (none_some label, (none_some label, tt)))
+there s drawn CsnbkpiMiddle r vector is label given =
     delivers_there s (codes "token") (label_named (value_of r (codes "to"))) _ [] label (λ apart. given (none_some label, (apart, (none_some label, tt))))
-there s drawn csnbkim r vector is label given =
+there s drawn Csnbkim r vector is label given =
     delivers_there s (codes "token") (label_named (value_of r (codes "to"))) _ [] label (λ apart. given (none_some label, (none_some label, (apart, tt))))
-there s drawn csnbktr r vector is label given = given (none_some label, (none_some label, (none_some label, tt)))
-there s drawn csnbktc r vector is label given = given (none_some label, (none_some label, (none_some label, tt)))
-there s drawn csnbkrw r vector is label given = same_label (value_of r (codes "label")) label (λ apart. given (apart, (none_some label, (none_some label, tt))))
-there s drawn csnbkrr r vector is label given = given (none_some label, (none_some label, (none_some label, tt)))
+there s drawn Csnbktr r vector is label given = given (none_some label, (none_some label, (none_some label, tt)))
+there s drawn Csnbktc r vector is label given = given (none_some label, (none_some label, (none_some label, tt)))
+there s drawn Csnbkrw r vector is label given = same_label (value_of r (codes "label")) label (λ apart. given (apart, (none_some label, (none_some label, tt))))
+there s drawn Csnbkrr r vector is label given = given (none_some label, (none_some label, (none_some label, tt)))
 there s drawn _ r vector is label given = cc is
 
 -- the key that the label then has

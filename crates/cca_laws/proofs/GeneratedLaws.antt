@@ -19,7 +19,9 @@ use Rattle.key_transport.specs.Tokens.{as_current, external_token}
 use Rattle.key_transport.specs.UniqueHalves.{key_drawn, key_taken, repeats}
 use Rattle.key_transport.proofs.GeneratedLemmas.{length-generated_vector}
 use Rattle.script_buffers.specs.Replies.{Done, Field, Hex}
-use Rattle.verb_script.specs.Grammar.{AreValues, FieldForm, IsValue, Request, RequestName, Values, csnbkgn_op, csnbkgn_pair, csnbkgn_out, row_of, type_text, value_among, value_of}
+use Rattle.verb_script.specs.Grammar.{AreValues, FieldForm, IsValue, Request, Values, row_of, type_text, value_among, value_of}
+use Rattle.verb_script.specs.declared.rows.RequestName.{RequestName}
+use Rattle.verb_script.specs.declared.rows.RequestName.TheVariants.{CsnbkgnOp, CsnbkgnPair, CsnbkgnOut}
 use Rattle.verb_script.specs.Named.{label_named}
 use Rattle.cca_machine.specs.Act.{Effect, Show, Outcome, delivered_with, effect, effected, fields_after, performed, token_out, type1_of, type2_of}
 use Rattle.cca_machine.specs.Choices.{key_length_named, or_data, type_in}
@@ -227,30 +229,30 @@ module _ (s : State) (drawn : List ℕ) (values : List (List ℕ)) where
 
   has_keys : (name : RequestName) (l : Length) → IsGenerating s drawn (asked name values) l
       → HasKeys name s (asked name values) (outcome name) (size_in name) (key_in name)
-  has_keys csnbkgn_op l g =
-      let p = permitted s drawn (asked csnbkgn_op values) g.permitted in
+  has_keys CsnbkgnOp l g =
+      let p = permitted s drawn (asked CsnbkgnOp values) g.permitted in
       let verb = refused_none _ _ _ p.verb in
       let to = refused_none _ _ _ p.operands in
-      first_in csnbkgn_op l g [] (type_there (row_of csnbkgn_op).fields values (codes "type1") tt g.spelled) verb.0 p.master to.0 refl
-  has_keys csnbkgn_pair l g =
-      let r : Request = asked csnbkgn_pair values in
+      first_in CsnbkgnOp l g [] (type_there (row_of CsnbkgnOp).fields values (codes "type1") tt g.spelled) verb.0 p.master to.0 refl
+  has_keys CsnbkgnPair l g =
+      let r : Request = asked CsnbkgnPair values in
       let p = permitted s drawn r g.permitted in
       let first = refused_none _ _ _ (refused_none _ _ _ p.verb).1 in
       let second = refused_none _ _ _ first.1 in
       let to = refused_none _ _ _ (refused_none _ _ _ p.operands).1 in
-      let other : List ℕ = token_out s r (codes "transport2") (clear_in csnbkgn_pair l g (codes "type2")) in (
-        first_in csnbkgn_pair l g (Hex (codes "token2") other ∷ []) (type_there (row_of csnbkgn_pair).fields values (codes "type1") tt g.spelled) first.0 p.master to.0 refl,
-        sent_in csnbkgn_pair l g (codes "type2") (codes "token2") (codes "transport2") (type_there (row_of csnbkgn_pair).fields values (codes "type2") tt g.spelled) second.0
-            (second_shown s drawn (size_in csnbkgn_pair) (just csnbkgn_pair l g) (some csnbkgn_pair l g) g.bytes r (label_named (value_of r (codes "to")))
-            (clear_in csnbkgn_pair l g (codes "type1")) other (warning (any_old s (listed (operands r))))),
+      let other : List ℕ = token_out s r (codes "transport2") (clear_in CsnbkgnPair l g (codes "type2")) in (
+        first_in CsnbkgnPair l g (Hex (codes "token2") other ∷ []) (type_there (row_of CsnbkgnPair).fields values (codes "type1") tt g.spelled) first.0 p.master to.0 refl,
+        sent_in CsnbkgnPair l g (codes "type2") (codes "token2") (codes "transport2") (type_there (row_of CsnbkgnPair).fields values (codes "type2") tt g.spelled) second.0
+            (second_shown s drawn (size_in CsnbkgnPair) (just CsnbkgnPair l g) (some CsnbkgnPair l g) g.bytes r (label_named (value_of r (codes "to")))
+            (clear_in CsnbkgnPair l g (codes "type1")) other (warning (any_old s (listed (operands r))))),
       )
-  has_keys csnbkgn_out l g =
-      let r : Request = asked csnbkgn_out values in
+  has_keys CsnbkgnOut l g =
+      let r : Request = asked CsnbkgnOut values in
       let p = permitted s drawn r g.permitted in
       let first = refused_none _ _ _ (refused_none _ _ _ p.verb).1 in
       let second = refused_none _ _ _ first.1 in (
-        sent_in csnbkgn_out l g (codes "type1") (codes "token1") (codes "transport1") (type_there (row_of csnbkgn_out).fields values (codes "type1") tt g.spelled) first.0 refl,
-        sent_in csnbkgn_out l g (codes "type2") (codes "token2") (codes "transport2") (type_there (row_of csnbkgn_out).fields values (codes "type2") tt g.spelled) second.0 refl,
+        sent_in CsnbkgnOut l g (codes "type1") (codes "token1") (codes "transport1") (type_there (row_of CsnbkgnOut).fields values (codes "type1") tt g.spelled) first.0 refl,
+        sent_in CsnbkgnOut l g (codes "type2") (codes "token2") (codes "transport2") (type_there (row_of CsnbkgnOut).fields values (codes "type2") tt g.spelled) second.0 refl,
       )
   has_keys _ l g = cc g.generates
 
@@ -281,20 +283,20 @@ with_bytes kind l key = record { key = key; vector = generated_vector kind l }
 
 -- what a request of this row does with a key of these bytes
 abbrev effect_of : State → RequestName → Request → List ℕ → Effect
-effect_of s csnbkgn_op r key = delivered_with s (codes "token1") (label_named (value_of r (codes "to"))) (as_current (with_bytes (type1_of r) (length_in r) key)) []
-effect_of s csnbkgn_pair r key =
+effect_of s CsnbkgnOp r key = delivered_with s (codes "token1") (label_named (value_of r (codes "to"))) (as_current (with_bytes (type1_of r) (length_in r) key)) []
+effect_of s CsnbkgnPair r key =
     delivered_with s (codes "token1") (label_named (value_of r (codes "to"))) (as_current (with_bytes (type1_of r) (length_in r) key))
     (Hex (codes "token2") (token_out s r (codes "transport2") (with_bytes (type2_of r) (length_in r) key)) ∷ [])
-effect_of s csnbkgn_out r key = Show (
+effect_of s CsnbkgnOut r key = Show (
     Hex (codes "token1") (token_out s r (codes "transport1") (with_bytes (type1_of r) (length_in r) key))
     ∷ Hex (codes "token2") (token_out s r (codes "transport2") (with_bytes (type2_of r) (length_in r) key))
     ∷ [])
 effect_of s _ r key = Show []
 
 by_key : (s : State) (drawn : List ℕ) (name : RequestName) (r : Request) → generates name ≡ true → effect s drawn name r ≡ effect_of s name r (key_made (length_in r) drawn)
-by_key s drawn csnbkgn_op r is = refl
-by_key s drawn csnbkgn_pair r is = refl
-by_key s drawn csnbkgn_out r is = refl
+by_key s drawn CsnbkgnOp r is = refl
+by_key s drawn CsnbkgnPair r is = refl
+by_key s drawn CsnbkgnOut r is = refl
 by_key s drawn _ r is = cc is
 
 pub same_key : (s : State) (drawn other key : List ℕ) (r : Request) (l : Length) → IsGenerating s drawn r l → IsGenerating s other r l → IsDrawnKey l drawn key → IsDrawnKey l other key

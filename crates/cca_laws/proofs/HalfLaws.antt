@@ -13,7 +13,9 @@ use Rattle.cca_vectors.specs.declared.key_type.KeyType.TheVariants.{Data, Datac,
 use Rattle.verb_rules.specs.Parity.{odd_byte}
 use Rattle.key_transport.specs.Generated.{HasKeyLength, generated_vector}
 use Rattle.key_transport.specs.UniqueHalves.{halves_drawn, is_same_half, key_drawn, key_taken, pieces, repeats}
-use Rattle.verb_script.specs.Grammar.{Request, RequestName, csnbkgn_op, csnbkgn_pair, csnbkgn_out}
+use Rattle.verb_script.specs.Grammar.{Request}
+use Rattle.verb_script.specs.declared.rows.RequestName.{RequestName}
+use Rattle.verb_script.specs.declared.rows.RequestName.TheVariants.{CsnbkgnOp, CsnbkgnPair, CsnbkgnOut}
 use Rattle.cca_machine.specs.Draws.{KeyBytes, draw_of, length_in}
 use Rattle.cca_machine.specs.Verdict.{Refusal, draw_verdict, or_last, refusal}
 use Rattle.cca_laws.specs.UniqueKeys.{HasUniqueHalves, generates}
@@ -123,9 +125,9 @@ unique_key drawn long differ =
 -- ---- the request
 
 pub draws_key : (name : RequestName) (r : Request) → generates name ≡ true → draw_of name r ≡ KeyBytes (length_in r)
-draws_key csnbkgn_op r is = refl
-draws_key csnbkgn_pair r is = refl
-draws_key csnbkgn_out r is = refl
+draws_key CsnbkgnOp r is = refl
+draws_key CsnbkgnPair r is = refl
+draws_key CsnbkgnOut r is = refl
 draws_key _ r is = cc is
 
 -- the last rule has passed

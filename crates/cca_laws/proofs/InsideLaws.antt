@@ -28,7 +28,9 @@ use Rattle.text_segments.specs.Chains.{first_chain}
 use Rattle.text_segments.specs.declared.modes.Mode.TheVariants as mode
 use Rattle.verb_rules.specs.KeyChecks.{is_under_none, key_checks, part_check, read_checks, vector_use_checks}
 use Rattle.verb_rules.specs.declared.needs.Need.{Need}
-use Rattle.verb_script.specs.Grammar.{Request, RequestName, csnbenc, csnbenc_first, csnbenc_middle, csnbenc_last, csnbdec, csnbdec_first, csnbdec_middle, csnbdec_last, csnbmgn, csnbmgn_first, csnbmgn_middle, csnbmgn_last, csnbmvr, csnbmvr_first, csnbmvr_middle, csnbmvr_last, csnbkyt, csnbcki, csnbkgn_op, csnbkgn_pair, csnbkgn_out, csnbkim, csnbkex, csnbpex, csnbktc, csnbkpi_first, csnbkpi_middle, csnbktr, csnbkrr, csnbmkp_part, csnbmkp_set, reencipher_ahead, value_of}
+use Rattle.verb_script.specs.Grammar.{Request, value_of}
+use Rattle.verb_script.specs.declared.rows.RequestName.{RequestName}
+use Rattle.verb_script.specs.declared.rows.RequestName.TheVariants.{Csnbenc, CsnbencFirst, CsnbencMiddle, CsnbencLast, Csnbdec, CsnbdecFirst, CsnbdecMiddle, CsnbdecLast, Csnbmgn, CsnbmgnFirst, CsnbmgnMiddle, CsnbmgnLast, Csnbmvr, CsnbmvrFirst, CsnbmvrMiddle, CsnbmvrLast, Csnbkyt, Csnbcki, CsnbkgnOp, CsnbkgnPair, CsnbkgnOut, Csnbkim, Csnbkex, Csnbpex, Csnbktc, CsnbkpiFirst, CsnbkpiMiddle, Csnbktr, Csnbkrr, CsnbmkpPart, CsnbmkpSet, ReencipherAhead}
 use Rattle.verb_script.specs.Named.{label_named}
 use Rattle.verb_script.specs.Values.{hex_value}
 use Rattle.cca_machine.specs.Act.{Become, code_segment_fields, delivered_with, effect, fields_after, last_code_fields, last_match_fields, last_text_fields, or_act, or_empty, performed, segment_fields, type1_of, type2_of, yes_or_no}
@@ -87,8 +89,8 @@ AreExternal [] = ⊤
 AreExternal (o ∷ os) = IfExternal o.ask × AreExternal os
 
 externals : (name : RequestName) (r : Request) → AreExternal (listed (operands_of name r))
-externals csnbkim r = (refl, (tt, (tt, tt)))
-externals csnbktr r = (refl, (tt, (tt, tt)))
+externals Csnbkim r = (refl, (tt, (tt, tt)))
+externals Csnbktr r = (refl, (tt, (tt, tt)))
 externals _ r = (tt, (tt, (tt, tt)))
 
 -- ---- other registers, as full
@@ -215,35 +217,35 @@ module _ (s : State) (m : Masters) (same : AreAsFull m s.registers) where
       code_key_questions (code_rule r) key (chain_questions (bytes_in r (codes "chain")) (last_segment_questions (mode.Mac (code_rule r)) padding.None (chain_in r) (text_size r)))
 
   verbs : (name : RequestName) (r : Request) → NoToken name r → Alike name → verb_questions other name r ≡ verb_questions s name r
-  verbs csnbdec r none alike =
+  verbs Csnbdec r none alike =
       ap (λ (key : ClearKey). decipher_questions (text_size r) key (bytes_in r (codes "iv")) (pad_named (value_of r (codes "pad"))) (bytes_in r (codes "text")))
-      (field_key r (codes "key") (first_none csnbdec r none))
-  verbs csnbenc_last r none alike =
+      (field_key r (codes "key") (first_none Csnbdec r none))
+  verbs CsnbencLast r none alike =
       ap (λ (key : ClearKey). chain_questions (bytes_in r (codes "chain")) (last_text_questions mode.Encipher key (chain_in r) (pad_named (value_of r (codes "pad"))) (text_size r) (bytes_in r (codes "text"))))
-      (field_key r (codes "key") (first_none csnbenc_last r none))
-  verbs csnbdec_last r none alike =
+      (field_key r (codes "key") (first_none CsnbencLast r none))
+  verbs CsnbdecLast r none alike =
       ap (λ (key : ClearKey). chain_questions (bytes_in r (codes "chain")) (last_text_questions mode.Decipher key (chain_in r) (pad_named (value_of r (codes "pad"))) (text_size r) (bytes_in r (codes "text"))))
-      (field_key r (codes "key") (first_none csnbdec_last r none))
-  verbs csnbmgn r none alike =
-      ap (λ (key : ClearKey). mac_questions (mac_rule_named (value_of r (codes "rule"))) (text_size r) key) (field_key r (codes "key") (first_none csnbmgn r none))
-  verbs csnbmvr r none alike =
-      ap (λ (key : ClearKey). mac_questions (mac_rule_named (value_of r (codes "rule"))) (text_size r) key) (field_key r (codes "key") (first_none csnbmvr r none))
-  verbs csnbmgn_first r none alike =
-      ap (λ (key : ClearKey). code_key_questions (code_rule r) key (segment_questions (text_size r))) (field_key r (codes "key") (first_none csnbmgn_first r none))
-  verbs csnbmgn_middle r none alike =
-      ap (λ (key : ClearKey). code_key_questions (code_rule r) key (middle_questions r)) (field_key r (codes "key") (first_none csnbmgn_middle r none))
-  verbs csnbmgn_last r none alike = ap (last_code_by r) (field_key r (codes "key") (first_none csnbmgn_last r none))
-  verbs csnbmvr_first r none alike =
-      ap (λ (key : ClearKey). code_key_questions (code_rule r) key (segment_questions (text_size r))) (field_key r (codes "key") (first_none csnbmvr_first r none))
-  verbs csnbmvr_middle r none alike =
-      ap (λ (key : ClearKey). code_key_questions (code_rule r) key (middle_questions r)) (field_key r (codes "key") (first_none csnbmvr_middle r none))
-  verbs csnbmvr_last r none alike = ap (last_code_by r) (field_key r (codes "key") (first_none csnbmvr_last r none))
-  verbs csnbkpi_middle r none alike =
-      ap (λ (key : ClearKey). further_part_questions key.vector (part_size r)) (field_key r (codes "key") (first_none csnbkpi_middle r none))
-  verbs csnbktc r none alike = cc (first_none csnbktc r none)
-  verbs csnbmkp_part r none alike = part_same (value_of r (codes "action"))
-  verbs csnbmkp_set r none alike = ap₂ set_question tests.2 (alike refl).current
-  verbs reencipher_ahead r none alike = ap₂ set_question tests.2 (ap₂ (λ (a b : Bool). a || b) (alike refl).current (alike refl).former)
+      (field_key r (codes "key") (first_none CsnbdecLast r none))
+  verbs Csnbmgn r none alike =
+      ap (λ (key : ClearKey). mac_questions (mac_rule_named (value_of r (codes "rule"))) (text_size r) key) (field_key r (codes "key") (first_none Csnbmgn r none))
+  verbs Csnbmvr r none alike =
+      ap (λ (key : ClearKey). mac_questions (mac_rule_named (value_of r (codes "rule"))) (text_size r) key) (field_key r (codes "key") (first_none Csnbmvr r none))
+  verbs CsnbmgnFirst r none alike =
+      ap (λ (key : ClearKey). code_key_questions (code_rule r) key (segment_questions (text_size r))) (field_key r (codes "key") (first_none CsnbmgnFirst r none))
+  verbs CsnbmgnMiddle r none alike =
+      ap (λ (key : ClearKey). code_key_questions (code_rule r) key (middle_questions r)) (field_key r (codes "key") (first_none CsnbmgnMiddle r none))
+  verbs CsnbmgnLast r none alike = ap (last_code_by r) (field_key r (codes "key") (first_none CsnbmgnLast r none))
+  verbs CsnbmvrFirst r none alike =
+      ap (λ (key : ClearKey). code_key_questions (code_rule r) key (segment_questions (text_size r))) (field_key r (codes "key") (first_none CsnbmvrFirst r none))
+  verbs CsnbmvrMiddle r none alike =
+      ap (λ (key : ClearKey). code_key_questions (code_rule r) key (middle_questions r)) (field_key r (codes "key") (first_none CsnbmvrMiddle r none))
+  verbs CsnbmvrLast r none alike = ap (last_code_by r) (field_key r (codes "key") (first_none CsnbmvrLast r none))
+  verbs CsnbkpiMiddle r none alike =
+      ap (λ (key : ClearKey). further_part_questions key.vector (part_size r)) (field_key r (codes "key") (first_none CsnbkpiMiddle r none))
+  verbs Csnbktc r none alike = cc (first_none Csnbktc r none)
+  verbs CsnbmkpPart r none alike = part_same (value_of r (codes "action"))
+  verbs CsnbmkpSet r none alike = ap₂ set_question tests.2 (alike refl).current
+  verbs ReencipherAhead r none alike = ap₂ set_question tests.2 (ap₂ (λ (a b : Bool). a || b) (alike refl).current (alike refl).former)
   verbs _ r none alike = refl
 
   verdict_same : (drawn : List ℕ) (r : Request) → NoToken r.name r → Alike r.name → verdict other drawn r ≡ verdict s drawn r
@@ -264,66 +266,66 @@ module _ (s : State) (m : Masters) (same : AreAsFull m s.registers) where
 
   shown : (drawn : List ℕ) (name : RequestName) (r : Request) → NoToken name r → NoneShown name r
       → fields_after other (effect other drawn name r) ≡ fields_after s (effect s drawn name r)
-  shown drawn csnbenc r none inside =
+  shown drawn Csnbenc r none inside =
       ap (λ (key : ClearKey). let fs : List Field = Hex (codes "text") (enciphered_text key (bytes_in r (codes "iv")) (pad_named (value_of r (codes "pad"))) (bytes_in r (codes "text"))) ∷ [] in fs)
-      (field_key r (codes "key") (first_none csnbenc r none))
-  shown drawn csnbenc_first r none inside =
-      ap (λ (key : ClearKey). segment_fields key mode.Encipher (first_chain (bytes_in r (codes "iv"))) (bytes_in r (codes "text"))) (field_key r (codes "key") (first_none csnbenc_first r none))
-  shown drawn csnbenc_middle r none inside =
-      ap (λ (key : ClearKey). segment_fields key mode.Encipher (chain_in r) (bytes_in r (codes "text"))) (field_key r (codes "key") (first_none csnbenc_middle r none))
-  shown drawn csnbenc_last r none inside =
-      ap (λ (key : ClearKey). last_text_fields key mode.Encipher (chain_in r) (pad_named (value_of r (codes "pad"))) (bytes_in r (codes "text"))) (field_key r (codes "key") (first_none csnbenc_last r none))
-  shown drawn csnbdec r none inside =
+      (field_key r (codes "key") (first_none Csnbenc r none))
+  shown drawn CsnbencFirst r none inside =
+      ap (λ (key : ClearKey). segment_fields key mode.Encipher (first_chain (bytes_in r (codes "iv"))) (bytes_in r (codes "text"))) (field_key r (codes "key") (first_none CsnbencFirst r none))
+  shown drawn CsnbencMiddle r none inside =
+      ap (λ (key : ClearKey). segment_fields key mode.Encipher (chain_in r) (bytes_in r (codes "text"))) (field_key r (codes "key") (first_none CsnbencMiddle r none))
+  shown drawn CsnbencLast r none inside =
+      ap (λ (key : ClearKey). last_text_fields key mode.Encipher (chain_in r) (pad_named (value_of r (codes "pad"))) (bytes_in r (codes "text"))) (field_key r (codes "key") (first_none CsnbencLast r none))
+  shown drawn Csnbdec r none inside =
       ap (λ (key : ClearKey). let fs : List Field = Hex (codes "text") (or_empty (deciphered_text key (bytes_in r (codes "iv")) (pad_named (value_of r (codes "pad"))) (bytes_in r (codes "text")))) ∷ [] in fs)
-      (field_key r (codes "key") (first_none csnbdec r none))
-  shown drawn csnbdec_first r none inside =
-      ap (λ (key : ClearKey). segment_fields key mode.Decipher (first_chain (bytes_in r (codes "iv"))) (bytes_in r (codes "text"))) (field_key r (codes "key") (first_none csnbdec_first r none))
-  shown drawn csnbdec_middle r none inside =
-      ap (λ (key : ClearKey). segment_fields key mode.Decipher (chain_in r) (bytes_in r (codes "text"))) (field_key r (codes "key") (first_none csnbdec_middle r none))
-  shown drawn csnbdec_last r none inside =
-      ap (λ (key : ClearKey). last_text_fields key mode.Decipher (chain_in r) (pad_named (value_of r (codes "pad"))) (bytes_in r (codes "text"))) (field_key r (codes "key") (first_none csnbdec_last r none))
-  shown drawn csnbmgn r none inside =
+      (field_key r (codes "key") (first_none Csnbdec r none))
+  shown drawn CsnbdecFirst r none inside =
+      ap (λ (key : ClearKey). segment_fields key mode.Decipher (first_chain (bytes_in r (codes "iv"))) (bytes_in r (codes "text"))) (field_key r (codes "key") (first_none CsnbdecFirst r none))
+  shown drawn CsnbdecMiddle r none inside =
+      ap (λ (key : ClearKey). segment_fields key mode.Decipher (chain_in r) (bytes_in r (codes "text"))) (field_key r (codes "key") (first_none CsnbdecMiddle r none))
+  shown drawn CsnbdecLast r none inside =
+      ap (λ (key : ClearKey). last_text_fields key mode.Decipher (chain_in r) (pad_named (value_of r (codes "pad"))) (bytes_in r (codes "text"))) (field_key r (codes "key") (first_none CsnbdecLast r none))
+  shown drawn Csnbmgn r none inside =
       ap (λ (key : ClearKey). let fs : List Field = Hex (codes "mac") (take (mac_length_named (value_of r (codes "length"))) (code_of (mac_rule_named (value_of r (codes "rule"))) key (bytes_in r (codes "text")))) ∷ [] in fs)
-      (field_key r (codes "key") (first_none csnbmgn r none))
-  shown drawn csnbmgn_first r none inside =
-      ap (λ (key : ClearKey). code_segment_fields key (code_rule r) (first_chain zero_block) (bytes_in r (codes "text"))) (field_key r (codes "key") (first_none csnbmgn_first r none))
-  shown drawn csnbmgn_middle r none inside =
-      ap (λ (key : ClearKey). code_segment_fields key (code_rule r) (chain_in r) (bytes_in r (codes "text"))) (field_key r (codes "key") (first_none csnbmgn_middle r none))
-  shown drawn csnbmgn_last r none inside =
-      ap (λ (key : ClearKey). last_code_fields key (code_rule r) (chain_in r) (mac_length_named (value_of r (codes "length"))) (bytes_in r (codes "text"))) (field_key r (codes "key") (first_none csnbmgn_last r none))
-  shown drawn csnbmvr r none inside =
+      (field_key r (codes "key") (first_none Csnbmgn r none))
+  shown drawn CsnbmgnFirst r none inside =
+      ap (λ (key : ClearKey). code_segment_fields key (code_rule r) (first_chain zero_block) (bytes_in r (codes "text"))) (field_key r (codes "key") (first_none CsnbmgnFirst r none))
+  shown drawn CsnbmgnMiddle r none inside =
+      ap (λ (key : ClearKey). code_segment_fields key (code_rule r) (chain_in r) (bytes_in r (codes "text"))) (field_key r (codes "key") (first_none CsnbmgnMiddle r none))
+  shown drawn CsnbmgnLast r none inside =
+      ap (λ (key : ClearKey). last_code_fields key (code_rule r) (chain_in r) (mac_length_named (value_of r (codes "length"))) (bytes_in r (codes "text"))) (field_key r (codes "key") (first_none CsnbmgnLast r none))
+  shown drawn Csnbmvr r none inside =
       ap (λ (key : ClearKey). let fs : List Field = Text (codes "match") (yes_or_no (is_code (mac_rule_named (value_of r (codes "rule"))) key (bytes_in r (codes "text")) (bytes_in r (codes "mac")))) ∷ [] in fs)
-      (field_key r (codes "key") (first_none csnbmvr r none))
-  shown drawn csnbmvr_first r none inside =
-      ap (λ (key : ClearKey). code_segment_fields key (code_rule r) (first_chain zero_block) (bytes_in r (codes "text"))) (field_key r (codes "key") (first_none csnbmvr_first r none))
-  shown drawn csnbmvr_middle r none inside =
-      ap (λ (key : ClearKey). code_segment_fields key (code_rule r) (chain_in r) (bytes_in r (codes "text"))) (field_key r (codes "key") (first_none csnbmvr_middle r none))
-  shown drawn csnbmvr_last r none inside =
-      ap (λ (key : ClearKey). last_match_fields key (code_rule r) (chain_in r) (bytes_in r (codes "mac")) (bytes_in r (codes "text"))) (field_key r (codes "key") (first_none csnbmvr_last r none))
-  shown drawn csnbkyt r none inside =
-      ap (λ (key : ClearKey). let fs : List Field = Hex (codes "value") (test_value key) ∷ [] in fs) (field_key r (codes "key") (first_none csnbkyt r none))
-  shown drawn csnbcki r none inside = delivered_same _ (label_named (value_of r (codes "to"))) _ _ _ _ inside refl
-  shown drawn csnbkgn_op r none inside = delivered_same _ (label_named (value_of r (codes "to"))) _ _ _ _ inside refl
-  shown drawn csnbkgn_pair r none inside =
+      (field_key r (codes "key") (first_none Csnbmvr r none))
+  shown drawn CsnbmvrFirst r none inside =
+      ap (λ (key : ClearKey). code_segment_fields key (code_rule r) (first_chain zero_block) (bytes_in r (codes "text"))) (field_key r (codes "key") (first_none CsnbmvrFirst r none))
+  shown drawn CsnbmvrMiddle r none inside =
+      ap (λ (key : ClearKey). code_segment_fields key (code_rule r) (chain_in r) (bytes_in r (codes "text"))) (field_key r (codes "key") (first_none CsnbmvrMiddle r none))
+  shown drawn CsnbmvrLast r none inside =
+      ap (λ (key : ClearKey). last_match_fields key (code_rule r) (chain_in r) (bytes_in r (codes "mac")) (bytes_in r (codes "text"))) (field_key r (codes "key") (first_none CsnbmvrLast r none))
+  shown drawn Csnbkyt r none inside =
+      ap (λ (key : ClearKey). let fs : List Field = Hex (codes "value") (test_value key) ∷ [] in fs) (field_key r (codes "key") (first_none Csnbkyt r none))
+  shown drawn Csnbcki r none inside = delivered_same _ (label_named (value_of r (codes "to"))) _ _ _ _ inside refl
+  shown drawn CsnbkgnOp r none inside = delivered_same _ (label_named (value_of r (codes "to"))) _ _ _ _ inside refl
+  shown drawn CsnbkgnPair r none inside =
       delivered_same _ (label_named (value_of r (codes "to"))) _ _ _ _ inside
       (ap (λ (two : ClearKey). let fs : List Field = Hex (codes "token2") (external_token two.key (generated_key (type2_of r) (length_in r) drawn)) ∷ [] in fs)
-      (field_key r (codes "transport2") (first_none csnbkgn_pair r none)))
-  shown drawn csnbkgn_out r none inside =
+      (field_key r (codes "transport2") (first_none CsnbkgnPair r none)))
+  shown drawn CsnbkgnOut r none inside =
       ap₂ (λ (one two : ClearKey). let fs : List Field = Hex (codes "token1") (external_token one.key (generated_key (type1_of r) (length_in r) drawn)) ∷ Hex (codes "token2") (external_token two.key (generated_key (type2_of r) (length_in r) drawn)) ∷ [] in fs)
-      (field_key r (codes "transport1") (first_none csnbkgn_out r none)) (field_key r (codes "transport2") (second_none csnbkgn_out r none))
-  shown drawn csnbkim r none inside = delivered_same _ (label_named (value_of r (codes "to"))) _ _ _ _ inside refl
-  shown drawn csnbkex r none inside =
+      (field_key r (codes "transport1") (first_none CsnbkgnOut r none)) (field_key r (codes "transport2") (second_none CsnbkgnOut r none))
+  shown drawn Csnbkim r none inside = delivered_same _ (label_named (value_of r (codes "to"))) _ _ _ _ inside refl
+  shown drawn Csnbkex r none inside =
       ap₂ (λ (key transport : ClearKey). let fs : List Field = Hex (codes "token") (external_token transport.key key) ∷ [] in fs)
-      (field_key r (codes "key") (first_none csnbkex r none)) (field_key r (codes "transport") (second_none csnbkex r none))
-  shown drawn csnbpex r none inside = delivered_same _ (label_named (value_of r (codes "to"))) _ _ _ _ inside refl
-  shown drawn csnbktc r none inside = cc (first_none csnbktc r none)
-  shown drawn csnbkpi_first r none inside = delivered_same _ (label_named (value_of r (codes "to"))) _ _ _ _ inside refl
-  shown drawn csnbkpi_middle r none inside = delivered_same _ (label_named (value_of r (codes "to"))) _ _ _ _ inside refl
-  shown drawn csnbktr r none inside =
+      (field_key r (codes "key") (first_none Csnbkex r none)) (field_key r (codes "transport") (second_none Csnbkex r none))
+  shown drawn Csnbpex r none inside = delivered_same _ (label_named (value_of r (codes "to"))) _ _ _ _ inside refl
+  shown drawn Csnbktc r none inside = cc (first_none Csnbktc r none)
+  shown drawn CsnbkpiFirst r none inside = delivered_same _ (label_named (value_of r (codes "to"))) _ _ _ _ inside refl
+  shown drawn CsnbkpiMiddle r none inside = delivered_same _ (label_named (value_of r (codes "to"))) _ _ _ _ inside refl
+  shown drawn Csnbktr r none inside =
       ap₂ (λ (one two : ClearKey). let fs : List Field = Hex (codes "token") (external_token two.key (imported one (bytes_in r (codes "token")))) ∷ [] in fs)
-      (field_key r (codes "transport1") (second_none csnbktr r none)) (field_key r (codes "transport2") (third_none csnbktr r none))
-  shown drawn csnbkrr r none inside = cc inside
-  shown drawn csnbmkp_part r none inside =
+      (field_key r (codes "transport1") (second_none Csnbktr r none)) (field_key r (codes "transport2") (third_none Csnbktr r none))
+  shown drawn Csnbkrr r none inside = cc inside
+  shown drawn CsnbmkpPart r none inside =
       part_cases
       (λ (a : Action). fields_after other (Become (after_action a (bytes_in r (codes "part")) m) s.labels)
       ≡ fields_after s (Become (after_action a (bytes_in r (codes "part")) s.registers) s.labels))
@@ -351,8 +353,8 @@ stay_inside s m drawn r same uses compares = reply_same s m same drawn r uses (�
 
 no_master_key : (name : RequestName) (r : Request) → compares_patterns name ≡ true
     → (any_internal_token (listed (operands_of name r)) || shows_internal name (value_of r (codes "to"))) ≡ false
-no_master_key csnbmkp_set r is = refl
-no_master_key reencipher_ahead r is = refl
+no_master_key CsnbmkpSet r is = refl
+no_master_key ReencipherAhead r is = refl
 no_master_key _ r is = cc is
 
 pub compare_patterns : (s : State) (m : Masters) (drawn : List ℕ) (r : Request) → AreAsFull m s.registers → CompareAlike m s.registers → compares_patterns r.name ≡ true

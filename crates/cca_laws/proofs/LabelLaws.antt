@@ -11,10 +11,12 @@ use Rattle.key_records.specs.Turning.{aged}
 use Rattle.key_tokens.specs.Denotes.{ClearKey, Denoted}
 use Rattle.key_tokens.specs.declared.key_token.Age.TheVariants.{Old}
 use Rattle.script_buffers.specs.Replies.{Field}
-use Rattle.verb_script.specs.Grammar.{Request, RequestName, csnbcki, csnbkgn_op, csnbkgn_pair, csnbkim, csnbpex, csnbkpi_first, csnbkpi_middle, csnbkrc, csnbmkp_part, csnbmkp_clear, csnbmkp_set, reencipher, reencipher_ahead, reencipher_drop, value_of}
+use Rattle.verb_script.specs.Grammar.{Request, value_of}
+use Rattle.verb_script.specs.declared.rows.RequestName.{RequestName}
+use Rattle.verb_script.specs.declared.rows.RequestName.TheVariants.{Csnbcki, CsnbkgnOp, CsnbkgnPair, Csnbkim, Csnbpex, CsnbkpiFirst, CsnbkpiMiddle, Csnbkrc, CsnbmkpPart, CsnbmkpClear, CsnbmkpSet, Reencipher, ReencipherAhead, ReencipherDrop}
 use Rattle.verb_script.specs.Named.{label_named}
 use Rattle.verb_rules.specs.Keys.{keys_of}
-use Rattle.cca_machine.specs.Act.{Effect, Show, Become, DefineRole, RemoveRole, Create, Write, Delete, Reencipher, delivered_with, effect, state_after as after_effect, or_act, performed, written_in, deleted_in}
+use Rattle.cca_machine.specs.Act.{Effect, Show, Become, DefineRole, RemoveRole, Create, Write, Delete, ChangeLabels, delivered_with, effect, state_after as after_effect, or_act, performed, written_in, deleted_in}
 use Rattle.cca_machine.specs.Keys.{cell_with, key_of_label, what_at, what_in}
 use Rattle.cca_machine.specs.Operands.{listed, operands_of}
 use Rattle.cca_machine.specs.Session.{state_after}
@@ -40,7 +42,7 @@ module _ (s : State) (label : List ℕ) where
   -- the effect goes through no labels
   abbrev pub IsStill : Effect → Type 0
   IsStill (Become m labels) = labels ≡ s.labels
-  IsStill (Reencipher a) = ⊥
+  IsStill (ChangeLabels a) = ⊥
   IsStill _ = ⊤
 
   created_alike : (other : List ℕ) → other ≢ label → Alike label Same s.labels (after_effect s (Create other)).labels
@@ -74,7 +76,7 @@ module _ (s : State) (label : List ℕ) where
   whole_alike (Create other) elsewhere still = created_alike other elsewhere
   whole_alike (Write other key fields) elsewhere still = written_alike other elsewhere key fields
   whole_alike (Delete other) elsewhere still = deleted_alike other elsewhere
-  whole_alike (Reencipher a) elsewhere still = absurd still
+  whole_alike (ChangeLabels a) elsewhere still = absurd still
   whole_alike (Show fields) elsewhere still = alike_itself label s.labels
   whole_alike (DefineRole name points) elsewhere still = alike_itself label s.labels
   whole_alike (RemoveRole name) elsewhere still = alike_itself label s.labels
@@ -88,7 +90,7 @@ module _ (s : State) (label : List ℕ) where
     where
       all_same : Alike label SameClear s.labels s.labels
       all_same = as_clear label s.labels s.labels (alike_itself label s.labels)
-  clear_alike name r (Reencipher a) fits elsewhere = alike_further label a s.labels 1024
+  clear_alike name r (ChangeLabels a) fits elsewhere = alike_further label a s.labels 1024
   clear_alike name r (Create other) fits elsewhere = as_clear label s.labels _ (created_alike other elsewhere)
   clear_alike name r (Write other key fields) fits elsewhere = as_clear label s.labels _ (written_alike other elsewhere key fields)
   clear_alike name r (Delete other) fits elsewhere = as_clear label s.labels _ (deleted_alike other elsewhere)
@@ -111,7 +113,7 @@ module _ (s : State) (label : List ℕ) where
   held_elsewhere cell name r held spared _ fits = tt
 
   -- of a label that isn't held, and isn't created
-  pub free_elsewhere : (name : RequestName) (r : Request) → cell_with s label ≡ None → (name ≡ csnbkrc → value_of r (codes "label") ≢ label)
+  pub free_elsewhere : (name : RequestName) (r : Request) → cell_with s label ≡ None → (name ≡ Csnbkrc → value_of r (codes "label") ≢ label)
       → (e : Effect) → Fits s name r e → IsElsewhere e
   free_elsewhere name r free apart (Create other) fits = λ same. apart fits.verb (sym fits.named ∙ same)
   free_elsewhere name r free apart (Write other key fields) fits = λ n is same. none_some n (sym free ∙ (ap (λ l. cell_with s l) (sym same) ∙ is))
@@ -150,19 +152,19 @@ still_delivery s l field None key fields = tt
 still_delivery s l field (Some label) key fields = tt
 
 still_one : (s : State) (drawn l : List ℕ) (name : RequestName) (r : Request) → changes_each name ≡ false → IsStill s l (effect s drawn name r)
-still_one s drawn l csnbcki r keeps = still_delivery s l _ (label_named (value_of r (codes "to"))) _ _
-still_one s drawn l csnbkgn_op r keeps = still_delivery s l _ (label_named (value_of r (codes "to"))) _ _
-still_one s drawn l csnbkgn_pair r keeps = still_delivery s l _ (label_named (value_of r (codes "to"))) _ _
-still_one s drawn l csnbkim r keeps = still_delivery s l _ (label_named (value_of r (codes "to"))) _ _
-still_one s drawn l csnbpex r keeps = still_delivery s l _ (label_named (value_of r (codes "to"))) _ _
-still_one s drawn l csnbkpi_first r keeps = still_delivery s l _ (label_named (value_of r (codes "to"))) _ _
-still_one s drawn l csnbkpi_middle r keeps = still_delivery s l _ (label_named (value_of r (codes "to"))) _ _
-still_one s drawn l csnbmkp_part r keeps = refl
-still_one s drawn l csnbmkp_clear r keeps = refl
-still_one s drawn l csnbmkp_set r keeps = cc keeps
-still_one s drawn l reencipher r keeps = cc keeps
-still_one s drawn l reencipher_ahead r keeps = cc keeps
-still_one s drawn l reencipher_drop r keeps = cc keeps
+still_one s drawn l Csnbcki r keeps = still_delivery s l _ (label_named (value_of r (codes "to"))) _ _
+still_one s drawn l CsnbkgnOp r keeps = still_delivery s l _ (label_named (value_of r (codes "to"))) _ _
+still_one s drawn l CsnbkgnPair r keeps = still_delivery s l _ (label_named (value_of r (codes "to"))) _ _
+still_one s drawn l Csnbkim r keeps = still_delivery s l _ (label_named (value_of r (codes "to"))) _ _
+still_one s drawn l Csnbpex r keeps = still_delivery s l _ (label_named (value_of r (codes "to"))) _ _
+still_one s drawn l CsnbkpiFirst r keeps = still_delivery s l _ (label_named (value_of r (codes "to"))) _ _
+still_one s drawn l CsnbkpiMiddle r keeps = still_delivery s l _ (label_named (value_of r (codes "to"))) _ _
+still_one s drawn l CsnbmkpPart r keeps = refl
+still_one s drawn l CsnbmkpClear r keeps = refl
+still_one s drawn l CsnbmkpSet r keeps = cc keeps
+still_one s drawn l Reencipher r keeps = cc keeps
+still_one s drawn l ReencipherAhead r keeps = cc keeps
+still_one s drawn l ReencipherDrop r keeps = cc keeps
 still_one s drawn l _ r keeps = tt
 
 pub by_performed : (P : State → Type 0) (s : State) (drawn : List ℕ) (r : Request) → P s → (verdict s drawn r ≡ None → P (after s drawn r)) → P (performed s drawn r).state
@@ -194,7 +196,7 @@ module _ (s : State) (drawn label : List ℕ) (r : Request) where
       (whole_alike s label (effect s drawn r.name r) (held_elsewhere s label cell r.name r held spared (effect s drawn r.name r) fits)
       (still_one s drawn label r.name r keeps)))
 
-  pub stays_free : cell_with s label ≡ None → (r.name ≡ csnbkrc → value_of r (codes "label") ≢ label) → cell_with (performed s drawn r).state label ≡ None
+  pub stays_free : cell_with s label ≡ None → (r.name ≡ Csnbkrc → value_of r (codes "label") ≢ label) → cell_with (performed s drawn r).state label ≡ None
   stays_free free apart =
       by_performed (λ (t : State). cell_with t label ≡ None) s drawn r free
       (λ permits. let fits = effect_fits s drawn r permits in
@@ -223,8 +225,8 @@ kept_over s random label lines key each is =
 
 aging : (s : State) (drawn label : List ℕ) (name : RequestName) (r : Request) → changes_ages name ≡ true → Fits s name r (effect s drawn name r)
     → Alike label SameClear s.labels (after_effect s (effect s drawn name r)).labels
-aging s drawn label csnbmkp_set r is fits = clear_alike s label csnbmkp_set r (effect s drawn csnbmkp_set r) fits tt
-aging s drawn label reencipher r is fits = clear_alike s label reencipher r (effect s drawn reencipher r) fits tt
+aging s drawn label CsnbmkpSet r is fits = clear_alike s label CsnbmkpSet r (effect s drawn CsnbmkpSet r) fits tt
+aging s drawn label Reencipher r is fits = clear_alike s label Reencipher r (effect s drawn Reencipher r) fits tt
 aging s drawn label _ r is fits = cc is
 
 pub aging_keeps : (s : State) (drawn label : List ℕ) (r : Request) → changes_ages r.name ≡ true
@@ -252,12 +254,12 @@ old_there label (e ∷ es) key is old = by_test (has_name label (entry_label e))
     by_test true here later = ap (λ b. b || any_old es) (old_here e here)
     by_test false there later = ap (λ b. is_old_entry e || b) (later there old) ∙ or_true (is_old_entry e)
 
-set_passes : (s : State) (r : Request) (name : RequestName) → name ≡ csnbmkp_set → first_refusal (verb_questions s name r) ≡ None → any_old s.labels ≡ false
+set_passes : (s : State) (r : Request) (name : RequestName) → name ≡ CsnbmkpSet → first_refusal (verb_questions s name r) ≡ None → any_old s.labels ≡ false
 set_passes s r name is none =
-    let at : first_refusal (verb_questions s csnbmkp_set r) ≡ None = subst (λ (n : RequestName). first_refusal (verb_questions s n r) ≡ None) is none in
+    let at : first_refusal (verb_questions s CsnbmkpSet r) ≡ None = subst (λ (n : RequestName). first_refusal (verb_questions s n r) ≡ None) is none in
     third_passed _ _ (any_old s.labels) 25 26 27 (refused_none _ _ _ at).0
 
-pub set_waits : (s : State) (random label : List ℕ) (r : Request) (key : Denoted) → key_of_label s label ≡ Some key → key.age ≡ Old → r.name ≡ csnbmkp_set
+pub set_waits : (s : State) (random label : List ℕ) (r : Request) (key : Denoted) → key_of_label s label ≡ Some key → key.age ≡ Old → r.name ≡ CsnbmkpSet
     → IsSome (verdict s random r)
 unfolding cell_of
 set_waits s random label r key is old set = by_verdict (verdict s random r) refl

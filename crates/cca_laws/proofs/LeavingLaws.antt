@@ -38,7 +38,9 @@ use Rattle.text_segments.specs.declared.modes.Mode.{Mode}
 use Rattle.text_segments.specs.declared.modes.Mode.TheVariants.{Encipher, Decipher, Mac}
 use Rattle.verb_rules.specs.Keys.{keys_of, master_key, master_under, sealed_token, token_for}
 use Rattle.verb_rules.specs.declared.needs.Need.{Need}
-use Rattle.verb_script.specs.Grammar.{Request, RequestName, csnbktp, csnbenc, csnbenc_first, csnbenc_middle, csnbenc_last, csnbdec, csnbdec_first, csnbdec_middle, csnbdec_last, csnbmgn, csnbmgn_first, csnbmgn_middle, csnbmgn_last, csnbmvr, csnbmvr_first, csnbmvr_middle, csnbmvr_last, csnbkyt, csnbcki, csnbkgn_op, csnbkgn_pair, csnbkgn_out, csnbkim, csnbkex, csnbpex, csnbktc, csnbkpi_first, csnbkpi_middle, csnbktr, csnbrng, csnbkrc, csnbkrw, csnbkrr, csnbkrd, csnbkrl, csnbmkp_part, csnbmkp_clear, csnbmkp_set, csuaaci_define, csuaaci_remove, reencipher, reencipher_ahead, reencipher_drop, value_of}
+use Rattle.verb_script.specs.Grammar.{Request, value_of}
+use Rattle.verb_script.specs.declared.rows.RequestName.{RequestName}
+use Rattle.verb_script.specs.declared.rows.RequestName.TheVariants.{Csnbktp, Csnbenc, CsnbencFirst, CsnbencMiddle, CsnbencLast, Csnbdec, CsnbdecFirst, CsnbdecMiddle, CsnbdecLast, Csnbmgn, CsnbmgnFirst, CsnbmgnMiddle, CsnbmgnLast, Csnbmvr, CsnbmvrFirst, CsnbmvrMiddle, CsnbmvrLast, Csnbkyt, Csnbcki, CsnbkgnOp, CsnbkgnPair, CsnbkgnOut, Csnbkim, Csnbkex, Csnbpex, Csnbktc, CsnbkpiFirst, CsnbkpiMiddle, Csnbktr, Csnbrng, Csnbkrc, Csnbkrw, Csnbkrr, Csnbkrd, Csnbkrl, CsnbmkpPart, CsnbmkpClear, CsnbmkpSet, CsuaaciDefine, CsuaaciRemove, Reencipher, ReencipherAhead, ReencipherDrop}
 use Rattle.verb_script.specs.Named.{label_named}
 use Rattle.cca_machine.specs.Act.{delivered_with, effect, fields_after, new_name, or_act, or_empty, performed, state_after, token_out, yes_or_no}
 use Rattle.cca_machine.specs.Actions.{part_action}
@@ -289,116 +291,116 @@ module _ (s : State) (image drawn : List ℕ) (stands : IsStoreOf s image) (r : 
   new_field word = Text (codes "new") word ∷ []
 
   leaves : (name : RequestName) → Passes name → LeavesBy name
-  leaves csnbktp p = refl
-  leaves csnbenc p =
+  leaves Csnbktp p = refl
+  leaves Csnbenc p =
       shows s image stands r (λ (key : ClearKey). Hex (codes "text") (enciphered_text key (bytes_in r (codes "iv")) (pad_in r) (text_in r)) ∷ [])
       (text_given s image stands r (Data ∷ Cipher ∷ []) (Some use_of.Encipher) p.0)
-  leaves csnbenc_first p = shows_segment Encipher (first_chain (bytes_in r (codes "iv"))) (text_given s image stands r (Data ∷ Cipher ∷ []) (Some use_of.Encipher) p.0)
-  leaves csnbenc_middle p = shows_segment Encipher (chain_in r) (text_given s image stands r (Data ∷ Cipher ∷ []) (Some use_of.Encipher) p.0)
-  leaves csnbenc_last p =
+  leaves CsnbencFirst p = shows_segment Encipher (first_chain (bytes_in r (codes "iv"))) (text_given s image stands r (Data ∷ Cipher ∷ []) (Some use_of.Encipher) p.0)
+  leaves CsnbencMiddle p = shows_segment Encipher (chain_in r) (text_given s image stands r (Data ∷ Cipher ∷ []) (Some use_of.Encipher) p.0)
+  leaves CsnbencLast p =
       shows_some s image stands r (λ (key : ClearKey). last_text key Encipher (chain_in r) (pad_in r) (text_in r)) (text_given s image stands r (Data ∷ Cipher ∷ []) (Some use_of.Encipher) p.0) refl
-  leaves csnbdec p =
+  leaves Csnbdec p =
       shows_some s image stands r (λ (key : ClearKey). deciphered_text key (bytes_in r (codes "iv")) (pad_in r) (text_in r)) (text_given s image stands r (Data ∷ Cipher ∷ []) (Some use_of.Decipher) p.0)
       (plain s image stands r (bytes_in r (codes "iv")) (text_in r) (pad_in r) (text_size r) p.1.0)
-  leaves csnbdec_first p = shows_segment Decipher (first_chain (bytes_in r (codes "iv"))) (text_given s image stands r (Data ∷ Cipher ∷ []) (Some use_of.Decipher) p.0)
-  leaves csnbdec_middle p = shows_segment Decipher (chain_in r) (text_given s image stands r (Data ∷ Cipher ∷ []) (Some use_of.Decipher) p.0)
-  leaves csnbdec_last p =
+  leaves CsnbdecFirst p = shows_segment Decipher (first_chain (bytes_in r (codes "iv"))) (text_given s image stands r (Data ∷ Cipher ∷ []) (Some use_of.Decipher) p.0)
+  leaves CsnbdecMiddle p = shows_segment Decipher (chain_in r) (text_given s image stands r (Data ∷ Cipher ∷ []) (Some use_of.Decipher) p.0)
+  leaves CsnbdecLast p =
       shows_some s image stands r (λ (key : ClearKey). last_text key Decipher (chain_in r) (pad_in r) (text_in r)) (text_given s image stands r (Data ∷ Cipher ∷ []) (Some use_of.Decipher) p.0)
       (last_plain s image stands r Decipher p.1.0)
-  leaves csnbmgn p =
+  leaves Csnbmgn p =
       shows s image stands r (λ (key : ClearKey). mac_fields (code_of (code_rule r) key (text_in r))) (text_given s image stands r (Data ∷ MacClass ∷ []) (Some use_of.MacGenerate) p.0)
-  leaves csnbmgn_first p = shows_chain (first_chain zero_block) (text_given s image stands r (Data ∷ MacClass ∷ []) (Some use_of.MacGenerate) p.0)
-  leaves csnbmgn_middle p = shows_chain (chain_in r) (text_given s image stands r (Data ∷ MacClass ∷ []) (Some use_of.MacGenerate) p.0)
-  leaves csnbmgn_last p =
+  leaves CsnbmgnFirst p = shows_chain (first_chain zero_block) (text_given s image stands r (Data ∷ MacClass ∷ []) (Some use_of.MacGenerate) p.0)
+  leaves CsnbmgnMiddle p = shows_chain (chain_in r) (text_given s image stands r (Data ∷ MacClass ∷ []) (Some use_of.MacGenerate) p.0)
+  leaves CsnbmgnLast p =
       shows s image stands r (λ (key : ClearKey). mac_fields (last_code key (code_rule r) (chain_in r) (text_in r))) (text_given s image stands r (Data ∷ MacClass ∷ []) (Some use_of.MacGenerate) p.0)
-  leaves csnbmvr p =
+  leaves Csnbmvr p =
       shows s image stands r (λ (key : ClearKey). match_fields (code_of (code_rule r) key (text_in r))) (text_given s image stands r (Data ∷ MacClass ∷ []) (Some use_of.MacVerify) p.0)
-  leaves csnbmvr_first p = shows_chain (first_chain zero_block) (text_given s image stands r (Data ∷ MacClass ∷ []) (Some use_of.MacVerify) p.0)
-  leaves csnbmvr_middle p = shows_chain (chain_in r) (text_given s image stands r (Data ∷ MacClass ∷ []) (Some use_of.MacVerify) p.0)
-  leaves csnbmvr_last p =
+  leaves CsnbmvrFirst p = shows_chain (first_chain zero_block) (text_given s image stands r (Data ∷ MacClass ∷ []) (Some use_of.MacVerify) p.0)
+  leaves CsnbmvrMiddle p = shows_chain (chain_in r) (text_given s image stands r (Data ∷ MacClass ∷ []) (Some use_of.MacVerify) p.0)
+  leaves CsnbmvrLast p =
       shows s image stands r (λ (key : ClearKey). match_fields (last_code key (code_rule r) (chain_in r) (text_in r))) (text_given s image stands r (Data ∷ MacClass ∷ []) (Some use_of.MacVerify) p.0)
-  leaves csnbkyt p = shows s image stands r (λ (key : ClearKey). Hex (codes "value") (test_value key) ∷ []) (text_given s image stands r five_classes None p.0)
-  leaves csnbcki p = delivers s to_label (codes "token") (imported_key (bytes_in r (codes "clear"))).clear [] p.1.1
-  leaves csnbrng p = refl
-  leaves csnbkgn_op p = delivers s to_label (codes "token1") (generated r drawn (codes "type1")) [] p.1.1
-  leaves csnbkgn_pair p =
+  leaves Csnbkyt p = shows s image stands r (λ (key : ClearKey). Hex (codes "value") (test_value key) ∷ []) (text_given s image stands r five_classes None p.0)
+  leaves Csnbcki p = delivers s to_label (codes "token") (imported_key (bytes_in r (codes "clear"))).clear [] p.1.1
+  leaves Csnbrng p = refl
+  leaves CsnbkgnOp p = delivers s to_label (codes "token1") (generated r drawn (codes "type1")) [] p.1.1
+  leaves CsnbkgnPair p =
       of_key s image stands r (codes "transport2")
-      (λ (two : ClearKey). Delivers s to_label (codes "token1") (generated r drawn (codes "type1")) (second_token two) (fields_of csnbkgn_pair))
-      (given s image stands r (codes "transport2") _ (behind csnbkgn_pair r) (second_asked (pair_form_named (value_of r (codes "form")))) p.0)
-      (subst (λ (token : List ℕ). Delivers s to_label (codes "token1") (generated r drawn (codes "type1")) (Hex (codes "token2") token ∷ []) (fields_of csnbkgn_pair))
+      (λ (two : ClearKey). Delivers s to_label (codes "token1") (generated r drawn (codes "type1")) (second_token two) (fields_of CsnbkgnPair))
+      (given s image stands r (codes "transport2") _ (behind CsnbkgnPair r) (second_asked (pair_form_named (value_of r (codes "form")))) p.0)
+      (subst (λ (token : List ℕ). Delivers s to_label (codes "token1") (generated r drawn (codes "type1")) (Hex (codes "token2") token ∷ []) (fields_of CsnbkgnPair))
       (external_is (key_in_field s r (codes "transport2")) (generated r drawn (codes "type2")))
       (delivers s to_label (codes "token1") (generated r drawn (codes "type1"))
       (Hex (codes "token2") (token_out s r (codes "transport2") (generated r drawn (codes "type2"))) ∷ []) p.1.1))
-  leaves csnbkgn_out p =
-      of_key s image stands r (codes "transport1") (λ (one : ClearKey). OfKey s r (codes "transport2") (λ two. fields_of csnbkgn_out ≡ both_tokens one two))
-      (given s image stands r (codes "transport1") _ (behind csnbkgn_out r) (first_asked (out_form_named (value_of r (codes "form")))) p.0)
-      (of_key s image stands r (codes "transport2") (λ (two : ClearKey). fields_of csnbkgn_out ≡ both_tokens (key_in_field s r (codes "transport1")) two)
-      (given s image stands r (codes "transport2") _ ((operands_of csnbkgn_out r).third ∷ []) (second_asked (out_form_named (value_of r (codes "form"))))
-      (first_passes s (operands_of csnbkgn_out r).first (behind csnbkgn_out r) p.0).1)
+  leaves CsnbkgnOut p =
+      of_key s image stands r (codes "transport1") (λ (one : ClearKey). OfKey s r (codes "transport2") (λ two. fields_of CsnbkgnOut ≡ both_tokens one two))
+      (given s image stands r (codes "transport1") _ (behind CsnbkgnOut r) (first_asked (out_form_named (value_of r (codes "form")))) p.0)
+      (of_key s image stands r (codes "transport2") (λ (two : ClearKey). fields_of CsnbkgnOut ≡ both_tokens (key_in_field s r (codes "transport1")) two)
+      (given s image stands r (codes "transport2") _ ((operands_of CsnbkgnOut r).third ∷ []) (second_asked (out_form_named (value_of r (codes "form"))))
+      (first_passes s (operands_of CsnbkgnOut r).first (behind CsnbkgnOut r) p.0).1)
       (ap₂ (λ (one two : List ℕ). let fs : List Field = Hex (codes "token1") one ∷ Hex (codes "token2") two ∷ [] in fs)
       (external_is (key_in_field s r (codes "transport1")) (generated r drawn (codes "type1")))
       (external_is (key_in_field s r (codes "transport2")) (generated r drawn (codes "type2")))))
-  leaves csnbkim p =
-      let rest = first_passes s (operands_of csnbkim r).first (behind csnbkim r) p.0 in
-      of_key s image stands r (codes "transport") (λ (transport : ClearKey). OfExternal r transport (λ key. DeliversTo s r (codes "token") key (fields_of csnbkim)))
-      (given s image stands r (codes "transport") (transport_key Importer use_of.Transport) ((operands_of csnbkim r).third ∷ []) refl rest.1)
-      (of_external s image stands r (key_in_field s r (codes "transport")) (λ (key : ClearKey). DeliversTo s r (codes "token") key (fields_of csnbkim)) rest.0
+  leaves Csnbkim p =
+      let rest = first_passes s (operands_of Csnbkim r).first (behind Csnbkim r) p.0 in
+      of_key s image stands r (codes "transport") (λ (transport : ClearKey). OfExternal r transport (λ key. DeliversTo s r (codes "token") key (fields_of Csnbkim)))
+      (given s image stands r (codes "transport") (transport_key Importer use_of.Transport) ((operands_of Csnbkim r).third ∷ []) refl rest.1)
+      (of_external s image stands r (key_in_field s r (codes "transport")) (λ (key : ClearKey). DeliversTo s r (codes "token") key (fields_of Csnbkim)) rest.0
       (delivers s to_label (codes "token") (imported (key_in_field s r (codes "transport")) token_bytes) [] p.1.1))
-  leaves csnbkex p =
-      of_key s image stands r (codes "key") (λ (key : ClearKey). OfKey s r (codes "transport") (λ transport. fields_of csnbkex ≡ one_token (under_transport transport key)))
-      (given s image stands r (codes "key") exported_key (behind csnbkex r) refl p.0)
-      (of_key s image stands r (codes "transport") (λ (transport : ClearKey). fields_of csnbkex ≡ one_token (under_transport transport (key_in_field s r (codes "key"))))
-      (given s image stands r (codes "transport") (transport_key Exporter use_of.Transport) ((operands_of csnbkex r).third ∷ []) refl
-      (first_passes s (operands_of csnbkex r).first (behind csnbkex r) p.0).1)
+  leaves Csnbkex p =
+      of_key s image stands r (codes "key") (λ (key : ClearKey). OfKey s r (codes "transport") (λ transport. fields_of Csnbkex ≡ one_token (under_transport transport key)))
+      (given s image stands r (codes "key") exported_key (behind Csnbkex r) refl p.0)
+      (of_key s image stands r (codes "transport") (λ (transport : ClearKey). fields_of Csnbkex ≡ one_token (under_transport transport (key_in_field s r (codes "key"))))
+      (given s image stands r (codes "transport") (transport_key Exporter use_of.Transport) ((operands_of Csnbkex r).third ∷ []) refl
+      (first_passes s (operands_of Csnbkex r).first (behind Csnbkex r) p.0).1)
       (ap one_token (external_is (key_in_field s r (codes "transport")) (key_in_field s r (codes "key")))))
-  leaves csnbpex p =
-      of_key s image stands r (codes "key") (λ (key : ClearKey). DeliversTo s r (codes "token") (closed_key key) (fields_of csnbpex))
-      (given s image stands r (codes "key") (internal_key five_classes None) (behind csnbpex r) refl p.0)
+  leaves Csnbpex p =
+      of_key s image stands r (codes "key") (λ (key : ClearKey). DeliversTo s r (codes "token") (closed_key key) (fields_of Csnbpex))
+      (given s image stands r (codes "key") (internal_key five_classes None) (behind Csnbpex r) refl p.0)
       (delivers s to_label (codes "token") (closed_key (key_in_field s r (codes "key"))) [] p.1.1)
-  leaves csnbktc p =
+  leaves Csnbktc p =
       let target = target_named (value_of r (codes "rule")) in
       let master = changed_is s target (or_no_key (key_of_token s token_bytes)).clear p.1.1 p.1.0 in
-      of_token s image stands r (λ (key : ClearKey). (master : List ℕ) × (IsTarget s (target_named (value_of r (codes "rule"))) master × (fields_of csnbktc ≡ one_token (under_master master key))))
-      (token_given s any_key token_bytes refl (first_passes s (operands_of csnbktc r).first (behind csnbktc r) p.0).0)
+      of_token s image stands r (λ (key : ClearKey). (master : List ℕ) × (IsTarget s (target_named (value_of r (codes "rule"))) master × (fields_of Csnbktc ≡ one_token (under_master master key))))
+      (token_given s any_key token_bytes refl (first_passes s (operands_of Csnbktc r).first (behind Csnbktc r) p.0).0)
       (master.0, (master.1.0, ap one_token master.1.1))
-  leaves csnbkpi_first p = delivers s to_label (codes "token") (first_key (type_in (value_of r (codes "type"))) (bytes_in r (codes "part"))) [] p.1.1
-  leaves csnbkpi_middle p =
+  leaves CsnbkpiFirst p = delivers s to_label (codes "token") (first_key (type_in (value_of r (codes "type"))) (bytes_in r (codes "part"))) [] p.1.1
+  leaves CsnbkpiMiddle p =
       of_key s image stands r (codes "key")
-      (λ (key : ClearKey). DeliversTo s r (codes "token") (combined_key (is_last_part (value_of r (codes "rule"))) key (bytes_in r (codes "part"))) (fields_of csnbkpi_middle))
-      (given s image stands r (codes "key") part_key (behind csnbkpi_middle r) refl p.0)
+      (λ (key : ClearKey). DeliversTo s r (codes "token") (combined_key (is_last_part (value_of r (codes "rule"))) key (bytes_in r (codes "part"))) (fields_of CsnbkpiMiddle))
+      (given s image stands r (codes "key") part_key (behind CsnbkpiMiddle r) refl p.0)
       (delivers s to_label (codes "token") (combined_key (is_last_part (value_of r (codes "rule"))) (key_in_field s r (codes "key")) (bytes_in r (codes "part"))) [] p.1.1)
-  leaves csnbktr p =
-      let rest = first_passes s (operands_of csnbktr r).first (behind csnbktr r) p.0 in
-      let last = first_passes s (operands_of csnbktr r).second ((operands_of csnbktr r).third ∷ []) rest.1 in
+  leaves Csnbktr p =
+      let rest = first_passes s (operands_of Csnbktr r).first (behind Csnbktr r) p.0 in
+      let last = first_passes s (operands_of Csnbktr r).second ((operands_of Csnbktr r).third ∷ []) rest.1 in
       of_key s image stands r (codes "transport1")
-      (λ (one : ClearKey). OfKey s r (codes "transport2") (λ two. OfExternal r one (λ key. fields_of csnbktr ≡ one_token (under_transport two key))))
-      (given s image stands r (codes "transport1") (transport_key Importer use_of.Translate) ((operands_of csnbktr r).third ∷ []) refl rest.1)
+      (λ (one : ClearKey). OfKey s r (codes "transport2") (λ two. OfExternal r one (λ key. fields_of Csnbktr ≡ one_token (under_transport two key))))
+      (given s image stands r (codes "transport1") (transport_key Importer use_of.Translate) ((operands_of Csnbktr r).third ∷ []) refl rest.1)
       (of_key s image stands r (codes "transport2")
-      (λ (two : ClearKey). OfExternal r (key_in_field s r (codes "transport1")) (λ key. fields_of csnbktr ≡ one_token (under_transport two key)))
+      (λ (two : ClearKey). OfExternal r (key_in_field s r (codes "transport1")) (λ key. fields_of Csnbktr ≡ one_token (under_transport two key)))
       (given s image stands r (codes "transport2") (transport_key Exporter use_of.Translate) [] refl last.1)
       (of_external s image stands r (key_in_field s r (codes "transport1"))
-      (λ (key : ClearKey). fields_of csnbktr ≡ one_token (under_transport (key_in_field s r (codes "transport2")) key)) rest.0
+      (λ (key : ClearKey). fields_of Csnbktr ≡ one_token (under_transport (key_in_field s r (codes "transport2")) key)) rest.0
       (ap one_token (external_is (key_in_field s r (codes "transport2")) (imported (key_in_field s r (codes "transport1")) token_bytes)))))
-  leaves csnbkrc p = refl
-  leaves csnbkrw p = refl
-  leaves csnbkrr p =
+  leaves Csnbkrc p = refl
+  leaves Csnbkrw p = refl
+  leaves Csnbkrr p =
       let key = some_of (key_of_label s (value_of r (codes "label")))
-      (label_given s (value_of r (codes "label")) (first_passes s (operands_of csnbkrr r).first (behind csnbkrr r) p.0).0) in
+      (label_given s (value_of r (codes "label")) (first_passes s (operands_of Csnbkrr r).first (behind Csnbkrr r) p.0).0) in
       let has = label_token s image (value_of r (codes "label")) key.0 stands key.1 in
       let master = full_register (register_of s.registers key.0.age) (full s key.0 has) in
       let token = ap one_token (ap (λ (o : Option Denoted). token_for (keys_of s.registers) (or_no_key o)) key.1 ∙ record_is s.registers master.0 key.0 master.1) in
       (key.0, (key.1, (vector_passes s key.0 has, (master.0, (register_is s key.0.age master.0 master.1, token)))))
-  leaves csnbkrd p = refl
-  leaves csnbkrl p = refl
-  leaves csnbmkp_part p =
+  leaves Csnbkrd p = refl
+  leaves Csnbkrl p = refl
+  leaves CsnbmkpPart p =
       ap new_field (new_word (after_action (part_action (value_of r (codes "action"))) (bytes_in r (codes "part")) s.registers).coming)
-  leaves csnbmkp_clear p = refl
-  leaves csnbmkp_set p = refl
-  leaves csuaaci_define p = refl
-  leaves csuaaci_remove p = refl
-  leaves reencipher p = refl
-  leaves reencipher_ahead p = refl
-  leaves reencipher_drop p = refl
+  leaves CsnbmkpClear p = refl
+  leaves CsnbmkpSet p = refl
+  leaves CsuaaciDefine p = refl
+  leaves CsuaaciRemove p = refl
+  leaves Reencipher p = refl
+  leaves ReencipherAhead p = refl
+  leaves ReencipherDrop p = refl
 
 pub leaves_sealed : (s : State) (image drawn : List ℕ) (r : Request) → IsStoreOf s image → verdict s drawn r ≡ None → LeavesSealed s drawn r (performed s drawn r)
 unfolding performed

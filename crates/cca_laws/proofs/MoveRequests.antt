@@ -9,7 +9,8 @@ use Rattle.hex.proofs.HexLemmas.{decode_of-encode_lower, decode_of-ok, length-en
 use Rattle.held_names.proofs.NameLemmas.{label_short, role_short}
 use Rattle.held_names.specs.Names.{IsLabel, IsRoleName, is_label}
 use Rattle.script_buffers.specs.Reading.{line_limit}
-use Rattle.verb_script.specs.Grammar.{Request, Spells, csnbkim, csnbkrc}
+use Rattle.verb_script.specs.Grammar.{Request, Spells}
+use Rattle.verb_script.specs.declared.rows.RequestName.TheVariants.{Csnbkim, Csnbkrc}
 use Rattle.verb_script.specs.Requests.{request_of}
 use Rattle.verb_script.specs.Values.{is_hex}
 use Rattle.verb_script.proofs.GrammarLaws.{request_of-complete}
@@ -22,12 +23,12 @@ use Rattle.cca_laws.specs.KeyInParts.{by_label}
 
 -- CSNBKRC of a label
 abbrev pub create_request : Move → List ℕ → Request
-create_request w label = record { name = csnbkrc; values = w.role_there ∷ label ∷ [] }
+create_request w label = record { name = Csnbkrc; values = w.role_there ∷ label ∷ [] }
 
 -- CSNBKIM of a token into the record of a label
 abbrev pub import_request : Move → List ℕ → List ℕ → Request
 import_request w token label = record {
-  name = csnbkim;
+  name = Csnbkim;
   values = w.role_there ∷ encode_lower token ∷ by_label w.transport_there ∷ by_label label ∷ [];
 }
 

@@ -38,7 +38,8 @@ use Rattle.store_move.specs.Exports.{export_checks}
 use Rattle.verb_rules.specs.KeyChecks.{is_under_none, key_checks, read_checks, use_checks}
 use Rattle.verb_rules.specs.declared.needs.Need.{Need}
 use Rattle.verb_rules.proofs.NeedLemmas.{every_has}
-use Rattle.verb_script.specs.Grammar.{Request, csnbkim, csnbkrc}
+use Rattle.verb_script.specs.Grammar.{Request}
+use Rattle.verb_script.specs.declared.rows.RequestName.TheVariants.{Csnbkim, Csnbkrc}
 use Rattle.verb_script.specs.Named.{label_named}
 use Rattle.verb_script.specs.Requests.{request_of}
 use Rattle.verb_script.specs.Values.{hex_value}
@@ -176,7 +177,7 @@ module _ (w : Move) (t u : State) (random label : List ℕ) (role : IsRoleName w
   create_general : first_failing (general_checks u creation) ≡ None
   create_general =
       let may : includes points (point (codes "KRC")) ≡ true = includes_part points receiving_points (point (codes "KRC")) includes_all refl in
-      general_passes (held_points u creation) points (needed_points csnbkrc creation) false role_held may refl
+      general_passes (held_points u creation) points (needed_points Csnbkrc creation) false role_held may refl
 
   create_operands : operands_verdict u creation ≡ None
   create_operands = rw (well) refl
@@ -223,11 +224,11 @@ module _ (w : Move) (t u : State) (random label : List ℕ) (role : IsRoleName w
 
     import_general : first_failing (general_checks u importing) ≡ None
     import_general =
-        let may_too : includes points (needed_points csnbkim importing) ≡ true =
+        let may_too : includes points (needed_points Csnbkim importing) ≡ true =
         ap (λ (o : Option (List ℕ)). includes points (bit_or (point (codes "KIM")) (points_for o))) (named label well)
         ∙ includes_part points receiving_points (bit_or (point (codes "KIM")) (point (codes "KRW"))) includes_all refl in
         let some : is_none u.registers.current ≡ false = ap (λ (m : Masters). is_none m.current) ready.registers ∙ full in
-        general_passes (held_points u importing) points (needed_points csnbkim importing) (is_none u.registers.current) role_held may_too some
+        general_passes (held_points u importing) points (needed_points Csnbkim importing) (is_none u.registers.current) role_held may_too some
 
     token_none : first_failing (key_checks external_key (registers_of u.registers) (bytes_in importing (codes "token"))) ≡ None
     token_none =

@@ -29,7 +29,9 @@ use Rattle.script_buffers.specs.Replies.{Field, Hex, Text, Done}
 use Rattle.verb_rules.specs.Keys.{keys_of, token_for}
 use Rattle.verb_rules.specs.KeyChecks.{key_checks, use_checks}
 use Rattle.verb_rules.specs.declared.needs.Need.{Need}
-use Rattle.verb_script.specs.Grammar.{Request, RequestName, csnbenc, csnbenc_first, csnbenc_middle, csnbenc_last, csnbdec, csnbdec_first, csnbdec_middle, csnbdec_last, csnbmgn, csnbmgn_first, csnbmgn_middle, csnbmgn_last, csnbmvr, csnbmvr_first, csnbmvr_middle, csnbmvr_last, csnbkyt, csnbcki, csnbkgn_op, csnbkgn_pair, csnbkgn_out, csnbkim, csnbkex, csnbpex, csnbktc, csnbkpi_first, csnbkpi_middle, csnbktr, csnbkrc, csnbkrr, csnbkrl, csnbmkp_part, csnbmkp_clear, csnbmkp_set, reencipher, reencipher_ahead, reencipher_drop, value_of}
+use Rattle.verb_script.specs.Grammar.{Request, value_of}
+use Rattle.verb_script.specs.declared.rows.RequestName.{RequestName}
+use Rattle.verb_script.specs.declared.rows.RequestName.TheVariants.{Csnbenc, CsnbencFirst, CsnbencMiddle, CsnbencLast, Csnbdec, CsnbdecFirst, CsnbdecMiddle, CsnbdecLast, Csnbmgn, CsnbmgnFirst, CsnbmgnMiddle, CsnbmgnLast, Csnbmvr, CsnbmvrFirst, CsnbmvrMiddle, CsnbmvrLast, Csnbkyt, Csnbcki, CsnbkgnOp, CsnbkgnPair, CsnbkgnOut, Csnbkim, Csnbkex, Csnbpex, Csnbktc, CsnbkpiFirst, CsnbkpiMiddle, Csnbktr, Csnbkrc, Csnbkrr, Csnbkrl, CsnbmkpPart, CsnbmkpClear, CsnbmkpSet, Reencipher, ReencipherAhead, ReencipherDrop}
 use Rattle.verb_script.specs.Named.{label_named}
 use Rattle.verb_script.specs.Values.{hex_value}
 use Rattle.cca_machine.specs.Act.{Become, code_segment_fields, last_code_fields, last_match_fields, last_text_fields, segment_fields, delivered_with, effect, fields_after, or_act, or_empty, performed, type1_of, type2_of, yes_or_no}
@@ -201,37 +203,37 @@ module _ (s : State) (new : NewRegister) (others : List (Option Entry)) (same_st
 
   pub verb_same : (name : RequestName) (r : Request) → is_of_store name ≡ false → SameNamed s with_others (listed (operands_of name r))
       → verb_questions with_others name r ≡ verb_questions s name r
-  verb_same csnbdec r elsewhere known =
+  verb_same Csnbdec r elsewhere known =
       ap (λ (key : ClearKey). decipher_questions (text_size r) key (bytes_in r (codes "iv")) (pad_named (value_of r (codes "pad"))) (bytes_in r (codes "text")))
       (field_same r (codes "key") known.0)
-  verb_same csnbenc_last r elsewhere known =
+  verb_same CsnbencLast r elsewhere known =
       ap (λ (key : ClearKey). chain_questions (bytes_in r (codes "chain")) (last_text_questions mode.Encipher key (chain_in r) (pad_named (value_of r (codes "pad"))) (text_size r) (bytes_in r (codes "text")))) (field_same r (codes "key") known.0)
-  verb_same csnbdec_last r elsewhere known =
+  verb_same CsnbdecLast r elsewhere known =
       ap (λ (key : ClearKey). chain_questions (bytes_in r (codes "chain")) (last_text_questions mode.Decipher key (chain_in r) (pad_named (value_of r (codes "pad"))) (text_size r) (bytes_in r (codes "text")))) (field_same r (codes "key") known.0)
-  verb_same csnbmgn r elsewhere known =
+  verb_same Csnbmgn r elsewhere known =
       ap (λ (key : ClearKey). mac_questions (mac_rule_named (value_of r (codes "rule"))) (text_size r) key) (field_same r (codes "key") known.0)
-  verb_same csnbmgn_first r elsewhere known =
+  verb_same CsnbmgnFirst r elsewhere known =
       ap (λ (key : ClearKey). code_key_questions (code_rule r) key (segment_questions (text_size r))) (field_same r (codes "key") known.0)
-  verb_same csnbmgn_middle r elsewhere known =
+  verb_same CsnbmgnMiddle r elsewhere known =
       ap (λ (key : ClearKey). code_key_questions (code_rule r) key (middle_questions r)) (field_same r (codes "key") known.0)
-  verb_same csnbmgn_last r elsewhere known =
+  verb_same CsnbmgnLast r elsewhere known =
       ap (λ (key : ClearKey). code_key_questions (code_rule r) key (chain_questions (bytes_in r (codes "chain")) (last_segment_questions (mode.Mac (code_rule r)) padding.None (chain_in r) (text_size r)))) (field_same r (codes "key") known.0)
-  verb_same csnbmvr r elsewhere known =
+  verb_same Csnbmvr r elsewhere known =
       ap (λ (key : ClearKey). mac_questions (mac_rule_named (value_of r (codes "rule"))) (text_size r) key) (field_same r (codes "key") known.0)
-  verb_same csnbmvr_first r elsewhere known =
+  verb_same CsnbmvrFirst r elsewhere known =
       ap (λ (key : ClearKey). code_key_questions (code_rule r) key (segment_questions (text_size r))) (field_same r (codes "key") known.0)
-  verb_same csnbmvr_middle r elsewhere known =
+  verb_same CsnbmvrMiddle r elsewhere known =
       ap (λ (key : ClearKey). code_key_questions (code_rule r) key (middle_questions r)) (field_same r (codes "key") known.0)
-  verb_same csnbmvr_last r elsewhere known =
+  verb_same CsnbmvrLast r elsewhere known =
       ap (λ (key : ClearKey). code_key_questions (code_rule r) key (chain_questions (bytes_in r (codes "chain")) (last_segment_questions (mode.Mac (code_rule r)) padding.None (chain_in r) (text_size r)))) (field_same r (codes "key") known.0)
-  verb_same csnbkpi_middle r elsewhere known =
+  verb_same CsnbkpiMiddle r elsewhere known =
       ap (λ (key : ClearKey). further_part_questions key.vector (part_size r)) (field_same r (codes "key") known.0)
-  verb_same csnbktc r elsewhere known = change_same (target_named (value_of r (codes "rule")))
-  verb_same csnbmkp_part r elsewhere known = part_same (value_of r (codes "action"))
-  verb_same csnbkrc r elsewhere known = cc elsewhere
-  verb_same csnbmkp_clear r elsewhere known = cc elsewhere
-  verb_same csnbmkp_set r elsewhere known = cc elsewhere
-  verb_same reencipher_ahead r elsewhere known = cc elsewhere
+  verb_same Csnbktc r elsewhere known = change_same (target_named (value_of r (codes "rule")))
+  verb_same CsnbmkpPart r elsewhere known = part_same (value_of r (codes "action"))
+  verb_same Csnbkrc r elsewhere known = cc elsewhere
+  verb_same CsnbmkpClear r elsewhere known = cc elsewhere
+  verb_same CsnbmkpSet r elsewhere known = cc elsewhere
+  verb_same ReencipherAhead r elsewhere known = cc elsewhere
   verb_same _ r elsewhere known = refl
 
   pub verdict_same : (drawn : List ℕ) (r : Request) → SameNamed s with_others (listed (operands r)) → verb_questions with_others r.name r ≡ verb_questions s r.name r
@@ -252,7 +254,7 @@ module _ (s : State) (new : NewRegister) (others : List (Option Entry)) (same_st
 
   -- a token is changed to the new master key only where the new register is the same
   abbrev pub SameIfNew : RequestName → Request → Type 0
-  SameIfNew csnbktc r = is_new (target_named (value_of r (codes "rule"))) ≡ true → new ≡ s.registers.coming
+  SameIfNew Csnbktc r = is_new (target_named (value_of r (codes "rule"))) ≡ true → new ≡ s.registers.coming
   SameIfNew _ r = ⊤
 
   changed_same : (t : Target) (clear : ClearKey) → (is_new t ≡ true → new ≡ s.registers.coming) → changed_token with_others.registers t clear ≡ changed_token s.registers t clear
@@ -261,92 +263,92 @@ module _ (s : State) (new : NewRegister) (others : List (Option Entry)) (same_st
 
   pub fields_same : (drawn : List ℕ) (name : RequestName) (r : Request) → is_of_store name ≡ false → SameNamed s with_others (listed (operands_of name r)) → SameIfNew name r
       → fields_of with_others drawn name r ≡ fields_of s drawn name r
-  fields_same drawn csnbenc r elsewhere known keys =
+  fields_same drawn Csnbenc r elsewhere known keys =
       ap (λ (key : ClearKey). let fs : List Field = Hex (codes "text") (enciphered_text key (bytes_in r (codes "iv")) (pad_named (value_of r (codes "pad"))) (bytes_in r (codes "text"))) ∷ [] in fs)
       (field_same r (codes "key") known.0)
-  fields_same drawn csnbdec r elsewhere known keys =
+  fields_same drawn Csnbdec r elsewhere known keys =
       ap (λ (key : ClearKey). let fs : List Field = Hex (codes "text") (or_empty (deciphered_text key (bytes_in r (codes "iv")) (pad_named (value_of r (codes "pad"))) (bytes_in r (codes "text")))) ∷ [] in fs)
       (field_same r (codes "key") known.0)
-  fields_same drawn csnbmgn r elsewhere known keys =
+  fields_same drawn Csnbmgn r elsewhere known keys =
       ap (λ (key : ClearKey). let fs : List Field = Hex (codes "mac") (take (mac_length_named (value_of r (codes "length"))) (code_of (mac_rule_named (value_of r (codes "rule"))) key (bytes_in r (codes "text")))) ∷ [] in fs)
       (field_same r (codes "key") known.0)
-  fields_same drawn csnbmvr r elsewhere known keys =
+  fields_same drawn Csnbmvr r elsewhere known keys =
       ap (λ (key : ClearKey). let fs : List Field = Text (codes "match") (yes_or_no (is_code (mac_rule_named (value_of r (codes "rule"))) key (bytes_in r (codes "text")) (bytes_in r (codes "mac")))) ∷ [] in fs)
       (field_same r (codes "key") known.0)
-  fields_same drawn csnbenc_first r elsewhere known keys =
+  fields_same drawn CsnbencFirst r elsewhere known keys =
       ap (λ (key : ClearKey). segment_fields key mode.Encipher (first_chain (bytes_in r (codes "iv"))) (bytes_in r (codes "text"))) (field_same r (codes "key") known.0)
-  fields_same drawn csnbenc_middle r elsewhere known keys =
+  fields_same drawn CsnbencMiddle r elsewhere known keys =
       ap (λ (key : ClearKey). segment_fields key mode.Encipher (chain_in r) (bytes_in r (codes "text"))) (field_same r (codes "key") known.0)
-  fields_same drawn csnbenc_last r elsewhere known keys =
+  fields_same drawn CsnbencLast r elsewhere known keys =
       ap (λ (key : ClearKey). last_text_fields key mode.Encipher (chain_in r) (pad_named (value_of r (codes "pad"))) (bytes_in r (codes "text"))) (field_same r (codes "key") known.0)
-  fields_same drawn csnbdec_first r elsewhere known keys =
+  fields_same drawn CsnbdecFirst r elsewhere known keys =
       ap (λ (key : ClearKey). segment_fields key mode.Decipher (first_chain (bytes_in r (codes "iv"))) (bytes_in r (codes "text"))) (field_same r (codes "key") known.0)
-  fields_same drawn csnbdec_middle r elsewhere known keys =
+  fields_same drawn CsnbdecMiddle r elsewhere known keys =
       ap (λ (key : ClearKey). segment_fields key mode.Decipher (chain_in r) (bytes_in r (codes "text"))) (field_same r (codes "key") known.0)
-  fields_same drawn csnbdec_last r elsewhere known keys =
+  fields_same drawn CsnbdecLast r elsewhere known keys =
       ap (λ (key : ClearKey). last_text_fields key mode.Decipher (chain_in r) (pad_named (value_of r (codes "pad"))) (bytes_in r (codes "text"))) (field_same r (codes "key") known.0)
-  fields_same drawn csnbmgn_first r elsewhere known keys =
+  fields_same drawn CsnbmgnFirst r elsewhere known keys =
       ap (λ (key : ClearKey). code_segment_fields key (code_rule r) (first_chain zero_block) (bytes_in r (codes "text"))) (field_same r (codes "key") known.0)
-  fields_same drawn csnbmgn_middle r elsewhere known keys =
+  fields_same drawn CsnbmgnMiddle r elsewhere known keys =
       ap (λ (key : ClearKey). code_segment_fields key (code_rule r) (chain_in r) (bytes_in r (codes "text"))) (field_same r (codes "key") known.0)
-  fields_same drawn csnbmvr_first r elsewhere known keys =
+  fields_same drawn CsnbmvrFirst r elsewhere known keys =
       ap (λ (key : ClearKey). code_segment_fields key (code_rule r) (first_chain zero_block) (bytes_in r (codes "text"))) (field_same r (codes "key") known.0)
-  fields_same drawn csnbmvr_middle r elsewhere known keys =
+  fields_same drawn CsnbmvrMiddle r elsewhere known keys =
       ap (λ (key : ClearKey). code_segment_fields key (code_rule r) (chain_in r) (bytes_in r (codes "text"))) (field_same r (codes "key") known.0)
-  fields_same drawn csnbmgn_last r elsewhere known keys =
+  fields_same drawn CsnbmgnLast r elsewhere known keys =
       ap (λ (key : ClearKey). last_code_fields key (code_rule r) (chain_in r) (mac_length_named (value_of r (codes "length"))) (bytes_in r (codes "text"))) (field_same r (codes "key") known.0)
-  fields_same drawn csnbmvr_last r elsewhere known keys =
+  fields_same drawn CsnbmvrLast r elsewhere known keys =
       ap (λ (key : ClearKey). last_match_fields key (code_rule r) (chain_in r) (bytes_in r (codes "mac")) (bytes_in r (codes "text"))) (field_same r (codes "key") known.0)
-  fields_same drawn csnbkpi_first r elsewhere known keys = delivered_same _ (label_named (value_of r (codes "to"))) _ _
-  fields_same drawn csnbkpi_middle r elsewhere known keys =
+  fields_same drawn CsnbkpiFirst r elsewhere known keys = delivered_same _ (label_named (value_of r (codes "to"))) _ _
+  fields_same drawn CsnbkpiMiddle r elsewhere known keys =
       delivered_same _ (label_named (value_of r (codes "to"))) _ _
       ∙ ap (λ (key : ClearKey). fields_after s (delivered_with s (codes "token") (label_named (value_of r (codes "to"))) (as_current (combined_key (is_last_part (value_of r (codes "rule"))) key (part_in r))) []))
       (field_same r (codes "key") known.0)
-  fields_same drawn csnbktr r elsewhere known keys =
+  fields_same drawn Csnbktr r elsewhere known keys =
       ap₂ (λ (one two : ClearKey). let fs : List Field = Hex (codes "token") (external_token two.key (imported one (bytes_in r (codes "token")))) ∷ [] in fs)
       (field_same r (codes "transport1") known.1.0) (field_same r (codes "transport2") known.1.1.0)
-  fields_same drawn csnbkyt r elsewhere known keys =
+  fields_same drawn Csnbkyt r elsewhere known keys =
       ap (λ (key : ClearKey). let fs : List Field = Hex (codes "value") (test_value key) ∷ [] in fs) (field_same r (codes "key") known.0)
-  fields_same drawn csnbcki r elsewhere known keys = delivered_same _ (label_named (value_of r (codes "to"))) _ _
-  fields_same drawn csnbkgn_op r elsewhere known keys = delivered_same _ (label_named (value_of r (codes "to"))) _ _
-  fields_same drawn csnbkgn_pair r elsewhere known keys =
+  fields_same drawn Csnbcki r elsewhere known keys = delivered_same _ (label_named (value_of r (codes "to"))) _ _
+  fields_same drawn CsnbkgnOp r elsewhere known keys = delivered_same _ (label_named (value_of r (codes "to"))) _ _
+  fields_same drawn CsnbkgnPair r elsewhere known keys =
       delivered_same _ (label_named (value_of r (codes "to"))) _ _
       ∙ ap (λ (key : ClearKey). fields_after s (delivered_with s (codes "token1") (label_named (value_of r (codes "to"))) (as_current (generated_key (type1_of r) (length_in r) drawn))
       (Hex (codes "token2") (external_token key.key (generated_key (type2_of r) (length_in r) drawn)) ∷ [])))
       (field_same r (codes "transport2") known.0)
-  fields_same drawn csnbkgn_out r elsewhere known keys =
+  fields_same drawn CsnbkgnOut r elsewhere known keys =
       ap₂ (λ (one two : ClearKey). let fs : List Field = Hex (codes "token1") (external_token one.key (generated_key (type1_of r) (length_in r) drawn)) ∷ Hex (codes "token2") (external_token two.key (generated_key (type2_of r) (length_in r) drawn)) ∷ [] in fs)
       (field_same r (codes "transport1") known.0) (field_same r (codes "transport2") known.1.0)
-  fields_same drawn csnbkim r elsewhere known keys =
+  fields_same drawn Csnbkim r elsewhere known keys =
       delivered_same _ (label_named (value_of r (codes "to"))) _ _
       ∙ ap (λ (key : ClearKey). fields_after s (delivered_with s (codes "token") (label_named (value_of r (codes "to"))) (as_current (imported key (bytes_in r (codes "token")))) []))
       (field_same r (codes "transport") known.1.0)
-  fields_same drawn csnbkex r elsewhere known keys =
+  fields_same drawn Csnbkex r elsewhere known keys =
       ap₂ (λ (key transport : ClearKey). let fs : List Field = Hex (codes "token") (external_token transport.key key) ∷ [] in fs)
       (field_same r (codes "key") known.0) (field_same r (codes "transport") known.1.0)
-  fields_same drawn csnbpex r elsewhere known keys =
+  fields_same drawn Csnbpex r elsewhere known keys =
       delivered_same _ (label_named (value_of r (codes "to"))) _ _
       ∙ ap (λ (key : ClearKey). fields_after s (delivered_with s (codes "token") (label_named (value_of r (codes "to"))) (as_current (closed_key key)) []))
       (field_same r (codes "key") known.0)
-  fields_same drawn csnbktc r elsewhere known keys =
+  fields_same drawn Csnbktc r elsewhere known keys =
       ap (λ (token : List ℕ). let fs : List Field = Hex (codes "token") token ∷ [] in fs)
       (ap (λ (key : Option Denoted). changed_token with_others.registers (target_named (value_of r (codes "rule"))) (or_no_key key).clear)
       (denoted_same (bytes_in r (codes "token")))
       ∙ changed_same (target_named (value_of r (codes "rule"))) (or_no_key (key_of_token s (bytes_in r (codes "token")))).clear keys)
-  fields_same drawn csnbmkp_part r elsewhere known keys =
+  fields_same drawn CsnbmkpPart r elsewhere known keys =
       part_cases
       (λ (a : Action). fields_after with_others (Become (after_action a (bytes_in r (codes "part")) with_others.registers) others)
       ≡ fields_after s (Become (after_action a (bytes_in r (codes "part")) s.registers) s.labels))
       refl refl refl (value_of r (codes "action"))
-  fields_same drawn csnbkrr r elsewhere known keys =
+  fields_same drawn Csnbkrr r elsewhere known keys =
       ap (λ (token : List ℕ). let fs : List Field = Hex (codes "token") token ∷ [] in fs)
       (token_same (or_no_key (key_of_label with_others (value_of r (codes "label"))))
       ∙ ap (λ (key : Option Denoted). token_for (keys_of s.registers) (or_no_key key)) (known.0 (value_of r (codes "label")) refl).key)
-  fields_same drawn csnbkrl r elsewhere known keys = cc elsewhere
-  fields_same drawn csnbmkp_set r elsewhere known keys = cc elsewhere
-  fields_same drawn reencipher r elsewhere known keys = cc elsewhere
-  fields_same drawn reencipher_ahead r elsewhere known keys = cc elsewhere
-  fields_same drawn reencipher_drop r elsewhere known keys = cc elsewhere
+  fields_same drawn Csnbkrl r elsewhere known keys = cc elsewhere
+  fields_same drawn CsnbmkpSet r elsewhere known keys = cc elsewhere
+  fields_same drawn Reencipher r elsewhere known keys = cc elsewhere
+  fields_same drawn ReencipherAhead r elsewhere known keys = cc elsewhere
+  fields_same drawn ReencipherDrop r elsewhere known keys = cc elsewhere
   fields_same drawn _ r elsewhere known keys = refl
 
   -- ---- the reply
@@ -367,7 +369,7 @@ module _ (s : State) (new : NewRegister) (others : List (Option Entry)) (same_st
 -- ---- other labels
 
 not_new : (s : State) (others : List (Option Entry)) (name : RequestName) (r : Request) → SameIfNew s s.registers.coming others refl name r
-not_new s others csnbktc r = λ is. refl
+not_new s others Csnbktc r = λ is. refl
 not_new s others _ r = tt
 
 pub same_reply : (s : State) (others : List (Option Entry)) (drawn : List ℕ) (r : Request) → is_of_store r.name ≡ false
@@ -380,7 +382,7 @@ abbrev with_labels : State → List (Option Entry) → State
 with_labels s others = record s { labels = others }
 
 -- CLEAR looks at no label, but for whether one is ahead
-pub same_clear : (s : State) (others : List (Option Entry)) (drawn : List ℕ) (r : Request) → r.name ≡ csnbmkp_clear → any_ahead_entry others ≡ any_ahead_entry s.labels
+pub same_clear : (s : State) (others : List (Option Entry)) (drawn : List ℕ) (r : Request) → r.name ≡ CsnbmkpClear → any_ahead_entry others ≡ any_ahead_entry s.labels
     → (performed (record s { labels = others }) drawn r).reply ≡ (performed s drawn r).reply
 same_clear s others drawn r is ahead =
     replies_same s s.registers.coming others refl drawn r
@@ -391,10 +393,10 @@ same_clear s others drawn r is ahead =
     no_label : (label : List ℕ) → None ≡ Some label → SameLabel s (with_labels s others) label
     no_label label is = cc is
 
-    names_none : SameNamed s (with_labels s others) (listed (operands_of csnbmkp_clear r))
+    names_none : SameNamed s (with_labels s others) (listed (operands_of CsnbmkpClear r))
     names_none = (no_label, (no_label, (no_label, tt)))
 
-    clear_verb : verb_questions (with_labels s others) csnbmkp_clear r ≡ verb_questions s csnbmkp_clear r
+    clear_verb : verb_questions (with_labels s others) CsnbmkpClear r ≡ verb_questions s CsnbmkpClear r
     clear_verb = ap (λ (b : Bool). let qs : List Questions = questions (codes "-") (check 25 false ∷ check 26 false ∷ check 33 b ∷ []) ∷ [] in qs) ahead
 
 -- ---- another new register
@@ -421,13 +423,13 @@ module _ (s : State) (one other : NewRegister) (same : state_of other ≡ state_
 
   new_verb : (name : RequestName) (r : Request) → asks_by_name name (value_of r (codes "rule")) ≡ false → SameNamed first second (listed (operands_of name r))
       → verb_questions second name r ≡ verb_questions first name r
-  new_verb csnbkrc r asks known = refl
-  new_verb csnbkrl r asks known = refl
-  new_verb reencipher r asks known = refl
-  new_verb reencipher_ahead r asks known = cc asks
-  new_verb reencipher_drop r asks known = refl
-  new_verb csnbmkp_clear r asks known = refl
-  new_verb csnbmkp_set r asks known = cc asks
+  new_verb Csnbkrc r asks known = refl
+  new_verb Csnbkrl r asks known = refl
+  new_verb Reencipher r asks known = refl
+  new_verb ReencipherAhead r asks known = cc asks
+  new_verb ReencipherDrop r asks known = refl
+  new_verb CsnbmkpClear r asks known = refl
+  new_verb CsnbmkpSet r asks known = cc asks
   new_verb name r asks known = verb_same first other s.labels same name r refl known
 
   never_new : (t : Target) → is_new t ≡ false → is_new t ≡ true → other ≡ one
@@ -435,15 +437,15 @@ module _ (s : State) (one other : NewRegister) (same : state_of other ≡ state_
 
   new_fields : (drawn : List ℕ) (name : RequestName) (r : Request) → asks_by_name name (value_of r (codes "rule")) ≡ false
       → SameNamed first second (listed (operands_of name r)) → fields_after second (effect second drawn name r) ≡ fields_after first (effect first drawn name r)
-  new_fields drawn csnbkrc r asks known = refl
-  new_fields drawn csnbkrl r asks known = refl
-  new_fields drawn reencipher r asks known = refl
-  new_fields drawn reencipher_ahead r asks known = cc asks
-  new_fields drawn reencipher_drop r asks known = refl
-  new_fields drawn csnbmkp_clear r asks known = refl
-  new_fields drawn csnbmkp_set r asks known = cc asks
-  new_fields drawn csnbktc r asks known =
-      fields_same first other s.labels same drawn csnbktc r refl known (never_new (target_named (value_of r (codes "rule"))) asks)
+  new_fields drawn Csnbkrc r asks known = refl
+  new_fields drawn Csnbkrl r asks known = refl
+  new_fields drawn Reencipher r asks known = refl
+  new_fields drawn ReencipherAhead r asks known = cc asks
+  new_fields drawn ReencipherDrop r asks known = refl
+  new_fields drawn CsnbmkpClear r asks known = refl
+  new_fields drawn CsnbmkpSet r asks known = cc asks
+  new_fields drawn Csnbktc r asks known =
+      fields_same first other s.labels same drawn Csnbktc r refl known (never_new (target_named (value_of r (codes "rule"))) asks)
   new_fields drawn name r asks known = fields_same first other s.labels same drawn name r refl known tt
 
   pub new_reply : (drawn : List ℕ) (r : Request) → asks_new_key r ≡ false → (performed second drawn r).reply ≡ (performed first drawn r).reply
@@ -478,23 +480,23 @@ module _ (s : State) (m : Masters) (same : is_none m.current ≡ is_none s.regis
 
     text_operands : (name : RequestName) → uses_text_key name ≡ true
         → operand_questions with_masters (listed (operands_of name r)) ≡ operand_questions s (listed (operands_of name r))
-    text_operands csnbenc uses = ap key_questions_by (labelled_checks (internal_key (Data ∷ Cipher ∷ []) (Some Encipher)) (value_of r (codes "key")) label named)
-    text_operands csnbdec uses = ap key_questions_by (labelled_checks (internal_key (Data ∷ Cipher ∷ []) (Some Decipher)) (value_of r (codes "key")) label named)
-    text_operands csnbmgn uses = ap key_questions_by (labelled_checks (internal_key (Data ∷ Mac ∷ []) (Some MacGenerate)) (value_of r (codes "key")) label named)
-    text_operands csnbmvr uses = ap key_questions_by (labelled_checks (internal_key (Data ∷ Mac ∷ []) (Some MacVerify)) (value_of r (codes "key")) label named)
-    text_operands csnbenc_first uses = ap key_questions_by (labelled_checks (internal_key (Data ∷ Cipher ∷ []) (Some Encipher)) (value_of r (codes "key")) label named)
-    text_operands csnbenc_middle uses = ap key_questions_by (labelled_checks (internal_key (Data ∷ Cipher ∷ []) (Some Encipher)) (value_of r (codes "key")) label named)
-    text_operands csnbenc_last uses = ap key_questions_by (labelled_checks (internal_key (Data ∷ Cipher ∷ []) (Some Encipher)) (value_of r (codes "key")) label named)
-    text_operands csnbdec_first uses = ap key_questions_by (labelled_checks (internal_key (Data ∷ Cipher ∷ []) (Some Decipher)) (value_of r (codes "key")) label named)
-    text_operands csnbdec_middle uses = ap key_questions_by (labelled_checks (internal_key (Data ∷ Cipher ∷ []) (Some Decipher)) (value_of r (codes "key")) label named)
-    text_operands csnbdec_last uses = ap key_questions_by (labelled_checks (internal_key (Data ∷ Cipher ∷ []) (Some Decipher)) (value_of r (codes "key")) label named)
-    text_operands csnbmgn_first uses = ap key_questions_by (labelled_checks (internal_key (Data ∷ Mac ∷ []) (Some MacGenerate)) (value_of r (codes "key")) label named)
-    text_operands csnbmgn_middle uses = ap key_questions_by (labelled_checks (internal_key (Data ∷ Mac ∷ []) (Some MacGenerate)) (value_of r (codes "key")) label named)
-    text_operands csnbmgn_last uses = ap key_questions_by (labelled_checks (internal_key (Data ∷ Mac ∷ []) (Some MacGenerate)) (value_of r (codes "key")) label named)
-    text_operands csnbmvr_first uses = ap key_questions_by (labelled_checks (internal_key (Data ∷ Mac ∷ []) (Some MacVerify)) (value_of r (codes "key")) label named)
-    text_operands csnbmvr_middle uses = ap key_questions_by (labelled_checks (internal_key (Data ∷ Mac ∷ []) (Some MacVerify)) (value_of r (codes "key")) label named)
-    text_operands csnbmvr_last uses = ap key_questions_by (labelled_checks (internal_key (Data ∷ Mac ∷ []) (Some MacVerify)) (value_of r (codes "key")) label named)
-    text_operands csnbkyt uses = ap key_questions_by (labelled_checks (internal_key five_classes None) (value_of r (codes "key")) label named)
+    text_operands Csnbenc uses = ap key_questions_by (labelled_checks (internal_key (Data ∷ Cipher ∷ []) (Some Encipher)) (value_of r (codes "key")) label named)
+    text_operands Csnbdec uses = ap key_questions_by (labelled_checks (internal_key (Data ∷ Cipher ∷ []) (Some Decipher)) (value_of r (codes "key")) label named)
+    text_operands Csnbmgn uses = ap key_questions_by (labelled_checks (internal_key (Data ∷ Mac ∷ []) (Some MacGenerate)) (value_of r (codes "key")) label named)
+    text_operands Csnbmvr uses = ap key_questions_by (labelled_checks (internal_key (Data ∷ Mac ∷ []) (Some MacVerify)) (value_of r (codes "key")) label named)
+    text_operands CsnbencFirst uses = ap key_questions_by (labelled_checks (internal_key (Data ∷ Cipher ∷ []) (Some Encipher)) (value_of r (codes "key")) label named)
+    text_operands CsnbencMiddle uses = ap key_questions_by (labelled_checks (internal_key (Data ∷ Cipher ∷ []) (Some Encipher)) (value_of r (codes "key")) label named)
+    text_operands CsnbencLast uses = ap key_questions_by (labelled_checks (internal_key (Data ∷ Cipher ∷ []) (Some Encipher)) (value_of r (codes "key")) label named)
+    text_operands CsnbdecFirst uses = ap key_questions_by (labelled_checks (internal_key (Data ∷ Cipher ∷ []) (Some Decipher)) (value_of r (codes "key")) label named)
+    text_operands CsnbdecMiddle uses = ap key_questions_by (labelled_checks (internal_key (Data ∷ Cipher ∷ []) (Some Decipher)) (value_of r (codes "key")) label named)
+    text_operands CsnbdecLast uses = ap key_questions_by (labelled_checks (internal_key (Data ∷ Cipher ∷ []) (Some Decipher)) (value_of r (codes "key")) label named)
+    text_operands CsnbmgnFirst uses = ap key_questions_by (labelled_checks (internal_key (Data ∷ Mac ∷ []) (Some MacGenerate)) (value_of r (codes "key")) label named)
+    text_operands CsnbmgnMiddle uses = ap key_questions_by (labelled_checks (internal_key (Data ∷ Mac ∷ []) (Some MacGenerate)) (value_of r (codes "key")) label named)
+    text_operands CsnbmgnLast uses = ap key_questions_by (labelled_checks (internal_key (Data ∷ Mac ∷ []) (Some MacGenerate)) (value_of r (codes "key")) label named)
+    text_operands CsnbmvrFirst uses = ap key_questions_by (labelled_checks (internal_key (Data ∷ Mac ∷ []) (Some MacVerify)) (value_of r (codes "key")) label named)
+    text_operands CsnbmvrMiddle uses = ap key_questions_by (labelled_checks (internal_key (Data ∷ Mac ∷ []) (Some MacVerify)) (value_of r (codes "key")) label named)
+    text_operands CsnbmvrLast uses = ap key_questions_by (labelled_checks (internal_key (Data ∷ Mac ∷ []) (Some MacVerify)) (value_of r (codes "key")) label named)
+    text_operands Csnbkyt uses = ap key_questions_by (labelled_checks (internal_key five_classes None) (value_of r (codes "key")) label named)
     text_operands _ uses = cc uses
 
     -- what is asked of the last segment of a code
@@ -503,76 +505,76 @@ module _ (s : State) (m : Masters) (same : is_none m.current ≡ is_none s.regis
         code_key_questions (code_rule r) key (chain_questions (bytes_in r (codes "chain")) (last_segment_questions (mode.Mac (code_rule r)) padding.None (chain_in r) (text_size r)))
 
     text_verb : (name : RequestName) → uses_text_key name ≡ true → verb_questions with_masters name r ≡ verb_questions s name r
-    text_verb csnbenc uses = refl
-    text_verb csnbdec uses =
+    text_verb Csnbenc uses = refl
+    text_verb Csnbdec uses =
         ap (λ (key : ClearKey). decipher_questions (text_size r) key (bytes_in r (codes "iv")) (pad_named (value_of r (codes "pad"))) (bytes_in r (codes "text"))) key_is
-    text_verb csnbmgn uses = ap (λ (key : ClearKey). mac_questions (mac_rule_named (value_of r (codes "rule"))) (text_size r) key) key_is
-    text_verb csnbmvr uses = ap (λ (key : ClearKey). mac_questions (mac_rule_named (value_of r (codes "rule"))) (text_size r) key) key_is
-    text_verb csnbenc_first uses = refl
-    text_verb csnbenc_middle uses = refl
-    text_verb csnbenc_last uses =
+    text_verb Csnbmgn uses = ap (λ (key : ClearKey). mac_questions (mac_rule_named (value_of r (codes "rule"))) (text_size r) key) key_is
+    text_verb Csnbmvr uses = ap (λ (key : ClearKey). mac_questions (mac_rule_named (value_of r (codes "rule"))) (text_size r) key) key_is
+    text_verb CsnbencFirst uses = refl
+    text_verb CsnbencMiddle uses = refl
+    text_verb CsnbencLast uses =
         ap (λ (key : ClearKey). chain_questions (bytes_in r (codes "chain")) (last_text_questions mode.Encipher key (chain_in r) (pad_named (value_of r (codes "pad"))) (text_size r) (bytes_in r (codes "text")))) key_is
-    text_verb csnbdec_first uses = refl
-    text_verb csnbdec_middle uses = refl
-    text_verb csnbdec_last uses =
+    text_verb CsnbdecFirst uses = refl
+    text_verb CsnbdecMiddle uses = refl
+    text_verb CsnbdecLast uses =
         ap (λ (key : ClearKey). chain_questions (bytes_in r (codes "chain")) (last_text_questions mode.Decipher key (chain_in r) (pad_named (value_of r (codes "pad"))) (text_size r) (bytes_in r (codes "text")))) key_is
-    text_verb csnbmgn_first uses = ap (λ (key : ClearKey). code_key_questions (code_rule r) key (segment_questions (text_size r))) key_is
-    text_verb csnbmgn_middle uses = ap (λ (key : ClearKey). code_key_questions (code_rule r) key (middle_questions r)) key_is
-    text_verb csnbmgn_last uses = ap last_code_by key_is
-    text_verb csnbmvr_first uses = ap (λ (key : ClearKey). code_key_questions (code_rule r) key (segment_questions (text_size r))) key_is
-    text_verb csnbmvr_middle uses = ap (λ (key : ClearKey). code_key_questions (code_rule r) key (middle_questions r)) key_is
-    text_verb csnbmvr_last uses = ap last_code_by key_is
-    text_verb csnbkyt uses = refl
+    text_verb CsnbmgnFirst uses = ap (λ (key : ClearKey). code_key_questions (code_rule r) key (segment_questions (text_size r))) key_is
+    text_verb CsnbmgnMiddle uses = ap (λ (key : ClearKey). code_key_questions (code_rule r) key (middle_questions r)) key_is
+    text_verb CsnbmgnLast uses = ap last_code_by key_is
+    text_verb CsnbmvrFirst uses = ap (λ (key : ClearKey). code_key_questions (code_rule r) key (segment_questions (text_size r))) key_is
+    text_verb CsnbmvrMiddle uses = ap (λ (key : ClearKey). code_key_questions (code_rule r) key (middle_questions r)) key_is
+    text_verb CsnbmvrLast uses = ap last_code_by key_is
+    text_verb Csnbkyt uses = refl
     text_verb _ uses = cc uses
 
     text_fields : (name : RequestName) → uses_text_key name ≡ true → fields_after with_masters (effect with_masters drawn name r) ≡ fields_after s (effect s drawn name r)
-    text_fields csnbenc uses =
+    text_fields Csnbenc uses =
         ap (λ (key : ClearKey). let fs : List Field = Hex (codes "text") (enciphered_text key (bytes_in r (codes "iv")) (pad_named (value_of r (codes "pad"))) (bytes_in r (codes "text"))) ∷ [] in fs) key_is
-    text_fields csnbdec uses =
+    text_fields Csnbdec uses =
         ap (λ (key : ClearKey). let fs : List Field = Hex (codes "text") (or_empty (deciphered_text key (bytes_in r (codes "iv")) (pad_named (value_of r (codes "pad"))) (bytes_in r (codes "text")))) ∷ [] in fs) key_is
-    text_fields csnbmgn uses =
+    text_fields Csnbmgn uses =
         ap (λ (key : ClearKey). let fs : List Field = Hex (codes "mac") (take (mac_length_named (value_of r (codes "length"))) (code_of (mac_rule_named (value_of r (codes "rule"))) key (bytes_in r (codes "text")))) ∷ [] in fs) key_is
-    text_fields csnbmvr uses =
+    text_fields Csnbmvr uses =
         ap (λ (key : ClearKey). let fs : List Field = Text (codes "match") (yes_or_no (is_code (mac_rule_named (value_of r (codes "rule"))) key (bytes_in r (codes "text")) (bytes_in r (codes "mac")))) ∷ [] in fs) key_is
-    text_fields csnbenc_first uses =
+    text_fields CsnbencFirst uses =
         ap (λ (key : ClearKey). segment_fields key mode.Encipher (first_chain (bytes_in r (codes "iv"))) (bytes_in r (codes "text"))) key_is
-    text_fields csnbenc_middle uses = ap (λ (key : ClearKey). segment_fields key mode.Encipher (chain_in r) (bytes_in r (codes "text"))) key_is
-    text_fields csnbenc_last uses =
+    text_fields CsnbencMiddle uses = ap (λ (key : ClearKey). segment_fields key mode.Encipher (chain_in r) (bytes_in r (codes "text"))) key_is
+    text_fields CsnbencLast uses =
         ap (λ (key : ClearKey). last_text_fields key mode.Encipher (chain_in r) (pad_named (value_of r (codes "pad"))) (bytes_in r (codes "text"))) key_is
-    text_fields csnbdec_first uses =
+    text_fields CsnbdecFirst uses =
         ap (λ (key : ClearKey). segment_fields key mode.Decipher (first_chain (bytes_in r (codes "iv"))) (bytes_in r (codes "text"))) key_is
-    text_fields csnbdec_middle uses = ap (λ (key : ClearKey). segment_fields key mode.Decipher (chain_in r) (bytes_in r (codes "text"))) key_is
-    text_fields csnbdec_last uses =
+    text_fields CsnbdecMiddle uses = ap (λ (key : ClearKey). segment_fields key mode.Decipher (chain_in r) (bytes_in r (codes "text"))) key_is
+    text_fields CsnbdecLast uses =
         ap (λ (key : ClearKey). last_text_fields key mode.Decipher (chain_in r) (pad_named (value_of r (codes "pad"))) (bytes_in r (codes "text"))) key_is
-    text_fields csnbmgn_first uses = ap (λ (key : ClearKey). code_segment_fields key (code_rule r) (first_chain zero_block) (bytes_in r (codes "text"))) key_is
-    text_fields csnbmgn_middle uses = ap (λ (key : ClearKey). code_segment_fields key (code_rule r) (chain_in r) (bytes_in r (codes "text"))) key_is
-    text_fields csnbmvr_first uses = ap (λ (key : ClearKey). code_segment_fields key (code_rule r) (first_chain zero_block) (bytes_in r (codes "text"))) key_is
-    text_fields csnbmvr_middle uses = ap (λ (key : ClearKey). code_segment_fields key (code_rule r) (chain_in r) (bytes_in r (codes "text"))) key_is
-    text_fields csnbmgn_last uses =
+    text_fields CsnbmgnFirst uses = ap (λ (key : ClearKey). code_segment_fields key (code_rule r) (first_chain zero_block) (bytes_in r (codes "text"))) key_is
+    text_fields CsnbmgnMiddle uses = ap (λ (key : ClearKey). code_segment_fields key (code_rule r) (chain_in r) (bytes_in r (codes "text"))) key_is
+    text_fields CsnbmvrFirst uses = ap (λ (key : ClearKey). code_segment_fields key (code_rule r) (first_chain zero_block) (bytes_in r (codes "text"))) key_is
+    text_fields CsnbmvrMiddle uses = ap (λ (key : ClearKey). code_segment_fields key (code_rule r) (chain_in r) (bytes_in r (codes "text"))) key_is
+    text_fields CsnbmgnLast uses =
         ap (λ (key : ClearKey). last_code_fields key (code_rule r) (chain_in r) (mac_length_named (value_of r (codes "length"))) (bytes_in r (codes "text"))) key_is
-    text_fields csnbmvr_last uses =
+    text_fields CsnbmvrLast uses =
         ap (λ (key : ClearKey). last_match_fields key (code_rule r) (chain_in r) (bytes_in r (codes "mac")) (bytes_in r (codes "text"))) key_is
-    text_fields csnbkyt uses = ap (λ (key : ClearKey). let fs : List Field = Hex (codes "value") (test_value key) ∷ [] in fs) key_is
+    text_fields Csnbkyt uses = ap (λ (key : ClearKey). let fs : List Field = Hex (codes "value") (test_value key) ∷ [] in fs) key_is
     text_fields _ uses = cc uses
 
     text_old : (name : RequestName) → uses_text_key name ≡ true → any_old with_masters (listed (operands_of name r)) ≡ any_old s (listed (operands_of name r))
-    text_old csnbenc uses = ap (λ (key : Option Denoted). is_old key || false) (labelled_key (value_of r (codes "key")) label named)
-    text_old csnbdec uses = ap (λ (key : Option Denoted). is_old key || false) (labelled_key (value_of r (codes "key")) label named)
-    text_old csnbmgn uses = ap (λ (key : Option Denoted). is_old key || false) (labelled_key (value_of r (codes "key")) label named)
-    text_old csnbmvr uses = ap (λ (key : Option Denoted). is_old key || false) (labelled_key (value_of r (codes "key")) label named)
-    text_old csnbenc_first uses = ap (λ (key : Option Denoted). is_old key || false) (labelled_key (value_of r (codes "key")) label named)
-    text_old csnbenc_middle uses = ap (λ (key : Option Denoted). is_old key || false) (labelled_key (value_of r (codes "key")) label named)
-    text_old csnbenc_last uses = ap (λ (key : Option Denoted). is_old key || false) (labelled_key (value_of r (codes "key")) label named)
-    text_old csnbdec_first uses = ap (λ (key : Option Denoted). is_old key || false) (labelled_key (value_of r (codes "key")) label named)
-    text_old csnbdec_middle uses = ap (λ (key : Option Denoted). is_old key || false) (labelled_key (value_of r (codes "key")) label named)
-    text_old csnbdec_last uses = ap (λ (key : Option Denoted). is_old key || false) (labelled_key (value_of r (codes "key")) label named)
-    text_old csnbmgn_first uses = ap (λ (key : Option Denoted). is_old key || false) (labelled_key (value_of r (codes "key")) label named)
-    text_old csnbmgn_middle uses = ap (λ (key : Option Denoted). is_old key || false) (labelled_key (value_of r (codes "key")) label named)
-    text_old csnbmgn_last uses = ap (λ (key : Option Denoted). is_old key || false) (labelled_key (value_of r (codes "key")) label named)
-    text_old csnbmvr_first uses = ap (λ (key : Option Denoted). is_old key || false) (labelled_key (value_of r (codes "key")) label named)
-    text_old csnbmvr_middle uses = ap (λ (key : Option Denoted). is_old key || false) (labelled_key (value_of r (codes "key")) label named)
-    text_old csnbmvr_last uses = ap (λ (key : Option Denoted). is_old key || false) (labelled_key (value_of r (codes "key")) label named)
-    text_old csnbkyt uses = ap (λ (key : Option Denoted). is_old key || false) (labelled_key (value_of r (codes "key")) label named)
+    text_old Csnbenc uses = ap (λ (key : Option Denoted). is_old key || false) (labelled_key (value_of r (codes "key")) label named)
+    text_old Csnbdec uses = ap (λ (key : Option Denoted). is_old key || false) (labelled_key (value_of r (codes "key")) label named)
+    text_old Csnbmgn uses = ap (λ (key : Option Denoted). is_old key || false) (labelled_key (value_of r (codes "key")) label named)
+    text_old Csnbmvr uses = ap (λ (key : Option Denoted). is_old key || false) (labelled_key (value_of r (codes "key")) label named)
+    text_old CsnbencFirst uses = ap (λ (key : Option Denoted). is_old key || false) (labelled_key (value_of r (codes "key")) label named)
+    text_old CsnbencMiddle uses = ap (λ (key : Option Denoted). is_old key || false) (labelled_key (value_of r (codes "key")) label named)
+    text_old CsnbencLast uses = ap (λ (key : Option Denoted). is_old key || false) (labelled_key (value_of r (codes "key")) label named)
+    text_old CsnbdecFirst uses = ap (λ (key : Option Denoted). is_old key || false) (labelled_key (value_of r (codes "key")) label named)
+    text_old CsnbdecMiddle uses = ap (λ (key : Option Denoted). is_old key || false) (labelled_key (value_of r (codes "key")) label named)
+    text_old CsnbdecLast uses = ap (λ (key : Option Denoted). is_old key || false) (labelled_key (value_of r (codes "key")) label named)
+    text_old CsnbmgnFirst uses = ap (λ (key : Option Denoted). is_old key || false) (labelled_key (value_of r (codes "key")) label named)
+    text_old CsnbmgnMiddle uses = ap (λ (key : Option Denoted). is_old key || false) (labelled_key (value_of r (codes "key")) label named)
+    text_old CsnbmgnLast uses = ap (λ (key : Option Denoted). is_old key || false) (labelled_key (value_of r (codes "key")) label named)
+    text_old CsnbmvrFirst uses = ap (λ (key : Option Denoted). is_old key || false) (labelled_key (value_of r (codes "key")) label named)
+    text_old CsnbmvrMiddle uses = ap (λ (key : Option Denoted). is_old key || false) (labelled_key (value_of r (codes "key")) label named)
+    text_old CsnbmvrLast uses = ap (λ (key : Option Denoted). is_old key || false) (labelled_key (value_of r (codes "key")) label named)
+    text_old Csnbkyt uses = ap (λ (key : Option Denoted). is_old key || false) (labelled_key (value_of r (codes "key")) label named)
     text_old _ uses = cc uses
 
     text_verdict : uses_text_key r.name ≡ true → verdict with_masters drawn r ≡ verdict s drawn r

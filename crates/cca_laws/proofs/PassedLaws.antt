@@ -27,7 +27,9 @@ use Rattle.multi_encipher.proofs.SealLaws.{one_to_one}
 use Rattle.script_buffers.specs.Replies.{Hex}
 use Rattle.verb_rules.specs.Keys.{keys_of, master_key, master_under, new_key, sealed_token, token_for}
 use Rattle.verb_rules.specs.PartChecks.{part_length_checks}
-use Rattle.verb_script.specs.Grammar.{Request, RequestName, csnbkim, csnbkex, csnbpex, csnbktc, csnbkpi_middle, csnbktr, csnbkrw, csnbkrr, key_field, key_part_field, key_text, row_of, token_field, value_of}
+use Rattle.verb_script.specs.Grammar.{Request, key_field, key_part_field, key_text, row_of, token_field, value_of}
+use Rattle.verb_script.specs.declared.rows.RequestName.{RequestName}
+use Rattle.verb_script.specs.declared.rows.RequestName.TheVariants.{Csnbkim, Csnbkex, Csnbpex, Csnbktc, CsnbkpiMiddle, Csnbktr, Csnbkrw, Csnbkrr}
 use Rattle.verb_script.specs.Named.{label_named}
 use Rattle.cca_machine.specs.Act.{Effect, Show, delivered, effect, effected, or_act, performed, token_out, written_in}
 use Rattle.cca_machine.specs.Choices.{is_last_part, target_named}
@@ -209,30 +211,30 @@ module _ (s : State) (drawn : List ℕ) (r : Request) (is_done : IsPerformed s d
 
   module _ (full : is_none s.registers.current ≡ false) where
     delivers : (name : RequestName) → name ≡ r.name → passes_to name ≡ true → Asked name → first_refusal (verb_questions s name r) ≡ None → Delivers name
-    delivers csnbkim is passes ops verb =
-        let transport = transport_allows s r csnbkim ops in
-        let external = external_passes s r (behind csnbkim r) ops in
-        let second = first_passes s (operands_of csnbkim r).first (behind csnbkim r) ops in
-        let third = first_passes s (operands_of csnbkim r).second ((operands_of csnbkim r).third ∷ []) second.1 in
-        let target = first_passes s (operands_of csnbkim r).third [] third.1 in
+    delivers Csnbkim is passes ops verb =
+        let transport = transport_allows s r Csnbkim ops in
+        let external = external_passes s r (behind Csnbkim r) ops in
+        let second = first_passes s (operands_of Csnbkim r).first (behind Csnbkim r) ops in
+        let third = first_passes s (operands_of Csnbkim r).second ((operands_of Csnbkim r).third ∷ []) second.1 in
+        let target = first_passes s (operands_of Csnbkim r).third [] third.1 in
         let clear : ClearKey = imported (key_in_field s r (codes "transport")) (bytes_in r (codes "token")) in (
           clear,
-          imported_is csnbkim (codes "transport") _ transport external,
-          delivered_is s r (label_named (value_of r (codes "to"))) clear full (imported_whole csnbkim (codes "transport") is refl external) target.0,
+          imported_is Csnbkim (codes "transport") _ transport external,
+          delivered_is s r (label_named (value_of r (codes "to"))) clear full (imported_whole Csnbkim (codes "transport") is refl external) target.0,
         )
-    delivers csnbpex is passes ops verb =
-        let there = text_allows s r csnbpex ops verb in
-        let second = first_passes s (operands_of csnbpex r).first (behind csnbpex r) ops in
-        let target = first_passes s (operands_of csnbpex r).second ((operands_of csnbpex r).third ∷ []) second.1 in (
+    delivers Csnbpex is passes ops verb =
+        let there = text_allows s r Csnbpex ops verb in
+        let second = first_passes s (operands_of Csnbpex r).first (behind Csnbpex r) ops in
+        let target = first_passes s (operands_of Csnbpex r).second ((operands_of Csnbpex r).third ∷ []) second.1 in (
           closed (key_of_request s r),
           ap (λ (o : Option Denoted). option_map closed (clear_in o)) (some_key _ (operand_key s r (codes "key")) there),
           delivered_is s r (label_named (value_of r (codes "to"))) (closed (key_of_request s r)) full
-              (closed_whole (key_of_request s r) (operand_whole csnbpex (codes "key") _ is refl there)) target.0,
+              (closed_whole (key_of_request s r) (operand_whole Csnbpex (codes "key") _ is refl there)) target.0,
         )
-    delivers csnbkpi_middle is passes ops verb =
-        let there = text_allows s r csnbkpi_middle ops verb in
-        let second = first_passes s (operands_of csnbkpi_middle r).first (behind csnbkpi_middle r) ops in
-        let target = first_passes s (operands_of csnbkpi_middle r).second ((operands_of csnbkpi_middle r).third ∷ []) second.1 in
+    delivers CsnbkpiMiddle is passes ops verb =
+        let there = text_allows s r CsnbkpiMiddle ops verb in
+        let second = first_passes s (operands_of CsnbkpiMiddle r).first (behind CsnbkpiMiddle r) ops in
+        let target = first_passes s (operands_of CsnbkpiMiddle r).second ((operands_of CsnbkpiMiddle r).third ∷ []) second.1 in
         let clear : ClearKey = key_of_request s r in
         let long = refused_none (first_failing (part_length_checks clear.vector (part_size r))) (codes "part") _ verb in
         let size : part_size r ≡ length_of clear.vector =
@@ -243,7 +245,7 @@ module _ (s : State) (drawn : List ℕ) (r : Request) (is_done : IsPerformed s d
           combined (value_of r (codes "rule")) (part_in r) clear,
           ap (λ (o : Option Denoted). option_map (combined (value_of r (codes "rule")) (part_in r)) (clear_in o)) (some_key _ (operand_key s r (codes "key")) there),
           delivered_is s r (label_named (value_of r (codes "to"))) (combined (value_of r (codes "rule")) (part_in r) clear) full
-              (combined_whole (is_last_part (value_of r (codes "rule"))) clear (part_in r) (operand_whole csnbkpi_middle (codes "key") _ is refl there)
+              (combined_whole (is_last_part (value_of r (codes "rule"))) clear (part_in r) (operand_whole CsnbkpiMiddle (codes "key") _ is refl there)
               (subst (λ n. AreBytes n (part_in r)) size spelled)) target.0,
         )
     delivers _ is passes ops verb = cc passes
@@ -256,52 +258,52 @@ module _ (s : State) (drawn : List ℕ) (r : Request) (is_done : IsPerformed s d
         new_under clear whole s.registers (full_new s.registers.coming (not_empty _ (refused_none _ (codes "-") None passes).0))
 
     replies : (name : RequestName) → name ≡ r.name → passes_out name ≡ true → Asked name → first_refusal (verb_questions s name r) ≡ None → Replies name
-    replies csnbkex is passes ops verb =
-        let there = text_allows s r csnbkex ops verb in
-        let transport = transport_allows s r csnbkex ops in
+    replies Csnbkex is passes ops verb =
+        let there = text_allows s r Csnbkex ops verb in
+        let transport = transport_allows s r Csnbkex ops in
         let clear : ClearKey = key_of_request s r in
         let carried : Option Denoted = operand_key s r (codes "transport") in
-        let e : Effect = effect s drawn csnbkex r in (
+        let e : Effect = effect s drawn Csnbkex r in (
           clear,
           ap clear_in (some_key _ (operand_key s r (codes "key")) there),
           subst (λ (u : Under). RepliesToken (IsTokenUnder u clear) (effected s r e).reply) (sym (ap transport_of (some_key _ carried transport)))
               (one_reply s r (IsTokenUnder (Transport (key_in_field s r (codes "transport")).key) clear) (token_out s r (codes "transport") clear)
-              (out_under clear (operand_whole csnbkex (codes "key") _ is refl there) (key_in_field s r (codes "transport")).key)),
+              (out_under clear (operand_whole Csnbkex (codes "key") _ is refl there) (key_in_field s r (codes "transport")).key)),
         )
-    replies csnbktr is passes ops verb =
-        let first = first_allows s r csnbktr ops in
-        let second = second_allows s r csnbktr ops in
-        let external = external_passes s r (behind csnbktr r) ops in
+    replies Csnbktr is passes ops verb =
+        let first = first_allows s r Csnbktr ops in
+        let second = second_allows s r Csnbktr ops in
+        let external = external_passes s r (behind Csnbktr r) ops in
         let clear : ClearKey = imported (key_in_field s r (codes "transport1")) (bytes_in r (codes "token")) in
         let carried : Option Denoted = operand_key s r (codes "transport2") in
-        let e : Effect = effect s drawn csnbktr r in (
+        let e : Effect = effect s drawn Csnbktr r in (
           clear,
-          imported_is csnbktr (codes "transport1") _ first external,
+          imported_is Csnbktr (codes "transport1") _ first external,
           subst (λ (u : Under). RepliesToken (IsTokenUnder u clear) (effected s r e).reply) (sym (ap transport_of (some_key _ carried second)))
               (one_reply s r (IsTokenUnder (Transport (key_in_field s r (codes "transport2")).key) clear) (token_out s r (codes "transport2") clear)
-              (out_under clear (imported_whole csnbktr (codes "transport1") is refl external) (key_in_field s r (codes "transport2")).key)),
+              (out_under clear (imported_whole Csnbktr (codes "transport1") is refl external) (key_in_field s r (codes "transport2")).key)),
         )
-    replies csnbktc is passes ops verb =
+    replies Csnbktc is passes ops verb =
         let bytes : List ℕ = bytes_in r (codes "token") in
-        let there = token_allows s any_key bytes refl (first_passes s (operands_of csnbktc r).first (behind csnbktc r) ops).0 in
+        let there = token_allows s any_key bytes refl (first_passes s (operands_of Csnbktc r).first (behind Csnbktc r) ops).0 in
         let some = some_key _ (key_of_token s bytes) there in
         let clear : ClearKey = (or_no_key (key_of_token s bytes)).clear in
-        let whole : IsWhole clear = token_whole bytes (or_no_key (key_of_token s bytes)) (keys_of s.registers) (token_bytes csnbktc is refl) some in
+        let whole : IsWhole clear = token_whole bytes (or_no_key (key_of_token s bytes)) (keys_of s.registers) (token_bytes Csnbktc is refl) some in
         let rule : List ℕ = value_of r (codes "rule") in (
           clear,
           ap clear_in some,
-          one_reply s r (IsTokenUnder (under s csnbktc r) clear) (changed_token s.registers (target_named rule) clear)
+          one_reply s r (IsTokenUnder (under s Csnbktc r) clear) (changed_token s.registers (target_named rule) clear)
               (changed_is clear whole (bytes_eq rule (codes "RTCMK")) verb),
         )
-    replies csnbkrr is passes ops verb =
+    replies Csnbkrr is passes ops verb =
         let label : List ℕ = value_of r (codes "label") in
-        let asks = (first_passes s (operands_of csnbkrr r).first (behind csnbkrr r) ops).0 in
+        let asks = (first_passes s (operands_of Csnbkrr r).first (behind Csnbkrr r) ops).0 in
         let well = check_passes 6 _ (check 7 (is_none (cell_with s label)) ∷ check 8 (is_none (key_of_label s label)) ∷ []) asks in
         let there = check_passes 7 (is_none (cell_with s label)) (check 8 (is_none (key_of_label s label)) ∷ []) well.1 in
         let some = some_from (key_of_label s label) (check_passes 8 (is_none (key_of_label s label)) [] there.1).0 in
         let key : Denoted = or_no_key (key_of_label s label) in
         let whole : IsWhole key.clear = label_is_whole s is_done.store is_done.stands label key some in
-        let e : Effect = effect s drawn csnbkrr r in (
+        let e : Effect = effect s drawn Csnbkrr r in (
           key.clear,
           ap clear_in some,
           subst (λ (u : Under). RepliesToken (IsTokenUnder u key.clear) (effected s r e).reply) (sym (ap (register_in s) some))
@@ -311,26 +313,26 @@ module _ (s : State) (drawn : List ℕ) (r : Request) (is_done : IsPerformed s d
     replies _ is passes ops verb = cc passes
 
   -- a record that CSNBKRW writes
-  writes : (name : RequestName) → name ≡ r.name → name ≡ csnbkrw → Asked name
+  writes : (name : RequestName) → name ≡ r.name → name ≡ Csnbkrw → Asked name
       → (key : Denoted) × (key_of_token s (bytes_in r (codes "token")) ≡ Some key)
       × (key_of_label (effected s r (effect s drawn name r)).state (value_of r (codes "label")) ≡ Some key)
-  writes csnbkrw is same ops =
+  writes Csnbkrw is same ops =
       let bytes : List ℕ = bytes_in r (codes "token") in
-      let held = first_passes s (operands_of csnbkrw r).first (behind csnbkrw r) ops in
-      let there = token_allows s any_key bytes refl (first_passes s (operands_of csnbkrw r).second ((operands_of csnbkrw r).third ∷ []) held.1).0 in
+      let held = first_passes s (operands_of Csnbkrw r).first (behind Csnbkrw r) ops in
+      let there = token_allows s any_key bytes refl (first_passes s (operands_of Csnbkrw r).second ((operands_of Csnbkrw r).third ∷ []) held.1).0 in
       (or_no_key (key_of_token s bytes), some_key _ (key_of_token s bytes) there, written_key s r (value_of r (codes "label")) (or_no_key (key_of_token s bytes)) held.0)
   writes _ is same ops = cc same
 
 -- ---- the laws
 
 needs_current : (name : RequestName) → (passes_to name || passes_out name) ≡ true → needs_master name ≡ true
-needs_current csnbkim is = refl
-needs_current csnbpex is = refl
-needs_current csnbkpi_middle is = refl
-needs_current csnbkex is = refl
-needs_current csnbktr is = refl
-needs_current csnbktc is = refl
-needs_current csnbkrr is = refl
+needs_current Csnbkim is = refl
+needs_current Csnbpex is = refl
+needs_current CsnbkpiMiddle is = refl
+needs_current Csnbkex is = refl
+needs_current Csnbktr is = refl
+needs_current Csnbktc is = refl
+needs_current Csnbkrr is = refl
 needs_current _ is = cc is
 
 module _ (s : State) (drawn : List ℕ) (r : Request) (is_done : IsPerformed s drawn r) where
@@ -364,7 +366,7 @@ module _ (s : State) (drawn : List ℕ) (r : Request) (is_done : IsPerformed s d
       (sym is_done.permitted)
       (replies s drawn r is_done (current_full (or_second (passes_to r.name) (passes_out r.name) passes)) r.name refl passes p.operands p.verb)
 
-  pub passed_written : r.name ≡ csnbkrw
+  pub passed_written : r.name ≡ Csnbkrw
       → (key : Denoted) × (key_of_token s (bytes_in r (codes "token")) ≡ Some key)
       × (key_of_label (performed s drawn r).state (value_of r (codes "label")) ≡ Some key)
   unfolding performed
@@ -376,7 +378,7 @@ module _ (s : State) (drawn : List ℕ) (r : Request) (is_done : IsPerformed s d
       (writes s drawn r is_done r.name refl named p.operands)
 
 -- CSNBPEX
-pub closed_delivered : (s : State) (drawn : List ℕ) (r : Request) (key : Denoted) → IsPerformed s drawn r → r.name ≡ csnbpex
+pub closed_delivered : (s : State) (drawn : List ℕ) (r : Request) (key : Denoted) → IsPerformed s drawn r → r.name ≡ Csnbpex
     → key_in_text s (value_of r (codes "key")) ≡ Some key
     → (clear : ClearKey) × (clear.key ≡ key.clear.key) × (is_exportable clear.vector ≡ false)
     × IsDelivered s (label_named (value_of r (codes "to"))) clear (performed s drawn r)

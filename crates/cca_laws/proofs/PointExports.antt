@@ -6,7 +6,9 @@ use Rattle.key_tokens.specs.Denotes.{Denoted}
 use Rattle.key_transport.specs.declared.changing.Target.{Target}
 use Rattle.key_transport.specs.declared.changing.Target.TheVariants.{Current, New}
 use Rattle.script_buffers.specs.Replies.{Field, Hex, Number, Refused, Reply, Text}
-use Rattle.verb_script.specs.Grammar.{Request, RequestName, csnbenc, csnbenc_first, csnbenc_middle, csnbenc_last, csnbdec, csnbdec_first, csnbdec_middle, csnbdec_last, csnbmgn, csnbmgn_first, csnbmgn_middle, csnbmgn_last, csnbmvr, csnbmvr_first, csnbmvr_middle, csnbmvr_last, csnbkyt, csnbcki, csnbkgn_op, csnbkgn_pair, csnbkgn_out, csnbkim, csnbkex, csnbpex, csnbkpi_first, csnbkpi_middle, csnbktr, csnbktc, csnbkrr, csnbkrl, value_of}
+use Rattle.verb_script.specs.Grammar.{Request, value_of}
+use Rattle.verb_script.specs.declared.rows.RequestName.{RequestName}
+use Rattle.verb_script.specs.declared.rows.RequestName.TheVariants.{Csnbenc, CsnbencFirst, CsnbencMiddle, CsnbencLast, Csnbdec, CsnbdecFirst, CsnbdecMiddle, CsnbdecLast, Csnbmgn, CsnbmgnFirst, CsnbmgnMiddle, CsnbmgnLast, Csnbmvr, CsnbmvrFirst, CsnbmvrMiddle, CsnbmvrLast, Csnbkyt, Csnbcki, CsnbkgnOp, CsnbkgnPair, CsnbkgnOut, Csnbkim, Csnbkex, Csnbpex, CsnbkpiFirst, CsnbkpiMiddle, Csnbktr, Csnbktc, Csnbkrr, Csnbkrl}
 use Rattle.verb_script.specs.Named.{label_named}
 use Rattle.verb_script.specs.Requests.{request_of}
 use Rattle.cca_machine.specs.Act.{Effect, delivered_with, effect, effected, fields_after, or_act, performed}
@@ -92,10 +94,10 @@ target_needs needed points none some (Some label) = some
 -- ---- tokens
 
 external_needs : (name : RequestName) (r : Request) → gives_external name ≡ true → Needs (needed_points name r) export_points
-external_needs csnbkex r gives = tt
-external_needs csnbktr r gives = tt
-external_needs csnbkgn_pair r gives = target_needs (point (codes "KGN_PAIR")) export_points tt tt (label_named (value_of r (codes "to")))
-external_needs csnbkgn_out r gives = tt
+external_needs Csnbkex r gives = tt
+external_needs Csnbktr r gives = tt
+external_needs CsnbkgnPair r gives = target_needs (point (codes "KGN_PAIR")) export_points tt tt (label_named (value_of r (codes "to")))
+external_needs CsnbkgnOut r gives = tt
 external_needs _ r gives = cc gives
 
 pub no_external : (s : State) (random : List ℕ) (lines : List (List ℕ)) → EachRequest (HoldsNone export_points) s random lines → EachReply ShowsNoExternal s random lines
@@ -119,19 +121,19 @@ delivery_needs needed r none some = target_needs needed token_points none some (
 
 shows_none : (s : State) (drawn : List ℕ) (verb : RequestName) (r : Request) → (Needs (needed_points verb r) token_points → ⊥) → EffectShows (λ _. ⊥) (effect s drawn verb r)
 unfolding label_fields
-shows_none s drawn csnbcki r lacks = absurd (lacks (delivery_needs (point (codes "CKI")) r tt tt))
-shows_none s drawn csnbkgn_op r lacks = absurd (lacks (delivery_needs (point (codes "KGN_OP")) r tt tt))
-shows_none s drawn csnbkgn_pair r lacks = absurd (lacks (delivery_needs (point (codes "KGN_PAIR")) r tt tt))
-shows_none s drawn csnbkgn_out r lacks = absurd (lacks tt)
-shows_none s drawn csnbkim r lacks = absurd (lacks (delivery_needs (point (codes "KIM")) r tt tt))
-shows_none s drawn csnbkex r lacks = absurd (lacks tt)
-shows_none s drawn csnbpex r lacks = absurd (lacks (delivery_needs (point (codes "PEX")) r tt tt))
-shows_none s drawn csnbktc r lacks = absurd (lacks (change_needs (target_named (value_of r (codes "rule")))))
-shows_none s drawn csnbkpi_first r lacks = absurd (lacks (delivery_needs (point (codes "KPI_FIRST")) r tt tt))
-shows_none s drawn csnbkpi_middle r lacks = absurd (lacks (delivery_needs (point (codes "KPI_COMBINE")) r tt tt))
-shows_none s drawn csnbktr r lacks = absurd (lacks tt)
-shows_none s drawn csnbkrr r lacks = absurd (lacks tt)
-shows_none s drawn csnbkrl r lacks = tt
+shows_none s drawn Csnbcki r lacks = absurd (lacks (delivery_needs (point (codes "CKI")) r tt tt))
+shows_none s drawn CsnbkgnOp r lacks = absurd (lacks (delivery_needs (point (codes "KGN_OP")) r tt tt))
+shows_none s drawn CsnbkgnPair r lacks = absurd (lacks (delivery_needs (point (codes "KGN_PAIR")) r tt tt))
+shows_none s drawn CsnbkgnOut r lacks = absurd (lacks tt)
+shows_none s drawn Csnbkim r lacks = absurd (lacks (delivery_needs (point (codes "KIM")) r tt tt))
+shows_none s drawn Csnbkex r lacks = absurd (lacks tt)
+shows_none s drawn Csnbpex r lacks = absurd (lacks (delivery_needs (point (codes "PEX")) r tt tt))
+shows_none s drawn Csnbktc r lacks = absurd (lacks (change_needs (target_named (value_of r (codes "rule")))))
+shows_none s drawn CsnbkpiFirst r lacks = absurd (lacks (delivery_needs (point (codes "KPI_FIRST")) r tt tt))
+shows_none s drawn CsnbkpiMiddle r lacks = absurd (lacks (delivery_needs (point (codes "KPI_COMBINE")) r tt tt))
+shows_none s drawn Csnbktr r lacks = absurd (lacks tt)
+shows_none s drawn Csnbkrr r lacks = absurd (lacks tt)
+shows_none s drawn Csnbkrl r lacks = tt
 shows_none s drawn _ r lacks = tt
 
 pub no_token : (s : State) (random : List ℕ) (lines : List (List ℕ)) → EachRequest (HoldsNone token_points) s random lines → EachReply ShowsNoToken s random lines
@@ -183,83 +185,83 @@ module _ (name : List ℕ) where
 
 text_lacks : (s : State) (drawn : List ℕ) (verb : RequestName) (r : Request) → (Needs (needed_points verb r) text_points → ⊥) → EffectLacks (codes "text") s (effect s drawn verb r)
 unfolding label_fields
-text_lacks s drawn csnbenc r lacks = absurd (lacks tt)
-text_lacks s drawn csnbenc_first r lacks = absurd (lacks tt)
-text_lacks s drawn csnbenc_middle r lacks = absurd (lacks tt)
-text_lacks s drawn csnbenc_last r lacks = absurd (lacks tt)
-text_lacks s drawn csnbdec r lacks = absurd (lacks tt)
-text_lacks s drawn csnbdec_first r lacks = absurd (lacks tt)
-text_lacks s drawn csnbdec_middle r lacks = absurd (lacks tt)
-text_lacks s drawn csnbdec_last r lacks = absurd (lacks tt)
-text_lacks s drawn csnbcki r lacks = delivered_lacks (codes "text") s (codes "token") (label_named (value_of r (codes "to"))) _ [] refl refl refl
-text_lacks s drawn csnbkgn_op r lacks = delivered_lacks (codes "text") s (codes "token1") (label_named (value_of r (codes "to"))) _ [] refl refl refl
-text_lacks s drawn csnbkim r lacks = delivered_lacks (codes "text") s (codes "token") (label_named (value_of r (codes "to"))) _ [] refl refl refl
-text_lacks s drawn csnbpex r lacks = delivered_lacks (codes "text") s (codes "token") (label_named (value_of r (codes "to"))) _ [] refl refl refl
-text_lacks s drawn csnbkpi_first r lacks = delivered_lacks (codes "text") s (codes "token") (label_named (value_of r (codes "to"))) _ [] refl refl refl
-text_lacks s drawn csnbkpi_middle r lacks = delivered_lacks (codes "text") s (codes "token") (label_named (value_of r (codes "to"))) _ [] refl refl refl
-text_lacks s drawn csnbkgn_pair r lacks = delivered_lacks (codes "text") s (codes "token1") (label_named (value_of r (codes "to"))) _ _ refl refl refl
-text_lacks s drawn csnbkrl r lacks = refl
+text_lacks s drawn Csnbenc r lacks = absurd (lacks tt)
+text_lacks s drawn CsnbencFirst r lacks = absurd (lacks tt)
+text_lacks s drawn CsnbencMiddle r lacks = absurd (lacks tt)
+text_lacks s drawn CsnbencLast r lacks = absurd (lacks tt)
+text_lacks s drawn Csnbdec r lacks = absurd (lacks tt)
+text_lacks s drawn CsnbdecFirst r lacks = absurd (lacks tt)
+text_lacks s drawn CsnbdecMiddle r lacks = absurd (lacks tt)
+text_lacks s drawn CsnbdecLast r lacks = absurd (lacks tt)
+text_lacks s drawn Csnbcki r lacks = delivered_lacks (codes "text") s (codes "token") (label_named (value_of r (codes "to"))) _ [] refl refl refl
+text_lacks s drawn CsnbkgnOp r lacks = delivered_lacks (codes "text") s (codes "token1") (label_named (value_of r (codes "to"))) _ [] refl refl refl
+text_lacks s drawn Csnbkim r lacks = delivered_lacks (codes "text") s (codes "token") (label_named (value_of r (codes "to"))) _ [] refl refl refl
+text_lacks s drawn Csnbpex r lacks = delivered_lacks (codes "text") s (codes "token") (label_named (value_of r (codes "to"))) _ [] refl refl refl
+text_lacks s drawn CsnbkpiFirst r lacks = delivered_lacks (codes "text") s (codes "token") (label_named (value_of r (codes "to"))) _ [] refl refl refl
+text_lacks s drawn CsnbkpiMiddle r lacks = delivered_lacks (codes "text") s (codes "token") (label_named (value_of r (codes "to"))) _ [] refl refl refl
+text_lacks s drawn CsnbkgnPair r lacks = delivered_lacks (codes "text") s (codes "token1") (label_named (value_of r (codes "to"))) _ _ refl refl refl
+text_lacks s drawn Csnbkrl r lacks = refl
 text_lacks s drawn _ r lacks = refl
 
 chain_lacks : (s : State) (drawn : List ℕ) (verb : RequestName) (r : Request) → (Needs (needed_points verb r) chain_points → ⊥) → EffectLacks (codes "chain") s (effect s drawn verb r)
 unfolding label_fields
-chain_lacks s drawn csnbenc_first r lacks = absurd (lacks tt)
-chain_lacks s drawn csnbenc_middle r lacks = absurd (lacks tt)
-chain_lacks s drawn csnbdec_first r lacks = absurd (lacks tt)
-chain_lacks s drawn csnbdec_middle r lacks = absurd (lacks tt)
-chain_lacks s drawn csnbmgn_first r lacks = absurd (lacks tt)
-chain_lacks s drawn csnbmgn_middle r lacks = absurd (lacks tt)
-chain_lacks s drawn csnbmvr_first r lacks = absurd (lacks tt)
-chain_lacks s drawn csnbmvr_middle r lacks = absurd (lacks tt)
-chain_lacks s drawn csnbcki r lacks = delivered_lacks (codes "chain") s (codes "token") (label_named (value_of r (codes "to"))) _ [] refl refl refl
-chain_lacks s drawn csnbkgn_op r lacks = delivered_lacks (codes "chain") s (codes "token1") (label_named (value_of r (codes "to"))) _ [] refl refl refl
-chain_lacks s drawn csnbkim r lacks = delivered_lacks (codes "chain") s (codes "token") (label_named (value_of r (codes "to"))) _ [] refl refl refl
-chain_lacks s drawn csnbpex r lacks = delivered_lacks (codes "chain") s (codes "token") (label_named (value_of r (codes "to"))) _ [] refl refl refl
-chain_lacks s drawn csnbkpi_first r lacks = delivered_lacks (codes "chain") s (codes "token") (label_named (value_of r (codes "to"))) _ [] refl refl refl
-chain_lacks s drawn csnbkpi_middle r lacks = delivered_lacks (codes "chain") s (codes "token") (label_named (value_of r (codes "to"))) _ [] refl refl refl
-chain_lacks s drawn csnbkgn_pair r lacks = delivered_lacks (codes "chain") s (codes "token1") (label_named (value_of r (codes "to"))) _ _ refl refl refl
-chain_lacks s drawn csnbkrl r lacks = refl
+chain_lacks s drawn CsnbencFirst r lacks = absurd (lacks tt)
+chain_lacks s drawn CsnbencMiddle r lacks = absurd (lacks tt)
+chain_lacks s drawn CsnbdecFirst r lacks = absurd (lacks tt)
+chain_lacks s drawn CsnbdecMiddle r lacks = absurd (lacks tt)
+chain_lacks s drawn CsnbmgnFirst r lacks = absurd (lacks tt)
+chain_lacks s drawn CsnbmgnMiddle r lacks = absurd (lacks tt)
+chain_lacks s drawn CsnbmvrFirst r lacks = absurd (lacks tt)
+chain_lacks s drawn CsnbmvrMiddle r lacks = absurd (lacks tt)
+chain_lacks s drawn Csnbcki r lacks = delivered_lacks (codes "chain") s (codes "token") (label_named (value_of r (codes "to"))) _ [] refl refl refl
+chain_lacks s drawn CsnbkgnOp r lacks = delivered_lacks (codes "chain") s (codes "token1") (label_named (value_of r (codes "to"))) _ [] refl refl refl
+chain_lacks s drawn Csnbkim r lacks = delivered_lacks (codes "chain") s (codes "token") (label_named (value_of r (codes "to"))) _ [] refl refl refl
+chain_lacks s drawn Csnbpex r lacks = delivered_lacks (codes "chain") s (codes "token") (label_named (value_of r (codes "to"))) _ [] refl refl refl
+chain_lacks s drawn CsnbkpiFirst r lacks = delivered_lacks (codes "chain") s (codes "token") (label_named (value_of r (codes "to"))) _ [] refl refl refl
+chain_lacks s drawn CsnbkpiMiddle r lacks = delivered_lacks (codes "chain") s (codes "token") (label_named (value_of r (codes "to"))) _ [] refl refl refl
+chain_lacks s drawn CsnbkgnPair r lacks = delivered_lacks (codes "chain") s (codes "token1") (label_named (value_of r (codes "to"))) _ _ refl refl refl
+chain_lacks s drawn Csnbkrl r lacks = refl
 chain_lacks s drawn _ r lacks = refl
 
 mac_lacks : (s : State) (drawn : List ℕ) (verb : RequestName) (r : Request) → (Needs (needed_points verb r) (point (codes "MGN")) → ⊥) → EffectLacks (codes "mac") s (effect s drawn verb r)
 unfolding label_fields
-mac_lacks s drawn csnbmgn r lacks = absurd (lacks tt)
-mac_lacks s drawn csnbmgn_last r lacks = absurd (lacks tt)
-mac_lacks s drawn csnbcki r lacks = delivered_lacks (codes "mac") s (codes "token") (label_named (value_of r (codes "to"))) _ [] refl refl refl
-mac_lacks s drawn csnbkgn_op r lacks = delivered_lacks (codes "mac") s (codes "token1") (label_named (value_of r (codes "to"))) _ [] refl refl refl
-mac_lacks s drawn csnbkim r lacks = delivered_lacks (codes "mac") s (codes "token") (label_named (value_of r (codes "to"))) _ [] refl refl refl
-mac_lacks s drawn csnbpex r lacks = delivered_lacks (codes "mac") s (codes "token") (label_named (value_of r (codes "to"))) _ [] refl refl refl
-mac_lacks s drawn csnbkpi_first r lacks = delivered_lacks (codes "mac") s (codes "token") (label_named (value_of r (codes "to"))) _ [] refl refl refl
-mac_lacks s drawn csnbkpi_middle r lacks = delivered_lacks (codes "mac") s (codes "token") (label_named (value_of r (codes "to"))) _ [] refl refl refl
-mac_lacks s drawn csnbkgn_pair r lacks = delivered_lacks (codes "mac") s (codes "token1") (label_named (value_of r (codes "to"))) _ _ refl refl refl
-mac_lacks s drawn csnbkrl r lacks = refl
+mac_lacks s drawn Csnbmgn r lacks = absurd (lacks tt)
+mac_lacks s drawn CsnbmgnLast r lacks = absurd (lacks tt)
+mac_lacks s drawn Csnbcki r lacks = delivered_lacks (codes "mac") s (codes "token") (label_named (value_of r (codes "to"))) _ [] refl refl refl
+mac_lacks s drawn CsnbkgnOp r lacks = delivered_lacks (codes "mac") s (codes "token1") (label_named (value_of r (codes "to"))) _ [] refl refl refl
+mac_lacks s drawn Csnbkim r lacks = delivered_lacks (codes "mac") s (codes "token") (label_named (value_of r (codes "to"))) _ [] refl refl refl
+mac_lacks s drawn Csnbpex r lacks = delivered_lacks (codes "mac") s (codes "token") (label_named (value_of r (codes "to"))) _ [] refl refl refl
+mac_lacks s drawn CsnbkpiFirst r lacks = delivered_lacks (codes "mac") s (codes "token") (label_named (value_of r (codes "to"))) _ [] refl refl refl
+mac_lacks s drawn CsnbkpiMiddle r lacks = delivered_lacks (codes "mac") s (codes "token") (label_named (value_of r (codes "to"))) _ [] refl refl refl
+mac_lacks s drawn CsnbkgnPair r lacks = delivered_lacks (codes "mac") s (codes "token1") (label_named (value_of r (codes "to"))) _ _ refl refl refl
+mac_lacks s drawn Csnbkrl r lacks = refl
 mac_lacks s drawn _ r lacks = refl
 
 match_lacks : (s : State) (drawn : List ℕ) (verb : RequestName) (r : Request) → (Needs (needed_points verb r) (point (codes "MVR")) → ⊥) → EffectLacks (codes "match") s (effect s drawn verb r)
 unfolding label_fields
-match_lacks s drawn csnbmvr r lacks = absurd (lacks tt)
-match_lacks s drawn csnbmvr_last r lacks = absurd (lacks tt)
-match_lacks s drawn csnbcki r lacks = delivered_lacks (codes "match") s (codes "token") (label_named (value_of r (codes "to"))) _ [] refl refl refl
-match_lacks s drawn csnbkgn_op r lacks = delivered_lacks (codes "match") s (codes "token1") (label_named (value_of r (codes "to"))) _ [] refl refl refl
-match_lacks s drawn csnbkim r lacks = delivered_lacks (codes "match") s (codes "token") (label_named (value_of r (codes "to"))) _ [] refl refl refl
-match_lacks s drawn csnbpex r lacks = delivered_lacks (codes "match") s (codes "token") (label_named (value_of r (codes "to"))) _ [] refl refl refl
-match_lacks s drawn csnbkpi_first r lacks = delivered_lacks (codes "match") s (codes "token") (label_named (value_of r (codes "to"))) _ [] refl refl refl
-match_lacks s drawn csnbkpi_middle r lacks = delivered_lacks (codes "match") s (codes "token") (label_named (value_of r (codes "to"))) _ [] refl refl refl
-match_lacks s drawn csnbkgn_pair r lacks = delivered_lacks (codes "match") s (codes "token1") (label_named (value_of r (codes "to"))) _ _ refl refl refl
-match_lacks s drawn csnbkrl r lacks = refl
+match_lacks s drawn Csnbmvr r lacks = absurd (lacks tt)
+match_lacks s drawn CsnbmvrLast r lacks = absurd (lacks tt)
+match_lacks s drawn Csnbcki r lacks = delivered_lacks (codes "match") s (codes "token") (label_named (value_of r (codes "to"))) _ [] refl refl refl
+match_lacks s drawn CsnbkgnOp r lacks = delivered_lacks (codes "match") s (codes "token1") (label_named (value_of r (codes "to"))) _ [] refl refl refl
+match_lacks s drawn Csnbkim r lacks = delivered_lacks (codes "match") s (codes "token") (label_named (value_of r (codes "to"))) _ [] refl refl refl
+match_lacks s drawn Csnbpex r lacks = delivered_lacks (codes "match") s (codes "token") (label_named (value_of r (codes "to"))) _ [] refl refl refl
+match_lacks s drawn CsnbkpiFirst r lacks = delivered_lacks (codes "match") s (codes "token") (label_named (value_of r (codes "to"))) _ [] refl refl refl
+match_lacks s drawn CsnbkpiMiddle r lacks = delivered_lacks (codes "match") s (codes "token") (label_named (value_of r (codes "to"))) _ [] refl refl refl
+match_lacks s drawn CsnbkgnPair r lacks = delivered_lacks (codes "match") s (codes "token1") (label_named (value_of r (codes "to"))) _ _ refl refl refl
+match_lacks s drawn Csnbkrl r lacks = refl
 match_lacks s drawn _ r lacks = refl
 
 value_lacks : (s : State) (drawn : List ℕ) (verb : RequestName) (r : Request) → (Needs (needed_points verb r) (point (codes "KYT")) → ⊥) → EffectLacks (codes "value") s (effect s drawn verb r)
 unfolding label_fields
-value_lacks s drawn csnbkyt r lacks = absurd (lacks tt)
-value_lacks s drawn csnbcki r lacks = delivered_lacks (codes "value") s (codes "token") (label_named (value_of r (codes "to"))) _ [] refl refl refl
-value_lacks s drawn csnbkgn_op r lacks = delivered_lacks (codes "value") s (codes "token1") (label_named (value_of r (codes "to"))) _ [] refl refl refl
-value_lacks s drawn csnbkim r lacks = delivered_lacks (codes "value") s (codes "token") (label_named (value_of r (codes "to"))) _ [] refl refl refl
-value_lacks s drawn csnbpex r lacks = delivered_lacks (codes "value") s (codes "token") (label_named (value_of r (codes "to"))) _ [] refl refl refl
-value_lacks s drawn csnbkpi_first r lacks = delivered_lacks (codes "value") s (codes "token") (label_named (value_of r (codes "to"))) _ [] refl refl refl
-value_lacks s drawn csnbkpi_middle r lacks = delivered_lacks (codes "value") s (codes "token") (label_named (value_of r (codes "to"))) _ [] refl refl refl
-value_lacks s drawn csnbkgn_pair r lacks = delivered_lacks (codes "value") s (codes "token1") (label_named (value_of r (codes "to"))) _ _ refl refl refl
-value_lacks s drawn csnbkrl r lacks = refl
+value_lacks s drawn Csnbkyt r lacks = absurd (lacks tt)
+value_lacks s drawn Csnbcki r lacks = delivered_lacks (codes "value") s (codes "token") (label_named (value_of r (codes "to"))) _ [] refl refl refl
+value_lacks s drawn CsnbkgnOp r lacks = delivered_lacks (codes "value") s (codes "token1") (label_named (value_of r (codes "to"))) _ [] refl refl refl
+value_lacks s drawn Csnbkim r lacks = delivered_lacks (codes "value") s (codes "token") (label_named (value_of r (codes "to"))) _ [] refl refl refl
+value_lacks s drawn Csnbpex r lacks = delivered_lacks (codes "value") s (codes "token") (label_named (value_of r (codes "to"))) _ [] refl refl refl
+value_lacks s drawn CsnbkpiFirst r lacks = delivered_lacks (codes "value") s (codes "token") (label_named (value_of r (codes "to"))) _ [] refl refl refl
+value_lacks s drawn CsnbkpiMiddle r lacks = delivered_lacks (codes "value") s (codes "token") (label_named (value_of r (codes "to"))) _ [] refl refl refl
+value_lacks s drawn CsnbkgnPair r lacks = delivered_lacks (codes "value") s (codes "token1") (label_named (value_of r (codes "to"))) _ _ refl refl refl
+value_lacks s drawn Csnbkrl r lacks = refl
 value_lacks s drawn _ r lacks = refl
 
 -- ---- the laws
@@ -282,28 +284,28 @@ no_value = lacks_over (codes "value") (point (codes "KYT")) refl value_lacks
 -- verbs
 
 verb_needs : (name : RequestName) (r : Request) → verb_point name ≢ 0 → Needs (needed_points name r) (verb_point name)
-verb_needs csnbenc r some = tt
-verb_needs csnbenc_first r some = tt
-verb_needs csnbenc_middle r some = tt
-verb_needs csnbenc_last r some = tt
-verb_needs csnbdec r some = tt
-verb_needs csnbdec_first r some = tt
-verb_needs csnbdec_middle r some = tt
-verb_needs csnbdec_last r some = tt
-verb_needs csnbmgn r some = tt
-verb_needs csnbmgn_first r some = tt
-verb_needs csnbmgn_middle r some = tt
-verb_needs csnbmgn_last r some = tt
-verb_needs csnbmvr r some = tt
-verb_needs csnbmvr_first r some = tt
-verb_needs csnbmvr_middle r some = tt
-verb_needs csnbmvr_last r some = tt
-verb_needs csnbkyt r some = tt
-verb_needs csnbkgn_out r some = tt
-verb_needs csnbkex r some = tt
-verb_needs csnbktr r some = tt
-verb_needs csnbkrr r some = tt
-verb_needs csnbkgn_pair r some = target_needs (point (codes "KGN_PAIR")) (point (codes "KGN_PAIR")) tt tt (label_named (value_of r (codes "to")))
+verb_needs Csnbenc r some = tt
+verb_needs CsnbencFirst r some = tt
+verb_needs CsnbencMiddle r some = tt
+verb_needs CsnbencLast r some = tt
+verb_needs Csnbdec r some = tt
+verb_needs CsnbdecFirst r some = tt
+verb_needs CsnbdecMiddle r some = tt
+verb_needs CsnbdecLast r some = tt
+verb_needs Csnbmgn r some = tt
+verb_needs CsnbmgnFirst r some = tt
+verb_needs CsnbmgnMiddle r some = tt
+verb_needs CsnbmgnLast r some = tt
+verb_needs Csnbmvr r some = tt
+verb_needs CsnbmvrFirst r some = tt
+verb_needs CsnbmvrMiddle r some = tt
+verb_needs CsnbmvrLast r some = tt
+verb_needs Csnbkyt r some = tt
+verb_needs CsnbkgnOut r some = tt
+verb_needs Csnbkex r some = tt
+verb_needs Csnbktr r some = tt
+verb_needs Csnbkrr r some = tt
+verb_needs CsnbkgnPair r some = target_needs (point (codes "KGN_PAIR")) (point (codes "KGN_PAIR")) tt tt (label_named (value_of r (codes "to")))
 verb_needs _ r some = absurd (some refl)
 
 pub verbs_refused : (s : State) (random : List ℕ) (lines : List (List ℕ)) (points : ℕ) → points ≢ 0 → EachRequest (HoldsNone points) s random lines
@@ -316,18 +318,18 @@ verbs_refused s random lines points some each =
 
 changes_refused : (target : Target) (rule : List ℕ) → target_named rule ≡ target → Needs (change_points target) (change_points target)
     → (s : State) (random : List ℕ) (lines : List (List ℕ)) → EachRequest (HoldsNone (change_points target)) s random lines
-    → EachAnswer (λ r given. r.name ≡ csnbktc → value_of r (codes "rule") ≡ rule → IsRefused given) s random lines
+    → EachAnswer (λ r given. r.name ≡ Csnbktc → value_of r (codes "rule") ≡ rule → IsRefused given) s random lines
 changes_refused target rule named needs s random lines each =
-    each_answer (λ r given. r.name ≡ csnbktc → value_of r (codes "rule") ≡ rule → IsRefused given) (λ r number operand is same. tt) (HoldsNone (change_points target))
+    each_answer (λ r given. r.name ≡ Csnbktc → value_of r (codes "rule") ≡ rule → IsRefused given) (λ r number operand is same. tt) (HoldsNone (change_points target))
     (λ t drawn r none permits is same.
     let needed : needed_points r.name r ≡ change_points target = ap (λ n. needed_points n r) is ∙ (ap (λ text. change_points (target_named text)) same ∙ ap change_points named) in
     absurd (refuses (change_points target) t drawn r none permits (subst (λ n. Needs n (change_points target)) (sym needed) needs)))
     s random lines each
 
 pub current_refused : (s : State) (random : List ℕ) (lines : List (List ℕ)) → EachRequest (HoldsNone (point (codes "KTC_CURRENT"))) s random lines
-    → EachAnswer (λ r given. r.name ≡ csnbktc → value_of r (codes "rule") ≡ codes "RTCMK" → IsRefused given) s random lines
+    → EachAnswer (λ r given. r.name ≡ Csnbktc → value_of r (codes "rule") ≡ codes "RTCMK" → IsRefused given) s random lines
 current_refused = changes_refused Current (codes "RTCMK") refl tt
 
 pub new_refused : (s : State) (random : List ℕ) (lines : List (List ℕ)) → EachRequest (HoldsNone (point (codes "KTC_NEW"))) s random lines
-    → EachAnswer (λ r given. r.name ≡ csnbktc → value_of r (codes "rule") ≡ codes "RTNMK" → IsRefused given) s random lines
+    → EachAnswer (λ r given. r.name ≡ Csnbktc → value_of r (codes "rule") ≡ codes "RTNMK" → IsRefused given) s random lines
 new_refused = changes_refused New (codes "RTNMK") refl tt

@@ -12,9 +12,11 @@ use Rattle.master_registers.specs.Masters.{Masters}
 use Rattle.master_registers.specs.declared.actions.Action.{Action}
 use Rattle.master_registers.specs.declared.actions.Action.TheVariants.{First, Middle, Last, Clear, Set}
 use Rattle.script_buffers.specs.Replies.{Field}
-use Rattle.verb_script.specs.Grammar.{Request, RequestName, csnbcki, csnbkgn_op, csnbkgn_pair, csnbkim, csnbpex, csnbkpi_first, csnbkpi_middle, csnbmkp_part, csnbmkp_clear, csnbmkp_set, value_of}
+use Rattle.verb_script.specs.Grammar.{Request, value_of}
+use Rattle.verb_script.specs.declared.rows.RequestName.{RequestName}
+use Rattle.verb_script.specs.declared.rows.RequestName.TheVariants.{Csnbcki, CsnbkgnOp, CsnbkgnPair, Csnbkim, Csnbpex, CsnbkpiFirst, CsnbkpiMiddle, CsnbmkpPart, CsnbmkpClear, CsnbmkpSet}
 use Rattle.verb_script.specs.Named.{label_named}
-use Rattle.cca_machine.specs.Act.{Effect, Become, DefineRole, RemoveRole, Create, Write, Delete, Reencipher, delivered_with, effect, or_act, performed, refused, state_after as after_effect}
+use Rattle.cca_machine.specs.Act.{Effect, Become, DefineRole, RemoveRole, Create, Write, Delete, ChangeLabels, delivered_with, effect, or_act, performed, refused, state_after as after_effect}
 use Rattle.cca_machine.specs.Actions.{part_action}
 use Rattle.cca_machine.specs.Points.{point}
 use Rattle.cca_machine.specs.State.{State}
@@ -75,7 +77,7 @@ LabelsNeed s (Become m labels) needed = (labels ≡ s.labels) ⊎ Needs needed l
 LabelsNeed s (Create label) needed = Needs needed label_points
 LabelsNeed s (Write label key fields) needed = Needs needed label_points
 LabelsNeed s (Delete label) needed = Needs needed label_points
-LabelsNeed s (Reencipher a) needed = Needs needed label_points
+LabelsNeed s (ChangeLabels a) needed = Needs needed label_points
 LabelsNeed s _ needed = ⊤
 
 -- ---- each request needs them
@@ -86,14 +88,14 @@ delivers_role s field None key fields needed = tt
 delivers_role s field (Some label) key fields needed = tt
 
 roles_need : (s : State) (drawn : List ℕ) (name : RequestName) (r : Request) → RolesNeed (effect s drawn name r) (needed_points name r)
-roles_need s drawn csnbcki r = delivers_role s _ (label_named (value_of r (codes "to"))) _ _ _
-roles_need s drawn csnbkgn_op r = delivers_role s _ (label_named (value_of r (codes "to"))) _ _ _
-roles_need s drawn csnbkgn_pair r = delivers_role s _ (label_named (value_of r (codes "to"))) _ _ _
-roles_need s drawn csnbkim r = delivers_role s _ (label_named (value_of r (codes "to"))) _ _ _
-roles_need s drawn csnbpex r = delivers_role s _ (label_named (value_of r (codes "to"))) _ _ _
-roles_need s drawn csnbkpi_first r =
+roles_need s drawn Csnbcki r = delivers_role s _ (label_named (value_of r (codes "to"))) _ _ _
+roles_need s drawn CsnbkgnOp r = delivers_role s _ (label_named (value_of r (codes "to"))) _ _ _
+roles_need s drawn CsnbkgnPair r = delivers_role s _ (label_named (value_of r (codes "to"))) _ _ _
+roles_need s drawn Csnbkim r = delivers_role s _ (label_named (value_of r (codes "to"))) _ _ _
+roles_need s drawn Csnbpex r = delivers_role s _ (label_named (value_of r (codes "to"))) _ _ _
+roles_need s drawn CsnbkpiFirst r =
     delivers_role s _ (label_named (value_of r (codes "to"))) _ _ _
-roles_need s drawn csnbkpi_middle r =
+roles_need s drawn CsnbkpiMiddle r =
     delivers_role s _ (label_named (value_of r (codes "to"))) _ _ _
 roles_need s drawn _ r = tt
 
@@ -110,16 +112,16 @@ action_needs Clear = tt
 action_needs Set = tt
 
 registers_need : (s : State) (drawn : List ℕ) (name : RequestName) (r : Request) → RegistersNeed s (effect s drawn name r) (needed_points name r)
-registers_need s drawn csnbcki r = delivers_register s _ (label_named (value_of r (codes "to"))) _ _ _
-registers_need s drawn csnbkgn_op r = delivers_register s _ (label_named (value_of r (codes "to"))) _ _ _
-registers_need s drawn csnbkgn_pair r = delivers_register s _ (label_named (value_of r (codes "to"))) _ _ _
-registers_need s drawn csnbkim r = delivers_register s _ (label_named (value_of r (codes "to"))) _ _ _
-registers_need s drawn csnbpex r = delivers_register s _ (label_named (value_of r (codes "to"))) _ _ _
-registers_need s drawn csnbkpi_first r =
+registers_need s drawn Csnbcki r = delivers_register s _ (label_named (value_of r (codes "to"))) _ _ _
+registers_need s drawn CsnbkgnOp r = delivers_register s _ (label_named (value_of r (codes "to"))) _ _ _
+registers_need s drawn CsnbkgnPair r = delivers_register s _ (label_named (value_of r (codes "to"))) _ _ _
+registers_need s drawn Csnbkim r = delivers_register s _ (label_named (value_of r (codes "to"))) _ _ _
+registers_need s drawn Csnbpex r = delivers_register s _ (label_named (value_of r (codes "to"))) _ _ _
+registers_need s drawn CsnbkpiFirst r =
     delivers_register s _ (label_named (value_of r (codes "to"))) _ _ _
-registers_need s drawn csnbkpi_middle r =
+registers_need s drawn CsnbkpiMiddle r =
     delivers_register s _ (label_named (value_of r (codes "to"))) _ _ _
-registers_need s drawn csnbmkp_part r = action_needs (part_action (value_of r (codes "action")))
+registers_need s drawn CsnbmkpPart r = action_needs (part_action (value_of r (codes "action")))
 registers_need s drawn _ r = tt
 
 delivers_label : (s : State) (field : List ℕ) (to : Option (List ℕ)) (key : Denoted) (fields : List Field) (needed : ℕ)
@@ -128,18 +130,18 @@ delivers_label s field None key fields needed needs = tt
 delivers_label s field (Some label) key fields needed needs = needs
 
 labels_need : (s : State) (drawn : List ℕ) (name : RequestName) (r : Request) → LabelsNeed s (effect s drawn name r) (needed_points name r)
-labels_need s drawn csnbcki r = delivers_label s _ (label_named (value_of r (codes "to"))) _ _ (point (codes "CKI")) tt
-labels_need s drawn csnbkgn_op r = delivers_label s _ (label_named (value_of r (codes "to"))) _ _ (point (codes "KGN_OP")) tt
-labels_need s drawn csnbkgn_pair r = delivers_label s _ (label_named (value_of r (codes "to"))) _ _ (point (codes "KGN_PAIR")) tt
-labels_need s drawn csnbkim r = delivers_label s _ (label_named (value_of r (codes "to"))) _ _ (point (codes "KIM")) tt
-labels_need s drawn csnbpex r = delivers_label s _ (label_named (value_of r (codes "to"))) _ _ (point (codes "PEX")) tt
-labels_need s drawn csnbkpi_first r =
+labels_need s drawn Csnbcki r = delivers_label s _ (label_named (value_of r (codes "to"))) _ _ (point (codes "CKI")) tt
+labels_need s drawn CsnbkgnOp r = delivers_label s _ (label_named (value_of r (codes "to"))) _ _ (point (codes "KGN_OP")) tt
+labels_need s drawn CsnbkgnPair r = delivers_label s _ (label_named (value_of r (codes "to"))) _ _ (point (codes "KGN_PAIR")) tt
+labels_need s drawn Csnbkim r = delivers_label s _ (label_named (value_of r (codes "to"))) _ _ (point (codes "KIM")) tt
+labels_need s drawn Csnbpex r = delivers_label s _ (label_named (value_of r (codes "to"))) _ _ (point (codes "PEX")) tt
+labels_need s drawn CsnbkpiFirst r =
     delivers_label s _ (label_named (value_of r (codes "to"))) _ _ (point (codes "KPI_FIRST")) tt
-labels_need s drawn csnbkpi_middle r =
+labels_need s drawn CsnbkpiMiddle r =
     delivers_label s _ (label_named (value_of r (codes "to"))) _ _ (point (codes "KPI_COMBINE")) tt
-labels_need s drawn csnbmkp_part r = inl refl
-labels_need s drawn csnbmkp_clear r = inl refl
-labels_need s drawn csnbmkp_set r = inr tt
+labels_need s drawn CsnbmkpPart r = inl refl
+labels_need s drawn CsnbmkpClear r = inl refl
+labels_need s drawn CsnbmkpSet r = inr tt
 labels_need s drawn _ r = tt
 
 -- ---- what stays
@@ -180,7 +182,7 @@ labels_stay s drawn r none permits = by_effect (effect s drawn r.name r) (labels
     by_effect (Create label) needs = absurd (refuses needs)
     by_effect (Write label key fields) needs = absurd (refuses needs)
     by_effect (Delete label) needs = absurd (refuses needs)
-    by_effect (Reencipher a) needs = absurd (refuses needs)
+    by_effect (ChangeLabels a) needs = absurd (refuses needs)
     by_effect _ needs = refl
 
 -- ---- over lines

@@ -39,10 +39,12 @@ use Rattle.text_segments.specs.declared.chains.Chain.{Chain}
 use Rattle.text_segments.specs.declared.modes.Mode.{Mode}
 use Rattle.text_segments.specs.declared.modes.Mode.TheVariants as mode
 use Rattle.verb_rules.specs.Keys.{keys_of}
-use Rattle.verb_script.specs.Grammar.{Request, RequestName, csnbktp, csnbenc, csnbenc_first, csnbenc_middle, csnbenc_last, csnbdec, csnbdec_first, csnbdec_middle, csnbdec_last, csnbmgn, csnbmgn_first, csnbmgn_middle, csnbmgn_last, csnbmvr, csnbmvr_first, csnbmvr_middle, csnbmvr_last, csnbkyt, csnbcki, csnbrng, csnbkgn_op, csnbkgn_pair, csnbkgn_out, csnbkim, csnbkex, csnbpex, csnbktc, csnbkpi_first, csnbkpi_middle, csnbktr, csnbkrr, csnbkrl, value_of}
+use Rattle.verb_script.specs.Grammar.{Request, value_of}
+use Rattle.verb_script.specs.declared.rows.RequestName.{RequestName}
+use Rattle.verb_script.specs.declared.rows.RequestName.TheVariants.{Csnbktp, Csnbenc, CsnbencFirst, CsnbencMiddle, CsnbencLast, Csnbdec, CsnbdecFirst, CsnbdecMiddle, CsnbdecLast, Csnbmgn, CsnbmgnFirst, CsnbmgnMiddle, CsnbmgnLast, Csnbmvr, CsnbmvrFirst, CsnbmvrMiddle, CsnbmvrLast, Csnbkyt, Csnbcki, Csnbrng, CsnbkgnOp, CsnbkgnPair, CsnbkgnOut, Csnbkim, Csnbkex, Csnbpex, Csnbktc, CsnbkpiFirst, CsnbkpiMiddle, Csnbktr, Csnbkrr, Csnbkrl}
 use Rattle.verb_script.specs.Named.{is_label_text, is_named, is_visible, label_named}
 use Rattle.verb_script.specs.Requests.{request_of}
-use Rattle.cca_machine.specs.Act.{Effect, Show, Become, Write, Reencipher, class_name, code_segment_fields, delivered_with, effect, fields_after, kind_name, new_name, or_act, or_empty, performed, segment_fields, shown_last, token_out, type1_of, type2_of, yes_or_no}
+use Rattle.cca_machine.specs.Act.{Effect, Show, Become, Write, ChangeLabels, class_name, code_segment_fields, delivered_with, effect, fields_after, kind_name, new_name, or_act, or_empty, performed, segment_fields, shown_last, token_out, type1_of, type2_of, yes_or_no}
 use Rattle.cca_machine.specs.Choices.{form_named, mac_rule_named, pad_named, target_named, type_in}
 use Rattle.cca_machine.specs.Keys.{any_old, cell_with, imported, key_bytes, key_in_field, key_in_text, key_named, key_of_label, key_of_request, key_of_token, or_no_clear, or_no_key, warning, what_at, what_in}
 use Rattle.cca_machine.specs.Lines.{line_checks, line_outcome, outcome_by, taken_by}
@@ -382,7 +384,7 @@ module _ (s : State) (vectors : HasVectors s.labels) where
 
   module _ (labels : HasLabels s) (drawn : List ℕ) (are : Bytes drawn) where
     effect_fits : (name : RequestName) (r : Request) → IsFitEffect (effect s drawn name r)
-    effect_fits csnbktp r = (
+    effect_fits Csnbktp r = (
       (tt, kind_prints (token_of (bytes_in r (codes "token"))).kind),
       (
         (tt, class_prints (class_of (token_of (bytes_in r (codes "token"))).vector)),
@@ -395,11 +397,11 @@ module _ (s : State) (vectors : HasVectors s.labels) where
         ),
       ),
     )
-    effect_fits csnbenc r = ((tt, bytes_enciphered (key_of_request s r) (bytes_in r (codes "iv")) (pad_named (value_of r (codes "pad"))) (bytes_in r (codes "text"))), tt)
-    effect_fits csnbenc_first r = segment_fits (key_of_request s r) mode.Encipher (first_chain (bytes_in r (codes "iv"))) r (start_of r)
-    effect_fits csnbenc_middle r = segment_fits (key_of_request s r) mode.Encipher (chain_in r) r (chain_given r)
-    effect_fits csnbenc_last r = last_fits mode.Encipher r
-    effect_fits csnbdec r = (
+    effect_fits Csnbenc r = ((tt, bytes_enciphered (key_of_request s r) (bytes_in r (codes "iv")) (pad_named (value_of r (codes "pad"))) (bytes_in r (codes "text"))), tt)
+    effect_fits CsnbencFirst r = segment_fits (key_of_request s r) mode.Encipher (first_chain (bytes_in r (codes "iv"))) r (start_of r)
+    effect_fits CsnbencMiddle r = segment_fits (key_of_request s r) mode.Encipher (chain_in r) r (chain_given r)
+    effect_fits CsnbencLast r = last_fits mode.Encipher r
+    effect_fits Csnbdec r = (
       (
         tt,
         some_bytes (deciphered_text (key_of_request s r) (bytes_in r (codes "iv")) (pad_named (value_of r (codes "pad"))) (bytes_in r (codes "text")))
@@ -408,23 +410,23 @@ module _ (s : State) (vectors : HasVectors s.labels) where
       ),
       tt,
     )
-    effect_fits csnbdec_first r = segment_fits (key_of_request s r) mode.Decipher (first_chain (bytes_in r (codes "iv"))) r (start_of r)
-    effect_fits csnbdec_middle r = segment_fits (key_of_request s r) mode.Decipher (chain_in r) r (chain_given r)
-    effect_fits csnbdec_last r = last_fits mode.Decipher r
-    effect_fits csnbmgn r = ((tt, takes _ _ (bytes_code_of (mac_rule_named (value_of r (codes "rule"))) (key_of_request s r) (bytes_in r (codes "text")))), tt)
-    effect_fits csnbmgn_first r = code_fits (key_of_request s r) r (first_chain zero_block) zero_start
-    effect_fits csnbmgn_middle r = code_fits (key_of_request s r) r (chain_in r) (chain_given r)
-    effect_fits csnbmgn_last r = (
+    effect_fits CsnbdecFirst r = segment_fits (key_of_request s r) mode.Decipher (first_chain (bytes_in r (codes "iv"))) r (start_of r)
+    effect_fits CsnbdecMiddle r = segment_fits (key_of_request s r) mode.Decipher (chain_in r) r (chain_given r)
+    effect_fits CsnbdecLast r = last_fits mode.Decipher r
+    effect_fits Csnbmgn r = ((tt, takes _ _ (bytes_code_of (mac_rule_named (value_of r (codes "rule"))) (key_of_request s r) (bytes_in r (codes "text")))), tt)
+    effect_fits CsnbmgnFirst r = code_fits (key_of_request s r) r (first_chain zero_block) zero_start
+    effect_fits CsnbmgnMiddle r = code_fits (key_of_request s r) r (chain_in r) (chain_given r)
+    effect_fits CsnbmgnLast r = (
       (tt, takes _ _ (bytes_last_code (key_of_request s r) (chain_in r) (bytes_in r (codes "text")) (chain_given r) (bytes_of r (codes "text")) (code_rule r))),
       tt,
     )
-    effect_fits csnbmvr r = (
+    effect_fits Csnbmvr r = (
       (tt, answer_prints (is_code (mac_rule_named (value_of r (codes "rule"))) (key_of_request s r) (bytes_in r (codes "text")) (bytes_in r (codes "mac")))),
       tt,
     )
-    effect_fits csnbmvr_first r = code_fits (key_of_request s r) r (first_chain zero_block) zero_start
-    effect_fits csnbmvr_middle r = code_fits (key_of_request s r) r (chain_in r) (chain_given r)
-    effect_fits csnbmvr_last r = (
+    effect_fits CsnbmvrFirst r = code_fits (key_of_request s r) r (first_chain zero_block) zero_start
+    effect_fits CsnbmvrMiddle r = code_fits (key_of_request s r) r (chain_in r) (chain_given r)
+    effect_fits CsnbmvrLast r = (
       (
         tt,
         answer_prints
@@ -433,30 +435,30 @@ module _ (s : State) (vectors : HasVectors s.labels) where
       ),
       tt,
     )
-    effect_fits csnbkyt r = ((tt, bytes_front 4 (key_of_request s r).key zero_block), tt)
-    effect_fits csnbcki r = delivered_fits r (codes "token") _ [] tt (literal data_vector refl) tt
-    effect_fits csnbrng r = ((tt, bytes_form (form_named (value_of r (codes "form"))) drawn are), tt)
-    effect_fits csnbkgn_op r = delivered_fits r (codes "token1") _ [] tt (bytes_generated (type1_of r) (length_in r)) tt
-    effect_fits csnbkgn_pair r =
+    effect_fits Csnbkyt r = ((tt, bytes_front 4 (key_of_request s r).key zero_block), tt)
+    effect_fits Csnbcki r = delivered_fits r (codes "token") _ [] tt (literal data_vector refl) tt
+    effect_fits Csnbrng r = ((tt, bytes_form (form_named (value_of r (codes "form"))) drawn are), tt)
+    effect_fits CsnbkgnOp r = delivered_fits r (codes "token1") _ [] tt (bytes_generated (type1_of r) (length_in r)) tt
+    effect_fits CsnbkgnPair r =
         delivered_fits r (codes "token1") _ _ tt (bytes_generated (type1_of r) (length_in r))
         ((tt, out_fits r (codes "transport2") _ (bytes_generated (type2_of r) (length_in r))), tt)
-    effect_fits csnbkgn_out r = (
+    effect_fits CsnbkgnOut r = (
       (tt, out_fits r (codes "transport1") _ (bytes_generated (type1_of r) (length_in r))),
       ((tt, out_fits r (codes "transport2") _ (bytes_generated (type2_of r) (length_in r))), tt),
     )
-    effect_fits csnbkim r = delivered_fits r (codes "token") _ [] tt (import_vector (key_in_field s r (codes "transport")) r) tt
-    effect_fits csnbkex r = ((tt, out_fits r (codes "transport") (key_of_request s r) (request_vector r)), tt)
-    effect_fits csnbpex r = delivered_fits r (codes "token") _ [] tt (bytes_closed (key_of_request s r).vector (request_vector r)) tt
-    effect_fits csnbktc r = (
+    effect_fits Csnbkim r = delivered_fits r (codes "token") _ [] tt (import_vector (key_in_field s r (codes "transport")) r) tt
+    effect_fits Csnbkex r = ((tt, out_fits r (codes "transport") (key_of_request s r) (request_vector r)), tt)
+    effect_fits Csnbpex r = delivered_fits r (codes "token") _ [] tt (bytes_closed (key_of_request s r).vector (request_vector r)) tt
+    effect_fits Csnbktc r = (
       (tt, bytes_changed_token (or_no_key (key_of_token s (bytes_in r (codes "token")))).clear (token_vector r) s.registers (target_named (value_of r (codes "rule")))),
       tt,
     )
-    effect_fits csnbkpi_first r =
+    effect_fits CsnbkpiFirst r =
         delivered_fits r (codes "token") _ [] tt (bytes_part _ (bytes_vector_for (type_in (value_of r (codes "type"))) (length (part_in r)))) tt
-    effect_fits csnbkpi_middle r =
+    effect_fits CsnbkpiMiddle r =
         delivered_fits r (codes "token") _ [] tt (either _ _ _ (bytes_part (key_of_request s r).vector (request_vector r)) (request_vector r)) tt
-    effect_fits csnbktr r = ((tt, out_fits r (codes "transport2") _ (import_vector (key_in_field s r (codes "transport1")) r)), tt)
-    effect_fits csnbkrr r = (
+    effect_fits Csnbktr r = ((tt, out_fits r (codes "transport2") _ (import_vector (key_in_field s r (codes "transport1")) r)), tt)
+    effect_fits Csnbkrr r = (
       (
         tt,
         bytes_token (or_no_key (key_of_label s (value_of r (codes "label")))).clear
@@ -465,7 +467,7 @@ module _ (s : State) (vectors : HasVectors s.labels) where
       ),
       tt,
     )
-    effect_fits csnbkrl r = listing_fits (value_of r (codes "prefix")) (directory s.labels) labels
+    effect_fits Csnbkrl r = listing_fits (value_of r (codes "prefix")) (directory s.labels) labels
     effect_fits _ r = tt
 
 state_prints : (new : NewRegister) → Printable (new_name new)
@@ -477,7 +479,7 @@ after_fits : (s : State) (e : Effect) → IsFitEffect e → AreFit (fields_after
 after_fits s (Become m labels) fits = ((tt, state_prints m.coming), tt)
 after_fits s (Show fields) fits = fits
 after_fits s (Write label key fields) fits = fits
-after_fits s (Reencipher a) fits = (tt, tt)
+after_fits s (ChangeLabels a) fits = (tt, tt)
 after_fits s _ fits = tt
 
 warning_fits : (b : Bool) → AreFit (warning b)
@@ -554,7 +556,7 @@ module _ (s : State) where
       (asked_sound os (second_of_both (is_text o.name) (are_texts os) named))
 
   operands_named : (name : RequestName) (r : Request) → T (are_texts (listed (operands_of name r)))
-  operands_named csnbktp r = tt
+  operands_named Csnbktp r = tt
   operands_named _ r = tt
 
   change_sound : (t : Target) → T (are_sound (change_questions s t))
@@ -562,7 +564,7 @@ module _ (s : State) where
   change_sound New = tt
 
   verb_sound : (name : RequestName) (r : Request) → T (are_sound (verb_questions s name r))
-  verb_sound csnbktc r = change_sound (target_named (value_of r (codes "rule")))
+  verb_sound Csnbktc r = change_sound (target_named (value_of r (codes "rule")))
   verb_sound _ r = tt
 
 then_fits : (a b : Option Refusal) → IsFitRefusal a → IsFitRefusal b → IsFitRefusal (or_then a b)

@@ -7,7 +7,9 @@ use Rattle.cca_vectors.specs.Checks.{Check, first_failing}
 use Rattle.key_transport.specs.declared.changing.Target.{Target}
 use Rattle.key_transport.specs.declared.changing.Target.TheVariants.{Current, New}
 use Rattle.verb_rules.specs.declared.needs.Need.{Need}
-use Rattle.verb_script.specs.Grammar.{Request, RequestName, csnbktp, csnbkgn_op, csnbkgn_pair, csnbkgn_out, csnbktc, value_of}
+use Rattle.verb_script.specs.Grammar.{Request, value_of}
+use Rattle.verb_script.specs.declared.rows.RequestName.{RequestName}
+use Rattle.verb_script.specs.declared.rows.RequestName.TheVariants.{Csnbktp, CsnbkgnOp, CsnbkgnPair, CsnbkgnOut, Csnbktc}
 use Rattle.verb_script.specs.Named.{label_named}
 use Rattle.cca_machine.specs.Act.{or_act, performed}
 use Rattle.cca_machine.specs.Choices.{target_named}
@@ -100,19 +102,19 @@ module _ (name : RequestName) where
       (operands_told s os (second_of_both (is_field_name name o.name) (are_named os) named))
 
 dash_named : (name : RequestName) → T (is_field_name name (codes "-"))
-dash_named csnbktp = tt
+dash_named Csnbktp = tt
 dash_named _ = tt
 
 operands_named : (name : RequestName) (r : Request) → T (are_named name (listed (operands_of name r)))
-operands_named csnbktp r = tt
+operands_named Csnbktp r = tt
 operands_named _ r = tt
 
-change_told : (s : State) (t : Target) → T (are_told csnbktc (change_questions s t))
+change_told : (s : State) (t : Target) → T (are_told Csnbktc (change_questions s t))
 change_told s Current = tt
 change_told s New = tt
 
 verb_told : (s : State) (name : RequestName) (r : Request) → T (are_told name (verb_questions s name r))
-verb_told s csnbktc r = change_told s (target_named (value_of r (codes "rule")))
+verb_told s Csnbktc r = change_told s (target_named (value_of r (codes "rule")))
 verb_told s _ r = tt
 
 -- rule 34 is of the field `length`, which the requests have that draw a key
@@ -128,9 +130,9 @@ last_is name before (KeyBytes key_length) random is named = by_test before (repe
     by_test o false has = has
 
 drawn_is : (name : RequestName) (r : Request) (before : Option Refusal) (random : List ℕ) → IsOf name before → IsOf name (or_last before (draw_verdict (draw_of name r) random))
-drawn_is csnbkgn_op r before random is = last_is csnbkgn_op before (draw_of csnbkgn_op r) random is tt
-drawn_is csnbkgn_pair r before random is = last_is csnbkgn_pair before (draw_of csnbkgn_pair r) random is tt
-drawn_is csnbkgn_out r before random is = last_is csnbkgn_out before (draw_of csnbkgn_out r) random is tt
+drawn_is CsnbkgnOp r before random is = last_is CsnbkgnOp before (draw_of CsnbkgnOp r) random is tt
+drawn_is CsnbkgnPair r before random is = last_is CsnbkgnPair before (draw_of CsnbkgnPair r) random is tt
+drawn_is CsnbkgnOut r before random is = last_is CsnbkgnOut before (draw_of CsnbkgnOut r) random is tt
 drawn_is _ r before random is = is
 
 verdict_is : (s : State) (random : List ℕ) (r : Request) → IsOf r.name (verdict s random r)

@@ -28,13 +28,15 @@ use Rattle.script_buffers.specs.Lines.{lines, newline}
 use Rattle.script_buffers.proofs.LineLemmas.{lines-nil, lines-whole}
 use Rattle.script_buffers.specs.Replies.{Field, spelled}
 use Rattle.verb_rules.specs.Keys.{keys_of}
-use Rattle.verb_script.specs.Grammar.{Request, RequestName, csnbktp, csnbmvr, csnbcki, csnbkgn_op, csnbkgn_pair, csnbkim, csnbpex, csnbkpi_first, csnbkpi_middle, csnbmvr_last, csnbktc, csnbkrl, value_of}
+use Rattle.verb_script.specs.Grammar.{Request, value_of}
+use Rattle.verb_script.specs.declared.rows.RequestName.{RequestName}
+use Rattle.verb_script.specs.declared.rows.RequestName.TheVariants.{Csnbktp, Csnbmvr, Csnbcki, CsnbkgnOp, CsnbkgnPair, Csnbkim, Csnbpex, CsnbkpiFirst, CsnbkpiMiddle, CsnbmvrLast, Csnbktc, Csnbkrl}
 use Rattle.verb_script.specs.Named.{is_label_text, is_named, is_visible, label_named}
 use Rattle.verb_script.specs.Requests.{request_of}
 use Rattle.mac_verbs.specs.Codes.{is_code}
 use Rattle.std.specs.Str.{bytes_eq}
 use Rattle.text_segments.specs.Segments.{last_code}
-use Rattle.cca_machine.specs.Act.{Effect, Show, Become, DefineRole, RemoveRole, Create, Write, Delete, Reencipher, class_name, deleted_in, delivered_with, effect, fields_after, kind_name, new_name, or_act, performed, state_after as after_effect, written_in, yes_or_no}
+use Rattle.cca_machine.specs.Act.{Effect, Show, Become, DefineRole, RemoveRole, Create, Write, Delete, ChangeLabels, class_name, deleted_in, delivered_with, effect, fields_after, kind_name, new_name, or_act, performed, state_after as after_effect, written_in, yes_or_no}
 use Rattle.cca_machine.specs.Choices.{mac_rule_named, target_named}
 use Rattle.cca_machine.specs.Keys.{any_old, cell_with, key_of_request, warning}
 use Rattle.cca_machine.specs.Lines.{line_checks, line_outcome, outcome_by, taken_by}
@@ -146,7 +148,7 @@ labels_stay s name r (Become m labels) are fits = ⊎_elim
 labels_stay s name r (Create label) are fits = set_labels s.labels _ (Some (null_entry label)) (λ is. fits.well) are
 labels_stay s name r (Write label key fields) are fits = written_labels s.labels (cell_with s label) key are
 labels_stay s name r (Delete label) are fits = deleted_labels s.labels (cell_with s label) are
-labels_stay s name r (Reencipher a) are fits = subst AreLabels (sym (further_labels a s.labels 1024)) are
+labels_stay s name r (ChangeLabels a) are fits = subst AreLabels (sym (further_labels a s.labels 1024)) are
 labels_stay s name r (Show fields) are fits = are
 labels_stay s name r (DefineRole role points) are fits = are
 labels_stay s name r (RemoveRole role) are fits = are
@@ -244,24 +246,24 @@ named_by : (r : Request) (label : List ℕ) → label_named (value_of r (codes "
 named_by r label is = named_clean (value_of r (codes "to")) label is
 
 fields_clean : (s : State) (drawn : List ℕ) → HasLabels s → (name : RequestName) (r : Request) → IsCleanEffect (effect s drawn name r)
-fields_clean s drawn are csnbktp r =
+fields_clean s drawn are Csnbktp r =
     both (is_clean (kind_name (token_of (bytes_in r (codes "token"))).kind)) _ (kind_clean (token_of (bytes_in r (codes "token"))).kind)
     (both (is_clean (class_name (class_of (token_of (bytes_in r (codes "token"))).vector))) _ (class_clean (class_of (token_of (bytes_in r (codes "token"))).vector)) tt)
-fields_clean s drawn are csnbmvr r =
+fields_clean s drawn are Csnbmvr r =
     both _ true (answer_clean (is_code (mac_rule_named (value_of r (codes "rule"))) (key_of_request s r) (bytes_in r (codes "text")) (bytes_in r (codes "mac")))) tt
-fields_clean s drawn are csnbcki r = delivered_clean s (codes "token") (label_named (value_of r (codes "to"))) _ _ tt (named_by r) tt
-fields_clean s drawn are csnbkgn_op r = delivered_clean s (codes "token1") (label_named (value_of r (codes "to"))) _ _ tt (named_by r) tt
-fields_clean s drawn are csnbkgn_pair r = delivered_clean s (codes "token1") (label_named (value_of r (codes "to"))) _ _ tt (named_by r) tt
-fields_clean s drawn are csnbkim r = delivered_clean s (codes "token") (label_named (value_of r (codes "to"))) _ _ tt (named_by r) tt
-fields_clean s drawn are csnbpex r = delivered_clean s (codes "token") (label_named (value_of r (codes "to"))) _ _ tt (named_by r) tt
-fields_clean s drawn are csnbkpi_first r = delivered_clean s (codes "token") (label_named (value_of r (codes "to"))) _ _ tt (named_by r) tt
-fields_clean s drawn are csnbkpi_middle r = delivered_clean s (codes "token") (label_named (value_of r (codes "to"))) _ _ tt (named_by r) tt
-fields_clean s drawn are csnbmvr_last r =
+fields_clean s drawn are Csnbcki r = delivered_clean s (codes "token") (label_named (value_of r (codes "to"))) _ _ tt (named_by r) tt
+fields_clean s drawn are CsnbkgnOp r = delivered_clean s (codes "token1") (label_named (value_of r (codes "to"))) _ _ tt (named_by r) tt
+fields_clean s drawn are CsnbkgnPair r = delivered_clean s (codes "token1") (label_named (value_of r (codes "to"))) _ _ tt (named_by r) tt
+fields_clean s drawn are Csnbkim r = delivered_clean s (codes "token") (label_named (value_of r (codes "to"))) _ _ tt (named_by r) tt
+fields_clean s drawn are Csnbpex r = delivered_clean s (codes "token") (label_named (value_of r (codes "to"))) _ _ tt (named_by r) tt
+fields_clean s drawn are CsnbkpiFirst r = delivered_clean s (codes "token") (label_named (value_of r (codes "to"))) _ _ tt (named_by r) tt
+fields_clean s drawn are CsnbkpiMiddle r = delivered_clean s (codes "token") (label_named (value_of r (codes "to"))) _ _ tt (named_by r) tt
+fields_clean s drawn are CsnbmvrLast r =
     both _ true
     (answer_clean (bytes_eq (bytes_in r (codes "mac"))
     (take (length (bytes_in r (codes "mac"))) (last_code (key_of_request s r) (code_rule r) (chain_in r) (bytes_in r (codes "text"))))))
     tt
-fields_clean s drawn are csnbkrl r = listing_clean (value_of r (codes "prefix")) (directory s.labels) are
+fields_clean s drawn are Csnbkrl r = listing_clean (value_of r (codes "prefix")) (directory s.labels) are
 fields_clean s drawn are _ r = tt
 
 state_clean : (new : NewRegister) → T (is_clean (new_name new))
@@ -299,7 +301,7 @@ questions_clean (q ∷ qs) clean =
     (questions_clean qs (second_of_both (is_clean q.operand) (are_named qs) clean))
 
 operand_clean : (s : State) (name : RequestName) (r : Request) → T (are_named (operand_questions s (listed (operands_of name r))))
-operand_clean s csnbktp r = tt
+operand_clean s Csnbktp r = tt
 operand_clean s _ r = tt
 
 change_clean : (s : State) (t : Target) → T (are_named (change_questions s t))
@@ -307,7 +309,7 @@ change_clean s Current = tt
 change_clean s New = tt
 
 verb_clean : (s : State) (name : RequestName) (r : Request) → T (are_named (verb_questions s name r))
-verb_clean s csnbktc r = change_clean s (target_named (value_of r (codes "rule")))
+verb_clean s Csnbktc r = change_clean s (target_named (value_of r (codes "rule")))
 verb_clean s _ r = tt
 
 then_clean : (a b : Option Refusal) → IsCleanRefusal a → IsCleanRefusal b → IsCleanRefusal (or_then a b)

@@ -62,11 +62,13 @@ use Rattle.verb_rules.specs.LengthChecks.{has_length, is_segment, is_whole, text
 use Rattle.verb_rules.specs.declared.lengths.MacRule.{MacRule}
 use Rattle.verb_rules.specs.declared.lengths.TextUse.{TextUse}
 use Rattle.verb_rules.specs.declared.lengths.TextUse.TheVariants.{EncipherPlain, EncipherPadded, Decipher, Mac as ForMac, Segment, LastPlain, LastPadded, LastDecipher, LastMac}
-use Rattle.verb_script.specs.Grammar.{AreValues, FieldForm, IsValue, Request, RequestName, Values, csnbktp, csnbenc, csnbenc_first, csnbenc_middle, csnbenc_last, csnbdec, csnbdec_first, csnbdec_middle, csnbdec_last, csnbmgn, csnbmgn_first, csnbmgn_middle, csnbmgn_last, csnbmvr, csnbmvr_first, csnbmvr_middle, csnbmvr_last, csnbkyt, csnbcki, csnbrng, csnbkgn_op, csnbkgn_pair, csnbkgn_out, csnbkim, csnbkex, csnbpex, csnbktc, csnbkpi_first, csnbkpi_middle, csnbktr, csnbkrw, csnbkrr, csnbkrl, hex_digits, row_of, value_among, value_of}
+use Rattle.verb_script.specs.Grammar.{AreValues, FieldForm, IsValue, Request, Values, hex_digits, row_of, value_among, value_of}
+use Rattle.verb_script.specs.declared.rows.RequestName.{RequestName}
+use Rattle.verb_script.specs.declared.rows.RequestName.TheVariants.{Csnbktp, Csnbenc, CsnbencFirst, CsnbencMiddle, CsnbencLast, Csnbdec, CsnbdecFirst, CsnbdecMiddle, CsnbdecLast, Csnbmgn, CsnbmgnFirst, CsnbmgnMiddle, CsnbmgnLast, Csnbmvr, CsnbmvrFirst, CsnbmvrMiddle, CsnbmvrLast, Csnbkyt, Csnbcki, Csnbrng, CsnbkgnOp, CsnbkgnPair, CsnbkgnOut, Csnbkim, Csnbkex, Csnbpex, Csnbktc, CsnbkpiFirst, CsnbkpiMiddle, Csnbktr, Csnbkrw, Csnbkrr, Csnbkrl}
 use Rattle.verb_script.specs.Named.{label_named}
 use Rattle.verb_script.specs.Requests.{request_of}
 use Rattle.verb_script.proofs.GrammarLaws.{request_of-sound, spelled_values}
-use Rattle.cca_machine.specs.Act.{Effect, Show, Become, Write, Reencipher, class_name, code_segment_fields, delivered_with, effect, fields_after, kind_name, last_text_fields, new_name, or_act, or_empty, performed, segment_fields, shown_vector, token_fields, token_out, type1_of, type2_of, yes_or_no}
+use Rattle.cca_machine.specs.Act.{Effect, Show, Become, Write, ChangeLabels, class_name, code_segment_fields, delivered_with, effect, fields_after, kind_name, last_text_fields, new_name, or_act, or_empty, performed, segment_fields, shown_vector, token_fields, token_out, type1_of, type2_of, yes_or_no}
 use Rattle.cca_machine.specs.Choices.{form_named, is_last_part, mac_length_named, mac_rule_named, pad_named, target_named, type_in}
 use Rattle.cca_machine.specs.Keys.{any_old, cell_with, imported, key_bytes, key_in_field, key_in_text, key_named, key_of_label, key_of_request, key_of_token, or_no_clear, or_no_key, warning, what_at, what_in}
 use Rattle.cca_machine.specs.Draws.{bytes_drawn, draw_of, length_in}
@@ -205,7 +207,7 @@ value_digits (f ∷ fs) (v ∷ vs) name n all are =
     by_name false is others = others
 
 start_digits : (name : RequestName) → T (are_digits 16 (codes "iv") (row_of name).fields)
-start_digits csnbktp = tt
+start_digits Csnbktp = tt
 start_digits _ = tt
 
 -- the first vector of a chain, where a line spells the request
@@ -509,87 +511,87 @@ module _ (s : State) (image : List ℕ) (stands : IsStoreOf s image) where
   fields_short : (drawn ahead : List ℕ) (name : RequestName) (r : Request) → length drawn ≤ bytes_drawn (draw_of name r) ahead → length (bytes_in r (codes "iv")) ≤ 8
       → first_refusal (operand_questions s (listed (operands_of name r))) ≡ None → first_refusal (verb_questions s name r) ≡ None
       → IsShortEffect (effect s drawn name r)
-  fields_short drawn ahead csnbktp r drawn_few start ops verb = token_fields_short (bytes_in r (codes "token"))
-  fields_short drawn ahead csnbenc r drawn_few start ops verb =
+  fields_short drawn ahead Csnbktp r drawn_few start ops verb = token_fields_short (bytes_in r (codes "token"))
+  fields_short drawn ahead Csnbenc r drawn_few start ops verb =
       let padding = pad_named (value_of r (codes "pad")) in
       let text = bytes_in r (codes "text") in
       one_hex (codes "text") (enciphered_text (key_of_request s r) (bytes_in r (codes "iv")) padding text) (omega arith)
       (omega (arith, enciphered_short (key_of_request s r) (bytes_in r (codes "iv")) padding text, text_short (enciphering padding) r (refused_none _ _ _ verb).0))
-  fields_short drawn ahead csnbenc_first r drawn_few start ops verb = first_segment mode.Encipher r start verb
-  fields_short drawn ahead csnbenc_middle r drawn_few start ops verb = middle_segment mode.Encipher r verb
-  fields_short drawn ahead csnbenc_last r drawn_few start ops verb = last_segment mode.Encipher r verb
-  fields_short drawn ahead csnbdec r drawn_few start ops verb =
+  fields_short drawn ahead CsnbencFirst r drawn_few start ops verb = first_segment mode.Encipher r start verb
+  fields_short drawn ahead CsnbencMiddle r drawn_few start ops verb = middle_segment mode.Encipher r verb
+  fields_short drawn ahead CsnbencLast r drawn_few start ops verb = last_segment mode.Encipher r verb
+  fields_short drawn ahead Csnbdec r drawn_few start ops verb =
       let padding = pad_named (value_of r (codes "pad")) in
       let text = bytes_in r (codes "text") in
       one_hex (codes "text") (or_empty (deciphered_text (key_of_request s r) (bytes_in r (codes "iv")) padding text)) (omega arith)
       (omega (arith, deciphered_short (key_of_request s r) (bytes_in r (codes "iv")) padding text, text_short Decipher r (refused_none _ _ _ verb).0))
-  fields_short drawn ahead csnbdec_first r drawn_few start ops verb = first_segment mode.Decipher r start verb
-  fields_short drawn ahead csnbdec_middle r drawn_few start ops verb = middle_segment mode.Decipher r verb
-  fields_short drawn ahead csnbdec_last r drawn_few start ops verb = last_segment mode.Decipher r verb
-  fields_short drawn ahead csnbmgn r drawn_few start ops verb =
+  fields_short drawn ahead CsnbdecFirst r drawn_few start ops verb = first_segment mode.Decipher r start verb
+  fields_short drawn ahead CsnbdecMiddle r drawn_few start ops verb = middle_segment mode.Decipher r verb
+  fields_short drawn ahead CsnbdecLast r drawn_few start ops verb = last_segment mode.Decipher r verb
+  fields_short drawn ahead Csnbmgn r drawn_few start ops verb =
       code_short (code_of (mac_rule_named (value_of r (codes "rule"))) (key_of_request s r) (bytes_in r (codes "text"))) (value_of r (codes "length"))
-  fields_short drawn ahead csnbmgn_first r drawn_few start ops verb = code_segment r (first_chain zero_block) (omega arith)
-  fields_short drawn ahead csnbmgn_middle r drawn_few start ops verb = code_segment r (chain_in r) (take_short 8 (bytes_in r (codes "chain")))
-  fields_short drawn ahead csnbmgn_last r drawn_few start ops verb =
+  fields_short drawn ahead CsnbmgnFirst r drawn_few start ops verb = code_segment r (first_chain zero_block) (omega arith)
+  fields_short drawn ahead CsnbmgnMiddle r drawn_few start ops verb = code_segment r (chain_in r) (take_short 8 (bytes_in r (codes "chain")))
+  fields_short drawn ahead CsnbmgnLast r drawn_few start ops verb =
       code_short (last_code (key_of_request s r) (code_rule r) (chain_in r) (bytes_in r (codes "text"))) (value_of r (codes "length"))
-  fields_short drawn ahead csnbmvr r drawn_few start ops verb =
+  fields_short drawn ahead Csnbmvr r drawn_few start ops verb =
       match_short (is_code (mac_rule_named (value_of r (codes "rule"))) (key_of_request s r) (bytes_in r (codes "text")) (bytes_in r (codes "mac")))
-  fields_short drawn ahead csnbmvr_first r drawn_few start ops verb = code_segment r (first_chain zero_block) (omega arith)
-  fields_short drawn ahead csnbmvr_middle r drawn_few start ops verb = code_segment r (chain_in r) (take_short 8 (bytes_in r (codes "chain")))
-  fields_short drawn ahead csnbmvr_last r drawn_few start ops verb =
+  fields_short drawn ahead CsnbmvrFirst r drawn_few start ops verb = code_segment r (first_chain zero_block) (omega arith)
+  fields_short drawn ahead CsnbmvrMiddle r drawn_few start ops verb = code_segment r (chain_in r) (take_short 8 (bytes_in r (codes "chain")))
+  fields_short drawn ahead CsnbmvrLast r drawn_few start ops verb =
       match_short (bytes_eq (bytes_in r (codes "mac"))
       (take (length (bytes_in r (codes "mac"))) (last_code (key_of_request s r) (code_rule r) (chain_in r) (bytes_in r (codes "text")))))
-  fields_short drawn ahead csnbkyt r drawn_few start ops verb =
+  fields_short drawn ahead Csnbkyt r drawn_few start ops verb =
       one_hex (codes "value") (test_value (key_of_request s r)) (omega arith) (omega (arith, take_short 4 (e (key_of_request s r).key zero_block)))
-  fields_short drawn ahead csnbcki r drawn_few start ops verb =
-      goes r (codes "token") (imported_key (bytes_in r (codes "clear"))) [] (omega arith) (omega arith) (pass_each s (operands_of csnbcki r) ops).0 (omega arith)
-  fields_short drawn ahead csnbrng r drawn_few start ops verb =
+  fields_short drawn ahead Csnbcki r drawn_few start ops verb =
+      goes r (codes "token") (imported_key (bytes_in r (codes "clear"))) [] (omega arith) (omega arith) (pass_each s (operands_of Csnbcki r) ops).0 (omega arith)
+  fields_short drawn ahead Csnbrng r drawn_few start ops verb =
       let form = form_named (value_of r (codes "form")) in
       one_hex (codes "random") (in_form form drawn) (omega arith) (omega (arith, form_short form drawn drawn_few))
-  fields_short drawn ahead csnbkgn_op r drawn_few start ops verb =
+  fields_short drawn ahead CsnbkgnOp r drawn_few start ops verb =
       goes r (codes "token1") (as_current (generated_key (type1_of r) (length_in r) drawn)) [] (omega arith) (vector_short (type1_of r) (length_in r))
-      (pass_each s (operands_of csnbkgn_op r) ops).0 (omega arith)
-  fields_short drawn ahead csnbkgn_pair r drawn_few start ops verb =
+      (pass_each s (operands_of CsnbkgnOp r) ops).0 (omega arith)
+  fields_short drawn ahead CsnbkgnPair r drawn_few start ops verb =
       let second = generated_key (type2_of r) (length_in r) drawn in
       goes r (codes "token1") (as_current (generated_key (type1_of r) (length_in r) drawn)) (Hex (codes "token2") (token_out s r (codes "transport2") second) ∷ []) (omega arith)
-      (vector_short (type1_of r) (length_in r)) (pass_each s (operands_of csnbkgn_pair r) ops).1
+      (vector_short (type1_of r) (length_in r)) (pass_each s (operands_of CsnbkgnPair r) ops).1
       (second_token_out r second (vector_short (type2_of r) (length_in r)))
-  fields_short drawn ahead csnbkgn_out r drawn_few start ops verb =
+  fields_short drawn ahead CsnbkgnOut r drawn_few start ops verb =
       let first = generated_key (type1_of r) (length_in r) drawn in
       let second = generated_key (type2_of r) (length_in r) drawn in
       hex_more (codes "token1") (token_out s r (codes "transport1") first) (Hex (codes "token2") (token_out s r (codes "transport2") second) ∷ []) 64 200 room
       (token_out_short r (codes "transport1") first (vector_short (type1_of r) (length_in r)))
       (second_token_out r second (vector_short (type2_of r) (length_in r))) (omega arith)
-  fields_short drawn ahead csnbkim r drawn_few start ops verb =
+  fields_short drawn ahead Csnbkim r drawn_few start ops verb =
       let clear = imported (key_in_field s r (codes "transport")) (bytes_in r (codes "token")) in
       goes r (codes "token") (as_current clear) [] (omega arith) (imported_short (key_in_field s r (codes "transport")) (bytes_in r (codes "token")))
-      (pass_each s (operands_of csnbkim r) ops).2 (omega arith)
-  fields_short drawn ahead csnbkex r drawn_few start ops verb = one_token_out r (codes "transport") (key_of_request s r) (request_key_short r)
-  fields_short drawn ahead csnbpex r drawn_few start ops verb =
+      (pass_each s (operands_of Csnbkim r) ops).2 (omega arith)
+  fields_short drawn ahead Csnbkex r drawn_few start ops verb = one_token_out r (codes "transport") (key_of_request s r) (request_key_short r)
+  fields_short drawn ahead Csnbpex r drawn_few start ops verb =
       goes r (codes "token") (as_current (closed_key (key_of_request s r))) [] (omega arith) (closed_short (key_of_request s r).vector (request_key_short r))
-      (pass_each s (operands_of csnbpex r) ops).1 (omega arith)
-  fields_short drawn ahead csnbktc r drawn_few start ops verb =
+      (pass_each s (operands_of Csnbpex r) ops).1 (omega arith)
+  fields_short drawn ahead Csnbktc r drawn_few start ops verb =
       let target = target_named (value_of r (codes "rule")) in
       let clear = (or_no_key (key_of_token s (bytes_in r (codes "token")))).clear in
       one_hex (codes "token") (changed_token s.registers target clear) (omega arith)
       (omega (arith, changed_short s.registers target clear (key_of_token_short (bytes_in r (codes "token")))))
-  fields_short drawn ahead csnbkpi_first r drawn_few start ops verb =
+  fields_short drawn ahead CsnbkpiFirst r drawn_few start ops verb =
       let kind = type_in (value_of r (codes "type")) in
       goes r (codes "token") (as_current (first_key kind (part_in r))) [] (omega arith) (part_short (vector_for kind (length (part_in r))))
-      (pass_each s (operands_of csnbkpi_first r) ops).0 (omega arith)
-  fields_short drawn ahead csnbkpi_middle r drawn_few start ops verb =
+      (pass_each s (operands_of CsnbkpiFirst r) ops).0 (omega arith)
+  fields_short drawn ahead CsnbkpiMiddle r drawn_few start ops verb =
       let last = is_last_part (value_of r (codes "rule")) in
       goes r (codes "token") (as_current (combined_key last (key_of_request s r) (part_in r))) [] (omega arith)
-      (combined_short last (key_of_request s r) (part_in r) (request_key_short r)) (pass_each s (operands_of csnbkpi_middle r) ops).1 (omega arith)
-  fields_short drawn ahead csnbktr r drawn_few start ops verb =
+      (combined_short last (key_of_request s r) (part_in r) (request_key_short r)) (pass_each s (operands_of CsnbkpiMiddle r) ops).1 (omega arith)
+  fields_short drawn ahead Csnbktr r drawn_few start ops verb =
       let clear = imported (key_in_field s r (codes "transport1")) (bytes_in r (codes "token")) in
       one_token_out r (codes "transport2") clear (imported_short (key_in_field s r (codes "transport1")) (bytes_in r (codes "token")))
-  fields_short drawn ahead csnbkrw r drawn_few start ops verb = omega arith
-  fields_short drawn ahead csnbkrr r drawn_few start ops verb =
+  fields_short drawn ahead Csnbkrw r drawn_few start ops verb = omega arith
+  fields_short drawn ahead Csnbkrr r drawn_few start ops verb =
       let key = or_no_key (key_of_label s (value_of r (codes "label"))) in
       one_hex (codes "token") (token_for (keys_of s.registers) key) (omega arith)
       (omega (arith, token_short s.registers key (key_short (key_of_label s (value_of r (codes "label"))) (label_key_short (value_of r (codes "label"))))))
-  fields_short drawn ahead csnbkrl r drawn_few start ops verb =
+  fields_short drawn ahead Csnbkrl r drawn_few start ops verb =
       listing_short (value_of r (codes "prefix")) (directory s.labels) (labels_short s.labels place_short) (omega (arith, length-map s.labels entry_label, stands.size))
   fields_short drawn ahead _ r drawn_few start ops verb = tt
 
@@ -602,7 +604,7 @@ after_short : (s : State) (e : Effect) → IsShortEffect e → size_of (fields_a
 after_short s (Show fields) short = short
 after_short s (Become m labels) short = text_more (codes "new") (new_name m.coming) [] 7 0 room (new_short m.coming) (omega arith) (omega arith)
 after_short s (Write label key fields) short = short
-after_short s (Reencipher a) short = number_more (codes "changed") (changed_count a s.labels) [] 0 room (omega arith) (omega arith)
+after_short s (ChangeLabels a) short = number_more (codes "changed") (changed_count a s.labels) [] 0 room (omega arith) (omega arith)
 after_short s _ short = omega arith
 
 warning_short : (b : Bool) → size_of (warning b) ≤ 100
@@ -632,7 +634,7 @@ questions_short (q ∷ qs) short =
     (questions_short qs (second_of_both (is_short q.operand) (are_short qs) short))
 
 operands_short : (s : State) (name : RequestName) (r : Request) → T (are_short (operand_questions s (listed (operands_of name r))))
-operands_short s csnbktp r = tt
+operands_short s Csnbktp r = tt
 operands_short s _ r = tt
 
 target_questions_short : (s : State) (t : Target) → T (are_short (change_questions s t))
@@ -640,7 +642,7 @@ target_questions_short s Current = tt
 target_questions_short s New = tt
 
 verb_short : (s : State) (name : RequestName) (r : Request) → T (are_short (verb_questions s name r))
-verb_short s csnbktc r = target_questions_short s (target_named (value_of r (codes "rule")))
+verb_short s Csnbktc r = target_questions_short s (target_named (value_of r (codes "rule")))
 verb_short s _ r = tt
 
 then_short : (a b : Option Refusal) → IsShortRefusal a → IsShortRefusal b → IsShortRefusal (or_then a b)

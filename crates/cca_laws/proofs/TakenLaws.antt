@@ -14,7 +14,9 @@ use Rattle.key_transport.specs.UniqueHalves.{halves_drawn, is_same_half, key_tak
 use Rattle.key_transport.proofs.HalfLemmas.{last_where_apart, more_where_same}
 use Rattle.script_buffers.specs.Reading.{line_limit}
 use Rattle.script_buffers.specs.Replies.{Done, Hex}
-use Rattle.verb_script.specs.Grammar.{Request, RequestName, csnbrng, csnbkgn_op, csnbkgn_pair, csnbkgn_out, value_of}
+use Rattle.verb_script.specs.Grammar.{Request, value_of}
+use Rattle.verb_script.specs.declared.rows.RequestName.{RequestName}
+use Rattle.verb_script.specs.declared.rows.RequestName.TheVariants.{Csnbrng, CsnbkgnOp, CsnbkgnPair, CsnbkgnOut}
 use Rattle.verb_script.specs.Requests.{request_of}
 use Rattle.cca_machine.specs.Act.{Outcome, effect, effected, or_act, performed}
 use Rattle.cca_machine.specs.Choices.{form_named}
@@ -177,10 +179,10 @@ record IsShown (s : State) (drawn : List ℕ) (r : Request) (name : RequestName)
   reply : (effected s r (effect s drawn name r)).reply ≡ Done (Hex (codes "random") (in_form (form_named (value_of r (codes "form"))) drawn) ∷ [])
 
 module _ (s : State) (drawn : List ℕ) where
-  at_name : (values : List (List ℕ)) (name : RequestName) → name ≡ csnbrng → IsShown s drawn (record { name = name; values = values }) name
+  at_name : (values : List (List ℕ)) (name : RequestName) → name ≡ Csnbrng → IsShown s drawn (record { name = name; values = values }) name
   at_name values name is = subst (λ (n : RequestName). IsShown s drawn (record { name = n; values = values }) n) (sym is) (record { size = refl; reply = refl })
 
-  pub random_shown : (r : Request) → r.name ≡ csnbrng → verdict s drawn r ≡ None → length drawn ≡ taken_by s drawn r → All IsByte drawn
+  pub random_shown : (r : Request) → r.name ≡ Csnbrng → verdict s drawn r ≡ None → length drawn ≡ taken_by s drawn r → All IsByte drawn
       → (bytes : List ℕ) × (length drawn ≡ 8) × IsInForm (value_of r (codes "form")) drawn bytes × ((performed s drawn r).reply ≡ Done (Hex (codes "random") bytes ∷ []))
   random_shown r is permits taken are =
       let shown = at_name r.values r.name is in (
@@ -193,17 +195,17 @@ module _ (s : State) (drawn : List ℕ) where
 -- ---- the other requests
 
 draws_none : (name : RequestName) (r : Request) → takes_random name ≡ false → draw_of name r ≡ NoBytes
-draws_none csnbrng r is = cc is
-draws_none csnbkgn_op r is = cc is
-draws_none csnbkgn_pair r is = cc is
-draws_none csnbkgn_out r is = cc is
+draws_none Csnbrng r is = cc is
+draws_none CsnbkgnOp r is = cc is
+draws_none CsnbkgnPair r is = cc is
+draws_none CsnbkgnOut r is = cc is
 draws_none _ r is = refl
 
 same_effect : (s : State) (drawn other : List ℕ) (name : RequestName) (r : Request) → takes_random name ≡ false → effect s drawn name r ≡ effect s other name r
-same_effect s drawn other csnbrng r is = cc is
-same_effect s drawn other csnbkgn_op r is = cc is
-same_effect s drawn other csnbkgn_pair r is = cc is
-same_effect s drawn other csnbkgn_out r is = cc is
+same_effect s drawn other Csnbrng r is = cc is
+same_effect s drawn other CsnbkgnOp r is = cc is
+same_effect s drawn other CsnbkgnPair r is = cc is
+same_effect s drawn other CsnbkgnOut r is = cc is
 same_effect s drawn other _ r is = refl
 
 pub no_random : (s : State) (drawn other : List ℕ) (r : Request) → takes_random r.name ≡ false → (taken_by s drawn r ≡ 0) × (performed s drawn r ≡ performed s other r)

@@ -15,8 +15,9 @@ use Rattle.reencipher.specs.Further.{changed_entry, further, made_by}
 use Rattle.reencipher.specs.declared.actions.StoreAction.{StoreAction}
 use Rattle.reencipher.specs.declared.actions.StoreAction.TheVariants.{Renew, Ahead, Drop}
 use Rattle.verb_rules.specs.Keys.{keys_of}
-use Rattle.verb_script.specs.Grammar.{Request, RequestName}
-use Rattle.cca_machine.specs.Act.{Effect, Show, Become, DefineRole, RemoveRole, Create, Write, Delete, Reencipher, deleted_in, effect, state_after as after_effect, written_in}
+use Rattle.verb_script.specs.Grammar.{Request}
+use Rattle.verb_script.specs.declared.rows.RequestName.{RequestName}
+use Rattle.cca_machine.specs.Act.{Effect, Show, Become, DefineRole, RemoveRole, Create, Write, Delete, ChangeLabels, deleted_in, effect, state_after as after_effect, written_in}
 use Rattle.cca_machine.specs.Keys.{cell_with}
 use Rattle.cca_machine.specs.Lines.{line_outcome}
 use Rattle.cca_machine.specs.State.{State}
@@ -110,7 +111,7 @@ module _ (s : State) where
   all_after name r (Create label) fits = set_leaves (keys_of s.registers) s.labels (free_cell (directory s.labels)) (Some (null_entry label)) refl
   all_after name r (Write label key fields) fits = all_written (keys_of s.registers) s.labels key (cell_with s label)
   all_after name r (Delete label) fits = all_deleted (keys_of s.registers) s.labels (cell_with s label)
-  all_after name r (Reencipher a) fits = all_further (keys_of s.registers) a s.labels 1024
+  all_after name r (ChangeLabels a) fits = all_further (keys_of s.registers) a s.labels 1024
   all_after name r (Show fields) fits = λ n. itself (keys_of s.registers) (entry_at s.labels n)
   all_after name r (DefineRole role points) fits = λ n. itself (keys_of s.registers) (entry_at s.labels n)
   all_after name r (RemoveRole role) fits = λ n. itself (keys_of s.registers) (entry_at s.labels n)

@@ -20,7 +20,9 @@ use Rattle.reencipher.specs.declared.actions.StoreAction.{StoreAction}
 use Rattle.reencipher.specs.declared.actions.StoreAction.TheVariants.{Renew, Ahead, Drop}
 use Rattle.script_buffers.specs.Replies.{Field, Number, spelled}
 use Rattle.verb_rules.specs.Keys.{keys_of}
-use Rattle.verb_script.specs.Grammar.{Request, RequestName, csnbcki, csnbkgn_op, csnbkgn_pair, csnbkim, csnbpex, csnbktc, csnbkpi_first, csnbkpi_middle, csnbkrc, csnbkrw, csnbkrd, csnbkrl, csnbmkp_part, csnbmkp_clear, csnbmkp_set, csuaaci_define, csuaaci_remove, reencipher, reencipher_ahead, reencipher_drop, value_of}
+use Rattle.verb_script.specs.Grammar.{Request, value_of}
+use Rattle.verb_script.specs.declared.rows.RequestName.{RequestName}
+use Rattle.verb_script.specs.declared.rows.RequestName.TheVariants.{Csnbcki, CsnbkgnOp, CsnbkgnPair, Csnbkim, Csnbpex, Csnbktc, CsnbkpiFirst, CsnbkpiMiddle, Csnbkrc, Csnbkrw, Csnbkrd, Csnbkrl, CsnbmkpPart, CsnbmkpClear, CsnbmkpSet, CsuaaciDefine, CsuaaciRemove, Reencipher, ReencipherAhead, ReencipherDrop}
 use Rattle.verb_script.specs.Named.{label_named}
 use Rattle.verb_script.specs.Requests.{request_of}
 use Rattle.cca_roles.specs.declared.roles.Role.{Role}
@@ -184,17 +186,17 @@ module _ (s : State) where
   -- ---- the verdict
 
   verbs : (name : RequestName) (r : Request) → verb_questions (bare s) name r ≡ verb_questions s name r
-  verbs csnbkrc r =
+  verbs Csnbkrc r =
       ap (λ (d : List (Option (List ℕ))). let qs : List Questions = questions (codes "label") (check 28 (free_cell d == 1024) ∷ check 29 (is_some (cell_of (value_of r (codes "label")) d)) ∷ []) ∷ [] in qs)
       (all_labels s.labels)
-  verbs csnbkrl r = refl
-  verbs csnbmkp_clear r =
+  verbs Csnbkrl r = refl
+  verbs CsnbmkpClear r =
       ap (λ (b : Bool). let qs : List Questions = questions (codes "-") (check 25 false ∷ check 26 false ∷ check 33 b ∷ []) ∷ [] in qs) (all_ahead s.labels)
-  verbs csnbmkp_set r =
+  verbs CsnbmkpSet r =
       ap (λ (b : Bool). let qs : List Questions = questions (codes "-") (action_checks Set s.registers ++ (check 27 b ∷ [])) ∷ [] in qs) (all_old s.labels)
-  verbs reencipher r = refl
-  verbs reencipher_ahead r = ap (λ (b : Bool). let qs : List Questions = questions (codes "-") (ahead_checks s.registers b) ∷ [] in qs) (all_old s.labels)
-  verbs reencipher_drop r = refl
+  verbs Reencipher r = refl
+  verbs ReencipherAhead r = ap (λ (b : Bool). let qs : List Questions = questions (codes "-") (ahead_checks s.registers b) ∷ [] in qs) (all_old s.labels)
+  verbs ReencipherDrop r = refl
   verbs name r = verb_same s s.registers.coming (bare_all s.labels) refl name r refl (known (listed (operands_of name r)))
 
   pub bare_verdict : (random : List ℕ) (r : Request) → verdict (bare s) random r ≡ verdict s random r
@@ -209,14 +211,14 @@ module _ (s : State) where
   -- ---- the reply
 
   fields : (drawn : List ℕ) (name : RequestName) (r : Request) → fields_after (bare s) (effect (bare s) drawn name r) ≡ fields_after s (effect s drawn name r)
-  fields drawn csnbkrc r = refl
-  fields drawn csnbkrl r = ap (label_fields (value_of r (codes "prefix"))) (all_labels s.labels)
-  fields drawn csnbmkp_clear r = refl
-  fields drawn csnbmkp_set r = refl
-  fields drawn reencipher r = ap (λ (n : ℕ). let fs : List Field = Number (codes "changed") n ∷ [] in fs) (all_count Renew s.labels)
-  fields drawn reencipher_ahead r = ap (λ (n : ℕ). let fs : List Field = Number (codes "changed") n ∷ [] in fs) (all_count Ahead s.labels)
-  fields drawn reencipher_drop r = ap (λ (n : ℕ). let fs : List Field = Number (codes "changed") n ∷ [] in fs) (all_count Drop s.labels)
-  fields drawn csnbktc r = fields_same s s.registers.coming (bare_all s.labels) refl drawn csnbktc r refl (known (listed (operands_of csnbktc r))) (λ is. refl)
+  fields drawn Csnbkrc r = refl
+  fields drawn Csnbkrl r = ap (label_fields (value_of r (codes "prefix"))) (all_labels s.labels)
+  fields drawn CsnbmkpClear r = refl
+  fields drawn CsnbmkpSet r = refl
+  fields drawn Reencipher r = ap (λ (n : ℕ). let fs : List Field = Number (codes "changed") n ∷ [] in fs) (all_count Renew s.labels)
+  fields drawn ReencipherAhead r = ap (λ (n : ℕ). let fs : List Field = Number (codes "changed") n ∷ [] in fs) (all_count Ahead s.labels)
+  fields drawn ReencipherDrop r = ap (λ (n : ℕ). let fs : List Field = Number (codes "changed") n ∷ [] in fs) (all_count Drop s.labels)
+  fields drawn Csnbktc r = fields_same s s.registers.coming (bare_all s.labels) refl drawn Csnbktc r refl (known (listed (operands_of Csnbktc r))) (λ is. refl)
   fields drawn name r = fields_same s s.registers.coming (bare_all s.labels) refl drawn name r refl (known (listed (operands_of name r))) tt
 
   pub bare_reply : (drawn : List ℕ) (r : Request) → (performed (bare s) drawn r).reply ≡ (performed s drawn r).reply
@@ -255,32 +257,32 @@ module _ (s : State) where
   to_label r = label_named (value_of r (codes "to"))
 
   after : (drawn : List ℕ) (name : RequestName) (r : Request) → bare (state_after (bare s) (effect (bare s) drawn name r)) ≡ bare (state_after s (effect s drawn name r))
-  after drawn csnbcki r = delivered_bare _ (to_label r) _ _ _ _ refl
-  after drawn csnbkgn_op r = delivered_bare _ (to_label r) _ _ _ _ refl
-  after drawn csnbkgn_pair r = delivered_bare _ (to_label r) _ _ _ _ refl
-  after drawn csnbkim r =
+  after drawn Csnbcki r = delivered_bare _ (to_label r) _ _ _ _ refl
+  after drawn CsnbkgnOp r = delivered_bare _ (to_label r) _ _ _ _ refl
+  after drawn CsnbkgnPair r = delivered_bare _ (to_label r) _ _ _ _ refl
+  after drawn Csnbkim r =
       delivered_bare _ (to_label r) _ _ _ _ (ap (λ (key : ClearKey). as_current (imported key (bytes_in r (codes "token")))) (field_is r (codes "transport")))
-  after drawn csnbpex r = delivered_bare _ (to_label r) _ _ _ _ (ap (λ (key : ClearKey). as_current (closed_key key)) (field_is r (codes "key")))
-  after drawn csnbkpi_first r = delivered_bare _ (to_label r) _ _ _ _ refl
-  after drawn csnbkpi_middle r =
+  after drawn Csnbpex r = delivered_bare _ (to_label r) _ _ _ _ (ap (λ (key : ClearKey). as_current (closed_key key)) (field_is r (codes "key")))
+  after drawn CsnbkpiFirst r = delivered_bare _ (to_label r) _ _ _ _ refl
+  after drawn CsnbkpiMiddle r =
       delivered_bare _ (to_label r) _ _ _ _
       (ap (λ (key : ClearKey). as_current (combined_key (is_last_part (value_of r (codes "rule"))) key (part_in r))) (field_is r (codes "key")))
-  after drawn csnbkrc r =
+  after drawn Csnbkrc r =
       ap (with_all s.registers s.roles)
       (ap (λ (d : List (Option (List ℕ))). bare_all (set (bare_all s.labels) (free_cell d) (Some (null_entry (value_of r (codes "label")))))) (all_labels s.labels)
       ∙ set_bare s.labels (free_cell (directory s.labels)) _ _ refl)
-  after drawn csnbkrw r = ap (with_all s.registers s.roles) (write_bare (value_of r (codes "label")) _ _ refl)
-  after drawn csnbkrd r =
+  after drawn Csnbkrw r = ap (with_all s.registers s.roles) (write_bare (value_of r (codes "label")) _ _ refl)
+  after drawn Csnbkrd r =
       ap (with_all s.registers s.roles)
       (ap (λ (o : Option ℕ). bare_all (deleted_in o (bare_all s.labels))) (cell_same (value_of r (codes "label"))) ∙ deleted_bare (cell_with s (value_of r (codes "label"))))
-  after drawn csnbmkp_part r = ap (with_all (after_action (part_action (value_of r (codes "action"))) (bytes_in r (codes "part")) s.registers) s.roles) (all_twice s.labels)
-  after drawn csnbmkp_clear r = ap (with_all (after_action Clear [] s.registers) s.roles) (all_twice s.labels)
-  after drawn csnbmkp_set r = ap (with_all (after_action Set [] s.registers) s.roles) (all_aged (keys_of s.registers) s.labels)
-  after drawn csuaaci_define r = ap (with_all s.registers (after_define (value_of r (codes "name")) (points_in r) s.roles)) (all_twice s.labels)
-  after drawn csuaaci_remove r = ap (with_all s.registers (after_remove (value_of r (codes "name")) s.roles)) (all_twice s.labels)
-  after drawn reencipher r = ap (with_all s.registers s.roles) (all_further Renew s.labels 1024)
-  after drawn reencipher_ahead r = ap (with_all s.registers s.roles) (all_further Ahead s.labels 1024)
-  after drawn reencipher_drop r = ap (with_all s.registers s.roles) (all_further Drop s.labels 1024)
+  after drawn CsnbmkpPart r = ap (with_all (after_action (part_action (value_of r (codes "action"))) (bytes_in r (codes "part")) s.registers) s.roles) (all_twice s.labels)
+  after drawn CsnbmkpClear r = ap (with_all (after_action Clear [] s.registers) s.roles) (all_twice s.labels)
+  after drawn CsnbmkpSet r = ap (with_all (after_action Set [] s.registers) s.roles) (all_aged (keys_of s.registers) s.labels)
+  after drawn CsuaaciDefine r = ap (with_all s.registers (after_define (value_of r (codes "name")) (points_in r) s.roles)) (all_twice s.labels)
+  after drawn CsuaaciRemove r = ap (with_all s.registers (after_remove (value_of r (codes "name")) s.roles)) (all_twice s.labels)
+  after drawn Reencipher r = ap (with_all s.registers s.roles) (all_further Renew s.labels 1024)
+  after drawn ReencipherAhead r = ap (with_all s.registers s.roles) (all_further Ahead s.labels 1024)
+  after drawn ReencipherDrop r = ap (with_all s.registers s.roles) (all_further Drop s.labels 1024)
   after drawn _ r = shown
 
   state_by : (drawn : List ℕ) (r : Request) (v : Option Refusal) → bare (or_act v (bare s) drawn r).state ≡ bare (or_act v s drawn r).state

@@ -38,7 +38,9 @@ use Rattle.verb_rules.specs.KeyChecks.{is_forbidden, is_under_none, key_checks, 
 use Rattle.verb_rules.specs.Keys.{keys_of, master_key, master_under, sealed_token, token_for}
 use Rattle.verb_rules.specs.PartChecks.{part_length_checks, whole_key_checks}
 use Rattle.verb_rules.specs.declared.needs.Need.{Need}
-use Rattle.verb_script.specs.Grammar.{Request, RequestName, csnbktp, csnbenc, csnbenc_first, csnbenc_middle, csnbenc_last, csnbdec, csnbdec_first, csnbdec_middle, csnbdec_last, csnbmgn, csnbmgn_first, csnbmgn_middle, csnbmgn_last, csnbmvr, csnbmvr_first, csnbmvr_middle, csnbmvr_last, csnbkyt, csnbcki, csnbkgn_op, csnbkgn_pair, csnbkgn_out, csnbkim, csnbkex, csnbpex, csnbkpi_first, csnbkpi_middle, csnbktr, csnbktc, csnbkrr, csnbkrl, value_of}
+use Rattle.verb_script.specs.Grammar.{Request, value_of}
+use Rattle.verb_script.specs.declared.rows.RequestName.{RequestName}
+use Rattle.verb_script.specs.declared.rows.RequestName.TheVariants.{Csnbktp, Csnbenc, CsnbencFirst, CsnbencMiddle, CsnbencLast, Csnbdec, CsnbdecFirst, CsnbdecMiddle, CsnbdecLast, Csnbmgn, CsnbmgnFirst, CsnbmgnMiddle, CsnbmgnLast, Csnbmvr, CsnbmvrFirst, CsnbmvrMiddle, CsnbmvrLast, Csnbkyt, Csnbcki, CsnbkgnOp, CsnbkgnPair, CsnbkgnOut, Csnbkim, Csnbkex, Csnbpex, CsnbkpiFirst, CsnbkpiMiddle, Csnbktr, Csnbktc, Csnbkrr, Csnbkrl}
 use Rattle.verb_script.specs.Named.{label_named}
 use Rattle.cca_machine.specs.Act.{delivered_with, effect, effected, fields_after, or_act, performed}
 use Rattle.cca_machine.specs.Choices.{out_form_named, pair_form_named, target_named}
@@ -273,32 +275,32 @@ abbrev AskInternal : Operands → Type 0
 AskInternal os = AsksInternal os.first.ask × AsksInternal os.second.ask × AsksInternal os.third.ask
 
 table_internal : (name : RequestName) (r : Request) → AskInternal (operands_of name r)
-table_internal csnbktp r = (tt, tt, tt)
-table_internal csnbenc r = (refl, tt, tt)
-table_internal csnbenc_first r = (refl, tt, tt)
-table_internal csnbenc_middle r = (refl, tt, tt)
-table_internal csnbenc_last r = (refl, tt, tt)
-table_internal csnbdec r = (refl, tt, tt)
-table_internal csnbdec_first r = (refl, tt, tt)
-table_internal csnbdec_middle r = (refl, tt, tt)
-table_internal csnbdec_last r = (refl, tt, tt)
-table_internal csnbmgn r = (refl, tt, tt)
-table_internal csnbmgn_first r = (refl, tt, tt)
-table_internal csnbmgn_middle r = (refl, tt, tt)
-table_internal csnbmgn_last r = (refl, tt, tt)
-table_internal csnbmvr r = (refl, tt, tt)
-table_internal csnbmvr_first r = (refl, tt, tt)
-table_internal csnbmvr_middle r = (refl, tt, tt)
-table_internal csnbmvr_last r = (refl, tt, tt)
-table_internal csnbkyt r = (refl, tt, tt)
-table_internal csnbkgn_pair r = (second_internal (pair_form_named (value_of r (codes "form"))), tt, tt)
-table_internal csnbkgn_out r =
+table_internal Csnbktp r = (tt, tt, tt)
+table_internal Csnbenc r = (refl, tt, tt)
+table_internal CsnbencFirst r = (refl, tt, tt)
+table_internal CsnbencMiddle r = (refl, tt, tt)
+table_internal CsnbencLast r = (refl, tt, tt)
+table_internal Csnbdec r = (refl, tt, tt)
+table_internal CsnbdecFirst r = (refl, tt, tt)
+table_internal CsnbdecMiddle r = (refl, tt, tt)
+table_internal CsnbdecLast r = (refl, tt, tt)
+table_internal Csnbmgn r = (refl, tt, tt)
+table_internal CsnbmgnFirst r = (refl, tt, tt)
+table_internal CsnbmgnMiddle r = (refl, tt, tt)
+table_internal CsnbmgnLast r = (refl, tt, tt)
+table_internal Csnbmvr r = (refl, tt, tt)
+table_internal CsnbmvrFirst r = (refl, tt, tt)
+table_internal CsnbmvrMiddle r = (refl, tt, tt)
+table_internal CsnbmvrLast r = (refl, tt, tt)
+table_internal Csnbkyt r = (refl, tt, tt)
+table_internal CsnbkgnPair r = (second_internal (pair_form_named (value_of r (codes "form"))), tt, tt)
+table_internal CsnbkgnOut r =
     (first_internal (out_form_named (value_of r (codes "form"))), second_internal (out_form_named (value_of r (codes "form"))), tt)
-table_internal csnbkim r = (tt, refl, tt)
-table_internal csnbkex r = (refl, refl, tt)
-table_internal csnbpex r = (refl, tt, tt)
-table_internal csnbkpi_middle r = (refl, tt, tt)
-table_internal csnbktr r = (tt, refl, refl)
+table_internal Csnbkim r = (tt, refl, tt)
+table_internal Csnbkex r = (refl, refl, tt)
+table_internal Csnbpex r = (refl, tt, tt)
+table_internal CsnbkpiMiddle r = (refl, tt, tt)
+table_internal Csnbktr r = (tt, refl, refl)
 table_internal _ r = (tt, tt, tt)
 
 module _ (s : State) (random : List ℕ) (r : Request) (permits_it : verdict s random r ≡ None) where
@@ -374,52 +376,52 @@ module _ (s : State) (r : Request) where
 
   pub text_allows : (name : RequestName) → first_refusal (operand_questions s (listed (operands_of name r))) ≡ None → first_refusal (verb_questions s name r) ≡ None
       → MayWork name (key_in_text s (value_of r (codes "key")))
-  text_allows csnbenc ops verb = of_text Encipher (Data ∷ Cipher ∷ []) ops
-  text_allows csnbenc_first ops verb = of_text Encipher (Data ∷ Cipher ∷ []) ops
-  text_allows csnbenc_middle ops verb = of_text Encipher (Data ∷ Cipher ∷ []) ops
-  text_allows csnbenc_last ops verb = of_text Encipher (Data ∷ Cipher ∷ []) ops
-  text_allows csnbdec ops verb = of_text Decipher (Data ∷ Cipher ∷ []) ops
-  text_allows csnbdec_first ops verb = of_text Decipher (Data ∷ Cipher ∷ []) ops
-  text_allows csnbdec_middle ops verb = of_text Decipher (Data ∷ Cipher ∷ []) ops
-  text_allows csnbdec_last ops verb = of_text Decipher (Data ∷ Cipher ∷ []) ops
-  text_allows csnbmgn ops verb = of_text MacGenerate (Data ∷ Mac ∷ []) ops
-  text_allows csnbmgn_first ops verb = of_text MacGenerate (Data ∷ Mac ∷ []) ops
-  text_allows csnbmgn_middle ops verb = of_text MacGenerate (Data ∷ Mac ∷ []) ops
-  text_allows csnbmgn_last ops verb = of_text MacGenerate (Data ∷ Mac ∷ []) ops
-  text_allows csnbmvr ops verb = of_text MacVerify (Data ∷ Mac ∷ []) ops
-  text_allows csnbmvr_first ops verb = of_text MacVerify (Data ∷ Mac ∷ []) ops
-  text_allows csnbmvr_middle ops verb = of_text MacVerify (Data ∷ Mac ∷ []) ops
-  text_allows csnbmvr_last ops verb = of_text MacVerify (Data ∷ Mac ∷ []) ops
-  text_allows csnbkyt ops verb = of_tested (behind csnbkyt r) ops
-  text_allows csnbkex ops verb =
+  text_allows Csnbenc ops verb = of_text Encipher (Data ∷ Cipher ∷ []) ops
+  text_allows CsnbencFirst ops verb = of_text Encipher (Data ∷ Cipher ∷ []) ops
+  text_allows CsnbencMiddle ops verb = of_text Encipher (Data ∷ Cipher ∷ []) ops
+  text_allows CsnbencLast ops verb = of_text Encipher (Data ∷ Cipher ∷ []) ops
+  text_allows Csnbdec ops verb = of_text Decipher (Data ∷ Cipher ∷ []) ops
+  text_allows CsnbdecFirst ops verb = of_text Decipher (Data ∷ Cipher ∷ []) ops
+  text_allows CsnbdecMiddle ops verb = of_text Decipher (Data ∷ Cipher ∷ []) ops
+  text_allows CsnbdecLast ops verb = of_text Decipher (Data ∷ Cipher ∷ []) ops
+  text_allows Csnbmgn ops verb = of_text MacGenerate (Data ∷ Mac ∷ []) ops
+  text_allows CsnbmgnFirst ops verb = of_text MacGenerate (Data ∷ Mac ∷ []) ops
+  text_allows CsnbmgnMiddle ops verb = of_text MacGenerate (Data ∷ Mac ∷ []) ops
+  text_allows CsnbmgnLast ops verb = of_text MacGenerate (Data ∷ Mac ∷ []) ops
+  text_allows Csnbmvr ops verb = of_text MacVerify (Data ∷ Mac ∷ []) ops
+  text_allows CsnbmvrFirst ops verb = of_text MacVerify (Data ∷ Mac ∷ []) ops
+  text_allows CsnbmvrMiddle ops verb = of_text MacVerify (Data ∷ Mac ∷ []) ops
+  text_allows CsnbmvrLast ops verb = of_text MacVerify (Data ∷ Mac ∷ []) ops
+  text_allows Csnbkyt ops verb = of_tested (behind Csnbkyt r) ops
+  text_allows Csnbkex ops verb =
       weaker (Allows exported_key) MayExport (key_in_text s (value_of r (codes "key"))) (λ vector a. (a.export refl, a.part refl))
-      (of_first exported_key (codes "key") (value_of r (codes "key")) (behind csnbkex r) refl ops)
-  text_allows csnbpex ops verb = of_tested (behind csnbpex r) ops
-  text_allows csnbkpi_middle ops verb =
+      (of_first exported_key (codes "key") (value_of r (codes "key")) (behind Csnbkex r) refl ops)
+  text_allows Csnbpex ops verb = of_tested (behind Csnbpex r) ops
+  text_allows CsnbkpiMiddle ops verb =
       let length_is = refused_none (first_failing (part_length_checks (key_of_request s r).vector (part_size r))) (codes "part") _ verb in
       let whole = refused_none (first_failing (whole_key_checks (key_of_request s r).vector)) (codes "key") None length_is.1 in
-      of_part (key_in_text s (value_of r (codes "key"))) (of_first part_key (codes "key") (value_of r (codes "key")) (behind csnbkpi_middle r) refl ops)
+      of_part (key_in_text s (value_of r (codes "key"))) (of_first part_key (codes "key") (value_of r (codes "key")) (behind CsnbkpiMiddle r) refl ops)
       (not_false (is_part_of (key_of_request s r).vector) (check_passes 35 (not (is_part_of (key_of_request s r).vector)) [] whole.0).0)
   text_allows _ ops verb = tt
 
   pub transport_allows : (name : RequestName) → first_refusal (operand_questions s (listed (operands_of name r))) ≡ None
       → HasTransport name (key_in_text s (value_of r (codes "transport")))
-  transport_allows csnbkex ops =
+  transport_allows Csnbkex ops =
       carries (transport_key Exporter Transport) Exporter Transport _ refl
-      (of_second (transport_key Exporter Transport) (operands_of csnbkex r).first (codes "transport") (value_of r (codes "transport")) ((operands_of csnbkex r).third ∷ []) refl ops)
-  transport_allows csnbkim ops =
+      (of_second (transport_key Exporter Transport) (operands_of Csnbkex r).first (codes "transport") (value_of r (codes "transport")) ((operands_of Csnbkex r).third ∷ []) refl ops)
+  transport_allows Csnbkim ops =
       carries (transport_key Importer Transport) Importer Transport _ refl
-      (of_second (transport_key Importer Transport) (operands_of csnbkim r).first (codes "transport") (value_of r (codes "transport")) ((operands_of csnbkim r).third ∷ []) refl ops)
+      (of_second (transport_key Importer Transport) (operands_of Csnbkim r).first (codes "transport") (value_of r (codes "transport")) ((operands_of Csnbkim r).third ∷ []) refl ops)
   transport_allows _ ops = tt
 
   pub first_allows : (name : RequestName) → first_refusal (operand_questions s (listed (operands_of name r))) ≡ None
       → HasFirstTransport name (value_of r (codes "form")) (key_in_text s (value_of r (codes "transport1")))
-  first_allows csnbktr ops =
+  first_allows Csnbktr ops =
       carries (transport_key Importer Translate) Importer Translate _ refl
-      (of_second (transport_key Importer Translate) (operands_of csnbktr r).first (codes "transport1") (value_of r (codes "transport1")) ((operands_of csnbktr r).third ∷ []) refl ops)
-  first_allows csnbkgn_out ops =
+      (of_second (transport_key Importer Translate) (operands_of Csnbktr r).first (codes "transport1") (value_of r (codes "transport1")) ((operands_of Csnbktr r).third ∷ []) refl ops)
+  first_allows CsnbkgnOut ops =
       let form : Form = out_form_named (value_of r (codes "form")) in
-      let allows = of_first (first_transport form) (codes "transport1") (value_of r (codes "transport1")) (behind csnbkgn_out r) (first_internal form) ops in (
+      let allows = of_first (first_transport form) (codes "transport1") (value_of r (codes "transport1")) (behind CsnbkgnOut r) (first_internal form) ops in (
         λ (is : value_of r (codes "form") ≡ codes "IMEX"). carries (first_transport form) Importer PairImportExport _ (ap (λ text. first_transport (out_form_named text)) is) allows,
         λ (is : value_of r (codes "form") ≡ codes "EXEX"). carries (first_transport form) Exporter PairSame _ (ap (λ text. first_transport (out_form_named text)) is) allows,
         λ (is : value_of r (codes "form") ≡ codes "IMIM"). carries (first_transport form) Importer PairSame _ (ap (λ text. first_transport (out_form_named text)) is) allows,
@@ -428,19 +430,19 @@ module _ (s : State) (r : Request) where
 
   pub second_allows : (name : RequestName) → first_refusal (operand_questions s (listed (operands_of name r))) ≡ None
       → HasSecondTransport name (value_of r (codes "form")) (key_in_text s (value_of r (codes "transport2")))
-  second_allows csnbktr ops =
+  second_allows Csnbktr ops =
       carries (transport_key Exporter Translate) Exporter Translate _ refl
-      (of_third (transport_key Exporter Translate) (operands_of csnbktr r).first (operands_of csnbktr r).second (codes "transport2") (value_of r (codes "transport2")) refl ops)
-  second_allows csnbkgn_pair ops =
+      (of_third (transport_key Exporter Translate) (operands_of Csnbktr r).first (operands_of Csnbktr r).second (codes "transport2") (value_of r (codes "transport2")) refl ops)
+  second_allows CsnbkgnPair ops =
       let form : Form = pair_form_named (value_of r (codes "form")) in
-      let allows = of_first (second_transport form) (codes "transport2") (value_of r (codes "transport2")) (behind csnbkgn_pair r) (second_internal form) ops in (
+      let allows = of_first (second_transport form) (codes "transport2") (value_of r (codes "transport2")) (behind CsnbkgnPair r) (second_internal form) ops in (
         λ (is : value_of r (codes "form") ≡ codes "OPEX"). carries (second_transport form) Exporter PairOperational _ (ap (λ text. second_transport (pair_form_named text)) is) allows,
         λ (is : value_of r (codes "form") ≡ codes "OPIM"). carries (second_transport form) Importer PairOperational _ (ap (λ text. second_transport (pair_form_named text)) is) allows,
       )
-  second_allows csnbkgn_out ops =
+  second_allows CsnbkgnOut ops =
       let form : Form = out_form_named (value_of r (codes "form")) in
       let allows =
-      of_second (second_transport form) (operands_of csnbkgn_out r).first (codes "transport2") (value_of r (codes "transport2")) ((operands_of csnbkgn_out r).third ∷ []) (second_internal form) ops in (
+      of_second (second_transport form) (operands_of CsnbkgnOut r).first (codes "transport2") (value_of r (codes "transport2")) ((operands_of CsnbkgnOut r).third ∷ []) (second_internal form) ops in (
         λ (is : value_of r (codes "form") ≡ codes "IMEX"). carries (second_transport form) Exporter PairImportExport _ (ap (λ text. second_transport (out_form_named text)) is) allows,
         λ (is : value_of r (codes "form") ≡ codes "EXEX"). carries (second_transport form) Exporter PairSame _ (ap (λ text. second_transport (out_form_named text)) is) allows,
         λ (is : value_of r (codes "form") ≡ codes "IMIM"). carries (second_transport form) Importer PairSame _ (ap (λ text. second_transport (out_form_named text)) is) allows,
@@ -483,19 +485,19 @@ delivered_internal s field (Some label) key is = tt
 
 internal : (s : State) (drawn : List ℕ) (name : RequestName) (r : Request) → gives_external name ≡ false → EffectShows IsInternal (effect s drawn name r)
 unfolding label_fields
-internal s drawn csnbcki r none = delivered_internal s (codes "token") (label_named (value_of r (codes "to"))) _ refl
-internal s drawn csnbkgn_op r none = delivered_internal s (codes "token1") (label_named (value_of r (codes "to"))) _ refl
-internal s drawn csnbkim r none = delivered_internal s (codes "token") (label_named (value_of r (codes "to"))) _ refl
-internal s drawn csnbpex r none = delivered_internal s (codes "token") (label_named (value_of r (codes "to"))) _ refl
-internal s drawn csnbkpi_first r none = delivered_internal s (codes "token") (label_named (value_of r (codes "to"))) _ refl
-internal s drawn csnbkpi_middle r none = delivered_internal s (codes "token") (label_named (value_of r (codes "to"))) _ refl
-internal s drawn csnbktc r none = (changed_first s.registers (target_named (value_of r (codes "rule"))) _, tt)
-internal s drawn csnbkrr r none = (token_first (keys_of s.registers) _, tt)
-internal s drawn csnbkrl r none = tt
-internal s drawn csnbkex r none = cc none
-internal s drawn csnbktr r none = cc none
-internal s drawn csnbkgn_pair r none = cc none
-internal s drawn csnbkgn_out r none = cc none
+internal s drawn Csnbcki r none = delivered_internal s (codes "token") (label_named (value_of r (codes "to"))) _ refl
+internal s drawn CsnbkgnOp r none = delivered_internal s (codes "token1") (label_named (value_of r (codes "to"))) _ refl
+internal s drawn Csnbkim r none = delivered_internal s (codes "token") (label_named (value_of r (codes "to"))) _ refl
+internal s drawn Csnbpex r none = delivered_internal s (codes "token") (label_named (value_of r (codes "to"))) _ refl
+internal s drawn CsnbkpiFirst r none = delivered_internal s (codes "token") (label_named (value_of r (codes "to"))) _ refl
+internal s drawn CsnbkpiMiddle r none = delivered_internal s (codes "token") (label_named (value_of r (codes "to"))) _ refl
+internal s drawn Csnbktc r none = (changed_first s.registers (target_named (value_of r (codes "rule"))) _, tt)
+internal s drawn Csnbkrr r none = (token_first (keys_of s.registers) _, tt)
+internal s drawn Csnbkrl r none = tt
+internal s drawn Csnbkex r none = cc none
+internal s drawn Csnbktr r none = cc none
+internal s drawn CsnbkgnPair r none = cc none
+internal s drawn CsnbkgnOut r none = cc none
 internal s drawn _ r none = tt
 
 -- the reply to a request that no rule refuses

@@ -9,7 +9,9 @@ use Rattle.cca_vectors.specs.declared.key_type.KeyType.{KeyType}
 use Rattle.verb_rules.specs.Parity.{IsOdd}
 use Rattle.key_tokens.specs.Denotes.{ClearKey, denoted_under}
 use Rattle.key_transport.specs.Tokens.{as_current}
-use Rattle.verb_script.specs.Grammar.{AreValues, Request, RequestName, csnbkgn_op, csnbkgn_pair, csnbkgn_out, row_of, value_of}
+use Rattle.verb_script.specs.Grammar.{AreValues, Request, row_of, value_of}
+use Rattle.verb_script.specs.declared.rows.RequestName.{RequestName}
+use Rattle.verb_script.specs.declared.rows.RequestName.TheVariants.{CsnbkgnOp, CsnbkgnPair, CsnbkgnOut}
 use Rattle.verb_script.specs.Named.{label_named}
 use Rattle.cca_machine.specs.Act.{Outcome}
 use Rattle.cca_machine.specs.Keys.{key_in_field, key_of_label, key_of_token}
@@ -117,11 +119,11 @@ pub record IsOneSent (s : State) (r : Request) (o : Outcome) (key_length : Lengt
 
 -- by the request's form: one key that is delivered; one that is delivered and one that is sent; or two that are sent
 abbrev pub HasKeys : RequestName → State → Request → Outcome → Length → List ℕ → Type 0
-HasKeys csnbkgn_op s r o key_length key = IsFirstDelivered r o key_length key
-HasKeys csnbkgn_pair s r o key_length key =
+HasKeys CsnbkgnOp s r o key_length key = IsFirstDelivered r o key_length key
+HasKeys CsnbkgnPair s r o key_length key =
     IsFirstDelivered r o key_length key
     × IsOneSent s r o key_length (codes "type2") (codes "token2") (codes "transport2") key
-HasKeys csnbkgn_out s r o key_length key =
+HasKeys CsnbkgnOut s r o key_length key =
     IsOneSent s r o key_length (codes "type1") (codes "token1") (codes "transport1") key
     × IsOneSent s r o key_length (codes "type2") (codes "token2") (codes "transport2") key
 HasKeys _ s r o key_length key = ⊥

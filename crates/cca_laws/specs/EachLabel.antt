@@ -6,7 +6,8 @@ use Rattle.key_tokens.specs.Denotes.{Denoted}
 use Rattle.key_tokens.specs.declared.key_token.Age.{Age}
 use Rattle.key_tokens.specs.declared.key_token.Age.TheVariants.{Current, Old}
 use Rattle.key_transport.specs.Tokens.{as_current}
-use Rattle.verb_script.specs.Grammar.{RequestName, csnbmkp_set, reencipher, reencipher_ahead, reencipher_drop}
+use Rattle.verb_script.specs.declared.rows.RequestName.{RequestName}
+use Rattle.verb_script.specs.declared.rows.RequestName.TheVariants.{CsnbmkpSet, Reencipher, ReencipherAhead, ReencipherDrop}
 use Rattle.cca_machine.specs.Keys.{cell_with, is_old, key_of_label}
 use Rattle.cca_machine.specs.State.{State}
 use Rattle.cca_laws.specs.Prepared.{is_ahead_label}
@@ -30,16 +31,16 @@ pub record SameEntry (s t : State) (label : List ℕ) : Type 0 where
 
 -- SET, and REENCIPHER with and without an action
 abbrev pub changes_each : RequestName → Bool
-changes_each csnbmkp_set = true
-changes_each reencipher = true
-changes_each reencipher_ahead = true
-changes_each reencipher_drop = true
+changes_each CsnbmkpSet = true
+changes_each Reencipher = true
+changes_each ReencipherAhead = true
+changes_each ReencipherDrop = true
 changes_each _ = false
 
 -- whether a label is staged afterwards that AHEAD or DROP changes
 abbrev pub mark_of : RequestName → Option Bool
-mark_of reencipher_ahead = Some true
-mark_of reencipher_drop = Some false
+mark_of ReencipherAhead = Some true
+mark_of ReencipherDrop = Some false
 mark_of _ = None
 
 -- the entry staged or not, and with no unused token

@@ -2,7 +2,8 @@
 use Rattle.std.specs.Prelude.{◌≡◌, ℕ, Bool, false, ◌||◌, List, [], ◌∷◌, bit_or, codes, ⊤}
 use Rattle.std.specs.Str.{bytes_eq}
 use Rattle.script_buffers.specs.Replies.{Done, Field, Hex, Number, Refused, Reply, Text}
-use Rattle.verb_script.specs.Grammar.{RequestName, csnbenc, csnbenc_first, csnbenc_middle, csnbenc_last, csnbdec, csnbdec_first, csnbdec_middle, csnbdec_last, csnbmgn, csnbmgn_first, csnbmgn_middle, csnbmgn_last, csnbmvr, csnbmvr_first, csnbmvr_middle, csnbmvr_last, csnbkyt, csnbkgn_pair, csnbkgn_out, csnbkex, csnbktr, csnbkrr}
+use Rattle.verb_script.specs.declared.rows.RequestName.{RequestName}
+use Rattle.verb_script.specs.declared.rows.RequestName.TheVariants.{Csnbenc, CsnbencFirst, CsnbencMiddle, CsnbencLast, Csnbdec, CsnbdecFirst, CsnbdecMiddle, CsnbdecLast, Csnbmgn, CsnbmgnFirst, CsnbmgnMiddle, CsnbmgnLast, Csnbmvr, CsnbmvrFirst, CsnbmvrMiddle, CsnbmvrLast, Csnbkyt, CsnbkgnPair, CsnbkgnOut, Csnbkex, Csnbktr, Csnbkrr}
 use Rattle.cca_machine.specs.Points.{point}
 use Rattle.cca_laws.specs.ReplyTokens.{ShowsTokens}
 
@@ -32,28 +33,28 @@ chain_points = bit_or text_points (bit_or (point (codes "MGN")) (point (codes "M
 
 -- the point of a verb that enciphers or deciphers, makes or verifies MACs, shows a key check value, or gives a key out
 abbrev pub verb_point : RequestName → ℕ
-verb_point csnbenc = point (codes "ENC")
-verb_point csnbenc_first = point (codes "ENC")
-verb_point csnbenc_middle = point (codes "ENC")
-verb_point csnbenc_last = point (codes "ENC")
-verb_point csnbdec = point (codes "DEC")
-verb_point csnbdec_first = point (codes "DEC")
-verb_point csnbdec_middle = point (codes "DEC")
-verb_point csnbdec_last = point (codes "DEC")
-verb_point csnbmgn = point (codes "MGN")
-verb_point csnbmgn_first = point (codes "MGN")
-verb_point csnbmgn_middle = point (codes "MGN")
-verb_point csnbmgn_last = point (codes "MGN")
-verb_point csnbmvr = point (codes "MVR")
-verb_point csnbmvr_first = point (codes "MVR")
-verb_point csnbmvr_middle = point (codes "MVR")
-verb_point csnbmvr_last = point (codes "MVR")
-verb_point csnbkyt = point (codes "KYT")
-verb_point csnbkgn_pair = point (codes "KGN_PAIR")
-verb_point csnbkgn_out = point (codes "KGN_OUT")
-verb_point csnbkex = point (codes "KEX")
-verb_point csnbktr = point (codes "KTR")
-verb_point csnbkrr = point (codes "KRR")
+verb_point Csnbenc = point (codes "ENC")
+verb_point CsnbencFirst = point (codes "ENC")
+verb_point CsnbencMiddle = point (codes "ENC")
+verb_point CsnbencLast = point (codes "ENC")
+verb_point Csnbdec = point (codes "DEC")
+verb_point CsnbdecFirst = point (codes "DEC")
+verb_point CsnbdecMiddle = point (codes "DEC")
+verb_point CsnbdecLast = point (codes "DEC")
+verb_point Csnbmgn = point (codes "MGN")
+verb_point CsnbmgnFirst = point (codes "MGN")
+verb_point CsnbmgnMiddle = point (codes "MGN")
+verb_point CsnbmgnLast = point (codes "MGN")
+verb_point Csnbmvr = point (codes "MVR")
+verb_point CsnbmvrFirst = point (codes "MVR")
+verb_point CsnbmvrMiddle = point (codes "MVR")
+verb_point CsnbmvrLast = point (codes "MVR")
+verb_point Csnbkyt = point (codes "KYT")
+verb_point CsnbkgnPair = point (codes "KGN_PAIR")
+verb_point CsnbkgnOut = point (codes "KGN_OUT")
+verb_point Csnbkex = point (codes "KEX")
+verb_point Csnbktr = point (codes "KTR")
+verb_point Csnbkrr = point (codes "KRR")
 verb_point _ = 0
 
 -- ---- replies

@@ -1,7 +1,9 @@
 -- Requests that open no key token and show none, and states that differ in the bytes of the master key registers alone.
 use Rattle.std.specs.Prelude.{◌≡◌, ℕ, Bool, true, false, ◌||◌, List, [], ◌∷◌, codes, is_none}
 use Rattle.master_registers.specs.Masters.{Masters, has_pattern_of, state_of}
-use Rattle.verb_script.specs.Grammar.{Request, RequestName, csnbcki, csnbkgn_op, csnbkgn_pair, csnbkim, csnbpex, csnbkpi_first, csnbkpi_middle, csnbkrr, csnbmkp_set, reencipher_ahead, value_of}
+use Rattle.verb_script.specs.Grammar.{Request, value_of}
+use Rattle.verb_script.specs.declared.rows.RequestName.{RequestName}
+use Rattle.verb_script.specs.declared.rows.RequestName.TheVariants.{Csnbcki, CsnbkgnOp, CsnbkgnPair, Csnbkim, Csnbpex, CsnbkpiFirst, CsnbkpiMiddle, Csnbkrr, CsnbmkpSet, ReencipherAhead}
 use Rattle.verb_script.specs.Named.{label_named}
 use Rattle.cca_machine.specs.Operands.{Operand, listed, operands}
 use Rattle.cca_machine.specs.declared.asking.Ask.{Ask}
@@ -25,14 +27,14 @@ any_internal_token (o ∷ os) = is_internal_token o.text o.ask || any_internal_t
 
 -- the reply has an internal token: of a key that is delivered into it, or that of a record
 abbrev pub shows_internal : RequestName → List ℕ → Bool
-shows_internal csnbcki to = is_none (label_named to)
-shows_internal csnbkgn_op to = is_none (label_named to)
-shows_internal csnbkgn_pair to = is_none (label_named to)
-shows_internal csnbkim to = is_none (label_named to)
-shows_internal csnbpex to = is_none (label_named to)
-shows_internal csnbkpi_first to = is_none (label_named to)
-shows_internal csnbkpi_middle to = is_none (label_named to)
-shows_internal csnbkrr to = true
+shows_internal Csnbcki to = is_none (label_named to)
+shows_internal CsnbkgnOp to = is_none (label_named to)
+shows_internal CsnbkgnPair to = is_none (label_named to)
+shows_internal Csnbkim to = is_none (label_named to)
+shows_internal Csnbpex to = is_none (label_named to)
+shows_internal CsnbkpiFirst to = is_none (label_named to)
+shows_internal CsnbkpiMiddle to = is_none (label_named to)
+shows_internal Csnbkrr to = true
 shows_internal _ to = false
 
 -- the request gives an internal token, or its reply has one
@@ -42,8 +44,8 @@ uses_master_key r =
 
 -- SET, or REENCIPHER with AHEAD
 abbrev pub compares_patterns : RequestName → Bool
-compares_patterns csnbmkp_set = true
-compares_patterns reencipher_ahead = true
+compares_patterns CsnbmkpSet = true
+compares_patterns ReencipherAhead = true
 compares_patterns _ = false
 
 -- the new register is as full in one as in the other, and so is the current one

@@ -4,7 +4,8 @@ use Rattle.cca_vectors.specs.Checks.{first_failing}
 use Rattle.cca_vectors.specs.KeyTypes.{type_name}
 use Rattle.cca_vectors.specs.declared.key_type.KeyType.{KeyType}
 use Rattle.verb_rules.specs.declared.needs.Need.{Need}
-use Rattle.verb_script.specs.Grammar.{Request, AreValues, row_of, csnbkpi_first, csnbkpi_middle}
+use Rattle.verb_script.specs.Grammar.{Request, AreValues, row_of}
+use Rattle.verb_script.specs.declared.rows.RequestName.TheVariants.{CsnbkpiFirst, CsnbkpiMiddle}
 use Rattle.verb_script.specs.Values.{hex_value}
 use Rattle.cca_machine.specs.Act.{performed}
 use Rattle.cca_machine.specs.Keys.{cell_with, key_of_label}
@@ -37,14 +38,14 @@ pub record Custodian : Type 0 where
 -- CSNBKPI FIRST into the record of a label
 abbrev pub first_request : List ℕ → KeyType → Custodian → Request
 first_request label kind c = record {
-  name = csnbkpi_first;
+  name = CsnbkpiFirst;
   values = c.role ∷ codes "FIRST" ∷ type_name kind ∷ c.part ∷ by_label label ∷ [];
 }
 
 -- CSNBKPI MIDDLE or LAST, of the key in the record of a label and into the same record
 abbrev pub further_request : List ℕ → List ℕ → Custodian → Request
 further_request label rule c = record {
-  name = csnbkpi_middle;
+  name = CsnbkpiMiddle;
   values = c.role ∷ rule ∷ by_label label ∷ c.part ∷ by_label label ∷ [];
 }
 

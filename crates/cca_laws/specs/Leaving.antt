@@ -36,7 +36,9 @@ use Rattle.text_segments.specs.declared.chains.Chain.{Chain}
 use Rattle.text_segments.specs.declared.modes.Mode.{Mode}
 use Rattle.text_segments.specs.declared.modes.Mode.TheVariants.{Encipher, Decipher, Mac}
 use Rattle.verb_rules.specs.Keys.{keys_of}
-use Rattle.verb_script.specs.Grammar.{Request, RequestName, csnbktp, csnbenc, csnbenc_first, csnbenc_middle, csnbenc_last, csnbdec, csnbdec_first, csnbdec_middle, csnbdec_last, csnbmgn, csnbmgn_first, csnbmgn_middle, csnbmgn_last, csnbmvr, csnbmvr_first, csnbmvr_middle, csnbmvr_last, csnbkyt, csnbcki, csnbrng, csnbkgn_op, csnbkgn_pair, csnbkgn_out, csnbkim, csnbkex, csnbpex, csnbktc, csnbkpi_first, csnbkpi_middle, csnbktr, csnbkrr, csnbkrl, csnbmkp_part, csnbmkp_clear, csnbmkp_set, reencipher, reencipher_ahead, reencipher_drop, row_of, value_of}
+use Rattle.verb_script.specs.Grammar.{Request, row_of, value_of}
+use Rattle.verb_script.specs.declared.rows.RequestName.{RequestName}
+use Rattle.verb_script.specs.declared.rows.RequestName.TheVariants.{Csnbktp, Csnbenc, CsnbencFirst, CsnbencMiddle, CsnbencLast, Csnbdec, CsnbdecFirst, CsnbdecMiddle, CsnbdecLast, Csnbmgn, CsnbmgnFirst, CsnbmgnMiddle, CsnbmgnLast, Csnbmvr, CsnbmvrFirst, CsnbmvrMiddle, CsnbmvrLast, Csnbkyt, Csnbcki, Csnbrng, CsnbkgnOp, CsnbkgnPair, CsnbkgnOut, Csnbkim, Csnbkex, Csnbpex, Csnbktc, CsnbkpiFirst, CsnbkpiMiddle, Csnbktr, Csnbkrr, Csnbkrl, CsnbmkpPart, CsnbmkpClear, CsnbmkpSet, Reencipher, ReencipherAhead, ReencipherDrop}
 use Rattle.verb_script.specs.Named.{label_named}
 use Rattle.cca_machine.specs.Act.{Outcome, token_fields, yes_or_no}
 use Rattle.cca_machine.specs.Choices.{form_named, is_last_part, mac_length_named, pad_named, target_named, type_in}
@@ -185,84 +187,84 @@ ShowsNew after fields =
 -- the fields of the reply to a permitted request, but for a warning: by the state before and after it,
 -- and by the random bytes that it takes
 abbrev pub Leaves : State → State → List ℕ → RequestName → Request → List Field → Type 0
-Leaves s after drawn csnbktp r fields =
+Leaves s after drawn Csnbktp r fields =
     fields ≡ token_fields (token_of (bytes_in r (codes "token")))
-Leaves s after drawn csnbenc r fields = OfKey s r (codes "key") (λ key.
+Leaves s after drawn Csnbenc r fields = OfKey s r (codes "key") (λ key.
     fields ≡ Hex (codes "text")
     (enciphered_text key (bytes_in r (codes "iv")) (pad_in r) (text_in r)) ∷ [])
-Leaves s after drawn csnbenc_first r fields =
+Leaves s after drawn CsnbencFirst r fields =
     ShowsSegment s r Encipher (first_chain (bytes_in r (codes "iv"))) fields
-Leaves s after drawn csnbenc_middle r fields = ShowsSegment s r Encipher (chain_in r) fields
-Leaves s after drawn csnbenc_last r fields = ShowsLast s r Encipher fields
-Leaves s after drawn csnbdec r fields = OfKey s r (codes "key") (λ key.
+Leaves s after drawn CsnbencMiddle r fields = ShowsSegment s r Encipher (chain_in r) fields
+Leaves s after drawn CsnbencLast r fields = ShowsLast s r Encipher fields
+Leaves s after drawn Csnbdec r fields = OfKey s r (codes "key") (λ key.
     ShowsText (deciphered_text key (bytes_in r (codes "iv")) (pad_in r) (text_in r)) fields)
-Leaves s after drawn csnbdec_first r fields =
+Leaves s after drawn CsnbdecFirst r fields =
     ShowsSegment s r Decipher (first_chain (bytes_in r (codes "iv"))) fields
-Leaves s after drawn csnbdec_middle r fields = ShowsSegment s r Decipher (chain_in r) fields
-Leaves s after drawn csnbdec_last r fields = ShowsLast s r Decipher fields
-Leaves s after drawn csnbmgn r fields = OfKey s r (codes "key") (λ key.
+Leaves s after drawn CsnbdecMiddle r fields = ShowsSegment s r Decipher (chain_in r) fields
+Leaves s after drawn CsnbdecLast r fields = ShowsLast s r Decipher fields
+Leaves s after drawn Csnbmgn r fields = OfKey s r (codes "key") (λ key.
     ShowsMac r (code_of (code_rule r) key (text_in r)) fields)
-Leaves s after drawn csnbmgn_first r fields = ShowsChain s r (first_chain zero_block) fields
-Leaves s after drawn csnbmgn_middle r fields = ShowsChain s r (chain_in r) fields
-Leaves s after drawn csnbmgn_last r fields = OfKey s r (codes "key") (λ key.
+Leaves s after drawn CsnbmgnFirst r fields = ShowsChain s r (first_chain zero_block) fields
+Leaves s after drawn CsnbmgnMiddle r fields = ShowsChain s r (chain_in r) fields
+Leaves s after drawn CsnbmgnLast r fields = OfKey s r (codes "key") (λ key.
     ShowsMac r (last_code key (code_rule r) (chain_in r) (text_in r)) fields)
-Leaves s after drawn csnbmvr r fields = OfKey s r (codes "key") (λ key.
+Leaves s after drawn Csnbmvr r fields = OfKey s r (codes "key") (λ key.
     ShowsMatch r (code_of (code_rule r) key (text_in r)) fields)
-Leaves s after drawn csnbmvr_first r fields = ShowsChain s r (first_chain zero_block) fields
-Leaves s after drawn csnbmvr_middle r fields = ShowsChain s r (chain_in r) fields
-Leaves s after drawn csnbmvr_last r fields = OfKey s r (codes "key") (λ key.
+Leaves s after drawn CsnbmvrFirst r fields = ShowsChain s r (first_chain zero_block) fields
+Leaves s after drawn CsnbmvrMiddle r fields = ShowsChain s r (chain_in r) fields
+Leaves s after drawn CsnbmvrLast r fields = OfKey s r (codes "key") (λ key.
     ShowsMatch r (last_code key (code_rule r) (chain_in r) (text_in r)) fields)
-Leaves s after drawn csnbkyt r fields = OfKey s r (codes "key") (λ key.
+Leaves s after drawn Csnbkyt r fields = OfKey s r (codes "key") (λ key.
     fields ≡ Hex (codes "value") (test_value key) ∷ [])
-Leaves s after drawn csnbcki r fields =
+Leaves s after drawn Csnbcki r fields =
     DeliversTo s r (codes "token")
     (record { key = take 8 (bytes_in r (codes "clear")); vector = data_vector }) fields
-Leaves s after drawn csnbrng r fields =
+Leaves s after drawn Csnbrng r fields =
     fields ≡ Hex (codes "random") (in_form (form_named (value_of r (codes "form"))) drawn) ∷ []
-Leaves s after drawn csnbkgn_op r fields =
+Leaves s after drawn CsnbkgnOp r fields =
     DeliversTo s r (codes "token1") (generated r drawn (codes "type1")) fields
-Leaves s after drawn csnbkgn_pair r fields = OfKey s r (codes "transport2") (λ two.
+Leaves s after drawn CsnbkgnPair r fields = OfKey s r (codes "transport2") (λ two.
     Delivers s (label_named (value_of r (codes "to"))) (codes "token1")
     (generated r drawn (codes "type1"))
     (Hex (codes "token2") (under_transport two (generated r drawn (codes "type2"))) ∷ []) fields)
-Leaves s after drawn csnbkgn_out r fields = OfKey s r (codes "transport1") (λ one.
+Leaves s after drawn CsnbkgnOut r fields = OfKey s r (codes "transport1") (λ one.
     OfKey s r (codes "transport2") (λ two.
     fields ≡ Hex (codes "token1") (under_transport one (generated r drawn (codes "type1")))
     ∷ Hex (codes "token2") (under_transport two (generated r drawn (codes "type2"))) ∷ []))
-Leaves s after drawn csnbkim r fields = OfKey s r (codes "transport") (λ transport.
+Leaves s after drawn Csnbkim r fields = OfKey s r (codes "transport") (λ transport.
     OfExternal r transport (λ key. DeliversTo s r (codes "token") key fields))
-Leaves s after drawn csnbkex r fields = OfKey s r (codes "key") (λ key.
+Leaves s after drawn Csnbkex r fields = OfKey s r (codes "key") (λ key.
     OfKey s r (codes "transport") (λ transport.
     fields ≡ Hex (codes "token") (under_transport transport key) ∷ []))
-Leaves s after drawn csnbpex r fields = OfKey s r (codes "key") (λ key.
+Leaves s after drawn Csnbpex r fields = OfKey s r (codes "key") (λ key.
     DeliversTo s r (codes "token") (closed_key key) fields)
-Leaves s after drawn csnbktc r fields = OfToken s r (λ key.
+Leaves s after drawn Csnbktc r fields = OfToken s r (λ key.
     (master : List ℕ) × (IsTarget s (target_named (value_of r (codes "rule"))) master
     × (fields ≡ Hex (codes "token") (under_master master key) ∷ [])))
-Leaves s after drawn csnbkpi_first r fields =
+Leaves s after drawn CsnbkpiFirst r fields =
     DeliversTo s r (codes "token")
     (first_key (type_in (value_of r (codes "type"))) (bytes_in r (codes "part"))) fields
-Leaves s after drawn csnbkpi_middle r fields = OfKey s r (codes "key") (λ key.
+Leaves s after drawn CsnbkpiMiddle r fields = OfKey s r (codes "key") (λ key.
     DeliversTo s r (codes "token")
     (combined_key (is_last_part (value_of r (codes "rule"))) key (bytes_in r (codes "part")))
     fields)
-Leaves s after drawn csnbktr r fields = OfKey s r (codes "transport1") (λ one.
+Leaves s after drawn Csnbktr r fields = OfKey s r (codes "transport1") (λ one.
     OfKey s r (codes "transport2") (λ two. OfExternal r one (λ key.
     fields ≡ Hex (codes "token") (under_transport two key) ∷ [])))
-Leaves s after drawn csnbkrr r fields =
+Leaves s after drawn Csnbkrr r fields =
     (key : Denoted) × ((key_of_label s (value_of r (codes "label")) ≡ Some key)
     × (IsAccepted key.clear.vector × ((master : List ℕ) × (IsRegister s key.age master
     × (fields ≡ Hex (codes "token") (under_master master key.clear) ∷ [])))))
-Leaves s after drawn csnbkrl r fields =
+Leaves s after drawn Csnbkrl r fields =
     fields ≡ label_fields (value_of r (codes "prefix")) (directory s.labels)
-Leaves s after drawn csnbmkp_part r fields = ShowsNew after fields
-Leaves s after drawn csnbmkp_clear r fields = ShowsNew after fields
-Leaves s after drawn csnbmkp_set r fields = ShowsNew after fields
-Leaves s after drawn reencipher r fields =
+Leaves s after drawn CsnbmkpPart r fields = ShowsNew after fields
+Leaves s after drawn CsnbmkpClear r fields = ShowsNew after fields
+Leaves s after drawn CsnbmkpSet r fields = ShowsNew after fields
+Leaves s after drawn Reencipher r fields =
     fields ≡ Number (codes "changed") (changed_count Renew s.labels) ∷ []
-Leaves s after drawn reencipher_ahead r fields =
+Leaves s after drawn ReencipherAhead r fields =
     fields ≡ Number (codes "changed") (changed_count Ahead s.labels) ∷ []
-Leaves s after drawn reencipher_drop r fields =
+Leaves s after drawn ReencipherDrop r fields =
     fields ≡ Number (codes "changed") (changed_count Drop s.labels) ∷ []
 -- CSNBKRC, CSNBKRW, CSNBKRD and CSUAACI
 Leaves s after drawn _ r fields = fields ≡ []

@@ -3,7 +3,8 @@
 use Rattle.std.specs.Prelude.{◌≡◌, ℕ, List, [], ◌∷◌, ◌++◌, codes, map}
 use Rattle.byte_lists.specs.Bytes.{AreBytes}
 use Rattle.master_registers.specs.Masters.{Full, NewRegister}
-use Rattle.verb_script.specs.Grammar.{Request, csnbmkp_part, csnbmkp_set}
+use Rattle.verb_script.specs.Grammar.{Request}
+use Rattle.verb_script.specs.declared.rows.RequestName.TheVariants.{CsnbmkpPart, CsnbmkpSet}
 use Rattle.cca_machine.specs.Act.{performed}
 use Rattle.cca_machine.specs.State.{State}
 use Rattle.cca_laws.specs.KeyInParts.{AreCarriedOut, Custodian, IsPermitted, bytes_of}
@@ -13,7 +14,7 @@ use Rattle.cca_laws.specs.KeyInParts.{AreCarriedOut, Custodian, IsPermitted, byt
 -- CSNBMKP FIRST, MIDDLE or LAST with a custodian's part
 abbrev pub part_request : List ℕ → Custodian → Request
 part_request action c = record {
-  name = csnbmkp_part;
+  name = CsnbmkpPart;
   values = c.role ∷ action ∷ c.part ∷ [];
 }
 
@@ -24,7 +25,7 @@ begin_requests first middle =
 
 -- CSNBMKP SET by a role
 abbrev pub set_request : List ℕ → Request
-set_request role = record { name = csnbmkp_set; values = role ∷ codes "SET" ∷ [] }
+set_request role = record { name = CsnbmkpSet; values = role ∷ codes "SET" ∷ [] }
 
 -- two or more parts of a master key are entered: FIRST, MIDDLE for each between, and LAST; and SET is carried out
 pub record Ceremony (s : State) : Type 0 where

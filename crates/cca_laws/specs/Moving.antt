@@ -13,7 +13,8 @@ use Rattle.key_records.specs.Entries.{directory, entry}
 use Rattle.key_records.specs.StoreStands.{entry_at}
 use Rattle.key_tokens.specs.Denotes.{Denoted}
 use Rattle.key_transport.specs.Tokens.{as_current}
-use Rattle.verb_script.specs.Grammar.{Request, csnbkex}
+use Rattle.verb_script.specs.Grammar.{Request}
+use Rattle.verb_script.specs.declared.rows.RequestName.TheVariants.{Csnbkex}
 use Rattle.cca_machine.specs.Keys.{cell_with, key_of_label}
 use Rattle.cca_machine.specs.Points.{point}
 use Rattle.cca_machine.specs.State.{State}
@@ -38,7 +39,7 @@ further_labels s w t =
 -- CSNBKEX of a label's key under the transport key of a move
 abbrev pub export_request : Move → List ℕ → Request
 export_request w label = record {
-  name = csnbkex;
+  name = Csnbkex;
   values = w.role ∷ by_label label ∷ by_label w.transport ∷ [];
 }
 

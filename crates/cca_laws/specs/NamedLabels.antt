@@ -1,6 +1,7 @@
 -- Two states that know the same of the labels that a request names.
 use Rattle.std.specs.Prelude.{◌≡◌, ℕ, Bool, true, false, List, [], ◌∷◌, Option, None, Some, ⊤, is_none}
-use Rattle.verb_script.specs.Grammar.{RequestName, csnbkrc, csnbkrl, csnbmkp_clear, csnbmkp_set, reencipher, reencipher_ahead, reencipher_drop}
+use Rattle.verb_script.specs.declared.rows.RequestName.{RequestName}
+use Rattle.verb_script.specs.declared.rows.RequestName.TheVariants.{Csnbkrc, Csnbkrl, CsnbmkpClear, CsnbmkpSet, Reencipher, ReencipherAhead, ReencipherDrop}
 use Rattle.verb_script.specs.Named.{label_named}
 use Rattle.cca_machine.specs.Keys.{cell_with, key_of_label}
 use Rattle.cca_machine.specs.Operands.{Operand}
@@ -34,11 +35,11 @@ SameNamed s t (o ∷ os) =
 
 -- the request is about the store as a whole: a free cell, all labels, their master keys, or whether one is ahead
 abbrev pub is_of_store : RequestName → Bool
-is_of_store csnbkrc = true
-is_of_store csnbkrl = true
-is_of_store csnbmkp_clear = true
-is_of_store csnbmkp_set = true
-is_of_store reencipher = true
-is_of_store reencipher_ahead = true
-is_of_store reencipher_drop = true
+is_of_store Csnbkrc = true
+is_of_store Csnbkrl = true
+is_of_store CsnbmkpClear = true
+is_of_store CsnbmkpSet = true
+is_of_store Reencipher = true
+is_of_store ReencipherAhead = true
+is_of_store ReencipherDrop = true
 is_of_store _ = false

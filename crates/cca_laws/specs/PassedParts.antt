@@ -5,7 +5,8 @@ use Rattle.cca_vectors.specs.KeyTypes.{type_name}
 use Rattle.cca_vectors.specs.declared.key_type.KeyType.{KeyType}
 use Rattle.key_tokens.specs.declared.key_token.Asked.TheVariants.{Internal}
 use Rattle.verb_rules.specs.declared.needs.Need.{Need}
-use Rattle.verb_script.specs.Grammar.{Request, csnbkpi_first, csnbkpi_middle, value_of}
+use Rattle.verb_script.specs.Grammar.{Request, value_of}
+use Rattle.verb_script.specs.declared.rows.RequestName.TheVariants.{CsnbkpiFirst, CsnbkpiMiddle}
 use Rattle.verb_script.specs.Named.{label_named}
 use Rattle.verb_script.specs.Values.{hex_value}
 use Rattle.cca_machine.specs.Act.{Outcome, performed}
@@ -26,14 +27,14 @@ pub record PartEntry : Type 0 where
 -- CSNBKPI FIRST
 abbrev pub first_entry : KeyType → PartEntry → Request
 first_entry kind e = record {
-  name = csnbkpi_first;
+  name = CsnbkpiFirst;
   values = e.role ∷ codes "FIRST" ∷ type_name kind ∷ e.part ∷ e.to ∷ [];
 }
 
 -- CSNBKPI MIDDLE or LAST, of the key that a text names
 abbrev pub further_entry : List ℕ → List ℕ → PartEntry → Request
 further_entry rule key e = record {
-  name = csnbkpi_middle;
+  name = CsnbkpiMiddle;
   values = e.role ∷ rule ∷ key ∷ e.part ∷ e.to ∷ [];
 }
 

@@ -8,7 +8,9 @@ use Rattle.cca_vectors.specs.Permissions.{is_exportable}
 use Rattle.key_tokens.specs.Denotes.{ClearKey, Denoted, denoted_under}
 use Rattle.key_tokens.specs.Fields.{token_of}
 use Rattle.verb_rules.specs.Keys.{keys_of, master_under}
-use Rattle.verb_script.specs.Grammar.{Request, RequestName, csnbkim, csnbkex, csnbpex, csnbktc, csnbkpi_middle, csnbktr, csnbkrw, csnbkrr, value_of}
+use Rattle.verb_script.specs.Grammar.{Request, value_of}
+use Rattle.verb_script.specs.declared.rows.RequestName.{RequestName}
+use Rattle.verb_script.specs.declared.rows.RequestName.TheVariants.{Csnbkim, Csnbkex, Csnbpex, Csnbktc, CsnbkpiMiddle, Csnbktr, Csnbkrw, Csnbkrr}
 use Rattle.cca_machine.specs.Act.{Outcome}
 use Rattle.cca_machine.specs.Keys.{key_in_text, key_of_label, key_of_token}
 use Rattle.cca_machine.specs.State.{State}
@@ -24,14 +26,14 @@ vector_of key = option_map (λ k. k.clear.vector) key
 -- the control vector of the key that a request passes on, to its reply or to the record of a label:
 -- that of an internal key, or that which stands in an external token; None where it passes on none
 abbrev pub passed_by : State → RequestName → Request → Option (List ℕ)
-passed_by s csnbpex r = vector_of (key_in_text s (value_of r (codes "key")))
-passed_by s csnbkex r = vector_of (key_in_text s (value_of r (codes "key")))
-passed_by s csnbkpi_middle r = vector_of (key_in_text s (value_of r (codes "key")))
-passed_by s csnbkim r = Some (token_of (bytes_in r (codes "token"))).vector
-passed_by s csnbktr r = Some (token_of (bytes_in r (codes "token"))).vector
-passed_by s csnbktc r = vector_of (key_of_token s (bytes_in r (codes "token")))
-passed_by s csnbkrw r = vector_of (key_of_token s (bytes_in r (codes "token")))
-passed_by s csnbkrr r = vector_of (key_of_label s (value_of r (codes "label")))
+passed_by s Csnbpex r = vector_of (key_in_text s (value_of r (codes "key")))
+passed_by s Csnbkex r = vector_of (key_in_text s (value_of r (codes "key")))
+passed_by s CsnbkpiMiddle r = vector_of (key_in_text s (value_of r (codes "key")))
+passed_by s Csnbkim r = Some (token_of (bytes_in r (codes "token"))).vector
+passed_by s Csnbktr r = Some (token_of (bytes_in r (codes "token"))).vector
+passed_by s Csnbktc r = vector_of (key_of_token s (bytes_in r (codes "token")))
+passed_by s Csnbkrw r = vector_of (key_of_token s (bytes_in r (codes "token")))
+passed_by s Csnbkrr r = vector_of (key_of_label s (value_of r (codes "label")))
 passed_by s _ r = None
 
 abbrev pub passed_vector : State → Request → Option (List ℕ)
@@ -74,30 +76,30 @@ combined rule part clear = record {
 
 -- the key that a request passes on, with its control vector; None where it passes on none
 abbrev pub key_passed : State → RequestName → Request → Option ClearKey
-key_passed s csnbkim r = token_under r (clear_of (operand_key s r (codes "transport")))
-key_passed s csnbktr r = token_under r (clear_of (operand_key s r (codes "transport1")))
-key_passed s csnbkex r = clear_of (operand_key s r (codes "key"))
-key_passed s csnbktc r = clear_of (key_of_token s (bytes_in r (codes "token")))
-key_passed s csnbkrr r = clear_of (key_of_label s (value_of r (codes "label")))
-key_passed s csnbpex r = option_map closed (clear_of (operand_key s r (codes "key")))
-key_passed s csnbkpi_middle r =
+key_passed s Csnbkim r = token_under r (clear_of (operand_key s r (codes "transport")))
+key_passed s Csnbktr r = token_under r (clear_of (operand_key s r (codes "transport1")))
+key_passed s Csnbkex r = clear_of (operand_key s r (codes "key"))
+key_passed s Csnbktc r = clear_of (key_of_token s (bytes_in r (codes "token")))
+key_passed s Csnbkrr r = clear_of (key_of_label s (value_of r (codes "label")))
+key_passed s Csnbpex r = option_map closed (clear_of (operand_key s r (codes "key")))
+key_passed s CsnbkpiMiddle r =
     option_map (combined (value_of r (codes "rule")) (bytes_in r (codes "part")))
     (clear_of (operand_key s r (codes "key")))
 key_passed s _ r = None
 
 -- the request passes a key on to the record in `to`, or to its reply
 abbrev pub passes_to : RequestName → Bool
-passes_to csnbkim = true
-passes_to csnbpex = true
-passes_to csnbkpi_middle = true
+passes_to Csnbkim = true
+passes_to Csnbpex = true
+passes_to CsnbkpiMiddle = true
 passes_to _ = false
 
 -- it passes a key on to its reply
 abbrev pub passes_out : RequestName → Bool
-passes_out csnbkex = true
-passes_out csnbktr = true
-passes_out csnbktc = true
-passes_out csnbkrr = true
+passes_out Csnbkex = true
+passes_out Csnbktr = true
+passes_out Csnbktc = true
+passes_out Csnbkrr = true
 passes_out _ = false
 
 abbrev pub transport_of : Option Denoted → Under
@@ -111,11 +113,11 @@ register_of s (Some key) = Master (master_under (keys_of s.registers) key.age)
 -- what the token in its reply is under: a transport key of the request, the register that CSNBKTC names, or the one that
 -- the label's key is under
 abbrev pub under : State → RequestName → Request → Under
-under s csnbkex r = transport_of (operand_key s r (codes "transport"))
-under s csnbktr r = transport_of (operand_key s r (codes "transport2"))
-under s csnbktc r =
+under s Csnbkex r = transport_of (operand_key s r (codes "transport"))
+under s Csnbktr r = transport_of (operand_key s r (codes "transport2"))
+under s Csnbktc r =
     if bytes_eq (value_of r (codes "rule")) (codes "RTCMK")
     then Master (keys_of s.registers).current
     else Master (keys_of s.registers).coming
-under s csnbkrr r = register_of s (key_of_label s (value_of r (codes "label")))
+under s Csnbkrr r = register_of s (key_of_label s (value_of r (codes "label")))
 under s _ r = Master None

@@ -1,7 +1,9 @@
 -- The random bytes that lines take.
 use Rattle.std.specs.Prelude.{◌≡◌, ℕ, Bool, true, false, All, nat_le, count_ones, ◌%◌, List, [], ◌∷◌, codes, length, take, Option, None, Some}
 use Rattle.script_buffers.specs.Reading.{line_limit}
-use Rattle.verb_script.specs.Grammar.{Request, RequestName, csnbrng, csnbkgn_op, csnbkgn_pair, csnbkgn_out}
+use Rattle.verb_script.specs.Grammar.{Request}
+use Rattle.verb_script.specs.declared.rows.RequestName.{RequestName}
+use Rattle.verb_script.specs.declared.rows.RequestName.TheVariants.{Csnbrng, CsnbkgnOp, CsnbkgnPair, CsnbkgnOut}
 use Rattle.verb_script.specs.Requests.{request_of}
 use Rattle.cca_machine.specs.Lines.{line_outcome, taken_by}
 use Rattle.cca_machine.specs.State.{State}
@@ -33,10 +35,10 @@ all_taken s random (line ∷ lines) =
 
 -- CSNBRNG and CSNBKGN
 abbrev pub takes_random : RequestName → Bool
-takes_random csnbrng = true
-takes_random csnbkgn_op = true
-takes_random csnbkgn_pair = true
-takes_random csnbkgn_out = true
+takes_random Csnbrng = true
+takes_random CsnbkgnOp = true
+takes_random CsnbkgnPair = true
+takes_random CsnbkgnOut = true
 takes_random _ = false
 
 -- ---- the bytes of CSNBRNG

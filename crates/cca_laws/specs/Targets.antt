@@ -1,7 +1,9 @@
 -- The labels that a request may write or delete, by its operands, and what a label holds.
 use Rattle.std.specs.Prelude.{◌≢◌, ℕ, Bool, true, false, List, [], ◌∷◌, Option, None, Some, ⊤, option_map}
 use Rattle.key_tokens.specs.Denotes.{ClearKey}
-use Rattle.verb_script.specs.Grammar.{Request, RequestName, csnbmkp_set, reencipher}
+use Rattle.verb_script.specs.Grammar.{Request}
+use Rattle.verb_script.specs.declared.rows.RequestName.{RequestName}
+use Rattle.verb_script.specs.declared.rows.RequestName.TheVariants.{CsnbmkpSet, Reencipher}
 use Rattle.verb_script.specs.Named.{label_named}
 use Rattle.cca_machine.specs.Keys.{key_of_label}
 use Rattle.cca_machine.specs.Operands.{Operand, listed, operands}
@@ -37,6 +39,6 @@ clear_of_label s label = option_map (λ key. key.clear) (key_of_label s label)
 
 -- the request changes the master keys that labels are under: SET, or REENCIPHER without an action
 abbrev pub changes_ages : RequestName → Bool
-changes_ages csnbmkp_set = true
-changes_ages reencipher = true
+changes_ages CsnbmkpSet = true
+changes_ages Reencipher = true
 changes_ages _ = false

@@ -1,13 +1,14 @@
 -- Keys that are generated with halves that are guaranteed unique.
 use Rattle.std.specs.Prelude.{◌≡◌, ℕ, Bool, true, false, List, drop, take}
 use Rattle.key_transport.specs.UniqueHalves.{is_same_half}
-use Rattle.verb_script.specs.Grammar.{RequestName, csnbkgn_op, csnbkgn_pair, csnbkgn_out}
+use Rattle.verb_script.specs.declared.rows.RequestName.{RequestName}
+use Rattle.verb_script.specs.declared.rows.RequestName.TheVariants.{CsnbkgnOp, CsnbkgnPair, CsnbkgnOut}
 
 -- the request generates one key, or two
 abbrev pub generates : RequestName → Bool
-generates csnbkgn_op = true
-generates csnbkgn_pair = true
-generates csnbkgn_out = true
+generates CsnbkgnOp = true
+generates CsnbkgnPair = true
+generates CsnbkgnOut = true
 generates _ = false
 
 -- the two halves of a key differ, the low-order bit of each byte aside

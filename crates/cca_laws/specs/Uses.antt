@@ -11,7 +11,9 @@ use Rattle.key_tokens.specs.Denotes.{Denoted}
 use Rattle.script_buffers.specs.Replies.{Reply}
 use Rattle.verb_rules.specs.Classes.{classes_of, has}
 use Rattle.verb_rules.specs.declared.needs.Need.{Need}
-use Rattle.verb_script.specs.Grammar.{Request, RequestName, csnbenc, csnbenc_first, csnbenc_middle, csnbenc_last, csnbdec, csnbdec_first, csnbdec_middle, csnbdec_last, csnbmgn, csnbmgn_first, csnbmgn_middle, csnbmgn_last, csnbmvr, csnbmvr_first, csnbmvr_middle, csnbmvr_last, csnbkyt, csnbkgn_pair, csnbkgn_out, csnbkim, csnbkex, csnbpex, csnbkpi_middle, csnbktr}
+use Rattle.verb_script.specs.Grammar.{Request}
+use Rattle.verb_script.specs.declared.rows.RequestName.{RequestName}
+use Rattle.verb_script.specs.declared.rows.RequestName.TheVariants.{Csnbenc, CsnbencFirst, CsnbencMiddle, CsnbencLast, Csnbdec, CsnbdecFirst, CsnbdecMiddle, CsnbdecLast, Csnbmgn, CsnbmgnFirst, CsnbmgnMiddle, CsnbmgnLast, Csnbmvr, CsnbmvrFirst, CsnbmvrMiddle, CsnbmvrLast, Csnbkyt, CsnbkgnPair, CsnbkgnOut, Csnbkim, Csnbkex, Csnbpex, CsnbkpiMiddle, Csnbktr}
 use Rattle.cca_machine.specs.Operands.{Operand, operands}
 use Rattle.cca_laws.specs.ReplyTokens.{ShowsTokens}
 
@@ -77,26 +79,26 @@ MayCombine vector = IsOf known_classes vector × (is_part_of vector ≡ true)
 
 -- the operand `key` represents a key, and what its control vector says, also in segments
 abbrev pub MayWork : RequestName → Option Denoted → Type 0
-MayWork csnbenc key = IsKeyWith MayEncipher key
-MayWork csnbenc_first key = IsKeyWith MayEncipher key
-MayWork csnbenc_middle key = IsKeyWith MayEncipher key
-MayWork csnbenc_last key = IsKeyWith MayEncipher key
-MayWork csnbdec key = IsKeyWith MayDecipher key
-MayWork csnbdec_first key = IsKeyWith MayDecipher key
-MayWork csnbdec_middle key = IsKeyWith MayDecipher key
-MayWork csnbdec_last key = IsKeyWith MayDecipher key
-MayWork csnbmgn key = IsKeyWith MayGenerate key
-MayWork csnbmgn_first key = IsKeyWith MayGenerate key
-MayWork csnbmgn_middle key = IsKeyWith MayGenerate key
-MayWork csnbmgn_last key = IsKeyWith MayGenerate key
-MayWork csnbmvr key = IsKeyWith MayVerify key
-MayWork csnbmvr_first key = IsKeyWith MayVerify key
-MayWork csnbmvr_middle key = IsKeyWith MayVerify key
-MayWork csnbmvr_last key = IsKeyWith MayVerify key
-MayWork csnbkyt key = IsKeyWith MayTest key
-MayWork csnbkex key = IsKeyWith MayExport key
-MayWork csnbpex key = IsKeyWith MayTest key
-MayWork csnbkpi_middle key = IsKeyWith MayCombine key
+MayWork Csnbenc key = IsKeyWith MayEncipher key
+MayWork CsnbencFirst key = IsKeyWith MayEncipher key
+MayWork CsnbencMiddle key = IsKeyWith MayEncipher key
+MayWork CsnbencLast key = IsKeyWith MayEncipher key
+MayWork Csnbdec key = IsKeyWith MayDecipher key
+MayWork CsnbdecFirst key = IsKeyWith MayDecipher key
+MayWork CsnbdecMiddle key = IsKeyWith MayDecipher key
+MayWork CsnbdecLast key = IsKeyWith MayDecipher key
+MayWork Csnbmgn key = IsKeyWith MayGenerate key
+MayWork CsnbmgnFirst key = IsKeyWith MayGenerate key
+MayWork CsnbmgnMiddle key = IsKeyWith MayGenerate key
+MayWork CsnbmgnLast key = IsKeyWith MayGenerate key
+MayWork Csnbmvr key = IsKeyWith MayVerify key
+MayWork CsnbmvrFirst key = IsKeyWith MayVerify key
+MayWork CsnbmvrMiddle key = IsKeyWith MayVerify key
+MayWork CsnbmvrLast key = IsKeyWith MayVerify key
+MayWork Csnbkyt key = IsKeyWith MayTest key
+MayWork Csnbkex key = IsKeyWith MayExport key
+MayWork Csnbpex key = IsKeyWith MayTest key
+MayWork CsnbkpiMiddle key = IsKeyWith MayCombine key
 MayWork _ key = ⊤
 
 -- ---- transport keys
@@ -112,14 +114,14 @@ MayCarry class use_of key =
 
 -- the operand `transport` represents a transport key
 abbrev pub HasTransport : RequestName → Option Denoted → Type 0
-HasTransport csnbkex key = MayCarry Exporter Transport key
-HasTransport csnbkim key = MayCarry Importer Transport key
+HasTransport Csnbkex key = MayCarry Exporter Transport key
+HasTransport Csnbkim key = MayCarry Importer Transport key
 HasTransport _ key = ⊤
 
 -- the operand `transport1` does, by the form of a pair
 abbrev pub HasFirstTransport : RequestName → List ℕ → Option Denoted → Type 0
-HasFirstTransport csnbktr form key = MayCarry Importer Translate key
-HasFirstTransport csnbkgn_out form key =
+HasFirstTransport Csnbktr form key = MayCarry Importer Translate key
+HasFirstTransport CsnbkgnOut form key =
     (form ≡ codes "IMEX" → MayCarry Importer PairImportExport key)
     × (form ≡ codes "EXEX" → MayCarry Exporter PairSame key)
     × (form ≡ codes "IMIM" → MayCarry Importer PairSame key)
@@ -127,11 +129,11 @@ HasFirstTransport _ form key = ⊤
 
 -- the operand `transport2` does
 abbrev pub HasSecondTransport : RequestName → List ℕ → Option Denoted → Type 0
-HasSecondTransport csnbktr form key = MayCarry Exporter Translate key
-HasSecondTransport csnbkgn_pair form key =
+HasSecondTransport Csnbktr form key = MayCarry Exporter Translate key
+HasSecondTransport CsnbkgnPair form key =
     (form ≡ codes "OPEX" → MayCarry Exporter PairOperational key)
     × (form ≡ codes "OPIM" → MayCarry Importer PairOperational key)
-HasSecondTransport csnbkgn_out form key =
+HasSecondTransport CsnbkgnOut form key =
     (form ≡ codes "IMEX" → MayCarry Exporter PairImportExport key)
     × (form ≡ codes "EXEX" → MayCarry Exporter PairSame key)
     × (form ≡ codes "IMIM" → MayCarry Importer PairSame key)
@@ -141,10 +143,10 @@ HasSecondTransport _ form key = ⊤
 
 -- the requests whose replies have an external token: of an exported key, of generated ones, and of a translated one
 abbrev pub gives_external : RequestName → Bool
-gives_external csnbkex = true
-gives_external csnbkgn_pair = true
-gives_external csnbkgn_out = true
-gives_external csnbktr = true
+gives_external Csnbkex = true
+gives_external CsnbkgnPair = true
+gives_external CsnbkgnOut = true
+gives_external Csnbktr = true
 gives_external _ = false
 
 -- the token is no external one, which begins with X'02'

@@ -3,7 +3,8 @@
 ghost use Rattle.std.specs.Prelude.{◌≡◌, ◌≢◌, ℕ, List, codes};
 ghost use Rattle.cca_machine.specs.Points.{point};
 ghost use Rattle.cca_machine.specs.State.{State};
-ghost use Rattle.verb_script.specs.Grammar.{csnbktc, value_of};
+ghost use Rattle.verb_script.specs.Grammar.{value_of};
+ghost use Rattle.verb_script.specs.declared.rows.RequestName.TheVariants.{Csnbktc};
 ghost use Rattle.cca_laws.specs.EachLine.{EachRequest};
 ghost use Rattle.cca_laws.specs.EachReply.{EachAnswer, EachReply};
 ghost use Rattle.cca_laws.specs.Exports.{IsRefused, Lacks, ShowsNoToken, chain_points, export_points, text_points, token_points, verb_point};
@@ -43,10 +44,10 @@ pub fn points_for_exports_and_texts()
         → EachAnswer (λ r reply. verb_point r.name ≡ points → IsRefused reply) s random lines }
     ensures current { (s : State) (random : List ℕ) (lines : List (List ℕ))
         → EachRequest (HoldsNone (point (codes "KTC_CURRENT"))) s random lines
-        → EachAnswer (λ r reply. r.name ≡ csnbktc → value_of r (codes "rule") ≡ codes "RTCMK"
+        → EachAnswer (λ r reply. r.name ≡ Csnbktc → value_of r (codes "rule") ≡ codes "RTCMK"
         → IsRefused reply) s random lines }
     ensures new { (s : State) (random : List ℕ) (lines : List (List ℕ))
         → EachRequest (HoldsNone (point (codes "KTC_NEW"))) s random lines
-        → EachAnswer (λ r reply. r.name ≡ csnbktc → value_of r (codes "rule") ≡ codes "RTNMK"
+        → EachAnswer (λ r reply. r.name ≡ Csnbktc → value_of r (codes "rule") ≡ codes "RTNMK"
         → IsRefused reply) s random lines }
 {}

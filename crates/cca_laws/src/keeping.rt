@@ -8,7 +8,8 @@ ghost use Rattle.cca_machine.specs.State.{State};
 ghost use Rattle.cca_machine.specs.Verdict.{verdict};
 ghost use Rattle.key_tokens.specs.Denotes.{ClearKey, Denoted};
 ghost use Rattle.key_tokens.specs.declared.key_token.Age.TheVariants.{Old};
-ghost use Rattle.verb_script.specs.Grammar.{Request, csnbmkp_set};
+ghost use Rattle.verb_script.specs.Grammar.{Request};
+ghost use Rattle.verb_script.specs.declared.rows.RequestName.TheVariants.{CsnbmkpSet};
 ghost use Rattle.cca_laws.specs.EachLine.{EachRequest};
 ghost use Rattle.cca_laws.specs.Targets.{Spares, changes_ages, clear_of_label};
 
@@ -25,6 +26,6 @@ pub fn no_key_is_lost()
         → changes_ages r.name ≡ true
         → clear_of_label (performed s drawn r).state label ≡ clear_of_label s label }
     ensures set { (s : State) (random label : List ℕ) (r : Request) (key : Denoted)
-        → key_of_label s label ≡ Some key → key.age ≡ Old → r.name ≡ csnbmkp_set
+        → key_of_label s label ≡ Some key → key.age ≡ Old → r.name ≡ CsnbmkpSet
         → IsSome (verdict s random r) }
 {}

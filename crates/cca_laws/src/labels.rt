@@ -8,7 +8,8 @@ ghost use Rattle.cca_machine.specs.State.{State, IsStoreOf};
 ghost use Rattle.cca_machine.specs.Verdict.{verdict};
 ghost use Rattle.key_records.specs.Ages.{any_ahead_entry};
 ghost use Rattle.key_records.specs.Entries.{Entry};
-ghost use Rattle.verb_script.specs.Grammar.{Request, csnbkrc, csnbmkp_clear, csnbmkp_set, reencipher, reencipher_drop, value_of};
+ghost use Rattle.verb_script.specs.Grammar.{Request, value_of};
+ghost use Rattle.verb_script.specs.declared.rows.RequestName.TheVariants.{Csnbkrc, CsnbmkpClear, CsnbmkpSet, Reencipher, ReencipherDrop};
 ghost use Rattle.cca_laws.specs.EachLabel.{IsRenewed, IsTurnedBySet, SameButMark, SameEntry, changes_each, mark_of};
 ghost use Rattle.cca_laws.specs.NamedLabels.{SameNamed, is_of_store};
 ghost use Rattle.cca_laws.specs.Prepared.{is_ahead_label};
@@ -35,22 +36,22 @@ pub fn labels_are_apart()
     ensures marks { (s : State) (drawn label : List ℕ) (r : Request) (ahead : Bool)
         → mark_of r.name ≡ Some ahead → SameButMark ahead s (performed s drawn r).state label }
     ensures dropped { (s : State) (image drawn label : List ℕ) (r : Request) → IsStoreOf s image
-        → r.name ≡ reencipher_drop → verdict s drawn r ≡ None
+        → r.name ≡ ReencipherDrop → verdict s drawn r ≡ None
         → is_ahead_label (performed s drawn r).state label ≡ false }
     ensures set { (s : State) (drawn label : List ℕ) (r : Request)
-        → r.name ≡ csnbmkp_set → verdict s drawn r ≡ None
+        → r.name ≡ CsnbmkpSet → verdict s drawn r ≡ None
         → IsTurnedBySet s (performed s drawn r).state label }
     ensures renewed { (s : State) (image drawn label : List ℕ) (r : Request) → IsStoreOf s image
-        → r.name ≡ reencipher → verdict s drawn r ≡ None
+        → r.name ≡ Reencipher → verdict s drawn r ≡ None
         → IsRenewed s (performed s drawn r).state label }
     ensures created { (s : State) (drawn label : List ℕ) (r : Request)
-        → cell_with s label ≡ None → (r.name ≡ csnbkrc → value_of r (codes "label") ≢ label)
+        → cell_with s label ≡ None → (r.name ≡ Csnbkrc → value_of r (codes "label") ≢ label)
         → cell_with (performed s drawn r).state label ≡ None }
     ensures replies { (s : State) (others : List (Option Entry)) (drawn : List ℕ) (r : Request)
         → is_of_store r.name ≡ false
         → SameNamed s (record s { labels = others }) (listed (operands r))
         → (performed (record s { labels = others }) drawn r).reply ≡ (performed s drawn r).reply }
     ensures clears { (s : State) (others : List (Option Entry)) (drawn : List ℕ) (r : Request)
-        → r.name ≡ csnbmkp_clear → any_ahead_entry others ≡ any_ahead_entry s.labels
+        → r.name ≡ CsnbmkpClear → any_ahead_entry others ≡ any_ahead_entry s.labels
         → (performed (record s { labels = others }) drawn r).reply ≡ (performed s drawn r).reply }
 {}

@@ -6,7 +6,8 @@ ghost use Rattle.cca_machine.specs.Keys.{key_of_label, key_of_token};
 ghost use Rattle.cca_machine.specs.State.{State};
 ghost use Rattle.cca_machine.specs.Verdict.{bytes_in};
 ghost use Rattle.key_tokens.specs.Denotes.{ClearKey, Denoted};
-ghost use Rattle.verb_script.specs.Grammar.{Request, csnbkrw, value_of};
+ghost use Rattle.verb_script.specs.Grammar.{Request, value_of};
+ghost use Rattle.verb_script.specs.declared.rows.RequestName.TheVariants.{Csnbkrw};
 ghost use Rattle.verb_script.specs.Named.{label_named};
 ghost use Rattle.cca_laws.specs.Delivered.{IsDelivered, IsPerformed, IsTokenUnder, RepliesToken};
 ghost use Rattle.cca_laws.specs.Passing.{key_passed, passes_out, passes_to, under};
@@ -27,7 +28,7 @@ pub fn passed_on_unchanged()
         → (clear : ClearKey) × (key_passed s r.name r ≡ Some clear)
         × RepliesToken (IsTokenUnder (under s r.name r) clear) (performed s drawn r).reply }
     ensures written { (s : State) (drawn : List ℕ) (r : Request)
-        → IsPerformed s drawn r → r.name ≡ csnbkrw
+        → IsPerformed s drawn r → r.name ≡ Csnbkrw
         → (key : Denoted) × (key_of_token s (bytes_in r (codes "token")) ≡ Some key)
         × (key_of_label (performed s drawn r).state (value_of r (codes "label")) ≡ Some key) }
 {}

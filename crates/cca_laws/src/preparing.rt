@@ -9,7 +9,8 @@ ghost use Rattle.cca_machine.specs.Verdict.{verdict};
 ghost use Rattle.key_tokens.specs.Denotes.{Denoted};
 ghost use Rattle.key_transport.specs.Tokens.{as_current};
 ghost use Rattle.reencipher.specs.declared.actions.StoreAction.TheVariants.{Ahead};
-ghost use Rattle.verb_script.specs.Grammar.{Request, csnbmkp_clear, csnbmkp_set};
+ghost use Rattle.verb_script.specs.Grammar.{Request};
+ghost use Rattle.verb_script.specs.declared.rows.RequestName.TheVariants.{CsnbmkpClear, CsnbmkpSet};
 ghost use Rattle.cca_laws.specs.Prepared.{is_ahead_label};
 
 /// AHEAD leaves each label that holds a key ahead, with that key under the same master key. A label that is ahead has its
@@ -22,10 +23,10 @@ pub fn labels_are_current_at_once()
         → (is_ahead_label (performed s drawn (reencipher_for Ahead role)).state label ≡ true)
         × (key_of_label (performed s drawn (reencipher_for Ahead role)).state label ≡ Some key) }
     ensures set { (s : State) (drawn label : List ℕ) (r : Request) (key : Denoted)
-        → r.name ≡ csnbmkp_set → verdict s drawn r ≡ None
+        → r.name ≡ CsnbmkpSet → verdict s drawn r ≡ None
         → key_of_label s label ≡ Some key → is_ahead_label s label ≡ true
         → key_of_label (performed s drawn r).state label ≡ Some (as_current key.clear) }
     ensures clear { (s : State) (random label : List ℕ) (r : Request)
-        → r.name ≡ csnbmkp_clear → is_ahead_label s label ≡ true
+        → r.name ≡ CsnbmkpClear → is_ahead_label s label ≡ true
         → IsSome (verdict s random r) }
 {}

@@ -9,7 +9,8 @@ ghost use Rattle.cca_machine.specs.State.{State};
 ghost use Rattle.cca_machine.specs.Verdict.{verdict};
 ghost use Rattle.cca_vectors.specs.declared.key_length.Length.{Length};
 ghost use Rattle.script_buffers.specs.Replies.{Done, Hex};
-ghost use Rattle.verb_script.specs.Grammar.{Request, csnbrng, value_of};
+ghost use Rattle.verb_script.specs.Grammar.{Request, value_of};
+ghost use Rattle.verb_script.specs.declared.rows.RequestName.TheVariants.{Csnbrng};
 ghost use Rattle.cca_laws.specs.DrawnKeys.{IsDrawnKey, IsGenerating};
 ghost use Rattle.cca_laws.specs.TakenBytes.{IsInForm, all_taken, bytes_taken, count_taken, takes_random};
 
@@ -27,7 +28,7 @@ pub fn random_bytes_are_used_once()
           reply = (line_outcome s random line).reply;
           random = rest;
         } }
-    ensures shown { (s : State) (drawn : List ℕ) (r : Request) → r.name ≡ csnbrng
+    ensures shown { (s : State) (drawn : List ℕ) (r : Request) → r.name ≡ Csnbrng
         → verdict s drawn r ≡ None → length drawn ≡ taken_by s drawn r
         → All (λ byte. byte < 256) drawn
         → (bytes : List ℕ) × (length drawn ≡ 8)

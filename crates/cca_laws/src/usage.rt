@@ -10,7 +10,8 @@ ghost use Rattle.cca_machine.specs.declared.asking.Ask.TheVariants as ask;
 ghost use Rattle.cca_vectors.specs.Permissions.{is_exportable};
 ghost use Rattle.key_tokens.specs.Denotes.{ClearKey, Denoted};
 ghost use Rattle.verb_rules.specs.declared.needs.Need.{Need};
-ghost use Rattle.verb_script.specs.Grammar.{Request, csnbpex, value_of};
+ghost use Rattle.verb_script.specs.Grammar.{Request, value_of};
+ghost use Rattle.verb_script.specs.declared.rows.RequestName.TheVariants.{Csnbpex};
 ghost use Rattle.verb_script.specs.Named.{label_named};
 ghost use Rattle.cca_laws.specs.Delivered.{IsDelivered, IsPerformed};
 ghost use Rattle.cca_laws.specs.Passing.{StaysUnexportable, passed_vector};
@@ -39,7 +40,7 @@ pub fn keys_are_used_as_permitted()
     ensures external { (s : State) (drawn : List ℕ) (r : Request) → gives_external r.name ≡ false
         → ShowsNoExternal (performed s drawn r).reply }
     ensures closed { (s : State) (drawn : List ℕ) (r : Request) (key : Denoted)
-        → IsPerformed s drawn r → r.name ≡ csnbpex
+        → IsPerformed s drawn r → r.name ≡ Csnbpex
         → key_in_text s (value_of r (codes "key")) ≡ Some key
         → (clear : ClearKey) × (clear.key ≡ key.clear.key) × (is_exportable clear.vector ≡ false)
         × IsDelivered s (label_named (value_of r (codes "to"))) clear (performed s drawn r) }

@@ -15,12 +15,12 @@ use Rattle.script_buffers.specs.Replies.{Reply, Done, Number}
 use Rattle.verb_rules.specs.Keys.{keys_of}
 use Rattle.cca_machine.specs.State.{State, IsStoreOf}
 use Rattle.cca_machine.specs.Verdict.{Refusal, verdict, verdict_by, ahead_checks, first_refusal, questions}
-use Rattle.cca_machine.specs.Act.{Outcome, Reencipher, effected, or_act, performed}
+use Rattle.cca_machine.specs.Act.{Outcome, ChangeLabels, effected, or_act, performed}
 use Rattle.cca_machine.specs.Reruns.{reencipher_for, stopped}
 
 -- a permitted run
 run_is : (a : StoreAction) (s : State) (drawn role : List ℕ) → verdict s [] (reencipher_for a role) ≡ None
-    → performed s drawn (reencipher_for a role) ≡ effected s (reencipher_for a role) (Reencipher a)
+    → performed s drawn (reencipher_for a role) ≡ effected s (reencipher_for a role) (ChangeLabels a)
 unfolding performed
 run_is Renew s drawn role permitted = ap (λ (v : Option Refusal). or_act v s drawn (reencipher_for Renew role)) permitted
 run_is Ahead s drawn role permitted = ap (λ (v : Option Refusal). or_act v s drawn (reencipher_for Ahead role)) permitted
@@ -81,7 +81,7 @@ rerun_leaves a s role stops fits permitted =
     ∙ (ap (with_labels s) (rerun a s.labels stops 1024 fits) ∙ sym (state_is a s role [] permitted))
 
 -- no operand, so no warning
-reply_is : (a : StoreAction) (s : State) (role : List ℕ) → (effected s (reencipher_for a role) (Reencipher a)).reply ≡ changed (changed_count a s.labels)
+reply_is : (a : StoreAction) (s : State) (role : List ℕ) → (effected s (reencipher_for a role) (ChangeLabels a)).reply ≡ changed (changed_count a s.labels)
 reply_is Renew s role = refl
 reply_is Ahead s role = refl
 reply_is Drop s role = refl

@@ -11,7 +11,9 @@ use Rattle.key_transport.specs.declared.changing.Target.{Target}
 use Rattle.key_transport.specs.declared.changing.Target.TheVariants.{Current, New}
 use Rattle.key_transport.specs.declared.generating.Form.TheVariants.{Opex, Opim, Imex, Exex, Imim}
 use Rattle.verb_rules.specs.declared.needs.Need.{Need}
-use Rattle.verb_script.specs.Grammar.{Request, RequestName, value_of, csnbktp, csnbcki, csnbkgn_op, csnbkgn_pair, csnbkim, csnbpex, csnbktc, csnbkpi_first, csnbkpi_middle, csnbmkp_part}
+use Rattle.verb_script.specs.Grammar.{Request, value_of}
+use Rattle.verb_script.specs.declared.rows.RequestName.{RequestName}
+use Rattle.verb_script.specs.declared.rows.RequestName.TheVariants.{Csnbktp, Csnbcki, CsnbkgnOp, CsnbkgnPair, Csnbkim, Csnbpex, Csnbktc, CsnbkpiFirst, CsnbkpiMiddle, CsnbmkpPart}
 use Rattle.verb_script.specs.Named.{label_named}
 use Rattle.cca_machine.specs.Actions.{part_action}
 use Rattle.cca_machine.specs.Choices.{out_form_named, pair_form_named, target_named}
@@ -39,16 +41,16 @@ of_action Clear = refl
 of_action Set = refl
 
 pub of_table : (name : RequestName) (r : Request) → ArePoints (needed_points name r)
-of_table csnbktp r = refl
-of_table csnbcki r = with_target (point (codes "CKI")) (label_named (value_of r (codes "to"))) refl refl
-of_table csnbkgn_op r = with_target (point (codes "KGN_OP")) (label_named (value_of r (codes "to"))) refl refl
-of_table csnbkgn_pair r = with_target (point (codes "KGN_PAIR")) (label_named (value_of r (codes "to"))) refl refl
-of_table csnbkim r = with_target (point (codes "KIM")) (label_named (value_of r (codes "to"))) refl refl
-of_table csnbpex r = with_target (point (codes "PEX")) (label_named (value_of r (codes "to"))) refl refl
-of_table csnbktc r = of_target (target_named (value_of r (codes "rule")))
-of_table csnbkpi_first r = with_target (point (codes "KPI_FIRST")) (label_named (value_of r (codes "to"))) refl refl
-of_table csnbkpi_middle r = with_target (point (codes "KPI_COMBINE")) (label_named (value_of r (codes "to"))) refl refl
-of_table csnbmkp_part r = of_action (part_action (value_of r (codes "action")))
+of_table Csnbktp r = refl
+of_table Csnbcki r = with_target (point (codes "CKI")) (label_named (value_of r (codes "to"))) refl refl
+of_table CsnbkgnOp r = with_target (point (codes "KGN_OP")) (label_named (value_of r (codes "to"))) refl refl
+of_table CsnbkgnPair r = with_target (point (codes "KGN_PAIR")) (label_named (value_of r (codes "to"))) refl refl
+of_table Csnbkim r = with_target (point (codes "KIM")) (label_named (value_of r (codes "to"))) refl refl
+of_table Csnbpex r = with_target (point (codes "PEX")) (label_named (value_of r (codes "to"))) refl refl
+of_table Csnbktc r = of_target (target_named (value_of r (codes "rule")))
+of_table CsnbkpiFirst r = with_target (point (codes "KPI_FIRST")) (label_named (value_of r (codes "to"))) refl refl
+of_table CsnbkpiMiddle r = with_target (point (codes "KPI_COMBINE")) (label_named (value_of r (codes "to"))) refl refl
+of_table CsnbmkpPart r = of_action (part_action (value_of r (codes "action")))
 of_table _ r = refl
 
 -- ---- transport keys

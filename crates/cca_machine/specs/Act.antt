@@ -21,7 +21,9 @@ use Rattle.key_parts.specs.Parts.{first_key, combined_key}
 use Rattle.key_transport.specs.Generated.{generated_key}
 use Rattle.key_transport.specs.Tokens.{as_current, closed_key, changed_token, external_token}
 use Rattle.verb_script.specs.Named.{label_named}
-use Rattle.verb_script.specs.Grammar.{Request, RequestName, csnbktp, csnbenc, csnbenc_first, csnbenc_middle, csnbenc_last, csnbdec, csnbdec_first, csnbdec_middle, csnbdec_last, csnbmgn, csnbmgn_first, csnbmgn_middle, csnbmgn_last, csnbmvr, csnbmvr_first, csnbmvr_middle, csnbmvr_last, csnbkyt, csnbcki, csnbrng, csnbkgn_op, csnbkgn_pair, csnbkgn_out, csnbkim, csnbkex, csnbpex, csnbktc, csnbkpi_first, csnbkpi_middle, csnbktr, csnbkrc, csnbkrw, csnbkrr, csnbkrd, csnbkrl, csnbmkp_part, csnbmkp_clear, csnbmkp_set, csuaaci_define, csuaaci_remove, reencipher, value_of, reencipher_ahead, reencipher_drop}
+use Rattle.verb_script.specs.Grammar.{Request, value_of}
+use Rattle.verb_script.specs.declared.rows.RequestName.{RequestName}
+use Rattle.verb_script.specs.declared.rows.RequestName.TheVariants.{Csnbktp, Csnbenc, CsnbencFirst, CsnbencMiddle, CsnbencLast, Csnbdec, CsnbdecFirst, CsnbdecMiddle, CsnbdecLast, Csnbmgn, CsnbmgnFirst, CsnbmgnMiddle, CsnbmgnLast, Csnbmvr, CsnbmvrFirst, CsnbmvrMiddle, CsnbmvrLast, Csnbkyt, Csnbcki, Csnbrng, CsnbkgnOp, CsnbkgnPair, CsnbkgnOut, Csnbkim, Csnbkex, Csnbpex, Csnbktc, CsnbkpiFirst, CsnbkpiMiddle, Csnbktr, Csnbkrc, Csnbkrw, Csnbkrr, Csnbkrd, Csnbkrl, CsnbmkpPart, CsnbmkpClear, CsnbmkpSet, CsuaaciDefine, CsuaaciRemove, Reencipher, ReencipherAhead, ReencipherDrop}
 use Rattle.cca_roles.specs.Roles.{define_place, after_define, remove_place, after_remove}
 use Rattle.reencipher.specs.Further.{further, changed_count}
 use Rattle.reencipher.specs.declared.actions.StoreAction.{StoreAction}
@@ -68,7 +70,7 @@ pub data Effect : Type 0 where
   -- the label is no longer held
   Delete : List ℕ → Effect
   -- every label is what the action makes of it
-  Reencipher : StoreAction → Effect
+  ChangeLabels : StoreAction → Effect
 
 -- ---- the reply to CSNBKTP
 
@@ -181,104 +183,104 @@ shown_code_segment s chain r =
 -- ---- with the random bytes that are drawn for it
 
 abbrev pub effect : State → List ℕ → RequestName → Request → Effect
-effect s drawn csnbktp r = Show (token_fields (token_of (bytes_in r (codes "token"))))
-effect s drawn csnbenc r =
+effect s drawn Csnbktp r = Show (token_fields (token_of (bytes_in r (codes "token"))))
+effect s drawn Csnbenc r =
     Show (Hex (codes "text")
     (enciphered_text (key_of_request s r) (bytes_in r (codes "iv"))
     (pad_named (value_of r (codes "pad"))) (bytes_in r (codes "text"))) ∷ [])
-effect s drawn csnbenc_first r =
+effect s drawn CsnbencFirst r =
     shown_segment s mode.Encipher (first_chain (bytes_in r (codes "iv"))) r
-effect s drawn csnbenc_middle r = shown_segment s mode.Encipher (chain_in r) r
-effect s drawn csnbenc_last r = shown_last s mode.Encipher r
-effect s drawn csnbdec r =
+effect s drawn CsnbencMiddle r = shown_segment s mode.Encipher (chain_in r) r
+effect s drawn CsnbencLast r = shown_last s mode.Encipher r
+effect s drawn Csnbdec r =
     Show (Hex (codes "text")
     (or_empty (deciphered_text (key_of_request s r) (bytes_in r (codes "iv"))
     (pad_named (value_of r (codes "pad"))) (bytes_in r (codes "text")))) ∷ [])
-effect s drawn csnbdec_first r =
+effect s drawn CsnbdecFirst r =
     shown_segment s mode.Decipher (first_chain (bytes_in r (codes "iv"))) r
-effect s drawn csnbdec_middle r = shown_segment s mode.Decipher (chain_in r) r
-effect s drawn csnbdec_last r = shown_last s mode.Decipher r
-effect s drawn csnbmgn r =
+effect s drawn CsnbdecMiddle r = shown_segment s mode.Decipher (chain_in r) r
+effect s drawn CsnbdecLast r = shown_last s mode.Decipher r
+effect s drawn Csnbmgn r =
     Show (Hex (codes "mac") (take (mac_length_named (value_of r (codes "length")))
     (code_of (mac_rule_named (value_of r (codes "rule"))) (key_of_request s r)
     (bytes_in r (codes "text")))) ∷ [])
-effect s drawn csnbmgn_first r = shown_code_segment s (first_chain zero_block) r
-effect s drawn csnbmgn_middle r = shown_code_segment s (chain_in r) r
-effect s drawn csnbmgn_last r =
+effect s drawn CsnbmgnFirst r = shown_code_segment s (first_chain zero_block) r
+effect s drawn CsnbmgnMiddle r = shown_code_segment s (chain_in r) r
+effect s drawn CsnbmgnLast r =
     Show (last_code_fields (key_of_request s r) (code_rule r) (chain_in r)
     (mac_length_named (value_of r (codes "length"))) (bytes_in r (codes "text")))
-effect s drawn csnbmvr r =
+effect s drawn Csnbmvr r =
     Show (Text (codes "match") (yes_or_no
     (is_code (mac_rule_named (value_of r (codes "rule"))) (key_of_request s r)
     (bytes_in r (codes "text")) (bytes_in r (codes "mac")))) ∷ [])
-effect s drawn csnbmvr_first r = shown_code_segment s (first_chain zero_block) r
-effect s drawn csnbmvr_middle r = shown_code_segment s (chain_in r) r
-effect s drawn csnbmvr_last r =
+effect s drawn CsnbmvrFirst r = shown_code_segment s (first_chain zero_block) r
+effect s drawn CsnbmvrMiddle r = shown_code_segment s (chain_in r) r
+effect s drawn CsnbmvrLast r =
     Show (last_match_fields (key_of_request s r) (code_rule r) (chain_in r)
     (bytes_in r (codes "mac")) (bytes_in r (codes "text")))
-effect s drawn csnbkyt r = Show (Hex (codes "value") (test_value (key_of_request s r)) ∷ [])
-effect s drawn csnbcki r =
+effect s drawn Csnbkyt r = Show (Hex (codes "value") (test_value (key_of_request s r)) ∷ [])
+effect s drawn Csnbcki r =
     delivered s (codes "token") (label_named (value_of r (codes "to")))
     (imported_key (bytes_in r (codes "clear")))
-effect s drawn csnbrng r =
+effect s drawn Csnbrng r =
     Show (Hex (codes "random") (in_form (form_named (value_of r (codes "form"))) drawn) ∷ [])
-effect s drawn csnbkgn_op r =
+effect s drawn CsnbkgnOp r =
     delivered s (codes "token1") (label_named (value_of r (codes "to")))
     (as_current (generated_key (type1_of r) (length_in r) drawn))
-effect s drawn csnbkgn_pair r =
+effect s drawn CsnbkgnPair r =
     delivered_with s (codes "token1") (label_named (value_of r (codes "to")))
     (as_current (generated_key (type1_of r) (length_in r) drawn))
     (Hex (codes "token2")
     (token_out s r (codes "transport2") (generated_key (type2_of r) (length_in r) drawn)) ∷ [])
-effect s drawn csnbkgn_out r = Show (
+effect s drawn CsnbkgnOut r = Show (
     Hex (codes "token1")
     (token_out s r (codes "transport1") (generated_key (type1_of r) (length_in r) drawn))
     ∷ Hex (codes "token2")
     (token_out s r (codes "transport2") (generated_key (type2_of r) (length_in r) drawn))
     ∷ [])
-effect s drawn csnbkim r =
+effect s drawn Csnbkim r =
     delivered s (codes "token") (label_named (value_of r (codes "to")))
     (as_current (imported (key_in_field s r (codes "transport")) (bytes_in r (codes "token"))))
-effect s drawn csnbkex r =
+effect s drawn Csnbkex r =
     Show (Hex (codes "token") (token_out s r (codes "transport") (key_of_request s r)) ∷ [])
-effect s drawn csnbpex r =
+effect s drawn Csnbpex r =
     delivered s (codes "token") (label_named (value_of r (codes "to")))
     (as_current (closed_key (key_of_request s r)))
-effect s drawn csnbktc r = Show (Hex (codes "token")
+effect s drawn Csnbktc r = Show (Hex (codes "token")
     (changed_token s.registers (target_named (value_of r (codes "rule")))
     (or_no_key (key_of_token s (bytes_in r (codes "token")))).clear) ∷ [])
-effect s drawn csnbkpi_first r =
+effect s drawn CsnbkpiFirst r =
     delivered s (codes "token") (label_named (value_of r (codes "to")))
     (as_current (first_key (type_in (value_of r (codes "type"))) (part_in r)))
-effect s drawn csnbkpi_middle r =
+effect s drawn CsnbkpiMiddle r =
     delivered s (codes "token") (label_named (value_of r (codes "to")))
     (as_current (combined_key (is_last_part (value_of r (codes "rule")))
     (key_of_request s r) (part_in r)))
-effect s drawn csnbktr r =
+effect s drawn Csnbktr r =
     Show (Hex (codes "token")
     (token_out s r (codes "transport2")
     (imported (key_in_field s r (codes "transport1")) (bytes_in r (codes "token")))) ∷ [])
-effect s drawn csnbkrc r = Create (value_of r (codes "label"))
-effect s drawn csnbkrw r =
+effect s drawn Csnbkrc r = Create (value_of r (codes "label"))
+effect s drawn Csnbkrw r =
     Write (value_of r (codes "label")) (or_no_key (key_of_token s (bytes_in r (codes "token")))) []
-effect s drawn csnbkrr r =
+effect s drawn Csnbkrr r =
     Show (Hex (codes "token")
     (token_for (keys_of s.registers)
     (or_no_key (key_of_label s (value_of r (codes "label"))))) ∷ [])
-effect s drawn csnbkrd r = Delete (value_of r (codes "label"))
-effect s drawn csnbkrl r = Show (label_fields (value_of r (codes "prefix")) (directory s.labels))
-effect s drawn csnbmkp_part r =
+effect s drawn Csnbkrd r = Delete (value_of r (codes "label"))
+effect s drawn Csnbkrl r = Show (label_fields (value_of r (codes "prefix")) (directory s.labels))
+effect s drawn CsnbmkpPart r =
     Become
     (after_action (part_action (value_of r (codes "action")))
     (bytes_in r (codes "part")) s.registers)
     s.labels
-effect s drawn csnbmkp_clear r = Become (after_action Clear [] s.registers) s.labels
-effect s drawn csnbmkp_set r = Become (after_action Set [] s.registers) (aged (keys_of s.registers) s.labels)
-effect s drawn csuaaci_define r = DefineRole (value_of r (codes "name")) (points_in r)
-effect s drawn csuaaci_remove r = RemoveRole (value_of r (codes "name"))
-effect s drawn reencipher r = Reencipher Renew
-effect s drawn reencipher_ahead r = Reencipher Ahead
-effect s drawn reencipher_drop r = Reencipher Drop
+effect s drawn CsnbmkpClear r = Become (after_action Clear [] s.registers) s.labels
+effect s drawn CsnbmkpSet r = Become (after_action Set [] s.registers) (aged (keys_of s.registers) s.labels)
+effect s drawn CsuaaciDefine r = DefineRole (value_of r (codes "name")) (points_in r)
+effect s drawn CsuaaciRemove r = RemoveRole (value_of r (codes "name"))
+effect s drawn Reencipher r = ChangeLabels Renew
+effect s drawn ReencipherAhead r = ChangeLabels Ahead
+effect s drawn ReencipherDrop r = ChangeLabels Drop
 
 -- ---- what comes of it
 
@@ -320,7 +322,7 @@ state_after s (Create label) = record s { labels = created label s.labels }
 state_after s (Write label key fields) =
     record s { labels = written_in (cell_with s label) key s.labels }
 state_after s (Delete label) = record s { labels = deleted_in (cell_with s label) s.labels }
-state_after s (Reencipher a) = record s { labels = further a s.labels 1024 }
+state_after s (ChangeLabels a) = record s { labels = further a s.labels 1024 }
 
 -- the state once the labels in the cells below this one are what the action makes of them
 abbrev pub state_between : State → Effect → ℕ → State
@@ -331,7 +333,7 @@ state_between s (RemoveRole name) cell = s
 state_between s (Create label) cell = s
 state_between s (Write label key fields) cell = s
 state_between s (Delete label) cell = s
-state_between s (Reencipher a) cell = record s { labels = further a s.labels cell }
+state_between s (ChangeLabels a) cell = record s { labels = further a s.labels cell }
 
 abbrev pub fields_after : State → Effect → List Field
 fields_after s (Show fields) = fields
@@ -341,7 +343,7 @@ fields_after s (RemoveRole name) = []
 fields_after s (Create label) = []
 fields_after s (Write label key fields) = fields
 fields_after s (Delete label) = []
-fields_after s (Reencipher a) = Number (codes "changed") (changed_count a s.labels) ∷ []
+fields_after s (ChangeLabels a) = Number (codes "changed") (changed_count a s.labels) ∷ []
 
 -- the registers stand in cell 0, the roles in the cells behind it
 abbrev pub module_cells_after : State → Effect → Cells
@@ -352,7 +354,7 @@ module_cells_after s (RemoveRole name) = OneCell (remove_place name s.roles + 1)
 module_cells_after s (Create label) = NoCell
 module_cells_after s (Write label key fields) = NoCell
 module_cells_after s (Delete label) = NoCell
-module_cells_after s (Reencipher a) = NoCell
+module_cells_after s (ChangeLabels a) = NoCell
 
 abbrev pub cell_or_none : Option ℕ → Cells
 cell_or_none None = NoCell
@@ -367,7 +369,7 @@ store_cells_after s (RemoveRole name) = NoCell
 store_cells_after s (Create label) = OneCell (free_cell (directory s.labels))
 store_cells_after s (Write label key fields) = cell_or_none (cell_with s label)
 store_cells_after s (Delete label) = cell_or_none (cell_with s label)
-store_cells_after s (Reencipher a) = ChangedCells a s.labels
+store_cells_after s (ChangeLabels a) = ChangedCells a s.labels
 
 -- the reply ends with the warning
 abbrev pub effected : State → Request → Effect → Outcome

@@ -10,7 +10,9 @@ use Rattle.text_segments.specs.Cuttings.{uncut_text}
 use Rattle.text_segments.specs.Segments.{IsCipher}
 use Rattle.text_segments.specs.declared.modes.Mode.{Mode}
 use Rattle.text_segments.specs.declared.modes.Mode.TheVariants.{Encipher, Decipher, Mac}
-use Rattle.verb_script.specs.Grammar.{Request, RequestName, row_of, AreValues, csnbenc_first, csnbenc_middle, csnbenc_last, csnbdec_first, csnbdec_middle, csnbdec_last, csnbmgn_first, csnbmgn_middle, csnbmgn_last, csnbmvr_first, csnbmvr_middle, csnbmvr_last}
+use Rattle.verb_script.specs.Grammar.{Request, row_of, AreValues}
+use Rattle.verb_script.specs.declared.rows.RequestName.{RequestName}
+use Rattle.verb_script.specs.declared.rows.RequestName.TheVariants.{CsnbencFirst, CsnbencMiddle, CsnbencLast, CsnbdecFirst, CsnbdecMiddle, CsnbdecLast, CsnbmgnFirst, CsnbmgnMiddle, CsnbmgnLast, CsnbmvrFirst, CsnbmvrMiddle, CsnbmvrLast}
 use Rattle.verb_script.specs.Values.{hex_value}
 use Rattle.cca_machine.specs.Act.{performed, yes_or_no}
 use Rattle.cca_machine.specs.Choices.{mac_length_named, mac_rule_named, pad_named}
@@ -59,19 +61,19 @@ replied_texts gs = map (λ g. g.text) gs
 -- ---- texts that are enciphered or deciphered
 
 abbrev pub first_row : Mode → RequestName
-first_row Encipher = csnbenc_first
-first_row Decipher = csnbdec_first
-first_row (Mac rule) = csnbmgn_first
+first_row Encipher = CsnbencFirst
+first_row Decipher = CsnbdecFirst
+first_row (Mac rule) = CsnbmgnFirst
 
 abbrev pub middle_row : Mode → RequestName
-middle_row Encipher = csnbenc_middle
-middle_row Decipher = csnbdec_middle
-middle_row (Mac rule) = csnbmgn_middle
+middle_row Encipher = CsnbencMiddle
+middle_row Decipher = CsnbdecMiddle
+middle_row (Mac rule) = CsnbmgnMiddle
 
 abbrev pub last_row : Mode → RequestName
-last_row Encipher = csnbenc_last
-last_row Decipher = csnbdec_last
-last_row (Mac rule) = csnbmgn_last
+last_row Encipher = CsnbencLast
+last_row Decipher = CsnbdecLast
+last_row (Mac rule) = CsnbmgnLast
 
 abbrev pub first_request : Mode → Sender → List ℕ → List ℕ → Request
 first_request mode sender iv digits = record {
@@ -151,12 +153,12 @@ given_code_texts gs = map (λ g. hex_value g.digits) gs
 
 -- the code is verified, or made
 abbrev pub first_code_row : Bool → RequestName
-first_code_row true = csnbmvr_first
-first_code_row false = csnbmgn_first
+first_code_row true = CsnbmvrFirst
+first_code_row false = CsnbmgnFirst
 
 abbrev pub middle_code_row : Bool → RequestName
-middle_code_row true = csnbmvr_middle
-middle_code_row false = csnbmgn_middle
+middle_code_row true = CsnbmvrMiddle
+middle_code_row false = CsnbmgnMiddle
 
 abbrev pub first_code_request : Bool → Sender → List ℕ → List ℕ → Request
 first_code_request verifies sender rule digits = record {
@@ -172,13 +174,13 @@ middle_code_request verifies sender rule chain digits = record {
 
 abbrev pub last_making_request : Sender → List ℕ → List ℕ → List ℕ → List ℕ → Request
 last_making_request sender rule size chain digits = record {
-  name = csnbmgn_last;
+  name = CsnbmgnLast;
   values = sender.role ∷ sender.key ∷ rule ∷ codes "LAST" ∷ size ∷ chain ∷ digits ∷ [];
 }
 
 abbrev pub last_verifying_request : Sender → List ℕ → List ℕ → List ℕ → List ℕ → Request
 last_verifying_request sender rule mac chain digits = record {
-  name = csnbmvr_last;
+  name = CsnbmvrLast;
   values = sender.role ∷ sender.key ∷ rule ∷ codes "LAST" ∷ mac ∷ chain ∷ digits ∷ [];
 }
 

@@ -2,7 +2,9 @@
 use Rattle.std.specs.Prelude.{ℕ, Bool, true, false, List, codes}
 use Rattle.cca_vectors.specs.declared.key_length.Length.{Length}
 use Rattle.key_transport.specs.UniqueHalves.{key_taken}
-use Rattle.verb_script.specs.Grammar.{Request, RequestName, csnbkgn_op, csnbkgn_out, csnbkgn_pair, csnbrng, value_of}
+use Rattle.verb_script.specs.Grammar.{Request, value_of}
+use Rattle.verb_script.specs.declared.rows.RequestName.{RequestName}
+use Rattle.verb_script.specs.declared.rows.RequestName.TheVariants.{CsnbkgnOp, CsnbkgnOut, CsnbkgnPair, Csnbrng}
 use Rattle.cca_machine.specs.Choices.{key_length_named}
 
 -- none, eight, or those of a key of a length
@@ -17,10 +19,10 @@ length_in r = key_length_named (value_of r (codes "length"))
 
 -- what a request draws, where no rule that is asked before refuses it
 abbrev pub draw_of : RequestName → Request → Draw
-draw_of csnbrng r = EightBytes
-draw_of csnbkgn_op r = KeyBytes (length_in r)
-draw_of csnbkgn_pair r = KeyBytes (length_in r)
-draw_of csnbkgn_out r = KeyBytes (length_in r)
+draw_of Csnbrng r = EightBytes
+draw_of CsnbkgnOp r = KeyBytes (length_in r)
+draw_of CsnbkgnPair r = KeyBytes (length_in r)
+draw_of CsnbkgnOut r = KeyBytes (length_in r)
 draw_of _ r = NoBytes
 
 -- some are drawn

@@ -1,7 +1,9 @@
 -- What a request needs before its verb decides, as a table: access control points, the master key, and its operands, which
 -- name a key or a label.
 use Rattle.std.specs.Prelude.{ℕ, bit_or, Bool, true, false, ◌||◌, is_some, List, [], ◌∷◌, codes, Option, None, Some}
-use Rattle.verb_script.specs.Grammar.{Request, RequestName, csnbktp, csnbenc, csnbenc_first, csnbenc_middle, csnbenc_last, csnbdec, csnbdec_first, csnbdec_middle, csnbdec_last, csnbmgn, csnbmgn_first, csnbmgn_middle, csnbmgn_last, csnbmvr, csnbmvr_first, csnbmvr_middle, csnbmvr_last, csnbkyt, csnbcki, csnbrng, csnbkgn_op, csnbkgn_pair, csnbkgn_out, csnbkim, csnbkex, csnbpex, csnbktc, csnbkpi_first, csnbkpi_middle, csnbktr, csnbkrc, csnbkrw, csnbkrr, csnbkrd, csnbkrl, csnbmkp_part, csnbmkp_clear, csnbmkp_set, csuaaci_define, csuaaci_remove, reencipher, value_of, reencipher_ahead, reencipher_drop}
+use Rattle.verb_script.specs.Grammar.{Request, value_of}
+use Rattle.verb_script.specs.declared.rows.RequestName.{RequestName}
+use Rattle.verb_script.specs.declared.rows.RequestName.TheVariants.{Csnbktp, Csnbenc, CsnbencFirst, CsnbencMiddle, CsnbencLast, Csnbdec, CsnbdecFirst, CsnbdecMiddle, CsnbdecLast, Csnbmgn, CsnbmgnFirst, CsnbmgnMiddle, CsnbmgnLast, Csnbmvr, CsnbmvrFirst, CsnbmvrMiddle, CsnbmvrLast, Csnbkyt, Csnbcki, Csnbrng, CsnbkgnOp, CsnbkgnPair, CsnbkgnOut, Csnbkim, Csnbkex, Csnbpex, Csnbktc, CsnbkpiFirst, CsnbkpiMiddle, Csnbktr, Csnbkrc, Csnbkrw, Csnbkrr, Csnbkrd, Csnbkrl, CsnbmkpPart, CsnbmkpClear, CsnbmkpSet, CsuaaciDefine, CsuaaciRemove, Reencipher, ReencipherAhead, ReencipherDrop}
 use Rattle.cca_vectors.specs.declared.key_class.Class.{Class}
 use Rattle.cca_vectors.specs.declared.key_class.Class.TheVariants.{Data, Cipher, Mac, Exporter, Importer}
 use Rattle.cca_vectors.specs.declared.key_usage.Usage.{Usage}
@@ -154,82 +156,82 @@ to_target r = one_operand (operand r (codes "to") Target)
 
 -- the table
 abbrev pub needed : RequestName → Needed
-needed csnbktp =
+needed Csnbktp =
     without_master (needs_points (λ r. 0) (λ r. one_operand (operand r (codes "token") AnyToken)))
-needed csnbenc = needs_key (codes "ENC") (Data ∷ Cipher ∷ []) (Some Encipher)
-needed csnbenc_first = needs_key (codes "ENC") (Data ∷ Cipher ∷ []) (Some Encipher)
-needed csnbenc_middle = needs_key (codes "ENC") (Data ∷ Cipher ∷ []) (Some Encipher)
-needed csnbenc_last = needs_key (codes "ENC") (Data ∷ Cipher ∷ []) (Some Encipher)
-needed csnbdec = needs_key (codes "DEC") (Data ∷ Cipher ∷ []) (Some Decipher)
-needed csnbdec_first = needs_key (codes "DEC") (Data ∷ Cipher ∷ []) (Some Decipher)
-needed csnbdec_middle = needs_key (codes "DEC") (Data ∷ Cipher ∷ []) (Some Decipher)
-needed csnbdec_last = needs_key (codes "DEC") (Data ∷ Cipher ∷ []) (Some Decipher)
-needed csnbmgn = needs_key (codes "MGN") (Data ∷ Mac ∷ []) (Some MacGenerate)
-needed csnbmgn_first = needs_key (codes "MGN") (Data ∷ Mac ∷ []) (Some MacGenerate)
-needed csnbmgn_middle = needs_key (codes "MGN") (Data ∷ Mac ∷ []) (Some MacGenerate)
-needed csnbmgn_last = needs_key (codes "MGN") (Data ∷ Mac ∷ []) (Some MacGenerate)
-needed csnbmvr = needs_key (codes "MVR") (Data ∷ Mac ∷ []) (Some MacVerify)
-needed csnbmvr_first = needs_key (codes "MVR") (Data ∷ Mac ∷ []) (Some MacVerify)
-needed csnbmvr_middle = needs_key (codes "MVR") (Data ∷ Mac ∷ []) (Some MacVerify)
-needed csnbmvr_last = needs_key (codes "MVR") (Data ∷ Mac ∷ []) (Some MacVerify)
-needed csnbkyt = needs_key (codes "KYT") five_classes None
-needed csnbcki = needs_with_target (codes "CKI") to_target
-needed csnbrng = without_master (needs (codes "RNG") without_operands)
-needed csnbkgn_op = needs_with_target (codes "KGN_OP") to_target
-needed csnbkgn_pair =
+needed Csnbenc = needs_key (codes "ENC") (Data ∷ Cipher ∷ []) (Some Encipher)
+needed CsnbencFirst = needs_key (codes "ENC") (Data ∷ Cipher ∷ []) (Some Encipher)
+needed CsnbencMiddle = needs_key (codes "ENC") (Data ∷ Cipher ∷ []) (Some Encipher)
+needed CsnbencLast = needs_key (codes "ENC") (Data ∷ Cipher ∷ []) (Some Encipher)
+needed Csnbdec = needs_key (codes "DEC") (Data ∷ Cipher ∷ []) (Some Decipher)
+needed CsnbdecFirst = needs_key (codes "DEC") (Data ∷ Cipher ∷ []) (Some Decipher)
+needed CsnbdecMiddle = needs_key (codes "DEC") (Data ∷ Cipher ∷ []) (Some Decipher)
+needed CsnbdecLast = needs_key (codes "DEC") (Data ∷ Cipher ∷ []) (Some Decipher)
+needed Csnbmgn = needs_key (codes "MGN") (Data ∷ Mac ∷ []) (Some MacGenerate)
+needed CsnbmgnFirst = needs_key (codes "MGN") (Data ∷ Mac ∷ []) (Some MacGenerate)
+needed CsnbmgnMiddle = needs_key (codes "MGN") (Data ∷ Mac ∷ []) (Some MacGenerate)
+needed CsnbmgnLast = needs_key (codes "MGN") (Data ∷ Mac ∷ []) (Some MacGenerate)
+needed Csnbmvr = needs_key (codes "MVR") (Data ∷ Mac ∷ []) (Some MacVerify)
+needed CsnbmvrFirst = needs_key (codes "MVR") (Data ∷ Mac ∷ []) (Some MacVerify)
+needed CsnbmvrMiddle = needs_key (codes "MVR") (Data ∷ Mac ∷ []) (Some MacVerify)
+needed CsnbmvrLast = needs_key (codes "MVR") (Data ∷ Mac ∷ []) (Some MacVerify)
+needed Csnbkyt = needs_key (codes "KYT") five_classes None
+needed Csnbcki = needs_with_target (codes "CKI") to_target
+needed Csnbrng = without_master (needs (codes "RNG") without_operands)
+needed CsnbkgnOp = needs_with_target (codes "KGN_OP") to_target
+needed CsnbkgnPair =
     needs_with_target (codes "KGN_PAIR") (λ r. two_operands
     (operand r (codes "transport2") (Key (second_transport (pair_form_named (value_of r (codes "form"))))))
     (operand r (codes "to") Target))
-needed csnbkgn_out =
+needed CsnbkgnOut =
     needs (codes "KGN_OUT") (λ r. two_operands
     (operand r (codes "transport1") (Key (first_transport (out_form_named (value_of r (codes "form"))))))
     (operand r (codes "transport2") (Key (second_transport (out_form_named (value_of r (codes "form")))))))
-needed csnbkim =
+needed Csnbkim =
     needs_with_target (codes "KIM") (λ r. three_operands
     (operand r (codes "token") (ExternalToken external_key))
     (operand r (codes "transport") (Key (transport_key Importer Transport)))
     (operand r (codes "to") Target))
-needed csnbkex =
+needed Csnbkex =
     needs (codes "KEX") (λ r. two_operands
     (operand r (codes "key") (Key exported_key))
     (operand r (codes "transport") (Key (transport_key Exporter Transport))))
-needed csnbpex =
+needed Csnbpex =
     needs_with_target (codes "PEX") (λ r. two_operands
     (operand r (codes "key") (Key (internal_key five_classes None)))
     (operand r (codes "to") Target))
-needed csnbktc =
+needed Csnbktc =
     needs_points (λ r. change_points (target_named (value_of r (codes "rule"))))
     (λ r. one_operand (operand r (codes "token") (Token any_key)))
-needed csnbkpi_first = needs_with_target (codes "KPI_FIRST") to_target
-needed csnbkpi_middle =
+needed CsnbkpiFirst = needs_with_target (codes "KPI_FIRST") to_target
+needed CsnbkpiMiddle =
     needs_with_target (codes "KPI_COMBINE") (λ r. two_operands
     (operand r (codes "key") (Key part_key))
     (operand r (codes "to") Target))
-needed csnbktr =
+needed Csnbktr =
     needs (codes "KTR") (λ r. three_operands
     (operand r (codes "token") (ExternalToken external_key))
     (operand r (codes "transport1") (Key (transport_key Importer Translate)))
     (operand r (codes "transport2") (Key (transport_key Exporter Translate))))
-needed csnbkrc =
+needed Csnbkrc =
     without_master (needs (codes "KRC") (λ r. one_operand (operand r (codes "label") NewLabel)))
-needed csnbkrw =
+needed Csnbkrw =
     needs (codes "KRW") (λ r. two_operands
     (operand r (codes "label") Held)
     (operand r (codes "token") (Token any_key)))
-needed csnbkrr = needs (codes "KRR") (λ r. one_operand (operand r (codes "label") Record))
-needed csnbkrd =
+needed Csnbkrr = needs (codes "KRR") (λ r. one_operand (operand r (codes "label") Record))
+needed Csnbkrd =
     without_master (needs (codes "KRD") (λ r. one_operand (operand r (codes "label") Held)))
-needed csnbkrl = without_master (needs (codes "KRL") without_operands)
-needed csnbmkp_part =
+needed Csnbkrl = without_master (needs (codes "KRL") without_operands)
+needed CsnbmkpPart =
     without_master (needs_points (λ r. action_points (part_action (value_of r (codes "action"))))
     without_operands)
-needed csnbmkp_clear = without_master (needs_points (λ r. action_points Clear) without_operands)
-needed csnbmkp_set = without_master (needs_points (λ r. action_points Set) without_operands)
-needed csuaaci_define = without_master (needs (codes "ROLES") without_operands)
-needed csuaaci_remove = without_master (needs (codes "ROLES") without_operands)
-needed reencipher = needs (codes "REENC") without_operands
-needed reencipher_ahead = needs (codes "REENC") without_operands
-needed reencipher_drop = needs (codes "REENC") without_operands
+needed CsnbmkpClear = without_master (needs_points (λ r. action_points Clear) without_operands)
+needed CsnbmkpSet = without_master (needs_points (λ r. action_points Set) without_operands)
+needed CsuaaciDefine = without_master (needs (codes "ROLES") without_operands)
+needed CsuaaciRemove = without_master (needs (codes "ROLES") without_operands)
+needed Reencipher = needs (codes "REENC") without_operands
+needed ReencipherAhead = needs (codes "REENC") without_operands
+needed ReencipherDrop = needs (codes "REENC") without_operands
 
 -- the access control points that a request needs
 abbrev pub needed_points : RequestName → Request → ℕ
@@ -267,9 +269,9 @@ names_label (o ∷ os) = is_named_by o.text o.ask || names_label os
 
 -- the request goes through every label of the store
 abbrev pub is_reencipher : RequestName → Bool
-is_reencipher reencipher = true
-is_reencipher reencipher_ahead = true
-is_reencipher reencipher_drop = true
+is_reencipher Reencipher = true
+is_reencipher ReencipherAhead = true
+is_reencipher ReencipherDrop = true
 is_reencipher _ = false
 
 -- the request needs the store: one of its operands is a label, or it goes through every label

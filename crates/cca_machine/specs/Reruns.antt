@@ -3,14 +3,16 @@ use Rattle.std.specs.Prelude.{ℕ, List, [], ◌∷◌, codes}
 use Rattle.reencipher.specs.Further.{reruns}
 use Rattle.reencipher.specs.declared.actions.StoreAction.{StoreAction}
 use Rattle.reencipher.specs.declared.actions.StoreAction.TheVariants.{Renew, Ahead, Drop}
-use Rattle.verb_script.specs.Grammar.{Request, RequestName, reencipher, reencipher_ahead, reencipher_drop}
+use Rattle.verb_script.specs.Grammar.{Request}
+use Rattle.verb_script.specs.declared.rows.RequestName.{RequestName}
+use Rattle.verb_script.specs.declared.rows.RequestName.TheVariants.{Reencipher, ReencipherAhead, ReencipherDrop}
 use Rattle.cca_machine.specs.State.{State}
 
 -- the row of REENCIPHER with an action
 abbrev pub row_with : StoreAction → RequestName
-row_with Renew = reencipher
-row_with Ahead = reencipher_ahead
-row_with Drop = reencipher_drop
+row_with Renew = Reencipher
+row_with Ahead = ReencipherAhead
+row_with Drop = ReencipherDrop
 
 abbrev pub action_values : StoreAction → List (List ℕ)
 action_values Renew = []

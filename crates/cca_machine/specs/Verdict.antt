@@ -8,7 +8,9 @@ use Rattle.cca_roles.specs.Roles.{points_of, define_refused, remove_refused}
 pub use Rattle.cca_machine.specs.Points.{action_points, change_points, points_for, target_points}
 use Rattle.key_tokens.specs.TokenChecks.{token_checks}
 use Rattle.key_tokens.specs.declared.key_token.Asked.TheVariants.{Either}
-use Rattle.verb_script.specs.Grammar.{Request, RequestName, csnbenc, csnbenc_first, csnbenc_middle, csnbenc_last, csnbdec, csnbdec_first, csnbdec_middle, csnbdec_last, csnbmgn, csnbmgn_first, csnbmgn_middle, csnbmgn_last, csnbmvr, csnbmvr_first, csnbmvr_middle, csnbmvr_last, csnbkgn_op, csnbkgn_pair, csnbkgn_out, csnbktc, csnbkpi_first, csnbkpi_middle, csnbkrc, csnbmkp_part, csnbmkp_clear, csnbmkp_set, csuaaci_define, csuaaci_remove, value_of, reencipher_ahead}
+use Rattle.verb_script.specs.Grammar.{Request, value_of}
+use Rattle.verb_script.specs.declared.rows.RequestName.{RequestName}
+use Rattle.verb_script.specs.declared.rows.RequestName.TheVariants.{Csnbenc, CsnbencFirst, CsnbencMiddle, CsnbencLast, Csnbdec, CsnbdecFirst, CsnbdecMiddle, CsnbdecLast, Csnbmgn, CsnbmgnFirst, CsnbmgnMiddle, CsnbmgnLast, Csnbmvr, CsnbmvrFirst, CsnbmvrMiddle, CsnbmvrLast, CsnbkgnOp, CsnbkgnPair, CsnbkgnOut, Csnbktc, CsnbkpiFirst, CsnbkpiMiddle, Csnbkrc, CsnbmkpPart, CsnbmkpClear, CsnbmkpSet, CsuaaciDefine, CsuaaciRemove, ReencipherAhead}
 use Rattle.verb_script.specs.Named.{label_named}
 use Rattle.verb_script.specs.Values.{hex_value}
 use Rattle.cca_vectors.specs.Vectors.{length_of}
@@ -337,39 +339,39 @@ change_questions s Current = []
 change_questions s New = questions (codes "-") (check 25 (set_refused s.registers) ∷ []) ∷ []
 
 abbrev pub verb_questions : State → RequestName → Request → List Questions
-verb_questions s csnbenc r = encipher_questions (pad_named (value_of r (codes "pad"))) (text_size r)
-verb_questions s csnbenc_first r = segment_questions (text_size r)
-verb_questions s csnbenc_middle r = middle_questions r
-verb_questions s csnbenc_last r = last_questions s Encipher r
-verb_questions s csnbdec r =
+verb_questions s Csnbenc r = encipher_questions (pad_named (value_of r (codes "pad"))) (text_size r)
+verb_questions s CsnbencFirst r = segment_questions (text_size r)
+verb_questions s CsnbencMiddle r = middle_questions r
+verb_questions s CsnbencLast r = last_questions s Encipher r
+verb_questions s Csnbdec r =
     decipher_questions (text_size r) (key_of_request s r) (bytes_in r (codes "iv"))
     (pad_named (value_of r (codes "pad"))) (bytes_in r (codes "text"))
-verb_questions s csnbdec_first r = segment_questions (text_size r)
-verb_questions s csnbdec_middle r = middle_questions r
-verb_questions s csnbdec_last r = last_questions s Decipher r
-verb_questions s csnbmgn r = code_questions s r
-verb_questions s csnbmgn_first r = first_code_questions s r
-verb_questions s csnbmgn_middle r = middle_code_questions s r
-verb_questions s csnbmgn_last r = last_code_questions s r
-verb_questions s csnbmvr r = code_questions s r
-verb_questions s csnbmvr_first r = first_code_questions s r
-verb_questions s csnbmvr_middle r = middle_code_questions s r
-verb_questions s csnbmvr_last r = last_code_questions s r
-verb_questions s csnbkgn_op r = asked_of_one r
-verb_questions s csnbkgn_pair r = asked_of_two r
-verb_questions s csnbkgn_out r = asked_of_two r
-verb_questions s csnbktc r = change_questions s (target_named (value_of r (codes "rule")))
-verb_questions s csnbkpi_first r =
+verb_questions s CsnbdecFirst r = segment_questions (text_size r)
+verb_questions s CsnbdecMiddle r = middle_questions r
+verb_questions s CsnbdecLast r = last_questions s Decipher r
+verb_questions s Csnbmgn r = code_questions s r
+verb_questions s CsnbmgnFirst r = first_code_questions s r
+verb_questions s CsnbmgnMiddle r = middle_code_questions s r
+verb_questions s CsnbmgnLast r = last_code_questions s r
+verb_questions s Csnbmvr r = code_questions s r
+verb_questions s CsnbmvrFirst r = first_code_questions s r
+verb_questions s CsnbmvrMiddle r = middle_code_questions s r
+verb_questions s CsnbmvrLast r = last_code_questions s r
+verb_questions s CsnbkgnOp r = asked_of_one r
+verb_questions s CsnbkgnPair r = asked_of_two r
+verb_questions s CsnbkgnOut r = asked_of_two r
+verb_questions s Csnbktc r = change_questions s (target_named (value_of r (codes "rule")))
+verb_questions s CsnbkpiFirst r =
     first_part_questions (type_in (value_of r (codes "type"))) (part_size r)
-verb_questions s csnbkpi_middle r =
+verb_questions s CsnbkpiMiddle r =
     further_part_questions (key_of_request s r).vector (part_size r)
-verb_questions s csnbkrc r = create_questions s (value_of r (codes "label"))
-verb_questions s csnbmkp_part r = action_questions s (part_action (value_of r (codes "action")))
-verb_questions s csnbmkp_clear r = clear_questions s
-verb_questions s csnbmkp_set r = set_questions s
-verb_questions s csuaaci_define r = define_questions s (value_of r (codes "name"))
-verb_questions s csuaaci_remove r = remove_questions s (value_of r (codes "name"))
-verb_questions s reencipher_ahead r = ahead_questions s
+verb_questions s Csnbkrc r = create_questions s (value_of r (codes "label"))
+verb_questions s CsnbmkpPart r = action_questions s (part_action (value_of r (codes "action")))
+verb_questions s CsnbmkpClear r = clear_questions s
+verb_questions s CsnbmkpSet r = set_questions s
+verb_questions s CsuaaciDefine r = define_questions s (value_of r (codes "name"))
+verb_questions s CsuaaciRemove r = remove_questions s (value_of r (codes "name"))
+verb_questions s ReencipherAhead r = ahead_questions s
 verb_questions s _ r = []
 
 -- the rules of the verb that are asked before a random byte is drawn

@@ -6,7 +6,8 @@ ghost use Rattle.cca_vectors.specs.declared.key_usage.Usage.{Usage};
 ghost use Rattle.cca_machine.specs.Choices.{out_form_named, pair_form_named};
 ghost use Rattle.cca_machine.specs.Operands.{first_transport, second_transport, transport_key};
 ghost use Rattle.cca_machine.specs.Verdict.{needed_points};
-ghost use Rattle.verb_script.specs.Grammar.{Request, RequestName};
+ghost use Rattle.verb_script.specs.Grammar.{Request};
+ghost use Rattle.verb_script.specs.declared.rows.RequestName.{RequestName};
 
 /// Every access control point that a request needs is one of the table. A name that isn't in the table would be a bit that
 /// no access control point has.

@@ -23,7 +23,7 @@ use Rattle.verb_script.specs.Grammar.{Request}
 use Rattle.cca_machine.specs.Keys.{warning}
 use Rattle.cca_machine.specs.State.{State, IsStoreOf}
 use Rattle.cca_machine.specs.Verdict.{Questions, Refusal, questions, first_refusal, action_questions, create_questions}
-use Rattle.cca_machine.specs.Act.{Effect, Show, Become, DefineRole, RemoveRole, Create, Write, Delete, Reencipher, Outcome, effect, state_after, fields_after, state_between, module_cells_after, store_cells_after, effected, refused, or_act}
+use Rattle.cca_machine.specs.Act.{Effect, Show, Become, DefineRole, RemoveRole, Create, Write, Delete, ChangeLabels, Outcome, effect, state_after, fields_after, state_between, module_cells_after, store_cells_after, effected, refused, or_act}
 use Rattle.request_rules.specs.Standing.{Tables, tables, StandsInModule, StandsInStore}
 use Rattle.cca_requests.specs.Serving.{CarriesModule, CarriesStore, Carries}
 use Rattle.request_verbs.specs.Deciding.{WarnsNot, labels_after, LosesNone, IsWritten, IsDeleted}
@@ -199,7 +199,7 @@ between_alike s (RemoveRole name) cell = (refl, refl)
 between_alike s (Create label) cell = (refl, refl)
 between_alike s (Write label key fields) cell = (refl, refl)
 between_alike s (Delete label) cell = (refl, refl)
-between_alike s (Reencipher a) cell = (refl, refl)
+between_alike s (ChangeLabels a) cell = (refl, refl)
 
 module _ {s : State} {roles : List (Option Role)} {rows : List (Option Row)} {m d0 d1 : Medium} {result : Result (Unit {0}) Stop} {reply : List ℕ}
     (settled : IsSettled m) (stands : StandsInModule s roles m) where
@@ -222,7 +222,7 @@ module _ {s : State} {roles : List (Option Role)} {rows : List (Option Row)} {m 
       store_carries (plainly s e) s result reply roles rows m d0 d1 carries
       (ap (λ (x : Effect). (state_after s x).registers) gone.is) (ap (λ (x : Effect). (state_after s x).roles) gone.is) (between_alike s e) settled stands
 
-  pub renew_carries : (a : StoreAction) → CarriesStore (plainly s (Reencipher a)) s result reply rows d0 d1
-      → Carries (plainly s (Reencipher a)) s result reply (tables roles rows) m m d0 d1
+  pub renew_carries : (a : StoreAction) → CarriesStore (plainly s (ChangeLabels a)) s result reply rows d0 d1
+      → Carries (plainly s (ChangeLabels a)) s result reply (tables roles rows) m m d0 d1
   renew_carries a carries =
-      store_carries (plainly s (Reencipher a)) s result reply roles rows m d0 d1 carries refl refl (between_alike s (Reencipher a)) settled stands
+      store_carries (plainly s (ChangeLabels a)) s result reply roles rows m d0 d1 carries refl refl (between_alike s (ChangeLabels a)) settled stands

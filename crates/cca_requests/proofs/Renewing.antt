@@ -13,7 +13,7 @@ use Rattle.reencipher.specs.Further.{further, changed_count}
 use Rattle.reencipher.specs.declared.actions.StoreAction.{StoreAction}
 use Rattle.reencipher.specs.Runs.{IsOnTheWay, Reenciphers}
 use Rattle.cca_machine.specs.State.{State, IsStoreOf}
-use Rattle.cca_machine.specs.Act.{Reencipher, Outcome}
+use Rattle.cca_machine.specs.Act.{ChangeLabels, Outcome}
 use Rattle.request_rules.specs.Standing.{StandsInStore}
 use Rattle.cca_requests.specs.Serving.{IsEither, SameBut, CarriesStore}
 use Rattle.cca_requests.specs.Changes.{plainly}
@@ -23,7 +23,7 @@ use Rattle.cca_requests.proofs.Serving.{told_some}
 module _ (a : StoreAction) (d0 d1 : Medium) (s : State) (rows later : List (Option Row)) (stands : StandsInStore s rows d0) (result : Result ℕ RecordFault)
     (runs : Reenciphers a (keys_of s.registers) s.labels later d0 d1 result) where
   abbrev after : Outcome
-  after = plainly s (Reencipher a)
+  after = plainly s (ChangeLabels a)
 
   either : (image : List ℕ) → From (IsOnTheWay a (keys_of s.registers) s.labels) d0 image → IsEither IsStoreOf s after image
   either image from = inr (inr (from.2.cells, from.2.within, from.2.stands))

@@ -14,7 +14,7 @@ ghost use Rattle.reencipher.specs.Tokens.{IsReadyFor};
 ghost use Rattle.cca_machine.specs.State.{State};
 ghost use Rattle.cca_machine.specs.Keys.{any_old};
 ghost use Rattle.cca_machine.specs.Operands.{operands, listed};
-ghost use Rattle.cca_machine.specs.Act.{Effect as MachineEffect, Reencipher, effected};
+ghost use Rattle.cca_machine.specs.Act.{Effect as MachineEffect, ChangeLabels, effected};
 ghost use Rattle.request_verbs.specs.declared.effects.Effect.TheVariants as code;
 ghost use Rattle.cca_requests.specs.Serving.{CarriesStore, LeavesRecords, LeavesStore};
 ghost use Rattle.cca_requests.specs.Changes.{IsAnswer, IsShortlyNamed, made_reply, made_stop, plainly, create_outcome, record_stop, record_reply};
@@ -193,7 +193,7 @@ pub(crate) fn renew<D: Disk>(
     requires empty { reply.old ≡ [] }
     ensures carries { (s : State)
         → AtStore s held.now (bench_of lease.old) records.old (D.medium store.old)
-        → CarriesStore (plainly s (Reencipher action)) s result reply.new records.new
+        → CarriesStore (plainly s (ChangeLabels action)) s result reply.new records.new
         (D.medium store.old) (D.medium store.new) }
     ensures left { LeavesStore (D.medium store.old) (D.medium store.new)
         (D.faults store.old) (D.faults store.new) result reply.new records.old records.new }

@@ -6,7 +6,9 @@ use Rattle.reencipher.specs.Further.{further}
 use Rattle.reencipher.specs.declared.actions.StoreAction.{StoreAction}
 use Rattle.reencipher.specs.declared.actions.StoreAction.TheVariants.{Renew, Ahead, Drop}
 use Rattle.script_buffers.specs.Replies.{Field}
-use Rattle.verb_script.specs.Grammar.{Request, RequestName, csnbktp, csnbcki, csnbkgn_op, csnbkgn_pair, csnbkpi_first, csnbkpi_middle, csnbkim, csnbpex, reencipher, reencipher_ahead, reencipher_drop, Spells}
+use Rattle.verb_script.specs.Grammar.{Request, Spells}
+use Rattle.verb_script.specs.declared.rows.RequestName.{RequestName}
+use Rattle.verb_script.specs.declared.rows.RequestName.TheVariants.{Csnbktp, Csnbcki, CsnbkgnOp, CsnbkgnPair, CsnbkpiFirst, CsnbkpiMiddle, Csnbkim, Csnbpex, Reencipher, ReencipherAhead, ReencipherDrop}
 use Rattle.cca_machine.specs.Reruns.{row_with}
 use Rattle.cca_machine.specs.State.{State}
 use Rattle.cca_machine.specs.Verdict.{Refusal, verdict}
@@ -27,17 +29,17 @@ StaysOrRenews s drawn name r cell =
     × (state_between s (effect s drawn name r) cell ≡ record s { labels = further a s.labels cell }))
 
 by_name : (s : State) (drawn : List ℕ) (name : RequestName) (r : Request) (cell : ℕ) → StaysOrRenews s drawn name r cell
-by_name s drawn csnbktp r cell = inl refl
-by_name s drawn csnbcki r cell = inl (delivered_between s _ _ _ _ cell)
-by_name s drawn csnbkgn_op r cell = inl (delivered_between s _ _ _ _ cell)
-by_name s drawn csnbkgn_pair r cell = inl (delivered_between s _ _ _ _ cell)
-by_name s drawn csnbkpi_first r cell = inl (delivered_between s _ _ _ _ cell)
-by_name s drawn csnbkpi_middle r cell = inl (delivered_between s _ _ _ _ cell)
-by_name s drawn csnbkim r cell = inl (delivered_between s _ _ _ _ cell)
-by_name s drawn csnbpex r cell = inl (delivered_between s _ _ _ _ cell)
-by_name s drawn reencipher r cell = inr (Renew, refl, refl)
-by_name s drawn reencipher_ahead r cell = inr (Ahead, refl, refl)
-by_name s drawn reencipher_drop r cell = inr (Drop, refl, refl)
+by_name s drawn Csnbktp r cell = inl refl
+by_name s drawn Csnbcki r cell = inl (delivered_between s _ _ _ _ cell)
+by_name s drawn CsnbkgnOp r cell = inl (delivered_between s _ _ _ _ cell)
+by_name s drawn CsnbkgnPair r cell = inl (delivered_between s _ _ _ _ cell)
+by_name s drawn CsnbkpiFirst r cell = inl (delivered_between s _ _ _ _ cell)
+by_name s drawn CsnbkpiMiddle r cell = inl (delivered_between s _ _ _ _ cell)
+by_name s drawn Csnbkim r cell = inl (delivered_between s _ _ _ _ cell)
+by_name s drawn Csnbpex r cell = inl (delivered_between s _ _ _ _ cell)
+by_name s drawn Reencipher r cell = inr (Renew, refl, refl)
+by_name s drawn ReencipherAhead r cell = inr (Ahead, refl, refl)
+by_name s drawn ReencipherDrop r cell = inr (Drop, refl, refl)
 by_name s drawn _ r cell = inl refl
 
 -- the state before it, or one on the way of a permitted REENCIPHER

@@ -9,7 +9,9 @@ use Rattle.verb_rules.specs.LengthChecks.{mac_checks, text_checks}
 use Rattle.verb_rules.specs.declared.judging.Judged.{Judged}
 use Rattle.verb_rules.specs.declared.lengths.TextUse.TheVariants as use_of
 use Rattle.verb_rules.specs.declared.lengths.MacRule.{MacRule}
-use Rattle.verb_script.specs.Grammar.{RequestName, accepts, mac_text, csnbmgn, csnbmgn_last, csnbmvr, csnbmvr_last}
+use Rattle.verb_script.specs.Grammar.{accepts, mac_text}
+use Rattle.verb_script.specs.declared.rows.RequestName.{RequestName}
+use Rattle.verb_script.specs.declared.rows.RequestName.TheVariants.{Csnbmgn, CsnbmgnLast, Csnbmvr, CsnbmvrLast}
 use Rattle.verb_script.specs.Values.{hex_value}
 use Rattle.cca_machine.specs.Act.{yes_or_no}
 use Rattle.cca_machine.specs.Choices.{mac_length_named}
@@ -23,12 +25,12 @@ IsPurpose (Verify mac) = IsTrue (accepts mac_text mac.now)
 
 -- the row of a whole text, and that of the last segment of one
 abbrev pub whole_code_row : Purpose → RequestName
-whole_code_row (Generate count) = csnbmgn
-whole_code_row (Verify mac) = csnbmvr
+whole_code_row (Generate count) = Csnbmgn
+whole_code_row (Verify mac) = Csnbmvr
 
 abbrev pub last_code_row : Purpose → RequestName
-last_code_row (Generate count) = csnbmgn_last
-last_code_row (Verify mac) = csnbmvr_last
+last_code_row (Generate count) = CsnbmgnLast
+last_code_row (Verify mac) = CsnbmvrLast
 
 -- what the row's field says of it
 abbrev pub purpose_text : Purpose → List ℕ

@@ -12,7 +12,8 @@ use Rattle.master_registers.specs.Masters.{Masters}
 use Rattle.master_registers.specs.declared.registers.Registers.{Registers}
 use Rattle.verb_rules.specs.Keys.{HasHalves}
 use Rattle.verb_rules.specs.declared.judging.Judged.{Judged}
-use Rattle.verb_script.specs.Grammar.{Request, RequestName, accepts, hex_text}
+use Rattle.verb_script.specs.Grammar.{Request, accepts, hex_text}
+use Rattle.verb_script.specs.declared.rows.RequestName.{RequestName}
 use Rattle.verb_script.specs.Named.{label_named}
 use Rattle.cca_machine.specs.Draws.{draws_random}
 use Rattle.cca_machine.specs.Operands.{operands, is_reencipher, needs_store}

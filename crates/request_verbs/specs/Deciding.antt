@@ -29,7 +29,7 @@ use Rattle.cca_machine.specs.Operands.{operands, listed}
 use Rattle.verb_rules.specs.Keys.{keys_of, token_for}
 use Rattle.cca_machine.specs.State.{State}
 use Rattle.cca_machine.specs.Verdict.{Refusal, first_refusal, action_questions, create_questions, define_questions, remove_questions, verb_verdict, whole_verb_verdict}
-use Rattle.cca_machine.specs.Act.{Effect, Show, Become, DefineRole, RemoveRole, Create, Write, Delete, Reencipher, effect}
+use Rattle.cca_machine.specs.Act.{Effect, Show, Become, DefineRole, RemoveRole, Create, Write, Delete, ChangeLabels, effect}
 use Rattle.request_rules.specs.Refusals.{IsRefusal, refusal_of}
 use Rattle.request_verbs.specs.declared.effects.Effect.{Effect as CodeEffect}
 use Rattle.request_verbs.specs.declared.effects.Effect.TheVariants as code
@@ -98,7 +98,7 @@ IsLeft s bench request v e (code.Create label) reply =
 IsLeft s bench request v e (code.Write place token) reply = (v ≡ None) × IsWritten s e place token reply
 IsLeft s bench request v e (code.Delete place) reply = (v ≡ None) × IsDeleted s e place × WarnsNot s request
 IsLeft s bench request v e (code.Reencipher a) reply =
-    (v ≡ None) × (e ≡ Reencipher a) × WarnsNot s request
+    (v ≡ None) × (e ≡ ChangeLabels a) × WarnsNot s request
 
 -- it gives the verdict and the effect of the verb, with these random bytes
 abbrev pub IsDecided : State → Bench → List ℕ → Request → CodeEffect → List ℕ → Type 0

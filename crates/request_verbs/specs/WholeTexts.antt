@@ -10,14 +10,15 @@ use Rattle.text_segments.specs.declared.modes.Mode.TheVariants.{Encipher, Deciph
 use Rattle.verb_rules.specs.LengthChecks.{text_checks}
 use Rattle.verb_rules.specs.declared.lengths.TextUse.{TextUse}
 use Rattle.verb_rules.specs.declared.lengths.TextUse.TheVariants as use_of
-use Rattle.verb_script.specs.Grammar.{RequestName, csnbdec, csnbenc, csnbmgn}
+use Rattle.verb_script.specs.declared.rows.RequestName.{RequestName}
+use Rattle.verb_script.specs.declared.rows.RequestName.TheVariants.{Csnbdec, Csnbenc, Csnbmgn}
 use Rattle.cca_machine.specs.Verdict.{Questions, questions}
 
 -- its row: of a code that of the verb that makes it
 abbrev pub whole_row : Mode → RequestName
-whole_row Encipher = csnbenc
-whole_row Decipher = csnbdec
-whole_row (Mac rule) = csnbmgn
+whole_row Encipher = Csnbenc
+whole_row Decipher = Csnbdec
+whole_row (Mac rule) = Csnbmgn
 
 -- what a whole text is given for
 abbrev pub whole_use : Mode → Pad → TextUse

@@ -1,6 +1,6 @@
 -- The rows that the parser holds are those of the grammar.
 use Rattle.std.proofs.Common.{◌≡◌, ◌<◌, ℕ, zero, suc, List, [], ◌∷◌, length, map, get_or, refl, arith, ap, sym, ◌∙◌}
-use Rattle.verb_script.specs.Grammar.{RequestName}
+use Rattle.verb_script.specs.declared.rows.RequestName.{RequestName}
 use Rattle.verb_script.specs.Rows.{AreRows, IsRow, NamedRow, form_seen, named_row, row_name}
 use Rattle.verb_script.specs.declared.rows.RowForm.{RowForm}
 

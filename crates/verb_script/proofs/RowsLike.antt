@@ -4,7 +4,8 @@ use Rattle.std.specs.Option.{option_or}
 use Rattle.std.specs.Str.{bytes_eq}
 use Rattle.std.proofs.lemmas.Bool.Decides.{Decides-eqb}
 use Rattle.std.proofs.lemmas.Slice.Eq.{bytes_eq-Decides}
-use Rattle.verb_script.specs.Grammar.{RequestName, row_of, all_requests, Request}
+use Rattle.verb_script.specs.Grammar.{row_of, all_requests, Request}
+use Rattle.verb_script.specs.declared.rows.RequestName.{RequestName}
 use Rattle.verb_script.specs.Requests.{words, first_request, request_in, row_request, request_of}
 use Rattle.verb_script.specs.Rows.{has_seventh}
 

@@ -2,63 +2,16 @@
 use Rattle.std.specs.Prelude.{◌≡◌, map, ℕ, ◌+◌, ◌==◌, ◌&&◌, nat_eq, Bool, List, [], ◌∷◌, ◌++◌, drop, length, codes, get_or, Option, Some, None, if◌then◌else◌}
 use Rattle.std.specs.List.{starts_with}
 use denote.Ref.{Bor}
-use Rattle.verb_script.specs.Grammar.{RequestName, csnbktp, csnbenc, csnbenc_first, csnbenc_middle, csnbenc_last, csnbdec, csnbdec_first, csnbdec_middle, csnbdec_last, csnbmgn, csnbmgn_first, csnbmgn_middle, csnbmgn_last, csnbmvr, csnbmvr_first, csnbmvr_middle, csnbmvr_last, csnbkyt, csnbcki, csnbrng, csnbkgn_op, csnbkgn_pair, csnbkgn_out, csnbkim, csnbkex, csnbpex, csnbktc, csnbkpi_first, csnbkpi_middle, csnbktr, csnbkrc, csnbkrw, csnbkrr, csnbkrd, csnbkrl, csnbmkp_part, csnbmkp_clear, csnbmkp_set, csuaaci_define, csuaaci_remove, reencipher, reencipher_ahead, reencipher_drop, row_of, Row, FieldForm, accepts, role_name, other_role, action_field, chain_field, digits_field, form_field, iv_field, key_field, key_part_field, label_field, length_field, mac_field, mac_length_field, name_field, pad_field, part_field, part_rule_field, points_field, prefix_field, role_field, rule_field, segment_field, text_field, to_field, token_field, transport_field, type_field, word_field}
+use Rattle.verb_script.specs.Grammar.{row_of, Row, FieldForm, accepts, role_name, other_role, action_field, chain_field, digits_field, form_field, iv_field, key_field, key_part_field, label_field, length_field, mac_field, mac_length_field, name_field, pad_field, part_field, part_rule_field, points_field, prefix_field, role_field, rule_field, segment_field, text_field, to_field, token_field, transport_field, type_field, word_field}
+use Rattle.verb_script.specs.declared.rows.RequestName.{RequestName}
 use Rattle.verb_script.specs.declared.fields.Field.{Field}
 use Rattle.verb_script.specs.declared.fields.Field.TheVariants as field
-use Rattle.verb_script.specs.declared.rows.Row.{Row as CodeRow}
-use Rattle.verb_script.specs.declared.rows.Row.TheVariants as row
 use Rattle.verb_script.specs.declared.rows.RowForm.{RowForm}
 
 -- a row with its name
 pub record NamedRow : Type 0 where
   pub name : RequestName
   pub row : Row
-
--- the row of the grammar
-abbrev pub name_seen : CodeRow → RequestName
-name_seen row.Csnbenc = csnbenc
-name_seen row.CsnbencFirst = csnbenc_first
-name_seen row.CsnbencMiddle = csnbenc_middle
-name_seen row.CsnbencLast = csnbenc_last
-name_seen row.Csnbdec = csnbdec
-name_seen row.CsnbdecFirst = csnbdec_first
-name_seen row.CsnbdecMiddle = csnbdec_middle
-name_seen row.CsnbdecLast = csnbdec_last
-name_seen row.Csnbmgn = csnbmgn
-name_seen row.CsnbmgnFirst = csnbmgn_first
-name_seen row.CsnbmgnMiddle = csnbmgn_middle
-name_seen row.CsnbmgnLast = csnbmgn_last
-name_seen row.Csnbmvr = csnbmvr
-name_seen row.CsnbmvrFirst = csnbmvr_first
-name_seen row.CsnbmvrMiddle = csnbmvr_middle
-name_seen row.CsnbmvrLast = csnbmvr_last
-name_seen row.Csnbktp = csnbktp
-name_seen row.Csnbkyt = csnbkyt
-name_seen row.Csnbcki = csnbcki
-name_seen row.Csnbrng = csnbrng
-name_seen row.CsnbkgnOp = csnbkgn_op
-name_seen row.CsnbkgnPair = csnbkgn_pair
-name_seen row.CsnbkgnOut = csnbkgn_out
-name_seen row.Csnbkim = csnbkim
-name_seen row.Csnbkex = csnbkex
-name_seen row.Csnbpex = csnbpex
-name_seen row.Csnbktc = csnbktc
-name_seen row.CsnbkpiFirst = csnbkpi_first
-name_seen row.CsnbkpiMiddle = csnbkpi_middle
-name_seen row.Csnbktr = csnbktr
-name_seen row.Csnbkrc = csnbkrc
-name_seen row.Csnbkrw = csnbkrw
-name_seen row.Csnbkrr = csnbkrr
-name_seen row.Csnbkrd = csnbkrd
-name_seen row.Csnbkrl = csnbkrl
-name_seen row.CsnbmkpPart = csnbmkp_part
-name_seen row.CsnbmkpClear = csnbmkp_clear
-name_seen row.CsnbmkpSet = csnbmkp_set
-name_seen row.CsuaaciDefine = csuaaci_define
-name_seen row.CsuaaciRemove = csuaaci_remove
-name_seen row.Reencipher = reencipher
-name_seen row.ReencipherAhead = reencipher_ahead
-name_seen row.ReencipherDrop = reencipher_drop
 
 -- the field of the grammar
 abbrev pub field_seen : Field → FieldForm
@@ -113,12 +66,12 @@ named_row name = record { name = name; row = row_of name }
 -- what the parser holds of a row
 abbrev pub form_seen : RowForm → NamedRow
 form_seen form = record {
-  name = name_seen form.row;
+  name = form.name;
   row = record { verb = form.verb.now; fields = map field_seen form.fields.now };
 }
 
 abbrev pub row_name : RowForm → RequestName
-row_name form = name_seen form.row
+row_name form = form.name
 
 -- what the parser holds of a row is what the grammar says of it
 abbrev pub IsRow : RowForm → Type 0

@@ -17,6 +17,7 @@ pub use labels::named_label;
 pub use laws::a_line_spells_one_request;
 pub use parsing::parse_request;
 pub use request::{FormFault, Request};
+pub use rows::RequestName;
 pub use script_buffers::{
     LINE_LIMIT, LineBuffer, LineFault, REPLY_ROOM, ReplyBuffer, Taken, read_line,
 };

@@ -6,12 +6,12 @@ ghost use Rattle.cca_vectors.specs.KeyTypes.{type_name, type_named};
 ghost use Rattle.verb_script.specs.Grammar.{Request as Spelled, Spells, IsOfParts, AreAccepted, accepts, points as points_text, meanings, row_of};
 ghost use Rattle.verb_script.specs.Parsed.{answered, seen, seen_option};
 ghost use Rattle.verb_script.specs.Requests.{request_of, request_in, first_request};
-ghost use Rattle.verb_script.specs.Rows.{AreRows, IsRow, name_seen, row_name, text_at, texts_at};
+ghost use Rattle.verb_script.specs.Rows.{AreRows, IsRow, row_name, text_at, texts_at};
 ghost use Rattle.verb_script.specs.Values.{hex_value};
 ghost use Rattle.verb_script.specs.Words.{unread};
 
 use crate::request::{FormFault, Request};
-use crate::rows::{Row, RowForm, rows_with};
+use crate::rows::{RequestName, RowForm, rows_with};
 use crate::values::points_of;
 use crate::words::{Texts, Words};
 use cca_roles::{AccessPoints, RoleName};
@@ -42,39 +42,39 @@ fn points_in(text: &[u8]) -> AccessPoints
 }
 
 /// The request of a row whose fields have these texts.
-fn request_with<'a>(row: Row, texts: Texts<'a>) -> Request<'a>
+fn request_with<'a>(name: RequestName, texts: Texts<'a>) -> Request<'a>
     requires role { IsTrue (is_role_name (text_at 0 texts.texts)) }
-    requires accepted { AreAccepted (row_of (name_seen row)).fields (texts_at (row_of (name_seen row)).fields 0 texts.texts) }
+    requires accepted { AreAccepted (row_of name).fields (texts_at (row_of name).fields 0 texts.texts) }
     ensures { seen result ≡ record {
-      name = name_seen row;
-      values = meanings (row_of (name_seen row)).fields (texts_at (row_of (name_seen row)).fields 0 texts.entry.texts);
+      name = name;
+      values = meanings (row_of name).fields (texts_at (row_of name).fields 0 texts.entry.texts);
     } }
 {
     let [role, first, second, third, fourth, fifth, sixth] = texts.texts;
     let role = role_of(role);
-    match row {
-        Row::Csnbenc => Request::Csnbenc {
+    match name {
+        RequestName::Csnbenc => Request::Csnbenc {
             role,
             key: first,
             iv: second,
             pad: third,
             text: fourth,
         },
-        Row::CsnbencFirst => Request::CsnbencFirst {
+        RequestName::CsnbencFirst => Request::CsnbencFirst {
             role,
             key: first,
             segment: second,
             iv: third,
             text: fourth,
         },
-        Row::CsnbencMiddle => Request::CsnbencMiddle {
+        RequestName::CsnbencMiddle => Request::CsnbencMiddle {
             role,
             key: first,
             segment: second,
             chain: third,
             text: fourth,
         },
-        Row::CsnbencLast => Request::CsnbencLast {
+        RequestName::CsnbencLast => Request::CsnbencLast {
             role,
             key: first,
             segment: second,
@@ -82,28 +82,28 @@ fn request_with<'a>(row: Row, texts: Texts<'a>) -> Request<'a>
             pad: fourth,
             text: fifth,
         },
-        Row::Csnbdec => Request::Csnbdec {
+        RequestName::Csnbdec => Request::Csnbdec {
             role,
             key: first,
             iv: second,
             pad: third,
             text: fourth,
         },
-        Row::CsnbdecFirst => Request::CsnbdecFirst {
+        RequestName::CsnbdecFirst => Request::CsnbdecFirst {
             role,
             key: first,
             segment: second,
             iv: third,
             text: fourth,
         },
-        Row::CsnbdecMiddle => Request::CsnbdecMiddle {
+        RequestName::CsnbdecMiddle => Request::CsnbdecMiddle {
             role,
             key: first,
             segment: second,
             chain: third,
             text: fourth,
         },
-        Row::CsnbdecLast => Request::CsnbdecLast {
+        RequestName::CsnbdecLast => Request::CsnbdecLast {
             role,
             key: first,
             segment: second,
@@ -111,21 +111,21 @@ fn request_with<'a>(row: Row, texts: Texts<'a>) -> Request<'a>
             pad: fourth,
             text: fifth,
         },
-        Row::Csnbmgn => Request::Csnbmgn {
+        RequestName::Csnbmgn => Request::Csnbmgn {
             role,
             key: first,
             rule: second,
             length: third,
             text: fourth,
         },
-        Row::CsnbmgnFirst => Request::CsnbmgnFirst {
+        RequestName::CsnbmgnFirst => Request::CsnbmgnFirst {
             role,
             key: first,
             rule: second,
             segment: third,
             text: fourth,
         },
-        Row::CsnbmgnMiddle => Request::CsnbmgnMiddle {
+        RequestName::CsnbmgnMiddle => Request::CsnbmgnMiddle {
             role,
             key: first,
             rule: second,
@@ -133,7 +133,7 @@ fn request_with<'a>(row: Row, texts: Texts<'a>) -> Request<'a>
             chain: fourth,
             text: fifth,
         },
-        Row::CsnbmgnLast => Request::CsnbmgnLast {
+        RequestName::CsnbmgnLast => Request::CsnbmgnLast {
             role,
             key: first,
             rule: second,
@@ -142,21 +142,21 @@ fn request_with<'a>(row: Row, texts: Texts<'a>) -> Request<'a>
             chain: fifth,
             text: sixth,
         },
-        Row::Csnbmvr => Request::Csnbmvr {
+        RequestName::Csnbmvr => Request::Csnbmvr {
             role,
             key: first,
             rule: second,
             mac: third,
             text: fourth,
         },
-        Row::CsnbmvrFirst => Request::CsnbmvrFirst {
+        RequestName::CsnbmvrFirst => Request::CsnbmvrFirst {
             role,
             key: first,
             rule: second,
             segment: third,
             text: fourth,
         },
-        Row::CsnbmvrMiddle => Request::CsnbmvrMiddle {
+        RequestName::CsnbmvrMiddle => Request::CsnbmvrMiddle {
             role,
             key: first,
             rule: second,
@@ -164,7 +164,7 @@ fn request_with<'a>(row: Row, texts: Texts<'a>) -> Request<'a>
             chain: fourth,
             text: fifth,
         },
-        Row::CsnbmvrLast => Request::CsnbmvrLast {
+        RequestName::CsnbmvrLast => Request::CsnbmvrLast {
             role,
             key: first,
             rule: second,
@@ -173,22 +173,22 @@ fn request_with<'a>(row: Row, texts: Texts<'a>) -> Request<'a>
             chain: fifth,
             text: sixth,
         },
-        Row::Csnbktp => Request::Csnbktp { role, token: first },
-        Row::Csnbkyt => Request::Csnbkyt { role, key: first },
-        Row::Csnbcki => Request::Csnbcki {
+        RequestName::Csnbktp => Request::Csnbktp { role, token: first },
+        RequestName::Csnbkyt => Request::Csnbkyt { role, key: first },
+        RequestName::Csnbcki => Request::Csnbcki {
             role,
             clear: first,
             to: second,
         },
-        Row::Csnbrng => Request::Csnbrng { role, form: first },
-        Row::CsnbkgnOp => Request::CsnbkgnOp {
+        RequestName::Csnbrng => Request::Csnbrng { role, form: first },
+        RequestName::CsnbkgnOp => Request::CsnbkgnOp {
             role,
             form: first,
             length: second,
             type1: type_of(third),
             to: fourth,
         },
-        Row::CsnbkgnPair => Request::CsnbkgnPair {
+        RequestName::CsnbkgnPair => Request::CsnbkgnPair {
             role,
             form: first,
             length: second,
@@ -197,7 +197,7 @@ fn request_with<'a>(row: Row, texts: Texts<'a>) -> Request<'a>
             transport2: fifth,
             to: sixth,
         },
-        Row::CsnbkgnOut => Request::CsnbkgnOut {
+        RequestName::CsnbkgnOut => Request::CsnbkgnOut {
             role,
             form: first,
             length: second,
@@ -206,89 +206,89 @@ fn request_with<'a>(row: Row, texts: Texts<'a>) -> Request<'a>
             transport1: fifth,
             transport2: sixth,
         },
-        Row::Csnbkim => Request::Csnbkim {
+        RequestName::Csnbkim => Request::Csnbkim {
             role,
             token: first,
             transport: second,
             to: third,
         },
-        Row::Csnbkex => Request::Csnbkex {
+        RequestName::Csnbkex => Request::Csnbkex {
             role,
             key: first,
             transport: second,
         },
-        Row::Csnbpex => Request::Csnbpex {
+        RequestName::Csnbpex => Request::Csnbpex {
             role,
             key: first,
             to: second,
         },
-        Row::Csnbktc => Request::Csnbktc {
+        RequestName::Csnbktc => Request::Csnbktc {
             role,
             rule: first,
             token: second,
         },
-        Row::CsnbkpiFirst => Request::CsnbkpiFirst {
+        RequestName::CsnbkpiFirst => Request::CsnbkpiFirst {
             role,
             rule: first,
             kind: type_of(second),
             part: third,
             to: fourth,
         },
-        Row::CsnbkpiMiddle => Request::CsnbkpiMiddle {
+        RequestName::CsnbkpiMiddle => Request::CsnbkpiMiddle {
             role,
             rule: first,
             key: second,
             part: third,
             to: fourth,
         },
-        Row::Csnbktr => Request::Csnbktr {
+        RequestName::Csnbktr => Request::Csnbktr {
             role,
             token: first,
             transport1: second,
             transport2: third,
         },
-        Row::Csnbkrc => Request::Csnbkrc { role, label: first },
-        Row::Csnbkrw => Request::Csnbkrw {
+        RequestName::Csnbkrc => Request::Csnbkrc { role, label: first },
+        RequestName::Csnbkrw => Request::Csnbkrw {
             role,
             label: first,
             token: second,
         },
-        Row::Csnbkrr => Request::Csnbkrr { role, label: first },
-        Row::Csnbkrd => Request::Csnbkrd { role, label: first },
-        Row::Csnbkrl => Request::Csnbkrl {
+        RequestName::Csnbkrr => Request::Csnbkrr { role, label: first },
+        RequestName::Csnbkrd => Request::Csnbkrd { role, label: first },
+        RequestName::Csnbkrl => Request::Csnbkrl {
             role,
             prefix: first,
         },
-        Row::CsnbmkpPart => Request::CsnbmkpPart {
+        RequestName::CsnbmkpPart => Request::CsnbmkpPart {
             role,
             action: first,
             part: second,
         },
-        Row::CsnbmkpClear => Request::CsnbmkpClear {
+        RequestName::CsnbmkpClear => Request::CsnbmkpClear {
             role,
             action: first,
         },
-        Row::CsnbmkpSet => Request::CsnbmkpSet {
+        RequestName::CsnbmkpSet => Request::CsnbmkpSet {
             role,
             action: first,
         },
-        Row::CsuaaciDefine => Request::CsuaaciDefine {
+        RequestName::CsuaaciDefine => Request::CsuaaciDefine {
             role,
             action: first,
             name: role_of(second),
             points: points_in(third),
         },
-        Row::CsuaaciRemove => Request::CsuaaciRemove {
+        RequestName::CsuaaciRemove => Request::CsuaaciRemove {
             role,
             action: first,
             name: role_of(second),
         },
-        Row::Reencipher => Request::Reencipher { role },
-        Row::ReencipherAhead => Request::ReencipherAhead {
+        RequestName::Reencipher => Request::Reencipher { role },
+        RequestName::ReencipherAhead => Request::ReencipherAhead {
             role,
             action: first,
         },
-        Row::ReencipherDrop => Request::ReencipherDrop {
+        RequestName::ReencipherDrop => Request::ReencipherDrop {
             role,
             action: first,
         },
@@ -301,7 +301,7 @@ fn request_of_row<'a>(form: &RowForm, verb: &[u8], words: Words<'a>) -> Option<R
     ensures { seen_option result ≡ request_in (row_name form.now) (verb.now ∷ unread words.entry) }
 {
     if verb == form.verb {
-        Some(request_with(form.row, words.texts(form.fields)?))
+        Some(request_with(form.name, words.texts(form.fields)?))
     } else {
         None
     }

@@ -5,9 +5,9 @@ ghost use Rattle.verb_script.specs.Rows.{form_seen, has_seventh, named_row};
 
 use crate::fields::Field;
 
-/// A row of the grammar.
+/// The names of requests: one for each row of the grammar.
 #[derive(Clone, Copy)]
-pub(crate) enum Row {
+pub enum RequestName {
     Csnbenc,
     CsnbencFirst,
     CsnbencMiddle,
@@ -56,7 +56,7 @@ pub(crate) enum Row {
 /// A row with its verb, and its fields in their order.
 #[derive(Clone, Copy)]
 pub(crate) struct RowForm {
-    pub(crate) row: Row,
+    pub(crate) name: RequestName,
     pub(crate) verb: &'static [u8],
     pub(crate) fields: &'static [Field],
 }
@@ -68,12 +68,12 @@ pub(crate) fn rows_with(letter: u8) -> &'static [RowForm]
     match letter {
         b'C' => &[
             RowForm {
-                row: Row::Csnbenc,
+                name: RequestName::Csnbenc,
                 verb: b"CSNBENC",
                 fields: &[Field::Role, Field::Key, Field::Iv, Field::Pad, Field::Text],
             },
             RowForm {
-                row: Row::CsnbencFirst,
+                name: RequestName::CsnbencFirst,
                 verb: b"CSNBENC",
                 fields: &[
                     Field::Role,
@@ -84,7 +84,7 @@ pub(crate) fn rows_with(letter: u8) -> &'static [RowForm]
                 ],
             },
             RowForm {
-                row: Row::CsnbencMiddle,
+                name: RequestName::CsnbencMiddle,
                 verb: b"CSNBENC",
                 fields: &[
                     Field::Role,
@@ -95,7 +95,7 @@ pub(crate) fn rows_with(letter: u8) -> &'static [RowForm]
                 ],
             },
             RowForm {
-                row: Row::CsnbencLast,
+                name: RequestName::CsnbencLast,
                 verb: b"CSNBENC",
                 fields: &[
                     Field::Role,
@@ -107,12 +107,12 @@ pub(crate) fn rows_with(letter: u8) -> &'static [RowForm]
                 ],
             },
             RowForm {
-                row: Row::Csnbdec,
+                name: RequestName::Csnbdec,
                 verb: b"CSNBDEC",
                 fields: &[Field::Role, Field::Key, Field::Iv, Field::Pad, Field::Text],
             },
             RowForm {
-                row: Row::CsnbdecFirst,
+                name: RequestName::CsnbdecFirst,
                 verb: b"CSNBDEC",
                 fields: &[
                     Field::Role,
@@ -123,7 +123,7 @@ pub(crate) fn rows_with(letter: u8) -> &'static [RowForm]
                 ],
             },
             RowForm {
-                row: Row::CsnbdecMiddle,
+                name: RequestName::CsnbdecMiddle,
                 verb: b"CSNBDEC",
                 fields: &[
                     Field::Role,
@@ -134,7 +134,7 @@ pub(crate) fn rows_with(letter: u8) -> &'static [RowForm]
                 ],
             },
             RowForm {
-                row: Row::CsnbdecLast,
+                name: RequestName::CsnbdecLast,
                 verb: b"CSNBDEC",
                 fields: &[
                     Field::Role,
@@ -146,19 +146,19 @@ pub(crate) fn rows_with(letter: u8) -> &'static [RowForm]
                 ],
             },
             RowForm {
-                row: Row::Csnbktc,
+                name: RequestName::Csnbktc,
                 verb: b"CSNBKTC",
                 fields: &[Field::Role, Field::ChangeRule, Field::Token],
             },
             RowForm {
-                row: Row::Csnbkrc,
+                name: RequestName::Csnbkrc,
                 verb: b"CSNBKRC",
                 fields: &[Field::Role, Field::Label],
             },
         ],
         b'N' => &[
             RowForm {
-                row: Row::Csnbmgn,
+                name: RequestName::Csnbmgn,
                 verb: b"CSNBMGN",
                 fields: &[
                     Field::Role,
@@ -169,7 +169,7 @@ pub(crate) fn rows_with(letter: u8) -> &'static [RowForm]
                 ],
             },
             RowForm {
-                row: Row::CsnbmgnFirst,
+                name: RequestName::CsnbmgnFirst,
                 verb: b"CSNBMGN",
                 fields: &[
                     Field::Role,
@@ -180,7 +180,7 @@ pub(crate) fn rows_with(letter: u8) -> &'static [RowForm]
                 ],
             },
             RowForm {
-                row: Row::CsnbmgnMiddle,
+                name: RequestName::CsnbmgnMiddle,
                 verb: b"CSNBMGN",
                 fields: &[
                     Field::Role,
@@ -192,7 +192,7 @@ pub(crate) fn rows_with(letter: u8) -> &'static [RowForm]
                 ],
             },
             RowForm {
-                row: Row::CsnbmgnLast,
+                name: RequestName::CsnbmgnLast,
                 verb: b"CSNBMGN",
                 fields: &[
                     Field::Role,
@@ -205,7 +205,7 @@ pub(crate) fn rows_with(letter: u8) -> &'static [RowForm]
                 ],
             },
             RowForm {
-                row: Row::CsnbkgnOp,
+                name: RequestName::CsnbkgnOp,
                 verb: b"CSNBKGN",
                 fields: &[
                     Field::Role,
@@ -216,7 +216,7 @@ pub(crate) fn rows_with(letter: u8) -> &'static [RowForm]
                 ],
             },
             RowForm {
-                row: Row::CsnbkgnPair,
+                name: RequestName::CsnbkgnPair,
                 verb: b"CSNBKGN",
                 fields: &[
                     Field::Role,
@@ -229,7 +229,7 @@ pub(crate) fn rows_with(letter: u8) -> &'static [RowForm]
                 ],
             },
             RowForm {
-                row: Row::CsnbkgnOut,
+                name: RequestName::CsnbkgnOut,
                 verb: b"CSNBKGN",
                 fields: &[
                     Field::Role,
@@ -244,7 +244,7 @@ pub(crate) fn rows_with(letter: u8) -> &'static [RowForm]
         ],
         b'R' => &[
             RowForm {
-                row: Row::Csnbmvr,
+                name: RequestName::Csnbmvr,
                 verb: b"CSNBMVR",
                 fields: &[
                     Field::Role,
@@ -255,7 +255,7 @@ pub(crate) fn rows_with(letter: u8) -> &'static [RowForm]
                 ],
             },
             RowForm {
-                row: Row::CsnbmvrFirst,
+                name: RequestName::CsnbmvrFirst,
                 verb: b"CSNBMVR",
                 fields: &[
                     Field::Role,
@@ -266,7 +266,7 @@ pub(crate) fn rows_with(letter: u8) -> &'static [RowForm]
                 ],
             },
             RowForm {
-                row: Row::CsnbmvrMiddle,
+                name: RequestName::CsnbmvrMiddle,
                 verb: b"CSNBMVR",
                 fields: &[
                     Field::Role,
@@ -278,7 +278,7 @@ pub(crate) fn rows_with(letter: u8) -> &'static [RowForm]
                 ],
             },
             RowForm {
-                row: Row::CsnbmvrLast,
+                name: RequestName::CsnbmvrLast,
                 verb: b"CSNBMVR",
                 fields: &[
                     Field::Role,
@@ -291,7 +291,7 @@ pub(crate) fn rows_with(letter: u8) -> &'static [RowForm]
                 ],
             },
             RowForm {
-                row: Row::Csnbktr,
+                name: RequestName::Csnbktr,
                 verb: b"CSNBKTR",
                 fields: &[
                     Field::Role,
@@ -301,56 +301,56 @@ pub(crate) fn rows_with(letter: u8) -> &'static [RowForm]
                 ],
             },
             RowForm {
-                row: Row::Csnbkrr,
+                name: RequestName::Csnbkrr,
                 verb: b"CSNBKRR",
                 fields: &[Field::Role, Field::Label],
             },
         ],
         b'P' => &[
             RowForm {
-                row: Row::Csnbktp,
+                name: RequestName::Csnbktp,
                 verb: b"CSNBKTP",
                 fields: &[Field::Role, Field::Token],
             },
             RowForm {
-                row: Row::CsnbmkpPart,
+                name: RequestName::CsnbmkpPart,
                 verb: b"CSNBMKP",
                 fields: &[Field::Role, Field::PartAction, Field::Part],
             },
             RowForm {
-                row: Row::CsnbmkpClear,
+                name: RequestName::CsnbmkpClear,
                 verb: b"CSNBMKP",
                 fields: &[Field::Role, Field::ActionClear],
             },
             RowForm {
-                row: Row::CsnbmkpSet,
+                name: RequestName::CsnbmkpSet,
                 verb: b"CSNBMKP",
                 fields: &[Field::Role, Field::ActionSet],
             },
             RowForm {
-                row: Row::Reencipher,
+                name: RequestName::Reencipher,
                 verb: b"REENCIPHER",
                 fields: &[Field::Role],
             },
             RowForm {
-                row: Row::ReencipherAhead,
+                name: RequestName::ReencipherAhead,
                 verb: b"REENCIPHER",
                 fields: &[Field::Role, Field::ActionAhead],
             },
             RowForm {
-                row: Row::ReencipherDrop,
+                name: RequestName::ReencipherDrop,
                 verb: b"REENCIPHER",
                 fields: &[Field::Role, Field::ActionDrop],
             },
         ],
         b'I' => &[
             RowForm {
-                row: Row::Csnbcki,
+                name: RequestName::Csnbcki,
                 verb: b"CSNBCKI",
                 fields: &[Field::Role, Field::ClearKey, Field::To],
             },
             RowForm {
-                row: Row::CsnbkpiFirst,
+                name: RequestName::CsnbkpiFirst,
                 verb: b"CSNBKPI",
                 fields: &[
                     Field::Role,
@@ -361,7 +361,7 @@ pub(crate) fn rows_with(letter: u8) -> &'static [RowForm]
                 ],
             },
             RowForm {
-                row: Row::CsnbkpiMiddle,
+                name: RequestName::CsnbkpiMiddle,
                 verb: b"CSNBKPI",
                 fields: &[
                     Field::Role,
@@ -372,55 +372,55 @@ pub(crate) fn rows_with(letter: u8) -> &'static [RowForm]
                 ],
             },
             RowForm {
-                row: Row::CsuaaciDefine,
+                name: RequestName::CsuaaciDefine,
                 verb: b"CSUAACI",
                 fields: &[Field::Role, Field::ActionDefine, Field::Name, Field::Points],
             },
             RowForm {
-                row: Row::CsuaaciRemove,
+                name: RequestName::CsuaaciRemove,
                 verb: b"CSUAACI",
                 fields: &[Field::Role, Field::ActionRemove, Field::OtherName],
             },
         ],
         b'X' => &[
             RowForm {
-                row: Row::Csnbkex,
+                name: RequestName::Csnbkex,
                 verb: b"CSNBKEX",
                 fields: &[Field::Role, Field::Key, Field::Transport],
             },
             RowForm {
-                row: Row::Csnbpex,
+                name: RequestName::Csnbpex,
                 verb: b"CSNBPEX",
                 fields: &[Field::Role, Field::Key, Field::To],
             },
         ],
         b'T' => &[RowForm {
-            row: Row::Csnbkyt,
+            name: RequestName::Csnbkyt,
             verb: b"CSNBKYT",
             fields: &[Field::Role, Field::Key],
         }],
         b'G' => &[RowForm {
-            row: Row::Csnbrng,
+            name: RequestName::Csnbrng,
             verb: b"CSNBRNG",
             fields: &[Field::Role, Field::NumberForm],
         }],
         b'M' => &[RowForm {
-            row: Row::Csnbkim,
+            name: RequestName::Csnbkim,
             verb: b"CSNBKIM",
             fields: &[Field::Role, Field::Token, Field::Transport, Field::To],
         }],
         b'W' => &[RowForm {
-            row: Row::Csnbkrw,
+            name: RequestName::Csnbkrw,
             verb: b"CSNBKRW",
             fields: &[Field::Role, Field::Label, Field::Token],
         }],
         b'D' => &[RowForm {
-            row: Row::Csnbkrd,
+            name: RequestName::Csnbkrd,
             verb: b"CSNBKRD",
             fields: &[Field::Role, Field::Label],
         }],
         b'L' => &[RowForm {
-            row: Row::Csnbkrl,
+            name: RequestName::Csnbkrl,
             verb: b"CSNBKRL",
             fields: &[Field::Role, Field::Prefix],
         }],

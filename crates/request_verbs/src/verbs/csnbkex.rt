@@ -1,6 +1,6 @@
 //! CSNBKEX: a key exported under a transport key.
 ghost use Rattle.std.specs.Prelude.{◌≡◌, ◌∷◌, [], ℕ, List};
-ghost use Rattle.verb_script.specs.Grammar.{csnbkex as row};
+ghost use Rattle.verb_script.specs.declared.rows.RequestName.TheVariants.{Csnbkex as row};
 ghost use Rattle.request_verbs.specs.Decided.{SettlesOver, asked};
 ghost use Rattle.request_rules.specs.Judging.{HasDoubleKey, HasSomeJudged};
 

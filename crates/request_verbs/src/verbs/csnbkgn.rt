@@ -9,7 +9,7 @@ ghost use Rattle.key_transport.specs.Generated.{AreGiven, HaveLength};
 ghost use Rattle.line_service.specs.Devices.{TellsFault};
 ghost use Rattle.master_registers.specs.Loaded.{IsLoaded};
 ghost use Rattle.script_buffers.specs.Replies.{Hex};
-ghost use Rattle.verb_script.specs.Grammar.{csnbkgn_op, csnbkgn_out, csnbkgn_pair};
+ghost use Rattle.verb_script.specs.declared.rows.RequestName.TheVariants.{CsnbkgnOp, CsnbkgnOut, CsnbkgnPair};
 ghost use Rattle.cca_machine.specs.Verdict.{Refusal as Refused, first_refusal, generate_questions, pair_questions};
 ghost use Rattle.request_verbs.specs.Decided.{SettlesDrawing, asked, source, CanDeliver};
 ghost use Rattle.request_verbs.specs.Deciding.{token2_fields, Shows};
@@ -124,7 +124,7 @@ pub(crate) fn generate_one<E: Entropy>(
     requires delivers { CanDeliver held.now (bench_of lease.old) to.now
         granted.now.first.place reply.old }
     ensures settles { (role form : List ℕ) (rows : List (Option Row))
-        → SettlesDrawing (asked csnbkgn_op (role ∷ form ∷ length.now ∷ type_name kind ∷ to.now
+        → SettlesDrawing (asked CsnbkgnOp (role ∷ form ∷ length.now ∷ type_name kind ∷ to.now
         ∷ []))
         granted.now held.now rows lease.old lease.new result reply.new
         (source entropy.old (E.left entropy.old) (E.faults entropy.old))
@@ -176,7 +176,7 @@ pub(crate) fn generate_pair<E: Entropy>(
     requires delivers { CanDeliver held.now (bench_of lease.old) to.now
         granted.now.second.place reply.old }
     ensures settles { (role transport : List ℕ) (rows : List (Option Row))
-        → SettlesDrawing (asked csnbkgn_pair (role ∷ form.now ∷ length.now ∷ type_name first
+        → SettlesDrawing (asked CsnbkgnPair (role ∷ form.now ∷ length.now ∷ type_name first
         ∷ type_name second ∷ transport ∷ to.now ∷ []))
         granted.now held.now rows lease.old lease.new result reply.new
         (source entropy.old (E.left entropy.old) (E.faults entropy.old))
@@ -241,7 +241,7 @@ pub(crate) fn generate_out<E: Entropy>(
     requires loaded { IsLoaded held.now (bench_of lease.old) }
     requires empty { reply.old ≡ [] }
     ensures settles { (role one two : List ℕ) (rows : List (Option Row))
-        → SettlesDrawing (asked csnbkgn_out (role ∷ form.now ∷ length.now ∷ type_name first
+        → SettlesDrawing (asked CsnbkgnOut (role ∷ form.now ∷ length.now ∷ type_name first
         ∷ type_name second ∷ one ∷ two ∷ []))
         granted.now held.now rows lease.old lease.new result reply.new
         (source entropy.old (E.left entropy.old) (E.faults entropy.old))

@@ -2,7 +2,7 @@
 ghost use Rattle.std.specs.Prelude.{◌∷◌, [], ℕ, List, Option};
 ghost use Rattle.key_cells.specs.Lease.{bench_of};
 ghost use Rattle.key_records.specs.declared.rows.Row.{Row};
-ghost use Rattle.verb_script.specs.Grammar.{csnbkim as row};
+ghost use Rattle.verb_script.specs.declared.rows.RequestName.TheVariants.{Csnbkim as row};
 ghost use Rattle.request_verbs.specs.Decided.{Settles, asked, CanDeliver};
 ghost use Rattle.request_rules.specs.Judging.{HasDoubleKey, HasJudgedExternal};
 

@@ -9,7 +9,8 @@ ghost use Rattle.key_records.specs.declared.rows.Row.{Row};
 ghost use Rattle.key_transport.specs.Generated.{HasLength};
 ghost use Rattle.key_transport.specs.Tokens.{as_current};
 ghost use Rattle.verb_rules.specs.Keys.{HasHalves, opened};
-ghost use Rattle.verb_script.specs.Grammar.{accepts, csnbkpi_first, csnbkpi_middle, part_text};
+ghost use Rattle.verb_script.specs.Grammar.{accepts, part_text};
+ghost use Rattle.verb_script.specs.declared.rows.RequestName.TheVariants.{CsnbkpiFirst, CsnbkpiMiddle};
 ghost use Rattle.verb_script.specs.Values.{hex_value};
 ghost use Rattle.cca_machine.specs.Verdict.{first_refusal, further_part_questions};
 ghost use Rattle.request_verbs.specs.Decided.{Settles, asked, CanDeliver};
@@ -67,7 +68,7 @@ pub(crate) fn first(
     requires delivers { CanDeliver held.now (bench_of lease.old) to.now
         granted.now.first.place reply.old }
     ensures settles { (role rule : List ℕ) (rows : List (Option Row))
-        → Settles (asked csnbkpi_first (role ∷ rule ∷ type_name kind ∷ part.now ∷ to.now ∷ []))
+        → Settles (asked CsnbkpiFirst (role ∷ rule ∷ type_name kind ∷ part.now ∷ to.now ∷ []))
         granted.now held.now rows lease.old lease.new result reply.new }
 {
     if let Err(rule) = judge_size(kind, part.len() / 2) {
@@ -145,7 +146,7 @@ pub(crate) fn further(
     requires delivers { CanDeliver held.now (bench_of lease.old) to.now
         granted.now.second.place reply.old }
     ensures settles { (role key : List ℕ) (rows : List (Option Row))
-        → Settles (asked csnbkpi_middle (role ∷ rule.now ∷ key ∷ part.now ∷ to.now ∷ []))
+        → Settles (asked CsnbkpiMiddle (role ∷ rule.now ∷ key ∷ part.now ∷ to.now ∷ []))
         granted.now held.now rows lease.old lease.new result reply.new }
 {
     let key = key_in(&granted.first);

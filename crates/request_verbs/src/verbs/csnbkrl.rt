@@ -3,7 +3,7 @@ ghost use Rattle.std.specs.Prelude.{◌≡◌, ◌+◌, ◌*◌, ◌≤◌, ◌+
 ghost use Rattle.key_cells.specs.declared.leases.Lease.{Lease};
 ghost use Rattle.key_records.specs.Entries.{row_directory};
 ghost use Rattle.master_registers.specs.declared.registers.Registers.{Registers};
-ghost use Rattle.verb_script.specs.Grammar.{csnbkrl as row};
+ghost use Rattle.verb_script.specs.declared.rows.RequestName.TheVariants.{Csnbkrl as row};
 ghost use Rattle.cca_machine.specs.Listing.{ascending, beginning, with_commas};
 ghost use Rattle.request_verbs.specs.Decided.{Settles, asked};
 ghost use Rattle.request_rules.specs.declared.judging.Granted.{Granted};

@@ -4,7 +4,7 @@ ghost use Rattle.cca_vectors.specs.Bytes.{AreBytes};
 ghost use Rattle.key_cells.specs.declared.leases.Lease.{Lease};
 ghost use Rattle.key_records.specs.declared.rows.Row.{Row};
 ghost use Rattle.master_registers.specs.declared.registers.Registers.{Registers};
-ghost use Rattle.verb_script.specs.Grammar.{csnbkrr as row};
+ghost use Rattle.verb_script.specs.declared.rows.RequestName.TheVariants.{Csnbkrr as row};
 ghost use Rattle.request_verbs.specs.Decided.{Settles, asked};
 ghost use Rattle.request_rules.specs.Judging.{HasSomeJudged};
 

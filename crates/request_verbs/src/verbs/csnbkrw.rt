@@ -7,7 +7,8 @@ ghost use Rattle.key_tokens.specs.Denotes.{denoted};
 ghost use Rattle.master_registers.specs.Loaded.{masters_in};
 ghost use Rattle.master_registers.specs.declared.registers.Registers.{Registers};
 ghost use Rattle.verb_rules.specs.Keys.{keys_of};
-ghost use Rattle.verb_script.specs.Grammar.{is_hex, csnbkrw as row};
+ghost use Rattle.verb_script.specs.Grammar.{is_hex};
+ghost use Rattle.verb_script.specs.declared.rows.RequestName.TheVariants.{Csnbkrw as row};
 ghost use Rattle.verb_script.specs.Values.{hex_value};
 ghost use Rattle.request_verbs.specs.Decided.{Settles, asked};
 

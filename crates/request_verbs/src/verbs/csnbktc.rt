@@ -1,7 +1,7 @@
 //! CSNBKTC: a token changed to another master key.
 ghost use Rattle.std.specs.Prelude.{◌≡◌, ◌∷◌, [], ℕ, IsSome, List, Option};
 ghost use Rattle.key_records.specs.declared.rows.Row.{Row};
-ghost use Rattle.verb_script.specs.Grammar.{csnbktc as row};
+ghost use Rattle.verb_script.specs.declared.rows.RequestName.TheVariants.{Csnbktc as row};
 ghost use Rattle.request_verbs.specs.Decided.{Settles, asked};
 ghost use Rattle.request_rules.specs.Judging.{HasSomeJudged};
 

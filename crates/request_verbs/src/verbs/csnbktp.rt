@@ -5,7 +5,7 @@ ghost use Rattle.key_cells.specs.declared.leases.Lease.{Lease};
 ghost use Rattle.key_records.specs.declared.rows.Row.{Row};
 ghost use Rattle.master_registers.specs.declared.registers.Registers.{Registers};
 ghost use Rattle.script_buffers.specs.Replies.{written, hex_field, text_field, number_field};
-ghost use Rattle.verb_script.specs.Grammar.{csnbktp as row};
+ghost use Rattle.verb_script.specs.declared.rows.RequestName.TheVariants.{Csnbktp as row};
 ghost use Rattle.request_verbs.specs.Decided.{Settles, asked};
 
 use crate::effects::Effect;

@@ -1,6 +1,6 @@
 //! CSNBKTR: a key translated from one transport key to another.
 ghost use Rattle.std.specs.Prelude.{◌≡◌, ◌∷◌, [], ℕ, List};
-ghost use Rattle.verb_script.specs.Grammar.{csnbktr as row};
+ghost use Rattle.verb_script.specs.declared.rows.RequestName.TheVariants.{Csnbktr as row};
 ghost use Rattle.request_verbs.specs.Decided.{SettlesOver, asked};
 ghost use Rattle.request_rules.specs.Judging.{HasDoubleKey, HasJudgedExternal};
 

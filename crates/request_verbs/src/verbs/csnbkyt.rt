@@ -1,6 +1,6 @@
 //! CSNBKYT: the test value of a key.
 ghost use Rattle.std.specs.Prelude.{◌≡◌, ◌∷◌, [], ℕ, List};
-ghost use Rattle.verb_script.specs.Grammar.{csnbkyt as row};
+ghost use Rattle.verb_script.specs.declared.rows.RequestName.TheVariants.{Csnbkyt as row};
 ghost use Rattle.request_verbs.specs.Decided.{SettlesOver, asked};
 ghost use Rattle.request_rules.specs.Judging.{HasSomeJudged};
 

@@ -6,7 +6,8 @@ ghost use Rattle.key_cells.specs.Bench.{with_master};
 ghost use Rattle.key_cells.specs.Lease.{bench_of, holding};
 ghost use Rattle.key_cells.specs.declared.leases.Lease.{Lease as AnyLease};
 ghost use Rattle.key_records.specs.declared.rows.Row.{Row};
-ghost use Rattle.verb_script.specs.Grammar.{csnbmkp_clear, csnbmkp_part, csnbmkp_set, is_hex};
+ghost use Rattle.verb_script.specs.Grammar.{is_hex};
+ghost use Rattle.verb_script.specs.declared.rows.RequestName.TheVariants.{CsnbmkpClear, CsnbmkpPart, CsnbmkpSet};
 ghost use Rattle.verb_script.specs.Values.{hex_value};
 ghost use Rattle.master_registers.specs.Loaded.{Loaded};
 ghost use Rattle.master_registers.specs.declared.registers.Registers.{Registers as HeldRegisters};
@@ -42,7 +43,7 @@ pub(crate) fn combine(action: &[u8], part: &[u8], lease: &mut Lease) -> Effect
     requires part { IsTrue (is_hex 48 part.now) }
     ensures settles { (role : List ℕ) (granted : Granted) (held : HeldRegisters)
         (rows : List (Option Row))
-        → Settles (asked csnbmkp_part (role ∷ action.now ∷ part.now ∷ []))
+        → Settles (asked CsnbmkpPart (role ∷ action.now ∷ part.now ∷ []))
         granted held rows lease.old lease.new result [] }
 {
     put_part(part, lease);
@@ -54,7 +55,7 @@ pub(crate) fn combine(action: &[u8], part: &[u8], lease: &mut Lease) -> Effect
 pub(crate) fn clear(records: &Records) -> Effect
     ensures settles { (role action : List ℕ) (granted : Granted) (held : HeldRegisters)
         (lease : AnyLease)
-        → Settles (asked csnbmkp_clear (role ∷ action ∷ []))
+        → Settles (asked CsnbmkpClear (role ∷ action ∷ []))
         granted held records.now lease lease result [] }
 {
     if records.any_ahead() {
@@ -82,7 +83,7 @@ fn set_rule(lease: &Lease, held: &Registers) -> Option<Rule>
 /// the old master key. It goes over the labels once.
 pub(crate) fn set(lease: &Lease, held: &Registers, records: &Records) -> Effect
     ensures settles { (role action : List ℕ) (granted : Granted)
-        → Settles (asked csnbmkp_set (role ∷ action ∷ []))
+        → Settles (asked CsnbmkpSet (role ∷ action ∷ []))
         granted held.now records.now lease.now lease.now result [] }
 {
     match set_rule(lease, held) {

@@ -5,7 +5,7 @@ ghost use Rattle.cca_roles.specs.RoleNames.{default_name};
 ghost use Rattle.key_cells.specs.declared.leases.Lease.{Lease};
 ghost use Rattle.key_records.specs.declared.rows.Row.{Row};
 ghost use Rattle.master_registers.specs.declared.registers.Registers.{Registers};
-ghost use Rattle.verb_script.specs.Grammar.{csuaaci_define, csuaaci_remove};
+ghost use Rattle.verb_script.specs.declared.rows.RequestName.TheVariants.{CsuaaciDefine, CsuaaciRemove};
 ghost use Rattle.request_verbs.specs.Decided.{Settles, asked};
 ghost use Rattle.request_rules.specs.declared.judging.Granted.{Granted};
 
@@ -16,7 +16,7 @@ use cca_roles::{AccessPoints, RoleName};
 pub(crate) fn define(name: &RoleName, points: &AccessPoints) -> Effect
     ensures settles { (role action : List ℕ) (granted : Granted) (held : Registers)
         (rows : List (Option Row)) (lease : Lease)
-        → Settles (asked csuaaci_define (role ∷ action ∷ name.now ∷ to_be_bytes w32 points.now
+        → Settles (asked CsuaaciDefine (role ∷ action ∷ name.now ∷ to_be_bytes w32 points.now
         ∷ []))
         granted held rows lease lease result [] }
 {
@@ -29,7 +29,7 @@ pub(crate) fn remove(name: &RoleName) -> Effect
     requires name { name.now ≢ default_name }
     ensures settles { (role action : List ℕ) (granted : Granted) (held : Registers)
         (rows : List (Option Row)) (lease : Lease)
-        → Settles (asked csuaaci_remove (role ∷ action ∷ name.now ∷ []))
+        → Settles (asked CsuaaciRemove (role ∷ action ∷ name.now ∷ []))
         granted held rows lease lease result [] }
 {
     Effect::RemoveRole(*name)

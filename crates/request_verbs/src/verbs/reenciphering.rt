@@ -10,7 +10,7 @@ ghost use Rattle.master_registers.specs.Masters.{Masters, set_refused, has_patte
 ghost use Rattle.master_registers.specs.declared.registers.Registers.{Registers as HeldRegisters};
 ghost use Rattle.reencipher.specs.Tokens.{IsReadyAhead};
 ghost use Rattle.verb_rules.specs.Rules.{rule_number};
-ghost use Rattle.verb_script.specs.Grammar.{reencipher, reencipher_ahead, reencipher_drop};
+ghost use Rattle.verb_script.specs.declared.rows.RequestName.TheVariants.{Reencipher, ReencipherAhead, ReencipherDrop};
 ghost use Rattle.request_verbs.specs.Decided.{Settles, asked};
 ghost use Rattle.request_rules.specs.declared.judging.Granted.{Granted};
 
@@ -28,7 +28,7 @@ pub(crate) fn renew() -> Effect
     ensures settles { (role : List ℕ) (granted : Granted) (held : HeldRegisters)
         (rows : List (Option Row)) (lease : AnyLease)
         → IsSome held.current_pattern → IsLoaded held (bench_of lease)
-        → Settles (asked reencipher (role ∷ [])) granted held rows lease lease result [] }
+        → Settles (asked Reencipher (role ∷ [])) granted held rows lease lease result [] }
 {
     Effect::Reencipher(StoreAction::Renew)
 }
@@ -56,7 +56,7 @@ pub(crate) fn ahead(lease: &Lease, held: &Registers, records: &Records) -> Effec
     requires loaded { IsLoaded held.now (bench_of lease.now) }
     requires current { IsSome held.now.current_pattern }
     ensures settles { (role action : List ℕ) (granted : Granted)
-        → Settles (asked reencipher_ahead (role ∷ action ∷ []))
+        → Settles (asked ReencipherAhead (role ∷ action ∷ []))
         granted held.now records.now lease.now lease.now result [] }
 {
     match ahead_rule(lease, held) {
@@ -71,7 +71,7 @@ pub(crate) fn drop() -> Effect
     ensures settles { (role action : List ℕ) (granted : Granted) (held : HeldRegisters)
         (rows : List (Option Row)) (lease : AnyLease)
         → IsSome held.current_pattern → IsLoaded held (bench_of lease)
-        → Settles (asked reencipher_drop (role ∷ action ∷ []))
+        → Settles (asked ReencipherDrop (role ∷ action ∷ []))
         granted held rows lease lease result [] }
 {
     Effect::Reencipher(StoreAction::Drop)

@@ -2,7 +2,7 @@ use Rattle.std.proofs.Common.{◌∷◌, ◌∙◌, [], length, Err, ap, codes, 
 use Rattle.std.proofs.lemmas.Fmt.{length-decimal-le}
 use Rattle.slot_disk.proofs.Media.{told_at}
 use Rattle.script_buffers.specs.Replies.{Number}
-use Rattle.cca_machine.specs.Act.{Reencipher}
+use Rattle.cca_machine.specs.Act.{ChangeLabels}
 use Rattle.cca_requests.specs.Changes.{plainly}
 use Rattle.cca_requests.specs.Serving.{CarriesStore}
 use Rattle.request_rules.specs.Stored.{read_stop}
@@ -30,7 +30,7 @@ returns-in-Err-clause-carries g c = λ s at.
     let reply = c.args.reply.now in
     let runs = c.in-Err.ensures.labels s.registers s.labels at.loaded (kept_labels s rows old at.stands) in
     ⊎_elim
-    (λ disk. subst (λ stop. CarriesStore (plainly s (Reencipher c.args.action)) s (Err stop) reply now old new) (sym (c.stop_of.ensures ∙ ap read_stop disk))
+    (λ disk. subst (λ stop. CarriesStore (plainly s (ChangeLabels c.args.action)) s (Err stop) reply now old new) (sym (c.stop_of.ensures ∙ ap read_stop disk))
     (ended c.args.action old new s rows now at.stands _ runs reply))
     (λ damaged. absurd (told_at old.content (λ _. ⊥) at.stands.in_store.image at.stands.in_store.told
     (c.carry_out.ensures.left.damaged damaged.0 (c.in-Err.is ∙ ap Err damaged.2))))

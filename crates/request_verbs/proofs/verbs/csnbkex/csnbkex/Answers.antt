@@ -4,7 +4,7 @@ use Rattle.key_tokens.specs.Denotes.{ClearKey}
 use Rattle.key_transport.specs.Tokens.{external_token}
 use Rattle.script_buffers.specs.Replies.{Hex, written}
 use Rattle.verb_rules.specs.Keys.{opened}
-use Rattle.verb_script.specs.Grammar.{csnbkex}
+use Rattle.verb_script.specs.declared.rows.RequestName.TheVariants.{Csnbkex}
 use Rattle.cca_machine.specs.Keys.{key_in_field, key_in_text, key_of_request}
 use Rattle.request_verbs.specs.Decided.{asked}
 use Rattle.request_verbs.proofs.Acting.{key_is}
@@ -16,7 +16,7 @@ pub returns : goal.returns
 returns c = record {
   settles = λ role key transport held rows.
       let bench = bench_of c.args.lease.now in
-      let request = asked csnbkex (role ∷ key ∷ transport ∷ []) in
+      let request = asked Csnbkex (role ∷ key ∷ transport ∷ []) in
       let one = c.key_in-key.result.now in
       let two = c.double_key_in.result.now in
       let fields = λ (t k : ClearKey). Hex (codes "token") (external_token t.key k) ∷ [] in

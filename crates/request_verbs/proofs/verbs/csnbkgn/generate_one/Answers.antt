@@ -10,7 +10,7 @@ use Rattle.key_transport.specs.Tokens.{as_current}
 use Rattle.key_transport.specs.declared.generating.Form.TheVariants.{Op}
 use Rattle.key_transport.specs.declared.generating.Generated.{Generated}
 use Rattle.master_registers.specs.Loaded.{masters_in}
-use Rattle.verb_script.specs.Grammar.{csnbkgn_op}
+use Rattle.verb_script.specs.declared.rows.RequestName.TheVariants.{CsnbkgnOp}
 use Rattle.verb_script.specs.Named.{label_named}
 use Rattle.cca_machine.specs.Act.{delivered}
 use Rattle.cca_machine.specs.Choices.{key_length_named}
@@ -39,7 +39,7 @@ returns-in-Ok-Keys g c = record {
       let made : MakesKeys v c.args.held.now (bench_of c.args.lease.now) Op key_length c.args.kind c.args.kind None None (g.E.Entropy.left c.args.entropy.now) (g.E.Entropy.left c.draw.new.entropy) (Keys c.in-Ok-Keys.keys) =
       subst (λ (d : Drawn). MakesKeys v c.args.held.now (bench_of c.args.lease.now) Op key_length c.args.kind c.args.kind None None (g.E.Entropy.left c.args.entropy.now) (g.E.Entropy.left c.draw.new.entropy) d) c.in-Ok-Keys.field-0-is (c.in-Ok-Keys.ensures.drawn v broken.ensures) in
       let drawn = made.1.draw.drawn in
-      let request = asked csnbkgn_op (role ∷ form ∷ c.args.length.now ∷ type_name c.args.kind ∷ c.args.to.now ∷ []) in
+      let request = asked CsnbkgnOp (role ∷ form ∷ c.args.length.now ∷ type_name c.args.kind ∷ c.args.to.now ∷ []) in
       let needs : IsTrue (is_some named) → IsTrue (needs_store request) = either_left (is_some named) false in
       let kept : masters_in held (bench_of c.draw.new.lease) ≡ masters_in held (bench_of c.args.lease.now) = ap (λ (l : Lease). masters_in held (bench_of l)) c.draw.ensures.stays in
       let before = source c.args.entropy.now (g.E.Entropy.left c.args.entropy.now) (g.E.Entropy.faults c.args.entropy.now) in
@@ -66,7 +66,7 @@ returns-in-Ok-Refused g c = record {
       let key_length = c.key_length_of-length.result in
       let v = first_refusal (generate_questions c.args.kind key_length) in
       let broken = c.judge_one-broken in
-      let request = asked csnbkgn_op (role ∷ form ∷ c.args.length.now ∷ type_name c.args.kind ∷ c.args.to.now ∷ []) in
+      let request = asked CsnbkgnOp (role ∷ form ∷ c.args.length.now ∷ type_name c.args.kind ∷ c.args.to.now ∷ []) in
       let before = source c.args.entropy.now (g.E.Entropy.left c.args.entropy.now) (g.E.Entropy.faults c.args.entropy.now) in
       let now = source c.draw.new.entropy (g.E.Entropy.left c.draw.new.entropy) (g.E.Entropy.faults c.draw.new.entropy) in
       drawn_refused {request = request} {before = before} {now = now} (ap KeyBytes (sym c.key_length_of-length.ensures))
@@ -84,7 +84,7 @@ returns-in-Err g c = record {
       let key_length = c.key_length_of-length.result in
       let v = first_refusal (generate_questions c.args.kind key_length) in
       let broken = c.judge_one-broken in
-      let request = asked csnbkgn_op (role ∷ form ∷ c.args.length.now ∷ type_name c.args.kind ∷ c.args.to.now ∷ []) in
+      let request = asked CsnbkgnOp (role ∷ form ∷ c.args.length.now ∷ type_name c.args.kind ∷ c.args.to.now ∷ []) in
       let before = source c.args.entropy.now (g.E.Entropy.left c.args.entropy.now) (g.E.Entropy.faults c.args.entropy.now) in
       let now = source c.draw.new.entropy (g.E.Entropy.left c.draw.new.entropy) (g.E.Entropy.faults c.draw.new.entropy) in
       drawn_stopped {request = request} {before = before} {now = now} (ap KeyBytes (sym c.key_length_of-length.ensures))

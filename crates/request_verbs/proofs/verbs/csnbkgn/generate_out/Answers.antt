@@ -10,7 +10,7 @@ use Rattle.key_transport.specs.declared.generating.Form.{Form}
 use Rattle.key_transport.specs.declared.generating.Generated.{Generated}
 use Rattle.script_buffers.specs.Replies.{Hex, written}
 use Rattle.verb_rules.specs.Keys.{opened}
-use Rattle.verb_script.specs.Grammar.{csnbkgn_out}
+use Rattle.verb_script.specs.declared.rows.RequestName.TheVariants.{CsnbkgnOut}
 use Rattle.cca_machine.specs.Act.{Show}
 use Rattle.cca_machine.specs.Choices.{key_length_named, type_in}
 use Rattle.cca_machine.specs.Draws.{KeyBytes}
@@ -44,7 +44,7 @@ returns-in-Ok-Keys g c = record {
       let key_length = c.key_length_of-length.result in
       let out = opened bench c.double_key_in-one.result.now in
       let other = opened bench c.double_key_in-two.result.now in
-      let request = asked csnbkgn_out (role ∷ text ∷ c.args.length.now ∷ type_name c.args.first ∷ type_name c.args.second ∷ transport1 ∷ transport2 ∷ []) in
+      let request = asked CsnbkgnOut (role ∷ text ∷ c.args.length.now ∷ type_name c.args.first ∷ type_name c.args.second ∷ transport1 ∷ transport2 ∷ []) in
       let v = first_refusal (pair_questions c.args.first c.args.second key_length) in
       let broken = c.judge_two-broken in
       let made : MakesKeys v c.args.held.now (bench_of c.args.lease.now) c.out_form_of.result key_length c.args.first c.args.second (Some c.double_key_in-one.result.now) (Some c.double_key_in-two.result.now) (g.E.Entropy.left c.args.entropy.now) (g.E.Entropy.left c.draw.new.entropy) (Keys c.in-Ok-Keys.keys) =
@@ -86,7 +86,7 @@ returns-in-Ok-Refused g c = record {
       let key_length = c.key_length_of-length.result in
       let v = first_refusal (pair_questions c.args.first c.args.second key_length) in
       let broken = c.judge_two-broken in
-      let request = asked csnbkgn_out (role ∷ c.args.form.now ∷ c.args.length.now ∷ type_name c.args.first ∷ type_name c.args.second ∷ transport1 ∷ transport2 ∷ []) in
+      let request = asked CsnbkgnOut (role ∷ c.args.form.now ∷ c.args.length.now ∷ type_name c.args.first ∷ type_name c.args.second ∷ transport1 ∷ transport2 ∷ []) in
       let before = source c.args.entropy.now (g.E.Entropy.left c.args.entropy.now) (g.E.Entropy.faults c.args.entropy.now) in
       let now = source c.draw.new.entropy (g.E.Entropy.left c.draw.new.entropy) (g.E.Entropy.faults c.draw.new.entropy) in
       drawn_refused {request = request} {before = before} {now = now} (ap KeyBytes (sym c.key_length_of-length.ensures))
@@ -104,7 +104,7 @@ returns-in-Err g c = record {
       let key_length = c.key_length_of-length.result in
       let v = first_refusal (pair_questions c.args.first c.args.second key_length) in
       let broken = c.judge_two-broken in
-      let request = asked csnbkgn_out (role ∷ c.args.form.now ∷ c.args.length.now ∷ type_name c.args.first ∷ type_name c.args.second ∷ transport1 ∷ transport2 ∷ []) in
+      let request = asked CsnbkgnOut (role ∷ c.args.form.now ∷ c.args.length.now ∷ type_name c.args.first ∷ type_name c.args.second ∷ transport1 ∷ transport2 ∷ []) in
       let before = source c.args.entropy.now (g.E.Entropy.left c.args.entropy.now) (g.E.Entropy.faults c.args.entropy.now) in
       let now = source c.draw.new.entropy (g.E.Entropy.left c.draw.new.entropy) (g.E.Entropy.faults c.draw.new.entropy) in
       drawn_stopped {request = request} {before = before} {now = now} (ap KeyBytes (sym c.key_length_of-length.ensures))

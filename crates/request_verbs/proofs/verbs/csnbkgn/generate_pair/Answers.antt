@@ -13,7 +13,7 @@ use Rattle.key_transport.specs.declared.generating.Generated.{Generated}
 use Rattle.master_registers.specs.Loaded.{masters_in}
 use Rattle.script_buffers.specs.Replies.{Field, Hex}
 use Rattle.verb_rules.specs.Keys.{opened}
-use Rattle.verb_script.specs.Grammar.{csnbkgn_pair}
+use Rattle.verb_script.specs.declared.rows.RequestName.TheVariants.{CsnbkgnPair}
 use Rattle.verb_script.specs.Named.{label_named}
 use Rattle.cca_machine.specs.Act.{delivered_with}
 use Rattle.cca_machine.specs.Choices.{key_length_named, type_in}
@@ -52,7 +52,7 @@ returns-in-Ok-Keys g c = record {
       let key_length = c.key_length_of-length.result in
       let judged = c.double_key_in-transport.result.now in
       let under = opened bench judged in
-      let request = asked csnbkgn_pair (role ∷ text ∷ c.args.length.now ∷ type_name c.args.first ∷ type_name c.args.second ∷ transport ∷ c.args.to.now ∷ []) in
+      let request = asked CsnbkgnPair (role ∷ text ∷ c.args.length.now ∷ type_name c.args.first ∷ type_name c.args.second ∷ transport ∷ c.args.to.now ∷ []) in
       let v = first_refusal (pair_questions c.args.first c.args.second key_length) in
       let broken = c.judge_two-broken in
       let made : MakesKeys v c.args.held.now (bench_of c.args.lease.now) c.pair_form_of.result key_length c.args.first c.args.second None (Some judged) (g.E.Entropy.left c.args.entropy.now) (g.E.Entropy.left c.draw.new.entropy) (Keys c.in-Ok-Keys.keys) =
@@ -96,7 +96,7 @@ returns-in-Ok-Refused g c = record {
       let key_length = c.key_length_of-length.result in
       let v = first_refusal (pair_questions c.args.first c.args.second key_length) in
       let broken = c.judge_two-broken in
-      let request = asked csnbkgn_pair (role ∷ c.args.form.now ∷ c.args.length.now ∷ type_name c.args.first ∷ type_name c.args.second ∷ transport ∷ c.args.to.now ∷ []) in
+      let request = asked CsnbkgnPair (role ∷ c.args.form.now ∷ c.args.length.now ∷ type_name c.args.first ∷ type_name c.args.second ∷ transport ∷ c.args.to.now ∷ []) in
       let before = source c.args.entropy.now (g.E.Entropy.left c.args.entropy.now) (g.E.Entropy.faults c.args.entropy.now) in
       let now = source c.draw.new.entropy (g.E.Entropy.left c.draw.new.entropy) (g.E.Entropy.faults c.draw.new.entropy) in
       drawn_refused {request = request} {before = before} {now = now} (ap KeyBytes (sym c.key_length_of-length.ensures))
@@ -114,7 +114,7 @@ returns-in-Err g c = record {
       let key_length = c.key_length_of-length.result in
       let v = first_refusal (pair_questions c.args.first c.args.second key_length) in
       let broken = c.judge_two-broken in
-      let request = asked csnbkgn_pair (role ∷ c.args.form.now ∷ c.args.length.now ∷ type_name c.args.first ∷ type_name c.args.second ∷ transport ∷ c.args.to.now ∷ []) in
+      let request = asked CsnbkgnPair (role ∷ c.args.form.now ∷ c.args.length.now ∷ type_name c.args.first ∷ type_name c.args.second ∷ transport ∷ c.args.to.now ∷ []) in
       let before = source c.args.entropy.now (g.E.Entropy.left c.args.entropy.now) (g.E.Entropy.faults c.args.entropy.now) in
       let now = source c.draw.new.entropy (g.E.Entropy.left c.draw.new.entropy) (g.E.Entropy.faults c.draw.new.entropy) in
       drawn_stopped {request = request} {before = before} {now = now} (ap KeyBytes (sym c.key_length_of-length.ensures))

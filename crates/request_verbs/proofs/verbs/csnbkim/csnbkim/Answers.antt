@@ -6,7 +6,7 @@ use Rattle.key_tokens.specs.Denotes.{ClearKey}
 use Rattle.key_transport.specs.Tokens.{as_current, transported_key}
 use Rattle.master_registers.specs.Loaded.{masters_in}
 use Rattle.verb_rules.specs.Keys.{opened, opened_under}
-use Rattle.verb_script.specs.Grammar.{csnbkim}
+use Rattle.verb_script.specs.declared.rows.RequestName.TheVariants.{Csnbkim}
 use Rattle.verb_script.specs.Values.{hex_value}
 use Rattle.verb_script.specs.Named.{label_named}
 use Rattle.cca_machine.specs.Act.{delivered}
@@ -24,7 +24,7 @@ returns c = record {
       let held = c.args.held.now in
       let bench = bench_of c.args.lease.now in
       let named = label_named c.args.to.now in
-      let request = asked csnbkim (role ∷ token ∷ transport ∷ c.args.to.now ∷ []) in
+      let request = asked Csnbkim (role ∷ token ∷ transport ∷ c.args.to.now ∷ []) in
       let source = c.external_in-source.result.now in
       let under = c.double_key_in.result.now in
       let clear = transported_key bench source under in

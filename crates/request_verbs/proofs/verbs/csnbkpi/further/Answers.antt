@@ -7,7 +7,7 @@ use Rattle.key_tokens.specs.Denotes.{ClearKey}
 use Rattle.key_transport.specs.Tokens.{as_current}
 use Rattle.master_registers.specs.Loaded.{masters_in}
 use Rattle.verb_rules.specs.Keys.{opened}
-use Rattle.verb_script.specs.Grammar.{csnbkpi_middle}
+use Rattle.verb_script.specs.declared.rows.RequestName.TheVariants.{CsnbkpiMiddle}
 use Rattle.verb_script.specs.Values.{hex_value}
 use Rattle.verb_script.specs.Named.{label_named}
 use Rattle.cca_machine.specs.Act.{delivered}
@@ -26,7 +26,7 @@ pub returns-in-Some : goal.returns-in-Some
 returns-in-Some c = record {
   settles = λ role key rows.
       let bench = bench_of c.args.lease.now in
-      let request = asked csnbkpi_middle (role ∷ c.args.rule.now ∷ key ∷ c.args.part.now ∷ c.args.to.now ∷ []) in
+      let request = asked CsnbkpiMiddle (role ∷ c.args.rule.now ∷ key ∷ c.args.part.now ∷ c.args.to.now ∷ []) in
       let judged = c.key_in-key.result.now in
       refused_settles refl refl
       (λ s is.
@@ -44,7 +44,7 @@ returns c = record {
       let named = label_named c.args.to.now in
       let part = hex_value c.args.part.now in
       let size = length c.args.part.now / 2 in
-      let request = asked csnbkpi_middle (role ∷ c.args.rule.now ∷ key ∷ c.args.part.now ∷ c.args.to.now ∷ []) in
+      let request = asked CsnbkpiMiddle (role ∷ c.args.rule.now ∷ key ∷ c.args.part.now ∷ c.args.to.now ∷ []) in
       let judged = c.key_in-key.result.now in
       let none = subst (HasRefused (first_refusal (further_part_questions judged.token.vector size))) c.in_default.is c.judge.ensures in
       let kept : masters_in held (bench_of c.combined_token-token.new.lease) ≡ masters_in held (bench_of c.args.lease.now) = ap (λ (l : Lease). masters_in held (bench_of l)) c.combined_token-token.ensures.places in

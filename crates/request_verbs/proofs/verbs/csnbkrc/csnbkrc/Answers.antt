@@ -1,5 +1,5 @@
 use Rattle.std.proofs.Common.{[], ◌∷◌, ℕ, List, refl, subst, sym}
-use Rattle.verb_script.specs.Grammar.{csnbkrc}
+use Rattle.verb_script.specs.declared.rows.RequestName.TheVariants.{Csnbkrc}
 use Rattle.request_verbs.specs.Decided.{Settles, asked}
 use Rattle.request_verbs.specs.declared.effects.Effect.TheVariants as code
 use Rattle.request_verbs.proofs.Settling.{left_settles}
@@ -8,6 +8,6 @@ use Rattle.request_verbs.proofs.verbs.csnbkrc.csnbkrc.Goals as goal
 pub returns : goal.returns
 returns c = record {
   settles = λ role granted held rows lease.
-      subst (λ (label : List ℕ). Settles (asked csnbkrc (role ∷ c.args.label.now ∷ [])) granted held rows lease lease (code.Create label) []) (sym c.of.ensures)
+      subst (λ (label : List ℕ). Settles (asked Csnbkrc (role ∷ c.args.label.now ∷ [])) granted held rows lease lease (code.Create label) []) (sym c.of.ensures)
       (left_settles refl refl (λ s is. (refl, refl, refl)) refl (λ writes. refl) (λ through. absurd through));
 }

@@ -4,7 +4,7 @@ use Rattle.request_verbs.proofs.Delivering.{held_at}
 use Rattle.request_verbs.proofs.Settling.{settles}
 use Rattle.request_verbs.proofs.Acting.{decides}
 use Rattle.request_verbs.specs.Decided.{asked}
-use Rattle.verb_script.specs.Grammar.{csnbkrd}
+use Rattle.verb_script.specs.declared.rows.RequestName.TheVariants.{Csnbkrd}
 use Rattle.std.proofs.Common.{[], ◌∷◌}
 use Rattle.request_verbs.specs.declared.effects.Effect.TheVariants as code
 use Rattle.request_verbs.proofs.verbs.csnbkrd.csnbkrd.Goals as goal
@@ -14,7 +14,7 @@ returns c = record {
   settles = λ role label held rows lease.
       let place = c.place_in.result in
       settles refl
-      (λ shaped s is left. decides s (bench_of lease) (asked csnbkrd (role ∷ label ∷ [])) (code.Delete place) [] left refl
+      (λ shaped s is left. decides s (bench_of lease) (asked Csnbkrd (role ∷ label ∷ [])) (code.Delete place) [] left refl
       (refl, record { label = label; is = refl; placed = sym is.grants.0.0 ∙ c.place_in.ensures }, refl))
       (λ shaped. (refl, held_at rows label c.args.granted.now.first place shaped.0 c.place_in.ensures))
       (λ writes. refl) (λ through. absurd through);

@@ -5,7 +5,7 @@ use Rattle.key_tokens.specs.Denotes.{Denoted}
 use Rattle.verb_rules.specs.declared.judging.Judged.{Judged}
 use Rattle.cca_machine.specs.Keys.{key_of_token, or_no_key}
 use Rattle.script_buffers.specs.Replies.{written}
-use Rattle.verb_script.specs.Grammar.{csnbkrw}
+use Rattle.verb_script.specs.declared.rows.RequestName.TheVariants.{Csnbkrw}
 use Rattle.verb_script.specs.Values.{hex_value}
 use Rattle.request_verbs.specs.Decided.{Settles, asked}
 use Rattle.request_verbs.specs.declared.effects.Effect.TheVariants as code
@@ -20,7 +20,7 @@ returns c = record {
   settles = λ role label held rows lease keyed.
       let bench = bench_of lease in
       let place = c.place_in.result in
-      let request = asked csnbkrw (role ∷ label ∷ c.args.token.now ∷ []) in
+      let request = asked Csnbkrw (role ∷ label ∷ c.args.token.now ∷ []) in
       let effect = code.Write place (hex_value c.args.token.now) in
       subst (λ (token : List ℕ). Settles request c.args.granted.now held rows lease lease (code.Write place token) c.ok.new.self) (sym c.token_bytes.ensures)
       (subst (λ (reply : List ℕ). Settles request c.args.granted.now held rows lease lease effect reply) (sym (no_fields c.args.reply.now c.ok.new.self c.requires.empty c.ok.ensures.bytes))

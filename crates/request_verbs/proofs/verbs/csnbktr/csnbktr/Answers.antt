@@ -4,7 +4,7 @@ use Rattle.key_tokens.specs.Denotes.{ClearKey}
 use Rattle.key_transport.specs.Tokens.{external_token, transported_key}
 use Rattle.script_buffers.specs.Replies.{Hex, written}
 use Rattle.verb_rules.specs.Keys.{opened, opened_under}
-use Rattle.verb_script.specs.Grammar.{csnbktr}
+use Rattle.verb_script.specs.declared.rows.RequestName.TheVariants.{Csnbktr}
 use Rattle.verb_script.specs.Values.{hex_value}
 use Rattle.cca_machine.specs.Keys.{imported, key_in_field, key_in_text, or_no_clear}
 use Rattle.request_verbs.specs.Decided.{asked}
@@ -18,7 +18,7 @@ returns c = record {
   settles = λ role token transport1 transport2 held rows.
       let bench = bench_of c.args.lease.now in
       let bytes = hex_value token in
-      let request = asked csnbktr (role ∷ token ∷ transport1 ∷ transport2 ∷ []) in
+      let request = asked Csnbktr (role ∷ token ∷ transport1 ∷ transport2 ∷ []) in
       let source = c.external_in-source.result.now in
       let one = c.double_key_in-one.result.now in
       let two = c.double_key_in.result.now in

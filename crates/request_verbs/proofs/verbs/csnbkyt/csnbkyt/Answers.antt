@@ -2,13 +2,13 @@
 use Rattle.std.proofs.Common.{List, [], ◌∷◌, ℕ, None, codes, refl, rules}
 use Rattle.cipher_verbs.specs.CipherTexts.{test_value}
 use Rattle.script_buffers.specs.Replies.{Hex}
-use Rattle.verb_script.specs.Grammar.{csnbkyt}
+use Rattle.verb_script.specs.declared.rows.RequestName.TheVariants.{Csnbkyt}
 use Rattle.request_verbs.specs.Decided.{asked}
 use Rattle.request_verbs.proofs.KeyedVerbs.{IsKeyed}
 use Rattle.request_verbs.proofs.Settling.{keyed_settles}
 use Rattle.request_verbs.proofs.verbs.csnbkyt.csnbkyt.Goals as goal
 
-keyed : (role key : List ℕ) → IsKeyed (asked csnbkyt (role ∷ key ∷ [])) (λ k. None) (λ k. Hex (codes "value") (test_value k) ∷ [])
+keyed : (role key : List ℕ) → IsKeyed (asked Csnbkyt (role ∷ key ∷ [])) (λ k. None) (λ k. Hex (codes "value") (test_value k) ∷ [])
 keyed role key = record { undrawn = refl; has = λ s bench g is. is.0; verdict = λ s. refl; makes = λ s. refl }
 
 pub returns : goal.returns

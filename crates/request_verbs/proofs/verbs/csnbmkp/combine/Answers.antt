@@ -3,7 +3,7 @@ use Rattle.key_cells.specs.Lease.{bench_of}
 use Rattle.master_registers.specs.Actions.{after_action}
 use Rattle.master_registers.specs.declared.actions.Action.{Action}
 use Rattle.verb_script.specs.Values.{hex_value}
-use Rattle.verb_script.specs.Grammar.{csnbmkp_part}
+use Rattle.verb_script.specs.declared.rows.RequestName.TheVariants.{CsnbmkpPart}
 use Rattle.cca_machine.specs.Act.{Become}
 use Rattle.cca_machine.specs.Actions.{part_action}
 use Rattle.request_verbs.specs.Decided.{Settles, asked}
@@ -19,7 +19,7 @@ returns c = record {
       let bench = bench_of c.put_part.new.lease in
       let action = c.args.action.now in
       let key_part = hex_value c.args.part.now in
-      let request = asked csnbmkp_part (role ∷ action ∷ c.args.part.now ∷ []) in
+      let request = asked CsnbmkpPart (role ∷ action ∷ c.args.part.now ∷ []) in
       let part : bench.part ≡ key_part = ap (λ l. (bench_of l).part) c.put_part.ensures in
       subst (λ (a : Action). Settles request granted held rows c.args.lease.now c.put_part.new.lease (code.Change a) []) (sym c.part_action_of.ensures)
       (left_settles (part_within c.args.lease.now c.put_part.new.lease key_part c.put_part.ensures) refl

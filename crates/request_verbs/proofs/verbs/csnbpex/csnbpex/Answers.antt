@@ -6,7 +6,7 @@ use Rattle.key_tokens.specs.Denotes.{ClearKey}
 use Rattle.key_transport.specs.Tokens.{as_current, closed_key}
 use Rattle.master_registers.specs.Loaded.{masters_in}
 use Rattle.verb_rules.specs.Keys.{opened}
-use Rattle.verb_script.specs.Grammar.{csnbpex}
+use Rattle.verb_script.specs.declared.rows.RequestName.TheVariants.{Csnbpex}
 use Rattle.verb_script.specs.Named.{label_named}
 use Rattle.cca_machine.specs.Act.{delivered}
 use Rattle.cca_machine.specs.Keys.{key_in_text, key_of_request}
@@ -23,7 +23,7 @@ returns c = record {
       let held = c.args.held.now in
       let bench = bench_of c.args.lease.now in
       let named = label_named c.args.to.now in
-      let request = asked csnbpex (role ∷ key ∷ c.args.to.now ∷ []) in
+      let request = asked Csnbpex (role ∷ key ∷ c.args.to.now ∷ []) in
       let clear = opened bench c.key_in.result.now in
       let kept : masters_in held (bench_of c.prohibit_export-token.new.lease) ≡ masters_in held (bench_of c.args.lease.now) = ap (λ (l : Lease). masters_in held (bench_of l)) c.prohibit_export-token.ensures.stays in
       delivery_settles (key_within c.args.lease.now c.prohibit_export-token.new.lease c.prohibit_export-token.ensures.stays) named c.args.granted.now.second.place c.prohibit_export-token.result refl
