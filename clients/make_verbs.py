@@ -297,6 +297,7 @@ def async_methods(verbs):
         if not isinstance(method, ast.FunctionDef) or method.name.startswith("_") or method.name in ("ask", "as_role"):
             continue
         given = [it.arg for it in method.args.args[1:]] + [f"{it.arg}={it.arg}" for it in method.args.kwonlyargs]
+        given += [f"**{method.args.kwarg.arg}"] if method.args.kwarg else []
         told = (ast.get_docstring(method) or "").split("\n")[0]
         yield ""
         yield f"    async def {method.name}({ast.unparse(method.args)}) -> {ast.unparse(method.returns)}:"

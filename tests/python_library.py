@@ -150,6 +150,18 @@ class Using(Library):
         for label, key in self.module.keys.items():
             self.assertEqual(self.cca.key_test(Label(label)).hex(), value(key.clear), label)
 
+    def test_request(self):
+        """A request by its row: the fields of the reply as they stand in it."""
+        found = self.cca.request("csnbkyt", key="L:TEST.DATA")
+        self.assertEqual(found, {"value": value(SINGLE)})
+        self.assertFalse(found.is_old)
+        for fields in ({}, {"key": "L:TEST.DATA", "text": "00"}, {"key": "L:TEST.DATA", "role": "DEFAULT"}):
+            with self.assertRaises(TypeError):
+                self.cca.request("csnbkyt", **fields)
+        with self.assertRaises(Refused) as refused:
+            self.cca.request("csnbkrr", label="NO.SUCH")
+        self.assertEqual((refused.exception.rule, refused.exception.field), (7, "label"))
+
     def test_random(self):
         self.assertNotEqual(self.cca.random(), self.cca.random())
         for form, odd in (("ODD", 1), ("EVEN", 0)):

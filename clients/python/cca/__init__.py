@@ -9,7 +9,7 @@ from .asynchronous import AsyncCoprocessor, AsyncSocket
 from .client import Ended
 from .coprocessor import Coprocessor, Socket
 from .lines import Unexpected
-from .values import Data, Done, Generated, Key, Label, Parsed, Refused, Token, Verified
+from .values import Data, Done, Fields, Generated, Key, Label, Parsed, Refused, Token, Verified
 from .verbs import Verbs
 
 __version__ = "1.0"
@@ -20,6 +20,7 @@ __all__ = [
     "Data",
     "Done",
     "Ended",
+    "Fields",
     "Generated",
     "Key",
     "Label",

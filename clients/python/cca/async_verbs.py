@@ -2,7 +2,7 @@
 from collections.abc import Callable, Iterable
 from typing import Any, Literal, TypeVar
 
-from .values import Data, Done, Generated, Key, Label, Parsed, State, Token, Verified
+from .values import Data, Done, Fields, Generated, Key, Label, Parsed, State, Token, Verified
 from .verbs import MacRule, Pad, Verbs
 
 T = TypeVar("T")
@@ -16,6 +16,10 @@ class AsyncVerbs:
     async def run(self, call: Callable[..., T], *given: Any, **named: Any) -> T:
         """Waits for a call, which is made in a thread of its own."""
         raise NotImplementedError
+
+    async def request(self, row: str, **values: str) -> Fields:
+        """Any request, by the name of its row in verbs.json and the texts of its fields: request("csnbkyt", key="L:PAY")."""
+        return await self.run(self.verbs.request, row, **values)
 
     async def encipher(self, key: Key, data: bytes, iv: bytes, pad: Pad='NONE') -> Data:
         """Encipher: the ciphertext, in CBC mode."""

@@ -32,6 +32,19 @@ class Data(bytes):
         return it
 
 
+class Fields(dict[str, str]):
+    """The fields of a reply by their names, as the reply has them.
+
+    is_old: as that of Data.
+    """
+
+    is_old: bool
+
+    def __init__(self, fields: dict[str, str], is_old: bool = False):
+        super().__init__(fields)
+        self.is_old = is_old
+
+
 class Token(Data):
     """A key token: 64 bytes, an enciphered key with its control vector."""
 

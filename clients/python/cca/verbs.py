@@ -3,8 +3,8 @@ from collections.abc import Iterable, Iterator
 from typing import Literal, TypeAlias
 
 from .lines import Unexpected, fields_of, request_line
-from .rows import LONGEST_SEGMENT, LONGEST_TEXT, POINTS
-from .values import Data, Done, Generated, Key, Label, Parsed, State, Token, Verified
+from .rows import LONGEST_SEGMENT, LONGEST_TEXT, POINTS, ROWS
+from .values import Data, Done, Fields, Generated, Key, Label, Parsed, State, Token, Verified
 
 Pad: TypeAlias = Literal["NONE", "X9.23"]
 MacRule: TypeAlias = Literal["X9.9-1", "X9.19OPT"]
@@ -30,6 +30,13 @@ class Verbs:
         if self.role is None:
             raise ValueError("the front names the role: connect to the socket of the other one")
         return InRole(self, role)
+
+    def request(self, row: str, **values: str) -> Fields:
+        """Any request, by the name of its row in verbs.json and the texts of its fields: request("csnbkyt", key="L:PAY")."""
+        wanted = {field.name for field in ROWS[row].fields if len(field.words) != 1} - {"role"}
+        if set(values) != wanted:
+            raise TypeError(f"{row} has the fields {', '.join(sorted(wanted)) or 'none'}, and not {', '.join(sorted(values)) or 'none'}")
+        return Fields(*self._do(row, **values))
 
     # ---- using keys
 
