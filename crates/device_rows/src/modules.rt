@@ -233,46 +233,41 @@ fn bodies_of_roles(rt: HostRuntime) {
     }
 }
 
-/// The points, of which each has the value of one bit, from the lowest one on.
-const POINTS: [AccessPoints; 29] = [
-    AccessPoints::ENC,
-    AccessPoints::DEC,
-    AccessPoints::MGN,
-    AccessPoints::MVR,
-    AccessPoints::KYT,
-    AccessPoints::CKI,
-    AccessPoints::RNG,
-    AccessPoints::KGN_OP,
-    AccessPoints::KGN_PAIR,
-    AccessPoints::KGN_OUT,
-    AccessPoints::KIM,
-    AccessPoints::KEX,
-    AccessPoints::PEX,
-    AccessPoints::KTC_CURRENT,
-    AccessPoints::KTC_NEW,
-    AccessPoints::KRC,
-    AccessPoints::KRW,
-    AccessPoints::KRR,
-    AccessPoints::KRD,
-    AccessPoints::KRL,
-    AccessPoints::MK_FIRST,
-    AccessPoints::MK_COMBINE,
-    AccessPoints::MK_CLEAR,
-    AccessPoints::MK_SET,
-    AccessPoints::ROLES,
-    AccessPoints::REENC,
-    AccessPoints::KPI_FIRST,
-    AccessPoints::KPI_COMBINE,
-    AccessPoints::KTR,
-];
-
 /// Each point has its value, and no other value is one.
 #[test]
 fn points(rt: HostRuntime) {
-    let mut bits = 1;
-    for points in POINTS {
+    for (points, bits) in [
+        (AccessPoints::ENC, 0x0000_0001),
+        (AccessPoints::DEC, 0x0000_0002),
+        (AccessPoints::MGN, 0x0000_0004),
+        (AccessPoints::MVR, 0x0000_0008),
+        (AccessPoints::KYT, 0x0000_0010),
+        (AccessPoints::CKI, 0x0000_0020),
+        (AccessPoints::RNG, 0x0000_0040),
+        (AccessPoints::KGN_OP, 0x0000_0080),
+        (AccessPoints::KGN_PAIR, 0x0000_0100),
+        (AccessPoints::KGN_OUT, 0x0000_0200),
+        (AccessPoints::KIM, 0x0000_0400),
+        (AccessPoints::KEX, 0x0000_0800),
+        (AccessPoints::PEX, 0x0000_1000),
+        (AccessPoints::KTC_CURRENT, 0x0000_2000),
+        (AccessPoints::KTC_NEW, 0x0000_4000),
+        (AccessPoints::KRC, 0x0000_8000),
+        (AccessPoints::KRW, 0x0001_0000),
+        (AccessPoints::KRR, 0x0002_0000),
+        (AccessPoints::KRD, 0x0004_0000),
+        (AccessPoints::KRL, 0x0008_0000),
+        (AccessPoints::MK_FIRST, 0x0010_0000),
+        (AccessPoints::MK_COMBINE, 0x0020_0000),
+        (AccessPoints::MK_CLEAR, 0x0040_0000),
+        (AccessPoints::MK_SET, 0x0080_0000),
+        (AccessPoints::ROLES, 0x0100_0000),
+        (AccessPoints::REENC, 0x0200_0000),
+        (AccessPoints::KPI_FIRST, 0x0400_0000),
+        (AccessPoints::KPI_COMBINE, 0x0800_0000),
+        (AccessPoints::KTR, 0x1000_0000),
+    ] {
         assert!(rt; points.bits() == bits, "{bits:x}");
-        bits = bits.wrapping_mul(2);
     }
     assert!(rt; AccessPoints::all().bits() == 0x1fff_ffff);
     for bits in [0x2000_0000, 0x2000_0001, 0x8000_0000, 0xffff_ffff] {
