@@ -90,7 +90,7 @@ EDITED = {
     ),
     "machines": (
         [sys.executable, "-m", "unittest", "tests.machines"],
-        [Edit("crates/cca_machine/specs/Act.antt", r"effect s drawn csnbkyt r = Show ", "effect s drawn csnbkyt r =  Show ")],
+        [Edit("crates/cca_machine/specs/Act.antt", r"effect s drawn Csnbkyt r = Show ", "effect s drawn Csnbkyt r =  Show ")],
         "stands 0 times",
     ),
     "package": (
