@@ -3,8 +3,8 @@ ghost use Rattle.std.specs.Prelude.{◌≡◌, []};
 ghost use Rattle.cca_requests.specs.Changes.{IsAnswer, IsShortlyNamed, made_reply, made_stop};
 
 use crate::endings::{end, refuse};
+use granted_operands::Refusal;
 use line_service::Stop;
-use request_rules::Refusal;
 use verb_script::ReplyBuffer;
 
 /// Why a change isn't made.

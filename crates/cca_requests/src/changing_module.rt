@@ -16,13 +16,13 @@ ghost use Rattle.request_rules.specs.Standing.{HasLoaded, AtModule};
 use crate::changes::{Unmade, answer};
 use crate::endings::{end, refuse};
 use cca_roles::{AccessPoints, RoleFault, RoleName, Roles};
+use granted_operands::Refusal;
 use key_cells::Lease;
 use key_records::Records;
 use line_service::Stop;
 use master_registers::{
     Action, NewState, RegisterFault, Registers, clear, first, last, middle, set,
 };
-use request_rules::Refusal;
 use slot_disk::Disk;
 use verb_rules::Rule;
 use verb_script::ReplyBuffer;

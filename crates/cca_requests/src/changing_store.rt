@@ -23,12 +23,13 @@ ghost use Rattle.request_verbs.specs.Deciding.{IsReady, IsHeldAt, IsWritten, IsD
 
 use crate::changes::{Unmade, answer};
 use crate::endings::{end, finish};
+use granted_operands::Refusal;
 use key_cells::Lease;
 use key_records::{Label, Place, RecordFault, Records};
 use line_service::Stop;
 use master_registers::Registers;
 use reencipher::{StoreAction, ahead, drop_ahead, reencipher};
-use request_rules::{Refusal, stop_of};
+use request_rules::stop_of;
 use slot_disk::Disk;
 use verb_rules::Rule;
 use verb_script::ReplyBuffer;

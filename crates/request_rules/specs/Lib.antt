@@ -1,7 +1,5 @@
 pub mod ByRecords
-pub mod FieldWords
 pub mod Judging
 pub mod Needing
-pub mod Refusals
 pub mod Standing
 pub mod Stored

@@ -8,47 +8,25 @@ ghost use Rattle.master_registers.specs.Loaded.{Loaded};
 ghost use Rattle.master_registers.specs.Masters.{Masters};
 ghost use Rattle.verb_script.specs.Grammar.{is_hex, accepts, key_text};
 ghost use Rattle.verb_script.specs.Named.{label_named};
-ghost use Rattle.verb_script.specs.Values.{hex_value};
 ghost use Rattle.cca_machine.specs.Operands.{is_named_by, names_label, listed};
 ghost use Rattle.cca_machine.specs.State.{State};
 ghost use Rattle.request_rules.specs.Standing.{AtStore};
-ghost use Rattle.request_rules.specs.Judging.{IsText, AreFit, answered, seen_operands, IsAsked, IsShaped, IsKeyedAnswer, IsJudged, AreShaped, AreKeyedOperands};
+ghost use Rattle.granted_operands.specs.Granted.{answered};
+ghost use Rattle.request_rules.specs.Judging.{IsText, AreFit, seen_operands, IsAsked, IsShaped, IsKeyedAnswer, IsJudged, AreShaped, AreKeyedOperands};
 ghost use Rattle.request_rules.specs.Stored.{IsAskedAsRead, AreAskedAsRead, ReadsStore};
 
 use crate::operands::{Operand, Operands};
-use crate::refusals::Refusal;
 use crate::stored::{judge_held, judge_label, judge_new_label, judge_target};
 use cca_machine::Ask;
+use granted_operands::{Grant, Granted, Refusal, token_bytes};
 use key_cells::Lease;
-use key_records::{Place, Records};
-use key_tokens::{Asked, Token, read_token};
+use key_records::Records;
+use key_tokens::{Asked, read_token};
 use line_service::Stop;
 use master_registers::Registers;
 use slot_disk::Disk;
 use verb_rules::{Judged, Need, Rule, any_key, judge_key, token_rule};
-use verb_script::{decode, named_label};
-
-/// What an operand stands for, where it breaks no rule.
-#[derive(Clone, Copy)]
-pub struct Grant {
-    /// The key token, where one is asked for by its own rules.
-    pub token: Option<Token>,
-    /// The key, where one is asked for.
-    pub key: Option<Judged>,
-    /// The place of the label, where one that is held is asked for.
-    pub place: Option<Place>,
-}
-
-/// What the operands stand for.
-#[derive(Clone, Copy)]
-pub struct Granted {
-    /// The first one.
-    pub first: Grant,
-    /// The second one.
-    pub second: Grant,
-    /// The third one.
-    pub third: Grant,
-}
+use verb_script::named_label;
 
 /// The first rule that the operands break, with the name of the one that breaks it, or what they
 /// stand for.
@@ -58,58 +36,6 @@ pub enum Verdict {
     Refused(Refusal),
     /// What each operand stands for.
     Granted(Granted),
-}
-
-/// The bytes of a key token that 128 hexadecimal digits spell.
-pub fn token_bytes(digits: &[u8]) -> [u8; 64]
-    requires { IsTrue (is_hex 128 digits.now) }
-    ensures { result ≡ hex_value digits.now }
-{
-    let mut bytes = [0; 64];
-    decode(digits, &mut bytes);
-    bytes
-}
-
-impl Grant {
-    pub(crate) fn nothing() -> Grant
-        ensures { result ≡ record { token = None; key = None; place = None } }
-    {
-        Grant {
-            token: None,
-            key: None,
-            place: None,
-        }
-    }
-
-    fn of_token(token: Token) -> Grant
-        ensures { result ≡ record { token = Some token; key = None; place = None } }
-    {
-        Grant {
-            token: Some(token),
-            key: None,
-            place: None,
-        }
-    }
-
-    pub(crate) fn of_key(key: Judged) -> Grant
-        ensures { result ≡ record { token = None; key = Some key; place = None } }
-    {
-        Grant {
-            token: None,
-            key: Some(key),
-            place: None,
-        }
-    }
-
-    pub(crate) fn of_place(place: Place) -> Grant
-        ensures { result ≡ record { token = None; key = None; place = Some place } }
-    {
-        Grant {
-            token: None,
-            key: None,
-            place: Some(place),
-        }
-    }
 }
 
 /// What is answered of a key that was judged.

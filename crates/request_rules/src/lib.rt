@@ -5,24 +5,15 @@
 //! stand for. What the words of fields choose is a function of its own, since rules ask it as verbs do.
 #![tactic(auto)]
 
-mod choices;
 mod general;
-mod grants;
 mod judging;
 mod needed;
 mod operands;
-mod refusals;
 mod role;
 mod stored;
 
-pub use choices::{
-    is_last_part, key_length_of, mac_length_of, mac_rule_of, out_form_of, pad_of, pair_form_of,
-    part_action_of, random_form_of, target_of,
-};
 pub use general::general_rule;
-pub use grants::{double_key_in, external_in, is_old, key_in, place_in, token_in};
-pub use judging::{Grant, Granted, Verdict, judge, token_bytes};
+pub use judging::{Verdict, judge};
 pub use operands::{Operand, Operands, operands_of};
-pub use refusals::Refusal;
 pub use role::role_rule;
 pub use stored::stop_of;

@@ -5,17 +5,18 @@ ghost use Rattle.verb_script.specs.Parsed.{seen};
 ghost use Rattle.cca_machine.specs.Actions.{part_action};
 ghost use Rattle.cca_machine.specs.Choices.{target_named};
 ghost use Rattle.cca_machine.specs.Points.{action_points, target_points, change_points};
-ghost use Rattle.request_rules.specs.FieldWords.{IsPartAction};
-ghost use Rattle.request_rules.specs.Judging.{IsAccepted, seen_operands};
+ghost use Rattle.granted_operands.specs.FieldWords.{IsPartAction};
+ghost use Rattle.granted_operands.specs.Granted.{IsAccepted};
+ghost use Rattle.request_rules.specs.Judging.{seen_operands};
 ghost use Rattle.request_rules.specs.Needing.{IsNeeded};
 
-use crate::choices::{part_action_of, target_of};
 use crate::operands::{
     FIVE_CLASSES, Operands, cipher_key, code_key, csnbkex, csnbkgn_out, csnbkgn_pair, csnbkim,
     csnbkpi_middle, csnbkrw, csnbktr, csnbpex, key_operand, no_operands, one_operand,
 };
 use cca_machine::Ask;
 use cca_roles::AccessPoints;
+use granted_operands::{part_action_of, target_of};
 use key_transport::Target;
 use master_registers::Action;
 use verb_rules::{Usage, any_key};

@@ -1,10 +1,10 @@
 //! What a verb leaves to be done.
 
 use cca_roles::{AccessPoints, RoleName};
+use granted_operands::Refusal;
 use key_records::{Label, Place};
 use master_registers::Action;
 use reencipher::StoreAction;
-use request_rules::Refusal;
 
 /// What a verb leaves to be done.
 #[derive(Clone, Copy)]

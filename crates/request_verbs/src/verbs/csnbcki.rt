@@ -14,9 +14,9 @@ use crate::effects::Effect;
 use crate::verbs::delivering::deliver;
 use crate::verbs::key_digits::put_key;
 use cipher_verbs::clear_key_import;
+use granted_operands::Granted;
 use key_cells::{KeyPlace, Lease};
 use master_registers::Registers;
-use request_rules::Granted;
 use verb_script::ReplyBuffer;
 
 /// Puts the clear key that the digits spell into the place of the key.

@@ -2,12 +2,12 @@
 ghost use Rattle.std.specs.Prelude.{◌≡◌, ◌∷◌, [], ℕ, List};
 ghost use Rattle.verb_script.specs.declared.rows.RequestName.TheVariants.{Csnbkex as row};
 ghost use Rattle.request_verbs.specs.Decided.{SettlesOver, asked};
-ghost use Rattle.request_rules.specs.Judging.{HasDoubleKey, HasSomeJudged};
+ghost use Rattle.granted_operands.specs.Granted.{HasDoubleKey, HasSomeJudged};
 
 use crate::effects::Effect;
+use granted_operands::{Granted, double_key_in, key_in};
 use key_cells::Lease;
 use key_transport::export;
-use request_rules::{Granted, double_key_in, key_in};
 use verb_script::ReplyBuffer;
 
 /// Shows the external token of a key under a transport key.

@@ -14,18 +14,18 @@ ghost use Rattle.cca_machine.specs.Verdict.{Refusal as Refused, first_refusal, g
 ghost use Rattle.request_verbs.specs.Decided.{SettlesDrawing, asked, source, CanDeliver};
 ghost use Rattle.request_verbs.specs.Deciding.{token2_fields, Shows};
 ghost use Rattle.request_verbs.specs.Drawing.{MakesKeys};
-ghost use Rattle.request_rules.specs.FieldWords.{IsOutForm, IsPairForm};
-ghost use Rattle.request_rules.specs.Judging.{HasDoubleKey};
-ghost use Rattle.request_rules.specs.Refusals.{HasRefused};
+ghost use Rattle.granted_operands.specs.FieldWords.{IsOutForm, IsPairForm};
+ghost use Rattle.granted_operands.specs.Granted.{HasDoubleKey};
+ghost use Rattle.granted_operands.specs.Refusals.{HasRefused};
 
 use crate::effects::Effect;
 use crate::verbs::delivering::{deliver, show_second};
 use cca_vectors::{KeyType, Length};
+use granted_operands::{Granted, Refusal, double_key_in, key_length_of, out_form_of, pair_form_of};
 use key_cells::Lease;
 use key_transport::{Form, GenerateFault, Generated, generate};
 use line_service::Stop;
 use master_registers::Registers;
-use request_rules::{Granted, Refusal, double_key_in, key_length_of, out_form_of, pair_form_of};
 use slot_disk::Entropy;
 use verb_rules::{Judged, Rule, judge_length, judge_pair};
 use verb_script::ReplyBuffer;

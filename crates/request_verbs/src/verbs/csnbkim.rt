@@ -4,14 +4,14 @@ ghost use Rattle.key_cells.specs.Lease.{bench_of};
 ghost use Rattle.key_records.specs.declared.rows.Row.{Row};
 ghost use Rattle.verb_script.specs.declared.rows.RequestName.TheVariants.{Csnbkim as row};
 ghost use Rattle.request_verbs.specs.Decided.{Settles, asked, CanDeliver};
-ghost use Rattle.request_rules.specs.Judging.{HasDoubleKey, HasJudgedExternal};
+ghost use Rattle.granted_operands.specs.Granted.{HasDoubleKey, HasJudgedExternal};
 
 use crate::effects::Effect;
 use crate::verbs::delivering::deliver;
+use granted_operands::{Granted, double_key_in, external_in};
 use key_cells::Lease;
 use key_transport::import;
 use master_registers::Registers;
-use request_rules::{Granted, double_key_in, external_in};
 use verb_script::ReplyBuffer;
 
 /// Delivers the key of an external token, under the current master key.

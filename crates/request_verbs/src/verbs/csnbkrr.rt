@@ -6,11 +6,11 @@ ghost use Rattle.key_records.specs.declared.rows.Row.{Row};
 ghost use Rattle.master_registers.specs.declared.registers.Registers.{Registers};
 ghost use Rattle.verb_script.specs.declared.rows.RequestName.TheVariants.{Csnbkrr as row};
 ghost use Rattle.request_verbs.specs.Decided.{Settles, asked};
-ghost use Rattle.request_rules.specs.Judging.{HasSomeJudged};
+ghost use Rattle.granted_operands.specs.Granted.{HasSomeJudged};
 
 use crate::effects::Effect;
+use granted_operands::{Granted, key_in};
 use key_tokens::{Kind, Token, write_token};
-use request_rules::{Granted, key_in};
 use verb_script::ReplyBuffer;
 
 /// Eight bytes are below 256: a fact that contracts use.

@@ -3,13 +3,13 @@ ghost use Rattle.std.specs.Prelude.{◌≡◌, ◌∷◌, [], ℕ, IsSome, List,
 ghost use Rattle.key_records.specs.declared.rows.Row.{Row};
 ghost use Rattle.verb_script.specs.declared.rows.RequestName.TheVariants.{Csnbktc as row};
 ghost use Rattle.request_verbs.specs.Decided.{Settles, asked};
-ghost use Rattle.request_rules.specs.Judging.{HasSomeJudged};
+ghost use Rattle.granted_operands.specs.Granted.{HasSomeJudged};
 
 use crate::effects::Effect;
+use granted_operands::{Granted, Refusal, key_in, target_of};
 use key_cells::Lease;
 use key_transport::{Target, token_change};
 use master_registers::{NewState, Registers};
-use request_rules::{Granted, Refusal, key_in, target_of};
 use verb_rules::Rule;
 use verb_script::ReplyBuffer;
 

@@ -10,8 +10,8 @@ ghost use Rattle.request_verbs.specs.Decided.{Settles, asked};
 
 use crate::effects::Effect;
 use cca_vectors::{Class, Vector};
+use granted_operands::{Granted, token_in};
 use key_tokens::{Kind, Token};
-use request_rules::{Granted, token_in};
 use verb_script::ReplyBuffer;
 
 /// Shows the kind, class, length, control vector and master key pattern of a key token.

@@ -2,12 +2,12 @@
 ghost use Rattle.std.specs.Prelude.{◌≡◌, ◌∷◌, [], ℕ, List};
 ghost use Rattle.verb_script.specs.declared.rows.RequestName.TheVariants.{Csnbktr as row};
 ghost use Rattle.request_verbs.specs.Decided.{SettlesOver, asked};
-ghost use Rattle.request_rules.specs.Judging.{HasDoubleKey, HasJudgedExternal};
+ghost use Rattle.granted_operands.specs.Granted.{HasDoubleKey, HasJudgedExternal};
 
 use crate::effects::Effect;
+use granted_operands::{Granted, double_key_in, external_in};
 use key_cells::Lease;
 use key_parts::translate;
-use request_rules::{Granted, double_key_in, external_in};
 use verb_script::ReplyBuffer;
 
 /// Shows the external token, under the second transport key, of the key of an external token under

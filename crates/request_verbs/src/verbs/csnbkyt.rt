@@ -2,12 +2,12 @@
 ghost use Rattle.std.specs.Prelude.{◌≡◌, ◌∷◌, [], ℕ, List};
 ghost use Rattle.verb_script.specs.declared.rows.RequestName.TheVariants.{Csnbkyt as row};
 ghost use Rattle.request_verbs.specs.Decided.{SettlesOver, asked};
-ghost use Rattle.request_rules.specs.Judging.{HasSomeJudged};
+ghost use Rattle.granted_operands.specs.Granted.{HasSomeJudged};
 
 use crate::effects::Effect;
 use cipher_verbs::key_test;
+use granted_operands::{Granted, key_in};
 use key_cells::Lease;
-use request_rules::{Granted, key_in};
 use verb_script::ReplyBuffer;
 
 /// Shows the first bytes of a block of zeros enciphered under the key.

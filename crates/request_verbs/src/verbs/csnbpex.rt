@@ -4,14 +4,14 @@ ghost use Rattle.key_cells.specs.Lease.{bench_of};
 ghost use Rattle.key_records.specs.declared.rows.Row.{Row};
 ghost use Rattle.verb_script.specs.declared.rows.RequestName.TheVariants.{Csnbpex as row};
 ghost use Rattle.request_verbs.specs.Decided.{Settles, asked, CanDeliver};
-ghost use Rattle.request_rules.specs.Judging.{HasSomeJudged};
+ghost use Rattle.granted_operands.specs.Granted.{HasSomeJudged};
 
 use crate::effects::Effect;
 use crate::verbs::delivering::deliver;
+use granted_operands::{Granted, key_in};
 use key_cells::Lease;
 use key_transport::prohibit_export;
 use master_registers::Registers;
-use request_rules::{Granted, key_in};
 use verb_script::ReplyBuffer;
 
 /// Delivers the key with a control vector that forbids export, under the current master key.

@@ -5,12 +5,12 @@ ghost use Rattle.key_records.specs.declared.rows.Row.{Row};
 ghost use Rattle.master_registers.specs.declared.registers.Registers.{Registers};
 ghost use Rattle.verb_script.specs.declared.rows.RequestName.TheVariants.{Csnbrng as row};
 ghost use Rattle.request_verbs.specs.Decided.{SettlesDrawing, asked, source};
-ghost use Rattle.request_rules.specs.declared.judging.Granted.{Granted};
+ghost use Rattle.granted_operands.specs.declared.granted.Granted.{Granted};
 
 use crate::effects::Effect;
 use cipher_verbs::random_number;
+use granted_operands::random_form_of;
 use line_service::Stop;
-use request_rules::random_form_of;
 use slot_disk::Entropy;
 use verb_script::ReplyBuffer;
 

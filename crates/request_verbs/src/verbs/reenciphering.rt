@@ -12,15 +12,15 @@ ghost use Rattle.reencipher.specs.Tokens.{IsReadyAhead};
 ghost use Rattle.verb_rules.specs.Rules.{rule_number};
 ghost use Rattle.verb_script.specs.declared.rows.RequestName.TheVariants.{Reencipher, ReencipherAhead, ReencipherDrop};
 ghost use Rattle.request_verbs.specs.Decided.{Settles, asked};
-ghost use Rattle.request_rules.specs.declared.judging.Granted.{Granted};
+ghost use Rattle.granted_operands.specs.declared.granted.Granted.{Granted};
 
 use crate::effects::Effect;
 use crate::verbs::old_labels::any_old;
+use granted_operands::Refusal;
 use key_cells::Lease;
 use key_records::Records;
 use master_registers::{NewState, Registers};
 use reencipher::{StoreAction, is_taken};
-use request_rules::Refusal;
 use verb_rules::Rule;
 
 /// Leaves every label to be brought under the current master key.

@@ -6,7 +6,7 @@ use Rattle.verb_script.specs.Grammar.{Request}
 use Rattle.verb_script.specs.Parsed.{seen}
 use Rattle.cca_machine.specs.Operands.{operands}
 use Rattle.cca_machine.specs.Verdict.{needs_master}
-use Rattle.request_rules.specs.Judging.{AreKeyed}
+use Rattle.granted_operands.specs.Granted.{AreKeyed}
 use Rattle.request_verbs.specs.declared.verbs.text_work.TextWork.{TextWork}
 use Rattle.request_verbs.proofs.TextWorks.{IsWorkOf, may_work}
 use Rattle.request_verbs.proofs.Settling.{handed_on, handed_on_drawing, handed_on_silent}

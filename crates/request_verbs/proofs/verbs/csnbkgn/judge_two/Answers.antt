@@ -1,4 +1,4 @@
-use Rattle.request_rules.specs.Refusals.{refusal_of}
+use Rattle.granted_operands.specs.Refusals.{refusal_of}
 use Rattle.request_verbs.proofs.Generating.{first_refused}
 use Rattle.request_verbs.proofs.verbs.csnbkgn.judge_two.Goals as goal
 

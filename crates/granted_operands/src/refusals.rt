@@ -2,7 +2,7 @@
 ghost use Rattle.std.specs.Prelude.{◌≡◌, codes};
 ghost use Rattle.verb_rules.specs.Rules.{rule_number};
 ghost use Rattle.cca_machine.specs.Verdict.{refusal};
-ghost use Rattle.request_rules.specs.Refusals.{refusal_of};
+ghost use Rattle.granted_operands.specs.Refusals.{refusal_of};
 
 use verb_rules::Rule;
 

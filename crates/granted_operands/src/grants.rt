@@ -1,9 +1,9 @@
 //! What the operands of a request stand for, by their shapes.
 ghost use Rattle.std.specs.Prelude.{◌≡◌, Some, IsSome};
 ghost use Rattle.verb_rules.specs.Keys.{HasHalves, IsDouble};
-ghost use Rattle.request_rules.specs.Judging.{HasDoubleKey, HasJudgedExternal, HasSomeJudged, IsGrantedKey, is_old_key, any_old_key};
+ghost use Rattle.granted_operands.specs.Granted.{HasDoubleKey, HasJudgedExternal, HasSomeJudged, IsGrantedKey, is_old_key, any_old_key};
 
-use crate::judging::{Grant, Granted};
+use crate::granted::{Grant, Granted};
 use key_records::Place;
 use key_tokens::{Age, Token};
 use verb_rules::Judged;

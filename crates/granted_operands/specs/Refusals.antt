@@ -2,7 +2,7 @@
 use Rattle.std.specs.Prelude.{◌≡◌, ◌<◌, length, Option, Some, None}
 use Rattle.verb_rules.specs.Rules.{rule_number}
 use Rattle.cca_machine.specs.Verdict.{Refusal, refusal}
-use Rattle.request_rules.specs.declared.refusals.Refusal.{Refusal as CodeRefusal}
+use Rattle.granted_operands.specs.declared.refusals.Refusal.{Refusal as CodeRefusal}
 
 -- the refusal as the machine has it
 abbrev pub refusal_of : CodeRefusal → Refusal

@@ -2,7 +2,7 @@
 ghost use Rattle.std.specs.Prelude.{◌≡◌, ◌≤◌};
 ghost use Rattle.cca_machine.specs.Actions.{part_action};
 ghost use Rattle.cca_machine.specs.Choices.{form_named, is_last_part, key_length_named, mac_length_named, mac_rule_named, out_form_named, pad_named, pair_form_named, target_named};
-ghost use Rattle.request_rules.specs.FieldWords.{IsOutForm, IsPairForm, IsPartAction};
+ghost use Rattle.granted_operands.specs.FieldWords.{IsOutForm, IsPairForm, IsPartAction};
 
 use cca_vectors::Length;
 use cipher_verbs::{Pad, RandomForm};

@@ -1,0 +1,3 @@
+pub mod FieldWords
+pub mod Granted
+pub mod Refusals
