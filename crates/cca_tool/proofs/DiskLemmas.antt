@@ -4,7 +4,7 @@ use Rattle.std.specs.Prelude.{◌⊎◌, ◌≤◌, ◌<◌, IsOk, IsSome}
 use Rattle.slot_disk.specs.Faults.{Rose}
 use Rattle.slot_disk.specs.Medium.{EachImage, IsSettled, Keeps, Medium, Told}
 use Rattle.slot_disk.proofs.Media.{image_now, told_map}
-use Rattle.cca_roles.specs.RolesStand.{IsFirstDamaged, IsRoleCell}
+use Rattle.cca_roles.specs.RolesStand.{IsRoleCell}
 use Rattle.cca_roles.specs.declared.faults.RoleFault.{RoleFault}
 use Rattle.cca_roles.specs.declared.faults.RoleFault.TheVariants as role_fault
 use Rattle.key_records.specs.declared.faults.RecordFault.{RecordFault}
@@ -56,6 +56,33 @@ module _ (T : Type 0) (m0 m1 : Medium) (before now : ℕ) (kept : Keeps m0 m1) (
     quiet = λ never. quiet (λ h. never (ap Err h));
   }
 
+-- ---- a fault and its stop
+
+-- the cell that a stop names
+pub err_told : {T : Type 0} (told stop other : Stop) → told ≡ stop → ◌≡◌ {A = Result T Stop} (Err told) (Err other) → stop ≡ other
+err_told told stop other is h = cc (is, h)
+
+-- the one fault of a result
+pub same_fault : {T F : Type 0} (r : Result T F) (fault other : F) → r ≡ Err fault → r ≡ Err other → fault ≡ other
+same_fault r fault other is h = cc (is, h)
+
+-- of a fault that names a damaged cell the stop names the same cell
+module _ {F : Type 0} (stop : F → Stop) (damaged : ℕ → F) (named : ℕ → Stop) (is_named : (n : ℕ) → stop (damaged n) ≡ named n) where
+  -- the stop of a lost disk is that of no other fault
+  pub at_disk : (disk : F) (Cell : ℕ → Type 0) (lost : Stop) → ((n : ℕ) → named n ≡ lost → ⊥) → (fault : F)
+      → (fault ≡ disk) ⊎ ((cell : ℕ) × Cell cell × (fault ≡ damaged cell)) → stop fault ≡ lost → fault ≡ disk
+  at_disk disk Cell lost apart fault (inl is) h = is
+  at_disk disk Cell lost apart fault (inr at) h = absurd (apart at.0 (sym (is_named at.0) ∙ (ap stop (sym at.2) ∙ h)))
+
+  -- the cell that the fault tells of is the stop's
+  pub cell_named : (T : Type 0) (P : List ℕ → ℕ → Type 0) (r : Result (Unit {0}) F) (fault : F) → r ≡ Err fault → (m : Medium)
+      → Told m (λ image. (cell : ℕ) → P image cell → r ≡ Err (damaged cell))
+      → Told m (λ image. (cell : ℕ) → P image cell → ◌≡◌ {A = Result T Stop} (Err (stop fault)) (Err (named cell)))
+  cell_named T P r fault is m exact =
+      told_map m _ _ exact (λ c each cell first.
+      let same : fault ≡ damaged cell = same_fault r fault (damaged cell) is (each cell first) in
+      ap Err (ap stop same ∙ is_named cell))
+
 -- ---- the registers
 
 pub of_load : (fault : LoadFault) → IsModuleStop (load_stop fault)
@@ -93,27 +120,14 @@ pub of_role : (fault : RoleFault) → IsRoleFault fault → IsModuleStop (role_s
 of_role fault (inl is) = subst (λ (f : RoleFault). IsModuleStop (role_stop f)) (sym is) tt
 of_role fault (inr damaged) = subst (λ (f : RoleFault). IsModuleStop (role_stop f)) (sym damaged.2) damaged.1.1
 
-pub at_role : (fault : RoleFault) → IsRoleFault fault → role_stop fault ≡ ModuleFault → fault ≡ role_fault.DiskFault
-at_role fault (inl is) h = is
-at_role fault (inr damaged) h = absurd (apart damaged.0 (ap role_stop (sym damaged.2) ∙ h))
-  where
-    apart : (cell : ℕ) → Damaged Module cell ≡ ModuleFault → ⊥
-    apart cell is = cc is
-
 pub role_cell : (fault : RoleFault) (cell : ℕ) → role_stop fault ≡ Damaged Module cell → fault ≡ role_fault.Damaged cell
 role_cell role_fault.DiskFault cell h = absurd (cc h)
 role_cell (role_fault.Damaged n) cell h = let same : n ≡ cell = cc h in ap role_fault.Damaged same
 role_cell role_fault.TableFull cell h = absurd (cc h)
 role_cell role_fault.Unknown cell h = absurd (cc h)
 
--- the cell that a fault tells of, as its stop names it
-pub role_named : (T : Type 0) (r : Result (Unit {0}) RoleFault) (fault : RoleFault) → r ≡ Err fault → (m : Medium)
-    → Told m (λ image. (cell : ℕ) → IsFirstDamaged image cell → r ≡ Err (role_fault.Damaged cell))
-    → Told m (λ image. (cell : ℕ) → IsFirstDamaged image cell → ◌≡◌ {A = Result T Stop} (Err (role_stop fault)) (Err (Damaged Module cell)))
-role_named T r fault is m exact =
-    told_map m _ _ exact (λ c each cell first.
-    let same : fault ≡ role_fault.Damaged cell = cc (is, each cell first) in
-    ap (λ (f : RoleFault). Err (role_stop f)) same)
+pub at_role : (fault : RoleFault) → IsRoleFault fault → role_stop fault ≡ ModuleFault → fault ≡ role_fault.DiskFault
+at_role = at_disk role_stop role_fault.Damaged (λ n. Damaged Module n) (λ n. refl) role_fault.DiskFault IsRoleCell ModuleFault (λ n is. cc is)
 
 -- ---- the records
 
@@ -129,31 +143,10 @@ record_kind fault (inl is) = subst (λ (f : RecordFault). IsStoreStop (read_stop
 record_kind fault (inr damaged) = subst (λ (f : RecordFault). IsStoreStop (read_stop f)) (sym damaged.2) damaged.1
 
 pub at_record : (fault : RecordFault) → IsRecordFault fault → read_stop fault ≡ StoreFault → fault ≡ record_fault.DiskFault
-at_record fault (inl is) h = is
-at_record fault (inr damaged) h = absurd (apart damaged.0 (ap read_stop (sym damaged.2) ∙ h))
-  where
-    apart : (cell : ℕ) → Damaged Store cell ≡ StoreFault → ⊥
-    apart cell is = cc is
+at_record = at_disk read_stop record_fault.Damaged (λ n. Damaged Store n) (λ n. refl) record_fault.DiskFault (λ cell. cell < 1024) StoreFault (λ n is. cc is)
 
 pub record_cell : (fault : RecordFault) (cell : ℕ) → read_stop fault ≡ Damaged Store cell → fault ≡ record_fault.Damaged cell
 record_cell record_fault.DiskFault cell h = absurd (cc h)
 record_cell (record_fault.Damaged n) cell h = let same : n ≡ cell = cc h in ap record_fault.Damaged same
 record_cell record_fault.Full cell h = absurd (cc h)
 record_cell record_fault.Exists cell h = absurd (cc h)
-
--- the cell that a fault tells of, as its stop names it
-pub record_named : (P : List ℕ → ℕ → Type 0) (r : Result (Unit {0}) RecordFault) (fault : RecordFault) → r ≡ Err fault → (m : Medium)
-    → Told m (λ image. (cell : ℕ) → P image cell → r ≡ Err (record_fault.Damaged cell))
-    → Told m (λ image. (cell : ℕ) → P image cell → ◌≡◌ {A = Result (Unit {0}) Stop} (Err (read_stop fault)) (Err (Damaged Store cell)))
-record_named P r fault is m exact =
-    told_map m _ _ exact (λ c each cell first.
-    let same : fault ≡ record_fault.Damaged cell = cc (is, each cell first) in
-    ap (λ (f : RecordFault). Err (read_stop f)) same)
-
--- the cell that a stop names
-pub err_told : {T : Type 0} (told stop other : Stop) → told ≡ stop → ◌≡◌ {A = Result T Stop} (Err told) (Err other) → stop ≡ other
-err_told told stop other is h = cc (is, h)
-
--- the one fault of a result
-pub same_fault : {T F : Type 0} (r : Result T F) (fault other : F) → r ≡ Err fault → r ≡ Err other → fault ≡ other
-same_fault r fault other is h = cc (is, h)

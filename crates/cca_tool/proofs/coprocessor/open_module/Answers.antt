@@ -8,13 +8,14 @@ use Rattle.master_registers.specs.RegisterBody.{StandsForMasters}
 use Rattle.master_registers.specs.Loaded.{masters_in}
 use Rattle.master_registers.specs.declared.faults.LoadFault.TheVariants as load_fault
 use Rattle.master_registers.specs.declared.registers.Registers.{Registers}
+use Rattle.cca_roles.specs.RolesStand.{IsFirstDamaged}
 use Rattle.cca_roles.specs.declared.faults.RoleFault.TheVariants as role_fault
 use Rattle.line_service.specs.declared.stops.Device.TheVariants.{Module}
 use Rattle.line_service.specs.declared.stops.Stop.{Stop}
 use Rattle.line_service.specs.declared.stops.Stop.TheVariants.{Damaged, ModuleFault}
 use Rattle.cca_tool.specs.Coprocessor.{IsBrokenModule, IsModuleStop}
 use Rattle.cca_tool.specs.Stops.{load_stop, role_stop}
-use Rattle.cca_tool.proofs.DiskLemmas.{Left, at_load, at_role, err_told, left_open, left_shut, load_broken, load_judged, of_load, of_role, role_cell, role_named, same_fault, settled_keeps}
+use Rattle.cca_tool.proofs.DiskLemmas.{Left, at_load, at_role, cell_named, err_told, left_open, left_shut, load_broken, load_judged, of_load, of_role, role_cell, same_fault, settled_keeps}
 use Rattle.cca_tool.proofs.OpeningLemmas.{stands_unbroken, broken_role, judged_role}
 use Rattle.cca_tool.proofs.coprocessor.open_module.Goals as goal
 
@@ -69,7 +70,7 @@ returns-in-Err-open_roles-clause-judged g c = λ still.
     subst (λ (s : Stop). Told m0 (λ image. (cell : ℕ) → IsBrokenModule cell image → ◌≡◌ {A = Result Registers Stop} (Err s) (Err (Damaged Module cell)))) (sym c.stop_of_roles.ensures)
     (judged_role m0 m1 (masters_in c.in-Ok-load.held (bench_of c.load.new.lease)) (λ cell. ◌≡◌ {A = Result Registers Stop} (Err (role_stop here.fault)) (Err (Damaged Module cell)))
     (c.load.ensures.keeps.content ∙ c.settle.ensures.content) c.in-Ok-load.ensures.stands
-    (role_named Registers c.open_roles.result here.fault here.is m1
+    (cell_named role_stop role_fault.Damaged (λ n. Damaged Module n) (λ n. refl) Registers (λ image n. IsFirstDamaged image n) c.open_roles.result here.fault here.is m1
     (c.open_roles.ensures.exact (λ rose. still (rose_wider _ _ _ _ (omega (arith, c.settle.ensures.cause.later, c.load.ensures.cause.later)) c.open_roles.ensures.cause.later (omega arith) rose)))))
 
 pub returns-in-Err-open_roles-clause-kept : goal.returns-in-Err-open_roles-clause-kept

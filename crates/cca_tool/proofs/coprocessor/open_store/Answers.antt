@@ -13,7 +13,7 @@ use Rattle.line_service.specs.declared.stops.Stop.{Stop}
 use Rattle.line_service.specs.declared.stops.Stop.TheVariants.{Damaged, StoreFault}
 use Rattle.request_rules.specs.Judging.{IsStoreStop}
 use Rattle.request_rules.specs.Stored.{read_stop}
-use Rattle.cca_tool.proofs.DiskLemmas.{Left, at_record, err_told, left_open, left_shut, of_record, record_cell, record_kind, record_named, same_fault, settled_keeps}
+use Rattle.cca_tool.proofs.DiskLemmas.{Left, at_record, cell_named, err_told, left_open, left_shut, of_record, record_cell, record_kind, same_fault, settled_keeps}
 use Rattle.cca_tool.proofs.OpeningLemmas.{told_earlier_as, kept_undamaged}
 use Rattle.cca_tool.proofs.coprocessor.open_store.Goals as goal
 
@@ -62,7 +62,7 @@ returns-in-Err-open_records-clause-judged g c = λ still.
     let here = c.in-Err-open_records in
     subst (λ (s : Stop). Told d0 (λ image. (cell : ℕ) → IsFirstDamaged keys image cell → ◌≡◌ {A = Result (Unit {0}) Stop} (Err s) (Err (Damaged Store cell)))) (sym c.stop_of.ensures)
     (told_earlier_as d0 d1 _ _ c.settle.ensures.content (λ image each. each)
-    (record_named (λ image n. IsFirstDamaged keys image n) c.open_records.result here.fault here.is d1
+    (cell_named read_stop record_fault.Damaged (λ n. Damaged Store n) (λ n. refl) (Unit {0}) (λ image n. IsFirstDamaged keys image n) c.open_records.result here.fault here.is d1
     (c.open_records.ensures.exact (λ rose. still (rose_wider _ _ _ _ c.settle.ensures.cause.later c.open_records.ensures.cause.later (omega arith) rose)))))
 
 pub returns-in-Err-open_records-clause-kept : goal.returns-in-Err-open_records-clause-kept
