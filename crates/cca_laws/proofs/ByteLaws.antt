@@ -32,11 +32,11 @@ use Rattle.cipher_verbs.specs.declared.padding.Pad.TheVariants as padding
 use Rattle.cipher_verbs.specs.declared.random.RandomForm.{RandomForm}
 use Rattle.cipher_verbs.specs.declared.random.RandomForm.TheVariants.{Random, Odd, Even}
 use Rattle.verb_rules.specs.Parity.{odd_byte}
-use Rattle.des_core.specs.Bits.{pieces}
-use Rattle.des_core.specs.Modes.{blocks, cbc, cbc_mac, e, fill, is_padded, joined, last_block, mac_x99, pad_count, unpad, uncbc, une, zero_block}
-use Rattle.des_core.specs.Texts.{cbc_text, uncbc_text}
-use Rattle.des_core.specs.TripleDes.{deciphered, ded, ede, enciphered}
-use Rattle.des_core.proofs.ValueLemmas.{bytes-deciphered, bytes-ded, bytes-ede, bytes-enciphered}
+use Rattle.des_blocks.specs.Bits.{pieces}
+use Rattle.des_blocks.specs.Modes.{blocks, cbc, cbc_mac, e, fill, is_padded, joined, last_block, mac_x99, pad_count, unpad, uncbc, une, zero_block}
+use Rattle.des_blocks.specs.Texts.{cbc_text, uncbc_text}
+use Rattle.des_blocks.specs.TripleDes.{deciphered, ded, ede, enciphered}
+use Rattle.des_blocks.proofs.ValueLemmas.{bytes-deciphered, bytes-ded, bytes-ede, bytes-enciphered}
 use Rattle.key_tokens.specs.Denotes.{ClearKey, Denoted, MasterKey, MasterKeys, clear_of, denoted, denoted_or, denoted_under, is_token}
 use Rattle.key_tokens.specs.Layout.{Place, contents, layout, made}
 use Rattle.key_tokens.specs.Kinds.{kind_byte}

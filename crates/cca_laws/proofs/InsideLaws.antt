@@ -6,7 +6,7 @@ use Rattle.cca_vectors.specs.Checks.{Check, check, first_failing}
 use Rattle.cca_vectors.proofs.Judging.{passed_over, stopped_in}
 use Rattle.cipher_verbs.specs.CipherTexts.{deciphered_text, enciphered_text, test_value}
 use Rattle.cipher_verbs.specs.declared.padding.Pad.TheVariants as padding
-use Rattle.des_core.specs.Modes.{zero_block}
+use Rattle.des_blocks.specs.Modes.{zero_block}
 use Rattle.key_tokens.specs.Denotes.{ClearKey, Denoted}
 use Rattle.key_tokens.specs.Fields.{pattern_of_token, token_of}
 use Rattle.key_tokens.specs.Kinds.{kind_at}

@@ -12,7 +12,7 @@ use Rattle.cca_vectors.specs.declared.key_usage.Usage.TheVariants as use_of
 use Rattle.cipher_verbs.specs.CipherTexts.{deciphered_text, enciphered_text, test_value}
 use Rattle.cipher_verbs.specs.Imported.{imported_key}
 use Rattle.cipher_verbs.specs.declared.padding.Pad.{Pad}
-use Rattle.des_core.specs.Modes.{zero_block}
+use Rattle.des_blocks.specs.Modes.{zero_block}
 use Rattle.key_parts.specs.Parts.{combined_key, first_key}
 use Rattle.key_tokens.specs.Denotes.{ClearKey, Denoted, denoted_under}
 use Rattle.key_tokens.specs.Fields.{vector_bytes_of}

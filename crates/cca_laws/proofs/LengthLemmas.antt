@@ -17,10 +17,10 @@ use Rattle.cca_vectors.specs.Vectors.{IsValid, left_of, length_of, right_of}
 use Rattle.cca_vectors.specs.declared.key_length.Length.{Length}
 use Rattle.cca_vectors.specs.declared.key_type.KeyType.{KeyType}
 use Rattle.cca_vectors.proofs.DefaultLemmas.{default_for_valid}
-use Rattle.des_core.specs.Modes.{added, blocks, cbc, e, joined, last_block, pad, uncbc, une, unpad, is_padded, pad_count}
-use Rattle.des_core.specs.Texts.{cbc_text, uncbc_text}
-use Rattle.des_core.proofs.BitLemmas.{length-pieces}
-use Rattle.des_core.proofs.ValueLemmas.{bytes-ede, bytes-enciphered}
+use Rattle.des_blocks.specs.Modes.{added, blocks, cbc, e, joined, last_block, pad, uncbc, une, unpad, is_padded, pad_count}
+use Rattle.des_blocks.specs.Texts.{cbc_text, uncbc_text}
+use Rattle.des_blocks.proofs.BitLemmas.{length-pieces}
+use Rattle.des_blocks.proofs.ValueLemmas.{bytes-ede, bytes-enciphered}
 use Rattle.multi_encipher.specs.Bundles.{transport_bundle}
 use Rattle.multi_encipher.specs.Seals.{seal, sealed_half, variant_key}
 use Rattle.key_tokens.specs.Denotes.{ClearKey, Denoted}

@@ -3,7 +3,7 @@ use Rattle.std.proofs.Common.{◌≡◌, ℕ, Bool, true, false, not, List, [], 
 use Rattle.std.specs.Prelude.{is_none, ⊤, if◌then◌else◌}
 use Rattle.std.specs.Str.{bytes_eq}
 use Rattle.cipher_verbs.specs.declared.padding.Pad.TheVariants as padding
-use Rattle.des_core.specs.Modes.{zero_block}
+use Rattle.des_blocks.specs.Modes.{zero_block}
 use Rattle.key_parts.specs.Parts.{combined_key}
 use Rattle.text_segments.specs.Chains.{first_chain}
 use Rattle.text_segments.specs.declared.modes.Mode.TheVariants as mode

@@ -18,7 +18,7 @@ use Rattle.cca_vectors.specs.declared.key_class.Class.{Class}
 use Rattle.cca_vectors.specs.declared.key_class.Class.TheVariants.{Data, Cipher, Mac, Exporter, Importer, Other}
 use Rattle.cipher_verbs.specs.CipherTexts.{deciphered_text}
 use Rattle.cipher_verbs.specs.Imported.{data_vector}
-use Rattle.des_core.specs.Modes.{zero_block}
+use Rattle.des_blocks.specs.Modes.{zero_block}
 use Rattle.key_records.specs.Directory.{held_count}
 use Rattle.key_records.specs.Entries.{Entry, directory}
 use Rattle.key_records.specs.Labels.{IsLabel, is_label, starts_label}

@@ -25,7 +25,7 @@ use Rattle.cipher_verbs.specs.declared.padding.Pad.{Pad}
 use Rattle.cipher_verbs.specs.declared.random.RandomForm.{RandomForm}
 use Rattle.cipher_verbs.specs.declared.random.RandomForm.TheVariants.{Random, Odd, Even}
 use Rattle.verb_rules.specs.Parity.{odd_byte}
-use Rattle.des_core.specs.Modes.{e, zero_block}
+use Rattle.des_blocks.specs.Modes.{e, zero_block}
 use Rattle.key_records.specs.Directory.{held_count}
 use Rattle.key_records.specs.Entries.{Entry, directory, entry_label}
 use Rattle.key_records.specs.Labels.{is_label}

@@ -4,8 +4,8 @@ use Rattle.std.proofs.Math.Seq.{take-append_seam, get_or-append_seam, drop-appen
 use Rattle.std.specs.Prelude.{is_none, option_map}
 use Rattle.std.specs.Str.{bytes_eq}
 use Rattle.cca_vectors.specs.Checks.{check, first_failing}
-use Rattle.des_core.specs.Modes.{blocks, cbc, e, joined, zero_block}
-use Rattle.des_core.proofs.ValueLemmas.{bytes-enciphered}
+use Rattle.des_blocks.specs.Modes.{blocks, cbc, e, joined, zero_block}
+use Rattle.des_blocks.proofs.ValueLemmas.{bytes-enciphered}
 use Rattle.key_tokens.specs.Denotes.{ClearKey}
 use Rattle.script_buffers.specs.Replies.{Field, Reply, Done, Hex, Text}
 use Rattle.text_segments.specs.Chains.{chain_bytes, chain_checks, chain_of, first_chain}

@@ -45,7 +45,7 @@ use Rattle.mac_verbs.specs.Codes.{code_of, is_code}
 use Rattle.verb_rules.specs.Keys.{keys_of, token_for}
 use Rattle.verb_rules.specs.declared.lengths.MacRule.{MacRule}
 use Rattle.cipher_verbs.specs.declared.padding.Pad.{Pad}
-use Rattle.des_core.specs.Modes.{zero_block}
+use Rattle.des_blocks.specs.Modes.{zero_block}
 use Rattle.text_segments.specs.Chains.{chain_bytes, first_chain}
 use Rattle.text_segments.specs.Segments.{chain_after, last_code, last_text, segment_text}
 use Rattle.text_segments.specs.declared.chains.Chain.{Chain}

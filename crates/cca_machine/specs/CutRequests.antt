@@ -2,7 +2,7 @@
 -- they reply.
 use Rattle.std.specs.Prelude.{◌≡◌, ⊤, ℕ, Bool, true, false, List, [], ◌∷◌, ◌++◌, codes, length, map, None, Some, take}
 use Rattle.std.specs.Str.{bytes_eq}
-use Rattle.des_core.specs.Modes.{joined}
+use Rattle.des_blocks.specs.Modes.{joined}
 use Rattle.key_tokens.specs.Denotes.{ClearKey}
 use Rattle.mac_verbs.specs.Codes.{code_of}
 use Rattle.script_buffers.specs.Replies.{Field, Done, Hex, Text}

@@ -3,8 +3,8 @@
 use Rattle.std.specs.Prelude.{◌≡◌, ℕ, List, [], ◌∷◌, ◌++◌, codes, drop, replicate, take, Option, None, Some, is_none, if◌then◌else◌}
 use Rattle.std.specs.Str.{bytes_eq}
 use Rattle.cca_vectors.specs.Checks.{Check, check}
-use Rattle.des_core.specs.Modes.{e, pad, unpad, une, zero_block}
-use Rattle.des_core.specs.Texts.{cbc_text, uncbc_text}
+use Rattle.des_blocks.specs.Modes.{e, pad, unpad, une, zero_block}
+use Rattle.des_blocks.specs.Texts.{cbc_text, uncbc_text}
 use Rattle.key_cells.specs.Bench.{Text}
 use Rattle.key_cells.specs.Lease.{bench_of, holding}
 use Rattle.key_cells.specs.declared.leases.Lease.{Lease}

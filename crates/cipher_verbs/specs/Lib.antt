@@ -1,8 +1,8 @@
 pub mod CipherTexts
 pub mod Imported
 pub mod RandomBytes
-pub use Rattle.des_core.specs.Modes
-pub use Rattle.des_core.specs.Texts
+pub use Rattle.des_blocks.specs.Modes
+pub use Rattle.des_blocks.specs.Texts
 pub use Rattle.verb_rules.specs.Parity
 pub use Rattle.verb_rules.specs.Written
 pub use Rattle.key_cells.specs.Bench

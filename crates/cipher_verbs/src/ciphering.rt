@@ -1,8 +1,8 @@
 //! A text enciphered and deciphered under a key, in the place of the text.
 ghost use Rattle.std.specs.Prelude.{◌≡◌, ◌≤◌, ◌%◌, [], None, Some, OnOk, OnErr, length};
 ghost use Rattle.cca_vectors.specs.Checks.{first_failing};
-ghost use Rattle.des_core.specs.Modes.{e, une};
-ghost use Rattle.des_core.specs.Texts.{cbc_text, text_in, uncbc_text};
+ghost use Rattle.des_blocks.specs.Modes.{e, une};
+ghost use Rattle.des_blocks.specs.Texts.{cbc_text, text_in, uncbc_text};
 ghost use Rattle.key_cells.specs.Bench.{with_text};
 ghost use Rattle.key_cells.specs.Lease.{bench_of};
 ghost use Rattle.verb_rules.specs.declared.lengths.TextUse.{TextUse};

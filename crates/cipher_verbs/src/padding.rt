@@ -3,8 +3,8 @@ ghost use Rattle.std.specs.Prelude.{◌≡◌, ◌≤◌, ◌<◌, ◌+◌, ◌-
 ghost use Rattle.cca_vectors.specs.Checks.{first_failing};
 ghost use Rattle.verb_rules.specs.LengthChecks.{text_checks};
 ghost use Rattle.key_cells.specs.Lease.{bench_of, holding};
-ghost use Rattle.des_core.specs.Modes.{pad, unpad};
-ghost use Rattle.des_core.specs.Texts.{text_in};
+ghost use Rattle.des_blocks.specs.Modes.{pad, unpad};
+ghost use Rattle.des_blocks.specs.Texts.{text_in};
 ghost use Rattle.cipher_verbs.specs.CipherTexts.{cleared, enciphering, padded};
 
 use key_cells::Lease;
@@ -64,7 +64,7 @@ fn put_padding(text: &mut [u8], at: usize)
 }
 
 /// Pads the text to whole blocks.
-#[tactic(auto, unfolding(des_core::specs::Modes::pad))]
+#[tactic(auto, unfolding(des_blocks::specs::Modes::pad))]
 fn add_padding(lease: &mut Lease)
     requires { (bench_of lease.old).text.size < 4096 }
     ensures whole { (bench_of lease.new).text.size % 8 ≡ 0 }
@@ -104,7 +104,7 @@ pub fn clear_text(lease: &mut Lease)
 }
 
 /// Takes the padding off the text, or clears the text where its last byte is no count of padding.
-#[tactic(auto, unfolding(des_core::specs::Modes::unpad))]
+#[tactic(auto, unfolding(des_blocks::specs::Modes::unpad))]
 pub(crate) fn remove_padding(lease: &mut Lease) -> Result<(), Rule>
     requires blocks { BLOCK ≤ (bench_of lease.old).text.size }
     requires room { (bench_of lease.old).text.size ≤ 4096 }

@@ -5,7 +5,7 @@ ghost use Rattle.multi_encipher.specs.Bundles.{ChangesKeyAt};
 ghost use Rattle.verb_rules.specs.Keys.{HasHalves, opened};
 ghost use Rattle.cipher_verbs.specs.CipherTexts.{test_value};
 
-use des_core::ede;
+use des_blocks::ede;
 use key_cells::{KeyPlace, Lease};
 use verb_rules::{Judged, schedule_key};
 

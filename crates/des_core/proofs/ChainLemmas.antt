@@ -1,5 +1,5 @@
 -- Chaining in place: the blocks that are done and the chain over those that are left.
-use Rattle.std.proofs.Common.{◌==◌, if◌then◌else◌, ◌≡◌, ℕ, zero, suc, ◌+◌, ◌-◌, ◌*◌, ◌/◌, ◌<◌, ◌≤◌, List, [], ◌∷◌, ◌++◌, length, take, drop, get_or, bit_xor, refl, sym, ap, ◌∙◌, arith}
+use Rattle.std.proofs.Common.{◌≡◌, ℕ, zero, suc, ◌+◌, ◌-◌, ◌*◌, ◌/◌, ◌<◌, ◌≤◌, List, [], ◌∷◌, ◌++◌, length, take, drop, get_or, bit_xor, refl, sym, ap, ◌∙◌, arith}
 use Rattle.std.specs.Int.{w64, byte_at, bytes_high_first, to_be_bytes, from_be_bytes}
 use Rattle.std.proofs.lemmas.List.{append_assoc, append-nil, drop-append-le, drop_at, drop-drop, length-append, length-drop, length-map, length-take, nil_from_length, take-append-le, take_at, take-append-drop}
 use Rattle.std.proofs.lemmas.Nat.{be_bytes_8}
@@ -7,17 +7,17 @@ use Rattle.key_cells.specs.Bench.{Text, text_of, with_text, with_text_of}
 use Rattle.key_cells.specs.Lease.{bench_of, holding}
 use Rattle.key_cells.specs.declared.leases.Lease.{Lease}
 use Rattle.key_cells.specs.declared.schedules.Schedule.{Schedule}
-use Rattle.des_core.specs.Bits.{bits, byte_bits, number, pieces, to_bytes, xor}
-use Rattle.des_core.specs.Modes.{blocks, cbc, e, joined, uncbc, une}
-use Rattle.des_core.specs.Schedules.{AreOf, ded_bytes, ded_under, ede_bytes}
-use Rattle.des_core.specs.Texts.{cbc_text, put_at, uncbc_text}
-use Rattle.des_core.specs.TripleDes.{ded, deciphered, ede, enciphered}
-use Rattle.des_core.proofs.BitLemmas.{drop-add, length-pieces, length-xor}
-use Rattle.des_core.proofs.ByteLemmas.{byte_bits-to_be_bytes, small-to_be_bytes, to_bytes-byte_bits}
-use Rattle.des_core.proofs.CallLemmas.{ded-same_bytes, ede-same_bytes}
-use Rattle.des_core.proofs.LawLemmas.{length-crypt}
-use Rattle.des_core.proofs.XorLemmas.{byte-xor}
-use Rattle.des_core.proofs.ValueLemmas.{bytes-deciphered, bytes-enciphered, deciphered-enciphered, enciphered-deciphered}
+use Rattle.des_blocks.specs.Bits.{bits, byte_bits, number, pieces, to_bytes, xor}
+use Rattle.des_blocks.specs.Modes.{blocks, cbc, joined, uncbc}
+use Rattle.des_blocks.specs.Schedules.{AreOf, ded_bytes, ded_under, ede_bytes}
+use Rattle.des_blocks.specs.Texts.{put_at}
+use Rattle.des_blocks.specs.TripleDes.{ded, ede}
+use Rattle.des_blocks.proofs.BitLemmas.{drop-add, length-pieces, length-xor}
+use Rattle.des_blocks.proofs.ByteLemmas.{byte_bits-to_be_bytes, small-to_be_bytes, to_bytes-byte_bits}
+use Rattle.des_blocks.proofs.CallLemmas.{ded-same_bytes, ede-same_bytes}
+use Rattle.des_blocks.proofs.ClearKeyLemmas.{cbc-same, uncbc-same}
+use Rattle.des_blocks.proofs.LawLemmas.{length-crypt}
+use Rattle.des_blocks.proofs.XorLemmas.{byte-xor}
 
 -- ---- words and their bytes
 
@@ -160,59 +160,11 @@ text-begun n text this e = let same : n - 0 ≡ length text / 8 = omega arith in
 
 -- ---- under three keys
 
-pub cbc-same : (e d : List ℕ → List ℕ) → ((x : List ℕ) → e x ≡ d x) → (chain : List ℕ) (ps : List (List ℕ)) → cbc e chain ps ≡ cbc d chain ps
-unfolding cbc
-cbc-same e d h chain [] = refl
-cbc-same e d h chain (p ∷ ps) =
-    ap {B = List (List ℕ)} (λ x. x ∷ cbc e (e (xor p chain)) ps) (h (xor p chain))
-    ∙ ap {B = List (List ℕ)} (λ x. d (xor p chain) ∷ cbc e x ps) (h (xor p chain))
-    ∙ ap {B = List (List ℕ)} (λ xs. d (xor p chain) ∷ xs) (cbc-same e d h (d (xor p chain)) ps)
-
-pub uncbc-same : (e d : List ℕ → List ℕ) → ((x : List ℕ) → e x ≡ d x) → (chain : List ℕ) (ps : List (List ℕ)) → uncbc e chain ps ≡ uncbc d chain ps
-unfolding uncbc
-uncbc-same e d h chain [] = refl
-uncbc-same e d h chain (p ∷ ps) =
-    ap {B = List (List ℕ)} (λ x. xor x chain ∷ uncbc e p ps) (h p) ∙ ap {B = List (List ℕ)} (λ xs. xor (d p) chain ∷ xs) (uncbc-same e d h p ps)
-
 pub cbc-keys : (keys : List Schedule) (a b c start text : List ℕ) (ps : List (List ℕ)) → AreOf keys a b c → text ≡ joined (cbc (ede_bytes keys) start ps) → text ≡ joined (cbc (ede a b c) start ps)
 cbc-keys keys a b c start text ps of is = is ∙ ap joined (cbc-same (ede_bytes keys) (ede a b c) (λ x. ede-same_bytes keys a b c x of) start ps)
 
 pub uncbc-keys : (keys : List Schedule) (a b c start text : List ℕ) (ps : List (List ℕ)) → AreOf keys a b c → text ≡ joined (uncbc (ded_bytes keys) start ps) → text ≡ joined (uncbc (ded a b c) start ps)
 uncbc-keys keys a b c start text ps of is = is ∙ ap joined (uncbc-same (ded_bytes keys) (ded a b c) (λ x. ded-same_bytes keys a b c x of) start ps)
-
--- ---- under a clear key
-
-e-single : (key block : List ℕ) → length key ≡ 8 → ede key key key block ≡ e key block
-unfolding ede e
-e-single key block h =
-    enciphered-deciphered key (enciphered key block) (bytes-enciphered key block)
-    ∙ sym (ap (λ n. if n == 8 then enciphered key block else ede (take 8 key) (drop 8 key) (take 8 key) block) h)
-
-e-double : (key block : List ℕ) → length key ≡ 16 → ede (take 8 key) (drop 8 key) (take 8 key) block ≡ e key block
-unfolding e
-e-double key block h = sym (ap (λ n. if n == 8 then enciphered key block else ede (take 8 key) (drop 8 key) (take 8 key) block) h)
-
-une-single : (key block : List ℕ) → length key ≡ 8 → ded key key key block ≡ une key block
-unfolding ded une
-une-single key block h =
-    deciphered-enciphered key (deciphered key block) (bytes-deciphered key block)
-    ∙ sym (ap (λ n. if n == 8 then deciphered key block else ded (take 8 key) (drop 8 key) (take 8 key) block) h)
-
-une-double : (key block : List ℕ) → length key ≡ 16 → ded (take 8 key) (drop 8 key) (take 8 key) block ≡ une key block
-unfolding une
-une-double key block h = sym (ap (λ n. if n == 8 then deciphered key block else ded (take 8 key) (drop 8 key) (take 8 key) block) h)
-
-pub cbc-single : (key start text : List ℕ) → length key ≡ 8 → cbc_text (ede key key key) start text ≡ cbc_text (e key) start text
-cbc-single key start text h = ap joined (cbc-same (ede key key key) (e key) (λ x. e-single key x h) start (blocks text))
-
-pub cbc-double : (key start text : List ℕ) → length key ≡ 16 → cbc_text (ede (take 8 key) (drop 8 key) (take 8 key)) start text ≡ cbc_text (e key) start text
-cbc-double key start text h = ap joined (cbc-same (ede (take 8 key) (drop 8 key) (take 8 key)) (e key) (λ x. e-double key x h) start (blocks text))
-
-pub uncbc-single : (key start text : List ℕ) → length key ≡ 8 → uncbc_text (ded key key key) start text ≡ uncbc_text (une key) start text
-uncbc-single key start text h = ap joined (uncbc-same (ded key key key) (une key) (λ x. une-single key x h) start (blocks text))
-
-pub uncbc-double : (key start text : List ℕ) → length key ≡ 16 → uncbc_text (ded (take 8 key) (drop 8 key) (take 8 key)) start text ≡ uncbc_text (une key) start text
-uncbc-double key start text h = ap joined (uncbc-same (ded (take 8 key) (drop 8 key) (take 8 key)) (une key) (λ x. une-double key x h) start (blocks text))
 
 -- ---- the lease
 

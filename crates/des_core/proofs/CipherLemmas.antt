@@ -4,15 +4,15 @@ use Rattle.std.specs.Int.{bit_at}
 use Rattle.std.proofs.lemmas.List.{drop_all, drop_at, drop_more, length-append, length-map, take_all, take_at}
 use Rattle.std.proofs.lemmas.Bool.Decides.{nat_tests}
 use Rattle.key_cells.specs.declared.schedules.Schedule.{Schedule}
-use Rattle.des_core.specs.Bits.{bits, xor}
-use Rattle.des_core.specs.Des.{crypt, f, places, rounds}
-use Rattle.des_core.specs.Schedules.{ded_under, keys_of, schedule_at}
-use Rattle.des_core.specs.Tables.{final_permutation, initial_permutation}
-use Rattle.des_core.proofs.LawLemmas.{initial-final}
+use Rattle.des_blocks.specs.Bits.{bits, xor}
+use Rattle.des_blocks.specs.Des.{crypt, f, places, rounds}
+use Rattle.des_blocks.specs.Schedules.{ded_under, keys_of, schedule_at}
+use Rattle.des_blocks.specs.Tables.{final_permutation, initial_permutation}
+use Rattle.des_blocks.proofs.LawLemmas.{initial-final}
 use Rattle.des_core.specs.Lanes.{AreVectors, bit_of, lane, word}
 use Rattle.des_core.proofs.CircuitLemmas.{pick}
 use Rattle.des_core.proofs.LaneHalfLemmas.{numbers, pick-take, vectors-append}
-use Rattle.des_core.proofs.GatherLemmas.{both-true}
+use Rattle.des_blocks.proofs.GatherLemmas.{both-true}
 
 -- ---- rounds
 

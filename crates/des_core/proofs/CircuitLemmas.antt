@@ -8,9 +8,9 @@ use Rattle.std.proofs.lemmas.List.{get_or-map, length-map}
 use Rattle.std.proofs.lemmas.Simd.{Each1-get_or, get_or-zip2, length-zip2}
 use Rattle.std.proofs.lemmas.Nat.{and_le_l, or_lt, xor_lt}
 use Rattle.std.proofs.lemmas.Nat.Bits.{bit_at-zero, bit_at_and, bit_at_or, bit_at_xor, bit_at_not, bit_at-lt}
-use Rattle.des_core.specs.Des.{look_up}
-use Rattle.des_core.specs.Tables.{Box}
-use Rattle.des_core.proofs.GatherLemmas.{both-true, from-same, same}
+use Rattle.des_blocks.specs.Des.{look_up}
+use Rattle.des_blocks.specs.Tables.{Box}
+use Rattle.des_blocks.proofs.GatherLemmas.{both-true, from-same, same}
 use Rattle.des_core.specs.Lanes.{AreVectors, lane}
 
 -- a gate over earlier words, which it names by how many stand between

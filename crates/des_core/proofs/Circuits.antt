@@ -1,9 +1,9 @@
 -- The circuits of the S-boxes as data. Written by tools/circuits/write.
 use Rattle.std.proofs.Common.{◌≡◌, ℕ, true, List, [], ◌∷◌, refl}
-use Rattle.des_core.specs.Bits.{bits, number}
-use Rattle.des_core.specs.Des.{look_up}
-use Rattle.des_core.specs.Tables.{s1, s2, s3, s4, s5, s6, s7, s8}
-use Rattle.des_core.proofs.GatherLemmas.{same}
+use Rattle.des_blocks.specs.Bits.{bits, number}
+use Rattle.des_blocks.specs.Des.{look_up}
+use Rattle.des_blocks.specs.Tables.{s1, s2, s3, s4, s5, s6, s7, s8}
+use Rattle.des_blocks.proofs.GatherLemmas.{same}
 use Rattle.des_core.proofs.CircuitLemmas.{Gate, And, Or, Xor, But, Not, box_holds}
 
 abbrev pub circuit_1 : List Gate

@@ -5,12 +5,12 @@ use Rattle.std.proofs.lemmas.List.{drop_at, drop-drop, drop-take, get_or-set_oth
 use Rattle.std.proofs.lemmas.Bool.{cases_lt}
 use borrow.Rule.Slice.PartMut.{put_mid}
 use Rattle.key_cells.specs.declared.schedules.Schedule.{Schedule}
-use Rattle.des_core.specs.Bits.{bits, byte_bits, pieces, to_bytes, xor}
-use Rattle.des_core.specs.Modes.{blocks, uncbc}
-use Rattle.des_core.specs.Schedules.{ded_bytes, ded_under}
-use Rattle.des_core.specs.Texts.{put_at, uncbc_text}
-use Rattle.des_core.proofs.BitLemmas.{drop-add, length-xor}
-use Rattle.des_core.proofs.ByteLemmas.{byte_bits-to_be_bytes}
+use Rattle.des_blocks.specs.Bits.{bits, byte_bits, pieces, to_bytes, xor}
+use Rattle.des_blocks.specs.Modes.{blocks, uncbc}
+use Rattle.des_blocks.specs.Schedules.{ded_bytes, ded_under}
+use Rattle.des_blocks.specs.Texts.{put_at, uncbc_text}
+use Rattle.des_blocks.proofs.BitLemmas.{drop-add, length-xor}
+use Rattle.des_blocks.proofs.ByteLemmas.{byte_bits-to_be_bytes}
 use Rattle.des_core.proofs.ChainLemmas.{bytes-of, length-put, two-more, uncbc-done}
 use Rattle.des_core.specs.Chains.{Hold, part_at, with_part}
 use Rattle.des_core.specs.Lanes.{AreVectors, word}

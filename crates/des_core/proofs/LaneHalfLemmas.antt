@@ -7,15 +7,15 @@ use Rattle.std.proofs.lemmas.Nat.{xor_mod, xor_shr}
 use Rattle.std.proofs.lemmas.Nat.Bits.{bit_at-zero, bit_at_not}
 use Rattle.std.proofs.lemmas.Simd.{get_or-zip2, length-zip2}
 use Rattle.std.proofs.lemmas.Bool.Decides.{nat_tests}
-use Rattle.des_core.specs.Bits.{bits, xor}
-use Rattle.des_core.specs.Des.{f, look_up, places, substitute}
-use Rattle.des_core.specs.Schedules.{group_bits}
-use Rattle.des_core.specs.Tables.{Box, boxes, expansion, permutation, s1, s2, s3, s4, s5, s6, s7, s8}
-use Rattle.des_core.proofs.Numbers.{are_numbers}
-use Rattle.des_core.proofs.PlaceLemmas.{drop-places, take-places}
+use Rattle.des_blocks.specs.Bits.{bits, xor}
+use Rattle.des_blocks.specs.Des.{f, look_up, places, substitute}
+use Rattle.des_blocks.specs.Schedules.{group_bits}
+use Rattle.des_blocks.specs.Tables.{Box, boxes, expansion, permutation, s1, s2, s3, s4, s5, s6, s7, s8}
+use Rattle.des_blocks.proofs.Numbers.{are_numbers}
+use Rattle.des_blocks.proofs.PlaceLemmas.{drop-places, take-places}
 use Rattle.des_core.specs.Lanes.{AreVectors, bit_of, joined_at, lane}
 use Rattle.des_core.proofs.CircuitLemmas.{pick}
-use Rattle.des_core.proofs.GatherLemmas.{both-true}
+use Rattle.des_blocks.proofs.GatherLemmas.{both-true}
 
 -- the elements at the places of a table
 abbrev pub taken : {A : Type 0} → A → List ℕ → List A → List A

@@ -2,7 +2,7 @@
 use Rattle.std.proofs.Common.{◌≡◌, ℕ, ◌-◌, ◌%◌, ◌/◌, ◌<◌, ◌^◌, Bool, true, ◌&&◌, nat_eq, nat_lt, List, [], ◌∷◌, get_or, refl, ap, ◌∙◌, arith}
 use Rattle.std.specs.Int.{bit_at}
 use Rattle.std.proofs.lemmas.Bool.Decides.{nat_tests}
-use Rattle.des_core.proofs.GatherLemmas.{all_below, both-true, from-all_below, nat-same}
+use Rattle.des_blocks.proofs.GatherLemmas.{all_below, both-true, from-all_below, nat-same}
 use Rattle.des_core.specs.Lanes.{bit_of}
 use Rattle.des_core.specs.Stages.{IsStage, with_bit}
 

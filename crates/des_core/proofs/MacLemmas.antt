@@ -5,19 +5,20 @@ use Rattle.std.specs.List.{All}
 use Rattle.std.proofs.lemmas.Bool.{cases_lt}
 use Rattle.std.proofs.lemmas.List.{append-nil, drop-append-le, drop-drop, drop-replicate, length-append, length-drop, length-replicate, length-take, take-append-le, take_all}
 use Rattle.key_cells.specs.declared.schedules.Schedule.{Schedule}
-use Rattle.des_core.specs.Bits.{AreBytes, bits, byte_bits, pieces, to_bytes, xor}
-use Rattle.des_core.specs.Des.{decipher, encipher, places}
-use Rattle.des_core.specs.Halves.{AreHalves}
-use Rattle.des_core.specs.Modes.{blocks, cbc, cbc_mac, fill, last_block, mac_x919, mac_x99, zero_block}
-use Rattle.des_core.specs.Schedules.{IsOf, deciphered_under, enciphered_under, keys_of}
-use Rattle.des_core.specs.Tables.{final_permutation, initial_permutation}
-use Rattle.des_core.specs.Texts.{fill_block}
-use Rattle.des_core.specs.TripleDes.{deciphered, enciphered}
-use Rattle.des_core.proofs.ByteLemmas.{byte_bits-to_be_bytes, small-to_be_bytes, to_bytes-byte_bits}
-use Rattle.des_core.proofs.ChainLemmas.{bytes-of, cbc-same, cbc-step-as}
-use Rattle.des_core.proofs.LawLemmas.{final-initial}
-use Rattle.des_core.proofs.ValueLemmas.{block-length, crypted, crypted-bits, crypted-bytes}
-use Rattle.des_core.proofs.XorLemmas.{byte_bits-xor}
+use Rattle.des_blocks.specs.Bits.{AreBytes, bits, byte_bits, pieces, to_bytes, xor}
+use Rattle.des_blocks.specs.Des.{decipher, encipher, places}
+use Rattle.des_blocks.specs.Halves.{AreHalves}
+use Rattle.des_blocks.specs.Modes.{blocks, cbc, cbc_mac, fill, last_block, mac_x919, mac_x99, zero_block}
+use Rattle.des_blocks.specs.Schedules.{IsOf, deciphered_under, enciphered_under, keys_of}
+use Rattle.des_blocks.specs.Tables.{final_permutation, initial_permutation}
+use Rattle.des_blocks.specs.Texts.{fill_block}
+use Rattle.des_blocks.specs.TripleDes.{deciphered, enciphered}
+use Rattle.des_blocks.proofs.ByteLemmas.{byte_bits-to_be_bytes, small-to_be_bytes, to_bytes-byte_bits}
+use Rattle.des_blocks.proofs.ClearKeyLemmas.{cbc-same}
+use Rattle.des_core.proofs.ChainLemmas.{bytes-of, cbc-step-as}
+use Rattle.des_blocks.proofs.LawLemmas.{final-initial}
+use Rattle.des_blocks.proofs.ValueLemmas.{block-length, crypted, crypted-bits, crypted-bytes}
+use Rattle.des_blocks.proofs.XorLemmas.{byte_bits-xor}
 
 -- ---- the filled text
 

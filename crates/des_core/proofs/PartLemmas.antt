@@ -3,13 +3,13 @@ use Rattle.std.proofs.Common.{◌≡◌, ℕ, zero, suc, ◌+◌, ◌-◌, ◌*�
 use borrow.Rule.Slice.PartMut.{put_mid}
 use Rattle.std.proofs.lemmas.List.{append_assoc, append-nil, drop_at, drop-drop, length-append, length-drop, length-take, nil_from_length, take-append-drop, take_at}
 use Rattle.key_cells.specs.declared.schedules.Schedule.{Schedule}
-use Rattle.des_core.specs.Bits.{bits, pieces, xor}
+use Rattle.des_blocks.specs.Bits.{bits, pieces, xor}
 use Rattle.des_core.specs.Chains.{Hold, part_at, with_part}
 use Rattle.des_core.specs.Lanes.{word}
-use Rattle.des_core.specs.Modes.{blocks, joined, last_block, uncbc}
-use Rattle.des_core.specs.Schedules.{ded_bytes, ded_under}
-use Rattle.des_core.specs.Texts.{uncbc_from, uncbc_text}
-use Rattle.des_core.proofs.BitLemmas.{length-pieces, length-xor}
+use Rattle.des_blocks.specs.Modes.{blocks, joined, last_block, uncbc}
+use Rattle.des_blocks.specs.Schedules.{ded_bytes, ded_under}
+use Rattle.des_blocks.specs.Texts.{uncbc_from, uncbc_text}
+use Rattle.des_blocks.proofs.BitLemmas.{length-pieces, length-xor}
 use Rattle.des_core.proofs.ChainLemmas.{joined-pieces, length-ded_bytes, pieces-append, pieces-take}
 use Rattle.des_core.proofs.LaneChainLemmas.{hold-deciphered, part-last}
 

@@ -2,15 +2,15 @@
 ghost use Rattle.std.specs.Prelude.{List, ℕ, ◌≡◌, ◌+◌, ◌%◌, ◌≤◌, drop, take};
 ghost use Rattle.std.specs.Int.{to_be_bytes, w64};
 ghost use Rattle.key_cells.specs.Lease.{bench_of};
-ghost use Rattle.des_core.specs.Bits.{xor};
-ghost use Rattle.des_core.specs.Schedules.{AreOf, ded_bytes, ede_bytes};
-ghost use Rattle.des_core.specs.Texts.{cbc_text, put_at, schedules_in, text_in};
-ghost use Rattle.des_core.specs.Texts.{uncbc_from, uncbc_text, with_text_in};
-ghost use Rattle.des_core.specs.TripleDes as triple;
+ghost use Rattle.des_blocks.specs.Bits.{xor};
+ghost use Rattle.des_blocks.specs.Schedules.{AreOf, ded_bytes, ede_bytes};
+ghost use Rattle.des_blocks.specs.Texts.{cbc_text, put_at, schedules_in, text_in};
+ghost use Rattle.des_blocks.specs.Texts.{uncbc_from, uncbc_text, with_text_in};
+ghost use Rattle.des_blocks.specs.TripleDes as triple;
 
-use crate::blocks::{ded_two, ded_word, ede_word};
 use crate::lanes::{decipher_end, decipher_part};
-use crate::words::{put_word, word_at};
+use crate::words::put_word;
+use des_blocks::{ded_two, ded_word, ede_word, word_at};
 use key_cells::Lease;
 
 /// Enciphers the block at a place of the text, combined with the one before it, and answers it.

@@ -2,13 +2,14 @@
 //! that is filled with zero bytes to whole blocks.
 ghost use Rattle.std.specs.Prelude.{List, ℕ, ◌≡◌, ◌+◌, ◌*◌, ◌<◌, ◌≤◌, ◌++◌, drop, length, take};
 ghost use Rattle.std.specs.Int.{to_be_bytes, w64};
-ghost use Rattle.des_core.specs.Modes.{cbc_mac, mac_x919, mac_x99};
-ghost use Rattle.des_core.specs.Schedules.{IsOf, deciphered_under, enciphered_under};
-ghost use Rattle.des_core.specs.Texts.{fill_block};
+ghost use Rattle.des_blocks.specs.Modes.{cbc_mac, mac_x919, mac_x99};
+ghost use Rattle.des_blocks.specs.Schedules.{IsOf, deciphered_under, enciphered_under};
+ghost use Rattle.des_blocks.specs.Texts.{fill_block};
 
-use crate::blocks::{decipher_block, encipher_block, encipher_next, final_block, initial_halves};
-use crate::words::word_at;
 use byte_lists::put_front;
+use des_blocks::{
+    decipher_block, encipher_block, encipher_next, final_block, initial_halves, word_at,
+};
 use key_cells::Schedule;
 
 /// The bytes of the last block of a text, fewer than eight, and zeros, as a word.

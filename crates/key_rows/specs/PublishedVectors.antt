@@ -1,7 +1,7 @@
 -- Answers of DES and triple DES that others published: a key, a block, and what the block is enciphered to under the key.
 use Rattle.std.specs.Prelude.{◌≡◌, ⊤, ℕ, List, [], ◌∷◌}
-use Rattle.des_core.specs.Bits.{bits}
-use Rattle.des_core.specs.Des.{des, undes}
+use Rattle.des_blocks.specs.Bits.{bits}
+use Rattle.des_blocks.specs.Des.{des, undes}
 
 pub record Vector : Type 0 where
   pub key : ℕ

@@ -5,7 +5,7 @@ ghost use Rattle.verb_rules.specs.Keys.{HasHalves};
 
 use crate::sealed_keys::vector;
 use cca_vectors::{Class, Vector};
-use des_core::encipher_block;
+use des_blocks::encipher_block;
 use key_cells::{KeyPlace, Lease, MasterPlace, Workbench};
 use key_tokens::{Kind, Token};
 use master_registers::{NewState, Registers, pattern_of};

@@ -2,9 +2,9 @@
 -- bytes 01, whose halves are DES keys of zeros but for their parity bits.
 use Rattle.std.proofs.Common.{◌≡◌, ℕ, List, [], ◌∷◌, ◌++◌, Some, refl}
 use Rattle.std.specs.Prelude.{replicate}
-use Rattle.des_core.specs.Bits.{bits, byte_bits, number, pieces, to_bytes, xor}
-use Rattle.des_core.specs.Des.{crypt, f, key_schedule, look_up, places, round_keys, rounds, substitute}
-use Rattle.des_core.specs.TripleDes.{deciphered, ded, enciphered}
+use Rattle.des_blocks.specs.Bits.{bits, byte_bits, number, pieces, to_bytes, xor}
+use Rattle.des_blocks.specs.Des.{crypt, f, key_schedule, look_up, places, round_keys, rounds, substitute}
+use Rattle.des_blocks.specs.TripleDes.{deciphered, ded, enciphered}
 use Rattle.multi_encipher.specs.Seals.{variant_key, opened_half, unseal}
 use Rattle.key_tokens.specs.Denotes.{denoted_under}
 use Rattle.key_tokens.specs.Tvv.{tvv_of}

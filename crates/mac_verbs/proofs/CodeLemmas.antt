@@ -4,7 +4,7 @@ use Rattle.std.proofs.lemmas.Bool.{eqb-true}
 use Rattle.std.proofs.lemmas.List.{take_all}
 use Rattle.cca_vectors.specs.Checks.{first_failing}
 use Rattle.cca_vectors.proofs.Judging.{passes_first}
-use Rattle.des_core.specs.Schedules.{IsOf, schedule_at}
+use Rattle.des_blocks.specs.Schedules.{IsOf, schedule_at}
 use Rattle.key_cells.specs.declared.schedules.Schedule.{Schedule}
 use Rattle.verb_rules.specs.declared.lengths.MacRule.{MacRule}
 use Rattle.verb_rules.specs.LengthChecks.{mac_checks, mac_key_length}

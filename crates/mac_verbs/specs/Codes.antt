@@ -1,7 +1,7 @@
 -- Message authentication codes of a text under a clear key (FIPS 113, ANSI X9.9, ANSI X9.19).
 use Rattle.std.specs.Prelude.{ℕ, Bool, List, length, take}
 use Rattle.std.specs.Str.{bytes_eq}
-use Rattle.des_core.specs.Modes.{mac_x99, mac_x919}
+use Rattle.des_blocks.specs.Modes.{mac_x99, mac_x919}
 use Rattle.key_tokens.specs.Denotes.{ClearKey}
 use Rattle.verb_rules.specs.declared.lengths.MacRule.{MacRule}
 use Rattle.verb_rules.specs.declared.lengths.MacRule.TheVariants.{X99, X919}

@@ -1,6 +1,6 @@
 pub mod Codes
-pub use Rattle.des_core.specs.Modes
-pub use Rattle.des_core.specs.Texts
+pub use Rattle.des_blocks.specs.Modes
+pub use Rattle.des_blocks.specs.Texts
 pub use Rattle.key_cells.specs.Bench
 pub use Rattle.key_cells.specs.Lease
 pub use Rattle.multi_encipher.specs.Bundles

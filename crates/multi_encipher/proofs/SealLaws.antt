@@ -7,7 +7,7 @@ use Rattle.std.proofs.lemmas.List.Elements.{All-take, All-drop, All-append}
 use Rattle.cca_vectors.specs.Vectors.{left_of, right_of, form_of, single_length, length_of}
 use Rattle.byte_lists.specs.Bytes.{AreBytes, IsZero}
 use Rattle.byte_lists.proofs.ByteLemmas.{zeros_of, IsZero-replicate}
-use Rattle.des_core.proofs.ValueLemmas.{bytes-ede, bytes-ded, ded-ede, ede-ded}
+use Rattle.des_blocks.proofs.ValueLemmas.{bytes-ede, bytes-ded, ded-ede, ede-ded}
 use Rattle.multi_encipher.specs.declared.halves.Sealed.{Sealed}
 use Rattle.multi_encipher.specs.Bundles.{key_in, with_zeros}
 use Rattle.multi_encipher.specs.Seals.{variant_key, sealed_half, opened_half, seal, unseal, IsKey, IsSealed, SealIsOneToOne}

@@ -3,7 +3,7 @@
 use Rattle.std.specs.Prelude.{◌≡◌, ℕ, List, [], ◌++◌, replicate, slice_range, ◌==◌, if◌then◌else◌}
 use Rattle.cca_vectors.specs.Vectors.{left_of, right_of, length_of}
 use Rattle.byte_lists.specs.Bytes.{xor, AreBytes, IsZero}
-use Rattle.des_core.specs.TripleDes.{ede, ded}
+use Rattle.des_blocks.specs.TripleDes.{ede, ded}
 use Rattle.multi_encipher.specs.Bundles.{key_of_bundle}
 use Rattle.multi_encipher.specs.declared.halves.Sealed.{Sealed}
 

@@ -3,13 +3,13 @@ ghost use Rattle.std.specs.Prelude.{◌≡◌, ◌+◌, ◌*◌, ◌<◌, ◌≤
 ghost use Rattle.key_cells.specs.Bench.{Bench};
 ghost use Rattle.key_cells.specs.Lease.{bench_of};
 ghost use Rattle.key_cells.specs.Secret.{bytes_of};
-ghost use Rattle.des_core.specs.Schedules.{IsOf, AreOf, schedule_at};
+ghost use Rattle.des_blocks.specs.Schedules.{IsOf, AreOf, schedule_at};
 ghost use Rattle.multi_encipher.specs.Bundles.{ChangesSchedules, bundle_under, key_of_bundle};
 ghost use Rattle.multi_encipher.specs.Seals.{variant_key};
 
 use crate::halves::Under;
 use byte_lists::xor;
-use des_core::schedule;
+use des_blocks::schedule;
 use key_cells::{KeyPlace, Lease, MasterPlace, Schedule, Secret};
 
 /// Copies one key of the bundle.

@@ -12,7 +12,7 @@ use crate::halves::{Sealed, Under};
 use crate::mixing::make_schedules;
 use byte_lists::put_secret;
 use cca_vectors::Vector;
-use des_core::{ded, ede};
+use des_blocks::{ded, ede};
 use key_cells::{KeyPlace, Lease, Secret};
 
 /// Where a half of a key begins in 16 bytes.

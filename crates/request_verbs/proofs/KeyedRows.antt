@@ -2,7 +2,7 @@
 use Rattle.std.proofs.Common.{Bool, true, false, List, [], ◌∷◌, ℕ, refl}
 use Rattle.std.specs.Prelude.{◌/◌, length}
 use Rattle.cipher_verbs.specs.declared.padding.Pad.TheVariants as padding
-use Rattle.des_core.specs.Modes.{zero_block}
+use Rattle.des_blocks.specs.Modes.{zero_block}
 use Rattle.mac_verbs.specs.Codes.{code_of}
 use Rattle.text_segments.specs.Chains.{chain_of, first_chain}
 use Rattle.text_segments.specs.Segments.{IsCipher, last_code}

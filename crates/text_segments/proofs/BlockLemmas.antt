@@ -2,12 +2,12 @@
 use Rattle.std.proofs.Common.{◌≡◌, ◌∙◌, ℕ, zero, suc, ◌+◌, ◌-◌, ◌*◌, ◌/◌, ◌%◌, ◌<◌, ◌≤◌, List, [], ◌∷◌, ◌++◌, length, take, drop, replicate, refl, sym, ap, take_at, drop_at, arith}
 use Rattle.std.proofs.lemmas.List.{append_assoc, append-nil, drop-append-le, length-append, length-drop, length-replicate, length-take, nil_from_length, take-append-le, take_all, take-append-drop, take-take, drop-take}
 use Rattle.std.proofs.lemmas.Grind.{flat_map-append}
-use Rattle.des_core.specs.Bits.{pieces, xor}
-use Rattle.des_core.specs.Modes.{added, blocks, cbc, fill, joined, last_block, pad, uncbc, zero_block}
-use Rattle.des_core.specs.Texts.{cbc_text, uncbc_text}
-use Rattle.des_core.proofs.BitLemmas.{drop-add, length-xor}
+use Rattle.des_blocks.specs.Bits.{pieces, xor}
+use Rattle.des_blocks.specs.Modes.{added, blocks, cbc, fill, joined, last_block, pad, uncbc, zero_block}
+use Rattle.des_blocks.specs.Texts.{cbc_text, uncbc_text}
+use Rattle.des_blocks.proofs.BitLemmas.{drop-add, length-xor}
 use Rattle.des_core.proofs.ChainLemmas.{joined-pieces}
-use Rattle.des_core.proofs.XorLemmas.{xor-zeros-right}
+use Rattle.des_blocks.proofs.XorLemmas.{xor-zeros-right}
 use Rattle.text_segments.specs.Segments.{rest_part, whole_part}
 
 -- ---- the whole blocks and the rest

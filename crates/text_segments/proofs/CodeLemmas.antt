@@ -1,7 +1,7 @@
 -- The last block of a code's chain, under the schedules of its key.
 use Rattle.std.proofs.Common.{◌≡◌, ℕ, List, length, take}
-use Rattle.des_core.specs.Modes.{blocks, cbc, cbc_mac, fill, last_block, mac_x99, zero_block}
-use Rattle.des_core.specs.Schedules.{IsOf, schedule_at}
+use Rattle.des_blocks.specs.Modes.{blocks, cbc, cbc_mac, fill, last_block, mac_x99, zero_block}
+use Rattle.des_blocks.specs.Schedules.{IsOf, schedule_at}
 use Rattle.key_cells.specs.declared.schedules.Schedule.{Schedule}
 use Rattle.key_tokens.specs.Denotes.{ClearKey}
 use Rattle.verb_rules.specs.declared.lengths.MacRule.{MacRule}

@@ -2,10 +2,10 @@
 use Rattle.std.proofs.Common.{◌≡◌, ◌∙◌, ◌==◌, ℕ, ◌≤◌, Bool, true, false, List, [], ◌∷◌, ◌++◌, length, take, drop, refl, sym, ap, arith, if◌then◌else◌, Some}
 use Rattle.std.specs.Prelude.{option_map}
 use Rattle.std.proofs.lemmas.List.{append_assoc, length-append}
-use Rattle.des_core.specs.Modes.{blocks, cbc, cbc_mac, e, fill, joined, last_block, une, zero_block}
-use Rattle.des_core.specs.Texts.{cbc_text, uncbc_text}
-use Rattle.des_core.specs.TripleDes.{ded, deciphered, ede, enciphered}
-use Rattle.des_core.proofs.ValueLemmas.{bytes-deciphered, bytes-enciphered}
+use Rattle.des_blocks.specs.Modes.{blocks, cbc, cbc_mac, e, fill, joined, last_block, une, zero_block}
+use Rattle.des_blocks.specs.Texts.{cbc_text, uncbc_text}
+use Rattle.des_blocks.specs.TripleDes.{ded, deciphered, ede, enciphered}
+use Rattle.des_blocks.proofs.ValueLemmas.{bytes-deciphered, bytes-enciphered}
 use Rattle.key_tokens.specs.Denotes.{ClearKey}
 use Rattle.verb_rules.specs.declared.lengths.MacRule.{MacRule}
 use Rattle.verb_rules.specs.declared.lengths.MacRule.TheVariants.{X99, X919}

@@ -3,8 +3,8 @@ use Rattle.std.proofs.Common.{◌≡◌, ◌∙◌, ℕ, ◌+◌, ◌-◌, ◌%�
 use Rattle.std.specs.Prelude.{option_map}
 use Rattle.std.proofs.lemmas.Bool.{leb-true}
 use Rattle.std.proofs.lemmas.List.{append_assoc, get_or-append-add, length-append}
-use Rattle.des_core.specs.Modes.{blocks, cbc, is_padded, last_block, pad_count, unpad}
-use Rattle.des_core.specs.Texts.{cbc_text, uncbc_text}
+use Rattle.des_blocks.specs.Modes.{blocks, cbc, is_padded, last_block, pad_count, unpad}
+use Rattle.des_blocks.specs.Texts.{cbc_text, uncbc_text}
 use Rattle.text_segments.specs.Segments.{rest_part, whole_part}
 use Rattle.text_segments.proofs.BlockLemmas.{cbc_text-append, last-cbc, take-past, uncbc_text-append, whole_blocks, whole-rest}
 

@@ -2,7 +2,7 @@
 -- whole text gives.
 use Rattle.std.specs.Prelude.{◌≡◌, ℕ, List, [], ◌∷◌, ◌++◌, length, Option, None, Some, option_map}
 use Rattle.cca_vectors.specs.Checks.{first_failing}
-use Rattle.des_core.specs.Modes.{joined, zero_block}
+use Rattle.des_blocks.specs.Modes.{joined, zero_block}
 use Rattle.key_tokens.specs.Denotes.{ClearKey}
 use Rattle.verb_rules.specs.LengthChecks.{text_checks}
 use Rattle.verb_rules.specs.declared.lengths.MacRule.{MacRule}

@@ -2,8 +2,8 @@ pub mod Chains
 pub mod Cuttings
 pub mod Segments
 pub use Rattle.cipher_verbs.specs.CipherTexts
-pub use Rattle.des_core.specs.Modes
-pub use Rattle.des_core.specs.Texts
+pub use Rattle.des_blocks.specs.Modes
+pub use Rattle.des_blocks.specs.Texts
 pub use Rattle.key_cells.specs.Bench
 pub use Rattle.key_cells.specs.Lease
 pub use Rattle.mac_verbs.specs.Codes

@@ -3,9 +3,9 @@
 -- verb over a whole text does.
 use Rattle.std.specs.Prelude.{◌≡◌, ⊤, ℕ, ◌*◌, ◌/◌, List, [], ◌∷◌, ◌++◌, length, take, drop, Option, None, Some, is_none}
 use Rattle.cca_vectors.specs.Checks.{Check, check}
-use Rattle.des_core.specs.Modes.{blocks, cbc, e, fill, last_block, une}
-use Rattle.des_core.specs.Texts.{cbc_text, uncbc_text}
-use Rattle.des_core.specs.TripleDes.{enciphered, deciphered}
+use Rattle.des_blocks.specs.Modes.{blocks, cbc, e, fill, last_block, une}
+use Rattle.des_blocks.specs.Texts.{cbc_text, uncbc_text}
+use Rattle.des_blocks.specs.TripleDes.{enciphered, deciphered}
 use Rattle.key_cells.specs.Bench.{Text}
 use Rattle.key_tokens.specs.Denotes.{ClearKey}
 use Rattle.verb_rules.specs.LengthChecks.{mac_checks}

@@ -1,6 +1,6 @@
 //! A segment of a text that is enciphered or deciphered.
 ghost use Rattle.std.specs.Prelude.{◌≡◌, ◌≤◌};
-ghost use Rattle.des_core.specs.Texts.{text_in};
+ghost use Rattle.des_blocks.specs.Texts.{text_in};
 ghost use Rattle.key_cells.specs.Lease.{bench_of};
 ghost use Rattle.verb_rules.specs.Keys.{HasHalves, opened};
 ghost use Rattle.cipher_verbs.specs.CipherTexts.{ChangesText};

@@ -1,8 +1,8 @@
 //! The text in its place in the bench, with the carried bytes before it and without the rest.
 ghost use Rattle.std.specs.Prelude.{◌≡◌, ◌≤◌, ◌+◌, ◌-◌, ◌*◌, ◌/◌, ◌%◌, ◌++◌, drop, length, take};
 ghost use Rattle.byte_lists.specs.Bytes.{xor};
-ghost use Rattle.des_core.specs.Modes.{blocks, fill, last_block};
-ghost use Rattle.des_core.specs.Texts.{text_in};
+ghost use Rattle.des_blocks.specs.Modes.{blocks, fill, last_block};
+ghost use Rattle.des_blocks.specs.Texts.{text_in};
 ghost use Rattle.key_cells.specs.Bench.{with_size};
 ghost use Rattle.key_cells.specs.Lease.{bench_of, holding};
 ghost use Rattle.text_segments.specs.Segments.{rest_part, whole_part};

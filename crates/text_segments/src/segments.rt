@@ -2,7 +2,7 @@
 ghost use Rattle.std.specs.Prelude.{◌≡◌, ◌≤◌, None, Some, OnErr, OnOk, length};
 ghost use Rattle.cca_vectors.specs.Checks.{first_failing};
 ghost use Rattle.cca_vectors.specs.Vectors.{length_of};
-ghost use Rattle.des_core.specs.Texts.{text_in};
+ghost use Rattle.des_blocks.specs.Texts.{text_in};
 ghost use Rattle.key_cells.specs.Lease.{bench_of};
 ghost use Rattle.verb_rules.specs.declared.lengths.TextUse.{TextUse};
 ghost use Rattle.verb_rules.specs.Keys.{HasHalves, opened};

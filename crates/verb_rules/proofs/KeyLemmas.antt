@@ -6,7 +6,7 @@ use Rattle.std.proofs.lemmas.List.{append-nil, take_all, take-append-le, length-
 use Rattle.std.proofs.lemmas.List.Elements.{All-append, All-take}
 use Rattle.byte_lists.specs.Bytes.{AreBytes}
 use Rattle.cca_vectors.specs.Vectors.{left_of, right_of, length_of}
-use Rattle.des_core.specs.Schedules.{AreOf}
+use Rattle.des_blocks.specs.Schedules.{AreOf}
 use Rattle.key_cells.specs.declared.schedules.Schedule.{Schedule}
 use Rattle.multi_encipher.specs.declared.halves.Sealed.{Sealed}
 use Rattle.multi_encipher.specs.Bundles.{key_in, with_zeros}

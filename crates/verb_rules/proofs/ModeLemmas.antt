@@ -5,11 +5,11 @@ use Rattle.std.proofs.lemmas.Bool.{eq-eqb, ne_eqb}
 use Rattle.std.proofs.lemmas.List.{take_all}
 use Rattle.byte_lists.specs.Bytes.{AreBytes}
 use Rattle.cca_vectors.specs.Vectors.{length_of}
-use Rattle.des_core.specs.Modes.{e, une}
-use Rattle.des_core.specs.Texts.{cbc_text, uncbc_text}
-use Rattle.des_core.specs.TripleDes.{ded, ede, enciphered}
-use Rattle.des_core.proofs.ChainLemmas.{cbc-double, cbc-single, uncbc-double, uncbc-single}
-use Rattle.des_core.proofs.ValueLemmas.{ede-same}
+use Rattle.des_blocks.specs.Modes.{e, une}
+use Rattle.des_blocks.specs.Texts.{cbc_text, uncbc_text}
+use Rattle.des_blocks.specs.TripleDes.{ded, ede, enciphered}
+use Rattle.des_blocks.proofs.ClearKeyLemmas.{cbc-double, cbc-single, uncbc-double, uncbc-single}
+use Rattle.des_blocks.proofs.ValueLemmas.{ede-same}
 use Rattle.multi_encipher.specs.Seals.{IsKey}
 use Rattle.multi_encipher.proofs.SealLaws.{length_of-cases}
 use Rattle.verb_rules.specs.Scheduled.{left_key, right_key}

@@ -1,7 +1,7 @@
 -- The schedules of a clear key.
 use Rattle.std.specs.Prelude.{ℕ, List, length, take, drop, ◌==◌, if◌then◌else◌}
 use Rattle.key_cells.specs.declared.schedules.Schedule.{Schedule}
-use Rattle.des_core.specs.Schedules.{AreOf}
+use Rattle.des_blocks.specs.Schedules.{AreOf}
 
 -- the left half of a double-length key, or the whole of a single-length one
 abbrev pub left_key : List ℕ → List ℕ

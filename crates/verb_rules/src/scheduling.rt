@@ -1,7 +1,7 @@
 //! The schedules of the clear key of a judged token.
 ghost use Rattle.std.specs.Prelude.{◌≡◌, ◌+◌, ◌≤◌, ◌<◌, slice_range, slice_set, if◌then◌else◌};
 ghost use Rattle.key_cells.specs.Lease.{bench_of};
-ghost use Rattle.des_core.specs.Schedules.{AreOf, IsOf, schedule_at};
+ghost use Rattle.des_blocks.specs.Schedules.{AreOf, IsOf, schedule_at};
 ghost use Rattle.multi_encipher.specs.Bundles.{ChangesKeyAt, ChangesSchedules};
 ghost use Rattle.multi_encipher.specs.Seals.{IsKey};
 ghost use Rattle.verb_rules.specs.Keys.{HasHalves, opened};

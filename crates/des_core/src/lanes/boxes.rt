@@ -1,7 +1,7 @@
 //! The S-boxes of FIPS 46-3 as circuits over 128 lanes. Written by tools/circuits/write.
 ghost use Rattle.std.specs.Prelude.{◌≡◌, ◌<◌, ℕ, [], ◌∷◌};
-ghost use Rattle.des_core.specs.Des.{look_up};
-ghost use Rattle.des_core.specs.Tables.{s1, s2, s3, s4, s5, s6, s7, s8};
+ghost use Rattle.des_blocks.specs.Des.{look_up};
+ghost use Rattle.des_blocks.specs.Tables.{s1, s2, s3, s4, s5, s6, s7, s8};
 ghost use Rattle.des_core.specs.Lanes.{AreVectors, lane};
 
 use std::simd::prelude::*;

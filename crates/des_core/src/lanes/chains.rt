@@ -3,16 +3,17 @@ ghost use Rattle.std.specs.Prelude.{List, ℕ, ◌≡◌, ◌+◌, ◌-◌, ◌%
 ghost use Rattle.std.specs.Prelude.{drop, length, replicate, slice_index, take};
 ghost use Rattle.std.specs.Int.{to_be_bytes, w64};
 ghost use Rattle.key_cells.specs.Lease.{bench_of};
-ghost use Rattle.des_core.specs.Bits.{xor};
-ghost use Rattle.des_core.specs.Schedules.{ded_bytes};
-ghost use Rattle.des_core.specs.Texts.{put_at, schedules_in, text_in};
-ghost use Rattle.des_core.specs.Texts.{uncbc_from, uncbc_text, with_text_in};
+ghost use Rattle.des_blocks.specs.Bits.{xor};
+ghost use Rattle.des_blocks.specs.Schedules.{ded_bytes};
+ghost use Rattle.des_blocks.specs.Texts.{put_at, schedules_in, text_in};
+ghost use Rattle.des_blocks.specs.Texts.{uncbc_from, uncbc_text, with_text_in};
 ghost use Rattle.des_core.specs.Chains.{Hold, part_at, with_part};
 ghost use Rattle.des_core.specs.Lanes.{AreVectors};
 
 use super::ciphers::decipher_words;
-use crate::words::{put_word, word_at};
+use crate::words::put_word;
 use byte_lists::put_front;
+use des_blocks::word_at;
 use key_cells::Lease;
 use std::simd::prelude::*;
 

@@ -2,10 +2,10 @@
 ghost use Rattle.std.specs.Prelude.{ℕ, ◌≡◌, ◌+◌, ◌*◌, ◌<◌, [], ◌++◌};
 ghost use Rattle.std.specs.Prelude.{drop, reverse, slice_index_or, take};
 ghost use Rattle.key_cells.specs.declared.schedules.Schedule as declared;
-ghost use Rattle.des_core.specs.Bits.{bits};
-ghost use Rattle.des_core.specs.Des.{places, rounds};
-ghost use Rattle.des_core.specs.Schedules.{ded_under, keys_of, ordered};
-ghost use Rattle.des_core.specs.Tables.{final_permutation, initial_permutation};
+ghost use Rattle.des_blocks.specs.Bits.{bits};
+ghost use Rattle.des_blocks.specs.Des.{places, rounds};
+ghost use Rattle.des_blocks.specs.Schedules.{ded_under, keys_of, ordered};
+ghost use Rattle.des_blocks.specs.Tables.{final_permutation, initial_permutation};
 ghost use Rattle.des_core.specs.Lanes.{AreVectors, lane, word};
 
 use super::rounds::next_half;

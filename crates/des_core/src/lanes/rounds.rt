@@ -1,10 +1,10 @@
 //! A round of FIPS 46-3 over 128 lanes.
 ghost use Rattle.std.specs.Prelude.{◌≡◌, ◌<◌, ◌*◌, ℕ, [], ◌∷◌, drop, length, slice_index, take};
 ghost use Rattle.std.specs.Int.{bit_at};
-ghost use Rattle.des_core.specs.Bits.{bits, xor};
-ghost use Rattle.des_core.specs.Des.{f, look_up, places};
-ghost use Rattle.des_core.specs.Schedules.{group_bits};
-ghost use Rattle.des_core.specs.Tables.{expansion, s1, s2, s3, s4, s5, s6, s7, s8};
+ghost use Rattle.des_blocks.specs.Bits.{bits, xor};
+ghost use Rattle.des_blocks.specs.Des.{f, look_up, places};
+ghost use Rattle.des_blocks.specs.Schedules.{group_bits};
+ghost use Rattle.des_blocks.specs.Tables.{expansion, s1, s2, s3, s4, s5, s6, s7, s8};
 ghost use Rattle.des_core.specs.Lanes.{AreVectors, bit_of, joined_at, lane};
 
 use super::boxes;

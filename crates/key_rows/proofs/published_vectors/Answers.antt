@@ -1,7 +1,7 @@
 -- The definitions compute.
 use Rattle.std.proofs.Common.{refl}
-use Rattle.des_core.specs.Bits.{bits, number, xor}
-use Rattle.des_core.specs.Des.{places, key_schedule, round_keys, look_up, substitute, f, rounds, crypt}
+use Rattle.des_blocks.specs.Bits.{bits, number, xor}
+use Rattle.des_blocks.specs.Des.{places, key_schedule, round_keys, look_up, substitute, f, rounds, crypt}
 use Rattle.key_rows.proofs.published_vectors.Goals as goal
 
 pub returns-clause-single : goal.returns-clause-single

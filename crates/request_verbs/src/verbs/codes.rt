@@ -1,7 +1,7 @@
 //! CSNBMGN and CSNBMVR over a whole text, and what is shown of its code.
 ghost use Rattle.std.specs.Prelude.{◌≡◌, ◌≤◌, ◌/◌, ◌∷◌, [], ℕ, IsTrue, codes, length, take, List};
 ghost use Rattle.std.specs.Str.{bytes_eq};
-ghost use Rattle.des_core.specs.Texts.{text_in};
+ghost use Rattle.des_blocks.specs.Texts.{text_in};
 ghost use Rattle.key_cells.specs.Lease.{bench_of};
 ghost use Rattle.mac_verbs.specs.Codes.{code_of, is_code};
 ghost use Rattle.multi_encipher.specs.Bundles.{ChangesKeyAt};

@@ -1,7 +1,7 @@
 //! CSNBENC and CSNBDEC over a text in segments.
 ghost use Rattle.std.specs.Prelude.{◌≡◌, ◌≤◌, ◌/◌, ◌∷◌, [], ℕ, IsTrue, MatchOption, Some, None, IfSome, codes, length, List};
 ghost use Rattle.cca_vectors.specs.Checks.{first_failing};
-ghost use Rattle.des_core.specs.Texts.{text_in};
+ghost use Rattle.des_blocks.specs.Texts.{text_in};
 ghost use Rattle.key_cells.specs.Lease.{bench_of};
 ghost use Rattle.script_buffers.specs.Replies.{Hex};
 ghost use Rattle.text_segments.specs.Chains.{chain_bytes, chain_checks, chain_of};

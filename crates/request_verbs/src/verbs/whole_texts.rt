@@ -2,7 +2,7 @@
 ghost use Rattle.std.specs.Prelude.{◌≡◌, ◌≤◌, ◌/◌, ◌∷◌, [], ℕ, IsTrue, None, Some, OnOk, length, List};
 ghost use Rattle.cca_vectors.specs.Checks.{first_failing};
 ghost use Rattle.cipher_verbs.specs.CipherTexts.{ChangesText};
-ghost use Rattle.des_core.specs.Texts.{text_in};
+ghost use Rattle.des_blocks.specs.Texts.{text_in};
 ghost use Rattle.key_cells.specs.Lease.{bench_of};
 ghost use Rattle.text_segments.specs.Chains.{first_chain};
 ghost use Rattle.text_segments.specs.Segments.{IsCipher, last_checks, last_text};

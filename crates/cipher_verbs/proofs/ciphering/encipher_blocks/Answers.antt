@@ -1,5 +1,5 @@
 use Rattle.std.proofs.Common.{◌∙◌, ap}
-use Rattle.des_core.specs.Texts.{cbc_text, text_in}
+use Rattle.des_blocks.specs.Texts.{cbc_text, text_in}
 use Rattle.key_cells.specs.Lease.{bench_of}
 use Rattle.verb_rules.specs.Keys.{opened}
 use Rattle.verb_rules.specs.Scheduled.{left_key, right_key}

@@ -1,5 +1,5 @@
 use Rattle.std.proofs.Common.{◌∙◌, take, ap, subst, sym}
-use Rattle.des_core.specs.Modes.{zero_block}
+use Rattle.des_blocks.specs.Modes.{zero_block}
 use Rattle.key_cells.specs.Lease.{bench_of}
 use Rattle.multi_encipher.proofs.SealLaws.{all_zeros}
 use Rattle.verb_rules.specs.Keys.{opened}

@@ -3,9 +3,9 @@ use Rattle.std.specs.Int.{to_be_bytes, w64}
 use Rattle.key_cells.specs.Bench.{text_of, with_text_of}
 use Rattle.key_cells.specs.Lease.{bench_of, holding}
 use Rattle.des_core.specs.Chains.{part_at, with_part}
-use Rattle.des_core.specs.Modes.{blocks}
-use Rattle.des_core.specs.Schedules.{ded_bytes}
-use Rattle.des_core.specs.Texts.{uncbc_from, uncbc_text}
+use Rattle.des_blocks.specs.Modes.{blocks}
+use Rattle.des_blocks.specs.Schedules.{ded_bytes}
+use Rattle.des_blocks.specs.Texts.{uncbc_from, uncbc_text}
 use Rattle.des_core.proofs.ChainLemmas.{lease-again, lease-begun, length-ded_bytes, start-bytes, uncbc-keys}
 use Rattle.des_core.proofs.PartLemmas.{from-more, length-part}
 use Rattle.des_core.proofs.chaining.cbc_decipher.Goals as goal

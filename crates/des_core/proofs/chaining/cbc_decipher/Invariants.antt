@@ -2,8 +2,8 @@ use Rattle.std.proofs.Common.{◌≡◌, ◌*◌, ◌≤◌, length}
 use Rattle.std.specs.Int.{to_be_bytes, w64}
 use Rattle.key_cells.specs.Bench.{text_of, with_text_of}
 use Rattle.key_cells.specs.Lease.{bench_of, holding}
-use Rattle.des_core.specs.Schedules.{ded_bytes}
-use Rattle.des_core.specs.Texts.{uncbc_from, uncbc_text}
+use Rattle.des_blocks.specs.Schedules.{ded_bytes}
+use Rattle.des_blocks.specs.Texts.{uncbc_from, uncbc_text}
 use Rattle.des_core.proofs.chaining.cbc_decipher.Given as goal
 
 abbrev pub invariant-loop-part : goal.invariant-loop-part

@@ -2,10 +2,10 @@ use Rattle.std.proofs.Common.{◌≡◌, ◌-◌, ◌+◌, ◌/◌, ◌*◌, ◌
 use Rattle.std.specs.Int.{to_be_bytes, w64}
 use Rattle.key_cells.specs.Bench.{text_of, with_text_of}
 use Rattle.key_cells.specs.Lease.{bench_of, holding}
-use Rattle.des_core.specs.Bits.{pieces, xor}
-use Rattle.des_core.specs.Modes.{blocks, cbc}
-use Rattle.des_core.specs.Schedules.{ede_bytes}
-use Rattle.des_core.specs.Texts.{put_at}
+use Rattle.des_blocks.specs.Bits.{pieces, xor}
+use Rattle.des_blocks.specs.Modes.{blocks, cbc}
+use Rattle.des_blocks.specs.Schedules.{ede_bytes}
+use Rattle.des_blocks.specs.Texts.{put_at}
 use Rattle.des_core.proofs.ChainLemmas.{cbc-done, cbc-keys, cbc-step-as, lease-begun, length-put, start-bytes, stepped, text-begun, text-more}
 use Rattle.des_core.proofs.chaining.cbc_encipher.Goals as goal
 

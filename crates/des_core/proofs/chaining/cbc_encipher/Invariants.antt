@@ -2,9 +2,9 @@ use Rattle.std.proofs.Common.{◌≡◌, ◌-◌, ◌*◌, ◌++◌, drop, lengt
 use Rattle.std.specs.Int.{to_be_bytes, w64}
 use Rattle.key_cells.specs.Bench.{text_of, with_text_of}
 use Rattle.key_cells.specs.Lease.{bench_of, holding}
-use Rattle.des_core.specs.Bits.{pieces}
-use Rattle.des_core.specs.Modes.{blocks, cbc}
-use Rattle.des_core.specs.Schedules.{ede_bytes}
+use Rattle.des_blocks.specs.Bits.{pieces}
+use Rattle.des_blocks.specs.Modes.{blocks, cbc}
+use Rattle.des_blocks.specs.Schedules.{ede_bytes}
 use Rattle.des_core.proofs.chaining.cbc_encipher.Given as goal
 
 abbrev pub invariant-loop-i : goal.invariant-loop-i

@@ -2,9 +2,9 @@ use Rattle.std.proofs.Common.{◌∙◌, ap, take, drop, bit_xor}
 use Rattle.std.specs.Int.{to_be_bytes, w64}
 use Rattle.key_cells.specs.Bench.{text_of, with_text_of}
 use Rattle.key_cells.specs.Lease.{bench_of, holding}
-use Rattle.des_core.specs.Bits.{bits}
-use Rattle.des_core.specs.Schedules.{ded_under}
-use Rattle.des_core.specs.Texts.{put_at}
+use Rattle.des_blocks.specs.Bits.{bits}
+use Rattle.des_blocks.specs.Schedules.{ded_under}
+use Rattle.des_blocks.specs.Texts.{put_at}
 use Rattle.des_core.proofs.ChainLemmas.{ded_bytes-word}
 use Rattle.des_core.proofs.chaining.decipher_one.Goals as goal
 

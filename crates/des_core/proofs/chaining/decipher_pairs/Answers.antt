@@ -3,10 +3,10 @@ use Rattle.std.specs.Int.{to_be_bytes, w64}
 use Rattle.std.proofs.lemmas.List.{length-drop, length-take}
 use Rattle.key_cells.specs.Bench.{text_of, with_text_of}
 use Rattle.key_cells.specs.Lease.{bench_of, holding}
-use Rattle.des_core.specs.Bits.{xor}
-use Rattle.des_core.specs.Modes.{blocks, uncbc}
-use Rattle.des_core.specs.Schedules.{ded_bytes}
-use Rattle.des_core.specs.Texts.{put_at}
+use Rattle.des_blocks.specs.Bits.{xor}
+use Rattle.des_blocks.specs.Modes.{blocks, uncbc}
+use Rattle.des_blocks.specs.Schedules.{ded_bytes}
+use Rattle.des_blocks.specs.Texts.{put_at}
 use Rattle.des_core.proofs.ChainLemmas.{last-one, lease-begun, length-put, length-xor_block, stepped, two-more, uncbc-done}
 use Rattle.des_core.proofs.PartLemmas.{pairs-begun, pairs-done}
 use Rattle.des_core.proofs.chaining.decipher_pairs.Goals as goal

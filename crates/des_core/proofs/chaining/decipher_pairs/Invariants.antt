@@ -2,9 +2,9 @@ use Rattle.std.proofs.Common.{◌≡◌, ◌-◌, ◌*◌, ◌/◌, ◌++◌, dr
 use Rattle.std.specs.Int.{to_be_bytes, w64}
 use Rattle.key_cells.specs.Bench.{text_of, with_text_of}
 use Rattle.key_cells.specs.Lease.{bench_of, holding}
-use Rattle.des_core.specs.Bits.{pieces}
-use Rattle.des_core.specs.Modes.{blocks, uncbc}
-use Rattle.des_core.specs.Schedules.{ded_bytes}
+use Rattle.des_blocks.specs.Bits.{pieces}
+use Rattle.des_blocks.specs.Modes.{blocks, uncbc}
+use Rattle.des_blocks.specs.Schedules.{ded_bytes}
 use Rattle.des_core.proofs.chaining.decipher_pairs.Given as goal
 
 abbrev pub invariant-loop-i : goal.invariant-loop-i

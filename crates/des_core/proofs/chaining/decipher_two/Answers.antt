@@ -2,9 +2,9 @@ use Rattle.std.proofs.Common.{◌≡◌, ◌+◌, length, ◌∙◌, sym, ap, ta
 use Rattle.std.specs.Int.{to_be_bytes, w64}
 use Rattle.key_cells.specs.Bench.{text_of}
 use Rattle.key_cells.specs.Lease.{bench_of}
-use Rattle.des_core.specs.Bits.{bits, xor}
-use Rattle.des_core.specs.Schedules.{ded_under, ded_bytes}
-use Rattle.des_core.specs.Texts.{put_at}
+use Rattle.des_blocks.specs.Bits.{bits, xor}
+use Rattle.des_blocks.specs.Schedules.{ded_under, ded_bytes}
+use Rattle.des_blocks.specs.Texts.{put_at}
 use Rattle.des_core.proofs.ChainLemmas.{ded_bytes-word, length-put, puts-again, text-kept}
 use Rattle.des_core.proofs.chaining.decipher_two.Goals as goal
 

@@ -1,8 +1,8 @@
 use Rattle.std.proofs.Common.{◌∙◌, ap, take, drop, bit_xor}
 use Rattle.key_cells.specs.Bench.{text_of}
 use Rattle.key_cells.specs.Lease.{bench_of}
-use Rattle.des_core.specs.Bits.{bits}
-use Rattle.des_core.specs.Schedules.{ede_under}
+use Rattle.des_blocks.specs.Bits.{bits}
+use Rattle.des_blocks.specs.Schedules.{ede_under}
 use Rattle.des_core.proofs.ChainLemmas.{cipher-word}
 use Rattle.des_core.proofs.chaining.encipher_one.Goals as goal
 

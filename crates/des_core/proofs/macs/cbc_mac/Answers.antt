@@ -1,5 +1,5 @@
 use Rattle.std.proofs.Common.{◌∙◌, arith}
-use Rattle.des_core.specs.Schedules.{enciphered_under}
+use Rattle.des_blocks.specs.Schedules.{enciphered_under}
 use Rattle.des_core.proofs.MacLemmas.{blocks-count, coding-begun, coding-done, coding-more, mac-key}
 use Rattle.des_core.proofs.macs.cbc_mac.Goals as goal
 

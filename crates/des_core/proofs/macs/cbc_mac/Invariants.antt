@@ -1,4 +1,4 @@
-use Rattle.des_core.specs.Schedules.{enciphered_under}
+use Rattle.des_blocks.specs.Schedules.{enciphered_under}
 use Rattle.des_core.proofs.MacLemmas.{Coding}
 use Rattle.des_core.proofs.macs.cbc_mac.Given as goal
 

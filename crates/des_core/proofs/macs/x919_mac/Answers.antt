@@ -1,6 +1,6 @@
 use Rattle.std.proofs.Common.{ℕ, ◌<◌, get_or, ap, ◌∙◌, rules}
 use Rattle.std.proofs.lemmas.List.{get_or_default}
-use Rattle.des_core.specs.Schedules.{deciphered_under, enciphered_under}
+use Rattle.des_blocks.specs.Schedules.{deciphered_under, enciphered_under}
 use Rattle.des_core.proofs.MacLemmas.{bytes-from-bits, x919-key}
 use Rattle.des_core.proofs.macs.x919_mac.Goals as goal
 

@@ -1,7 +1,7 @@
 use Rattle.std.proofs.Common.{◌≡◌, ◌∙◌, None, length, ap, sym, subst}
 use Rattle.cca_vectors.specs.Checks.{first_failing}
 use Rattle.cca_vectors.specs.Vectors.{length_of}
-use Rattle.des_core.specs.Modes.{mac_x99, mac_x919}
+use Rattle.des_blocks.specs.Modes.{mac_x99, mac_x919}
 use Rattle.key_cells.specs.Bench.{text_of}
 use Rattle.key_cells.specs.Lease.{bench_of}
 use Rattle.verb_rules.specs.declared.lengths.MacRule.TheVariants.{X99, X919}

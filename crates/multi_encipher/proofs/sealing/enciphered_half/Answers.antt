@@ -1,8 +1,8 @@
 use Rattle.std.proofs.Common.{◌≡◌, ◌+◌, List, ℕ, sym, ap, subst, ◌∙◌}
 use Rattle.std.specs.Prelude.{slice_range}
 use Rattle.key_cells.specs.Lease.{bench_of}
-use Rattle.des_core.specs.Schedules.{AreOf}
-use Rattle.des_core.specs.TripleDes.{ede}
+use Rattle.des_blocks.specs.Schedules.{AreOf}
+use Rattle.des_blocks.specs.TripleDes.{ede}
 use Rattle.multi_encipher.specs.Bundles.{bundle_under}
 use Rattle.multi_encipher.specs.Seals.{variant_key, sealed_half}
 use Rattle.multi_encipher.proofs.sealing.enciphered_half.Goals as goal

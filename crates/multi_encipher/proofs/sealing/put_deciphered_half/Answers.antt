@@ -2,7 +2,7 @@ use Rattle.std.proofs.Common.{◌≡◌, ◌+◌, ◌++◌, List, ℕ, length, t
 use Rattle.key_cells.specs.Bench.{key_of}
 use Rattle.key_cells.specs.Lease.{bench_of}
 use Rattle.key_cells.specs.Secret.{bytes_of}
-use Rattle.des_core.specs.Schedules.{AreOf}
+use Rattle.des_blocks.specs.Schedules.{AreOf}
 use Rattle.multi_encipher.specs.Bundles.{bundle_under}
 use Rattle.multi_encipher.specs.Seals.{variant_key, opened_half}
 use Rattle.multi_encipher.proofs.BenchLemmas.{key_of-with_key, key_of-schedules}

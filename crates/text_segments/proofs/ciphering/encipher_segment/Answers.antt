@@ -1,6 +1,6 @@
 use Rattle.std.proofs.Common.{◌≡◌, ◌∙◌, ◌++◌, List, ℕ, ap}
-use Rattle.des_core.specs.Modes.{blocks, cbc, e, last_block}
-use Rattle.des_core.specs.Texts.{cbc_text, text_in}
+use Rattle.des_blocks.specs.Modes.{blocks, cbc, e, last_block}
+use Rattle.des_blocks.specs.Texts.{cbc_text, text_in}
 use Rattle.key_cells.specs.Lease.{bench_of}
 use Rattle.verb_rules.specs.Keys.{opened}
 use Rattle.text_segments.specs.Segments.{rest_part, whole_part}

@@ -1,7 +1,7 @@
 use Rattle.std.proofs.Common.{◌≡◌, ◌∙◌, ◌≤◌, length, take, ap, sym, arith}
 use Rattle.std.proofs.lemmas.List.{length-take, length-take-le}
-use Rattle.des_core.specs.Modes.{blocks, cbc, fill, last_block, zero_block}
-use Rattle.des_core.specs.Texts.{text_in}
+use Rattle.des_blocks.specs.Modes.{blocks, cbc, fill, last_block, zero_block}
+use Rattle.des_blocks.specs.Texts.{text_in}
 use Rattle.key_cells.specs.Lease.{bench_of}
 use Rattle.verb_rules.specs.Keys.{opened}
 use Rattle.text_segments.specs.Segments.{code_cipher}

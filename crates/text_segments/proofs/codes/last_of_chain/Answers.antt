@@ -1,6 +1,6 @@
 use Rattle.std.proofs.Common.{◌≡◌, ◌∙◌, take, ap}
 use Rattle.cca_vectors.specs.Vectors.{length_of}
-use Rattle.des_core.specs.Modes.{mac_x99}
+use Rattle.des_blocks.specs.Modes.{mac_x99}
 use Rattle.key_cells.specs.Bench.{text_of}
 use Rattle.key_cells.specs.Lease.{bench_of}
 use Rattle.verb_rules.specs.Keys.{opened}

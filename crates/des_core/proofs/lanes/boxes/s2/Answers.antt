@@ -1,6 +1,6 @@
 -- Written by tools/circuits/write.
 use Rattle.std.proofs.Common.{List, ℕ, [], ◌∷◌, refl}
-use Rattle.des_core.specs.Tables.{s2}
+use Rattle.des_blocks.specs.Tables.{s2}
 use Rattle.des_core.proofs.CircuitLemmas.{box-lanes, box-vectors, is-vector, six-given}
 use Rattle.des_core.proofs.Circuits.{circuit_2, outs_2, holds-2}
 use Rattle.des_core.proofs.lanes.boxes.s2.Goals as goal

@@ -1,6 +1,6 @@
 -- Written by tools/circuits/write.
 use Rattle.std.proofs.Common.{List, ℕ, [], ◌∷◌, refl}
-use Rattle.des_core.specs.Tables.{s3}
+use Rattle.des_blocks.specs.Tables.{s3}
 use Rattle.des_core.proofs.CircuitLemmas.{box-lanes, box-vectors, is-vector, six-given}
 use Rattle.des_core.proofs.Circuits.{circuit_3, outs_3, holds-3}
 use Rattle.des_core.proofs.lanes.boxes.s3.Goals as goal

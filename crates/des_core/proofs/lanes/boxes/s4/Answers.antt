@@ -1,6 +1,6 @@
 -- Written by tools/circuits/write.
 use Rattle.std.proofs.Common.{List, ℕ, [], ◌∷◌, refl}
-use Rattle.des_core.specs.Tables.{s4}
+use Rattle.des_blocks.specs.Tables.{s4}
 use Rattle.des_core.proofs.CircuitLemmas.{box-lanes, box-vectors, is-vector, six-given}
 use Rattle.des_core.proofs.Circuits.{circuit_4, outs_4, holds-4}
 use Rattle.des_core.proofs.lanes.boxes.s4.Goals as goal

@@ -1,6 +1,6 @@
 -- Written by tools/circuits/write.
 use Rattle.std.proofs.Common.{List, ℕ, [], ◌∷◌, refl}
-use Rattle.des_core.specs.Tables.{s6}
+use Rattle.des_blocks.specs.Tables.{s6}
 use Rattle.des_core.proofs.CircuitLemmas.{box-lanes, box-vectors, is-vector, six-given}
 use Rattle.des_core.proofs.Circuits.{circuit_6, outs_6, holds-6}
 use Rattle.des_core.proofs.lanes.boxes.s6.Goals as goal

@@ -1,6 +1,6 @@
 -- Written by tools/circuits/write.
 use Rattle.std.proofs.Common.{List, ℕ, [], ◌∷◌, refl}
-use Rattle.des_core.specs.Tables.{s7}
+use Rattle.des_blocks.specs.Tables.{s7}
 use Rattle.des_core.proofs.CircuitLemmas.{box-lanes, box-vectors, is-vector, six-given}
 use Rattle.des_core.proofs.Circuits.{circuit_7, outs_7, holds-7}
 use Rattle.des_core.proofs.lanes.boxes.s7.Goals as goal

@@ -1,6 +1,6 @@
 -- Written by tools/circuits/write.
 use Rattle.std.proofs.Common.{List, ℕ, [], ◌∷◌, refl}
-use Rattle.des_core.specs.Tables.{s8}
+use Rattle.des_blocks.specs.Tables.{s8}
 use Rattle.des_core.proofs.CircuitLemmas.{box-lanes, box-vectors, is-vector, six-given}
 use Rattle.des_core.proofs.Circuits.{circuit_8, outs_8, holds-8}
 use Rattle.des_core.proofs.lanes.boxes.s8.Goals as goal

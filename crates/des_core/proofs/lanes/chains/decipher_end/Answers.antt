@@ -4,8 +4,8 @@ use Rattle.std.proofs.lemmas.List.{length-drop, take_all}
 use borrow.Rule.Slice.PartMut.{put_mid, same_len_mid}
 use Rattle.key_cells.specs.Bench.{text_of}
 use Rattle.key_cells.specs.Lease.{bench_of}
-use Rattle.des_core.specs.Schedules.{ded_bytes}
-use Rattle.des_core.specs.Texts.{uncbc_text}
+use Rattle.des_blocks.specs.Schedules.{ded_bytes}
+use Rattle.des_blocks.specs.Texts.{uncbc_text}
 use Rattle.des_core.proofs.ChainLemmas.{text-kept}
 use Rattle.des_core.proofs.PartLemmas.{end-deciphered, end-put}
 use Rattle.des_core.proofs.lanes.chains.decipher_end.Goals as goal

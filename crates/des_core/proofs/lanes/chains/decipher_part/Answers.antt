@@ -3,8 +3,8 @@ use Rattle.std.specs.Int.{to_be_bytes, w64}
 use borrow.Rule.Slice.PartMut.{put_mid, same_len_mid}
 use Rattle.key_cells.specs.Bench.{text_of}
 use Rattle.key_cells.specs.Lease.{bench_of}
-use Rattle.des_core.specs.Schedules.{ded_bytes}
-use Rattle.des_core.specs.Texts.{uncbc_text}
+use Rattle.des_blocks.specs.Schedules.{ded_bytes}
+use Rattle.des_blocks.specs.Texts.{uncbc_text}
 use Rattle.des_core.proofs.ChainLemmas.{text-kept}
 use Rattle.des_core.specs.Chains.{part_at}
 use Rattle.des_core.proofs.LaneChainLemmas.{part-deciphered, part-last, part-put}

@@ -1,7 +1,7 @@
 use Rattle.std.proofs.Common.{◌+◌, bit_xor, slice_index, ap, ◌∙◌}
 use Rattle.std.specs.Int.{to_be_bytes, w64}
-use Rattle.des_core.specs.Bits.{xor}
-use Rattle.des_core.specs.Texts.{put_at}
+use Rattle.des_blocks.specs.Bits.{xor}
+use Rattle.des_blocks.specs.Texts.{put_at}
 use Rattle.des_core.proofs.ChainLemmas.{bytes-xor}
 use Rattle.des_core.proofs.lanes.chains.put_pair.Goals as goal
 

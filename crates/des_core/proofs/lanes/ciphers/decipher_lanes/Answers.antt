@@ -1,5 +1,5 @@
 use Rattle.std.proofs.Common.{◌≡◌, length, ◌∙◌, rules}
-use Rattle.des_core.specs.Schedules.{ordered}
+use Rattle.des_blocks.specs.Schedules.{ordered}
 use Rattle.des_core.specs.Lanes.{lane}
 use Rattle.des_core.proofs.CipherLemmas.{length-lane, three-ciphers}
 use Rattle.des_core.proofs.lanes.ciphers.decipher_lanes.Goals as goal

@@ -1,6 +1,6 @@
 use Rattle.std.proofs.Common.{◌++◌, refl, ap, ◌∙◌}
-use Rattle.des_core.specs.Des.{places}
-use Rattle.des_core.specs.Tables.{final_permutation}
+use Rattle.des_blocks.specs.Des.{places}
+use Rattle.des_blocks.specs.Tables.{final_permutation}
 use Rattle.des_core.specs.Lanes.{lane}
 use Rattle.des_core.proofs.CipherLemmas.{final-lanes, halves, halves-vectors, vectors-pick, word_places, written, written-is}
 use Rattle.des_core.proofs.lanes.ciphers.final_words.Goals as goal

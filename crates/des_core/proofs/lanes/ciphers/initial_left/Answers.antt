@@ -1,6 +1,6 @@
 use Rattle.std.proofs.Common.{take, reverse, refl, ap, ◌∙◌}
-use Rattle.des_core.specs.Des.{places}
-use Rattle.des_core.specs.Tables.{initial_permutation}
+use Rattle.des_blocks.specs.Des.{places}
+use Rattle.des_blocks.specs.Tables.{initial_permutation}
 use Rattle.des_core.specs.Lanes.{lane}
 use Rattle.des_core.proofs.CipherLemmas.{initial-left, left_places, vectors-pick, written-is}
 use Rattle.des_core.proofs.lanes.ciphers.initial_left.Goals as goal

@@ -1,5 +1,5 @@
 use Rattle.std.proofs.Common.{◌-◌, refl, sym}
-use Rattle.des_core.proofs.GroupLemmas.{ordered-key}
+use Rattle.des_blocks.proofs.GroupLemmas.{ordered-key}
 use Rattle.des_core.proofs.lanes.ciphers.key_place.Goals as goal
 
 pub returns-then-reversed-clause-key : goal.returns-then-reversed-clause-key

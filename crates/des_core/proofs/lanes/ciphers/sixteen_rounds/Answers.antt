@@ -1,6 +1,6 @@
 use Rattle.std.proofs.Common.{refl, ◌∙◌, arith}
-use Rattle.des_core.specs.Schedules.{keys_of, ordered}
-use Rattle.des_core.proofs.GroupLemmas.{length-ordered}
+use Rattle.des_blocks.specs.Schedules.{keys_of, ordered}
+use Rattle.des_blocks.proofs.GroupLemmas.{length-ordered}
 use Rattle.des_core.specs.Lanes.{lane}
 use Rattle.des_core.proofs.CipherLemmas.{rounds-done}
 use Rattle.des_core.proofs.lanes.ciphers.sixteen_rounds.Goals as goal

@@ -1,6 +1,6 @@
 use Rattle.std.proofs.Common.{◌≡◌, ℕ, ◌*◌, ◌<◌, drop}
-use Rattle.des_core.specs.Des.{rounds}
-use Rattle.des_core.specs.Schedules.{keys_of, ordered}
+use Rattle.des_blocks.specs.Des.{rounds}
+use Rattle.des_blocks.specs.Schedules.{keys_of, ordered}
 use Rattle.des_core.specs.Lanes.{AreVectors, lane}
 use Rattle.des_core.proofs.lanes.ciphers.sixteen_rounds.Given as goal
 

@@ -1,8 +1,8 @@
 use Rattle.std.proofs.Common.{refl, sym, ap, ◌∙◌, arith}
-use Rattle.des_core.specs.Bits.{xor}
-use Rattle.des_core.specs.Des.{f}
-use Rattle.des_core.specs.Schedules.{keys_of, ordered}
-use Rattle.des_core.proofs.GroupLemmas.{key-at, length-ordered}
+use Rattle.des_blocks.specs.Bits.{xor}
+use Rattle.des_blocks.specs.Des.{f}
+use Rattle.des_blocks.specs.Schedules.{keys_of, ordered}
+use Rattle.des_blocks.proofs.GroupLemmas.{key-at, length-ordered}
 use Rattle.des_core.specs.Lanes.{lane}
 use Rattle.des_core.proofs.CipherLemmas.{rounds-more}
 use Rattle.des_core.proofs.lanes.ciphers.two_rounds.Goals as goal

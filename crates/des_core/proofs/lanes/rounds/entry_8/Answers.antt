@@ -1,6 +1,6 @@
 use Rattle.std.proofs.Common.{◌≡◌, ℕ, List, [], ◌∷◌, ap, ◌∙◌, refl}
-use Rattle.des_core.specs.Des.{look_up}
-use Rattle.des_core.specs.Tables.{s8}
+use Rattle.des_blocks.specs.Des.{look_up}
+use Rattle.des_blocks.specs.Tables.{s8}
 use Rattle.des_core.specs.Lanes.{lane}
 use Rattle.des_core.proofs.LaneHalfLemmas.{group-lanes, ins, six-bits, six-twos}
 use Rattle.des_core.proofs.lanes.rounds.entry_8.Goals as goal

@@ -1,5 +1,5 @@
 use Rattle.std.proofs.Common.{ℕ, ◌+◌, ◌*◌, List, [], ◌∷◌, get_or, refl, ap, ◌∙◌, arith}
-use Rattle.des_core.specs.Schedules.{group_bits}
+use Rattle.des_blocks.specs.Schedules.{group_bits}
 use Rattle.des_core.specs.Lanes.{joined_at}
 use Rattle.des_core.proofs.LaneHalfLemmas.{Joins, eight-in-row, next-lanes, next-vectors}
 use Rattle.des_core.proofs.lanes.rounds.next_half.Goals as goal

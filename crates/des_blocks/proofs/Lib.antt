@@ -1,0 +1,16 @@
+pub mod BitLemmas
+pub mod ByteLemmas
+pub mod CallLemmas
+pub mod ClearKeyLemmas
+pub mod EntryLemmas
+pub mod GatherLemmas
+pub mod GroupLemmas
+pub mod HalfLemmas
+pub mod KeyLemmas
+pub mod LawLemmas
+pub mod Numbers
+pub mod PlaceLemmas
+pub mod RoundLemmas
+pub mod TurnLemmas
+pub mod ValueLemmas
+pub mod XorLemmas

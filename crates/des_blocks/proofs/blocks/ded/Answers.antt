@@ -1,0 +1,16 @@
+use Rattle.std.proofs.Common.{◌≡◌, ℕ, ◌<◌, length, get_or, ap, ◌∙◌, rules}
+use Rattle.des_blocks.specs.Bits.{byte_bits}
+use Rattle.des_blocks.specs.Schedules.{ded_under}
+use Rattle.des_blocks.proofs.ByteLemmas.{bits-from_be_bytes, byte_bits-to_be_bytes, small-to_be_bytes}
+use Rattle.des_blocks.proofs.CallLemmas.{ded-is}
+use Rattle.des_blocks.proofs.blocks.ded.Goals as goal
+
+pub returns-clause-bits : goal.returns-clause-bits
+returns-clause-bits c =
+    let long : length c.args.block.now ≡ 8 = search rules in
+    let small : (i : ℕ) → get_or c.args.block.now i 0 < 256 = search rules in
+    ap byte_bits c.to_be_bytes.ensures ∙ byte_bits-to_be_bytes c.ded_word.result ∙ c.ded_word.ensures
+    ∙ ap (ded_under c.args.keys.now) (bits-from_be_bytes c.args.block.now c.from_be_bytes.result long small c.from_be_bytes.ensures)
+
+pub returns-clause-bytes : goal.returns-clause-bytes
+returns-clause-bytes c a b d of = ded-is c.args.keys.now a b d c.args.block.now _ (rw c.to_be_bytes.ensures (small-to_be_bytes c.ded_word.result)) (returns-clause-bits c) of

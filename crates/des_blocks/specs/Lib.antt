@@ -1,0 +1,14 @@
+pub mod Bits
+pub mod BoxTables
+pub mod Des
+pub mod Gathering
+pub mod Halves
+pub mod Modes
+pub mod Schedules
+pub mod Tables
+pub mod Texts
+pub mod TripleDes
+pub use Rattle.key_cells.specs.Bench
+pub use Rattle.key_cells.specs.Lease
+pub use Rattle.key_cells.specs.Schedule
+pub use Rattle.key_cells.specs.Secret
