@@ -8,7 +8,7 @@ ghost use Rattle.cca_machine.specs.Points.{action_points, target_points, change_
 ghost use Rattle.granted_operands.specs.FieldWords.{IsPartAction};
 ghost use Rattle.granted_operands.specs.Granted.{IsAccepted};
 ghost use Rattle.request_rules.specs.Judging.{seen_operands};
-ghost use Rattle.request_rules.specs.Needing.{IsNeeded};
+ghost use Rattle.request_rules.specs.Needing.{IsNeeded, Needs};
 
 use crate::operands::{
     FIVE_CLASSES, Operands, cipher_key, code_key, csnbkex, csnbkgn_out, csnbkgn_pair, csnbkim,
@@ -35,9 +35,7 @@ pub(crate) struct Needed<'a> {
 
 /// The points and the master key.
 fn needs<'a>(points: AccessPoints, operands: Operands<'a>) -> Needed<'a>
-    ensures points { result.points ≡ points }
-    ensures master { result.master ≡ true }
-    ensures operands { seen_operands result.operands ≡ seen_operands operands.entry }
+    ensures { Needs points true (seen_operands operands.entry) result }
 {
     Needed {
         points,
@@ -48,9 +46,7 @@ fn needs<'a>(points: AccessPoints, operands: Operands<'a>) -> Needed<'a>
 
 /// The points, and no master key.
 fn without_master<'a>(points: AccessPoints, operands: Operands<'a>) -> Needed<'a>
-    ensures points { result.points ≡ points }
-    ensures master { result.master ≡ false }
-    ensures operands { seen_operands result.operands ≡ seen_operands operands.entry }
+    ensures { Needs points false (seen_operands operands.entry) result }
 {
     Needed {
         points,

@@ -11,7 +11,7 @@ use Rattle.verb_script.specs.Grammar.{Request, accepts, hex_text}
 use Rattle.granted_operands.specs.Granted.{HasJudged}
 use Rattle.granted_operands.specs.declared.granted.Granted.{Granted}
 use Rattle.request_verbs.specs.Decided.{HasPassed, HasTextFor, Settles, SettlesOver}
-use Rattle.request_verbs.specs.TextWorks.{HasCipher, IsWork, work_request, work_text}
+use Rattle.request_verbs.specs.TextWorks.{HasCipher, IsWorkOf, MayWork, work_request}
 use Rattle.request_verbs.specs.declared.effects.Effect.{Effect as CodeEffect}
 use Rattle.request_verbs.specs.declared.verbs.codes.Purpose.TheVariants.{Generate, Verify}
 use Rattle.request_verbs.specs.declared.verbs.text_work.TextWork.{TextWork}
@@ -22,20 +22,6 @@ pub settled_as : {request other : Request} {granted : Granted} {old new : Lease}
     → SettlesOver other granted old new e reply → SettlesOver request granted old new e reply
 settled_as {granted} {old} {new} {e} {reply} is settled held rows =
     subst (λ (r : Request). Settles r granted held rows old new e reply) (sym is) (settled held rows)
-
--- the request is this one
-pub record IsWorkOf (request : Request) (work : TextWork) : Type 0 where
-  pub verifies : Bool
-  pub role : List ℕ
-  pub key : List ℕ
-  pub segment : List ℕ
-  pub is : request ≡ work_request work verifies role key segment
-  pub cipher : HasCipher work
-
--- what it rests on, once the request has passed
-pub record MayWork (granted : Granted) (work : TextWork) (reply : List ℕ) : Type 0 where
-  pub given : HasTextFor granted (work_text work) reply
-  pub fields : IsWork work
 
 given_for : {need : Need} {granted : Granted} {text reply : List ℕ} → HasJudged need granted.first → IsTrue (accepts hex_text text) → reply ≡ []
     → HasTextFor granted text reply

@@ -112,6 +112,13 @@ pub record HasPassed (request : Request) (granted : Granted) (held : Registers)
   -- the current master key is there, where it is needed
   pub master : IsTrue (needs_master request.name) → IsSome held.current_pattern
 
+-- the same, the registers being loaded, before a reply is written
+pub record CanDecide (request : Request) (granted : Granted) (held : Registers)
+    (rows : List (Option Row)) (bench : Bench) (reply : List ℕ) : Type 0 where
+  pub passed : HasPassed request granted held rows bench
+  pub loaded : IsLoaded held bench
+  pub empty : reply ≡ []
+
 -- A key can be delivered under the current master key: where it goes is known, and no reply is
 -- written yet.
 pub record CanDeliver (held : Registers) (bench : Bench) (to : List ℕ) (place : Option ℕ)

@@ -1,13 +1,36 @@
 -- Which request over a text is worked on.
-use Rattle.std.specs.Prelude.{ℕ, Bool, List, [], ◌∷◌, ⊤, IsTrue}
+use Rattle.std.specs.Prelude.{◌≡◌, ℕ, Bool, true, false, List, [], ◌∷◌, ⊤, IsTrue}
 use Rattle.text_segments.specs.Segments.{IsCipher}
 use Rattle.verb_script.specs.Grammar.{Request, is_hex}
 use Rattle.cca_machine.specs.CutRequests.{first_code_row, first_row, last_row, middle_code_row, middle_row}
 use Rattle.request_verbs.specs.CodePurposes.{IsPurpose, last_code_row, purpose_text, whole_code_row}
-use Rattle.request_verbs.specs.Decided.{asked}
+use Rattle.verb_script.specs.declared.rows.RequestName.{RequestName}
+use Rattle.verb_script.specs.declared.rows.RequestName.TheVariants.{Csnbenc, CsnbencFirst, CsnbencMiddle, CsnbencLast, Csnbdec, CsnbdecFirst, CsnbdecMiddle, CsnbdecLast, Csnbmgn, CsnbmgnFirst, CsnbmgnMiddle, CsnbmgnLast, Csnbmvr, CsnbmvrFirst, CsnbmvrMiddle, CsnbmvrLast}
+use Rattle.granted_operands.specs.declared.granted.Granted.{Granted}
+use Rattle.request_verbs.specs.Decided.{HasTextFor, asked}
 use Rattle.request_verbs.specs.WholeTexts.{whole_row}
 use Rattle.request_verbs.specs.declared.verbs.text_work.TextWork.{TextWork}
 use Rattle.request_verbs.specs.declared.verbs.text_work.TextWork.TheVariants.{Whole, First, Middle, Last, WholeCode, FirstCode, MiddleCode, LastCode}
+
+-- a request over a text
+abbrev pub is_over_text : RequestName → Bool
+is_over_text Csnbenc = true
+is_over_text CsnbencFirst = true
+is_over_text CsnbencMiddle = true
+is_over_text CsnbencLast = true
+is_over_text Csnbdec = true
+is_over_text CsnbdecFirst = true
+is_over_text CsnbdecMiddle = true
+is_over_text CsnbdecLast = true
+is_over_text Csnbmgn = true
+is_over_text CsnbmgnFirst = true
+is_over_text CsnbmgnMiddle = true
+is_over_text CsnbmgnLast = true
+is_over_text Csnbmvr = true
+is_over_text CsnbmvrFirst = true
+is_over_text CsnbmvrMiddle = true
+is_over_text CsnbmvrLast = true
+is_over_text _ = false
 
 -- The request, with its role, its key and its word for the segment; of a segment whose chain alone is shown, whether it is
 -- of a code that is verified.
@@ -60,3 +83,17 @@ IsWork (WholeCode rule purpose text) = IsPurpose purpose
 IsWork (FirstCode rule text) = ⊤
 IsWork (MiddleCode rule chain text) = IsTrue (is_hex 32 chain.now)
 IsWork (LastCode rule chain purpose text) = IsPurpose purpose × IsTrue (is_hex 32 chain.now)
+
+-- what it rests on
+pub record MayWork (granted : Granted) (work : TextWork) (reply : List ℕ) : Type 0 where
+  pub given : HasTextFor granted (work_text work) reply
+  pub fields : IsWork work
+
+-- the request is the one that is worked on
+pub record IsWorkOf (request : Request) (work : TextWork) : Type 0 where
+  pub verifies : Bool
+  pub role : List ℕ
+  pub key : List ℕ
+  pub segment : List ℕ
+  pub is : request ≡ work_request work verifies role key segment
+  pub cipher : HasCipher work

@@ -22,6 +22,7 @@ pub(crate) mod csnbrng;
 pub(crate) mod csuaaci;
 pub(crate) mod delivering;
 mod key_digits;
+pub(crate) mod key_work;
 mod old_labels;
 pub(crate) mod reenciphering;
 pub(crate) mod segments;

@@ -4,7 +4,7 @@ ghost use Rattle.cca_machine.specs.Act.{token_fields, kind_name, class_name, sho
 ghost use Rattle.key_cells.specs.declared.leases.Lease.{Lease};
 ghost use Rattle.key_records.specs.declared.rows.Row.{Row};
 ghost use Rattle.master_registers.specs.declared.registers.Registers.{Registers};
-ghost use Rattle.script_buffers.specs.Replies.{written, hex_field, text_field, number_field};
+ghost use Rattle.script_buffers.specs.Replies.{written, hex_field};
 ghost use Rattle.verb_script.specs.declared.rows.RequestName.TheVariants.{Csnbktp as row};
 ghost use Rattle.request_verbs.specs.Decided.{Settles, asked};
 
@@ -27,15 +27,16 @@ pub(crate) fn csnbktp(granted: &Granted, reply: &mut ReplyBuffer) -> Effect
     Effect::Shown
 }
 
+#[tactic(auto, using(crate::proofs::TokenReply::decimal_size))]
 fn show_parts(token: &Token, reply: &mut ReplyBuffer)
     requires { reply.old ≡ [] }
     ensures fields { reply.new ≡ written (token_fields token.now) }
     ensures size { length reply.new ≤ 1000 }
 {
     reply.ok();
-    show_kind(token.kind, reply);
-    show_class(token.vector.class(), reply);
-    show_length(token.vector.length(), reply);
+    reply.text("kind", name_of_kind(token.kind).as_bytes());
+    reply.text("class", name_of_class(token.vector.class()).as_bytes());
+    reply.number("length", token.vector.length() as u32);
     show_vector(&token.vector, reply);
     reply.hex("pattern", &token.pattern);
 }
@@ -82,32 +83,6 @@ fn join(left: &[u8], right: &[u8], bytes: &mut [u8])
     let (front, back) = bytes.split_at_mut(8);
     front.copy_from_slice(left);
     back.copy_from_slice(right);
-}
-
-fn show_kind(kind: Kind, reply: &mut ReplyBuffer)
-    requires { length reply.old ≤ 1000 }
-    ensures bytes { reply.new ≡ reply.old ++ text_field (codes "kind") (kind_name kind) }
-    ensures size { length reply.new ≤ length reply.old + 14 }
-{
-    reply.text("kind", name_of_kind(kind).as_bytes());
-}
-
-fn show_class(class: Class, reply: &mut ReplyBuffer)
-    requires { length reply.old ≤ 1000 }
-    ensures bytes { reply.new ≡ reply.old ++ text_field (codes "class") (class_name class) }
-    ensures size { length reply.new ≤ length reply.old + 15 }
-{
-    reply.text("class", name_of_class(class).as_bytes());
-}
-
-#[tactic(auto, using(crate::proofs::TokenReply::decimal_size))]
-fn show_length(bytes: usize, reply: &mut ReplyBuffer)
-    requires room { length reply.old ≤ 1000 }
-    requires key { bytes ≤ 16 }
-    ensures bytes { reply.new ≡ reply.old ++ number_field (codes "length") bytes }
-    ensures size { length reply.new ≤ length reply.old + 25 }
-{
-    reply.number("length", bytes as u32);
 }
 
 fn show_vector(vector: &Vector, reply: &mut ReplyBuffer)

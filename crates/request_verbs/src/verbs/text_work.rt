@@ -1,7 +1,8 @@
 //! Which verb over a text is asked, whole or in segments, with what it takes of the request.
-ghost use Rattle.std.specs.Prelude.{Bool, List, ℕ};
-ghost use Rattle.request_verbs.specs.Decided.{HasTextFor, SettlesOver};
-ghost use Rattle.request_verbs.specs.TextWorks.{IsWork, work_request, work_text};
+ghost use Rattle.std.specs.Prelude.{Bool, IsTrue, List, ℕ};
+ghost use Rattle.verb_script.specs.Parsed.{seen};
+ghost use Rattle.request_verbs.specs.Decided.{SettlesOver};
+ghost use Rattle.request_verbs.specs.TextWorks.{IsWorkOf, MayWork, is_over_text, work_request};
 
 use crate::effects::Effect;
 use crate::verbs::code_segments::{first_code_segment, last_code_segment, middle_code_segment};
@@ -11,7 +12,7 @@ use crate::verbs::whole_texts::whole_text;
 use granted_operands::Granted;
 use key_cells::Lease;
 use text_segments::Mode;
-use verb_script::ReplyBuffer;
+use verb_script::{ReplyBuffer, Request};
 
 /// What is asked of a text, which is the last of the fields.
 #[derive(Clone, Copy)]
@@ -34,6 +35,74 @@ pub(crate) enum TextWork<'a> {
     LastCode(&'a [u8], &'a [u8], Purpose<'a>, &'a [u8]),
 }
 
+/// What such a request asks.
+pub(crate) fn text_work<'a>(request: &Request<'a>) -> TextWork<'a>
+    requires text { IsTrue (is_over_text (seen request.now).name) }
+    ensures work { IsWorkOf (seen request.now) result }
+{
+    match request {
+        Request::Csnbenc { iv, pad, text, .. } => TextWork::Whole(Mode::Encipher, iv, pad, text),
+        Request::CsnbencFirst { iv, text, .. } => TextWork::First(Mode::Encipher, iv, text),
+        Request::CsnbencMiddle { chain, text, .. } => TextWork::Middle(Mode::Encipher, chain, text),
+        Request::CsnbencLast {
+            chain,
+            pad,
+            text,
+            ..
+        } => TextWork::Last(Mode::Encipher, chain, pad, text),
+        Request::Csnbdec { iv, pad, text, .. } => TextWork::Whole(Mode::Decipher, iv, pad, text),
+        Request::CsnbdecFirst { iv, text, .. } => TextWork::First(Mode::Decipher, iv, text),
+        Request::CsnbdecMiddle { chain, text, .. } => TextWork::Middle(Mode::Decipher, chain, text),
+        Request::CsnbdecLast {
+            chain,
+            pad,
+            text,
+            ..
+        } => TextWork::Last(Mode::Decipher, chain, pad, text),
+        Request::Csnbmgn {
+            rule,
+            length,
+            text,
+            ..
+        } => TextWork::WholeCode(rule, Purpose::Generate(length), text),
+        Request::CsnbmgnFirst { rule, text, .. } => TextWork::FirstCode(rule, text),
+        Request::CsnbmgnMiddle {
+            rule,
+            chain,
+            text,
+            ..
+        } => TextWork::MiddleCode(rule, chain, text),
+        Request::CsnbmgnLast {
+            rule,
+            length,
+            chain,
+            text,
+            ..
+        } => TextWork::LastCode(rule, chain, Purpose::Generate(length), text),
+        Request::Csnbmvr {
+            rule,
+            mac,
+            text,
+            ..
+        } => TextWork::WholeCode(rule, Purpose::Verify(mac), text),
+        Request::CsnbmvrFirst { rule, text, .. } => TextWork::FirstCode(rule, text),
+        Request::CsnbmvrMiddle {
+            rule,
+            chain,
+            text,
+            ..
+        } => TextWork::MiddleCode(rule, chain, text),
+        Request::CsnbmvrLast {
+            rule,
+            mac,
+            chain,
+            text,
+            ..
+        } => TextWork::LastCode(rule, chain, Purpose::Verify(mac), text),
+        _ => unreachable!(),
+    }
+}
+
 /// Has the verb decide.
 pub(crate) fn over_text(
     work: TextWork<'_>,
@@ -41,8 +110,7 @@ pub(crate) fn over_text(
     lease: &mut Lease,
     reply: &mut ReplyBuffer,
 ) -> Effect
-    requires given { HasTextFor granted.now (work_text work) reply.old }
-    requires work { IsWork work }
+    requires may { MayWork granted.now work reply.old }
     ensures settles { (verifies : Bool) (role key segment : List ℕ)
         → SettlesOver (work_request work.entry verifies role key segment)
         granted.now lease.old lease.new result reply.new }

@@ -61,3 +61,8 @@ returns-in-Ok-clause-takes g c = takes_on c.decide.ensures.decision.takes (λ is
 pub returns-in-Err-clause-takes : goal.returns-in-Err-clause-takes
 returns-in-Err-clause-takes g c = takes_on c.decide.ensures.decision.takes (λ is. c.in-Err.is ∙ ap Err c.in-Err.ensures.decision.decided.stops)
     (λ is. ap Err c.in-Err.ensures.decision.decided.stops)
+
+pub decide-requires : goal.decide-requires
+decide-requires g c = record {
+  can = record { passed = c.requires.passed; loaded = c.requires.disks.at.loaded; empty = c.requires.empty };
+}
