@@ -4,8 +4,8 @@ use Rattle.std.specs.Prelude.{◌&&◌, if◌then◌else◌}
 use Rattle.held_names.specs.Directory.{has_name}
 use Rattle.held_names.proofs.DirectoryLaws.{none_some}
 use Rattle.key_records.specs.Ages.{any_ahead_entry, any_old, is_ahead_entry, is_old}
-use Rattle.key_records.specs.Directory.{cell_of}
-use Rattle.key_records.specs.Entries.{Entry, entry_label}
+use Rattle.record_bodies.specs.Directory.{cell_of}
+use Rattle.record_bodies.specs.Entries.{Entry, entry_label}
 use Rattle.key_records.specs.Turning.{aged, aged_entry, aged_key}
 use Rattle.key_tokens.specs.Denotes.{Denoted, MasterKeys}
 use Rattle.key_tokens.specs.declared.key_token.Age.{Age}

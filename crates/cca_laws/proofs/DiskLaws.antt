@@ -3,7 +3,7 @@ use Rattle.std.proofs.Common.{◌≡◌, ◌<◌, ℕ, List, Option, None, Some,
 use Rattle.slot_disk.specs.Cells.{body}
 use Rattle.cca_roles.specs.declared.roles.Role.{Role}
 use Rattle.cca_roles.proofs.StandLaws.{stands_one}
-use Rattle.key_records.specs.Entries.{Entry}
+use Rattle.record_bodies.specs.Entries.{Entry}
 use Rattle.key_records.specs.StoreStands.{labels_in}
 use Rattle.key_records.proofs.OneBody.{same_bodies}
 use Rattle.key_records.proofs.OpeningLaws.{stands_one as labels_one}

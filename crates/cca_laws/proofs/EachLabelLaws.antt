@@ -4,7 +4,7 @@ use Rattle.std.specs.Prelude.{if◌then◌else◌}
 use Rattle.held_names.specs.Directory.{has_name}
 use Rattle.held_names.proofs.DirectoryLaws.{has_name_is, none_some}
 use Rattle.key_records.specs.Ages.{has_old_key, is_ahead_entry, is_old as is_old_age}
-use Rattle.key_records.specs.Entries.{Entry, entry, entry_label}
+use Rattle.record_bodies.specs.Entries.{Entry, entry, entry_label}
 use Rattle.key_records.specs.Turning.{aged, aged_entry, aged_key}
 use Rattle.key_tokens.specs.Denotes.{Denoted, MasterKeys}
 use Rattle.key_tokens.specs.declared.key_token.Age.{Age}

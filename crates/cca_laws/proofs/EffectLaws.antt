@@ -2,8 +2,8 @@
 use Rattle.std.proofs.Common.{◌≡◌, ◌≢◌, ◌⊎◌, inl, inr, ℕ, Bool, true, false, cond, not, List, Option, None, Some, refl, ap, codes}
 use Rattle.std.specs.Prelude.{⊤, is_some}
 use Rattle.held_names.proofs.DirectoryLaws.{none_of}
-use Rattle.key_records.specs.Entries.{Entry}
-use Rattle.key_records.specs.Labels.{IsLabel, is_label}
+use Rattle.record_bodies.specs.Entries.{Entry}
+use Rattle.record_bodies.specs.Labels.{IsLabel, is_label}
 use Rattle.key_records.specs.Turning.{aged}
 use Rattle.key_tokens.specs.Denotes.{Denoted}
 use Rattle.script_buffers.specs.Replies.{Field}

@@ -3,9 +3,9 @@ use Rattle.std.proofs.Common.{◌≡◌, ◌≢◌, ℕ, Bool, true, false, List
 use Rattle.std.specs.Prelude.{⊤, if◌then◌else◌}
 use Rattle.held_names.specs.Directory.{has_name}
 use Rattle.key_records.specs.Ages.{any_old, has_old_key, is_old, is_old_entry}
-use Rattle.key_records.specs.Directory.{cell_of, free_cell}
+use Rattle.record_bodies.specs.Directory.{cell_of, free_cell}
 use Rattle.key_records.specs.Changes.{null_entry, with_what}
-use Rattle.key_records.specs.Entries.{Entry, directory, entry_label}
+use Rattle.record_bodies.specs.Entries.{Entry, directory, entry_label}
 use Rattle.key_records.specs.StoreStands.{entry_at}
 use Rattle.key_records.specs.Turning.{aged}
 use Rattle.key_tokens.specs.Denotes.{ClearKey, Denoted}

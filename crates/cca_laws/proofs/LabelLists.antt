@@ -4,7 +4,7 @@ use Rattle.std.specs.Prelude.{⊤, if◌then◌else◌}
 use Rattle.held_names.specs.Directory.{has_name, name_at, place_from, place_of, free_from, free_place}
 use Rattle.held_names.proofs.DirectoryLaws.{has_name_is, held_at}
 use Rattle.key_records.specs.Changes.{with_what}
-use Rattle.key_records.specs.Entries.{Entry, directory, entry_label}
+use Rattle.record_bodies.specs.Entries.{Entry, directory, entry_label}
 use Rattle.key_records.specs.StoreStands.{entry_at}
 use Rattle.key_records.specs.Turning.{aged, aged_entry, aged_key}
 use Rattle.key_tokens.specs.Denotes.{ClearKey, Denoted, MasterKeys}

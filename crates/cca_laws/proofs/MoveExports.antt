@@ -12,7 +12,7 @@ use Rattle.cca_vectors.specs.Classes.{class_of}
 use Rattle.cca_vectors.specs.declared.key_class.Class.TheVariants.{Exporter}
 use Rattle.cca_vectors.specs.declared.key_usage.Usage.TheVariants.{Transport}
 use Rattle.cca_vectors.proofs.Judging.{none_in_first, passed_over, passes, passes_first, passes_rest}
-use Rattle.key_records.specs.Labels.{is_label}
+use Rattle.record_bodies.specs.Labels.{is_label}
 use Rattle.key_tokens.specs.Denotes.{ClearKey, Denoted}
 use Rattle.key_transport.specs.Tokens.{external_token}
 use Rattle.script_buffers.specs.Replies.{Done, Hex}

@@ -13,9 +13,9 @@ use Rattle.held_names.specs.Names.{IsLabel, is_label}
 use Rattle.held_names.specs.Directory.{AreApart}
 use Rattle.held_names.proofs.DirectoryLaws.{held_at, none_some}
 use Rattle.cca_vectors.specs.Checks.{first_failing}
-use Rattle.key_records.specs.Directory.{cell_of, held_count, label_at}
-use Rattle.key_records.specs.Entries.{directory}
-use Rattle.key_records.specs.Rank.{IsNth, is_smaller, smaller_count}
+use Rattle.record_bodies.specs.Directory.{cell_of, held_count, label_at}
+use Rattle.record_bodies.specs.Entries.{directory}
+use Rattle.record_bodies.specs.Rank.{IsNth, is_smaller, smaller_count}
 use Rattle.key_tokens.specs.Denotes.{Denoted}
 use Rattle.key_transport.specs.Tokens.{as_current}
 use Rattle.line_service.specs.Machine.{outcome_of_lines}

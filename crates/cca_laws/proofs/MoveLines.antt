@@ -4,7 +4,7 @@ use Rattle.std.specs.Prelude.{nat_le, ◌&&◌}
 use Rattle.std.specs.List.{concat, flat_map, list_all}
 use Rattle.hex.specs.Hex.{encode_lower}
 use Rattle.held_names.specs.Names.{IsRoleName, is_name_byte, is_role_name, starts_name}
-use Rattle.key_records.specs.Entries.{directory}
+use Rattle.record_bodies.specs.Entries.{directory}
 use Rattle.script_buffers.specs.Lines.{lines, newline}
 use Rattle.script_buffers.proofs.LineLemmas.{lines-nil, lines-whole}
 use Rattle.cca_machine.specs.State.{State}

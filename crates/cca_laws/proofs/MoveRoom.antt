@@ -5,8 +5,8 @@ use Rattle.std.proofs.lemmas.Bool.{eqb-true}
 use Rattle.std.proofs.lemmas.List.{length-map, length-set}
 use Rattle.std.proofs.lemmas.List.Sums.{get_or-le-sum_by, length-filter}
 use Rattle.key_records.specs.Changes.{created, null_entry}
-use Rattle.key_records.specs.Directory.{cell_of, free_cell, held_count}
-use Rattle.key_records.specs.Entries.{Entry, directory, entry_label}
+use Rattle.record_bodies.specs.Directory.{cell_of, free_cell, held_count}
+use Rattle.record_bodies.specs.Entries.{Entry, directory, entry_label}
 use Rattle.key_tokens.specs.Denotes.{Denoted}
 use Rattle.cca_machine.proofs.RankLemmas.{count_lt}
 use Rattle.cca_laws.proofs.MoveLists.{IsHeld, create_held, create_stays, free_low, held_where_put, import_directory, one_more_held}

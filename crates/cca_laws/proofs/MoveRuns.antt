@@ -4,8 +4,8 @@ use Rattle.std.proofs.Common.{◌≡◌, ◌≢◌, ⊎_elim, ◌<◌, ℕ, zero
 use Rattle.std.specs.Prelude.{⊤, Contains, is_some}
 use Rattle.std.specs.List.{AllByRecursion, flat_map}
 use Rattle.std.proofs.lemmas.List.{take-append-drop}
-use Rattle.key_records.specs.Directory.{cell_of}
-use Rattle.key_records.specs.Entries.{Entry, directory, entry}
+use Rattle.record_bodies.specs.Directory.{cell_of}
+use Rattle.record_bodies.specs.Entries.{Entry, directory, entry}
 use Rattle.key_tokens.specs.Denotes.{Denoted}
 use Rattle.cca_laws.proofs.MoveLists.{Finds, IsHeld, create_elsewhere, create_held, create_stays, entry_found, finds_further, finds_itself, held_with_entry, import_again, import_directory, import_elsewhere, import_gives, same_or_other}
 use Rattle.cca_laws.proofs.MoveRoom.{HasRoom, held_after, room_created, room_imported}

@@ -19,8 +19,8 @@ use Rattle.cca_vectors.specs.declared.key_class.Class.TheVariants.{Importer}
 use Rattle.cca_vectors.specs.declared.key_usage.Usage.TheVariants.{Transport}
 use Rattle.cca_vectors.proofs.Judging.{passed_over}
 use Rattle.key_records.specs.Changes.{created}
-use Rattle.key_records.specs.Directory.{cell_of, free_cell}
-use Rattle.key_records.specs.Entries.{Entry, directory}
+use Rattle.record_bodies.specs.Directory.{cell_of, free_cell}
+use Rattle.record_bodies.specs.Entries.{Entry, directory}
 use Rattle.key_tokens.specs.Denotes.{ClearKey, Denoted, denoted_under}
 use Rattle.key_tokens.specs.Fields.{token_of}
 use Rattle.key_tokens.specs.TokenChecks.{token_checks}

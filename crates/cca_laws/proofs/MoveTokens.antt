@@ -11,9 +11,9 @@ use Rattle.cca_vectors.specs.Checks.{first_failing}
 use Rattle.cca_vectors.specs.Vectors.{IsValid}
 use Rattle.held_names.specs.Names.{IsLabel}
 use Rattle.held_names.proofs.DirectoryLaws.{held_at}
-use Rattle.key_records.specs.Directory.{cell_of}
-use Rattle.key_records.specs.Entries.{Entry, directory, entry_label}
-use Rattle.key_records.specs.RecordBody.{ReadsEntry, ReadsWhat, kept}
+use Rattle.record_bodies.specs.Directory.{cell_of}
+use Rattle.record_bodies.specs.Entries.{Entry, directory, entry_label}
+use Rattle.record_bodies.specs.RecordBody.{ReadsEntry, ReadsWhat, kept}
 use Rattle.key_records.specs.StoreStands.{entry_at}
 use Rattle.key_tokens.specs.Denotes.{ClearKey, Denoted, Denotes, HaveDistinctPatterns, MasterKey, MasterKeys, denoted, denoted_under}
 use Rattle.key_tokens.specs.Fields.{token_of}

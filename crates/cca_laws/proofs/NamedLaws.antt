@@ -9,8 +9,8 @@ use Rattle.text_segments.specs.Chains.{first_chain}
 use Rattle.text_segments.specs.declared.modes.Mode.TheVariants as mode
 use Rattle.cca_vectors.specs.Checks.{Check, check, first_failing}
 use Rattle.key_records.specs.Ages.{any_ahead_entry}
-use Rattle.key_records.specs.Directory.{cell_of}
-use Rattle.key_records.specs.Entries.{Entry, directory}
+use Rattle.record_bodies.specs.Directory.{cell_of}
+use Rattle.record_bodies.specs.Entries.{Entry, directory}
 use Rattle.key_tokens.specs.Denotes.{ClearKey, Denoted, denoted}
 use Rattle.key_transport.specs.Generated.{generated_key}
 use Rattle.key_transport.specs.Tokens.{as_current, changed_token, closed_key, external_token, new_token}

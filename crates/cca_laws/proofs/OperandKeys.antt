@@ -4,7 +4,7 @@ use Rattle.std.specs.Prelude.{◌==◌, if◌then◌else◌, is_none, slice_inde
 use Rattle.std.specs.Str.{bytes_eq}
 use Rattle.cca_vectors.specs.Checks.{Check, check, first_failing}
 use Rattle.cca_vectors.proofs.Judging.{none_in_first, passed_over}
-use Rattle.key_records.specs.Labels.{is_label}
+use Rattle.record_bodies.specs.Labels.{is_label}
 use Rattle.key_tokens.specs.Denotes.{Denoted, clear_of, denoted, denoted_or, denoted_under}
 use Rattle.key_tokens.specs.Fields.{kind_of, pattern_of_token, token_of}
 use Rattle.key_tokens.specs.Kinds.{kind_at}

@@ -26,9 +26,9 @@ use Rattle.cca_vectors.proofs.TypeLemmas.{names_type}
 use Rattle.key_parts.specs.Parts.{combined_key, first_key, xor_all}
 use Rattle.key_parts.proofs.PartLemmas.{after_last, before_last}
 use Rattle.key_records.specs.Changes.{with_what, written}
-use Rattle.key_records.specs.Directory.{cell_of}
-use Rattle.key_records.specs.Entries.{Entry, directory, entry_label}
-use Rattle.key_records.specs.Labels.{is_label}
+use Rattle.record_bodies.specs.Directory.{cell_of}
+use Rattle.record_bodies.specs.Entries.{Entry, directory, entry_label}
+use Rattle.record_bodies.specs.Labels.{is_label}
 use Rattle.key_records.specs.StoreStands.{entry_at}
 use Rattle.key_tokens.specs.Denotes.{ClearKey, Denoted}
 use Rattle.key_transport.specs.Generated.{HasLength, vector_for}

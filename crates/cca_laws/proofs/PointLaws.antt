@@ -6,7 +6,7 @@ use Rattle.std.proofs.lemmas.Nat.{and_assoc, and_comm}
 use Rattle.cca_roles.specs.Points.{includes}
 use Rattle.cca_roles.specs.declared.roles.Role.{Role}
 use Rattle.cca_roles.specs.Roles.{points_of}
-use Rattle.key_records.specs.Entries.{Entry}
+use Rattle.record_bodies.specs.Entries.{Entry}
 use Rattle.key_tokens.specs.Denotes.{Denoted}
 use Rattle.master_registers.specs.Masters.{Masters}
 use Rattle.master_registers.specs.declared.actions.Action.{Action}

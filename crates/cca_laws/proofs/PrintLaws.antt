@@ -19,10 +19,10 @@ use Rattle.cca_vectors.specs.declared.key_class.Class.TheVariants.{Data, Cipher,
 use Rattle.cipher_verbs.specs.CipherTexts.{deciphered_text}
 use Rattle.cipher_verbs.specs.Imported.{data_vector}
 use Rattle.des_blocks.specs.Modes.{zero_block}
-use Rattle.key_records.specs.Directory.{held_count}
-use Rattle.key_records.specs.Entries.{Entry, directory}
-use Rattle.key_records.specs.Labels.{IsLabel, is_label, starts_label}
-use Rattle.key_records.specs.RecordBody.{ReadsEntry, ReadsWhat, kept}
+use Rattle.record_bodies.specs.Directory.{held_count}
+use Rattle.record_bodies.specs.Entries.{Entry, directory}
+use Rattle.record_bodies.specs.Labels.{IsLabel, is_label, starts_label}
+use Rattle.record_bodies.specs.RecordBody.{ReadsEntry, ReadsWhat, kept}
 use Rattle.key_records.specs.StoreStands.{entry_at}
 use Rattle.key_tokens.specs.Denotes.{ClearKey, Denoted, MasterKeys}
 use Rattle.key_tokens.specs.Fields.{token_of}

@@ -9,10 +9,10 @@ use Rattle.cca_vectors.specs.Classes.{class_of}
 use Rattle.cca_vectors.specs.declared.key_class.Class.{Class}
 use Rattle.cca_vectors.specs.declared.key_class.Class.TheVariants.{Data, Cipher, Mac, Exporter, Importer, Other}
 use Rattle.key_records.specs.Changes.{null_entry, with_what}
-use Rattle.key_records.specs.Directory.{held_count}
-use Rattle.key_records.specs.Entries.{Entry, directory, entry_label}
-use Rattle.key_records.specs.Labels.{IsLabel, is_label, starts_label}
-use Rattle.key_records.specs.RecordBody.{ReadsEntry}
+use Rattle.record_bodies.specs.Directory.{held_count}
+use Rattle.record_bodies.specs.Entries.{Entry, directory, entry_label}
+use Rattle.record_bodies.specs.Labels.{IsLabel, is_label, starts_label}
+use Rattle.record_bodies.specs.RecordBody.{ReadsEntry}
 use Rattle.key_records.specs.StoreStands.{entry_at}
 use Rattle.key_records.specs.Turning.{aged, aged_entry}
 use Rattle.key_tokens.specs.Denotes.{Denoted, MasterKeys}

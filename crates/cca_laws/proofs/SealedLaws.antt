@@ -9,11 +9,11 @@ use Rattle.held_names.proofs.DirectoryLaws.{none_some}
 use Rattle.slot_disk.specs.Cells.{body, body_at, body_place, other_body, selected}
 use Rattle.slot_disk.specs.SpareBytes.{SameCell}
 use Rattle.slot_disk.proofs.CellSteps.{get_or-range, length-range, selected_below}
-use Rattle.key_records.specs.Entries.{Entry}
-use Rattle.key_records.specs.RecordBody.{ReadsEntry, blank_body}
+use Rattle.record_bodies.specs.Entries.{Entry}
+use Rattle.record_bodies.specs.RecordBody.{ReadsEntry, blank_body}
 use Rattle.key_records.specs.StoreStands.{entry_at}
 use Rattle.key_records.specs.Written.{written_body}
-use Rattle.key_records.proofs.BodyLaws.{entry_blank, reads_one}
+use Rattle.record_bodies.proofs.BodyLaws.{entry_blank, reads_one}
 use Rattle.key_records.proofs.OneBody.{one_body}
 use Rattle.key_tokens.specs.Denotes.{HaveDistinctPatterns, MasterKey, MasterKeys}
 use Rattle.master_registers.specs.Actions.{after_action, has_wrong_state, repeats_pattern}

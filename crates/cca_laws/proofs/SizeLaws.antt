@@ -26,13 +26,13 @@ use Rattle.cipher_verbs.specs.declared.random.RandomForm.{RandomForm}
 use Rattle.cipher_verbs.specs.declared.random.RandomForm.TheVariants.{Random, Odd, Even}
 use Rattle.verb_rules.specs.Parity.{odd_byte}
 use Rattle.des_blocks.specs.Modes.{e, zero_block}
-use Rattle.key_records.specs.Directory.{held_count}
-use Rattle.key_records.specs.Entries.{Entry, directory, entry_label}
-use Rattle.key_records.specs.Labels.{is_label}
-use Rattle.key_records.specs.RecordBody.{ReadsEntry, ReadsWhat, kept}
+use Rattle.record_bodies.specs.Directory.{held_count}
+use Rattle.record_bodies.specs.Entries.{Entry, directory, entry_label}
+use Rattle.record_bodies.specs.Labels.{is_label}
+use Rattle.record_bodies.specs.RecordBody.{ReadsEntry, ReadsWhat, kept}
 use Rattle.key_records.specs.StoreStands.{entry_at}
 use Rattle.held_names.proofs.NameLemmas.{label_short}
-use Rattle.key_records.proofs.RankLaws.{count_bound}
+use Rattle.record_bodies.proofs.RankLaws.{count_bound}
 use Rattle.key_tokens.specs.Denotes.{ClearKey, Denoted, MasterKey, MasterKeys, clear_of, denoted, denoted_or, denoted_under, is_token}
 use Rattle.key_tokens.specs.Fields.{pattern_of_token, token_of}
 use Rattle.key_tokens.specs.declared.key_token.Age.{Age}

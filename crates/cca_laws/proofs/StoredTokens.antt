@@ -8,14 +8,14 @@ use Rattle.held_names.proofs.NameLemmas.{label_short}
 use Rattle.slot_disk.specs.Cells.{body, selected}
 use Rattle.slot_disk.proofs.CellSteps.{selected_below}
 use Rattle.cca_vectors.specs.Checks.{first_failing}
-use Rattle.key_records.specs.Entries.{Entry}
-use Rattle.key_records.specs.Labels.{IsLabel}
-use Rattle.key_records.specs.RecordBody.{HasToken, IsFirst, IsSecond, IsTurned, ReadsEntry, ReadsWhat, both_body, both_kind, key_kind, no_second, null_kind, record_body, token_in}
+use Rattle.record_bodies.specs.Entries.{Entry}
+use Rattle.record_bodies.specs.Labels.{IsLabel}
+use Rattle.record_bodies.specs.RecordBody.{HasToken, IsFirst, IsSecond, IsTurned, ReadsEntry, ReadsWhat, both_body, both_kind, key_kind, no_second, null_kind, record_body, token_in}
 use Rattle.key_records.specs.StoreStands.{entry_at}
 use Rattle.key_records.specs.Written.{key_record, record_bytes, register_of, second_under, token_bytes, written_body}
-use Rattle.key_records.specs.declared.rows.Second.{Second}
-use Rattle.key_records.proofs.BodyLaws.{blank_first, kind_again, token_again}
-use Rattle.key_records.proofs.SecondLaws.{IsLong, none_long, second_long}
+use Rattle.record_bodies.specs.declared.rows.Second.{Second}
+use Rattle.record_bodies.proofs.BodyLaws.{blank_first, kind_again, token_again}
+use Rattle.record_bodies.proofs.SecondLaws.{IsLong, none_long, second_long}
 use Rattle.key_tokens.specs.Denotes.{ClearKey, Denoted, MasterKeys}
 use Rattle.key_tokens.specs.TokenChecks.{token_checks}
 use Rattle.key_tokens.specs.declared.key_token.Age.{Age}

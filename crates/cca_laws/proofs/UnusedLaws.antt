@@ -3,8 +3,8 @@ use Rattle.std.proofs.Common.{◌≡◌, ◌⊎◌, inl, inr, ⊎_elim, ℕ, zer
 use Rattle.std.specs.Prelude.{Contains}
 use Rattle.held_names.proofs.DirectoryLaws.{none_some}
 use Rattle.key_records.specs.Changes.{null_entry, with_what}
-use Rattle.key_records.specs.Directory.{free_cell}
-use Rattle.key_records.specs.Entries.{Entry, directory}
+use Rattle.record_bodies.specs.Directory.{free_cell}
+use Rattle.record_bodies.specs.Entries.{Entry, directory}
 use Rattle.key_records.specs.StoreStands.{entry_at}
 use Rattle.key_records.specs.Turning.{aged, aged_entry, unused_by}
 use Rattle.key_records.specs.Written.{register_of, token_bytes}

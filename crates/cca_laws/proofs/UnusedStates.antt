@@ -6,8 +6,8 @@ use Rattle.cca_roles.specs.Roles.{after_define, after_remove}
 use Rattle.key_parts.specs.Parts.{combined_key}
 use Rattle.key_records.specs.Ages.{any_ahead_entry, any_old, is_ahead_entry, is_old_entry}
 use Rattle.key_records.specs.Changes.{null_entry, with_what}
-use Rattle.key_records.specs.Directory.{cell_of, free_cell}
-use Rattle.key_records.specs.Entries.{Entry, directory, entry_label, what_in}
+use Rattle.record_bodies.specs.Directory.{cell_of, free_cell}
+use Rattle.record_bodies.specs.Entries.{Entry, directory, entry_label, what_in}
 use Rattle.key_records.specs.StoreStands.{entry_at}
 use Rattle.key_records.specs.Turning.{aged, aged_entry}
 use Rattle.key_tokens.specs.Denotes.{ClearKey, Denoted, MasterKeys}

@@ -12,7 +12,7 @@ use Rattle.cca_vectors.specs.declared.key_class.Class.TheVariants.{Data, Cipher,
 use Rattle.cca_vectors.specs.declared.key_usage.Usage.{Usage}
 use Rattle.cca_vectors.specs.declared.key_usage.Usage.TheVariants.{Encipher, Decipher, MacGenerate, MacVerify, Transport, Translate, PairOperational, PairImportExport, PairSame}
 use Rattle.cca_vectors.proofs.Judging.{none_in_first, passed_over, passes_first}
-use Rattle.key_records.specs.Labels.{is_label}
+use Rattle.record_bodies.specs.Labels.{is_label}
 use Rattle.key_tokens.specs.Denotes.{ClearKey, Denoted, MasterKey, MasterKeys, clear_of, denoted, denoted_or, is_token}
 use Rattle.key_tokens.specs.Fields.{kind_of, pattern_of_token, token_of, vector_bytes_of}
 use Rattle.key_tokens.specs.Kinds.{kind_at}

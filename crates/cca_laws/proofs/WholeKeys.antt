@@ -14,8 +14,8 @@ use Rattle.hex.proofs.HexLemmas.{decode_of-digits, decode_of-ok}
 use Rattle.slot_disk.specs.Cells.{body}
 use Rattle.byte_lists.specs.Bytes.{AreBytes}
 use Rattle.byte_lists.proofs.ByteLemmas.{are_bytes}
-use Rattle.key_records.specs.Entries.{Entry}
-use Rattle.key_records.specs.RecordBody.{ReadsEntry, ReadsWhat, kept}
+use Rattle.record_bodies.specs.Entries.{Entry}
+use Rattle.record_bodies.specs.RecordBody.{ReadsEntry, ReadsWhat, kept}
 use Rattle.key_records.specs.StoreStands.{entry_at}
 use Rattle.key_tokens.specs.Denotes.{ClearKey, Denoted, Denotes, HaveDistinctPatterns, MasterKey, MasterKeys, clear_of, denoted, denoted_or, denoted_under, is_token}
 use Rattle.key_tokens.specs.Fields.{pattern_of_token}

@@ -8,7 +8,7 @@ use Rattle.cipher_verbs.specs.RandomBytes.{in_form}
 use Rattle.cipher_verbs.specs.declared.padding.Pad.{Pad}
 use Rattle.des_blocks.specs.Modes.{zero_block}
 use Rattle.key_parts.specs.Parts.{combined_key, first_key}
-use Rattle.key_records.specs.Entries.{directory}
+use Rattle.record_bodies.specs.Entries.{directory}
 use Rattle.key_tokens.specs.Denotes.{ClearKey, Denoted, denoted, denoted_under}
 use Rattle.key_tokens.specs.Fields.{token_of}
 use Rattle.key_tokens.specs.Layout.{made}

@@ -4,8 +4,8 @@ use Rattle.cca_vectors.specs.Checks.{first_failing}
 use Rattle.cca_vectors.specs.Vectors.{IsValid}
 use Rattle.slot_disk.specs.Cells.{body, body_at, other_body}
 use Rattle.slot_disk.specs.SpareBytes.{IsSpare, SameSpare, SameCell}
-use Rattle.key_records.specs.Entries.{Entry}
-use Rattle.key_records.specs.Labels.{IsLabel}
+use Rattle.record_bodies.specs.Entries.{Entry}
+use Rattle.record_bodies.specs.Labels.{IsLabel}
 use Rattle.key_records.specs.StoreStands.{entry_at}
 use Rattle.key_records.specs.Written.{register_of, token_bytes, written_body}
 use Rattle.key_tokens.specs.Denotes.{ClearKey, Denoted}

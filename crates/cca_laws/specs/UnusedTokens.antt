@@ -1,6 +1,6 @@
 -- Two states that differ in tokens that records no longer use, and in nothing else.
 use Rattle.std.specs.Prelude.{◌≡◌, Option, None, Some, map}
-use Rattle.key_records.specs.Entries.{Entry}
+use Rattle.record_bodies.specs.Entries.{Entry}
 use Rattle.cca_machine.specs.State.{State}
 
 -- a label without the token that it doesn't use

@@ -1,9 +1,9 @@
 -- The labels that the memory knows are those of the state.
 use Rattle.std.proofs.Common.{◌≡◌, ◌∙◌, ℕ, List, Option, sym, ap}
-use Rattle.key_records.specs.Directory.{cell_of}
-use Rattle.key_records.specs.Entries.{row_directory}
+use Rattle.record_bodies.specs.Directory.{cell_of}
+use Rattle.record_bodies.specs.Entries.{row_directory}
 use Rattle.key_records.specs.StoreStands.{Agrees}
-use Rattle.key_records.specs.declared.rows.Row.{Row}
+use Rattle.record_bodies.specs.declared.rows.Row.{Row}
 use Rattle.key_records.proofs.OpeningLaws.{directory_remembered}
 use Rattle.verb_rules.specs.Keys.{keys_of}
 use Rattle.cca_machine.specs.Keys.{cell_with}

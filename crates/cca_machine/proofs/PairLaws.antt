@@ -12,7 +12,7 @@ use Rattle.cca_roles.specs.RolesStand.{StandsForRoles, roles_in}
 use Rattle.cca_roles.specs.declared.roles.Role.{Role}
 use Rattle.cca_roles.proofs.StandLaws.{stands_one as roles_one, stands_undamaged as roles_undamaged}
 use Rattle.cca_roles.proofs.TotalLaws.{stands_or_damaged as roles_or_damaged}
-use Rattle.key_records.specs.Entries.{Entry}
+use Rattle.record_bodies.specs.Entries.{Entry}
 use Rattle.key_records.specs.StoreStands.{StandsForLabels, labels_in}
 use Rattle.key_records.proofs.OpeningLaws.{stands_one as labels_one, stands_undamaged as labels_undamaged}
 use Rattle.key_records.proofs.TotalLaws.{stands_or_damaged as labels_or_damaged}

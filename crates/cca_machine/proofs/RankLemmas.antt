@@ -7,9 +7,9 @@ use Rattle.std.proofs.lemmas.Bool.{cases_lt, eq-eqb, eqb-true}
 use Rattle.std.proofs.lemmas.Cmp.{nat_list_cmp_total, tied_itself}
 use Rattle.std.proofs.lemmas.List.{get_or_past}
 use Rattle.std.proofs.lemmas.List.Sums.{sum_by-cons}
-use Rattle.key_records.specs.Directory.{label_at}
-use Rattle.key_records.specs.Rank.{is_smaller, smaller_count, IsNth}
-use Rattle.key_records.proofs.HalvingLaws.{equal_same}
+use Rattle.record_bodies.specs.Directory.{label_at}
+use Rattle.record_bodies.specs.Rank.{is_smaller, smaller_count, IsNth}
+use Rattle.record_bodies.proofs.HalvingLaws.{equal_same}
 use Rattle.cca_machine.specs.Listing.{first_label, has_rank, nth_label}
 
 -- ---- counts

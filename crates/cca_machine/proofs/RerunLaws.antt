@@ -3,7 +3,7 @@ use Rattle.std.proofs.Common.{◌≡◌, ℕ, zero, suc, ◌<◌, ◌≤◌, Boo
 use Rattle.std.specs.Prelude.{◌||◌, if◌then◌else◌}
 use Rattle.slot_disk.specs.Cells.{body}
 use Rattle.key_records.specs.Ages.{any_old as any_old_label, has_old_key, is_old_entry}
-use Rattle.key_records.specs.Entries.{Entry}
+use Rattle.record_bodies.specs.Entries.{Entry}
 use Rattle.key_records.specs.StoreStands.{StandsForLabels}
 use Rattle.key_records.proofs.OneBody.{same_bodies}
 use Rattle.key_tokens.specs.Denotes.{HaveDistinctPatterns}

@@ -12,8 +12,8 @@ use Rattle.key_tokens.specs.Fields.{token_of}
 use Rattle.script_buffers.specs.Replies.{Reply, Refused, Done, Field, Hex, Text, Number}
 use Rattle.master_registers.specs.Masters.{NewRegister, Empty, Partial, Full, Masters}
 use Rattle.key_records.specs.Changes.{created, written, deleted}
-use Rattle.key_records.specs.Directory.{free_cell}
-use Rattle.key_records.specs.Entries.{Entry, directory}
+use Rattle.record_bodies.specs.Directory.{free_cell}
+use Rattle.record_bodies.specs.Entries.{Entry, directory}
 use Rattle.key_records.specs.Turning.{aged}
 use Rattle.key_tokens.specs.Denotes.{ClearKey, Denoted}
 use Rattle.cca_vectors.specs.declared.key_type.KeyType.{KeyType}

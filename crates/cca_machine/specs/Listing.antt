@@ -1,8 +1,8 @@
 -- The labels that begin with a prefix, in ascending order of their bytes.
 use Rattle.std.specs.Prelude.{ℕ, Bool, false, ◌==◌, nat_eq, List, [], ◌∷◌, ◌++◌, length, map, filter, codes, Option, None, Some}
 use Rattle.std.specs.List.{range_with_len, starts_with}
-use Rattle.key_records.specs.Directory.{held_count}
-use Rattle.key_records.specs.Rank.{smaller_count}
+use Rattle.record_bodies.specs.Directory.{held_count}
+use Rattle.record_bodies.specs.Rank.{smaller_count}
 use Rattle.script_buffers.specs.Replies.{Field, Number, Text}
 
 abbrev pub has_rank : ℕ → List (Option (List ℕ)) → Option (List ℕ) → Bool

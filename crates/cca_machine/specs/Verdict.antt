@@ -20,9 +20,9 @@ use Rattle.cipher_verbs.specs.CipherTexts.{enciphering, pad_checks}
 use Rattle.cipher_verbs.specs.declared.padding.Pad.{Pad}
 use Rattle.cipher_verbs.specs.declared.padding.Pad.TheVariants as padding
 use Rattle.key_records.specs.Ages.{any_old as any_old_label, any_ahead_entry}
-use Rattle.key_records.specs.Directory.{free_cell}
-use Rattle.key_records.specs.Entries.{directory}
-use Rattle.key_records.specs.Labels.{is_label}
+use Rattle.record_bodies.specs.Directory.{free_cell}
+use Rattle.record_bodies.specs.Entries.{directory}
+use Rattle.record_bodies.specs.Labels.{is_label}
 use Rattle.key_tokens.specs.Denotes.{ClearKey}
 use Rattle.master_registers.specs.Loaded.{registers_of}
 use Rattle.verb_rules.specs.KeyChecks.{key_checks, use_checks}

@@ -11,7 +11,7 @@ use Rattle.key_records.specs.Ages.{any_ahead_entry}
 use Rattle.key_records.specs.StoreStands.{Agrees}
 use Rattle.key_records.proofs.TurningLaws.{store_stays, memory_stays}
 use Rattle.reencipher.specs.declared.actions.StoreAction.{StoreAction}
-use Rattle.key_records.specs.declared.rows.Row.{Row}
+use Rattle.record_bodies.specs.declared.rows.Row.{Row}
 use Rattle.line_service.specs.declared.stops.Stop.{Stop}
 use Rattle.master_registers.specs.Actions.{after_action}
 use Rattle.master_registers.specs.Masters.{NewRegister, Empty, Partial, Full, Masters, IsMasters, is_empty, is_partial, first_refused, combine_refused, set_refused, same_pattern}

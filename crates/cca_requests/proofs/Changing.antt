@@ -8,7 +8,7 @@ use Rattle.cca_roles.specs.RolesStand.{StandsForRoles}
 use Rattle.cca_roles.specs.declared.roles.Role.{Role}
 use Rattle.cca_vectors.specs.Checks.{check}
 use Rattle.key_cells.specs.Bench.{Bench}
-use Rattle.key_records.specs.Entries.{Entry}
+use Rattle.record_bodies.specs.Entries.{Entry}
 use Rattle.master_registers.specs.Masters.{NewRegister, Empty, Partial, Full, Masters, state_of}
 use Rattle.master_registers.specs.RegisterBody.{StandsForMasters, registers_body}
 use Rattle.master_registers.specs.Loaded.{Loaded}

@@ -8,9 +8,9 @@ use Rattle.slot_disk.specs.SpareBytes.{Turned}
 use Rattle.slot_disk.proofs.Media.{becomes_same, told_from, told_at}
 use Rattle.slot_disk.proofs.SpareLemmas.{turned_same}
 use Rattle.cca_roles.specs.declared.roles.Role.{Role}
-use Rattle.key_records.specs.Entries.{row_directory}
+use Rattle.record_bodies.specs.Entries.{row_directory}
 use Rattle.key_records.specs.StoreStands.{HoldsRows}
-use Rattle.key_records.specs.declared.rows.Row.{Row}
+use Rattle.record_bodies.specs.declared.rows.Row.{Row}
 use Rattle.line_service.specs.Devices.{DiskLeft, devices}
 use Rattle.line_service.specs.declared.stops.Device.TheVariants.{Module}
 use Rattle.line_service.specs.declared.stops.Stop.{Stop}

@@ -5,7 +5,7 @@ use Rattle.slot_disk.specs.Medium.{Medium, Told, From}
 use Rattle.slot_disk.proofs.Media.{each_weaker, told_at}
 use Rattle.key_records.specs.StoreStands.{KeepsLabels}
 use Rattle.key_records.specs.declared.faults.RecordFault.{RecordFault}
-use Rattle.key_records.specs.declared.rows.Row.{Row}
+use Rattle.record_bodies.specs.declared.rows.Row.{Row}
 use Rattle.script_buffers.specs.Replies.{Number, Done, spelled}
 use Rattle.line_service.specs.declared.stops.Stop.TheVariants.{StoreFault}
 use Rattle.verb_rules.specs.Keys.{keys_of}

@@ -8,7 +8,7 @@ use Rattle.slot_disk.proofs.Media.{goes_on, settled_image, each_weaker, each_pai
 use Rattle.script_buffers.specs.Replies.{spelled, Refused}
 use Rattle.cca_roles.specs.declared.roles.Role.{Role}
 use Rattle.key_records.specs.StoreStands.{Agrees}
-use Rattle.key_records.specs.declared.rows.Row.{Row}
+use Rattle.record_bodies.specs.declared.rows.Row.{Row}
 use Rattle.line_service.specs.declared.stops.Stop.{Stop}
 use Rattle.verb_rules.specs.Keys.{keys_of}
 use Rattle.verb_script.specs.Grammar.{Request}

@@ -1,7 +1,7 @@
 -- What the memory knows after a change of the registers, by the rules.
 use Rattle.std.proofs.Common.{◌≡◌, ℕ, Bool, true, false, List, Option, None, Some, Result, Ok, Err, codes, refl}
 use Rattle.std.specs.Prelude.{◌↔◌, IsTrue, OnOk, OnErr, if◌then◌else◌}
-use Rattle.key_records.specs.declared.rows.Row.{Row}
+use Rattle.record_bodies.specs.declared.rows.Row.{Row}
 use Rattle.key_records.specs.StoreStands.{HoldsRows}
 use Rattle.key_records.proofs.RowTurns.{rows_turn}
 use Rattle.master_registers.specs.Actions.{has_wrong_state, repeats_pattern}

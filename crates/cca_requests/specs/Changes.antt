@@ -1,9 +1,9 @@
 -- What is answered of a change of a disk, and what comes of an effect.
 use Rattle.std.specs.Prelude.{◌≡◌, ℕ, List, [], ◌∷◌, codes, Option, Some, None, Result, Ok, Err, map, OnErr, OnOk, length, ◌<◌, ⊤}
-use Rattle.key_records.specs.Entries.{turned}
+use Rattle.record_bodies.specs.Entries.{turned}
 use Rattle.key_records.specs.declared.faults.RecordFault.{RecordFault}
 use Rattle.key_records.specs.declared.faults.RecordFault.TheVariants as record_fault
-use Rattle.key_records.specs.declared.rows.Row.{Row}
+use Rattle.record_bodies.specs.declared.rows.Row.{Row}
 use Rattle.cca_roles.specs.declared.faults.RoleFault.{RoleFault}
 use Rattle.cca_roles.specs.declared.faults.RoleFault.TheVariants as role
 use Rattle.master_registers.specs.Actions.{after_action}

@@ -12,8 +12,8 @@ use Rattle.key_cells.specs.Bench.{Bench}
 use Rattle.key_cells.specs.Lease.{loan_of}
 use Rattle.key_cells.specs.declared.leases.Lease.{Lease}
 use Rattle.key_records.specs.StoreStands.{HasStore, HoldsRows}
-use Rattle.key_records.specs.Entries.{row_directory}
-use Rattle.key_records.specs.declared.rows.Row.{Row}
+use Rattle.record_bodies.specs.Entries.{row_directory}
+use Rattle.record_bodies.specs.declared.rows.Row.{Row}
 use Rattle.master_registers.specs.Masters.{Masters}
 use Rattle.master_registers.specs.RegisterBody.{StandsForMasters, IsDamaged}
 use Rattle.master_registers.specs.declared.registers.Registers.{Registers}

@@ -1,6 +1,6 @@
 //! Changes of the records, with their replies.
 ghost use Rattle.std.specs.Prelude.{◌≡◌, [], List, Option, IsSome};
-ghost use Rattle.key_records.specs.Entries.{Entry};
+ghost use Rattle.record_bodies.specs.Entries.{Entry};
 ghost use Rattle.key_records.specs.StoreStands.{KeepsLabels, HasStore};
 ghost use Rattle.master_registers.specs.Masters.{Masters};
 ghost use Rattle.reencipher.specs.Runs.{IsCell, LeavesAnyStore, Reenciphers, TurnsCells};

@@ -6,9 +6,9 @@ use Rattle.key_cells.specs.Bench.{Bench}
 use Rattle.key_cells.specs.Lease.{bench_of}
 use Rattle.key_cells.specs.declared.leases.Lease.{Lease}
 use Rattle.key_records.specs.Changes.{KeepsAllButBody}
-use Rattle.key_records.specs.Directory.{held_count}
-use Rattle.key_records.specs.Entries.{row_directory}
-use Rattle.key_records.specs.declared.rows.Row.{Row}
+use Rattle.record_bodies.specs.Directory.{held_count}
+use Rattle.record_bodies.specs.Entries.{row_directory}
+use Rattle.record_bodies.specs.declared.rows.Row.{Row}
 use Rattle.key_tokens.specs.Denotes.{ClearKey, Denoted}
 use Rattle.key_tokens.specs.declared.key_token.Age.{Age}
 use Rattle.line_service.specs.declared.stops.Stop.{Stop}

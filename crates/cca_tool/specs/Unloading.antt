@@ -3,14 +3,14 @@ use Rattle.std.specs.Prelude.{⊤, ◌≡◌, ◌⊎◌, ◌<◌, ℕ, List, [],
 use Rattle.cca_roles.specs.RoleNames.{IsRoleName}
 use Rattle.cca_roles.specs.RolesStand.{StandsForRoles}
 use Rattle.cca_roles.specs.declared.roles.Role.{Role}
-use Rattle.key_records.specs.Labels.{IsLabel}
+use Rattle.record_bodies.specs.Labels.{IsLabel}
 use Rattle.slot_disk.specs.Faults.{Rose}
 use Rattle.slot_disk.specs.Medium.{Medium, Told}
 use Rattle.slot_disk.specs.WhereTold.{WhereTold}
 use Rattle.cca_vectors.specs.Checks.{first_failing}
-use Rattle.key_records.specs.Directory.{held_count}
-use Rattle.key_records.specs.Entries.{row_directory}
-use Rattle.key_records.specs.declared.rows.Row.{Row}
+use Rattle.record_bodies.specs.Directory.{held_count}
+use Rattle.record_bodies.specs.Entries.{row_directory}
+use Rattle.record_bodies.specs.declared.rows.Row.{Row}
 use Rattle.key_records.specs.StoreStands.{HoldsRows}
 use Rattle.key_tokens.specs.Denotes.{Denoted}
 use Rattle.master_registers.specs.Masters.{Masters}

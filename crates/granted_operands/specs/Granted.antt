@@ -1,9 +1,9 @@
 -- What the operands of a request stand for, where none of them breaks a rule.
 use Rattle.std.specs.Prelude.{◌≡◌, ◌||◌, ℕ, Bool, true, false, List, Option, Some, None, IsSome, ⊤, Result, Ok, Err}
-use Rattle.key_records.specs.Directory.{label_at}
-use Rattle.key_records.specs.Entries.{row_directory}
-use Rattle.key_records.specs.Labels.{IsLabel}
-use Rattle.key_records.specs.declared.rows.Row.{Row}
+use Rattle.record_bodies.specs.Directory.{label_at}
+use Rattle.record_bodies.specs.Entries.{row_directory}
+use Rattle.record_bodies.specs.Labels.{IsLabel}
+use Rattle.record_bodies.specs.declared.rows.Row.{Row}
 use Rattle.key_cells.specs.Bench.{Bench}
 use Rattle.key_tokens.specs.Denotes.{Denoted, denoted, denoted_under}
 use Rattle.key_tokens.specs.declared.key_token.Age.{Age}

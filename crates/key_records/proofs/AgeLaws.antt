@@ -13,12 +13,12 @@ use Rattle.master_registers.specs.declared.patterns.Pattern.{Pattern}
 use Rattle.slot_disk.specs.Cells.{body}
 use Rattle.key_records.specs.Ages.{is_old, has_old_key, is_old_entry, any_old}
 use Rattle.key_records.specs.Changes.{any_under, is_under}
-use Rattle.key_records.specs.Entries.{Entry, remembered, pattern_for, pattern_under, pattern_or}
-use Rattle.key_records.specs.RecordBody.{kept, ReadsEntry, ReadsWhat}
+use Rattle.record_bodies.specs.Entries.{Entry, remembered, pattern_for, pattern_under, pattern_or}
+use Rattle.record_bodies.specs.RecordBody.{kept, ReadsEntry, ReadsWhat}
 use Rattle.key_records.specs.StoreStands.{KeepsLabels, entry_at}
-use Rattle.key_records.specs.declared.rows.Row.{Row}
+use Rattle.record_bodies.specs.declared.rows.Row.{Row}
 use Rattle.held_names.proofs.DirectoryLaws.{none_some}
-use Rattle.key_records.proofs.KeptLaws.{kept_flag, kept_with_flag}
+use Rattle.record_bodies.proofs.KeptLaws.{kept_flag, kept_with_flag}
 
 pub kept_denoted : (masters : MasterKeys) (token : List ℕ) (key : Denoted) → kept masters token ≡ Some key → denoted masters token ≡ Some key
 kept_denoted masters token key is = ⊎_elim

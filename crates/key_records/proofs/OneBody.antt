@@ -11,17 +11,17 @@ use Rattle.key_tokens.specs.declared.key_token.Age.TheVariants.{Current, Old}
 use Rattle.key_tokens.specs.declared.key_token.Kind.TheVariants.{Internal}
 use Rattle.key_tokens.proofs.DenotedKeys.{denotes_one}
 use Rattle.key_tokens.proofs.Layouts.{token_is}
-use Rattle.key_records.proofs.TokenLaws.{made_again}
+use Rattle.record_bodies.proofs.TokenLaws.{made_again}
 use Rattle.key_tokens.specs.declared.key_token.Token.{Token}
-use Rattle.key_records.specs.Entries.{Entry}
-use Rattle.key_records.specs.RecordBody.{kept, key_body, both_body, second_fields, second_token, IsTurned, IsAhead, IsFirst, IsSecond, HasToken, ReadsEntry, ReadsKey, ReadsWhat}
+use Rattle.record_bodies.specs.Entries.{Entry}
+use Rattle.record_bodies.specs.RecordBody.{kept, key_body, both_body, second_fields, second_token, IsTurned, IsAhead, IsFirst, IsSecond, HasToken, ReadsEntry, ReadsKey, ReadsWhat}
 use Rattle.key_records.specs.StoreStands.{StandsForLabels}
 use Rattle.key_records.specs.Written.{register_of, token_under, token_bytes, second_under, key_record, record_bytes, written_body}
-use Rattle.key_records.specs.declared.rows.Second.{Second}
+use Rattle.record_bodies.specs.declared.rows.Second.{Second}
 use Rattle.held_names.proofs.DirectoryLaws.{none_some}
-use Rattle.key_records.proofs.KeptLaws.{kept_flag, kept_with_flag}
+use Rattle.record_bodies.proofs.KeptLaws.{kept_flag, kept_with_flag}
 use Rattle.key_records.proofs.RowTurns.{is_next}
-use Rattle.key_records.proofs.SecondLaws.{same_second}
+use Rattle.record_bodies.proofs.SecondLaws.{same_second}
 
 -- a token of a key under a master key, with flag c0
 one_token : (token : List ℕ) (master : MasterKey) (clear : ClearKey) → slice_index token 6 ≡ 0xc0 → IsTokenOf Internal master.pattern master.key token clear → token ≡ made (token_under master clear)

@@ -21,14 +21,14 @@ use Rattle.multi_encipher.specs.declared.halves.Sealed.{Sealed}
 use Rattle.verb_rules.specs.KeyChecks.{register_with}
 use Rattle.verb_rules.specs.Keys.{keys_of, new_key, opened, opened_key}
 use Rattle.verb_rules.proofs.DenotedLemmas.{denoted_opened, judged_with}
-use Rattle.key_records.specs.Entries.{pattern_for, pattern_or, pattern_ahead}
+use Rattle.record_bodies.specs.Entries.{pattern_for, pattern_or, pattern_ahead}
 use Rattle.key_records.specs.Opening.{pattern_coming}
-use Rattle.key_records.specs.RecordBody.{kept, second_of, is_turned, what_of, ahead_of, both_kind, IsFirst, IsPair}
-use Rattle.key_records.specs.declared.rows.Row.{Row}
-use Rattle.key_records.specs.declared.rows.Second.{Second}
-use Rattle.key_records.proofs.BodyLaws.{what_turned, ahead_turned}
-use Rattle.key_records.proofs.KeptLaws.{denoted_pattern, kept_with_flag, pattern}
-use Rattle.key_records.proofs.SecondLaws.{same_second}
+use Rattle.record_bodies.specs.RecordBody.{kept, second_of, is_turned, what_of, ahead_of, both_kind, IsFirst, IsPair}
+use Rattle.record_bodies.specs.declared.rows.Row.{Row}
+use Rattle.record_bodies.specs.declared.rows.Second.{Second}
+use Rattle.record_bodies.proofs.BodyLaws.{what_turned, ahead_turned}
+use Rattle.record_bodies.proofs.KeptLaws.{denoted_pattern, kept_with_flag, pattern}
+use Rattle.record_bodies.proofs.SecondLaws.{same_second}
 
 some_one : {A : Type 0} {x y : A} → Some x ≡ Some y → x ≡ y
 some_one is = cc is

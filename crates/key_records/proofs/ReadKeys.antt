@@ -3,8 +3,8 @@ use Rattle.std.proofs.Common.{◌≡◌, ℕ, true, List, Option, None, Some, re
 use Rattle.std.specs.Prelude.{is_some}
 use Rattle.key_tokens.specs.Denotes.{Denoted, MasterKeys, denoted}
 use Rattle.key_records.specs.Changes.{ReadsToken}
-use Rattle.key_records.specs.Entries.{Entry, what_in}
-use Rattle.key_records.specs.RecordBody.{kept}
+use Rattle.record_bodies.specs.Entries.{Entry, what_in}
+use Rattle.record_bodies.specs.RecordBody.{kept}
 use Rattle.key_records.proofs.AgeLaws.{kept_denoted}
 
 pub record HasRead (masters : MasterKeys) (entry : Option Entry) (token : List ℕ) : Type 0 where

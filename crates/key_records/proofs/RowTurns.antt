@@ -1,8 +1,6 @@
 -- Rows of labels that are turned: the second token breaks no rule, and is then the one that the label is under.
-use Rattle.std.proofs.Common.{◌≡◌, ◌<◌, ◌≤◌, inr, ⊎_elim, ℕ, zero, suc, List, [], ◌∷◌, get_or, map, Option, None, Some, refl, sym, ap, subst, ◌∙◌, arith}
+use Rattle.std.proofs.Common.{◌≡◌, inr, ℕ, zero, suc, List, [], ◌∷◌, get_or, map, Option, None, Some, refl, sym, ap, subst, ◌∙◌}
 use Rattle.std.specs.Prelude.{slice_index}
-use Rattle.std.proofs.lemmas.Bool.{cases_lt}
-use Rattle.std.proofs.lemmas.List.{get_or_past}
 use Rattle.byte_lists.specs.Bytes.{AreBytes}
 use Rattle.cca_vectors.specs.Checks.{first_failing}
 use Rattle.slot_disk.specs.Cells.{body}
@@ -12,18 +10,12 @@ use Rattle.key_tokens.specs.declared.key_token.Asked.TheVariants as asked
 use Rattle.key_tokens.proofs.Layouts.{none_from_token, token_from_none}
 use Rattle.key_tokens.proofs.Written.{flag-made, made-token}
 use Rattle.master_registers.specs.declared.patterns.Pattern.{Pattern}
-use Rattle.key_records.specs.Entries.{turned, turned_by}
-use Rattle.key_records.specs.RecordBody.{second_token, second_fields, HoldsToken, IsBeside, IsFirst, IsKept, IsSecond, ReadsPattern, ReadsRow}
+use Rattle.record_bodies.specs.Entries.{turned, turned_by}
+use Rattle.record_bodies.specs.RecordBody.{second_token, second_fields, HoldsToken, IsBeside, IsFirst, IsKept, IsSecond, ReadsPattern, ReadsRow}
 use Rattle.key_records.specs.StoreStands.{HoldsRows}
-use Rattle.key_records.specs.declared.rows.Row.{Row}
-use Rattle.key_records.specs.declared.rows.Second.{Second}
-use Rattle.key_records.proofs.SecondLaws.{second_bytes, second_pattern}
-
-pub fits : (bytes : List ℕ) → AreBytes 64 bytes → (k : ℕ) → get_or bytes k 0 < 256
-fits bytes are k =
-    ⊎_elim (λ (within : k < 64). are.each k 0 (omega (arith, are.size)))
-    (λ (past : 64 ≤ k). let zero : get_or bytes k 0 ≡ 0 = get_or_past bytes k 0 (omega (arith, are.size)) in omega arith)
-    (cases_lt k 64)
+use Rattle.record_bodies.specs.declared.rows.Row.{Row}
+use Rattle.record_bodies.specs.declared.rows.Second.{Second}
+use Rattle.record_bodies.proofs.SecondLaws.{fits, second_bytes, second_pattern}
 
 module _ (token : List ℕ) (second : Second) (first : IsFirst token) (is : IsSecond token second) where
   next_bytes : AreBytes 64 (second_token token second)

@@ -1,6 +1,6 @@
 -- What a change of one cell makes of the labels that a store stands for.
-use Rattle.std.proofs.Common.{◌≡◌, ◌≢◌, ◌<◌, inl, inr, ⊎_elim, ℕ, List, length, get_or, set, map, Option, None, Some, Result, Ok, Err, true, false, sym, ap, subst, ◌∙◌, arith}
-use Rattle.std.specs.Prelude.{OnOk, is_err}
+use Rattle.std.proofs.Common.{◌≡◌, ◌≢◌, ◌<◌, inl, inr, ⊎_elim, ℕ, List, length, get_or, set, map, Option, None, Some, Result, Ok, Err, sym, ap, subst, ◌∙◌, arith}
+use Rattle.std.specs.Prelude.{OnOk}
 use Rattle.std.proofs.lemmas.Bool.{cases_eq}
 use Rattle.std.proofs.lemmas.List.{get_or-set_same, get_or-set_other, length-set, map-set}
 use Rattle.key_cells.specs.declared.leases.Lease.{Lease}
@@ -9,12 +9,12 @@ use Rattle.slot_disk.specs.Medium.{Medium, Told, From, Becomes}
 use Rattle.slot_disk.proofs.Media.{told_from, told_at, becomes_told, each_weaker}
 use Rattle.key_tokens.specs.Denotes.{ClearKey, MasterKeys, Denoted}
 use Rattle.key_records.specs.Changes.{HoldsEither, ReplacesBody, ChangesLabels, ChangesRecord, KeepsAllButBody, Remembers, null_entry, created, written, with_what, ahead_entry, with_both, written_ahead}
-use Rattle.key_records.specs.Directory.{AreApart, label_at, free_cell}
-use Rattle.key_records.specs.Entries.{Entry, entry, directory, entry_label, row_directory, row_label, remembered}
-use Rattle.key_records.specs.RecordBody.{ReadsEntry, ReadsRow}
+use Rattle.record_bodies.specs.Directory.{AreApart, label_at, free_cell}
+use Rattle.record_bodies.specs.Entries.{Entry, entry, directory, entry_label, row_directory, row_label, remembered}
+use Rattle.record_bodies.specs.RecordBody.{ReadsEntry, ReadsRow}
 use Rattle.key_records.specs.StoreStands.{StandsForLabels, KeepsLabels, HoldsRows, Agrees, entry_at}
 use Rattle.key_records.specs.declared.faults.RecordFault.{RecordFault}
-use Rattle.key_records.specs.declared.rows.Row.{Row}
+use Rattle.record_bodies.specs.declared.rows.Row.{Row}
 use Rattle.held_names.proofs.DirectoryLaws.{none_some}
 use Rattle.key_records.proofs.OpeningLaws.{directory_remembered, label_remembered, label_of_entry}
 
@@ -55,10 +55,6 @@ same_directory masters rows s agrees = sym (ap row_directory agrees ∙ director
 pub ok_both : {P Q R : Type 0} (result : Result (Unit {0}) RecordFault) → (P → Q → R) → OnOk result P → OnOk result Q → OnOk result R
 ok_both (Ok x) both first second = both first second
 ok_both (Err e) both first second = tt
-
-pub unless_err : {T E P : Type 0} (r : Result T E) → is_err r ≡ false → OnOk r P → P
-unless_err (Ok x) is holds = holds
-unless_err (Err e) is holds = let wrong : true ≡ false = is in absurd (cc)
 
 -- the entry of a cell becomes another one
 module _ (masters : MasterKeys) (n : ℕ) (bytes : List ℕ) (entry : Option Entry) (rows : List (Option Row)) (row : Option Row) (s next : List (Option Entry)) (within : n < 1024)

@@ -4,7 +4,7 @@ use Rattle.std.specs.List.{list_any}
 use Rattle.key_tokens.specs.Denotes.{Denoted}
 use Rattle.key_tokens.specs.declared.key_token.Age.{Age}
 use Rattle.key_tokens.specs.declared.key_token.Age.TheVariants.{Current, Old}
-use Rattle.key_records.specs.Entries.{Entry}
+use Rattle.record_bodies.specs.Entries.{Entry}
 
 abbrev pub is_old : Age → Bool
 is_old Current = false

@@ -11,14 +11,14 @@ use Rattle.slot_disk.specs.Ranges.{SameOutside}
 use Rattle.key_tokens.specs.Denotes.{ClearKey, MasterKey, MasterKeys, Denoted, denoted}
 use Rattle.key_tokens.specs.declared.key_token.Age.TheVariants.{Current}
 use Rattle.master_registers.specs.declared.patterns.Pattern.{Pattern}
-use Rattle.key_records.specs.Directory.{cell_of, free_cell}
-use Rattle.key_records.specs.Entries.{Entry, entry, directory}
-use Rattle.key_records.specs.RecordBody.{IsKept, ReadsRow, StandsAs, kept, second_of}
+use Rattle.record_bodies.specs.Directory.{cell_of, free_cell}
+use Rattle.record_bodies.specs.Entries.{Entry, entry, directory}
+use Rattle.record_bodies.specs.RecordBody.{IsTokenOf, ReadsRow, kept, second_of}
 use Rattle.key_records.specs.StoreStands.{StandsForLabels, HoldsRows, KeepsLabels, entry_at}
 use Rattle.key_records.specs.declared.faults.RecordFault.{RecordFault}
 use Rattle.key_records.specs.declared.faults.RecordFault.TheVariants.{Damaged, DiskFault, Exists, Full}
-use Rattle.key_records.specs.declared.rows.Row.{Row}
-use Rattle.key_records.specs.declared.rows.Second.{Second}
+use Rattle.record_bodies.specs.declared.rows.Row.{Row}
+use Rattle.record_bodies.specs.declared.rows.Second.{Second}
 
 -- ---- the changes
 
@@ -170,16 +170,6 @@ has_key (Some r) = is_some r.pattern
 abbrev pub ahead_at : Option Row → Option Pattern
 ahead_at None = None
 ahead_at (Some r) = r.ahead
-
--- a token that is kept with a pattern that the memory knows
-abbrev pub IsKeptWith : Option Pattern → List ℕ → Type 0
-IsKeptWith None token = ⊥
-IsKeptWith (Some pattern) token = IsKept token pattern
-
--- the token that the label of a row is under, which stands in the body and is kept with the pattern of the row
-pub record IsTokenOf (bytes : List ℕ) (row : Row) (token : List ℕ) : Type 0 where
-  pub kept : IsKeptWith row.pattern token
-  pub stands : StandsAs bytes row.label token row.ahead
 
 abbrev pub IsTokenAt : List ℕ → Option Row → List ℕ → Type 0
 IsTokenAt bytes None token = ⊥

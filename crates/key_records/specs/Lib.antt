@@ -1,10 +1,3 @@
-pub mod Labels
-pub mod Directory
-pub mod Entries
-pub mod Rows
-pub mod Ascending
-pub mod Rank
-pub mod RecordBody
 pub mod StoreStands
 pub mod Changes
 pub mod Ages
@@ -16,6 +9,11 @@ pub use Rattle.key_cells.specs.Lease
 pub use Rattle.key_tokens.specs.Denotes
 pub use Rattle.master_registers.specs.Loaded
 pub use Rattle.master_registers.specs.Masters
+pub use Rattle.record_bodies.specs.Directory
+pub use Rattle.record_bodies.specs.Entries
+pub use Rattle.record_bodies.specs.Rank
+pub use Rattle.record_bodies.specs.RecordBody
+pub use Rattle.record_bodies.specs.Rows
 pub use Rattle.slot_disk.specs.Cells
 pub use Rattle.slot_disk.specs.Faults
 pub use Rattle.slot_disk.specs.Medium

@@ -4,10 +4,10 @@ use Rattle.std.specs.List.{range_with_len}
 use Rattle.slot_disk.specs.Cells.{body}
 use Rattle.slot_disk.specs.Medium.{Medium, IsSettled, Told}
 use Rattle.key_tokens.specs.Denotes.{MasterKeys}
-use Rattle.key_records.specs.Directory.{AreApart}
-use Rattle.key_records.specs.Entries.{Entry, directory, remembered}
-use Rattle.key_records.specs.RecordBody.{ReadsEntry, ReadsRow, entry_in}
-use Rattle.key_records.specs.declared.rows.Row.{Row}
+use Rattle.record_bodies.specs.Directory.{AreApart}
+use Rattle.record_bodies.specs.Entries.{Entry, directory, remembered}
+use Rattle.record_bodies.specs.RecordBody.{ReadsEntry, ReadsRow, entry_in}
+use Rattle.record_bodies.specs.declared.rows.Row.{Row}
 
 abbrev pub entry_at : List (Option Entry) → ℕ → Option Entry
 entry_at s n = get_or s n None

@@ -4,17 +4,17 @@ ghost use Rattle.byte_lists.specs.Bytes.{AreBytes};
 ghost use Rattle.key_tokens.specs.Denotes.{HaveDistinctPatterns, MasterKey, MasterKeys};
 ghost use Rattle.key_records.specs.Ages.{any_old, any_ahead_entry};
 ghost use Rattle.key_records.specs.Changes.{any_under, any_ahead};
-ghost use Rattle.key_records.specs.Directory.{held_count};
-ghost use Rattle.key_records.specs.Entries.{Entry, row_directory, turned};
-ghost use Rattle.key_records.specs.Rank.{IsNth};
-ghost use Rattle.key_records.specs.RecordBody.{ReadsEntry};
-ghost use Rattle.key_records.specs.Rows.{AreRows};
+ghost use Rattle.record_bodies.specs.Directory.{held_count};
+ghost use Rattle.record_bodies.specs.Entries.{Entry, row_directory, turned};
+ghost use Rattle.record_bodies.specs.Rank.{IsNth};
+ghost use Rattle.record_bodies.specs.RecordBody.{ReadsEntry};
+ghost use Rattle.record_bodies.specs.Rows.{AreRows};
 ghost use Rattle.key_records.specs.StoreStands.{StandsForLabels, Agrees, HoldsRows, KeepsLabels, IsDamagedCell, IsFirstDamaged, labels_in};
 ghost use Rattle.key_records.specs.Turning.{aged, after_turn};
 ghost use Rattle.key_records.specs.Written.{written_body};
 ghost use Rattle.slot_disk.specs.Cells.{body};
 ghost use Rattle.key_records.specs.declared.records.TheConstants.{STORE_LEN};
-ghost use Rattle.key_records.specs.declared.rows.Row.{Row};
+ghost use Rattle.record_bodies.specs.declared.rows.Row.{Row};
 
 /// A store stands for at most one list of labels, and one that does has no damaged cell. Every store
 /// stands for a list of labels or has a first damaged cell.

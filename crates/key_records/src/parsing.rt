@@ -2,25 +2,22 @@
 ghost use Rattle.std.specs.Prelude.{◌≡◌, ◌≢◌, ◌↔◌, Option, None, Some, IfSome, IsSome, IsNone, IsTrue, option_map};
 ghost use Rattle.key_cells.specs.Lease.{bench_of};
 ghost use Rattle.key_records.specs.Changes.{ChangesKeyAndBody};
-ghost use Rattle.key_records.specs.Entries.{Entry, null_row, pattern_for, remembered};
-ghost use Rattle.key_records.specs.Labels.{IsLabel};
+ghost use Rattle.record_bodies.specs.Entries.{Entry, pattern_for, remembered};
 ghost use Rattle.key_records.specs.Opening.{pattern_coming};
-ghost use Rattle.key_records.specs.RecordBody.{blank_body, no_token, no_second, both_kind, kept, IsFirst};
-ghost use Rattle.key_records.specs.RecordBody.{ReadsEntry, entry_in, IsBoth, IsPair, IsWhat, what_of, ahead_of, unused_of};
+ghost use Rattle.record_bodies.specs.RecordBody.{blank_body, no_second, both_kind, kept, IsFirst};
+ghost use Rattle.record_bodies.specs.RecordBody.{ReadsEntry, entry_in, IsBoth, IsPair, IsWhat, what_of, ahead_of, unused_of};
 ghost use Rattle.master_registers.specs.Loaded.{Loaded, registers_of};
 ghost use Rattle.master_registers.specs.Masters.{Masters};
 ghost use Rattle.verb_rules.specs.Keys.{keys_of};
 
-use crate::bodies::{
-    BOTH, KEY, NULL, has_no_second, has_no_token, is_blank, is_record, kept_pattern, label_in,
-    second_in, second_token, token_in,
-};
-use crate::labels::Label;
-use crate::rows::{Row, Second};
 use key_cells::{KeyPlace, Lease, MasterPlace};
 use key_tokens::{Age, Asked, read_token};
 use master_registers::{NewState, Pattern, Registers, has_pattern, pattern_of};
-use multi_encipher::{Sealed, Under, seal};
+use multi_encipher::{Under, seal};
+use record_bodies::{
+    BOTH, KEY, KEY_AND_VECTOR, Label, NULL, Row, Second, are_same, has_no_second, is_blank,
+    is_record, label_in, null_in, pattern_in, second_in, second_token, token_in,
+};
 use verb_rules::{Judged, open_key};
 
 /// The pattern of a full new register.
@@ -123,23 +120,6 @@ fn what_in(
         return None;
     }
     both_in(lease, held, coming, label, token, second)
-}
-
-/// The row of a null record.
-fn null_in(label: &Label, token: &[u8; 64], second: &Second) -> Option<Row>
-    ensures none { IsNone result → token.now ≡ no_token → second.now ≡ no_second → ⊥ }
-    ensures token { IsSome result → token.now ≡ no_token }
-    ensures second { IsSome result → second.now ≡ no_second }
-    ensures row { IfSome result (λ row. row ≡ null_row label.now) }
-{
-    if !has_no_token(token) || !has_no_second(second) {
-        return None;
-    }
-    Some(Row {
-        label: *label,
-        pattern: None,
-        ahead: None,
-    })
 }
 
 /// The row of a record with one token.
@@ -252,8 +232,24 @@ fn are_pair(
     are_same(&sealed, &second.sealed)
 }
 
-fn are_same(one: &Sealed, other: &Sealed) -> bool
-    ensures { IsTrue result ↔ (one.now ≡ other.now) }
+/// The pattern of a token that is kept for a key.
+fn kept_pattern(token: &[u8; 64], held: &Registers) -> Option<Pattern>
+    ghost m: { Masters }
+    requires { held.now ≡ registers_of m }
+    ensures { result ≡ option_map (pattern_for (keys_of m)) (kept (keys_of m) token.now) }
 {
-    *one == *other
+    if token[6] != KEY_AND_VECTOR {
+        return None;
+    }
+    if read_token(token, Asked::Internal).is_err() {
+        return None;
+    }
+    let pattern = pattern_in(token);
+    if has_pattern(held.current_pattern, &pattern) {
+        return Some(pattern);
+    }
+    if has_pattern(held.old_pattern, &pattern) {
+        return Some(pattern);
+    }
+    None
 }

@@ -1,16 +1,14 @@
 //! The labels that are held, as the memory knows them.
 ghost use Rattle.std.specs.Prelude.{◌≡◌, ◌+◌, ◌-◌, ◌*◌, ◌^◌, ◌≤◌, ◌<◌, ℕ, List, Option, None, Some};
-ghost use Rattle.std.specs.Prelude.{length, map, replicate, set, get_or, IfOk, IfSome, IsSome, IsNone, IsTrue, IsFalse};
+ghost use Rattle.std.specs.Prelude.{map, replicate, set, get_or, IfOk, IfSome, IsSome, IsNone, IsTrue, IsFalse};
 ghost use Rattle.key_records.specs.Changes.{any_under, is_under, any_ahead, is_ahead_row};
-ghost use Rattle.key_records.specs.Directory.{cell_of, free_cell, held_count, AreApart, label_at, IsFresh};
-ghost use Rattle.key_records.specs.Entries.{row_directory, row_label, label_or, turned};
-ghost use Rattle.key_records.specs.Rank.{IsNth};
-ghost use Rattle.key_records.specs.Rows.{AreRows};
+ghost use Rattle.record_bodies.specs.Directory.{cell_of, free_cell, held_count, AreApart, label_at, IsFresh};
+ghost use Rattle.record_bodies.specs.Entries.{row_directory, row_label, label_or, turned};
+ghost use Rattle.record_bodies.specs.Rank.{IsNth};
+ghost use Rattle.record_bodies.specs.Rows.{AreRows};
 
-use crate::directory::Directory;
-use crate::labels::Label;
-use crate::rows::{Row, label_of, turned_row};
 use master_registers::Pattern;
+use record_bodies::{Directory, Label, Row, blank, free_in, label_of, turn_rows};
 use slot_disk::{NoMemory, Steps};
 use std::alloc::Global;
 use std::marker::Model;
@@ -57,8 +55,8 @@ pub struct Records {
 // Clauses see a list of 1,024 places, one for each cell.
 impl Model for Records {
     ghost use Rattle.std.specs.Prelude.{List, Option};
-    ghost use Rattle.key_records.specs.declared.rows.Row.{Row};
-    ghost use Rattle.key_records.specs.Rows.{AreListed};
+    ghost use Rattle.record_bodies.specs.declared.rows.Row.{Row};
+    ghost use Rattle.record_bodies.specs.Rows.{AreListed};
 
     ghost Value = { List (Option Row) };
 
@@ -251,20 +249,6 @@ impl Records {
     }
 }
 
-/// The first place without a row.
-fn free_in(rows: &[Option<Row>]) -> Option<usize>
-    ensures free { IfSome result (λ cell. (cell ≡ free_cell (row_directory rows.now))
-        × (cell < length rows.now)) }
-    ensures none { IsNone result → free_cell (row_directory rows.now) ≡ length rows.now }
-{
-    for cell in 0..rows.len() {
-        if rows[cell].is_none() {
-            return Some(cell);
-        }
-    }
-    None
-}
-
 /// Whether the key of a row is under the master key with this pattern.
 fn is_under(row: &Option<Row>, pattern: &Pattern) -> bool
     ensures { result ≡ is_under pattern.now row.now }
@@ -286,28 +270,4 @@ fn is_ahead_row(row: &Option<Row>) -> bool
         Some(row) => row.ahead.is_some(),
         None => false,
     }
-}
-
-/// A row whose label is under its second token, where it was ahead.
-fn turned(row: &Option<Row>) -> Option<Row>
-    ensures { result ≡ turned row.now }
-{
-    match row {
-        Some(row) => Some(turned_row(row)),
-        None => None,
-    }
-}
-
-fn turn_rows(rows: &mut [Option<Row>])
-    ensures { rows.new ≡ map turned rows.old }
-{
-    for row in rows.iter_mut() {
-        *row = turned(row);
-    }
-}
-
-fn blank(rows: &mut [Option<Row>])
-    ensures { rows.new ≡ replicate (length rows.old) None }
-{
-    rows.fill(None);
 }

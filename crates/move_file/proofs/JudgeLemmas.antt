@@ -5,12 +5,12 @@ use Rattle.cca_roles.specs.declared.roles.Role.{Role}
 use Rattle.cca_vectors.specs.Checks.{Check, check, first_failing}
 use Rattle.cca_vectors.proofs.Judging.{passed_over, stopped_in}
 use Rattle.key_cells.specs.Bench.{Bench}
-use Rattle.key_records.specs.Directory.{cell_of}
-use Rattle.key_records.specs.Entries.{row_directory}
-use Rattle.key_records.specs.Labels.{IsLabel, is_label}
+use Rattle.record_bodies.specs.Directory.{cell_of}
+use Rattle.record_bodies.specs.Entries.{row_directory}
+use Rattle.record_bodies.specs.Labels.{IsLabel, is_label}
 use Rattle.key_records.specs.StoreStands.{Agrees, KeepsLabels, entry_at}
 use Rattle.key_records.specs.declared.faults.RecordFault.{RecordFault}
-use Rattle.key_records.specs.declared.rows.Row.{Row}
+use Rattle.record_bodies.specs.declared.rows.Row.{Row}
 use Rattle.key_tokens.specs.Denotes.{Denoted}
 use Rattle.key_tokens.specs.declared.key_token.Age.{Age}
 use Rattle.master_registers.specs.Masters.{Masters}

@@ -6,12 +6,12 @@ use Rattle.std.specs.Str.{bytes_eq}
 use Rattle.held_names.proofs.DirectoryLaws.{held_nowhere}
 use Rattle.cca_vectors.specs.Checks.{first_failing}
 use Rattle.key_cells.specs.Bench.{Bench}
-use Rattle.key_records.specs.Directory.{cell_of, label_at}
-use Rattle.key_records.specs.Entries.{row_directory}
+use Rattle.record_bodies.specs.Directory.{cell_of, label_at}
+use Rattle.record_bodies.specs.Entries.{row_directory}
 use Rattle.key_records.specs.StoreStands.{Agrees, KeepsLabels, entry_at}
 use Rattle.key_records.specs.declared.faults.RecordFault.{RecordFault}
 use Rattle.key_records.specs.declared.faults.RecordFault.TheVariants.{Damaged}
-use Rattle.key_records.specs.declared.rows.Row.{Row}
+use Rattle.record_bodies.specs.declared.rows.Row.{Row}
 use Rattle.key_records.proofs.OpeningLaws.{directory_remembered}
 use Rattle.key_tokens.specs.Denotes.{ClearKey, Denoted, MasterKeys}
 use Rattle.key_transport.specs.Tokens.{external_token}

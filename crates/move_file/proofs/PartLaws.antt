@@ -9,11 +9,11 @@ use Rattle.slot_disk.specs.WhereTold.{WhereTold}
 use Rattle.slot_disk.proofs.Media.{told_at, told_from}
 use Rattle.slot_disk.proofs.WhereToldLemmas.{told_same, told_then, told_weaker}
 use Rattle.line_service.specs.Sending.{Grows}
-use Rattle.key_records.specs.Directory.{held_count}
-use Rattle.key_records.specs.Entries.{directory, row_directory}
-use Rattle.key_records.specs.Rank.{IsNth}
+use Rattle.record_bodies.specs.Directory.{held_count}
+use Rattle.record_bodies.specs.Entries.{directory, row_directory}
+use Rattle.record_bodies.specs.Rank.{IsNth}
 use Rattle.key_records.specs.StoreStands.{Agrees, KeepsLabels}
-use Rattle.key_records.specs.declared.rows.Row.{Row}
+use Rattle.record_bodies.specs.declared.rows.Row.{Row}
 use Rattle.key_records.proofs.OpeningLaws.{directory_remembered}
 use Rattle.verb_rules.specs.Keys.{keys_of}
 use Rattle.cca_machine.specs.Listing.{ascending, nth_label}

@@ -9,11 +9,11 @@ use Rattle.std.proofs.lemmas.List.{append-nil, get_or_append_left, get_or_past, 
 use Rattle.std.proofs.lemmas.List.Folds.{concat-append}
 use Rattle.slot_disk.specs.WhereTold.{WhereTold}
 use Rattle.slot_disk.proofs.WhereToldLemmas.{told_same, told_then, told_weaker}
-use Rattle.key_records.specs.Directory.{cell_of, held_count}
-use Rattle.key_records.specs.Entries.{row_directory}
-use Rattle.key_records.specs.Rank.{IsNth}
+use Rattle.record_bodies.specs.Directory.{cell_of, held_count}
+use Rattle.record_bodies.specs.Entries.{row_directory}
+use Rattle.record_bodies.specs.Rank.{IsNth}
 use Rattle.key_records.specs.declared.faults.RecordFault.{RecordFault}
-use Rattle.key_records.specs.declared.rows.Row.{Row}
+use Rattle.record_bodies.specs.declared.rows.Row.{Row}
 use Rattle.key_tokens.specs.Denotes.{Denoted, MasterKeys}
 use Rattle.store_move.specs.Exports.{IsMoved}
 use Rattle.store_move.specs.Reading.{HoldsAsRead}

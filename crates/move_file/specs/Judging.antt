@@ -3,11 +3,11 @@ use Rattle.std.specs.Prelude.{◌≡◌, ◌<◌, ◌⊎◌, ℕ, List, [], ◌�
 use Rattle.cca_roles.specs.declared.roles.Role.{Role}
 use Rattle.cca_vectors.specs.Checks.{Check, check, first_failing}
 use Rattle.key_cells.specs.Bench.{Bench}
-use Rattle.key_records.specs.Directory.{cell_of}
-use Rattle.key_records.specs.Entries.{row_directory}
+use Rattle.record_bodies.specs.Directory.{cell_of}
+use Rattle.record_bodies.specs.Entries.{row_directory}
 use Rattle.key_records.specs.declared.faults.RecordFault.{RecordFault}
 use Rattle.key_records.specs.declared.faults.RecordFault.TheVariants.{DiskFault, Damaged}
-use Rattle.key_records.specs.declared.rows.Row.{Row}
+use Rattle.record_bodies.specs.declared.rows.Row.{Row}
 use Rattle.key_tokens.specs.Denotes.{Denoted}
 use Rattle.master_registers.specs.Masters.{Masters}
 use Rattle.store_move.specs.Exports.{transport_checks}

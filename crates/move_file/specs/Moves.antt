@@ -8,7 +8,7 @@ use Rattle.hex.specs.Hex.{encode_lower}
 use Rattle.cca_vectors.specs.Checks.{Check, first_failing}
 use Rattle.key_tokens.specs.Denotes.{ClearKey}
 use Rattle.key_transport.specs.Tokens.{external_token}
-use Rattle.key_records.specs.Entries.{directory}
+use Rattle.record_bodies.specs.Entries.{directory}
 use Rattle.script_buffers.specs.Lines.{newline}
 use Rattle.script_buffers.specs.Replies.{two_digits}
 use Rattle.cca_roles.specs.Roles.{points_of}

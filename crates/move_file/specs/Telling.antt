@@ -6,7 +6,7 @@ use Rattle.key_cells.specs.Lease.{bench_of, loan_of}
 use Rattle.key_cells.specs.declared.leases.Lease.{Lease}
 use Rattle.key_records.specs.declared.faults.RecordFault.{RecordFault}
 use Rattle.key_records.specs.declared.faults.RecordFault.TheVariants.{Damaged}
-use Rattle.key_records.specs.declared.rows.Row.{Row}
+use Rattle.record_bodies.specs.declared.rows.Row.{Row}
 use Rattle.key_tokens.specs.Denotes.{Denoted, MasterKeys}
 use Rattle.script_buffers.specs.Replies.{two_digits}
 use Rattle.store_move.specs.Exports.{IsMoved}

@@ -3,9 +3,9 @@ use Rattle.std.specs.Prelude.{◌≡◌, ◌≤◌, ◌<◌, ◌⊎◌, ℕ, tru
 use Rattle.std.specs.List.{concat}
 use Rattle.std.specs.Str.{bytes_eq}
 use Rattle.slot_disk.specs.WhereTold.{WhereTold}
-use Rattle.key_records.specs.Directory.{cell_of, held_count}
-use Rattle.key_records.specs.Entries.{row_directory}
-use Rattle.key_records.specs.declared.rows.Row.{Row}
+use Rattle.record_bodies.specs.Directory.{cell_of, held_count}
+use Rattle.record_bodies.specs.Entries.{row_directory}
+use Rattle.record_bodies.specs.declared.rows.Row.{Row}
 use Rattle.key_tokens.specs.Denotes.{Denoted, MasterKeys}
 use Rattle.store_move.specs.Exports.{IsMoved}
 use Rattle.store_move.specs.Reading.{HoldsAsRead}

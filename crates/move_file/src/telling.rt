@@ -2,8 +2,8 @@
 ghost use Rattle.std.specs.Prelude.{◌≡◌, ◌<◌, ℕ, None, Some, Err, IfErr, get_or};
 ghost use Rattle.std.specs.Str.{bytes_eq};
 ghost use Rattle.key_cells.specs.Lease.{bench_of};
-ghost use Rattle.key_records.specs.Directory.{cell_of, label_at};
-ghost use Rattle.key_records.specs.Entries.{row_directory};
+ghost use Rattle.record_bodies.specs.Directory.{cell_of, label_at};
+ghost use Rattle.record_bodies.specs.Entries.{row_directory};
 ghost use Rattle.key_records.specs.StoreStands.{HoldsRows, KeepsLabels};
 ghost use Rattle.line_service.specs.Devices.{TellsFault};
 ghost use Rattle.line_service.specs.Sending.{Grows};

@@ -1,7 +1,7 @@
 -- Texts that are labels or none, and the places of labels in the order in which a store lists them.
 use Rattle.std.specs.Prelude.{◌≡◌, true, false, List, [], ◌∷◌, ℕ, Option, codes, None, Some}
-use Rattle.key_records.specs.Labels.{is_label}
-use Rattle.key_records.specs.Rank.{smaller_count}
+use Rattle.record_bodies.specs.Labels.{is_label}
+use Rattle.record_bodies.specs.Rank.{smaller_count}
 
 -- four labels as their cells hold them, and a cell without a label
 abbrev pub worked_cells : List (Option (List ℕ))

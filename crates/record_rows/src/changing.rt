@@ -1,8 +1,8 @@
 //! One change of a store, from its settling on.
 ghost use Rattle.std.specs.Prelude.{◌≡◌, IsSome};
 ghost use Rattle.key_cells.specs.Lease.{bench_of};
-ghost use Rattle.key_records.specs.Directory.{label_at};
-ghost use Rattle.key_records.specs.Entries.{row_directory};
+ghost use Rattle.record_bodies.specs.Directory.{label_at};
+ghost use Rattle.record_bodies.specs.Entries.{row_directory};
 ghost use Rattle.key_records.specs.StoreStands.{HasStore};
 ghost use Rattle.key_tokens.specs.declared.key_token.Asked.{Asked};
 ghost use Rattle.master_registers.specs.Loaded.{IsLoaded};

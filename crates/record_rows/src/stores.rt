@@ -1,7 +1,7 @@
 //! Stores with records, and what is found in them.
 ghost use Rattle.std.specs.Prelude.{◌≡◌, IfOk, IsSome};
-ghost use Rattle.key_records.specs.Directory.{label_at};
-ghost use Rattle.key_records.specs.Entries.{row_directory};
+ghost use Rattle.record_bodies.specs.Directory.{label_at};
+ghost use Rattle.record_bodies.specs.Entries.{row_directory};
 ghost use Rattle.key_records.specs.StoreStands.{HoldsRows};
 ghost use Rattle.key_records.specs.declared.records.TheConstants.{STORE_LEN};
 ghost use Rattle.slot_disk.specs.Medium.{Keeps, Told};

@@ -7,7 +7,7 @@ use Rattle.slot_disk.specs.Cells.{selected, body_place, body_at, body, other_bod
 use Rattle.slot_disk.specs.SpareBytes.{Turned}
 use Rattle.slot_disk.proofs.CellSteps.{length-range, get_or-range, selected_below}
 use Rattle.slot_disk.proofs.SpareLemmas.{same_spare_then, spare_untouched}
-use Rattle.key_records.specs.Entries.{Entry}
+use Rattle.record_bodies.specs.Entries.{Entry}
 use Rattle.key_tokens.specs.Denotes.{MasterKeys}
 use Rattle.reencipher.specs.Further.{further, is_changed}
 use Rattle.reencipher.specs.Runs.{IsChanged, LeavesCells, LeavesRest, LeavesOld}

@@ -3,7 +3,7 @@ use Rattle.std.proofs.Common.{◌≡◌, ◌≤◌, ◌<◌, ℕ, zero, suc, ◌
 use Rattle.std.specs.Prelude.{◌&&◌, if◌then◌else◌}
 use Rattle.std.proofs.lemmas.Grind.{common_steps}
 use Rattle.key_tokens.specs.Denotes.{Denoted, MasterKeys}
-use Rattle.key_records.specs.Entries.{Entry}
+use Rattle.record_bodies.specs.Entries.{Entry}
 use Rattle.key_records.specs.StoreStands.{StandsForLabels, entry_at}
 use Rattle.key_records.specs.Ages.{has_old_key}
 use Rattle.reencipher.specs.Further.{under_current, has_current_key, changed, changed_entry, is_changed, is_changed_by, made_by, further, reruns, changed_count}

@@ -7,7 +7,7 @@ use Rattle.slot_disk.specs.Medium.{Medium, Told}
 use Rattle.slot_disk.proofs.Media.{told_from}
 use Rattle.key_records.specs.StoreStands.{HasStore}
 use Rattle.key_records.specs.declared.faults.RecordFault.{RecordFault}
-use Rattle.key_records.specs.declared.rows.Row.{Row}
+use Rattle.record_bodies.specs.declared.rows.Row.{Row}
 use Rattle.reencipher.specs.Runs.{IsCell, LeavesAnyStore}
 use Rattle.reencipher.proofs.RunLaws.{changes_none, changes_more}
 

@@ -14,10 +14,11 @@ use Rattle.key_tokens.specs.Denotes.{denoted}
 use Rattle.key_tokens.specs.Fields.{pattern_of_token}
 use Rattle.key_tokens.specs.TokenChecks.{token_checks}
 use Rattle.key_tokens.specs.declared.key_token.Asked.TheVariants as asked
-use Rattle.key_records.specs.Changes.{IsKeptWith, IsReadOf, IsTokenAt, ReplacesBody, has_key, is_ahead_row}
-use Rattle.key_records.specs.Entries.{row_label}
+use Rattle.key_records.specs.Changes.{IsReadOf, IsTokenAt, ReplacesBody, has_key, is_ahead_row}
+use Rattle.record_bodies.specs.RecordBody.{IsKeptWith}
+use Rattle.record_bodies.specs.Entries.{row_label}
 use Rattle.key_records.specs.declared.faults.RecordFault.{RecordFault}
-use Rattle.key_records.specs.declared.rows.Row.{Row}
+use Rattle.record_bodies.specs.declared.rows.Row.{Row}
 use Rattle.master_registers.specs.Loaded.{Loaded}
 use Rattle.master_registers.specs.Masters.{Masters}
 use Rattle.master_registers.specs.declared.patterns.Pattern.{Pattern}

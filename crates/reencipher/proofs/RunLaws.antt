@@ -7,10 +7,10 @@ use Rattle.slot_disk.specs.Medium.{Medium, Told, IsSettled, From, Becomes, EachI
 use Rattle.slot_disk.proofs.Media.{told_from, told_at, each_weaker, each_still, goes_on, becomes_same, becomes_both, becomes_then}
 use Rattle.key_tokens.specs.Denotes.{MasterKeys, HaveDistinctPatterns}
 use Rattle.key_records.specs.Changes.{ChangesKeyAndBody}
-use Rattle.key_records.specs.Entries.{Entry}
+use Rattle.record_bodies.specs.Entries.{Entry}
 use Rattle.key_records.specs.StoreStands.{StandsForLabels, KeepsLabels, Agrees, entry_at}
 use Rattle.key_records.specs.declared.faults.RecordFault.{RecordFault}
-use Rattle.key_records.specs.declared.rows.Row.{Row}
+use Rattle.record_bodies.specs.declared.rows.Row.{Row}
 use Rattle.key_records.proofs.OneBody.{one_body}
 use Rattle.reencipher.specs.Further.{further, is_changed, changed_count}
 use Rattle.reencipher.specs.Runs.{IsChanged, LeavesOld, LeavesRest, IsOnTheWay, Reenciphers}

@@ -13,13 +13,13 @@ use Rattle.key_tokens.specs.Denotes.{ClearKey, Denoted, MasterKeys, denoted}
 use Rattle.key_tokens.specs.declared.key_token.Age.TheVariants.{Current}
 use Rattle.key_records.specs.Ages.{is_old, has_old_key, is_ahead_entry}
 use Rattle.key_records.specs.Changes.{ReadsToken, ReplacesBody, ChangesLabels, HoldsEither, KeepsAllButBody, ChangesKeyAndBody, AreBoth, is_ahead_row, with_what, with_both}
-use Rattle.key_records.specs.Directory.{label_at}
-use Rattle.key_records.specs.Entries.{Entry, entry, entry_label, remembered, pattern_ahead, row_directory, row_label, label_or}
-use Rattle.key_records.specs.RecordBody.{kept, HasToken, ReadsEntry, ReadsWhat}
+use Rattle.record_bodies.specs.Directory.{label_at}
+use Rattle.record_bodies.specs.Entries.{Entry, entry, entry_label, remembered, pattern_ahead, row_directory, row_label, label_or}
+use Rattle.record_bodies.specs.RecordBody.{kept, HasToken, ReadsEntry, ReadsWhat}
 use Rattle.key_records.specs.StoreStands.{StandsForLabels, KeepsLabels, entry_at}
 use Rattle.key_records.specs.declared.faults.RecordFault.{RecordFault}
-use Rattle.key_records.specs.declared.rows.Row.{Row}
-use Rattle.key_records.proofs.OpeningLaws.{label_of_row}
+use Rattle.record_bodies.specs.declared.rows.Row.{Row}
+use Rattle.record_bodies.proofs.RowLaws.{label_of_row}
 use Rattle.key_records.proofs.ReadLaws.{row_of_entry}
 use Rattle.master_registers.specs.Loaded.{Loaded, ArePlaced}
 use Rattle.master_registers.specs.Masters.{Masters}

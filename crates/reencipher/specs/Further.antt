@@ -3,7 +3,7 @@ use Rattle.std.specs.Prelude.{ℕ, zero, suc, Bool, true, false, not, ◌&&◌, 
 use Rattle.key_tokens.specs.Denotes.{Denoted}
 use Rattle.key_tokens.specs.declared.key_token.Age.TheVariants.{Current}
 use Rattle.key_records.specs.Ages.{is_old, has_old_key}
-use Rattle.key_records.specs.Entries.{Entry, entry}
+use Rattle.record_bodies.specs.Entries.{Entry, entry}
 use Rattle.reencipher.specs.declared.actions.StoreAction.{StoreAction}
 use Rattle.reencipher.specs.declared.actions.StoreAction.TheVariants.{Renew, Ahead, Drop}
 

@@ -6,7 +6,7 @@ pub use Rattle.key_cells.specs.Bench
 pub use Rattle.key_cells.specs.Lease
 pub use Rattle.key_records.specs.Ages
 pub use Rattle.key_records.specs.Changes
-pub use Rattle.key_records.specs.Entries
+pub use Rattle.record_bodies.specs.Entries
 pub use Rattle.key_records.specs.StoreStands
 pub use Rattle.key_records.specs.Written
 pub use Rattle.key_tokens.specs.Denotes

@@ -10,12 +10,12 @@ use Rattle.key_tokens.specs.Denotes.{MasterKeys}
 use Rattle.key_tokens.specs.declared.key_token.Age.{Age}
 use Rattle.key_records.specs.Ages.{is_old}
 use Rattle.key_records.specs.Changes.{ChangesKeyAndBody}
-use Rattle.key_records.specs.Entries.{Entry, row_directory}
+use Rattle.record_bodies.specs.Entries.{Entry, row_directory}
 use Rattle.key_records.specs.StoreStands.{StandsForLabels, KeepsLabels, HoldsRows, Agrees, entry_at}
 use Rattle.key_records.specs.Written.{written_body}
 use Rattle.key_records.specs.declared.faults.RecordFault.{RecordFault}
 use Rattle.key_records.specs.declared.faults.RecordFault.TheVariants.{DiskFault, Damaged}
-use Rattle.key_records.specs.declared.rows.Row.{Row}
+use Rattle.record_bodies.specs.declared.rows.Row.{Row}
 use Rattle.master_registers.specs.declared.patterns.Pattern.{Pattern}
 use Rattle.master_registers.specs.declared.registers.Registers.{Registers}
 use Rattle.verb_rules.specs.KeyChecks.{register_with}

@@ -5,10 +5,10 @@ use Rattle.key_cells.specs.Bench.{Bench}
 use Rattle.key_tokens.specs.Denotes.{ClearKey, Denoted, MasterKey, MasterKeys, denoted}
 use Rattle.key_records.specs.Ages.{has_old_key}
 use Rattle.key_records.specs.Changes.{AreBoth, written, written_ahead}
-use Rattle.key_records.specs.Entries.{Entry, both_row, key_row}
-use Rattle.key_records.specs.declared.rows.Row.{Row}
-use Rattle.key_records.specs.declared.rows.Second.{Second}
-use Rattle.key_records.specs.RecordBody.{key_body, both_body, renewed}
+use Rattle.record_bodies.specs.Entries.{Entry, both_row, key_row}
+use Rattle.record_bodies.specs.declared.rows.Row.{Row}
+use Rattle.record_bodies.specs.declared.rows.Second.{Second}
+use Rattle.record_bodies.specs.RecordBody.{key_body, both_body, renewed}
 use Rattle.master_registers.specs.Loaded.{masters_in}
 use Rattle.master_registers.specs.Masters.{pattern_of_master}
 use Rattle.master_registers.specs.declared.patterns.Pattern.{Pattern}

@@ -5,10 +5,10 @@ use Rattle.slot_disk.specs.Medium.{Medium, Told, From, Becomes, EachImage}
 use Rattle.slot_disk.specs.SpareBytes.{SameCell, HasTurned}
 use Rattle.key_tokens.specs.Denotes.{MasterKeys, denoted}
 use Rattle.key_records.specs.Changes.{IsReadOf, has_key}
-use Rattle.key_records.specs.Entries.{Entry, label_or}
+use Rattle.record_bodies.specs.Entries.{Entry, label_or}
 use Rattle.key_records.specs.StoreStands.{StandsForLabels, KeepsLabels, entry_at}
 use Rattle.key_records.specs.declared.faults.RecordFault.{RecordFault}
-use Rattle.key_records.specs.declared.rows.Row.{Row}
+use Rattle.record_bodies.specs.declared.rows.Row.{Row}
 use Rattle.reencipher.specs.Further.{changed_entry, is_changed}
 use Rattle.reencipher.specs.Runs.{IsChanged}
 use Rattle.reencipher.specs.Tokens.{AreMade, changes_key, row_of}

@@ -1,6 +1,6 @@
 //! Runs that are stopped and run again end as one that isn't stopped.
 ghost use Rattle.std.specs.Prelude.{◌≡◌, ◌≤◌, ◌<◌, ℕ, List, Option, length, max};
-ghost use Rattle.key_records.specs.Entries.{Entry};
+ghost use Rattle.record_bodies.specs.Entries.{Entry};
 ghost use Rattle.key_records.specs.StoreStands.{StandsForLabels};
 ghost use Rattle.key_tokens.specs.Denotes.{HaveDistinctPatterns, MasterKeys};
 ghost use Rattle.reencipher.specs.declared.actions.StoreAction.{StoreAction as Action};

@@ -1,7 +1,7 @@
 //! The store under a new master key, and ahead of one, cell by cell upwards.
 ghost use Rattle.std.specs.Prelude.{List, Option, IsSome};
 ghost use Rattle.key_cells.specs.Lease.{bench_of};
-ghost use Rattle.key_records.specs.Entries.{Entry};
+ghost use Rattle.record_bodies.specs.Entries.{Entry};
 ghost use Rattle.key_records.specs.StoreStands.{HasStore, KeepsLabels};
 ghost use Rattle.master_registers.specs.Loaded.{IsLoaded, Loaded};
 ghost use Rattle.master_registers.specs.Masters.{Masters};

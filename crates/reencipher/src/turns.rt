@@ -2,8 +2,8 @@
 ghost use Rattle.std.specs.Prelude.{◌≡◌, ◌≢◌, ◌<◌, get_or, ℕ, List, Option, IfOk, IfSome, IsSome, IsNone, None, true};
 ghost use Rattle.key_cells.specs.Lease.{bench_of};
 ghost use Rattle.key_records.specs.Changes.{is_ahead_row};
-ghost use Rattle.key_records.specs.Directory.{label_at};
-ghost use Rattle.key_records.specs.Entries.{Entry, row_directory};
+ghost use Rattle.record_bodies.specs.Directory.{label_at};
+ghost use Rattle.record_bodies.specs.Entries.{Entry, row_directory};
 ghost use Rattle.key_records.specs.StoreStands.{HasStore, KeepsLabels};
 ghost use Rattle.master_registers.specs.Loaded.{IsLoaded, Loaded};
 ghost use Rattle.master_registers.specs.Masters.{Masters};

@@ -2,8 +2,8 @@
 ghost use Rattle.std.specs.Prelude.{◌≡◌, List, Option, None, Some, IfErr, OnOk, IsSome, get_or};
 ghost use Rattle.key_cells.specs.Lease.{bench_of};
 ghost use Rattle.key_records.specs.Changes.{ChangesLabels, ChangesRecord};
-ghost use Rattle.key_records.specs.Directory.{label_at};
-ghost use Rattle.key_records.specs.Entries.{Entry, row_directory, label_or};
+ghost use Rattle.record_bodies.specs.Directory.{label_at};
+ghost use Rattle.record_bodies.specs.Entries.{Entry, row_directory, label_or};
 ghost use Rattle.key_records.specs.StoreStands.{HoldsRows, KeepsLabels};
 ghost use Rattle.key_records.specs.declared.records.TheConstants.{STORE_LEN};
 ghost use Rattle.key_tokens.specs.Denotes.{Denoted, MasterKeys};

@@ -11,7 +11,7 @@ use Rattle.key_records.specs.Changes.{KeepsAllButBody}
 use Rattle.key_records.specs.StoreStands.{Agrees, KeepsLabels, entry_at}
 use Rattle.key_records.specs.declared.faults.RecordFault.{RecordFault}
 use Rattle.key_records.specs.declared.faults.RecordFault.TheVariants.{Damaged, DiskFault}
-use Rattle.key_records.specs.declared.rows.Row.{Row}
+use Rattle.record_bodies.specs.declared.rows.Row.{Row}
 use Rattle.key_tokens.specs.Denotes.{Denoted, denoted, denoted_under}
 use Rattle.key_tokens.specs.Fields.{kind_of, pattern_of_token, token_of}
 use Rattle.key_tokens.specs.Kinds.{is_asked, kind_at}

@@ -1,6 +1,6 @@
 -- The first rule that an operand of a request breaks, or what it stands for.
 use Rattle.std.specs.Prelude.{◌≡◌, ◌<◌, ℕ, List, length, Option, Some, None, IsTrue, ⊤, Result, Ok, Err}
-use Rattle.key_records.specs.declared.rows.Row.{Row}
+use Rattle.record_bodies.specs.declared.rows.Row.{Row}
 use Rattle.cca_vectors.specs.Checks.{first_failing}
 use Rattle.key_cells.specs.Bench.{Bench}
 use Rattle.key_tokens.specs.declared.key_token.Asked.TheVariants.{Internal}

@@ -3,9 +3,9 @@ use Rattle.std.proofs.Common.{◌≡◌, ◌≤◌, ◌∙◌, ℕ, true, false,
 use Rattle.std.specs.Prelude.{Bool, IsSome, IsTrue, is_some, ◌||◌}
 use Rattle.key_cells.specs.Bench.{Bench}
 use Rattle.held_names.proofs.NameLemmas.{label_short}
-use Rattle.key_records.specs.Directory.{label_at}
-use Rattle.key_records.specs.Entries.{row_directory}
-use Rattle.key_records.specs.declared.rows.Row.{Row}
+use Rattle.record_bodies.specs.Directory.{label_at}
+use Rattle.record_bodies.specs.Entries.{row_directory}
+use Rattle.record_bodies.specs.declared.rows.Row.{Row}
 use Rattle.key_tokens.specs.Denotes.{Denoted, denoted}
 use Rattle.master_registers.specs.Loaded.{IsLoaded, Loaded, masters_in}
 use Rattle.master_registers.specs.Masters.{Masters}

@@ -6,7 +6,7 @@ use Rattle.std.specs.Prelude.{◌≤◌, ◌<◌, IsNone, IsSome, IsTrue, Result
 use Rattle.cca_vectors.specs.declared.key_length.Length.{Length}
 use Rattle.key_cells.specs.Lease.{bench_of}
 use Rattle.key_cells.specs.declared.leases.Lease.{Lease}
-use Rattle.key_records.specs.declared.rows.Row.{Row}
+use Rattle.record_bodies.specs.declared.rows.Row.{Row}
 use Rattle.key_tokens.specs.Denotes.{denoted}
 use Rattle.key_transport.specs.Generated.{Draws}
 use Rattle.key_transport.specs.UniqueHalves.{key_taken}

@@ -6,7 +6,7 @@ use Rattle.key_cells.specs.Bench.{Bench}
 use Rattle.key_records.proofs.AgeLaws.{old_labels, no_old_labels}
 use Rattle.key_records.specs.Ages.{any_old, any_ahead_entry}
 use Rattle.key_records.specs.Changes.{any_under}
-use Rattle.key_records.specs.declared.rows.Row.{Row}
+use Rattle.record_bodies.specs.declared.rows.Row.{Row}
 use Rattle.master_registers.specs.Loaded.{Loaded, pattern_in}
 use Rattle.master_registers.specs.Masters.{Masters, has_pattern_of, pattern_of_master, set_refused, same_pattern}
 use Rattle.master_registers.specs.declared.patterns.Pattern.{Pattern}

@@ -6,7 +6,7 @@ use Rattle.key_cells.specs.Lease.{bench_of, holding}
 use Rattle.key_cells.specs.declared.leases.Lease.{Lease}
 use Rattle.key_cells.specs.declared.places.KeyPlace.TheVariants.{Key}
 use Rattle.key_cells.specs.declared.places.MasterPlace.TheVariants.{Part}
-use Rattle.key_records.specs.declared.rows.Row.{Row}
+use Rattle.record_bodies.specs.declared.rows.Row.{Row}
 use Rattle.key_tokens.specs.Denotes.{ClearKey, denoted}
 use Rattle.key_transport.specs.Changes.{ChangesKeys}
 use Rattle.line_service.specs.declared.stops.Stop.{Stop}

@@ -3,7 +3,7 @@ use Rattle.std.proofs.Common.{◌≡◌, Bool, true, false, ℕ, List, [], sym, 
 use Rattle.std.specs.Prelude.{IsTrue, Option}
 use Rattle.key_cells.specs.Bench.{Bench}
 use Rattle.key_cells.specs.declared.leases.Lease.{Lease}
-use Rattle.key_records.specs.declared.rows.Row.{Row}
+use Rattle.record_bodies.specs.declared.rows.Row.{Row}
 use Rattle.master_registers.specs.declared.registers.Registers.{Registers}
 use Rattle.text_segments.specs.declared.modes.Mode.TheVariants.{Encipher, Decipher, Mac}
 use Rattle.verb_rules.specs.declared.needs.Need.{Need}

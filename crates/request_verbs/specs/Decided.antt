@@ -3,7 +3,7 @@ use Rattle.std.specs.Prelude.{◌≡◌, true, false, IsTrue, IsSome, OnErr, IfE
 use Rattle.key_cells.specs.Bench.{Bench}
 use Rattle.key_cells.specs.Lease.{bench_of}
 use Rattle.key_cells.specs.declared.leases.Lease.{Lease}
-use Rattle.key_records.specs.declared.rows.Row.{Row}
+use Rattle.record_bodies.specs.declared.rows.Row.{Row}
 use Rattle.line_service.specs.Devices.{TellsFault}
 use Rattle.line_service.specs.declared.stops.Stop.{Stop}
 use Rattle.line_service.specs.declared.stops.Stop.TheVariants.{EntropyFault}

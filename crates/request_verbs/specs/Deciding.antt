@@ -3,11 +3,11 @@ use Rattle.std.specs.Prelude.{◌≡◌, ◌≢◌, ◌≤◌, ◌<◌, true, fa
 use Rattle.std.specs.Io.KnownBytes.{Consumes}
 use Rattle.cca_roles.specs.RoleNames.{default_name}
 use Rattle.key_records.specs.Ages.{any_old as any_old_label, any_ahead_entry}
-use Rattle.key_records.specs.Directory.{label_at}
-use Rattle.key_records.specs.Entries.{Entry, row_directory}
+use Rattle.record_bodies.specs.Directory.{label_at}
+use Rattle.record_bodies.specs.Entries.{Entry, row_directory}
 use Rattle.key_records.specs.StoreStands.{KeepsLabels}
 use Rattle.key_records.specs.Turning.{aged}
-use Rattle.key_records.specs.declared.rows.Row.{Row}
+use Rattle.record_bodies.specs.declared.rows.Row.{Row}
 use Rattle.key_tokens.specs.Denotes.{Denoted, denoted}
 use Rattle.key_cells.specs.Bench.{Bench}
 use Rattle.key_cells.specs.Lease.{bench_of, holding}

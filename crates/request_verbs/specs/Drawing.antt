@@ -3,7 +3,7 @@ use Rattle.std.specs.Prelude.{◌≡◌, ℕ, List, Option, Some, None, ⊤}
 use Rattle.cca_vectors.specs.declared.key_length.Length.{Length}
 use Rattle.cca_vectors.specs.declared.key_type.KeyType.{KeyType}
 use Rattle.key_cells.specs.Bench.{Bench}
-use Rattle.key_records.specs.declared.rows.Row.{Row}
+use Rattle.record_bodies.specs.declared.rows.Row.{Row}
 use Rattle.key_transport.specs.Generated.{Generates}
 use Rattle.key_transport.specs.UniqueHalves.{key_taken}
 use Rattle.key_transport.specs.declared.generating.Form.{Form}

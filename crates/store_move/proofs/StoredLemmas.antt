@@ -9,7 +9,7 @@ use Rattle.key_cells.specs.Bench.{Bench}
 use Rattle.key_cells.specs.Lease.{bench_of}
 use Rattle.key_cells.specs.declared.leases.Lease.{Lease}
 use Rattle.key_records.specs.Changes.{KeepsAllButBody, ReadsToken}
-use Rattle.key_records.specs.Entries.{Entry, what_in}
+use Rattle.record_bodies.specs.Entries.{Entry, what_in}
 use Rattle.key_records.proofs.ReadKeys.{HasRead, read_key}
 use Rattle.key_tokens.specs.Denotes.{Denoted, MasterKeys, denoted}
 use Rattle.key_tokens.specs.declared.key_token.Age.{Age}

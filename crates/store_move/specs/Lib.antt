@@ -4,8 +4,8 @@ pub mod Stored
 pub use Rattle.key_cells.specs.Bench
 pub use Rattle.key_cells.specs.Lease
 pub use Rattle.key_records.specs.Changes
-pub use Rattle.key_records.specs.Directory
-pub use Rattle.key_records.specs.Entries
+pub use Rattle.record_bodies.specs.Directory
+pub use Rattle.record_bodies.specs.Entries
 pub use Rattle.key_records.specs.StoreStands
 pub use Rattle.key_tokens.specs.Denotes
 pub use Rattle.key_transport.specs.Tokens

@@ -4,7 +4,7 @@ use Rattle.slot_disk.specs.Faults.{Rose}
 use Rattle.key_records.specs.Changes.{IsReadOf, has_key}
 use Rattle.key_records.specs.declared.faults.RecordFault.{RecordFault}
 use Rattle.key_records.specs.declared.faults.RecordFault.TheVariants.{DiskFault, Damaged}
-use Rattle.key_records.specs.declared.rows.Row.{Row}
+use Rattle.record_bodies.specs.declared.rows.Row.{Row}
 use Rattle.key_tokens.specs.Denotes.{Denoted, MasterKeys, denoted}
 
 -- the key of a token that was found, if one was

@@ -1,6 +1,6 @@
 -- The definitions compute.
 use Rattle.std.proofs.Common.{refl}
-use Rattle.key_records.specs.Labels.{is_label}
+use Rattle.record_bodies.specs.Labels.{is_label}
 use Rattle.record_rows.proofs.worked_labels.Goals as goal
 
 pub returns : goal.returns

@@ -2,7 +2,7 @@
 ghost use Rattle.std.specs.Prelude.{◌≡◌, ◌∷◌, [], ℕ, IsSome, IsTrue, List, Option, take};
 ghost use Rattle.key_cells.specs.Bench.{key_of, with_key};
 ghost use Rattle.key_cells.specs.Lease.{bench_of, holding};
-ghost use Rattle.key_records.specs.declared.rows.Row.{Row};
+ghost use Rattle.record_bodies.specs.declared.rows.Row.{Row};
 ghost use Rattle.verb_script.specs.Grammar.{is_hex};
 ghost use Rattle.verb_script.specs.declared.rows.RequestName.TheVariants.{Csnbcki as row};
 ghost use Rattle.verb_script.specs.Values.{hex_value};

@@ -3,7 +3,7 @@ ghost use Rattle.std.specs.Prelude.{◌≡◌, ◌∷◌, [], ℕ, List, Option,
 ghost use Rattle.std.specs.Option.{option_copied};
 ghost use Rattle.cca_vectors.specs.KeyTypes.{type_name};
 ghost use Rattle.key_cells.specs.Lease.{bench_of};
-ghost use Rattle.key_records.specs.declared.rows.Row.{Row};
+ghost use Rattle.record_bodies.specs.declared.rows.Row.{Row};
 ghost use Rattle.key_transport.specs.Changes.{ChangesKeys};
 ghost use Rattle.key_transport.specs.Generated.{AreGiven, HaveLength};
 ghost use Rattle.line_service.specs.Devices.{TellsFault};

@@ -1,7 +1,7 @@
 //! CSNBKIM: a key imported from under a transport key.
 ghost use Rattle.std.specs.Prelude.{◌∷◌, [], ℕ, List, Option};
 ghost use Rattle.key_cells.specs.Lease.{bench_of};
-ghost use Rattle.key_records.specs.declared.rows.Row.{Row};
+ghost use Rattle.record_bodies.specs.declared.rows.Row.{Row};
 ghost use Rattle.verb_script.specs.declared.rows.RequestName.TheVariants.{Csnbkim as row};
 ghost use Rattle.request_verbs.specs.Decided.{Settles, asked, CanDeliver};
 ghost use Rattle.granted_operands.specs.Granted.{HasDoubleKey, HasJudgedExternal};

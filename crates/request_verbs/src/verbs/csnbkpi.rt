@@ -5,7 +5,7 @@ ghost use Rattle.cca_vectors.specs.Vectors.{length_of};
 ghost use Rattle.key_cells.specs.Bench.{key_of, with_key};
 ghost use Rattle.key_cells.specs.Lease.{bench_of, holding};
 ghost use Rattle.key_parts.specs.Parts.{combined_key, first_key};
-ghost use Rattle.key_records.specs.declared.rows.Row.{Row};
+ghost use Rattle.record_bodies.specs.declared.rows.Row.{Row};
 ghost use Rattle.key_transport.specs.Generated.{HasLength};
 ghost use Rattle.key_transport.specs.Tokens.{as_current};
 ghost use Rattle.verb_rules.specs.Keys.{HasHalves, opened};

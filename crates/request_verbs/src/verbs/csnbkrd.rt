@@ -1,7 +1,7 @@
 //! CSNBKRD: a label that is held no longer.
 ghost use Rattle.std.specs.Prelude.{◌∷◌, [], ℕ, IsSome, List, Option};
 ghost use Rattle.key_cells.specs.declared.leases.Lease.{Lease};
-ghost use Rattle.key_records.specs.declared.rows.Row.{Row};
+ghost use Rattle.record_bodies.specs.declared.rows.Row.{Row};
 ghost use Rattle.master_registers.specs.declared.registers.Registers.{Registers};
 ghost use Rattle.verb_script.specs.declared.rows.RequestName.TheVariants.{Csnbkrd as row};
 ghost use Rattle.request_verbs.specs.Decided.{Settles, asked};

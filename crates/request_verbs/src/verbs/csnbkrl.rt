@@ -1,7 +1,7 @@
 //! CSNBKRL: the labels that begin with a prefix.
 ghost use Rattle.std.specs.Prelude.{◌≡◌, ◌+◌, ◌*◌, ◌≤◌, ◌++◌, ◌∷◌, [], ℕ, List, length, if◌then◌else◌, codes};
 ghost use Rattle.key_cells.specs.declared.leases.Lease.{Lease};
-ghost use Rattle.key_records.specs.Entries.{row_directory};
+ghost use Rattle.record_bodies.specs.Entries.{row_directory};
 ghost use Rattle.master_registers.specs.declared.registers.Registers.{Registers};
 ghost use Rattle.verb_script.specs.declared.rows.RequestName.TheVariants.{Csnbkrl as row};
 ghost use Rattle.cca_machine.specs.Listing.{ascending, beginning, with_commas};

@@ -2,7 +2,7 @@
 ghost use Rattle.std.specs.Prelude.{◌≡◌, ◌∷◌, [], ℕ, List, Option};
 ghost use Rattle.cca_vectors.specs.Bytes.{AreBytes};
 ghost use Rattle.key_cells.specs.declared.leases.Lease.{Lease};
-ghost use Rattle.key_records.specs.declared.rows.Row.{Row};
+ghost use Rattle.record_bodies.specs.declared.rows.Row.{Row};
 ghost use Rattle.master_registers.specs.declared.registers.Registers.{Registers};
 ghost use Rattle.verb_script.specs.declared.rows.RequestName.TheVariants.{Csnbkrr as row};
 ghost use Rattle.request_verbs.specs.Decided.{Settles, asked};

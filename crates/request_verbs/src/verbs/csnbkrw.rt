@@ -2,7 +2,7 @@
 ghost use Rattle.std.specs.Prelude.{◌≡◌, ◌∷◌, [], ℕ, IsSome, IsTrue, List, Option};
 ghost use Rattle.key_cells.specs.Lease.{bench_of};
 ghost use Rattle.key_cells.specs.declared.leases.Lease.{Lease};
-ghost use Rattle.key_records.specs.declared.rows.Row.{Row};
+ghost use Rattle.record_bodies.specs.declared.rows.Row.{Row};
 ghost use Rattle.key_tokens.specs.Denotes.{denoted};
 ghost use Rattle.master_registers.specs.Loaded.{masters_in};
 ghost use Rattle.master_registers.specs.declared.registers.Registers.{Registers};

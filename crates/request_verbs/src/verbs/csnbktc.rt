@@ -1,6 +1,6 @@
 //! CSNBKTC: a token changed to another master key.
 ghost use Rattle.std.specs.Prelude.{◌≡◌, ◌∷◌, [], ℕ, IsSome, List, Option};
-ghost use Rattle.key_records.specs.declared.rows.Row.{Row};
+ghost use Rattle.record_bodies.specs.declared.rows.Row.{Row};
 ghost use Rattle.verb_script.specs.declared.rows.RequestName.TheVariants.{Csnbktc as row};
 ghost use Rattle.request_verbs.specs.Decided.{Settles, asked};
 ghost use Rattle.granted_operands.specs.Granted.{HasSomeJudged};

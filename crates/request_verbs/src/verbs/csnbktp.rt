@@ -2,7 +2,7 @@
 ghost use Rattle.std.specs.Prelude.{◌≡◌, ◌+◌, ◌<◌, ◌≤◌, ◌++◌, ◌∷◌, [], ℕ, IsSome, List, Option, length, codes};
 ghost use Rattle.cca_machine.specs.Act.{token_fields, kind_name, class_name, shown_vector};
 ghost use Rattle.key_cells.specs.declared.leases.Lease.{Lease};
-ghost use Rattle.key_records.specs.declared.rows.Row.{Row};
+ghost use Rattle.record_bodies.specs.declared.rows.Row.{Row};
 ghost use Rattle.master_registers.specs.declared.registers.Registers.{Registers};
 ghost use Rattle.script_buffers.specs.Replies.{written, hex_field};
 ghost use Rattle.verb_script.specs.declared.rows.RequestName.TheVariants.{Csnbktp as row};

@@ -5,7 +5,7 @@ ghost use Rattle.cca_vectors.specs.Checks.{first_failing};
 ghost use Rattle.key_cells.specs.Bench.{with_master};
 ghost use Rattle.key_cells.specs.Lease.{bench_of, holding};
 ghost use Rattle.key_cells.specs.declared.leases.Lease.{Lease as AnyLease};
-ghost use Rattle.key_records.specs.declared.rows.Row.{Row};
+ghost use Rattle.record_bodies.specs.declared.rows.Row.{Row};
 ghost use Rattle.verb_script.specs.Grammar.{is_hex};
 ghost use Rattle.verb_script.specs.declared.rows.RequestName.TheVariants.{CsnbmkpClear, CsnbmkpPart, CsnbmkpSet};
 ghost use Rattle.verb_script.specs.Values.{hex_value};

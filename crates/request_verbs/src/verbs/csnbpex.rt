@@ -1,7 +1,7 @@
 //! CSNBPEX: a key that may be exported no longer.
 ghost use Rattle.std.specs.Prelude.{◌∷◌, [], ℕ, List, Option};
 ghost use Rattle.key_cells.specs.Lease.{bench_of};
-ghost use Rattle.key_records.specs.declared.rows.Row.{Row};
+ghost use Rattle.record_bodies.specs.declared.rows.Row.{Row};
 ghost use Rattle.verb_script.specs.declared.rows.RequestName.TheVariants.{Csnbpex as row};
 ghost use Rattle.request_verbs.specs.Decided.{Settles, asked, CanDeliver};
 ghost use Rattle.granted_operands.specs.Granted.{HasSomeJudged};

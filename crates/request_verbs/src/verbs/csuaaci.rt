@@ -3,7 +3,7 @@ ghost use Rattle.std.specs.Prelude.{◌≢◌, ◌∷◌, [], ℕ, List, Option}
 ghost use Rattle.std.specs.Int.{to_be_bytes, w32};
 ghost use Rattle.cca_roles.specs.RoleNames.{default_name};
 ghost use Rattle.key_cells.specs.declared.leases.Lease.{Lease};
-ghost use Rattle.key_records.specs.declared.rows.Row.{Row};
+ghost use Rattle.record_bodies.specs.declared.rows.Row.{Row};
 ghost use Rattle.master_registers.specs.declared.registers.Registers.{Registers};
 ghost use Rattle.verb_script.specs.declared.rows.RequestName.TheVariants.{CsuaaciDefine, CsuaaciRemove};
 ghost use Rattle.request_verbs.specs.Decided.{Settles, asked};

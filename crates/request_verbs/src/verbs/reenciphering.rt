@@ -4,7 +4,7 @@ ghost use Rattle.std.specs.Option.{option_map};
 ghost use Rattle.cca_vectors.specs.Checks.{check, first_failing};
 ghost use Rattle.key_cells.specs.Lease.{bench_of};
 ghost use Rattle.key_cells.specs.declared.leases.Lease.{Lease as AnyLease};
-ghost use Rattle.key_records.specs.declared.rows.Row.{Row};
+ghost use Rattle.record_bodies.specs.declared.rows.Row.{Row};
 ghost use Rattle.master_registers.specs.Loaded.{IsLoaded, Loaded};
 ghost use Rattle.master_registers.specs.Masters.{Masters, set_refused, has_pattern_of};
 ghost use Rattle.master_registers.specs.declared.registers.Registers.{Registers as HeldRegisters};

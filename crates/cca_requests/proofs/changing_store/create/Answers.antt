@@ -1,8 +1,8 @@
 use Rattle.std.proofs.Common.{◌≡◌, [], Some, OnOk, sym, subst, rules}
 use Rattle.std.specs.Prelude.{◌==◌, OnErr, is_some, set}
-use Rattle.key_records.specs.Directory.{free_cell, cell_of}
-use Rattle.key_records.specs.Entries.{directory, row_directory, null_row}
-use Rattle.key_records.specs.RecordBody.{null_body}
+use Rattle.record_bodies.specs.Directory.{free_cell, cell_of}
+use Rattle.record_bodies.specs.Entries.{directory, row_directory, null_row}
+use Rattle.record_bodies.specs.RecordBody.{null_body}
 use Rattle.script_buffers.specs.Replies.{spelled}
 use Rattle.verb_rules.specs.Keys.{keys_of}
 use Rattle.cca_requests.specs.Serving.{CarriesStore, LeavesStore}

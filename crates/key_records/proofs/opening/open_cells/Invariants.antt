@@ -4,7 +4,7 @@ use Rattle.key_records.specs.Changes.{ChangesKeyAndBody}
 use Rattle.slot_disk.specs.Medium.{Told, Keeps}
 use Rattle.verb_rules.specs.Keys.{keys_of}
 use Rattle.key_records.specs.Opening.{OpenedTo}
-use Rattle.key_records.specs.Rows.{AreRows}
+use Rattle.record_bodies.specs.Rows.{AreRows}
 use Rattle.key_records.proofs.opening.open_cells.Given as goal
 
 abbrev pub ghost-open_cell : goal.ghost-open_cell

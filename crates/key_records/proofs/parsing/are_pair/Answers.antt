@@ -8,7 +8,7 @@ use Rattle.multi_encipher.specs.Bundles.{key_in}
 use Rattle.multi_encipher.specs.Seals.{seal}
 use Rattle.verb_rules.specs.Keys.{opened}
 use Rattle.verb_rules.proofs.DenotedLemmas.{judged_with}
-use Rattle.key_records.proofs.KeptLaws.{pattern}
+use Rattle.record_bodies.proofs.KeptLaws.{pattern}
 use Rattle.key_records.proofs.PairLaws.{under_current, pair_of, of_pair, key_again}
 use Rattle.key_records.proofs.parsing.are_pair.Goals as goal
 

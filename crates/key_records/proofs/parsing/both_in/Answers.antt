@@ -2,8 +2,8 @@ use Rattle.std.proofs.Common.{◌≡◌, ◌∙◌, true, false, ⊎_elim, refl,
 use Rattle.std.specs.Prelude.{is_some, IsTrue}
 use Rattle.key_cells.specs.Lease.{bench_of}
 use Rattle.verb_rules.specs.Keys.{keys_of}
-use Rattle.key_records.specs.Entries.{pattern_for}
-use Rattle.key_records.specs.RecordBody.{kept, is_turned, IsPair}
+use Rattle.record_bodies.specs.Entries.{pattern_for}
+use Rattle.record_bodies.specs.RecordBody.{kept, is_turned, IsPair}
 use Rattle.key_records.proofs.PairLaws.{pair_row}
 use Rattle.key_records.proofs.ReadLaws.{some_mapped}
 use Rattle.key_records.proofs.parsing.both_in.Goals as goal

@@ -3,11 +3,11 @@ use Rattle.std.specs.Prelude.{slice_index}
 use Rattle.key_cells.specs.Lease.{bench_of}
 use Rattle.verb_rules.specs.Keys.{keys_of}
 use Rattle.key_tokens.specs.Denotes.{MasterKeys}
-use Rattle.key_records.specs.Entries.{remembered}
-use Rattle.key_records.specs.Labels.{IsLabel}
-use Rattle.key_records.specs.RecordBody.{record_body, label_in, token_in, second_in, IsWhat}
-use Rattle.key_records.specs.declared.rows.Second.{Second}
-use Rattle.key_records.proofs.BodyLaws.{Spelled, spelled, spelled_label, spelled_again, spelled_what, entry_is, entry_reads}
+use Rattle.record_bodies.specs.Entries.{remembered}
+use Rattle.record_bodies.specs.Labels.{IsLabel}
+use Rattle.record_bodies.specs.RecordBody.{record_body, label_in, token_in, second_in, IsWhat}
+use Rattle.record_bodies.specs.declared.rows.Second.{Second}
+use Rattle.record_bodies.proofs.BodyLaws.{Spelled, spelled, spelled_label, spelled_again, spelled_what, entry_is, entry_reads}
 use Rattle.key_records.proofs.parsing.read_record.Goals as goal
 
 not_true : (b : Bool) → b ≡ false → b ≡ true → ⊥

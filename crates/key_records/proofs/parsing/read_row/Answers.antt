@@ -1,9 +1,9 @@
 use Rattle.std.proofs.Common.{◌≡◌, ◌∙◌, sym, ap, subst}
 use Rattle.key_cells.specs.Lease.{bench_of}
 use Rattle.verb_rules.specs.Keys.{keys_of}
-use Rattle.key_records.specs.Entries.{remembered}
-use Rattle.key_records.specs.RecordBody.{ReadsEntry, blank_body}
-use Rattle.key_records.proofs.BodyLaws.{entry_blank}
+use Rattle.record_bodies.specs.Entries.{remembered}
+use Rattle.record_bodies.specs.RecordBody.{ReadsEntry, blank_body}
+use Rattle.record_bodies.proofs.BodyLaws.{entry_blank}
 use Rattle.key_records.proofs.parsing.read_row.Goals as goal
 
 pub returns-then-is_blank-clause-reads : goal.returns-then-is_blank-clause-reads

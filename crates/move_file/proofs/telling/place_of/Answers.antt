@@ -1,6 +1,6 @@
 use Rattle.std.proofs.Common.{sym, subst}
 use Rattle.std.specs.Option.{IsSome}
-use Rattle.key_records.specs.Entries.{row_directory}
+use Rattle.record_bodies.specs.Entries.{row_directory}
 use Rattle.move_file.proofs.LabelLaws.{held_found}
 use Rattle.move_file.proofs.telling.place_of.Goals as goal
 

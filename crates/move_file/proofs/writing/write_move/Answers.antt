@@ -1,6 +1,6 @@
 use Rattle.std.proofs.Common.{◌≡◌, ◌∙◌, ℕ, List, Option, None, Result, Ok, Err, get_or, refl, subst, arith, rules}
 use Rattle.key_cells.specs.Lease.{bench_of}
-use Rattle.key_records.specs.declared.rows.Row.{Row}
+use Rattle.record_bodies.specs.declared.rows.Row.{Row}
 use Rattle.key_tokens.specs.Denotes.{ClearKey}
 use Rattle.master_registers.specs.Masters.{Masters}
 use Rattle.verb_rules.specs.Keys.{keys_of, opened}

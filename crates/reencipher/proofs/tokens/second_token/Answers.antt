@@ -1,6 +1,6 @@
 use Rattle.std.proofs.Common.{◌∙◌, List, ℕ, ap, subst}
 use Rattle.key_cells.specs.Lease.{bench_of}
-use Rattle.key_records.specs.declared.rows.Second.{Second}
+use Rattle.record_bodies.specs.declared.rows.Second.{Second}
 use Rattle.key_tokens.specs.declared.key_token.Age.TheVariants.{Current}
 use Rattle.master_registers.specs.Masters.{Masters}
 use Rattle.master_registers.proofs.LoadedLaws.{loaded_one}

@@ -1,7 +1,7 @@
 use Rattle.std.proofs.Common.{◌≡◌, ℕ, Option, Some, true, false, refl, sym, ap, subst, ◌∙◌}
 use Rattle.std.specs.Prelude.{IfSome, IsSome, is_some}
-use Rattle.key_records.specs.Directory.{label_at}
-use Rattle.key_records.specs.Entries.{row_directory}
+use Rattle.record_bodies.specs.Directory.{label_at}
+use Rattle.record_bodies.specs.Entries.{row_directory}
 use Rattle.reencipher.proofs.turns.place_in.Goals as goal
 use Rattle.reencipher.proofs.turns.place_in.Goals.{After-drop-steps-inside}
 

@@ -6,11 +6,12 @@ use Rattle.slot_disk.specs.Medium.{Medium, Told}
 use Rattle.slot_disk.proofs.Media.{keeps_still, told_joined, told_map, told_still}
 use Rattle.key_tokens.specs.Denotes.{denoted}
 use Rattle.key_records.specs.Changes.{IsReadOf, ReadsToken, is_ahead_row}
-use Rattle.key_records.specs.Directory.{label_at}
-use Rattle.key_records.specs.Entries.{Entry}
-use Rattle.key_records.specs.declared.rows.Row.{Row}
+use Rattle.record_bodies.specs.Directory.{label_at}
+use Rattle.record_bodies.specs.Entries.{Entry}
+use Rattle.record_bodies.specs.declared.rows.Row.{Row}
 use Rattle.key_records.specs.StoreStands.{KeepsLabels, entry_at}
-use Rattle.key_records.proofs.OpeningLaws.{label_of_entry, label_of_row}
+use Rattle.key_records.proofs.OpeningLaws.{label_of_entry}
+use Rattle.record_bodies.proofs.RowLaws.{label_of_row}
 use Rattle.key_records.proofs.StoreLaws.{same_directory, told_all}
 use Rattle.master_registers.specs.Loaded.{Loaded, masters_in}
 use Rattle.master_registers.specs.Masters.{Masters}

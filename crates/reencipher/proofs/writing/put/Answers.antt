@@ -1,9 +1,9 @@
 use Rattle.std.proofs.Common.{List, Option, Result, Ok, Err, None, Some, get_or, refl, sym, ap, subst, ◌∙◌}
 use Rattle.std.specs.Prelude.{OnOk}
 use Rattle.key_records.specs.Changes.{ChangesLabels, ChangesRecord}
-use Rattle.key_records.specs.Entries.{label_or, row_directory}
+use Rattle.record_bodies.specs.Entries.{label_or, row_directory}
 use Rattle.key_records.specs.declared.faults.RecordFault.{RecordFault}
-use Rattle.key_records.specs.declared.rows.Row.{Row}
+use Rattle.record_bodies.specs.declared.rows.Row.{Row}
 use Rattle.reencipher.specs.Tokens.{StandFor, body_of, put_in, row_of}
 use Rattle.reencipher.specs.declared.writing.Tokens.{Tokens}
 use Rattle.reencipher.proofs.TurnLaws.{same_label}

@@ -2,8 +2,8 @@ use Rattle.std.proofs.Common.{◌≡◌, ◌∙◌, ℕ, List, [], Option, None,
 use Rattle.std.specs.Prelude.{Err}
 use Rattle.key_cells.specs.Lease.{bench_of}
 use Rattle.key_records.specs.StoreStands.{entry_at}
-use Rattle.key_records.specs.Entries.{what_in}
-use Rattle.key_records.specs.declared.rows.Row.{Row}
+use Rattle.record_bodies.specs.Entries.{what_in}
+use Rattle.record_bodies.specs.declared.rows.Row.{Row}
 use Rattle.store_move.specs.Stored.{IsStored}
 use Rattle.verb_rules.specs.Rules.{rule_number}
 use Rattle.cca_machine.specs.declared.asking.Ask.TheVariants as Ask

@@ -3,8 +3,9 @@ use Rattle.std.proofs.lemmas.List.{length-set}
 use Rattle.key_cells.specs.Lease.{bench_of}
 use Rattle.slot_disk.specs.Medium.{Told}
 use Rattle.key_records.specs.StoreStands.{HoldsRows}
-use Rattle.key_records.specs.declared.rows.Row.{Row}
-use Rattle.key_records.proofs.StoreLaws.{replaces_is, rows_changed, unless_err}
+use Rattle.record_bodies.specs.declared.rows.Row.{Row}
+use Rattle.key_records.proofs.StoreLaws.{replaces_is, rows_changed}
+use Rattle.record_bodies.proofs.KeptLaws.{unless_err}
 use Rattle.key_records.proofs.records.Records.change.Goals as goal
 
 pub returns-then-is_err-clause-changes : goal.returns-then-is_err-clause-changes

@@ -1,6 +1,6 @@
 use Rattle.std.proofs.Common.{List, Option, None, length, replicate, ap, ◌∙◌, refl}
-use Rattle.key_records.specs.declared.rows.Row.{Row}
-use Rattle.key_records.proofs.RowLaws.{blank_rows, cleared, none_listed}
+use Rattle.record_bodies.specs.declared.rows.Row.{Row}
+use Rattle.record_bodies.proofs.RowLaws.{blank_rows, cleared, none_listed}
 use Rattle.key_records.proofs.records.Records.clear.Goals as goal
 
 pub returns-clause-cleared : goal.returns-clause-cleared

@@ -1,12 +1,12 @@
 use Rattle.std.proofs.Common.{◌≡◌, ℕ, List, Option, Some, Bool, false, set, replicate, refl, sym, ap, subst, ◌∙◌}
 use Rattle.std.specs.Prelude.{is_some}
 use Rattle.key_records.specs.Changes.{ChangesLabels, created, null_entry}
-use Rattle.key_records.specs.Directory.{cell_of, free_cell, AreApart}
-use Rattle.key_records.specs.Entries.{row_directory, null_row}
-use Rattle.key_records.specs.RecordBody.{record_body, null_body, no_second, null_kind}
-use Rattle.key_records.specs.declared.rows.Row.{Row}
-use Rattle.key_records.specs.declared.rows.Second.{Second}
-use Rattle.key_records.proofs.BodyLaws.{no_token_is}
+use Rattle.record_bodies.specs.Directory.{cell_of, free_cell, AreApart}
+use Rattle.record_bodies.specs.Entries.{row_directory, null_row}
+use Rattle.record_bodies.specs.RecordBody.{record_body, null_body, no_second, null_kind}
+use Rattle.record_bodies.specs.declared.rows.Row.{Row}
+use Rattle.record_bodies.specs.declared.rows.Second.{Second}
+use Rattle.record_bodies.proofs.BodyLaws.{no_token_is}
 use Rattle.held_names.proofs.DirectoryLaws.{held_nowhere, apart_set}
 use Rattle.key_records.proofs.StoreLaws.{changed_as, created_is, labels_changed}
 use Rattle.key_records.proofs.records.Records.create.Goals as goal

@@ -1,7 +1,7 @@
 use Rattle.std.proofs.Common.{ℕ, List, Option, None, refl, subst}
 use Rattle.key_records.specs.Changes.{ChangesLabels, deleted}
-use Rattle.key_records.specs.Entries.{row_directory}
-use Rattle.key_records.specs.declared.rows.Row.{Row}
+use Rattle.record_bodies.specs.Entries.{row_directory}
+use Rattle.record_bodies.specs.declared.rows.Row.{Row}
 use Rattle.held_names.proofs.DirectoryLaws.{apart_none}
 use Rattle.key_records.proofs.StoreLaws.{labels_changed}
 use Rattle.key_records.proofs.records.Records.delete.Goals as goal

@@ -1,10 +1,10 @@
 use Rattle.std.proofs.Common.{◌≡◌, List, Option, Some, ◌∙◌, sym, subst}
-use Rattle.key_records.specs.Directory.{cell_of}
-use Rattle.key_records.specs.Entries.{row_directory}
-use Rattle.key_records.specs.Rows.{AreRows}
-use Rattle.key_records.specs.declared.rows.Row.{Row}
+use Rattle.record_bodies.specs.Directory.{cell_of}
+use Rattle.record_bodies.specs.Entries.{row_directory}
+use Rattle.record_bodies.specs.Rows.{AreRows}
+use Rattle.record_bodies.specs.declared.rows.Row.{Row}
 use Rattle.held_names.proofs.DirectoryLaws.{held_at}
-use Rattle.key_records.proofs.RowLaws.{held_within}
+use Rattle.record_bodies.proofs.RowLaws.{held_within}
 use Rattle.key_records.proofs.records.Records.find.Goals as goal
 
 pub returns-in-Some-clause-held : goal.returns-in-Some-clause-held

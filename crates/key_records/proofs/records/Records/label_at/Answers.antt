@@ -1,11 +1,11 @@
 use Rattle.std.proofs.Common.{◌≡◌, ◌<◌, ℕ, List, Option, Some, length, get_or, sym, ap, subst, ◌∙◌, arith}
 use Rattle.std.specs.Prelude.{IsSome}
-use Rattle.key_records.specs.Directory.{held_count, label_at}
-use Rattle.key_records.specs.Entries.{row_directory}
-use Rattle.key_records.specs.Rank.{IsNth}
-use Rattle.key_records.specs.declared.rows.Row.{Row}
-use Rattle.key_records.proofs.ListedLaws.{among_at, text_of}
-use Rattle.key_records.proofs.RankLaws.{count_listed, nth_listed}
+use Rattle.record_bodies.specs.Directory.{held_count, label_at}
+use Rattle.record_bodies.specs.Entries.{row_directory}
+use Rattle.record_bodies.specs.Rank.{IsNth}
+use Rattle.record_bodies.specs.declared.rows.Row.{Row}
+use Rattle.record_bodies.proofs.ListedLaws.{among_at, text_of}
+use Rattle.record_bodies.proofs.RankLaws.{count_listed, nth_listed}
 use Rattle.key_records.proofs.records.Records.label_at.Goals as goal
 
 pub cell_at-requires : goal.cell_at-requires

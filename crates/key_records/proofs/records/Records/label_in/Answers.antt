@@ -1,10 +1,10 @@
 use Rattle.std.proofs.Common.{◌≡◌, List, Option, None, Some, ap, subst, ◌∙◌, get_or, rules}
 use Rattle.std.proofs.lemmas.List.{get_or_default}
-use Rattle.key_records.specs.Directory.{cell_of, label_at}
-use Rattle.key_records.specs.Entries.{row_directory, row_label}
-use Rattle.key_records.specs.declared.rows.Row.{Row}
+use Rattle.record_bodies.specs.Directory.{cell_of, label_at}
+use Rattle.record_bodies.specs.Entries.{row_directory, row_label}
+use Rattle.record_bodies.specs.declared.rows.Row.{Row}
 use Rattle.held_names.proofs.DirectoryLaws.{place_is}
-use Rattle.key_records.proofs.OpeningLaws.{label_of_row}
+use Rattle.record_bodies.proofs.RowLaws.{label_of_row}
 use Rattle.key_records.proofs.records.Records.label_in.Goals as goal
 
 pub returns-in-Some-clause-found : goal.returns-in-Some-clause-found

@@ -1,6 +1,6 @@
 use Rattle.std.proofs.Common.{List, Option, None, length, replicate, sym, ap, ◌∙◌}
-use Rattle.key_records.specs.declared.rows.Row.{Row}
-use Rattle.key_records.proofs.RowLaws.{cleared, none_listed}
+use Rattle.record_bodies.specs.declared.rows.Row.{Row}
+use Rattle.record_bodies.proofs.RowLaws.{cleared, none_listed}
 use Rattle.key_records.proofs.records.Records.new.Goals as goal
 
 pub returns : goal.returns

@@ -1,8 +1,8 @@
 use Rattle.std.proofs.Common.{List, Option, subst}
-use Rattle.key_records.specs.Directory.{AreApart}
-use Rattle.key_records.specs.Entries.{row_directory, row_label}
-use Rattle.key_records.specs.Rows.{AreRows}
-use Rattle.key_records.specs.declared.rows.Row.{Row}
+use Rattle.record_bodies.specs.Directory.{AreApart}
+use Rattle.record_bodies.specs.Entries.{row_directory, row_label}
+use Rattle.record_bodies.specs.Rows.{AreRows}
+use Rattle.record_bodies.specs.declared.rows.Row.{Row}
 use Rattle.held_names.proofs.DirectoryLaws.{fresh_apart}
 use Rattle.key_records.proofs.records.Records.put.Goals as goal
 

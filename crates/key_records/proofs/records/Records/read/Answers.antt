@@ -4,14 +4,15 @@ use Rattle.slot_disk.proofs.Media.{told_joined, told_map}
 use Rattle.slot_disk.specs.Cells.{body}
 use Rattle.slot_disk.specs.Medium.{Told}
 use Rattle.key_tokens.specs.Denotes.{MasterKeys}
-use Rattle.key_records.specs.Changes.{IsTokenOf, ReadsToken, ahead_at}
-use Rattle.key_records.specs.Entries.{Entry, label_or}
-use Rattle.key_records.specs.RecordBody.{token_in, second_in, held_token, ReadsRow, StandsAs}
+use Rattle.key_records.specs.Changes.{ReadsToken, ahead_at}
+use Rattle.record_bodies.specs.RecordBody.{IsTokenOf, token_in, second_in, held_token, ReadsRow, StandsAs}
+use Rattle.record_bodies.specs.Entries.{Entry, label_or}
 use Rattle.key_records.specs.StoreStands.{KeepsLabels, entry_at}
 use Rattle.key_records.specs.declared.faults.RecordFault.TheVariants.{Damaged}
-use Rattle.key_records.specs.declared.rows.Row.{Row}
-use Rattle.key_records.proofs.ReadLaws.{cause_read, read_token, token_is_held}
-use Rattle.key_records.proofs.StoreLaws.{unless_err}
+use Rattle.record_bodies.specs.declared.rows.Row.{Row}
+use Rattle.key_records.proofs.ReadLaws.{cause_read, read_token}
+use Rattle.record_bodies.proofs.PieceLaws.{token_is_held}
+use Rattle.record_bodies.proofs.KeptLaws.{unless_err}
 use Rattle.key_records.proofs.records.Records.read.Goals as goal
 
 -- the token of a label, in the body that was read of its cell

@@ -1,8 +1,8 @@
 use Rattle.std.proofs.Common.{List, Option, set, subst}
-use Rattle.key_records.specs.Ascending.{Lists}
-use Rattle.key_records.specs.Entries.{row_directory, row_label}
-use Rattle.key_records.specs.declared.rows.Row.{Row}
-use Rattle.key_records.proofs.RowLaws.{set_listed}
+use Rattle.record_bodies.specs.Ascending.{Lists}
+use Rattle.record_bodies.specs.Entries.{row_directory, row_label}
+use Rattle.record_bodies.specs.declared.rows.Row.{Row}
+use Rattle.record_bodies.proofs.RowLaws.{set_listed}
 use Rattle.key_records.proofs.records.Records.set_row.Goals as goal
 
 pub invariant_of-self : goal.invariant_of-self

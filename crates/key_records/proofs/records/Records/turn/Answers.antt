@@ -1,9 +1,9 @@
 use Rattle.std.proofs.Common.{◌≡◌, ◌∙◌, ◌++◌, List, Option, length, drop, map, take, ap, sym, subst}
 use Rattle.std.proofs.lemmas.List.{length-map}
-use Rattle.key_records.specs.Entries.{turned}
-use Rattle.key_records.specs.Rows.{AreListed}
-use Rattle.key_records.specs.declared.rows.Row.{Row}
-use Rattle.key_records.proofs.RowLaws.{sliced}
+use Rattle.record_bodies.specs.Entries.{turned}
+use Rattle.record_bodies.specs.Rows.{AreListed}
+use Rattle.record_bodies.specs.declared.rows.Row.{Row}
+use Rattle.record_bodies.proofs.RowLaws.{sliced}
 use Rattle.key_records.proofs.TurnedLaws.{listed_turned}
 use Rattle.key_records.proofs.records.Records.turn.Goals as goal
 

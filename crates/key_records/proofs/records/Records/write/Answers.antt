@@ -2,15 +2,15 @@ use Rattle.std.proofs.Common.{◌≡◌, inl, ℕ, List, Option, None, Some, ref
 use Rattle.key_cells.specs.Lease.{bench_of}
 use Rattle.key_tokens.specs.Denotes.{denoted}
 use Rattle.key_records.specs.Changes.{ChangesLabels, written}
-use Rattle.key_records.specs.Directory.{label_at}
-use Rattle.key_records.specs.Entries.{entry, row_directory, pattern_for}
-use Rattle.key_records.specs.RecordBody.{record_body, key_body, key_kind, IsKept}
-use Rattle.key_records.specs.declared.rows.Row.{Row}
+use Rattle.record_bodies.specs.Directory.{label_at}
+use Rattle.record_bodies.specs.Entries.{entry, row_directory, pattern_for}
+use Rattle.record_bodies.specs.RecordBody.{record_body, key_body, key_kind, IsKept}
+use Rattle.record_bodies.specs.declared.rows.Row.{Row}
 use Rattle.master_registers.specs.Loaded.{masters_in}
 use Rattle.master_registers.specs.declared.patterns.Pattern.{Pattern}
 use Rattle.verb_rules.specs.Keys.{keys_of}
 use Rattle.held_names.proofs.DirectoryLaws.{apart_same, some_of}
-use Rattle.key_records.proofs.KeptLaws.{denoted_sound, denoted_pattern, pattern}
+use Rattle.record_bodies.proofs.KeptLaws.{denoted_sound, denoted_pattern, pattern}
 use Rattle.key_records.proofs.StoreLaws.{written_is, labels_changed}
 use Rattle.key_records.proofs.records.Records.write.Goals as goal
 

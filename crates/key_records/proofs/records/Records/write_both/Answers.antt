@@ -7,17 +7,17 @@ use Rattle.key_tokens.specs.Fields.{vector_bytes_of}
 use Rattle.key_tokens.specs.declared.key_token.Age.TheVariants.{Current}
 use Rattle.key_tokens.specs.declared.key_token.Token.{Token}
 use Rattle.key_records.specs.Changes.{AreBoth, ChangesLabels, ahead_entry, written_ahead}
-use Rattle.key_records.specs.Directory.{label_at}
-use Rattle.key_records.specs.Entries.{row_directory, pattern_for, pattern_or}
-use Rattle.key_records.specs.RecordBody.{both_body, second_token, IsKept, IsSecond}
-use Rattle.key_records.specs.declared.rows.Row.{Row}
-use Rattle.key_records.specs.declared.rows.Second.{Second}
+use Rattle.record_bodies.specs.Directory.{label_at}
+use Rattle.record_bodies.specs.Entries.{row_directory, pattern_for, pattern_or}
+use Rattle.record_bodies.specs.RecordBody.{both_body, second_token, IsKept, IsSecond}
+use Rattle.record_bodies.specs.declared.rows.Row.{Row}
+use Rattle.record_bodies.specs.declared.rows.Second.{Second}
 use Rattle.master_registers.specs.Loaded.{masters_in}
 use Rattle.master_registers.specs.declared.patterns.Pattern.{Pattern}
 use Rattle.verb_rules.specs.Keys.{keys_of}
 use Rattle.held_names.proofs.DirectoryLaws.{apart_same}
-use Rattle.key_records.proofs.KeptLaws.{denoted_sound, denoted_pattern, denoted_vector, pattern}
-use Rattle.key_records.proofs.SecondLaws.{second_pattern, stands_for_none, sealed_single}
+use Rattle.record_bodies.proofs.KeptLaws.{denoted_sound, denoted_pattern, denoted_vector, pattern}
+use Rattle.record_bodies.proofs.SecondLaws.{second_pattern, stands_for_none, sealed_single}
 use Rattle.key_records.proofs.StoreLaws.{written_ahead_is, labels_changed}
 use Rattle.key_records.proofs.records.Records.write_both.Goals as goal
 

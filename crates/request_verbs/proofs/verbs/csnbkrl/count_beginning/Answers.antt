@@ -1,6 +1,6 @@
 use Rattle.std.proofs.Common.{nat_eq, length, sym, ap, ◌∙◌, arith}
 use Rattle.std.specs.List.{starts_with}
-use Rattle.key_records.specs.Entries.{row_directory}
+use Rattle.record_bodies.specs.Entries.{row_directory}
 use Rattle.request_verbs.proofs.ListedLabels.{without_one, count_one}
 use Rattle.request_verbs.proofs.verbs.csnbkrl.count_beginning.Goals as goal
 use Rattle.request_verbs.proofs.verbs.csnbkrl.count_beginning.Goals.{then-starts_with, else-starts_with}

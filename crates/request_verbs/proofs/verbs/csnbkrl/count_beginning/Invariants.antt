@@ -1,6 +1,6 @@
 use Rattle.std.proofs.Common.{◌≡◌, ◌≤◌, length}
-use Rattle.key_records.specs.Directory.{held_count}
-use Rattle.key_records.specs.Entries.{row_directory}
+use Rattle.record_bodies.specs.Directory.{held_count}
+use Rattle.record_bodies.specs.Entries.{row_directory}
 use Rattle.request_verbs.proofs.ListedLabels.{so_far}
 use Rattle.request_verbs.proofs.verbs.csnbkrl.count_beginning.Given as goal
 

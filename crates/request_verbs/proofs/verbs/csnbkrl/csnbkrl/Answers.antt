@@ -1,7 +1,7 @@
 use Rattle.std.proofs.Common.{◌≡◌, [], ◌++◌, length, codes, refl, sym, ap, ◌∙◌, arith, rules}
 use Rattle.std.proofs.lemmas.Fmt.{length-decimal-le_succ}
 use Rattle.key_records.proofs.StoreLaws.{same_directory}
-use Rattle.key_records.specs.Entries.{directory, row_directory}
+use Rattle.record_bodies.specs.Entries.{directory, row_directory}
 use Rattle.script_buffers.specs.Replies.{ok_text, text_field, number_field, written}
 use Rattle.verb_rules.specs.Keys.{keys_of}
 use Rattle.cca_machine.specs.Listing.{ascending, beginning, label_fields, with_commas}

@@ -2,7 +2,7 @@ use Rattle.std.proofs.Common.{◌++◌, nat_eq, length, codes, sym, ap, ◌∙�
 use Rattle.std.specs.Prelude.{if◌then◌else◌}
 use Rattle.std.specs.List.{starts_with}
 use Rattle.std.proofs.lemmas.List.{append_assoc}
-use Rattle.key_records.specs.Entries.{row_directory}
+use Rattle.record_bodies.specs.Entries.{row_directory}
 use Rattle.held_names.proofs.NameLemmas.{label_short}
 use Rattle.cca_machine.specs.Listing.{with_commas}
 use Rattle.request_verbs.proofs.ListedLabels.{so_far, are_none, with_one, without_one, commas_more, none_more}

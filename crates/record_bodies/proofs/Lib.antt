@@ -1,0 +1,11 @@
+pub mod KeptLaws
+pub mod SecondLaws
+pub mod BodyLaws
+pub mod TokenLaws
+pub mod PieceLaws
+pub mod HalvingLaws
+pub mod SortedLaws
+pub mod ListedLaws
+pub mod RankLaws
+pub mod EveryDirectory
+pub mod RowLaws

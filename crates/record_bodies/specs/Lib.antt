@@ -1,0 +1,12 @@
+pub mod Labels
+pub mod Directory
+pub mod Entries
+pub mod Rows
+pub mod Ascending
+pub mod Rank
+pub mod RecordBody
+pub use Rattle.byte_lists.specs.Bytes
+pub use Rattle.cca_vectors.specs.Checks
+pub use Rattle.key_tokens.specs.Denotes
+pub use Rattle.key_tokens.specs.Fields
+pub use Rattle.key_tokens.specs.TokenChecks
