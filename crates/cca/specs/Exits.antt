@@ -1,34 +1,15 @@
--- What the ends of a run are told as, and the exit status of each.
-use Rattle.std.specs.Prelude.{◌≡◌, ◌⊎◌, ℕ, Option, None, Some, Result, Ok, Err}
-use Rattle.cca.specs.declared.fault.Ending.{Ending}
-use Rattle.cca.specs.declared.fault.Ending.TheVariants.{Run, Move}
-use Rattle.cca.specs.declared.fault.Fault.{Fault}
-use Rattle.cca.specs.declared.fault.Fault.TheVariants as fault
+-- What the ends of a run are told as.
+use Rattle.std.specs.Prelude.{◌≡◌, ◌⊎◌, Option, None, Some, Result, Ok, Err}
+use Rattle.cca.specs.declared.ending.Ending.{Ending}
+use Rattle.cca.specs.declared.ending.Ending.TheVariants.{Run, Move}
+use Rattle.real_devices.specs.declared.fault.Fault.{Fault}
+use Rattle.real_devices.specs.declared.fault.Fault.TheVariants as fault
 use Rattle.line_service.specs.declared.stops.Device.TheVariants.{Module, Store}
 use Rattle.cca_tool.specs.declared.auditing.AuditStatus.{AuditStatus}
 use Rattle.cca_tool.specs.declared.auditing.AuditStatus.TheVariants as audit
 use Rattle.cca_tool.specs.declared.unloading.MoveStatus.TheVariants as move
 use Rattle.cca_tool.specs.declared.command.Status.{Status}
 use Rattle.cca_tool.specs.declared.command.Status.TheVariants as status
-
-abbrev pub exit_of : Fault → ℕ
-exit_of fault.Usage = 2
-exit_of (fault.ModuleCell cell) = 3
-exit_of (fault.StoreCell cell) = 3
-exit_of fault.Input = 4
-exit_of fault.Output = 5
-exit_of fault.Module = 6
-exit_of fault.Store = 7
-exit_of fault.Entropy = 8
-exit_of fault.InputLimit = 9
-exit_of fault.NoMemory = 10
-exit_of fault.File = 11
-exit_of (fault.Refused rule) = 12
-exit_of fault.Trail = 13
-exit_of (fault.TrailCell cell) = 14
-exit_of fault.TrailFull = 15
-exit_of fault.Report = 16
-exit_of fault.Size = 17
 
 abbrev pub run_fault_of : Status → Option Fault
 run_fault_of status.Done = None

@@ -16,14 +16,12 @@
 ghost use Rattle.std.specs.Prelude.{◌≡◌, ◌↔◌, ◌++◌, ◌∷◌, [], OnOk, IsNone};
 ghost use Rattle.cca.specs.Exits.{EndsWell, told_of};
 
-mod fault;
-mod files;
-mod streams;
+mod ending;
 
 use cca_tool::{AuditStatus, Command, Status, Words, run, run_audited, show_trail, unload};
-use fault::{Ending, Fault, fault_of};
-use files::{Folder, MODULE_LEN, STORE_LEN, TRAIL_LEN};
+use ending::{Ending, fault_of};
 use key_cells::Workbench;
+use real_devices::{Fault, Folder, MODULE_LEN, STORE_LEN, TRAIL_LEN};
 use slot_disk::{Disk, FileDisk, NoMemory, StreamEntropy, StreamSink, StreamSource};
 use std::env;
 use std::io::ErrorKind;
