@@ -1,6 +1,6 @@
 -- The lines of a demo, beside a list that was written from their description by another program.
 use Rattle.std.specs.Prelude.{◌≡◌, [], ◌∷◌, ℕ, List, codes}
-use Rattle.cca_tool.specs.Demo.{demo_lines}
+use Rattle.command_words.specs.Demo.{demo_lines}
 
 abbrev pub lines_of_three_labels : List (List ℕ)
 lines_of_three_labels =

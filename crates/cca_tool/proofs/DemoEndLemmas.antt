@@ -14,8 +14,8 @@ use Rattle.line_service.specs.declared.stops.Stop.{Stop}
 use Rattle.line_service.specs.declared.stops.Stop.TheVariants.{WriteFault, ModuleFault, StoreFault}
 use Rattle.cca_machine.specs.State.{IsModuleOf, IsStoreOf}
 use Rattle.cca_tool.specs.Coprocessor.{cca}
-use Rattle.cca_tool.specs.Counting.{counted_summary}
-use Rattle.cca_tool.specs.Demo.{demo_text}
+use Rattle.command_words.specs.Counting.{counted_summary}
+use Rattle.command_words.specs.Demo.{demo_text}
 use Rattle.cca_tool.specs.Running.{DemoRan}
 use Rattle.cca_tool.specs.Statuses.{status_of_lem}
 use Rattle.cca_tool.specs.declared.command.Status.TheVariants as status

@@ -8,7 +8,7 @@ use Rattle.line_service.specs.Serving.{Led, LineLost}
 use Rattle.line_service.specs.declared.stops.Stop.{Stop}
 use Rattle.cca_machine.specs.State.{State}
 use Rattle.cca_tool.specs.Coprocessor.{cca}
-use Rattle.cca_tool.specs.Demo.{demo_lines, demo_text, summary}
+use Rattle.command_words.specs.Demo.{demo_lines, demo_text, summary}
 
 -- The lines of the demo lead to the state for which the disks stand, and the sink got the summary of the replies.
 pub record SummarySent (n : ℕ) (s : State) (new : World) (before now : Option (List ℕ))

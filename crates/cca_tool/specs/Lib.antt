@@ -1,8 +1,5 @@
 pub mod Coprocessor
-pub mod Counting
-pub mod Demo
 pub mod DemoRun
-pub mod Sections
 pub mod Sessions
 pub mod Statuses
 pub mod Unloading

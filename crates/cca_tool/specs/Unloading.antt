@@ -1,9 +1,7 @@
 -- What moving a store to another module comes to.
-use Rattle.std.specs.Prelude.{⊤, ◌≡◌, ◌⊎◌, ◌<◌, ℕ, List, [], ◌∷◌, codes, Option, None, Some, Result, Ok, Err}
-use Rattle.cca_roles.specs.RoleNames.{IsRoleName}
+use Rattle.std.specs.Prelude.{⊤, ◌≡◌, ◌⊎◌, ◌<◌, ℕ, List, Option, None, Some, Result, Ok, Err}
 use Rattle.cca_roles.specs.RolesStand.{StandsForRoles}
 use Rattle.cca_roles.specs.declared.roles.Role.{Role}
-use Rattle.record_bodies.specs.Labels.{IsLabel}
 use Rattle.slot_disk.specs.Faults.{Rose}
 use Rattle.slot_disk.specs.Medium.{Medium, Told}
 use Rattle.slot_disk.specs.WhereTold.{WhereTold}
@@ -37,20 +35,6 @@ use Rattle.cca_tool.specs.declared.command.Status.{Status}
 use Rattle.cca_tool.specs.declared.command.Status.TheVariants as status
 use Rattle.cca_tool.specs.declared.unloading.MoveStatus.{MoveStatus}
 use Rattle.cca_tool.specs.declared.unloading.MoveStatus.TheVariants.{Run, Refused, ReportFault}
-
--- ---- the words
-
--- `unload`, a role and the label of a transport key, and the same of the other module
-pub record AreWordsOf (w : Move) (words : List (List ℕ)) : Type 0 where
-  pub are : words ≡ codes "unload" ∷ w.role ∷ w.transport ∷ w.role_there ∷ w.transport_there ∷ []
-  pub role : IsRoleName w.role
-  pub transport : IsLabel w.transport
-  pub role_there : IsRoleName w.role_there
-  pub transport_there : IsLabel w.transport_there
-
--- the words ask for a move
-abbrev pub IsMove : List (List ℕ) → Type 0
-IsMove words = (w : Move) × AreWordsOf w words
 
 -- ---- the statuses
 

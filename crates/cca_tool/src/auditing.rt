@@ -17,10 +17,10 @@ ghost use Rattle.cca_tool.specs.Coprocessor.{cca};
 
 use crate::command::{Status, status_of};
 use crate::session::Session;
-use crate::words::Words;
 use audit_entries::LineScribe;
 use audit_trail::{TRAIL_LEN, Trail, TrailFault};
 use audited_service::serve_audited;
+use command_words::Words;
 use key_cells::Workbench;
 use line_service::{Shown, ShownOutside, Stop};
 use slot_disk::{Disk, Entropy, Sink, Source};

@@ -6,13 +6,13 @@ ghost use Rattle.line_service.specs.Devices.{HaveSizes};
 ghost use Rattle.line_service.specs.Running.{SessionLeft, Untouched};
 ghost use Rattle.cca_machine.specs.State.{module_size, store_size};
 ghost use Rattle.cca_tool.specs.Coprocessor.{cca};
-ghost use Rattle.cca_tool.specs.Demo.{IsDemo, IsCommandLine};
+ghost use Rattle.command_words.specs.Demo.{IsDemo, IsCommandLine};
 ghost use Rattle.cca_tool.specs.Running.{Ended, Uncalled, DemoServed};
 ghost use Rattle.cca_tool.specs.Statuses.{status_of_lem, CallsNone};
 
 use crate::demo::serve_demo;
 use crate::session::Session;
-use crate::words::{Command, Words};
+use command_words::{Command, Words};
 use key_cells::Workbench;
 use line_service::{Device, Shown, ShownOutside, Stop};
 use slot_disk::{Disk, Entropy, Sink, Source};

@@ -6,16 +6,14 @@ ghost use Rattle.line_service.specs.Answering.{IsSound};
 ghost use Rattle.line_service.specs.Devices.{HaveSizes};
 ghost use Rattle.cca_machine.specs.State.{module_size, store_size};
 ghost use Rattle.cca_tool.specs.Coprocessor.{cca};
-ghost use Rattle.cca_tool.specs.Demo.{demo_lines, demo_text};
-ghost use Rattle.cca_tool.specs.Counting.{counted_summary};
+ghost use Rattle.command_words.specs.Demo.{demo_lines, demo_text};
+ghost use Rattle.command_words.specs.Counting.{counted_summary};
 ghost use Rattle.cca_tool.specs.Running.{DemoRan, DemoUntouched, DisksUncalled};
 ghost use Rattle.cca_tool.specs.Statuses.{status_of_lem};
 
 use crate::command::{Status, status_of};
-use crate::demo_text::DemoText;
 use crate::session::Session;
-use crate::tally::Tally;
-use crate::unused::Unused;
+use command_words::{DemoText, Tally, Unused};
 use itoa::Buffer;
 use key_cells::Workbench;
 use line_service::{Shown, ShownOutside, Stop, send};
@@ -129,7 +127,7 @@ fn line_count(number: u32) -> u32
 }
 
 // Writes the summary of the replies.
-#[tactic(auto, unfolding(crate::specs::Demo::summary_text))]
+#[tactic(auto, unfolding(command_words::specs::Demo::summary_text))]
 fn put_summary(line: &mut ReplyBuffer, number: u32, tally: &Tally)
     requires empty { line.old ≡ [] }
     requires number { number ≤ 1000 }

@@ -15,8 +15,8 @@ ghost use Rattle.cca_tool.specs.Showing.{listing_status, ListingEnded, IsListing
 
 use crate::auditing::AuditStatus;
 use crate::command::Status;
-use crate::words::Words;
 use audit_trail::{TRAIL_LEN, TrailFault};
+use command_words::Words;
 use script_buffers::ReplyBuffer;
 use slot_disk::{Disk, Sink};
 use std::alloc::Global;

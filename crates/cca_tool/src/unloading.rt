@@ -12,15 +12,16 @@ ghost use Rattle.request_rules.specs.Standing.{tables};
 ghost use Rattle.move_file.specs.Judging.{RefusedAsRead};
 ghost use Rattle.move_file.specs.Writing.{IsFault};
 ghost use Rattle.move_file.specs.declared.moves.Move.{Move as AnyMove};
+ghost use Rattle.command_words.specs.MoveWords.{AreWordsOf, IsMove};
 ghost use Rattle.cca_tool.specs.Opening.{IsOpened};
-ghost use Rattle.cca_tool.specs.Unloading.{AreWordsOf, IsLabelStatus, IsMove, IsMoveStatus, IsOpenStatus};
+ghost use Rattle.cca_tool.specs.Unloading.{IsLabelStatus, IsMoveStatus, IsOpenStatus};
 ghost use Rattle.cca_tool.specs.Unloading.{MoveCallsNone, MoveLeft, MoveRests, MoveTold, MoveUncalled, MoveUntold, OutputsLeft, Still, TellsNone, outputs, told_status};
 
 use crate::command::{Status, status_of};
 use crate::coprocessor::Coprocessor;
 use crate::session::Session;
-use crate::words::Words;
 use cca_roles::Roles;
+use command_words::Words;
 use key_cells::{Lease, Workbench};
 use key_records::Records;
 use line_service::Shown;

@@ -1,6 +1,6 @@
 -- The definitions compute.
 use Rattle.std.proofs.Common.{refl}
-use Rattle.cca_tool.specs.Demo.{demo_lines}
+use Rattle.command_words.specs.Demo.{demo_lines}
 use Rattle.cca_rows.proofs.worked_demo.Goals as goal
 
 pub returns : goal.returns

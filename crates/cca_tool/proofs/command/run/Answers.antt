@@ -2,7 +2,7 @@
 use Rattle.std.proofs.Common.{◌∙◌, Some, ap, refl, inl, inr}
 use Rattle.cca_tool.proofs.StatusLemmas.{usage_ended}
 use Rattle.cca_tool.proofs.DemoRunLemmas.{ran_at}
-use Rattle.cca_tool.proofs.WordLemmas.{the_number, one_number, not_both}
+use Rattle.command_words.proofs.WordLemmas.{the_number, one_number, not_both}
 use Rattle.cca_tool.proofs.command.run.Goals as goal
 
 -- ---- the lines of the source

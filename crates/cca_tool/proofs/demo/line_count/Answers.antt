@@ -1,6 +1,6 @@
 -- The lines are counted section by section.
 use Rattle.std.proofs.Common.{sym}
-use Rattle.cca_tool.proofs.DemoLemmas.{demo-count}
+use Rattle.command_words.proofs.DemoLemmas.{demo-count}
 use Rattle.cca_tool.proofs.demo.line_count.Goals as goal
 
 pub returns : goal.returns

@@ -1,9 +1,0 @@
--- The line has the digits of the number.
-use Rattle.std.proofs.Common.{◌≡◌, List, ℕ, [], ◌∷◌, ◌++◌, codes, OnOk, subst}
-use Rattle.cca_tool.specs.Demo.{joined}
-use Rattle.cca_tool.proofs.demo_lines.put_used.Goals as goal
-
-pub returns : goal.returns
-returns c =
-    subst (λ (d : List ℕ). OnOk c.put_line.result (c.put_line.new.text.items ≡ c.args.text.now.items
-    ++ joined ((codes "CSNBENC role=DEFAULT key=L:KEY." ++ (d ++ (codes " iv=0000000000000000 pad=NONE text=0000000000000000" ++ []))) ∷ []))) c.decimal_digits-number.ensures c.put_line.ensures

@@ -1,0 +1,5 @@
+pub mod CountingLemmas
+pub mod DemoLemmas
+mod ListLemmas
+mod Walks
+pub mod WordLemmas

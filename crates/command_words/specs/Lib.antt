@@ -1,0 +1,4 @@
+pub mod Counting
+pub mod Demo
+pub mod MoveWords
+pub mod Sections

@@ -1,0 +1,15 @@
+//! The words of a command line, and the lines of a demo with the count of their replies.
+#![tactic(auto)]
+
+mod counts;
+mod demo_lines;
+mod demo_text;
+mod history;
+mod tally;
+mod unused;
+mod words;
+
+pub use demo_text::DemoText;
+pub use tally::Tally;
+pub use unused::Unused;
+pub use words::{Command, Words};
