@@ -99,6 +99,11 @@ EDITED = {
         r"'usr/bin/cca': 488",
     ),
     "build": (["tools/build/run"], [Edit("bin/rt", WHOLE, BASH + "echo built")], "the program could not be built"),
+    "build_again": (
+        [sys.executable, "-m", "unittest", "tests.build"],
+        [Edit("tools/build/prove", r" and self\.mark\(\)\.read_text\(\) == self\.sum", "")],
+        "FAIL: test_what_changed_and_what_stands_on_it",
+    ),
     "bench": (
         [sys.executable, "-m", "unittest", "tests.load", "-k", "Costs"],
         [
