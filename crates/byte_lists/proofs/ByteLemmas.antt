@@ -1,8 +1,8 @@
--- The exclusive or of lists, lists that are zero, and pieces of lists.
+-- The exclusive or of lists, and lists that are zero.
 use Rattle.std.proofs.Common.{◌≡◌, ℕ, zero, suc, ◌+◌, ◌<◌, List, [], ◌∷◌, ◌++◌, length, get_or, take, drop, set, replicate, eqb, refl, sym, ap, subst, ⊎_elim, ◌∙◌, arith}
 use Rattle.std.specs.Prelude.{All, bit_xor}
 use Rattle.std.proofs.lemmas.Bool.{cases_eq}
-use Rattle.std.proofs.lemmas.List.{append-nil, append_assoc, drop_all, drop_more, take_all, length-drop, get_or-replicate, get_or-set_other, get_or-set_same, get_or_default, length-append, length-replicate, length-take, set_at, take_more}
+use Rattle.std.proofs.lemmas.List.{append-nil, drop_all, take_all, length-drop, get_or-replicate, get_or-set_other, get_or-set_same, get_or_default, length-append, length-replicate, length-take}
 use Rattle.std.proofs.lemmas.Grind.{same_number_lists}
 use Rattle.std.proofs.lemmas.Nat.{xor_of_8}
 use Rattle.std.specs.Bool.{Decides}
@@ -77,21 +77,6 @@ is_zero-Decides xs = Decides-like (is_zero xs) together apart (Decides-by_and (�
 
     apart : IsZero xs → All (λ b. b ≡ 0) xs
     apart blank = λ i d within. IsZero-element xs i d blank within
-
--- ---- a piece put into a list from a place on
-
-pub put-more : (old piece : List ℕ) (at byte : ℕ) → at + byte < length old → byte < length piece
-    → set (take at old ++ take byte piece ++ drop (at + byte) old) (at + byte) (get_or piece byte 0) ≡ take at old ++ take (byte + 1) piece ++ drop (at + (byte + 1)) old
-put-more old piece at byte within inside =
-    let front : List ℕ = take at old ++ take byte piece in
-    let long : length front ≡ at + byte = simp (length-append, length-take) (omega arith) in
-    let next : at + byte + 1 ≡ at + (byte + 1) = omega arith in
-    ap (λ rest. set (front ++ rest) (at + byte) (get_or piece byte 0)) (drop_more old (at + byte) 0 within)
-    ∙ set_at front (get_or old (at + byte) 0) (drop (at + byte + 1) old) (get_or piece byte 0) (at + byte) long
-    ∙ ap (λ n. front ++ get_or piece byte 0 ∷ drop n old) next
-    ∙ sym (append_assoc front (get_or piece byte 0 ∷ []) (drop (at + (byte + 1)) old))
-    ∙ ap (λ more. more ++ drop (at + (byte + 1)) old)
-    (append_assoc (take at old) (take byte piece) (get_or piece byte 0 ∷ []) ∙ ap (λ more. take at old ++ more) (sym (take_more piece byte 0 inside)))
 
 -- ---- elements that are bytes
 

@@ -1,3 +1,2 @@
 pub mod Bytes
 pub mod ShortInside
-pub use Rattle.key_cells.specs.Secret

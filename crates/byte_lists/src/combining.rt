@@ -1,10 +1,7 @@
 //! The exclusive or (XOR) of bytes, in place.
 ghost use Rattle.std.specs.Prelude.{◌≡◌, length};
-ghost use Rattle.key_cells.specs.Secret.{bytes_of};
 ghost use Rattle.byte_lists.specs.Bytes.{AreBytes};
 ghost use Rattle.byte_lists.specs.Bytes as lists;
-
-use key_cells::Secret;
 
 /// XORs bytes into as many others.
 pub fn xor(into: &mut [u8], other: &[u8])
@@ -14,16 +11,5 @@ pub fn xor(into: &mut [u8], other: &[u8])
 {
     for at in 0..into.len() {
         into[at] ^= other[at];
-    }
-}
-
-/// XORs the bytes of a guarded array into as many others.
-pub fn xor_secret<const N: usize>(into: &mut [u8], secret: &Secret<'_, N>)
-    requires { length into.old ≡ N }
-    ensures combined { into.new ≡ lists.xor into.old (bytes_of secret.now) }
-    ensures bytes { AreBytes N into.new }
-{
-    for at in 0..N {
-        into[at] ^= secret.byte(at);
     }
 }

@@ -6,7 +6,7 @@ mod copying;
 mod short_lists;
 mod testing;
 
-pub use combining::{xor, xor_secret};
-pub use copying::{put_front, put_secret};
+pub use combining::xor;
+pub use copying::put_front;
 pub use short_lists::ShortList;
 pub use testing::is_zero;

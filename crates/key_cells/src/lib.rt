@@ -7,12 +7,14 @@
 
 mod arrays;
 mod benches;
+mod copying;
 mod leases;
 mod places;
 mod schedules;
 mod secrets;
 
 pub use benches::Workbench;
+pub use copying::put_secret;
 pub use leases::Lease;
 pub use places::{KeyPlace, MasterPlace};
 pub use schedules::Schedule;

@@ -4,8 +4,8 @@ ghost use Rattle.byte_lists.specs.Bytes.{xor};
 ghost use Rattle.key_cells.specs.Bench.{with_key};
 ghost use Rattle.key_cells.specs.Lease.{bench_of, holding};
 
-use byte_lists::xor_secret;
 use key_cells::{KeyPlace, Lease, Secret};
+use master_registers::xor_secret;
 
 /// Makes a key's place zero.
 pub(crate) fn clear_key(lease: &mut Lease, place: KeyPlace)

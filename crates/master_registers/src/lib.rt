@@ -8,6 +8,7 @@
 
 mod actions;
 mod changes;
+mod combining;
 mod faults;
 mod forms;
 mod loading;
@@ -18,6 +19,7 @@ mod registers;
 
 pub use actions::Action;
 pub use changes::{clear, first, last, middle, set};
+pub use combining::xor_secret;
 pub use faults::{LoadFault, RegisterFault};
 pub use loading::{a_body_reads_as_one, load};
 pub use patterns::{Pattern, has_pattern, pattern_of};

@@ -5,8 +5,8 @@ ghost use Rattle.key_cells.specs.Lease.{bench_of, holding};
 ghost use Rattle.byte_lists.specs.Bytes.{xor};
 ghost use Rattle.master_registers.specs.Masters.{IsMaster};
 
-use byte_lists::{put_secret, xor_secret};
-use key_cells::{Lease, MasterPlace, Secret};
+use crate::combining::xor_secret;
+use key_cells::{Lease, MasterPlace, Secret, put_secret};
 
 /// Moves a master key to another place, and leaves zeros where it was.
 pub(crate) fn move_master(lease: &mut Lease, from: MasterPlace, to: MasterPlace)

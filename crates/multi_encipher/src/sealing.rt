@@ -10,10 +10,9 @@ ghost use Rattle.multi_encipher.specs.Seals as seals;
 
 use crate::halves::{Sealed, Under};
 use crate::mixing::make_schedules;
-use byte_lists::put_secret;
 use cca_vectors::Vector;
 use des_blocks::{ded, ede};
-use key_cells::{KeyPlace, Lease, Secret};
+use key_cells::{KeyPlace, Lease, Secret, put_secret};
 
 /// Where a half of a key begins in 16 bytes.
 const LEFT: usize = 0;

@@ -1,7 +1,7 @@
 use Rattle.std.proofs.Common.{◌≡◌, length, refl, arith}
 use Rattle.key_cells.specs.Secret.{bytes_of}
 use Rattle.byte_lists.proofs.ByteLemmas.{combined_none, combined_more, combined_all, combined_bytes}
-use Rattle.byte_lists.proofs.combining.xor_secret.Goals as goal
+use Rattle.master_registers.proofs.combining.xor_secret.Goals as goal
 
 pub loop-at-init : goal.loop-at-init
 loop-at-init g c = combined_none c.args.into.now (bytes_of c.args.secret.now) (λ k. omega (arith, c.type_inv.into k))

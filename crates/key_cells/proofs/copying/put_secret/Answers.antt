@@ -1,8 +1,8 @@
 use Rattle.std.proofs.Common.{◌≡◌, length, take, drop, set, ◌+◌, ◌++◌, sym, ap, ◌∙◌, arith}
 use Rattle.std.proofs.lemmas.List.{append-nil, take-append-drop, take_all}
 use Rattle.key_cells.specs.Secret.{bytes_of}
-use Rattle.byte_lists.proofs.ByteLemmas.{put-more}
-use Rattle.byte_lists.proofs.copying.put_secret.Goals as goal
+use Rattle.key_cells.proofs.PieceLemmas.{put-more}
+use Rattle.key_cells.proofs.copying.put_secret.Goals as goal
 
 pub loop-byte-init : goal.loop-byte-init
 loop-byte-init g c =
