@@ -3,17 +3,17 @@ use Rattle.std.proofs.Common.{◌≡◌, ◌≤◌, ℕ, zero, suc, Bool, true, 
 use Rattle.std.specs.Prelude.{◌&&◌, if◌then◌else◌}
 use Rattle.held_names.specs.Directory.{has_name}
 use Rattle.held_names.proofs.DirectoryLaws.{none_some}
-use Rattle.key_records.specs.Ages.{any_ahead_entry, any_old, is_ahead_entry, is_old}
+use Rattle.record_bodies.specs.Ages.{any_ahead_entry, any_old, is_ahead_entry, is_old}
 use Rattle.record_bodies.specs.Directory.{cell_of}
 use Rattle.record_bodies.specs.Entries.{Entry, entry_label}
-use Rattle.key_records.specs.Turning.{aged, aged_entry, aged_key}
+use Rattle.record_bodies.specs.Turning.{aged, aged_entry, aged_key}
 use Rattle.key_tokens.specs.Denotes.{Denoted, MasterKeys}
 use Rattle.key_tokens.specs.declared.key_token.Age.{Age}
 use Rattle.key_tokens.specs.declared.key_token.Age.TheVariants.{Current, Old}
 use Rattle.key_transport.specs.Tokens.{as_current}
-use Rattle.reencipher.specs.Further.{changed, changed_entry, further, has_current_key, made_by}
-use Rattle.reencipher.specs.declared.actions.StoreAction.{StoreAction}
-use Rattle.reencipher.specs.declared.actions.StoreAction.TheVariants.{Ahead}
+use Rattle.record_bodies.specs.Further.{changed, changed_entry, further, has_current_key, made_by}
+use Rattle.record_bodies.specs.declared.actions.StoreAction.{StoreAction}
+use Rattle.record_bodies.specs.declared.actions.StoreAction.TheVariants.{Ahead}
 use Rattle.verb_rules.specs.Keys.{keys_of}
 use Rattle.verb_script.specs.Grammar.{Request}
 use Rattle.verb_script.specs.declared.rows.RequestName.{RequestName}

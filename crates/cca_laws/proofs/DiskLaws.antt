@@ -4,9 +4,9 @@ use Rattle.slot_disk.specs.Cells.{body}
 use Rattle.cca_roles.specs.declared.roles.Role.{Role}
 use Rattle.cca_roles.proofs.StandLaws.{stands_one}
 use Rattle.record_bodies.specs.Entries.{Entry}
-use Rattle.key_records.specs.StoreStands.{labels_in}
-use Rattle.key_records.proofs.OneBody.{same_bodies}
-use Rattle.key_records.proofs.OpeningLaws.{stands_one as labels_one}
+use Rattle.record_bodies.specs.StoreStands.{labels_in}
+use Rattle.record_bodies.proofs.OneBody.{same_bodies}
+use Rattle.record_bodies.proofs.OpeningLaws.{stands_one as labels_one}
 use Rattle.verb_rules.proofs.TokenLemmas.{keys_apart}
 use Rattle.key_tokens.specs.Denotes.{HaveDistinctPatterns, MasterKey}
 use Rattle.master_registers.specs.Masters.{IsMasters, Masters, blank_masters}

@@ -3,16 +3,16 @@ use Rattle.std.proofs.Common.{◌≡◌, ◌⊎◌, inl, inr, ℕ, Bool, true, f
 use Rattle.std.specs.Prelude.{if◌then◌else◌}
 use Rattle.held_names.specs.Directory.{has_name}
 use Rattle.held_names.proofs.DirectoryLaws.{has_name_is, none_some}
-use Rattle.key_records.specs.Ages.{has_old_key, is_ahead_entry, is_old as is_old_age}
+use Rattle.record_bodies.specs.Ages.{has_old_key, is_ahead_entry, is_old as is_old_age}
 use Rattle.record_bodies.specs.Entries.{Entry, entry, entry_label}
-use Rattle.key_records.specs.Turning.{aged, aged_entry, aged_key}
+use Rattle.record_bodies.specs.Turning.{aged, aged_entry, aged_key}
 use Rattle.key_tokens.specs.Denotes.{Denoted, MasterKeys}
 use Rattle.key_tokens.specs.declared.key_token.Age.{Age}
 use Rattle.key_tokens.specs.declared.key_token.Age.TheVariants.{Current, Old}
 use Rattle.key_transport.specs.Tokens.{as_current}
-use Rattle.reencipher.specs.Further.{changed_entry, further, made_by, under_current}
-use Rattle.reencipher.specs.declared.actions.StoreAction.{StoreAction}
-use Rattle.reencipher.specs.declared.actions.StoreAction.TheVariants.{Renew, Ahead, Drop}
+use Rattle.record_bodies.specs.Further.{changed_entry, further, made_by, under_current}
+use Rattle.record_bodies.specs.declared.actions.StoreAction.{StoreAction}
+use Rattle.record_bodies.specs.declared.actions.StoreAction.TheVariants.{Renew, Ahead, Drop}
 use Rattle.verb_rules.specs.Keys.{keys_of}
 use Rattle.verb_script.specs.Grammar.{Request}
 use Rattle.verb_script.specs.declared.rows.RequestName.{RequestName}

@@ -4,7 +4,7 @@ use Rattle.std.specs.Prelude.{⊤, is_some}
 use Rattle.held_names.proofs.DirectoryLaws.{none_of}
 use Rattle.record_bodies.specs.Entries.{Entry}
 use Rattle.record_bodies.specs.Labels.{IsLabel, is_label}
-use Rattle.key_records.specs.Turning.{aged}
+use Rattle.record_bodies.specs.Turning.{aged}
 use Rattle.key_tokens.specs.Denotes.{Denoted}
 use Rattle.script_buffers.specs.Replies.{Field}
 use Rattle.verb_script.specs.Grammar.{Request, value_of}

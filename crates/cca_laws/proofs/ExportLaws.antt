@@ -13,7 +13,7 @@ use Rattle.cca_vectors.proofs.Judging.{none_in_first, passed_over}
 use Rattle.key_parts.specs.Parts.{combined_key}
 use Rattle.record_bodies.specs.Entries.{Entry}
 use Rattle.record_bodies.specs.RecordBody.{ReadsEntry, ReadsWhat, kept}
-use Rattle.key_records.specs.StoreStands.{entry_at}
+use Rattle.record_bodies.specs.StoreStands.{entry_at}
 use Rattle.key_tokens.specs.Denotes.{ClearKey, Denoted, MasterKey, clear_of, denoted, denoted_or, denoted_under, is_token}
 use Rattle.key_tokens.specs.Fields.{pattern_of_token, token_of, vector_bytes_of}
 use Rattle.key_tokens.specs.TokenChecks.{has_right_half, header_checks, token_checks}

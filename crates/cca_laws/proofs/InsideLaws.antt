@@ -43,7 +43,7 @@ use Rattle.cca_machine.specs.State.{State}
 use Rattle.cca_machine.specs.Verdict.{Questions, Refusal, action_questions, bytes_in, chain_in, chain_questions, code_key_questions, code_rule, decipher_questions, draw_verdict, first_refusal, further_part_questions, general_checks, held_points, key_questions, lacks, last_segment_questions, last_text_questions, mac_questions, middle_questions, needed_points, needs_master, operand_checks, operand_questions, operands_verdict, or_last, or_refused, or_then, part_size, questions, segment_questions, target_checks, text_size, verb_questions, verb_verdict, verdict}
 use Rattle.cca_machine.specs.declared.asking.Ask.{Ask}
 use Rattle.cca_machine.specs.declared.asking.Ask.TheVariants.{AnyToken, Key, Token, External, Record, Held, NewLabel, Target, Nothing}
-use Rattle.key_records.specs.Ages.{any_old as any_old_label}
+use Rattle.record_bodies.specs.Ages.{any_old as any_old_label}
 use Rattle.cca_laws.specs.Inside.{AreAsFull, CompareAlike, any_internal_token, compares_patterns, is_internal_token, shows_internal, uses_master_key}
 use Rattle.cca_laws.proofs.NamedLaws.{part_cases, register_tests}
 use Rattle.cca_laws.proofs.OperandKeys.{first_passed}

@@ -2,12 +2,12 @@
 use Rattle.std.proofs.Common.{◌≡◌, ◌≢◌, ℕ, Bool, true, false, List, [], ◌∷◌, Option, None, Some, ⊎_elim, refl, sym, ap, subst, ◌∙◌, codes, ◌||◌, IsSome, true≢false}
 use Rattle.std.specs.Prelude.{⊤, if◌then◌else◌}
 use Rattle.held_names.specs.Directory.{has_name}
-use Rattle.key_records.specs.Ages.{any_old, has_old_key, is_old, is_old_entry}
+use Rattle.record_bodies.specs.Ages.{any_old, has_old_key, is_old, is_old_entry}
 use Rattle.record_bodies.specs.Directory.{cell_of, free_cell}
-use Rattle.key_records.specs.Changes.{null_entry, with_what}
+use Rattle.record_bodies.specs.LabelChanges.{null_entry, with_what}
 use Rattle.record_bodies.specs.Entries.{Entry, directory, entry_label}
-use Rattle.key_records.specs.StoreStands.{entry_at}
-use Rattle.key_records.specs.Turning.{aged}
+use Rattle.record_bodies.specs.StoreStands.{entry_at}
+use Rattle.record_bodies.specs.Turning.{aged}
 use Rattle.key_tokens.specs.Denotes.{ClearKey, Denoted}
 use Rattle.key_tokens.specs.declared.key_token.Age.TheVariants.{Old}
 use Rattle.script_buffers.specs.Replies.{Field}

@@ -3,14 +3,14 @@ use Rattle.std.proofs.Common.{◌≡◌, ◌≢◌, ℕ, zero, suc, ◌+◌, Boo
 use Rattle.std.specs.Prelude.{⊤, if◌then◌else◌}
 use Rattle.held_names.specs.Directory.{has_name, name_at, place_from, place_of, free_from, free_place}
 use Rattle.held_names.proofs.DirectoryLaws.{has_name_is, held_at}
-use Rattle.key_records.specs.Changes.{with_what}
+use Rattle.record_bodies.specs.LabelChanges.{with_what}
 use Rattle.record_bodies.specs.Entries.{Entry, directory, entry_label}
-use Rattle.key_records.specs.StoreStands.{entry_at}
-use Rattle.key_records.specs.Turning.{aged, aged_entry, aged_key}
+use Rattle.record_bodies.specs.StoreStands.{entry_at}
+use Rattle.record_bodies.specs.Turning.{aged, aged_entry, aged_key}
 use Rattle.key_tokens.specs.Denotes.{ClearKey, Denoted, MasterKeys}
-use Rattle.reencipher.specs.Further.{changed_entry, further, made_by, under_current}
-use Rattle.reencipher.specs.declared.actions.StoreAction.{StoreAction}
-use Rattle.reencipher.specs.declared.actions.StoreAction.TheVariants.{Renew, Ahead, Drop}
+use Rattle.record_bodies.specs.Further.{changed_entry, further, made_by, under_current}
+use Rattle.record_bodies.specs.declared.actions.StoreAction.{StoreAction}
+use Rattle.record_bodies.specs.declared.actions.StoreAction.TheVariants.{Renew, Ahead, Drop}
 use Rattle.cca_machine.specs.Keys.{what_at, what_in}
 use Rattle.cca_machine.proofs.RerunLaws.{by_change}
 use Rattle.cca_laws.specs.EachLabel.{entry_where}

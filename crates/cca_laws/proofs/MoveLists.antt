@@ -5,10 +5,10 @@ use Rattle.std.proofs.lemmas.List.{get_or-set_same, length-map, map-set, set-get
 use Rattle.std.proofs.lemmas.List.Sums.{sum_by-cons, sum_by-set}
 use Rattle.held_names.specs.Directory.{has_name, name_at, free_from}
 use Rattle.held_names.proofs.DirectoryLaws.{has_name_is, has_name_not, held_at, held_nowhere, none_some, place_found}
-use Rattle.key_records.specs.Changes.{created, null_entry, with_what}
+use Rattle.record_bodies.specs.LabelChanges.{created, null_entry, with_what}
 use Rattle.record_bodies.specs.Directory.{cell_of, free_cell, held_count}
 use Rattle.record_bodies.specs.Entries.{Entry, directory, entry, entry_label}
-use Rattle.key_records.specs.StoreStands.{entry_at}
+use Rattle.record_bodies.specs.StoreStands.{entry_at}
 use Rattle.key_tokens.specs.Denotes.{Denoted}
 use Rattle.cca_machine.specs.Act.{written_in}
 use Rattle.cca_machine.specs.Keys.{what_at, what_in}

@@ -6,11 +6,11 @@ use Rattle.std.proofs.lemmas.Bool.{eqb-true}
 use Rattle.std.proofs.lemmas.List.{get_or-set_same}
 use Rattle.held_names.specs.Directory.{AreApart, free_from, name_at}
 use Rattle.held_names.proofs.DirectoryLaws.{apart_set, held_nowhere, place_is}
-use Rattle.key_records.specs.Changes.{created}
+use Rattle.record_bodies.specs.LabelChanges.{created}
 use Rattle.record_bodies.specs.Directory.{cell_of, free_cell, held_count}
 use Rattle.record_bodies.specs.Entries.{Entry, directory, entry_label}
 use Rattle.record_bodies.specs.Rank.{smaller_count}
-use Rattle.key_records.specs.StoreStands.{entry_at}
+use Rattle.record_bodies.specs.StoreStands.{entry_at}
 use Rattle.key_tokens.specs.Denotes.{Denoted}
 use Rattle.cca_machine.specs.Listing.{ascending, first_label, has_rank, nth_label}
 use Rattle.cca_laws.specs.Moving.{free_cells_from}

@@ -4,7 +4,7 @@ use Rattle.std.specs.Prelude.{◌==◌, ◌&&◌, ◌||◌, is_none, is_some, if
 use Rattle.std.proofs.lemmas.Bool.{eqb-true}
 use Rattle.std.proofs.lemmas.List.{length-map, length-set}
 use Rattle.std.proofs.lemmas.List.Sums.{get_or-le-sum_by, length-filter}
-use Rattle.key_records.specs.Changes.{created, null_entry}
+use Rattle.record_bodies.specs.LabelChanges.{created, null_entry}
 use Rattle.record_bodies.specs.Directory.{cell_of, free_cell, held_count}
 use Rattle.record_bodies.specs.Entries.{Entry, directory, entry_label}
 use Rattle.key_tokens.specs.Denotes.{Denoted}

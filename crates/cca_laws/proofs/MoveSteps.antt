@@ -18,7 +18,7 @@ use Rattle.cca_vectors.specs.Vectors.{is_part_of, length_of}
 use Rattle.cca_vectors.specs.declared.key_class.Class.TheVariants.{Importer}
 use Rattle.cca_vectors.specs.declared.key_usage.Usage.TheVariants.{Transport}
 use Rattle.cca_vectors.proofs.Judging.{passed_over}
-use Rattle.key_records.specs.Changes.{created}
+use Rattle.record_bodies.specs.LabelChanges.{created}
 use Rattle.record_bodies.specs.Directory.{cell_of, free_cell}
 use Rattle.record_bodies.specs.Entries.{Entry, directory}
 use Rattle.key_tokens.specs.Denotes.{ClearKey, Denoted, denoted_under}

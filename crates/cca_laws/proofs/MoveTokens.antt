@@ -14,7 +14,7 @@ use Rattle.held_names.proofs.DirectoryLaws.{held_at}
 use Rattle.record_bodies.specs.Directory.{cell_of}
 use Rattle.record_bodies.specs.Entries.{Entry, directory, entry_label}
 use Rattle.record_bodies.specs.RecordBody.{ReadsEntry, ReadsWhat, kept}
-use Rattle.key_records.specs.StoreStands.{entry_at}
+use Rattle.record_bodies.specs.StoreStands.{entry_at}
 use Rattle.key_tokens.specs.Denotes.{ClearKey, Denoted, Denotes, HaveDistinctPatterns, MasterKey, MasterKeys, denoted, denoted_under}
 use Rattle.key_tokens.specs.Fields.{token_of}
 use Rattle.key_tokens.specs.Layout.{IsToken}

@@ -8,7 +8,7 @@ use Rattle.key_parts.specs.Parts.{combined_key}
 use Rattle.text_segments.specs.Chains.{first_chain}
 use Rattle.text_segments.specs.declared.modes.Mode.TheVariants as mode
 use Rattle.cca_vectors.specs.Checks.{Check, check, first_failing}
-use Rattle.key_records.specs.Ages.{any_ahead_entry}
+use Rattle.record_bodies.specs.Ages.{any_ahead_entry}
 use Rattle.record_bodies.specs.Directory.{cell_of}
 use Rattle.record_bodies.specs.Entries.{Entry, directory}
 use Rattle.key_tokens.specs.Denotes.{ClearKey, Denoted, denoted}

@@ -25,11 +25,11 @@ use Rattle.cca_vectors.proofs.PartLemmas.{part_length}
 use Rattle.cca_vectors.proofs.TypeLemmas.{names_type}
 use Rattle.key_parts.specs.Parts.{combined_key, first_key, xor_all}
 use Rattle.key_parts.proofs.PartLemmas.{after_last, before_last}
-use Rattle.key_records.specs.Changes.{with_what, written}
+use Rattle.record_bodies.specs.LabelChanges.{with_what, written}
 use Rattle.record_bodies.specs.Directory.{cell_of}
 use Rattle.record_bodies.specs.Entries.{Entry, directory, entry_label}
 use Rattle.record_bodies.specs.Labels.{is_label}
-use Rattle.key_records.specs.StoreStands.{entry_at}
+use Rattle.record_bodies.specs.StoreStands.{entry_at}
 use Rattle.key_tokens.specs.Denotes.{ClearKey, Denoted}
 use Rattle.key_transport.specs.Generated.{HasLength, vector_for}
 use Rattle.key_transport.specs.Tokens.{as_current}

@@ -23,7 +23,7 @@ use Rattle.record_bodies.specs.Directory.{held_count}
 use Rattle.record_bodies.specs.Entries.{Entry, directory}
 use Rattle.record_bodies.specs.Labels.{IsLabel, is_label, starts_label}
 use Rattle.record_bodies.specs.RecordBody.{ReadsEntry, ReadsWhat, kept}
-use Rattle.key_records.specs.StoreStands.{entry_at}
+use Rattle.record_bodies.specs.StoreStands.{entry_at}
 use Rattle.key_tokens.specs.Denotes.{ClearKey, Denoted, MasterKeys}
 use Rattle.key_tokens.specs.Fields.{token_of}
 use Rattle.key_tokens.specs.declared.key_token.Kind.{Kind}

@@ -8,13 +8,13 @@ use Rattle.cca_vectors.specs.Checks.{first_failing}
 use Rattle.cca_vectors.specs.Classes.{class_of}
 use Rattle.cca_vectors.specs.declared.key_class.Class.{Class}
 use Rattle.cca_vectors.specs.declared.key_class.Class.TheVariants.{Data, Cipher, Mac, Exporter, Importer, Other}
-use Rattle.key_records.specs.Changes.{null_entry, with_what}
+use Rattle.record_bodies.specs.LabelChanges.{null_entry, with_what}
 use Rattle.record_bodies.specs.Directory.{held_count}
 use Rattle.record_bodies.specs.Entries.{Entry, directory, entry_label}
 use Rattle.record_bodies.specs.Labels.{IsLabel, is_label, starts_label}
 use Rattle.record_bodies.specs.RecordBody.{ReadsEntry}
-use Rattle.key_records.specs.StoreStands.{entry_at}
-use Rattle.key_records.specs.Turning.{aged, aged_entry}
+use Rattle.record_bodies.specs.StoreStands.{entry_at}
+use Rattle.record_bodies.specs.Turning.{aged, aged_entry}
 use Rattle.key_tokens.specs.Denotes.{Denoted, MasterKeys}
 use Rattle.key_tokens.specs.Fields.{token_of}
 use Rattle.key_tokens.specs.declared.key_token.Kind.{Kind}
@@ -22,8 +22,8 @@ use Rattle.key_tokens.specs.declared.key_token.Kind.TheVariants.{Internal, Exter
 use Rattle.key_transport.specs.declared.changing.Target.{Target}
 use Rattle.key_transport.specs.declared.changing.Target.TheVariants.{Current, New}
 use Rattle.master_registers.specs.Masters.{NewRegister, Empty, Partial, Full}
-use Rattle.reencipher.specs.Further.{further}
-use Rattle.reencipher.specs.declared.actions.StoreAction.{StoreAction}
+use Rattle.record_bodies.specs.Further.{further}
+use Rattle.record_bodies.specs.declared.actions.StoreAction.{StoreAction}
 use Rattle.script_buffers.specs.Lines.{lines, newline}
 use Rattle.script_buffers.proofs.LineLemmas.{lines-nil, lines-whole}
 use Rattle.script_buffers.specs.Replies.{Field, spelled}

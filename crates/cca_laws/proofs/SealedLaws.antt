@@ -11,10 +11,10 @@ use Rattle.slot_disk.specs.SpareBytes.{SameCell}
 use Rattle.slot_disk.proofs.CellSteps.{get_or-range, length-range, selected_below}
 use Rattle.record_bodies.specs.Entries.{Entry}
 use Rattle.record_bodies.specs.RecordBody.{ReadsEntry, blank_body}
-use Rattle.key_records.specs.StoreStands.{entry_at}
-use Rattle.key_records.specs.Written.{written_body}
+use Rattle.record_bodies.specs.StoreStands.{entry_at}
+use Rattle.record_bodies.specs.Written.{written_body}
 use Rattle.record_bodies.proofs.BodyLaws.{entry_blank, reads_one}
-use Rattle.key_records.proofs.OneBody.{one_body}
+use Rattle.record_bodies.proofs.OneBody.{one_body}
 use Rattle.key_tokens.specs.Denotes.{HaveDistinctPatterns, MasterKey, MasterKeys}
 use Rattle.master_registers.specs.Actions.{after_action, has_wrong_state, repeats_pattern}
 use Rattle.master_registers.specs.Masters.{AreApart, IsMasters, Masters, NewRegister, Empty, Partial, Full, blank_masters, has_pattern_of, is_full, new_bytes, pattern_of_master}

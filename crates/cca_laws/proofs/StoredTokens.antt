@@ -11,8 +11,8 @@ use Rattle.cca_vectors.specs.Checks.{first_failing}
 use Rattle.record_bodies.specs.Entries.{Entry}
 use Rattle.record_bodies.specs.Labels.{IsLabel}
 use Rattle.record_bodies.specs.RecordBody.{HasToken, IsFirst, IsSecond, IsTurned, ReadsEntry, ReadsWhat, both_body, both_kind, key_kind, no_second, null_kind, record_body, token_in}
-use Rattle.key_records.specs.StoreStands.{entry_at}
-use Rattle.key_records.specs.Written.{key_record, record_bytes, register_of, second_under, token_bytes, written_body}
+use Rattle.record_bodies.specs.StoreStands.{entry_at}
+use Rattle.record_bodies.specs.Written.{key_record, record_bytes, register_of, second_under, token_bytes, written_body}
 use Rattle.record_bodies.specs.declared.rows.Second.{Second}
 use Rattle.record_bodies.proofs.BodyLaws.{blank_first, kind_again, token_again}
 use Rattle.record_bodies.proofs.SecondLaws.{IsLong, none_long, second_long}

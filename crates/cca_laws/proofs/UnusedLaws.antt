@@ -2,18 +2,18 @@
 use Rattle.std.proofs.Common.{◌≡◌, ◌⊎◌, inl, inr, ⊎_elim, ℕ, zero, suc, ◌<◌, Bool, true, false, List, [], ◌∷◌, length, get_or, set, Option, None, Some, refl, sym, subst, ◌∙◌, arith}
 use Rattle.std.specs.Prelude.{Contains}
 use Rattle.held_names.proofs.DirectoryLaws.{none_some}
-use Rattle.key_records.specs.Changes.{null_entry, with_what}
+use Rattle.record_bodies.specs.LabelChanges.{null_entry, with_what}
 use Rattle.record_bodies.specs.Directory.{free_cell}
 use Rattle.record_bodies.specs.Entries.{Entry, directory}
-use Rattle.key_records.specs.StoreStands.{entry_at}
-use Rattle.key_records.specs.Turning.{aged, aged_entry, unused_by}
-use Rattle.key_records.specs.Written.{register_of, token_bytes}
+use Rattle.record_bodies.specs.StoreStands.{entry_at}
+use Rattle.record_bodies.specs.Turning.{aged, aged_entry, unused_by}
+use Rattle.record_bodies.specs.Written.{register_of, token_bytes}
 use Rattle.key_tokens.specs.Denotes.{ClearKey, Denoted, MasterKeys}
 use Rattle.key_tokens.specs.declared.key_token.Age.{Age}
 use Rattle.key_tokens.specs.declared.key_token.Age.TheVariants.{Current}
-use Rattle.reencipher.specs.Further.{changed_entry, further, made_by}
-use Rattle.reencipher.specs.declared.actions.StoreAction.{StoreAction}
-use Rattle.reencipher.specs.declared.actions.StoreAction.TheVariants.{Renew, Ahead, Drop}
+use Rattle.record_bodies.specs.Further.{changed_entry, further, made_by}
+use Rattle.record_bodies.specs.declared.actions.StoreAction.{StoreAction}
+use Rattle.record_bodies.specs.declared.actions.StoreAction.TheVariants.{Renew, Ahead, Drop}
 use Rattle.verb_rules.specs.Keys.{keys_of}
 use Rattle.verb_script.specs.Grammar.{Request}
 use Rattle.verb_script.specs.declared.rows.RequestName.{RequestName}

@@ -4,20 +4,20 @@ use Rattle.std.specs.Prelude.{is_none, is_some, ◌||◌, ◌==◌, if◌then◌
 use Rattle.cca_vectors.specs.Checks.{check, first_failing}
 use Rattle.cca_roles.specs.Roles.{after_define, after_remove}
 use Rattle.key_parts.specs.Parts.{combined_key}
-use Rattle.key_records.specs.Ages.{any_ahead_entry, any_old, is_ahead_entry, is_old_entry}
-use Rattle.key_records.specs.Changes.{null_entry, with_what}
+use Rattle.record_bodies.specs.Ages.{any_ahead_entry, any_old, is_ahead_entry, is_old_entry}
+use Rattle.record_bodies.specs.LabelChanges.{null_entry, with_what}
 use Rattle.record_bodies.specs.Directory.{cell_of, free_cell}
 use Rattle.record_bodies.specs.Entries.{Entry, directory, entry_label, what_in}
-use Rattle.key_records.specs.StoreStands.{entry_at}
-use Rattle.key_records.specs.Turning.{aged, aged_entry}
+use Rattle.record_bodies.specs.StoreStands.{entry_at}
+use Rattle.record_bodies.specs.Turning.{aged, aged_entry}
 use Rattle.key_tokens.specs.Denotes.{ClearKey, Denoted, MasterKeys}
 use Rattle.key_transport.specs.Tokens.{as_current, closed_key}
 use Rattle.master_registers.specs.Actions.{after_action}
 use Rattle.master_registers.specs.Masters.{Masters}
 use Rattle.master_registers.specs.declared.actions.Action.TheVariants.{Clear, Set}
-use Rattle.reencipher.specs.Further.{changed_count, changed_entry, further, is_changed, is_changed_by, made_by}
-use Rattle.reencipher.specs.declared.actions.StoreAction.{StoreAction}
-use Rattle.reencipher.specs.declared.actions.StoreAction.TheVariants.{Renew, Ahead, Drop}
+use Rattle.record_bodies.specs.Further.{changed_count, changed_entry, further, is_changed, is_changed_by, made_by}
+use Rattle.record_bodies.specs.declared.actions.StoreAction.{StoreAction}
+use Rattle.record_bodies.specs.declared.actions.StoreAction.TheVariants.{Renew, Ahead, Drop}
 use Rattle.script_buffers.specs.Replies.{Field, Number, spelled}
 use Rattle.verb_rules.specs.Keys.{keys_of}
 use Rattle.verb_script.specs.Grammar.{Request, value_of}

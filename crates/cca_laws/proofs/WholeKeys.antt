@@ -16,7 +16,7 @@ use Rattle.byte_lists.specs.Bytes.{AreBytes}
 use Rattle.byte_lists.proofs.ByteLemmas.{are_bytes}
 use Rattle.record_bodies.specs.Entries.{Entry}
 use Rattle.record_bodies.specs.RecordBody.{ReadsEntry, ReadsWhat, kept}
-use Rattle.key_records.specs.StoreStands.{entry_at}
+use Rattle.record_bodies.specs.StoreStands.{entry_at}
 use Rattle.key_tokens.specs.Denotes.{ClearKey, Denoted, Denotes, HaveDistinctPatterns, MasterKey, MasterKeys, clear_of, denoted, denoted_or, denoted_under, is_token}
 use Rattle.key_tokens.specs.Fields.{pattern_of_token}
 use Rattle.key_tokens.specs.declared.key_token.Age.{Age}

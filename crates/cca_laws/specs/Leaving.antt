@@ -25,8 +25,8 @@ use Rattle.master_registers.specs.declared.registers.NewState.{NewState}
 use Rattle.master_registers.specs.declared.registers.NewState.TheVariants as state
 use Rattle.multi_encipher.specs.Bundles.{transport_bundle}
 use Rattle.multi_encipher.specs.Seals.{seal}
-use Rattle.reencipher.specs.Further.{changed_count}
-use Rattle.reencipher.specs.declared.actions.StoreAction.TheVariants.{Renew, Ahead, Drop}
+use Rattle.record_bodies.specs.Further.{changed_count}
+use Rattle.record_bodies.specs.declared.actions.StoreAction.TheVariants.{Renew, Ahead, Drop}
 use Rattle.script_buffers.specs.Replies.{Done, Field, Hex, Number, Refused, Reply, Text}
 use Rattle.std.specs.List.{list_any}
 use Rattle.std.specs.Str.{bytes_eq}

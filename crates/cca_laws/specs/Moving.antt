@@ -10,7 +10,7 @@ use Rattle.cca_vectors.specs.declared.key_class.Class.TheVariants.{Importer}
 use Rattle.cca_vectors.specs.declared.key_usage.Usage.TheVariants.{Transport}
 use Rattle.record_bodies.specs.Directory.{held_count}
 use Rattle.record_bodies.specs.Entries.{directory, entry}
-use Rattle.key_records.specs.StoreStands.{entry_at}
+use Rattle.record_bodies.specs.StoreStands.{entry_at}
 use Rattle.key_tokens.specs.Denotes.{Denoted}
 use Rattle.key_transport.specs.Tokens.{as_current}
 use Rattle.verb_script.specs.Grammar.{Request}

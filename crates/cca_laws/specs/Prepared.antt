@@ -1,8 +1,8 @@
 -- Labels that are sealed under the next master key before it is set.
 use Rattle.std.specs.Prelude.{ℕ, Bool, false, List, Option, None, Some}
-use Rattle.key_records.specs.Ages.{is_ahead_entry}
+use Rattle.record_bodies.specs.Ages.{is_ahead_entry}
 use Rattle.record_bodies.specs.Entries.{Entry}
-use Rattle.key_records.specs.StoreStands.{entry_at}
+use Rattle.record_bodies.specs.StoreStands.{entry_at}
 use Rattle.cca_machine.specs.Keys.{cell_with}
 use Rattle.cca_machine.specs.State.{State}
 

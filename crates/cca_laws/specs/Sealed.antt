@@ -6,8 +6,8 @@ use Rattle.slot_disk.specs.Cells.{body, body_at, other_body}
 use Rattle.slot_disk.specs.SpareBytes.{IsSpare, SameSpare, SameCell}
 use Rattle.record_bodies.specs.Entries.{Entry}
 use Rattle.record_bodies.specs.Labels.{IsLabel}
-use Rattle.key_records.specs.StoreStands.{entry_at}
-use Rattle.key_records.specs.Written.{register_of, token_bytes, written_body}
+use Rattle.record_bodies.specs.StoreStands.{entry_at}
+use Rattle.record_bodies.specs.Written.{register_of, token_bytes, written_body}
 use Rattle.key_tokens.specs.Denotes.{ClearKey, Denoted}
 use Rattle.key_tokens.specs.TokenChecks.{token_checks}
 use Rattle.key_tokens.specs.declared.key_token.Age.{Age}

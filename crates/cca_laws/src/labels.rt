@@ -6,7 +6,7 @@ ghost use Rattle.cca_machine.specs.Keys.{cell_with};
 ghost use Rattle.cca_machine.specs.Operands.{listed, operands};
 ghost use Rattle.cca_machine.specs.State.{State, IsStoreOf};
 ghost use Rattle.cca_machine.specs.Verdict.{verdict};
-ghost use Rattle.key_records.specs.Ages.{any_ahead_entry};
+ghost use Rattle.record_bodies.specs.Ages.{any_ahead_entry};
 ghost use Rattle.record_bodies.specs.Entries.{Entry};
 ghost use Rattle.verb_script.specs.Grammar.{Request, value_of};
 ghost use Rattle.verb_script.specs.declared.rows.RequestName.TheVariants.{Csnbkrc, CsnbmkpClear, CsnbmkpSet, Reencipher, ReencipherDrop};

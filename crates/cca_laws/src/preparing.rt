@@ -8,7 +8,7 @@ ghost use Rattle.cca_machine.specs.State.{State, IsStoreOf};
 ghost use Rattle.cca_machine.specs.Verdict.{verdict};
 ghost use Rattle.key_tokens.specs.Denotes.{Denoted};
 ghost use Rattle.key_transport.specs.Tokens.{as_current};
-ghost use Rattle.reencipher.specs.declared.actions.StoreAction.TheVariants.{Ahead};
+ghost use Rattle.record_bodies.specs.declared.actions.StoreAction.TheVariants.{Ahead};
 ghost use Rattle.verb_script.specs.Grammar.{Request};
 ghost use Rattle.verb_script.specs.declared.rows.RequestName.TheVariants.{CsnbmkpClear, CsnbmkpSet};
 ghost use Rattle.cca_laws.specs.Prepared.{is_ahead_label};

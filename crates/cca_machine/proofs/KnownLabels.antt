@@ -2,9 +2,9 @@
 use Rattle.std.proofs.Common.{◌≡◌, ◌∙◌, ℕ, List, Option, sym, ap}
 use Rattle.record_bodies.specs.Directory.{cell_of}
 use Rattle.record_bodies.specs.Entries.{row_directory}
-use Rattle.key_records.specs.StoreStands.{Agrees}
+use Rattle.record_bodies.specs.StoreStands.{Agrees}
 use Rattle.record_bodies.specs.declared.rows.Row.{Row}
-use Rattle.key_records.proofs.OpeningLaws.{directory_remembered}
+use Rattle.record_bodies.proofs.OpeningLaws.{directory_remembered}
 use Rattle.verb_rules.specs.Keys.{keys_of}
 use Rattle.cca_machine.specs.Keys.{cell_with}
 use Rattle.cca_machine.specs.State.{State}

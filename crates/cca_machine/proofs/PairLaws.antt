@@ -13,9 +13,9 @@ use Rattle.cca_roles.specs.declared.roles.Role.{Role}
 use Rattle.cca_roles.proofs.StandLaws.{stands_one as roles_one, stands_undamaged as roles_undamaged}
 use Rattle.cca_roles.proofs.TotalLaws.{stands_or_damaged as roles_or_damaged}
 use Rattle.record_bodies.specs.Entries.{Entry}
-use Rattle.key_records.specs.StoreStands.{StandsForLabels, labels_in}
-use Rattle.key_records.proofs.OpeningLaws.{stands_one as labels_one, stands_undamaged as labels_undamaged}
-use Rattle.key_records.proofs.TotalLaws.{stands_or_damaged as labels_or_damaged}
+use Rattle.record_bodies.specs.StoreStands.{StandsForLabels, labels_in}
+use Rattle.record_bodies.proofs.OpeningLaws.{stands_one as labels_one, stands_undamaged as labels_undamaged}
+use Rattle.record_bodies.proofs.TotalLaws.{stands_or_damaged as labels_or_damaged}
 use Rattle.master_registers.specs.BodyForm.{coming_at, kept_at, masters_at, IsBody, AreMasterKeys}
 use Rattle.master_registers.specs.Masters.{Masters, IsMaster, AreApart, blank_masters, new_bytes, kept_bytes, pattern_of_master}
 use Rattle.master_registers.specs.RegisterBody.{registers_body, blank_body, ReadsMasters}

@@ -2,15 +2,15 @@
 use Rattle.std.proofs.Common.{◌≡◌, ℕ, zero, suc, ◌<◌, ◌≤◌, Bool, true, false, List, [], ◌∷◌, length, Option, None, Some, codes, refl, sym, ap, ◌∙◌, subst}
 use Rattle.std.specs.Prelude.{◌||◌, if◌then◌else◌}
 use Rattle.slot_disk.specs.Cells.{body}
-use Rattle.key_records.specs.Ages.{any_old as any_old_label, has_old_key, is_old_entry}
+use Rattle.record_bodies.specs.Ages.{any_old as any_old_label, has_old_key, is_old_entry}
 use Rattle.record_bodies.specs.Entries.{Entry}
-use Rattle.key_records.specs.StoreStands.{StandsForLabels}
-use Rattle.key_records.proofs.OneBody.{same_bodies}
+use Rattle.record_bodies.specs.StoreStands.{StandsForLabels}
+use Rattle.record_bodies.proofs.OneBody.{same_bodies}
 use Rattle.key_tokens.specs.Denotes.{HaveDistinctPatterns}
-use Rattle.reencipher.specs.Further.{changed as changed_label, changed_entry, further, reruns, changed_count, is_changed_by, made_by}
-use Rattle.reencipher.specs.declared.actions.StoreAction.{StoreAction}
-use Rattle.reencipher.specs.declared.actions.StoreAction.TheVariants.{Renew, Ahead, Drop}
-use Rattle.reencipher.proofs.FurtherLaws.{rerun, changed_all, whole}
+use Rattle.record_bodies.specs.Further.{changed as changed_label, changed_entry, further, reruns, changed_count, is_changed_by, made_by}
+use Rattle.record_bodies.specs.declared.actions.StoreAction.{StoreAction}
+use Rattle.record_bodies.specs.declared.actions.StoreAction.TheVariants.{Renew, Ahead, Drop}
+use Rattle.record_bodies.proofs.FurtherLaws.{rerun, changed_all, whole}
 use Rattle.script_buffers.specs.Replies.{Reply, Done, Number}
 use Rattle.verb_rules.specs.Keys.{keys_of}
 use Rattle.cca_machine.specs.State.{State, IsStoreOf}

@@ -2,7 +2,7 @@
 use Rattle.std.specs.Prelude.{◌≡◌, ◌⊎◌, ℕ, List, Option}
 use Rattle.cca_roles.specs.RolesStand.{StandsForRoles, IsFirstDamaged}
 use Rattle.cca_roles.specs.declared.roles.Role.{Role}
-use Rattle.key_records.specs.StoreStands.{IsFirstDamaged as IsFirstDamagedRecord}
+use Rattle.record_bodies.specs.StoreStands.{IsFirstDamaged as IsFirstDamagedRecord}
 use Rattle.master_registers.specs.Masters.{Masters}
 use Rattle.master_registers.specs.RegisterBody.{StandsForMasters, IsDamaged}
 use Rattle.verb_rules.specs.Keys.{keys_of}

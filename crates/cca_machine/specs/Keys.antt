@@ -4,9 +4,9 @@ use Rattle.key_tokens.specs.declared.key_token.Age.TheVariants.{Current}
 use Rattle.key_tokens.specs.Denotes.{ClearKey, Denoted, denoted, denoted_under}
 use Rattle.record_bodies.specs.Directory.{cell_of}
 use Rattle.record_bodies.specs.Entries.{Entry, directory}
-pub use Rattle.key_records.specs.Ages.{is_old as is_old_age, has_old_key as is_old}
+pub use Rattle.record_bodies.specs.Ages.{is_old as is_old_age, has_old_key as is_old}
 pub use Rattle.record_bodies.specs.Entries.{what_in}
-use Rattle.key_records.specs.StoreStands.{entry_at}
+use Rattle.record_bodies.specs.StoreStands.{entry_at}
 use Rattle.script_buffers.specs.Replies.{Field, Text}
 use Rattle.verb_rules.specs.Keys.{keys_of}
 use Rattle.verb_script.specs.Grammar.{Request, value_of}

@@ -4,7 +4,7 @@ use Rattle.cca_roles.specs.Roles.{blank_roles}
 use Rattle.cca_roles.specs.RolesStand.{StandsForRoles}
 use Rattle.cca_roles.specs.declared.roles.Role.{Role}
 use Rattle.record_bodies.specs.Entries.{Entry}
-use Rattle.key_records.specs.StoreStands.{StandsForLabels}
+use Rattle.record_bodies.specs.StoreStands.{StandsForLabels}
 use Rattle.master_registers.specs.Masters.{Masters, blank_masters}
 use Rattle.master_registers.specs.RegisterBody.{StandsForMasters}
 use Rattle.verb_rules.specs.Keys.{keys_of}

@@ -19,7 +19,7 @@ use Rattle.cca_vectors.specs.declared.key_type.KeyType.{KeyType}
 use Rattle.cipher_verbs.specs.CipherTexts.{enciphering, pad_checks}
 use Rattle.cipher_verbs.specs.declared.padding.Pad.{Pad}
 use Rattle.cipher_verbs.specs.declared.padding.Pad.TheVariants as padding
-use Rattle.key_records.specs.Ages.{any_old as any_old_label, any_ahead_entry}
+use Rattle.record_bodies.specs.Ages.{any_old as any_old_label, any_ahead_entry}
 use Rattle.record_bodies.specs.Directory.{free_cell}
 use Rattle.record_bodies.specs.Entries.{directory}
 use Rattle.record_bodies.specs.Labels.{is_label}

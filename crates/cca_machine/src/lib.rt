@@ -13,8 +13,8 @@ ghost use Rattle.cca_vectors.specs.declared.key_length.Length.TheVariants.{Uniqu
 ghost use Rattle.cca_vectors.specs.declared.key_type.KeyType.TheVariants.{Data};
 ghost use Rattle.key_tokens.specs.Denotes.{HaveDistinctPatterns};
 ghost use Rattle.key_transport.specs.Generated.{generated_key};
-ghost use Rattle.reencipher.specs.Further.{reruns, changed_count};
-ghost use Rattle.reencipher.specs.declared.actions.StoreAction.{StoreAction};
+ghost use Rattle.record_bodies.specs.Further.{reruns, changed_count};
+ghost use Rattle.record_bodies.specs.declared.actions.StoreAction.{StoreAction};
 ghost use Rattle.verb_rules.specs.Keys.{keys_of};
 ghost use Rattle.cca_machine.specs.State.{State, IsStoreOf, blank_state};
 ghost use Rattle.cca_machine.specs.Act.{performed};

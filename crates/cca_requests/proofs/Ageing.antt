@@ -5,11 +5,11 @@ use Rattle.std.specs.Prelude.{◌||◌, bytes_eq}
 use Rattle.std.proofs.lemmas.Slice.Eq.{bytes_eq-Decides}
 use Rattle.slot_disk.specs.Cells.{body}
 use Rattle.key_tokens.specs.Denotes.{MasterKey, MasterKeys, Denoted, HaveDistinctPatterns}
-use Rattle.key_records.specs.Ages.{any_old, is_ahead_entry, any_ahead_entry}
+use Rattle.record_bodies.specs.Ages.{any_old, is_ahead_entry, any_ahead_entry}
 use Rattle.record_bodies.specs.Entries.{Entry, turned}
 use Rattle.record_bodies.specs.RecordBody.{IsAhead, ReadsEntry, ReadsWhat}
-use Rattle.key_records.specs.StoreStands.{StandsForLabels, KeepsLabels, Agrees, entry_at}
-use Rattle.key_records.specs.Turning.{aged, after_turn}
+use Rattle.record_bodies.specs.StoreStands.{StandsForLabels, KeepsLabels, Agrees, entry_at}
+use Rattle.record_bodies.specs.Turning.{aged, after_turn}
 use Rattle.record_bodies.specs.declared.rows.Row.{Row}
 use Rattle.key_records.proofs.TurningLaws.{store_turns, memory_turns}
 use Rattle.master_registers.specs.Masters.{NewRegister, Empty, Partial, Full, Masters, pattern_of_master, after_set, set_refused, same_pattern, has_pattern_of}

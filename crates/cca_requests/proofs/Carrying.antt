@@ -7,10 +7,10 @@ use Rattle.slot_disk.specs.Medium.{Medium, IsSettled}
 use Rattle.cca_roles.specs.declared.roles.Role.{Role}
 use Rattle.verb_rules.proofs.TokenLemmas.{keys_apart}
 use Rattle.cca_vectors.specs.Checks.{check}
-use Rattle.key_records.specs.Ages.{any_ahead_entry}
-use Rattle.key_records.specs.StoreStands.{Agrees}
+use Rattle.record_bodies.specs.Ages.{any_ahead_entry}
+use Rattle.record_bodies.specs.StoreStands.{Agrees}
 use Rattle.key_records.proofs.TurningLaws.{store_stays, memory_stays}
-use Rattle.reencipher.specs.declared.actions.StoreAction.{StoreAction}
+use Rattle.record_bodies.specs.declared.actions.StoreAction.{StoreAction}
 use Rattle.record_bodies.specs.declared.rows.Row.{Row}
 use Rattle.line_service.specs.declared.stops.Stop.{Stop}
 use Rattle.master_registers.specs.Actions.{after_action}

@@ -9,7 +9,7 @@ use Rattle.slot_disk.proofs.Media.{becomes_same, told_from, told_at}
 use Rattle.slot_disk.proofs.SpareLemmas.{turned_same}
 use Rattle.cca_roles.specs.declared.roles.Role.{Role}
 use Rattle.record_bodies.specs.Entries.{row_directory}
-use Rattle.key_records.specs.StoreStands.{HoldsRows}
+use Rattle.record_bodies.specs.StoreStands.{HoldsRows}
 use Rattle.record_bodies.specs.declared.rows.Row.{Row}
 use Rattle.line_service.specs.Devices.{DiskLeft, devices}
 use Rattle.line_service.specs.declared.stops.Device.TheVariants.{Module}

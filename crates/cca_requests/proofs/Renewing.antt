@@ -3,14 +3,14 @@ use Rattle.std.proofs.Common.{◌≡◌, ℕ, ◌∷◌, [], List, Option, Resul
 use Rattle.std.specs.Prelude.{OnOk, IfOk}
 use Rattle.slot_disk.specs.Medium.{Medium, Told, From}
 use Rattle.slot_disk.proofs.Media.{each_weaker, told_at}
-use Rattle.key_records.specs.StoreStands.{KeepsLabels}
+use Rattle.record_bodies.specs.StoreStands.{KeepsLabels}
 use Rattle.key_records.specs.declared.faults.RecordFault.{RecordFault}
 use Rattle.record_bodies.specs.declared.rows.Row.{Row}
 use Rattle.script_buffers.specs.Replies.{Number, Done, spelled}
 use Rattle.line_service.specs.declared.stops.Stop.TheVariants.{StoreFault}
 use Rattle.verb_rules.specs.Keys.{keys_of}
-use Rattle.reencipher.specs.Further.{further, changed_count}
-use Rattle.reencipher.specs.declared.actions.StoreAction.{StoreAction}
+use Rattle.record_bodies.specs.Further.{further, changed_count}
+use Rattle.record_bodies.specs.declared.actions.StoreAction.{StoreAction}
 use Rattle.reencipher.specs.Runs.{IsOnTheWay, Reenciphers}
 use Rattle.cca_machine.specs.State.{State, IsStoreOf}
 use Rattle.cca_machine.specs.Act.{ChangeLabels, Outcome}

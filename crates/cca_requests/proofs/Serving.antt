@@ -7,7 +7,7 @@ use Rattle.slot_disk.proofs.SpareLemmas.{same_spare, change_spare, spare_untouch
 use Rattle.slot_disk.proofs.Media.{goes_on, settled_image, each_weaker, each_pair, keeps_still, settled_kept}
 use Rattle.script_buffers.specs.Replies.{spelled, Refused}
 use Rattle.cca_roles.specs.declared.roles.Role.{Role}
-use Rattle.key_records.specs.StoreStands.{Agrees}
+use Rattle.record_bodies.specs.StoreStands.{Agrees}
 use Rattle.record_bodies.specs.declared.rows.Row.{Row}
 use Rattle.line_service.specs.declared.stops.Stop.{Stop}
 use Rattle.verb_rules.specs.Keys.{keys_of}

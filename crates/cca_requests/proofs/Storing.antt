@@ -8,10 +8,11 @@ use Rattle.slot_disk.specs.Cells.{IsReplacing}
 use Rattle.slot_disk.specs.Medium.{Medium, Told, IsSettled, From}
 use Rattle.slot_disk.proofs.Media.{each_weaker, told_from, told_before}
 use Rattle.cca_vectors.specs.Checks.{check}
-use Rattle.key_records.specs.Changes.{HoldsEither, ChangesLabels, ChangesRecord, RefusesLabel, Remembers, created, deleted, written}
+use Rattle.key_records.specs.Changes.{HoldsEither, ChangesLabels, ChangesRecord, RefusesLabel, Remembers}
+use Rattle.record_bodies.specs.LabelChanges.{created, deleted, written}
 use Rattle.record_bodies.specs.Directory.{free_cell, cell_of}
 use Rattle.record_bodies.specs.Entries.{Entry, directory, row_directory}
-use Rattle.key_records.specs.StoreStands.{KeepsLabels, HoldsRows}
+use Rattle.record_bodies.specs.StoreStands.{KeepsLabels, HoldsRows}
 use Rattle.key_records.specs.declared.faults.RecordFault.{RecordFault}
 use Rattle.key_records.specs.declared.faults.RecordFault.TheVariants.{DiskFault, Damaged, Full, Exists}
 use Rattle.record_bodies.specs.declared.rows.Row.{Row}

@@ -2,8 +2,8 @@
 use Rattle.std.proofs.Common.{◌≡◌, ℕ, Bool, true, false, List, Option, None, Some, Result, Ok, Err, codes, refl}
 use Rattle.std.specs.Prelude.{◌↔◌, IsTrue, OnOk, OnErr, if◌then◌else◌}
 use Rattle.record_bodies.specs.declared.rows.Row.{Row}
-use Rattle.key_records.specs.StoreStands.{HoldsRows}
-use Rattle.key_records.proofs.RowTurns.{rows_turn}
+use Rattle.record_bodies.specs.StoreStands.{HoldsRows}
+use Rattle.record_bodies.proofs.RowTurns.{rows_turn}
 use Rattle.master_registers.specs.Actions.{has_wrong_state, repeats_pattern}
 use Rattle.master_registers.specs.declared.actions.Action.{Action}
 use Rattle.master_registers.specs.declared.actions.Action.TheVariants.{First, Middle, Last, Clear, Set}

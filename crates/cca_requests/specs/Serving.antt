@@ -11,7 +11,7 @@ use Rattle.cca_roles.specs.declared.roles.Role.{Role}
 use Rattle.key_cells.specs.Bench.{Bench}
 use Rattle.key_cells.specs.Lease.{loan_of}
 use Rattle.key_cells.specs.declared.leases.Lease.{Lease}
-use Rattle.key_records.specs.StoreStands.{HasStore, HoldsRows}
+use Rattle.record_bodies.specs.StoreStands.{HasStore, HoldsRows}
 use Rattle.record_bodies.specs.Entries.{row_directory}
 use Rattle.record_bodies.specs.declared.rows.Row.{Row}
 use Rattle.master_registers.specs.Masters.{Masters}

@@ -1,6 +1,6 @@
 //! Changes of the registers and of the roles, with their replies.
 ghost use Rattle.cca_roles.specs.RoleNames.{default_name};
-ghost use Rattle.key_records.specs.StoreStands.{HoldsRows};
+ghost use Rattle.record_bodies.specs.StoreStands.{HoldsRows};
 ghost use Rattle.std.specs.Prelude.{ℕ, List, ◌≡◌, ◌≢◌, ◌≤◌, ◌↔◌, [], Err, IsTrue, OnErr, length, codes};
 ghost use Rattle.master_registers.specs.Actions.{after_action, has_wrong_state, repeats_pattern};
 ghost use Rattle.master_registers.specs.Changes.{CarriesOut, IsLoadedFrom};

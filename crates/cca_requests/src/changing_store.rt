@@ -1,7 +1,7 @@
 //! Changes of the records, with their replies.
 ghost use Rattle.std.specs.Prelude.{◌≡◌, [], List, Option, IsSome};
 ghost use Rattle.record_bodies.specs.Entries.{Entry};
-ghost use Rattle.key_records.specs.StoreStands.{KeepsLabels, HasStore};
+ghost use Rattle.record_bodies.specs.StoreStands.{KeepsLabels, HasStore};
 ghost use Rattle.master_registers.specs.Masters.{Masters};
 ghost use Rattle.reencipher.specs.Runs.{IsCell, LeavesAnyStore, Reenciphers, TurnsCells};
 ghost use Rattle.slot_disk.specs.Medium.{Told};
@@ -10,7 +10,7 @@ ghost use Rattle.key_cells.specs.Lease.{bench_of, loan_of};
 ghost use Rattle.master_registers.specs.Loaded.{IsLoaded, Loaded};
 ghost use Rattle.master_registers.specs.declared.registers.Registers.{Registers as HeldRegisters};
 ghost use Rattle.verb_script.specs.Grammar.{Request};
-ghost use Rattle.reencipher.specs.Tokens.{IsReadyFor};
+ghost use Rattle.key_records.specs.Ready.{IsReadyFor};
 ghost use Rattle.cca_machine.specs.State.{State};
 ghost use Rattle.cca_machine.specs.Keys.{any_old};
 ghost use Rattle.cca_machine.specs.Operands.{operands, listed};

@@ -12,9 +12,9 @@ use Rattle.cca_roles.specs.declared.roles.Role.{Role}
 use Rattle.cca_roles.proofs.StandLaws.{stands_one}
 use Rattle.verb_rules.specs.Keys.{keys_of}
 use Rattle.record_bodies.specs.Entries.{Entry}
-use Rattle.key_records.specs.StoreStands.{KeepsLabels, HoldsRows, labels_in}
+use Rattle.record_bodies.specs.StoreStands.{KeepsLabels, HoldsRows, labels_in}
 use Rattle.record_bodies.specs.declared.rows.Row.{Row}
-use Rattle.key_records.proofs.OpeningLaws.{stands_one as labels_one}
+use Rattle.record_bodies.proofs.OpeningLaws.{stands_one as labels_one}
 use Rattle.cca_machine.specs.State.{State, IsModuleOf, IsStoreOf}
 use Rattle.request_rules.specs.Standing.{Tables, tables, Stands as StandsFor}
 use Rattle.cca_requests.specs.Serving.{IsSound as IsRemembered, HasTold}

@@ -18,9 +18,9 @@ use Rattle.cca_roles.proofs.StandLaws.{stands_one as stands_roles}
 use Rattle.verb_rules.specs.Keys.{keys_of}
 use Rattle.key_records.specs.Changes.{ChangesKeyAndBody}
 use Rattle.record_bodies.specs.Entries.{Entry}
-use Rattle.key_records.specs.StoreStands.{KeepsLabels, labels_in, IsFirstDamaged as IsFirstDamagedRecord}
+use Rattle.record_bodies.specs.StoreStands.{KeepsLabels, labels_in, IsFirstDamaged as IsFirstDamagedRecord}
 use Rattle.record_bodies.specs.declared.rows.Row.{Row}
-use Rattle.key_records.proofs.OpeningLaws.{stands_one as labels_one, stands_undamaged as labels_undamaged}
+use Rattle.record_bodies.proofs.OpeningLaws.{stands_one as labels_one, stands_undamaged as labels_undamaged}
 use Rattle.line_service.specs.Answering.{OnDisks}
 use Rattle.line_service.specs.Devices.{DamageTold, Devices, OpeningLeft, Span}
 use Rattle.line_service.specs.declared.stops.Device.TheVariants.{Module, Store}

@@ -13,12 +13,12 @@ use Rattle.verb_script.specs.Grammar.{Request, Spells}
 use Rattle.cca_roles.specs.RolesStand.{StandsForRoles}
 use Rattle.cca_roles.specs.declared.roles.Role.{Role}
 use Rattle.cca_roles.proofs.StandLaws.{stands_undamaged}
-use Rattle.key_records.specs.StoreStands.{StandsForLabels, Agrees}
-use Rattle.key_records.proofs.OpeningLaws.{stands_undamaged as labels_undamaged}
+use Rattle.record_bodies.specs.StoreStands.{StandsForLabels, Agrees}
+use Rattle.record_bodies.proofs.OpeningLaws.{stands_undamaged as labels_undamaged}
 use Rattle.cca_machine.specs.State.{State, IsModuleOf, IsStoreOf, module_size, store_size}
 pub use Rattle.cca_machine.specs.Broken.{IsBrokenModule, IsBrokenStore}
-use Rattle.reencipher.specs.Further.{further}
-use Rattle.reencipher.specs.declared.actions.StoreAction.{StoreAction}
+use Rattle.record_bodies.specs.Further.{further}
+use Rattle.record_bodies.specs.declared.actions.StoreAction.{StoreAction}
 use Rattle.cca_machine.specs.Reruns.{row_with}
 use Rattle.cca_machine.specs.Operands.{needs_store}
 use Rattle.cca_machine.specs.Verdict.{verdict}

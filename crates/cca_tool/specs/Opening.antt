@@ -1,7 +1,7 @@
 -- What opening the disks brings into the bench and the memory.
 use Rattle.std.specs.Prelude.{◌≡◌}
 use Rattle.key_cells.specs.Bench.{Bench}
-use Rattle.key_records.specs.StoreStands.{KeepsLabels}
+use Rattle.record_bodies.specs.StoreStands.{KeepsLabels}
 use Rattle.master_registers.specs.Loaded.{Loaded}
 use Rattle.master_registers.specs.declared.registers.Registers.{Registers}
 use Rattle.slot_disk.specs.Medium.{Medium}

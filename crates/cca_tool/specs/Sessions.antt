@@ -11,7 +11,7 @@ use Rattle.line_service.specs.Serving.{IsTheLine}
 use Rattle.line_service.specs.declared.stops.Stop.{Stop}
 use Rattle.line_service.specs.declared.stops.Stop.TheVariants.{ReadFault, WriteFault, EntropyFault, ModuleFault, StoreFault, Damaged, InputLimit}
 use Rattle.cca_roles.specs.Roles.{blank_roles}
-use Rattle.key_records.specs.StoreStands.{HoldsRows}
+use Rattle.record_bodies.specs.StoreStands.{HoldsRows}
 use Rattle.cca_machine.specs.State.{State, IsModuleOf, IsStoreOf}
 use Rattle.request_rules.specs.Standing.{Tables, tables}
 use Rattle.cca_requests.specs.Serving.{IsSound}

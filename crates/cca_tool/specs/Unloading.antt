@@ -9,7 +9,7 @@ use Rattle.cca_vectors.specs.Checks.{first_failing}
 use Rattle.record_bodies.specs.Directory.{held_count}
 use Rattle.record_bodies.specs.Entries.{row_directory}
 use Rattle.record_bodies.specs.declared.rows.Row.{Row}
-use Rattle.key_records.specs.StoreStands.{HoldsRows}
+use Rattle.record_bodies.specs.StoreStands.{HoldsRows}
 use Rattle.key_tokens.specs.Denotes.{Denoted}
 use Rattle.master_registers.specs.Masters.{Masters}
 use Rattle.master_registers.specs.RegisterBody.{StandsForMasters}

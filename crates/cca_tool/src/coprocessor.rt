@@ -7,7 +7,7 @@ ghost use Rattle.master_registers.specs.Loaded.{IsLoaded, StandsForLoaded, maste
 ghost use Rattle.script_buffers.specs.Replies.{Refused, spelled};
 ghost use Rattle.verb_rules.specs.Keys.{keys_of};
 ghost use Rattle.cca_roles.specs.RolesStand.{StandsForRoles};
-ghost use Rattle.key_records.specs.StoreStands.{KeepsLabels, HoldsRows, IsFirstDamaged, labels_in};
+ghost use Rattle.record_bodies.specs.StoreStands.{KeepsLabels, HoldsRows, IsFirstDamaged, labels_in};
 ghost use Rattle.key_records.specs.Changes.{ChangesKeyAndBody};
 ghost use Rattle.line_service.specs.Answering.{OnDisks};
 ghost use Rattle.line_service.specs.Devices.{DamageTold, DiskLeft, HaveSizes, OpeningLeft};

@@ -2,7 +2,7 @@
 ghost use Rattle.std.specs.Prelude.{◌≡◌, ◌⊎◌, ◌↔◌, ℕ, List, IfErr};
 ghost use Rattle.key_cells.specs.Bench.{blank_bench};
 ghost use Rattle.key_cells.specs.Lease.{bench_of, loan_of};
-ghost use Rattle.key_records.specs.StoreStands.{HoldsRows};
+ghost use Rattle.record_bodies.specs.StoreStands.{HoldsRows};
 ghost use Rattle.master_registers.specs.Loaded.{Loaded};
 ghost use Rattle.master_registers.specs.Masters.{Masters};
 ghost use Rattle.slot_disk.specs.Medium.{Keeps, Told};

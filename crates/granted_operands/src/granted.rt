@@ -3,8 +3,8 @@ ghost use Rattle.std.specs.Prelude.{◌≡◌, Some, None, IsTrue};
 ghost use Rattle.verb_script.specs.Grammar.{is_hex};
 ghost use Rattle.verb_script.specs.Values.{hex_value};
 
-use key_records::Place;
 use key_tokens::Token;
+use record_bodies::Place;
 use verb_rules::Judged;
 use verb_script::decode;
 

@@ -4,8 +4,8 @@ ghost use Rattle.verb_rules.specs.Keys.{HasHalves, IsDouble};
 ghost use Rattle.granted_operands.specs.Granted.{HasDoubleKey, HasJudgedExternal, HasSomeJudged, IsGrantedKey, is_old_key, any_old_key};
 
 use crate::granted::{Grant, Granted};
-use key_records::Place;
 use key_tokens::{Age, Token};
+use record_bodies::Place;
 use verb_rules::Judged;
 
 /// The key that was judged.

@@ -11,11 +11,11 @@ use Rattle.key_tokens.specs.declared.key_token.Age.TheVariants.{Current, Old}
 use Rattle.key_tokens.proofs.DenotedKeys.{denotes_one}
 use Rattle.master_registers.specs.declared.patterns.Pattern.{Pattern}
 use Rattle.slot_disk.specs.Cells.{body}
-use Rattle.key_records.specs.Ages.{is_old, has_old_key, is_old_entry, any_old}
+use Rattle.record_bodies.specs.Ages.{is_old, has_old_key, is_old_entry, any_old}
 use Rattle.key_records.specs.Changes.{any_under, is_under}
 use Rattle.record_bodies.specs.Entries.{Entry, remembered, pattern_for, pattern_under, pattern_or}
 use Rattle.record_bodies.specs.RecordBody.{kept, ReadsEntry, ReadsWhat}
-use Rattle.key_records.specs.StoreStands.{KeepsLabels, entry_at}
+use Rattle.record_bodies.specs.StoreStands.{KeepsLabels, entry_at}
 use Rattle.record_bodies.specs.declared.rows.Row.{Row}
 use Rattle.held_names.proofs.DirectoryLaws.{none_some}
 use Rattle.record_bodies.proofs.KeptLaws.{kept_flag, kept_with_flag}

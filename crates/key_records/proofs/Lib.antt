@@ -2,11 +2,7 @@ pub mod FoundLaws
 pub mod PairLaws
 pub mod TurnedLaws
 pub mod TurningLaws
-pub mod RowTurns
-pub mod OneBody
-pub mod OpeningLaws
 pub mod ReadLaws
 pub mod StoreLaws
-pub mod TotalLaws
 pub mod AgeLaws
 pub mod ReadKeys

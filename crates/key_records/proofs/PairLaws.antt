@@ -22,7 +22,7 @@ use Rattle.verb_rules.specs.KeyChecks.{register_with}
 use Rattle.verb_rules.specs.Keys.{keys_of, new_key, opened, opened_key}
 use Rattle.verb_rules.proofs.DenotedLemmas.{denoted_opened, judged_with}
 use Rattle.record_bodies.specs.Entries.{pattern_for, pattern_or, pattern_ahead}
-use Rattle.key_records.specs.Opening.{pattern_coming}
+use Rattle.record_bodies.specs.Opening.{pattern_coming}
 use Rattle.record_bodies.specs.RecordBody.{kept, second_of, is_turned, what_of, ahead_of, both_kind, IsFirst, IsPair}
 use Rattle.record_bodies.specs.declared.rows.Row.{Row}
 use Rattle.record_bodies.specs.declared.rows.Second.{Second}

@@ -10,7 +10,7 @@ use Rattle.key_records.specs.Changes.{HasReadCause, ReadsToken}
 use Rattle.record_bodies.specs.Entries.{Entry, remembered, pattern_for, pattern_ahead}
 use Rattle.record_bodies.specs.Labels.{IsLabel}
 use Rattle.record_bodies.specs.RecordBody.{token_in, second_in, kept, held_token, ReadsEntry, ReadsWhat, ReadsRow, StandsAs}
-use Rattle.key_records.specs.StoreStands.{KeepsLabels, HoldsRows, entry_at}
+use Rattle.record_bodies.specs.StoreStands.{KeepsLabels, HoldsRows, entry_at}
 use Rattle.key_records.specs.declared.faults.RecordFault.{RecordFault}
 use Rattle.key_records.specs.declared.faults.RecordFault.TheVariants.{DiskFault}
 use Rattle.record_bodies.specs.declared.rows.Row.{Row}

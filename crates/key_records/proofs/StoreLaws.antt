@@ -8,15 +8,16 @@ use Rattle.slot_disk.specs.Cells.{body, IsReplaced, IsReplacing}
 use Rattle.slot_disk.specs.Medium.{Medium, Told, From, Becomes}
 use Rattle.slot_disk.proofs.Media.{told_from, told_at, becomes_told, each_weaker}
 use Rattle.key_tokens.specs.Denotes.{ClearKey, MasterKeys, Denoted}
-use Rattle.key_records.specs.Changes.{HoldsEither, ReplacesBody, ChangesLabels, ChangesRecord, KeepsAllButBody, Remembers, null_entry, created, written, with_what, ahead_entry, with_both, written_ahead}
+use Rattle.key_records.specs.Changes.{HoldsEither, ReplacesBody, ChangesLabels, ChangesRecord, KeepsAllButBody, Remembers}
+use Rattle.record_bodies.specs.LabelChanges.{null_entry, created, written, with_what, ahead_entry, with_both, written_ahead}
 use Rattle.record_bodies.specs.Directory.{AreApart, label_at, free_cell}
 use Rattle.record_bodies.specs.Entries.{Entry, entry, directory, entry_label, row_directory, row_label, remembered}
 use Rattle.record_bodies.specs.RecordBody.{ReadsEntry, ReadsRow}
-use Rattle.key_records.specs.StoreStands.{StandsForLabels, KeepsLabels, HoldsRows, Agrees, entry_at}
+use Rattle.record_bodies.specs.StoreStands.{StandsForLabels, KeepsLabels, HoldsRows, Agrees, entry_at}
 use Rattle.key_records.specs.declared.faults.RecordFault.{RecordFault}
 use Rattle.record_bodies.specs.declared.rows.Row.{Row}
 use Rattle.held_names.proofs.DirectoryLaws.{none_some}
-use Rattle.key_records.proofs.OpeningLaws.{directory_remembered, label_remembered, label_of_entry}
+use Rattle.record_bodies.proofs.OpeningLaws.{directory_remembered, label_remembered, label_of_entry}
 
 module _ (masters : MasterKeys) (n : ℕ) (bytes : List ℕ) (slot : Option Entry) (s : List (Option Entry)) (within : n < 1024) (reads : ReadsEntry masters bytes slot) where
   -- one cell was replaced

@@ -3,13 +3,13 @@ use Rattle.std.proofs.Common.{◌≡◌, ℕ, Bool, true, false, List, [], ◌�
 use Rattle.std.specs.Prelude.{◌||◌}
 use Rattle.std.proofs.lemmas.List.{length-map}
 use Rattle.key_records.specs.Changes.{any_ahead, is_ahead_row}
-use Rattle.key_records.specs.Ages.{any_ahead_entry, is_ahead_entry}
+use Rattle.record_bodies.specs.Ages.{any_ahead_entry, is_ahead_entry}
 use Rattle.record_bodies.specs.Directory.{AreApart}
 use Rattle.record_bodies.specs.Entries.{Entry, remembered, pattern_ahead, row_directory, row_label, turned}
 use Rattle.key_tokens.specs.Denotes.{MasterKeys}
 use Rattle.record_bodies.specs.Ascending.{Lists}
 use Rattle.record_bodies.specs.Rows.{AreRows, AreListed}
-use Rattle.key_records.specs.StoreStands.{Agrees}
+use Rattle.record_bodies.specs.StoreStands.{Agrees}
 use Rattle.record_bodies.specs.declared.rows.Row.{Row}
 
 -- ---- rows

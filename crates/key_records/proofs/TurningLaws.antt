@@ -15,18 +15,18 @@ use Rattle.key_tokens.specs.declared.key_token.Asked.TheVariants as asked
 use Rattle.key_tokens.specs.declared.key_token.Token.{Token}
 use Rattle.key_tokens.proofs.DenotedKeys.{denotes_one}
 use Rattle.key_tokens.proofs.Written.{flag-made, made-token}
-use Rattle.key_records.specs.Ages.{has_old_key, is_old_entry, any_old, is_ahead_entry, any_ahead_entry}
+use Rattle.record_bodies.specs.Ages.{has_old_key, is_old_entry, any_old, is_ahead_entry, any_ahead_entry}
 use Rattle.record_bodies.specs.Directory.{AreApart}
 use Rattle.record_bodies.specs.Entries.{Entry, directory, entry_label, remembered, pattern_for, pattern_or, turned}
 use Rattle.record_bodies.specs.RecordBody.{kept, second_token, second_fields, HasToken, IsAhead, ReadsEntry, ReadsKey, ReadsWhat}
-use Rattle.key_records.specs.StoreStands.{StandsForLabels, KeepsLabels, Agrees, entry_at}
-use Rattle.key_records.specs.Turning.{aged_entry, aged, after_turn}
+use Rattle.record_bodies.specs.StoreStands.{StandsForLabels, KeepsLabels, Agrees, entry_at}
+use Rattle.record_bodies.specs.Turning.{aged_entry, aged, after_turn}
 use Rattle.record_bodies.specs.Labels.{IsLabel}
-use Rattle.key_records.specs.Written.{token_under, token_bytes}
+use Rattle.record_bodies.specs.Written.{token_under, token_bytes}
 use Rattle.record_bodies.specs.declared.rows.Row.{Row}
 use Rattle.record_bodies.specs.declared.rows.Second.{Second}
 use Rattle.record_bodies.proofs.BodyLaws.{entry_with}
-use Rattle.key_records.proofs.OneBody.{kept_one}
+use Rattle.record_bodies.proofs.OneBody.{kept_one}
 use Rattle.record_bodies.proofs.KeptLaws.{kept_flag, kept_with_flag, kept_first, denoted_vector}
 use Rattle.record_bodies.proofs.SecondLaws.{second_bytes, sealed_single}
 

@@ -1,9 +1,5 @@
-pub mod StoreStands
 pub mod Changes
-pub mod Ages
-pub mod Opening
-pub mod Written
-pub mod Turning
+pub mod Ready
 pub use Rattle.key_cells.specs.Bench
 pub use Rattle.key_cells.specs.Lease
 pub use Rattle.key_tokens.specs.Denotes

@@ -4,21 +4,21 @@ ghost use Rattle.std.specs.Prelude.{◌≡◌, ◌<◌, List, Option, None, Some
 ghost use Rattle.key_cells.specs.Lease.{bench_of};
 ghost use Rattle.key_tokens.specs.Denotes.{ClearKey, MasterKeys, Denoted, denoted};
 ghost use Rattle.key_records.specs.Changes.{AreBoth, ChangesLabels, ChangesRecord, RefusesLabel};
-ghost use Rattle.key_records.specs.Changes.{created, deleted, written, written_ahead};
+ghost use Rattle.record_bodies.specs.LabelChanges.{created, deleted, written, written_ahead};
 ghost use Rattle.record_bodies.specs.Directory.{free_cell, AreApart, label_at};
 ghost use Rattle.record_bodies.specs.Entries.{Entry, row_directory, row_label, label_or, null_row, key_row, both_row};
 ghost use Rattle.record_bodies.specs.RecordBody.{null_body, key_body, both_body, blank_body, renewed, ReadsRow};
-ghost use Rattle.key_records.specs.StoreStands.{KeepsLabels, HoldsRows};
+ghost use Rattle.record_bodies.specs.StoreStands.{KeepsLabels, HoldsRows};
 ghost use Rattle.master_registers.specs.Loaded.{IsLoaded, masters_in};
 ghost use Rattle.slot_disk.specs.Medium.{Told, IsSettled};
 ghost use Rattle.verb_rules.specs.Keys.{keys_of};
 
 use crate::faults::RecordFault;
-use crate::records::{Place, Records, STORE_LEN};
+use crate::records::{Records, STORE_LEN};
 use key_cells::Lease;
 use master_registers::Registers;
 use record_bodies::{
-    BOTH, KEY, Label, NULL, Row, Second, are_second, kept_token, no_second, pattern_in,
+    BOTH, KEY, Label, NULL, Place, Row, Second, are_second, kept_token, no_second, pattern_in,
     write_blank, write_record,
 };
 use slot_disk::{Cell, Disk, Steps, replace_cell};

@@ -2,9 +2,9 @@
 ghost use Rattle.std.specs.Prelude.{◌≡◌, ◌+◌, ◌*◌, ◌≤◌, ◌<◌, ◌⊎◌, ℕ, None, replicate, Result, Err, OnOk, OnErr, IfErr};
 ghost use Rattle.key_cells.specs.Lease.{bench_of};
 ghost use Rattle.key_records.specs.Changes.{HasRecordCause, ChangesKeyAndBody};
-ghost use Rattle.key_records.specs.Opening.{Opens, IsRefused, pattern_coming};
+ghost use Rattle.record_bodies.specs.Opening.{Opens, IsRefused, pattern_coming};
 ghost use Rattle.record_bodies.specs.Rows.{AreRows};
-ghost use Rattle.key_records.specs.StoreStands.{KeepsLabels, HoldsRows, labels_in, IsFirstDamaged};
+ghost use Rattle.record_bodies.specs.StoreStands.{KeepsLabels, HoldsRows, labels_in, IsFirstDamaged};
 ghost use Rattle.master_registers.specs.Loaded.{IsLoaded, Loaded, masters_in};
 ghost use Rattle.master_registers.specs.Masters.{Masters};
 ghost use Rattle.slot_disk.specs.Cells.{body};

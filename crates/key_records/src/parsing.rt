@@ -3,7 +3,7 @@ ghost use Rattle.std.specs.Prelude.{◌≡◌, ◌≢◌, ◌↔◌, Option, Non
 ghost use Rattle.key_cells.specs.Lease.{bench_of};
 ghost use Rattle.key_records.specs.Changes.{ChangesKeyAndBody};
 ghost use Rattle.record_bodies.specs.Entries.{Entry, pattern_for, remembered};
-ghost use Rattle.key_records.specs.Opening.{pattern_coming};
+ghost use Rattle.record_bodies.specs.Opening.{pattern_coming};
 ghost use Rattle.record_bodies.specs.RecordBody.{blank_body, no_second, both_kind, kept, IsFirst};
 ghost use Rattle.record_bodies.specs.RecordBody.{ReadsEntry, entry_in, IsBoth, IsPair, IsWhat, what_of, ahead_of, unused_of};
 ghost use Rattle.master_registers.specs.Loaded.{Loaded, registers_of};

@@ -7,14 +7,14 @@ ghost use Rattle.key_cells.specs.Lease.{bench_of};
 ghost use Rattle.record_bodies.specs.Directory.{label_at};
 ghost use Rattle.record_bodies.specs.Entries.{Entry, row_directory, label_or};
 ghost use Rattle.record_bodies.specs.RecordBody.{StandsAs};
-ghost use Rattle.key_records.specs.StoreStands.{KeepsLabels, HoldsRows, entry_at};
+ghost use Rattle.record_bodies.specs.StoreStands.{KeepsLabels, HoldsRows, entry_at};
 ghost use Rattle.slot_disk.specs.Cells.{body};
 ghost use Rattle.slot_disk.specs.Medium.{Told, Keeps};
 
 use crate::faults::RecordFault;
-use crate::records::{Place, Records, STORE_LEN};
+use crate::records::{Records, STORE_LEN};
 use key_cells::Lease;
-use record_bodies::read_as;
+use record_bodies::{Place, read_as};
 use slot_disk::{Cell, Disk, read_cell};
 
 impl Records {

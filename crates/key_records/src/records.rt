@@ -8,7 +8,7 @@ ghost use Rattle.record_bodies.specs.Rank.{IsNth};
 ghost use Rattle.record_bodies.specs.Rows.{AreRows};
 
 use master_registers::Pattern;
-use record_bodies::{Directory, Label, Row, blank, free_in, label_of, turn_rows};
+use record_bodies::{Directory, Label, Place, Row, blank, free_in, label_of, turn_rows};
 use slot_disk::{NoMemory, Steps};
 use std::alloc::Global;
 use std::marker::Model;
@@ -18,32 +18,6 @@ pub const STORE_LEN: u64 = 1_572_864;
 
 /// How many cells a store has.
 pub(crate) const CELLS: usize = 1024;
-
-/// Where a label is held. `find` alone makes one.
-#[derive(Clone, Copy, Debug, PartialEq, Eq)]
-pub struct Place {
-    cell: u16,
-}
-
-// Clauses see the number of the cell.
-impl Model for Place {
-    ghost use Rattle.std.specs.Prelude.{ℕ};
-
-    ghost Value = { ℕ };
-
-    ghost view = { λ p. p.cell };
-
-    ghost inverse = { λ n. record { cell = n } };
-}
-
-impl Place {
-    /// The number of its cell.
-    pub fn cell(self) -> u16
-        ensures { result ≡ self }
-    {
-        self.cell
-    }
-}
 
 /// The labels that are held, each in its cell, with what the memory knows of them.
 #[derive(Drop)]
@@ -85,10 +59,7 @@ impl Records {
         ensures few { 2 ^ (steps.new - steps.old) ≤ 2 * held_count (row_directory self.now) + 1 }
         ensures later { steps.old ≤ steps.new }
     {
-        match self.directory.find(&self.rows, label, steps) {
-            Some(cell) => Some(Place { cell }),
-            None => None,
-        }
+        self.directory.find(&self.rows, label, steps)
     }
 
     /// The label of a cell, where the cell holds one. It takes no comparison and no memory.

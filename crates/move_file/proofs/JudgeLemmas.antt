@@ -8,7 +8,7 @@ use Rattle.key_cells.specs.Bench.{Bench}
 use Rattle.record_bodies.specs.Directory.{cell_of}
 use Rattle.record_bodies.specs.Entries.{row_directory}
 use Rattle.record_bodies.specs.Labels.{IsLabel, is_label}
-use Rattle.key_records.specs.StoreStands.{Agrees, KeepsLabels, entry_at}
+use Rattle.record_bodies.specs.StoreStands.{Agrees, KeepsLabels, entry_at}
 use Rattle.key_records.specs.declared.faults.RecordFault.{RecordFault}
 use Rattle.record_bodies.specs.declared.rows.Row.{Row}
 use Rattle.key_tokens.specs.Denotes.{Denoted}

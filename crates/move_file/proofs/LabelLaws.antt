@@ -8,11 +8,11 @@ use Rattle.cca_vectors.specs.Checks.{first_failing}
 use Rattle.key_cells.specs.Bench.{Bench}
 use Rattle.record_bodies.specs.Directory.{cell_of, label_at}
 use Rattle.record_bodies.specs.Entries.{row_directory}
-use Rattle.key_records.specs.StoreStands.{Agrees, KeepsLabels, entry_at}
+use Rattle.record_bodies.specs.StoreStands.{Agrees, KeepsLabels, entry_at}
 use Rattle.key_records.specs.declared.faults.RecordFault.{RecordFault}
 use Rattle.key_records.specs.declared.faults.RecordFault.TheVariants.{Damaged}
 use Rattle.record_bodies.specs.declared.rows.Row.{Row}
-use Rattle.key_records.proofs.OpeningLaws.{directory_remembered}
+use Rattle.record_bodies.proofs.OpeningLaws.{directory_remembered}
 use Rattle.key_tokens.specs.Denotes.{ClearKey, Denoted, MasterKeys}
 use Rattle.key_transport.specs.Tokens.{external_token}
 use Rattle.script_buffers.specs.Replies.{two_digits}

@@ -12,9 +12,9 @@ use Rattle.line_service.specs.Sending.{Grows}
 use Rattle.record_bodies.specs.Directory.{held_count}
 use Rattle.record_bodies.specs.Entries.{directory, row_directory}
 use Rattle.record_bodies.specs.Rank.{IsNth}
-use Rattle.key_records.specs.StoreStands.{Agrees, KeepsLabels}
+use Rattle.record_bodies.specs.StoreStands.{Agrees, KeepsLabels}
 use Rattle.record_bodies.specs.declared.rows.Row.{Row}
-use Rattle.key_records.proofs.OpeningLaws.{directory_remembered}
+use Rattle.record_bodies.proofs.OpeningLaws.{directory_remembered}
 use Rattle.verb_rules.specs.Keys.{keys_of}
 use Rattle.cca_machine.specs.Listing.{ascending, nth_label}
 use Rattle.cca_machine.specs.State.{State}

@@ -6,7 +6,7 @@ ghost use Rattle.key_cells.specs.Bench.{Bench};
 ghost use Rattle.key_cells.specs.Lease.{bench_of};
 ghost use Rattle.key_records.specs.Changes.{KeepsAllButBody};
 ghost use Rattle.record_bodies.specs.Labels.{IsLabel};
-ghost use Rattle.key_records.specs.StoreStands.{HoldsRows, KeepsLabels};
+ghost use Rattle.record_bodies.specs.StoreStands.{HoldsRows, KeepsLabels};
 ghost use Rattle.line_service.specs.Devices.{TellsFault};
 ghost use Rattle.master_registers.specs.Loaded.{Loaded};
 ghost use Rattle.master_registers.specs.Masters.{Masters};

@@ -4,7 +4,7 @@ ghost use Rattle.std.specs.Str.{bytes_eq};
 ghost use Rattle.key_cells.specs.Lease.{bench_of};
 ghost use Rattle.record_bodies.specs.Directory.{cell_of, label_at};
 ghost use Rattle.record_bodies.specs.Entries.{row_directory};
-ghost use Rattle.key_records.specs.StoreStands.{HoldsRows, KeepsLabels};
+ghost use Rattle.record_bodies.specs.StoreStands.{HoldsRows, KeepsLabels};
 ghost use Rattle.line_service.specs.Devices.{TellsFault};
 ghost use Rattle.line_service.specs.Sending.{Grows};
 ghost use Rattle.master_registers.specs.Loaded.{Loaded};

@@ -9,3 +9,8 @@ pub mod ListedLaws
 pub mod RankLaws
 pub mod EveryDirectory
 pub mod RowLaws
+pub mod RowTurns
+pub mod OneBody
+pub mod OpeningLaws
+pub mod TotalLaws
+pub mod FurtherLaws

@@ -5,6 +5,13 @@ pub mod Rows
 pub mod Ascending
 pub mod Rank
 pub mod RecordBody
+pub mod StoreStands
+pub mod LabelChanges
+pub mod Ages
+pub mod Opening
+pub mod Written
+pub mod Turning
+pub mod Further
 pub use Rattle.byte_lists.specs.Bytes
 pub use Rattle.cca_vectors.specs.Checks
 pub use Rattle.key_tokens.specs.Denotes

@@ -14,6 +14,32 @@ use slot_disk::{NoMemory, Steps};
 use std::alloc::Global;
 use std::marker::Model;
 
+/// Where a label is held. `Directory::find` alone makes one.
+#[derive(Clone, Copy, Debug, PartialEq, Eq)]
+pub struct Place {
+    cell: u16,
+}
+
+// Clauses see the number of the cell.
+impl Model for Place {
+    ghost use Rattle.std.specs.Prelude.{ℕ};
+
+    ghost Value = { ℕ };
+
+    ghost view = { λ p. p.cell };
+
+    ghost inverse = { λ n. record { cell = n } };
+}
+
+impl Place {
+    /// The number of its cell.
+    pub fn cell(self) -> u16
+        ensures { result ≡ self }
+    {
+        self.cell
+    }
+}
+
 /// The cells that hold labels, in ascending order of the bytes of these. The rows beside it have the labels. A change
 /// moves at most 1,024 numbers.
 #[derive(Drop)]
@@ -43,14 +69,21 @@ impl Directory {
     }
 
     /// The cell of the label.
-    pub fn find<L>(&self, rows: &[Option<Row>], label: &Label, steps: &mut Steps<L>) -> Option<u16>
+    pub fn find<L>(
+        &self,
+        rows: &[Option<Row>],
+        label: &Label,
+        steps: &mut Steps<L>,
+    ) -> Option<Place>
         requires { AreListed rows.now self.now }
         ensures found { result ≡ cell_of label.now (row_directory rows.now) }
         ensures few { 2 ^ (steps.new - steps.old) ≤ 2 * held_count (row_directory rows.now) + 1 }
         ensures later { steps.old ≤ steps.new }
     {
         match search(&self.cells, rows, label, steps) {
-            Ok(at) => Some(self.cells[at]),
+            Ok(at) => Some(Place {
+                cell: self.cells[at],
+            }),
             Err(_) => None,
         }
     }

@@ -3,7 +3,7 @@ ghost use Rattle.std.specs.Prelude.{◌≡◌, IsSome};
 ghost use Rattle.key_cells.specs.Lease.{bench_of};
 ghost use Rattle.record_bodies.specs.Directory.{label_at};
 ghost use Rattle.record_bodies.specs.Entries.{row_directory};
-ghost use Rattle.key_records.specs.StoreStands.{HasStore};
+ghost use Rattle.record_bodies.specs.StoreStands.{HasStore};
 ghost use Rattle.key_tokens.specs.declared.key_token.Asked.{Asked};
 ghost use Rattle.master_registers.specs.Loaded.{IsLoaded};
 

@@ -2,7 +2,7 @@
 ghost use Rattle.std.specs.Prelude.{◌≡◌, IfOk, IsSome};
 ghost use Rattle.record_bodies.specs.Directory.{label_at};
 ghost use Rattle.record_bodies.specs.Entries.{row_directory};
-ghost use Rattle.key_records.specs.StoreStands.{HoldsRows};
+ghost use Rattle.record_bodies.specs.StoreStands.{HoldsRows};
 ghost use Rattle.key_records.specs.declared.records.TheConstants.{STORE_LEN};
 ghost use Rattle.slot_disk.specs.Medium.{Keeps, Told};
 

@@ -9,11 +9,11 @@ use Rattle.slot_disk.proofs.CellSteps.{length-range, get_or-range, selected_belo
 use Rattle.slot_disk.proofs.SpareLemmas.{same_spare_then, spare_untouched}
 use Rattle.record_bodies.specs.Entries.{Entry}
 use Rattle.key_tokens.specs.Denotes.{MasterKeys}
-use Rattle.reencipher.specs.Further.{further, is_changed}
+use Rattle.record_bodies.specs.Further.{further, is_changed}
 use Rattle.reencipher.specs.Runs.{IsChanged, LeavesCells, LeavesRest, LeavesOld}
 use Rattle.reencipher.specs.Turns.{HoldsTurn, LeavesOther, LeavesCell, StaysOrTurns}
-use Rattle.reencipher.specs.declared.actions.StoreAction.{StoreAction}
-use Rattle.reencipher.proofs.FurtherLaws.{further_here}
+use Rattle.record_bodies.specs.declared.actions.StoreAction.{StoreAction}
+use Rattle.record_bodies.proofs.FurtherLaws.{further_here}
 
 -- ---- a cell whose bytes stay
 

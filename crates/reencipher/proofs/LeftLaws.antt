@@ -5,7 +5,7 @@ use Rattle.key_cells.specs.declared.leases.Lease.{Lease}
 use Rattle.slot_disk.specs.Faults.{Rose}
 use Rattle.slot_disk.specs.Medium.{Medium, Told}
 use Rattle.slot_disk.proofs.Media.{told_from}
-use Rattle.key_records.specs.StoreStands.{HasStore}
+use Rattle.record_bodies.specs.StoreStands.{HasStore}
 use Rattle.key_records.specs.declared.faults.RecordFault.{RecordFault}
 use Rattle.record_bodies.specs.declared.rows.Row.{Row}
 use Rattle.reencipher.specs.Runs.{IsCell, LeavesAnyStore}

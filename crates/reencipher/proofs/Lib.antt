@@ -1,5 +1,4 @@
 pub mod CellLaws
-pub mod FurtherLaws
 pub mod LeftLaws
 pub mod RowLaws
 pub mod RunLaws

@@ -27,9 +27,9 @@ use Rattle.verb_rules.specs.Keys.{keys_of}
 use Rattle.reencipher.specs.Runs.{LeavesCells, IsChangedRow, TurnsCells, changed_rows, changes_age, changes_row, known_age}
 use Rattle.reencipher.specs.Tokens.{changes_key, may_change}
 use Rattle.reencipher.specs.Turns.{LeavesCell, StaysOrTurns, TurnsCell}
-use Rattle.reencipher.specs.declared.actions.StoreAction.{StoreAction}
-use Rattle.reencipher.specs.declared.actions.StoreAction.TheVariants.{Renew, Ahead, Drop}
-use Rattle.reencipher.proofs.FurtherLaws.{and_false}
+use Rattle.record_bodies.specs.declared.actions.StoreAction.{StoreAction}
+use Rattle.record_bodies.specs.declared.actions.StoreAction.TheVariants.{Renew, Ahead, Drop}
+use Rattle.record_bodies.proofs.FurtherLaws.{and_false}
 use Rattle.reencipher.proofs.TokenLaws.{by_register}
 use Rattle.reencipher.proofs.CellLaws.{leaves_none, leaves_next, leaves_weaker, leaves_all, turned_next}
 

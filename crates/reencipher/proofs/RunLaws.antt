@@ -8,16 +8,16 @@ use Rattle.slot_disk.proofs.Media.{told_from, told_at, each_weaker, each_still, 
 use Rattle.key_tokens.specs.Denotes.{MasterKeys, HaveDistinctPatterns}
 use Rattle.key_records.specs.Changes.{ChangesKeyAndBody}
 use Rattle.record_bodies.specs.Entries.{Entry}
-use Rattle.key_records.specs.StoreStands.{StandsForLabels, KeepsLabels, Agrees, entry_at}
+use Rattle.record_bodies.specs.StoreStands.{StandsForLabels, KeepsLabels, Agrees, entry_at}
 use Rattle.key_records.specs.declared.faults.RecordFault.{RecordFault}
 use Rattle.record_bodies.specs.declared.rows.Row.{Row}
-use Rattle.key_records.proofs.OneBody.{one_body}
-use Rattle.reencipher.specs.Further.{further, is_changed, changed_count}
+use Rattle.record_bodies.proofs.OneBody.{one_body}
+use Rattle.record_bodies.specs.Further.{further, is_changed, changed_count}
 use Rattle.reencipher.specs.Runs.{IsChanged, LeavesOld, LeavesRest, IsOnTheWay, Reenciphers}
 use Rattle.reencipher.specs.Turns.{changed_at, HoldsTurn, LeavesOther, ChangesCell}
-use Rattle.reencipher.specs.declared.actions.StoreAction.{StoreAction}
+use Rattle.record_bodies.specs.declared.actions.StoreAction.{StoreAction}
 use Rattle.reencipher.proofs.CellLaws.{leaves_none, leaves_no_old, leaves_more, leaves_more_old, leaves_all}
-use Rattle.reencipher.proofs.FurtherLaws.{further_none, further_next, length-further, changed_all, changed_step}
+use Rattle.record_bodies.proofs.FurtherLaws.{further_none, further_next, length-further, changed_all, changed_step}
 
 -- ---- a store on the way
 

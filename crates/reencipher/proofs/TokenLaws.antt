@@ -10,16 +10,16 @@ use Rattle.key_tokens.specs.declared.key_token.Token.{Token}
 use Rattle.key_tokens.specs.Denotes.{ClearKey, Denoted, denoted}
 use Rattle.key_tokens.specs.Fields.{pattern_of_token, token_of}
 use Rattle.key_tokens.specs.TokenChecks.{token_checks}
-use Rattle.key_records.specs.Ages.{has_old_key}
+use Rattle.record_bodies.specs.Ages.{has_old_key}
 use Rattle.master_registers.specs.Loaded.{Loaded, has_pattern}
 use Rattle.master_registers.specs.Masters.{Masters, NewRegister, Empty, Partial, Full, new_bytes, pattern_of_master, state_of}
 use Rattle.master_registers.specs.declared.patterns.Pattern.{Pattern}
 use Rattle.master_registers.specs.declared.registers.NewState.TheVariants as state
-use Rattle.reencipher.specs.Further.{has_current_key}
+use Rattle.record_bodies.specs.Further.{has_current_key}
 use Rattle.reencipher.specs.Runs.{changes_age}
 use Rattle.reencipher.specs.Tokens.{changes_key}
-use Rattle.reencipher.specs.declared.actions.StoreAction.{StoreAction}
-use Rattle.reencipher.specs.declared.actions.StoreAction.TheVariants.{Renew, Ahead, Drop}
+use Rattle.record_bodies.specs.declared.actions.StoreAction.{StoreAction}
+use Rattle.record_bodies.specs.declared.actions.StoreAction.TheVariants.{Renew, Ahead, Drop}
 use Rattle.master_registers.specs.declared.registers.Registers.{Registers}
 use Rattle.multi_encipher.specs.Bundles.{ChangesKeyAt, key_in, with_zeros}
 use Rattle.multi_encipher.specs.Seals.{IsKey, seal}

@@ -11,12 +11,13 @@ use Rattle.slot_disk.specs.Medium.{Medium, Told, IsSettled, From, Becomes, EachI
 use Rattle.slot_disk.proofs.Media.{told_from, told_at, each_weaker, goes_on, told_joined, told_map, told_still}
 use Rattle.key_tokens.specs.Denotes.{ClearKey, Denoted, MasterKeys, denoted}
 use Rattle.key_tokens.specs.declared.key_token.Age.TheVariants.{Current}
-use Rattle.key_records.specs.Ages.{is_old, has_old_key, is_ahead_entry}
-use Rattle.key_records.specs.Changes.{ReadsToken, ReplacesBody, ChangesLabels, HoldsEither, KeepsAllButBody, ChangesKeyAndBody, AreBoth, is_ahead_row, with_what, with_both}
+use Rattle.record_bodies.specs.Ages.{is_old, has_old_key, is_ahead_entry}
+use Rattle.key_records.specs.Changes.{ReadsToken, ReplacesBody, ChangesLabels, HoldsEither, KeepsAllButBody, ChangesKeyAndBody, AreBoth, is_ahead_row}
+use Rattle.record_bodies.specs.LabelChanges.{with_what, with_both}
 use Rattle.record_bodies.specs.Directory.{label_at}
 use Rattle.record_bodies.specs.Entries.{Entry, entry, entry_label, remembered, pattern_ahead, row_directory, row_label, label_or}
 use Rattle.record_bodies.specs.RecordBody.{kept, HasToken, ReadsEntry, ReadsWhat}
-use Rattle.key_records.specs.StoreStands.{StandsForLabels, KeepsLabels, entry_at}
+use Rattle.record_bodies.specs.StoreStands.{StandsForLabels, KeepsLabels, entry_at}
 use Rattle.key_records.specs.declared.faults.RecordFault.{RecordFault}
 use Rattle.record_bodies.specs.declared.rows.Row.{Row}
 use Rattle.record_bodies.proofs.RowLaws.{label_of_row}
@@ -24,15 +25,15 @@ use Rattle.key_records.proofs.ReadLaws.{row_of_entry}
 use Rattle.master_registers.specs.Loaded.{Loaded, ArePlaced}
 use Rattle.master_registers.specs.Masters.{Masters}
 use Rattle.master_registers.specs.declared.registers.Registers.{Registers}
-use Rattle.reencipher.specs.Further.{under_current, has_current_key, changed_entry, is_changed, made_by}
+use Rattle.record_bodies.specs.Further.{under_current, has_current_key, changed_entry, is_changed, made_by}
 use Rattle.reencipher.specs.Runs.{IsChanged}
 use Rattle.reencipher.specs.Tokens.{StandFor, CanBeWritten, AreMade, put_in, changes_key, may_change}
 use Rattle.reencipher.specs.Turns.{changed_at, HoldsTurn, ChangesCell}
-use Rattle.reencipher.specs.declared.actions.StoreAction.{StoreAction}
-use Rattle.reencipher.specs.declared.actions.StoreAction.TheVariants.{Renew, Ahead, Drop}
+use Rattle.record_bodies.specs.declared.actions.StoreAction.{StoreAction}
+use Rattle.record_bodies.specs.declared.actions.StoreAction.TheVariants.{Renew, Ahead, Drop}
 use Rattle.reencipher.specs.declared.writing.Tokens.{Tokens}
 use Rattle.reencipher.specs.declared.writing.Tokens.TheVariants.{One, Two}
-use Rattle.reencipher.proofs.FurtherLaws.{and_false, changed_is, changed_same}
+use Rattle.record_bodies.proofs.FurtherLaws.{and_false, changed_is, changed_same}
 
 -- ---- the label and its token
 

@@ -1,14 +1,13 @@
-pub mod Further
 pub mod Runs
 pub mod Tokens
 pub mod Turns
 pub use Rattle.key_cells.specs.Bench
 pub use Rattle.key_cells.specs.Lease
-pub use Rattle.key_records.specs.Ages
+pub use Rattle.record_bodies.specs.Ages
 pub use Rattle.key_records.specs.Changes
 pub use Rattle.record_bodies.specs.Entries
-pub use Rattle.key_records.specs.StoreStands
-pub use Rattle.key_records.specs.Written
+pub use Rattle.record_bodies.specs.StoreStands
+pub use Rattle.record_bodies.specs.Written
 pub use Rattle.key_tokens.specs.Denotes
 pub use Rattle.master_registers.specs.Loaded
 pub use Rattle.master_registers.specs.Masters

@@ -8,21 +8,21 @@ use Rattle.slot_disk.specs.Medium.{Medium, IsSettled, Told, From, Becomes, EachI
 use Rattle.slot_disk.specs.SpareBytes.{Turned}
 use Rattle.key_tokens.specs.Denotes.{MasterKeys}
 use Rattle.key_tokens.specs.declared.key_token.Age.{Age}
-use Rattle.key_records.specs.Ages.{is_old}
+use Rattle.record_bodies.specs.Ages.{is_old}
 use Rattle.key_records.specs.Changes.{ChangesKeyAndBody}
 use Rattle.record_bodies.specs.Entries.{Entry, row_directory}
-use Rattle.key_records.specs.StoreStands.{StandsForLabels, KeepsLabels, HoldsRows, Agrees, entry_at}
-use Rattle.key_records.specs.Written.{written_body}
+use Rattle.record_bodies.specs.StoreStands.{StandsForLabels, KeepsLabels, HoldsRows, Agrees, entry_at}
+use Rattle.record_bodies.specs.Written.{written_body}
 use Rattle.key_records.specs.declared.faults.RecordFault.{RecordFault}
 use Rattle.key_records.specs.declared.faults.RecordFault.TheVariants.{DiskFault, Damaged}
 use Rattle.record_bodies.specs.declared.rows.Row.{Row}
 use Rattle.master_registers.specs.declared.patterns.Pattern.{Pattern}
 use Rattle.master_registers.specs.declared.registers.Registers.{Registers}
 use Rattle.verb_rules.specs.KeyChecks.{register_with}
-use Rattle.reencipher.specs.Further.{further, is_changed, changed_count}
+use Rattle.record_bodies.specs.Further.{further, is_changed, changed_count}
 use Rattle.reencipher.specs.Tokens.{may_change}
-use Rattle.reencipher.specs.declared.actions.StoreAction.{StoreAction}
-use Rattle.reencipher.specs.declared.actions.StoreAction.TheVariants.{Renew, Ahead, Drop}
+use Rattle.record_bodies.specs.declared.actions.StoreAction.{StoreAction}
+use Rattle.record_bodies.specs.declared.actions.StoreAction.TheVariants.{Renew, Ahead, Drop}
 
 -- the action changes the label of the cell
 abbrev pub IsChanged : StoreAction → List (Option Entry) → ℕ → Type 0

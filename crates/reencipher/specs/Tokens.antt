@@ -1,23 +1,20 @@
 -- The tokens that an action puts into a record.
-use Rattle.std.specs.Prelude.{◌≡◌, ◌≢◌, ℕ, Bool, true, not, List, Option, Some, IsSome}
+use Rattle.std.specs.Prelude.{◌≡◌, ℕ, Bool, true, not, List, Option, Some, IsSome}
 use Rattle.byte_lists.specs.Bytes.{AreBytes}
 use Rattle.key_cells.specs.Bench.{Bench}
-use Rattle.key_tokens.specs.Denotes.{ClearKey, Denoted, MasterKey, MasterKeys, denoted}
-use Rattle.key_records.specs.Ages.{has_old_key}
-use Rattle.key_records.specs.Changes.{AreBoth, written, written_ahead}
+use Rattle.key_tokens.specs.Denotes.{ClearKey, Denoted, MasterKeys, denoted}
+use Rattle.record_bodies.specs.Ages.{has_old_key}
+use Rattle.key_records.specs.Changes.{AreBoth}
+use Rattle.record_bodies.specs.LabelChanges.{written, written_ahead}
 use Rattle.record_bodies.specs.Entries.{Entry, both_row, key_row}
 use Rattle.record_bodies.specs.declared.rows.Row.{Row}
 use Rattle.record_bodies.specs.declared.rows.Second.{Second}
 use Rattle.record_bodies.specs.RecordBody.{key_body, both_body, renewed}
-use Rattle.master_registers.specs.Loaded.{masters_in}
 use Rattle.master_registers.specs.Masters.{pattern_of_master}
 use Rattle.master_registers.specs.declared.patterns.Pattern.{Pattern}
-use Rattle.master_registers.specs.declared.registers.NewState.TheVariants.{Full}
-use Rattle.master_registers.specs.declared.registers.Registers.{Registers}
-use Rattle.verb_rules.specs.Keys.{keys_of}
-use Rattle.reencipher.specs.Further.{under_current, has_current_key}
-use Rattle.reencipher.specs.declared.actions.StoreAction.{StoreAction}
-use Rattle.reencipher.specs.declared.actions.StoreAction.TheVariants.{Renew, Ahead, Drop}
+use Rattle.record_bodies.specs.Further.{under_current, has_current_key}
+use Rattle.record_bodies.specs.declared.actions.StoreAction.{StoreAction}
+use Rattle.record_bodies.specs.declared.actions.StoreAction.TheVariants.{Renew, Ahead, Drop}
 use Rattle.reencipher.specs.declared.writing.Tokens.{Tokens}
 use Rattle.reencipher.specs.declared.writing.Tokens.TheVariants.{One, Two}
 
@@ -71,23 +68,6 @@ AreMade Ahead masters token (Two new second) =
     AreBytes 64 new × (new ≡ token) × AreSecond masters token second
 AreMade Drop masters token (One new) = AreBytes 64 new × (new ≡ token)
 AreMade Drop masters token (Two new second) = ⊥
-
--- ---- what AHEAD needs
-
--- the pattern of a full new register is neither that of the current nor that of the old one
-abbrev pub IsNewApart : MasterKeys → Type 0
-IsNewApart masters =
-    (coming : MasterKey) → masters.coming ≡ Some coming
-    → ((current : MasterKey) → masters.current ≡ Some current → coming.pattern ≢ current.pattern)
-    × ((former : MasterKey) → masters.former ≡ Some former → coming.pattern ≢ former.pattern)
-
--- the new register is full, and its pattern is that of no other register
-pub record IsReadyAhead (held : Registers) (bench : Bench) : Type 0 where
-  pub full : held.new_state ≡ Full
-  pub apart : IsNewApart (keys_of (masters_in held bench))
-
-abbrev pub IsReadyFor : StoreAction → Registers → Bench → Type 0
-IsReadyFor a held bench = a ≡ Ahead → IsReadyAhead held bench
 
 -- the pattern of the bytes in the new register's place
 abbrev pub IsComing : Pattern → Bench → Type 0

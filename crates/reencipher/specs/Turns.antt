@@ -6,13 +6,13 @@ use Rattle.slot_disk.specs.SpareBytes.{SameCell, HasTurned}
 use Rattle.key_tokens.specs.Denotes.{MasterKeys, denoted}
 use Rattle.key_records.specs.Changes.{IsReadOf, has_key}
 use Rattle.record_bodies.specs.Entries.{Entry, label_or}
-use Rattle.key_records.specs.StoreStands.{StandsForLabels, KeepsLabels, entry_at}
+use Rattle.record_bodies.specs.StoreStands.{StandsForLabels, KeepsLabels, entry_at}
 use Rattle.key_records.specs.declared.faults.RecordFault.{RecordFault}
 use Rattle.record_bodies.specs.declared.rows.Row.{Row}
-use Rattle.reencipher.specs.Further.{changed_entry, is_changed}
+use Rattle.record_bodies.specs.Further.{changed_entry, is_changed}
 use Rattle.reencipher.specs.Runs.{IsChanged}
 use Rattle.reencipher.specs.Tokens.{AreMade, changes_key, row_of}
-use Rattle.reencipher.specs.declared.actions.StoreAction.{StoreAction}
+use Rattle.record_bodies.specs.declared.actions.StoreAction.{StoreAction}
 use Rattle.reencipher.specs.declared.writing.Tokens.{Tokens}
 
 -- the label of one cell is what the action makes of it

@@ -1,10 +1,10 @@
 //! Runs that are stopped and run again end as one that isn't stopped.
 ghost use Rattle.std.specs.Prelude.{◌≡◌, ◌≤◌, ◌<◌, ℕ, List, Option, length, max};
 ghost use Rattle.record_bodies.specs.Entries.{Entry};
-ghost use Rattle.key_records.specs.StoreStands.{StandsForLabels};
+ghost use Rattle.record_bodies.specs.StoreStands.{StandsForLabels};
 ghost use Rattle.key_tokens.specs.Denotes.{HaveDistinctPatterns, MasterKeys};
-ghost use Rattle.reencipher.specs.declared.actions.StoreAction.{StoreAction as Action};
-ghost use Rattle.reencipher.specs.Further.{further, reruns, changed_count};
+ghost use Rattle.record_bodies.specs.declared.actions.StoreAction.{StoreAction as Action};
+ghost use Rattle.record_bodies.specs.Further.{further, reruns, changed_count};
 ghost use Rattle.slot_disk.specs.Cells.{body};
 
 /// Whatever cells runs of an action are stopped at, a run that isn't stopped then leaves the labels that one run from

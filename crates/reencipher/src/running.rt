@@ -2,19 +2,19 @@
 ghost use Rattle.std.specs.Prelude.{List, Option, IsSome};
 ghost use Rattle.key_cells.specs.Lease.{bench_of};
 ghost use Rattle.record_bodies.specs.Entries.{Entry};
-ghost use Rattle.key_records.specs.StoreStands.{HasStore, KeepsLabels};
+ghost use Rattle.record_bodies.specs.StoreStands.{HasStore, KeepsLabels};
 ghost use Rattle.master_registers.specs.Loaded.{IsLoaded, Loaded};
 ghost use Rattle.master_registers.specs.Masters.{Masters};
 ghost use Rattle.reencipher.specs.Runs.{IsCell, LeavesAnyStore, Reenciphers, TurnsCells};
-ghost use Rattle.reencipher.specs.Tokens.{IsReadyAhead, IsReadyFor};
+ghost use Rattle.key_records.specs.Ready.{IsReadyAhead, IsReadyFor};
 ghost use Rattle.slot_disk.specs.Medium.{Told};
 ghost use Rattle.verb_rules.specs.Keys.{keys_of};
 
-use crate::actions::StoreAction;
 use crate::turns::turn_cell;
 use key_cells::{Lease, MasterPlace};
 use key_records::{RecordFault, Records};
 use master_registers::{Registers, pattern_of};
+use record_bodies::StoreAction;
 use slot_disk::Disk;
 
 /// Makes each label under the old master key the same key with the same control vector under the current one, and

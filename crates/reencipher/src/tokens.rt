@@ -4,17 +4,17 @@ ghost use Rattle.byte_lists.specs.Bytes.{AreBytes};
 ghost use Rattle.key_cells.specs.declared.places.KeyPlace.{KeyPlace};
 ghost use Rattle.key_cells.specs.Bench.{Bench};
 ghost use Rattle.key_cells.specs.Lease.{bench_of};
-ghost use Rattle.key_records.specs.Ages.{has_old_key};
+ghost use Rattle.record_bodies.specs.Ages.{has_old_key};
 ghost use Rattle.key_tokens.specs.Denotes.{denoted};
 ghost use Rattle.key_tokens.specs.declared.key_token.Age.{Age};
 ghost use Rattle.master_registers.specs.Loaded.{IsLoaded, Loaded};
 ghost use Rattle.master_registers.specs.Masters.{Masters};
 ghost use Rattle.multi_encipher.specs.Bundles.{ChangesKeyAt};
-ghost use Rattle.reencipher.specs.Further.{under_current, has_current_key};
-ghost use Rattle.reencipher.specs.Tokens.{AreMade, AreSecond, IsComing, IsReadyAhead, IsReadyFor, changes_key};
+ghost use Rattle.record_bodies.specs.Further.{under_current, has_current_key};
+ghost use Rattle.reencipher.specs.Tokens.{AreMade, AreSecond, IsComing, changes_key};
+ghost use Rattle.key_records.specs.Ready.{IsReadyAhead, IsReadyFor};
 ghost use Rattle.verb_rules.specs.Keys.{HasHalves, keys_of, opened_key};
 
-use crate::actions::StoreAction;
 use crate::writing::Tokens;
 use byte_lists::is_zero;
 use key_cells::{KeyPlace, Lease};
@@ -22,6 +22,7 @@ use key_records::Second;
 use key_tokens::{Age, Asked, read_token};
 use master_registers::{Pattern, Registers, has_pattern};
 use multi_encipher::{Under, seal};
+use record_bodies::StoreAction;
 use verb_rules::{Judged, open_key, write_current};
 
 /// 64 bytes are below 256: a fact that contracts use.

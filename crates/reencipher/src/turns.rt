@@ -4,21 +4,22 @@ ghost use Rattle.key_cells.specs.Lease.{bench_of};
 ghost use Rattle.key_records.specs.Changes.{is_ahead_row};
 ghost use Rattle.record_bodies.specs.Directory.{label_at};
 ghost use Rattle.record_bodies.specs.Entries.{Entry, row_directory};
-ghost use Rattle.key_records.specs.StoreStands.{HasStore, KeepsLabels};
+ghost use Rattle.record_bodies.specs.StoreStands.{HasStore, KeepsLabels};
 ghost use Rattle.master_registers.specs.Loaded.{IsLoaded, Loaded};
 ghost use Rattle.master_registers.specs.Masters.{Masters};
 ghost use Rattle.reencipher.specs.Runs.{IsChangedRow, LeavesAnyStore, changes_row};
-ghost use Rattle.reencipher.specs.Tokens.{IsComing, IsReadyFor, may_change};
+ghost use Rattle.reencipher.specs.Tokens.{IsComing, may_change};
+ghost use Rattle.key_records.specs.Ready.{IsReadyFor};
 ghost use Rattle.reencipher.specs.Turns.{ChangesCell, TurnsAsRead, TurnsCell};
 ghost use Rattle.slot_disk.specs.Medium.{Told};
 ghost use Rattle.verb_rules.specs.Keys.{keys_of};
 
-use crate::actions::StoreAction;
 use crate::tokens::made_tokens;
 use crate::writing::put;
 use key_cells::Lease;
 use key_records::{Place, RecordFault, Records};
 use master_registers::{Pattern, Registers};
+use record_bodies::StoreAction;
 use slot_disk::{Disk, Steps};
 
 /// The place of the label of a cell.

@@ -4,7 +4,7 @@ ghost use Rattle.key_cells.specs.Lease.{bench_of};
 ghost use Rattle.key_records.specs.Changes.{ChangesLabels, ChangesRecord};
 ghost use Rattle.record_bodies.specs.Directory.{label_at};
 ghost use Rattle.record_bodies.specs.Entries.{Entry, row_directory, label_or};
-ghost use Rattle.key_records.specs.StoreStands.{HoldsRows, KeepsLabels};
+ghost use Rattle.record_bodies.specs.StoreStands.{HoldsRows, KeepsLabels};
 ghost use Rattle.key_records.specs.declared.records.TheConstants.{STORE_LEN};
 ghost use Rattle.key_tokens.specs.Denotes.{Denoted, MasterKeys};
 ghost use Rattle.master_registers.specs.Loaded.{IsLoaded, masters_in};

@@ -8,7 +8,7 @@ use Rattle.key_cells.specs.Bench.{Bench}
 use Rattle.key_cells.specs.Lease.{bench_of}
 use Rattle.key_cells.specs.declared.leases.Lease.{Lease}
 use Rattle.key_records.specs.Changes.{KeepsAllButBody}
-use Rattle.key_records.specs.StoreStands.{Agrees, KeepsLabels, entry_at}
+use Rattle.record_bodies.specs.StoreStands.{Agrees, KeepsLabels, entry_at}
 use Rattle.key_records.specs.declared.faults.RecordFault.{RecordFault}
 use Rattle.key_records.specs.declared.faults.RecordFault.TheVariants.{Damaged, DiskFault}
 use Rattle.record_bodies.specs.declared.rows.Row.{Row}

@@ -3,7 +3,7 @@ use Rattle.std.specs.Prelude.{◌≡◌, List, Option}
 use Rattle.slot_disk.specs.Medium.{Medium, Told, IsSettled}
 use Rattle.cca_roles.specs.RolesStand.{StandsForRoles}
 use Rattle.cca_roles.specs.declared.roles.Role.{Role}
-use Rattle.key_records.specs.StoreStands.{Agrees}
+use Rattle.record_bodies.specs.StoreStands.{Agrees}
 use Rattle.record_bodies.specs.declared.rows.Row.{Row}
 use Rattle.line_service.specs.Answering.{Holds}
 use Rattle.verb_rules.specs.Keys.{keys_of}

@@ -2,7 +2,7 @@
 ghost use Rattle.std.specs.Prelude.{◌≡◌, [], Some, None, IfOk, IsTrue, drop};
 ghost use Rattle.key_cells.specs.Bench.{Bench};
 ghost use Rattle.key_cells.specs.Lease.{bench_of};
-ghost use Rattle.key_records.specs.StoreStands.{HasStore};
+ghost use Rattle.record_bodies.specs.StoreStands.{HasStore};
 ghost use Rattle.key_tokens.specs.declared.key_token.Asked.TheVariants.{Internal, External};
 ghost use Rattle.master_registers.specs.Loaded.{Loaded};
 ghost use Rattle.master_registers.specs.Masters.{Masters};

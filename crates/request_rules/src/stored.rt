@@ -2,7 +2,7 @@
 ghost use Rattle.std.specs.Prelude.{◌≡◌, ℕ, [], None, Some, IfOk, true, get_or};
 ghost use Rattle.key_cells.specs.Bench.{Bench};
 ghost use Rattle.key_cells.specs.Lease.{bench_of};
-ghost use Rattle.key_records.specs.StoreStands.{Agrees, HasStore};
+ghost use Rattle.record_bodies.specs.StoreStands.{Agrees, HasStore};
 ghost use Rattle.master_registers.specs.Loaded.{Loaded};
 ghost use Rattle.master_registers.specs.Masters.{Masters};
 ghost use Rattle.verb_rules.specs.Keys.{keys_of};

@@ -4,7 +4,7 @@ use Rattle.std.specs.Prelude.{◌||◌, if◌then◌else◌}
 use Rattle.verb_rules.proofs.TokenLemmas.{keys_apart}
 use Rattle.key_cells.specs.Bench.{Bench}
 use Rattle.key_records.proofs.AgeLaws.{old_labels, no_old_labels}
-use Rattle.key_records.specs.Ages.{any_old, any_ahead_entry}
+use Rattle.record_bodies.specs.Ages.{any_old, any_ahead_entry}
 use Rattle.key_records.specs.Changes.{any_under}
 use Rattle.record_bodies.specs.declared.rows.Row.{Row}
 use Rattle.master_registers.specs.Loaded.{Loaded, pattern_in}

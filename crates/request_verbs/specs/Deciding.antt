@@ -2,11 +2,11 @@
 use Rattle.std.specs.Prelude.{◌≡◌, ◌≢◌, ◌≤◌, ◌<◌, true, false, ⊤, IsSome, ℕ, List, [], ◌∷◌, length, codes, Option, Some, None, Result, Ok, Err}
 use Rattle.std.specs.Io.KnownBytes.{Consumes}
 use Rattle.cca_roles.specs.RoleNames.{default_name}
-use Rattle.key_records.specs.Ages.{any_old as any_old_label, any_ahead_entry}
+use Rattle.record_bodies.specs.Ages.{any_old as any_old_label, any_ahead_entry}
 use Rattle.record_bodies.specs.Directory.{label_at}
 use Rattle.record_bodies.specs.Entries.{Entry, row_directory}
-use Rattle.key_records.specs.StoreStands.{KeepsLabels}
-use Rattle.key_records.specs.Turning.{aged}
+use Rattle.record_bodies.specs.StoreStands.{KeepsLabels}
+use Rattle.record_bodies.specs.Turning.{aged}
 use Rattle.record_bodies.specs.declared.rows.Row.{Row}
 use Rattle.key_tokens.specs.Denotes.{Denoted, denoted}
 use Rattle.key_cells.specs.Bench.{Bench}
@@ -21,7 +21,7 @@ use Rattle.master_registers.specs.declared.registers.Registers.{Registers}
 use Rattle.script_buffers.specs.Replies.{Field, Hex, written}
 use Rattle.verb_script.specs.Grammar.{Request}
 use Rattle.line_service.specs.declared.stops.Stop.{Stop}
-use Rattle.reencipher.specs.Tokens.{IsReadyFor}
+use Rattle.key_records.specs.Ready.{IsReadyFor}
 use Rattle.cca_machine.specs.Keys.{any_old, cell_with}
 use Rattle.cca_machine.specs.Draws.{bytes_drawn, draw_of, draws_random}
 use Rattle.cca_machine.specs.Lines.{drawn_where}

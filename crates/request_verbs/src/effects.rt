@@ -2,9 +2,8 @@
 
 use cca_roles::{AccessPoints, RoleName};
 use granted_operands::Refusal;
-use key_records::{Label, Place};
 use master_registers::Action;
-use reencipher::StoreAction;
+use record_bodies::{Label, Place, StoreAction};
 
 /// What a verb leaves to be done.
 #[derive(Clone, Copy)]

@@ -6,7 +6,7 @@ pub use Rattle.key_cells.specs.Lease
 pub use Rattle.key_records.specs.Changes
 pub use Rattle.record_bodies.specs.Directory
 pub use Rattle.record_bodies.specs.Entries
-pub use Rattle.key_records.specs.StoreStands
+pub use Rattle.record_bodies.specs.StoreStands
 pub use Rattle.key_tokens.specs.Denotes
 pub use Rattle.key_transport.specs.Tokens
 pub use Rattle.master_registers.specs.Loaded

@@ -3,7 +3,7 @@ ghost use Rattle.std.specs.Prelude.{◌≡◌, ℕ, List, Option, None, Err, get
 ghost use Rattle.key_cells.specs.Lease.{bench_of};
 ghost use Rattle.record_bodies.specs.Directory.{label_at};
 ghost use Rattle.record_bodies.specs.Entries.{Entry, row_directory, what_in};
-ghost use Rattle.key_records.specs.StoreStands.{HoldsRows, KeepsLabels, entry_at};
+ghost use Rattle.record_bodies.specs.StoreStands.{HoldsRows, KeepsLabels, entry_at};
 ghost use Rattle.master_registers.specs.Loaded.{Loaded};
 ghost use Rattle.master_registers.specs.Masters.{Masters};
 ghost use Rattle.slot_disk.specs.Medium.{Keeps, Told};

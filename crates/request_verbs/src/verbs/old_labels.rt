@@ -1,7 +1,7 @@
 //! Labels under the old master key, of which an action may lose none.
 ghost use Rattle.std.specs.Prelude.{◌≡◌};
 ghost use Rattle.key_cells.specs.Bench.{Bench};
-ghost use Rattle.key_records.specs.Ages.{any_old};
+ghost use Rattle.record_bodies.specs.Ages.{any_old};
 ghost use Rattle.master_registers.specs.Loaded.{Loaded};
 ghost use Rattle.cca_machine.specs.State.{State};
 ghost use Rattle.request_verbs.specs.Deciding.{IsRecorded};

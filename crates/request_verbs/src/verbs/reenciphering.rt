@@ -8,7 +8,7 @@ ghost use Rattle.record_bodies.specs.declared.rows.Row.{Row};
 ghost use Rattle.master_registers.specs.Loaded.{IsLoaded, Loaded};
 ghost use Rattle.master_registers.specs.Masters.{Masters, set_refused, has_pattern_of};
 ghost use Rattle.master_registers.specs.declared.registers.Registers.{Registers as HeldRegisters};
-ghost use Rattle.reencipher.specs.Tokens.{IsReadyAhead};
+ghost use Rattle.key_records.specs.Ready.{IsReadyAhead};
 ghost use Rattle.verb_rules.specs.Rules.{rule_number};
 ghost use Rattle.verb_script.specs.declared.rows.RequestName.TheVariants.{Reencipher, ReencipherAhead, ReencipherDrop};
 ghost use Rattle.request_verbs.specs.Decided.{Settles, asked};
@@ -18,9 +18,9 @@ use crate::effects::Effect;
 use crate::verbs::old_labels::any_old;
 use granted_operands::Refusal;
 use key_cells::Lease;
-use key_records::Records;
+use key_records::{Records, is_taken};
 use master_registers::{NewState, Registers};
-use reencipher::{StoreAction, is_taken};
+use record_bodies::StoreAction;
 use verb_rules::Rule;
 
 /// Leaves every label to be brought under the current master key.

@@ -6,7 +6,7 @@ use Rattle.slot_disk.proofs.WhereToldLemmas.{rose_wider}
 use Rattle.key_cells.specs.Lease.{bench_of}
 use Rattle.master_registers.specs.Loaded.{masters_in}
 use Rattle.verb_rules.specs.Keys.{keys_of}
-use Rattle.key_records.specs.StoreStands.{IsFirstDamaged}
+use Rattle.record_bodies.specs.StoreStands.{IsFirstDamaged}
 use Rattle.key_records.specs.declared.faults.RecordFault.TheVariants as record_fault
 use Rattle.line_service.specs.declared.stops.Device.TheVariants.{Store}
 use Rattle.line_service.specs.declared.stops.Stop.{Stop}

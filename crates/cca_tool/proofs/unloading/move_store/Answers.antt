@@ -3,7 +3,7 @@ use Rattle.std.proofs.Common.{◌≡◌, ◌∙◌, Err, ap, refl, arith}
 use Rattle.key_cells.specs.Lease.{bench_of}
 use Rattle.master_registers.specs.Loaded.{masters_in}
 use Rattle.cca_tool.specs.declared.unloading.MoveStatus.TheVariants.{Run}
-use Rattle.key_records.specs.StoreStands.{HoldsRows}
+use Rattle.record_bodies.specs.StoreStands.{HoldsRows}
 use Rattle.cca_roles.specs.RolesStand.{StandsForRoles}
 use Rattle.master_registers.specs.Masters.{Masters}
 use Rattle.master_registers.specs.RegisterBody.{StandsForMasters}

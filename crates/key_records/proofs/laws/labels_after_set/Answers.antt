@@ -1,4 +1,4 @@
-use Rattle.key_records.proofs.RowTurns.{rows_turn}
+use Rattle.record_bodies.proofs.RowTurns.{rows_turn}
 use Rattle.key_records.proofs.TurningLaws.{store_turns, memory_turns}
 use Rattle.key_records.proofs.laws.labels_after_set.Goals as goal
 

@@ -6,9 +6,9 @@ use Rattle.slot_disk.proofs.WhereToldLemmas.{rose_wider}
 use Rattle.verb_rules.specs.Keys.{keys_of}
 use Rattle.key_records.specs.declared.faults.RecordFault.TheVariants.{DiskFault, Damaged}
 use Rattle.slot_disk.proofs.Media.{keeps_still, keeps_then, told_map, told_next}
-use Rattle.key_records.specs.Opening.{OpenedTo, IsRefused, Opens}
-use Rattle.key_records.specs.StoreStands.{KeepsLabels, labels_in, IsFirstDamaged}
-use Rattle.key_records.proofs.OpeningLaws.{opened_none, opened_more, opened_all, refused_damaged, stands_undamaged, first_one}
+use Rattle.record_bodies.specs.Opening.{OpenedTo, IsRefused, Opens}
+use Rattle.record_bodies.specs.StoreStands.{KeepsLabels, labels_in, IsFirstDamaged}
+use Rattle.record_bodies.proofs.OpeningLaws.{opened_none, opened_more, opened_all, refused_damaged, stands_undamaged, first_one}
 use Rattle.key_records.proofs.StoreLaws.{told_all}
 use Rattle.key_records.proofs.opening.open_cells.Goals as goal
 

@@ -3,7 +3,7 @@ use Rattle.std.proofs.Common.{◌≡◌}
 use Rattle.key_records.specs.Changes.{ChangesKeyAndBody}
 use Rattle.slot_disk.specs.Medium.{Told, Keeps}
 use Rattle.verb_rules.specs.Keys.{keys_of}
-use Rattle.key_records.specs.Opening.{OpenedTo}
+use Rattle.record_bodies.specs.Opening.{OpenedTo}
 use Rattle.record_bodies.specs.Rows.{AreRows}
 use Rattle.key_records.proofs.opening.open_cells.Given as goal
 

@@ -2,7 +2,7 @@ use Rattle.std.proofs.Common.{◌∙◌, sym}
 use Rattle.slot_disk.proofs.Media.{told_map, told_still}
 use Rattle.key_cells.specs.Lease.{bench_of}
 use Rattle.master_registers.specs.Loaded.{masters_in}
-use Rattle.key_records.specs.StoreStands.{KeepsLabels, HoldsRows, labels_in}
+use Rattle.record_bodies.specs.StoreStands.{KeepsLabels, HoldsRows, labels_in}
 use Rattle.verb_rules.specs.Keys.{keys_of}
 use Rattle.key_records.proofs.ReadLaws.{keeps_holds}
 use Rattle.key_records.proofs.opening.open_records.Goals as goal

@@ -4,7 +4,7 @@ use Rattle.slot_disk.specs.WhereTold.{WhereTold}
 use Rattle.key_cells.specs.Lease.{bench_of}
 use Rattle.record_bodies.specs.Directory.{held_count}
 use Rattle.record_bodies.specs.Entries.{row_directory}
-use Rattle.key_records.specs.StoreStands.{KeepsLabels}
+use Rattle.record_bodies.specs.StoreStands.{KeepsLabels}
 use Rattle.line_service.specs.Sending.{Grows}
 use Rattle.master_registers.specs.Loaded.{Loaded}
 use Rattle.master_registers.specs.Masters.{Masters}

@@ -1,8 +1,8 @@
 use Rattle.std.proofs.Common.{subst}
-use Rattle.key_records.specs.StoreStands.{StandsForLabels}
-use Rattle.key_records.proofs.OneBody.{same_bodies}
-use Rattle.reencipher.specs.Further.{further}
-use Rattle.reencipher.proofs.FurtherLaws.{further_twice, rerun, changed_all, whole}
+use Rattle.record_bodies.specs.StoreStands.{StandsForLabels}
+use Rattle.record_bodies.proofs.OneBody.{same_bodies}
+use Rattle.record_bodies.specs.Further.{further}
+use Rattle.record_bodies.proofs.FurtherLaws.{further_twice, rerun, changed_all, whole}
 use Rattle.reencipher.proofs.laws.reruns_end_as_one_run.Goals as goal
 
 pub returns-clause-twice : goal.returns-clause-twice

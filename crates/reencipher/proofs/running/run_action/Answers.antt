@@ -2,7 +2,7 @@ use Rattle.std.proofs.Common.{◌≡◌, ◌≤◌, ◌+◌, ℕ, Bool, true, fa
 use mir.Val.{bool_byte}
 use Rattle.verb_rules.proofs.TokenLemmas.{keys_apart}
 use Rattle.verb_rules.specs.Keys.{keys_of}
-use Rattle.reencipher.specs.Further.{further}
+use Rattle.record_bodies.specs.Further.{further}
 use Rattle.reencipher.proofs.LeftLaws.{left_start, left_on, left_failed}
 use Rattle.reencipher.proofs.RowLaws.{HasTurnedTo, turned_start, turned_on, turns_ended, turns_whole}
 use Rattle.reencipher.proofs.RunLaws.{Reaches, reaches_start, reaches_next, ends_at, ends_whole}

@@ -3,7 +3,7 @@ use Rattle.std.proofs.Common.{◌≤◌, List, Option, Ok}
 use Rattle.key_cells.specs.Lease.{bench_of}
 use Rattle.slot_disk.specs.Medium.{Told}
 use Rattle.record_bodies.specs.Entries.{Entry}
-use Rattle.key_records.specs.StoreStands.{KeepsLabels}
+use Rattle.record_bodies.specs.StoreStands.{KeepsLabels}
 use Rattle.master_registers.specs.Loaded.{Loaded}
 use Rattle.master_registers.specs.Masters.{Masters}
 use Rattle.verb_rules.specs.Keys.{keys_of}

@@ -2,7 +2,7 @@ use Rattle.std.proofs.Common.{Some, sym, ap, ◌∙◌}
 use Rattle.key_tokens.specs.declared.key_token.Age.TheVariants.{Current}
 use Rattle.key_tokens.specs.TokenChecks.{rule_of}
 use Rattle.verb_rules.proofs.DenotedLemmas.{denoted_refused}
-use Rattle.reencipher.specs.Further.{has_current_key}
+use Rattle.record_bodies.specs.Further.{has_current_key}
 use Rattle.reencipher.proofs.TokenLaws.{register_current, denoted_for, not_current}
 use Rattle.reencipher.proofs.tokens.current_key.Goals as goal
 

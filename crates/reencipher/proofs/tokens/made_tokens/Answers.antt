@@ -4,7 +4,7 @@ use Rattle.key_cells.specs.Lease.{bench_of}
 use Rattle.key_tokens.specs.Denotes.{denoted}
 use Rattle.verb_rules.specs.Keys.{keys_of}
 use Rattle.reencipher.specs.Tokens.{AreMade, changes_key}
-use Rattle.reencipher.specs.declared.actions.StoreAction.{StoreAction}
+use Rattle.record_bodies.specs.declared.actions.StoreAction.{StoreAction}
 use Rattle.reencipher.proofs.tokens.made_tokens.Goals as goal
 
 pub returns-in-Drop-clause-made : goal.returns-in-Drop-clause-made

@@ -1,6 +1,6 @@
 use Rattle.std.proofs.Common.{None, Some, true, false, sym, ap, ◌∙◌}
 use Rattle.key_tokens.specs.declared.key_token.Age.TheVariants.{Current, Old}
-use Rattle.key_records.specs.Ages.{has_old_key}
+use Rattle.record_bodies.specs.Ages.{has_old_key}
 use Rattle.verb_rules.proofs.DenotedLemmas.{denoted_refused}
 use Rattle.key_tokens.specs.TokenChecks.{rule_of}
 use Rattle.reencipher.proofs.TokenLaws.{register_current, register_old, denoted_for, age_for}

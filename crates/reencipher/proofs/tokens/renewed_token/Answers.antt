@@ -2,7 +2,7 @@ use Rattle.std.proofs.Common.{List, ℕ, Some, sym, ap, ◌∙◌}
 use Rattle.key_cells.specs.Lease.{bench_of}
 use Rattle.key_tokens.specs.declared.key_token.Age.TheVariants.{Current, Old}
 use Rattle.verb_rules.specs.Keys.{opened}
-use Rattle.reencipher.specs.Further.{under_current}
+use Rattle.record_bodies.specs.Further.{under_current}
 use Rattle.multi_encipher.specs.Bundles.{key_in}
 use Rattle.key_records.proofs.PairLaws.{key_again}
 use Rattle.reencipher.proofs.TokenLaws.{key_at_age, opened_at, loaded_after}

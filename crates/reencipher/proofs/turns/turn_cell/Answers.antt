@@ -9,8 +9,8 @@ use Rattle.key_records.specs.Changes.{IsReadOf, ReadsToken, is_ahead_row}
 use Rattle.record_bodies.specs.Directory.{label_at}
 use Rattle.record_bodies.specs.Entries.{Entry}
 use Rattle.record_bodies.specs.declared.rows.Row.{Row}
-use Rattle.key_records.specs.StoreStands.{KeepsLabels, entry_at}
-use Rattle.key_records.proofs.OpeningLaws.{label_of_entry}
+use Rattle.record_bodies.specs.StoreStands.{KeepsLabels, entry_at}
+use Rattle.record_bodies.proofs.OpeningLaws.{label_of_entry}
 use Rattle.record_bodies.proofs.RowLaws.{label_of_row}
 use Rattle.key_records.proofs.StoreLaws.{same_directory, told_all}
 use Rattle.master_registers.specs.Loaded.{Loaded, masters_in}
@@ -18,11 +18,11 @@ use Rattle.master_registers.specs.Masters.{Masters}
 use Rattle.master_registers.specs.declared.registers.Registers.{Registers}
 use Rattle.master_registers.proofs.LoadedLaws.{loaded_one}
 use Rattle.verb_rules.specs.Keys.{keys_of}
-use Rattle.reencipher.specs.Further.{is_changed}
+use Rattle.record_bodies.specs.Further.{is_changed}
 use Rattle.reencipher.specs.Runs.{IsChangedRow, changes_row}
 use Rattle.reencipher.specs.Tokens.{CanBeWritten, changes_key, may_change, put_in}
 use Rattle.reencipher.specs.Turns.{ChangesCell, StaysAsRead, TurnsAsRead, TurnsCell}
-use Rattle.reencipher.specs.declared.actions.StoreAction.{StoreAction}
+use Rattle.record_bodies.specs.declared.actions.StoreAction.{StoreAction}
 use Rattle.reencipher.proofs.RowLaws.{marked_row_stays, no_row_stays, null_row_stays, row_changes, turns_kept, turns_failed, turns_written}
 use Rattle.reencipher.proofs.TokenLaws.{loaded_after}
 use Rattle.reencipher.proofs.TurnLaws.{IsMade, IsTurn, and_true, reads_what, reads_null, null_changes, no_label, may_not, does_not, is_turn, made_is, can_write, loaded_body, changes_none, changes_unread, changes_failed, changes_written, row_put}

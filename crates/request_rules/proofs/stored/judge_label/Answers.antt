@@ -1,7 +1,7 @@
 use Rattle.std.proofs.Common.{◌≡◌, ◌∙◌, ℕ, List, [], Option, None, Some, get_or, refl, sym, ap, subst, rules}
 use Rattle.std.specs.Prelude.{Err}
 use Rattle.key_cells.specs.Lease.{bench_of}
-use Rattle.key_records.specs.StoreStands.{entry_at}
+use Rattle.record_bodies.specs.StoreStands.{entry_at}
 use Rattle.record_bodies.specs.Entries.{what_in}
 use Rattle.record_bodies.specs.declared.rows.Row.{Row}
 use Rattle.store_move.specs.Stored.{IsStored}

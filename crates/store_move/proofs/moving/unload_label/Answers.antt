@@ -3,7 +3,7 @@ use Rattle.std.proofs.Common.{ℕ, List, None, get_or, ap, sym, subst}
 use Rattle.key_cells.specs.Bench.{Bench}
 use Rattle.key_cells.specs.Lease.{bench_of}
 use Rattle.record_bodies.specs.Entries.{what_in}
-use Rattle.key_records.specs.StoreStands.{entry_at}
+use Rattle.record_bodies.specs.StoreStands.{entry_at}
 use Rattle.slot_disk.proofs.Media.{told_map}
 use Rattle.verb_rules.specs.Keys.{keys_of, opened}
 use Rattle.store_move.specs.Reading.{HoldsAsRead}

@@ -2,7 +2,7 @@ use Rattle.std.proofs.Common.{◌≡◌, None, ap, refl, sym, ◌∙◌}
 use Rattle.std.specs.Prelude.{IsSome}
 use Rattle.key_cells.specs.Lease.{bench_of}
 use Rattle.key_tokens.specs.Denotes.{denoted}
-use Rattle.key_records.specs.StoreStands.{entry_at}
+use Rattle.record_bodies.specs.StoreStands.{entry_at}
 use Rattle.verb_rules.specs.KeyChecks.{age_of}
 use Rattle.verb_rules.specs.Keys.{HasHalves, keys_of}
 use Rattle.verb_rules.specs.StoredKeys.{IsRead}

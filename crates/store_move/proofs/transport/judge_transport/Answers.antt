@@ -2,7 +2,7 @@ use Rattle.std.proofs.Common.{Option, None, get_or, subst}
 use Rattle.std.specs.Prelude.{IfOk}
 use Rattle.key_cells.specs.Lease.{bench_of}
 use Rattle.record_bodies.specs.Entries.{what_in}
-use Rattle.key_records.specs.StoreStands.{entry_at}
+use Rattle.record_bodies.specs.StoreStands.{entry_at}
 use Rattle.key_tokens.specs.Denotes.{Denoted}
 use Rattle.slot_disk.specs.Medium.{Told}
 use Rattle.verb_rules.specs.Keys.{keys_of}

@@ -2,7 +2,7 @@ use Rattle.std.proofs.Common.{◌≡◌, ℕ, List, Option, length, sym, ap, sub
 use Rattle.std.proofs.lemmas.List.{length-set}
 use Rattle.key_cells.specs.Lease.{bench_of}
 use Rattle.slot_disk.specs.Medium.{Told}
-use Rattle.key_records.specs.StoreStands.{HoldsRows}
+use Rattle.record_bodies.specs.StoreStands.{HoldsRows}
 use Rattle.record_bodies.specs.declared.rows.Row.{Row}
 use Rattle.key_records.proofs.StoreLaws.{replaces_is, rows_changed}
 use Rattle.record_bodies.proofs.KeptLaws.{unless_err}

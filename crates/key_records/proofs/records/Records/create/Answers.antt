@@ -1,6 +1,7 @@
 use Rattle.std.proofs.Common.{◌≡◌, ℕ, List, Option, Some, Bool, false, set, replicate, refl, sym, ap, subst, ◌∙◌}
 use Rattle.std.specs.Prelude.{is_some}
-use Rattle.key_records.specs.Changes.{ChangesLabels, created, null_entry}
+use Rattle.key_records.specs.Changes.{ChangesLabels}
+use Rattle.record_bodies.specs.LabelChanges.{created, null_entry}
 use Rattle.record_bodies.specs.Directory.{cell_of, free_cell, AreApart}
 use Rattle.record_bodies.specs.Entries.{row_directory, null_row}
 use Rattle.record_bodies.specs.RecordBody.{record_body, null_body, no_second, null_kind}

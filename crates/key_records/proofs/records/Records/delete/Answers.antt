@@ -1,5 +1,6 @@
 use Rattle.std.proofs.Common.{ℕ, List, Option, None, refl, subst}
-use Rattle.key_records.specs.Changes.{ChangesLabels, deleted}
+use Rattle.key_records.specs.Changes.{ChangesLabels}
+use Rattle.record_bodies.specs.LabelChanges.{deleted}
 use Rattle.record_bodies.specs.Entries.{row_directory}
 use Rattle.record_bodies.specs.declared.rows.Row.{Row}
 use Rattle.held_names.proofs.DirectoryLaws.{apart_none}

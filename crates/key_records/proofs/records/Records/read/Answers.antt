@@ -7,7 +7,7 @@ use Rattle.key_tokens.specs.Denotes.{MasterKeys}
 use Rattle.key_records.specs.Changes.{ReadsToken, ahead_at}
 use Rattle.record_bodies.specs.RecordBody.{IsTokenOf, token_in, second_in, held_token, ReadsRow, StandsAs}
 use Rattle.record_bodies.specs.Entries.{Entry, label_or}
-use Rattle.key_records.specs.StoreStands.{KeepsLabels, entry_at}
+use Rattle.record_bodies.specs.StoreStands.{KeepsLabels, entry_at}
 use Rattle.key_records.specs.declared.faults.RecordFault.TheVariants.{Damaged}
 use Rattle.record_bodies.specs.declared.rows.Row.{Row}
 use Rattle.key_records.proofs.ReadLaws.{cause_read, read_token}

@@ -1,7 +1,8 @@
 use Rattle.std.proofs.Common.{◌≡◌, inl, ℕ, List, Option, None, Some, refl, sym, ap, subst, ◌∙◌}
 use Rattle.key_cells.specs.Lease.{bench_of}
 use Rattle.key_tokens.specs.Denotes.{denoted}
-use Rattle.key_records.specs.Changes.{ChangesLabels, written}
+use Rattle.key_records.specs.Changes.{ChangesLabels}
+use Rattle.record_bodies.specs.LabelChanges.{written}
 use Rattle.record_bodies.specs.Directory.{label_at}
 use Rattle.record_bodies.specs.Entries.{entry, row_directory, pattern_for}
 use Rattle.record_bodies.specs.RecordBody.{record_body, key_body, key_kind, IsKept}

@@ -6,7 +6,8 @@ use Rattle.key_tokens.specs.Denotes.{ClearKey, Denoted, MasterKeys}
 use Rattle.key_tokens.specs.Fields.{vector_bytes_of}
 use Rattle.key_tokens.specs.declared.key_token.Age.TheVariants.{Current}
 use Rattle.key_tokens.specs.declared.key_token.Token.{Token}
-use Rattle.key_records.specs.Changes.{AreBoth, ChangesLabels, ahead_entry, written_ahead}
+use Rattle.key_records.specs.Changes.{AreBoth, ChangesLabels}
+use Rattle.record_bodies.specs.LabelChanges.{ahead_entry, written_ahead}
 use Rattle.record_bodies.specs.Directory.{label_at}
 use Rattle.record_bodies.specs.Entries.{row_directory, pattern_for, pattern_or}
 use Rattle.record_bodies.specs.RecordBody.{both_body, second_token, IsKept, IsSecond}

@@ -17,16 +17,16 @@ use Rattle.key_tokens.specs.declared.key_token.Asked.TheVariants.{Internal}
 use Rattle.record_bodies.specs.Labels.{IsLabel, is_label}
 use Rattle.record_bodies.specs.Directory.{AreApart, cell_of}
 use Rattle.record_bodies.specs.Entries.{Entry, remembered, row_directory, row_label, entry_label}
-use Rattle.key_records.specs.Opening.{OpenedTo}
+use Rattle.record_bodies.specs.Opening.{OpenedTo}
 use Rattle.record_bodies.specs.RecordBody.{ReadsEntry, IsWhat, IsBoth, IsPair, is_turned, second_of, entry_in, record_body, blank_body, no_token, no_second, kept, label_in, token_in, second_in, null_kind, key_kind, both_kind}
 use Rattle.record_bodies.specs.Rows.{AreRows}
-use Rattle.key_records.specs.StoreStands.{StandsForLabels, labels_in, IsFirstDamaged}
+use Rattle.record_bodies.specs.StoreStands.{StandsForLabels, labels_in, IsFirstDamaged}
 use Rattle.record_bodies.specs.declared.rows.Row.{Row}
 use Rattle.record_bodies.specs.declared.rows.Second.{Second}
 use Rattle.record_bodies.proofs.SecondLaws.{same_second, slice_bytes}
 use Rattle.record_bodies.proofs.BodyLaws.{spelled, spelled_label, spelled_again, spelled_what, entry_blank, entry_reads}
 use Rattle.held_names.proofs.DirectoryLaws.{none_some, apart_set, apart_none, held_somewhere, held_nowhere}
-use Rattle.key_records.proofs.OpeningLaws.{label_remembered, opened_none, opened_more, opened_all, refused_damaged}
+use Rattle.record_bodies.proofs.OpeningLaws.{label_remembered, opened_none, opened_more, opened_all, refused_damaged}
 use Rattle.record_bodies.proofs.RowLaws.{blank_rows, rows_set}
 
 -- ---- what is decided

@@ -2,10 +2,10 @@
 use Rattle.std.specs.Prelude.{ℕ, zero, suc, Bool, true, false, not, ◌&&◌, if◌then◌else◌, List, [], ◌∷◌, Option, None, Some, count_by}
 use Rattle.key_tokens.specs.Denotes.{Denoted}
 use Rattle.key_tokens.specs.declared.key_token.Age.TheVariants.{Current}
-use Rattle.key_records.specs.Ages.{is_old, has_old_key}
+use Rattle.record_bodies.specs.Ages.{is_old, has_old_key}
 use Rattle.record_bodies.specs.Entries.{Entry, entry}
-use Rattle.reencipher.specs.declared.actions.StoreAction.{StoreAction}
-use Rattle.reencipher.specs.declared.actions.StoreAction.TheVariants.{Renew, Ahead, Drop}
+use Rattle.record_bodies.specs.declared.actions.StoreAction.{StoreAction}
+use Rattle.record_bodies.specs.declared.actions.StoreAction.TheVariants.{Renew, Ahead, Drop}
 
 -- the same key under the current master key
 abbrev pub under_current : Option Denoted → Option Denoted

@@ -12,7 +12,7 @@ use Rattle.key_tokens.proofs.Written.{flag-made, made-token}
 use Rattle.master_registers.specs.declared.patterns.Pattern.{Pattern}
 use Rattle.record_bodies.specs.Entries.{turned, turned_by}
 use Rattle.record_bodies.specs.RecordBody.{second_token, second_fields, HoldsToken, IsBeside, IsFirst, IsKept, IsSecond, ReadsPattern, ReadsRow}
-use Rattle.key_records.specs.StoreStands.{HoldsRows}
+use Rattle.record_bodies.specs.StoreStands.{HoldsRows}
 use Rattle.record_bodies.specs.declared.rows.Row.{Row}
 use Rattle.record_bodies.specs.declared.rows.Second.{Second}
 use Rattle.record_bodies.proofs.SecondLaws.{fits, second_bytes, second_pattern}

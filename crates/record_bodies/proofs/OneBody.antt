@@ -15,12 +15,12 @@ use Rattle.record_bodies.proofs.TokenLaws.{made_again}
 use Rattle.key_tokens.specs.declared.key_token.Token.{Token}
 use Rattle.record_bodies.specs.Entries.{Entry}
 use Rattle.record_bodies.specs.RecordBody.{kept, key_body, both_body, second_fields, second_token, IsTurned, IsAhead, IsFirst, IsSecond, HasToken, ReadsEntry, ReadsKey, ReadsWhat}
-use Rattle.key_records.specs.StoreStands.{StandsForLabels}
-use Rattle.key_records.specs.Written.{register_of, token_under, token_bytes, second_under, key_record, record_bytes, written_body}
+use Rattle.record_bodies.specs.StoreStands.{StandsForLabels}
+use Rattle.record_bodies.specs.Written.{register_of, token_under, token_bytes, second_under, key_record, record_bytes, written_body}
 use Rattle.record_bodies.specs.declared.rows.Second.{Second}
 use Rattle.held_names.proofs.DirectoryLaws.{none_some}
 use Rattle.record_bodies.proofs.KeptLaws.{kept_flag, kept_with_flag}
-use Rattle.key_records.proofs.RowTurns.{is_next}
+use Rattle.record_bodies.proofs.RowTurns.{is_next}
 use Rattle.record_bodies.proofs.SecondLaws.{same_second}
 
 -- a token of a key under a master key, with flag c0

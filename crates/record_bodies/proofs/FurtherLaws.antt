@@ -4,11 +4,11 @@ use Rattle.std.specs.Prelude.{◌&&◌, if◌then◌else◌}
 use Rattle.std.proofs.lemmas.Grind.{common_steps}
 use Rattle.key_tokens.specs.Denotes.{Denoted, MasterKeys}
 use Rattle.record_bodies.specs.Entries.{Entry}
-use Rattle.key_records.specs.StoreStands.{StandsForLabels, entry_at}
-use Rattle.key_records.specs.Ages.{has_old_key}
-use Rattle.reencipher.specs.Further.{under_current, has_current_key, changed, changed_entry, is_changed, is_changed_by, made_by, further, reruns, changed_count}
-use Rattle.reencipher.specs.declared.actions.StoreAction.{StoreAction}
-use Rattle.reencipher.specs.declared.actions.StoreAction.TheVariants.{Renew, Ahead, Drop}
+use Rattle.record_bodies.specs.StoreStands.{StandsForLabels, entry_at}
+use Rattle.record_bodies.specs.Ages.{has_old_key}
+use Rattle.record_bodies.specs.Further.{under_current, has_current_key, changed, changed_entry, is_changed, is_changed_by, made_by, further, reruns, changed_count}
+use Rattle.record_bodies.specs.declared.actions.StoreAction.{StoreAction}
+use Rattle.record_bodies.specs.declared.actions.StoreAction.TheVariants.{Renew, Ahead, Drop}
 
 -- ---- whether an action changes what it made of a label
 

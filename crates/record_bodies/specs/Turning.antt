@@ -3,7 +3,7 @@ use Rattle.std.specs.Prelude.{ℕ, Bool, true, false, List, Option, None, Some, 
 use Rattle.key_tokens.specs.Denotes.{Denoted, MasterKeys}
 use Rattle.key_tokens.specs.declared.key_token.Age.TheVariants.{Current, Old}
 use Rattle.record_bodies.specs.Entries.{Entry}
-use Rattle.key_records.specs.Written.{token_bytes}
+use Rattle.record_bodies.specs.Written.{token_bytes}
 
 -- a label that is ahead becomes current, and every other age becomes old
 abbrev pub aged_key : Option Denoted → Bool → Option Denoted
