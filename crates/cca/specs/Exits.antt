@@ -7,9 +7,9 @@ use Rattle.real_devices.specs.declared.fault.Fault.TheVariants as fault
 use Rattle.line_service.specs.declared.stops.Device.TheVariants.{Module, Store}
 use Rattle.cca_tool.specs.declared.auditing.AuditStatus.{AuditStatus}
 use Rattle.cca_tool.specs.declared.auditing.AuditStatus.TheVariants as audit
-use Rattle.cca_tool.specs.declared.unloading.MoveStatus.TheVariants as move
-use Rattle.cca_tool.specs.declared.command.Status.{Status}
-use Rattle.cca_tool.specs.declared.command.Status.TheVariants as status
+use Rattle.store_unload.specs.declared.unloading.MoveStatus.TheVariants as move
+use Rattle.store_unload.specs.declared.status.Status.{Status}
+use Rattle.store_unload.specs.declared.status.Status.TheVariants as status
 
 abbrev pub run_fault_of : Status → Option Fault
 run_fault_of status.Done = None

@@ -22,7 +22,7 @@ use Rattle.line_service.specs.Stops.{AnswersLines}
 use Rattle.line_service.specs.declared.stops.Stop.{Stop}
 use Rattle.cca_machine.specs.Session.{line_step}
 use Rattle.cca_machine.specs.State.{State, IsStoreOf}
-use Rattle.cca_tool.specs.Coprocessor.{cca}
+use Rattle.cca_lines.specs.Coprocessor.{cca}
 use Rattle.cca_laws.specs.Sealed.{IsSealed, states_along}
 use Rattle.cca_laws.proofs.RunLaws.{Ends, front, in_store, next_there, run_sealed, sealed_by, stands_last, where_told}
 use Rattle.cca_laws.proofs.SealedLaws.{first_along}

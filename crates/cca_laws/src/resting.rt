@@ -13,7 +13,7 @@ ghost use Rattle.line_service.specs.Running.{LinesServed};
 ghost use Rattle.line_service.specs.Stops.{AnswersLines};
 ghost use Rattle.line_service.specs.declared.stops.Stop.{Stop};
 ghost use Rattle.cca_machine.specs.State.{State};
-ghost use Rattle.cca_tool.specs.Coprocessor.{cca};
+ghost use Rattle.cca_lines.specs.Coprocessor.{cca};
 ghost use Rattle.cca_laws.specs.Sealed.{IsSealed, states_along};
 
 use line_service::ShownOutside;

@@ -2,8 +2,6 @@
 use Rattle.std.proofs.Common.{◌≡◌, ℕ, List, [], Option, Some, Result, Ok, Err, refl, sym, ap, ◌∙◌, subst, inl, inr, ⊎_elim}
 use Rattle.std.specs.Prelude.{OnOk, IfErr, IfSome, IsSome}
 use Rattle.slot_disk.specs.Medium.{Medium, Told, IsSettled, From, EachImage, EachPair, Keeps}
-use Rattle.slot_disk.specs.SpareBytes.{SameSpare}
-use Rattle.slot_disk.proofs.SpareLemmas.{same_spare, change_spare, spare_untouched}
 use Rattle.slot_disk.proofs.Media.{goes_on, settled_image, each_weaker, each_pair, keeps_still, settled_kept}
 use Rattle.script_buffers.specs.Replies.{spelled, Refused}
 use Rattle.cca_roles.specs.declared.roles.Role.{Role}
@@ -44,13 +42,6 @@ same_but : (cells : Cells) (c : List ℕ) → SameBut cells c c
 same_but NoCell c = refl
 same_but (OneCell cell) c = same_but_cell cell c
 same_but (ChangedCells a labels) c = record { size = refl; same = λ k h. refl }
-
--- where no other cells change, no byte changes outside selectors and bodies
-pub same_but_spare : (cells : Cells) (old new : List ℕ) → SameBut cells old new → SameSpare old new
-same_but_spare NoCell old new same = subst (SameSpare old) (sym same) (same_spare old)
-same_but_spare (OneCell cell) old new same = change_spare cell old new same.outside same.untouched
-same_but_spare (ChangedCells a labels) old new same =
-    record { size = same.size; spare = λ k is. same.same k (λ n below changed. spare_untouched old n k is) }
 
 -- a call that only reads a settled disk which holds P
 pub read_images : (m0 m1 : Medium) (P Q : List ℕ → Type 0) → IsSettled m0 → Holds m0 P → Keeps m0 m1 → ((c : List ℕ) → P c → Q c) → EachImage m0 m1 Q

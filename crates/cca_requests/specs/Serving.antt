@@ -1,8 +1,6 @@
 -- What a request leaves of the disks, in a few records.
-use Rattle.std.specs.Prelude.{◌≡◌, ◌≢◌, ◌⊎◌, ◌≤◌, ◌<◌, ◌*◌, ℕ, List, [], length, slice_index, true, false, Option, Result, Err, OnOk, OnErr, IfErr, IsOk, IsSome, IsTrue, ⊤}
-use Rattle.slot_disk.specs.Cells.{body, IsUntouched}
+use Rattle.std.specs.Prelude.{◌≡◌, ◌⊎◌, ◌≤◌, ◌<◌, ℕ, List, [], length, true, false, Option, Result, Err, OnOk, OnErr, IfErr, IsOk, IsSome, IsTrue, ⊤}
 use Rattle.slot_disk.specs.Medium.{Medium, Told, Keeps, From, Becomes, EachImage, EachPair}
-use Rattle.slot_disk.specs.Ranges.{SameOutside}
 use Rattle.slot_disk.specs.SpareBytes.{Turned}
 use Rattle.script_buffers.specs.Reading.{line_limit}
 use Rattle.script_buffers.specs.Replies.{spelled}
@@ -14,10 +12,8 @@ use Rattle.key_cells.specs.declared.leases.Lease.{Lease}
 use Rattle.record_bodies.specs.StoreStands.{HasStore, HoldsRows}
 use Rattle.record_bodies.specs.Entries.{row_directory}
 use Rattle.record_bodies.specs.declared.rows.Row.{Row}
-use Rattle.master_registers.specs.Masters.{Masters}
-use Rattle.master_registers.specs.RegisterBody.{StandsForMasters, IsDamaged}
+use Rattle.master_registers.specs.RegisterBody.{IsDamaged}
 use Rattle.master_registers.specs.declared.registers.Registers.{Registers}
-use Rattle.reencipher.specs.Runs.{LeavesRest}
 use Rattle.line_service.specs.Answering.{Unwritten}
 use Rattle.line_service.specs.Devices.{Span, Devices, DiskLeft, TellsFault, ModuleLeft, StoreLeft}
 use Rattle.line_service.specs.Machine.{World}
@@ -30,7 +26,9 @@ use Rattle.cca_machine.specs.Operands.{needs_store}
 use Rattle.request_rules.specs.Judging.{IsStoreStop}
 use Rattle.request_rules.specs.Standing.{HasLoaded, Tables, StandsInModule, StandsInStore, Stands}
 use Rattle.request_verbs.specs.Deciding.{HasDrawn}
-use Rattle.cca_machine.specs.Act.{Outcome, Cells, NoCell, OneCell, performed, ChangedCells}
+use Rattle.cca_machine.specs.Act.{Outcome, NoCell, performed}
+pub use Rattle.cca_lines.specs.Sound.{IsSound}
+pub use Rattle.cca_lines.specs.Written.{SameBut, SameButCell}
 use Rattle.cca_machine.specs.Draws.{draws_random}
 use Rattle.cca_machine.specs.Lines.{MayDraw, taken_by}
 use Rattle.cca_machine.specs.Verdict.{early_verdict}
@@ -53,19 +51,6 @@ IsEither Of s o image = IsAround s o (λ t. Of t image)
 -- an image of the module with one of the store: both stand for the same of these states
 abbrev pub ArePair : State → Outcome → List ℕ → List ℕ → Type 0
 ArePair s o c d = IsAround s o (λ t. IsModuleOf t c × IsStoreOf t d)
-
--- new is old outside this cell, and in it but for the selector and the body that wasn't selected; every other cell selects
--- the body that it did
-pub record SameButCell (cell : ℕ) (old new : List ℕ) : Type 0 where
-  pub outside : SameOutside (1536 * cell) 1536 old new
-  pub others : (n : ℕ) → n ≢ cell → body new n ≡ body old n
-  pub untouched : (k : ℕ) → IsUntouched old cell k → slice_index new k ≡ slice_index old k
-
--- new is old but for these cells; where no cell is written, new is old
-abbrev pub SameBut : Cells → List ℕ → List ℕ → Type 0
-SameBut NoCell old new = new ≡ old
-SameBut (OneCell cell) old new = SameButCell cell old new
-SameBut (ChangedCells a labels) old new = LeavesRest a labels 1024 old new
 
 -- a device failed
 abbrev pub IsFault : Stop → Type 0
@@ -167,12 +152,6 @@ pub record Serves (s : State) (request : Request) (result : Result (Unit {0}) St
   pub undrawn : result ≡ Err EntropyFault → Unwritten old new
 
 -- ---- what is certain whatever the disks hold
-
--- a content of the module stands for some registers, and for the roles that the memory has
-pub record IsSound (roles : List (Option Role)) (image : List ℕ) : Type 0 where
-  pub registers : Masters
-  pub in_registers : StandsForMasters image registers
-  pub in_roles : StandsForRoles image roles
 
 -- a request may stop for these
 abbrev pub IsRequestStop : Stop → Type 0

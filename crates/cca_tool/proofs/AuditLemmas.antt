@@ -5,9 +5,9 @@ use Rattle.audit_trail.specs.declared.faults.TrailFault.{TrailFault}
 use Rattle.audit_trail.specs.declared.faults.TrailFault.TheVariants.{DiskFault, Full, Damaged}
 use Rattle.line_service.specs.declared.stops.Stop.{Stop}
 use Rattle.cca_tool.specs.Auditing.{audit_status_of_lem, AuditEnded, AuditCallsNone}
-use Rattle.cca_tool.specs.Statuses.{status_of_lem}
-use Rattle.cca_tool.specs.declared.command.Status.{Status}
-use Rattle.cca_tool.specs.declared.command.Status.TheVariants as status
+use Rattle.store_unload.specs.Statuses.{status_of_lem}
+use Rattle.store_unload.specs.declared.status.Status.{Status}
+use Rattle.store_unload.specs.declared.status.Status.TheVariants as status
 use Rattle.cca_tool.specs.declared.auditing.AuditStatus.{AuditStatus}
 use Rattle.cca_tool.specs.declared.auditing.AuditStatus.TheVariants as audit_status
 use Rattle.cca_tool.proofs.StatusLemmas.{never_told, outcome_of, outcome_is}

@@ -13,12 +13,12 @@ use Rattle.line_service.proofs.StopLemmas.{grows_none}
 use Rattle.line_service.specs.declared.stops.Stop.{Stop}
 use Rattle.line_service.specs.declared.stops.Stop.TheVariants.{WriteFault, ModuleFault, StoreFault}
 use Rattle.cca_machine.specs.State.{IsModuleOf, IsStoreOf}
-use Rattle.cca_tool.specs.Coprocessor.{cca}
+use Rattle.cca_lines.specs.Coprocessor.{cca}
 use Rattle.command_words.specs.Counting.{counted_summary}
 use Rattle.command_words.specs.Demo.{demo_text}
 use Rattle.cca_tool.specs.Running.{DemoRan}
-use Rattle.cca_tool.specs.Statuses.{status_of_lem}
-use Rattle.cca_tool.specs.declared.command.Status.TheVariants as status
+use Rattle.store_unload.specs.Statuses.{status_of_lem}
+use Rattle.store_unload.specs.declared.status.Status.TheVariants as status
 use Rattle.cca_tool.proofs.StatusLemmas.{as_told, ended_as}
 use Rattle.cca_tool.proofs.DemoRunLemmas.{never_rose, never_usage, short, within_limit, moments_of, at_rest_of, lost_of, summary_sent, summary_cut, summary_left, sound_at, damage_at}
 

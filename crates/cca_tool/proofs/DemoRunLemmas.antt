@@ -17,14 +17,14 @@ use Rattle.line_service.specs.declared.stops.Device.TheVariants.{Module, Store}
 use Rattle.line_service.specs.declared.stops.Stop.{Stop}
 use Rattle.line_service.specs.declared.stops.Stop.TheVariants.{ReadFault, WriteFault, EntropyFault, ModuleFault, StoreFault, Damaged, InputLimit}
 use Rattle.cca_machine.specs.State.{State}
-use Rattle.cca_tool.specs.Coprocessor.{cca, IsBrokenModule, IsBrokenStore}
+use Rattle.cca_lines.specs.Coprocessor.{cca, IsBrokenModule, IsBrokenStore}
 use Rattle.command_words.specs.Counting.{counted, counted_summary}
 use Rattle.command_words.specs.Demo.{demo_lines, demo_text, summary, summary_text, are_ok, are_refused}
 use Rattle.cca_tool.specs.DemoRun.{SummarySent, SummaryCut, DemoLost}
 use Rattle.cca_tool.specs.Running.{DemoLeft, DemoRan}
-use Rattle.cca_tool.specs.Statuses.{status_of_lem}
-use Rattle.cca_tool.specs.declared.command.Status.{Status}
-use Rattle.cca_tool.specs.declared.command.Status.TheVariants as status
+use Rattle.store_unload.specs.Statuses.{status_of_lem}
+use Rattle.store_unload.specs.declared.status.Status.{Status}
+use Rattle.store_unload.specs.declared.status.Status.TheVariants as status
 use Rattle.command_words.proofs.CountingLemmas.{ok-is, refused-is, old-is}
 use Rattle.command_words.proofs.DemoLemmas.{lines-demo_text, demo-short}
 use Rattle.cca_tool.proofs.RepliesEnd.{replies-end}

@@ -1,15 +1,10 @@
 mod AuditLemmas
 mod DemoEndLemmas
 mod DemoRunLemmas
-mod DiskLemmas
-mod OpeningLemmas
 mod BetweenLemmas
 mod KnownLemmas
 mod LineLemmas
 mod ListingLemmas
-mod MoveLemmas
 mod RepliesEnd
-mod RestLemmas
 mod StopLemmas
 mod StatusLemmas
-mod ToldLemmas

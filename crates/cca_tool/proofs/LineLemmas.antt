@@ -27,7 +27,8 @@ use Rattle.line_service.specs.declared.stops.Device.TheVariants.{Store}
 use Rattle.line_service.specs.declared.stops.Stop.{Stop}
 use Rattle.line_service.specs.declared.stops.Stop.TheVariants.{ReadFault, WriteFault, EntropyFault, ModuleFault, StoreFault, Damaged, InputLimit}
 use Rattle.line_service.proofs.LineLemmas.{refused_serves, still_has}
-use Rattle.cca_tool.specs.Coprocessor.{cca, IsRefusal, MayFail, remembers}
+use Rattle.cca_lines.specs.Coprocessor.{cca, IsRefusal, MayFail}
+use Rattle.store_unload.specs.Opening.{remembers}
 use Rattle.cca_tool.proofs.BetweenLemmas.{between_is}
 use Rattle.cca_tool.proofs.KnownLemmas.{stands_as}
 

@@ -12,11 +12,11 @@ use Rattle.trail_listing.specs.declared.listing.ListFault.{ListFault}
 use Rattle.trail_listing.specs.declared.listing.ListFault.TheVariants.{WriteFault, Trail}
 use Rattle.cca_tool.specs.Auditing.{AuditCallsNone}
 use Rattle.cca_tool.specs.Showing.{listing_status, IsListingStatus, ListingEnded}
-use Rattle.cca_tool.specs.Statuses.{CallsNone}
+use Rattle.store_unload.specs.Statuses.{CallsNone}
 use Rattle.cca_tool.specs.declared.auditing.AuditStatus.{AuditStatus}
 use Rattle.cca_tool.specs.declared.auditing.AuditStatus.TheVariants as audit_status
-use Rattle.cca_tool.specs.declared.command.Status.{Status}
-use Rattle.cca_tool.specs.declared.command.Status.TheVariants as status
+use Rattle.store_unload.specs.declared.status.Status.{Status}
+use Rattle.store_unload.specs.declared.status.Status.TheVariants as status
 
 -- ---- no device was called
 

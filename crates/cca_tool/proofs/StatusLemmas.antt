@@ -4,9 +4,9 @@ use Rattle.std.specs.Prelude.{◌⊎◌}
 use Rattle.line_service.specs.declared.stops.Stop.{Stop}
 use Rattle.line_service.specs.declared.stops.Stop.TheVariants.{ReadFault, WriteFault, EntropyFault, ModuleFault, StoreFault, Damaged, InputLimit}
 use Rattle.cca_tool.specs.Running.{Ended}
-use Rattle.cca_tool.specs.Statuses.{status_of_lem, CallsNone}
-use Rattle.cca_tool.specs.declared.command.Status.{Status}
-use Rattle.cca_tool.specs.declared.command.Status.TheVariants as status
+use Rattle.store_unload.specs.Statuses.{status_of_lem, CallsNone}
+use Rattle.store_unload.specs.declared.status.Status.{Status}
+use Rattle.store_unload.specs.declared.status.Status.TheVariants as status
 
 -- the outcome of which a status tells
 abbrev pub outcome_of : Status → Result (Unit {0}) Stop

@@ -8,12 +8,12 @@ use Rattle.audited_service.specs.Noting.{Noted, entries_of}
 use Rattle.line_service.specs.Serving.{session}
 use Rattle.line_service.specs.declared.stops.Stop.{Stop}
 use Rattle.cca_machine.specs.State.{State}
-use Rattle.cca_tool.specs.Coprocessor.{cca}
+use Rattle.cca_lines.specs.Coprocessor.{cca}
 use Rattle.cca_tool.specs.Running.{Uncalled}
-use Rattle.cca_tool.specs.Statuses.{status_of_lem}
+use Rattle.store_unload.specs.Statuses.{status_of_lem}
 use Rattle.cca_tool.specs.declared.auditing.AuditStatus.{AuditStatus}
 use Rattle.cca_tool.specs.declared.auditing.AuditStatus.TheVariants as audit_status
-use Rattle.cca_tool.specs.declared.command.Status.TheVariants as status
+use Rattle.store_unload.specs.declared.status.Status.TheVariants as status
 
 -- the trail ended it, or it ended as a run does
 abbrev pub audit_status_of_lem : Result (Result (Unit {0}) Stop) TrailFault → AuditStatus

@@ -1,10 +1,5 @@
-pub mod Coprocessor
 pub mod DemoRun
 pub mod Sessions
-pub mod Statuses
-pub mod Unloading
-pub mod Opening
 pub mod Running
 pub mod Auditing
 pub mod Showing
-pub mod Stops

@@ -11,12 +11,12 @@ use Rattle.line_service.specs.Serving.{IsOnTheWay, AtRest, SparesAlways}
 use Rattle.line_service.specs.declared.stops.Stop.{Stop}
 use Rattle.line_service.specs.declared.stops.Stop.TheVariants.{WriteFault, ModuleFault, StoreFault}
 use Rattle.cca_machine.specs.State.{State, IsModuleOf, IsStoreOf}
-use Rattle.cca_tool.specs.Coprocessor.{cca}
+use Rattle.cca_lines.specs.Coprocessor.{cca}
 use Rattle.command_words.specs.Demo.{demo_text}
 use Rattle.cca_tool.specs.DemoRun.{SummarySent, SummaryCut, DemoLost}
-use Rattle.cca_tool.specs.Statuses.{status_of_lem}
-use Rattle.cca_tool.specs.declared.command.Status.{Status}
-use Rattle.cca_tool.specs.declared.command.Status.TheVariants as status
+use Rattle.store_unload.specs.Statuses.{status_of_lem}
+use Rattle.store_unload.specs.declared.status.Status.{Status}
+use Rattle.store_unload.specs.declared.status.Status.TheVariants as status
 
 -- where the status tells how lines ended, P holds of that
 abbrev pub Ended : Status → (Result (Unit {0}) Stop → Type 0) → Type 0

@@ -1,7 +1,6 @@
 -- What a session holds in memory, and how it takes a line.
 use Rattle.std.specs.Prelude.{⊤, ◌≡◌, ◌⊎◌, ◌↔◌, ◌+◌, ◌<◌, ◌≤◌, ◌++◌, ℕ, List, [], length, Option, Some, None, IsTrue, IfOk, OnErr, replicate, Result, Ok, Err}
 use Rattle.std.specs.Io.KnownBytes.{IsAtEnd}
-use Rattle.slot_disk.specs.Medium.{Medium, Told}
 use Rattle.slot_disk.specs.WhereTold.{WhereTold}
 use Rattle.script_buffers.specs.Lines.{NoNewline}
 use Rattle.script_buffers.specs.Reading.{Reading, blank, given, input_limit, Takes, Shows, Advances, LosesPart}
@@ -11,11 +10,7 @@ use Rattle.line_service.specs.Serving.{IsTheLine}
 use Rattle.line_service.specs.declared.stops.Stop.{Stop}
 use Rattle.line_service.specs.declared.stops.Stop.TheVariants.{ReadFault, WriteFault, EntropyFault, ModuleFault, StoreFault, Damaged, InputLimit}
 use Rattle.cca_roles.specs.Roles.{blank_roles}
-use Rattle.record_bodies.specs.StoreStands.{HoldsRows}
-use Rattle.cca_machine.specs.State.{State, IsModuleOf, IsStoreOf}
 use Rattle.request_rules.specs.Standing.{Tables, tables}
-use Rattle.cca_requests.specs.Serving.{IsSound}
-use Rattle.cca_tool.specs.Coprocessor.{remembers}
 
 pub record Memory : Type 0 where
   -- of the lines
@@ -35,14 +30,6 @@ blank_memory = record {
   reply = [];
   waiting = None;
 }
-
--- Each disk, where it tells its bytes, stands for what the memory has of it. Both, where they tell theirs, stand for one
--- state, with which the memory agrees.
-pub record AreKnown (t : Tables) (m d : Medium) : Type 0 where
-  pub in_module : Told m (IsSound t.roles)
-  pub in_store : Told d (HoldsRows t.rows)
-  pub in_both : Told m
-      (λ c. Told d (λ e. (s : State) × IsModuleOf s c × IsStoreOf s e × remembers t s))
 
 -- ---- one line taken
 

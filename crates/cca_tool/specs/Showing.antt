@@ -5,7 +5,7 @@ use Rattle.trail_listing.specs.declared.listing.ListFault.{ListFault}
 use Rattle.trail_listing.specs.declared.listing.ListFault.TheVariants.{WriteFault, Trail}
 use Rattle.cca_tool.specs.declared.auditing.AuditStatus.{AuditStatus}
 use Rattle.cca_tool.specs.declared.auditing.AuditStatus.TheVariants as audit_status
-use Rattle.cca_tool.specs.declared.command.Status.TheVariants as status
+use Rattle.store_unload.specs.declared.status.Status.TheVariants as status
 
 abbrev pub listing_status : Result (Unit {0}) ListFault → AuditStatus
 listing_status (Ok done) = audit_status.Run status.Done

@@ -13,9 +13,8 @@ ghost use Rattle.line_service.specs.Running.{Untouched};
 ghost use Rattle.line_service.specs.Serving.{Runs};
 ghost use Rattle.cca_machine.specs.State.{State, module_size, store_size};
 ghost use Rattle.cca_tool.specs.Auditing.{audit_status_of_lem, AuditEnded, AuditCallsNone, AllUncalled, HaveNoted};
-ghost use Rattle.cca_tool.specs.Coprocessor.{cca};
+ghost use Rattle.cca_lines.specs.Coprocessor.{cca};
 
-use crate::command::{Status, status_of};
 use crate::session::Session;
 use audit_entries::LineScribe;
 use audit_trail::{TRAIL_LEN, Trail, TrailFault};
@@ -25,6 +24,7 @@ use key_cells::Workbench;
 use line_service::{Shown, ShownOutside, Stop};
 use slot_disk::{Disk, Entropy, Sink, Source};
 use std::alloc::Global;
+use store_unload::{Status, status_of};
 
 /// How an audited run ended, or a listing of its trail.
 #[derive(Clone, Copy, Debug, PartialEq, Eq)]

@@ -5,43 +5,19 @@ ghost use Rattle.line_service.specs.Answering.{IsSound};
 ghost use Rattle.line_service.specs.Devices.{HaveSizes};
 ghost use Rattle.line_service.specs.Running.{SessionLeft, Untouched};
 ghost use Rattle.cca_machine.specs.State.{module_size, store_size};
-ghost use Rattle.cca_tool.specs.Coprocessor.{cca};
+ghost use Rattle.cca_lines.specs.Coprocessor.{cca};
 ghost use Rattle.command_words.specs.Demo.{IsDemo, IsCommandLine};
 ghost use Rattle.cca_tool.specs.Running.{Ended, Uncalled, DemoServed};
-ghost use Rattle.cca_tool.specs.Statuses.{status_of_lem, CallsNone};
+ghost use Rattle.store_unload.specs.Statuses.{CallsNone};
 
 use crate::demo::serve_demo;
 use crate::session::Session;
 use command_words::{Command, Words};
 use key_cells::Workbench;
-use line_service::{Device, Shown, ShownOutside, Stop};
+use line_service::{Shown, ShownOutside};
 use slot_disk::{Disk, Entropy, Sink, Source};
 use std::alloc::Global;
-
-/// How a run ended.
-#[derive(Clone, Copy, Debug, PartialEq, Eq)]
-pub enum Status {
-    /// The input was read to its end, and every line was answered.
-    Done,
-    /// The words aren't those of a command.
-    Usage,
-    /// The input could not be read.
-    ReadFault,
-    /// The output could not be written.
-    WriteFault,
-    /// The random source failed.
-    EntropyFault,
-    /// The module failed.
-    ModuleFault,
-    /// The store failed.
-    StoreFault,
-    /// A cell of a disk reads as nothing that the disk may hold.
-    Damaged(Device, u16),
-    /// More bytes came than a run takes.
-    InputLimit,
-    /// There was no memory.
-    NoMemory,
-}
+use store_unload::{Status, status_of};
 
 /// Serves the requests of the source, one on a line, and sends a reply line for each to the sink. The master
 /// key registers and the roles stand on the module, the key records in the store.
@@ -127,20 +103,5 @@ fn serve_source<S: Source, K: Sink, M: Disk, D: Disk, E: Entropy>(
     match Session::new(alloc) {
         Ok(mut session) => status_of(session.serve(bench, source, sink, module, store, entropy)),
         Err(_) => Status::NoMemory,
-    }
-}
-
-pub(crate) fn status_of(outcome: Result<(), Stop>) -> Status
-    ensures { result ≡ status_of_lem outcome }
-{
-    match outcome {
-        Ok(()) => Status::Done,
-        Err(Stop::ReadFault) => Status::ReadFault,
-        Err(Stop::WriteFault) => Status::WriteFault,
-        Err(Stop::EntropyFault) => Status::EntropyFault,
-        Err(Stop::ModuleFault) => Status::ModuleFault,
-        Err(Stop::StoreFault) => Status::StoreFault,
-        Err(Stop::Damaged(device, cell)) => Status::Damaged(device, cell),
-        Err(Stop::InputLimit) => Status::InputLimit,
     }
 }

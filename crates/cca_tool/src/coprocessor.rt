@@ -1,33 +1,17 @@
 //! What answers the lines of the coprocessor.
-ghost use Rattle.std.specs.Prelude.{◌≡◌, ◌≤◌, ℕ, codes, Err, IsOk, OnOk, IfOk, IfErr};
-ghost use Rattle.key_cells.specs.Lease.{bench_of, loan_of};
-ghost use Rattle.slot_disk.specs.Faults.{Rose};
-ghost use Rattle.slot_disk.specs.Medium.{Told, Keeps};
-ghost use Rattle.master_registers.specs.Loaded.{IsLoaded, StandsForLoaded, masters_in};
+ghost use Rattle.std.specs.Prelude.{◌≡◌, ◌≤◌, codes};
 ghost use Rattle.script_buffers.specs.Replies.{Refused, spelled};
-ghost use Rattle.verb_rules.specs.Keys.{keys_of};
-ghost use Rattle.cca_roles.specs.RolesStand.{StandsForRoles};
-ghost use Rattle.record_bodies.specs.StoreStands.{KeepsLabels, HoldsRows, IsFirstDamaged, labels_in};
-ghost use Rattle.key_records.specs.Changes.{ChangesKeyAndBody};
-ghost use Rattle.line_service.specs.Answering.{OnDisks};
-ghost use Rattle.line_service.specs.Devices.{DamageTold, DiskLeft, HaveSizes, OpeningLeft};
-ghost use Rattle.line_service.specs.Stops.{IsOpeningStop};
-ghost use Rattle.cca_machine.specs.State.{State, module_size, store_size};
-ghost use Rattle.request_rules.specs.Judging.{IsStoreStop};
 ghost use Rattle.request_rules.specs.Standing.{tables};
-ghost use Rattle.cca_tool.specs.Coprocessor.{cca, remembers, IsBrokenModule, IsModuleStop};
-ghost use Rattle.cca_tool.specs.Opening.{IsOpened};
-ghost use Rattle.cca_tool.specs.Sessions.{AreKnown};
-ghost use Rattle.cca_tool.specs.Stops.{load_stop, role_stop};
+ghost use Rattle.cca_lines.specs.Coprocessor.{cca};
+ghost use Rattle.store_unload.specs.Opening.{AreKnown, remembers};
 
 use cca_requests::perform;
-use cca_roles::{RoleFault, Roles, open_roles};
+use cca_roles::Roles;
 use key_cells::{Lease, Workbench};
-use key_records::{Records, open_records};
-use line_service::{Desk, Device, Shown, Stop};
-use master_registers::{LoadFault, Registers, load};
-use request_rules::stop_of;
-use slot_disk::{Disk, Entropy, settle};
+use key_records::Records;
+use line_service::{Desk, Stop};
+use slot_disk::{Disk, Entropy};
+use store_unload::open_disks;
 use verb_script::{ReplyBuffer, parse_request};
 
 /// The coprocessor. It remembers the roles of the module and the labels of the store.
@@ -52,7 +36,13 @@ impl Desk for Coprocessor {
         store: &mut D,
     ) -> Result<(), Stop> {
         let mut lease = Lease::open(bench);
-        match self.open_disks(&mut lease, module, store) {
+        match open_disks(
+            &mut self.roles,
+            &mut self.records,
+            &mut lease,
+            module,
+            store,
+        ) {
             Ok(_) => Ok(()),
             Err(stop) => Err(stop),
         }
@@ -87,137 +77,6 @@ impl Desk for Coprocessor {
                 Ok(())
             }
         }
-    }
-}
-
-impl Coprocessor {
-    /// Opens the disks, and loads the registers into the bench. The module is judged before the store is called, and
-    /// nothing is written.
-    pub(crate) fn open_disks<M: Disk, D: Disk>(
-        &mut self,
-        lease: &mut Lease,
-        module: &mut M,
-        store: &mut D,
-    ) -> Result<Registers, Stop>
-        requires { HaveSizes module_size store_size
-            (⟦<(M, D) as Shown>⟧.shown («module».old, store.old)) }
-
-        ensures known { OnOk result (AreKnown (tables self.new.roles self.new.records)
-            (M.medium «module».new) (D.medium store.new)) }
-        ensures opened { (s : State) → OnDisks cca s (M.medium «module».old) (D.medium store.old)
-            → IfOk result (λ held. IsOpened s held (bench_of lease.new)
-            (tables self.new.roles self.new.records) (D.medium store.new)) }
-        ensures loaded { IfOk result (λ held. IsLoaded held (bench_of lease.new)) }
-        ensures registers { IfOk result (λ held.
-            Told (M.medium «module».old) (StandsForLoaded held (bench_of lease.new))) }
-        ensures damage { DamageTold cca result (⟦<(M, D) as Shown>⟧.between
-            («module».old, store.old) («module».new, store.new)) }
-        ensures left { OpeningLeft result (⟦<(M, D) as Shown>⟧.between
-            («module».old, store.old) («module».new, store.new)) }
-        ensures stops { IfErr result IsOpeningStop }
-        ensures loan { loan_of lease.new ≡ loan_of lease.old }
-    {
-        match open_module(module, lease, &mut self.roles) {
-            Ok(held) => match open_store(store, lease, &held, &mut self.records) {
-                Ok(()) => Ok(held),
-                Err(stop) => Err(stop),
-            },
-            Err(stop) => Err(stop),
-        }
-    }
-}
-
-/// Makes every image of the module its content, loads its registers into the bench, and reads its roles.
-fn open_module<M: Disk>(
-    module: &mut M,
-    lease: &mut Lease,
-    roles: &mut Roles,
-) -> Result<Registers, Stop>
-    requires { (M.medium «module».old).size ≡ module_size }
-
-    ensures loaded { IfOk result (λ held. IsLoaded held (bench_of lease.new)) }
-    ensures registers { IfOk result (λ held.
-        Told (M.medium «module».new) (StandsForLoaded held (bench_of lease.new))) }
-    ensures roles { OnOk result
-        (Told (M.medium «module».new) (λ image. StandsForRoles image roles.new)) }
-    ensures damaged { (cell : ℕ) → result ≡ Err (Stop.Damaged Device.Module cell)
-        → Told (M.medium «module».old) (IsBrokenModule cell) }
-    ensures judged { (Rose (M.faults «module».old) (M.faults «module».new) → ⊥)
-        → Told (M.medium «module».old) (λ image. (cell : ℕ) → IsBrokenModule cell image
-        → result ≡ Err (Stop.Damaged Device.Module cell)) }
-    ensures kept { Keeps (M.medium «module».old) (M.medium «module».new) }
-    ensures left { DiskLeft (M.medium «module».old) (M.medium «module».new)
-        (M.faults «module».old) (M.faults «module».new)
-        (IsOk result) (result ≡ Err Stop.ModuleFault) }
-    ensures stops { IfErr result IsModuleStop }
-    ensures loan { loan_of lease.new ≡ loan_of lease.old }
-{
-    match settle(module) {
-        Ok(()) => match load(module, lease) {
-            Ok(held) => match open_roles(module, lease, roles) {
-                Ok(()) => Ok(held),
-                Err(fault) => Err(stop_of_roles(fault)),
-            },
-            Err(fault) => Err(stop_of_load(fault)),
-        },
-        Err(_) => Err(Stop::ModuleFault),
-    }
-}
-
-/// Why the registers weren't loaded.
-fn stop_of_load(fault: LoadFault) -> Stop
-    ensures { result ≡ load_stop fault }
-{
-    match fault {
-        LoadFault::DiskFault => Stop::ModuleFault,
-        LoadFault::Damaged => Stop::Damaged(Device::Module, 0),
-    }
-}
-
-/// Why the roles weren't read.
-fn stop_of_roles(fault: RoleFault) -> Stop
-    ensures { result ≡ role_stop fault }
-{
-    match fault {
-        RoleFault::Damaged(cell) => Stop::Damaged(Device::Module, cell),
-        RoleFault::DiskFault | RoleFault::TableFull | RoleFault::Unknown => Stop::ModuleFault,
-    }
-}
-
-/// Makes every image of the store its content, and reads its labels under the registers that were loaded.
-fn open_store<D: Disk>(
-    store: &mut D,
-    lease: &mut Lease,
-    held: &Registers,
-    records: &mut Records,
-) -> Result<(), Stop>
-    requires size { (D.medium store.old).size ≡ store_size }
-    requires loaded { IsLoaded held.now (bench_of lease.old) }
-
-    ensures keeps { OnOk result (Told (D.medium store.new) (λ image.
-        KeepsLabels (keys_of (masters_in held.now (bench_of lease.old))) records.new
-        (labels_in (keys_of (masters_in held.now (bench_of lease.old))) image) image)) }
-    ensures holds { OnOk result (Told (D.medium store.new) (HoldsRows records.new)) }
-    ensures damaged { (cell : ℕ) → result ≡ Err (Stop.Damaged Device.Store cell)
-        → Told (D.medium store.old)
-        (λ image. IsFirstDamaged (keys_of (masters_in held.now (bench_of lease.old))) image cell) }
-    ensures judged { (Rose (D.faults store.old) (D.faults store.new) → ⊥)
-        → Told (D.medium store.old) (λ image. (cell : ℕ)
-        → IsFirstDamaged (keys_of (masters_in held.now (bench_of lease.old))) image cell
-        → result ≡ Err (Stop.Damaged Device.Store cell)) }
-    ensures kept { Keeps (D.medium store.old) (D.medium store.new) }
-    ensures left { DiskLeft (D.medium store.old) (D.medium store.new)
-        (D.faults store.old) (D.faults store.new)
-        (IsOk result) (result ≡ Err Stop.StoreFault) }
-    ensures stops { IfErr result IsStoreStop }
-    ensures rest { ChangesKeyAndBody lease.old lease.new }
-{
-    match settle(store) {
-        Ok(()) => match open_records(store, lease, held, records) {
-            Ok(()) => Ok(()),
-            Err(fault) => Err(stop_of(fault)),
-        },
-        Err(_) => Err(Stop::StoreFault),
     }
 }
 

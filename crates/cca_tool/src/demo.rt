@@ -5,13 +5,12 @@ ghost use Rattle.script_buffers.specs.Replies.{number_field, reply_limit};
 ghost use Rattle.line_service.specs.Answering.{IsSound};
 ghost use Rattle.line_service.specs.Devices.{HaveSizes};
 ghost use Rattle.cca_machine.specs.State.{module_size, store_size};
-ghost use Rattle.cca_tool.specs.Coprocessor.{cca};
+ghost use Rattle.cca_lines.specs.Coprocessor.{cca};
 ghost use Rattle.command_words.specs.Demo.{demo_lines, demo_text};
 ghost use Rattle.command_words.specs.Counting.{counted_summary};
 ghost use Rattle.cca_tool.specs.Running.{DemoRan, DemoUntouched, DisksUncalled};
-ghost use Rattle.cca_tool.specs.Statuses.{status_of_lem};
+ghost use Rattle.store_unload.specs.Statuses.{status_of_lem};
 
-use crate::command::{Status, status_of};
 use crate::session::Session;
 use command_words::{DemoText, Tally, Unused};
 use itoa::Buffer;
@@ -19,6 +18,7 @@ use key_cells::Workbench;
 use line_service::{Shown, ShownOutside, Stop, send};
 use slot_disk::{Disk, NoMemory, Sink};
 use std::alloc::Global;
+use store_unload::{Status, status_of};
 use verb_script::ReplyBuffer;
 
 // What a demo takes memory for: its lines, and what serves and counts them.

@@ -9,8 +9,9 @@ ghost use Rattle.line_service.specs.Machine.{world};
 ghost use Rattle.line_service.specs.Running.{LineLeaves, LineTaken, SessionLeft, Unmoved, Untouched};
 ghost use Rattle.line_service.specs.Stops.{IsDeskStop, IsOpeningStop};
 ghost use Rattle.cca_machine.specs.State.{State, module_size, store_size};
-ghost use Rattle.cca_tool.specs.Sessions.{blank_memory, AreKnown, InputRead, IsReadingStop, IsWaitingLine, waiting_after};
-ghost use Rattle.cca_tool.specs.Coprocessor.{cca, remembers, IsStop};
+ghost use Rattle.cca_tool.specs.Sessions.{blank_memory, InputRead, IsReadingStop, IsWaitingLine, waiting_after};
+ghost use Rattle.cca_lines.specs.Coprocessor.{cca, IsStop};
+ghost use Rattle.store_unload.specs.Opening.{AreKnown, remembers};
 
 use crate::coprocessor::Coprocessor;
 use cca_roles::Roles;

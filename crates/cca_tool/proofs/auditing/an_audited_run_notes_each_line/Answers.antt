@@ -7,7 +7,7 @@ use Rattle.audited_service.proofs.NotingLemmas.{notes_lines}
 use Rattle.line_service.specs.Machine.{Outcome}
 use Rattle.cca_machine.specs.State.{State}
 use Rattle.cca_tool.specs.Auditing.{HaveNoted}
-use Rattle.cca_tool.specs.Coprocessor.{cca}
+use Rattle.cca_lines.specs.Coprocessor.{cca}
 use Rattle.cca_tool.proofs.auditing.an_audited_run_notes_each_line.Goals as goal
 
 pub returns-clause-session : goal.returns-clause-session

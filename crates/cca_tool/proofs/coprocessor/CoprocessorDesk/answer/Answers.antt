@@ -2,9 +2,10 @@
 use Rattle.std.proofs.Common.{sym, rules}
 use Rattle.verb_script.specs.Parsed.{seen}
 use Rattle.request_rules.specs.Standing.{tables}
-use Rattle.cca_tool.specs.Coprocessor.{remembers}
+use Rattle.store_unload.specs.Opening.{remembers}
 use Rattle.cca_tool.proofs.LineLemmas.{request_serves, unspelled_serves, leads_on, not_damaged}
-use Rattle.cca_tool.proofs.KnownLemmas.{roles_told, module_undamaged, never_told, known_after, stands_for}
+use Rattle.store_unload.proofs.KnownLemmas.{roles_told}
+use Rattle.cca_tool.proofs.KnownLemmas.{module_undamaged, never_told, known_after, stands_for}
 use Rattle.cca_tool.proofs.StopLemmas.{cell_zero, reread_cell}
 use Rattle.cca_tool.proofs.coprocessor.CoprocessorDesk.answer.Goals as goal
 

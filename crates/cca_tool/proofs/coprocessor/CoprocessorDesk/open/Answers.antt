@@ -1,19 +1,19 @@
 -- What opening the disks comes to, told as its stops alone.
 use Rattle.std.proofs.Common.{rules}
 use Rattle.request_rules.specs.Standing.{tables}
-use Rattle.cca_tool.proofs.KnownLemmas.{known_remembers, known_sound}
-use Rattle.cca_tool.proofs.OpeningLemmas.{damage_as, left_as}
+use Rattle.store_unload.proofs.KnownLemmas.{known_remembers, known_sound}
+use Rattle.store_unload.proofs.OpeningLemmas.{damage_as, left_as}
 use Rattle.cca_tool.proofs.coprocessor.CoprocessorDesk.open.Goals as goal
 
 pub returns-in-Ok-clause-sound : goal.returns-in-Ok-clause-sound
 returns-in-Ok-clause-sound g c =
-    known_sound (tables c.open_disks.new.self.roles c.open_disks.new.self.records)
+    known_sound (tables c.open_disks.new.roles c.open_disks.new.records)
     (g.M.Disk.medium c.args.module.now) (g.M.Disk.medium c.open_disks.new.module) (g.D.Disk.medium c.args.store.now) (g.D.Disk.medium c.open_disks.new.store)
     c.open_disks.ensures.left.module_kept.content c.open_disks.ensures.left.store_kept.content c.in-Ok.ensures.known
 
 pub returns-in-Ok-clause-knows : goal.returns-in-Ok-clause-knows
 returns-in-Ok-clause-knows g c =
-    known_remembers (tables c.open_disks.new.self.roles c.open_disks.new.self.records)
+    known_remembers (tables c.open_disks.new.roles c.open_disks.new.records)
     (g.M.Disk.medium c.args.module.now) (g.M.Disk.medium c.open_disks.new.module) (g.D.Disk.medium c.args.store.now) (g.D.Disk.medium c.open_disks.new.store)
     c.open_disks.ensures.left.module_kept.content c.open_disks.ensures.left.store_kept.content c.in-Ok.ensures.known
 

@@ -4,8 +4,9 @@ use Rattle.script_buffers.specs.Reading.{Reading}
 use Rattle.request_rules.specs.Standing.{Tables, tables}
 use Rattle.line_service.specs.Machine.{world}
 use Rattle.line_service.specs.Serving.{LineServed}
-use Rattle.cca_tool.specs.Coprocessor.{cca, remembers}
-use Rattle.cca_tool.specs.Sessions.{Memory, AreKnown}
+use Rattle.cca_lines.specs.Coprocessor.{cca}
+use Rattle.store_unload.specs.Opening.{AreKnown, remembers}
+use Rattle.cca_tool.specs.Sessions.{Memory}
 use Rattle.cca_tool.proofs.KnownLemmas.{stands_known}
 use Rattle.cca_tool.proofs.session.Session.serve_one.Goals as goal
 

@@ -1,0 +1,3 @@
+pub mod Coprocessor
+pub mod Sound
+pub mod Written

@@ -1,0 +1,6 @@
+mod DiskLemmas
+pub mod KnownLemmas
+mod MoveLemmas
+pub mod OpeningLemmas
+mod RestLemmas
+mod ToldLemmas

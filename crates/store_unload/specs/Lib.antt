@@ -1,0 +1,4 @@
+pub mod Opening
+pub mod Statuses
+pub mod Stops
+pub mod Unloading
