@@ -9,4 +9,6 @@ pub mod FullLemmas
 pub mod OpeningLemmas
 pub mod EndingLemmas
 pub mod CourseLemmas
+pub mod ProgressLemmas
 mod SentLemmas
+mod KeptLemmas

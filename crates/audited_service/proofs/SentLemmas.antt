@@ -1,18 +1,23 @@
 -- What a line leaves whose entry was appended before its reply was sent, and what a line leaves that wasn't answered.
 use Rattle.std.proofs.Common.{◌≡◌, ◌≤◌, ◌++◌, ℕ, List, Option, Result, Ok, Err, refl, ap, sym, subst, inl, inr, ⊎_elim}
-use Rattle.std.specs.Prelude.{◌⊎◌, OnErr}
+use Rattle.std.specs.Prelude.{◌⊎◌, OnErr, IsOk}
+use Rattle.slot_disk.specs.Faults.{Rose}
 use Rattle.slot_disk.specs.Medium.{Medium, IsSettled, Told}
 use Rattle.slot_disk.specs.WhereTold.{WhereTold}
+use Rattle.slot_disk.proofs.WhereToldLemmas.{told_weaker}
 use Rattle.script_buffers.specs.Reading.{Reading, Takes}
 use Rattle.script_buffers.specs.declared.lines.Taken.{Taken}
 use Rattle.script_buffers.specs.declared.lines.Taken.TheVariants.{End}
+use Rattle.audit_trail.specs.Changes.{AppendsEntry, TrailLeft}
+use Rattle.audit_trail.proofs.MediumLaws.{same_fault}
 use Rattle.audit_trail.specs.TrailStands.{IsTrail}
 use Rattle.audit_trail.specs.declared.entries.Entry.{Entry}
 use Rattle.audit_trail.specs.declared.faults.TrailFault.{TrailFault}
 use Rattle.audit_trail.specs.declared.faults.TrailFault.TheVariants as trail_fault
 use Rattle.line_service.specs.Answering.{Serves}
-use Rattle.line_service.specs.Devices.{Span, Devices, DevicesLeft, TellsFault, Undamaged, devices}
+use Rattle.line_service.specs.Devices.{Span, Devices, DevicesLeft, TellsFault, Undamaged}
 use Rattle.line_service.specs.Machine.{Machine, World}
+use Rattle.line_service.specs.Sending.{GotPart}
 use Rattle.line_service.specs.Serving.{IsTheLine}
 use Rattle.line_service.specs.Stops.{IsDeskStop, IsUnanswered}
 use Rattle.line_service.specs.declared.serving.Served.{Served}
@@ -20,9 +25,10 @@ use Rattle.line_service.specs.declared.serving.Served.TheVariants.{Replied}
 use Rattle.line_service.specs.declared.stops.Stop.{Stop}
 use Rattle.line_service.specs.declared.stops.Stop.TheVariants.{ReadFault, WriteFault, InputLimit, Damaged}
 use Rattle.line_service.specs.declared.stops.Device.{Device}
-use Rattle.line_service.proofs.StopLemmas.{disk_still, count_still}
-use Rattle.audited_service.specs.EachLine.{Agrees, AppendFails, EntrySent, IsAppendFault, IsSent, LineRecorded, line_part}
+use Rattle.line_service.proofs.StopLemmas.{disk_still, count_still, grows_none}
+use Rattle.audited_service.specs.EachLine.{Agrees, AppendFails, EntrySent, IsAppendFault, IsSent, LineRecorded, TrailAppended, line_part}
 use Rattle.audited_service.specs.Noting.{Noted}
+use Rattle.audited_service.proofs.TrailLemmas.{trail_appended}
 use Rattle.audited_service.proofs.RecordLemmas.{line_sent, line_cut_off, line_unsent, recorded_by}
 
 -- ---- the answers
@@ -96,14 +102,6 @@ sent_unmoved (Err fault) sent sink0 sink1 unsent unreplied uncut = unsent
 pub handed_on : {T U : Type 0} (stop other : Stop) → ◌≡◌ {A = Result T Stop} (Err stop) (Err other) → ◌≡◌ {A = Result U Stop} (Err stop) (Err other)
 handed_on stop other h = let same : stop ≡ other = cc h in ap Err same
 
-pub undamaged_as : {T U : Type 0} (A : Machine) (stop : Stop) (m d : Medium) (i j k l : ℕ) (e f : Option (List ℕ)) → Undamaged {T = T} A (Err stop) (devices m i d j e k) → Undamaged {T = U} A (Err stop) (devices m i d j f l)
-undamaged_as {T} {U} A stop m d i j k l e f undamaged = record {
-  module_sound = λ cell h. undamaged.module_sound cell (handed_on {T = U} {U = T} stop _ h);
-  store_sound = λ cell h. undamaged.store_sound cell (handed_on {T = U} {U = T} stop _ h);
-  cells = λ device cell h. undamaged.cells device cell (handed_on {T = U} {U = T} stop _ h);
-  reread = λ device cell h. undamaged.reread device cell (handed_on {T = U} {U = T} stop _ h);
-}
-
 pub not_cut_by : (stop : Stop) → IsDeskStop stop → ◌≡◌ {A = Result (Result Served Stop) TrailFault} (Ok (Err stop)) (Ok (Err WriteFault)) → ⊥
 not_cut_by stop kind h = let same : stop ≡ WriteFault = cc h in subst IsDeskStop same kind
 
@@ -165,3 +163,48 @@ module _ (A : Machine) (entry : List ℕ → List ℕ → Entry) (s : Noted A.St
       of_append trail_fault.DiskFault is = inl refl
       of_append trail_fault.Full is = inr refl
       of_append (trail_fault.Damaged cell) is = absurd is
+
+-- ---- an append, and then the reply
+
+module _ (n : ℕ) (e : Entry) (reply : List ℕ) (t0 t1 : Medium) (before now : ℕ) (settled : IsSettled t0) (p : Option (List ℕ)) (writes : ℕ) where
+  module _ (q : Option (List ℕ)) (writes1 : ℕ) (appended : AppendsEntry n e t0 t1 (Ok tt)) (left : TrailLeft t0 t1 before now (IsOk {T = Unit {0}} {E = TrailFault} (Ok tt)) (◌≡◌ {A = Result (Unit {0}) TrailFault} (Ok tt) (Err trail_fault.DiskFault)))
+      (later : writes ≤ writes1) where
+    left_by : {r : Result Served Stop} → TrailAppended t0 t1 before now (◌≡◌ {A = Result (Result Served Stop) TrailFault} (Ok r) (Err trail_fault.DiskFault))
+    left_by = trail_appended n e t0 t1 before now _ settled (Ok tt) appended left tt (λ h. absurd (cc h)) (λ h. absurd (cc h)) (λ h. absurd (cc h))
+
+    pub entry_sent : WhereTold p q (λ x y. y ≡ x ++ reply) → writes1 ≡ writes → EntrySent n e reply (Ok (Ok Replied)) t0 t1 before now p q writes writes1
+    entry_sent all quiet = record {
+      answers = inl refl;
+      appended = appended;
+      trail = left_by;
+      all = λ h. all;
+      part = λ h. absurd (cc h);
+      grows = told_weaker p q _ _ (λ x y is. (reply, is)) all;
+      count = record { later = later; fault = λ h. absurd (cc h); quiet = λ none. quiet };
+    }
+
+    pub entry_cut : WhereTold p q (λ x y. GotPart x y reply) → Rose writes writes1 → EntrySent n e reply (Ok (Err WriteFault)) t0 t1 before now p q writes writes1
+    entry_cut part failed = record {
+      answers = inr refl;
+      appended = appended;
+      trail = left_by;
+      all = λ h. absurd (cc h);
+      part = λ h. part;
+      grows = told_weaker p q _ _ (λ x y got. (got.sent, got.held)) part;
+      count = record { later = later; fault = λ h. failed; quiet = λ none. absurd (none refl) };
+    }
+
+  pub entry_unsent : (fault : TrailFault) → AppendsEntry n e t0 t1 (Err fault)
+      → TrailLeft t0 t1 before now (IsOk {T = Unit {0}} (Err fault)) (◌≡◌ {A = Result (Unit {0}) TrailFault} (Err fault) (Err trail_fault.DiskFault))
+      → (fault ≡ trail_fault.DiskFault) ⊎ (fault ≡ trail_fault.Full) → (◌≡◌ {A = Result (Unit {0}) TrailFault} (Err fault) (Err trail_fault.Full) → t1 ≡ t0)
+      → EntrySent n e reply (Err fault) t0 t1 before now p p writes writes
+  entry_unsent fault appended left faults untouched = record {
+    answers = tt;
+    appended = appended;
+    trail = trail_appended n e t0 t1 before now _ settled (Err fault) appended left faults untouched
+        (λ h. ap Err (same_fault fault trail_fault.DiskFault h)) (λ h. ap Err (same_fault fault trail_fault.DiskFault h));
+    all = λ h. absurd (cc h);
+    part = λ h. absurd (cc h);
+    grows = grows_none p;
+    count = count_still writes _ (λ h. cc h);
+  }
