@@ -1,7 +1,7 @@
 -- What lines leave that were recorded and answered, and what the run leaves after one more line, over plain values: a
 -- function's answers are applications of these.
 use Rattle.std.proofs.Common.{◌≡◌, ◌^◌, ℕ, List, Option, Result, Ok, Err, refl, ap, sym, subst, ◌∙◌, inl}
-use Rattle.std.specs.Prelude.{OnErr, IfErr, IsOk, IsSome}
+use Rattle.std.specs.Prelude.{OnErr, IfErr, IsOk}
 use Rattle.slot_disk.specs.Medium.{Medium, IsSettled, Told}
 use Rattle.slot_disk.specs.WhereTold.{WhereTold}
 use Rattle.script_buffers.specs.Reading.{Reading, blank}
@@ -11,7 +11,7 @@ use Rattle.audit_trail.specs.declared.faults.TrailFault.{TrailFault}
 use Rattle.audit_trail.specs.declared.faults.TrailFault.TheVariants as trail_fault
 use Rattle.line_service.specs.Machine.{Machine, World, world}
 use Rattle.line_service.specs.Answering.{Stands}
-use Rattle.line_service.specs.Devices.{Span, BothSettled, Outside, Undamaged}
+use Rattle.line_service.specs.Devices.{Span, Outside}
 use Rattle.line_service.specs.Running.{Unmoved}
 use Rattle.line_service.specs.Stops.{IsUnanswered}
 use Rattle.line_service.specs.declared.serving.Served.{Served}
