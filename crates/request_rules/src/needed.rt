@@ -1,9 +1,11 @@
 //! What a request needs before its verb decides, as a table: access control points, the master key, and what is asked of its
 //! operands.
-ghost use Rattle.std.specs.Prelude.{◌≡◌, true, false};
+ghost use Rattle.std.specs.Prelude.{◌≡◌, ◌∷◌, [], Some, true, false, codes};
+ghost use Rattle.std.specs.Int.RustNames.{bit_or};
 ghost use Rattle.verb_script.specs.Parsed.{seen};
 ghost use Rattle.cca_machine.specs.Actions.{part_action};
 ghost use Rattle.cca_machine.specs.Choices.{target_named};
+ghost use Rattle.cca_machine.specs.Operands.{internal_key, no_operands, one_operand};
 ghost use Rattle.cca_machine.specs.Points.{action_points, target_points, change_points};
 ghost use Rattle.granted_operands.specs.FieldWords.{IsPartAction};
 ghost use Rattle.granted_operands.specs.Granted.{IsAccepted};
@@ -11,15 +13,16 @@ ghost use Rattle.request_rules.specs.Judging.{seen_operands};
 ghost use Rattle.request_rules.specs.Needing.{IsNeeded, Needs};
 
 use crate::operands::{
-    FIVE_CLASSES, Operands, cipher_key, code_key, csnbkex, csnbkgn_out, csnbkgn_pair, csnbkim,
-    csnbkpi_middle, csnbkrw, csnbktr, csnbpex, key_operand, no_operands, one_operand,
+    FIVE_CLASSES, Operands, csnbkex, csnbkgn_out, csnbkgn_pair, csnbkim, csnbkpi_middle, csnbkrw,
+    csnbktc, csnbktr, csnbpex, key_operand, no_operands, one_operand,
 };
 use cca_machine::Ask;
 use cca_roles::AccessPoints;
+use cca_vectors::Class;
 use granted_operands::{part_action_of, target_of};
 use key_transport::Target;
 use master_registers::Action;
-use verb_rules::{Usage, any_key};
+use verb_rules::Usage;
 use verb_script::{Request, named_label};
 
 /// What a request needs.
@@ -96,12 +99,64 @@ fn change_points(rule: &[u8]) -> AccessPoints
     }
 }
 
+/// The points and the master key; and the point of CSNBKRW too, where the key goes into a record.
+fn needs_with_target<'a>(points: AccessPoints, to: &[u8], operands: Operands<'a>) -> Needed<'a>
+    ensures { Needs (bit_or points (target_points to.now)) true
+        (seen_operands operands.entry) result }
+{
+    needs(points.union(target_points(to)), operands)
+}
+
+/// The same of a request that asks nothing but where its key goes.
+fn needs_target<'a>(points: AccessPoints, to: &'a [u8]) -> Needed<'a>
+    ensures { Needs (bit_or points (target_points to.now)) true
+        (one_operand (record { name = codes "to"; text = to.now; ask = Ask.Target })) result }
+{
+    needs_with_target(points, to, one_operand("to", to, Ask::Target))
+}
+
+/// The points and a key that enciphers or deciphers texts.
+fn needs_cipher<'a>(points: AccessPoints, key: &'a [u8], usage: Usage) -> Needed<'a>
+    ensures { Needs points true (one_operand (record {
+      name = codes "key";
+      text = key.now;
+      ask = Ask.Key (internal_key (Class.Data ∷ Class.Cipher ∷ []) (Some usage));
+    })) result }
+{
+    needs(
+        points,
+        key_operand(key, &[Class::Data, Class::Cipher], Some(usage)),
+    )
+}
+
+/// The points and a key that makes or verifies codes.
+fn needs_code<'a>(points: AccessPoints, key: &'a [u8], usage: Usage) -> Needed<'a>
+    ensures { Needs points true (one_operand (record {
+      name = codes "key";
+      text = key.now;
+      ask = Ask.Key (internal_key (Class.Data ∷ Class.Mac ∷ []) (Some usage));
+    })) result }
+{
+    needs(
+        points,
+        key_operand(key, &[Class::Data, Class::Mac], Some(usage)),
+    )
+}
+
+/// The points alone: no master key, and no operand. The arms of a match are to hold references alike, so this one takes a
+/// text too.
+fn needs_points<'a>(points: AccessPoints, _text: &'a [u8]) -> Needed<'a>
+    ensures { Needs points false no_operands result }
+{
+    without_master(points, Operands::none())
+}
+
 /// The table.
 pub(crate) fn needed_by<'a>(request: &Request<'a>) -> Needed<'a>
     requires accepted { IsAccepted (seen request.now) }
     ensures { IsNeeded (seen request.now) result }
 {
-    match request {
+    match *request {
         Request::Csnbktp { token, .. } => without_master(
             AccessPoints::empty(),
             one_operand("token", token, Ask::AnyToken),
@@ -109,51 +164,38 @@ pub(crate) fn needed_by<'a>(request: &Request<'a>) -> Needed<'a>
         Request::Csnbenc { key, .. }
         | Request::CsnbencFirst { key, .. }
         | Request::CsnbencMiddle { key, .. }
-        | Request::CsnbencLast { key, .. } => needs(
-            AccessPoints::ENC,
-            cipher_key(key, Usage::Encipher),
-        ),
+        | Request::CsnbencLast { key, .. } => needs_cipher(AccessPoints::ENC, key, Usage::Encipher),
         Request::Csnbdec { key, .. }
         | Request::CsnbdecFirst { key, .. }
         | Request::CsnbdecMiddle { key, .. }
-        | Request::CsnbdecLast { key, .. } => needs(
-            AccessPoints::DEC,
-            cipher_key(key, Usage::Decipher),
-        ),
+        | Request::CsnbdecLast { key, .. } => needs_cipher(AccessPoints::DEC, key, Usage::Decipher),
         Request::Csnbmgn { key, .. }
         | Request::CsnbmgnFirst { key, .. }
         | Request::CsnbmgnMiddle { key, .. }
-        | Request::CsnbmgnLast { key, .. } => needs(
+        | Request::CsnbmgnLast { key, .. } => needs_code(
             AccessPoints::MGN,
-            code_key(key, Usage::MacGenerate),
+            key,
+            Usage::MacGenerate,
         ),
         Request::Csnbmvr { key, .. }
         | Request::CsnbmvrFirst { key, .. }
         | Request::CsnbmvrMiddle { key, .. }
-        | Request::CsnbmvrLast { key, .. } => needs(
-            AccessPoints::MVR,
-            code_key(key, Usage::MacVerify),
-        ),
+        | Request::CsnbmvrLast { key, .. } => needs_code(AccessPoints::MVR, key, Usage::MacVerify),
         Request::Csnbkyt { key, .. } => needs(
             AccessPoints::KYT,
             key_operand(key, &FIVE_CLASSES, None),
         ),
-        Request::Csnbcki { to, .. } => needs(
-            AccessPoints::CKI.union(target_points(to)),
-            one_operand("to", to, Ask::Target),
-        ),
-        Request::Csnbrng { .. } => without_master(AccessPoints::RNG, no_operands(b"")),
-        Request::CsnbkgnOp { to, .. } => needs(
-            AccessPoints::KGN_OP.union(target_points(to)),
-            one_operand("to", to, Ask::Target),
-        ),
+        Request::Csnbcki { to, .. } => needs_target(AccessPoints::CKI, to),
+        Request::Csnbrng { .. } => needs_points(AccessPoints::RNG, b""),
+        Request::CsnbkgnOp { to, .. } => needs_target(AccessPoints::KGN_OP, to),
         Request::CsnbkgnPair {
             form,
             transport2,
             to,
             ..
-        } => needs(
-            AccessPoints::KGN_PAIR.union(target_points(to)),
+        } => needs_with_target(
+            AccessPoints::KGN_PAIR,
+            to,
             csnbkgn_pair(form, transport2, to),
         ),
         Request::CsnbkgnOut {
@@ -170,28 +212,21 @@ pub(crate) fn needed_by<'a>(request: &Request<'a>) -> Needed<'a>
             transport,
             to,
             ..
-        } => needs(
-            AccessPoints::KIM.union(target_points(to)),
-            csnbkim(token, transport, to),
-        ),
+        } => needs_with_target(AccessPoints::KIM, to, csnbkim(token, transport, to)),
         Request::Csnbkex { key, transport, .. } => needs(
             AccessPoints::KEX,
             csnbkex(key, transport),
         ),
-        Request::Csnbpex { key, to, .. } => needs(
-            AccessPoints::PEX.union(target_points(to)),
+        Request::Csnbpex { key, to, .. } => needs_with_target(
+            AccessPoints::PEX,
+            to,
             csnbpex(key, to),
         ),
-        Request::Csnbktc { rule, token, .. } => needs(
-            change_points(rule),
-            one_operand("token", token, Ask::Token(any_key())),
-        ),
-        Request::CsnbkpiFirst { to, .. } => needs(
-            AccessPoints::KPI_FIRST.union(target_points(to)),
-            one_operand("to", to, Ask::Target),
-        ),
-        Request::CsnbkpiMiddle { key, to, .. } => needs(
-            AccessPoints::KPI_COMBINE.union(target_points(to)),
+        Request::Csnbktc { rule, token, .. } => needs(change_points(rule), csnbktc(token)),
+        Request::CsnbkpiFirst { to, .. } => needs_target(AccessPoints::KPI_FIRST, to),
+        Request::CsnbkpiMiddle { key, to, .. } => needs_with_target(
+            AccessPoints::KPI_COMBINE,
+            to,
             csnbkpi_middle(key, to),
         ),
         Request::Csnbktr {
@@ -213,19 +248,13 @@ pub(crate) fn needed_by<'a>(request: &Request<'a>) -> Needed<'a>
             AccessPoints::KRD,
             one_operand("label", label, Ask::Held),
         ),
-        Request::Csnbkrl { prefix, .. } => without_master(AccessPoints::KRL, no_operands(prefix)),
-        Request::CsnbmkpPart { action, .. } => without_master(
-            part_points(action),
-            no_operands(b""),
-        ),
-        Request::CsnbmkpClear { .. } => without_master(
-            action_points(Action::Clear),
-            no_operands(b""),
-        ),
-        Request::CsnbmkpSet { .. } => without_master(action_points(Action::Set), no_operands(b"")),
-        Request::CsuaaciDefine { .. } | Request::CsuaaciRemove { .. } => without_master(
+        Request::Csnbkrl { prefix, .. } => needs_points(AccessPoints::KRL, prefix),
+        Request::CsnbmkpPart { action, .. } => needs_points(part_points(action), action),
+        Request::CsnbmkpClear { .. } => needs_points(action_points(Action::Clear), b""),
+        Request::CsnbmkpSet { .. } => needs_points(action_points(Action::Set), b""),
+        Request::CsuaaciDefine { .. } | Request::CsuaaciRemove { .. } => needs_points(
             AccessPoints::ROLES,
-            no_operands(b""),
+            b"",
         ),
         Request::Reencipher { .. }
         | Request::ReencipherAhead { .. }

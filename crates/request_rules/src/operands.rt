@@ -62,7 +62,7 @@ pub struct Operands<'a> {
 }
 
 impl<'a> Operands<'a> {
-    fn none() -> Operands<'a>
+    pub(crate) fn none() -> Operands<'a>
         ensures { seen_operands result ≡ no_operands }
     {
         Operands {
@@ -228,26 +228,15 @@ pub(crate) fn csnbpex<'a>(key: &'a [u8], to: &'a [u8]) -> Operands<'a>
     )
 }
 
-/// A key that enciphers or deciphers texts.
-pub(crate) fn cipher_key<'a>(key: &'a [u8], usage: Usage) -> Operands<'a>
+/// A token that is changed to the current master key, or to the new one.
+pub(crate) fn csnbktc<'a>(token: &'a [u8]) -> Operands<'a>
     ensures { seen_operands result ≡ one_operand (record {
-      name = codes "key";
-      text = key.now;
-      ask = Ask.Key (internal_key (Class.Data ∷ Class.Cipher ∷ []) (Some usage));
+      name = codes "token";
+      text = token.now;
+      ask = Ask.Token any_key;
     }) }
 {
-    key_operand(key, &[Class::Data, Class::Cipher], Some(usage))
-}
-
-/// A key that makes or verifies codes.
-pub(crate) fn code_key<'a>(key: &'a [u8], usage: Usage) -> Operands<'a>
-    ensures { seen_operands result ≡ one_operand (record {
-      name = codes "key";
-      text = key.now;
-      ask = Ask.Key (internal_key (Class.Data ∷ Class.Mac ∷ []) (Some usage));
-    }) }
-{
-    key_operand(key, &[Class::Data, Class::Mac], Some(usage))
+    one_operand("token", token, Ask::Token(any_key()))
 }
 
 /// The key part that a further part is combined with, and where the key goes.
