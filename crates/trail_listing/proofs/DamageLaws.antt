@@ -1,5 +1,5 @@
 -- What opening a trail tells of its damage.
-use Rattle.std.proofs.Common.{◌≡◌, ◌⊎◌, ◌<◌, inl, inr, ℕ, List, ◌++◌, Option, Some, Result, Ok, Err, sym, ap, ◌∙◌, arith}
+use Rattle.std.proofs.Common.{◌≡◌, ◌⊎◌, ◌<◌, ◌%◌, inl, inr, ℕ, List, ◌++◌, Option, Some, Result, Ok, Err, sym, ap, ◌∙◌, arith}
 use Rattle.std.proofs.lemmas.List.{append-nil}
 use Rattle.std.specs.Prelude.{IfErr}
 use Rattle.slot_disk.specs.Medium.{Medium, Told}
@@ -24,14 +24,19 @@ Opens = Result (Unit {0}) TrailFault
 
 -- ---- one fault in the other
 
-pub opening_fault : (a b : TrailFault) → ◌≡◌ {A = Ends} (Err (Trail a)) (Err (Trail b)) → ◌≡◌ {A = Opens} (Err a) (Err b)
+pub opening_fault : {T : Type 0} (a b : TrailFault) → ◌≡◌ {A = Ends} (Err (Trail a)) (Err (Trail b)) → ◌≡◌ {A = Result T TrailFault} (Err a) (Err b)
 opening_fault a b is = cc
 
-pub listing_fault : (a b : TrailFault) → ◌≡◌ {A = Opens} (Err a) (Err b) → ◌≡◌ {A = Ends} (Err (Trail a)) (Err (Trail b))
+pub listing_fault : {T : Type 0} (a b : TrailFault) → ◌≡◌ {A = Result T TrailFault} (Err a) (Err b) → ◌≡◌ {A = Ends} (Err (Trail a)) (Err (Trail b))
 listing_fault a b is = cc
 
 same_cell : (a b : ℕ) → ◌≡◌ {A = Ends} (Err (Trail (Damaged a))) (Err (Trail (Damaged b))) → a ≡ b
 same_cell a b is = cc
+
+-- reading a record fails by the faults of a listing
+pub read_fault : (number : ℕ) (fault : TrailFault) → (fault ≡ DiskFault) ⊎ (fault ≡ Damaged (number % 4096)) → IsFault (Trail fault)
+read_fault number fault (inl failed) = inr (inl (ap Trail failed))
+read_fault number fault (inr damaged) = inr (inr (number % 4096, omega arith, ap Trail damaged))
 
 -- a cell that is named is one of the trail
 pub within_trail : (fault : ListFault) → IsFault fault → (cell : ℕ) → ◌≡◌ {A = Ends} (Err fault) (Err (Trail (Damaged cell))) → cell < 4096

@@ -11,6 +11,7 @@ use Rattle.audit_trail.specs.Entries.{entry_at}
 use Rattle.audit_trail.specs.RecordBody.{Spells}
 use Rattle.audit_trail.specs.TrailStands.{IsTrail, StandsForTrail, IsHeld}
 use Rattle.audit_trail.specs.declared.entries.Entry.{Entry}
+use Rattle.audit_trail.specs.declared.faults.TrailFault.{TrailFault}
 use Rattle.audit_trail.specs.declared.faults.TrailFault.TheVariants.{DiskFault, Damaged}
 use Rattle.audit_trail.proofs.BodyLaws.{one_entry}
 use Rattle.audit_trail.proofs.TrailLaws.{number_is}
@@ -107,6 +108,18 @@ pub grew : (a b c : Option (List ℕ)) → WhereTold a b Grows → WhereTold b c
 grew a b c first second =
     told_then a b c Grows Grows Grows
     (λ x y z one two. (one.0 ++ two.0, two.1 ∙ (ap (λ bytes. bytes ++ two.0) one.1 ∙ append_assoc x one.0 two.0))) first second
+
+pub grew_line : (line : List ℕ) (a b : Option (List ℕ)) → WhereTold a b (λ x y. y ≡ x ++ line) → WhereTold a b Grows
+grew_line line a b = told_weaker a b (λ x y. y ≡ x ++ line) Grows (λ x y is. (line, is))
+
+pub grew_part : (line : List ℕ) (a b : Option (List ℕ)) → WhereTold a b (λ x y. GotPart x y line) → WhereTold a b Grows
+grew_part line a b = told_weaker a b (λ x y. GotPart x y line) Grows (λ x y part. (part.sent, part.held))
+
+-- of a record that wasn't read nothing is said
+pub never_cut : (m : Medium) (number : ℕ) (fault : TrailFault) (held : Option (List ℕ)) → OfEntries m (λ es. SendsLine (record_line number (entry_at es number)) (Err (Trail fault)) held held)
+never_cut m number fault held =
+    told_from m.content (λ image. (es : List Entry) → IsTrail image es → SendsLine (record_line number (entry_at es number)) (Err (Trail fault)) held held)
+    (λ image is es trail. record { done = tt; cut = λ wrong. cc })
 
 -- ---- how a listing ends
 
