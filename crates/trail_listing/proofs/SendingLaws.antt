@@ -6,6 +6,7 @@ use Rattle.slot_disk.specs.Medium.{Medium, Told}
 use Rattle.slot_disk.specs.WhereTold.{WhereTold}
 use Rattle.slot_disk.proofs.Media.{told_from, told_at}
 use Rattle.slot_disk.proofs.WhereToldLemmas.{told_weaker, told_then, told_same}
+use Rattle.line_service.specs.Devices.{TellsFault}
 use Rattle.line_service.specs.Sending.{GotPart, Grows}
 use Rattle.audit_trail.specs.Entries.{entry_at}
 use Rattle.audit_trail.specs.RecordBody.{Spells}
@@ -120,6 +121,10 @@ pub never_cut : (m : Medium) (number : ℕ) (fault : TrailFault) (held : Option 
 never_cut m number fault held =
     told_from m.content (λ image. (es : List Entry) → IsTrail image es → SendsLine (record_line number (entry_at es number)) (Err (Trail fault)) held held)
     (λ image is es trail. record { done = tt; cut = λ wrong. cc })
+
+-- a count of faults that was as before
+pub quiet_before : {a b now : ℕ} {Failed : Type 0} → b ≡ a → TellsFault b now Failed → TellsFault a now Failed
+quiet_before {a} {b} {now} {Failed} quiet tells = subst (λ (k : ℕ). TellsFault k now Failed) quiet tells
 
 -- ---- how a listing ends
 

@@ -1,12 +1,15 @@
 use Rattle.std.proofs.Common.{◌≡◌, ℕ, List, Option, Err, inl, inr, refl, sym, ap, subst, ◌∙◌, arith}
 use Rattle.std.specs.Prelude.{IsSome}
-use Rattle.slot_disk.proofs.Media.{told_from, told_at, settled_kept}
+use Rattle.slot_disk.proofs.Media.{keeps_then, told_earlier, told_from, told_at, settled_kept}
 use Rattle.slot_disk.proofs.WhereToldLemmas.{rose_wider}
-use Rattle.audit_trail.specs.TrailStands.{IsFirstDamaged}
+use Rattle.audit_trail.specs.TrailStands.{IsFirstDamaged, IsTrail}
+use Rattle.audit_trail.specs.declared.entries.Entry.{Entry as AnyEntry}
 use Rattle.audit_trail.specs.declared.faults.TrailFault.TheVariants.{DiskFault, Damaged}
 use Rattle.trail_listing.specs.declared.listing.ListFault.TheVariants.{Trail}
 use Rattle.trail_listing.proofs.DamageLaws.{opening_fault, listing_fault, each_within, opened_undamaged, told_never, sound_opened, listed_none}
+use Rattle.trail_listing.specs.Listing.{Listed}
 use Rattle.trail_listing.proofs.ReadLaws.{read_nothing}
+use Rattle.trail_listing.proofs.SendingLaws.{grew_none}
 use Rattle.trail_listing.proofs.listing.list_trail.Goals as goal
 
 pub returns-in-Ok-clause-damage : goal.returns-in-Ok-clause-damage
@@ -68,3 +71,33 @@ returns-in-Err-clause-trail_left g c = record {
   fault = λ is. c.in-Err.ensures.left.fault (opening_fault c.in-Err.fault DiskFault is);
   quiet = λ none. c.in-Err.ensures.left.quiet (λ is. none (listing_fault c.in-Err.fault DiskFault is));
 }
+
+-- ---- what else is left
+
+pub returns-in-Ok-clause-lines : goal.returns-in-Ok-clause-lines
+returns-in-Ok-clause-lines g c =
+    told_earlier (g.T.Disk.medium c.args.trail.now) (g.T.Disk.medium c.open_trail.new.trail)
+    (λ image. (es : List AnyEntry) → IsTrail image es → Listed es c.send_records.result (g.K.Sink.held c.args.sink.now) (g.K.Sink.held c.send_records.new.sink))
+    c.in-Ok.ensures.keeps.content c.send_records.ensures.lines
+
+pub returns-in-Ok-clause-grows : goal.returns-in-Ok-clause-grows
+returns-in-Ok-clause-grows g c = c.send_records.ensures.grows
+
+pub returns-in-Ok-clause-keeps : goal.returns-in-Ok-clause-keeps
+returns-in-Ok-clause-keeps g c =
+    keeps_then (g.T.Disk.medium c.args.trail.now) (g.T.Disk.medium c.open_trail.new.trail) (g.T.Disk.medium c.send_records.new.trail) c.in-Ok.ensures.keeps c.send_records.ensures.keeps
+
+pub returns-in-Ok-clause-sink_left : goal.returns-in-Ok-clause-sink_left
+returns-in-Ok-clause-sink_left g c = c.send_records.ensures.sink_left
+
+pub returns-in-Ok-clause-emptied : goal.returns-in-Ok-clause-emptied
+returns-in-Ok-clause-emptied g c = c.send_records.ensures.emptied
+
+pub returns-in-Err-clause-grows : goal.returns-in-Err-clause-grows
+returns-in-Err-clause-grows g c = grew_none (g.K.Sink.held c.args.sink.now)
+
+pub returns-in-Err-clause-keeps : goal.returns-in-Err-clause-keeps
+returns-in-Err-clause-keeps g c = c.in-Err.ensures.keeps
+
+pub returns-in-Err-clause-sink_left : goal.returns-in-Err-clause-sink_left
+returns-in-Err-clause-sink_left g c = record { later = omega arith; fault = λ is. cc; quiet = λ none. refl }

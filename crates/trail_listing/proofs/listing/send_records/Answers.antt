@@ -8,7 +8,7 @@ use Rattle.trail_listing.specs.Lines.{record_line}
 use Rattle.trail_listing.specs.Listing.{Listed}
 use Rattle.trail_listing.specs.Sending.{SendsLine}
 use Rattle.trail_listing.specs.declared.listing.ListFault.TheVariants.{Trail}
-use Rattle.trail_listing.proofs.SendingLaws.{HasLinesBelow, of_each, of_both, of_none, no_line, one_line, listed_all, listed_part, grew, grew_none}
+use Rattle.trail_listing.proofs.SendingLaws.{HasLinesBelow, of_each, of_both, of_none, no_line, one_line, listed_all, listed_part, grew, grew_none, quiet_before}
 use Rattle.trail_listing.proofs.ReadLaws.{read_all, read_more, read_none, read_part}
 use Rattle.trail_listing.proofs.listing.send_records.Goals as goal
 
@@ -88,6 +88,61 @@ returns-clause-lines g c =
     c.loop-number.invariant.told
     (of_each m0 c.args.held.now c.requires.stands (λ es. Unit {0}) (λ es long. tt))
     (λ es long before none. listed_all es c.loop-number.number held0 held1 (omega (arith, long, c.loop-number-test.false, c.loop-number.auto.number-end, c.next_number-next.ensures.number)) before)
+
+-- ---- what is left
+
+pub returns-in-Err-clause-grows : goal.returns-in-Err-clause-grows
+returns-in-Err-clause-grows g c =
+    grew (g.K.Sink.held c.args.sink.now) (g.K.Sink.held c.loop-number.sink) (g.K.Sink.held c.send_record.new.sink) c.loop-number.invariant.grows c.in-Err.ensures.grows
+
+pub returns-in-Err-clause-undamaged : goal.returns-in-Err-clause-undamaged
+returns-in-Err-clause-undamaged g c = λ cell is.
+    told_earlier (g.T.Disk.medium c.args.trail.now) (g.T.Disk.medium c.loop-number.trail) (λ image. ⊥) c.loop-number.invariant.keeps.content (c.in-Err.ensures.undamaged cell is)
+
+pub returns-in-Err-clause-faults : goal.returns-in-Err-clause-faults
+returns-in-Err-clause-faults g c = c.in-Err.ensures.faults
+
+pub returns-in-Err-clause-keeps : goal.returns-in-Err-clause-keeps
+returns-in-Err-clause-keeps g c =
+    keeps_then (g.T.Disk.medium c.args.trail.now) (g.T.Disk.medium c.loop-number.trail) (g.T.Disk.medium c.send_record.new.trail) c.loop-number.invariant.keeps c.in-Err.ensures.keeps
+
+pub returns-in-Err-clause-trail_left : goal.returns-in-Err-clause-trail_left
+returns-in-Err-clause-trail_left g c = quiet_before c.loop-number.invariant.trail_quiet c.in-Err.ensures.trail_left
+
+pub returns-in-Err-clause-sink_left : goal.returns-in-Err-clause-sink_left
+returns-in-Err-clause-sink_left g c = quiet_before c.loop-number.invariant.sink_quiet c.in-Err.ensures.sink_left
+
+pub returns-in-Err-clause-emptied : goal.returns-in-Err-clause-emptied
+returns-in-Err-clause-emptied g c = c.in-Err.ensures.emptied
+
+pub returns-clause-grows : goal.returns-clause-grows
+returns-clause-grows g c = c.loop-number.invariant.grows
+
+pub returns-clause-undamaged : goal.returns-clause-undamaged
+returns-clause-undamaged g c = λ cell is. cc
+
+pub returns-clause-faults : goal.returns-clause-faults
+returns-clause-faults g c = tt
+
+pub returns-clause-keeps : goal.returns-clause-keeps
+returns-clause-keeps g c = c.loop-number.invariant.keeps
+
+pub returns-clause-trail_left : goal.returns-clause-trail_left
+returns-clause-trail_left g c = record {
+  later = omega (arith, c.loop-number.invariant.trail_quiet);
+  fault = λ is. cc;
+  quiet = λ none. c.loop-number.invariant.trail_quiet;
+}
+
+pub returns-clause-sink_left : goal.returns-clause-sink_left
+returns-clause-sink_left g c = record {
+  later = omega (arith, c.loop-number.invariant.sink_quiet);
+  fault = λ is. cc;
+  quiet = λ none. c.loop-number.invariant.sink_quiet;
+}
+
+pub returns-clause-emptied : goal.returns-clause-emptied
+returns-clause-emptied g c = c.loop-number.invariant.empty
 
 -- ---- by what was read of each record
 
