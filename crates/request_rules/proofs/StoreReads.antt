@@ -1,5 +1,5 @@
 -- What calls that judge leave of the store, one after the other.
-use Rattle.std.proofs.Common.{◌≡◌, ◌∙◌, ℕ, Bool, true, List, Option, Result, Ok, Err, refl, sym, ap, subst}
+use Rattle.std.proofs.Common.{◌≡◌, ◌∙◌, ℕ, Bool, true, List, Option, Result, Ok, Err, refl, sym, ap, subst, arith}
 use Rattle.std.specs.Prelude.{◌||◌, IsErrAnd, IsOk}
 use Rattle.std.proofs.lemmas.Bool.{or_left, or_parts, or_right}
 use Rattle.key_cells.specs.Lease.{bench_of, holding}
@@ -10,8 +10,8 @@ use Rattle.line_service.specs.declared.stops.Stop.{Stop}
 use Rattle.line_service.specs.declared.stops.Stop.TheVariants.{StoreFault}
 use Rattle.line_service.proofs.StopLemmas.{disk_as, disk_on, follows_stop}
 use Rattle.master_registers.specs.declared.registers.Registers.{Registers}
-use Rattle.slot_disk.specs.Medium.{Medium}
-use Rattle.slot_disk.proofs.Media.{keeps_then}
+use Rattle.slot_disk.specs.Medium.{IsSettled, Medium}
+use Rattle.slot_disk.proofs.Media.{keeps_still, keeps_then}
 use Rattle.request_rules.specs.Stored.{ReadsStore}
 use Rattle.request_rules.proofs.LabelsRead.{at_after}
 
@@ -60,6 +60,25 @@ module _ {D : Type 0} {medium : D → Medium} {faults : D → ℕ} {held : Regis
       → ReadsStore medium faults true held rows l0 l1 d0 d1 r → ReadsStore medium faults named held rows l0 l1 d0 d1 r
   reads_label {l0 = l0} {l1 = l1} {d0 = d0} {d1 = d1} {r = r} is reads =
       subst (λ (b : Bool). ReadsStore medium faults b held rows l0 l1 d0 d1 r) (sym is) reads
+
+  -- a call that reads nothing
+  pub reads_untouched : {T : Type 0} {named : Bool} {l : Lease} {d : D} {a : T} → IsSettled (medium d) → ReadsStore medium faults named held rows l l d d (Ok a)
+  reads_untouched {d = d} settled = record {
+    keeps = keeps_still (medium d);
+    disk = record {
+      size = refl;
+      still = λ some. some;
+      settled = λ done. settled;
+      later = omega arith;
+      fault = λ is. cc is;
+      quiet = λ none. refl;
+    };
+    spared = λ none. refl;
+    named = λ is. cc is;
+    stops = tt;
+    sound = λ s at. tt;
+    rest = refl;
+  }
 
   -- a call after one that was done
   pub reads_then : {T U : Type 0} {one two : Bool} {l0 l1 l2 : Lease} {d0 d1 d2 : D} {a : T} {q : Result U Stop}

@@ -11,7 +11,7 @@ use Rattle.request_rules.specs.Judging.{IsAsked, IsKeyedAnswer}
 use Rattle.request_rules.specs.Stored.{IsLabelAsked}
 use Rattle.request_rules.proofs.AsRead.{named_as_read, record_as_read, unnamed_as_read}
 use Rattle.request_rules.proofs.LabelsRead.{key_by_label, key_by_token, record_asked}
-use Rattle.request_rules.proofs.StoreReads.{reads_label}
+use Rattle.request_rules.proofs.StoreReads.{reads_label, reads_untouched}
 use Rattle.request_rules.proofs.judging.judge_one.Goals as goal
 
 pub returns-in-AnyToken-clause-asked : goal.returns-in-AnyToken-clause-asked
@@ -87,6 +87,30 @@ returns-in-Some-clause-reads g c =
 
 pub returns-in-Record-clause-reads : goal.returns-in-Record-clause-reads
 returns-in-Record-clause-reads g c = reads_label (ap (is_named_by c.args.operand.now.text.now) c.in-Record.is) c.judge_label-in-Record.ensures.reads
+
+pub returns-in-AnyToken-clause-reads : goal.returns-in-AnyToken-clause-reads
+returns-in-AnyToken-clause-reads g c = reads_untouched c.requires.store.settled
+
+pub returns-in-None-clause-reads : goal.returns-in-None-clause-reads
+returns-in-None-clause-reads g c = reads_untouched c.requires.store.settled
+
+pub returns-in-Token-clause-reads : goal.returns-in-Token-clause-reads
+returns-in-Token-clause-reads g c = reads_untouched c.requires.store.settled
+
+pub returns-in-External-clause-reads : goal.returns-in-External-clause-reads
+returns-in-External-clause-reads g c = reads_untouched c.requires.store.settled
+
+pub returns-in-Held-clause-reads : goal.returns-in-Held-clause-reads
+returns-in-Held-clause-reads g c = reads_untouched c.requires.store.settled
+
+pub returns-in-NewLabel-clause-reads : goal.returns-in-NewLabel-clause-reads
+returns-in-NewLabel-clause-reads g c = reads_untouched c.requires.store.settled
+
+pub returns-in-Target-clause-reads : goal.returns-in-Target-clause-reads
+returns-in-Target-clause-reads g c = reads_untouched c.requires.store.settled
+
+pub returns-in-Nothing-clause-reads : goal.returns-in-Nothing-clause-reads
+returns-in-Nothing-clause-reads g c = reads_untouched c.requires.store.settled
 
 -- ---- by what was read of the record of a label
 
