@@ -4,7 +4,7 @@ use Rattle.std.proofs.lemmas.List.{append-nil, take-append-drop, take_at, take_a
 use Rattle.slot_disk.specs.WhereTold.{WhereTold}
 use Rattle.slot_disk.proofs.WhereToldLemmas.{told_weaker, told_both, told_at_end}
 use Rattle.script_buffers.specs.Lines.{newline, lines, NoNewline}
-use Rattle.script_buffers.specs.Reading.{Reading, line_limit, input_limit, TakesLine, Takes, given}
+use Rattle.script_buffers.specs.Reading.{Reading, line_limit, input_limit, bytes_ahead, blank, TakesLine, Takes, Shows, Advances, LosesPart, given}
 use Rattle.script_buffers.specs.Gathering.{line_room, IsBounded, Gathers, Gathering, cut_of, Judges}
 use Rattle.script_buffers.specs.declared.lines.Taken.{Taken}
 use Rattle.script_buffers.specs.declared.lines.Taken.TheVariants.{Line, TooLong, End}
@@ -92,6 +92,27 @@ judged-pending whole Line mid now judged = ap (λ r. r.pending) judged.0
 judged-pending whole TooLong mid now judged = ap (λ r. r.pending) judged.0
 judged-pending whole End mid now judged = ap (λ r. r.pending) judged.0
 
+-- whether the source gave its end stays
+pub judged-ended : (whole : Bool) (taken : Taken) (mid now : Reading) → Judges whole taken mid now → now.ended ≡ mid.ended
+judged-ended whole Line mid now judged = ap (λ r. r.ended) judged.0
+judged-ended whole TooLong mid now judged = ap (λ r. r.ended) judged.0
+judged-ended whole End mid now judged = ap (λ r. r.ended) judged.0
+
+-- the line that stays is shown
+pub shown : (whole : Bool) (taken : Taken) (mid now : Reading) → NoNewline mid.line → Judges whole taken mid now → Shows taken now
+shown whole Line mid now clean judged = subst (λ (r : Reading). NoNewline r.line × (length r.line ≤ line_limit)) (sym judged.0) (clean, judged.1)
+shown whole TooLong mid now clean judged = ap (λ r. r.line) judged.0
+shown whole End mid now clean judged = ap (λ r. r.line) judged.0 ∙ judged.2
+
+-- fewer bytes may come: the newline went, or bytes of the line
+pub advances : (a b : Option (List ℕ)) (whole : Bool) (taken : Taken) (old start mid now : Reading) → bytes_ahead start ≡ bytes_ahead old → Gathering (cut_of (Ok whole)) a b start mid → Judges whole taken mid now → Advances taken old now
+advances a b true Line old start mid now same gathered judged = omega (arith, same, gathered.fewer, ap bytes_ahead judged.0)
+advances a b true TooLong old start mid now same gathered judged = omega (arith, same, gathered.fewer, ap bytes_ahead judged.0)
+advances a b true End old start mid now same gathered judged = tt
+advances a b false Line old start mid now same gathered judged = omega (arith, same, gathered.fewer, ap bytes_ahead judged.0, judged.2 refl)
+advances a b false TooLong old start mid now same gathered judged = omega (arith, same, gathered.fewer, ap bytes_ahead judged.0, judged.1)
+advances a b false End old start mid now same gathered judged = tt
+
 -- an answer on equal bytes
 same-answers : (taken : Taken) (now : Reading) (ahead ahead' rest rest' : List ℕ) → ahead ≡ ahead' → rest ≡ rest' → Takes taken ahead' now rest' → Takes taken ahead now rest
 same-answers taken now ahead ahead' rest rest' same-ahead same-rest says =
@@ -112,6 +133,52 @@ told-answers a b old start mid now false taken same gathered last judged =
     (ap (λ p. p ++ x) same) (ap (λ p. p ++ y) (judged-pending false taken mid now judged) ∙ ap (λ w. mid.pending ++ w) g.1)
     (answers false taken (start.pending ++ x) (mid.pending ++ []) mid now g.0 (λ _. (at_end.0, ap (λ p. p ++ []) at_end.1)) judged))
     (told_at_end a b (λ x y. Gathers (start.pending ++ x) mid.line (mid.pending ++ y)) (gathered.at_end at_end.0) gathered.told)
+
+-- no line is taken of no bytes
+no-line : (ahead line rest : List ℕ) (ended : Bool) → TakesLine ahead line rest ended → ahead ≡ [] → ⊥
+no-line ahead line rest ended takes nothing = let no : line ∷ lines rest ≡ [] = sym takes.first ∙ ap lines nothing ∙ lines-nil in cc
+
+-- the answer is the end where the source gave its end and no byte was ahead
+takes-end : (taken : Taken) (ahead rest : List ℕ) (now : Reading) → Takes taken ahead now rest → (◌≡◌ {A = Result Taken LineFault} (Ok taken) (Ok End)) ↔ (IsTrue now.ended × (ahead ≡ []))
+takes-end Line ahead rest now takes = (λ no. absurd (cc), λ both. absurd (no-line ahead now.line rest now.ended takes.0 both.1))
+takes-end TooLong ahead rest now takes = (λ no. absurd (cc), λ both. absurd (no-line ahead takes.0 rest now.ended takes.1 both.1))
+takes-end End ahead rest now takes = (λ _. (takes.2, takes.0), λ _. refl)
+
+-- the clause on the end, where something was taken
+pub told-end : (a b : Option (List ℕ)) (old start mid now : Reading) (whole : Bool) (taken : Taken) → old.pending ≡ start.pending → Gathering (cut_of (Ok whole)) a b start mid → (◌≡◌ {A = Result Bool LineFault} (Ok whole) (Ok false) → IsTrue mid.ended × (mid.pending ≡ [])) → Judges whole taken mid now → WhereTold a b (λ x y. (◌≡◌ {A = Result Taken LineFault} (Ok taken) (Ok End)) ↔ (IsTrue now.ended × (old.pending ++ x ≡ [])))
+told-end a b old start mid now whole taken same gathered last judged =
+    told_weaker a b (λ x y. Takes taken (old.pending ++ x) now (now.pending ++ y))
+    (λ x y. (◌≡◌ {A = Result Taken LineFault} (Ok taken) (Ok End)) ↔ (IsTrue now.ended × (old.pending ++ x ≡ [])))
+    (λ x y takes. takes-end taken (old.pending ++ x) (now.pending ++ y) now takes)
+    (told-answers a b old start mid now whole taken same gathered last judged)
+
+-- and where nothing was
+pub told-no-end : (a b : Option (List ℕ)) (cut : List ℕ) (old start mid now : Reading) (fault : LineFault) → now.ended ≡ false → Gathering cut a b start mid → WhereTold a b (λ x y. (◌≡◌ {A = Result Taken LineFault} (Err fault) (Ok End)) ↔ (IsTrue now.ended × (old.pending ++ x ≡ [])))
+told-no-end a b cut old start mid now fault going gathered =
+    told_weaker a b (λ x y. mid.taken + length y ≡ start.taken + length x)
+    (λ x y. (◌≡◌ {A = Result Taken LineFault} (Err fault) (Ok End)) ↔ (IsTrue now.ended × (old.pending ++ x ≡ [])))
+    (λ x y _. (λ no. absurd (cc), λ both. absurd (let never : true ≡ false = sym both.0 ∙ going in cc)))
+    gathered.counted
+
+-- the clause on the count
+pub told-counted : (a b : Option (List ℕ)) (cut : List ℕ) (old start mid now : Reading) → old.taken ≡ start.taken → now.taken ≡ mid.taken → Gathering cut a b start mid → WhereTold a b (λ x y. now.taken + length y ≡ old.taken + length x)
+told-counted a b cut old start mid now same-old same-now gathered =
+    subst (λ n. WhereTold a b (λ x y. n + length y ≡ old.taken + length x)) (sym same-now)
+    (subst (λ n. WhereTold a b (λ x y. mid.taken + length y ≡ n + length x)) (sym same-old) gathered.counted)
+
+-- ---- a part that is lost
+
+pub told-lost : (a b : Option (List ℕ)) (old start mid : Reading) → old.pending ≡ start.pending → Gathering [] a b start mid → mid.pending ≡ [] → WhereTold a b (λ x y. LosesPart (old.pending ++ x) y)
+told-lost a b old start mid same gathered used =
+    told_weaker a b (λ x y. Gathers (start.pending ++ x) mid.line (mid.pending ++ y)) (λ x y. LosesPart (old.pending ++ x) y)
+    (λ x y g. (g.part, g.clean, ap (λ p. p ++ x) same ∙ g.bytes ∙ ap (λ p. g.part ++ (p ++ y)) used))
+    gathered.told
+
+-- nothing but the count stays
+pub emptied : (mid now : Reading) → now ≡ record mid { line = [] } → mid.ended ≡ false → mid.pending ≡ [] → now ≡ record blank { taken = now.taken }
+emptied mid now dropped going used =
+    subst (λ (r : Reading). r ≡ record blank { taken = r.taken }) (sym dropped)
+    (ap (λ p. record mid { line = []; pending = p }) used ∙ ap (λ e. record blank { taken = mid.taken; ended = e }) going)
 
 -- ---- the limit of the input
 

@@ -1,6 +1,7 @@
 -- Each clause from what was gathered.
-use Rattle.std.proofs.Common.{sym, ap}
-use Rattle.script_buffers.proofs.AnswerLemmas.{told-answers, told-no-limit, told-limit, judged-taken}
+use Rattle.std.proofs.Common.{sym, ap, subst, ◌∙◌}
+use Rattle.script_buffers.specs.Reading.{IsReady, bytes_ahead}
+use Rattle.script_buffers.proofs.AnswerLemmas.{told-answers, told-end, told-no-end, told-counted, told-lost, told-no-limit, told-limit, judged-taken, judged-ended, shown, advances, emptied}
 use Rattle.script_buffers.proofs.lines.read_line.Goals as goal
 
 pub returns-in-Ok-clause-answer : goal.returns-in-Ok-clause-answer
@@ -19,3 +20,57 @@ returns-in-Err-clause-limit g c =
     told-limit _ _ c.args.buffer.now c.drop_line.new.self c.gather.new.buffer c.drop_line-in-Err.new.self c.in-Err.fault
     (sym (ap (λ r. r.pending) c.drop_line.ensures.dropped)) (ap (λ r. r.taken) c.drop_line-in-Err.ensures.dropped)
     c.in-Err.ensures.gathered c.in-Err.ensures.going.1 c.in-Err.ensures.full c.in-Err.ensures.short
+
+pub returns-in-Ok-clause-shown : goal.returns-in-Ok-clause-shown
+returns-in-Ok-clause-shown g c = shown c.in-Ok.whole c.judge.result c.gather.new.buffer c.judge.new.self c.in-Ok.ensures.gathered.clean c.judge.ensures
+
+pub returns-in-Ok-clause-advances : goal.returns-in-Ok-clause-advances
+returns-in-Ok-clause-advances g c =
+    advances _ _ c.in-Ok.whole c.judge.result c.args.buffer.now c.drop_line.new.self c.gather.new.buffer c.judge.new.self
+    (ap bytes_ahead c.drop_line.ensures.dropped) c.in-Ok.ensures.gathered c.judge.ensures
+
+pub returns-in-Ok-clause-end : goal.returns-in-Ok-clause-end
+returns-in-Ok-clause-end g c =
+    told-end _ _ c.args.buffer.now c.drop_line.new.self c.gather.new.buffer c.judge.new.self c.in-Ok.whole c.judge.result
+    (sym (ap (λ r. r.pending) c.drop_line.ensures.dropped)) c.in-Ok.ensures.gathered c.in-Ok.ensures.end c.judge.ensures
+
+pub returns-in-Ok-clause-ready : goal.returns-in-Ok-clause-ready
+returns-in-Ok-clause-ready g c = λ ready. c.in-Ok.ensures.ready (subst IsReady (sym c.drop_line.ensures.dropped) ready)
+
+pub returns-in-Ok-clause-ended : goal.returns-in-Ok-clause-ended
+returns-in-Ok-clause-ended g c = λ is.
+    judged-ended c.in-Ok.whole c.judge.result _ _ c.judge.ensures
+    ∙ c.in-Ok.ensures.gathered.ended (ap (λ r. r.ended) c.drop_line.ensures.dropped ∙ is)
+
+pub returns-in-Ok-clause-at_end : goal.returns-in-Ok-clause-at_end
+returns-in-Ok-clause-at_end g c = λ is.
+    c.in-Ok.ensures.gathered.at_end (sym (judged-ended c.in-Ok.whole c.judge.result _ _ c.judge.ensures) ∙ is)
+
+pub returns-in-Ok-clause-counted : goal.returns-in-Ok-clause-counted
+returns-in-Ok-clause-counted g c =
+    told-counted _ _ _ c.args.buffer.now c.drop_line.new.self c.gather.new.buffer c.judge.new.self
+    (sym (ap (λ r. r.taken) c.drop_line.ensures.dropped)) (judged-taken c.in-Ok.whole c.judge.result _ _ c.judge.ensures)
+    c.in-Ok.ensures.gathered
+
+pub returns-in-Err-clause-end : goal.returns-in-Err-clause-end
+returns-in-Err-clause-end g c =
+    told-no-end _ _ _ c.args.buffer.now c.drop_line.new.self c.gather.new.buffer c.drop_line-in-Err.new.self c.in-Err.fault
+    (ap (λ r. r.ended) c.drop_line-in-Err.ensures.dropped ∙ c.in-Err.ensures.going.0) c.in-Err.ensures.gathered
+
+pub returns-in-Err-clause-ready : goal.returns-in-Err-clause-ready
+returns-in-Err-clause-ready g c = λ ready. c.in-Err.ensures.ready (subst IsReady (sym c.drop_line.ensures.dropped) ready)
+
+pub returns-in-Err-clause-counted : goal.returns-in-Err-clause-counted
+returns-in-Err-clause-counted g c =
+    told-counted _ _ _ c.args.buffer.now c.drop_line.new.self c.gather.new.buffer c.drop_line-in-Err.new.self
+    (sym (ap (λ r. r.taken) c.drop_line.ensures.dropped)) (ap (λ r. r.taken) c.drop_line-in-Err.ensures.dropped)
+    c.in-Err.ensures.gathered
+
+pub returns-in-Err-clause-emptied : goal.returns-in-Err-clause-emptied
+returns-in-Err-clause-emptied g c =
+    emptied c.gather.new.buffer c.drop_line-in-Err.new.self c.drop_line-in-Err.ensures.dropped c.in-Err.ensures.going.0 c.in-Err.ensures.going.1
+
+pub returns-in-Err-clause-lost : goal.returns-in-Err-clause-lost
+returns-in-Err-clause-lost g c =
+    told-lost _ _ c.args.buffer.now c.drop_line.new.self c.gather.new.buffer
+    (sym (ap (λ r. r.pending) c.drop_line.ensures.dropped)) c.in-Err.ensures.gathered c.in-Err.ensures.going.1
