@@ -1,3 +1,4 @@
+mod CallLaws
 mod JudgeLemmas
 mod LabelLaws
 mod LeaseLaws

@@ -1,10 +1,17 @@
-use Rattle.std.proofs.Common.{◌≡◌, ℕ, List, Option, None, get_or, sym, subst, ◌∙◌}
+use Rattle.std.proofs.Common.{◌≡◌, ℕ, List, Option, None, Some, get_or, sym, subst, codes, ◌∙◌}
 use Rattle.key_cells.specs.Lease.{bench_of}
 use Rattle.record_bodies.specs.declared.rows.Row.{Row}
 use Rattle.key_tokens.specs.Denotes.{Denoted}
 use Rattle.master_registers.specs.Masters.{Masters}
 use Rattle.store_move.specs.Reading.{HoldsAsRead}
 use Rattle.verb_rules.specs.Keys.{keys_of}
+use Rattle.slot_disk.proofs.Media.{keeps_still}
+use Rattle.move_file.specs.Moves.{remarks_by, with_newlines}
+use Rattle.move_file.specs.Telling.{requests_text}
+use Rattle.key_records.specs.declared.faults.RecordFault.TheVariants.{DiskFault}
+use Rattle.move_file.specs.declared.writing.MoveFault.TheVariants.{ReportFault, WriteFault, Store}
+use Rattle.move_file.proofs.CallLaws.{is_fault, none_called, not_called, some_sent, store_failed, store_fault, store_read, work_only}
+use Rattle.move_file.proofs.PartLaws.{grew_none}
 use Rattle.move_file.proofs.LabelLaws.{failed_as_read, kept_as_read, moved_as_read, target_as_read, tells_failed, tells_kept, tells_moved}
 use Rattle.move_file.proofs.telling.tell_label.Goals as goal
 
@@ -59,3 +66,129 @@ returns-in-Ok-Kept-clause-own g c = λ m place loaded found.
     kept_as_read (keys_of m) c.args.how.now c.args.label.now (get_or c.args.records.now place None) _ _
     own.0 c.in-Ok-Kept.field-0 (at_place m c.args.records.now c.place_of-place.result place (bench_of c.unload_label.new.lease).body own.0 here own.1) own.2 (sym c.is_same.ensures ∙ c.if-is_same.false)
     c.in-Ok-Kept.rule c.digits_of.result c.send_remark-in-Ok-Kept.result _ _ _ c.in-Ok-Kept.field-0-is c.digits_of.ensures c.send_remark-in-Ok-Kept.ensures.sends c.send_remark-in-Ok-Kept.ensures.fault
+
+-- ---- what is left of the devices
+
+pub returns-then-is_same-clause-file_grows : goal.returns-then-is_same-clause-file_grows
+returns-then-is_same-clause-file_grows g c =
+    grew_none (g.K.Sink.held c.args.file.now)
+
+pub returns-then-is_same-clause-report_grows : goal.returns-then-is_same-clause-report_grows
+returns-then-is_same-clause-report_grows g c =
+    some_sent (with_newlines (remarks_by (Some (codes "target")) c.args.label.now)) c.send_remark.result (g.P.Sink.held c.args.report.now) (g.P.Sink.held c.send_remark.new.report) c.send_remark.ensures.sends
+
+pub returns-then-is_same-clause-faults : goal.returns-then-is_same-clause-faults
+returns-then-is_same-clause-faults g c =
+    is_fault ReportFault tt c.send_remark.result c.send_remark.ensures.fault
+
+pub returns-then-is_same-clause-file_left : goal.returns-then-is_same-clause-file_left
+returns-then-is_same-clause-file_left g c =
+    not_called ReportFault c.send_remark.result c.send_remark.ensures.fault WriteFault (λ same. cc same) (g.K.Sink.faults c.args.file.now)
+
+pub returns-then-is_same-clause-report_left : goal.returns-then-is_same-clause-report_left
+returns-then-is_same-clause-report_left g c =
+    c.send_remark.ensures.left
+
+pub returns-then-is_same-clause-store_left : goal.returns-then-is_same-clause-store_left
+returns-then-is_same-clause-store_left g c =
+    not_called ReportFault c.send_remark.result c.send_remark.ensures.fault (Store DiskFault) (λ same. cc same) (g.D.Disk.faults c.args.store.now)
+
+pub returns-then-is_same-clause-keeps : goal.returns-then-is_same-clause-keeps
+returns-then-is_same-clause-keeps g c =
+    keeps_still (g.D.Disk.medium c.args.store.now)
+
+pub returns-in-Ok-Token-clause-file_grows : goal.returns-in-Ok-Token-clause-file_grows
+returns-in-Ok-Token-clause-file_grows g c =
+    some_sent (requests_text c.args.how.now c.in-Ok-Token.token c.args.label.now) c.send_requests.result (g.K.Sink.held c.args.file.now) (g.K.Sink.held c.send_requests.new.file) c.send_requests.ensures.sends
+
+pub returns-in-Ok-Token-clause-report_grows : goal.returns-in-Ok-Token-clause-report_grows
+returns-in-Ok-Token-clause-report_grows g c =
+    grew_none (g.P.Sink.held c.args.report.now)
+
+pub returns-in-Ok-Token-clause-faults : goal.returns-in-Ok-Token-clause-faults
+returns-in-Ok-Token-clause-faults g c =
+    is_fault WriteFault tt c.send_requests.result c.send_requests.ensures.fault
+
+pub returns-in-Ok-Token-clause-file_left : goal.returns-in-Ok-Token-clause-file_left
+returns-in-Ok-Token-clause-file_left g c =
+    c.send_requests.ensures.left
+
+pub returns-in-Ok-Token-clause-report_left : goal.returns-in-Ok-Token-clause-report_left
+returns-in-Ok-Token-clause-report_left g c =
+    not_called WriteFault c.send_requests.result c.send_requests.ensures.fault ReportFault (λ same. cc same) (g.P.Sink.faults c.args.report.now)
+
+pub returns-in-Ok-Token-clause-store_left : goal.returns-in-Ok-Token-clause-store_left
+returns-in-Ok-Token-clause-store_left g c =
+    store_read WriteFault c.send_requests.result c.send_requests.ensures.fault (λ same. cc same) c.in-Ok-Token.field-0 c.place_of-place.result (g.D.Disk.faults c.args.store.now) (g.D.Disk.faults c.unload_label.new.store) c.in-Ok-Token.ensures.fails
+
+pub returns-in-Ok-Token-clause-keeps : goal.returns-in-Ok-Token-clause-keeps
+returns-in-Ok-Token-clause-keeps g c =
+    c.in-Ok-Token.ensures.keeps
+
+pub returns-in-Ok-Token-clause-masters : goal.returns-in-Ok-Token-clause-masters
+returns-in-Ok-Token-clause-masters g c =
+    work_only c.args.lease.now c.unload_label.new.lease c.in-Ok-Token.ensures.rest
+
+pub returns-in-Ok-Kept-clause-file_grows : goal.returns-in-Ok-Kept-clause-file_grows
+returns-in-Ok-Kept-clause-file_grows g c =
+    grew_none (g.K.Sink.held c.args.file.now)
+
+pub returns-in-Ok-Kept-clause-report_grows : goal.returns-in-Ok-Kept-clause-report_grows
+returns-in-Ok-Kept-clause-report_grows g c =
+    some_sent (with_newlines (remarks_by (Some c.digits_of.result) c.args.label.now)) c.send_remark-in-Ok-Kept.result (g.P.Sink.held c.args.report.now) (g.P.Sink.held c.send_remark-in-Ok-Kept.new.report) c.send_remark-in-Ok-Kept.ensures.sends
+
+pub returns-in-Ok-Kept-clause-faults : goal.returns-in-Ok-Kept-clause-faults
+returns-in-Ok-Kept-clause-faults g c =
+    is_fault ReportFault tt c.send_remark-in-Ok-Kept.result c.send_remark-in-Ok-Kept.ensures.fault
+
+pub returns-in-Ok-Kept-clause-file_left : goal.returns-in-Ok-Kept-clause-file_left
+returns-in-Ok-Kept-clause-file_left g c =
+    not_called ReportFault c.send_remark-in-Ok-Kept.result c.send_remark-in-Ok-Kept.ensures.fault WriteFault (λ same. cc same) (g.K.Sink.faults c.args.file.now)
+
+pub returns-in-Ok-Kept-clause-report_left : goal.returns-in-Ok-Kept-clause-report_left
+returns-in-Ok-Kept-clause-report_left g c =
+    c.send_remark-in-Ok-Kept.ensures.left
+
+pub returns-in-Ok-Kept-clause-store_left : goal.returns-in-Ok-Kept-clause-store_left
+returns-in-Ok-Kept-clause-store_left g c =
+    store_read ReportFault c.send_remark-in-Ok-Kept.result c.send_remark-in-Ok-Kept.ensures.fault (λ same. cc same) c.in-Ok-Kept.field-0 c.place_of-place.result (g.D.Disk.faults c.args.store.now) (g.D.Disk.faults c.unload_label.new.store) c.in-Ok-Kept.ensures.fails
+
+pub returns-in-Ok-Kept-clause-keeps : goal.returns-in-Ok-Kept-clause-keeps
+returns-in-Ok-Kept-clause-keeps g c =
+    c.in-Ok-Kept.ensures.keeps
+
+pub returns-in-Ok-Kept-clause-masters : goal.returns-in-Ok-Kept-clause-masters
+returns-in-Ok-Kept-clause-masters g c =
+    work_only c.args.lease.now c.unload_label.new.lease c.in-Ok-Kept.ensures.rest
+
+pub returns-in-Err-clause-file_grows : goal.returns-in-Err-clause-file_grows
+returns-in-Err-clause-file_grows g c =
+    grew_none (g.K.Sink.held c.args.file.now)
+
+pub returns-in-Err-clause-report_grows : goal.returns-in-Err-clause-report_grows
+returns-in-Err-clause-report_grows g c =
+    grew_none (g.P.Sink.held c.args.report.now)
+
+pub returns-in-Err-clause-faults : goal.returns-in-Err-clause-faults
+returns-in-Err-clause-faults g c =
+    store_fault c.in-Err.fault c.place_of-place.result (g.D.Disk.faults c.args.store.now) (g.D.Disk.faults c.unload_label.new.store) c.in-Err.ensures.fails c.place_of-place.ensures.within
+
+pub returns-in-Err-clause-file_left : goal.returns-in-Err-clause-file_left
+returns-in-Err-clause-file_left g c =
+    none_called c.in-Err.fault WriteFault (λ same. cc same) (g.K.Sink.faults c.args.file.now)
+
+pub returns-in-Err-clause-report_left : goal.returns-in-Err-clause-report_left
+returns-in-Err-clause-report_left g c =
+    none_called c.in-Err.fault ReportFault (λ same. cc same) (g.P.Sink.faults c.args.report.now)
+
+pub returns-in-Err-clause-store_left : goal.returns-in-Err-clause-store_left
+returns-in-Err-clause-store_left g c =
+    store_failed c.in-Err.fault c.place_of-place.result (g.D.Disk.faults c.args.store.now) (g.D.Disk.faults c.unload_label.new.store) c.in-Err.ensures.fails
+
+pub returns-in-Err-clause-keeps : goal.returns-in-Err-clause-keeps
+returns-in-Err-clause-keeps g c =
+    c.in-Err.ensures.keeps
+
+pub returns-in-Err-clause-masters : goal.returns-in-Err-clause-masters
+returns-in-Err-clause-masters g c =
+    work_only c.args.lease.now c.unload_label.new.lease c.in-Err.ensures.rest

@@ -7,9 +7,13 @@ use Rattle.verb_rules.specs.Keys.{keys_of, opened}
 use Rattle.move_file.specs.Telling.{TellsAsRead}
 use Rattle.move_file.specs.declared.moves.Move.{Move}
 use Rattle.move_file.specs.declared.writing.MoveFault.{MoveFault}
-use Rattle.slot_disk.proofs.Media.{keeps_then}
+use Rattle.key_records.specs.declared.faults.RecordFault.TheVariants.{DiskFault}
+use Rattle.slot_disk.proofs.Media.{keeps_still, keeps_then}
+use Rattle.line_service.proofs.StopLemmas.{count_on}
+use Rattle.move_file.specs.declared.writing.MoveFault.TheVariants.{ReportFault, Store, WriteFault}
+use Rattle.move_file.proofs.CallLaws.{quiet_to}
 use Rattle.move_file.proofs.LeaseLaws.{masters_then, loaded_later, opened_later, labels_later}
-use Rattle.move_file.proofs.PartLaws.{grew, told_all, told_more, told_to}
+use Rattle.move_file.proofs.PartLaws.{grew, grew_none, told_all, told_more, told_to}
 use Rattle.move_file.proofs.RecordLaws.{got_none, read_more, rests_all, rests_to}
 use Rattle.move_file.proofs.writing.write_move.Goals as goal
 
@@ -39,13 +43,13 @@ loop-index-init g c = record {
   tells = search rules;
   own = λ m loaded.
       got_none (keys_of m) c.args.how.now c.args.records.now (opened (bench_of c.args.lease.now) c.args.transport.now).key (g.K.Sink.held c.args.file.now) (g.P.Sink.held c.args.report.now);
-  file_grows = search rules;
-  report_grows = search rules;
+  file_grows = grew_none (g.K.Sink.held c.args.file.now);
+  report_grows = grew_none (g.P.Sink.held c.args.report.now);
   file_quiet = refl;
   report_quiet = refl;
   store_quiet = refl;
-  keeps = search rules;
-  masters = search rules;
+  keeps = keeps_still (g.D.Disk.medium c.args.store.now);
+  masters = record { current = refl; former = refl; coming = refl; loan = refl };
 }
 
 pub loop-index-preserved : goal.loop-index-preserved
@@ -106,3 +110,65 @@ returns-clause-own g c m loaded =
     rests_all (keys_of m) c.args.how.now c.args.records.now (opened (bench_of c.args.lease.now) c.args.transport.now).key c.loop-index.index
     (g.K.Sink.held c.args.file.now) (g.K.Sink.held c.loop-index.file) (g.P.Sink.held c.args.report.now) (g.P.Sink.held c.loop-index.report)
     (omega (arith, c.loop-index.invariant.all, c.loop-index-test.false, c.loop-index.auto.index-end)) (c.loop-index.invariant.own m loaded)
+
+-- ---- what is left of the devices
+
+pub returns-in-Err-clause-file_grows : goal.returns-in-Err-clause-file_grows
+returns-in-Err-clause-file_grows g c =
+    grew (g.K.Sink.held c.args.file.now) (g.K.Sink.held c.loop-index.file) (g.K.Sink.held c.tell_label.new.file) c.loop-index.invariant.file_grows c.in-Err.ensures.file_grows
+
+pub returns-in-Err-clause-report_grows : goal.returns-in-Err-clause-report_grows
+returns-in-Err-clause-report_grows g c =
+    grew (g.P.Sink.held c.args.report.now) (g.P.Sink.held c.loop-index.report) (g.P.Sink.held c.tell_label.new.report) c.loop-index.invariant.report_grows c.in-Err.ensures.report_grows
+
+pub returns-in-Err-clause-faults : goal.returns-in-Err-clause-faults
+returns-in-Err-clause-faults g c =
+    c.in-Err.ensures.faults
+
+pub returns-in-Err-clause-file_left : goal.returns-in-Err-clause-file_left
+returns-in-Err-clause-file_left g c =
+    count_on (g.K.Sink.faults c.args.file.now) (g.K.Sink.faults c.loop-index.file) (g.K.Sink.faults c.tell_label.new.file) (◌≡◌ {A = Result (Unit {0}) MoveFault} (Err c.in-Err.fault) (Err WriteFault)) c.loop-index.invariant.file_quiet c.in-Err.ensures.file_left
+
+pub returns-in-Err-clause-report_left : goal.returns-in-Err-clause-report_left
+returns-in-Err-clause-report_left g c =
+    count_on (g.P.Sink.faults c.args.report.now) (g.P.Sink.faults c.loop-index.report) (g.P.Sink.faults c.tell_label.new.report) (◌≡◌ {A = Result (Unit {0}) MoveFault} (Err c.in-Err.fault) (Err ReportFault)) c.loop-index.invariant.report_quiet c.in-Err.ensures.report_left
+
+pub returns-in-Err-clause-store_left : goal.returns-in-Err-clause-store_left
+returns-in-Err-clause-store_left g c =
+    count_on (g.D.Disk.faults c.args.store.now) (g.D.Disk.faults c.loop-index.store) (g.D.Disk.faults c.tell_label.new.store) (◌≡◌ {A = Result (Unit {0}) MoveFault} (Err c.in-Err.fault) (Err (Store DiskFault))) c.loop-index.invariant.store_quiet c.in-Err.ensures.store_left
+
+pub returns-in-Err-clause-keeps : goal.returns-in-Err-clause-keeps
+returns-in-Err-clause-keeps g c =
+    keeps_then (g.D.Disk.medium c.args.store.now) (g.D.Disk.medium c.loop-index.store) (g.D.Disk.medium c.tell_label.new.store) c.loop-index.invariant.keeps c.in-Err.ensures.keeps
+
+pub returns-in-Err-clause-loan : goal.returns-in-Err-clause-loan
+returns-in-Err-clause-loan g c =
+    c.in-Err.ensures.masters.loan ∙ c.loop-index.invariant.masters.loan
+
+pub returns-clause-file_grows : goal.returns-clause-file_grows
+returns-clause-file_grows g c =
+    c.loop-index.invariant.file_grows
+
+pub returns-clause-report_grows : goal.returns-clause-report_grows
+returns-clause-report_grows g c =
+    c.loop-index.invariant.report_grows
+
+pub returns-clause-file_left : goal.returns-clause-file_left
+returns-clause-file_left g c =
+    quiet_to (g.K.Sink.faults c.args.file.now) (g.K.Sink.faults c.loop-index.file) (◌≡◌ {A = Result (Unit {0}) MoveFault} (Ok tt) (Err WriteFault)) c.loop-index.invariant.file_quiet (λ same. cc same)
+
+pub returns-clause-report_left : goal.returns-clause-report_left
+returns-clause-report_left g c =
+    quiet_to (g.P.Sink.faults c.args.report.now) (g.P.Sink.faults c.loop-index.report) (◌≡◌ {A = Result (Unit {0}) MoveFault} (Ok tt) (Err ReportFault)) c.loop-index.invariant.report_quiet (λ same. cc same)
+
+pub returns-clause-store_left : goal.returns-clause-store_left
+returns-clause-store_left g c =
+    quiet_to (g.D.Disk.faults c.args.store.now) (g.D.Disk.faults c.loop-index.store) (◌≡◌ {A = Result (Unit {0}) MoveFault} (Ok tt) (Err (Store DiskFault))) c.loop-index.invariant.store_quiet (λ same. cc same)
+
+pub returns-clause-keeps : goal.returns-clause-keeps
+returns-clause-keeps g c =
+    c.loop-index.invariant.keeps
+
+pub returns-clause-loan : goal.returns-clause-loan
+returns-clause-loan g c =
+    c.loop-index.invariant.masters.loan
