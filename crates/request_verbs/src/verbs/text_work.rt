@@ -40,7 +40,7 @@ pub(crate) fn text_work<'a>(request: &Request<'a>) -> TextWork<'a>
     requires text { IsTrue (is_over_text (seen request.now).name) }
     ensures work { IsWorkOf (seen request.now) result }
 {
-    match request {
+    match *request {
         Request::Csnbenc { iv, pad, text, .. } => TextWork::Whole(Mode::Encipher, iv, pad, text),
         Request::CsnbencFirst { iv, text, .. } => TextWork::First(Mode::Encipher, iv, text),
         Request::CsnbencMiddle { chain, text, .. } => TextWork::Middle(Mode::Encipher, chain, text),
