@@ -40,7 +40,7 @@ pub fn decide<E: Entropy>(
         (source entropy.old (E.left entropy.old) (E.faults entropy.old))
         (source entropy.new (E.left entropy.new) (E.faults entropy.new)) }
 {
-    match request {
+    match *request {
         Request::Csnbenc { .. }
         | Request::CsnbencFirst { .. }
         | Request::CsnbencMiddle { .. }
@@ -81,8 +81,8 @@ pub fn decide<E: Entropy>(
         Request::CsnbmkpPart { action, part, .. } => Ok(csnbmkp::combine(action, part, lease)),
         Request::CsnbmkpClear { .. } => Ok(csnbmkp::clear(records)),
         Request::CsnbmkpSet { .. } => Ok(csnbmkp::set(lease, held, records)),
-        Request::CsuaaciDefine { name, points, .. } => Ok(csuaaci::define(name, points)),
-        Request::CsuaaciRemove { name, .. } => Ok(csuaaci::remove(name)),
+        Request::CsuaaciDefine { name, points, .. } => Ok(csuaaci::define(&name, &points)),
+        Request::CsuaaciRemove { name, .. } => Ok(csuaaci::remove(&name)),
         Request::Reencipher { .. } => Ok(reenciphering::renew()),
         Request::ReencipherAhead { .. } => Ok(reenciphering::ahead(lease, held, records)),
         Request::ReencipherDrop { .. } => Ok(reenciphering::drop()),

@@ -41,7 +41,7 @@ pub(crate) fn over_keys<E: Entropy>(
         (source entropy.old (E.left entropy.old) (E.faults entropy.old))
         (source entropy.new (E.left entropy.new) (E.faults entropy.new)) }
 {
-    match request {
+    match *request {
         Request::Csnbkyt { .. } => Ok(csnbkyt(granted, lease, reply)),
         Request::Csnbcki { clear, to, .. } => Ok(csnbcki(granted, clear, to, lease, held, reply)),
         Request::CsnbkgnOp {
@@ -49,7 +49,7 @@ pub(crate) fn over_keys<E: Entropy>(
             type1,
             to,
             ..
-        } => generate_one(granted, length, *type1, to, entropy, lease, held, reply),
+        } => generate_one(granted, length, type1, to, entropy, lease, held, reply),
         Request::CsnbkgnPair {
             form,
             length,
@@ -58,7 +58,7 @@ pub(crate) fn over_keys<E: Entropy>(
             to,
             ..
         } => generate_pair(
-            granted, form, length, *type1, *type2, to, entropy, lease, held, reply,
+            granted, form, length, type1, type2, to, entropy, lease, held, reply,
         ),
         Request::CsnbkgnOut {
             form,
@@ -67,14 +67,14 @@ pub(crate) fn over_keys<E: Entropy>(
             type2,
             ..
         } => generate_out(
-            granted, form, length, *type1, *type2, entropy, lease, held, reply,
+            granted, form, length, type1, type2, entropy, lease, held, reply,
         ),
         Request::Csnbkim { to, .. } => Ok(csnbkim(granted, to, lease, held, reply)),
         Request::Csnbkex { .. } => Ok(csnbkex(granted, lease, reply)),
         Request::Csnbpex { to, .. } => Ok(csnbpex(granted, to, lease, held, reply)),
         Request::Csnbktc { rule, .. } => Ok(csnbktc(granted, rule, lease, held, reply)),
         Request::CsnbkpiFirst { kind, part, to, .. } => Ok(csnbkpi::first(
-            granted, *kind, part, to, lease, held, reply,
+            granted, kind, part, to, lease, held, reply,
         )),
         Request::CsnbkpiMiddle { rule, part, to, .. } => Ok(csnbkpi::further(
             granted, rule, part, to, lease, held, reply,
