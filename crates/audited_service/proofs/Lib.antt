@@ -10,5 +10,6 @@ pub mod OpeningLemmas
 pub mod EndingLemmas
 pub mod CourseLemmas
 pub mod ProgressLemmas
+pub mod BegunLemmas
 mod SentLemmas
 mod KeptLemmas

@@ -4,6 +4,7 @@ use Rattle.std.specs.Prelude.{IsSome}
 use Rattle.slot_disk.proofs.Media.{keeps_still}
 use Rattle.slot_disk.proofs.WhereToldLemmas.{rose_wider, told_same}
 use Rattle.audit_trail.specs.declared.faults.TrailFault.TheVariants.{Damaged}
+use Rattle.line_service.specs.Devices.{devices, outside}
 use Rattle.line_service.specs.Machine.{world}
 use Rattle.line_service.specs.Running.{NoneFailed}
 use Rattle.line_service.proofs.OpeningLemmas.{unbroken, module_unbroken, store_unbroken, not_stopped, opened_damage, unopened_left, unopened_taken, unopened_sound, unopened_no_stop}
@@ -12,6 +13,7 @@ use Rattle.line_service.proofs.StopLemmas.{disk_on, count_still, grows_none}
 use Rattle.audited_service.specs.Answers.{run_part}
 use Rattle.audited_service.specs.Noting.{noted}
 use Rattle.audited_service.specs.Recording.{RunRecorded}
+use Rattle.audited_service.proofs.BegunLemmas.{left_from, lines_recorded, lines_unrecorded}
 use Rattle.audited_service.proofs.EndingLemmas.{limit_of, lines_served, prefix_left, taken_at}
 use Rattle.audited_service.proofs.FullLemmas.{completes, no_opening_stop, no_trail_fault, not_full, audits_full, damaged_within, stood_before, stood_for_some, told_on, append_undamaged}
 use Rattle.audited_service.proofs.RunLemmas.{fault_is}
@@ -24,43 +26,14 @@ use Rattle.audited_service.proofs.running.serve_audited.Goals as goal
 pub returns-in-Ok-open_trail-clause-ends : goal.returns-in-Ok-open_trail-clause-ends
 returns-in-Ok-open_trail-clause-ends g c = record {
   lines = λ s es disks trail.
-      let A = g.A.Desk.machine in
-      let entry = g.W.Scribe.entry_of in
-      let m0 = g.M.Disk.medium c.args.module.now in
-      let m1 = g.M.Disk.medium c.open.new.module in
-      let d0 = g.D.Disk.medium c.args.store.now in
-      let d1 = g.D.Disk.medium c.open.new.store in
-      let t0 = g.T.Disk.medium c.args.trail.now in
-      let t1 = g.T.Disk.medium c.open_trail.new.trail in
-      let t2 = g.T.Disk.medium c.audit_all.new.trail in
-      let random = g.E.Entropy.left c.args.entropy.now in
-      let kept_m = c.open.ensures.left.module_kept in
-      let kept_d = c.open.ensures.left.store_kept in
-      let kept_t = c.open_trail.ensures.keeps in
-      let first = world m0 d0 random in
-      let last = world (g.M.Disk.medium c.audit_all.new.module) (g.D.Disk.medium c.audit_all.new.store) (g.E.Entropy.left c.audit_all.new.entropy) in
-      let i0 = g.S.Source.left c.args.source.now in
-      let i1 = g.S.Source.left c.audit_all.new.source in
-      let o0 = g.K.Sink.held c.args.sink.now in
-      let o1 = g.K.Sink.held c.audit_all.new.sink in
-      let after = c.audit_all.ensures.ends in
-      let stands = stands_all A entry m0 m1 d0 d1 t0 t1 random kept_m kept_d kept_t s es (g.A.Desk.knows c.open.new.self) disks (c.in-Ok.ensures.knows s disks) trail in
-      let recorded : RunRecorded A entry (noted s es) c.audit_all.result first last t0 t2 i0 i1 o0 o1 =
-      opened_recorded A entry m0 m1 d0 d1 t0 t1 random kept_m kept_d kept_t (noted s es) c.audit_all.result last t2 i0 i1 o0 o1 (after.serves (noted s es) stands) in
-      let still : NoneFailed _ → NoStop (run_part c.audit_all.result) = λ none.
-      not_stopped A (run_part c.audit_all.result) _ _ after.left none (omega arith) (omega arith) c.open.ensures.left.module_left.later c.open.ensures.left.store_left.later (omega arith) in
-      record {
-        recorded = recorded;
-        run = lines_served A entry (noted s es) _ t0 t2 c.audit_all.result recorded still (taken_at c.audit_all.result _ _ after.taken.run);
-        prefix = prefix_left A entry (noted s es) first last t0 t2 i0 i1 o0 o1 c.audit_all.result recorded;
-        complete = λ none trail_still some.
-            completes A entry (noted s es) es c.audit_all.result first last t0 t2 i0 i1 o0 o1 recorded (still none)
-            (λ h. trail_still (rose_wider _ _ _ _ c.open_trail.ensures.left.later after.trail.left.later (omega arith) (after.trail.left.fault h)))
-            after.kinds
-            (λ h. after.full (noted s es) stands (subst (λ (o : Option (List ℕ)). IsSome o) (sym kept_t.content) some) h)
-            (limit_of c.audit_all.result _ after.taken.run after.taken.within);
-        full = λ some h. after.full (noted s es) stands (subst (λ (o : Option (List ℕ)). IsSome o) (sym kept_t.content) some) h;
-      };
+      lines_recorded g.A.Desk.machine g.W.Scribe.entry_of (g.M.Disk.medium c.args.module.now) (g.M.Disk.medium c.open.new.module) (g.D.Disk.medium c.args.store.now) (g.D.Disk.medium c.open.new.store)
+      (g.T.Disk.medium c.args.trail.now) (g.T.Disk.medium c.open_trail.new.trail) (g.M.Disk.faults c.args.module.now) (g.M.Disk.faults c.open.new.module) (g.D.Disk.faults c.args.store.now) (g.D.Disk.faults c.open.new.store)
+      (g.E.Entropy.left c.args.entropy.now) (g.E.Entropy.faults c.args.entropy.now) (g.S.Source.left c.args.source.now) (g.K.Sink.held c.args.sink.now) (g.S.Source.faults c.args.source.now) (g.K.Sink.faults c.args.sink.now)
+      c.open.ensures.left.module_kept c.open.ensures.left.store_kept c.open_trail.ensures.keeps (g.T.Disk.faults c.args.trail.now) (g.T.Disk.faults c.open_trail.new.trail) s es disks trail
+      c.open.ensures.left.module_left.later c.open.ensures.left.store_left.later c.open_trail.ensures.left.later
+      (outside (g.S.Source.left c.audit_all.new.source) (g.S.Source.faults c.audit_all.new.source) (g.K.Sink.held c.audit_all.new.sink) (g.K.Sink.faults c.audit_all.new.sink)
+      (devices (g.M.Disk.medium c.audit_all.new.module) (g.M.Disk.faults c.audit_all.new.module) (g.D.Disk.medium c.audit_all.new.store) (g.D.Disk.faults c.audit_all.new.store) (g.E.Entropy.left c.audit_all.new.entropy) (g.E.Entropy.faults c.audit_all.new.entropy)))
+      (g.T.Disk.medium c.audit_all.new.trail) (g.T.Disk.faults c.audit_all.new.trail) (g.A.Desk.knows c.open.new.self) (c.in-Ok.ensures.knows s disks) c.audit_all.result c.audit_all.ensures.ends;
   taken = record { run = taken_at c.audit_all.result _ _ c.audit_all.ensures.ends.taken.run; within = c.audit_all.ensures.ends.taken.within };
   sound = record {
     disks = record { sound = λ h. c.in-Ok.ensures.sound; settled = λ h. record { module_settled = (c.audit_all.ensures.ends.settled h).module_settled; store_settled = (c.audit_all.ensures.ends.settled h).store_settled } };
@@ -74,18 +47,13 @@ returns-in-Ok-open_trail-clause-ends g c = record {
         told_on (g.T.Disk.medium c.args.trail.now) _ _ (λ image exact cell first. let named = exact cell first in cc (named, c.in-Ok-open_trail.is))
         (c.open_trail.ensures.exact (λ rose. still_t (rose_wider _ _ _ _ (omega arith) c.open_trail.ensures.left.later c.audit_all.ensures.ends.trail.left.later rose)));
   };
-  left = let opened = c.in-Ok.ensures.left in
-      let left = c.audit_all.ensures.ends.left in
-      record {
-        devices_left = record {
-          module_left = disk_on _ _ _ _ _ _ _ _ opened.module_left.size opened.module_left.still (opened.module_left.quiet (λ h. cc h)) left.devices_left.module_left;
-          store_left = disk_on _ _ _ _ _ _ _ _ opened.store_left.size opened.store_left.still (opened.store_left.quiet (λ h. cc h)) left.devices_left.store_left;
-          entropy_left = left.devices_left.entropy_left;
-        };
-        source_left = left.source_left;
-        sink_left = left.sink_left;
-        sink_grows = left.sink_grows;
-      };
+  left = left_from g.A.Desk.machine g.W.Scribe.entry_of (g.M.Disk.medium c.args.module.now) (g.M.Disk.medium c.open.new.module) (g.D.Disk.medium c.args.store.now) (g.D.Disk.medium c.open.new.store)
+      (g.T.Disk.medium c.args.trail.now) (g.T.Disk.medium c.open_trail.new.trail) (g.M.Disk.faults c.args.module.now) (g.M.Disk.faults c.open.new.module) (g.D.Disk.faults c.args.store.now) (g.D.Disk.faults c.open.new.store)
+      (g.E.Entropy.left c.args.entropy.now) (g.E.Entropy.faults c.args.entropy.now) (g.S.Source.left c.args.source.now) (g.K.Sink.held c.args.sink.now) (g.S.Source.faults c.args.source.now) (g.K.Sink.faults c.args.sink.now)
+      (outside (g.S.Source.left c.audit_all.new.source) (g.S.Source.faults c.audit_all.new.source) (g.K.Sink.held c.audit_all.new.sink) (g.K.Sink.faults c.audit_all.new.sink)
+      (devices (g.M.Disk.medium c.audit_all.new.module) (g.M.Disk.faults c.audit_all.new.module) (g.D.Disk.medium c.audit_all.new.store) (g.D.Disk.faults c.audit_all.new.store) (g.E.Entropy.left c.audit_all.new.entropy) (g.E.Entropy.faults c.audit_all.new.entropy)))
+      (run_part c.audit_all.result) c.in-Ok.ensures.left.module_left.size c.in-Ok.ensures.left.module_left.still (c.in-Ok.ensures.left.module_left.quiet (λ h. cc h))
+      c.in-Ok.ensures.left.store_left.size c.in-Ok.ensures.left.store_left.still (c.in-Ok.ensures.left.store_left.quiet (λ h. cc h)) c.audit_all.ensures.ends.left;
   trail_left = opened_left (g.T.Disk.medium c.args.trail.now) (g.T.Disk.medium c.open_trail.new.trail) (g.T.Disk.medium c.audit_all.new.trail) _ _ _ _ _ c.audit_all.result c.in-Ok-open_trail.ensures.left (λ h. cc h) c.audit_all.ensures.ends.trail.left;
   rests = λ unfailed.
       let t0 = g.T.Disk.medium c.args.trail.now in
@@ -96,31 +64,12 @@ returns-in-Ok-open_trail-clause-ends g c = record {
 pub returns-in-Err-open_trail-clause-ends : goal.returns-in-Err-open_trail-clause-ends
 returns-in-Err-open_trail-clause-ends g c = record {
   lines = λ s es disks trail.
-      let A = g.A.Desk.machine in
-      let entry = g.W.Scribe.entry_of in
-      let m0 = g.M.Disk.medium c.args.module.now in
-      let m1 = g.M.Disk.medium c.open.new.module in
-      let d0 = g.D.Disk.medium c.args.store.now in
-      let d1 = g.D.Disk.medium c.open.new.store in
-      let t0 = g.T.Disk.medium c.args.trail.now in
-      let t1 = g.T.Disk.medium c.open_trail.new.trail in
-      let random = g.E.Entropy.left c.args.entropy.now in
-      let i = g.S.Source.left c.args.source.now in
-      let o = g.K.Sink.held c.args.sink.now in
-      let fault = c.in-Err-open_trail.fault in
-      let faults = c.in-Err-open_trail.ensures.faults in
-      let recorded : RunRecorded A entry (noted s es) (Err fault) (world m0 d0 random) (world m1 d1 random) t0 t1 i i o o =
-      unopened_fault A entry m0 m1 d0 d1 t0 t1 random c.open.ensures.left.module_kept c.open.ensures.left.store_kept c.open_trail.ensures.keeps (noted s es) fault i o (not_full fault faults) in
-      record {
-        recorded = recorded;
-        run = tt;
-        prefix = prefix_left A entry (noted s es) (world m0 d0 random) (world m1 d1 random) t0 t1 i i o o (Err fault) recorded;
-        complete = λ none still some.
-            absurd (no_trail_fault t0 es fault some trail faults
-            (λ failed. still (c.open_trail.ensures.left.fault (c.in-Err-open_trail.is ∙ ap Err failed)))
-            (λ cell named. c.open_trail.ensures.damaged cell (c.in-Err-open_trail.is ∙ ap Err named)));
-        full = λ some h. absurd (not_full fault faults (cc h));
-      };
+      lines_unrecorded g.A.Desk.machine g.W.Scribe.entry_of (g.M.Disk.medium c.args.module.now) (g.M.Disk.medium c.open.new.module) (g.D.Disk.medium c.args.store.now) (g.D.Disk.medium c.open.new.store)
+      (g.T.Disk.medium c.args.trail.now) (g.T.Disk.medium c.open_trail.new.trail) (g.M.Disk.faults c.args.module.now) (g.M.Disk.faults c.open.new.module) (g.D.Disk.faults c.args.store.now) (g.D.Disk.faults c.open.new.store)
+      (g.E.Entropy.left c.args.entropy.now) (g.E.Entropy.faults c.args.entropy.now) (g.S.Source.left c.args.source.now) (g.K.Sink.held c.args.sink.now) (g.S.Source.faults c.args.source.now) (g.K.Sink.faults c.args.sink.now)
+      c.open.ensures.left.module_kept c.open.ensures.left.store_kept c.open_trail.ensures.keeps (g.T.Disk.faults c.args.trail.now) (g.T.Disk.faults c.open_trail.new.trail) s es disks trail
+      c.in-Err-open_trail.fault c.in-Err-open_trail.ensures.faults (λ failed. c.open_trail.ensures.left.fault (c.in-Err-open_trail.is ∙ ap Err failed))
+      (λ cell named. c.open_trail.ensures.damaged cell (c.in-Err-open_trail.is ∙ ap Err named));
   taken = record { run = tt; within = told_same (g.S.Source.left c.args.source.now) _ (λ x. omega arith) };
   sound = record {
     disks = record {
