@@ -9,11 +9,11 @@ use Rattle.audit_trail.specs.declared.entries.Entry.{Entry}
 use Rattle.audit_trail.specs.declared.faults.TrailFault.{TrailFault}
 use Rattle.audit_trail.specs.declared.faults.TrailFault.TheVariants as trail_fault
 use Rattle.line_service.specs.Machine.{Machine}
-use Rattle.line_service.specs.Answering.{OnDisks}
-use Rattle.line_service.specs.Devices.{Outside, OutsideLeft, outside, devices}
+use Rattle.line_service.specs.Answering.{IsSound, OnDisks}
+use Rattle.line_service.specs.Devices.{Span, Devices, DamageTold, Outside, OutsideLeft, outside, devices}
 use Rattle.line_service.specs.Running.{NoneFailed}
 use Rattle.line_service.specs.declared.stops.Stop.{Stop}
-use Rattle.line_service.proofs.OpeningLemmas.{not_stopped}
+use Rattle.line_service.proofs.OpeningLemmas.{module_unbroken, not_stopped, store_unbroken}
 use Rattle.line_service.proofs.RunLemmas.{NoStop}
 use Rattle.line_service.proofs.StopLemmas.{disk_on}
 use Rattle.audited_service.specs.Answers.{run_part}
@@ -24,6 +24,16 @@ use Rattle.audited_service.specs.EachLine.{RecordsLeft}
 use Rattle.audited_service.proofs.EndingLemmas.{limit_of, lines_served, prefix_left, taken_at}
 use Rattle.audited_service.proofs.FullLemmas.{completes, no_trail_fault, not_full}
 use Rattle.audited_service.proofs.OpeningLemmas.{stands_all, opened_recorded, unopened_fault}
+
+-- disks that stand for a state aren't damaged
+pub damage_none : (A : Machine) (d : Span Devices) → IsSound A d.old.world.module_ d.old.world.store → DamageTold {T = Unit {0}} A (Ok tt) d
+damage_none A d sound = record {
+  module_damaged = λ cell h. absurd (cc h);
+  store_damaged = λ cell h. absurd (cc h);
+  module_judged = λ still. module_unbroken A d.old.world.module_ d.old.world.store _ sound;
+  store_judged = λ still_m still_d. store_unbroken A d.old.world.module_ d.old.world.store _ sound;
+  cells = λ device cell h. absurd (cc h);
+}
 
 module _ (A : Machine) (entry : List ℕ → List ℕ → Entry) (m0 m d0 d t0 t : Medium) (mc0 mc dc0 dc : ℕ) (random : Option (List ℕ)) (draws : ℕ) (i p : Option (List ℕ)) (reads writes : ℕ) where
   abbrev begun : Outside

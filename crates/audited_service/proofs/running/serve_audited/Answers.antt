@@ -1,25 +1,23 @@
 -- A run serves from the state of its disks and the entries of its trail.
-use Rattle.std.proofs.Common.{◌≡◌, Ok, Err, Option, List, ℕ, refl, sym, ap, ◌∙◌, subst, arith}
-use Rattle.std.specs.Prelude.{IsSome}
+use Rattle.std.proofs.Common.{◌≡◌, Ok, Err, refl, ap, ◌∙◌, arith}
 use Rattle.slot_disk.proofs.Media.{keeps_still}
 use Rattle.slot_disk.proofs.WhereToldLemmas.{rose_wider, told_same}
 use Rattle.audit_trail.specs.declared.faults.TrailFault.TheVariants.{Damaged}
 use Rattle.line_service.specs.Devices.{devices, outside}
 use Rattle.line_service.specs.Machine.{world}
-use Rattle.line_service.specs.Running.{NoneFailed}
-use Rattle.line_service.proofs.OpeningLemmas.{unbroken, module_unbroken, store_unbroken, not_stopped, opened_damage, unopened_left, unopened_taken, unopened_sound, unopened_no_stop}
-use Rattle.line_service.proofs.RunLemmas.{NoStop, no_opening_answer}
-use Rattle.line_service.proofs.StopLemmas.{disk_on, count_still, grows_none}
+use Rattle.line_service.proofs.OpeningLemmas.{unbroken, opened_damage, unopened_left, unopened_taken, unopened_sound, unopened_no_stop}
+use Rattle.line_service.proofs.RunLemmas.{no_opening_answer}
+use Rattle.line_service.proofs.StopLemmas.{count_still, grows_none}
 use Rattle.audited_service.specs.Answers.{run_part}
 use Rattle.audited_service.specs.Noting.{noted}
 use Rattle.audited_service.specs.Recording.{RunRecorded}
-use Rattle.audited_service.proofs.BegunLemmas.{left_from, lines_recorded, lines_unrecorded}
-use Rattle.audited_service.proofs.EndingLemmas.{limit_of, lines_served, prefix_left, taken_at}
-use Rattle.audited_service.proofs.FullLemmas.{completes, no_opening_stop, no_trail_fault, not_full, audits_full, damaged_within, stood_before, stood_for_some, told_on, append_undamaged}
+use Rattle.audited_service.proofs.BegunLemmas.{damage_none, left_from, lines_recorded, lines_unrecorded}
+use Rattle.audited_service.proofs.EndingLemmas.{lines_served, prefix_left, taken_at}
+use Rattle.audited_service.proofs.FullLemmas.{no_opening_stop, not_full, audits_full, damaged_within, stood_before, stood_for_some, told_on, append_undamaged}
 use Rattle.audited_service.proofs.RunLemmas.{fault_is}
 use Rattle.audited_service.proofs.GrowingLemmas.{grows_kept, grows_then}
 use Rattle.audited_service.proofs.RestingLemmas.{grown_kept, grown_on}
-use Rattle.audited_service.proofs.OpeningLemmas.{stands_all, opened_recorded, unopened_stop, unopened_fault}
+use Rattle.audited_service.proofs.OpeningLemmas.{unopened_stop}
 use Rattle.audited_service.proofs.TrailLemmas.{opened_left, unopened_trail}
 use Rattle.audited_service.proofs.running.serve_audited.Goals as goal
 
@@ -78,16 +76,12 @@ returns-in-Err-open_trail-clause-ends g c = record {
     };
     trail = λ audits. absurd (not_full c.in-Err-open_trail.fault c.in-Err-open_trail.ensures.faults (audits_full c.in-Err-open_trail.fault audits));
   };
-  damage = let A = g.A.Desk.machine in
-      let m0 = g.M.Disk.medium c.args.module.now in
-      let d0 = g.D.Disk.medium c.args.store.now in
-      record {
-        module_damaged = λ cell h. absurd (cc h);
-        store_damaged = λ cell h. absurd (cc h);
-        module_judged = λ still. module_unbroken A m0 d0 _ c.in-Ok.ensures.sound;
-        store_judged = λ still_m still_d. store_unbroken A m0 d0 _ c.in-Ok.ensures.sound;
-        cells = λ device cell h. absurd (cc h);
-      };
+  damage = damage_none g.A.Desk.machine
+      (record {
+        old = devices (g.M.Disk.medium c.args.module.now) (g.M.Disk.faults c.args.module.now) (g.D.Disk.medium c.args.store.now) (g.D.Disk.faults c.args.store.now) (g.E.Entropy.left c.args.entropy.now) (g.E.Entropy.faults c.args.entropy.now);
+        new = devices (g.M.Disk.medium c.open.new.module) (g.M.Disk.faults c.open.new.module) (g.D.Disk.medium c.open.new.store) (g.D.Disk.faults c.open.new.store) (g.E.Entropy.left c.args.entropy.now) (g.E.Entropy.faults c.args.entropy.now);
+      })
+      c.in-Ok.ensures.sound;
   trail_damage = let fault = c.in-Err-open_trail.fault in
       let is = c.in-Err-open_trail.is in
       record {
