@@ -22,16 +22,16 @@ each_line-preserved g c =
     let replied = c.in-Ok-served.is ∙ ap Ok c.in-Replied.is in
     record {
       lines = records_more g.A.Desk.machine g.W.Scribe.entry_of (g.A.Desk.knows c.args.desk.now) (g.A.Desk.knows c.each_line.desk) (g.A.Desk.knows c.audit_one.new.desk)
-        (outside (g.S.Source.left c.args.source.now) (g.S.Source.faults c.args.source.now) (g.K.Sink.held c.args.sink.now) (g.K.Sink.faults c.args.sink.now)
-            (devices (g.M.Disk.medium c.args.module.now) (g.M.Disk.faults c.args.module.now) (g.D.Disk.medium c.args.store.now) (g.D.Disk.faults c.args.store.now) (g.E.Entropy.left c.args.entropy.now) (g.E.Entropy.faults c.args.entropy.now)))
-        (record {
-          old = outside (g.S.Source.left c.each_line.source) (g.S.Source.faults c.each_line.source) (g.K.Sink.held c.each_line.sink) (g.K.Sink.faults c.each_line.sink)
-            (devices (g.M.Disk.medium c.each_line.module) (g.M.Disk.faults c.each_line.module) (g.D.Disk.medium c.each_line.store) (g.D.Disk.faults c.each_line.store) (g.E.Entropy.left c.each_line.entropy) (g.E.Entropy.faults c.each_line.entropy));
-          new = outside (g.S.Source.left c.audit_one.new.source) (g.S.Source.faults c.audit_one.new.source) (g.K.Sink.held c.audit_one.new.sink) (g.K.Sink.faults c.audit_one.new.sink)
-            (devices (g.M.Disk.medium c.audit_one.new.module) (g.M.Disk.faults c.audit_one.new.module) (g.D.Disk.medium c.audit_one.new.store) (g.D.Disk.faults c.audit_one.new.store) (g.E.Entropy.left c.audit_one.new.entropy) (g.E.Entropy.faults c.audit_one.new.entropy));
-        })
-        (g.T.Disk.medium c.args.trail.now) (g.T.Disk.medium c.each_line.trail) (g.T.Disk.medium c.audit_one.new.trail) (g.T.Disk.faults c.args.trail.now) (g.T.Disk.faults c.each_line.trail) (g.T.Disk.faults c.audit_one.new.trail)
-        c.each_line.lines c.audit_one.new.lines c.each_line.invariant.lines
+          (outside (g.S.Source.left c.args.source.now) (g.S.Source.faults c.args.source.now) (g.K.Sink.held c.args.sink.now) (g.K.Sink.faults c.args.sink.now)
+          (devices (g.M.Disk.medium c.args.module.now) (g.M.Disk.faults c.args.module.now) (g.D.Disk.medium c.args.store.now) (g.D.Disk.faults c.args.store.now) (g.E.Entropy.left c.args.entropy.now) (g.E.Entropy.faults c.args.entropy.now)))
+          (record {
+            old = outside (g.S.Source.left c.each_line.source) (g.S.Source.faults c.each_line.source) (g.K.Sink.held c.each_line.sink) (g.K.Sink.faults c.each_line.sink)
+                (devices (g.M.Disk.medium c.each_line.module) (g.M.Disk.faults c.each_line.module) (g.D.Disk.medium c.each_line.store) (g.D.Disk.faults c.each_line.store) (g.E.Entropy.left c.each_line.entropy) (g.E.Entropy.faults c.each_line.entropy));
+            new = outside (g.S.Source.left c.audit_one.new.source) (g.S.Source.faults c.audit_one.new.source) (g.K.Sink.held c.audit_one.new.sink) (g.K.Sink.faults c.audit_one.new.sink)
+                (devices (g.M.Disk.medium c.audit_one.new.module) (g.M.Disk.faults c.audit_one.new.module) (g.D.Disk.medium c.audit_one.new.store) (g.D.Disk.faults c.audit_one.new.store) (g.E.Entropy.left c.audit_one.new.entropy) (g.E.Entropy.faults c.audit_one.new.entropy));
+          })
+          (g.T.Disk.medium c.args.trail.now) (g.T.Disk.medium c.each_line.trail) (g.T.Disk.medium c.audit_one.new.trail) (g.T.Disk.faults c.args.trail.now) (g.T.Disk.faults c.each_line.trail) (g.T.Disk.faults c.audit_one.new.trail)
+          c.each_line.lines c.audit_one.new.lines c.each_line.invariant.lines
           c.in-Ok.served replied c.in-Ok.ensures.serves (g.A.Desk.ready c.audit_one.new.desk (g.M.Disk.medium c.audit_one.new.module) (g.D.Disk.medium c.audit_one.new.store))
           (Told (g.T.Disk.medium c.audit_one.new.trail) (λ image. StandsForTrail image c.audit_one.new.held)) c.in-Ok.ensures.kept;
       ready = c.in-Ok.ensures.kept.ready (ap Ok replied);
@@ -43,12 +43,12 @@ pub returns-in-Ended-clause-ends : goal.returns-in-Ended-clause-ends
 returns-in-Ended-clause-ends g c =
     records_done g.A.Desk.machine g.W.Scribe.entry_of (g.A.Desk.knows c.args.desk.now) (g.A.Desk.knows c.each_line.desk) (g.A.Desk.knows c.audit_one.new.desk)
     (outside (g.S.Source.left c.args.source.now) (g.S.Source.faults c.args.source.now) (g.K.Sink.held c.args.sink.now) (g.K.Sink.faults c.args.sink.now)
-        (devices (g.M.Disk.medium c.args.module.now) (g.M.Disk.faults c.args.module.now) (g.D.Disk.medium c.args.store.now) (g.D.Disk.faults c.args.store.now) (g.E.Entropy.left c.args.entropy.now) (g.E.Entropy.faults c.args.entropy.now)))
+    (devices (g.M.Disk.medium c.args.module.now) (g.M.Disk.faults c.args.module.now) (g.D.Disk.medium c.args.store.now) (g.D.Disk.faults c.args.store.now) (g.E.Entropy.left c.args.entropy.now) (g.E.Entropy.faults c.args.entropy.now)))
     (record {
       old = outside (g.S.Source.left c.each_line.source) (g.S.Source.faults c.each_line.source) (g.K.Sink.held c.each_line.sink) (g.K.Sink.faults c.each_line.sink)
-        (devices (g.M.Disk.medium c.each_line.module) (g.M.Disk.faults c.each_line.module) (g.D.Disk.medium c.each_line.store) (g.D.Disk.faults c.each_line.store) (g.E.Entropy.left c.each_line.entropy) (g.E.Entropy.faults c.each_line.entropy));
+          (devices (g.M.Disk.medium c.each_line.module) (g.M.Disk.faults c.each_line.module) (g.D.Disk.medium c.each_line.store) (g.D.Disk.faults c.each_line.store) (g.E.Entropy.left c.each_line.entropy) (g.E.Entropy.faults c.each_line.entropy));
       new = outside (g.S.Source.left c.audit_one.new.source) (g.S.Source.faults c.audit_one.new.source) (g.K.Sink.held c.audit_one.new.sink) (g.K.Sink.faults c.audit_one.new.sink)
-        (devices (g.M.Disk.medium c.audit_one.new.module) (g.M.Disk.faults c.audit_one.new.module) (g.D.Disk.medium c.audit_one.new.store) (g.D.Disk.faults c.audit_one.new.store) (g.E.Entropy.left c.audit_one.new.entropy) (g.E.Entropy.faults c.audit_one.new.entropy));
+          (devices (g.M.Disk.medium c.audit_one.new.module) (g.M.Disk.faults c.audit_one.new.module) (g.D.Disk.medium c.audit_one.new.store) (g.D.Disk.faults c.audit_one.new.store) (g.E.Entropy.left c.audit_one.new.entropy) (g.E.Entropy.faults c.audit_one.new.entropy));
     })
     (g.T.Disk.medium c.args.trail.now) (g.T.Disk.medium c.each_line.trail) (g.T.Disk.medium c.audit_one.new.trail) (g.T.Disk.faults c.args.trail.now) (g.T.Disk.faults c.each_line.trail) (g.T.Disk.faults c.audit_one.new.trail)
     c.each_line.lines c.audit_one.new.lines c.each_line.invariant.lines
@@ -64,12 +64,12 @@ pub returns-in-Err-served-clause-ends : goal.returns-in-Err-served-clause-ends
 returns-in-Err-served-clause-ends g c =
     records_stopped g.A.Desk.machine g.W.Scribe.entry_of (g.A.Desk.knows c.args.desk.now) (g.A.Desk.knows c.each_line.desk) (g.A.Desk.knows c.audit_one.new.desk)
     (outside (g.S.Source.left c.args.source.now) (g.S.Source.faults c.args.source.now) (g.K.Sink.held c.args.sink.now) (g.K.Sink.faults c.args.sink.now)
-        (devices (g.M.Disk.medium c.args.module.now) (g.M.Disk.faults c.args.module.now) (g.D.Disk.medium c.args.store.now) (g.D.Disk.faults c.args.store.now) (g.E.Entropy.left c.args.entropy.now) (g.E.Entropy.faults c.args.entropy.now)))
+    (devices (g.M.Disk.medium c.args.module.now) (g.M.Disk.faults c.args.module.now) (g.D.Disk.medium c.args.store.now) (g.D.Disk.faults c.args.store.now) (g.E.Entropy.left c.args.entropy.now) (g.E.Entropy.faults c.args.entropy.now)))
     (record {
       old = outside (g.S.Source.left c.each_line.source) (g.S.Source.faults c.each_line.source) (g.K.Sink.held c.each_line.sink) (g.K.Sink.faults c.each_line.sink)
-        (devices (g.M.Disk.medium c.each_line.module) (g.M.Disk.faults c.each_line.module) (g.D.Disk.medium c.each_line.store) (g.D.Disk.faults c.each_line.store) (g.E.Entropy.left c.each_line.entropy) (g.E.Entropy.faults c.each_line.entropy));
+          (devices (g.M.Disk.medium c.each_line.module) (g.M.Disk.faults c.each_line.module) (g.D.Disk.medium c.each_line.store) (g.D.Disk.faults c.each_line.store) (g.E.Entropy.left c.each_line.entropy) (g.E.Entropy.faults c.each_line.entropy));
       new = outside (g.S.Source.left c.audit_one.new.source) (g.S.Source.faults c.audit_one.new.source) (g.K.Sink.held c.audit_one.new.sink) (g.K.Sink.faults c.audit_one.new.sink)
-        (devices (g.M.Disk.medium c.audit_one.new.module) (g.M.Disk.faults c.audit_one.new.module) (g.D.Disk.medium c.audit_one.new.store) (g.D.Disk.faults c.audit_one.new.store) (g.E.Entropy.left c.audit_one.new.entropy) (g.E.Entropy.faults c.audit_one.new.entropy));
+          (devices (g.M.Disk.medium c.audit_one.new.module) (g.M.Disk.faults c.audit_one.new.module) (g.D.Disk.medium c.audit_one.new.store) (g.D.Disk.faults c.audit_one.new.store) (g.E.Entropy.left c.audit_one.new.entropy) (g.E.Entropy.faults c.audit_one.new.entropy));
     })
     (g.T.Disk.medium c.args.trail.now) (g.T.Disk.medium c.each_line.trail) (g.T.Disk.medium c.audit_one.new.trail) (g.T.Disk.faults c.args.trail.now) (g.T.Disk.faults c.each_line.trail) (g.T.Disk.faults c.audit_one.new.trail)
     c.each_line.lines c.audit_one.new.lines c.each_line.invariant.lines
@@ -85,12 +85,12 @@ pub returns-in-Err-clause-ends : goal.returns-in-Err-clause-ends
 returns-in-Err-clause-ends g c =
     records_failed g.A.Desk.machine g.W.Scribe.entry_of (g.A.Desk.knows c.args.desk.now) (g.A.Desk.knows c.each_line.desk) (g.A.Desk.knows c.audit_one.new.desk)
     (outside (g.S.Source.left c.args.source.now) (g.S.Source.faults c.args.source.now) (g.K.Sink.held c.args.sink.now) (g.K.Sink.faults c.args.sink.now)
-        (devices (g.M.Disk.medium c.args.module.now) (g.M.Disk.faults c.args.module.now) (g.D.Disk.medium c.args.store.now) (g.D.Disk.faults c.args.store.now) (g.E.Entropy.left c.args.entropy.now) (g.E.Entropy.faults c.args.entropy.now)))
+    (devices (g.M.Disk.medium c.args.module.now) (g.M.Disk.faults c.args.module.now) (g.D.Disk.medium c.args.store.now) (g.D.Disk.faults c.args.store.now) (g.E.Entropy.left c.args.entropy.now) (g.E.Entropy.faults c.args.entropy.now)))
     (record {
       old = outside (g.S.Source.left c.each_line.source) (g.S.Source.faults c.each_line.source) (g.K.Sink.held c.each_line.sink) (g.K.Sink.faults c.each_line.sink)
-        (devices (g.M.Disk.medium c.each_line.module) (g.M.Disk.faults c.each_line.module) (g.D.Disk.medium c.each_line.store) (g.D.Disk.faults c.each_line.store) (g.E.Entropy.left c.each_line.entropy) (g.E.Entropy.faults c.each_line.entropy));
+          (devices (g.M.Disk.medium c.each_line.module) (g.M.Disk.faults c.each_line.module) (g.D.Disk.medium c.each_line.store) (g.D.Disk.faults c.each_line.store) (g.E.Entropy.left c.each_line.entropy) (g.E.Entropy.faults c.each_line.entropy));
       new = outside (g.S.Source.left c.audit_one.new.source) (g.S.Source.faults c.audit_one.new.source) (g.K.Sink.held c.audit_one.new.sink) (g.K.Sink.faults c.audit_one.new.sink)
-        (devices (g.M.Disk.medium c.audit_one.new.module) (g.M.Disk.faults c.audit_one.new.module) (g.D.Disk.medium c.audit_one.new.store) (g.D.Disk.faults c.audit_one.new.store) (g.E.Entropy.left c.audit_one.new.entropy) (g.E.Entropy.faults c.audit_one.new.entropy));
+          (devices (g.M.Disk.medium c.audit_one.new.module) (g.M.Disk.faults c.audit_one.new.module) (g.D.Disk.medium c.audit_one.new.store) (g.D.Disk.faults c.audit_one.new.store) (g.E.Entropy.left c.audit_one.new.entropy) (g.E.Entropy.faults c.audit_one.new.entropy));
     })
     (g.T.Disk.medium c.args.trail.now) (g.T.Disk.medium c.each_line.trail) (g.T.Disk.medium c.audit_one.new.trail) (g.T.Disk.faults c.args.trail.now) (g.T.Disk.faults c.each_line.trail) (g.T.Disk.faults c.audit_one.new.trail)
     c.each_line.lines c.audit_one.new.lines c.each_line.invariant.lines
