@@ -3,4 +3,5 @@ pub mod FirstNewline
 pub mod GatheringLemmas
 pub mod LineLemmas
 pub mod PartLemmas
+pub mod RefillLemmas
 pub mod ReplyLemmas
