@@ -5,6 +5,7 @@ mod BetweenLemmas
 mod KnownLemmas
 mod LineLemmas
 mod ListingLemmas
+mod ReadingLemmas
 mod RepliesEnd
 mod StopLemmas
 mod StatusLemmas

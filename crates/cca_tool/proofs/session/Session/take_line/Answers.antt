@@ -1,0 +1,38 @@
+-- A line is read, and told as taken.
+use Rattle.std.proofs.Common.{Ok, Err, ap, subst, ◌∙◌}
+use Rattle.script_buffers.specs.Reading.{Reading}
+use Rattle.script_buffers.specs.declared.lines.Taken.{Taken}
+use Rattle.line_service.specs.declared.stops.Stop.TheVariants.{InputLimit, ReadFault}
+use Rattle.cca_tool.specs.Sessions.{InputRead, Memory}
+use Rattle.cca_tool.proofs.ReadingLemmas.{fault_told, input_read, limit_told, line_told}
+use Rattle.cca_tool.proofs.session.Session.take_line.Goals as goal
+
+pub returns-in-Ok-End-clause-read : goal.returns-in-Ok-End-clause-read
+returns-in-Ok-End-clause-read g c =
+    let here = c.read_line.ensures in
+    let ok = c.in-Ok-End.ensures in
+    subst (λ (t : Taken). InputRead (Ok t) (g.S.Source.left c.args.source.now) (g.S.Source.left c.read_line.new.source) c.args.self.now.reading c.read_line.new.buffer)
+    c.in-Ok-End.field-0-is
+    (subst (λ (r : Reading). InputRead (Ok c.in-Ok-End.field-0) (g.S.Source.left c.args.source.now) (g.S.Source.left c.read_line.new.source) r c.read_line.new.buffer)
+    (ap (λ (memory : Memory). memory.reading) c.self.view_is)
+    (input_read c.read_line.result (Ok c.in-Ok-End.field-0) (line_told c.read_line.result c.in-Ok-End.field-0 c.in-Ok-End.is)
+    (g.S.Source.left c.args.source.now) (g.S.Source.left c.read_line.new.source) c.self.inside.lines c.read_line.new.buffer
+    ok.answer ok.shown ok.advances here.end here.ends here.limit tt here.ended here.at_end here.counted here.within here.full here.short here.early tt))
+
+pub returns-in-Err-ReadFault-clause-read : goal.returns-in-Err-ReadFault-clause-read
+returns-in-Err-ReadFault-clause-read g c =
+    let here = c.read_line.ensures in
+    subst (λ (r : Reading). InputRead (Err ReadFault) (g.S.Source.left c.args.source.now) (g.S.Source.left c.read_line.new.source) r c.read_line.new.buffer)
+    (ap (λ (memory : Memory). memory.reading) c.self.view_is)
+    (input_read c.read_line.result (Err ReadFault) (fault_told c.read_line.result (c.in-Err-ReadFault.is ∙ ap Err c.in-Err-ReadFault.field-0-is))
+    (g.S.Source.left c.args.source.now) (g.S.Source.left c.read_line.new.source) c.self.inside.lines c.read_line.new.buffer
+    tt tt tt here.end here.ends here.limit c.in-Err-ReadFault.ensures.lost here.ended here.at_end here.counted here.within here.full here.short here.early c.in-Err-ReadFault.ensures.emptied)
+
+pub returns-in-Err-InputLimit-clause-read : goal.returns-in-Err-InputLimit-clause-read
+returns-in-Err-InputLimit-clause-read g c =
+    let here = c.read_line.ensures in
+    subst (λ (r : Reading). InputRead (Err InputLimit) (g.S.Source.left c.args.source.now) (g.S.Source.left c.read_line.new.source) r c.read_line.new.buffer)
+    (ap (λ (memory : Memory). memory.reading) c.self.view_is)
+    (input_read c.read_line.result (Err InputLimit) (limit_told c.read_line.result (c.in-Err-InputLimit.is ∙ ap Err c.in-Err-InputLimit.field-0-is))
+    (g.S.Source.left c.args.source.now) (g.S.Source.left c.read_line.new.source) c.self.inside.lines c.read_line.new.buffer
+    tt tt tt here.end here.ends here.limit c.in-Err-InputLimit.ensures.lost here.ended here.at_end here.counted here.within here.full here.short here.early c.in-Err-InputLimit.ensures.emptied)
