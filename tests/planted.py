@@ -70,8 +70,8 @@ EDITED = {
     ),
     "pages": (
         ["tools/pages/run"],
-        [Edit("docs/CRATES.md", "slot_disk/the_selected_body_is_overwritten", "slot_disk/the_selected_body")],
-        "slot_disk/the_selected_body is missing",
+        [Edit("docs/CRATES.md", "device_cells/the_selected_body_is_overwritten", "device_cells/the_selected_body")],
+        "device_cells/the_selected_body is missing",
     ),
     "surface": (
         ["tools/surface/run"],

@@ -5,7 +5,7 @@ use Rattle.std.specs.List.{range_with_len}
 use Rattle.std.proofs.lemmas.Bool.{cases_eq, cases_lt}
 use Rattle.std.proofs.lemmas.Bool.Decides.{nat_tests}
 use Rattle.std.proofs.lemmas.List.FromFn.{length-map-range_with_len, get_or-map-range_with_len}
-use Rattle.slot_disk.specs.Cells.{body}
+use Rattle.device_cells.specs.Cells.{body}
 use Rattle.audit_trail.specs.Entries.{entry_at, no_entry}
 use Rattle.audit_trail.specs.Opening.{CellReads, greater, IsUpTo, Scanned, newest_number, Checked}
 use Rattle.audit_trail.specs.RecordBody.{blank_body, Spells}

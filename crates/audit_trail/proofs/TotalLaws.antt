@@ -6,7 +6,7 @@ use Rattle.std.proofs.lemmas.List.{length-take}
 use Rattle.std.proofs.lemmas.List.Sums.{AllPass-from_list_all}
 use Rattle.std.proofs.lemmas.Bool.{cases_eq, cases_lt}
 use Rattle.std.proofs.lemmas.Slice.Eq.{bytes_eq-Decides}
-use Rattle.slot_disk.specs.Cells.{body}
+use Rattle.device_cells.specs.Cells.{body}
 use Rattle.byte_lists.specs.Bytes.{IsZero}
 use Rattle.held_names.specs.Characters.{is_letter}
 use Rattle.held_names.specs.Names.{is_label, is_role_name, is_name_byte, IsLabel, IsRoleName}

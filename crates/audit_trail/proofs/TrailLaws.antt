@@ -2,7 +2,7 @@
 use Rattle.std.proofs.Common.{◌≡◌, ◌≢◌, ◌≤◌, ◌<◌, ◌+◌, ◌-◌, ◌%◌, ◌^◌, inl, inr, ⊎_elim, ℕ, List, [], ◌∷◌, ◌++◌, length, refl, sym, ap, subst, ◌∙◌, arith}
 use Rattle.std.proofs.lemmas.Bool.{cases_eq, cases_lt}
 use Rattle.std.proofs.lemmas.List.{length-append, get_or_append_left, get_or_push}
-use Rattle.slot_disk.specs.Cells.{body, IsReplacing}
+use Rattle.device_cells.specs.Cells.{body, IsReplacing}
 use Rattle.audit_trail.specs.Changes.{Appending}
 use Rattle.audit_trail.specs.Entries.{IsEntry, entry_at, no_entry}
 use Rattle.audit_trail.specs.RecordBody.{record_body, Spells}

@@ -1,9 +1,9 @@
 -- What a call leaves of a trail, and what appending an entry does to it.
 use Rattle.std.specs.Prelude.{◌≡◌, ◌≢◌, ◌⊎◌, ◌≤◌, ◌+◌, ◌*◌, ◌%◌, ℕ, List, [], ◌∷◌, ◌++◌, slice_index, Result, OnOk, OnErr, IsSome}
-use Rattle.slot_disk.specs.Cells.{body, cell_size, IsUntouched, IsReplaced}
-use Rattle.slot_disk.specs.Faults.{Rose}
-use Rattle.slot_disk.specs.Medium.{Medium, IsSettled, Told, From, Becomes, EachImage}
-use Rattle.slot_disk.specs.Ranges.{SameOutside}
+use Rattle.device_cells.specs.Cells.{body, cell_size, IsUntouched, IsReplaced}
+use Rattle.device_cells.specs.Faults.{Rose}
+use Rattle.device_cells.specs.Medium.{Medium, IsSettled, Told, From, Becomes, EachImage}
+use Rattle.device_cells.specs.Ranges.{SameOutside}
 use Rattle.audit_trail.specs.RecordBody.{record_body}
 use Rattle.audit_trail.specs.TrailStands.{IsTrail}
 use Rattle.audit_trail.specs.declared.entries.Entry.{Entry}

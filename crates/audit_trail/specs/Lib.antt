@@ -4,6 +4,6 @@ pub mod TrailStands
 pub mod Changes
 pub mod Reading
 pub mod Opening
-pub use Rattle.slot_disk.specs.Cells
-pub use Rattle.slot_disk.specs.Faults
-pub use Rattle.slot_disk.specs.Medium
+pub use Rattle.device_cells.specs.Cells
+pub use Rattle.device_cells.specs.Faults
+pub use Rattle.device_cells.specs.Medium

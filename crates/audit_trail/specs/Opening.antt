@@ -1,6 +1,6 @@
 -- For the functions of this crate alone: opening a trail, cell by cell.
 use Rattle.std.specs.Prelude.{◌≡◌, ℕ, ◌-◌, ◌%◌, ◌≤◌, ◌<◌, nat_le, nat_lt, List, Option, None, Some, IfSome, if◌then◌else◌}
-use Rattle.slot_disk.specs.Cells.{body}
+use Rattle.device_cells.specs.Cells.{body}
 use Rattle.audit_trail.specs.RecordBody.{blank_body}
 use Rattle.audit_trail.specs.TrailStands.{HoldsNumber}
 

@@ -1,7 +1,7 @@
 //! Opening a trail: its cells are read upwards, for the greatest number that is held, and then again.
 ghost use Rattle.std.specs.Prelude.{◌≡◌, ◌↔◌, ◌⊎◌, ◌+◌, ◌*◌, ◌%◌, ◌^◌, ◌≤◌, ◌<◌, ℕ, Option, None, Some, Result, Ok, Err, OnOk, OnErr, IfOk, IfErr, IfSome, IsOk, IsTrue};
-ghost use Rattle.slot_disk.specs.Faults.{Rose};
-ghost use Rattle.slot_disk.specs.Medium.{Told, Keeps};
+ghost use Rattle.device_cells.specs.Faults.{Rose};
+ghost use Rattle.device_cells.specs.Medium.{Told, Keeps};
 ghost use Rattle.audit_trail.specs.Changes.{TrailLeft};
 ghost use Rattle.audit_trail.specs.Opening.{CellReads, Scanned, Checked, greater, newest_number};
 ghost use Rattle.audit_trail.specs.TrailStands.{trail_size, StandsForTrail, IsStray, IsFirstStray, IsFirstStale, IsFirstDamaged};
@@ -9,7 +9,7 @@ ghost use Rattle.audit_trail.specs.TrailStands.{trail_size, StandsForTrail, IsSt
 use crate::bodies::{is_blank, read_record};
 use crate::faults::TrailFault;
 use crate::trail::{CELLS, HELD, Trail, cell_of};
-use slot_disk::{Cell, Disk, read_cell, settle};
+use device_cells::{Cell, Disk, read_cell, settle};
 
 /// Makes every image of the trail its content, and learns the number of the next record. Damaged names the first
 /// cell that isn't blank and holds no record of its own; or, where there is none, the first cell that holds an older

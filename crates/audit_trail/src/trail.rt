@@ -1,7 +1,7 @@
 //! A trail: records are appended, and those that are held are read.
 ghost use Rattle.std.specs.Prelude.{◌≡◌, ◌↔◌, ◌⊎◌, ◌+◌, ◌-◌, ◌*◌, ◌%◌, ◌^◌, ◌≤◌, ◌<◌, ℕ, Ok, Err, OnErr, OnOk, IfOk, IfErr, IsOk, IsTrue, true, false};
-ghost use Rattle.slot_disk.specs.Cells.{body};
-ghost use Rattle.slot_disk.specs.Medium.{Told, IsSettled, Keeps};
+ghost use Rattle.device_cells.specs.Cells.{body};
+ghost use Rattle.device_cells.specs.Medium.{Told, IsSettled, Keeps};
 ghost use Rattle.audit_trail.specs.Changes.{AppendsEntry, TrailLeft, Remembers};
 ghost use Rattle.audit_trail.specs.Entries.{IsEntry};
 ghost use Rattle.audit_trail.specs.RecordBody.{Spells};
@@ -11,7 +11,7 @@ ghost use Rattle.audit_trail.specs.declared.entries.Entry.{Entry as AnyEntry};
 use crate::bodies::{read_entry, write_record};
 use crate::entries::Entry;
 use crate::faults::TrailFault;
-use slot_disk::{Cell, Disk, read_cell, replace_cell};
+use device_cells::{Cell, Disk, read_cell, replace_cell};
 use std::marker::Model;
 
 /// How many records are held: the cells of a trail.

@@ -1,9 +1,9 @@
 -- What a run leaves of devices that were opened first, from the devices as they were before, over plain values.
 use Rattle.std.proofs.Common.{◌≡◌, ◌≤◌, ℕ, List, Option, Result, Ok, Err, sym, subst, arith}
 use Rattle.std.specs.Prelude.{◌⊎◌, ◌<◌, IsSome}
-use Rattle.slot_disk.specs.Faults.{Rose}
-use Rattle.slot_disk.specs.Medium.{Medium, Told, Keeps}
-use Rattle.slot_disk.proofs.WhereToldLemmas.{rose_wider}
+use Rattle.device_cells.specs.Faults.{Rose}
+use Rattle.device_cells.specs.Medium.{Medium, Told, Keeps}
+use Rattle.device_cells.proofs.WhereToldLemmas.{rose_wider}
 use Rattle.audit_trail.specs.TrailStands.{IsTrail, IsFirstDamaged}
 use Rattle.audit_trail.specs.declared.entries.Entry.{Entry}
 use Rattle.audit_trail.specs.declared.faults.TrailFault.{TrailFault}

@@ -1,9 +1,9 @@
 -- What a run leaves at its last line, on the disks and on the trail.
 use Rattle.std.proofs.Common.{◌≡◌, ◌+◌, ◌^◌, ◌<◌, ℕ, List, length, Option, Result, Ok, Err, ap, refl, sym, subst, inl, inr}
 use Rattle.std.specs.Prelude.{◌⊎◌, OnErr, IfErr, IfOk, IsOk, IsSome}
-use Rattle.slot_disk.specs.Medium.{Medium, EachImage, IsSettled, Told}
-use Rattle.slot_disk.specs.WhereTold.{WhereTold}
-use Rattle.slot_disk.proofs.WhereToldLemmas.{told_weaker}
+use Rattle.device_cells.specs.Medium.{Medium, EachImage, IsSettled, Told}
+use Rattle.device_cells.specs.WhereTold.{WhereTold}
+use Rattle.device_cells.proofs.WhereToldLemmas.{told_weaker}
 use Rattle.script_buffers.specs.Lines.{lines}
 use Rattle.script_buffers.specs.Reading.{Reading}
 use Rattle.audit_trail.specs.TrailStands.{IsTrail}

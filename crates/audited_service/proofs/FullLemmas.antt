@@ -1,10 +1,10 @@
 -- When a trail is full, and when a run answers every line.
 use Rattle.std.proofs.Common.{◌≡◌, ◌≤◌, ◌<◌, ◌+◌, ◌^◌, ℕ, List, [], ◌∷◌, ◌++◌, length, Option, None, Some, IfSome, IsSome, Result, Ok, Err, refl, sym, ap, ◌∙◌, subst, inl, inr, arith, length-append}
 use Rattle.std.specs.Prelude.{◌⊎◌, IfErr}
-use Rattle.slot_disk.specs.Medium.{Medium, Told, Keeps}
-use Rattle.slot_disk.specs.WhereTold.{WhereTold}
-use Rattle.slot_disk.proofs.WhereToldLemmas.{told_weaker}
-use Rattle.slot_disk.proofs.Media.{told_from, told_at}
+use Rattle.device_cells.specs.Medium.{Medium, Told, Keeps}
+use Rattle.device_cells.specs.WhereTold.{WhereTold}
+use Rattle.device_cells.proofs.WhereToldLemmas.{told_weaker}
+use Rattle.device_cells.proofs.Media.{told_from, told_at}
 use Rattle.script_buffers.specs.Lines.{lines}
 use Rattle.script_buffers.specs.Reading.{Reading, input_limit}
 use Rattle.audit_trail.specs.TrailStands.{IsTrail, StandsForTrail, IsFirstDamaged}

@@ -2,10 +2,10 @@
 use Rattle.std.proofs.Common.{ℕ, List, [], ◌∷◌, ◌++◌, Option, None, Some, IfSome, Result, sym, ◌∙◌, subst, inl, inr, append_assoc}
 use Rattle.std.specs.Prelude.{◌⊎◌}
 use Rattle.std.proofs.lemmas.List.{append-nil}
-use Rattle.slot_disk.specs.Medium.{Medium, Told, From, EachImage, Keeps}
-use Rattle.slot_disk.specs.SpareBytes.{SameSpare}
-use Rattle.slot_disk.proofs.Media.{told_from, told_at, becomes_told, becomes_weaker, becomes_same, becomes_then, each_weaker, image_now, goes_on, from_then}
-use Rattle.slot_disk.proofs.SpareLemmas.{same_spare, same_spare_then, spare_untouched}
+use Rattle.device_cells.specs.Medium.{Medium, Told, From, EachImage, Keeps}
+use Rattle.device_cells.specs.SpareBytes.{SameSpare}
+use Rattle.device_cells.proofs.Media.{told_from, told_at, becomes_told, becomes_weaker, becomes_same, becomes_then, each_weaker, image_now, goes_on, from_then}
+use Rattle.device_cells.proofs.SpareLemmas.{same_spare, same_spare_then, spare_untouched}
 use Rattle.audit_trail.specs.Changes.{Appending, AppendsEntry}
 use Rattle.audit_trail.specs.TrailStands.{IsTrail}
 use Rattle.audit_trail.specs.declared.entries.Entry.{Entry}

@@ -2,8 +2,8 @@
 use Rattle.std.proofs.Common.{◌≡◌, ◌<◌, ◌≤◌, ◌+◌, ◌++◌, ℕ, List, [], length, Option, None, Result, Ok, Err, refl, sym, subst, inl, inr}
 use Rattle.std.specs.Prelude.{◌↔◌, IsTrue, IfOk, OnErr, OnOk}
 use Rattle.std.specs.Io.KnownBytes.{IsAtEnd}
-use Rattle.slot_disk.specs.Medium.{Medium, IsSettled}
-use Rattle.slot_disk.specs.WhereTold.{WhereTold}
+use Rattle.device_cells.specs.Medium.{Medium, IsSettled}
+use Rattle.device_cells.specs.WhereTold.{WhereTold}
 use Rattle.script_buffers.specs.Lines.{NoNewline}
 use Rattle.script_buffers.specs.Reading.{Reading, blank, input_limit, given, LosesPart, Takes, Shows, Advances}
 use Rattle.script_buffers.specs.declared.lines.LineFault.{LineFault}

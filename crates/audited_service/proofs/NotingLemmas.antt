@@ -2,8 +2,8 @@
 use Rattle.std.proofs.Common.{◌≡◌, ℕ, suc, List, [], ◌∷◌, ◌++◌, Result, Ok, Err, refl, sym, ap, ◌∙◌, subst, inl, inr, append_assoc}
 use Rattle.std.proofs.lemmas.List.{append-nil}
 use Rattle.std.specs.Prelude.{◌⊎◌, OnOk}
-use Rattle.slot_disk.specs.Medium.{Medium}
-use Rattle.slot_disk.proofs.Media.{each_weaker}
+use Rattle.device_cells.specs.Medium.{Medium}
+use Rattle.device_cells.proofs.Media.{each_weaker}
 use Rattle.audit_trail.specs.declared.entries.Entry.{Entry}
 use Rattle.line_service.specs.Machine.{Machine, World}
 use Rattle.line_service.specs.Answering.{OnDisks, Stands, Steps, Around, Both, Stays, Moves, Turns, Serves}

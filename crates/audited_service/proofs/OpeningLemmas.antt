@@ -1,9 +1,9 @@
 -- A run from the disks and the trail as they were before they were opened.
 use Rattle.std.proofs.Common.{◌≡◌, ℕ, List, Option, Result, Ok, Err, refl, sym, subst, inl, inr}
 use Rattle.std.specs.Prelude.{◌⊎◌, IsSome}
-use Rattle.slot_disk.specs.Medium.{Medium, Told, Keeps}
-use Rattle.slot_disk.proofs.Media.{goes_on, each_weaker, keeps_then, told_still}
-use Rattle.slot_disk.proofs.WhereToldLemmas.{told_same, told_weaker}
+use Rattle.device_cells.specs.Medium.{Medium, Told, Keeps}
+use Rattle.device_cells.proofs.Media.{goes_on, each_weaker, keeps_then, told_still}
+use Rattle.device_cells.proofs.WhereToldLemmas.{told_same, told_weaker}
 use Rattle.audit_trail.specs.TrailStands.{IsTrail}
 use Rattle.audit_trail.specs.declared.entries.Entry.{Entry}
 use Rattle.audit_trail.specs.declared.faults.TrailFault.{TrailFault}

@@ -1,10 +1,10 @@
 -- What a machine leaves that notes entries, the machine leaves.
 use Rattle.std.proofs.Common.{◌≡◌, ◌<◌, ◌*◌, ℕ, List, ◌∷◌, ◌++◌, Option, Result, sym, ap, ◌∙◌, inl, inr}
 use Rattle.std.specs.Prelude.{◌⊎◌, slice_index}
-use Rattle.slot_disk.proofs.Media.{each_weaker, becomes_weaker}
-use Rattle.slot_disk.proofs.WhereToldLemmas.{told_weaker}
-use Rattle.slot_disk.specs.Cells.{other_body}
-use Rattle.slot_disk.specs.SpareBytes.{SameCell}
+use Rattle.device_cells.proofs.Media.{each_weaker, becomes_weaker}
+use Rattle.device_cells.proofs.WhereToldLemmas.{told_weaker}
+use Rattle.device_cells.specs.Cells.{other_body}
+use Rattle.device_cells.specs.SpareBytes.{SameCell}
 use Rattle.audit_trail.specs.declared.entries.Entry.{Entry}
 use Rattle.line_service.specs.Machine.{Machine, Outcome, World}
 use Rattle.line_service.specs.Answering.{Steps, Around, Both}

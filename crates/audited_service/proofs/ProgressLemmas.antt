@@ -2,8 +2,8 @@
 -- function's answers are applications of these.
 use Rattle.std.proofs.Common.{◌≡◌, ◌^◌, ℕ, List, Option, Result, Ok, Err, refl, ap, sym, subst, ◌∙◌, inl}
 use Rattle.std.specs.Prelude.{OnErr, IfErr, IsOk}
-use Rattle.slot_disk.specs.Medium.{Medium, IsSettled, Told}
-use Rattle.slot_disk.specs.WhereTold.{WhereTold}
+use Rattle.device_cells.specs.Medium.{Medium, IsSettled, Told}
+use Rattle.device_cells.specs.WhereTold.{WhereTold}
 use Rattle.script_buffers.specs.Reading.{Reading, blank}
 use Rattle.audit_trail.specs.TrailStands.{StandsForTrail}
 use Rattle.audit_trail.specs.declared.entries.Entry.{Entry}

@@ -1,10 +1,10 @@
 -- One line, as it is taken, answered, recorded and sent.
 use Rattle.std.proofs.Common.{◌≡◌, ℕ, List, [], ◌∷◌, ◌++◌, Option, Result, Ok, Err, refl, ap, sym, subst, ◌∙◌, inl, inr}
 use Rattle.std.specs.Prelude.{◌⊎◌}
-use Rattle.slot_disk.specs.Medium.{Medium, EachImage, IsSettled, Told, From}
-use Rattle.slot_disk.specs.WhereTold.{WhereTold}
-use Rattle.slot_disk.proofs.Media.{each_weaker, each_still, image_now, settled_image, told_at}
-use Rattle.slot_disk.proofs.WhereToldLemmas.{told_weaker}
+use Rattle.device_cells.specs.Medium.{Medium, EachImage, IsSettled, Told, From}
+use Rattle.device_cells.specs.WhereTold.{WhereTold}
+use Rattle.device_cells.proofs.Media.{each_weaker, each_still, image_now, settled_image, told_at}
+use Rattle.device_cells.proofs.WhereToldLemmas.{told_weaker}
 use Rattle.script_buffers.specs.Reading.{Reading, TakesLine, Takes}
 use Rattle.script_buffers.specs.declared.lines.Taken.{Taken}
 use Rattle.script_buffers.specs.declared.lines.Taken.TheVariants.{End}

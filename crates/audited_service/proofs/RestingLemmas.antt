@@ -3,11 +3,11 @@ use Rattle.std.proofs.Common.{◌<◌, ◌≤◌, ◌-◌, ◌*◌, ◌%◌, inl
 use Rattle.std.specs.Prelude.{◌⊎◌}
 use Rattle.std.proofs.lemmas.Bool.{cases_lt}
 use Rattle.std.proofs.lemmas.List.{append-nil, length-append, get_or_append_left}
-use Rattle.slot_disk.specs.Cells.{body, other_body, IsReplaced}
-use Rattle.slot_disk.specs.Medium.{Medium, Becomes, Keeps}
-use Rattle.slot_disk.specs.SpareBytes.{SameCell, Turned}
-use Rattle.slot_disk.proofs.Media.{becomes_weaker, becomes_both, becomes_same, becomes_then}
-use Rattle.slot_disk.proofs.SpareLemmas.{same_spare, same_spare_then, replaced_turned}
+use Rattle.device_cells.specs.Cells.{body, other_body, IsReplaced}
+use Rattle.device_cells.specs.Medium.{Medium, Becomes, Keeps}
+use Rattle.device_cells.specs.SpareBytes.{SameCell, Turned}
+use Rattle.device_cells.proofs.Media.{becomes_weaker, becomes_both, becomes_same, becomes_then}
+use Rattle.device_cells.proofs.SpareLemmas.{same_spare, same_spare_then, replaced_turned}
 use Rattle.audit_trail.specs.Changes.{Appending, AppendsEntry}
 use Rattle.audit_trail.specs.Entries.{entry_at, no_entry}
 use Rattle.audit_trail.specs.RecordBody.{record_body, Spells}

@@ -3,10 +3,10 @@ use Rattle.std.proofs.Common.{◌≡◌, ℕ, Bool, List, [], ◌++◌, Option, 
 use Rattle.std.specs.Prelude.{◌⊎◌, ◌≢◌, IsTrue, OnOk}
 use Rattle.std.proofs.KnownBytes.{Consumes-trans}
 use Rattle.std.proofs.lemmas.List.{append-nil}
-use Rattle.slot_disk.specs.Medium.{Medium, EachImage, IsSettled, Told}
-use Rattle.slot_disk.specs.WhereTold.{WhereTold}
-use Rattle.slot_disk.proofs.Media.{goes_on, each_weaker}
-use Rattle.slot_disk.proofs.WhereToldLemmas.{told_then, told_same, told_both, told_weaker}
+use Rattle.device_cells.specs.Medium.{Medium, EachImage, IsSettled, Told}
+use Rattle.device_cells.specs.WhereTold.{WhereTold}
+use Rattle.device_cells.proofs.Media.{goes_on, each_weaker}
+use Rattle.device_cells.proofs.WhereToldLemmas.{told_then, told_same, told_both, told_weaker}
 use Rattle.script_buffers.specs.Reading.{Reading, LosesPart}
 use Rattle.audit_trail.specs.TrailStands.{IsTrail}
 use Rattle.audit_trail.specs.declared.entries.Entry.{Entry}

@@ -1,9 +1,9 @@
 -- What calls that may append leave of a trail.
 use Rattle.std.proofs.Common.{◌≡◌, ◌<◌, ℕ, Result, Ok, Err, ap, refl, subst, sym, inl, inr, ◌∙◌, arith}
 use Rattle.std.specs.Prelude.{◌⊎◌, IfErr, IsOk}
-use Rattle.slot_disk.specs.Faults.{Rose}
-use Rattle.slot_disk.specs.Medium.{Medium, IsSettled, Becomes}
-use Rattle.slot_disk.proofs.Media.{keeps_still}
+use Rattle.device_cells.specs.Faults.{Rose}
+use Rattle.device_cells.specs.Medium.{Medium, IsSettled, Becomes}
+use Rattle.device_cells.proofs.Media.{keeps_still}
 use Rattle.audit_trail.specs.Changes.{AppendsEntry, TrailLeft}
 use Rattle.audit_trail.specs.declared.entries.Entry.{Entry}
 use Rattle.audit_trail.specs.declared.faults.TrailFault.{TrailFault}

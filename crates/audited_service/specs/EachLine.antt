@@ -2,8 +2,8 @@
 -- lines leave once disks and trail are opened.
 use Rattle.std.specs.Prelude.{⊤, ◌≡◌, ◌⊎◌, ◌+◌, ◌^◌, ◌<◌, ℕ, List, ◌++◌, Bool, Option, Ok, Err, Result, OnOk, OnErr, IfErr, IfOk, IsSome, length}
 use Rattle.std.specs.Io.KnownBytes.{Consumes}
-use Rattle.slot_disk.specs.Medium.{Medium, Told, IsSettled, Becomes, EachImage}
-use Rattle.slot_disk.specs.WhereTold.{WhereTold}
+use Rattle.device_cells.specs.Medium.{Medium, Told, IsSettled, Becomes, EachImage}
+use Rattle.device_cells.specs.WhereTold.{WhereTold}
 use Rattle.script_buffers.specs.Lines.{lines}
 use Rattle.script_buffers.specs.Reading.{TakesLine, Reading}
 use Rattle.audit_trail.specs.Changes.{AppendsEntry, TrailLeft}

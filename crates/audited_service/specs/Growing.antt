@@ -1,8 +1,8 @@
 -- What a call leaves of a trail, whatever the disks hold.
 use Rattle.std.specs.Prelude.{◌≡◌, ◌⊎◌, ℕ, ◌*◌, ◌%◌, ◌<◌, List, ◌++◌, length, slice_index}
-use Rattle.slot_disk.specs.Cells.{other_body}
-use Rattle.slot_disk.specs.Medium.{Medium, Told, From, Becomes, EachImage}
-use Rattle.slot_disk.specs.SpareBytes.{SameSpare, SameCell}
+use Rattle.device_cells.specs.Cells.{other_body}
+use Rattle.device_cells.specs.Medium.{Medium, Told, From, Becomes, EachImage}
+use Rattle.device_cells.specs.SpareBytes.{SameSpare, SameCell}
 use Rattle.audit_trail.specs.Entries.{entry_at}
 use Rattle.audit_trail.specs.RecordBody.{blank_body, Spells}
 use Rattle.audit_trail.specs.TrailStands.{IsTrail}

@@ -1,6 +1,6 @@
 -- A machine whose states have, beside its own, the entries of the lines that it answered.
 use Rattle.std.specs.Prelude.{◌≡◌, ◌⊎◌, ℕ, List, [], ◌∷◌, ◌++◌, length}
-use Rattle.slot_disk.specs.Medium.{Medium}
+use Rattle.device_cells.specs.Medium.{Medium}
 use Rattle.audit_trail.specs.TrailStands.{IsTrail}
 use Rattle.audit_trail.specs.declared.entries.Entry.{Entry}
 use Rattle.line_service.specs.Machine.{Machine, Outcome}

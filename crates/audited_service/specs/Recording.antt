@@ -1,8 +1,8 @@
 -- How far a run has come that records each line before its reply is sent.
 use Rattle.std.specs.Prelude.{◌≡◌, ◌⊎◌, ◌^◌, ℕ, List, ◌∷◌, [], ◌++◌, length, Option, IsSome, Ok, Err, Result}
 use Rattle.std.specs.Io.KnownBytes.{Consumes}
-use Rattle.slot_disk.specs.Medium.{Medium, EachImage, Keeps}
-use Rattle.slot_disk.specs.WhereTold.{WhereTold}
+use Rattle.device_cells.specs.Medium.{Medium, EachImage, Keeps}
+use Rattle.device_cells.specs.WhereTold.{WhereTold}
 use Rattle.script_buffers.specs.Lines.{lines}
 use Rattle.audit_trail.specs.TrailStands.{IsTrail}
 use Rattle.audit_trail.specs.declared.entries.Entry.{Entry}

@@ -2,7 +2,7 @@
 ghost use Rattle.std.specs.Prelude.{◌≡◌, IsTrue, Ok, Err, OnOk};
 ghost use Rattle.std.specs.Io.KnownBytes.{IsAtEnd};
 ghost use Rattle.key_cells.specs.Bench.{blank_bench};
-ghost use Rattle.slot_disk.specs.Medium.{Told};
+ghost use Rattle.device_cells.specs.Medium.{Told};
 ghost use Rattle.audit_trail.specs.Entries.{IsEntry};
 ghost use Rattle.audit_trail.specs.TrailStands.{trail_size, StandsForTrail};
 ghost use Rattle.line_service.specs.Answering.{Stands};
@@ -13,10 +13,10 @@ ghost use Rattle.audited_service.specs.EachLine.{Agrees, AppendFails, EntrySent,
 
 use crate::scribe::{Scribe, entry_taken};
 use audit_trail::{Entry, Trail, TrailFault};
+use device_cells::{Disk, Entropy, Sink, Source};
 use key_cells::Workbench;
 use line_service::{Desk, Served, Shown, ShownOutside, Stop, answer_taken, send};
 use script_buffers::{LineBuffer, LineFault, ReplyBuffer, Taken, read_line};
-use slot_disk::{Disk, Entropy, Sink, Source};
 
 // Appends the entry of a line that was answered, and sends the reply then. Where the trail fails no byte is sent.
 fn append_and_send<K: Sink, T: Disk>(

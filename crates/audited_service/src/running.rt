@@ -1,7 +1,7 @@
 //! Line after line, each recorded, to the end of the input.
 ghost use Rattle.std.specs.Prelude.{◌≡◌};
 ghost use Rattle.key_cells.specs.Bench.{blank_bench};
-ghost use Rattle.slot_disk.specs.Medium.{Told, Keeps};
+ghost use Rattle.device_cells.specs.Medium.{Told, Keeps};
 ghost use Rattle.script_buffers.specs.Reading.{blank};
 ghost use Rattle.audit_trail.specs.TrailStands.{trail_size, StandsForTrail};
 ghost use Rattle.line_service.specs.Answering.{IsSound};
@@ -14,10 +14,10 @@ ghost use Rattle.audited_service.specs.Growing.{TrailGrows};
 use crate::auditing::audit_one;
 use crate::scribe::Scribe;
 use audit_trail::{Trail, TrailFault, open_trail};
+use device_cells::{Disk, Entropy, Sink, Source};
 use key_cells::Workbench;
 use line_service::{Desk, Served, Shown, ShownOutside, Stop};
 use script_buffers::{LineBuffer, ReplyBuffer};
-use slot_disk::{Disk, Entropy, Sink, Source};
 
 // Serves line after line, each recorded, to the end of the input.
 fn audit_all<A: Desk, W: Scribe, S: Source, K: Sink, M: Disk, D: Disk, E: Entropy, T: Disk>(

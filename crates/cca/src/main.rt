@@ -19,10 +19,10 @@ ghost use Rattle.cca.specs.Exits.{EndsWell, told_of};
 mod ending;
 
 use cca_tool::{AuditStatus, Command, Status, Words, run, run_audited, show_trail, unload};
+use device_cells::{Disk, FileDisk, NoMemory, StreamEntropy, StreamSink, StreamSource};
 use ending::{Ending, fault_of};
 use key_cells::Workbench;
 use real_devices::{Fault, Folder, MODULE_LEN, STORE_LEN, TRAIL_LEN};
-use slot_disk::{Disk, FileDisk, NoMemory, StreamEntropy, StreamSink, StreamSource};
 use std::env;
 use std::io::ErrorKind;
 use std::process::ExitCode;

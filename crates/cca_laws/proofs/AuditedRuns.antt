@@ -1,9 +1,9 @@
 -- What an audited run leaves is a store at rest too.
 use Rattle.std.proofs.Common.{◌≡◌, ◌⊎◌, inl, inr, ℕ, ◌*◌, ◌<◌, List, ◌++◌, slice_index, Option, Some, Result, Ok, Err, refl, sym, ap, subst, ◌∙◌}
-use Rattle.slot_disk.specs.Cells.{other_body}
-use Rattle.slot_disk.specs.Medium.{Medium, Told, Becomes, Keeps}
-use Rattle.slot_disk.specs.SpareBytes.{SameCell}
-use Rattle.slot_disk.proofs.Media.{becomes_weaker}
+use Rattle.device_cells.specs.Cells.{other_body}
+use Rattle.device_cells.specs.Medium.{Medium, Told, Becomes, Keeps}
+use Rattle.device_cells.specs.SpareBytes.{SameCell}
+use Rattle.device_cells.proofs.Media.{becomes_weaker}
 use Rattle.script_buffers.specs.Lines.{lines}
 use Rattle.audit_entries.specs.LineEntries.{entry_of}
 use Rattle.audit_trail.specs.declared.entries.Entry.{Entry}

@@ -1,6 +1,6 @@
 -- Contents stand for one state, and a state has one store.
 use Rattle.std.proofs.Common.{◌≡◌, ◌<◌, ℕ, List, Option, None, Some, ⊎_elim, sym, ap, subst, ◌∙◌}
-use Rattle.slot_disk.specs.Cells.{body}
+use Rattle.device_cells.specs.Cells.{body}
 use Rattle.cca_roles.specs.declared.roles.Role.{Role}
 use Rattle.cca_roles.proofs.StandLaws.{stands_one}
 use Rattle.record_bodies.specs.Entries.{Entry}

@@ -5,7 +5,7 @@ use Rattle.std.specs.Str.{bytes_eq}
 use Rattle.std.proofs.lemmas.Bool.{cases_lt}
 use Rattle.std.proofs.lemmas.List.{get_or_past, length-take}
 use Rattle.std.proofs.lemmas.Slice.Eq.{bytes_eq-Decides}
-use Rattle.slot_disk.specs.Cells.{body}
+use Rattle.device_cells.specs.Cells.{body}
 use Rattle.cca_vectors.specs.Checks.{Check, check, first_failing}
 use Rattle.cca_vectors.specs.Permissions.{is_exportable}
 use Rattle.cca_vectors.specs.VectorChecks.{vector_checks}

@@ -4,7 +4,7 @@ use Rattle.std.specs.Prelude.{is_none, slice_index, if◌then◌else◌, ◌==�
 use Rattle.std.proofs.lemmas.Bool.{cases_lt}
 use Rattle.std.proofs.lemmas.List.{get_or_past}
 use Rattle.hex.specs.Hex.{IsBytes}
-use Rattle.slot_disk.specs.Cells.{body}
+use Rattle.device_cells.specs.Cells.{body}
 use Rattle.byte_lists.specs.Bytes.{AreBytes}
 use Rattle.byte_lists.proofs.ByteLemmas.{IsZero-replicate}
 use Rattle.cca_vectors.specs.Checks.{first_failing}

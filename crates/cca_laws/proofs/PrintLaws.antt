@@ -10,7 +10,7 @@ use Rattle.std.proofs.lemmas.List.Elements.{All-append, All-cons, All-filter, Al
 use Rattle.std.proofs.lemmas.List.Sums.{AllPass-from_list_all}
 use Rattle.hex.specs.Hex.{encode_with, lower_digits}
 use Rattle.std.specs.Str.{bytes_eq}
-use Rattle.slot_disk.specs.Cells.{body}
+use Rattle.device_cells.specs.Cells.{body}
 use Rattle.held_names.specs.Characters.{is_label_byte}
 use Rattle.cca_vectors.specs.Checks.{Check, first_failing}
 use Rattle.cca_vectors.specs.Classes.{class_of}

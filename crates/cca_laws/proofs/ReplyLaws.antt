@@ -2,7 +2,7 @@
 use Rattle.std.proofs.Common.{◌≡◌, ℕ, ◌<◌, zero, suc, Bool, true, false, cond, List, [], ◌∷◌, ◌++◌, length, map, set, take, drop, Option, None, Some, ⊎_elim, refl, sym, ap, subst, ◌∙◌, codes, T, ap₂, append_assoc, arith}
 use Rattle.std.specs.Prelude.{⊤, ◌&&◌, nat_le, filter, nat_eq, if◌then◌else◌}
 use Rattle.std.specs.List.{list_all, range_with_len, starts_with}
-use Rattle.slot_disk.specs.Cells.{body}
+use Rattle.device_cells.specs.Cells.{body}
 use Rattle.held_names.specs.Characters.{is_label_byte}
 use Rattle.cca_vectors.specs.Checks.{first_failing}
 use Rattle.cca_vectors.specs.Classes.{class_of}

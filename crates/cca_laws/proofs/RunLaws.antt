@@ -2,11 +2,11 @@
 use Rattle.std.proofs.Common.{◌≡◌, ◌⊎◌, inl, inr, ⊎_elim, ℕ, suc, ◌*◌, ◌<◌, List, [], ◌∷◌, ◌++◌, append_assoc, append-nil, slice_index, Option, None, Some, Result, Ok, Err, refl, sym, ap, subst, ◌∙◌, arith}
 use Rattle.std.specs.Prelude.{Contains, IfSome, IsOk}
 use Rattle.std.specs.Io.KnownBytes.{Consumes}
-use Rattle.slot_disk.specs.Cells.{other_body}
-use Rattle.slot_disk.specs.Medium.{Told, Becomes}
-use Rattle.slot_disk.specs.SpareBytes.{SameCell}
-use Rattle.slot_disk.specs.WhereTold.{WhereTold}
-use Rattle.slot_disk.proofs.Media.{told_at, told_from}
+use Rattle.device_cells.specs.Cells.{other_body}
+use Rattle.device_cells.specs.Medium.{Told, Becomes}
+use Rattle.device_cells.specs.SpareBytes.{SameCell}
+use Rattle.device_cells.specs.WhereTold.{WhereTold}
+use Rattle.device_cells.proofs.Media.{told_at, told_from}
 use Rattle.script_buffers.specs.Lines.{lines}
 use Rattle.script_buffers.proofs.LineLemmas.{lines-append}
 use Rattle.line_service.specs.Answering.{OnDisks}

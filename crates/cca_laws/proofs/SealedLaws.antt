@@ -6,9 +6,9 @@ use Rattle.std.proofs.lemmas.Grind.{same_number_lists}
 use Rattle.std.proofs.lemmas.List.Elements.{Contains-append_left, Contains-append_right}
 use Rattle.std.proofs.lemmas.Slice.Eq.{bytes_eq-Decides}
 use Rattle.held_names.proofs.DirectoryLaws.{none_some}
-use Rattle.slot_disk.specs.Cells.{body, body_at, body_place, other_body, selected}
-use Rattle.slot_disk.specs.SpareBytes.{SameCell}
-use Rattle.slot_disk.proofs.CellSteps.{get_or-range, length-range, selected_below}
+use Rattle.device_cells.specs.Cells.{body, body_at, body_place, other_body, selected}
+use Rattle.device_cells.specs.SpareBytes.{SameCell}
+use Rattle.device_cells.proofs.CellSteps.{get_or-range, length-range, selected_below}
 use Rattle.record_bodies.specs.Entries.{Entry}
 use Rattle.record_bodies.specs.RecordBody.{ReadsEntry, blank_body}
 use Rattle.record_bodies.specs.StoreStands.{entry_at}

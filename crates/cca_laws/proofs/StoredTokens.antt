@@ -5,8 +5,8 @@ use Rattle.std.proofs.lemmas.Bool.{cases_lt}
 use Rattle.std.proofs.lemmas.List.{get_or_past, length-append, length-replicate}
 use Rattle.held_names.proofs.DirectoryLaws.{none_some}
 use Rattle.held_names.proofs.NameLemmas.{label_short}
-use Rattle.slot_disk.specs.Cells.{body, selected}
-use Rattle.slot_disk.proofs.CellSteps.{selected_below}
+use Rattle.device_cells.specs.Cells.{body, selected}
+use Rattle.device_cells.proofs.CellSteps.{selected_below}
 use Rattle.cca_vectors.specs.Checks.{first_failing}
 use Rattle.record_bodies.specs.Entries.{Entry}
 use Rattle.record_bodies.specs.Labels.{IsLabel}

@@ -2,8 +2,8 @@
 use Rattle.std.specs.Prelude.{◌≡◌, ◌⊎◌, ◌<◌, ◌*◌, ℕ, List, [], ◌∷◌, Contains, Option, None, Some, length, slice_index}
 use Rattle.cca_vectors.specs.Checks.{first_failing}
 use Rattle.cca_vectors.specs.Vectors.{IsValid}
-use Rattle.slot_disk.specs.Cells.{body, body_at, other_body}
-use Rattle.slot_disk.specs.SpareBytes.{IsSpare, SameSpare, SameCell}
+use Rattle.device_cells.specs.Cells.{body, body_at, other_body}
+use Rattle.device_cells.specs.SpareBytes.{IsSpare, SameSpare, SameCell}
 use Rattle.record_bodies.specs.Entries.{Entry}
 use Rattle.record_bodies.specs.Labels.{IsLabel}
 use Rattle.record_bodies.specs.StoreStands.{entry_at}

@@ -3,7 +3,7 @@
 ghost use Rattle.std.specs.Prelude.{◌≡◌, ◌<◌, ℕ, List};
 ghost use Rattle.cca_machine.specs.Session.{replies, state_after};
 ghost use Rattle.cca_machine.specs.State.{State};
-ghost use Rattle.slot_disk.specs.Cells.{body};
+ghost use Rattle.device_cells.specs.Cells.{body};
 ghost use Rattle.cca_laws.specs.Disks.{StandFor};
 
 /// The contents of a module and of a store stand for one state alone. So the same contents, the same lines and the same

@@ -1,7 +1,7 @@
 //! A sealed store after a run.
 
 ghost use Rattle.std.specs.Prelude.{◌≡◌, ℕ, List, ◌++◌, Some, Result};
-ghost use Rattle.slot_disk.specs.Medium.{Told};
+ghost use Rattle.device_cells.specs.Medium.{Told};
 ghost use Rattle.script_buffers.specs.Lines.{lines};
 ghost use Rattle.audit_entries.specs.LineEntries.{entry_of};
 ghost use Rattle.audit_trail.specs.declared.entries.Entry.{Entry};
@@ -16,8 +16,8 @@ ghost use Rattle.cca_machine.specs.State.{State};
 ghost use Rattle.cca_lines.specs.Coprocessor.{cca};
 ghost use Rattle.cca_laws.specs.Sealed.{IsSealed, states_along};
 
+use device_cells::{Disk, Entropy, Sink, Source};
 use line_service::ShownOutside;
-use slot_disk::{Disk, Entropy, Sink, Source};
 
 /// A run that begins with a sealed store, and that neither a disk nor the random source ends, leaves a sealed store: over
 /// the states over which it was sealed and those that the lines of the input lead through, by the random bytes that the

@@ -1,9 +1,9 @@
 -- The coprocessor as a machine that answers lines, over a module, a store and random bytes.
 use Rattle.std.specs.Prelude.{⊤, ◌≡◌, ◌⊎◌, ◌≤◌, ◌<◌, ℕ, List, [], Option, None, IsTrue}
 use Rattle.std.proofs.Common.{inl, inr, refl, sym, subst}
-use Rattle.slot_disk.specs.Cells.{body}
-use Rattle.slot_disk.specs.SpareBytes.{SameSpare}
-use Rattle.slot_disk.proofs.SpareLemmas.{same_spare}
+use Rattle.device_cells.specs.Cells.{body}
+use Rattle.device_cells.specs.SpareBytes.{SameSpare}
+use Rattle.device_cells.proofs.SpareLemmas.{same_spare}
 use Rattle.master_registers.specs.Masters.{Masters}
 use Rattle.master_registers.specs.RegisterBody.{StandsForMasters}
 use Rattle.master_registers.proofs.BodyLaws.{reads_one}

@@ -1,10 +1,10 @@
 -- What a request writes of a disk.
 use Rattle.std.specs.Prelude.{◌≡◌, ◌≢◌, ◌*◌, ℕ, List, slice_index}
 use Rattle.std.proofs.Common.{sym, subst}
-use Rattle.slot_disk.specs.Cells.{body, IsUntouched}
-use Rattle.slot_disk.specs.Ranges.{SameOutside}
-use Rattle.slot_disk.specs.SpareBytes.{SameSpare}
-use Rattle.slot_disk.proofs.SpareLemmas.{same_spare, change_spare, spare_untouched}
+use Rattle.device_cells.specs.Cells.{body, IsUntouched}
+use Rattle.device_cells.specs.Ranges.{SameOutside}
+use Rattle.device_cells.specs.SpareBytes.{SameSpare}
+use Rattle.device_cells.proofs.SpareLemmas.{same_spare, change_spare, spare_untouched}
 use Rattle.reencipher.specs.Runs.{LeavesRest}
 use Rattle.cca_machine.specs.Act.{Cells, NoCell, OneCell, ChangedCells}
 

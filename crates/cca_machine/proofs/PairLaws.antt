@@ -6,8 +6,8 @@ use Rattle.std.proofs.lemmas.List.{get_or-replicate, get_or_past}
 use Rattle.std.proofs.lemmas.List.Elements.{All-take, All-drop}
 use Rattle.std.proofs.lemmas.Slice.Eq.{bytes_eq-Decides}
 use Rattle.byte_lists.specs.Bytes.{AreBytes}
-use Rattle.slot_disk.specs.Cells.{body, body_place, selected}
-use Rattle.slot_disk.proofs.CellSteps.{selected_below, length-range}
+use Rattle.device_cells.specs.Cells.{body, body_place, selected}
+use Rattle.device_cells.proofs.CellSteps.{selected_below, length-range}
 use Rattle.cca_roles.specs.RolesStand.{StandsForRoles, roles_in}
 use Rattle.cca_roles.specs.declared.roles.Role.{Role}
 use Rattle.cca_roles.proofs.StandLaws.{stands_one as roles_one, stands_undamaged as roles_undamaged}

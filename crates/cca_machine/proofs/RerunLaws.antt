@@ -1,7 +1,7 @@
 -- Runs of REENCIPHER that are stopped, and run again, end as one that isn't stopped.
 use Rattle.std.proofs.Common.{◌≡◌, ℕ, zero, suc, ◌<◌, ◌≤◌, Bool, true, false, List, [], ◌∷◌, length, Option, None, Some, codes, refl, sym, ap, ◌∙◌, subst}
 use Rattle.std.specs.Prelude.{◌||◌, if◌then◌else◌}
-use Rattle.slot_disk.specs.Cells.{body}
+use Rattle.device_cells.specs.Cells.{body}
 use Rattle.record_bodies.specs.Ages.{any_old as any_old_label, has_old_key, is_old_entry}
 use Rattle.record_bodies.specs.Entries.{Entry}
 use Rattle.record_bodies.specs.StoreStands.{StandsForLabels}

@@ -5,7 +5,7 @@
 ghost use Rattle.std.specs.Prelude.{◌≡◌, ℕ, List, [], ◌∷◌, ◌++◌, ◌<◌, ◌≤◌, length, take, replicate, codes, None, Some};
 ghost use Rattle.script_buffers.specs.Reading.{line_limit};
 ghost use Rattle.script_buffers.specs.Replies.{Refused, Done, Number};
-ghost use Rattle.slot_disk.specs.Cells.{body};
+ghost use Rattle.device_cells.specs.Cells.{body};
 ghost use Rattle.verb_script.specs.Requests.{request_of};
 ghost use Rattle.verb_script.specs.Grammar.{Request};
 ghost use Rattle.cca_vectors.specs.DefaultVectors.{vector_with};

@@ -3,7 +3,7 @@
 use Rattle.std.proofs.Common.{◌≡◌, ℕ, suc, ◌<◌, Bool, true, false, List, [], ◌∷◌, length, map, Option, None, Some, refl, sym, ap, ◌∙◌, subst, arith}
 use Rattle.std.specs.Prelude.{◌||◌, bytes_eq}
 use Rattle.std.proofs.lemmas.Slice.Eq.{bytes_eq-Decides}
-use Rattle.slot_disk.specs.Cells.{body}
+use Rattle.device_cells.specs.Cells.{body}
 use Rattle.key_tokens.specs.Denotes.{MasterKey, MasterKeys, Denoted, HaveDistinctPatterns}
 use Rattle.record_bodies.specs.Ages.{any_old, is_ahead_entry, any_ahead_entry}
 use Rattle.record_bodies.specs.Entries.{Entry, turned}

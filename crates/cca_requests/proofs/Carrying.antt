@@ -3,7 +3,7 @@ use Rattle.std.proofs.Common.{◌≡◌, ℕ, Bool, true, false, ◌++◌, List,
 use Rattle.std.specs.Prelude.{not, OnOk}
 use Rattle.std.proofs.lemmas.List.{append-nil}
 use Rattle.std.proofs.lemmas.Result.{on_ok_weaker}
-use Rattle.slot_disk.specs.Medium.{Medium, IsSettled}
+use Rattle.device_cells.specs.Medium.{Medium, IsSettled}
 use Rattle.cca_roles.specs.declared.roles.Role.{Role}
 use Rattle.verb_rules.proofs.TokenLemmas.{keys_apart}
 use Rattle.cca_vectors.specs.Checks.{check}

@@ -1,9 +1,9 @@
 -- An action on the registers is what the machine makes of it.
 use Rattle.std.proofs.Common.{◌≡◌, ℕ, Bool, true, false, List, [], ◌∷◌, Option, Result, Ok, Err, codes, refl, sym, ap, ◌∙◌, subst, inl, inr, ⊎_elim}
 use Rattle.std.specs.Prelude.{◌↔◌, ◌≤◌, IsTrue, IfOk, OnOk, OnErr}
-use Rattle.slot_disk.specs.Medium.{Medium, Told, IsSettled, EachImage, From}
-use Rattle.slot_disk.specs.Faults.{Rose}
-use Rattle.slot_disk.proofs.Media.{each_weaker, becomes_told, told_before}
+use Rattle.device_cells.specs.Medium.{Medium, Told, IsSettled, EachImage, From}
+use Rattle.device_cells.specs.Faults.{Rose}
+use Rattle.device_cells.proofs.Media.{each_weaker, becomes_told, told_before}
 use Rattle.cca_roles.specs.RolesStand.{StandsForRoles}
 use Rattle.cca_roles.specs.declared.roles.Role.{Role}
 use Rattle.cca_vectors.specs.Checks.{check}
@@ -23,7 +23,7 @@ use Rattle.cca_machine.specs.Act.{Outcome, NoCell, OneCell, Become, new_name}
 use Rattle.request_rules.specs.Standing.{StandsInModule}
 use Rattle.cca_requests.specs.Serving.{IsEither, SameBut, CarriesModule, LeavesModule}
 use Rattle.cca_requests.specs.Changes.{plainly, or_effected, state_name, change_stop, change_reply}
-use Rattle.slot_disk.proofs.SpareLemmas.{becomes_turned}
+use Rattle.device_cells.proofs.SpareLemmas.{becomes_turned}
 use Rattle.cca_requests.proofs.Leaving.{still_module_left}
 use Rattle.cca_requests.proofs.Contents.{at_content, becomes_holds, roles_alike, sound}
 use Rattle.cca_requests.proofs.Serving.{still_module}

@@ -1,9 +1,9 @@
 -- What stands in the cells that a change leaves alone.
 use Rattle.std.proofs.Common.{◌≡◌, ◌≢◌, ◌+◌, ℕ, List, Option, None, Some, refl, sym, subst, arith}
 use Rattle.std.specs.Prelude.{IsSome}
-use Rattle.slot_disk.specs.Cells.{body}
-use Rattle.slot_disk.specs.Medium.{Becomes, Medium, Told}
-use Rattle.slot_disk.proofs.Media.{told_at, told_from}
+use Rattle.device_cells.specs.Cells.{body}
+use Rattle.device_cells.specs.Medium.{Becomes, Medium, Told}
+use Rattle.device_cells.proofs.Media.{told_at, told_from}
 use Rattle.cca_roles.specs.RoleBody.{ReadsPlace}
 use Rattle.cca_roles.specs.Roles.{role_at}
 use Rattle.cca_roles.specs.RolesStand.{StandsForRoles}

@@ -2,11 +2,11 @@
 use Rattle.std.proofs.Common.{◌≡◌, ℕ, List, Option, None, Result, Ok, Err, refl, sym, ap, ◌∙◌, subst, arith}
 use Rattle.std.specs.Prelude.{◌≤◌, IsOk, IsSome, OnOk, OnErr, IfErr}
 use Rattle.std.proofs.lemmas.Result.{on_err_weaker}
-use Rattle.slot_disk.specs.Faults.{Rose}
-use Rattle.slot_disk.specs.Medium.{Medium, Told, IsSettled, Becomes, Keeps}
-use Rattle.slot_disk.specs.SpareBytes.{Turned}
-use Rattle.slot_disk.proofs.Media.{becomes_same, told_from, told_at}
-use Rattle.slot_disk.proofs.SpareLemmas.{turned_same}
+use Rattle.device_cells.specs.Faults.{Rose}
+use Rattle.device_cells.specs.Medium.{Medium, Told, IsSettled, Becomes, Keeps}
+use Rattle.device_cells.specs.SpareBytes.{Turned}
+use Rattle.device_cells.proofs.Media.{becomes_same, told_from, told_at}
+use Rattle.device_cells.proofs.SpareLemmas.{turned_same}
 use Rattle.cca_roles.specs.declared.roles.Role.{Role}
 use Rattle.record_bodies.specs.Entries.{row_directory}
 use Rattle.record_bodies.specs.StoreStands.{HoldsRows}

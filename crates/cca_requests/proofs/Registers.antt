@@ -1,9 +1,9 @@
 -- The registers that the code finds in the bench and on the module are those of the state.
 use Rattle.std.proofs.Common.{◌≡◌, ℕ, List, Option, None, Some, refl, sym, ap, ◌∙◌}
 use Rattle.key_cells.specs.Bench.{Bench}
-use Rattle.slot_disk.specs.Cells.{body}
-use Rattle.slot_disk.specs.Medium.{Medium, Keeps, Told}
-use Rattle.slot_disk.proofs.Media.{told_at}
+use Rattle.device_cells.specs.Cells.{body}
+use Rattle.device_cells.specs.Medium.{Medium, Keeps, Told}
+use Rattle.device_cells.proofs.Media.{told_at}
 use Rattle.line_service.specs.Answering.{Holds}
 use Rattle.master_registers.specs.Masters.{NewRegister, Empty, Partial, Full, Masters, new_bytes, kept_bytes, state_of}
 use Rattle.master_registers.specs.Loaded.{Loaded, masters_in, coming_in, kept_in, pattern_in, registers_of}

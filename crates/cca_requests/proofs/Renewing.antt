@@ -1,8 +1,8 @@
 -- An action on the labels of the store is what the machine makes of it.
 use Rattle.std.proofs.Common.{◌≡◌, ℕ, ◌∷◌, [], List, Option, Result, Ok, Err, codes, refl, ap, ◌∙◌, subst, inr}
 use Rattle.std.specs.Prelude.{OnOk, IfOk}
-use Rattle.slot_disk.specs.Medium.{Medium, Told, From}
-use Rattle.slot_disk.proofs.Media.{each_weaker, told_at}
+use Rattle.device_cells.specs.Medium.{Medium, Told, From}
+use Rattle.device_cells.proofs.Media.{each_weaker, told_at}
 use Rattle.record_bodies.specs.StoreStands.{KeepsLabels}
 use Rattle.key_records.specs.declared.faults.RecordFault.{RecordFault}
 use Rattle.record_bodies.specs.declared.rows.Row.{Row}

@@ -1,9 +1,9 @@
 -- A change of the roles is what the machine makes of it.
 use Rattle.std.proofs.Common.{◌≡◌, ◌+◌, ℕ, Bool, true, false, List, [], ◌∷◌, Option, Result, Ok, Err, codes, refl, sym, ap, ◌∙◌, subst, inl, inr, ⊎_elim}
 use Rattle.std.specs.Prelude.{◌⊎◌, ◌↔◌, ◌≤◌, IsTrue, OnOk, OnErr, IfErr}
-use Rattle.slot_disk.specs.Faults.{Rose}
-use Rattle.slot_disk.specs.Medium.{Medium, Told, IsSettled, EachImage, From}
-use Rattle.slot_disk.proofs.Media.{each_weaker, becomes_told, told_before}
+use Rattle.device_cells.specs.Faults.{Rose}
+use Rattle.device_cells.specs.Medium.{Medium, Told, IsSettled, EachImage, From}
+use Rattle.device_cells.proofs.Media.{each_weaker, becomes_told, told_before}
 use Rattle.cca_vectors.specs.Checks.{check}
 use Rattle.cca_roles.specs.Changes.{HoldsEither, ChangesRoles, Remembers}
 use Rattle.cca_roles.specs.RolesStand.{StandsForRoles}
@@ -21,7 +21,7 @@ use Rattle.cca_machine.specs.Act.{Effect, NoCell, OneCell, Outcome}
 use Rattle.request_rules.specs.Standing.{StandsInModule}
 use Rattle.cca_requests.specs.Serving.{IsEither, SameBut, CarriesModule, IsSound, LeavesModule}
 use Rattle.cca_requests.specs.Changes.{plainly, role_outcome, role_stop, role_reply}
-use Rattle.slot_disk.proofs.SpareLemmas.{changed_turned}
+use Rattle.device_cells.proofs.SpareLemmas.{changed_turned}
 use Rattle.cca_requests.proofs.Leaving.{still_module_left}
 use Rattle.cca_requests.proofs.Contents.{at_content, becomes_holds, registers_alike, sound}
 use Rattle.cca_requests.proofs.Serving.{still_module}

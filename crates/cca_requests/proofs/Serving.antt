@@ -1,8 +1,8 @@
 -- How what is said of the disks is carried from call to call.
 use Rattle.std.proofs.Common.{◌≡◌, ℕ, List, [], Option, Some, Result, Ok, Err, refl, sym, ap, ◌∙◌, subst, inl, inr, ⊎_elim}
 use Rattle.std.specs.Prelude.{OnOk, IfErr, IfSome, IsSome}
-use Rattle.slot_disk.specs.Medium.{Medium, Told, IsSettled, From, EachImage, EachPair, Keeps}
-use Rattle.slot_disk.proofs.Media.{goes_on, settled_image, each_weaker, each_pair, keeps_still, settled_kept}
+use Rattle.device_cells.specs.Medium.{Medium, Told, IsSettled, From, EachImage, EachPair, Keeps}
+use Rattle.device_cells.proofs.Media.{goes_on, settled_image, each_weaker, each_pair, keeps_still, settled_kept}
 use Rattle.script_buffers.specs.Replies.{spelled, Refused}
 use Rattle.cca_roles.specs.declared.roles.Role.{Role}
 use Rattle.record_bodies.specs.StoreStands.{Agrees}

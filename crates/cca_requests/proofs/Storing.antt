@@ -4,9 +4,9 @@ use Rattle.std.specs.Prelude.{◌⊎◌, ◌↔◌, ◌==◌, IsTrue, OnOk, OnEr
 use Rattle.std.proofs.lemmas.Bool.{false_from_ne_true}
 use Rattle.std.proofs.lemmas.Bool.Decides.{Decides-eqb}
 use Rattle.key_cells.specs.declared.leases.Lease.{Lease}
-use Rattle.slot_disk.specs.Cells.{IsReplacing}
-use Rattle.slot_disk.specs.Medium.{Medium, Told, IsSettled, From}
-use Rattle.slot_disk.proofs.Media.{each_weaker, told_from, told_before}
+use Rattle.device_cells.specs.Cells.{IsReplacing}
+use Rattle.device_cells.specs.Medium.{Medium, Told, IsSettled, From}
+use Rattle.device_cells.proofs.Media.{each_weaker, told_from, told_before}
 use Rattle.cca_vectors.specs.Checks.{check}
 use Rattle.key_records.specs.Changes.{HoldsEither, ChangesLabels, ChangesRecord, RefusesLabel, Remembers}
 use Rattle.record_bodies.specs.LabelChanges.{created, deleted, written}
@@ -29,7 +29,7 @@ use Rattle.request_rules.specs.Standing.{StandsInStore}
 use Rattle.cca_requests.specs.Serving.{IsEither, SameBut, CarriesStore, LeavesStore}
 use Rattle.request_verbs.specs.Deciding.{IsDeleted, IsRecorded, IsWritten}
 use Rattle.cca_requests.specs.Changes.{or_effected, plainly, record_stop, record_reply}
-use Rattle.slot_disk.proofs.SpareLemmas.{becomes_turned}
+use Rattle.device_cells.proofs.SpareLemmas.{becomes_turned}
 use Rattle.cca_requests.proofs.Leaving.{still_store_left}
 use Rattle.cca_requests.proofs.Contents.{at_content, holds_at}
 use Rattle.cca_requests.proofs.Serving.{still_store, told_some}

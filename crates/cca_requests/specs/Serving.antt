@@ -1,7 +1,7 @@
 -- What a request leaves of the disks, in a few records.
 use Rattle.std.specs.Prelude.{◌≡◌, ◌⊎◌, ◌≤◌, ◌<◌, ℕ, List, [], length, true, false, Option, Result, Err, OnOk, OnErr, IfErr, IsOk, IsSome, IsTrue, ⊤}
-use Rattle.slot_disk.specs.Medium.{Medium, Told, Keeps, From, Becomes, EachImage, EachPair}
-use Rattle.slot_disk.specs.SpareBytes.{Turned}
+use Rattle.device_cells.specs.Medium.{Medium, Told, Keeps, From, Becomes, EachImage, EachPair}
+use Rattle.device_cells.specs.SpareBytes.{Turned}
 use Rattle.script_buffers.specs.Reading.{line_limit}
 use Rattle.script_buffers.specs.Replies.{spelled}
 use Rattle.cca_roles.specs.RolesStand.{StandsForRoles}

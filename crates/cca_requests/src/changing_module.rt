@@ -16,6 +16,7 @@ ghost use Rattle.request_rules.specs.Standing.{HasLoaded, AtModule};
 use crate::changes::{Unmade, answer};
 use crate::endings::{end, refuse};
 use cca_roles::{AccessPoints, RoleFault, RoleName, Roles};
+use device_cells::Disk;
 use granted_operands::Refusal;
 use key_cells::Lease;
 use key_records::Records;
@@ -23,7 +24,6 @@ use line_service::Stop;
 use master_registers::{
     Action, NewState, RegisterFault, Registers, clear, first, last, middle, set,
 };
-use slot_disk::Disk;
 use verb_rules::Rule;
 use verb_script::ReplyBuffer;
 

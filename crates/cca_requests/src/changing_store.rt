@@ -4,7 +4,7 @@ ghost use Rattle.record_bodies.specs.Entries.{Entry};
 ghost use Rattle.record_bodies.specs.StoreStands.{KeepsLabels, HasStore};
 ghost use Rattle.master_registers.specs.Masters.{Masters};
 ghost use Rattle.reencipher.specs.Runs.{IsCell, LeavesAnyStore, Reenciphers, TurnsCells};
-ghost use Rattle.slot_disk.specs.Medium.{Told};
+ghost use Rattle.device_cells.specs.Medium.{Told};
 ghost use Rattle.verb_rules.specs.Keys.{keys_of};
 ghost use Rattle.key_cells.specs.Lease.{bench_of, loan_of};
 ghost use Rattle.master_registers.specs.Loaded.{IsLoaded, Loaded};
@@ -23,6 +23,7 @@ ghost use Rattle.request_verbs.specs.Deciding.{IsReady, IsHeldAt, IsWritten, IsD
 
 use crate::changes::{Unmade, answer};
 use crate::endings::{end, finish};
+use device_cells::Disk;
 use granted_operands::Refusal;
 use key_cells::Lease;
 use key_records::{Label, Place, RecordFault, Records};
@@ -30,7 +31,6 @@ use line_service::Stop;
 use master_registers::Registers;
 use reencipher::{StoreAction, ahead, drop_ahead, reencipher};
 use request_rules::stop_of;
-use slot_disk::Disk;
 use verb_rules::Rule;
 use verb_script::ReplyBuffer;
 

@@ -15,12 +15,12 @@ use crate::changing_module::{change_registers, define_role, remove_role};
 use crate::changing_store::{create, delete, renew, write};
 use crate::endings::{finish, refuse};
 use cca_roles::Roles;
+use device_cells::Disk;
 use key_cells::Lease;
 use key_records::Records;
 use line_service::{Shown, Stop};
 use master_registers::Registers;
 use request_verbs::Effect;
-use slot_disk::Disk;
 use verb_script::ReplyBuffer;
 
 /// Does what a verb left to be done. A change reads a disk once at most, and writes and syncs it twice; re-enciphering

@@ -17,6 +17,7 @@ ghost use Rattle.request_verbs.specs.Decided.{HasPassed, TakesOnly, source};
 use crate::effects::carry;
 use crate::endings::refuse;
 use cca_roles::Roles;
+use device_cells::{Disk, Entropy};
 use granted_operands::{Granted, Refusal, is_old};
 use key_cells::{Lease, Workbench};
 use key_records::Records;
@@ -24,7 +25,6 @@ use line_service::{Device, Shown, Stop};
 use master_registers::{LoadFault, Registers, load};
 use request_rules::{Verdict, general_rule, judge, operands_of};
 use request_verbs::{Effect, decide};
-use slot_disk::{Disk, Entropy};
 use verb_script::{ReplyBuffer, Request};
 
 /// Judges a request, carries it out where no rule refuses it, and writes the reply into the reply buffer.

@@ -4,10 +4,10 @@ use Rattle.std.specs.Prelude.{OnOk, is_err, IsErrAnd}
 use Rattle.std.proofs.lemmas.Bool.{cases_eq, cases_lt}
 use Rattle.std.proofs.lemmas.List.{get_or-set_same, get_or-set_other, length-set, ext_get_or}
 use Rattle.std.proofs.lemmas.List.FromFn.{length-map-range_with_len, get_or-map-range_with_len}
-use Rattle.slot_disk.specs.Cells.{body, IsReplaced, IsReplacing}
-use Rattle.slot_disk.specs.Medium.{Medium, Told, From, Becomes, EachImage}
-use Rattle.slot_disk.specs.SpareBytes.{HasTurned}
-use Rattle.slot_disk.proofs.Media.{told_at, becomes_told, becomes_weaker, each_weaker}
+use Rattle.device_cells.specs.Cells.{body, IsReplaced, IsReplacing}
+use Rattle.device_cells.specs.Medium.{Medium, Told, From, Becomes, EachImage}
+use Rattle.device_cells.specs.SpareBytes.{HasTurned}
+use Rattle.device_cells.proofs.Media.{told_at, becomes_told, becomes_weaker, each_weaker}
 use Rattle.cca_roles.specs.Changes.{HoldsEither}
 use Rattle.held_names.specs.Directory.{name_at, AreApart}
 use Rattle.cca_roles.specs.RoleBody.{ReadsPlace, slot_in}

@@ -1,7 +1,7 @@
 -- A module stands for a table of roles, or else it has a first damaged cell.
 use Rattle.std.proofs.Common.{◌≡◌, ◌≢◌, ◌≤◌, ◌<◌, ◌+◌, ◌⊎◌, inl, inr, ⊎_elim, ℕ, zero, suc, Bool, true, false, List, set, Option, None, Some, refl, sym, ap, subst, arith}
 use Rattle.std.specs.Prelude.{is_some}
-use Rattle.slot_disk.specs.Cells.{body}
+use Rattle.device_cells.specs.Cells.{body}
 use Rattle.held_names.specs.Directory.{AreApart, place_of}
 use Rattle.cca_roles.specs.Opening.{OpenedTo}
 use Rattle.cca_roles.specs.RoleBody.{ReadsPlace, slot_in}

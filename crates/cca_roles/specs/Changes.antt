@@ -3,11 +3,11 @@ use Rattle.std.specs.Prelude.{◌≡◌, ◌≢◌, ◌≤◌, ◌⊎◌, ◌+�
 use Rattle.std.specs.Prelude.{Result, Err, OnOk, OnErr}
 use Rattle.key_cells.specs.Lease.{bench_of, holding}
 use Rattle.key_cells.specs.declared.leases.Lease.{Lease}
-use Rattle.slot_disk.specs.Cells.{cell_size, body, IsReplaced, IsReplacing, IsUntouched}
-use Rattle.slot_disk.specs.Faults.{Rose}
-use Rattle.slot_disk.specs.Medium.{Medium, IsSettled, Told, From, Becomes, EachImage}
-use Rattle.slot_disk.specs.Ranges.{SameOutside}
-use Rattle.slot_disk.specs.SpareBytes.{HasTurned}
+use Rattle.device_cells.specs.Cells.{cell_size, body, IsReplaced, IsReplacing, IsUntouched}
+use Rattle.device_cells.specs.Faults.{Rose}
+use Rattle.device_cells.specs.Medium.{Medium, IsSettled, Told, From, Becomes, EachImage}
+use Rattle.device_cells.specs.Ranges.{SameOutside}
+use Rattle.device_cells.specs.SpareBytes.{HasTurned}
 use Rattle.cca_roles.specs.RolesStand.{StandsForRoles}
 use Rattle.cca_roles.specs.declared.faults.RoleFault.{RoleFault}
 use Rattle.cca_roles.specs.declared.faults.RoleFault.TheVariants.{DiskFault}

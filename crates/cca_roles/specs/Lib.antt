@@ -8,6 +8,6 @@ pub mod Opening
 pub use Rattle.held_names.specs.Directory
 pub use Rattle.key_cells.specs.Bench
 pub use Rattle.key_cells.specs.Lease
-pub use Rattle.slot_disk.specs.Cells
-pub use Rattle.slot_disk.specs.Faults
-pub use Rattle.slot_disk.specs.Medium
+pub use Rattle.device_cells.specs.Cells
+pub use Rattle.device_cells.specs.Faults
+pub use Rattle.device_cells.specs.Medium

@@ -1,7 +1,7 @@
 -- What a module stands for: the roles, each in its cell.
 use Rattle.std.specs.Prelude.{◌≡◌, ◌≤◌, ◌<◌, ◌⊎◌, ◌+◌, ℕ, List, length, map, Option, Some}
 use Rattle.std.specs.List.{range_with_len}
-use Rattle.slot_disk.specs.Cells.{body}
+use Rattle.device_cells.specs.Cells.{body}
 use Rattle.held_names.specs.Directory.{AreApart}
 use Rattle.cca_roles.specs.RoleBody.{ReadsPlace, slot_in}
 use Rattle.cca_roles.specs.Roles.{names, role_at}

@@ -1,6 +1,6 @@
 //! Changes of one role. Each writes one cell: a stop at any moment leaves the roles before or after.
 ghost use Rattle.std.specs.Prelude.{◌≡◌, ◌≢◌, ◌↔◌, ◌⊎◌, ◌+◌, ◌*◌, ◌≤◌, ◌<◌, ℕ, Option, None, Some, Result, Ok, Err, set, IfErr, IfSome, IsNone, IsTrue};
-ghost use Rattle.slot_disk.specs.Medium.{Told, IsSettled};
+ghost use Rattle.device_cells.specs.Medium.{Told, IsSettled};
 ghost use Rattle.cca_roles.specs.Changes.{ChangesRoles, ReplacesBody, Remembers, HasRoleCause, KeepsAllButBody};
 ghost use Rattle.held_names.specs.Directory.{AreApart};
 ghost use Rattle.cca_roles.specs.RoleBody.{ReadsPlace, blank_body, role_body};
@@ -14,8 +14,8 @@ use crate::bodies::{write_blank, write_role};
 use crate::faults::RoleFault;
 use crate::names::RoleName;
 use crate::roles::{MODULE_LEN, Role, Roles};
+use device_cells::{Cell, Disk, replace_cell};
 use key_cells::Lease;
-use slot_disk::{Cell, Disk, replace_cell};
 
 impl Roles {
     /// DEFINE: gives a role these points. A held name keeps its cell, and a new one goes into the lowest

@@ -1,8 +1,8 @@
 //! Opening a module: the cells of its roles are read upwards.
 ghost use Rattle.std.specs.Prelude.{◌≡◌, ◌≢◌, ◌+◌, ◌*◌, ◌≤◌, ◌<◌, ◌⊎◌, ℕ, Result, Err, OnOk, OnErr, IfErr};
-ghost use Rattle.slot_disk.specs.Cells.{body};
-ghost use Rattle.slot_disk.specs.Faults.{Rose};
-ghost use Rattle.slot_disk.specs.Medium.{Told, Keeps};
+ghost use Rattle.device_cells.specs.Cells.{body};
+ghost use Rattle.device_cells.specs.Faults.{Rose};
+ghost use Rattle.device_cells.specs.Medium.{Told, Keeps};
 ghost use Rattle.cca_roles.specs.Changes.{HasRoleCause, KeepsAllButBody};
 ghost use Rattle.cca_roles.specs.Opening.{Opens, IsRefused, OpenedTo};
 ghost use Rattle.cca_roles.specs.Roles.{AreRoles, blank_roles};
@@ -11,8 +11,8 @@ ghost use Rattle.cca_roles.specs.RolesStand.{StandsForRoles, IsFirstDamaged, IsR
 use crate::bodies::{read_default, read_slot};
 use crate::faults::RoleFault;
 use crate::roles::{MODULE_LEN, Roles};
+use device_cells::{Cell, Disk, read_cell};
 use key_cells::Lease;
-use slot_disk::{Cell, Disk, read_cell};
 
 /// Reads cells 1 to 32 once each, upwards. Damaged names the first cell that reads as no role, or as one
 /// whose name a lower cell holds. After an error the memory is as before.

@@ -1,10 +1,10 @@
 -- What the lines of a demo come to, from what a run of its text comes to.
 use Rattle.std.specs.Prelude.{IsOk}
 use Rattle.std.proofs.Common.{◌≡◌, refl, ◌⊎◌, ℕ, ◌+◌, ◌<◌, ◌≤◌, List, [], ◌++◌, length, Option, None, Some, Result, Ok, Err, sym, ap, ◌∙◌, subst, inl, inr, arith}
-use Rattle.slot_disk.specs.Faults.{Rose}
-use Rattle.slot_disk.specs.Medium.{Medium, Told, EachImage}
-use Rattle.slot_disk.specs.WhereTold.{WhereTold}
-use Rattle.slot_disk.proofs.Media.{told_from, told_at}
+use Rattle.device_cells.specs.Faults.{Rose}
+use Rattle.device_cells.specs.Medium.{Medium, Told, EachImage}
+use Rattle.device_cells.specs.WhereTold.{WhereTold}
+use Rattle.device_cells.proofs.Media.{told_from, told_at}
 use Rattle.script_buffers.specs.Lines.{lines, EndsLine}
 use Rattle.script_buffers.specs.Reading.{input_limit}
 use Rattle.line_service.specs.Devices.{Span, DiskLeft, TellsFault, DamageTold, Devices, devices, Outside, outside}

@@ -1,8 +1,8 @@
 -- What the memory has of two disks that stand for one state.
 use Rattle.std.proofs.Common.{◌≡◌, ℕ, List, Option, None, Some, Result, Ok, Err, refl, sym, ap, subst, ◌∙◌}
 use Rattle.std.specs.Prelude.{OnOk, IsSome}
-use Rattle.slot_disk.specs.Medium.{Medium, Told}
-use Rattle.slot_disk.proofs.Media.{told_from, told_at}
+use Rattle.device_cells.specs.Medium.{Medium, Told}
+use Rattle.device_cells.proofs.Media.{told_from, told_at}
 use Rattle.master_registers.specs.RegisterBody.{IsDamaged}
 use Rattle.cca_roles.specs.declared.roles.Role.{Role}
 use Rattle.record_bodies.specs.StoreStands.{HoldsRows}

@@ -3,9 +3,9 @@ use Rattle.std.proofs.Common.{◌≡◌, ℕ, ◌<◌, ◌≤◌, List, [], leng
 use Rattle.std.specs.Prelude.{⊤, ◌⊎◌, OnOk, IfErr, IsTrue}
 use Rattle.std.proofs.lemmas.List.{append-nil}
 use Rattle.std.proofs.Math.Seq.{take-nil}
-use Rattle.slot_disk.specs.Medium.{Medium, IsSettled, From, Becomes, EachImage}
-use Rattle.slot_disk.specs.SpareBytes.{Turned}
-use Rattle.slot_disk.proofs.Media.{each_weaker, image_now}
+use Rattle.device_cells.specs.Medium.{Medium, IsSettled, From, Becomes, EachImage}
+use Rattle.device_cells.specs.SpareBytes.{Turned}
+use Rattle.device_cells.proofs.Media.{each_weaker, image_now}
 use Rattle.script_buffers.specs.Reading.{line_limit}
 use Rattle.script_buffers.specs.Replies.{Refused, spelled}
 use Rattle.verb_script.specs.Grammar.{Request, Spells}

@@ -1,8 +1,8 @@
 -- The status of a listing tells how it ended.
 use Rattle.std.proofs.Common.{◌≡◌, ◌∙◌, ℕ, List, Result, Ok, Err, refl, sym, ap, subst, arith, inl, inr}
 use Rattle.std.specs.Prelude.{◌⊎◌, ◌↔◌, ◌<◌, IsOk}
-use Rattle.slot_disk.specs.Medium.{Medium, Told}
-use Rattle.slot_disk.proofs.Media.{told_from, told_map}
+use Rattle.device_cells.specs.Medium.{Medium, Told}
+use Rattle.device_cells.proofs.Media.{told_from, told_map}
 use Rattle.audit_trail.specs.Changes.{TrailLeft}
 use Rattle.audit_trail.specs.TrailStands.{IsTrail}
 use Rattle.audit_trail.specs.declared.entries.Entry.{Entry}

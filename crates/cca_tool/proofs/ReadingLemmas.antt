@@ -2,8 +2,8 @@
 use Rattle.std.proofs.Common.{◌≡◌, ℕ, List, [], ◌++◌, ◌+◌, ◌<◌, ◌≤◌, length, Option, Result, Ok, Err, refl, ⊎_elim}
 use Rattle.std.specs.Prelude.{◌↔◌, IfOk, IsTrue, OnErr}
 use Rattle.std.specs.Io.KnownBytes.{IsAtEnd}
-use Rattle.slot_disk.specs.WhereTold.{WhereTold}
-use Rattle.slot_disk.proofs.WhereToldLemmas.{told_weaker}
+use Rattle.device_cells.specs.WhereTold.{WhereTold}
+use Rattle.device_cells.proofs.WhereToldLemmas.{told_weaker}
 use Rattle.script_buffers.specs.Lines.{NoNewline}
 use Rattle.script_buffers.specs.Reading.{Advances, LosesPart, Reading, Shows, Takes, blank, given, input_limit}
 use Rattle.script_buffers.specs.declared.lines.LineFault.{LineFault}

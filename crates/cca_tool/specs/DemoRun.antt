@@ -1,7 +1,7 @@
 -- What a demo leaves.
 use Rattle.std.specs.Prelude.{◌≡◌, ◌⊎◌, ◌++◌, ℕ, List, Option, None}
-use Rattle.slot_disk.specs.Medium.{Keeps}
-use Rattle.slot_disk.specs.WhereTold.{WhereTold}
+use Rattle.device_cells.specs.Medium.{Keeps}
+use Rattle.device_cells.specs.WhereTold.{WhereTold}
 use Rattle.line_service.specs.Machine.{World}
 use Rattle.line_service.specs.Sending.{GotPart}
 use Rattle.line_service.specs.Serving.{Led, LineLost}

@@ -1,8 +1,8 @@
 -- What a run leaves, in a few records.
 use Rattle.std.specs.Prelude.{◌≡◌, ◌≢◌, ◌⊎◌, ℕ, None, Result, Err, IsOk}
-use Rattle.slot_disk.specs.Faults.{Rose}
-use Rattle.slot_disk.specs.Medium.{EachImage, Keeps}
-use Rattle.slot_disk.specs.WhereTold.{WhereTold}
+use Rattle.device_cells.specs.Faults.{Rose}
+use Rattle.device_cells.specs.Medium.{EachImage, Keeps}
+use Rattle.device_cells.specs.WhereTold.{WhereTold}
 use Rattle.line_service.specs.Answering.{OnDisks}
 use Rattle.line_service.specs.Devices.{Span, Devices, DamageTold, Outside, TellsFault, ModuleLeft, StoreLeft, behind}
 use Rattle.line_service.specs.Running.{ServesSound}

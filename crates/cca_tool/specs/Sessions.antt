@@ -1,7 +1,7 @@
 -- What a session holds in memory, and how it takes a line.
 use Rattle.std.specs.Prelude.{⊤, ◌≡◌, ◌⊎◌, ◌↔◌, ◌+◌, ◌<◌, ◌≤◌, ◌++◌, ℕ, List, [], length, Option, Some, None, IsTrue, IfOk, OnErr, replicate, Result, Ok, Err}
 use Rattle.std.specs.Io.KnownBytes.{IsAtEnd}
-use Rattle.slot_disk.specs.WhereTold.{WhereTold}
+use Rattle.device_cells.specs.WhereTold.{WhereTold}
 use Rattle.script_buffers.specs.Lines.{NoNewline}
 use Rattle.script_buffers.specs.Reading.{Reading, blank, given, input_limit, Takes, Shows, Advances, LosesPart}
 use Rattle.script_buffers.specs.declared.lines.Taken.{Taken}

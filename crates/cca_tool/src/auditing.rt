@@ -1,7 +1,7 @@
 //! The top call of an audited run.
 ghost use Rattle.std.specs.Prelude.{◌≡◌, ◌↔◌, ◌∷◌, ℕ, [], List, codes};
 ghost use Rattle.key_cells.specs.Bench.{blank_bench};
-ghost use Rattle.slot_disk.specs.Medium.{Keeps};
+ghost use Rattle.device_cells.specs.Medium.{Keeps};
 ghost use Rattle.audit_entries.specs.LineEntries.{entry_of};
 ghost use Rattle.audit_trail.specs.declared.entries.Entry.{Entry};
 ghost use Rattle.audited_service.specs.Auditing.{AuditLeft, IsUnsoundTrail};
@@ -20,9 +20,9 @@ use audit_entries::LineScribe;
 use audit_trail::{TRAIL_LEN, Trail, TrailFault};
 use audited_service::serve_audited;
 use command_words::Words;
+use device_cells::{Disk, Entropy, Sink, Source};
 use key_cells::Workbench;
 use line_service::{Shown, ShownOutside, Stop};
-use slot_disk::{Disk, Entropy, Sink, Source};
 use std::alloc::Global;
 use store_unload::{Status, status_of};
 

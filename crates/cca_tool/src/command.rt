@@ -13,9 +13,9 @@ ghost use Rattle.store_unload.specs.Statuses.{CallsNone};
 use crate::demo::serve_demo;
 use crate::session::Session;
 use command_words::{Command, Words};
+use device_cells::{Disk, Entropy, Sink, Source};
 use key_cells::Workbench;
 use line_service::{Shown, ShownOutside};
-use slot_disk::{Disk, Entropy, Sink, Source};
 use std::alloc::Global;
 use store_unload::{Status, status_of};
 

@@ -7,10 +7,10 @@ ghost use Rattle.store_unload.specs.Opening.{AreKnown, remembers};
 
 use cca_requests::perform;
 use cca_roles::Roles;
+use device_cells::{Disk, Entropy};
 use key_cells::{Lease, Workbench};
 use key_records::Records;
 use line_service::{Desk, Stop};
-use slot_disk::{Disk, Entropy};
 use store_unload::open_disks;
 use verb_script::{ReplyBuffer, parse_request};
 

@@ -13,10 +13,10 @@ ghost use Rattle.store_unload.specs.Statuses.{status_of_lem};
 
 use crate::session::Session;
 use command_words::{DemoText, Tally, Unused};
+use device_cells::{Disk, NoMemory, Sink};
 use itoa::Buffer;
 use key_cells::Workbench;
 use line_service::{Shown, ShownOutside, Stop, send};
-use slot_disk::{Disk, NoMemory, Sink};
 use std::alloc::Global;
 use store_unload::{Status, status_of};
 use verb_script::ReplyBuffer;

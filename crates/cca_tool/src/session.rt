@@ -15,10 +15,10 @@ ghost use Rattle.store_unload.specs.Opening.{AreKnown, remembers};
 
 use crate::coprocessor::Coprocessor;
 use cca_roles::Roles;
+use device_cells::{Disk, Entropy, NoMemory, Sink, Source};
 use key_cells::Workbench;
 use key_records::Records;
 use line_service::{Desk, Served, Shown, ShownOutside, Stop, answer_taken, serve, serve_one};
-use slot_disk::{Disk, Entropy, NoMemory, Sink, Source};
 use std::alloc::Global;
 use std::marker::Model;
 use verb_script::{LineBuffer, LineFault, ReplyBuffer, Taken, read_line};

@@ -1,8 +1,8 @@
 //! The top call that lists the trail.
 ghost use Rattle.std.specs.Prelude.{◌≡◌, ◌⊎◌, ◌↔◌, ◌∷◌, [], ℕ, List, Err, IfErr, codes};
-ghost use Rattle.slot_disk.specs.Faults.{Rose};
-ghost use Rattle.slot_disk.specs.Medium.{Told, Keeps};
-ghost use Rattle.slot_disk.specs.WhereTold.{WhereTold};
+ghost use Rattle.device_cells.specs.Faults.{Rose};
+ghost use Rattle.device_cells.specs.Medium.{Told, Keeps};
+ghost use Rattle.device_cells.specs.WhereTold.{WhereTold};
 ghost use Rattle.audit_trail.specs.Changes.{TrailLeft};
 ghost use Rattle.audit_trail.specs.TrailStands.{IsTrail};
 ghost use Rattle.audit_trail.specs.declared.entries.Entry.{Entry};
@@ -16,8 +16,8 @@ ghost use Rattle.cca_tool.specs.Showing.{listing_status, ListingEnded, IsListing
 use crate::auditing::AuditStatus;
 use audit_trail::{TRAIL_LEN, TrailFault};
 use command_words::Words;
+use device_cells::{Disk, Sink};
 use script_buffers::ReplyBuffer;
-use slot_disk::{Disk, Sink};
 use std::alloc::Global;
 use store_unload::Status;
 use trail_listing::{ListFault, list_trail};

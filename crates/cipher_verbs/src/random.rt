@@ -1,9 +1,9 @@
 //! Random bytes, as they are drawn or with a parity.
 ghost use Rattle.std.specs.Prelude.{◌≡◌, IfOk, length};
-ghost use Rattle.slot_disk.specs.Faults.{HasCause};
+ghost use Rattle.device_cells.specs.Faults.{HasCause};
 ghost use Rattle.cipher_verbs.specs.RandomBytes.{Draws, random_form_of_name, in_form};
 
-use slot_disk::{Entropy, Failed};
+use device_cells::{Entropy, Failed};
 use verb_rules::{set_even_parity, set_odd_parity};
 
 /// The form of random bytes.

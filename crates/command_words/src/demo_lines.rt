@@ -4,7 +4,7 @@ ghost use Rattle.std.specs.Fmt.{digit_glyph};
 ghost use Rattle.command_words.specs.Demo.{demo_text, joined, four_digits, four_hex_digits, key_set, key_made, key_used, key_tested, key_deleted, for_each};
 ghost use Rattle.command_words.specs.Sections.{section_lines};
 
-use slot_disk::NoMemory;
+use device_cells::NoMemory;
 use std::alloc::Global;
 
 const FIRST_PART: &[u8; 48] = b"0102030405060708090a0b0c0d0e0f101112131415161718";

@@ -3,7 +3,7 @@ ghost use Rattle.std.specs.Prelude.{◌≡◌, ◌≤◌, Some, IfOk};
 ghost use Rattle.command_words.specs.Demo.{demo_text};
 
 use crate::demo_lines::lines_of;
-use slot_disk::{Failed, NoMemory, Source};
+use device_cells::{Failed, NoMemory, Source};
 use std::alloc::Global;
 use std::marker::Model;
 

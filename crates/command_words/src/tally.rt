@@ -4,7 +4,7 @@ ghost use Rattle.command_words.specs.Counting.{counted};
 
 use crate::counts::Counts;
 use crate::history::History;
-use slot_disk::{Failed, Sink};
+use device_cells::{Failed, Sink};
 use std::marker::Model;
 
 /// A sink that counts the reply lines that it takes, and keeps none. No write to it fails.

@@ -1,5 +1,5 @@
 //! The random bytes of a demo, whose lines take none.
-use slot_disk::{Entropy, Failed};
+use device_cells::{Entropy, Failed};
 
 /// Stands where random bytes aren't used. Its bytes are zeros, and no fill fails.
 #[derive(Drop)]

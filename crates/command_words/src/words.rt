@@ -4,10 +4,10 @@ ghost use Rattle.command_words.specs.Demo.{IsDemo};
 ghost use Rattle.command_words.specs.MoveWords.{AreWordsOf, IsMove};
 
 use cca_roles::RoleName;
+use device_cells::NoMemory;
 use itoa::Buffer;
 use move_file::Move;
 use record_bodies::Label;
-use slot_disk::NoMemory;
 use std::alloc::Global;
 use std::marker::Model;
 

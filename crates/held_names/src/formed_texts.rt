@@ -4,7 +4,7 @@ ghost use Rattle.std.specs.Cmp.Lexicographic.{slice_cmp};
 ghost use Rattle.std.specs.Ordering.{nat_cmp};
 
 use byte_lists::ShortList;
-use slot_disk::Steps;
+use device_cells::Steps;
 use std::cmp::Ordering;
 use std::marker::{Model, PhantomData};
 

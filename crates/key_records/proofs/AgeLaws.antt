@@ -10,7 +10,7 @@ use Rattle.key_tokens.specs.declared.key_token.Age.{Age}
 use Rattle.key_tokens.specs.declared.key_token.Age.TheVariants.{Current, Old}
 use Rattle.key_tokens.proofs.DenotedKeys.{denotes_one}
 use Rattle.master_registers.specs.declared.patterns.Pattern.{Pattern}
-use Rattle.slot_disk.specs.Cells.{body}
+use Rattle.device_cells.specs.Cells.{body}
 use Rattle.record_bodies.specs.Ages.{is_old, has_old_key, is_old_entry, any_old}
 use Rattle.key_records.specs.Changes.{any_under, is_under}
 use Rattle.record_bodies.specs.Entries.{Entry, remembered, pattern_for, pattern_under, pattern_or}

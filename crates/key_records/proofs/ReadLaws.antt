@@ -2,8 +2,8 @@
 use Rattle.std.proofs.Common.{◌≡◌, ◌<◌, ℕ, zero, suc, Bool, true, false, List, [], ◌∷◌, get_or, map, Option, None, Some, refl, sym, ap, subst, ◌∙◌}
 use Rattle.std.specs.Prelude.{is_some, is_err, option_map, slice_index, Result, Ok, Err}
 use Rattle.held_names.proofs.DirectoryLaws.{none_some}
-use Rattle.slot_disk.specs.Cells.{body}
-use Rattle.slot_disk.specs.Faults.{HasCause}
+use Rattle.device_cells.specs.Cells.{body}
+use Rattle.device_cells.specs.Faults.{HasCause}
 use Rattle.key_tokens.specs.Denotes.{MasterKeys, Denoted}
 use Rattle.master_registers.specs.declared.patterns.Pattern.{Pattern}
 use Rattle.key_records.specs.Changes.{HasReadCause, ReadsToken}

@@ -4,9 +4,9 @@ use Rattle.std.specs.Prelude.{OnOk}
 use Rattle.std.proofs.lemmas.Bool.{cases_eq}
 use Rattle.std.proofs.lemmas.List.{get_or-set_same, get_or-set_other, length-set, map-set}
 use Rattle.key_cells.specs.declared.leases.Lease.{Lease}
-use Rattle.slot_disk.specs.Cells.{body, IsReplaced, IsReplacing}
-use Rattle.slot_disk.specs.Medium.{Medium, Told, From, Becomes}
-use Rattle.slot_disk.proofs.Media.{told_from, told_at, becomes_told, each_weaker}
+use Rattle.device_cells.specs.Cells.{body, IsReplaced, IsReplacing}
+use Rattle.device_cells.specs.Medium.{Medium, Told, From, Becomes}
+use Rattle.device_cells.proofs.Media.{told_from, told_at, becomes_told, each_weaker}
 use Rattle.key_tokens.specs.Denotes.{ClearKey, MasterKeys, Denoted}
 use Rattle.key_records.specs.Changes.{HoldsEither, ReplacesBody, ChangesLabels, ChangesRecord, KeepsAllButBody, Remembers}
 use Rattle.record_bodies.specs.LabelChanges.{null_entry, created, written, with_what, ahead_entry, with_both, written_ahead}

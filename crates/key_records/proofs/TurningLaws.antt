@@ -5,7 +5,7 @@ use Rattle.std.proofs.lemmas.Bool.{cases_eq}
 use Rattle.std.proofs.lemmas.List.{ext_get_or, get_or-map}
 use Rattle.byte_lists.specs.Bytes.{AreBytes, IsZero}
 use Rattle.held_names.proofs.DirectoryLaws.{none_some}
-use Rattle.slot_disk.specs.Cells.{body}
+use Rattle.device_cells.specs.Cells.{body}
 use Rattle.key_tokens.specs.Denotes.{ClearKey, Denoted, Denotes, HaveDistinctPatterns, MasterKey, MasterKeys, denoted, denoted_or, is_token}
 use Rattle.key_tokens.specs.Fields.{vector_bytes_of}
 use Rattle.key_tokens.specs.Layout.{IsToken, made}

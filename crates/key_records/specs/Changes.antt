@@ -4,10 +4,10 @@ use Rattle.std.specs.Prelude.{Result, Err, IfErr, OnOk, OnErr, IsSome, is_some, 
 use Rattle.std.specs.List.{list_any}
 use Rattle.key_cells.specs.Lease.{bench_of, holding}
 use Rattle.key_cells.specs.declared.leases.Lease.{Lease}
-use Rattle.slot_disk.specs.Cells.{cell_size, body, IsReplaced, IsReplacing, IsUntouched}
-use Rattle.slot_disk.specs.Faults.{Rose}
-use Rattle.slot_disk.specs.Medium.{Medium, IsSettled, Told, From, Becomes, EachImage}
-use Rattle.slot_disk.specs.Ranges.{SameOutside}
+use Rattle.device_cells.specs.Cells.{cell_size, body, IsReplaced, IsReplacing, IsUntouched}
+use Rattle.device_cells.specs.Faults.{Rose}
+use Rattle.device_cells.specs.Medium.{Medium, IsSettled, Told, From, Becomes, EachImage}
+use Rattle.device_cells.specs.Ranges.{SameOutside}
 use Rattle.key_tokens.specs.Denotes.{ClearKey, MasterKey, MasterKeys, Denoted, denoted}
 use Rattle.key_tokens.specs.declared.key_token.Age.TheVariants.{Current}
 use Rattle.master_registers.specs.declared.patterns.Pattern.{Pattern}

@@ -10,7 +10,7 @@ pub use Rattle.record_bodies.specs.Entries
 pub use Rattle.record_bodies.specs.Rank
 pub use Rattle.record_bodies.specs.RecordBody
 pub use Rattle.record_bodies.specs.Rows
-pub use Rattle.slot_disk.specs.Cells
-pub use Rattle.slot_disk.specs.Faults
-pub use Rattle.slot_disk.specs.Medium
+pub use Rattle.device_cells.specs.Cells
+pub use Rattle.device_cells.specs.Faults
+pub use Rattle.device_cells.specs.Medium
 pub use Rattle.verb_rules.specs.Keys

@@ -10,18 +10,18 @@ ghost use Rattle.record_bodies.specs.Entries.{Entry, row_directory, row_label, l
 ghost use Rattle.record_bodies.specs.RecordBody.{null_body, key_body, both_body, blank_body, renewed, ReadsRow};
 ghost use Rattle.record_bodies.specs.StoreStands.{KeepsLabels, HoldsRows};
 ghost use Rattle.master_registers.specs.Loaded.{IsLoaded, masters_in};
-ghost use Rattle.slot_disk.specs.Medium.{Told, IsSettled};
+ghost use Rattle.device_cells.specs.Medium.{Told, IsSettled};
 ghost use Rattle.verb_rules.specs.Keys.{keys_of};
 
 use crate::faults::RecordFault;
 use crate::records::{Records, STORE_LEN};
+use device_cells::{Cell, Disk, Steps, replace_cell};
 use key_cells::Lease;
 use master_registers::Registers;
 use record_bodies::{
     BOTH, KEY, Label, NULL, Place, Row, Second, are_second, kept_token, no_second, pattern_in,
     write_blank, write_record,
 };
-use slot_disk::{Cell, Disk, Steps, replace_cell};
 
 impl Records {
     /// Holds a label, null, in the lowest cell that no label has. After `DiskFault` the records are to be

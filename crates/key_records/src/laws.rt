@@ -12,7 +12,7 @@ ghost use Rattle.record_bodies.specs.Rows.{AreRows};
 ghost use Rattle.record_bodies.specs.StoreStands.{StandsForLabels, Agrees, HoldsRows, KeepsLabels, IsDamagedCell, IsFirstDamaged, labels_in};
 ghost use Rattle.record_bodies.specs.Turning.{aged, after_turn};
 ghost use Rattle.record_bodies.specs.Written.{written_body};
-ghost use Rattle.slot_disk.specs.Cells.{body};
+ghost use Rattle.device_cells.specs.Cells.{body};
 ghost use Rattle.key_records.specs.declared.records.TheConstants.{STORE_LEN};
 ghost use Rattle.record_bodies.specs.declared.rows.Row.{Row};
 

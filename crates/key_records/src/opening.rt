@@ -7,17 +7,17 @@ ghost use Rattle.record_bodies.specs.Rows.{AreRows};
 ghost use Rattle.record_bodies.specs.StoreStands.{KeepsLabels, HoldsRows, labels_in, IsFirstDamaged};
 ghost use Rattle.master_registers.specs.Loaded.{IsLoaded, Loaded, masters_in};
 ghost use Rattle.master_registers.specs.Masters.{Masters};
-ghost use Rattle.slot_disk.specs.Cells.{body};
-ghost use Rattle.slot_disk.specs.Faults.{Rose};
-ghost use Rattle.slot_disk.specs.Medium.{Told, Keeps};
+ghost use Rattle.device_cells.specs.Cells.{body};
+ghost use Rattle.device_cells.specs.Faults.{Rose};
+ghost use Rattle.device_cells.specs.Medium.{Told, Keeps};
 ghost use Rattle.verb_rules.specs.Keys.{keys_of};
 
 use crate::faults::RecordFault;
 use crate::parsing::{coming_pattern, read_row};
 use crate::records::{CELLS, Records, STORE_LEN};
+use device_cells::{Cell, Disk, read_cell};
 use key_cells::Lease;
 use master_registers::{Pattern, Registers};
-use slot_disk::{Cell, Disk, read_cell};
 
 /// Reads each cell of the store once, upwards. Damaged names the first cell that reads as no record under the
 /// current and the old master key, or whose label a lower cell holds. Of a label that is ahead the two tokens are

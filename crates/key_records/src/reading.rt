@@ -8,14 +8,14 @@ ghost use Rattle.record_bodies.specs.Directory.{label_at};
 ghost use Rattle.record_bodies.specs.Entries.{Entry, row_directory, label_or};
 ghost use Rattle.record_bodies.specs.RecordBody.{StandsAs};
 ghost use Rattle.record_bodies.specs.StoreStands.{KeepsLabels, HoldsRows, entry_at};
-ghost use Rattle.slot_disk.specs.Cells.{body};
-ghost use Rattle.slot_disk.specs.Medium.{Told, Keeps};
+ghost use Rattle.device_cells.specs.Cells.{body};
+ghost use Rattle.device_cells.specs.Medium.{Told, Keeps};
 
 use crate::faults::RecordFault;
 use crate::records::{Records, STORE_LEN};
+use device_cells::{Cell, Disk, read_cell};
 use key_cells::Lease;
 use record_bodies::{Place, read_as};
-use slot_disk::{Cell, Disk, read_cell};
 
 impl Records {
     /// The token that a label is under, or false where the record is null. The token is written into `out`, which is

@@ -7,9 +7,9 @@ ghost use Rattle.record_bodies.specs.Entries.{row_directory, row_label, label_or
 ghost use Rattle.record_bodies.specs.Rank.{IsNth};
 ghost use Rattle.record_bodies.specs.Rows.{AreRows};
 
+use device_cells::{NoMemory, Steps};
 use master_registers::Pattern;
 use record_bodies::{Directory, Label, Place, Row, blank, free_in, label_of, turn_rows};
-use slot_disk::{NoMemory, Steps};
 use std::alloc::Global;
 use std::marker::Model;
 

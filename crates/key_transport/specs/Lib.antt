@@ -10,6 +10,6 @@ pub use Rattle.key_cells.specs.Lease
 pub use Rattle.key_tokens.specs.Denotes
 pub use Rattle.master_registers.specs.Loaded
 pub use Rattle.multi_encipher.specs.Bundles
-pub use Rattle.slot_disk.specs.Faults
+pub use Rattle.device_cells.specs.Faults
 pub use Rattle.verb_rules.specs.Keys
 pub use Rattle.verb_rules.specs.TypeChecks

@@ -2,7 +2,7 @@
 ghost use Rattle.std.specs.Prelude.{◌≡◌, ◌≤◌, IsSome, IfOk, Err, OnOk, Some, true, drop, take};
 ghost use Rattle.std.specs.Option.{option_copied};
 ghost use Rattle.key_cells.specs.Lease.{bench_of, holding};
-ghost use Rattle.slot_disk.specs.Faults.{Rose};
+ghost use Rattle.device_cells.specs.Faults.{Rose};
 ghost use Rattle.key_transport.specs.Changes.{ChangesKeys};
 ghost use Rattle.key_tokens.specs.Denotes.{denoted};
 ghost use Rattle.cca_vectors.specs.declared.key_length.Length.TheVariants.{Unique};
@@ -18,9 +18,9 @@ ghost use Rattle.key_transport.specs.UniqueHalves.{is_same_half};
 
 use crate::writing::write_under;
 use cca_vectors::{KeyType, Length, Vector, default_of, default_of_size};
+use device_cells::Entropy;
 use key_cells::{KeyPlace, Lease};
 use master_registers::Registers;
-use slot_disk::Entropy;
 use thiserror::Error;
 use verb_rules::{Judged, set_odd_parity, write_current};
 
@@ -83,10 +83,10 @@ pub enum GenerateFault {
     Repeated,
 }
 
-impl From<slot_disk::Failed> for GenerateFault {
+impl From<device_cells::Failed> for GenerateFault {
     ghost from_gives = { λ _ fault. fault ≡ Failed };
 
-    fn from(_: slot_disk::Failed) -> GenerateFault {
+    fn from(_: device_cells::Failed) -> GenerateFault {
         GenerateFault::Failed
     }
 }

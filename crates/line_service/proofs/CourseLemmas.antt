@@ -2,9 +2,9 @@
 use Rattle.std.proofs.Common.{◌≡◌, ◌+◌, ◌<◌, ◌≤◌, ℕ, List, Option, None, Some, Result, Ok, Err, length, ap, refl, sym, subst, ◌∙◌, inl, inr, arith}
 use Rattle.std.specs.Prelude.{◌⊎◌, IsTrue, IsSome, IfSome, IsOk}
 use Rattle.std.specs.Io.KnownBytes.{IsAtEnd}
-use Rattle.slot_disk.specs.Medium.{Medium, IsSettled}
-use Rattle.slot_disk.specs.WhereTold.{WhereTold}
-use Rattle.slot_disk.proofs.WhereToldLemmas.{told_weaker}
+use Rattle.device_cells.specs.Medium.{Medium, IsSettled}
+use Rattle.device_cells.specs.WhereTold.{WhereTold}
+use Rattle.device_cells.proofs.WhereToldLemmas.{told_weaker}
 use Rattle.script_buffers.specs.Reading.{Reading, blank, input_limit}
 use Rattle.line_service.specs.Machine.{Machine, World, world}
 use Rattle.line_service.specs.Answering.{Stands}

@@ -3,10 +3,10 @@ use Rattle.std.proofs.Common.{◌≡◌, ℕ, zero, suc, ◌+◌, Bool, List, []
 use Rattle.std.specs.Prelude.{⊤, ◌⊎◌, OnOk, replicate}
 use Rattle.std.specs.Io.KnownBytes.{Consumes}
 use Rattle.std.proofs.KnownBytes.{Consumes-nil}
-use Rattle.slot_disk.specs.Medium.{Medium, From, EachImage, EachPair, IsSettled}
-use Rattle.slot_disk.specs.WhereTold.{WhereTold}
-use Rattle.slot_disk.proofs.Media.{each_weaker, each_still, each_pair, image_now, settled_image, told_from}
-use Rattle.slot_disk.proofs.WhereToldLemmas.{told_weaker}
+use Rattle.device_cells.specs.Medium.{Medium, From, EachImage, EachPair, IsSettled}
+use Rattle.device_cells.specs.WhereTold.{WhereTold}
+use Rattle.device_cells.proofs.Media.{each_weaker, each_still, each_pair, image_now, settled_image, told_from}
+use Rattle.device_cells.proofs.WhereToldLemmas.{told_weaker}
 use Rattle.script_buffers.specs.Lines.{lines}
 use Rattle.script_buffers.specs.Reading.{Reading, TakesLine, line_limit, Takes}
 use Rattle.script_buffers.specs.declared.lines.Taken.{Taken}

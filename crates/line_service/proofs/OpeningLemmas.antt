@@ -1,11 +1,11 @@
 -- A run from the disks as they were before they were opened.
 use Rattle.std.proofs.Common.{◌≡◌, ℕ, List, Option, IsSome, Result, Err, refl, sym, ◌∙◌, subst, inl, inr, arith}
 use Rattle.std.specs.Prelude.{◌⊎◌, ◌↔◌, ◌+◌, ◌≤◌, IsOk, length}
-use Rattle.slot_disk.specs.Medium.{Medium, Told, From, Becomes, Keeps}
-use Rattle.slot_disk.specs.WhereTold.{WhereTold}
-use Rattle.slot_disk.specs.SpareBytes.{SameSpare}
-use Rattle.slot_disk.proofs.Media.{goes_on, each_weaker, keeps_then, told_from, told_at}
-use Rattle.slot_disk.proofs.WhereToldLemmas.{told_same, told_weaker, rose_wider}
+use Rattle.device_cells.specs.Medium.{Medium, Told, From, Becomes, Keeps}
+use Rattle.device_cells.specs.WhereTold.{WhereTold}
+use Rattle.device_cells.specs.SpareBytes.{SameSpare}
+use Rattle.device_cells.proofs.Media.{goes_on, each_weaker, keeps_then, told_from, told_at}
+use Rattle.device_cells.proofs.WhereToldLemmas.{told_same, told_weaker, rose_wider}
 use Rattle.script_buffers.specs.Reading.{input_limit}
 use Rattle.line_service.specs.Machine.{Machine, World, world}
 use Rattle.line_service.specs.Stops.{IsOpeningStop, IsFaultless}

@@ -4,10 +4,10 @@ use Rattle.std.specs.Prelude.{◌⊎◌, ◌≢◌, IsTrue}
 use Rattle.std.specs.Io.KnownBytes.{Consumes}
 use Rattle.std.proofs.KnownBytes.{Consumes-nil, Consumes-trans}
 use Rattle.std.proofs.lemmas.List.{append-nil}
-use Rattle.slot_disk.specs.Medium.{EachImage, IsSettled}
-use Rattle.slot_disk.specs.WhereTold.{WhereTold}
-use Rattle.slot_disk.proofs.Media.{goes_on, each_weaker}
-use Rattle.slot_disk.proofs.WhereToldLemmas.{told_weaker, told_then, told_same, told_both}
+use Rattle.device_cells.specs.Medium.{EachImage, IsSettled}
+use Rattle.device_cells.specs.WhereTold.{WhereTold}
+use Rattle.device_cells.proofs.Media.{goes_on, each_weaker}
+use Rattle.device_cells.proofs.WhereToldLemmas.{told_weaker, told_then, told_same, told_both}
 use Rattle.script_buffers.specs.Lines.{newline, lines, NoNewline, EndsLine}
 use Rattle.script_buffers.specs.Reading.{Reading, blank, input_limit, LosesPart}
 use Rattle.script_buffers.proofs.LineLemmas.{lines-nil, lines-whole, lines-append}

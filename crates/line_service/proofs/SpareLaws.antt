@@ -2,12 +2,12 @@
 use Rattle.std.proofs.Common.{◌≡◌, ◌<◌, inl, inr, ⊎_elim, ℕ, ◌+◌, ◌-◌, ◌*◌, ◌%◌, min, List, ◌++◌, length, get_or, slice_range, Option, Some, refl, sym, ◌∙◌, ap, subst, arith}
 use Rattle.std.specs.Prelude.{◌⊎◌}
 use Rattle.std.proofs.lemmas.Grind.{same_number_lists}
-use Rattle.slot_disk.specs.Cells.{selected, body_place, body_at, other_body}
-use Rattle.slot_disk.specs.Medium.{Medium, IsSettled, From, Becomes, EachImage}
-use Rattle.slot_disk.specs.SpareBytes.{SameSpare, SameCell, HasTurned, Turned}
-use Rattle.slot_disk.proofs.CellSteps.{length-range, get_or-range}
-use Rattle.slot_disk.proofs.Media.{becomes_same, becomes_then, each_weaker, each_still, from_then, goes_on}
-use Rattle.slot_disk.proofs.SpareLemmas.{same_spare, same_spare_then, turned_same}
+use Rattle.device_cells.specs.Cells.{selected, body_place, body_at, other_body}
+use Rattle.device_cells.specs.Medium.{Medium, IsSettled, From, Becomes, EachImage}
+use Rattle.device_cells.specs.SpareBytes.{SameSpare, SameCell, HasTurned, Turned}
+use Rattle.device_cells.proofs.CellSteps.{length-range, get_or-range}
+use Rattle.device_cells.proofs.Media.{becomes_same, becomes_then, each_weaker, each_still, from_then, goes_on}
+use Rattle.device_cells.proofs.SpareLemmas.{same_spare, same_spare_then, turned_same}
 use Rattle.script_buffers.specs.Lines.{lines}
 use Rattle.line_service.specs.Machine.{Machine, World}
 use Rattle.line_service.specs.Answering.{Holds, OnDisks, WritesWithin, Turns}

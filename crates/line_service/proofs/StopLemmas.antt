@@ -1,10 +1,10 @@
 -- A stop of one line is the stop of the run.
 use Rattle.std.proofs.Common.{◌≡◌, List, ℕ, Bool, Option, Result, Ok, Err, ap, refl, sym, subst, ◌∙◌, inl, inr, append_assoc, arith}
 use Rattle.std.specs.Prelude.{◌⊎◌, ◌≢◌, ◌++◌, ◌↔◌, [], IsTrue, IsOk, IsSome}
-use Rattle.slot_disk.specs.Faults.{Rose}
-use Rattle.slot_disk.specs.Medium.{Medium, IsSettled}
-use Rattle.slot_disk.specs.WhereTold.{WhereTold}
-use Rattle.slot_disk.proofs.WhereToldLemmas.{told_weaker, told_then, told_same}
+use Rattle.device_cells.specs.Faults.{Rose}
+use Rattle.device_cells.specs.Medium.{Medium, IsSettled}
+use Rattle.device_cells.specs.WhereTold.{WhereTold}
+use Rattle.device_cells.proofs.WhereToldLemmas.{told_weaker, told_then, told_same}
 use Rattle.std.proofs.lemmas.List.{append-nil}
 use Rattle.line_service.specs.Machine.{Machine}
 use Rattle.line_service.specs.Sending.{Grows}

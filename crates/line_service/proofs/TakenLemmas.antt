@@ -2,8 +2,8 @@
 use Rattle.std.proofs.Common.{◌≡◌, ◌<◌, ◌≤◌, ◌+◌, ◌++◌, [], length, Result, Ok, Err, refl, ap, sym, subst, inl, inr, ⊎_elim}
 use Rattle.std.specs.Prelude.{◌⊎◌, ◌↔◌, IsTrue, IsErr, IfOk, OnErr}
 use Rattle.std.specs.Io.KnownBytes.{IsAtEnd}
-use Rattle.slot_disk.specs.WhereTold.{WhereTold}
-use Rattle.slot_disk.proofs.WhereToldLemmas.{told_weaker}
+use Rattle.device_cells.specs.WhereTold.{WhereTold}
+use Rattle.device_cells.proofs.WhereToldLemmas.{told_weaker}
 use Rattle.script_buffers.specs.Lines.{NoNewline}
 use Rattle.script_buffers.specs.Reading.{Reading, blank, input_limit, given, LosesPart, Takes, Shows, Advances, bytes_ahead}
 use Rattle.script_buffers.specs.declared.lines.LineFault.{LineFault}

@@ -1,8 +1,8 @@
 -- What answering one line leaves.
 use Rattle.std.specs.Prelude.{◌≡◌, ◌⊎◌, ℕ, List, [], ◌++◌, Some, Result, Err, OnOk, IfErr}
 use Rattle.std.specs.Io.KnownBytes.{Consumes}
-use Rattle.slot_disk.specs.Medium.{Medium, Told, From, Becomes, EachImage, EachPair}
-use Rattle.slot_disk.specs.SpareBytes.{Turned}
+use Rattle.device_cells.specs.Medium.{Medium, Told, From, Becomes, EachImage, EachPair}
+use Rattle.device_cells.specs.SpareBytes.{Turned}
 use Rattle.line_service.specs.Machine.{Machine, World}
 use Rattle.line_service.specs.Stops.{IsLineStop}
 use Rattle.line_service.specs.declared.stops.Stop.{Stop}

@@ -1,8 +1,8 @@
 -- What a call leaves of a device, whatever the device holds, and when it may answer that the device failed.
 use Rattle.std.specs.Prelude.{◌≡◌, ◌≤◌, ℕ, List, Option, Result, Err, IsOk, IsSome}
-use Rattle.slot_disk.specs.Faults.{Rose}
-use Rattle.slot_disk.specs.Medium.{Medium, Told, IsSettled, Keeps}
-use Rattle.slot_disk.specs.WhereTold.{WhereTold}
+use Rattle.device_cells.specs.Faults.{Rose}
+use Rattle.device_cells.specs.Medium.{Medium, Told, IsSettled, Keeps}
+use Rattle.device_cells.specs.WhereTold.{WhereTold}
 use Rattle.line_service.specs.Machine.{Machine, World, world}
 use Rattle.line_service.specs.Sending.{Grows}
 use Rattle.line_service.specs.declared.stops.Device.{Device}

@@ -1,7 +1,7 @@
 -- A machine that answers lines, over two disks and a list of random bytes.
 use Rattle.std.specs.Prelude.{ℕ, List, [], ◌∷◌, ◌++◌, Option}
-use Rattle.slot_disk.specs.Medium.{Medium}
-use Rattle.slot_disk.specs.SpareBytes.{SameSpare}
+use Rattle.device_cells.specs.Medium.{Medium}
+use Rattle.device_cells.specs.SpareBytes.{SameSpare}
 use Rattle.line_service.specs.declared.stops.Device.{Device}
 use Rattle.line_service.specs.declared.stops.Stop.{Stop}
 

@@ -1,10 +1,10 @@
 -- How far a run has come: what its source gave, what its sink got, and what its disks stand for.
 use Rattle.std.specs.Prelude.{◌≡◌, ◌⊎◌, ℕ, ◌*◌, ◌<◌, List, [], ◌∷◌, ◌++◌, length, slice_index, Bool, Option, Some, IfSome, Ok, Err, Result, OnOk}
 use Rattle.std.specs.Io.KnownBytes.{Consumes}
-use Rattle.slot_disk.specs.Cells.{body, other_body}
-use Rattle.slot_disk.specs.Medium.{Medium, From, Becomes, EachImage, EachPair, Keeps}
-use Rattle.slot_disk.specs.SpareBytes.{SameSpare, SameCell}
-use Rattle.slot_disk.specs.WhereTold.{WhereTold}
+use Rattle.device_cells.specs.Cells.{body, other_body}
+use Rattle.device_cells.specs.Medium.{Medium, From, Becomes, EachImage, EachPair, Keeps}
+use Rattle.device_cells.specs.SpareBytes.{SameSpare, SameCell}
+use Rattle.device_cells.specs.WhereTold.{WhereTold}
 use Rattle.script_buffers.specs.Lines.{lines, NoNewline, EndsLine}
 use Rattle.script_buffers.specs.Reading.{TakesLine, Reading, line_limit}
 use Rattle.script_buffers.specs.declared.lines.Taken.{Taken}

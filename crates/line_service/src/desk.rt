@@ -1,7 +1,7 @@
 //! What answers a line.
 ghost use Rattle.std.specs.Prelude.{◌≡◌, ◌≤◌, ◌<◌, ℕ, List, [], length, OnOk, IfErr};
 ghost use Rattle.key_cells.specs.Bench.{blank_bench};
-ghost use Rattle.slot_disk.specs.Medium.{Medium};
+ghost use Rattle.device_cells.specs.Medium.{Medium};
 ghost use Rattle.script_buffers.specs.Reading.{line_limit};
 ghost use Rattle.line_service.specs.Machine.{Machine, world};
 ghost use Rattle.line_service.specs.Answering.{OnDisks, IsSound, Stands, Steps, Serves};
@@ -10,9 +10,9 @@ ghost use Rattle.line_service.specs.Stops.{IsDeskStop, IsOpeningStop};
 
 use crate::devices::Shown;
 use crate::stops::Stop;
+use device_cells::{Disk, Entropy};
 use key_cells::Workbench;
 use script_buffers::ReplyBuffer;
-use slot_disk::{Disk, Entropy};
 
 /// What answers lines, over two disks and a random source. It keeps in memory what it read of the disks.
 pub trait Desk {

@@ -1,7 +1,7 @@
 //! What devices show, as a clause names it.
 ghost use Rattle.line_service.specs.Devices.{Devices, devices, Outside, outside, Span};
 
-use slot_disk::{Disk, Entropy, Sink, Source};
+use device_cells::{Disk, Entropy, Sink, Source};
 
 /// The devices behind a machine: a module, a store and, where there is one, a random source.
 pub trait Shown {

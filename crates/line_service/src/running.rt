@@ -10,9 +10,9 @@ use crate::desk::Desk;
 use crate::devices::{Shown, ShownOutside};
 use crate::serving::{Served, serve_one};
 use crate::stops::Stop;
+use device_cells::{Disk, Entropy, Sink, Source};
 use key_cells::Workbench;
 use script_buffers::{LineBuffer, ReplyBuffer};
-use slot_disk::{Disk, Entropy, Sink, Source};
 
 // Serves line after line, to the end of the input. It reads each byte once, and sends each reply by itself.
 fn serve_all<A: Desk, S: Source, K: Sink, M: Disk, D: Disk, E: Entropy>(

@@ -1,10 +1,10 @@
 //! Writing a whole reply.
 ghost use Rattle.std.specs.Prelude.{◌≡◌, ◌++◌, ℕ, List, OnOk, OnErr};
-ghost use Rattle.slot_disk.specs.Faults.{HasCause};
-ghost use Rattle.slot_disk.specs.WhereTold.{WhereTold};
+ghost use Rattle.device_cells.specs.Faults.{HasCause};
+ghost use Rattle.device_cells.specs.WhereTold.{WhereTold};
 ghost use Rattle.line_service.specs.Sending.{GotPart};
 
-use slot_disk::{Failed, Sink};
+use device_cells::{Failed, Sink};
 
 /// Writes the whole piece: one call, unless the sink takes it in parts.
 pub fn send<K: Sink>(sink: &mut K, piece: &[u8]) -> Result<(), Failed>

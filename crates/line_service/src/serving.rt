@@ -14,9 +14,9 @@ use crate::desk::Desk;
 use crate::devices::{Shown, ShownOutside};
 use crate::sending::send;
 use crate::stops::Stop;
+use device_cells::{Disk, Entropy, Sink, Source};
 use key_cells::Workbench;
 use script_buffers::{LineBuffer, LineFault, ReplyBuffer, Taken, read_line};
-use slot_disk::{Disk, Entropy, Sink, Source};
 
 /// What serving one line came to.
 #[derive(Clone, Copy, Debug, PartialEq, Eq)]

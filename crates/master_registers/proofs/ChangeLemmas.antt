@@ -1,7 +1,7 @@
 -- The registers that were prepared in a bench are those that are written.
 use Rattle.std.proofs.Common.{◌≡◌, ℕ, List, Result, Ok, Err, sym, subst}
 use Rattle.std.specs.Prelude.{IfOk}
-use Rattle.slot_disk.specs.Medium.{Medium}
+use Rattle.device_cells.specs.Medium.{Medium}
 use Rattle.key_cells.specs.Bench.{Bench}
 use Rattle.key_cells.specs.Lease.{bench_of}
 use Rattle.key_cells.specs.declared.leases.Lease.{Lease}

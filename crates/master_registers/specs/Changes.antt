@@ -3,10 +3,10 @@ use Rattle.std.specs.Prelude.{◌≡◌, ◌≢◌, ◌≤◌, ◌⊎◌, ℕ, L
 use Rattle.key_cells.specs.Bench.{Bench}
 use Rattle.key_cells.specs.Lease.{bench_of}
 use Rattle.key_cells.specs.declared.leases.Lease.{Lease}
-use Rattle.slot_disk.specs.Cells.{body, IsReplaced, IsUntouched}
-use Rattle.slot_disk.specs.Faults.{Rose}
-use Rattle.slot_disk.specs.Medium.{Medium, IsSettled, Told, From, Becomes, EachImage}
-use Rattle.slot_disk.specs.Ranges.{SameOutside}
+use Rattle.device_cells.specs.Cells.{body, IsReplaced, IsUntouched}
+use Rattle.device_cells.specs.Faults.{Rose}
+use Rattle.device_cells.specs.Medium.{Medium, IsSettled, Told, From, Becomes, EachImage}
+use Rattle.device_cells.specs.Ranges.{SameOutside}
 use Rattle.master_registers.specs.Loaded.{Loaded, IsLoaded, ArePlaced, KeepsRest, StandsForLoaded}
 use Rattle.master_registers.specs.Masters.{Masters}
 use Rattle.master_registers.specs.RegisterBody.{registers_body, StandsForMasters}

@@ -7,6 +7,6 @@ pub mod RegisterBody
 pub use Rattle.byte_lists.specs.Bytes
 pub use Rattle.key_cells.specs.Bench
 pub use Rattle.key_cells.specs.Lease
-pub use Rattle.slot_disk.specs.Cells
-pub use Rattle.slot_disk.specs.Faults
-pub use Rattle.slot_disk.specs.Medium
+pub use Rattle.device_cells.specs.Cells
+pub use Rattle.device_cells.specs.Faults
+pub use Rattle.device_cells.specs.Medium

@@ -1,6 +1,6 @@
 -- The registers as the body of cell 0 of the module.
 use Rattle.std.specs.Prelude.{◌≡◌, ◌⊎◌, ℕ, List, ◌∷◌, ◌++◌, replicate, Option, None, Some}
-use Rattle.slot_disk.specs.Cells.{body}
+use Rattle.device_cells.specs.Cells.{body}
 use Rattle.master_registers.specs.Masters.{Masters, IsMasters, blank_masters, new_bytes, kept_bytes, state_of}
 use Rattle.master_registers.specs.declared.registers.NewState.{NewState}
 use Rattle.master_registers.specs.declared.registers.NewState.TheVariants as state

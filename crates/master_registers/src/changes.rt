@@ -1,7 +1,7 @@
 //! The steps of a key ceremony on a module. Each writes cell 0 of the module, and nothing more: a stop at any moment
 //! leaves the old registers or the new ones.
 ghost use Rattle.std.specs.Prelude.{◌≡◌, ◌≢◌, ◌≤◌, ◌↔◌, IfOk, IsTrue, Result, Err};
-ghost use Rattle.slot_disk.specs.Medium.{Told, IsSettled};
+ghost use Rattle.device_cells.specs.Medium.{Told, IsSettled};
 ghost use Rattle.key_cells.specs.Lease.{bench_of, holding};
 ghost use Rattle.master_registers.specs.Actions.{after_action, has_wrong_state, repeats_pattern};
 ghost use Rattle.master_registers.specs.Changes.{CarriesOut, ChangesModule, HasDiskCause, IsLoadedFrom, WhenRefused};
@@ -15,8 +15,8 @@ use crate::faults::RegisterFault;
 use crate::forms::write_form;
 use crate::prepared::prepare;
 use crate::registers::Registers;
+use device_cells::{Cell, Disk, replace_cell};
 use key_cells::Lease;
-use slot_disk::{Cell, Disk, replace_cell};
 
 /// FIRST: puts the key part in the place `Part` into the empty new register, which is then partly full. RegisterState
 /// comes exactly where new isn't empty.

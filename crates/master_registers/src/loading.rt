@@ -1,6 +1,6 @@
 //! The registers taken from the module into the workbench.
 ghost use Rattle.std.specs.Prelude.{◌≡◌, ◌≤◌, ◌↔◌, ◌<◌, ℕ, List, Option, slice_index, IfOk, IfSome, IsNone, IsTrue};
-ghost use Rattle.slot_disk.specs.Medium.{Told, Keeps};
+ghost use Rattle.device_cells.specs.Medium.{Told, Keeps};
 ghost use Rattle.key_cells.specs.Bench.{master_of};
 ghost use Rattle.key_cells.specs.Lease.{bench_of};
 ghost use Rattle.master_registers.specs.BodyForm.{IsBody, HasBodyForm, AreMasterKeys, masters_at, state_at, pattern_at};
@@ -15,8 +15,8 @@ use crate::moves::{clear_master, take_master};
 use crate::patterns::{Pattern, pattern_of};
 use crate::registers::{NewState, Registers};
 use byte_lists::is_zero;
+use device_cells::{Cell, Disk, read_cell};
 use key_cells::{Lease, MasterPlace};
-use slot_disk::{Cell, Disk, read_cell};
 
 /// Reads cell 0 of the module into the places of the three registers. The disk is as before. Of the lease the places
 /// `Current`, `Old` and `New` and the body change, and after an error they may hold any bytes.

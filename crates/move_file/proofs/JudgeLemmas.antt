@@ -14,8 +14,8 @@ use Rattle.record_bodies.specs.declared.rows.Row.{Row}
 use Rattle.key_tokens.specs.Denotes.{Denoted}
 use Rattle.key_tokens.specs.declared.key_token.Age.{Age}
 use Rattle.master_registers.specs.Masters.{Masters}
-use Rattle.slot_disk.specs.Medium.{Medium, Told}
-use Rattle.slot_disk.proofs.Media.{told_from, told_joined, told_map}
+use Rattle.device_cells.specs.Medium.{Medium, Told}
+use Rattle.device_cells.proofs.Media.{told_from, told_joined, told_map}
 use Rattle.store_move.specs.Exports.{IsTransport, exporter, transport_checks}
 use Rattle.store_move.specs.Reading.{HoldsAsRead}
 use Rattle.verb_rules.specs.KeyChecks.{use_checks}

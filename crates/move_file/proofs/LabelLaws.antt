@@ -16,8 +16,8 @@ use Rattle.record_bodies.proofs.OpeningLaws.{directory_remembered}
 use Rattle.key_tokens.specs.Denotes.{ClearKey, Denoted, MasterKeys}
 use Rattle.key_transport.specs.Tokens.{external_token}
 use Rattle.script_buffers.specs.Replies.{two_digits}
-use Rattle.slot_disk.specs.Medium.{Medium, Told}
-use Rattle.slot_disk.proofs.Media.{told_at, told_from}
+use Rattle.device_cells.specs.Medium.{Medium, Told}
+use Rattle.device_cells.proofs.Media.{told_at, told_from}
 use Rattle.store_move.specs.Exports.{IsMoved, export_checks}
 use Rattle.store_move.specs.Reading.{HoldsAsRead}
 use Rattle.store_move.specs.declared.moving.Moved.{Moved}

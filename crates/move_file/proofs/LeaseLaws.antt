@@ -7,8 +7,8 @@ use Rattle.record_bodies.specs.declared.rows.Row.{Row}
 use Rattle.master_registers.specs.Loaded.{Loaded}
 use Rattle.master_registers.specs.Masters.{Masters}
 use Rattle.master_registers.specs.declared.registers.Registers.{Registers}
-use Rattle.slot_disk.specs.Medium.{Medium, Told}
-use Rattle.slot_disk.proofs.Media.{told_at, told_from}
+use Rattle.device_cells.specs.Medium.{Medium, Told}
+use Rattle.device_cells.proofs.Media.{told_at, told_from}
 use Rattle.verb_rules.specs.Keys.{keys_of, master_for, opened, opened_by}
 use Rattle.verb_rules.specs.declared.judging.Judged.{Judged}
 use Rattle.cca_machine.specs.State.{State}

@@ -4,10 +4,10 @@ use Rattle.std.specs.List.{concat}
 use Rattle.std.proofs.lemmas.List.{append-nil, get_or-map, length-map, take_all, take_more}
 use Rattle.std.proofs.lemmas.List.Folds.{concat-append}
 use Rattle.std.proofs.lemmas.List.FromFn.{get_or-map-range_with_len, length-map-range_with_len}
-use Rattle.slot_disk.specs.Medium.{Medium, Told}
-use Rattle.slot_disk.specs.WhereTold.{WhereTold}
-use Rattle.slot_disk.proofs.Media.{told_at, told_from}
-use Rattle.slot_disk.proofs.WhereToldLemmas.{told_same, told_then, told_weaker}
+use Rattle.device_cells.specs.Medium.{Medium, Told}
+use Rattle.device_cells.specs.WhereTold.{WhereTold}
+use Rattle.device_cells.proofs.Media.{told_at, told_from}
+use Rattle.device_cells.proofs.WhereToldLemmas.{told_same, told_then, told_weaker}
 use Rattle.line_service.specs.Sending.{Grows}
 use Rattle.record_bodies.specs.Directory.{held_count}
 use Rattle.record_bodies.specs.Entries.{directory, row_directory}

@@ -2,7 +2,7 @@
 use Rattle.std.specs.Prelude.{◌≡◌, ◌≤◌, ◌<◌, ◌⊎◌, ℕ, true, false, List, [], ◌++◌, length, take, get_or, codes, Option, None, Some, Result, Err, OnOk, OnErr, ⊤}
 use Rattle.std.specs.List.{concat}
 use Rattle.std.specs.Str.{bytes_eq}
-use Rattle.slot_disk.specs.WhereTold.{WhereTold}
+use Rattle.device_cells.specs.WhereTold.{WhereTold}
 use Rattle.record_bodies.specs.Directory.{cell_of, held_count}
 use Rattle.record_bodies.specs.Entries.{row_directory}
 use Rattle.record_bodies.specs.declared.rows.Row.{Row}

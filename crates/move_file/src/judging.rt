@@ -10,7 +10,7 @@ ghost use Rattle.record_bodies.specs.StoreStands.{HoldsRows, KeepsLabels};
 ghost use Rattle.line_service.specs.Devices.{TellsFault};
 ghost use Rattle.master_registers.specs.Loaded.{Loaded};
 ghost use Rattle.master_registers.specs.Masters.{Masters};
-ghost use Rattle.slot_disk.specs.Medium.{Keeps, Told};
+ghost use Rattle.device_cells.specs.Medium.{Keeps, Told};
 ghost use Rattle.verb_rules.specs.Keys.{IsDouble, keys_of};
 ghost use Rattle.verb_rules.specs.Rules.{rule_number};
 ghost use Rattle.cca_machine.specs.State.{State};
@@ -19,11 +19,11 @@ ghost use Rattle.move_file.specs.Moves.{role_checks};
 
 use crate::moves::Move;
 use cca_roles::{AccessPoints, RoleName, Roles};
+use device_cells::{Disk, Steps};
 use key_cells::Lease;
 use key_records::{Label, RecordFault, Records, STORE_LEN};
 use master_registers::Registers;
 use request_rules::role_rule;
-use slot_disk::{Disk, Steps};
 use store_move::judge_transport;
 use verb_rules::{Judged, Rule};
 

@@ -1,17 +1,17 @@
 //! What is sent of one label.
 ghost use Rattle.std.specs.Prelude.{◌≡◌, ◌≤◌, Some, length, Err, IfErr};
 ghost use Rattle.line_service.specs.Devices.{TellsFault};
-ghost use Rattle.slot_disk.specs.Faults.{HasCause};
+ghost use Rattle.device_cells.specs.Faults.{HasCause};
 ghost use Rattle.move_file.specs.Moves.{remarks_by, with_newlines};
 ghost use Rattle.move_file.specs.Telling.{Gets, requests_text};
 
 use crate::lines::{write_create, write_import, write_remark};
 use crate::moves::Move;
 use crate::writing::MoveFault;
+use device_cells::{Failed, Sink};
 use key_records::Label;
 use line_service::send;
 use script_buffers::ReplyBuffer;
-use slot_disk::{Failed, Sink};
 
 /// Sends the two requests that move a label: a write for each, unless the file takes it in parts.
 pub(crate) fn send_requests<K: Sink>(

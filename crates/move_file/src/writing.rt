@@ -6,8 +6,8 @@ ghost use Rattle.line_service.specs.Devices.{TellsFault};
 ghost use Rattle.line_service.specs.Sending.{Grows};
 ghost use Rattle.master_registers.specs.Loaded.{Loaded};
 ghost use Rattle.master_registers.specs.Masters.{Masters};
-ghost use Rattle.slot_disk.specs.Medium.{Keeps, Told};
-ghost use Rattle.slot_disk.specs.WhereTold.{WhereTold};
+ghost use Rattle.device_cells.specs.Medium.{Keeps, Told};
+ghost use Rattle.device_cells.specs.WhereTold.{WhereTold};
 ghost use Rattle.verb_rules.specs.Keys.{IsDouble, keys_of, opened};
 ghost use Rattle.cca_machine.specs.State.{State};
 ghost use Rattle.move_file.specs.Moves.{clear_of};
@@ -15,11 +15,11 @@ ghost use Rattle.move_file.specs.Writing.{IsFault, RestsOnRecords, Tells};
 
 use crate::moves::Move;
 use crate::telling::tell_label;
+use device_cells::{Disk, Sink};
 use key_cells::Lease;
 use key_records::{RecordFault, Records, STORE_LEN};
 use master_registers::Registers;
 use script_buffers::ReplyBuffer;
-use slot_disk::{Disk, Sink};
 use thiserror::Error;
 use verb_rules::Judged;
 

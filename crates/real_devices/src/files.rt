@@ -3,7 +3,7 @@ ghost use Rattle.std.specs.Prelude.{◌≡◌, IfOk};
 
 use crate::fault::Fault;
 use crate::streams::StandardNumbers;
-use slot_disk::{Disk, FileDisk};
+use device_cells::{Disk, FileDisk};
 use std::fs::{File, OpenOptions, symlink_metadata};
 use std::io;
 use std::os::unix::fs::{MetadataExt, OpenOptionsExt};

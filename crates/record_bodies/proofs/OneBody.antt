@@ -3,7 +3,7 @@ use Rattle.std.proofs.Common.{◌≡◌, ◌<◌, ⊎_elim, ℕ, List, [], Bool,
 use Rattle.std.specs.Prelude.{slice_index}
 use Rattle.std.proofs.lemmas.Bool.{cases_eq}
 use Rattle.byte_lists.specs.Bytes.{AreBytes}
-use Rattle.slot_disk.specs.Cells.{body}
+use Rattle.device_cells.specs.Cells.{body}
 use Rattle.key_tokens.specs.Denotes.{ClearKey, Denoted, MasterKey, MasterKeys, IsTokenOf, Denotes, HaveDistinctPatterns}
 use Rattle.key_tokens.specs.Layout.{made}
 use Rattle.key_tokens.specs.declared.key_token.Age.{Age}

@@ -11,7 +11,7 @@ use Rattle.byte_lists.specs.Bytes.{AreBytes, IsZero}
 use Rattle.cca_vectors.specs.Vectors.{length_of, right_of}
 use Rattle.multi_encipher.specs.Seals.{seal, sealed_half}
 use Rattle.multi_encipher.proofs.SealLaws.{all_zeros}
-use Rattle.slot_disk.proofs.CellSteps.{length-range}
+use Rattle.device_cells.proofs.CellSteps.{length-range}
 use Rattle.key_tokens.specs.Denotes.{ClearKey, MasterKey, MasterKeys, Denoted, denoted, denoted_or, clear_of, is_token}
 use Rattle.key_tokens.specs.Fields.{pattern_of_token, vector_bytes_of}
 use Rattle.key_tokens.specs.Layout.{made}

@@ -3,7 +3,7 @@ use Rattle.std.proofs.Common.{◌≡◌, ◌≤◌, ◌<◌, ◌+◌, ◌-◌, �
 use Rattle.std.specs.Prelude.{slice_index, slice_range, ⊤}
 use Rattle.std.specs.Int.{to_be_bytes, w32}
 use Rattle.std.proofs.lemmas.List.{take-append-drop, take-take, drop-take, take_all}
-use Rattle.slot_disk.proofs.CellSteps.{length-range}
+use Rattle.device_cells.proofs.CellSteps.{length-range}
 use Rattle.key_tokens.specs.Layout.{HasPlaces, IsToken, Place, layout, made, place, zeros}
 use Rattle.key_tokens.specs.Kinds.{kind_byte}
 use Rattle.key_tokens.specs.Tvv.{tvv_of}

@@ -3,11 +3,11 @@ use Rattle.std.proofs.Common.{◌≡◌, ◌≤◌, ◌<◌, ◌+◌, ◌⊎◌,
 use Rattle.std.specs.Prelude.{slice_index, bytes_eq, is_some, IsSome, IsTrue}
 use Rattle.std.proofs.lemmas.Bool.{cases_eq}
 use Rattle.std.proofs.lemmas.Slice.Eq.{bytes_eq-Decides}
-use Rattle.slot_disk.proofs.CellSteps.{selected_below}
+use Rattle.device_cells.proofs.CellSteps.{selected_below}
 use Rattle.byte_lists.specs.Bytes.{AreBytes, IsZero}
 use Rattle.cca_vectors.specs.Checks.{first_failing}
 use Rattle.cca_vectors.specs.Vectors.{length_of}
-use Rattle.slot_disk.specs.Cells.{body, body_place, selected}
+use Rattle.device_cells.specs.Cells.{body, body_place, selected}
 use Rattle.key_tokens.specs.Denotes.{Denoted, MasterKey, MasterKeys}
 use Rattle.key_tokens.specs.Fields.{vector_bytes_of}
 use Rattle.key_tokens.specs.TokenChecks.{token_checks}

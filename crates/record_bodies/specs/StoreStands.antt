@@ -1,8 +1,8 @@
 -- What a store stands for: the labels of a state, each in its cell.
 use Rattle.std.specs.Prelude.{◌≡◌, ◌<◌, ◌⊎◌, ℕ, List, length, map, get_or, Option, None, Some}
 use Rattle.std.specs.List.{range_with_len}
-use Rattle.slot_disk.specs.Cells.{body}
-use Rattle.slot_disk.specs.Medium.{Medium, IsSettled, Told}
+use Rattle.device_cells.specs.Cells.{body}
+use Rattle.device_cells.specs.Medium.{Medium, IsSettled, Told}
 use Rattle.key_tokens.specs.Denotes.{MasterKeys}
 use Rattle.record_bodies.specs.Directory.{AreApart}
 use Rattle.record_bodies.specs.Entries.{Entry, directory, remembered}

@@ -10,7 +10,7 @@ ghost use Rattle.record_bodies.specs.Rows.{AreListed};
 use crate::halving::search;
 use crate::labels::Label;
 use crate::rows::Row;
-use slot_disk::{NoMemory, Steps};
+use device_cells::{NoMemory, Steps};
 use std::alloc::Global;
 use std::marker::Model;
 

@@ -6,7 +6,7 @@ ghost use Rattle.record_bodies.specs.Entries.{row_directory};
 
 use crate::labels::Label;
 use crate::rows::{Row, label_of};
-use slot_disk::Steps;
+use device_cells::Steps;
 use std::cmp::Ordering;
 
 /// Where the label stands in a list of cells whose labels ascend, or where its cell would. Each step halves the list.

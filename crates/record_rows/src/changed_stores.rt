@@ -1,7 +1,7 @@
 //! Records that another program changed after the store was opened: each change leaves a body that may stand in a
 //! cell, and still the record that is read again is damaged.
 ghost use Rattle.key_records.specs.declared.records.TheConstants.{STORE_LEN};
-ghost use Rattle.slot_disk.specs.SilentMedium.{silent};
+ghost use Rattle.device_cells.specs.SilentMedium.{silent};
 
 use crate::bodies::{CURRENT, OLD, body_of, bytes_of, with_byte};
 use crate::second_tokens::{NEW, UNHELD, full_module, two_of};

@@ -4,7 +4,7 @@ ghost use Rattle.record_bodies.specs.Directory.{label_at};
 ghost use Rattle.record_bodies.specs.Entries.{row_directory};
 ghost use Rattle.record_bodies.specs.StoreStands.{HoldsRows};
 ghost use Rattle.key_records.specs.declared.records.TheConstants.{STORE_LEN};
-ghost use Rattle.slot_disk.specs.Medium.{Keeps, Told};
+ghost use Rattle.device_cells.specs.Medium.{Keeps, Told};
 
 use crate::masters::load_masters;
 use key_cells::Lease;

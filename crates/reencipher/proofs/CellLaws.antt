@@ -3,10 +3,10 @@ use Rattle.std.proofs.Common.{◌≡◌, ◌≢◌, ◌≤◌, ◌<◌, ◌+◌,
 use Rattle.std.specs.Prelude.{slice_index, slice_range}
 use Rattle.std.proofs.lemmas.Bool.{cases_lt}
 use Rattle.std.proofs.lemmas.Grind.{same_number_lists}
-use Rattle.slot_disk.specs.Cells.{selected, body_place, body_at, body, other_body, IsUntouched}
-use Rattle.slot_disk.specs.SpareBytes.{Turned}
-use Rattle.slot_disk.proofs.CellSteps.{length-range, get_or-range, selected_below}
-use Rattle.slot_disk.proofs.SpareLemmas.{same_spare_then, spare_untouched}
+use Rattle.device_cells.specs.Cells.{selected, body_place, body_at, body, other_body, IsUntouched}
+use Rattle.device_cells.specs.SpareBytes.{Turned}
+use Rattle.device_cells.proofs.CellSteps.{length-range, get_or-range, selected_below}
+use Rattle.device_cells.proofs.SpareLemmas.{same_spare_then, spare_untouched}
 use Rattle.record_bodies.specs.Entries.{Entry}
 use Rattle.key_tokens.specs.Denotes.{MasterKeys}
 use Rattle.record_bodies.specs.Further.{further, is_changed}

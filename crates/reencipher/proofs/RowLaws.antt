@@ -2,11 +2,11 @@
 use Rattle.std.proofs.Common.{◌≡◌, ◌≢◌, ◌≤◌, ◌<◌, ◌+◌, ℕ, suc, List, get_or, cond, Option, None, Some, Result, Ok, Err, Bool, true, false, refl, sym, ap, subst, ◌∙◌, inl, inr, ⊎_elim, arith}
 use Rattle.std.specs.Prelude.{IsSome, is_some, ◌&&◌, OnOk}
 use Rattle.std.proofs.lemmas.Bool.{cases_eq}
-use Rattle.slot_disk.specs.Cells.{IsReplacing}
-use Rattle.slot_disk.specs.Medium.{Medium, Told, IsSettled, From, Becomes, EachImage, Keeps}
-use Rattle.slot_disk.specs.SpareBytes.{Turned}
-use Rattle.slot_disk.proofs.Media.{told_at, each_weaker, each_still, goes_on, becomes_same, becomes_weaker, becomes_both, becomes_then, from_then}
-use Rattle.slot_disk.proofs.SpareLemmas.{turned_same}
+use Rattle.device_cells.specs.Cells.{IsReplacing}
+use Rattle.device_cells.specs.Medium.{Medium, Told, IsSettled, From, Becomes, EachImage, Keeps}
+use Rattle.device_cells.specs.SpareBytes.{Turned}
+use Rattle.device_cells.proofs.Media.{told_at, each_weaker, each_still, goes_on, becomes_same, becomes_weaker, becomes_both, becomes_then, from_then}
+use Rattle.device_cells.proofs.SpareLemmas.{turned_same}
 use Rattle.held_names.proofs.DirectoryLaws.{none_some}
 use Rattle.cca_vectors.specs.Checks.{first_failing}
 use Rattle.key_cells.specs.Bench.{Bench}

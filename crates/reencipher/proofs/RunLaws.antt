@@ -3,8 +3,8 @@ use Rattle.std.proofs.Common.{◌≡◌, ◌≤◌, ◌<◌, ◌+◌, ⊎_elim, 
 use Rattle.std.specs.Prelude.{IsSome, IfSome}
 use Rattle.key_cells.specs.Lease.{bench_of, holding}
 use Rattle.key_cells.specs.declared.leases.Lease.{Lease}
-use Rattle.slot_disk.specs.Medium.{Medium, Told, IsSettled, From, Becomes, EachImage}
-use Rattle.slot_disk.proofs.Media.{told_from, told_at, each_weaker, each_still, goes_on, becomes_same, becomes_both, becomes_then}
+use Rattle.device_cells.specs.Medium.{Medium, Told, IsSettled, From, Becomes, EachImage}
+use Rattle.device_cells.proofs.Media.{told_from, told_at, each_weaker, each_still, goes_on, becomes_same, becomes_both, becomes_then}
 use Rattle.key_tokens.specs.Denotes.{MasterKeys, HaveDistinctPatterns}
 use Rattle.key_records.specs.Changes.{ChangesKeyAndBody}
 use Rattle.record_bodies.specs.Entries.{Entry}

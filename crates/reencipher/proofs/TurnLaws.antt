@@ -6,9 +6,9 @@ use Rattle.held_names.proofs.DirectoryLaws.{none_some}
 use Rattle.key_cells.specs.Bench.{Bench}
 use Rattle.key_cells.specs.Lease.{bench_of, holding}
 use Rattle.key_cells.specs.declared.leases.Lease.{Lease}
-use Rattle.slot_disk.specs.Cells.{body}
-use Rattle.slot_disk.specs.Medium.{Medium, Told, IsSettled, From, Becomes, EachImage, Keeps}
-use Rattle.slot_disk.proofs.Media.{told_from, told_at, each_weaker, goes_on, told_joined, told_map, told_still}
+use Rattle.device_cells.specs.Cells.{body}
+use Rattle.device_cells.specs.Medium.{Medium, Told, IsSettled, From, Becomes, EachImage, Keeps}
+use Rattle.device_cells.proofs.Media.{told_from, told_at, each_weaker, goes_on, told_joined, told_map, told_still}
 use Rattle.key_tokens.specs.Denotes.{ClearKey, Denoted, MasterKeys, denoted}
 use Rattle.key_tokens.specs.declared.key_token.Age.TheVariants.{Current}
 use Rattle.record_bodies.specs.Ages.{is_old, has_old_key, is_ahead_entry}

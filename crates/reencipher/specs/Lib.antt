@@ -11,7 +11,7 @@ pub use Rattle.record_bodies.specs.Written
 pub use Rattle.key_tokens.specs.Denotes
 pub use Rattle.master_registers.specs.Loaded
 pub use Rattle.master_registers.specs.Masters
-pub use Rattle.slot_disk.specs.Cells
-pub use Rattle.slot_disk.specs.Faults
-pub use Rattle.slot_disk.specs.Medium
+pub use Rattle.device_cells.specs.Cells
+pub use Rattle.device_cells.specs.Faults
+pub use Rattle.device_cells.specs.Medium
 pub use Rattle.verb_rules.specs.Keys

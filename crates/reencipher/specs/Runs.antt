@@ -2,10 +2,10 @@
 use Rattle.std.specs.Prelude.{◌≡◌, ◌≤◌, ◌<◌, ◌+◌, ◌⊎◌, ◌&&◌, ℕ, zero, suc, Bool, true, false, not, cond, List, Option, None, Some, is_some, get_or, slice_index, length}
 use Rattle.std.specs.Prelude.{Result, Err, OnOk, OnErr, IfOk, IfErr, IsSome}
 use Rattle.key_cells.specs.declared.leases.Lease.{Lease}
-use Rattle.slot_disk.specs.Cells.{body, other_body, IsUntouched}
-use Rattle.slot_disk.specs.Faults.{Rose}
-use Rattle.slot_disk.specs.Medium.{Medium, IsSettled, Told, From, Becomes, EachImage}
-use Rattle.slot_disk.specs.SpareBytes.{Turned}
+use Rattle.device_cells.specs.Cells.{body, other_body, IsUntouched}
+use Rattle.device_cells.specs.Faults.{Rose}
+use Rattle.device_cells.specs.Medium.{Medium, IsSettled, Told, From, Becomes, EachImage}
+use Rattle.device_cells.specs.SpareBytes.{Turned}
 use Rattle.key_tokens.specs.Denotes.{MasterKeys}
 use Rattle.key_tokens.specs.declared.key_token.Age.{Age}
 use Rattle.record_bodies.specs.Ages.{is_old}

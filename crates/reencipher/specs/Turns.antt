@@ -1,8 +1,8 @@
 -- One cell's turn in a run.
 use Rattle.std.specs.Prelude.{◌≡◌, ◌⊎◌, ℕ, Bool, true, false, List, Option, Some, set, slice_index, length, Result, OnOk, OnErr, IfOk}
-use Rattle.slot_disk.specs.Cells.{body, other_body, IsUntouched}
-use Rattle.slot_disk.specs.Medium.{Medium, Told, From, Becomes, EachImage}
-use Rattle.slot_disk.specs.SpareBytes.{SameCell, HasTurned}
+use Rattle.device_cells.specs.Cells.{body, other_body, IsUntouched}
+use Rattle.device_cells.specs.Medium.{Medium, Told, From, Becomes, EachImage}
+use Rattle.device_cells.specs.SpareBytes.{SameCell, HasTurned}
 use Rattle.key_tokens.specs.Denotes.{MasterKeys, denoted}
 use Rattle.key_records.specs.Changes.{IsReadOf, has_key}
 use Rattle.record_bodies.specs.Entries.{Entry, label_or}

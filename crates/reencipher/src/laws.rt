@@ -5,7 +5,7 @@ ghost use Rattle.record_bodies.specs.StoreStands.{StandsForLabels};
 ghost use Rattle.key_tokens.specs.Denotes.{HaveDistinctPatterns, MasterKeys};
 ghost use Rattle.record_bodies.specs.declared.actions.StoreAction.{StoreAction as Action};
 ghost use Rattle.record_bodies.specs.Further.{further, reruns, changed_count};
-ghost use Rattle.slot_disk.specs.Cells.{body};
+ghost use Rattle.device_cells.specs.Cells.{body};
 
 /// Whatever cells runs of an action are stopped at, a run that isn't stopped then leaves the labels that one run from
 /// the start leaves, and the same selected bytes in each cell; the next one changes none.

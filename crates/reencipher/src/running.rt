@@ -7,15 +7,15 @@ ghost use Rattle.master_registers.specs.Loaded.{IsLoaded, Loaded};
 ghost use Rattle.master_registers.specs.Masters.{Masters};
 ghost use Rattle.reencipher.specs.Runs.{IsCell, LeavesAnyStore, Reenciphers, TurnsCells};
 ghost use Rattle.key_records.specs.Ready.{IsReadyAhead, IsReadyFor};
-ghost use Rattle.slot_disk.specs.Medium.{Told};
+ghost use Rattle.device_cells.specs.Medium.{Told};
 ghost use Rattle.verb_rules.specs.Keys.{keys_of};
 
 use crate::turns::turn_cell;
+use device_cells::Disk;
 use key_cells::{Lease, MasterPlace};
 use key_records::{RecordFault, Records};
 use master_registers::{Registers, pattern_of};
 use record_bodies::StoreAction;
-use slot_disk::Disk;
 
 /// Makes each label under the old master key the same key with the same control vector under the current one, and
 /// answers how many there were. It goes once through the 1,024 cells upwards. A label that is current, null or under

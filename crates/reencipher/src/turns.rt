@@ -11,16 +11,16 @@ ghost use Rattle.reencipher.specs.Runs.{IsChangedRow, LeavesAnyStore, changes_ro
 ghost use Rattle.reencipher.specs.Tokens.{IsComing, may_change};
 ghost use Rattle.key_records.specs.Ready.{IsReadyFor};
 ghost use Rattle.reencipher.specs.Turns.{ChangesCell, TurnsAsRead, TurnsCell};
-ghost use Rattle.slot_disk.specs.Medium.{Told};
+ghost use Rattle.device_cells.specs.Medium.{Told};
 ghost use Rattle.verb_rules.specs.Keys.{keys_of};
 
 use crate::tokens::made_tokens;
 use crate::writing::put;
+use device_cells::{Disk, Steps};
 use key_cells::Lease;
 use key_records::{Place, RecordFault, Records};
 use master_registers::{Pattern, Registers};
 use record_bodies::StoreAction;
-use slot_disk::{Disk, Steps};
 
 /// The place of the label of a cell.
 fn place_in(records: &Records, cell: u16) -> Option<Place>

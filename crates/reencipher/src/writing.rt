@@ -9,13 +9,13 @@ ghost use Rattle.key_records.specs.declared.records.TheConstants.{STORE_LEN};
 ghost use Rattle.key_tokens.specs.Denotes.{Denoted, MasterKeys};
 ghost use Rattle.master_registers.specs.Loaded.{IsLoaded, masters_in};
 ghost use Rattle.reencipher.specs.Tokens.{CanBeWritten, StandFor, body_of, put_in, row_of};
-ghost use Rattle.slot_disk.specs.Medium.{Told, IsSettled};
+ghost use Rattle.device_cells.specs.Medium.{Told, IsSettled};
 ghost use Rattle.verb_rules.specs.Keys.{keys_of};
 
+use device_cells::Disk;
 use key_cells::Lease;
 use key_records::{Place, RecordFault, Records, Second};
 use master_registers::Registers;
-use slot_disk::Disk;
 
 /// The tokens that are put into a record.
 #[derive(Clone, Copy)]

@@ -15,7 +15,7 @@ use Rattle.line_service.specs.declared.stops.Stop.{Stop}
 use Rattle.master_registers.specs.Masters.{Masters}
 use Rattle.master_registers.specs.RegisterBody.{StandsForMasters}
 use Rattle.script_buffers.specs.Replies.{Refused, spelled}
-use Rattle.slot_disk.specs.Medium.{Keeps, Medium}
+use Rattle.device_cells.specs.Medium.{Keeps, Medium}
 use Rattle.store_move.specs.Stored.{IsStored, stored_checks}
 use Rattle.verb_rules.specs.Keys.{keys_of}
 use Rattle.verb_rules.specs.Rules.{rule_number}

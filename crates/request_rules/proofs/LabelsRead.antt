@@ -22,8 +22,8 @@ use Rattle.line_service.specs.declared.stops.Stop.TheVariants.{StoreFault}
 use Rattle.master_registers.specs.Loaded.{Loaded, registers_of}
 use Rattle.master_registers.specs.Masters.{Masters}
 use Rattle.master_registers.specs.declared.registers.Registers.{Registers}
-use Rattle.slot_disk.specs.Medium.{Keeps, Medium, Told}
-use Rattle.slot_disk.proofs.Media.{told_at}
+use Rattle.device_cells.specs.Medium.{Keeps, Medium, Told}
+use Rattle.device_cells.proofs.Media.{told_at}
 use Rattle.store_move.specs.Stored.{IsStored, stored_checks}
 use Rattle.verb_rules.specs.Classes.{has}
 use Rattle.verb_rules.specs.KeyChecks.{age_in, age_of, key_checks, read_checks, use_checks}

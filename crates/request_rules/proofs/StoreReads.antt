@@ -10,8 +10,8 @@ use Rattle.line_service.specs.declared.stops.Stop.{Stop}
 use Rattle.line_service.specs.declared.stops.Stop.TheVariants.{StoreFault}
 use Rattle.line_service.proofs.StopLemmas.{disk_as, disk_on, follows_stop}
 use Rattle.master_registers.specs.declared.registers.Registers.{Registers}
-use Rattle.slot_disk.specs.Medium.{IsSettled, Medium}
-use Rattle.slot_disk.proofs.Media.{keeps_still, keeps_then}
+use Rattle.device_cells.specs.Medium.{IsSettled, Medium}
+use Rattle.device_cells.proofs.Media.{keeps_still, keeps_then}
 use Rattle.request_rules.specs.Stored.{ReadsStore}
 use Rattle.request_rules.proofs.LabelsRead.{at_after}
 

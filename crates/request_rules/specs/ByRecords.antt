@@ -10,7 +10,7 @@ use Rattle.key_tokens.specs.Denotes.{Denoted, MasterKeys}
 use Rattle.master_registers.specs.Masters.{Masters}
 use Rattle.master_registers.specs.RegisterBody.{StandsForMasters}
 use Rattle.script_buffers.specs.Replies.{Refused, spelled}
-use Rattle.slot_disk.specs.Medium.{Medium, Told}
+use Rattle.device_cells.specs.Medium.{Medium, Told}
 use Rattle.store_move.specs.Reading.{HoldsAsRead}
 use Rattle.store_move.specs.Stored.{stored_checks}
 use Rattle.verb_rules.specs.Keys.{keys_of}

@@ -1,6 +1,6 @@
 -- What the memory and the bench have of the disks, and the state that they stand for.
 use Rattle.std.specs.Prelude.{◌≡◌, List, Option}
-use Rattle.slot_disk.specs.Medium.{Medium, Told, IsSettled}
+use Rattle.device_cells.specs.Medium.{Medium, Told, IsSettled}
 use Rattle.cca_roles.specs.RolesStand.{StandsForRoles}
 use Rattle.cca_roles.specs.declared.roles.Role.{Role}
 use Rattle.record_bodies.specs.StoreStands.{Agrees}

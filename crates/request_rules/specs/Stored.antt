@@ -18,7 +18,7 @@ use Rattle.line_service.specs.declared.stops.Device.TheVariants.{Store}
 use Rattle.line_service.specs.declared.stops.Stop.{Stop}
 use Rattle.line_service.specs.declared.stops.Stop.TheVariants.{StoreFault, Damaged}
 use Rattle.master_registers.specs.declared.registers.Registers.{Registers}
-use Rattle.slot_disk.specs.Medium.{Keeps, Medium}
+use Rattle.device_cells.specs.Medium.{Keeps, Medium}
 use Rattle.store_move.specs.Reading.{HoldsAsRead}
 use Rattle.store_move.specs.Stored.{IsStored}
 use Rattle.verb_rules.specs.KeyChecks.{use_checks}

@@ -18,13 +18,13 @@ ghost use Rattle.request_rules.specs.Stored.{IsAskedAsRead, AreAskedAsRead, Read
 use crate::operands::{Operand, Operands};
 use crate::stored::{judge_held, judge_label, judge_new_label, judge_target};
 use cca_machine::Ask;
+use device_cells::Disk;
 use granted_operands::{Grant, Granted, Refusal, token_bytes};
 use key_cells::Lease;
 use key_records::Records;
 use key_tokens::{Asked, read_token};
 use line_service::Stop;
 use master_registers::Registers;
-use slot_disk::Disk;
 use verb_rules::{Judged, Need, Rule, any_key, judge_key, token_rule};
 use verb_script::named_label;
 

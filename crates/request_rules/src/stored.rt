@@ -14,12 +14,12 @@ ghost use Rattle.request_rules.specs.Stored.{Finds, IsAnsweredAsRead, IsLabelAsk
 
 use crate::judging::answer_of;
 use cca_machine::Ask;
+use device_cells::{Disk, Steps};
 use granted_operands::Grant;
 use key_cells::Lease;
 use key_records::{Label, Place, RecordFault, Records};
 use line_service::{Device, Stop};
 use master_registers::Registers;
-use slot_disk::{Disk, Steps};
 use store_move::judge_record;
 use verb_rules::{Need, Rule};
 use verb_script::named_label;

@@ -15,7 +15,7 @@ use Rattle.master_registers.specs.Loaded.{masters_in}
 use Rattle.master_registers.specs.declared.registers.Registers.{Registers}
 use Rattle.multi_encipher.specs.Bundles.{ChangesKeyAt}
 use Rattle.script_buffers.specs.Replies.{Field, written}
-use Rattle.slot_disk.specs.Faults.{Rose}
+use Rattle.device_cells.specs.Faults.{Rose}
 use Rattle.verb_rules.specs.Keys.{keys_of, opened}
 use Rattle.verb_rules.specs.declared.judging.Judged.{Judged}
 use Rattle.verb_script.specs.Grammar.{Request, value_of}

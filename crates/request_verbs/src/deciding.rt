@@ -15,12 +15,12 @@ use crate::verbs::csnbrng::csnbrng;
 use crate::verbs::key_work::over_keys;
 use crate::verbs::text_work::{over_text, text_work};
 use crate::verbs::{csnbmkp, csuaaci, reenciphering};
+use device_cells::Entropy;
 use granted_operands::Granted;
 use key_cells::Lease;
 use key_records::Records;
 use line_service::Stop;
 use master_registers::Registers;
-use slot_disk::Entropy;
 use verb_script::{ReplyBuffer, Request};
 
 /// What the verb decides, over what its operands stand for.

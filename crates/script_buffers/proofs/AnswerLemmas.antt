@@ -1,8 +1,8 @@
 -- What the answers of a call say, from what it gathered.
 use Rattle.std.proofs.Common.{◌≡◌, ℕ, ◌+◌, ◌-◌, ◌<◌, ◌≤◌, ◌↔◌, Bool, true, false, IsTrue, List, [], ◌∷◌, ◌++◌, Option, Result, Ok, Err, length, take, drop, refl, sym, ap, subst, ◌∙◌, inl, inr, arith, append_assoc, length-append}
 use Rattle.std.proofs.lemmas.List.{append-nil, take-append-drop, take_at, take_all, length-take, get_or_at, nil_from_length}
-use Rattle.slot_disk.specs.WhereTold.{WhereTold}
-use Rattle.slot_disk.proofs.WhereToldLemmas.{told_weaker, told_both, told_at_end}
+use Rattle.device_cells.specs.WhereTold.{WhereTold}
+use Rattle.device_cells.proofs.WhereToldLemmas.{told_weaker, told_both, told_at_end}
 use Rattle.script_buffers.specs.Lines.{newline, lines, NoNewline}
 use Rattle.script_buffers.specs.Reading.{Reading, line_limit, input_limit, bytes_ahead, blank, TakesLine, Takes, Shows, Advances, LosesPart, given}
 use Rattle.script_buffers.specs.Gathering.{line_room, IsBounded, Gathers, Gathering, cut_of, Judges}

@@ -3,7 +3,7 @@ use Rattle.std.proofs.Common.{◌≡◌, ◌≢◌, ℕ, zero, suc, ◌+◌, tru
 use Rattle.std.proofs.lemmas.List.{length-take}
 use Rattle.std.proofs.lemmas.List.Elements.{All-append, All-take, All-nil}
 use Rattle.std.specs.Io.KnownBytes.{IsAtEnd, Keeps}
-use Rattle.slot_disk.proofs.WhereToldLemmas.{told_weaker, told_then, told_kept, told_same}
+use Rattle.device_cells.proofs.WhereToldLemmas.{told_weaker, told_then, told_kept, told_same}
 use Rattle.script_buffers.specs.Lines.{newline, NoNewline}
 use Rattle.script_buffers.specs.Reading.{Reading, input_limit, IsReady}
 use Rattle.script_buffers.specs.Gathering.{line_room, IsBounded, Moves, Refills, Gathers, Gathering}

@@ -1,7 +1,7 @@
 -- How a line is gathered from the bytes ahead, piece after piece.
 use Rattle.std.specs.Prelude.{◌≡◌, ℕ, ◌+◌, ◌<◌, ◌≤◌, ◌⊎◌, Bool, true, false, IsTrue, List, [], ◌∷◌, ◌++◌, length, take, Option, Result, Ok, Err}
 use Rattle.std.specs.Io.KnownBytes.{IsAtEnd}
-use Rattle.slot_disk.specs.WhereTold.{WhereTold}
+use Rattle.device_cells.specs.WhereTold.{WhereTold}
 use Rattle.script_buffers.specs.Lines.{newline, NoNewline}
 use Rattle.script_buffers.specs.Reading.{Reading, line_limit, input_limit, bytes_ahead}
 use Rattle.script_buffers.specs.declared.lines.LineFault.{LineFault}

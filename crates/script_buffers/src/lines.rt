@@ -3,14 +3,14 @@ ghost use Rattle.std.specs.Prelude.{◌≡◌, ℕ, ◌+◌, ◌-◌, ◌<◌, �
 ghost use Rattle.std.specs.Io.{ReadsAtMost};
 ghost use Rattle.std.specs.Io.KnownBytes.{IsAtEnd, Keeps, ReadConsumes};
 ghost use Rattle.memchr.specs.Find.{IsFirstByte, is_byte};
-ghost use Rattle.slot_disk.specs.Faults.{Rose, HasCause};
-ghost use Rattle.slot_disk.specs.WhereTold.{WhereTold};
+ghost use Rattle.device_cells.specs.Faults.{Rose, HasCause};
+ghost use Rattle.device_cells.specs.WhereTold.{WhereTold};
 ghost use Rattle.script_buffers.specs.Lines.{NoNewline};
 ghost use Rattle.script_buffers.specs.Reading.{input_limit, blank, IsReady, Takes, Shows, Advances, LosesPart, given};
 ghost use Rattle.script_buffers.specs.Gathering.{line_room, IsBounded, Moves, Refills, Gathering, cut_of, Judges};
 
+use device_cells::{Failed, NoMemory, Source};
 use memchr::memchr;
-use slot_disk::{Failed, NoMemory, Source};
 use std::alloc::Global;
 use std::marker::Model;
 use thiserror::Error;

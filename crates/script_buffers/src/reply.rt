@@ -5,8 +5,8 @@ ghost use Rattle.script_buffers.specs.Lines.{newline};
 ghost use Rattle.script_buffers.specs.Replies.{reply_limit, field_name, hex_field, text_field};
 ghost use Rattle.script_buffers.specs.Replies.{number_field, ok_text, refusal};
 
+use device_cells::NoMemory;
 use itoa::Buffer;
-use slot_disk::NoMemory;
 use std::alloc::Global;
 use std::marker::Model;
 

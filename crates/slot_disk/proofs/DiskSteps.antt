@@ -4,7 +4,7 @@ use Rattle.std.specs.Prelude.{nat_le, nat_lt}
 use Rattle.std.proofs.lemmas.Bool.{and_cases, or_parts}
 use Rattle.std.proofs.lemmas.Bool.Decides.{nat_tests}
 use Rattle.std.proofs.lemmas.List.{length-replicate, take_more}
-use Rattle.slot_disk.specs.Ranges.{overwrite}
+use Rattle.device_cells.specs.Ranges.{overwrite}
 use Rattle.slot_disk.specs.declared.call.Call.{Call}
 use Rattle.slot_disk.specs.Stages.{Stage, settled, noting, stage, covers, IsTorn}
 use Rattle.slot_disk.specs.StageLaws.{length-stage, content_torn, length-overwrite, get_or-overwrite_before, get_or-overwrite_after}
@@ -13,7 +13,7 @@ use Rattle.slot_disk.specs.declared.memory_disk.Torn.TheVariants.{Old, New, Fill
 use Rattle.slot_disk.specs.TornImage.{torn_image}
 use Rattle.slot_disk.specs.DiskState.{IsDisk, blank_image}
 use Rattle.slot_disk.specs.LogMedium.{log_medium}
-use Rattle.slot_disk.specs.Medium.{IsSettled}
+use Rattle.device_cells.specs.Medium.{IsSettled}
 use Rattle.slot_disk.proofs.Staging.{stage-push, settled_only}
 
 pub stage-nil : (image : List ℕ) → stage image [] ≡ settled image

@@ -1,11 +1,5 @@
-pub mod CellSteps
 pub mod DiskSteps
 pub mod Lists
 pub mod Logging
-pub mod Media
 pub mod Overwriting
-pub mod Reading
-pub mod Replacing
-pub mod SpareLemmas
 pub mod Staging
-pub mod WhereToldLemmas

@@ -3,14 +3,14 @@ use Rattle.std.proofs.Common.{◌≡◌, ◌≤◌, ◌⊎◌, inl, inr, ⊎_eli
 use Rattle.std.proofs.lemmas.Bool.{cases_lt}
 use Rattle.std.proofs.lemmas.List.{take-append-le, take_all}
 use Rattle.std.proofs.lemmas.Option.{same_Some}
-use Rattle.slot_disk.specs.Ranges.{SameOutside, HoldsPiece, overwrite}
+use Rattle.device_cells.specs.Ranges.{SameOutside, HoldsPiece, overwrite}
 use Rattle.slot_disk.specs.declared.call.Call.{Call}
 use Rattle.slot_disk.specs.declared.call.Call.TheVariants.{Written, Synced}
 use Rattle.slot_disk.specs.Stages.{Stage, noting, stage, IsTorn}
-use Rattle.slot_disk.specs.Medium.{Medium, IsSettled, After, Becomes, EachImage}
+use Rattle.device_cells.specs.Medium.{Medium, IsSettled, After, Becomes, EachImage}
 use Rattle.slot_disk.specs.LogMedium.{LeftSince, log_medium}
 use Rattle.slot_disk.specs.StageLaws.{length-stage}
-use Rattle.slot_disk.proofs.CellSteps.{outside_same}
+use Rattle.device_cells.proofs.CellSteps.{outside_same}
 use Rattle.slot_disk.proofs.Staging.{stage-push, written_torn, settled_only, synced_torn}
 use Rattle.slot_disk.proofs.Overwriting.{overwrite_outside, overwrite_holds}
 

@@ -3,7 +3,7 @@ use Rattle.std.proofs.Common.{◌≡◌, ◌≤◌, ◌<◌, ◌⊎◌, inl, inr
 use Rattle.std.proofs.lemmas.Bool.{cases_lt}
 use Rattle.std.proofs.lemmas.List.{length-take, get_or-take}
 use Rattle.std.proofs.lemmas.Grind.{same_number_lists}
-use Rattle.slot_disk.specs.Ranges.{overwrite, SameOutside, HoldsPiece}
+use Rattle.device_cells.specs.Ranges.{overwrite, SameOutside, HoldsPiece}
 use Rattle.slot_disk.specs.StageLaws.{length-overwrite, get_or-overwrite_before, get_or-overwrite_after}
 
 suc_first : (a b : ℕ) → suc a + b ≡ suc (a + b)

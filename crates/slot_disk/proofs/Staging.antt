@@ -6,12 +6,12 @@ use Rattle.std.proofs.lemmas.Bool.Decides.{nat_tests}
 use Rattle.std.proofs.lemmas.List.Sums.{fold-append}
 use Rattle.std.proofs.lemmas.List.Folds.{list_any-append}
 use Rattle.std.proofs.lemmas.Grind.{same_number_lists}
-use Rattle.slot_disk.specs.Ranges.{SameOutside, overwrite}
+use Rattle.device_cells.specs.Ranges.{SameOutside, overwrite}
 use Rattle.slot_disk.specs.declared.call.Call.{Call}
 use Rattle.slot_disk.specs.declared.call.Call.TheVariants.{Written, Synced}
 use Rattle.slot_disk.specs.Stages.{settled, noting, stage, covers, IsTorn}
 use Rattle.slot_disk.specs.StageLaws.{length-stage, content_torn, length-overwrite, get_or-overwrite_before, get_or-overwrite_after}
-use Rattle.slot_disk.proofs.CellSteps.{get_or-range, length-range}
+use Rattle.device_cells.proofs.CellSteps.{get_or-range, length-range}
 use Rattle.slot_disk.proofs.Overwriting.{get_or-overwrite_here}
 
 -- one call more

@@ -1,7 +1,7 @@
 -- Which calls of a device in memory fail, and what is counted.
 use Rattle.std.specs.Prelude.{ℕ, Bool, false, ◌||◌, [], ◌∷◌, ◌++◌, drop, replicate, Option, None, Some, ◌==◌, if◌then◌else◌}
 use Rattle.std.specs.List.{list_any}
-use Rattle.slot_disk.specs.Faults.{one_more}
+use Rattle.device_cells.specs.Faults.{one_more}
 use Rattle.slot_disk.specs.declared.fault_plan.FaultPlan.{FaultPlan}
 
 -- no call yet, and none is to fail

@@ -1,16 +1,9 @@
-pub mod Cells
 pub mod DiskState
 pub mod EntropyState
 pub mod FaultPlan
-pub mod Faults
 pub mod LogMedium
-pub mod Medium
-pub mod Ranges
-pub mod SilentMedium
 pub mod SinkState
 pub mod SourceState
-pub mod SpareBytes
 pub mod StageLaws
 pub mod Stages
 pub mod TornImage
-pub mod WhereTold

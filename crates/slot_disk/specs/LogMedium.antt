@@ -1,6 +1,6 @@
 -- A disk in memory as a medium: the moments are the calls that it noted.
 use Rattle.std.specs.Prelude.{ℕ, ◌≤◌, List, length, take, Some}
-use Rattle.slot_disk.specs.Medium.{Medium}
+use Rattle.device_cells.specs.Medium.{Medium}
 use Rattle.slot_disk.specs.declared.call.Call.{Call}
 use Rattle.slot_disk.specs.DiskState.{DiskState}
 use Rattle.slot_disk.specs.Stages.{stage, IsTorn}

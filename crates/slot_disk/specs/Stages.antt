@@ -1,7 +1,7 @@
 -- A disk in memory as the calls that it noted: what they left for a read to give, and what a stop may leave of them.
 use Rattle.std.specs.Prelude.{◌≡◌, ℕ, ◌+◌, nat_le, nat_lt, Bool, ◌&&◌, false, List, [], ◌∷◌, ◌++◌, length, slice_index, fold}
 use Rattle.std.specs.List.{list_any}
-use Rattle.slot_disk.specs.Ranges.{overwrite}
+use Rattle.device_cells.specs.Ranges.{overwrite}
 use Rattle.slot_disk.specs.declared.call.Call.{Call}
 use Rattle.slot_disk.specs.declared.call.Call.TheVariants.{Written, Synced}
 

@@ -1,6 +1,6 @@
 -- What a stop makes of the ranges that were written since the last sync.
 use Rattle.std.specs.Prelude.{ℕ, List, length, fold, replicate}
-use Rattle.slot_disk.specs.Ranges.{overwrite}
+use Rattle.device_cells.specs.Ranges.{overwrite}
 use Rattle.slot_disk.specs.Stages.{Stage}
 use Rattle.slot_disk.specs.declared.memory_disk.Torn.{Torn}
 use Rattle.slot_disk.specs.declared.memory_disk.Torn.TheVariants.{Old, New, Fill}

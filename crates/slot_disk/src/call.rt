@@ -1,9 +1,9 @@
 //! The calls that a disk in memory notes.
 ghost use Rattle.std.specs.Prelude.{◌≡◌, ◌≤◌, length};
-ghost use Rattle.slot_disk.specs.Cells.{body_size};
-ghost use Rattle.slot_disk.specs.Ranges.{overwrite};
+ghost use Rattle.device_cells.specs.Cells.{body_size};
+ghost use Rattle.device_cells.specs.Ranges.{overwrite};
 
-use crate::BODY_LEN;
+use device_cells::BODY_LEN;
 use std::marker::Model;
 
 /// The bytes of a write.
@@ -15,7 +15,7 @@ pub(crate) struct Piece {
 
 impl Model for Piece {
     ghost use Rattle.std.specs.Prelude.{◌≤◌, ℕ, List, take};
-    ghost use Rattle.slot_disk.specs.Cells.{body_size};
+    ghost use Rattle.device_cells.specs.Cells.{body_size};
 
     ghost Value = { List ℕ };
 

@@ -1,10 +1,10 @@
 //! Which calls of a device in memory fail.
 ghost use Rattle.std.specs.Prelude.{◌≡◌, ◌≤◌, ◌||◌, not};
 ghost use Rattle.std.specs.Bool.{OnTrue};
-ghost use Rattle.slot_disk.specs.Faults.{Rose};
+ghost use Rattle.device_cells.specs.Faults.{Rose};
 ghost use Rattle.slot_disk.specs.FaultPlan.{fails_now, after_call, after_call_in_room, is_call, with_failing, with_fault, unused};
 
-use crate::faults::count_one;
+use device_cells::count_one;
 
 /// The calls of a device, counted from 0, the numbers of those that are to fail, and how many did.
 #[derive(Drop)]

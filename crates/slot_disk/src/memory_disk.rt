@@ -1,18 +1,18 @@
 //! A disk in memory, which can show what a stop after any of its calls may have left.
 ghost use Rattle.std.specs.Prelude.{◌≡◌, ◌+◌, ◌≤◌, ◌↔◌, length, take, slice_range, IfOk, OnOk, OnErr, IsErr, IsTrue};
-ghost use Rattle.slot_disk.specs.Cells.{body_size};
+ghost use Rattle.device_cells.specs.Cells.{body_size};
 ghost use Rattle.slot_disk.specs.DiskState.{blank_image, new_disk, refuses_call, after_noted};
 ghost use Rattle.slot_disk.specs.FaultPlan.{fails_now, after_call, with_failing};
-ghost use Rattle.slot_disk.specs.Faults.{HasCause};
+ghost use Rattle.device_cells.specs.Faults.{HasCause};
 ghost use Rattle.slot_disk.specs.LogMedium.{medium_of};
-ghost use Rattle.slot_disk.specs.Medium.{Told, IsSettled, After, Becomes, EachImage, Keeps};
-ghost use Rattle.slot_disk.specs.Ranges.{SameOutside, HoldsPiece};
+ghost use Rattle.device_cells.specs.Medium.{Told, IsSettled, After, Becomes, EachImage, Keeps};
+ghost use Rattle.device_cells.specs.Ranges.{SameOutside, HoldsPiece};
 ghost use Rattle.slot_disk.specs.Stages.{Stage, noting, stage, IsTorn};
 ghost use Rattle.slot_disk.specs.TornImage.{torn_image, torn_over};
 
 use crate::call::{Call, Piece, overwrite_at, overwrite_vec};
 use crate::fault_plan::FaultPlan;
-use crate::{BODY_LEN, Disk, Failed, NoMemory};
+use device_cells::{BODY_LEN, Disk, Failed, NoMemory};
 use std::alloc::Global;
 use std::marker::Model;
 

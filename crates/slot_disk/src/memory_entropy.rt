@@ -3,10 +3,10 @@ ghost use Rattle.std.specs.Prelude.{◌≡◌, ◌↔◌, length, Some, OnOk, On
 ghost use Rattle.std.specs.Io.KnownBytes.{Consumes};
 ghost use Rattle.slot_disk.specs.EntropyState.{refuses_fill, after_fill};
 ghost use Rattle.slot_disk.specs.FaultPlan.{unused, with_failing};
-ghost use Rattle.slot_disk.specs.Faults.{HasCause};
+ghost use Rattle.device_cells.specs.Faults.{HasCause};
 
 use crate::fault_plan::FaultPlan;
-use crate::{Entropy, Failed, NoMemory};
+use device_cells::{Entropy, Failed, NoMemory};
 use std::alloc::Global;
 use std::marker::Model;
 

@@ -2,12 +2,12 @@
 ghost use Rattle.std.specs.Prelude.{◌≡◌, ◌<◌, ◌↔◌, [], length, min, Some, IfOk, OnOk, IsErr, IsTrue};
 ghost use Rattle.std.specs.Io.{WritesAtMost};
 ghost use Rattle.std.specs.Io.KnownBytes.{WriteAppends};
-ghost use Rattle.slot_disk.specs.Faults.{HasCause};
+ghost use Rattle.device_cells.specs.Faults.{HasCause};
 ghost use Rattle.slot_disk.specs.FaultPlan.{unused, with_failing};
 ghost use Rattle.slot_disk.specs.SinkState.{refuses, after_write};
 
 use crate::fault_plan::FaultPlan;
-use crate::{Failed, NoMemory, Sink};
+use device_cells::{Failed, NoMemory, Sink};
 use std::alloc::Global;
 use std::marker::Model;
 

@@ -2,12 +2,12 @@
 ghost use Rattle.std.specs.Prelude.{◌≡◌, ◌<◌, ◌≤◌, ◌↔◌, ◌++◌, ℕ, List, length, take, drop, Option, Some, IfOk, OnOk, IsErr, IsTrue, OnErr};
 ghost use Rattle.std.specs.Io.{ReadsAtMost};
 ghost use Rattle.std.specs.Io.KnownBytes.{ReadConsumes};
-ghost use Rattle.slot_disk.specs.Faults.{HasCause};
+ghost use Rattle.device_cells.specs.Faults.{HasCause};
 ghost use Rattle.slot_disk.specs.FaultPlan.{unused, fails_now, with_failing};
 ghost use Rattle.slot_disk.specs.SourceState.{given, after_read};
 
 use crate::fault_plan::FaultPlan;
-use crate::{Failed, NoMemory, Source};
+use device_cells::{Failed, NoMemory, Source};
 use std::alloc::Global;
 use std::marker::Model;
 

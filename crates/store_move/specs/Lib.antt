@@ -10,6 +10,6 @@ pub use Rattle.record_bodies.specs.StoreStands
 pub use Rattle.key_tokens.specs.Denotes
 pub use Rattle.key_transport.specs.Tokens
 pub use Rattle.master_registers.specs.Loaded
-pub use Rattle.slot_disk.specs.Faults
-pub use Rattle.slot_disk.specs.Medium
+pub use Rattle.device_cells.specs.Faults
+pub use Rattle.device_cells.specs.Medium
 pub use Rattle.verb_rules.specs.Keys

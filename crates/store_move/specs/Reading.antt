@@ -1,6 +1,6 @@
 -- What is read of the record of a label, and why it isn't read.
 use Rattle.std.specs.Prelude.{◌≡◌, ◌≤◌, ◌⊎◌, ℕ, Bool, true, false, List, Option, None, is_some, Result, Err, IfErr}
-use Rattle.slot_disk.specs.Faults.{Rose}
+use Rattle.device_cells.specs.Faults.{Rose}
 use Rattle.key_records.specs.Changes.{IsReadOf, has_key}
 use Rattle.key_records.specs.declared.faults.RecordFault.{RecordFault}
 use Rattle.key_records.specs.declared.faults.RecordFault.TheVariants.{DiskFault, Damaged}

@@ -6,18 +6,18 @@ ghost use Rattle.record_bodies.specs.Entries.{Entry, row_directory, what_in};
 ghost use Rattle.record_bodies.specs.StoreStands.{HoldsRows, KeepsLabels, entry_at};
 ghost use Rattle.master_registers.specs.Loaded.{Loaded};
 ghost use Rattle.master_registers.specs.Masters.{Masters};
-ghost use Rattle.slot_disk.specs.Medium.{Keeps, Told};
+ghost use Rattle.device_cells.specs.Medium.{Keeps, Told};
 ghost use Rattle.verb_rules.specs.Keys.{IsDouble, keys_of, opened};
 ghost use Rattle.store_move.specs.Exports.{ChangesWork, IsMoved};
 ghost use Rattle.key_tokens.specs.Denotes.{Denoted};
 ghost use Rattle.store_move.specs.Reading.{FailsAt, HoldsAsRead};
 
 use crate::stored::judge_record;
+use device_cells::Disk;
 use key_cells::Lease;
 use key_records::{Place, RecordFault, Records, STORE_LEN};
 use key_transport::export;
 use master_registers::Registers;
-use slot_disk::Disk;
 use verb_rules::{Judged, Rule, exported_key};
 
 /// What comes of a label whose key is to be moved.

@@ -7,17 +7,17 @@ ghost use Rattle.record_bodies.specs.Entries.{Entry, row_directory, what_in};
 ghost use Rattle.record_bodies.specs.StoreStands.{HoldsRows, KeepsLabels, entry_at};
 ghost use Rattle.master_registers.specs.Loaded.{Loaded};
 ghost use Rattle.master_registers.specs.Masters.{Masters};
-ghost use Rattle.slot_disk.specs.Medium.{Keeps, Told};
+ghost use Rattle.device_cells.specs.Medium.{Keeps, Told};
 ghost use Rattle.verb_rules.specs.KeyChecks.{age_of};
 ghost use Rattle.verb_rules.specs.Keys.{HasHalves, IsDouble, keys_of};
 ghost use Rattle.key_tokens.specs.Denotes.{Denoted};
 ghost use Rattle.store_move.specs.Reading.{FailsAt, HoldsAsRead};
 ghost use Rattle.store_move.specs.Stored.{IsStored};
 
+use device_cells::Disk;
 use key_cells::Lease;
 use key_records::{Place, RecordFault, Records, STORE_LEN};
 use master_registers::Registers;
-use slot_disk::Disk;
 use verb_rules::{Judged, Need, Rule, judge_stored};
 
 /// The key of a record, by what is needed of it; or the first of rules 08, 17 and 19 to 22 that it breaks. One cell is

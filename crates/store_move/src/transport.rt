@@ -7,7 +7,7 @@ ghost use Rattle.record_bodies.specs.Entries.{Entry, row_directory, what_in};
 ghost use Rattle.record_bodies.specs.StoreStands.{HoldsRows, KeepsLabels, entry_at};
 ghost use Rattle.master_registers.specs.Loaded.{Loaded};
 ghost use Rattle.master_registers.specs.Masters.{Masters};
-ghost use Rattle.slot_disk.specs.Medium.{Keeps, Told};
+ghost use Rattle.device_cells.specs.Medium.{Keeps, Told};
 ghost use Rattle.verb_rules.specs.Keys.{IsDouble, keys_of};
 ghost use Rattle.store_move.specs.Exports.{IsTransport, exporter};
 ghost use Rattle.key_tokens.specs.Denotes.{Denoted};
@@ -15,10 +15,10 @@ ghost use Rattle.store_move.specs.Reading.{FailsAt, HoldsAsRead};
 
 use crate::stored::judge_record;
 use cca_vectors::Class;
+use device_cells::Disk;
 use key_cells::Lease;
 use key_records::{Place, RecordFault, Records, STORE_LEN};
 use master_registers::Registers;
-use slot_disk::Disk;
 use verb_rules::{Judged, Need, Rule, Usage, transport_key};
 
 /// A transport key under which keys are exported.

@@ -1,9 +1,9 @@
 -- A disk that was opened, or wasn't.
 use Rattle.std.proofs.Common.{◌≡◌, ◌∙◌, ℕ, List, Result, Ok, Err, refl, sym, ap, subst, arith, inl, inr}
 use Rattle.std.specs.Prelude.{◌⊎◌, ◌≤◌, ◌<◌, IsOk, IsSome}
-use Rattle.slot_disk.specs.Faults.{Rose}
-use Rattle.slot_disk.specs.Medium.{EachImage, IsSettled, Keeps, Medium, Told}
-use Rattle.slot_disk.proofs.Media.{image_now, told_map}
+use Rattle.device_cells.specs.Faults.{Rose}
+use Rattle.device_cells.specs.Medium.{EachImage, IsSettled, Keeps, Medium, Told}
+use Rattle.device_cells.proofs.Media.{image_now, told_map}
 use Rattle.cca_roles.specs.RolesStand.{IsRoleCell}
 use Rattle.cca_roles.specs.declared.faults.RoleFault.{RoleFault}
 use Rattle.cca_roles.specs.declared.faults.RoleFault.TheVariants as role_fault

@@ -1,8 +1,8 @@
 -- What the memory has of two disks that stand for one state.
 use Rattle.std.proofs.Common.{◌≡◌, ℕ, List, [], Option, Some, refl, sym, ap, subst, ◌∙◌}
-use Rattle.slot_disk.specs.Cells.{body}
-use Rattle.slot_disk.specs.Medium.{Medium, Told}
-use Rattle.slot_disk.proofs.Media.{told_from, told_at}
+use Rattle.device_cells.specs.Cells.{body}
+use Rattle.device_cells.specs.Medium.{Medium, Told}
+use Rattle.device_cells.proofs.Media.{told_from, told_at}
 use Rattle.master_registers.specs.Masters.{Masters}
 use Rattle.master_registers.specs.RegisterBody.{StandsForMasters}
 use Rattle.master_registers.proofs.BodyLaws.{reads_one}

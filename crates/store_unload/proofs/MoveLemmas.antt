@@ -1,8 +1,8 @@
 -- How the status of a move tells of disks, and of what was told.
 use Rattle.std.proofs.Common.{◌≡◌, ◌∙◌, ℕ, List, Option, Result, Ok, Err, refl, sym, ap, subst, inl, inr}
 use Rattle.std.specs.Prelude.{◌<◌, IfSome, IsOk}
-use Rattle.slot_disk.specs.Medium.{Medium, Told}
-use Rattle.slot_disk.proofs.Media.{told_at, told_from}
+use Rattle.device_cells.specs.Medium.{Medium, Told}
+use Rattle.device_cells.proofs.Media.{told_at, told_from}
 use Rattle.key_records.specs.declared.faults.RecordFault.{RecordFault}
 use Rattle.key_records.specs.declared.faults.RecordFault.TheVariants as record_fault
 use Rattle.line_service.specs.Answering.{Holds, IsSound, OnDisks}

@@ -1,9 +1,9 @@
 -- How a move ends whose labels were told, or up to one.
 use Rattle.std.proofs.Common.{◌≡◌, ◌∙◌, ℕ, List, Option, None, Some, Result, Ok, Err, refl, sym, ap, subst, arith, inl, inr}
 use Rattle.std.specs.Prelude.{◌<◌, ◌⊎◌, IfErr, IsOk, IsSome}
-use Rattle.slot_disk.specs.Medium.{Keeps, Medium, Told}
-use Rattle.slot_disk.proofs.Media.{keeps_then, settled_kept, told_at}
-use Rattle.slot_disk.proofs.WhereToldLemmas.{rose_wider}
+use Rattle.device_cells.specs.Medium.{Keeps, Medium, Told}
+use Rattle.device_cells.proofs.Media.{keeps_then, settled_kept, told_at}
+use Rattle.device_cells.proofs.WhereToldLemmas.{rose_wider}
 use Rattle.cca_roles.specs.declared.roles.Role.{Role}
 use Rattle.cca_vectors.specs.Checks.{first_failing}
 use Rattle.key_cells.specs.Bench.{Bench}

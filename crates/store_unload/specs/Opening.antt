@@ -4,7 +4,7 @@ use Rattle.key_cells.specs.Bench.{Bench}
 use Rattle.record_bodies.specs.StoreStands.{Agrees, HoldsRows, KeepsLabels}
 use Rattle.master_registers.specs.Loaded.{Loaded}
 use Rattle.master_registers.specs.declared.registers.Registers.{Registers}
-use Rattle.slot_disk.specs.Medium.{Medium, Told}
+use Rattle.device_cells.specs.Medium.{Medium, Told}
 use Rattle.verb_rules.specs.Keys.{keys_of}
 use Rattle.line_service.specs.Answering.{Holds}
 use Rattle.cca_machine.specs.State.{State, IsModuleOf, IsStoreOf}

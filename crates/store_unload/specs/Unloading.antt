@@ -2,9 +2,9 @@
 use Rattle.std.specs.Prelude.{⊤, ◌≡◌, ◌⊎◌, ◌<◌, ℕ, List, Option, None, Some, Result, Ok, Err}
 use Rattle.cca_roles.specs.RolesStand.{StandsForRoles}
 use Rattle.cca_roles.specs.declared.roles.Role.{Role}
-use Rattle.slot_disk.specs.Faults.{Rose}
-use Rattle.slot_disk.specs.Medium.{Medium, Told}
-use Rattle.slot_disk.specs.WhereTold.{WhereTold}
+use Rattle.device_cells.specs.Faults.{Rose}
+use Rattle.device_cells.specs.Medium.{Medium, Told}
+use Rattle.device_cells.specs.WhereTold.{WhereTold}
 use Rattle.cca_vectors.specs.Checks.{first_failing}
 use Rattle.record_bodies.specs.Directory.{held_count}
 use Rattle.record_bodies.specs.Entries.{row_directory}

@@ -1,8 +1,8 @@
 //! Opening the disks: the module first, since which cells of a store are damaged depends on its registers.
 ghost use Rattle.std.specs.Prelude.{◌≡◌, ℕ, Err, IsOk, OnOk, IfOk, IfErr};
 ghost use Rattle.key_cells.specs.Lease.{bench_of, loan_of};
-ghost use Rattle.slot_disk.specs.Faults.{Rose};
-ghost use Rattle.slot_disk.specs.Medium.{Told, Keeps};
+ghost use Rattle.device_cells.specs.Faults.{Rose};
+ghost use Rattle.device_cells.specs.Medium.{Told, Keeps};
 ghost use Rattle.master_registers.specs.Loaded.{IsLoaded, StandsForLoaded, masters_in};
 ghost use Rattle.verb_rules.specs.Keys.{keys_of};
 ghost use Rattle.cca_roles.specs.RolesStand.{StandsForRoles};
@@ -19,12 +19,12 @@ ghost use Rattle.store_unload.specs.Opening.{AreKnown, IsOpened};
 ghost use Rattle.store_unload.specs.Stops.{load_stop, role_stop};
 
 use cca_roles::{RoleFault, Roles, open_roles};
+use device_cells::{Disk, settle};
 use key_cells::Lease;
 use key_records::{Records, open_records};
 use line_service::{Device, Shown, Stop};
 use master_registers::{LoadFault, Registers, load};
 use request_rules::stop_of;
-use slot_disk::{Disk, settle};
 
 /// Opens the disks, and loads the registers into the bench. The module is judged before the store is called, and
 /// nothing is written.

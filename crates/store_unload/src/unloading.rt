@@ -5,7 +5,7 @@ ghost use Rattle.key_cells.specs.Lease.{bench_of, loan_of};
 ghost use Rattle.record_bodies.specs.StoreStands.{HoldsRows};
 ghost use Rattle.master_registers.specs.Loaded.{Loaded};
 ghost use Rattle.master_registers.specs.Masters.{Masters};
-ghost use Rattle.slot_disk.specs.Medium.{Keeps, Told};
+ghost use Rattle.device_cells.specs.Medium.{Keeps, Told};
 ghost use Rattle.line_service.specs.Devices.{HaveSizes, TellsFault};
 ghost use Rattle.cca_machine.specs.State.{State, module_size, store_size};
 ghost use Rattle.request_rules.specs.Standing.{tables};
@@ -21,6 +21,7 @@ use crate::opening::open_disks;
 use crate::status::{Status, status_of};
 use cca_roles::Roles;
 use command_words::Words;
+use device_cells::{Disk, NoMemory, Sink};
 use key_cells::{Lease, Workbench};
 use key_records::Records;
 use line_service::Shown;
@@ -28,7 +29,6 @@ use master_registers::Registers;
 use move_file::{Move, MoveFault, judge_move, write_move};
 use request_rules::stop_of;
 use script_buffers::ReplyBuffer;
-use slot_disk::{Disk, NoMemory, Sink};
 use std::alloc::Global;
 
 /// How a move ended.

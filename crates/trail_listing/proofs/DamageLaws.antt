@@ -2,9 +2,9 @@
 use Rattle.std.proofs.Common.{◌≡◌, ◌⊎◌, ◌<◌, ◌%◌, inl, inr, ℕ, List, ◌++◌, Option, Some, Result, Ok, Err, sym, ap, ◌∙◌, arith}
 use Rattle.std.proofs.lemmas.List.{append-nil}
 use Rattle.std.specs.Prelude.{IfErr}
-use Rattle.slot_disk.specs.Medium.{Medium, Told}
-use Rattle.slot_disk.proofs.Media.{told_from, told_at}
-use Rattle.slot_disk.proofs.WhereToldLemmas.{told_same}
+use Rattle.device_cells.specs.Medium.{Medium, Told}
+use Rattle.device_cells.proofs.Media.{told_from, told_at}
+use Rattle.device_cells.proofs.WhereToldLemmas.{told_same}
 use Rattle.audit_trail.specs.TrailStands.{IsTrail, StandsForTrail, IsFirstDamaged}
 use Rattle.audit_trail.specs.declared.entries.Entry.{Entry}
 use Rattle.audit_trail.specs.declared.faults.TrailFault.{TrailFault}

@@ -3,8 +3,8 @@ use Rattle.std.proofs.Common.{◌≡◌, ◌≤◌, ◌<◌, ◌+◌, ◌^◌, �
 use Rattle.std.specs.List.{All}
 use Rattle.std.proofs.lemmas.List.{append-nil, length-append}
 use Rattle.std.proofs.lemmas.List.Elements.{All-append, All-nil, All-cons}
-use Rattle.slot_disk.specs.WhereTold.{WhereTold}
-use Rattle.slot_disk.proofs.WhereToldLemmas.{told_weaker, told_then, told_same}
+use Rattle.device_cells.specs.WhereTold.{WhereTold}
+use Rattle.device_cells.proofs.WhereToldLemmas.{told_weaker, told_then, told_same}
 use Rattle.line_service.specs.Sending.{GotPart}
 use Rattle.audit_trail.specs.Entries.{IsEntry}
 use Rattle.audit_trail.specs.declared.entries.Entry.{Entry}

@@ -1,11 +1,11 @@
 -- What the sink has of a listing, line after line.
 use Rattle.std.proofs.Common.{◌≡◌, ◌≤◌, ◌<◌, ◌+◌, ◌%◌, ℕ, List, [], ◌++◌, length, Option, Some, Result, Ok, Err, sym, ap, subst, ◌∙◌, append_assoc, arith}
 use Rattle.std.proofs.lemmas.List.{append-nil, length-append}
-use Rattle.slot_disk.specs.Cells.{body}
-use Rattle.slot_disk.specs.Medium.{Medium, Told}
-use Rattle.slot_disk.specs.WhereTold.{WhereTold}
-use Rattle.slot_disk.proofs.Media.{told_from, told_at}
-use Rattle.slot_disk.proofs.WhereToldLemmas.{told_weaker, told_then, told_same}
+use Rattle.device_cells.specs.Cells.{body}
+use Rattle.device_cells.specs.Medium.{Medium, Told}
+use Rattle.device_cells.specs.WhereTold.{WhereTold}
+use Rattle.device_cells.proofs.Media.{told_from, told_at}
+use Rattle.device_cells.proofs.WhereToldLemmas.{told_weaker, told_then, told_same}
 use Rattle.line_service.specs.Devices.{TellsFault}
 use Rattle.line_service.specs.Sending.{GotPart, Grows}
 use Rattle.audit_trail.specs.Entries.{entry_at}

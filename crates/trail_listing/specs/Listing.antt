@@ -1,8 +1,8 @@
 -- What a listing leaves.
 use Rattle.std.specs.Prelude.{◌≡◌, ◌≤◌, ◌<◌, ◌+◌, ◌^◌, ◌++◌, ℕ, List, All, length, Option, Result, Err, OnOk, OnErr}
-use Rattle.slot_disk.specs.Faults.{Rose}
-use Rattle.slot_disk.specs.Medium.{Medium, Told}
-use Rattle.slot_disk.specs.WhereTold.{WhereTold}
+use Rattle.device_cells.specs.Faults.{Rose}
+use Rattle.device_cells.specs.Medium.{Medium, Told}
+use Rattle.device_cells.specs.WhereTold.{WhereTold}
 use Rattle.line_service.specs.Sending.{GotPart}
 use Rattle.audit_trail.specs.Entries.{IsEntry}
 use Rattle.audit_trail.specs.TrailStands.{IsFirstDamaged}

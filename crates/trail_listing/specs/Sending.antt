@@ -1,6 +1,6 @@
 -- What sending lines leaves, for the crate's own functions.
 use Rattle.std.specs.Prelude.{◌≡◌, ◌⊎◌, ◌<◌, ◌++◌, ℕ, List, Option, Result, Err, OnOk}
-use Rattle.slot_disk.specs.WhereTold.{WhereTold}
+use Rattle.device_cells.specs.WhereTold.{WhereTold}
 use Rattle.line_service.specs.Sending.{GotPart}
 use Rattle.audit_trail.specs.Entries.{IsEntry}
 use Rattle.audit_trail.specs.declared.entries.Entry.{Entry}

@@ -1,8 +1,8 @@
 //! A listing of the records that a trail holds.
 ghost use Rattle.std.specs.Prelude.{◌≡◌, ◌≢◌, ◌⊎◌, ℕ, List, [], ◌++◌, Err, IsOk, OnOk, OnErr, IfErr};
-ghost use Rattle.slot_disk.specs.Faults.{Rose, HasCause};
-ghost use Rattle.slot_disk.specs.Medium.{Told, Keeps};
-ghost use Rattle.slot_disk.specs.WhereTold.{WhereTold};
+ghost use Rattle.device_cells.specs.Faults.{Rose, HasCause};
+ghost use Rattle.device_cells.specs.Medium.{Told, Keeps};
+ghost use Rattle.device_cells.specs.WhereTold.{WhereTold};
 ghost use Rattle.line_service.specs.Devices.{TellsFault};
 ghost use Rattle.line_service.specs.Sending.{Grows, GotPart};
 ghost use Rattle.audit_trail.specs.Changes.{TrailLeft};
@@ -16,9 +16,9 @@ ghost use Rattle.trail_listing.specs.Sending.{SendsLine, SendsSome, IsFault};
 
 use crate::lines::write_line;
 use audit_trail::{CELLS, Entry, Trail, TrailFault, open_trail};
+use device_cells::{Disk, Failed, Sink};
 use line_service::send;
 use script_buffers::ReplyBuffer;
-use slot_disk::{Disk, Failed, Sink};
 use thiserror::Error;
 
 // How many records a trail holds.

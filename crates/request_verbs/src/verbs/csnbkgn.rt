@@ -21,12 +21,12 @@ ghost use Rattle.granted_operands.specs.Refusals.{HasRefused};
 use crate::effects::Effect;
 use crate::verbs::delivering::{deliver, show_second};
 use cca_vectors::{KeyType, Length};
+use device_cells::Entropy;
 use granted_operands::{Granted, Refusal, double_key_in, key_length_of, out_form_of, pair_form_of};
 use key_cells::Lease;
 use key_transport::{Form, GenerateFault, Generated, generate};
 use line_service::Stop;
 use master_registers::Registers;
-use slot_disk::Entropy;
 use verb_rules::{Judged, Rule, judge_length, judge_pair};
 use verb_script::ReplyBuffer;
 

@@ -9,9 +9,9 @@ ghost use Rattle.granted_operands.specs.declared.granted.Granted.{Granted};
 
 use crate::effects::Effect;
 use cipher_verbs::random_number;
+use device_cells::Entropy;
 use granted_operands::random_form_of;
 use line_service::Stop;
-use slot_disk::Entropy;
 use verb_script::ReplyBuffer;
 
 /// Shows eight random bytes.

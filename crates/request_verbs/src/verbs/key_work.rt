@@ -15,12 +15,12 @@ use crate::verbs::csnbktc::csnbktc;
 use crate::verbs::csnbktr::csnbktr;
 use crate::verbs::csnbkyt::csnbkyt;
 use crate::verbs::csnbpex::csnbpex;
+use device_cells::Entropy;
 use granted_operands::Granted;
 use key_cells::Lease;
 use key_records::Records;
 use line_service::Stop;
 use master_registers::Registers;
-use slot_disk::Entropy;
 use verb_script::{ReplyBuffer, Request};
 
 /// Has the verb decide.

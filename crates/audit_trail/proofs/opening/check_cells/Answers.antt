@@ -1,7 +1,7 @@
 use Rattle.std.proofs.Common.{◌≡◌, ℕ, Some, Err, sym, ap, subst, ◌∙◌}
 use Rattle.std.proofs.lemmas.Bool.{both_ways}
-use Rattle.slot_disk.proofs.Media.{told_joined, told_next}
-use Rattle.slot_disk.specs.Medium.{Told}
+use Rattle.device_cells.proofs.Media.{told_joined, told_next}
+use Rattle.device_cells.specs.Medium.{Told}
 use Rattle.audit_trail.specs.Opening.{CellReads, Scanned, Checked}
 use Rattle.audit_trail.specs.TrailStands.{IsStray, IsFirstStale}
 use Rattle.audit_trail.specs.declared.faults.TrailFault.TheVariants.{Damaged}

@@ -1,7 +1,7 @@
 use Rattle.std.proofs.Common.{ℕ, Option, None, Some, Err, inl, inr, sym, ap, subst, ◌∙◌, arith}
-use Rattle.slot_disk.proofs.Media.{told_after, told_earlier, told_joined, told_map}
-use Rattle.slot_disk.specs.Medium.{Told}
-use Rattle.slot_disk.proofs.WhereToldLemmas.{rose_wider}
+use Rattle.device_cells.proofs.Media.{told_after, told_earlier, told_joined, told_map}
+use Rattle.device_cells.specs.Medium.{Told}
+use Rattle.device_cells.proofs.WhereToldLemmas.{rose_wider}
 use Rattle.audit_trail.specs.Opening.{Scanned, Checked}
 use Rattle.audit_trail.specs.TrailStands.{StandsForTrail, IsFirstStray, IsFirstStale, IsFirstDamaged}
 use Rattle.audit_trail.specs.declared.faults.TrailFault.TheVariants.{Damaged}

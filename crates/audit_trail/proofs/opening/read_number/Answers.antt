@@ -1,7 +1,7 @@
 use Rattle.std.proofs.Common.{◌≡◌, ap, ◌∙◌}
 use Rattle.std.proofs.lemmas.Bool.{both_ways}
-use Rattle.slot_disk.proofs.Media.{told_map}
-use Rattle.slot_disk.specs.Cells.{body}
+use Rattle.device_cells.proofs.Media.{told_map}
+use Rattle.device_cells.specs.Cells.{body}
 use Rattle.audit_trail.specs.TrailStands.{IsStray}
 use Rattle.audit_trail.proofs.OpeningLaws.{stray_here}
 use Rattle.audit_trail.proofs.opening.read_number.Goals as goal

@@ -1,6 +1,6 @@
 use Rattle.std.proofs.Common.{◌+◌, ℕ, sym, subst, ◌∙◌}
-use Rattle.slot_disk.specs.Medium.{Told}
-use Rattle.slot_disk.proofs.Media.{keeps_then, told_next}
+use Rattle.device_cells.specs.Medium.{Told}
+use Rattle.device_cells.proofs.Media.{keeps_then, told_next}
 use Rattle.std.specs.Prelude.{Option, IfSome, ◌<◌, ◌^◌}
 use Rattle.audit_trail.specs.Opening.{CellReads, Scanned}
 use Rattle.audit_trail.specs.TrailStands.{IsStray, IsFirstStray}

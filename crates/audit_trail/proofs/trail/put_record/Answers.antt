@@ -1,6 +1,6 @@
 use Rattle.std.proofs.Common.{◌≡◌, ◌%◌, ℕ, List, Ok, Err, subst, ◌∙◌}
-use Rattle.slot_disk.specs.Cells.{IsReplaced, IsReplacing}
-use Rattle.slot_disk.specs.Medium.{Becomes, EachImage, From}
+use Rattle.device_cells.specs.Cells.{IsReplaced, IsReplacing}
+use Rattle.device_cells.specs.Medium.{Becomes, EachImage, From}
 use Rattle.audit_trail.specs.RecordBody.{record_body}
 use Rattle.audit_trail.specs.declared.faults.TrailFault.TheVariants.{DiskFault}
 use Rattle.audit_trail.proofs.MediumLaws.{appends, stands_more}

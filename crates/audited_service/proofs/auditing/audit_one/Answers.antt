@@ -1,6 +1,6 @@
 -- What a line leaves, by how far it came.
 use Rattle.std.proofs.Common.{ℕ, List, Ok, Err, refl, ap, subst, ◌∙◌, ⊎_elim}
-use Rattle.slot_disk.specs.Medium.{Told}
+use Rattle.device_cells.specs.Medium.{Told}
 use Rattle.audit_trail.specs.TrailStands.{StandsForTrail}
 use Rattle.line_service.specs.Devices.{devices, outside}
 use Rattle.line_service.specs.Machine.{world}

@@ -1,6 +1,6 @@
 -- The run goes on from line to line, and each exit follows from how far it has come.
 use Rattle.std.proofs.Common.{Ok, Err, ap, ◌∙◌}
-use Rattle.slot_disk.specs.Medium.{Told}
+use Rattle.device_cells.specs.Medium.{Told}
 use Rattle.audit_trail.specs.TrailStands.{StandsForTrail}
 use Rattle.line_service.specs.Devices.{outside, devices}
 use Rattle.audited_service.proofs.ProgressLemmas.{line_still, records_none, records_more, records_done, records_stopped, records_failed}

@@ -1,6 +1,6 @@
 use Rattle.std.proofs.Common.{◌≡◌}
 use Rattle.key_cells.specs.Bench.{blank_bench}
-use Rattle.slot_disk.specs.Medium.{Told}
+use Rattle.device_cells.specs.Medium.{Told}
 use Rattle.script_buffers.specs.Reading.{bytes_ahead}
 use Rattle.audit_trail.specs.TrailStands.{StandsForTrail}
 use Rattle.line_service.specs.Devices.{outside, devices}

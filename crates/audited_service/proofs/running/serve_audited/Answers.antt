@@ -1,7 +1,7 @@
 -- A run serves from the state of its disks and the entries of its trail.
 use Rattle.std.proofs.Common.{◌≡◌, Ok, Err, refl, ap, ◌∙◌, arith}
-use Rattle.slot_disk.proofs.Media.{keeps_still}
-use Rattle.slot_disk.proofs.WhereToldLemmas.{rose_wider, told_same}
+use Rattle.device_cells.proofs.Media.{keeps_still}
+use Rattle.device_cells.proofs.WhereToldLemmas.{rose_wider, told_same}
 use Rattle.audit_trail.specs.declared.faults.TrailFault.TheVariants.{Damaged}
 use Rattle.line_service.specs.Devices.{devices, outside}
 use Rattle.line_service.specs.Machine.{world}

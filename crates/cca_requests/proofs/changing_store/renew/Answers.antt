@@ -1,6 +1,6 @@
 use Rattle.std.proofs.Common.{◌∷◌, ◌∙◌, [], length, Err, ap, codes, refl, sym, subst, ⊎_elim, arith, rules}
 use Rattle.std.proofs.lemmas.Fmt.{length-decimal-le}
-use Rattle.slot_disk.proofs.Media.{told_at}
+use Rattle.device_cells.proofs.Media.{told_at}
 use Rattle.script_buffers.specs.Replies.{Number}
 use Rattle.cca_machine.specs.Act.{ChangeLabels}
 use Rattle.cca_requests.specs.Changes.{plainly}

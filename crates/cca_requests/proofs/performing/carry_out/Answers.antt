@@ -7,7 +7,7 @@ use Rattle.key_cells.specs.Lease.{bench_of}
 use Rattle.line_service.specs.declared.stops.Stop.{Stop}
 use Rattle.line_service.specs.declared.stops.Stop.TheVariants.{EntropyFault, StoreFault}
 use Rattle.master_registers.specs.Loaded.{Loaded, masters_in}
-use Rattle.slot_disk.proofs.Media.{keeps_still}
+use Rattle.device_cells.proofs.Media.{keeps_still}
 use Rattle.verb_rules.specs.Rules.{rule_number}
 use Rattle.verb_script.specs.Grammar.{Request}
 use Rattle.verb_script.specs.Parsed.{seen}

@@ -2,7 +2,7 @@ use Rattle.std.proofs.Common.{◌∙◌, Err, refl, sym, ap, subst}
 use Rattle.key_cells.specs.Lease.{bench_of}
 use Rattle.master_registers.specs.Loaded.{Loaded, masters_in}
 use Rattle.line_service.specs.declared.stops.Stop.TheVariants.{ModuleFault}
-use Rattle.slot_disk.proofs.Media.{keeps_still}
+use Rattle.device_cells.proofs.Media.{keeps_still}
 use Rattle.verb_script.specs.Parsed.{seen}
 use Rattle.verb_script.proofs.GrammarLaws.{spelled_values}
 use Rattle.request_rules.specs.Standing.{tables}

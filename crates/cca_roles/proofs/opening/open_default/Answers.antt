@@ -1,7 +1,7 @@
 use Rattle.std.proofs.Common.{◌≡◌, List, ℕ, Option, Some, sym, ap, subst, ◌∙◌}
 use Rattle.std.specs.Prelude.{set}
-use Rattle.slot_disk.proofs.Media.{told_map}
-use Rattle.slot_disk.specs.Cells.{body}
+use Rattle.device_cells.proofs.Media.{told_map}
+use Rattle.device_cells.specs.Cells.{body}
 use Rattle.held_names.specs.Directory.{AreApart}
 use Rattle.cca_roles.specs.Opening.{OpenedTo}
 use Rattle.cca_roles.specs.RoleBody.{ReadsPlace, slot_in}

@@ -1,6 +1,6 @@
 -- The memory knows the roles of the places before, and no others.
 use Rattle.std.proofs.Common.{◌≡◌}
-use Rattle.slot_disk.specs.Medium.{Told, Keeps}
+use Rattle.device_cells.specs.Medium.{Told, Keeps}
 use Rattle.cca_roles.specs.Changes.{KeepsAllButBody}
 use Rattle.cca_roles.specs.Opening.{OpenedTo}
 use Rattle.cca_roles.specs.Roles.{AreRoles}

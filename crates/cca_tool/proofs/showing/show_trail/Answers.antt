@@ -1,5 +1,5 @@
 -- The trail was listed, and the status tells how that ended; or no device was called.
-use Rattle.slot_disk.proofs.Media.{keeps_still}
+use Rattle.device_cells.proofs.Media.{keeps_still}
 use Rattle.line_service.proofs.StopLemmas.{grows_none}
 use Rattle.trail_listing.specs.Listing.{Listed}
 use Rattle.cca_tool.specs.declared.auditing.AuditStatus.TheVariants.{Run}

@@ -1,11 +1,11 @@
 use Rattle.std.proofs.Common.{◌≡◌, ◌+◌, ℕ, Err, ⊎_elim, refl, sym, ap, subst, ◌∙◌, arith}
 use Rattle.key_cells.specs.Lease.{bench_of, holding}
-use Rattle.slot_disk.specs.Cells.{body}
-use Rattle.slot_disk.specs.Medium.{Told}
-use Rattle.slot_disk.proofs.WhereToldLemmas.{rose_wider}
+use Rattle.device_cells.specs.Cells.{body}
+use Rattle.device_cells.specs.Medium.{Told}
+use Rattle.device_cells.proofs.WhereToldLemmas.{rose_wider}
 use Rattle.verb_rules.specs.Keys.{keys_of}
 use Rattle.key_records.specs.declared.faults.RecordFault.TheVariants.{DiskFault, Damaged}
-use Rattle.slot_disk.proofs.Media.{keeps_still, keeps_then, told_map, told_next}
+use Rattle.device_cells.proofs.Media.{keeps_still, keeps_then, told_map, told_next}
 use Rattle.record_bodies.specs.Opening.{OpenedTo, IsRefused, Opens}
 use Rattle.record_bodies.specs.StoreStands.{KeepsLabels, labels_in, IsFirstDamaged}
 use Rattle.record_bodies.proofs.OpeningLaws.{opened_none, opened_more, opened_all, refused_damaged, stands_undamaged, first_one}

@@ -1,7 +1,7 @@
 -- The memory knows the labels of the cells before, and no others.
 use Rattle.std.proofs.Common.{◌≡◌}
 use Rattle.key_records.specs.Changes.{ChangesKeyAndBody}
-use Rattle.slot_disk.specs.Medium.{Told, Keeps}
+use Rattle.device_cells.specs.Medium.{Told, Keeps}
 use Rattle.verb_rules.specs.Keys.{keys_of}
 use Rattle.record_bodies.specs.Opening.{OpenedTo}
 use Rattle.record_bodies.specs.Rows.{AreRows}

@@ -1,5 +1,5 @@
 use Rattle.std.proofs.Common.{◌∙◌, sym}
-use Rattle.slot_disk.proofs.Media.{told_map, told_still}
+use Rattle.device_cells.proofs.Media.{told_map, told_still}
 use Rattle.key_cells.specs.Lease.{bench_of}
 use Rattle.master_registers.specs.Loaded.{masters_in}
 use Rattle.record_bodies.specs.StoreStands.{KeepsLabels, HoldsRows, labels_in}

@@ -1,5 +1,5 @@
 use Rattle.std.proofs.Common.{◌≡◌, length}
-use Rattle.slot_disk.specs.WhereTold.{WhereTold}
+use Rattle.device_cells.specs.WhereTold.{WhereTold}
 use Rattle.line_service.proofs.SendingLemmas.{GotAllBut}
 use Rattle.line_service.proofs.sending.send.Given as goal
 

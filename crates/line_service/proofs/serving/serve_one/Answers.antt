@@ -1,6 +1,6 @@
 -- What a line leaves, by how far it came.
 use Rattle.std.proofs.Common.{◌≡◌, ◌++◌, ℕ, List, Ok, Err, subst, refl, rules}
-use Rattle.slot_disk.specs.WhereTold.{WhereTold}
+use Rattle.device_cells.specs.WhereTold.{WhereTold}
 use Rattle.line_service.specs.Machine.{world}
 use Rattle.line_service.specs.Sending.{GotPart}
 use Rattle.line_service.proofs.LineLemmas.{line_replied, line_cut, line_lost, line_ended, line_unread, line_over}

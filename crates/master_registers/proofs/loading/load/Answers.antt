@@ -1,8 +1,8 @@
 use Rattle.std.proofs.Common.{◌≡◌, Result, Ok, Err, true, false, None, refl, sym, ap, subst, ◌∙◌}
 use Rattle.std.specs.Result.{OnOk, is_err, result_ok}
 use Rattle.std.specs.Option.{IsNone}
-use Rattle.slot_disk.specs.Cells.{body}
-use Rattle.slot_disk.proofs.Media.{told_from, told_at}
+use Rattle.device_cells.specs.Cells.{body}
+use Rattle.device_cells.proofs.Media.{told_from, told_at}
 use Rattle.master_registers.specs.Masters.{Masters}
 use Rattle.master_registers.specs.RegisterBody.{ReadsMasters, IsDamaged}
 use Rattle.master_registers.proofs.loading.load.Goals as goal

@@ -5,7 +5,7 @@ use Rattle.key_tokens.specs.Denotes.{Denoted}
 use Rattle.master_registers.specs.Masters.{Masters}
 use Rattle.store_move.specs.Reading.{HoldsAsRead}
 use Rattle.verb_rules.specs.Keys.{keys_of}
-use Rattle.slot_disk.proofs.Media.{keeps_still}
+use Rattle.device_cells.proofs.Media.{keeps_still}
 use Rattle.move_file.specs.Moves.{remarks_by, with_newlines}
 use Rattle.move_file.specs.Telling.{requests_text}
 use Rattle.key_records.specs.declared.faults.RecordFault.TheVariants.{DiskFault}

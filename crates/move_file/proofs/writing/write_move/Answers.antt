@@ -8,7 +8,7 @@ use Rattle.move_file.specs.Telling.{TellsAsRead}
 use Rattle.move_file.specs.declared.moves.Move.{Move}
 use Rattle.move_file.specs.declared.writing.MoveFault.{MoveFault}
 use Rattle.key_records.specs.declared.faults.RecordFault.TheVariants.{DiskFault}
-use Rattle.slot_disk.proofs.Media.{keeps_still, keeps_then}
+use Rattle.device_cells.proofs.Media.{keeps_still, keeps_then}
 use Rattle.line_service.proofs.StopLemmas.{count_on}
 use Rattle.move_file.specs.declared.writing.MoveFault.TheVariants.{ReportFault, Store, WriteFault}
 use Rattle.move_file.proofs.CallLaws.{quiet_to}

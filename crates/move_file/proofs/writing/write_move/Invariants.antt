@@ -1,6 +1,6 @@
 use Rattle.std.proofs.Common.{◌≡◌}
-use Rattle.slot_disk.specs.Medium.{Keeps, Told}
-use Rattle.slot_disk.specs.WhereTold.{WhereTold}
+use Rattle.device_cells.specs.Medium.{Keeps, Told}
+use Rattle.device_cells.specs.WhereTold.{WhereTold}
 use Rattle.key_cells.specs.Lease.{bench_of}
 use Rattle.record_bodies.specs.Directory.{held_count}
 use Rattle.record_bodies.specs.Entries.{row_directory}

@@ -1,7 +1,7 @@
 -- The store has come as far as the cell.
 use Rattle.std.proofs.Common.{◌≤◌, List, Option, Ok}
 use Rattle.key_cells.specs.Lease.{bench_of}
-use Rattle.slot_disk.specs.Medium.{Told}
+use Rattle.device_cells.specs.Medium.{Told}
 use Rattle.record_bodies.specs.Entries.{Entry}
 use Rattle.record_bodies.specs.StoreStands.{KeepsLabels}
 use Rattle.master_registers.specs.Loaded.{Loaded}

@@ -2,8 +2,8 @@ use Rattle.std.proofs.Common.{◌≡◌, ◌<◌, ℕ, List, Option, None, Some,
 use Rattle.std.specs.Prelude.{IsSome, ◌&&◌}
 use Rattle.key_cells.specs.Bench.{Bench}
 use Rattle.key_cells.specs.Lease.{bench_of}
-use Rattle.slot_disk.specs.Medium.{Medium, Told}
-use Rattle.slot_disk.proofs.Media.{keeps_still, told_joined, told_map, told_still}
+use Rattle.device_cells.specs.Medium.{Medium, Told}
+use Rattle.device_cells.proofs.Media.{keeps_still, told_joined, told_map, told_still}
 use Rattle.key_tokens.specs.Denotes.{denoted}
 use Rattle.key_records.specs.Changes.{IsReadOf, ReadsToken, is_ahead_row}
 use Rattle.record_bodies.specs.Directory.{label_at}

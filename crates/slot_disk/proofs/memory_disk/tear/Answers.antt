@@ -1,6 +1,6 @@
 use Rattle.std.proofs.Common.{◌≡◌, take, length, replicate, sym, ◌∙◌, ap}
 use Rattle.std.proofs.lemmas.List.{take-replicate}
-use Rattle.slot_disk.specs.Ranges.{overwrite}
+use Rattle.device_cells.specs.Ranges.{overwrite}
 use Rattle.slot_disk.specs.TornImage.{torn_over}
 use Rattle.slot_disk.specs.declared.memory_disk.Torn.{Torn}
 use Rattle.slot_disk.proofs.memory_disk.tear.Goals as goal

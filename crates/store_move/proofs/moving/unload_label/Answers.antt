@@ -4,7 +4,7 @@ use Rattle.key_cells.specs.Bench.{Bench}
 use Rattle.key_cells.specs.Lease.{bench_of}
 use Rattle.record_bodies.specs.Entries.{what_in}
 use Rattle.record_bodies.specs.StoreStands.{entry_at}
-use Rattle.slot_disk.proofs.Media.{told_map}
+use Rattle.device_cells.proofs.Media.{told_map}
 use Rattle.verb_rules.specs.Keys.{keys_of, opened}
 use Rattle.store_move.specs.Reading.{HoldsAsRead}
 use Rattle.store_move.proofs.StoredLemmas.{exported_under, moved_kept, moved_token}

@@ -4,7 +4,7 @@ use Rattle.key_cells.specs.Lease.{bench_of}
 use Rattle.record_bodies.specs.Entries.{what_in}
 use Rattle.record_bodies.specs.StoreStands.{entry_at}
 use Rattle.key_tokens.specs.Denotes.{Denoted}
-use Rattle.slot_disk.specs.Medium.{Told}
+use Rattle.device_cells.specs.Medium.{Told}
 use Rattle.verb_rules.specs.Keys.{keys_of}
 use Rattle.verb_rules.specs.declared.needs.Need.{Need}
 use Rattle.store_move.specs.Reading.{HoldsAsRead}

@@ -1,6 +1,6 @@
 -- The registers and roles that were read, with the labels that were read under them, are those of one state.
 use Rattle.std.proofs.Common.{◌≡◌, ◌∙◌, Err, refl, ap, subst, arith, rules}
-use Rattle.slot_disk.proofs.Media.{keeps_still}
+use Rattle.device_cells.proofs.Media.{keeps_still}
 use Rattle.line_service.specs.declared.stops.Stop.TheVariants.{ModuleFault, StoreFault}
 use Rattle.cca_lines.specs.Coprocessor.{IsModuleStop}
 use Rattle.key_cells.specs.Lease.{bench_of}

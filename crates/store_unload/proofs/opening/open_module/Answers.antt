@@ -1,8 +1,8 @@
 -- A broken cell is the one that is named, and what stands for registers and roles has none.
 use Rattle.std.proofs.Common.{◌≡◌, ◌∙◌, ℕ, Result, Err, ap, arith, refl, subst, sym}
-use Rattle.slot_disk.proofs.Media.{keeps_then, settled_kept, told_after}
-use Rattle.slot_disk.specs.Medium.{Told}
-use Rattle.slot_disk.proofs.WhereToldLemmas.{rose_wider}
+use Rattle.device_cells.proofs.Media.{keeps_then, settled_kept, told_after}
+use Rattle.device_cells.specs.Medium.{Told}
+use Rattle.device_cells.proofs.WhereToldLemmas.{rose_wider}
 use Rattle.key_cells.specs.Lease.{bench_of}
 use Rattle.master_registers.specs.RegisterBody.{StandsForMasters}
 use Rattle.master_registers.specs.Loaded.{masters_in}

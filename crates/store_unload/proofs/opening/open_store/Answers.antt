@@ -1,8 +1,8 @@
 -- A damaged cell is the one that is named, and a store that stands for labels has none.
 use Rattle.std.proofs.Common.{◌≡◌, ◌∙◌, ℕ, Result, Err, ap, arith, refl, subst, sym}
-use Rattle.slot_disk.specs.Medium.{Told}
-use Rattle.slot_disk.proofs.Media.{keeps_then, settled_kept}
-use Rattle.slot_disk.proofs.WhereToldLemmas.{rose_wider}
+use Rattle.device_cells.specs.Medium.{Told}
+use Rattle.device_cells.proofs.Media.{keeps_then, settled_kept}
+use Rattle.device_cells.proofs.WhereToldLemmas.{rose_wider}
 use Rattle.key_cells.specs.Lease.{bench_of}
 use Rattle.master_registers.specs.Loaded.{masters_in}
 use Rattle.verb_rules.specs.Keys.{keys_of}

@@ -1,7 +1,7 @@
 -- The labels were told, or up to one; or a rule refuses the move; or the store failed while the transport key was judged.
 use Rattle.std.proofs.Common.{◌∙◌, Err, ap, arith, refl, subst, sym}
-use Rattle.slot_disk.proofs.Media.{keeps_then, told_after}
-use Rattle.slot_disk.proofs.WhereToldLemmas.{rose_wider}
+use Rattle.device_cells.proofs.Media.{keeps_then, told_after}
+use Rattle.device_cells.proofs.WhereToldLemmas.{rose_wider}
 use Rattle.key_cells.specs.Lease.{bench_of}
 use Rattle.verb_rules.specs.Keys.{opened}
 use Rattle.line_service.proofs.StopLemmas.{count_still, grows_none}

@@ -7,9 +7,9 @@ use Rattle.record_bodies.specs.StoreStands.{HoldsRows}
 use Rattle.cca_roles.specs.RolesStand.{StandsForRoles}
 use Rattle.master_registers.specs.Masters.{Masters}
 use Rattle.master_registers.specs.RegisterBody.{StandsForMasters}
-use Rattle.slot_disk.specs.Medium.{Medium, Told}
-use Rattle.slot_disk.proofs.Media.{told_earlier}
-use Rattle.slot_disk.proofs.WhereToldLemmas.{rose_wider}
+use Rattle.device_cells.specs.Medium.{Medium, Told}
+use Rattle.device_cells.proofs.Media.{told_earlier}
+use Rattle.device_cells.proofs.WhereToldLemmas.{rose_wider}
 use Rattle.line_service.proofs.OpeningLemmas.{module_unbroken, store_unbroken, unbroken}
 use Rattle.line_service.proofs.StopLemmas.{count_still, grows_none}
 use Rattle.request_rules.specs.Standing.{Tables, tables}

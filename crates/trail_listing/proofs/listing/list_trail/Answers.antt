@@ -1,7 +1,7 @@
 use Rattle.std.proofs.Common.{◌≡◌, ℕ, List, Option, Err, inl, inr, refl, sym, ap, subst, ◌∙◌, arith}
 use Rattle.std.specs.Prelude.{IsSome}
-use Rattle.slot_disk.proofs.Media.{keeps_then, told_earlier, told_from, told_at, settled_kept}
-use Rattle.slot_disk.proofs.WhereToldLemmas.{rose_wider}
+use Rattle.device_cells.proofs.Media.{keeps_then, told_earlier, told_from, told_at, settled_kept}
+use Rattle.device_cells.proofs.WhereToldLemmas.{rose_wider}
 use Rattle.audit_trail.specs.TrailStands.{IsFirstDamaged, IsTrail}
 use Rattle.audit_trail.specs.declared.entries.Entry.{Entry as AnyEntry}
 use Rattle.audit_trail.specs.declared.faults.TrailFault.TheVariants.{DiskFault, Damaged}

@@ -1,5 +1,5 @@
 use Rattle.std.proofs.Common.{◌≡◌, ◌+◌, ◌-◌, ℕ, List, Ok, Err, ap, refl, ◌∙◌, arith}
-use Rattle.slot_disk.proofs.Media.{keeps_still, keeps_then, told_earlier}
+use Rattle.device_cells.proofs.Media.{keeps_still, keeps_then, told_earlier}
 use Rattle.audit_trail.specs.Entries.{entry_at}
 use Rattle.audit_trail.specs.TrailStands.{IsTrail}
 use Rattle.audit_trail.specs.declared.entries.Entry.{Entry as AnyEntry}

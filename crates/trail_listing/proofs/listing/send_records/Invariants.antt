@@ -1,6 +1,6 @@
 use Rattle.std.proofs.Common.{◌≡◌, ◌≤◌, ◌-◌, List, []}
-use Rattle.slot_disk.specs.Medium.{Told, Keeps}
-use Rattle.slot_disk.specs.WhereTold.{WhereTold}
+use Rattle.device_cells.specs.Medium.{Told, Keeps}
+use Rattle.device_cells.specs.WhereTold.{WhereTold}
 use Rattle.line_service.specs.Sending.{Grows}
 use Rattle.audit_trail.specs.TrailStands.{IsTrail}
 use Rattle.audit_trail.specs.declared.entries.Entry.{Entry as AnyEntry}

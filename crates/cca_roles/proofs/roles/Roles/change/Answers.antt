@@ -1,8 +1,8 @@
 use Rattle.std.proofs.Common.{ℕ, List, Option, sym, subst, ◌∙◌}
 use Rattle.std.specs.Prelude.{set}
 use Rattle.std.proofs.lemmas.List.{map-set}
-use Rattle.slot_disk.specs.Cells.{IsReplaced, IsReplacing}
-use Rattle.slot_disk.specs.Medium.{Becomes, EachImage, From}
+use Rattle.device_cells.specs.Cells.{IsReplaced, IsReplacing}
+use Rattle.device_cells.specs.Medium.{Becomes, EachImage, From}
 use Rattle.held_names.specs.Directory.{AreApart}
 use Rattle.cca_roles.specs.Roles.{names, name_of}
 use Rattle.cca_roles.specs.declared.roles.Role.{Role}

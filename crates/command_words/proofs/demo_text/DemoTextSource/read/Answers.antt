@@ -1,6 +1,6 @@
 -- What was given and what is left are what was left.
 use Rattle.std.proofs.Common.{length, ◌+◌, arith}
-use Rattle.slot_disk.proofs.Reading.{gives}
+use Rattle.device_cells.proofs.Reading.{gives}
 use Rattle.command_words.proofs.demo_text.DemoTextSource.read.Goals as goal
 
 pub returns-clause-bytes : goal.returns-clause-bytes

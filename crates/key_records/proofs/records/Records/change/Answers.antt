@@ -1,7 +1,7 @@
 use Rattle.std.proofs.Common.{◌≡◌, ℕ, List, Option, length, sym, ap, subst, ◌∙◌, refl, rules}
 use Rattle.std.proofs.lemmas.List.{length-set}
 use Rattle.key_cells.specs.Lease.{bench_of}
-use Rattle.slot_disk.specs.Medium.{Told}
+use Rattle.device_cells.specs.Medium.{Told}
 use Rattle.record_bodies.specs.StoreStands.{HoldsRows}
 use Rattle.record_bodies.specs.declared.rows.Row.{Row}
 use Rattle.key_records.proofs.StoreLaws.{replaces_is, rows_changed}

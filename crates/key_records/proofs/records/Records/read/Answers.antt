@@ -1,8 +1,8 @@
 use Rattle.std.proofs.Common.{◌≡◌, ◌<◌, ℕ, List, Bool, true, false, Option, Some, None, Ok, Err, get_or, refl, sym, ap, subst, ◌∙◌}
 use Rattle.std.specs.Prelude.{is_some, slice_index, IfSome}
-use Rattle.slot_disk.proofs.Media.{told_joined, told_map}
-use Rattle.slot_disk.specs.Cells.{body}
-use Rattle.slot_disk.specs.Medium.{Told}
+use Rattle.device_cells.proofs.Media.{told_joined, told_map}
+use Rattle.device_cells.specs.Cells.{body}
+use Rattle.device_cells.specs.Medium.{Told}
 use Rattle.key_tokens.specs.Denotes.{MasterKeys}
 use Rattle.key_records.specs.Changes.{ReadsToken, ahead_at}
 use Rattle.record_bodies.specs.RecordBody.{IsTokenOf, token_in, second_in, held_token, ReadsRow, StandsAs}

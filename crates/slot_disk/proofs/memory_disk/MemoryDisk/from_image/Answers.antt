@@ -1,6 +1,6 @@
 use Rattle.std.proofs.Common.{List, sym, ◌∙◌, subst}
 use Rattle.slot_disk.specs.LogMedium.{log_medium}
-use Rattle.slot_disk.specs.Medium.{IsSettled}
+use Rattle.device_cells.specs.Medium.{IsSettled}
 use Rattle.slot_disk.specs.declared.call.Call.{Call}
 use Rattle.slot_disk.proofs.DiskSteps.{is_disk_new, new_settled}
 use Rattle.slot_disk.proofs.memory_disk.MemoryDisk.from_image.Goals as goal

@@ -4,7 +4,7 @@ use Rattle.std.proofs.lemmas.Grind.{common_steps}
 use Rattle.std.specs.Vec.{vec_capacity}
 use Rattle.slot_disk.specs.DiskState.{DiskState, IsDisk}
 use Rattle.slot_disk.specs.LogMedium.{log_medium}
-use Rattle.slot_disk.specs.Medium.{IsSettled, EachImage}
+use Rattle.device_cells.specs.Medium.{IsSettled, EachImage}
 use Rattle.slot_disk.specs.Stages.{stage, IsTorn}
 use Rattle.slot_disk.specs.declared.call.Call.{Call}
 use Rattle.slot_disk.specs.declared.call.Call.TheVariants.{Synced}

@@ -4,8 +4,8 @@ use Rattle.std.proofs.lemmas.Grind.{common_steps}
 use Rattle.std.specs.Vec.{vec_capacity}
 use Rattle.slot_disk.specs.DiskState.{DiskState, IsDisk}
 use Rattle.slot_disk.specs.LogMedium.{log_medium}
-use Rattle.slot_disk.specs.Medium.{After, Becomes, EachImage}
-use Rattle.slot_disk.specs.Ranges.{SameOutside, HoldsPiece, overwrite}
+use Rattle.device_cells.specs.Medium.{After, Becomes, EachImage}
+use Rattle.device_cells.specs.Ranges.{SameOutside, HoldsPiece, overwrite}
 use Rattle.slot_disk.specs.Stages.{stage, IsTorn}
 use Rattle.slot_disk.specs.declared.call.Call.{Call}
 use Rattle.slot_disk.specs.declared.call.Call.TheVariants.{Written}

@@ -1,6 +1,6 @@
 use Rattle.std.proofs.Common.{ap, arith}
 use Rattle.slot_disk.specs.SourceState.{SourceState}
-use Rattle.slot_disk.proofs.Reading.{gives}
+use Rattle.device_cells.proofs.Reading.{gives}
 use Rattle.slot_disk.proofs.memory_source.MemorySourceSource.read.Goals as goal
 
 pub returns-clause-bytes : goal.returns-clause-bytes
