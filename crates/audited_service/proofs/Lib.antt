@@ -13,3 +13,8 @@ pub mod ProgressLemmas
 pub mod BegunLemmas
 mod SentLemmas
 mod KeptLemmas
+mod EntryLaws
+mod LineLaws
+mod SendingLaws
+mod DamageLaws
+mod ReadLaws

@@ -4,3 +4,7 @@ pub mod EachLine
 pub mod Growing
 pub mod Recording
 pub mod Auditing
+pub mod LineEntries
+pub mod Lines
+pub mod Listing
+pub mod Sending

@@ -5,7 +5,7 @@ use Rattle.device_cells.specs.Medium.{Medium, Told, Becomes, Keeps}
 use Rattle.device_cells.specs.SpareBytes.{SameCell}
 use Rattle.device_cells.proofs.Media.{becomes_weaker}
 use Rattle.script_buffers.specs.Lines.{lines}
-use Rattle.audit_entries.specs.LineEntries.{entry_of}
+use Rattle.audited_service.specs.LineEntries.{entry_of}
 use Rattle.audit_trail.specs.declared.entries.Entry.{Entry}
 use Rattle.audit_trail.specs.declared.faults.TrailFault.{TrailFault}
 use Rattle.audit_trail.specs.declared.faults.TrailFault.TheVariants.{DiskFault, Full, Damaged}
@@ -22,7 +22,7 @@ use Rattle.line_service.specs.Stops.{AnswersLines}
 use Rattle.line_service.specs.declared.stops.Stop.{Stop}
 use Rattle.cca_machine.specs.Session.{line_step}
 use Rattle.cca_machine.specs.State.{State, IsStoreOf}
-use Rattle.cca_lines.specs.Coprocessor.{cca}
+use Rattle.cca_machine.specs.Coprocessor.{cca}
 use Rattle.cca_laws.specs.Sealed.{IsSealed, states_along}
 use Rattle.cca_laws.proofs.RunLaws.{Ends, front, in_store, next_there, run_sealed, sealed_by, stands_last, where_told}
 use Rattle.cca_laws.proofs.SealedLaws.{first_along}

@@ -26,8 +26,8 @@ use Rattle.cca_machine.specs.Operands.{exported_key, listed, operands, transport
 use Rattle.cca_machine.specs.Points.{point}
 use Rattle.cca_machine.specs.State.{State}
 use Rattle.cca_machine.specs.Verdict.{Refusal, key_questions, lacks, or_refused, or_then, record_checks, refusal, verdict}
-use Rattle.move_file.specs.Moves.{clear_of, role_checks, token_of_label}
-use Rattle.move_file.specs.declared.moves.Move.{Move}
+use Rattle.store_unload.specs.Moves.{clear_of, role_checks, token_of_label}
+use Rattle.command_words.specs.declared.moves.Move.{Move}
 use Rattle.cca_laws.specs.KeyInParts.{by_label}
 use Rattle.cca_laws.specs.Moving.{IsMovedLabel, IsPermittedMove, export_request}
 use Rattle.cca_laws.proofs.MoveSteps.{includes_part, moved_checks, named, verdict_is}

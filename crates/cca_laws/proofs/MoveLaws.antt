@@ -27,8 +27,8 @@ use Rattle.cca_machine.specs.Listing.{ascending, nth_label}
 use Rattle.cca_machine.specs.Session.{line_step, state_after}
 use Rattle.cca_machine.specs.State.{State}
 use Rattle.cca_machine.proofs.RankLemmas.{count_lt, nth_is, within_of}
-use Rattle.move_file.specs.Moves.{clear_of, create_line, import_line, labels_of, moving_requests, reason, requests_by, requests_for, token_of_label}
-use Rattle.move_file.specs.declared.moves.Move.{Move}
+use Rattle.store_unload.specs.Moves.{clear_of, create_line, import_line, labels_of, moving_requests, reason, requests_by, requests_for, token_of_label}
+use Rattle.command_words.specs.declared.moves.Move.{Move}
 use Rattle.cca_laws.specs.EachLabel.{SameEntry}
 use Rattle.cca_laws.specs.Moving.{IsMovedLabel, IsPermittedMove, IsReceived, Receives, run_again}
 use Rattle.cca_laws.proofs.MoveLists.{Finds, finds_key}

@@ -8,8 +8,8 @@ use Rattle.record_bodies.specs.Entries.{directory}
 use Rattle.script_buffers.specs.Lines.{lines, newline}
 use Rattle.script_buffers.proofs.LineLemmas.{lines-nil, lines-whole}
 use Rattle.cca_machine.specs.State.{State}
-use Rattle.move_file.specs.Moves.{create_line, import_line, labels_of, move_file, moving_requests, reason, requests_by, requests_for, token_of_label, with_newlines}
-use Rattle.move_file.specs.declared.moves.Move.{Move}
+use Rattle.store_unload.specs.Moves.{create_line, import_line, labels_of, move_file, moving_requests, reason, requests_by, requests_for, token_of_label, with_newlines}
+use Rattle.command_words.specs.declared.moves.Move.{Move}
 use Rattle.cca_laws.specs.Moving.{IsPermittedMove}
 use Rattle.cca_laws.proofs.CleanLaws.{append_clean, both, byte_clean, clean_is, first_of_both, hex_clean, is_clean, is_clean_byte, second_of_both, truth}
 use Rattle.cca_laws.proofs.ReplyLaws.{all_clean, ascending_clean, label_clean, store_labels}

@@ -15,8 +15,8 @@ use Rattle.verb_script.specs.Requests.{request_of}
 use Rattle.verb_script.specs.Values.{is_hex}
 use Rattle.verb_script.proofs.GrammarLaws.{request_of-complete}
 use Rattle.cca_laws.proofs.LabelTexts.{label_may}
-use Rattle.move_file.specs.Moves.{create_line, import_line}
-use Rattle.move_file.specs.declared.moves.Move.{Move}
+use Rattle.store_unload.specs.Moves.{create_line, import_line}
+use Rattle.command_words.specs.declared.moves.Move.{Move}
 use Rattle.cca_laws.specs.KeyInParts.{by_label}
 
 -- ---- the requests

@@ -54,8 +54,8 @@ use Rattle.cca_machine.specs.State.{State}
 use Rattle.cca_machine.specs.Verdict.{Refusal, bytes_in, first_refusal, general_checks, held_points, key_questions, lacks, needed_points, operands_verdict, or_refused, or_then, points_for, questions, record_checks, target_checks, verb_verdict, verdict}
 use Rattle.cca_machine.proofs.DrawLaws.{undrawing_takes, verdict_undrawing}
 use Rattle.cca_machine.proofs.LineLaws.{line-request}
-use Rattle.move_file.specs.Moves.{clear_of, create_line, import_line, token_of_label}
-use Rattle.move_file.specs.declared.moves.Move.{Move}
+use Rattle.store_unload.specs.Moves.{clear_of, create_line, import_line, token_of_label}
+use Rattle.command_words.specs.declared.moves.Move.{Move}
 use Rattle.cca_laws.specs.KeyInParts.{by_label}
 use Rattle.cca_laws.specs.Moving.{IsMovedLabel, IsPermittedMove, Receives, receiving_points}
 use Rattle.cca_laws.specs.Uses.{IsTransportKey}

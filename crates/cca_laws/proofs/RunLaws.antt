@@ -19,7 +19,7 @@ use Rattle.line_service.specs.declared.stops.Stop.{Stop}
 use Rattle.cca_machine.specs.Lines.{line_outcome}
 use Rattle.cca_machine.specs.Session.{line_step}
 use Rattle.cca_machine.specs.State.{State, IsModuleOf, IsStoreOf}
-use Rattle.cca_lines.specs.Coprocessor.{cca}
+use Rattle.cca_machine.specs.Coprocessor.{cca}
 use Rattle.cca_laws.specs.Sealed.{IsAtRest, IsSealed, WasSelected, states_along}
 use Rattle.cca_laws.proofs.SealedLaws.{first_along, sealed}
 

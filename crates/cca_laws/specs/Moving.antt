@@ -18,8 +18,8 @@ use Rattle.verb_script.specs.declared.rows.RequestName.TheVariants.{Csnbkex}
 use Rattle.cca_machine.specs.Keys.{cell_with, key_of_label}
 use Rattle.cca_machine.specs.Points.{point}
 use Rattle.cca_machine.specs.State.{State}
-use Rattle.move_file.specs.Moves.{clear_of, labels_of, move_checks, reason}
-use Rattle.move_file.specs.declared.moves.Move.{Move}
+use Rattle.store_unload.specs.Moves.{clear_of, labels_of, move_checks, reason}
+use Rattle.command_words.specs.declared.moves.Move.{Move}
 use Rattle.cca_laws.specs.Disks.{StandFor}
 use Rattle.cca_laws.specs.EachLabel.{SameEntry, entry_of_label}
 use Rattle.cca_laws.specs.KeyInParts.{by_label}

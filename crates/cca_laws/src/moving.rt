@@ -13,8 +13,8 @@ ghost use Rattle.script_buffers.specs.Lines.{lines};
 ghost use Rattle.script_buffers.specs.Replies.{Done, Hex};
 ghost use Rattle.store_move.specs.Exports.{export_checks};
 ghost use Rattle.cca_laws.specs.Moving.{IsMovedLabel, IsPermittedMove, IsReceived, Receives, export_request, run_again};
-ghost use Rattle.move_file.specs.Moves.{move_file, moving_requests, token_of_label};
-ghost use Rattle.move_file.specs.declared.moves.Move.{Move};
+ghost use Rattle.store_unload.specs.Moves.{move_file, moving_requests, token_of_label};
+ghost use Rattle.command_words.specs.declared.moves.Move.{Move};
 
 /// The request file that `cca unload` writes, carried out at another module that shares the transport key and has room,
 /// leaves each label that is moved with its key and its control vector, under the current master key there, not staged and

@@ -3,7 +3,7 @@
 ghost use Rattle.std.specs.Prelude.{◌≡◌, ℕ, List, ◌++◌, Some, Result};
 ghost use Rattle.device_cells.specs.Medium.{Told};
 ghost use Rattle.script_buffers.specs.Lines.{lines};
-ghost use Rattle.audit_entries.specs.LineEntries.{entry_of};
+ghost use Rattle.audited_service.specs.LineEntries.{entry_of};
 ghost use Rattle.audit_trail.specs.declared.entries.Entry.{Entry};
 ghost use Rattle.audit_trail.specs.declared.faults.TrailFault.{TrailFault};
 ghost use Rattle.audited_service.specs.Answers.{run_part};
@@ -13,7 +13,7 @@ ghost use Rattle.line_service.specs.Running.{LinesServed};
 ghost use Rattle.line_service.specs.Stops.{AnswersLines};
 ghost use Rattle.line_service.specs.declared.stops.Stop.{Stop};
 ghost use Rattle.cca_machine.specs.State.{State};
-ghost use Rattle.cca_lines.specs.Coprocessor.{cca};
+ghost use Rattle.cca_machine.specs.Coprocessor.{cca};
 ghost use Rattle.cca_laws.specs.Sealed.{IsSealed, states_along};
 
 use device_cells::{Disk, Entropy, Sink, Source};

@@ -1,5 +1,6 @@
-//! The machine: the state, the verdict on a request, what a permitted request does, and what comes of a line. It is a
-//! crate of definitions, in `specs/`, and of laws over them.
+//! The machine: the state, the verdict on a request, what a permitted request does, and what comes of a line, as definitions
+//! in `specs/` with laws over them. With it stands what a verb is given of its request, once no rule refuses it: what the
+//! operands stand for ([`Granted`]), and what the words of fields choose; and the refusal by a rule ([`Refusal`]).
 #![tactic(auto)]
 
 ghost use Rattle.std.specs.Prelude.{◌≡◌, ℕ, List, [], ◌∷◌, ◌++◌, ◌<◌, ◌≤◌, length, take, replicate, codes, None, Some};
@@ -20,7 +21,7 @@ ghost use Rattle.cca_machine.specs.State.{State, IsStoreOf, blank_state};
 ghost use Rattle.cca_machine.specs.Act.{performed};
 ghost use Rattle.cca_machine.specs.CutRequests.{RepliedTextsAreWhole, RepliedCodesAreWhole, CutCodesAreVerified};
 ghost use Rattle.cca_machine.specs.Lines.{line_outcome, taken_by};
-ghost use Rattle.cca_machine.specs.Verdict.{Refusal, early_verdict, refusal, verdict};
+ghost use Rattle.cca_machine.specs.Verdict.{Refusal as AnyRefusal, early_verdict, refusal, verdict};
 ghost use Rattle.cca_machine.specs.Reruns.{reencipher_for, stopped};
 ghost use Rattle.cca_machine.specs.Session.{random_after, replies};
 ghost use Rattle.cca_machine.specs.WorkedHalves.{one_key, worked_ceremony, worked_halves, worked_refusals};
@@ -28,11 +29,22 @@ ghost use Rattle.cca_machine.specs.WorkedRoles.{worked_roles, worked_role_table,
 ghost use Rattle.cca_machine.specs.WorkedTokens.{TokensAnswered, worked_tokens};
 
 mod asking;
+mod choices;
+mod granted;
+mod grants;
 mod pairs;
+mod refusals;
 mod tables;
 
 pub use asking::Ask;
+pub use choices::{
+    is_last_part, key_length_of, mac_length_of, mac_rule_of, out_form_of, pad_of, pair_form_of,
+    part_action_of, random_form_of, target_of,
+};
+pub use granted::{Grant, Granted, token_bytes};
+pub use grants::{double_key_in, external_in, is_old, key_in, place_in, token_in};
 pub use pairs::a_pair_stands_for_one_state;
+pub use refusals::Refusal;
 pub use tables::{forms_of_requests_have_transport_keys, requests_need_points_of_the_table};
 
 /// The machine gives the replies that are known from outside: the definitions compute them.
@@ -82,9 +94,9 @@ pub fn outcomes_of_lines()
     ensures verdict { (s : State) (random : List ℕ) (request : Request)
         → verdict s (take (taken_by s random request) random) request
         ≡ verdict s random request }
-    ensures early { (s : State) (random : List ℕ) (request : Request) (refused : Refusal)
+    ensures early { (s : State) (random : List ℕ) (request : Request) (refused : AnyRefusal)
         → early_verdict s request ≡ Some refused → verdict s random request ≡ Some refused }
-    ensures untaken { (s : State) (random : List ℕ) (request : Request) (refused : Refusal)
+    ensures untaken { (s : State) (random : List ℕ) (request : Request) (refused : AnyRefusal)
         → early_verdict s request ≡ Some refused → taken_by s random request ≡ 0 }
     ensures repeated { (s : State) (random : List ℕ) (request : Request)
         → verdict s random request ≡ Some (refusal 34 (codes "length"))

@@ -11,13 +11,13 @@ use Rattle.verb_script.specs.Grammar.{Request}
 use Rattle.cca_machine.specs.Operands.{Operands, operands}
 use Rattle.cca_machine.specs.State.{State}
 use Rattle.cca_machine.specs.Verdict.{Refusal, general_checks, or_then, refusal, verdict_by}
-use Rattle.granted_operands.specs.Granted.{AreGranted}
+use Rattle.cca_machine.specs.Granted.{AreGranted}
 use Rattle.request_rules.specs.Judging.{IsJudged}
-use Rattle.granted_operands.specs.Refusals.{refusal_of}
-use Rattle.granted_operands.specs.declared.granted.Granted.{Granted}
+use Rattle.cca_machine.specs.Refusals.{refusal_of}
+use Rattle.cca_machine.specs.declared.granted.Granted.{Granted}
 use Rattle.request_rules.specs.declared.judging.Verdict.{Verdict}
 use Rattle.request_rules.specs.declared.judging.Verdict.TheVariants as code
-use Rattle.granted_operands.specs.declared.refusals.Refusal.{Refusal as CodeRefusal}
+use Rattle.cca_machine.specs.declared.refusals.Refusal.{Refusal as CodeRefusal}
 use Rattle.request_verbs.proofs.Acting.{verdict_operands}
 
 -- ---- a rule that the request as a whole breaks

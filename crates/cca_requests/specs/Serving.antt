@@ -27,8 +27,8 @@ use Rattle.request_rules.specs.Judging.{IsStoreStop}
 use Rattle.request_rules.specs.Standing.{HasLoaded, Tables, StandsInModule, StandsInStore, Stands}
 use Rattle.request_verbs.specs.Deciding.{HasDrawn}
 use Rattle.cca_machine.specs.Act.{Outcome, NoCell, performed}
-pub use Rattle.cca_lines.specs.Sound.{IsSound}
-pub use Rattle.cca_lines.specs.Written.{SameBut, SameButCell}
+pub use Rattle.cca_machine.specs.Sound.{IsSound}
+pub use Rattle.cca_machine.specs.Written.{SameBut, SameButCell}
 use Rattle.cca_machine.specs.Draws.{draws_random}
 use Rattle.cca_machine.specs.Lines.{MayDraw, taken_by}
 use Rattle.cca_machine.specs.Verdict.{early_verdict}

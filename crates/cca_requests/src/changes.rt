@@ -3,7 +3,7 @@ ghost use Rattle.std.specs.Prelude.{◌≡◌, []};
 ghost use Rattle.cca_requests.specs.Changes.{IsAnswer, IsShortlyNamed, made_reply, made_stop};
 
 use crate::endings::{end, refuse};
-use granted_operands::Refusal;
+use cca_machine::Refusal;
 use line_service::Stop;
 use verb_script::ReplyBuffer;
 

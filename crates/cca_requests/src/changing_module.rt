@@ -15,9 +15,9 @@ ghost use Rattle.request_rules.specs.Standing.{HasLoaded, AtModule};
 
 use crate::changes::{Unmade, answer};
 use crate::endings::{end, refuse};
+use cca_machine::Refusal;
 use cca_roles::{AccessPoints, RoleFault, RoleName, Roles};
 use device_cells::Disk;
-use granted_operands::Refusal;
 use key_cells::Lease;
 use key_records::Records;
 use line_service::Stop;

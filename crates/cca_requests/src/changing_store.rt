@@ -23,8 +23,8 @@ ghost use Rattle.request_verbs.specs.Deciding.{IsReady, IsHeldAt, IsWritten, IsD
 
 use crate::changes::{Unmade, answer};
 use crate::endings::{end, finish};
+use cca_machine::Refusal;
 use device_cells::Disk;
-use granted_operands::Refusal;
 use key_cells::Lease;
 use key_records::{Label, Place, RecordFault, Records};
 use line_service::Stop;

@@ -4,7 +4,7 @@ ghost use Rattle.script_buffers.specs.Replies.{Field, Done, Refused, spelled, wr
 ghost use Rattle.verb_rules.specs.Rules.{rule_number};
 ghost use Rattle.cca_machine.specs.Keys.{warning};
 
-use granted_operands::Refusal;
+use cca_machine::Refusal;
 use verb_script::ReplyBuffer;
 
 /// Ends the reply to a request that was carried out, with the warning where a key is under the old master key.

@@ -11,14 +11,14 @@ ghost use Rattle.cca_machine.specs.Verdict.{Refusal as Refused, verdict_by};
 ghost use Rattle.request_rules.specs.ByRecords.{RestsOnRecords};
 ghost use Rattle.cca_requests.specs.Serving.{HasDisks, IsSpelled, IsRequestStop, IsLoadedStop, Serves, Leaves, FindsDamage, SparesStore, DrawsOnly, AreRemembered};
 ghost use Rattle.request_rules.specs.Standing.{Stands, tables, At};
-ghost use Rattle.granted_operands.specs.Granted.{IsAccepted, AreGranted};
+ghost use Rattle.cca_machine.specs.Granted.{IsAccepted, AreGranted};
 ghost use Rattle.request_verbs.specs.Decided.{HasPassed, TakesOnly, source};
 
 use crate::effects::carry;
 use crate::endings::refuse;
+use cca_machine::{Granted, Refusal, is_old};
 use cca_roles::Roles;
 use device_cells::{Disk, Entropy};
-use granted_operands::{Granted, Refusal, is_old};
 use key_cells::{Lease, Workbench};
 use key_records::Records;
 use line_service::{Device, Shown, Stop};

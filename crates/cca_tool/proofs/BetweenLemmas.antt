@@ -14,7 +14,7 @@ use Rattle.cca_machine.specs.State.{State}
 use Rattle.cca_machine.specs.Verdict.{Refusal, verdict}
 use Rattle.cca_machine.specs.Act.{effect, state_between, delivered_with, or_act, performed}
 use Rattle.cca_machine.proofs.DrawLaws.{early_none, verdict_empty}
-use Rattle.cca_lines.specs.Coprocessor.{IsRenewing}
+use Rattle.cca_machine.specs.Coprocessor.{IsRenewing}
 
 -- a key that is delivered changes one cell
 delivered_between : (s : State) (field : List ℕ) (to : Option (List ℕ)) (key : Denoted) (fields : List Field) (cell : ℕ)

@@ -13,7 +13,7 @@ use Rattle.line_service.proofs.StopLemmas.{grows_none}
 use Rattle.line_service.specs.declared.stops.Stop.{Stop}
 use Rattle.line_service.specs.declared.stops.Stop.TheVariants.{WriteFault, ModuleFault, StoreFault}
 use Rattle.cca_machine.specs.State.{IsModuleOf, IsStoreOf}
-use Rattle.cca_lines.specs.Coprocessor.{cca}
+use Rattle.cca_machine.specs.Coprocessor.{cca}
 use Rattle.command_words.specs.Counting.{counted_summary}
 use Rattle.command_words.specs.Demo.{demo_text}
 use Rattle.cca_tool.specs.Running.{DemoRan}

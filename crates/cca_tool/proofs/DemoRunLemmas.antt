@@ -17,7 +17,7 @@ use Rattle.line_service.specs.declared.stops.Device.TheVariants.{Module, Store}
 use Rattle.line_service.specs.declared.stops.Stop.{Stop}
 use Rattle.line_service.specs.declared.stops.Stop.TheVariants.{ReadFault, WriteFault, EntropyFault, ModuleFault, StoreFault, Damaged, InputLimit}
 use Rattle.cca_machine.specs.State.{State}
-use Rattle.cca_lines.specs.Coprocessor.{cca, IsBrokenModule, IsBrokenStore}
+use Rattle.cca_machine.specs.Coprocessor.{cca, IsBrokenModule, IsBrokenStore}
 use Rattle.command_words.specs.Counting.{counted, counted_summary}
 use Rattle.command_words.specs.Demo.{demo_lines, demo_text, summary, summary_text, are_ok, are_refused}
 use Rattle.cca_tool.specs.DemoRun.{SummarySent, SummaryCut, DemoLost}

@@ -12,7 +12,7 @@ use Rattle.request_rules.specs.Standing.{Tables, tables, Stands as StandsFor}
 use Rattle.cca_requests.specs.Serving.{IsSound as IsRemembered, HasTold}
 use Rattle.line_service.specs.Answering.{OnDisks, Stands}
 use Rattle.line_service.specs.declared.stops.Stop.{Stop}
-use Rattle.cca_lines.specs.Coprocessor.{cca}
+use Rattle.cca_machine.specs.Coprocessor.{cca}
 use Rattle.line_service.specs.Serving.{IsTheLine}
 use Rattle.script_buffers.specs.Reading.{Reading}
 use Rattle.script_buffers.specs.declared.lines.Taken.{Taken}

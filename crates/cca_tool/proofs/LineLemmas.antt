@@ -27,7 +27,7 @@ use Rattle.line_service.specs.declared.stops.Device.TheVariants.{Store}
 use Rattle.line_service.specs.declared.stops.Stop.{Stop}
 use Rattle.line_service.specs.declared.stops.Stop.TheVariants.{ReadFault, WriteFault, EntropyFault, ModuleFault, StoreFault, Damaged, InputLimit}
 use Rattle.line_service.proofs.LineLemmas.{refused_serves, still_has}
-use Rattle.cca_lines.specs.Coprocessor.{cca, IsRefusal, MayFail}
+use Rattle.cca_machine.specs.Coprocessor.{cca, IsRefusal, MayFail}
 use Rattle.store_unload.specs.Opening.{remembers}
 use Rattle.cca_tool.proofs.BetweenLemmas.{between_is}
 use Rattle.cca_tool.proofs.KnownLemmas.{stands_as}

@@ -8,8 +8,8 @@ use Rattle.audit_trail.specs.TrailStands.{IsTrail}
 use Rattle.audit_trail.specs.declared.entries.Entry.{Entry}
 use Rattle.audit_trail.specs.declared.faults.TrailFault.TheVariants.{DiskFault, Full, Damaged}
 use Rattle.line_service.specs.Devices.{TellsFault}
-use Rattle.trail_listing.specs.declared.listing.ListFault.{ListFault}
-use Rattle.trail_listing.specs.declared.listing.ListFault.TheVariants.{WriteFault, Trail}
+use Rattle.audited_service.specs.declared.listing.ListFault.{ListFault}
+use Rattle.audited_service.specs.declared.listing.ListFault.TheVariants.{WriteFault, Trail}
 use Rattle.cca_tool.specs.Auditing.{AuditCallsNone}
 use Rattle.cca_tool.specs.Showing.{listing_status, IsListingStatus, ListingEnded}
 use Rattle.store_unload.specs.Statuses.{CallsNone}

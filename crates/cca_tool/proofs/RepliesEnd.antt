@@ -7,7 +7,7 @@ use Rattle.line_service.specs.Serving.{session, Runs}
 use Rattle.cca_machine.specs.State.{State}
 use Rattle.cca_machine.specs.Lines.{line_outcome}
 use Rattle.cca_machine.specs.Session.{line_step}
-use Rattle.cca_lines.specs.Coprocessor.{cca}
+use Rattle.cca_machine.specs.Coprocessor.{cca}
 
 ends-append : (a b : List ℕ) → EndsLine a → EndsLine b → EndsLine (a ++ b)
 ends-append a b ends (inl none) = subst EndsLine (sym (append-nil a) ∙ ap (λ x. a ++ x) (sym none)) ends

@@ -6,7 +6,7 @@ use Rattle.line_service.specs.declared.stops.Device.TheVariants.{Module, Store}
 use Rattle.line_service.specs.declared.stops.Stop.{Stop}
 use Rattle.line_service.specs.declared.stops.Stop.TheVariants.{ReadFault, WriteFault, EntropyFault, ModuleFault, StoreFault, Damaged, InputLimit}
 use Rattle.cca_requests.specs.Serving.{IsRequestStop}
-use Rattle.cca_lines.specs.Coprocessor.{IsCell, IsRereadCell, IsStop}
+use Rattle.cca_machine.specs.Coprocessor.{IsCell, IsRereadCell, IsStop}
 
 -- a stop that names no cell that a disk hasn't
 of_stop : (stop : Stop) → ((device : Device) (cell : ℕ) → stop ≡ Damaged device cell → IsCell device cell) → IsStop stop

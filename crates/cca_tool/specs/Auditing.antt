@@ -1,6 +1,6 @@
 -- How the status of an audited run tells of its lines and of its trail.
 use Rattle.std.specs.Prelude.{◌≡◌, ◌⊎◌, ◌++◌, ℕ, List, Result, Ok, Err}
-use Rattle.audit_entries.specs.LineEntries.{entry_of}
+use Rattle.audited_service.specs.LineEntries.{entry_of}
 use Rattle.audit_trail.specs.declared.entries.Entry.{Entry}
 use Rattle.audit_trail.specs.declared.faults.TrailFault.{TrailFault}
 use Rattle.audit_trail.specs.declared.faults.TrailFault.TheVariants.{DiskFault, Full, Damaged}
@@ -8,7 +8,7 @@ use Rattle.audited_service.specs.Noting.{Noted, entries_of}
 use Rattle.line_service.specs.Serving.{session}
 use Rattle.line_service.specs.declared.stops.Stop.{Stop}
 use Rattle.cca_machine.specs.State.{State}
-use Rattle.cca_lines.specs.Coprocessor.{cca}
+use Rattle.cca_machine.specs.Coprocessor.{cca}
 use Rattle.cca_tool.specs.Running.{Uncalled}
 use Rattle.store_unload.specs.Statuses.{status_of_lem}
 use Rattle.cca_tool.specs.declared.auditing.AuditStatus.{AuditStatus}

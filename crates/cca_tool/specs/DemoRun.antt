@@ -7,7 +7,7 @@ use Rattle.line_service.specs.Sending.{GotPart}
 use Rattle.line_service.specs.Serving.{Led, LineLost}
 use Rattle.line_service.specs.declared.stops.Stop.{Stop}
 use Rattle.cca_machine.specs.State.{State}
-use Rattle.cca_lines.specs.Coprocessor.{cca}
+use Rattle.cca_machine.specs.Coprocessor.{cca}
 use Rattle.command_words.specs.Demo.{demo_lines, demo_text, summary}
 
 -- The lines of the demo lead to the state for which the disks stand, and the sink got the summary of the replies.

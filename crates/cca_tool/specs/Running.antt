@@ -11,7 +11,7 @@ use Rattle.line_service.specs.Serving.{IsOnTheWay, AtRest, SparesAlways}
 use Rattle.line_service.specs.declared.stops.Stop.{Stop}
 use Rattle.line_service.specs.declared.stops.Stop.TheVariants.{WriteFault, ModuleFault, StoreFault}
 use Rattle.cca_machine.specs.State.{State, IsModuleOf, IsStoreOf}
-use Rattle.cca_lines.specs.Coprocessor.{cca}
+use Rattle.cca_machine.specs.Coprocessor.{cca}
 use Rattle.command_words.specs.Demo.{demo_text}
 use Rattle.cca_tool.specs.DemoRun.{SummarySent, SummaryCut, DemoLost}
 use Rattle.store_unload.specs.Statuses.{status_of_lem}

@@ -1,8 +1,8 @@
 -- How the status of a listing tells of it.
 use Rattle.std.specs.Prelude.{◌≡◌, ◌⊎◌, ◌<◌, ℕ, Result, Ok, Err}
 use Rattle.audit_trail.specs.declared.faults.TrailFault.TheVariants.{DiskFault, Full, Damaged}
-use Rattle.trail_listing.specs.declared.listing.ListFault.{ListFault}
-use Rattle.trail_listing.specs.declared.listing.ListFault.TheVariants.{WriteFault, Trail}
+use Rattle.audited_service.specs.declared.listing.ListFault.{ListFault}
+use Rattle.audited_service.specs.declared.listing.ListFault.TheVariants.{WriteFault, Trail}
 use Rattle.cca_tool.specs.declared.auditing.AuditStatus.{AuditStatus}
 use Rattle.cca_tool.specs.declared.auditing.AuditStatus.TheVariants as audit_status
 use Rattle.store_unload.specs.declared.status.Status.TheVariants as status

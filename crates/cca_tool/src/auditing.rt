@@ -2,7 +2,7 @@
 ghost use Rattle.std.specs.Prelude.{◌≡◌, ◌↔◌, ◌∷◌, ℕ, [], List, codes};
 ghost use Rattle.key_cells.specs.Bench.{blank_bench};
 ghost use Rattle.device_cells.specs.Medium.{Keeps};
-ghost use Rattle.audit_entries.specs.LineEntries.{entry_of};
+ghost use Rattle.audited_service.specs.LineEntries.{entry_of};
 ghost use Rattle.audit_trail.specs.declared.entries.Entry.{Entry};
 ghost use Rattle.audited_service.specs.Auditing.{AuditLeft, IsUnsoundTrail};
 ghost use Rattle.audited_service.specs.Growing.{TrailGrows};
@@ -13,12 +13,11 @@ ghost use Rattle.line_service.specs.Running.{Untouched};
 ghost use Rattle.line_service.specs.Serving.{Runs};
 ghost use Rattle.cca_machine.specs.State.{State, module_size, store_size};
 ghost use Rattle.cca_tool.specs.Auditing.{audit_status_of_lem, AuditEnded, AuditCallsNone, AllUncalled, HaveNoted};
-ghost use Rattle.cca_lines.specs.Coprocessor.{cca};
+ghost use Rattle.cca_machine.specs.Coprocessor.{cca};
 
 use crate::session::Session;
-use audit_entries::LineScribe;
 use audit_trail::{TRAIL_LEN, Trail, TrailFault};
-use audited_service::serve_audited;
+use audited_service::{LineScribe, serve_audited};
 use command_words::Words;
 use device_cells::{Disk, Entropy, Sink, Source};
 use key_cells::Workbench;

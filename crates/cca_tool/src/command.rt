@@ -5,7 +5,7 @@ ghost use Rattle.line_service.specs.Answering.{IsSound};
 ghost use Rattle.line_service.specs.Devices.{HaveSizes};
 ghost use Rattle.line_service.specs.Running.{SessionLeft, Untouched};
 ghost use Rattle.cca_machine.specs.State.{module_size, store_size};
-ghost use Rattle.cca_lines.specs.Coprocessor.{cca};
+ghost use Rattle.cca_machine.specs.Coprocessor.{cca};
 ghost use Rattle.command_words.specs.Demo.{IsDemo, IsCommandLine};
 ghost use Rattle.cca_tool.specs.Running.{Ended, Uncalled, DemoServed};
 ghost use Rattle.store_unload.specs.Statuses.{CallsNone};

@@ -2,7 +2,7 @@
 ghost use Rattle.std.specs.Prelude.{◌≡◌, ◌≤◌, codes};
 ghost use Rattle.script_buffers.specs.Replies.{Refused, spelled};
 ghost use Rattle.request_rules.specs.Standing.{tables};
-ghost use Rattle.cca_lines.specs.Coprocessor.{cca};
+ghost use Rattle.cca_machine.specs.Coprocessor.{cca};
 ghost use Rattle.store_unload.specs.Opening.{AreKnown, remembers};
 
 use cca_requests::perform;

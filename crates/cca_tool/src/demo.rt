@@ -5,7 +5,7 @@ ghost use Rattle.script_buffers.specs.Replies.{number_field, reply_limit};
 ghost use Rattle.line_service.specs.Answering.{IsSound};
 ghost use Rattle.line_service.specs.Devices.{HaveSizes};
 ghost use Rattle.cca_machine.specs.State.{module_size, store_size};
-ghost use Rattle.cca_lines.specs.Coprocessor.{cca};
+ghost use Rattle.cca_machine.specs.Coprocessor.{cca};
 ghost use Rattle.command_words.specs.Demo.{demo_lines, demo_text};
 ghost use Rattle.command_words.specs.Counting.{counted_summary};
 ghost use Rattle.cca_tool.specs.Running.{DemoRan, DemoUntouched, DisksUncalled};

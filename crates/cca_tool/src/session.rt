@@ -10,7 +10,7 @@ ghost use Rattle.line_service.specs.Running.{LineLeaves, LineTaken, SessionLeft,
 ghost use Rattle.line_service.specs.Stops.{IsDeskStop, IsOpeningStop};
 ghost use Rattle.cca_machine.specs.State.{State, module_size, store_size};
 ghost use Rattle.cca_tool.specs.Sessions.{blank_memory, InputRead, IsReadingStop, IsWaitingLine, waiting_after};
-ghost use Rattle.cca_lines.specs.Coprocessor.{cca, IsStop};
+ghost use Rattle.cca_machine.specs.Coprocessor.{cca, IsStop};
 ghost use Rattle.store_unload.specs.Opening.{AreKnown, remembers};
 
 use crate::coprocessor::Coprocessor;

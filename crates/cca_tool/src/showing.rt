@@ -8,19 +8,19 @@ ghost use Rattle.audit_trail.specs.TrailStands.{IsTrail};
 ghost use Rattle.audit_trail.specs.declared.entries.Entry.{Entry};
 ghost use Rattle.line_service.specs.Devices.{TellsFault};
 ghost use Rattle.line_service.specs.Sending.{Grows};
-ghost use Rattle.trail_listing.specs.Listing.{Listed, ListsAsRead, TellsDamage};
+ghost use Rattle.audited_service.specs.Listing.{Listed, ListsAsRead, TellsDamage};
 ghost use Rattle.cca_tool.specs.Auditing.{AuditCallsNone};
 ghost use Rattle.store_unload.specs.Statuses.{CallsNone};
 ghost use Rattle.cca_tool.specs.Showing.{listing_status, ListingEnded, IsListingStatus, ListingUncalled};
 
 use crate::auditing::AuditStatus;
 use audit_trail::{TRAIL_LEN, TrailFault};
+use audited_service::{ListFault, list_trail};
 use command_words::Words;
 use device_cells::{Disk, Sink};
 use script_buffers::ReplyBuffer;
 use std::alloc::Global;
 use store_unload::Status;
-use trail_listing::{ListFault, list_trail};
 
 /// Sends a line for each record that the trail holds, in ascending order: the number, the rule, the role, the verb and
 /// the label.

@@ -2,7 +2,7 @@
 use Rattle.std.specs.Prelude.{◌≡◌, ℕ, List, [], ◌∷◌, codes}
 use Rattle.cca_roles.specs.RoleNames.{IsRoleName}
 use Rattle.record_bodies.specs.Labels.{IsLabel}
-use Rattle.move_file.specs.declared.moves.Move.{Move}
+use Rattle.command_words.specs.declared.moves.Move.{Move}
 
 -- `unload`, a role and the label of a transport key, and the same of the other module
 pub record AreWordsOf (w : Move) (words : List (List ℕ)) : Type 0 where

@@ -5,11 +5,13 @@ mod counts;
 mod demo_lines;
 mod demo_text;
 mod history;
+mod moves;
 mod tally;
 mod unused;
 mod words;
 
 pub use demo_text::DemoText;
+pub use moves::Move;
 pub use tally::Tally;
 pub use unused::Unused;
 pub use words::{Command, Words};

@@ -3,10 +3,10 @@ ghost use Rattle.std.specs.Prelude.{◌≡◌, ◌≤◌, ◌↔◌, ◌++◌, �
 ghost use Rattle.command_words.specs.Demo.{IsDemo};
 ghost use Rattle.command_words.specs.MoveWords.{AreWordsOf, IsMove};
 
+use crate::moves::Move;
 use cca_roles::RoleName;
 use device_cells::NoMemory;
 use itoa::Buffer;
-use move_file::Move;
 use record_bodies::Label;
 use std::alloc::Global;
 use std::marker::Model;

@@ -3,7 +3,7 @@ use Rattle.std.specs.Prelude.{◌≡◌, [], ◌∷◌, ◌++◌, ℕ, List, cod
 use Rattle.audit_trail.specs.Entries.{filled}
 use Rattle.audit_trail.specs.declared.entries.Entry.{Entry}
 use Rattle.script_buffers.specs.Lines.{newline}
-use Rattle.trail_listing.specs.Lines.{record_line}
+use Rattle.audited_service.specs.Lines.{record_line}
 
 -- a record by its rule, role, verb and label
 abbrev pub entry : ℕ → List ℕ → List ℕ → List ℕ → Entry

@@ -1,7 +1,6 @@
 //! The entries of lines and their replies.
-use audit_entries::LineScribe;
 use audit_trail::Entry;
-use audited_service::Scribe;
+use audited_service::{LineScribe, Scribe};
 
 /// Whether a field has a text at the front of zeros.
 fn is_filled(field: &[u8], text: &[u8]) -> bool {

@@ -1,10 +1,10 @@
 //! A trail that is listed: its lines from the bytes of records, and a fault at each call of a device.
 use audit_trail::{TRAIL_LEN, TrailFault};
+use audited_service::{ListFault, list_trail};
 use script_buffers::ReplyBuffer;
 use slot_disk::{Disk, MemoryDisk, MemorySink};
 use std::alloc::Global;
 use std::process::Abort;
-use trail_listing::{ListFault, list_trail};
 
 /// The first bytes of three records, each from the table of the format: of a request that names a label, of a line that
 /// is none, and of a refused request that names no label. All bytes after them are zeros.

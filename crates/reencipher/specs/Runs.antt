@@ -2,7 +2,7 @@
 use Rattle.std.specs.Prelude.{◌≡◌, ◌≤◌, ◌<◌, ◌+◌, ◌⊎◌, ◌&&◌, ℕ, zero, suc, Bool, true, false, not, cond, List, Option, None, Some, is_some, get_or, slice_index, length}
 use Rattle.std.specs.Prelude.{Result, Err, OnOk, OnErr, IfOk, IfErr, IsSome}
 use Rattle.key_cells.specs.declared.leases.Lease.{Lease}
-use Rattle.device_cells.specs.Cells.{body, other_body, IsUntouched}
+use Rattle.device_cells.specs.Cells.{body, other_body}
 use Rattle.device_cells.specs.Faults.{Rose}
 use Rattle.device_cells.specs.Medium.{Medium, IsSettled, Told, From, Becomes, EachImage}
 use Rattle.device_cells.specs.SpareBytes.{Turned}
@@ -19,25 +19,11 @@ use Rattle.record_bodies.specs.declared.rows.Row.{Row}
 use Rattle.master_registers.specs.declared.patterns.Pattern.{Pattern}
 use Rattle.master_registers.specs.declared.registers.Registers.{Registers}
 use Rattle.verb_rules.specs.KeyChecks.{register_with}
-use Rattle.record_bodies.specs.Further.{further, is_changed, changed_count}
+use Rattle.record_bodies.specs.Further.{further, changed_count}
+pub use Rattle.record_bodies.specs.Leaving.{IsChanged, LeavesCells, LeavesRest}
 use Rattle.reencipher.specs.Tokens.{may_change}
 use Rattle.record_bodies.specs.declared.actions.StoreAction.{StoreAction}
 use Rattle.record_bodies.specs.declared.actions.StoreAction.TheVariants.{Renew, Ahead, Drop}
-
--- the action changes the label of the cell
-abbrev pub IsChanged : StoreAction → List (Option Entry) → ℕ → Type 0
-IsChanged a s n = is_changed a (entry_at s n) ≡ true
-
--- No byte has changed but the selectors of the cells below `cells` of which P holds, and those of the body that wasn't
--- selected there.
-pub record LeavesCells (P : ℕ → Type 0) (cells : ℕ) (old new : List ℕ) : Type 0 where
-  pub size : length new ≡ length old
-  pub same : (k : ℕ) → ((n : ℕ) → n < cells → P n → IsUntouched old n k)
-      → slice_index new k ≡ slice_index old k
-
--- the same of the cells whose label the action changes
-abbrev pub LeavesRest : StoreAction → List (Option Entry) → ℕ → List ℕ → List ℕ → Type 0
-LeavesRest a s cells old new = LeavesCells (IsChanged a s) cells old new
 
 -- in each cell below `cells` whose label the action changes the body that was selected stands on the other side
 abbrev pub LeavesOld : StoreAction → List (Option Entry) → ℕ → List ℕ → List ℕ → Type 0

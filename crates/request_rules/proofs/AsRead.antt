@@ -28,14 +28,14 @@ use Rattle.cca_machine.specs.Operands.{Operand, Operands, any_key, listed, opera
 use Rattle.cca_machine.specs.declared.asking.Ask.{Ask}
 use Rattle.cca_machine.specs.declared.asking.Ask.TheVariants.{AnyToken, External, Held, Key, NewLabel, Nothing, Record, Target, Token}
 use Rattle.request_rules.specs.ByRecords.{AreJudgedByRecords, BreaksByRecord, IfKeyOfLabel, IsHeldIn, LabelBreaks, RestsOnRecords}
-use Rattle.granted_operands.specs.Granted.{answered}
+use Rattle.cca_machine.specs.Granted.{answered}
 use Rattle.request_rules.specs.Standing.{Tables}
 use Rattle.request_rules.specs.Stored.{AreAskedAsRead, IsAnsweredAsRead, IsAskedAsRead, IsLabelAsRead, IsRefusedAsRead, find_checks}
-use Rattle.granted_operands.specs.declared.granted.Grant.{Grant}
-use Rattle.granted_operands.specs.declared.granted.Granted.{Granted}
+use Rattle.cca_machine.specs.declared.granted.Grant.{Grant}
+use Rattle.cca_machine.specs.declared.granted.Granted.{Granted}
 use Rattle.request_rules.specs.declared.judging.Verdict.{Verdict}
 use Rattle.request_rules.specs.declared.judging.Verdict.TheVariants as verdict
-use Rattle.granted_operands.specs.declared.refusals.Refusal.{Refusal}
+use Rattle.cca_machine.specs.declared.refusals.Refusal.{Refusal}
 
 -- ---- a label that is held breaks neither rule of labels
 

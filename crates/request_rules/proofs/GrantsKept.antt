@@ -11,9 +11,9 @@ use Rattle.cca_machine.specs.Operands.{Operands}
 use Rattle.cca_machine.specs.State.{State}
 use Rattle.cca_machine.specs.declared.asking.Ask.{Ask}
 use Rattle.cca_machine.specs.declared.asking.Ask.TheVariants.{AnyToken, External, Key, Token, Record, Held, NewLabel, Target, Nothing}
-use Rattle.granted_operands.specs.Granted.{IsGranted, AreGranted}
-use Rattle.granted_operands.specs.declared.granted.Grant.{Grant}
-use Rattle.granted_operands.specs.declared.granted.Granted.{Granted}
+use Rattle.cca_machine.specs.Granted.{IsGranted, AreGranted}
+use Rattle.cca_machine.specs.declared.granted.Grant.{Grant}
+use Rattle.cca_machine.specs.declared.granted.Granted.{Granted}
 
 abbrev with_body : Bench → List ℕ → Bench
 with_body bench bytes = record bench { body = bytes }

@@ -43,11 +43,11 @@ use Rattle.cca_machine.proofs.KnownLabels.{cell_is}
 use Rattle.verb_script.specs.Named.{label_named}
 use Rattle.verb_script.specs.Values.{hex_value}
 use Rattle.request_rules.specs.Standing.{AtStore}
-use Rattle.granted_operands.specs.Granted.{HasKey, IsGranted, answered, target_cell}
+use Rattle.cca_machine.specs.Granted.{HasKey, IsGranted, answered, target_cell}
 use Rattle.request_rules.specs.Judging.{IsAsked, IsJudged, IsKeyedAnswer, IsShaped}
 use Rattle.request_rules.specs.Stored.{IsFound, IsLabelAsked, find_checks, label_key_checks, read_stop}
-use Rattle.granted_operands.specs.declared.granted.Grant.{Grant}
-use Rattle.granted_operands.specs.declared.granted.Granted.{Granted}
+use Rattle.cca_machine.specs.declared.granted.Grant.{Grant}
+use Rattle.cca_machine.specs.declared.granted.Granted.{Granted}
 use Rattle.request_rules.specs.declared.judging.Verdict.TheVariants as verdict
 
 -- ---- the labels that the memory knows are those of the state

@@ -17,12 +17,12 @@ use Rattle.cca_machine.specs.Operands.{Operand, Operands, listed}
 use Rattle.cca_machine.specs.Verdict.{first_refusal, operand_checks, operand_questions}
 use Rattle.cca_machine.specs.declared.asking.Ask.{Ask}
 use Rattle.cca_machine.specs.declared.asking.Ask.TheVariants.{AnyToken, Key, Token, External, Record, Held, NewLabel, Target, Nothing}
-use Rattle.granted_operands.specs.Granted.{IsGranted, AreGranted, HasShape, HaveShapes, IsKeyed, AreKeyed}
-use Rattle.granted_operands.specs.Refusals.{refusal_of}
+use Rattle.cca_machine.specs.Granted.{IsGranted, AreGranted, HasShape, HaveShapes, IsKeyed, AreKeyed}
+use Rattle.cca_machine.specs.Refusals.{refusal_of}
 use Rattle.request_rules.specs.declared.operands.Operand.{Operand as CodeOperand}
 use Rattle.request_rules.specs.declared.operands.Operands.{Operands as CodeOperands}
-use Rattle.granted_operands.specs.declared.granted.Grant.{Grant}
-use Rattle.granted_operands.specs.declared.granted.Granted.{Granted}
+use Rattle.cca_machine.specs.declared.granted.Grant.{Grant}
+use Rattle.cca_machine.specs.declared.granted.Granted.{Granted}
 use Rattle.request_rules.specs.declared.judging.Verdict.{Verdict}
 use Rattle.request_rules.specs.declared.judging.Verdict.TheVariants as verdict
 

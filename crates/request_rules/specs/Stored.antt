@@ -33,13 +33,13 @@ use Rattle.cca_machine.specs.State.{State}
 use Rattle.cca_machine.specs.Verdict.{label_check, record_checks}
 use Rattle.cca_machine.specs.declared.asking.Ask.{Ask}
 use Rattle.request_rules.specs.ByRecords.{IfKeyOfLabel, IsHeldIn}
-use Rattle.granted_operands.specs.Granted.{HasStoredKey, answered}
+use Rattle.cca_machine.specs.Granted.{HasStoredKey, answered}
 use Rattle.request_rules.specs.Judging.{IsStoreStop}
 use Rattle.request_rules.specs.Standing.{AtStore}
-use Rattle.granted_operands.specs.declared.granted.Grant.{Grant}
+use Rattle.cca_machine.specs.declared.granted.Grant.{Grant}
 use Rattle.request_rules.specs.declared.judging.Verdict.{Verdict}
 use Rattle.request_rules.specs.declared.judging.Verdict.TheVariants as verdict
-use Rattle.granted_operands.specs.declared.refusals.Refusal.{Refusal}
+use Rattle.cca_machine.specs.declared.refusals.Refusal.{Refusal}
 
 -- rules 06 and 07 of a label, by what the memory knows
 abbrev pub find_checks : List (Option Row) → List ℕ → List Check

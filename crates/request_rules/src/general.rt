@@ -8,7 +8,7 @@ ghost use Rattle.verb_rules.specs.Rules.{rule_number};
 ghost use Rattle.verb_script.specs.Parsed.{seen};
 ghost use Rattle.cca_machine.specs.State.{State};
 ghost use Rattle.cca_machine.specs.Verdict.{needs_master, general_checks};
-ghost use Rattle.granted_operands.specs.Granted.{IsAccepted};
+ghost use Rattle.cca_machine.specs.Granted.{IsAccepted};
 
 use crate::needed::needed_by;
 use crate::role::role_rule;

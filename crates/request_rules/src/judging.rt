@@ -11,15 +11,14 @@ ghost use Rattle.verb_script.specs.Named.{label_named};
 ghost use Rattle.cca_machine.specs.Operands.{is_named_by, names_label, listed};
 ghost use Rattle.cca_machine.specs.State.{State};
 ghost use Rattle.request_rules.specs.Standing.{AtStore};
-ghost use Rattle.granted_operands.specs.Granted.{answered};
+ghost use Rattle.cca_machine.specs.Granted.{answered};
 ghost use Rattle.request_rules.specs.Judging.{IsText, AreFit, seen_operands, IsAsked, IsShaped, IsKeyedAnswer, IsJudged, AreShaped, AreKeyedOperands};
 ghost use Rattle.request_rules.specs.Stored.{IsAskedAsRead, AreAskedAsRead, ReadsStore};
 
 use crate::operands::{Operand, Operands};
 use crate::stored::{judge_held, judge_label, judge_new_label, judge_target};
-use cca_machine::Ask;
+use cca_machine::{Ask, Grant, Granted, Refusal, token_bytes};
 use device_cells::Disk;
-use granted_operands::{Grant, Granted, Refusal, token_bytes};
 use key_cells::Lease;
 use key_records::Records;
 use key_tokens::{Asked, read_token};

@@ -7,8 +7,8 @@ ghost use Rattle.cca_machine.specs.Actions.{part_action};
 ghost use Rattle.cca_machine.specs.Choices.{target_named};
 ghost use Rattle.cca_machine.specs.Operands.{internal_key, no_operands, one_operand};
 ghost use Rattle.cca_machine.specs.Points.{action_points, target_points, change_points};
-ghost use Rattle.granted_operands.specs.FieldWords.{IsPartAction};
-ghost use Rattle.granted_operands.specs.Granted.{IsAccepted};
+ghost use Rattle.cca_machine.specs.FieldWords.{IsPartAction};
+ghost use Rattle.cca_machine.specs.Granted.{IsAccepted};
 ghost use Rattle.request_rules.specs.Judging.{seen_operands};
 ghost use Rattle.request_rules.specs.Needing.{IsNeeded, Needs};
 
@@ -16,10 +16,9 @@ use crate::operands::{
     FIVE_CLASSES, Operands, csnbkex, csnbkgn_out, csnbkgn_pair, csnbkim, csnbkpi_middle, csnbkrw,
     csnbktc, csnbktr, csnbpex, key_operand, no_operands, one_operand,
 };
-use cca_machine::Ask;
+use cca_machine::{Ask, part_action_of, target_of};
 use cca_roles::AccessPoints;
 use cca_vectors::Class;
-use granted_operands::{part_action_of, target_of};
 use key_transport::Target;
 use master_registers::Action;
 use verb_rules::Usage;

@@ -8,14 +8,13 @@ ghost use Rattle.cca_machine.specs.Operands.{internal_key, part_key, external_ke
 ghost use Rattle.cca_machine.specs.Operands.{first_transport, no_transport, second_transport};
 ghost use Rattle.cca_machine.specs.Operands.{five_classes};
 ghost use Rattle.cca_machine.specs.Choices.{out_form_named, pair_form_named};
-ghost use Rattle.granted_operands.specs.FieldWords.{IsOutForm, IsPairForm};
-ghost use Rattle.granted_operands.specs.Granted.{IsAccepted};
+ghost use Rattle.cca_machine.specs.FieldWords.{IsOutForm, IsPairForm};
+ghost use Rattle.cca_machine.specs.Granted.{IsAccepted};
 ghost use Rattle.request_rules.specs.Judging.{seen_operand, seen_operands, AreFit};
 
 use crate::needed::needed_by;
-use cca_machine::Ask;
+use cca_machine::{Ask, out_form_of, pair_form_of};
 use cca_vectors::Class;
-use granted_operands::{out_form_of, pair_form_of};
 use key_transport::Form;
 use verb_rules::{Asked, Classes, EVERY_CLASS, Need, Usage, any_key, exported_key, transport_key};
 use verb_script::Request;

@@ -13,9 +13,8 @@ ghost use Rattle.request_rules.specs.ByRecords.{IsHeldIn};
 ghost use Rattle.request_rules.specs.Stored.{Finds, IsAnsweredAsRead, IsLabelAsked, IsReadFault, ReadsStore, read_stop};
 
 use crate::judging::answer_of;
-use cca_machine::Ask;
+use cca_machine::{Ask, Grant};
 use device_cells::{Disk, Steps};
-use granted_operands::Grant;
 use key_cells::Lease;
 use key_records::{Label, Place, RecordFault, Records};
 use line_service::{Device, Stop};

@@ -20,9 +20,9 @@ use Rattle.cca_machine.specs.Lines.{drawn_where}
 use Rattle.cca_machine.specs.Operands.{Operands, listed}
 use Rattle.cca_machine.specs.declared.asking.Ask.{Ask}
 use Rattle.cca_machine.specs.declared.asking.Ask.TheVariants.{AnyToken, Key, Token, External, Record, Held, NewLabel, Target, Nothing}
-use Rattle.granted_operands.specs.Granted.{HasKey, IsGranted, AreGranted, is_old_register, is_old_key, any_old_key}
-use Rattle.granted_operands.specs.declared.granted.Grant.{Grant}
-use Rattle.granted_operands.specs.declared.granted.Granted.{Granted}
+use Rattle.cca_machine.specs.Granted.{HasKey, IsGranted, AreGranted, is_old_register, is_old_key, any_old_key}
+use Rattle.cca_machine.specs.declared.granted.Grant.{Grant}
+use Rattle.cca_machine.specs.declared.granted.Granted.{Granted}
 use Rattle.request_verbs.specs.declared.effects.Effect.{Effect as CodeEffect}
 use Rattle.request_verbs.specs.declared.effects.Effect.TheVariants as code
 use Rattle.master_registers.specs.declared.actions.Action.TheVariants.{First, Middle, Last}

@@ -18,10 +18,10 @@ use Rattle.cca_machine.specs.State.{State}
 use Rattle.cca_machine.specs.Verdict.{Refusal}
 use Rattle.request_verbs.specs.Deciding.{GoesThrough, IsDelivered, IsDelivery, IsHeldAt, IsLeft, IsReady, WritesStore}
 use Rattle.request_verbs.specs.Drawing.{IsHeldPlace}
-use Rattle.granted_operands.specs.Granted.{HasPlace, HasTarget, IsPlaceFor}
+use Rattle.cca_machine.specs.Granted.{HasPlace, HasTarget, IsPlaceFor}
 use Rattle.request_verbs.specs.declared.effects.Effect.{Effect as CodeEffect}
 use Rattle.request_verbs.specs.declared.effects.Effect.TheVariants as code
-use Rattle.granted_operands.specs.declared.granted.Grant.{Grant}
+use Rattle.cca_machine.specs.declared.granted.Grant.{Grant}
 
 -- a label that a key goes to is short
 pub short_named : (named : Option (List ℕ)) (label : List ℕ) (place : Option ℕ) → named ≡ Some label → IsPlaceFor named place → length label ≤ 64

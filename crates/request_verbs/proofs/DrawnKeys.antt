@@ -27,12 +27,12 @@ use Rattle.cca_machine.specs.Verdict.{Refusal, draw_verdict, or_last, refusal, v
 use Rattle.request_verbs.specs.Decided.{IsGrantedIn, SettlesDrawing, Source, TakesOnly}
 use Rattle.request_verbs.specs.Deciding.{ChangesPlaces, GoesThrough, IsDelivered, IsDelivery, IsReady, WritesStore, HasDrawn}
 use Rattle.request_verbs.specs.Drawing.{IsHeldPlace, RefusesDrawn}
-use Rattle.granted_operands.specs.Granted.{HaveShapes, IsPlaceFor}
-use Rattle.granted_operands.specs.Refusals.{HasRefused, IsRefusal, refusal_of}
+use Rattle.cca_machine.specs.Granted.{HaveShapes, IsPlaceFor}
+use Rattle.cca_machine.specs.Refusals.{HasRefused, IsRefusal, refusal_of}
 use Rattle.request_verbs.specs.declared.effects.Effect.{Effect as CodeEffect}
 use Rattle.request_verbs.specs.declared.effects.Effect.TheVariants as code
-use Rattle.granted_operands.specs.declared.granted.Granted.{Granted}
-use Rattle.granted_operands.specs.declared.refusals.Refusal.{Refusal as CodeRefusal}
+use Rattle.cca_machine.specs.declared.granted.Granted.{Granted}
+use Rattle.cca_machine.specs.declared.refusals.Refusal.{Refusal as CodeRefusal}
 use Rattle.request_verbs.specs.declared.verbs.csnbkgn.Drawn.{Drawn}
 use Rattle.request_verbs.proofs.Delivering.{delivered_left, delivery_named, delivery_ready, delivery_single}
 use Rattle.request_verbs.proofs.Settling.{stopped_decides}

@@ -11,9 +11,9 @@ use Rattle.cca_machine.specs.Operands.{operands}
 use Rattle.cca_machine.specs.State.{State}
 use Rattle.cca_machine.specs.Verdict.{Refusal, verb_verdict}
 use Rattle.request_verbs.specs.Deciding.{Decides, ShowsOr}
-use Rattle.granted_operands.specs.Granted.{AreGranted, HasKey}
+use Rattle.cca_machine.specs.Granted.{AreGranted, HasKey}
 use Rattle.request_verbs.specs.declared.effects.Effect.{Effect as CodeEffect}
-use Rattle.granted_operands.specs.declared.granted.Granted.{Granted}
+use Rattle.cca_machine.specs.declared.granted.Granted.{Granted}
 use Rattle.request_verbs.proofs.Acting.{shows_or}
 
 -- over operands that were granted, a request shows some fields over its key, or is refused

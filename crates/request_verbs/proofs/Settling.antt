@@ -28,12 +28,12 @@ use Rattle.cca_machine.specs.Verdict.{Refusal, refusal, verb_verdict, whole_verb
 use Rattle.request_verbs.specs.Decided.{Decision, HasDecided, IsGrantedIn, Settles, SettlesDrawing, Source, TakesOnly}
 use Rattle.request_verbs.specs.Deciding.{ChangesPlaces, Decides, GoesThrough, IsDecided, IsDelivered, IsDelivery, IsReady, ShowsOr, ShowsOver, WritesStore, with_places}
 use Rattle.request_verbs.specs.Drawing.{IsHeldPlace}
-use Rattle.granted_operands.specs.Granted.{HaveShapes, IsPlaceFor}
-use Rattle.granted_operands.specs.Refusals.{refusal_of}
-use Rattle.granted_operands.specs.declared.refusals.Refusal.{Refusal as CodeRefusal}
+use Rattle.cca_machine.specs.Granted.{HaveShapes, IsPlaceFor}
+use Rattle.cca_machine.specs.Refusals.{refusal_of}
+use Rattle.cca_machine.specs.declared.refusals.Refusal.{Refusal as CodeRefusal}
 use Rattle.request_verbs.specs.declared.effects.Effect.{Effect as CodeEffect}
 use Rattle.request_verbs.specs.declared.effects.Effect.TheVariants as code
-use Rattle.granted_operands.specs.declared.granted.Granted.{Granted}
+use Rattle.cca_machine.specs.declared.granted.Granted.{Granted}
 use Rattle.request_verbs.proofs.Acting.{decides, key_is, shows_or, undrawn_verdict}
 use Rattle.request_verbs.proofs.Delivering.{delivered_left, delivery_named, delivery_ready, delivery_single}
 use Rattle.request_verbs.proofs.KeyedVerbs.{IsKeyed, keyed_shows}

@@ -8,8 +8,8 @@ use Rattle.master_registers.specs.declared.registers.Registers.{Registers}
 use Rattle.text_segments.specs.declared.modes.Mode.TheVariants.{Encipher, Decipher, Mac}
 use Rattle.verb_rules.specs.declared.needs.Need.{Need}
 use Rattle.verb_script.specs.Grammar.{Request, accepts, hex_text}
-use Rattle.granted_operands.specs.Granted.{HasJudged}
-use Rattle.granted_operands.specs.declared.granted.Granted.{Granted}
+use Rattle.cca_machine.specs.Granted.{HasJudged}
+use Rattle.cca_machine.specs.declared.granted.Granted.{Granted}
 use Rattle.request_verbs.specs.Decided.{HasPassed, HasTextFor, Settles, SettlesOver}
 use Rattle.request_verbs.specs.TextWorks.{HasCipher, IsWorkOf, MayWork, work_request}
 use Rattle.request_verbs.specs.declared.effects.Effect.{Effect as CodeEffect}

@@ -20,9 +20,9 @@ use Rattle.cca_machine.specs.Operands.{operands, is_reencipher, needs_store}
 use Rattle.cca_machine.specs.State.{State}
 use Rattle.cca_machine.specs.Verdict.{needs_master, verb_verdict}
 use Rattle.request_verbs.specs.Deciding.{ChangesPlaces, GoesThrough, IsReady, IsRecorded, MayDecide, WritesStore}
-use Rattle.granted_operands.specs.Granted.{AreGranted, AreKeyed, HasSomeJudged, HaveShapes, IsAccepted, IsPlaceFor}
+use Rattle.cca_machine.specs.Granted.{AreGranted, AreKeyed, HasSomeJudged, HaveShapes, IsAccepted, IsPlaceFor}
 use Rattle.request_verbs.specs.declared.effects.Effect.{Effect as CodeEffect}
-use Rattle.granted_operands.specs.declared.granted.Granted.{Granted}
+use Rattle.cca_machine.specs.declared.granted.Granted.{Granted}
 
 -- a request by its name and its values
 abbrev pub asked : RequestName → List (List ℕ) → Request

@@ -30,7 +30,7 @@ use Rattle.verb_rules.specs.Keys.{keys_of, token_for}
 use Rattle.cca_machine.specs.State.{State}
 use Rattle.cca_machine.specs.Verdict.{Refusal, first_refusal, action_questions, create_questions, define_questions, remove_questions, verb_verdict, whole_verb_verdict}
 use Rattle.cca_machine.specs.Act.{Effect, Show, Become, DefineRole, RemoveRole, Create, Write, Delete, ChangeLabels, effect}
-use Rattle.granted_operands.specs.Refusals.{IsRefusal, refusal_of}
+use Rattle.cca_machine.specs.Refusals.{IsRefusal, refusal_of}
 use Rattle.request_verbs.specs.declared.effects.Effect.{Effect as CodeEffect}
 use Rattle.request_verbs.specs.declared.effects.Effect.TheVariants as code
 

@@ -6,7 +6,7 @@ use Rattle.cca_machine.specs.CutRequests.{first_code_row, first_row, last_row, m
 use Rattle.request_verbs.specs.CodePurposes.{IsPurpose, last_code_row, purpose_text, whole_code_row}
 use Rattle.verb_script.specs.declared.rows.RequestName.{RequestName}
 use Rattle.verb_script.specs.declared.rows.RequestName.TheVariants.{Csnbenc, CsnbencFirst, CsnbencMiddle, CsnbencLast, Csnbdec, CsnbdecFirst, CsnbdecMiddle, CsnbdecLast, Csnbmgn, CsnbmgnFirst, CsnbmgnMiddle, CsnbmgnLast, Csnbmvr, CsnbmvrFirst, CsnbmvrMiddle, CsnbmvrLast}
-use Rattle.granted_operands.specs.declared.granted.Granted.{Granted}
+use Rattle.cca_machine.specs.declared.granted.Granted.{Granted}
 use Rattle.request_verbs.specs.Decided.{HasTextFor, asked}
 use Rattle.request_verbs.specs.WholeTexts.{whole_row}
 use Rattle.request_verbs.specs.declared.verbs.text_work.TextWork.{TextWork}

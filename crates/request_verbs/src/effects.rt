@@ -1,7 +1,7 @@
 //! What a verb leaves to be done.
 
+use cca_machine::Refusal;
 use cca_roles::{AccessPoints, RoleName};
-use granted_operands::Refusal;
 use master_registers::Action;
 use record_bodies::{Label, Place, StoreAction};
 

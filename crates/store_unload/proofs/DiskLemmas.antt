@@ -18,7 +18,7 @@ use Rattle.line_service.specs.declared.stops.Stop.{Stop}
 use Rattle.line_service.specs.declared.stops.Stop.TheVariants.{ModuleFault, StoreFault, Damaged}
 use Rattle.request_rules.specs.Judging.{IsStoreStop}
 use Rattle.request_rules.specs.Stored.{IsReadFault, read_stop}
-use Rattle.cca_lines.specs.Coprocessor.{IsBrokenModule, IsModuleStop}
+use Rattle.cca_machine.specs.Coprocessor.{IsBrokenModule, IsModuleStop}
 use Rattle.store_unload.specs.Stops.{load_stop, role_stop}
 use Rattle.store_unload.proofs.OpeningLemmas.{told_earlier_as}
 

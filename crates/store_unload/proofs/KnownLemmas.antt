@@ -16,9 +16,9 @@ use Rattle.record_bodies.specs.declared.rows.Row.{Row}
 use Rattle.record_bodies.proofs.OpeningLaws.{stands_one as labels_one}
 use Rattle.cca_machine.specs.State.{State, IsModuleOf, IsStoreOf}
 use Rattle.request_rules.specs.Standing.{Tables, tables}
-use Rattle.cca_lines.specs.Sound.{IsSound as IsRemembered}
+use Rattle.cca_machine.specs.Sound.{IsSound as IsRemembered}
 use Rattle.line_service.specs.Answering.{OnDisks, IsSound}
-use Rattle.cca_lines.specs.Coprocessor.{cca}
+use Rattle.cca_machine.specs.Coprocessor.{cca}
 use Rattle.store_unload.specs.Opening.{AreKnown, remembers}
 
 -- ---- one state

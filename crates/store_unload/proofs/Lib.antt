@@ -1,6 +1,13 @@
+mod CallLaws
 mod DiskLemmas
+mod JudgeLemmas
 pub mod KnownLemmas
+mod LabelLaws
+mod LeaseLaws
 mod MoveLemmas
 pub mod OpeningLemmas
+mod PartLaws
+mod PieceLaws
+mod RecordLaws
 mod RestLemmas
 mod ToldLemmas

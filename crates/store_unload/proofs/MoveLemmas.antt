@@ -13,9 +13,9 @@ use Rattle.line_service.specs.declared.stops.Stop.{Stop}
 use Rattle.line_service.specs.declared.stops.Stop.TheVariants as stop
 use Rattle.cca_machine.specs.State.{State, IsModuleOf, IsStoreOf}
 use Rattle.request_rules.specs.Stored.{read_stop}
-use Rattle.move_file.specs.Judging.{IsStoreFault}
-use Rattle.move_file.specs.declared.moves.Move.{Move}
-use Rattle.cca_lines.specs.Coprocessor.{IsCell, cca}
+use Rattle.store_unload.specs.Judging.{IsStoreFault}
+use Rattle.command_words.specs.declared.moves.Move.{Move}
+use Rattle.cca_machine.specs.Coprocessor.{IsCell, cca}
 use Rattle.store_unload.specs.Statuses.{status_of_lem}
 use Rattle.store_unload.specs.Unloading.{IsLabelStatus, MoveTold, TellsLabels, disk_stop, status_stop}
 use Rattle.store_unload.specs.declared.status.Status.{Status}

@@ -29,7 +29,7 @@ use Rattle.line_service.specs.declared.stops.Stop.TheVariants.{ReadFault, WriteF
 use Rattle.cca_machine.specs.State.{State}
 use Rattle.request_rules.specs.Standing.{tables}
 use Rattle.store_unload.specs.Opening.{IsOpened}
-use Rattle.cca_lines.specs.Coprocessor.{cca, IsBrokenModule, IsBrokenStore, IsModuleStop, module_stands}
+use Rattle.cca_machine.specs.Coprocessor.{cca, IsBrokenModule, IsBrokenStore, IsModuleStop, module_stands}
 
 -- ---- what is told
 

@@ -20,9 +20,9 @@ use Rattle.verb_rules.specs.Keys.{keys_of, opened}
 use Rattle.verb_rules.specs.Rules.{rule_number}
 use Rattle.verb_rules.specs.declared.judging.Judged.{Judged}
 use Rattle.verb_rules.specs.declared.rules.Rule.{Rule}
-use Rattle.move_file.specs.Judging.{JudgedAsRead, RefusedAsRead, TransportAsRead}
-use Rattle.move_file.specs.Writing.{GotParts, GotPartsTo}
-use Rattle.move_file.specs.declared.moves.Move.{Move}
+use Rattle.store_unload.specs.Judging.{JudgedAsRead, RefusedAsRead, TransportAsRead}
+use Rattle.store_unload.specs.Writing.{GotParts, GotPartsTo}
+use Rattle.command_words.specs.declared.moves.Move.{Move}
 use Rattle.store_unload.specs.Statuses.{status_of_lem}
 use Rattle.store_unload.specs.Unloading.{MoveRests, MoveUntold}
 use Rattle.store_unload.specs.declared.status.Status.{Status}

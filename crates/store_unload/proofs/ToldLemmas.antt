@@ -27,12 +27,12 @@ use Rattle.verb_rules.specs.Keys.{keys_of, opened}
 use Rattle.verb_rules.specs.Rules.{rule_number}
 use Rattle.verb_rules.specs.declared.judging.Judged.{Judged}
 use Rattle.verb_rules.specs.declared.rules.Rule.{Rule}
-use Rattle.move_file.specs.Judging.{IsJudged, IsStoreFault}
-use Rattle.move_file.specs.Moves.{clear_of, move_checks}
-use Rattle.move_file.specs.Writing.{IsFault, RestsOnRecords, Tells}
-use Rattle.move_file.specs.declared.moves.Move.{Move}
-use Rattle.move_file.specs.declared.writing.MoveFault.{MoveFault}
-use Rattle.move_file.specs.declared.writing.MoveFault.TheVariants as move_fault
+use Rattle.store_unload.specs.Judging.{IsJudged, IsStoreFault}
+use Rattle.store_unload.specs.Moves.{clear_of, move_checks}
+use Rattle.store_unload.specs.Writing.{IsFault, RestsOnRecords, Tells}
+use Rattle.command_words.specs.declared.moves.Move.{Move}
+use Rattle.store_unload.specs.declared.writing.MoveFault.{MoveFault}
+use Rattle.store_unload.specs.declared.writing.MoveFault.TheVariants as move_fault
 use Rattle.store_unload.specs.Statuses.{status_of_lem}
 use Rattle.store_unload.specs.Unloading.{IsLabelStatus, MoveRests, MoveTold, TellsLabels, TellsMove, TellsNone, disk_stop, told_status}
 use Rattle.store_unload.specs.declared.status.Status.{Status}

@@ -8,7 +8,7 @@ use Rattle.device_cells.specs.Medium.{Medium, Told}
 use Rattle.verb_rules.specs.Keys.{keys_of}
 use Rattle.line_service.specs.Answering.{Holds}
 use Rattle.cca_machine.specs.State.{State, IsModuleOf, IsStoreOf}
-use Rattle.cca_lines.specs.Sound.{IsSound}
+use Rattle.cca_machine.specs.Sound.{IsSound}
 use Rattle.request_rules.specs.Standing.{Tables}
 
 -- the bench holds the registers of a state, the memory has its roles, and the store its labels, which the memory knows

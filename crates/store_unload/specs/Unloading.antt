@@ -22,14 +22,14 @@ use Rattle.line_service.specs.declared.stops.Device.TheVariants.{Module, Store}
 use Rattle.line_service.specs.declared.stops.Stop.{Stop}
 use Rattle.line_service.specs.declared.stops.Stop.TheVariants as stop
 use Rattle.cca_machine.specs.State.{State}
-use Rattle.move_file.specs.Judging.{RefusedAsRead, TransportAsRead}
-use Rattle.move_file.specs.Moves.{move_checks}
-use Rattle.move_file.specs.Writing.{GotParts, GotPartsTo, ToldAll, ToldTo}
-use Rattle.move_file.specs.declared.moves.Move.{Move}
-use Rattle.move_file.specs.declared.writing.MoveFault.{MoveFault}
-use Rattle.move_file.specs.declared.writing.MoveFault.TheVariants as move_fault
+use Rattle.store_unload.specs.Judging.{RefusedAsRead, TransportAsRead}
+use Rattle.store_unload.specs.Moves.{move_checks}
+use Rattle.store_unload.specs.Writing.{GotParts, GotPartsTo, ToldAll, ToldTo}
+use Rattle.command_words.specs.declared.moves.Move.{Move}
+use Rattle.store_unload.specs.declared.writing.MoveFault.{MoveFault}
+use Rattle.store_unload.specs.declared.writing.MoveFault.TheVariants as move_fault
 use Rattle.request_rules.specs.Stored.{read_stop}
-use Rattle.cca_lines.specs.Coprocessor.{cca, IsCell}
+use Rattle.cca_machine.specs.Coprocessor.{cca, IsCell}
 use Rattle.store_unload.specs.Statuses.{status_of_lem}
 use Rattle.store_unload.specs.declared.status.Status.{Status}
 use Rattle.store_unload.specs.declared.status.Status.TheVariants as status

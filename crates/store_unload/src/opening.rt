@@ -14,7 +14,7 @@ ghost use Rattle.line_service.specs.Stops.{IsOpeningStop};
 ghost use Rattle.cca_machine.specs.State.{State, module_size, store_size};
 ghost use Rattle.request_rules.specs.Judging.{IsStoreStop};
 ghost use Rattle.request_rules.specs.Standing.{tables};
-ghost use Rattle.cca_lines.specs.Coprocessor.{cca, IsBrokenModule, IsModuleStop};
+ghost use Rattle.cca_machine.specs.Coprocessor.{cca, IsBrokenModule, IsModuleStop};
 ghost use Rattle.store_unload.specs.Opening.{AreKnown, IsOpened};
 ghost use Rattle.store_unload.specs.Stops.{load_stop, role_stop};
 

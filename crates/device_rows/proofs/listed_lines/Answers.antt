@@ -1,7 +1,7 @@
 -- The definitions compute.
 use Rattle.std.proofs.Common.{refl}
 use Rattle.std.specs.Fmt.{digits}
-use Rattle.trail_listing.specs.Lines.{word, record_line}
+use Rattle.audited_service.specs.Lines.{word, record_line}
 use Rattle.device_rows.proofs.listed_lines.Goals as goal
 
 pub returns : goal.returns

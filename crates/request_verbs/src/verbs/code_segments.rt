@@ -21,7 +21,7 @@ use crate::effects::Effect;
 use crate::verbs::codes::{Purpose, show_for};
 use crate::verbs::segments::chain_in;
 use crate::verbs::texts::{judge_code, put_text};
-use granted_operands::{Granted, Refusal, key_in, mac_rule_of};
+use cca_machine::{Granted, Refusal, key_in, mac_rule_of};
 use key_cells::Lease;
 use text_segments::{Chain, Mode, last_mac, segment};
 use verb_rules::{Judged, Rule, TextUse};

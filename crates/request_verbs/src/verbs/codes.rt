@@ -17,7 +17,7 @@ ghost use Rattle.request_verbs.specs.Deciding.{Shows};
 
 use crate::effects::Effect;
 use crate::verbs::texts::{judge_code, put_text};
-use granted_operands::{Granted, key_in, mac_length_of, mac_rule_of};
+use cca_machine::{Granted, key_in, mac_length_of, mac_rule_of};
 use key_cells::{KeyPlace, Lease};
 use mac_verbs::{mac_generate, mac_verify};
 use verb_rules::{Judged, MacRule, TextUse};

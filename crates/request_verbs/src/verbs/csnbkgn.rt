@@ -14,15 +14,15 @@ ghost use Rattle.cca_machine.specs.Verdict.{Refusal as Refused, first_refusal, g
 ghost use Rattle.request_verbs.specs.Decided.{SettlesDrawing, asked, source, CanDeliver};
 ghost use Rattle.request_verbs.specs.Deciding.{token2_fields, Shows};
 ghost use Rattle.request_verbs.specs.Drawing.{MakesKeys};
-ghost use Rattle.granted_operands.specs.FieldWords.{IsOutForm, IsPairForm};
-ghost use Rattle.granted_operands.specs.Granted.{HasDoubleKey};
-ghost use Rattle.granted_operands.specs.Refusals.{HasRefused};
+ghost use Rattle.cca_machine.specs.FieldWords.{IsOutForm, IsPairForm};
+ghost use Rattle.cca_machine.specs.Granted.{HasDoubleKey};
+ghost use Rattle.cca_machine.specs.Refusals.{HasRefused};
 
 use crate::effects::Effect;
 use crate::verbs::delivering::{deliver, show_second};
+use cca_machine::{Granted, Refusal, double_key_in, key_length_of, out_form_of, pair_form_of};
 use cca_vectors::{KeyType, Length};
 use device_cells::Entropy;
-use granted_operands::{Granted, Refusal, double_key_in, key_length_of, out_form_of, pair_form_of};
 use key_cells::Lease;
 use key_transport::{Form, GenerateFault, Generated, generate};
 use line_service::Stop;

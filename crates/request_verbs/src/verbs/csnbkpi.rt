@@ -15,14 +15,14 @@ ghost use Rattle.verb_script.specs.Values.{hex_value};
 ghost use Rattle.cca_machine.specs.Verdict.{first_refusal, further_part_questions};
 ghost use Rattle.request_verbs.specs.Decided.{Settles, asked, CanDeliver};
 ghost use Rattle.request_verbs.specs.Deciding.{MakesToken};
-ghost use Rattle.granted_operands.specs.Granted.{HasSomeJudged};
-ghost use Rattle.granted_operands.specs.Refusals.{HasRefused};
+ghost use Rattle.cca_machine.specs.Granted.{HasSomeJudged};
+ghost use Rattle.cca_machine.specs.Refusals.{HasRefused};
 
 use crate::effects::Effect;
 use crate::verbs::delivering::deliver;
 use crate::verbs::key_digits::put_key;
+use cca_machine::{Granted, Refusal, is_last_part, key_in};
 use cca_vectors::KeyType;
-use granted_operands::{Granted, Refusal, is_last_part, key_in};
 use key_cells::{KeyPlace, Lease};
 use key_parts::{combine_part, first_part};
 use master_registers::Registers;

@@ -7,7 +7,7 @@ ghost use Rattle.verb_script.specs.declared.rows.RequestName.TheVariants.{Csnbkr
 ghost use Rattle.request_verbs.specs.Decided.{Settles, asked};
 
 use crate::effects::Effect;
-use granted_operands::{Granted, place_in};
+use cca_machine::{Granted, place_in};
 
 /// Leaves the label to be taken away.
 pub(crate) fn csnbkrd(granted: &Granted) -> Effect

@@ -6,10 +6,10 @@ ghost use Rattle.record_bodies.specs.declared.rows.Row.{Row};
 ghost use Rattle.master_registers.specs.declared.registers.Registers.{Registers};
 ghost use Rattle.verb_script.specs.declared.rows.RequestName.TheVariants.{Csnbkrr as row};
 ghost use Rattle.request_verbs.specs.Decided.{Settles, asked};
-ghost use Rattle.granted_operands.specs.Granted.{HasSomeJudged};
+ghost use Rattle.cca_machine.specs.Granted.{HasSomeJudged};
 
 use crate::effects::Effect;
-use granted_operands::{Granted, key_in};
+use cca_machine::{Granted, key_in};
 use key_tokens::{Kind, Token, write_token};
 use verb_script::ReplyBuffer;
 

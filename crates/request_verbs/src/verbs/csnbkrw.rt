@@ -13,7 +13,7 @@ ghost use Rattle.verb_script.specs.Values.{hex_value};
 ghost use Rattle.request_verbs.specs.Decided.{Settles, asked};
 
 use crate::effects::Effect;
-use granted_operands::{Granted, place_in, token_bytes};
+use cca_machine::{Granted, place_in, token_bytes};
 use verb_script::ReplyBuffer;
 
 /// Leaves the token that the digits spell to be written into the record.

@@ -9,8 +9,8 @@ ghost use Rattle.verb_script.specs.declared.rows.RequestName.TheVariants.{Csnbkt
 ghost use Rattle.request_verbs.specs.Decided.{Settles, asked};
 
 use crate::effects::Effect;
+use cca_machine::{Granted, token_in};
 use cca_vectors::{Class, Vector};
-use granted_operands::{Granted, token_in};
 use key_tokens::{Kind, Token};
 use verb_script::ReplyBuffer;
 

@@ -2,10 +2,10 @@
 ghost use Rattle.std.specs.Prelude.{◌≡◌, ◌∷◌, [], ℕ, List};
 ghost use Rattle.verb_script.specs.declared.rows.RequestName.TheVariants.{Csnbktr as row};
 ghost use Rattle.request_verbs.specs.Decided.{SettlesOver, asked};
-ghost use Rattle.granted_operands.specs.Granted.{HasDoubleKey, HasJudgedExternal};
+ghost use Rattle.cca_machine.specs.Granted.{HasDoubleKey, HasJudgedExternal};
 
 use crate::effects::Effect;
-use granted_operands::{Granted, double_key_in, external_in};
+use cca_machine::{Granted, double_key_in, external_in};
 use key_cells::Lease;
 use key_parts::translate;
 use verb_script::ReplyBuffer;

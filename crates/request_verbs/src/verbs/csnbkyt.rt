@@ -2,11 +2,11 @@
 ghost use Rattle.std.specs.Prelude.{◌≡◌, ◌∷◌, [], ℕ, List};
 ghost use Rattle.verb_script.specs.declared.rows.RequestName.TheVariants.{Csnbkyt as row};
 ghost use Rattle.request_verbs.specs.Decided.{SettlesOver, asked};
-ghost use Rattle.granted_operands.specs.Granted.{HasSomeJudged};
+ghost use Rattle.cca_machine.specs.Granted.{HasSomeJudged};
 
 use crate::effects::Effect;
+use cca_machine::{Granted, key_in};
 use cipher_verbs::key_test;
-use granted_operands::{Granted, key_in};
 use key_cells::Lease;
 use verb_script::ReplyBuffer;
 

@@ -5,12 +5,12 @@ ghost use Rattle.record_bodies.specs.declared.rows.Row.{Row};
 ghost use Rattle.master_registers.specs.declared.registers.Registers.{Registers};
 ghost use Rattle.verb_script.specs.declared.rows.RequestName.TheVariants.{Csnbrng as row};
 ghost use Rattle.request_verbs.specs.Decided.{SettlesDrawing, asked, source};
-ghost use Rattle.granted_operands.specs.declared.granted.Granted.{Granted};
+ghost use Rattle.cca_machine.specs.declared.granted.Granted.{Granted};
 
 use crate::effects::Effect;
+use cca_machine::random_form_of;
 use cipher_verbs::random_number;
 use device_cells::Entropy;
-use granted_operands::random_form_of;
 use line_service::Stop;
 use verb_script::ReplyBuffer;
 

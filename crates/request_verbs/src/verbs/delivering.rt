@@ -7,7 +7,7 @@ ghost use Rattle.verb_script.specs.Named.{label_named};
 ghost use Rattle.cca_machine.specs.Act.{delivered_with};
 ghost use Rattle.cca_machine.specs.State.{State};
 ghost use Rattle.request_verbs.specs.Deciding.{IsDelivered, IsDelivery, token2_fields};
-ghost use Rattle.granted_operands.specs.Granted.{IsPlaceFor, target_cell};
+ghost use Rattle.cca_machine.specs.Granted.{IsPlaceFor, target_cell};
 
 use crate::effects::Effect;
 use key_records::Place;

@@ -12,11 +12,11 @@ ghost use Rattle.key_records.specs.Ready.{IsReadyAhead};
 ghost use Rattle.verb_rules.specs.Rules.{rule_number};
 ghost use Rattle.verb_script.specs.declared.rows.RequestName.TheVariants.{Reencipher, ReencipherAhead, ReencipherDrop};
 ghost use Rattle.request_verbs.specs.Decided.{Settles, asked};
-ghost use Rattle.granted_operands.specs.declared.granted.Granted.{Granted};
+ghost use Rattle.cca_machine.specs.declared.granted.Granted.{Granted};
 
 use crate::effects::Effect;
 use crate::verbs::old_labels::any_old;
-use granted_operands::Refusal;
+use cca_machine::Refusal;
 use key_cells::Lease;
 use key_records::{Records, is_taken};
 use master_registers::{NewState, Registers};

@@ -18,7 +18,7 @@ ghost use Rattle.request_verbs.specs.Deciding.{Shows, ShowsOver};
 
 use crate::effects::Effect;
 use crate::verbs::texts::{block_of, judge_digits, put_text, show_text};
-use granted_operands::{Granted, Refusal, key_in, pad_of};
+use cca_machine::{Granted, Refusal, key_in, pad_of};
 use key_cells::Lease;
 use text_segments::{Chain, Mode, last_text, segment};
 use verb_rules::{Judged, Rule, TextUse};

@@ -9,7 +9,7 @@ use crate::verbs::code_segments::{first_code_segment, last_code_segment, middle_
 use crate::verbs::codes::{Purpose, whole_code};
 use crate::verbs::segments::{first_segment, last_segment, middle_segment};
 use crate::verbs::whole_texts::whole_text;
-use granted_operands::Granted;
+use cca_machine::Granted;
 use key_cells::Lease;
 use text_segments::Mode;
 use verb_script::{ReplyBuffer, Request};

@@ -10,10 +10,10 @@ ghost use Rattle.verb_rules.specs.Rules.{Judges};
 ghost use Rattle.verb_script.specs.Grammar.{accepts, hex_text, is_hex};
 ghost use Rattle.verb_script.specs.Values.{hex_value};
 ghost use Rattle.cca_machine.specs.Verdict.{first_refusal, questions};
-ghost use Rattle.granted_operands.specs.Refusals.{IsRefusal};
+ghost use Rattle.cca_machine.specs.Refusals.{IsRefusal};
 ghost use Rattle.request_verbs.specs.Deciding.{Shows};
 
-use granted_operands::Refusal;
+use cca_machine::Refusal;
 use key_cells::Lease;
 use verb_rules::{Judged, MacRule, Rule, TextUse, judge_mac, judge_text};
 use verb_script::{ReplyBuffer, decode};

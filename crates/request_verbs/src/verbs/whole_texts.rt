@@ -20,8 +20,8 @@ ghost use Rattle.request_verbs.specs.WholeTexts.{whole_questions, whole_row, who
 
 use crate::effects::Effect;
 use crate::verbs::texts::{block_of, judge_digits, put_text, show_text};
+use cca_machine::{Granted, Refusal, key_in, pad_of};
 use cipher_verbs::{Pad, decipher, encipher};
-use granted_operands::{Granted, Refusal, key_in, pad_of};
 use key_cells::Lease;
 use text_segments::Mode;
 use verb_rules::{Judged, Rule, TextUse};

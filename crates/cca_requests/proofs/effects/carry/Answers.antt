@@ -5,7 +5,7 @@ use Rattle.script_buffers.specs.Replies.{Done, spelled}
 use Rattle.cca_machine.specs.Act.{Show, effected, refused}
 use Rattle.cca_machine.specs.Keys.{warning}
 use Rattle.cca_machine.specs.Verdict.{define_questions, remove_questions}
-use Rattle.granted_operands.specs.Refusals.{refusal_of}
+use Rattle.cca_machine.specs.Refusals.{refusal_of}
 use Rattle.request_rules.specs.Standing.{tables}
 use Rattle.request_verbs.specs.Deciding.{IsDecided}
 use Rattle.cca_requests.proofs.Carrying.{action_carries, carries_as, create_carries, define_carries, delete_carries, outcome_is, refused_is, remove_carries, renew_carries, shown_is, write_carries}

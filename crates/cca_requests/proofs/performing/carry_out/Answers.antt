@@ -13,7 +13,7 @@ use Rattle.verb_script.specs.Grammar.{Request}
 use Rattle.verb_script.specs.Parsed.{seen}
 use Rattle.cca_machine.specs.Operands.{Operands, operands, listed, names_label, is_reencipher, needs_store}
 use Rattle.cca_machine.specs.Verdict.{refusal, general_checks, verb_verdict}
-use Rattle.granted_operands.specs.Refusals.{refusal_of}
+use Rattle.cca_machine.specs.Refusals.{refusal_of}
 use Rattle.request_rules.specs.Standing.{tables}
 use Rattle.cca_requests.specs.Serving.{IsFault}
 use Rattle.request_verbs.proofs.Acting.{verdict_general}

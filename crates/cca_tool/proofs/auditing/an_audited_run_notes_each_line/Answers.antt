@@ -1,13 +1,13 @@
 -- Line after line, of the coprocessor.
 use Rattle.std.proofs.Common.{◌++◌, ◌∙◌, ℕ, List, [], ap, subst, sym}
 use Rattle.std.proofs.lemmas.List.{append-nil}
-use Rattle.audit_entries.specs.LineEntries.{entry_of}
+use Rattle.audited_service.specs.LineEntries.{entry_of}
 use Rattle.audited_service.specs.Noting.{Noted}
 use Rattle.audited_service.proofs.NotingLemmas.{notes_lines}
 use Rattle.line_service.specs.Machine.{Outcome}
 use Rattle.cca_machine.specs.State.{State}
 use Rattle.cca_tool.specs.Auditing.{HaveNoted}
-use Rattle.cca_lines.specs.Coprocessor.{cca}
+use Rattle.cca_machine.specs.Coprocessor.{cca}
 use Rattle.cca_tool.proofs.auditing.an_audited_run_notes_each_line.Goals as goal
 
 pub returns-clause-session : goal.returns-clause-session

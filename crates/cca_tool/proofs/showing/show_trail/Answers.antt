@@ -1,7 +1,7 @@
 -- The trail was listed, and the status tells how that ended; or no device was called.
 use Rattle.device_cells.proofs.Media.{keeps_still}
 use Rattle.line_service.proofs.StopLemmas.{grows_none}
-use Rattle.trail_listing.specs.Listing.{Listed}
+use Rattle.audited_service.specs.Listing.{Listed}
 use Rattle.cca_tool.specs.declared.auditing.AuditStatus.TheVariants.{Run}
 use Rattle.cca_tool.proofs.ListingLemmas.{all_listed, lines_listed, listed_as, listing_called, listing_kind, none_listed, runs_none, sink_as, sink_uncalled, trail_as, trail_uncalled, unlisted, usage_as, usage_never}
 use Rattle.cca_tool.proofs.showing.show_trail.Goals as goal

@@ -4,7 +4,7 @@ use Rattle.key_cells.specs.Lease.{bench_of}
 use Rattle.request_rules.specs.Standing.{AtStore}
 use Rattle.request_rules.specs.Judging.{IsAsked, seen_operands}
 use Rattle.request_rules.specs.Stored.{IsAskedAsRead}
-use Rattle.granted_operands.specs.declared.granted.Grant.{Grant}
+use Rattle.cca_machine.specs.declared.granted.Grant.{Grant}
 use Rattle.request_rules.proofs.AsRead.{as_read_before}
 use Rattle.request_rules.proofs.GrantsKept.{loaded_kept}
 use Rattle.request_rules.proofs.LabelsRead.{all_granted, asked_before, at_after}

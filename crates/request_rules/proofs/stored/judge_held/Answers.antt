@@ -1,5 +1,5 @@
 use Rattle.std.proofs.Common.{◌∙◌, sym, ap}
-use Rattle.granted_operands.specs.declared.granted.Grant.{Grant}
+use Rattle.cca_machine.specs.declared.granted.Grant.{Grant}
 use Rattle.cca_machine.proofs.KnownLabels.{cell_is}
 use Rattle.request_rules.proofs.LabelsRead.{find_is}
 use Rattle.request_rules.proofs.stored.judge_held.Goals as goal

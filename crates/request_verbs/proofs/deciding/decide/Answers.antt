@@ -7,7 +7,7 @@ use Rattle.verb_script.specs.Parsed.{seen}
 use Rattle.verb_script.specs.declared.request.Request.{Request as Parsed}
 use Rattle.cca_machine.specs.Operands.{operands}
 use Rattle.cca_machine.specs.Verdict.{needs_master}
-use Rattle.granted_operands.specs.Granted.{AreKeyed}
+use Rattle.cca_machine.specs.Granted.{AreKeyed}
 use Rattle.request_verbs.specs.KeyWorks.{is_over_keys}
 use Rattle.request_verbs.specs.TextWorks.{is_over_text}
 use Rattle.request_verbs.proofs.TextWorks.{may_work}

@@ -2,7 +2,7 @@
 use Rattle.std.proofs.Common.{◌≡◌, ◌∙◌, Err, refl, ap, subst, arith, rules}
 use Rattle.device_cells.proofs.Media.{keeps_still}
 use Rattle.line_service.specs.declared.stops.Stop.TheVariants.{ModuleFault, StoreFault}
-use Rattle.cca_lines.specs.Coprocessor.{IsModuleStop}
+use Rattle.cca_machine.specs.Coprocessor.{IsModuleStop}
 use Rattle.key_cells.specs.Lease.{bench_of}
 use Rattle.master_registers.specs.Loaded.{masters_in}
 use Rattle.master_registers.specs.declared.registers.Registers.{Registers}

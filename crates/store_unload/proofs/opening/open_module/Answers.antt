@@ -13,7 +13,7 @@ use Rattle.cca_roles.specs.declared.faults.RoleFault.TheVariants as role_fault
 use Rattle.line_service.specs.declared.stops.Device.TheVariants.{Module}
 use Rattle.line_service.specs.declared.stops.Stop.{Stop}
 use Rattle.line_service.specs.declared.stops.Stop.TheVariants.{Damaged, ModuleFault}
-use Rattle.cca_lines.specs.Coprocessor.{IsBrokenModule, IsModuleStop}
+use Rattle.cca_machine.specs.Coprocessor.{IsBrokenModule, IsModuleStop}
 use Rattle.store_unload.specs.Stops.{load_stop, role_stop}
 use Rattle.store_unload.proofs.DiskLemmas.{Left, at_load, at_role, cell_named, err_told, left_open, left_shut, load_broken, load_judged, of_load, of_role, role_cell, same_fault, settled_keeps}
 use Rattle.store_unload.proofs.OpeningLemmas.{stands_unbroken, broken_role, judged_role}

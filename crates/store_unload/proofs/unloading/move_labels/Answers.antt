@@ -6,7 +6,7 @@ use Rattle.key_cells.specs.Lease.{bench_of}
 use Rattle.verb_rules.specs.Keys.{opened}
 use Rattle.line_service.proofs.StopLemmas.{count_still, grows_none}
 use Rattle.request_rules.specs.Stored.{read_stop}
-use Rattle.move_file.specs.declared.writing.MoveFault.TheVariants.{Store}
+use Rattle.store_unload.specs.declared.writing.MoveFault.TheVariants.{Store}
 use Rattle.store_unload.specs.Statuses.{status_of_lem}
 use Rattle.store_unload.specs.Unloading.{IsLabelStatus, MoveRests, MoveTold, Still, TellsNone}
 use Rattle.store_unload.specs.declared.unloading.MoveStatus.{MoveStatus}

@@ -13,7 +13,7 @@ use Rattle.device_cells.proofs.WhereToldLemmas.{rose_wider}
 use Rattle.line_service.proofs.OpeningLemmas.{module_unbroken, store_unbroken, unbroken}
 use Rattle.line_service.proofs.StopLemmas.{count_still, grows_none}
 use Rattle.request_rules.specs.Standing.{Tables, tables}
-use Rattle.cca_lines.specs.Coprocessor.{cca}
+use Rattle.cca_machine.specs.Coprocessor.{cca}
 use Rattle.store_unload.specs.Opening.{AreKnown}
 use Rattle.store_unload.specs.Unloading.{KnownAsRead}
 use Rattle.store_unload.proofs.KnownLemmas.{known_sound, roles_told}

@@ -4,7 +4,7 @@ use Rattle.script_buffers.specs.Reading.{Reading}
 use Rattle.request_rules.specs.Standing.{Tables, tables}
 use Rattle.line_service.specs.Machine.{world}
 use Rattle.line_service.specs.Serving.{LineServed}
-use Rattle.cca_lines.specs.Coprocessor.{cca}
+use Rattle.cca_machine.specs.Coprocessor.{cca}
 use Rattle.store_unload.specs.Opening.{AreKnown, remembers}
 use Rattle.cca_tool.specs.Sessions.{Memory}
 use Rattle.cca_tool.proofs.KnownLemmas.{stands_known}

@@ -1,5 +1,5 @@
 use Rattle.std.proofs.Common.{Err, refl, ap, subst}
-use Rattle.granted_operands.specs.Refusals.{HasRefused}
+use Rattle.cca_machine.specs.Refusals.{HasRefused}
 use Rattle.request_verbs.proofs.DrawnKeys.{refuses_early, refuses_late}
 use Rattle.request_verbs.proofs.verbs.csnbkgn.draw.Goals as goal
 

@@ -1,4 +1,4 @@
-use Rattle.granted_operands.specs.Refusals.{refusal_of}
+use Rattle.cca_machine.specs.Refusals.{refusal_of}
 use Rattle.request_verbs.proofs.Generating.{first_refused}
 use Rattle.request_verbs.proofs.verbs.csnbkgn.judge_two.Goals as goal
 

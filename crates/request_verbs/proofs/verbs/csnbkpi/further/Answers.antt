@@ -16,7 +16,7 @@ use Rattle.cca_machine.specs.Keys.{key_in_text, key_of_request}
 use Rattle.cca_machine.specs.Verdict.{first_refusal, further_part_questions}
 use Rattle.request_verbs.specs.Decided.{asked}
 use Rattle.request_verbs.specs.Deciding.{IsDelivered}
-use Rattle.granted_operands.specs.Refusals.{HasRefused}
+use Rattle.cca_machine.specs.Refusals.{HasRefused}
 use Rattle.request_verbs.proofs.Acting.{key_is}
 use Rattle.request_verbs.proofs.Delivering.{either_left, either_right, stands_after, target_place}
 use Rattle.request_verbs.proofs.Settling.{delivery_settles, refused_settles}

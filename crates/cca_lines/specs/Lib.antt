@@ -1,3 +1,0 @@
-pub mod Coprocessor
-pub mod Sound
-pub mod Written

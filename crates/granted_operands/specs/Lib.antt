@@ -1,3 +1,0 @@
-pub mod FieldWords
-pub mod Granted
-pub mod Refusals

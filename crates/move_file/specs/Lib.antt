@@ -1,4 +1,0 @@
-pub mod Judging
-pub mod Moves
-pub mod Telling
-pub mod Writing

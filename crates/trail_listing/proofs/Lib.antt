@@ -1,4 +1,0 @@
-mod LineLaws
-mod SendingLaws
-mod DamageLaws
-mod ReadLaws
