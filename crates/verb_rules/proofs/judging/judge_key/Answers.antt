@@ -26,6 +26,25 @@ returns-in-Err-clause-judges c =
     stopped_in (token_checks c.args.need.now.asked c.args.token.now) (read_checks c.args.need.now c.args.held.now (token_of c.args.token.now))
     (rule_number c.token_rule.result) (c.in-Err.ensures.refused ∙ ap Some (sym c.token_rule.ensures))
 
+pub returns-in-Ok-clause-token : goal.returns-in-Ok-clause-token
+returns-in-Ok-clause-token c =
+    if_ok_gives c.judge_read.result (λ judged. judged ≡ record { token = c.in-Ok.read; age = age_of c.args.held.now c.in-Ok.read })
+    (λ judged. judged.token ≡ token_of c.args.token.now)
+    (λ judged is. ap (λ (j : Judged). j.token) is ∙ c.in-Ok.ensures.token) c.judge_read.ensures.judged
+
+pub returns-in-Ok-clause-age : goal.returns-in-Ok-clause-age
+returns-in-Ok-clause-age c =
+    if_ok_gives c.judge_read.result (λ judged. judged ≡ record { token = c.in-Ok.read; age = age_of c.args.held.now c.in-Ok.read })
+    (λ judged. judged.age ≡ age_of c.args.held.now (token_of c.args.token.now))
+    (λ judged is. ap (λ (j : Judged). j.age) is ∙ ap (age_of c.args.held.now) c.in-Ok.ensures.token) c.judge_read.ensures.judged
+
+pub returns-in-Ok-clause-internal : goal.returns-in-Ok-clause-internal
+returns-in-Ok-clause-internal c = λ internal.
+    c.judge_read.ensures.internal (subst (λ a. IsAsked a c.in-Ok.read.kind) internal c.in-Ok.ensures.layout.1)
+
+pub returns-in-Ok-clause-double : goal.returns-in-Ok-clause-double
+returns-in-Ok-clause-double c = c.judge_read.ensures.double
+
 pub returns-in-Ok-clause-halves : goal.returns-in-Ok-clause-halves
 returns-in-Ok-clause-halves c =
     if_ok_gives c.judge_read.result (λ judged. judged ≡ record { token = c.in-Ok.read; age = age_of c.args.held.now c.in-Ok.read }) HasHalves
@@ -50,3 +69,24 @@ returns-in-Ok-clause-denoted_under c = λ transport external.
     (λ judged. denoted_under transport c.args.token.now ≡ Some (opened_under transport judged))
     (λ judged is. denoted_under_opened transport c.args.token.now judged passes (ap (λ (j : Judged). j.token) is ∙ c.in-Ok.ensures.token))
     c.judge_read.ensures.judged
+
+pub returns-in-Err-clause-token : goal.returns-in-Err-clause-token
+returns-in-Err-clause-token c = tt
+
+pub returns-in-Err-clause-age : goal.returns-in-Err-clause-age
+returns-in-Err-clause-age c = tt
+
+pub returns-in-Err-clause-halves : goal.returns-in-Err-clause-halves
+returns-in-Err-clause-halves c = tt
+
+pub returns-in-Err-clause-internal : goal.returns-in-Err-clause-internal
+returns-in-Err-clause-internal c = λ internal. tt
+
+pub returns-in-Err-clause-double : goal.returns-in-Err-clause-double
+returns-in-Err-clause-double c = λ double. tt
+
+pub returns-in-Err-clause-denoted : goal.returns-in-Err-clause-denoted
+returns-in-Err-clause-denoted c = λ m bench loaded internal. tt
+
+pub returns-in-Err-clause-denoted_under : goal.returns-in-Err-clause-denoted_under
+returns-in-Err-clause-denoted_under c = λ transport external. tt
