@@ -1,7 +1,7 @@
 -- How clauses on media are carried over calls, over loops and over two disks.
 use Rattle.std.proofs.Common.{◌≡◌, inl, inr, ⊎_elim, ℕ, List, Option, None, Some, IfSome, IsSome, refl, sym, ◌∙◌, subst, arith}
 use Rattle.std.proofs.lemmas.Option.{same_Some}
-use Rattle.device_cells.specs.Medium.{Medium, Told, IsSettled, From, Becomes, EachImage, Keeps, EachPair}
+use Rattle.device_cells.specs.Medium.{Medium, Told, IsSettled, After, From, Becomes, EachImage, Keeps, EachPair}
 
 -- ---- what is told
 
@@ -131,6 +131,27 @@ module _ (m0 m1 m2 : Medium) where
     images = λ c image. one.images c (two.images c image);
     moments = goes_on m0.images m1.images m0.images one.moments two.moments (λ c p. p) (λ c q. one.images c q);
   }
+
+-- after a step, a call that leaves the content
+module _ (m0 m1 m2 : Medium) (step : List ℕ → List ℕ → Type 0) where
+  pub becomes_kept : Becomes step m0 m1 → m2.size ≡ m1.size → m2.content ≡ m1.content → Becomes step m0 m2
+  becomes_kept becomes size same = record {
+    size = size ∙ becomes.size;
+    told = λ c is. becomes.told c (sym same ∙ is);
+    still = λ some. subst (λ (o : Option (List ℕ)). IsSome o) (sym same) (becomes.still some);
+  }
+
+  -- what is after a step from an image is after one from the content, where nothing is unsynced
+  settled_after : IsSettled m0 → (c : List ℕ) → After step m0.images c → From step m0 c
+  settled_after settled c after = (after.0, settled.only after.0 after.1, after.2)
+
+  pub settled_moments : IsSettled m0 → EachImage m0 m1 (After step m0.images) → EachImage m0 m1 (From step m0)
+  settled_moments settled moments = each_weaker m0 m1 (After step m0.images) (From step m0) moments (settled_after settled)
+
+  pub moments_kept : IsSettled m0 → EachImage m0 m1 (After step m0.images) → EachImage m1 m2 m1.images → EachImage m0 m2 (From step m0)
+  moments_kept settled one two =
+      goes_on m0 m1 m2 (After step m0.images) m1.images (From step m0) one two (settled_after settled)
+      (λ c image. settled_after settled c (image_now m0 m1 (After step m0.images) one c image))
 
 -- a read leaves a disk settled
 pub settled_kept : (m0 m1 : Medium) → Keeps m0 m1 → IsSettled m0 → IsSettled m1
