@@ -1,9 +1,10 @@
 -- The bits of bytes: of a word's big-endian bytes, and back to the bytes.
-use Rattle.std.proofs.Common.{◌≡◌, ℕ, zero, suc, ◌+◌, ◌*◌, ◌/◌, ◌%◌, ◌^◌, ◌<◌, List, [], ◌∷◌, ◌++◌, length, take, drop, map, get_or, refl, sym, ap, ◌∙◌, arith}
+use Rattle.std.proofs.Common.{◌≡◌, ℕ, zero, suc, ◌+◌, ◌-◌, ◌≤◌, ⊎_elim, ◌*◌, ◌/◌, ◌%◌, ◌^◌, ◌<◌, List, [], ◌∷◌, ◌++◌, length, take, drop, map, get_or, refl, sym, ap, ◌∙◌, arith}
 use Rattle.std.specs.List.{All}
 use Rattle.std.specs.Int.{w64, bit_at, byte_at, bytes_high_first, from_be_bytes, to_be_bytes}
 use Rattle.std.proofs.Math.Nat.{pow-suc}
-use Rattle.std.proofs.lemmas.List.{append-nil, length-append}
+use Rattle.std.proofs.lemmas.Bool.{cases_lt}
+use Rattle.std.proofs.lemmas.List.{append-nil, length-append, length-take, length-drop, get_or-take, get_or-drop, get_or_past}
 use Rattle.std.proofs.lemmas.Nat.{be_bytes_8, mod-pow-add, pow-add}
 use Rattle.des_blocks.specs.Bits.{bits, byte_bits, number, pieces, to_bytes}
 use Rattle.des_blocks.proofs.BitLemmas.{length-bits, bits-mod, bits-split, take-add, drop-add}
@@ -82,3 +83,19 @@ unfolding to_bytes
 to_bytes-byte_bits bs h =
     let e : length (byte_bits bs) / 8 ≡ length bs = omega (arith, length-byte_bits bs) in
     ap (λ n. map number (pieces n 8 (byte_bits bs))) e ∙ pieces-byte_bits bs h
+
+-- ---- the word of eight bytes of a text
+
+byte-of-piece : (n at : ℕ) (text : List ℕ) → ((i : ℕ) → get_or text i 0 < 256) → (i : ℕ) → get_or (take n (drop at text)) i 0 < 256
+byte-of-piece n at text small i =
+    ⊎_elim (λ (within : i < n). rw (get_or-take, get_or-drop) (small (at + i)))
+    (λ (past : n ≤ i). rw (get_or_past (take n (drop at text)) i 0 (simp length-take (omega arith))) (omega arith))
+    (cases_lt i n)
+
+pub word-of-piece : (at : ℕ) (text : List ℕ) (word : ℕ) (piece : List ℕ) → at + 8 ≤ length text → ((i : ℕ) → get_or text i 0 < 256)
+    → piece ≡ take (at + 8 - at) (drop at text) → word ≡ from_be_bytes w64 piece → to_be_bytes w64 word ≡ take 8 (drop at text)
+word-of-piece at text word piece within small is made =
+    let eight : at + 8 - at ≡ 8 = omega arith in
+    let cut : piece ≡ take 8 (drop at text) = is ∙ ap (λ n. take n (drop at text)) eight in
+    let long : length (take 8 (drop at text)) ≡ 8 = simp (length-take, length-drop) (omega (arith, within)) in
+    be_bytes_8 (take 8 (drop at text)) word long (byte-of-piece 8 at text small) (made ∙ ap (from_be_bytes w64) cut)
