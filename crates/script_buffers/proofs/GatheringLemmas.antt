@@ -1,5 +1,5 @@
 -- How what was gathered grows: by bytes that move to the line, and by a read of the source.
-use Rattle.std.proofs.Common.{◌≡◌, ◌≢◌, ℕ, zero, suc, ◌+◌, true, false, IsTrue, List, [], ◌∷◌, ◌++◌, Option, length, take, refl, sym, ap, subst, ◌∙◌, inl, inr, arith, append_assoc, length-append}
+use Rattle.std.proofs.Common.{◌≡◌, ◌≢◌, ℕ, zero, suc, ◌+◌, ◌≤◌, true, false, IsTrue, List, [], ◌∷◌, ◌++◌, Option, length, take, refl, sym, ap, subst, ◌∙◌, inl, inr, arith, append_assoc, length-append}
 use Rattle.std.proofs.lemmas.List.{length-take}
 use Rattle.std.proofs.lemmas.List.Elements.{All-append, All-take, All-nil}
 use Rattle.std.specs.Io.KnownBytes.{IsAtEnd, Keeps}
@@ -128,3 +128,7 @@ not-ready old mid now same moves going short ready =
             | inr full ↦ absurd (short (ap (λ r. r.taken) moves.1 ∙ ap (λ r. r.taken) same ∙ full))
           ]
     ]
+
+-- a count that is as it was isn't less
+pub same-later : (before now : ℕ) → now ≡ before → before ≤ now
+same-later before now same = omega (arith, same)

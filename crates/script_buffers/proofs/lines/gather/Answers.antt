@@ -1,7 +1,8 @@
 -- Each part that moves and each read grow what was gathered.
-use Rattle.std.proofs.Common.{refl, sym, ap, ◌∙◌, inl, inr}
+use Rattle.std.proofs.Common.{◌≤◌, refl, sym, ap, subst, ◌∙◌, inl, inr}
 use Rattle.std.proofs.lemmas.Bool.{iff_false}
-use Rattle.script_buffers.proofs.GatheringLemmas.{gathering-none, gathering-moved, gathering-cut, gathering-refilled, gathering-failed, not-ready}
+use Rattle.device_cells.specs.Faults.{Rose}
+use Rattle.script_buffers.proofs.GatheringLemmas.{same-later, gathering-none, gathering-moved, gathering-cut, gathering-refilled, gathering-failed, not-ready}
 use Rattle.script_buffers.proofs.lines.gather.Goals as goal
 
 pub parts-init : goal.parts-init
@@ -37,3 +38,58 @@ parts-preserved g c =
         | inr read ↦ read
       ]),
     )
+
+-- the other clauses of each return
+pub returns-then-move_part-clause-quiet : goal.returns-then-move_part-clause-quiet
+returns-then-move_part-clause-quiet g c = λ other. c.parts.invariant.1
+
+pub returns-then-move_part-clause-later : goal.returns-then-move_part-clause-later
+returns-then-move_part-clause-later g c = same-later _ _ c.parts.invariant.1
+
+pub returns-then-move_part-clause-ready : goal.returns-then-move_part-clause-ready
+returns-then-move_part-clause-ready g c = λ ready. elim c.parts.invariant.2 [ inl unread ↦ unread.0 | inr read ↦ absurd (read ready) ]
+
+pub returns-then-has_ended-clause-quiet : goal.returns-then-has_ended-clause-quiet
+returns-then-has_ended-clause-quiet g c = λ other. c.parts.invariant.1
+
+pub returns-then-has_ended-clause-later : goal.returns-then-has_ended-clause-later
+returns-then-has_ended-clause-later g c = same-later _ _ c.parts.invariant.1
+
+pub returns-then-has_ended-clause-ready : goal.returns-then-has_ended-clause-ready
+returns-then-has_ended-clause-ready g c = λ ready. elim c.parts.invariant.2 [ inl unread ↦ unread.0 | inr read ↦ absurd (read ready) ]
+
+pub returns-then-is_full-clause-quiet : goal.returns-then-is_full-clause-quiet
+returns-then-is_full-clause-quiet g c = λ other. c.parts.invariant.1
+
+pub returns-then-is_full-clause-later : goal.returns-then-is_full-clause-later
+returns-then-is_full-clause-later g c = same-later _ _ c.parts.invariant.1
+
+pub returns-then-is_full-clause-ready : goal.returns-then-is_full-clause-ready
+returns-then-is_full-clause-ready g c = λ ready. elim c.parts.invariant.2 [ inl unread ↦ unread.0 | inr read ↦ absurd (read ready) ]
+
+pub returns-then-has_ended-clause-end : goal.returns-then-has_ended-clause-end
+returns-then-has_ended-clause-end g c = λ is. (sym c.has_ended.ensures ∙ c.if-has_ended.true, ap (λ r. r.pending) c.if-move_part.ensures.1)
+
+pub returns-then-is_full-clause-going : goal.returns-then-is_full-clause-going
+returns-then-is_full-clause-going g c = (sym c.has_ended.ensures ∙ c.if-has_ended.false, ap (λ r. r.pending) c.if-move_part.ensures.1)
+
+pub returns-in-Err-clause-quiet : goal.returns-in-Err-clause-quiet
+returns-in-Err-clause-quiet g c = λ other. absurd (other refl)
+
+pub returns-in-Err-clause-later : goal.returns-in-Err-clause-later
+returns-in-Err-clause-later g c = subst (λ count. count ≤ g.S.Source.faults c.refill.new.source) c.parts.invariant.1 c.in-Err.ensures.cause.later
+
+pub returns-in-Err-clause-fault : goal.returns-in-Err-clause-fault
+returns-in-Err-clause-fault g c = λ is. subst (λ count. Rose count (g.S.Source.faults c.refill.new.source)) c.parts.invariant.1 c.in-Err.ensures.cause.failed
+
+pub returns-in-Err-clause-going : goal.returns-in-Err-clause-going
+returns-in-Err-clause-going g c = (
+  ap (λ r. r.ended) c.in-Err.ensures.same ∙ sym c.has_ended.ensures ∙ c.if-has_ended.false,
+  ap (λ r. r.pending) (c.in-Err.ensures.same ∙ c.if-move_part.ensures.1),
+)
+
+pub returns-in-Err-clause-ready : goal.returns-in-Err-clause-ready
+returns-in-Err-clause-ready g c = λ ready. absurd (elim c.parts.invariant.2 [
+  | inl unread ↦ not-ready c.args.buffer.now _ _ unread.1 c.if-move_part.ensures (sym c.has_ended.ensures ∙ c.if-has_ended.false) (iff_false c.is_full.ensures c.if-is_full.false) ready
+  | inr read ↦ read ready
+])
