@@ -1,5 +1,5 @@
 -- Ciphers over lanes: IP and its inverse, the rounds one after another, three ciphers, and the words before and after.
-use Rattle.std.proofs.Common.{◌≡◌, ℕ, zero, suc, ◌+◌, ◌-◌, ◌*◌, ◌<◌, List, [], ◌∷◌, ◌++◌, length, map, take, drop, get_or, reverse, refl, sym, ap, ◌∙◌, arith, Bool, true, ◌&&◌, nat_lt}
+use Rattle.std.proofs.Common.{◌≡◌, ℕ, zero, suc, ◌+◌, ◌-◌, ◌*◌, ◌^◌, ◌<◌, List, [], ◌∷◌, ◌++◌, length, map, take, drop, get_or, reverse, slice_index, refl, sym, ap, ◌∙◌, arith, Bool, true, ◌&&◌, nat_lt}
 use Rattle.std.specs.Int.{bit_at}
 use Rattle.std.proofs.lemmas.List.{drop_all, drop_at, drop_more, length-append, length-map, take_all, take_at}
 use Rattle.std.proofs.lemmas.Bool.Decides.{nat_tests}
@@ -66,6 +66,17 @@ three-ciphers keys block l0 r0 l1 r1 l2 r2 l3 r3 il ir hl1 hr1 hl2 hr2 one two t
     let b = cipher-next k1 r1 l1 (crypt k2 block) (l2 ++ r2) hr1 hl1 a two in
     sym (cipher-next k0 l2 r2 (crypt k1 (crypt k2 block)) (r3 ++ l3) hl2 hr2 b three)
 
+-- the place of a group of a round key
+pub group-within : (at n : ℕ) → at < 16 → n < 8 → 8 * at + n < 128
+group-within at n h l = omega (arith, h, l)
+
+pub group-fits : (at n : ℕ) → at < 16 → n < 8 → 8 * at + n < 2 ^ 64
+group-fits at n h l = omega (arith, h, l)
+
+-- a vector's place in memory, of 16 bytes each
+pub place-fits : (place : ℕ) → place < 32 → place * 16 < 2 ^ 64
+place-fits place h = omega (arith, h)
+
 -- ---- IP and its inverse
 
 unfoldable pub written : ℕ → List (List ℕ) → List (List ℕ)
@@ -110,6 +121,11 @@ pub vectors-pick : (table : List ℕ) (n : ℕ) (ws : List (List ℕ)) → lengt
 vectors-pick [] n ws e p t k h = absurd (omega arith)
 vectors-pick (m ∷ ms) n ws e p t zero h = let u = (both-true (nat_lt m n) (are_below n ms) t).0 in let below : m < length ws = grind (arith, nat_tests, u, e) in p m below
 vectors-pick (m ∷ ms) n ws e p t (suc k) h = vectors-pick ms n ws e p (both-true (nat_lt m n) (are_below n ms) t).1 k (omega arith)
+
+pub below-each : (n : ℕ) (table : List ℕ) → are_below n table ≡ true → (k : ℕ) → k < length table → slice_index table k < n
+below-each n [] t k h = absurd (omega arith)
+below-each n (m ∷ ms) t zero h = let u = (both-true (nat_lt m n) (are_below n ms) t).0 in grind (arith, nat_tests, u)
+below-each n (m ∷ ms) t (suc k) h = below-each n ms (both-true (nat_lt m n) (are_below n ms) t).1 k (omega arith)
 
 pub record AreHalves (ws : List (List ℕ)) : Type 0 where
   pub size : length ws ≡ 64
