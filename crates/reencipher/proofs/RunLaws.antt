@@ -3,10 +3,12 @@ use Rattle.std.proofs.Common.{◌≡◌, ◌≤◌, ◌<◌, ◌+◌, ⊎_elim, 
 use Rattle.std.specs.Prelude.{IsSome, IfSome}
 use Rattle.key_cells.specs.Lease.{bench_of, holding}
 use Rattle.key_cells.specs.declared.leases.Lease.{Lease}
+use Rattle.key_cells.specs.declared.places.KeyPlace.TheVariants.{Key}
 use Rattle.device_cells.specs.Medium.{Medium, Told, IsSettled, From, Becomes, EachImage}
 use Rattle.device_cells.proofs.Media.{told_from, told_at, each_weaker, each_still, goes_on, becomes_same, becomes_both, becomes_then}
 use Rattle.key_tokens.specs.Denotes.{MasterKeys, HaveDistinctPatterns}
-use Rattle.key_records.specs.Changes.{ChangesKeyAndBody}
+use Rattle.multi_encipher.specs.Bundles.{ChangesKeyAt}
+use Rattle.key_records.specs.Changes.{ChangesKeyAndBody, KeepsAllButBody}
 use Rattle.record_bodies.specs.Entries.{Entry}
 use Rattle.record_bodies.specs.StoreStands.{StandsForLabels, KeepsLabels, Agrees, entry_at}
 use Rattle.key_records.specs.declared.faults.RecordFault.{RecordFault}
@@ -166,3 +168,19 @@ changes_none lease = refl
 pub changes_more : (a b c : Lease) → ChangesKeyAndBody a b → ChangesKeyAndBody b c → ChangesKeyAndBody a c
 changes_more a b c first second =
     second ∙ ap (λ (l : Lease). holding l (record (bench_of l) { key = (bench_of c).key; schedules = (bench_of c).schedules; body = (bench_of c).body })) first
+
+-- where the body alone has changed, or the place `Key` with the schedules
+pub changes_body : (old new : Lease) → KeepsAllButBody old new → ChangesKeyAndBody old new
+changes_body old new keeps =
+    keeps ∙ ap (λ (l : Lease). holding old (record (bench_of old) { key = (bench_of l).key; schedules = (bench_of l).schedules; body = (bench_of new).body })) (sym keeps)
+
+pub changes_place : (old new : Lease) → ChangesKeyAt Key old new → ChangesKeyAndBody old new
+changes_place old new keeps =
+    keeps ∙ ap (λ (l : Lease). holding old (record (bench_of old) { key = (bench_of new).key; schedules = (bench_of new).schedules; body = (bench_of l).body })) (sym keeps)
+
+pub body_and_place : (first between last : Lease) → KeepsAllButBody first between → ChangesKeyAt Key between last → ChangesKeyAndBody first last
+body_and_place first between last body place =
+    changes_more first between last (changes_body first between body) (changes_place between last place)
+
+pub body_stays : (old new : Lease) → ChangesKeyAt Key old new → (bench_of new).body ≡ (bench_of old).body
+body_stays old new keeps = ap (λ (l : Lease). (bench_of l).body) keeps

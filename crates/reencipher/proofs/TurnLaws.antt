@@ -27,7 +27,9 @@ use Rattle.master_registers.specs.Masters.{Masters}
 use Rattle.master_registers.specs.declared.registers.Registers.{Registers}
 use Rattle.record_bodies.specs.Further.{under_current, has_current_key, changed_entry, is_changed, made_by}
 use Rattle.reencipher.specs.Runs.{IsChanged}
-use Rattle.reencipher.specs.Tokens.{StandFor, CanBeWritten, AreMade, put_in, changes_key, may_change}
+use Rattle.key_records.specs.Ready.{IsReadyFor}
+use Rattle.master_registers.specs.declared.patterns.Pattern.{Pattern}
+use Rattle.reencipher.specs.Tokens.{IsComing, StandFor, CanBeWritten, AreMade, put_in, changes_key, may_change}
 use Rattle.reencipher.specs.Turns.{changed_at, HoldsTurn, ChangesCell}
 use Rattle.record_bodies.specs.declared.actions.StoreAction.{StoreAction}
 use Rattle.record_bodies.specs.declared.actions.StoreAction.TheVariants.{Renew, Ahead, Drop}
@@ -240,6 +242,14 @@ module _ (m : Masters) (held : Registers) (old new : Lease) (loaded : Loaded m h
   loaded_turn changes = kept_loaded m held old new
       (record (bench_of old) { key = (bench_of new).key; schedules = (bench_of new).schedules; body = (bench_of new).body }) changes
       (record { coming = loaded.placed.coming; current = loaded.placed.current; former = loaded.placed.former }) loaded
+
+-- the body alone has changed: what is asked of the lease is still so
+pub coming_body : (p : Pattern) (old new : Lease) → KeepsAllButBody old new → IsComing p (bench_of old) → IsComing p (bench_of new)
+coming_body p old new keeps is = subst (λ (l : Lease). IsComing p (bench_of l)) (sym keeps) is
+
+pub ready_body : (a : StoreAction) (held : Registers) (old new : Lease) → KeepsAllButBody old new → IsReadyFor a held (bench_of old) → IsReadyFor a held (bench_of new)
+ready_body a held old new keeps ready =
+    subst (λ (l : Lease). IsReadyFor a held (bench_of l)) (sym keeps) (λ is. let had = ready is in record { full = had.full; apart = had.apart })
 
 -- ---- the store was read at most
 

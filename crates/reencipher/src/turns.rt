@@ -110,6 +110,8 @@ pub(crate) fn turn_cell<D: Disk>(
         Some(tokens) => tokens,
         None => return Ok(false),
     };
-    put(&tokens, lease, held, store, records, place)?;
-    Ok(true)
+    match put(&tokens, lease, held, store, records, place) {
+        Ok(()) => Ok(true),
+        Err(fault) => Err(fault),
+    }
 }

@@ -1,15 +1,14 @@
-use Rattle.std.proofs.Common.{◌≡◌, ◌<◌, ℕ, List, Option, None, Some, Ok, Err, Bool, true, false, get_or, refl, sym, ap, subst, ◌∙◌, arith, rules}
+use Rattle.std.proofs.Common.{◌≡◌, ◌<◌, ℕ, List, Option, None, Some, Ok, Err, Bool, true, false, get_or, refl, sym, ap, subst, ◌∙◌, arith}
 use Rattle.std.specs.Prelude.{IsSome, ◌&&◌}
-use Rattle.key_cells.specs.Bench.{Bench}
 use Rattle.key_cells.specs.Lease.{bench_of}
 use Rattle.device_cells.specs.Medium.{Medium, Told}
-use Rattle.device_cells.proofs.Media.{keeps_still, told_joined, told_map, told_still}
-use Rattle.key_tokens.specs.Denotes.{denoted}
+use Rattle.device_cells.proofs.Media.{keeps_still, settled_kept, told_joined, told_map, told_still}
+use Rattle.key_tokens.specs.Denotes.{MasterKeys, denoted}
 use Rattle.key_records.specs.Changes.{IsReadOf, ReadsToken, is_ahead_row}
 use Rattle.record_bodies.specs.Directory.{label_at}
-use Rattle.record_bodies.specs.Entries.{Entry}
+use Rattle.record_bodies.specs.Entries.{Entry, label_or, row_directory}
 use Rattle.record_bodies.specs.declared.rows.Row.{Row}
-use Rattle.record_bodies.specs.StoreStands.{KeepsLabels, entry_at}
+use Rattle.record_bodies.specs.StoreStands.{HoldsRows, KeepsLabels, entry_at}
 use Rattle.record_bodies.proofs.OpeningLaws.{label_of_entry}
 use Rattle.record_bodies.proofs.RowLaws.{label_of_row}
 use Rattle.key_records.proofs.StoreLaws.{same_directory, told_all}
@@ -20,12 +19,14 @@ use Rattle.master_registers.proofs.LoadedLaws.{loaded_one}
 use Rattle.verb_rules.specs.Keys.{keys_of}
 use Rattle.record_bodies.specs.Further.{is_changed}
 use Rattle.reencipher.specs.Runs.{IsChangedRow, changes_row}
-use Rattle.reencipher.specs.Tokens.{CanBeWritten, changes_key, may_change, put_in}
+use Rattle.reencipher.specs.Tokens.{CanBeWritten, body_of, row_of, changes_key, may_change, put_in}
 use Rattle.reencipher.specs.Turns.{ChangesCell, StaysAsRead, TurnsAsRead, TurnsCell}
 use Rattle.record_bodies.specs.declared.actions.StoreAction.{StoreAction}
 use Rattle.reencipher.proofs.RowLaws.{marked_row_stays, no_row_stays, null_row_stays, row_changes, turns_kept, turns_failed, turns_written}
+use Rattle.reencipher.proofs.LeftLaws.{left_untouched, left_read, left_unread, left_put, left_unput}
+use Rattle.reencipher.proofs.RunLaws.{body_and_place, body_stays, changes_body}
 use Rattle.reencipher.proofs.TokenLaws.{loaded_after}
-use Rattle.reencipher.proofs.TurnLaws.{IsMade, IsTurn, and_true, reads_what, reads_null, null_changes, no_label, may_not, does_not, is_turn, made_is, can_write, loaded_body, changes_none, changes_unread, changes_failed, changes_written, row_put}
+use Rattle.reencipher.proofs.TurnLaws.{IsMade, IsTurn, and_true, reads_what, reads_null, null_changes, no_label, may_not, does_not, coming_body, ready_body, is_turn, made_is, can_write, loaded_body, changes_none, changes_unread, changes_failed, changes_written, row_put}
 use Rattle.std.proofs.lemmas.List.{get_or-set_other}
 use Rattle.reencipher.proofs.turns.turn_cell.Goals as goal
 use Rattle.reencipher.proofs.turns.turn_cell.Goals.{After-made_tokens, In-Some-made_tokens}
@@ -127,9 +128,9 @@ put-requires-clause-ready g c =
     let made = made_at g (goal.at.put-requires-clause-ready g c).In-Some-made_tokens m now in
     subst (λ (n : Masters). CanBeWritten (keys_of n) tokens) (sym (loaded_one m held (bench_of c.made_tokens.new.lease) last)) (can_write (keys_of m) tokens made.key made.stand)
 
-pub returns-in_err-put-clause-changes : goal.returns-in_err-put-clause-changes
-returns-in_err-put-clause-changes g c m s loaded told =
-    let at = (goal.at.returns-in_err-put-clause-changes g c).In-Some-made_tokens in
+pub returns-in-Err-put-clause-changes : goal.returns-in-Err-put-clause-changes
+returns-in-Err-put-clause-changes g c m s loaded told =
+    let at = (goal.at.returns-in-Err-put-clause-changes g c).In-Some-made_tokens in
     let masters = keys_of m in
     let a = c.args.action in
     let m0 = g.D.Disk.medium c.args.store.now in
@@ -139,15 +140,13 @@ returns-in_err-put-clause-changes g c m s loaded told =
     let rows : List (Option Row) = c.args.records.now in
     let now = loaded_body m c.args.held.now c.args.lease.now c.read.new.lease loaded c.read.ensures.rest in
     let made = made_at g at m now in
-    let failed : c.from_residual.result ≡ Err c.in_err-put.field-0.0 = search rules in
-    subst (λ r. ChangesCell a masters c.args.cell s rows c.put.new.records m0 m2 r) (sym failed)
-    (subst (λ n. ChangesCell a masters n s rows c.put.new.records m0 m2 (Err c.in_err-put.field-0.0)) c.in-Some.ensures.place
-    (changes_failed a masters place s (next_at g at m now s) m0 m1 m2 rows c.put.new.records c.requires.store.settled c.read.ensures.keeps told (turn_at g at m now s told) c.in_err-put.field-0.0 c.in_err-put.ensures.changes.memory.kept
-    (c.in_err-put.ensures.labels masters s made.key (told_still m0 m1 (KeepsLabels masters rows s) c.read.ensures.keeps told) made.stand)))
+    subst (λ n. ChangesCell a masters n s rows c.put.new.records m0 m2 (Err c.in-Err-put.fault)) c.in-Some.ensures.place
+    (changes_failed a masters place s (next_at g at m now s) m0 m1 m2 rows c.put.new.records c.requires.store.settled c.read.ensures.keeps told (turn_at g at m now s told) c.in-Err-put.fault c.in-Err-put.ensures.changes.memory.kept
+    (c.in-Err-put.ensures.labels masters s made.key (told_still m0 m1 (KeepsLabels masters rows s) c.read.ensures.keeps told) made.stand))
 
-pub returns-clause-changes : goal.returns-clause-changes
-returns-clause-changes g c m s loaded told =
-    let at = (goal.at.returns-clause-changes g c).In-Some-made_tokens in
+pub returns-in-Ok-put-clause-changes : goal.returns-in-Ok-put-clause-changes
+returns-in-Ok-put-clause-changes g c m s loaded told =
+    let at = (goal.at.returns-in-Ok-put-clause-changes g c).In-Some-made_tokens in
     let masters = keys_of m in
     let a = c.args.action in
     let m0 = g.D.Disk.medium c.args.store.now in
@@ -158,8 +157,8 @@ returns-clause-changes g c m s loaded told =
     let now = loaded_body m c.args.held.now c.args.lease.now c.read.new.lease loaded c.read.ensures.rest in
     let made = made_at g at m now in
     subst (λ n. ChangesCell a masters n s rows c.put.new.records m0 m2 (Ok true)) c.in-Some.ensures.place
-    (changes_written a masters place s (next_at g at m now s) m0 m1 m2 rows c.put.new.records c.requires.store.settled c.read.ensures.keeps told (turn_at g at m now s told) _ c.in_ok-put.ensures.changes.cell
-    (c.in_ok-put.ensures.labels masters s made.key (told_still m0 m1 (KeepsLabels masters rows s) c.read.ensures.keeps told) made.stand))
+    (changes_written a masters place s (next_at g at m now s) m0 m1 m2 rows c.put.new.records c.requires.store.settled c.read.ensures.keeps told (turn_at g at m now s told) _ c.in-Ok-put.ensures.changes.cell
+    (c.in-Ok-put.ensures.labels masters s made.key (told_still m0 m1 (KeepsLabels masters rows s) c.read.ensures.keeps told) made.stand))
 
 -- ---- the bytes and the rows, whatever the labels stand for
 
@@ -201,29 +200,27 @@ row_is g c done made =
 is_written : (a : StoreAction) (held : Registers) (rows : List (Option Row)) (place : ℕ) (m : Medium) → true ≡ changes_row a held (get_or rows place None) → Told m (λ _. IsChangedRow a held rows place)
 is_written a held rows place m is = told_all m (λ _. IsChangedRow a held rows place) (λ _. sym is)
 
-pub returns-in_err-put-clause-turns : goal.returns-in_err-put-clause-turns
-returns-in_err-put-clause-turns g c =
+pub returns-in-Err-put-clause-turns : goal.returns-in-Err-put-clause-turns
+returns-in-Err-put-clause-turns g c =
     let a = c.args.action in
     let held = c.args.held.now in
     let m0 = g.D.Disk.medium c.args.store.now in
     let m2 = g.D.Disk.medium c.put.new.store in
     let rows : List (Option Row) = c.args.records.now in
     let place : ℕ = c.in-Some.place in
-    let failed : c.from_residual.result ≡ Err c.in_err-put.field-0.0 = search rules in
-    subst (λ r. TurnsCell (IsChangedRow a held rows c.args.cell) c.args.cell m0 m2 r) (sym failed)
-    (subst (λ n. TurnsCell (IsChangedRow a held rows n) n m0 m2 (Err c.in_err-put.field-0.0)) c.in-Some.ensures.place
+    subst (λ n. TurnsCell (IsChangedRow a held rows n) n m0 m2 (Err c.in-Err-put.fault)) c.in-Some.ensures.place
     (turns_failed (IsChangedRow a held rows place) place m0 (g.D.Disk.medium c.read.new.store) c.requires.store.settled c.read.ensures.keeps m2 _
-    (is_written a held rows place m0 (row_is g (goal.at.returns-in_err-put-clause-turns g c).After-made_tokens true c.in-Some-made_tokens.ensures.some))
-    c.in_err-put.field-0.0 _ c.in_err-put.ensures.changes.cell))
+    (is_written a held rows place m0 (row_is g (goal.at.returns-in-Err-put-clause-turns g c).After-made_tokens true c.in-Some-made_tokens.ensures.some))
+    c.in-Err-put.fault _ c.in-Err-put.ensures.changes.cell)
 
-pub returns-in_err-put-clause-row : goal.returns-in_err-put-clause-row
-returns-in_err-put-clause-row g c = λ none. ap (λ (r : List (Option Row)). get_or r c.args.cell None) c.in_err-put.ensures.changes.memory.kept
+pub returns-in-Err-put-clause-row : goal.returns-in-Err-put-clause-row
+returns-in-Err-put-clause-row g c = λ none. ap (λ (r : List (Option Row)). get_or r c.args.cell None) c.in-Err-put.ensures.changes.memory.kept
 
-pub returns-in_err-put-clause-others : goal.returns-in_err-put-clause-others
-returns-in_err-put-clause-others g c n other = ap (λ (r : List (Option Row)). get_or r n None) c.in_err-put.ensures.changes.memory.kept
+pub returns-in-Err-put-clause-others : goal.returns-in-Err-put-clause-others
+returns-in-Err-put-clause-others g c n other = ap (λ (r : List (Option Row)). get_or r n None) c.in-Err-put.ensures.changes.memory.kept
 
-pub returns-clause-turns : goal.returns-clause-turns
-returns-clause-turns g c =
+pub returns-in-Ok-put-clause-turns : goal.returns-in-Ok-put-clause-turns
+returns-in-Ok-put-clause-turns g c =
     let a = c.args.action in
     let held = c.args.held.now in
     let m0 = g.D.Disk.medium c.args.store.now in
@@ -232,16 +229,16 @@ returns-clause-turns g c =
     let place : ℕ = c.in-Some.place in
     subst (λ n. TurnsCell (IsChangedRow a held rows n) n m0 m2 (Ok true)) c.in-Some.ensures.place
     (turns_written (IsChangedRow a held rows place) place m0 (g.D.Disk.medium c.read.new.store) c.requires.store.settled c.read.ensures.keeps m2 _
-    (is_written a held rows place m0 (row_is g (goal.at.returns-clause-turns g c).After-made_tokens true c.in-Some-made_tokens.ensures.some)) c.in_ok-put.ensures.changes.cell)
+    (is_written a held rows place m0 (row_is g (goal.at.returns-in-Ok-put-clause-turns g c).After-made_tokens true c.in-Some-made_tokens.ensures.some)) c.in-Ok-put.ensures.changes.cell)
 
-pub returns-clause-row : goal.returns-clause-row
-returns-clause-row g c = λ none.
+pub returns-in-Ok-put-clause-row : goal.returns-in-Ok-put-clause-row
+returns-in-Ok-put-clause-row g c = λ none.
     absurd (none (subst (IsChangedRow c.args.action c.args.held.now c.args.records.now) c.in-Some.ensures.place
-    (sym (row_is g (goal.at.returns-clause-row g c).After-made_tokens true c.in-Some-made_tokens.ensures.some))))
+    (sym (row_is g (goal.at.returns-in-Ok-put-clause-row g c).After-made_tokens true c.in-Some-made_tokens.ensures.some))))
 
-pub returns-clause-others : goal.returns-clause-others
-returns-clause-others g c n other =
-    ap (λ (r : List (Option Row)). get_or r n None) c.in_ok-put.ensures.changes.memory.done
+pub returns-in-Ok-put-clause-others : goal.returns-in-Ok-put-clause-others
+returns-in-Ok-put-clause-others g c n other =
+    ap (λ (r : List (Option Row)). get_or r n None) c.in-Ok-put.ensures.changes.memory.done
     ∙ get_or-set_other c.args.records.now c.in-Some.place n _ None (λ is. other (is ∙ c.in-Some.ensures.place))
 
 -- ---- the count
@@ -271,10 +268,10 @@ returns-in-None-made_tokens-clause-count g c =
     subst (λ n. false ≡ changes_row c.args.action c.args.held.now (get_or c.args.records.now n None)) c.in-Some.ensures.place
     (row_is g (goal.at.returns-in-None-made_tokens-clause-count g c).After-made_tokens false c.in-None-made_tokens.ensures.some)
 
-pub returns-clause-count : goal.returns-clause-count
-returns-clause-count g c =
+pub returns-in-Ok-put-clause-count : goal.returns-in-Ok-put-clause-count
+returns-in-Ok-put-clause-count g c =
     subst (λ n. true ≡ changes_row c.args.action c.args.held.now (get_or c.args.records.now n None)) c.in-Some.ensures.place
-    (row_is g (goal.at.returns-clause-count g c).After-made_tokens true c.in-Some-made_tokens.ensures.some)
+    (row_is g (goal.at.returns-in-Ok-put-clause-count g c).After-made_tokens true c.in-Some-made_tokens.ensures.some)
 
 -- ---- by what was read
 
@@ -285,14 +282,21 @@ not_held (Some label) none held = cc none
 not_both : (b : Bool) → b ≡ false → b ≡ true → ⊥
 not_both b isnt is = cc
 
+-- of a label that may not change nothing is asked
+none_as_read : (a : StoreAction) (masters : MasterKeys) (before now : Option Row) (bytes : List ℕ) (done : Bool) → ⊥ → TurnsAsRead a masters before now bytes done
+none_as_read a masters before now bytes done wrong = absurd wrong
+
 pub returns-in-None-clause-own : goal.returns-in-None-clause-own
-returns-in-None-clause-own g c = λ m loaded held may. absurd (not_held _ (c.in-None.ensures.none refl) held)
+returns-in-None-clause-own g c m loaded held may =
+    let row = get_or c.args.records.now c.args.cell None in
+    none_as_read c.args.action (keys_of m) row row (bench_of c.args.lease.now).body false (not_held (label_at (row_directory c.args.records.now) c.args.cell) (c.in-None.ensures.none refl) held)
 
 pub returns-then-not-may_change-clause-own : goal.returns-then-not-may_change-clause-own
-returns-then-not-may_change-clause-own g c = λ m loaded held may.
+returns-then-not-may_change-clause-own g c m loaded held may =
     let rows : List (Option Row) = c.args.records.now in
-    absurd (not_both _ (sym c.may_change.ensures ∙ c.if-not-may_change.true)
-    (subst (λ n. may_change c.args.action (is_ahead_row (get_or rows n None)) ≡ true) (sym c.in-Some.ensures.place) may))
+    let row = get_or rows c.args.cell None in
+    let stays = subst (λ n. may_change c.args.action (is_ahead_row (get_or rows n None)) ≡ false) c.in-Some.ensures.place (sym c.may_change.ensures ∙ c.if-not-may_change.true) in
+    none_as_read c.args.action (keys_of m) row row (bench_of c.args.lease.now).body false (not_both (may_change c.args.action (is_ahead_row row)) stays may)
 
 pub returns-in-Err-clause-own : goal.returns-in-Err-clause-own
 returns-in-Err-clause-own g c m loaded held may = tt
@@ -318,7 +322,7 @@ returns-in-None-made_tokens-clause-own g c = λ m loaded held may.
     let rows : List (Option Row) = c.args.records.now in
     let now = loaded_body m c.args.held.now c.args.lease.now c.read.new.lease loaded c.read.ensures.rest in
     let none : false ≡ changes_key c.args.action (denoted (keys_of m) c.read.new.out) = c.in-None-made_tokens.ensures.some m now in
-    let still = ap (λ (b : Bench). b.body) (ap bench_of c.made_tokens.ensures.stays) in
+    let still = body_stays c.read.new.lease c.made_tokens.new.lease c.made_tokens.ensures.stays in
     let row = get_or rows c.in-Some.place None in
     subst (λ n. TurnsAsRead c.args.action (keys_of m) (get_or rows n None) (get_or rows n None) (bench_of c.made_tokens.new.lease).body false) c.in-Some.ensures.place
     (record {
@@ -332,10 +336,10 @@ returns-in-None-made_tokens-clause-own g c = λ m loaded held may.
       turns = λ done. absurd (not_both _ refl done);
     })
 
-pub returns-clause-own : goal.returns-clause-own
-returns-clause-own g c = λ m loaded held may.
+pub returns-in-Ok-put-clause-own : goal.returns-in-Ok-put-clause-own
+returns-in-Ok-put-clause-own g c = λ m loaded held may.
     let rows : List (Option Row) = c.args.records.now in
-    let at = (goal.at.returns-clause-own g c).In-Some-made_tokens in
+    let at = (goal.at.returns-in-Ok-put-clause-own g c).In-Some-made_tokens in
     let now = loaded_body m c.args.held.now c.args.lease.now c.read.new.lease loaded c.read.ensures.rest in
     subst (λ n. TurnsAsRead c.args.action (keys_of m) (get_or rows n None) (get_or c.put.new.records n None) (bench_of c.put.new.lease).body true) c.in-Some.ensures.place
     (record {
@@ -345,6 +349,148 @@ returns-clause-own g c = λ m loaded held may.
         changes = sym (c.in-Some-made_tokens.ensures.some m now);
         tokens = c.in-Some-made_tokens.tokens;
         made = c.in-Some-made_tokens.ensures.made m now;
-        row = ap (λ (r : List (Option Row)). get_or r c.in-Some.place None) c.in_ok-put.ensures.changes.memory.done ∙ row_put rows c.in-Some.place _ c.in-Some.ensures.held;
+        row = ap (λ (r : List (Option Row)). get_or r c.in-Some.place None) c.in-Ok-put.ensures.changes.memory.done ∙ row_put rows c.in-Some.place _ c.in-Some.ensures.held;
       };
     })
+
+pub returns-in-Err-put-clause-own : goal.returns-in-Err-put-clause-own
+returns-in-Err-put-clause-own g c m loaded held may = tt
+
+pub returns-in-Err-put-clause-count : goal.returns-in-Err-put-clause-count
+returns-in-Err-put-clause-count g c = tt
+
+-- ---- what the calls ask
+
+pub place_in-requires : goal.place_in-requires
+place_in-requires g c = c.requires.within
+
+pub may_change-requires : goal.may_change-requires
+may_change-requires g c = c.in-Some.ensures.held
+
+pub read-requires-clause-held : goal.read-requires-clause-held
+read-requires-clause-held g c = c.in-Some.ensures.held
+
+pub read-requires-clause-size : goal.read-requires-clause-size
+read-requires-clause-size g c = c.requires.store.size
+
+pub read-requires-clause-holds : goal.read-requires-clause-holds
+read-requires-clause-holds g c = c.requires.store.holds
+
+pub made_tokens-requires-clause-current : goal.made_tokens-requires-clause-current
+made_tokens-requires-clause-current g c = c.requires.current
+
+pub made_tokens-requires-clause-coming : goal.made_tokens-requires-clause-coming
+made_tokens-requires-clause-coming g c = coming_body c.args.coming c.args.lease.now c.read.new.lease c.read.ensures.rest c.requires.coming
+
+pub made_tokens-requires-clause-ready : goal.made_tokens-requires-clause-ready
+made_tokens-requires-clause-ready g c = ready_body c.args.action c.args.held.now c.args.lease.now c.read.new.lease c.read.ensures.rest c.requires.ready
+
+pub put-requires-clause-held : goal.put-requires-clause-held
+put-requires-clause-held g c = c.in-Some.ensures.held
+
+pub put-requires-clause-size : goal.put-requires-clause-size
+put-requires-clause-size g c = c.read.ensures.keeps.moments.size ∙ c.requires.store.size
+
+pub put-requires-clause-settled : goal.put-requires-clause-settled
+put-requires-clause-settled g c =
+    settled_kept (g.D.Disk.medium c.args.store.now) (g.D.Disk.medium c.read.new.store) c.read.ensures.keeps c.requires.store.settled
+
+pub put-requires-clause-holds : goal.put-requires-clause-holds
+put-requires-clause-holds g c =
+    told_still (g.D.Disk.medium c.args.store.now) (g.D.Disk.medium c.read.new.store) (HoldsRows c.args.records.now) c.read.ensures.keeps c.requires.store.holds
+
+pub put-requires-clause-loaded : goal.put-requires-clause-loaded
+put-requires-clause-loaded g c =
+    let held = c.args.held.now in
+    let m = masters_in held (bench_of c.args.lease.now) in
+    let now = loaded_body m held c.args.lease.now c.read.new.lease c.requires.loaded c.read.ensures.rest in
+    let last = loaded_after m held c.read.new.lease c.made_tokens.new.lease now c.made_tokens.ensures.stays in
+    subst (λ (n : Masters). Loaded n held (bench_of c.made_tokens.new.lease)) (sym (loaded_one m held (bench_of c.made_tokens.new.lease) last)) last
+
+-- ---- the rows that stay
+
+pub returns-in-None-clause-row : goal.returns-in-None-clause-row
+returns-in-None-clause-row g c none = refl
+
+pub returns-in-None-clause-others : goal.returns-in-None-clause-others
+returns-in-None-clause-others g c n other = refl
+
+pub returns-then-not-may_change-clause-row : goal.returns-then-not-may_change-clause-row
+returns-then-not-may_change-clause-row g c none = refl
+
+pub returns-then-not-may_change-clause-others : goal.returns-then-not-may_change-clause-others
+returns-then-not-may_change-clause-others g c n other = refl
+
+pub returns-in-Err-clause-row : goal.returns-in-Err-clause-row
+returns-in-Err-clause-row g c none = refl
+
+pub returns-in-Err-clause-others : goal.returns-in-Err-clause-others
+returns-in-Err-clause-others g c n other = refl
+
+pub returns-then-not-found-clause-row : goal.returns-then-not-found-clause-row
+returns-then-not-found-clause-row g c none = refl
+
+pub returns-then-not-found-clause-others : goal.returns-then-not-found-clause-others
+returns-then-not-found-clause-others g c n other = refl
+
+pub returns-in-None-made_tokens-clause-row : goal.returns-in-None-made_tokens-clause-row
+returns-in-None-made_tokens-clause-row g c none = refl
+
+pub returns-in-None-made_tokens-clause-others : goal.returns-in-None-made_tokens-clause-others
+returns-in-None-made_tokens-clause-others g c n other = refl
+
+pub returns-in-Err-clause-turns : goal.returns-in-Err-clause-turns
+returns-in-Err-clause-turns g c =
+    turns_kept (IsChangedRow c.args.action c.args.held.now c.args.records.now c.args.cell) c.args.cell
+    (g.D.Disk.medium c.args.store.now) (g.D.Disk.medium c.read.new.store) c.requires.store.settled c.read.ensures.keeps (Err c.in-Err.fault)
+
+pub returns-then-not-found-clause-turns : goal.returns-then-not-found-clause-turns
+returns-then-not-found-clause-turns g c =
+    turns_kept (IsChangedRow c.args.action c.args.held.now c.args.records.now c.args.cell) c.args.cell
+    (g.D.Disk.medium c.args.store.now) (g.D.Disk.medium c.read.new.store) c.requires.store.settled c.read.ensures.keeps (Ok false)
+
+-- ---- what is left of any store
+
+pub returns-in-None-clause-left : goal.returns-in-None-clause-left
+returns-in-None-clause-left g c =
+    left_untouched g.D.Disk.medium g.D.Disk.faults (λ n. n ≡ c.args.cell) c.args.lease.now c.args.records.now c.args.store.now false c.requires.store
+
+pub returns-then-not-may_change-clause-left : goal.returns-then-not-may_change-clause-left
+returns-then-not-may_change-clause-left g c =
+    left_untouched g.D.Disk.medium g.D.Disk.faults (λ n. n ≡ c.args.cell) c.args.lease.now c.args.records.now c.args.store.now false c.requires.store
+
+pub returns-in-Err-clause-left : goal.returns-in-Err-clause-left
+returns-in-Err-clause-left g c =
+    left_unread g.D.Disk.medium g.D.Disk.faults c.args.lease.now c.read.new.lease c.args.records.now c.args.store.now c.read.new.store c.args.cell c.requires.store c.read.ensures.keeps
+    c.in-Err.fault c.in-Some.place c.in-Some.ensures.place c.in-Err.ensures.damaged c.in-Err.ensures.faults c.in-Err.ensures.cause c.read.ensures.rest
+
+pub returns-then-not-found-clause-left : goal.returns-then-not-found-clause-left
+returns-then-not-found-clause-left g c =
+    left_read g.D.Disk.medium g.D.Disk.faults c.args.lease.now c.read.new.lease c.args.records.now c.args.store.now c.read.new.store c.args.cell c.requires.store c.read.ensures.keeps
+    c.in-Ok.found false c.in-Ok.ensures.cause (changes_body c.args.lease.now c.read.new.lease c.read.ensures.rest)
+
+pub returns-in-None-made_tokens-clause-left : goal.returns-in-None-made_tokens-clause-left
+returns-in-None-made_tokens-clause-left g c =
+    left_read g.D.Disk.medium g.D.Disk.faults c.args.lease.now c.made_tokens.new.lease c.args.records.now c.args.store.now c.read.new.store c.args.cell c.requires.store c.read.ensures.keeps
+    c.in-Ok.found false c.in-Ok.ensures.cause
+    (body_and_place c.args.lease.now c.read.new.lease c.made_tokens.new.lease c.read.ensures.rest c.made_tokens.ensures.stays)
+
+pub returns-in-Ok-put-clause-left : goal.returns-in-Ok-put-clause-left
+returns-in-Ok-put-clause-left g c =
+    let rows : List (Option Row) = c.args.records.now in
+    let label = label_or (get_or rows c.in-Some.place None) in
+    let tokens = c.in-Some-made_tokens.tokens in
+    left_put g.D.Disk.medium g.D.Disk.faults c.args.lease.now c.made_tokens.new.lease c.args.records.now c.args.store.now c.read.new.store c.args.cell c.requires.store c.read.ensures.keeps
+    c.put.new.lease c.put.new.records c.put.new.store c.in-Some.place (body_of label tokens) (Some (row_of label tokens)) c.in-Ok.found c.in-Ok.ensures.cause
+    (body_and_place c.args.lease.now c.read.new.lease c.made_tokens.new.lease c.read.ensures.rest c.made_tokens.ensures.stays)
+    c.in-Ok-put.ensures.changes c.in-Ok-put.ensures.directory
+
+pub returns-in-Err-put-clause-left : goal.returns-in-Err-put-clause-left
+returns-in-Err-put-clause-left g c =
+    let rows : List (Option Row) = c.args.records.now in
+    let label = label_or (get_or rows c.in-Some.place None) in
+    let tokens = c.in-Some-made_tokens.tokens in
+    left_unput g.D.Disk.medium g.D.Disk.faults c.args.lease.now c.made_tokens.new.lease c.args.records.now c.args.store.now c.read.new.store c.args.cell c.requires.store c.read.ensures.keeps
+    c.put.new.lease c.put.new.records c.put.new.store c.in-Some.place (body_of label tokens) (Some (row_of label tokens)) c.in-Ok.found c.in-Ok.ensures.cause
+    (body_and_place c.args.lease.now c.read.new.lease c.made_tokens.new.lease c.read.ensures.rest c.made_tokens.ensures.stays)
+    c.in-Err-put.fault c.in-Err-put.ensures.changes c.in-Err-put.ensures.faults
