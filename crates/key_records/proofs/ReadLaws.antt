@@ -1,15 +1,24 @@
 -- Reading a record that is held.
-use Rattle.std.proofs.Common.{◌≡◌, ◌<◌, ℕ, zero, suc, Bool, true, false, List, [], ◌∷◌, get_or, map, Option, None, Some, refl, sym, ap, subst, ◌∙◌}
+use Rattle.std.proofs.Common.{◌≡◌, ◌<◌, inl, inr, set, ℕ, zero, suc, Bool, true, false, List, [], ◌∷◌, get_or, map, Option, None, Some, refl, sym, ap, subst, ◌∙◌, ◌+◌, ◌*◌, ◌≤◌, arith}
 use Rattle.std.specs.Prelude.{is_some, is_err, option_map, slice_index, Result, Ok, Err}
 use Rattle.held_names.proofs.DirectoryLaws.{none_some}
-use Rattle.device_cells.specs.Cells.{body}
+use Rattle.device_cells.specs.Cells.{body, cell_size}
+use Rattle.device_cells.specs.Medium.{Medium, Told}
+use Rattle.device_cells.proofs.Media.{told_joined, told_map}
 use Rattle.device_cells.specs.Faults.{HasCause}
 use Rattle.key_tokens.specs.Denotes.{MasterKeys, Denoted}
 use Rattle.master_registers.specs.declared.patterns.Pattern.{Pattern}
-use Rattle.key_records.specs.Changes.{HasReadCause, ReadsToken}
-use Rattle.record_bodies.specs.Entries.{Entry, remembered, pattern_for, pattern_ahead}
+use Rattle.key_records.specs.Changes.{HasReadCause, HasRecordCause, IsReadOf, ReadsToken, has_key}
+use Rattle.record_bodies.specs.Entries.{Entry, entry_label, row_directory, row_label, remembered, pattern_for, pattern_ahead}
 use Rattle.record_bodies.specs.Labels.{IsLabel}
-use Rattle.record_bodies.specs.RecordBody.{token_in, second_in, kept, held_token, ReadsEntry, ReadsWhat, ReadsRow, StandsAs}
+use Rattle.record_bodies.specs.Directory.{label_at}
+use Rattle.record_bodies.specs.Opening.{IsRefused, Opens}
+use Rattle.record_bodies.proofs.OpeningLaws.{label_remembered}
+use Rattle.key_cells.specs.Bench.{Bench}
+use Rattle.master_registers.specs.Loaded.{Loaded}
+use Rattle.master_registers.specs.Masters.{Masters}
+use Rattle.master_registers.specs.declared.registers.Registers.{Registers}
+use Rattle.record_bodies.specs.RecordBody.{IsTokenOf, entry_in, token_in, second_in, kept, held_token, ReadsEntry, ReadsWhat, ReadsRow, StandsAs}
 use Rattle.record_bodies.specs.StoreStands.{KeepsLabels, HoldsRows, entry_at}
 use Rattle.key_records.specs.declared.faults.RecordFault.{RecordFault}
 use Rattle.key_records.specs.declared.faults.RecordFault.TheVariants.{DiskFault}
@@ -76,3 +85,86 @@ keeps_holds masters rows s image keeps = record {
   reads = λ n below. subst (ReadsRow (body image n)) (sym (row_of_entry masters s n) ∙ ap (λ r. get_or r n None) (sym keeps.agrees))
       (row_reads masters (body image n) (entry_at s n) (keeps.stands.reads n below));
 }
+
+-- ---- what a read answers, by the body that was read
+
+-- a cell lies within a store of 1,024 cells
+pub cell_fits : (size n k : ℕ) → size ≡ 1572864 → n < 1024 → k ≡ n → cell_size * (k + 1) ≤ size
+cell_fits size n k is within same = omega arith
+
+pub cause_unread : {T E : Type 0} (before now : ℕ) (r : Result T E) → HasCause before now r → is_err r ≡ true → HasReadCause before now (Err DiskFault)
+cause_unread before now (Ok x) cause unread = let wrong : false ≡ true = unread in absurd (cc)
+cause_unread before now (Err e) cause unread = record { later = cause.later; failed = λ _. cause.failed; quiet = λ other. absurd (other refl) }
+
+module _ (rows : List (Option Row)) (place : ℕ) (row : Row) where
+  pub null_read : (found : Bool) → get_or rows place None ≡ Some row → found ≡ is_some row.pattern → found ≡ has_key (get_or rows place None)
+  null_read found held is = is ∙ ap has_key (sym held)
+
+  pub own_read : (body bytes : List ℕ) (found : Bool) (token : List ℕ) → get_or rows place None ≡ Some row → body ≡ bytes → ReadsRow body (Some row) → (found ≡ true → IsTokenOf body row token)
+      → IsReadOf (get_or rows place None) bytes found token
+  own_read body bytes found token held here reads is =
+      subst (λ (o : Option Row). IsReadOf o bytes found token) (sym held)
+      (subst (λ (b : List ℕ). IsReadOf (Some row) b found token) here (record { held = refl; known = reads; token = is }))
+
+  pub null_token : (m : Medium) (masters : MasterKeys) (s : List (Option Entry)) (token : List ℕ) → Told m (KeepsLabels masters rows s) → get_or rows place None ≡ Some row → place < 1024 → false ≡ is_some row.pattern
+      → Told m (λ _. ReadsToken masters (entry_at s place) false token)
+  null_token m masters s token start held within null =
+      told_map m (KeepsLabels masters rows s) (λ _. ReadsToken masters (entry_at s place) false token) start
+      (λ image keeps. of_entry (the_entry masters rows s image place row keeps held within))
+    where
+      of_entry : IsRowOf masters (entry_at s place) row → ReadsToken masters (entry_at s place) false token
+      of_entry entry =
+          let none : is_some entry.entry.what ≡ false = sym (null ∙ ap (λ p. is_some p) entry.pattern ∙ some_mapped (pattern_for masters) entry.entry.what) in
+          subst (λ (o : Option Entry). ReadsToken masters o false token) (sym entry.is)
+          (sym none, λ key is. let some : is_some entry.entry.what ≡ true = ap (λ o. is_some o) is in absurd (cc))
+
+  pub damaged_read : (m : Medium) (cell n : ℕ) (bytes : List ℕ) → cell ≡ place → cell < 1024 → cell ≡ n → get_or rows place None ≡ Some row → Told m (HoldsRows rows)
+      → Told m (λ image. bytes ≡ body image cell) → (ReadsRow bytes (Some row) → ⊥) → (n ≡ place) × Told m (λ _. ⊥)
+  damaged_read m cell n bytes at within same held holds read never = (
+    sym same ∙ at,
+    told_joined m (HoldsRows rows) (λ image. bytes ≡ body image cell) (λ _. ⊥) holds read (λ image had here. never
+        (subst (λ (b : List ℕ). ReadsRow b (Some row)) (sym here)
+        (subst (ReadsRow (body image cell)) (ap (λ k. get_or rows k None) at ∙ held) (had.reads cell within)))),
+  )
+
+-- ---- opening one cell
+
+pub opened_cause : {T E : Type 0} (before now : ℕ) (r : Result T E) → HasCause before now r → is_err r ≡ false → (result : Result (Unit {0}) RecordFault) → (result ≡ Err DiskFault → ⊥) → HasRecordCause before now result
+opened_cause before now (Ok x) cause read result other = record { later = cause.later; failed = λ is. absurd (other is); quiet = λ _. cause.quiet }
+opened_cause before now (Err e) cause read result other = let wrong : true ≡ false = read in absurd (cc)
+
+pub unopened_cause : {T E : Type 0} (before now : ℕ) (r : Result T E) → HasCause before now r → is_err r ≡ true → HasRecordCause before now (Err DiskFault)
+unopened_cause before now (Ok x) cause unread = let wrong : false ≡ true = unread in absurd (cc)
+unopened_cause before now (Err e) cause unread = record { later = cause.later; failed = λ _. cause.failed; quiet = λ other. absurd (other refl) }
+
+pub loaded_with : (m : Masters) (held : Registers) (bench : Bench) (bytes : List ℕ) → Loaded m held bench → Loaded m held (record bench { body = bytes })
+loaded_with m held bench bytes loaded = record {
+  valid = loaded.valid;
+  placed = record { coming = loaded.placed.coming; current = loaded.placed.current; former = loaded.placed.former };
+  told = loaded.told;
+}
+
+module _ (m : Medium) (masters : MasterKeys) (bytes : List ℕ) (cell : ℕ) (rows : List (Option Row)) (here : Told m (λ image. bytes ≡ body image cell)) where
+  pub opens_read : (row : Option Row) (now : List (Option Row)) → ReadsEntry masters bytes (entry_in masters bytes) → row ≡ remembered masters (entry_in masters bytes) → now ≡ set rows cell row
+      → Told m (λ image. Opens masters (body image cell) cell rows now)
+  opens_read row now reads is put =
+      told_map m (λ image. bytes ≡ body image cell) (λ image. Opens masters (body image cell) cell rows now) here
+      (λ image same. subst (λ (b : List ℕ). Opens masters b cell rows now) same (record { reads = reads; rows = put ∙ ap (set rows cell) is }))
+
+  refused_as : IsRefused masters bytes rows → Told m (λ image. IsRefused masters (body image cell) rows)
+  refused_as refused =
+      told_map m (λ image. bytes ≡ body image cell) (λ image. IsRefused masters (body image cell) rows) here
+      (λ image same. subst (λ (b : List ℕ). IsRefused masters b rows) same refused)
+
+  pub refused_unread : (n : ℕ) → cell ≡ n → ((e : Option Entry) → ReadsEntry masters bytes e → ⊥) → (n ≡ cell) × Told m (λ image. IsRefused masters (body image cell) rows)
+  refused_unread n same none = (sym same, refused_as (inl none))
+
+  pub refused_held : (n : ℕ) (row : Option Row) → cell ≡ n → ReadsEntry masters bytes (entry_in masters bytes) → row ≡ remembered masters (entry_in masters bytes)
+      → (label : List ℕ) × (row_label row ≡ Some label) × (k : ℕ) × (label_at (row_directory rows) k ≡ Some label)
+      → (n ≡ cell) × Told m (λ image. IsRefused masters (body image cell) rows)
+  refused_held n row same reads is held =
+      (sym same, refused_as (inr (of_entry (entry_in masters bytes) reads (sym (label_remembered masters (entry_in masters bytes)) ∙ ap row_label (sym is) ∙ held.1))))
+    where
+      of_entry : (o : Option Entry) → ReadsEntry masters bytes o → entry_label o ≡ Some held.0 → (e : Entry) × ReadsEntry masters bytes (Some e) × (k : ℕ) × (label_at (row_directory rows) k ≡ Some e.label)
+      of_entry None reads label = absurd (none_some held.0 label)
+      of_entry (Some e) reads label = (e, reads, held.2, held.3 ∙ sym label)

@@ -1,20 +1,22 @@
 -- What a change of one cell makes of the labels that a store stands for.
-use Rattle.std.proofs.Common.{◌≡◌, ◌≢◌, ◌<◌, inl, inr, ⊎_elim, ℕ, List, length, get_or, set, map, Option, None, Some, Result, Ok, Err, sym, ap, subst, ◌∙◌, arith}
-use Rattle.std.specs.Prelude.{OnOk}
+use Rattle.std.proofs.Common.{◌≡◌, ◌≢◌, ◌<◌, inl, inr, ⊎_elim, ℕ, List, length, get_or, set, map, Option, None, Some, Result, Ok, Err, true, false, refl, sym, ap, subst, ◌∙◌, arith}
+use Rattle.std.specs.Prelude.{IfErr, OnOk, is_some}
 use Rattle.std.proofs.lemmas.Bool.{cases_eq}
 use Rattle.std.proofs.lemmas.List.{get_or-set_same, get_or-set_other, length-set, map-set}
 use Rattle.key_cells.specs.declared.leases.Lease.{Lease}
 use Rattle.device_cells.specs.Cells.{body, IsReplaced, IsReplacing}
-use Rattle.device_cells.specs.Medium.{Medium, Told, From, Becomes}
-use Rattle.device_cells.proofs.Media.{told_from, told_at, becomes_told, each_weaker}
+use Rattle.device_cells.specs.Medium.{Medium, Told, IsSettled, From, Becomes}
+use Rattle.device_cells.proofs.Media.{told_from, told_at, becomes_same, becomes_told, each_still, each_weaker}
+use Rattle.device_cells.proofs.CellSteps.{replacing_same}
 use Rattle.key_tokens.specs.Denotes.{ClearKey, MasterKeys, Denoted}
-use Rattle.key_records.specs.Changes.{HoldsEither, ReplacesBody, ChangesLabels, ChangesRecord, KeepsAllButBody, Remembers}
+use Rattle.key_records.specs.Changes.{HoldsEither, ReplacesBody, ChangesLabels, ChangesRecord, KeepsAllButBody, RefusesLabel, Remembers}
 use Rattle.record_bodies.specs.LabelChanges.{null_entry, created, written, with_what, ahead_entry, with_both, written_ahead}
-use Rattle.record_bodies.specs.Directory.{AreApart, label_at, free_cell}
+use Rattle.record_bodies.specs.Directory.{AreApart, cell_of, label_at, free_cell}
 use Rattle.record_bodies.specs.Entries.{Entry, entry, directory, entry_label, row_directory, row_label, remembered}
 use Rattle.record_bodies.specs.RecordBody.{ReadsEntry, ReadsRow}
 use Rattle.record_bodies.specs.StoreStands.{StandsForLabels, KeepsLabels, HoldsRows, Agrees, entry_at}
 use Rattle.key_records.specs.declared.faults.RecordFault.{RecordFault}
+use Rattle.key_records.specs.declared.faults.RecordFault.TheVariants.{DiskFault, Exists, Full}
 use Rattle.record_bodies.specs.declared.rows.Row.{Row}
 use Rattle.held_names.proofs.DirectoryLaws.{none_some}
 use Rattle.record_bodies.proofs.OpeningLaws.{directory_remembered, label_remembered, label_of_entry}
@@ -159,3 +161,79 @@ changed_as medium faults n k a b row next rows now lease later old new result ce
   rest = rest;
   cause = changes.cause;
 }
+
+-- ---- a label that is refused
+
+-- no device is called
+pub refused_record : {D : Type 0} (medium : D → Medium) (faults : D → ℕ) (place : ℕ) (bytes : List ℕ) (row : Option Row) (rows : List (Option Row)) (lease : Lease) (store : D) (fault : RecordFault) → IsSettled (medium store) → (fault ≡ DiskFault → ⊥)
+    → ChangesRecord medium faults place bytes row rows rows lease lease store store (Err fault)
+refused_record medium faults place bytes row rows lease store fault settled other = record {
+  cell = record {
+    settled = tt;
+    replaced = tt;
+    replacing = becomes_same (medium store) (medium store) (IsReplacing place bytes) refl refl (λ c. replacing_same place bytes c);
+    moments = each_weaker (medium store) (medium store) (medium store).images (From (IsReplacing place bytes) (medium store)) (each_still (medium store)) (λ c image. (c, settled.only c image, replacing_same place bytes c));
+  };
+  memory = record { done = tt; kept = refl };
+  holds = tt;
+  rest = refl;
+  cause = record { later = omega arith; failed = λ is. absurd (other (cc is)); quiet = λ _. refl };
+}
+
+pub refused_labels : (masters : MasterKeys) (place : ℕ) (s next : List (Option Entry)) (rows : List (Option Row)) (m : Medium) (fault : RecordFault) → IsSettled m → Told m (KeepsLabels masters rows s)
+    → ChangesLabels masters place s next rows m m (Err fault)
+refused_labels masters place s next rows m fault settled start = record {
+  keeps = tt;
+  either = record { size = refl; told = λ c is. (c, is, either_none c (told_at m.content (KeepsLabels masters rows s) c is start)); still = λ some. some };
+  moments = each_weaker m m m.images (From (HoldsEither masters place s next) m) (each_still m)
+      (λ c image. (c, settled.only c image, either_none c (told_at m.content (KeepsLabels masters rows s) c (settled.only c image) start)));
+}
+  where
+    either_none : (c : List ℕ) → KeepsLabels masters rows s c → HoldsEither masters place s next c c
+    either_none c keeps = record { outside = record { size = refl; before = λ k below. refl; after = λ k above. refl }; others = λ n other. refl; untouched = λ k is. refl; stands = inl keeps.stands }
+
+free_isnt : (held : List (Option (List ℕ))) (cell : ℕ) → cell ≡ free_cell held → cell < 1024 → free_cell held ≡ 1024 → ⊥
+free_isnt held cell is within full = omega arith
+
+found_some : (found : Option ℕ) → is_some found ≡ true → found ≡ None → ⊥
+found_some found some none = let wrong : true ≡ false = sym some ∙ ap (λ o. is_some o) none in absurd (cc)
+
+found_none : (found : Option ℕ) → is_some found ≡ false → found ≡ None
+found_none None none = refl
+found_none (Some k) none = let wrong : true ≡ false = none in absurd (cc)
+
+module _ {D : Type 0} (held : List (Option (List ℕ))) (label : List ℕ) where
+  pub refuses_full : (lease : Lease) (store : D) → free_cell held ≡ 1024 → RefusesLabel held label lease lease store store (Err Full)
+  refuses_full lease store full = record {
+    full = (λ _. full, λ _. refl);
+    exists = (λ is. absurd (cc is), λ both. absurd (both.0 full));
+    undamaged = λ n is. absurd (cc is);
+    untouched = λ _. refl;
+    lease_untouched = λ _. refl;
+  }
+
+  pub refuses_held : (lease : Lease) (store : D) (cell : ℕ) (found : Option ℕ) → cell ≡ free_cell held → cell < 1024 → is_some found ≡ true → found ≡ cell_of label held → RefusesLabel held label lease lease store store (Err Exists)
+  refuses_held lease store cell found free within some is = record {
+    full = (λ same. absurd (cc same), λ full. absurd (free_isnt held cell free within full));
+    exists = (λ _. (free_isnt held cell free within, λ none. found_some found some (is ∙ none)), λ _. refl);
+    undamaged = λ n same. absurd (cc same);
+    untouched = λ _. refl;
+    lease_untouched = λ _. refl;
+  }
+
+  pub refuses_none : (lease later : Lease) (old new : D) (cell : ℕ) (found : Option ℕ) (result : Result (Unit {0}) RecordFault) → cell ≡ free_cell held → cell < 1024 → is_some found ≡ false → found ≡ cell_of label held
+      → IfErr result (λ fault. fault ≡ DiskFault) → RefusesLabel held label lease later old new result
+  refuses_none lease later old new cell found (Ok x) free within none is fault = record {
+    full = (λ same. absurd (cc same), λ full. absurd (free_isnt held cell free within full));
+    exists = (λ same. absurd (cc same), λ both. absurd (both.1 (sym is ∙ found_none found none)));
+    undamaged = tt;
+    untouched = λ same. absurd (⊎_elim (λ one. cc one) (λ one. cc one) same);
+    lease_untouched = λ same. absurd (⊎_elim (λ one. cc one) (λ one. cc one) same);
+  }
+  refuses_none lease later old new cell found (Err e) free within none is fault = record {
+    full = (λ same. absurd (cc (same, fault)), λ full. absurd (free_isnt held cell free within full));
+    exists = (λ same. absurd (cc (same, fault)), λ both. absurd (both.1 (sym is ∙ found_none found none)));
+    undamaged = λ n same. absurd (cc (same, fault));
+    untouched = λ same. absurd (⊎_elim (λ one. cc (one, fault)) (λ one. cc (one, fault)) same);
+    lease_untouched = λ same. absurd (⊎_elim (λ one. cc (one, fault)) (λ one. cc (one, fault)) same);
+  }

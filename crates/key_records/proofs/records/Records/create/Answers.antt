@@ -5,11 +5,12 @@ use Rattle.record_bodies.specs.LabelChanges.{created, null_entry}
 use Rattle.record_bodies.specs.Directory.{cell_of, free_cell, AreApart}
 use Rattle.record_bodies.specs.Entries.{row_directory, null_row}
 use Rattle.record_bodies.specs.RecordBody.{record_body, null_body, no_second, null_kind}
+use Rattle.key_records.specs.declared.faults.RecordFault.TheVariants.{Exists, Full}
 use Rattle.record_bodies.specs.declared.rows.Row.{Row}
 use Rattle.record_bodies.specs.declared.rows.Second.{Second}
 use Rattle.record_bodies.proofs.BodyLaws.{no_token_is}
 use Rattle.held_names.proofs.DirectoryLaws.{held_nowhere, apart_set}
-use Rattle.key_records.proofs.StoreLaws.{changed_as, created_is, labels_changed}
+use Rattle.key_records.proofs.StoreLaws.{changed_as, created_is, labels_changed, refused_labels, refused_record, refuses_full, refuses_held, refuses_none}
 use Rattle.key_records.proofs.records.Records.create.Goals as goal
 
 -- the body that was written
@@ -50,3 +51,45 @@ returns-clause-labels g c masters s start =
     (new_apart label (row_directory rows) c.in-Some.cell c.find.result c.is_some.result c.free_cell.ensures.rows.apart c.is_some.ensures c.find.ensures.found c.if-is_some.false)
     (created_is masters rows s label c.in-Some.cell c.in-Some.ensures.free.0)
     m0 m1 start c.change.result c.change.new.self c.change.ensures.changes.cell c.change.ensures.changes.memory.done)
+
+pub change-requires-clause-within : goal.change-requires-clause-within
+change-requires-clause-within g c = c.in-Some.ensures.free.1
+
+pub change-requires-clause-size : goal.change-requires-clause-size
+change-requires-clause-size g c = c.requires.size
+
+pub change-requires-clause-settled : goal.change-requires-clause-settled
+change-requires-clause-settled g c = c.requires.settled
+
+pub change-requires-clause-holds : goal.change-requires-clause-holds
+change-requires-clause-holds g c = c.requires.holds
+
+pub returns-in_default-clause-changes : goal.returns-in_default-clause-changes
+returns-in_default-clause-changes g c =
+    refused_record g.D.Disk.medium g.D.Disk.faults (free_cell (row_directory c.args.self.now)) (null_body c.args.label.now) (Some (null_row c.args.label.now)) c.args.self.now c.args.lease.now c.args.store.now Full c.requires.settled (λ is. cc is)
+
+pub returns-in_default-clause-labels : goal.returns-in_default-clause-labels
+returns-in_default-clause-labels g c masters s start =
+    refused_labels masters (free_cell (row_directory c.args.self.now)) s (created c.args.label.now s) c.args.self.now (g.D.Disk.medium c.args.store.now) Full c.requires.settled start
+
+pub returns-then-is_some-clause-changes : goal.returns-then-is_some-clause-changes
+returns-then-is_some-clause-changes g c =
+    refused_record g.D.Disk.medium g.D.Disk.faults (free_cell (row_directory c.args.self.now)) (null_body c.args.label.now) (Some (null_row c.args.label.now)) c.args.self.now c.args.lease.now c.args.store.now Exists c.requires.settled (λ is. cc is)
+
+pub returns-then-is_some-clause-labels : goal.returns-then-is_some-clause-labels
+returns-then-is_some-clause-labels g c masters s start =
+    refused_labels masters (free_cell (row_directory c.args.self.now)) s (created c.args.label.now s) c.args.self.now (g.D.Disk.medium c.args.store.now) Exists c.requires.settled start
+
+pub returns-in_default-clause-refuses : goal.returns-in_default-clause-refuses
+returns-in_default-clause-refuses g c =
+    refuses_full (row_directory c.args.self.now) c.args.label.now c.args.lease.now c.args.store.now (c.in_default.ensures.none refl)
+
+pub returns-then-is_some-clause-refuses : goal.returns-then-is_some-clause-refuses
+returns-then-is_some-clause-refuses g c =
+    refuses_held (row_directory c.args.self.now) c.args.label.now c.args.lease.now c.args.store.now c.in-Some.cell c.find.result c.in-Some.ensures.free.0 c.in-Some.ensures.free.1
+    (sym c.is_some.ensures ∙ c.if-is_some.true) c.find.ensures.found
+
+pub returns-clause-refuses : goal.returns-clause-refuses
+returns-clause-refuses g c =
+    refuses_none (row_directory c.args.self.now) c.args.label.now c.args.lease.now _ c.args.store.now c.change.new.store c.in-Some.cell c.find.result c.change.result c.in-Some.ensures.free.0 c.in-Some.ensures.free.1
+    (sym c.is_some.ensures ∙ c.if-is_some.false) c.find.ensures.found c.change.ensures.faults

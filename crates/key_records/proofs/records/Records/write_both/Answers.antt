@@ -1,16 +1,16 @@
-use Rattle.std.proofs.Common.{◌≡◌, ℕ, List, Option, Some, refl, sym, ap, subst, ◌∙◌}
+use Rattle.std.proofs.Common.{◌≡◌, ℕ, List, Option, None, Some, get_or, refl, sym, ap, subst, ◌∙◌}
 use Rattle.byte_lists.specs.Bytes.{AreBytes}
 use Rattle.cca_vectors.specs.Vectors.{length_of}
 use Rattle.key_cells.specs.Lease.{bench_of}
 use Rattle.key_tokens.specs.Denotes.{ClearKey, Denoted, MasterKeys}
-use Rattle.key_tokens.specs.Fields.{vector_bytes_of}
+use Rattle.key_tokens.specs.Fields.{pattern_of_token, vector_bytes_of}
 use Rattle.key_tokens.specs.declared.key_token.Age.TheVariants.{Current}
 use Rattle.key_tokens.specs.declared.key_token.Token.{Token}
 use Rattle.key_records.specs.Changes.{AreBoth, ChangesLabels}
 use Rattle.record_bodies.specs.LabelChanges.{ahead_entry, written_ahead}
 use Rattle.record_bodies.specs.Directory.{label_at}
-use Rattle.record_bodies.specs.Entries.{row_directory, pattern_for, pattern_or}
-use Rattle.record_bodies.specs.RecordBody.{both_body, second_token, IsKept, IsSecond}
+use Rattle.record_bodies.specs.Entries.{both_row, label_or, row_directory, pattern_for, pattern_or}
+use Rattle.record_bodies.specs.RecordBody.{both_body, renewed, second_token, IsKept, IsSecond}
 use Rattle.record_bodies.specs.declared.rows.Row.{Row}
 use Rattle.record_bodies.specs.declared.rows.Second.{Second}
 use Rattle.master_registers.specs.Loaded.{masters_in}
@@ -19,7 +19,7 @@ use Rattle.verb_rules.specs.Keys.{keys_of}
 use Rattle.held_names.proofs.DirectoryLaws.{apart_same}
 use Rattle.record_bodies.proofs.KeptLaws.{denoted_sound, denoted_pattern, denoted_vector, pattern}
 use Rattle.record_bodies.proofs.SecondLaws.{second_pattern, stands_for_none, sealed_single}
-use Rattle.key_records.proofs.StoreLaws.{written_ahead_is, labels_changed}
+use Rattle.key_records.proofs.StoreLaws.{changed_as, written_ahead_is, labels_changed}
 use Rattle.key_records.proofs.records.Records.write_both.Goals as goal
 
 pub kept_token-token-requires : goal.kept_token-token-requires
@@ -30,6 +30,13 @@ kept_token-token-requires g c =
 
 abbrev row : List ℕ → Pattern → Pattern → Row
 row label p ahead = record { label = label; pattern = Some p; ahead = Some ahead }
+
+wrote_both : (label now kept token body : List ℕ) (second : Second) → label ≡ now → kept ≡ renewed token → body ≡ both_body label kept second → body ≡ both_body now (renewed token) second
+wrote_both label now kept token body second labels tokens is =
+    is ∙ ap (λ l. both_body l kept second) labels ∙ ap (λ t. both_body now t second) tokens
+
+both_row_is : (label now token : List ℕ) (p ahead : Pattern) → label ≡ now → p.bytes ≡ pattern_of_token token → Some (row label p ahead) ≡ Some (both_row now token ahead)
+both_row_is label now token p ahead labels patterns = ap (λ l. Some (row l p ahead)) labels ∙ ap (λ b. Some (row now (pattern b) ahead)) patterns
 
 -- the second token beside the first as it is written
 is_second : (masters : MasterKeys) (token written : List ℕ) (second : Second) (clear : ClearKey) → AreBoth masters token second clear → vector_bytes_of written ≡ vector_bytes_of token
@@ -105,3 +112,36 @@ returns-clause-labels g c masters s clear start both =
     (ap (λ p. Some (row label p second.pattern)) same ∙ ap (λ p. Some (row label (pattern_for masters key) p)) ahead)
     (apart_same (row_directory rows) c.cell-cell.result label c.cell-cell.ensures.rows.apart held) (written_ahead_is masters rows s label c.cell-cell.result clear held)
     m0 m1 start c.change.result c.change.new.self c.change.ensures.changes.cell c.change.ensures.changes.memory.done)
+
+pub cell-cell-requires : goal.cell-cell-requires
+cell-cell-requires g c = c.requires.held
+
+pub label-label-requires : goal.label-label-requires
+label-label-requires g c = c.requires.held
+
+pub change-requires-clause-within : goal.change-requires-clause-within
+change-requires-clause-within g c = c.cell-cell.ensures.within
+
+pub change-requires-clause-size : goal.change-requires-clause-size
+change-requires-clause-size g c = c.requires.size
+
+pub change-requires-clause-settled : goal.change-requires-clause-settled
+change-requires-clause-settled g c = c.requires.settled
+
+pub change-requires-clause-holds : goal.change-requires-clause-holds
+change-requires-clause-holds g c = c.requires.holds
+
+pub returns-clause-changes : goal.returns-clause-changes
+returns-clause-changes g c =
+    let rows : List (Option Row) = c.args.self.now in
+    let label : List ℕ = c.label-label.result in
+    let now = (label_or (get_or rows c.args.place None)) in
+    let token : List ℕ = c.args.token.now in
+    let second : Second = c.args.second.now in
+    changed_as g.D.Disk.medium g.D.Disk.faults c.cell-cell.result c.args.place c.write_record.new.body (both_body now (renewed token) second) (Some (row label c.pattern_in-pattern.result second.pattern)) (Some (both_row now token second.pattern)) rows c.change.new.self
+    c.args.lease.now _ c.args.store.now c.change.new.store c.change.result c.cell-cell.ensures.cell
+    (wrote_both label now c.kept_token-token.result token c.write_record.new.body second c.label-label.ensures.label c.kept_token-token.ensures.renewed c.write_record.ensures.body)
+    (both_row_is label now token c.pattern_in-pattern.result second.pattern c.label-label.ensures.label c.pattern_in-pattern.ensures) refl c.change.ensures.changes
+
+pub returns-clause-faults : goal.returns-clause-faults
+returns-clause-faults g c = c.change.ensures.faults
