@@ -150,6 +150,12 @@ more l front k n is =
 pub length-piece : (body : List ℕ) (at : ℕ) → length body ≡ 192 → at + 24 ≤ 192 → length (slice_range body at (at + 24)) ≡ 24
 length-piece body at long within = simp (length-take, length-drop) (omega arith)
 
+pub long_piece : (body : List ℕ) (at : ℕ) → length body ≡ 192 → at + 24 ≤ 192 → 24 ≤ length (slice_range body at (at + 24))
+long_piece body at long within = omega (arith, length-piece body at long within)
+
+pub first_piece : (body : List ℕ) (at : ℕ) → length body ≡ 192 → at + 24 ≤ 192 → take 24 (slice_range body at (at + 24)) ≡ slice_range body at (at + 24)
+first_piece body at long within = take_all 24 (slice_range body at (at + 24)) (omega (arith, length-piece body at long within))
+
 pub master_piece : (body : List ℕ) (at : ℕ) → IsBody body → at + 24 ≤ 192 → IsMaster (slice_range body at (at + 24))
 master_piece body at bytes within = record {
   size = length-piece body at bytes.size within;

@@ -148,8 +148,10 @@ fn change<M: Disk>(
     ensures same { (result ≡ Err RegisterFault.SamePattern)
         ↔ IsTrue (repeats_pattern action (masters_in held.now (bench_of lease.old))) }
 {
-    let next = prepare(action, lease, held)?;
-    store(module, lease, next)
+    match prepare(action, lease, held) {
+        Ok(next) => store(module, lease, next),
+        Err(fault) => Err(fault),
+    }
 }
 
 /// Writes the registers of the workbench into cell 0 of the module.
