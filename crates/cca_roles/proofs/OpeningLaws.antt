@@ -1,8 +1,15 @@
 -- Opening a module: the first cell, one cell more, the end, and a cell that is refused.
-use Rattle.std.proofs.Common.{◌≡◌, ◌≤◌, ◌<◌, inl, inr, ⊎_elim, ℕ, zero, suc, ◌+◌, List, length, get_or, set, replicate, Option, None, Some, refl, sym, ap, subst, ◌∙◌, arith}
+use Rattle.std.proofs.Common.{◌≡◌, ◌≤◌, ◌<◌, ◌*◌, inl, inr, ⊎_elim, ℕ, true, false, Result, Ok, Err, zero, suc, ◌+◌, List, length, get_or, set, replicate, Option, None, Some, refl, sym, ap, subst, ◌∙◌, arith}
 use Rattle.std.proofs.lemmas.Bool.{cases_eq, cases_lt}
 use Rattle.std.proofs.lemmas.List.{get_or-set_same, get_or-set_other}
-use Rattle.device_cells.specs.Cells.{body}
+use Rattle.std.specs.Prelude.{is_err}
+use Rattle.device_cells.specs.Cells.{body, cell_size}
+use Rattle.device_cells.specs.Faults.{HasCause}
+use Rattle.device_cells.specs.Medium.{Medium, Told}
+use Rattle.device_cells.proofs.Media.{told_map}
+use Rattle.cca_roles.specs.Changes.{HasRoleCause}
+use Rattle.cca_roles.specs.declared.faults.RoleFault.{RoleFault}
+use Rattle.cca_roles.specs.declared.faults.RoleFault.TheVariants.{DiskFault}
 use Rattle.held_names.specs.Directory.{name_at, IsHeld}
 use Rattle.cca_roles.specs.Opening.{Opens, IsRefused, OpenedTo}
 use Rattle.cca_roles.specs.RoleBody.{ReadsPlace, slot_in}
@@ -98,3 +105,47 @@ opened_all image roles opened are = record {
   reads = λ n below. subst (λ (r : Option Role). ReadsPlace n (body image (n + 1)) r) (sym (opened.known n below)) (opened.reads n below);
   apart = are.apart;
 }
+
+-- ---- one cell that was read
+
+-- a cell of a place lies within a module of 33 cells
+pub place_fits : (size place k : ℕ) → size ≡ 50688 → place < 32 → k ≡ place + 1 → cell_size * (k + 1) ≤ size
+place_fits size place k is within same = omega arith
+
+pub cause_unread : {T E : Type 0} (before now : ℕ) (r : Result T E) → HasCause before now r → is_err r ≡ true → HasRoleCause before now (Err DiskFault)
+cause_unread before now (Ok x) cause unread = let wrong : false ≡ true = unread in absurd (cc)
+cause_unread before now (Err e) cause unread = record { later = cause.later; failed = λ _. cause.failed; quiet = λ other. absurd (other refl) }
+
+pub cause_read : {T E : Type 0} (before now : ℕ) (r : Result T E) → HasCause before now r → is_err r ≡ false → (result : Result (Unit {0}) RoleFault) → (result ≡ Err DiskFault → ⊥) → HasRoleCause before now result
+cause_read before now (Ok x) cause read result other = record { later = cause.later; failed = λ is. absurd (other is); quiet = λ _. cause.quiet }
+cause_read before now (Err e) cause read result other = let wrong : true ≡ false = read in absurd (cc)
+
+module _ (m : Medium) (place : ℕ) (bytes copy : List ℕ) (cell : ℕ) (roles : List (Option Role)) (same : copy ≡ bytes) (is_cell : cell ≡ place + 1) (read : Told m (λ image. bytes ≡ body image cell)) where
+  place_here : Told m (λ image. copy ≡ body image (place + 1))
+  place_here = told_map m (λ image. bytes ≡ body image cell) (λ image. copy ≡ body image (place + 1)) read (λ image here. same ∙ here ∙ ap (body image) is_cell)
+
+  pub opens_read : (slot : Option Role) (now : List (Option Role)) → slot ≡ slot_in place copy → ReadsPlace place copy slot → now ≡ set roles place slot
+      → Told m (λ image. Opens (body image (place + 1)) place roles now)
+  opens_read slot now found reads put =
+      told_map m (λ image. copy ≡ body image (place + 1)) (λ image. Opens (body image (place + 1)) place roles now) place_here
+      (λ image here. subst (λ (b : List ℕ). Opens b place roles now) here
+      (record { reads = subst (ReadsPlace place copy) found reads; known = put ∙ ap (set roles place) found }))
+
+  pub refused_read : (n : ℕ) → place + 1 ≡ n → IsRefused copy place roles → (n ≡ place + 1) × Told m (λ image. IsRefused (body image (place + 1)) place roles)
+  refused_read n is refused = (
+    sym is,
+    told_map m (λ image. copy ≡ body image (place + 1)) (λ image. IsRefused (body image (place + 1)) place roles) place_here
+        (λ image here. subst (λ (b : List ℕ). IsRefused b place roles) here refused),
+  )
+
+  pub refused_held : (n : ℕ) (slot : Option Role) → place + 1 ≡ n → ReadsPlace place copy slot → IsHeld (name_of slot) (names roles)
+      → (n ≡ place + 1) × Told m (λ image. IsRefused (body image (place + 1)) place roles)
+  refused_held n None is reads held = absurd held
+  refused_held n (Some r) is reads held = refused_read n is (inr (r, reads, held))
+
+-- the first cell reads as nothing
+pub refused_first : (m : Medium) (bytes copy : List ℕ) (cell n : ℕ) → copy ≡ bytes → cell ≡ 1 → Told m (λ image. bytes ≡ body image cell) → 1 ≡ n → ((slot : Option Role) → ReadsPlace 0 copy slot → ⊥)
+    → Told m (λ image. IsFirstDamaged image n)
+refused_first m bytes copy cell n same is_cell read is none =
+    told_map m (λ image. bytes ≡ body image cell) (λ image. IsFirstDamaged image n) read
+    (λ image here. subst (IsFirstDamaged image) is (first_damaged image (subst (λ (b : List ℕ). ReadsNothing 0 b) (same ∙ here ∙ ap (body image) is_cell) none)))

@@ -1,4 +1,4 @@
-use Rattle.std.proofs.Common.{◌≡◌, List, ℕ, Option, Some, sym, ap, subst, ◌∙◌}
+use Rattle.std.proofs.Common.{◌≡◌, List, ℕ, Option, Some, Ok, Err, inl, inr, refl, arith, sym, ap, subst, ◌∙◌}
 use Rattle.std.specs.Prelude.{set}
 use Rattle.device_cells.proofs.Media.{told_map}
 use Rattle.device_cells.specs.Cells.{body}
@@ -6,8 +6,9 @@ use Rattle.held_names.specs.Directory.{AreApart}
 use Rattle.cca_roles.specs.Opening.{OpenedTo}
 use Rattle.cca_roles.specs.RoleBody.{ReadsPlace, slot_in}
 use Rattle.cca_roles.specs.Roles.{AreRoles, names, name_of, blank_roles}
+use Rattle.cca_roles.specs.declared.faults.RoleFault.TheVariants.{Damaged}
 use Rattle.cca_roles.specs.declared.roles.Role.{Role}
-use Rattle.cca_roles.proofs.OpeningLaws.{opened_first}
+use Rattle.cca_roles.proofs.OpeningLaws.{cause_read, cause_unread, opened_first, place_fits, refused_first}
 use Rattle.cca_roles.proofs.StandLaws.{unless_err}
 use Rattle.cca_roles.proofs.TableLaws.{blank_table}
 use Rattle.cca_roles.proofs.TotalLaws.{default_read, default_apart}
@@ -37,3 +38,66 @@ returns-in-Some-clause-opened g c =
     opened_first image c.set_place.new.self
     (subst (λ (b : List ℕ). ReadsPlace 0 b (slot_in 0 b)) here reads)
     (c.set_place.ensures.set ∙ ap (λ s. set s 0 slot) c.requires.blank ∙ ap (set blank_roles 0) (found ∙ ap (slot_in 0) here)))
+
+pub read_cell-requires : goal.read_cell-requires
+read_cell-requires g c = place_fits (g.M.Disk.medium c.args.«module».now).size 0 c.new.result c.requires.size (omega arith) c.new.ensures
+
+pub returns-then-is_err-clause-opened : goal.returns-then-is_err-clause-opened
+returns-then-is_err-clause-opened g c = tt
+
+pub returns-then-is_err-clause-damaged : goal.returns-then-is_err-clause-damaged
+returns-then-is_err-clause-damaged g c n is = absurd (cc is)
+
+pub returns-then-is_err-clause-faults : goal.returns-then-is_err-clause-faults
+returns-then-is_err-clause-faults g c = inl refl
+
+pub returns-then-is_err-clause-cause : goal.returns-then-is_err-clause-cause
+returns-then-is_err-clause-cause g c =
+    cause_unread (g.M.Disk.faults c.args.«module».now) (g.M.Disk.faults c.read_cell.new.disk) c.read_cell.result c.read_cell.ensures.cause (sym c.is_err.ensures.value ∙ c.if-is_err.true)
+
+pub returns-in-Some-clause-roles : goal.returns-in-Some-clause-roles
+returns-in-Some-clause-roles g c = c.set_place.ensures.roles
+
+pub returns-in-Some-clause-damaged : goal.returns-in-Some-clause-damaged
+returns-in-Some-clause-damaged g c n is = absurd (cc is)
+
+pub returns-in-Some-clause-faults : goal.returns-in-Some-clause-faults
+returns-in-Some-clause-faults g c = tt
+
+pub returns-in-Some-clause-cause : goal.returns-in-Some-clause-cause
+returns-in-Some-clause-cause g c =
+    cause_read (g.M.Disk.faults c.args.«module».now) (g.M.Disk.faults c.read_cell.new.disk) c.read_cell.result c.read_cell.ensures.cause (sym c.is_err.ensures.value ∙ c.if-is_err.false) (Ok tt) (λ is. cc is)
+
+pub returns-in-None-clause-opened : goal.returns-in-None-clause-opened
+returns-in-None-clause-opened g c = tt
+
+pub returns-in-None-clause-faults : goal.returns-in-None-clause-faults
+returns-in-None-clause-faults g c = inr refl
+
+pub returns-in-None-clause-cause : goal.returns-in-None-clause-cause
+returns-in-None-clause-cause g c =
+    cause_read (g.M.Disk.faults c.args.«module».now) (g.M.Disk.faults c.read_cell.new.disk) c.read_cell.result c.read_cell.ensures.cause (sym c.is_err.ensures.value ∙ c.if-is_err.false) (Err (Damaged 1)) (λ is. cc is)
+
+pub returns-in-None-clause-damaged : goal.returns-in-None-clause-damaged
+returns-in-None-clause-damaged g c n is =
+    refused_first (g.M.Disk.medium c.args.«module».now) c.read_cell.new.out c.body.result.now c.new.result n c.body.ensures c.new.ensures
+    (unless_err c.read_cell.result (sym c.is_err.ensures.value ∙ c.if-is_err.false) c.read_cell.ensures.bytes)
+    (cc is) (c.in-None.ensures.none refl)
+
+pub returns-then-is_err-clause-keeps : goal.returns-then-is_err-clause-keeps
+returns-then-is_err-clause-keeps g c = c.read_cell.ensures.keeps
+
+pub returns-then-is_err-clause-rest : goal.returns-then-is_err-clause-rest
+returns-then-is_err-clause-rest g c = refl
+
+pub returns-in-Some-clause-keeps : goal.returns-in-Some-clause-keeps
+returns-in-Some-clause-keeps g c = c.read_cell.ensures.keeps
+
+pub returns-in-Some-clause-rest : goal.returns-in-Some-clause-rest
+returns-in-Some-clause-rest g c = refl
+
+pub returns-in-None-clause-keeps : goal.returns-in-None-clause-keeps
+returns-in-None-clause-keeps g c = c.read_cell.ensures.keeps
+
+pub returns-in-None-clause-rest : goal.returns-in-None-clause-rest
+returns-in-None-clause-rest g c = refl
