@@ -1,14 +1,14 @@
 -- The key that is judged of a record is that of the label.
 use Rattle.std.proofs.Common.{◌≡◌, ◌∙◌, ℕ, Bool, true, List, Option, None, Some, refl, ap, sym, subst}
-use Rattle.std.specs.Prelude.{IfSome, Result, Ok, Err, if◌then◌else◌, is_none, is_some, not, option_map}
+use Rattle.std.specs.Prelude.{◌⊎◌, IfErr, IfSome, Result, Ok, Err, if◌then◌else◌, is_none, is_some, not, option_map}
 use Rattle.cca_vectors.specs.Checks.{first_failing}
 use Rattle.cca_vectors.specs.Classes.{class_of}
 use Rattle.cca_vectors.specs.Permissions.{is_exportable}
 use Rattle.cca_vectors.specs.Vectors.{is_part_of}
 use Rattle.key_cells.specs.Bench.{Bench}
-use Rattle.key_cells.specs.Lease.{bench_of}
+use Rattle.key_cells.specs.Lease.{bench_of, holding}
 use Rattle.key_cells.specs.declared.leases.Lease.{Lease}
-use Rattle.key_records.specs.Changes.{KeepsAllButBody, ReadsToken}
+use Rattle.key_records.specs.Changes.{HasReadCause, KeepsAllButBody, ReadsToken}
 use Rattle.record_bodies.specs.Entries.{Entry, what_in}
 use Rattle.key_records.proofs.ReadKeys.{HasRead, read_key}
 use Rattle.key_tokens.specs.Denotes.{Denoted, MasterKeys, denoted}
@@ -22,7 +22,11 @@ use Rattle.verb_rules.specs.declared.needs.Need.{Need}
 use Rattle.verb_rules.specs.declared.rules.Rule.{Rule}
 use Rattle.verb_rules.proofs.NeedLemmas.{every_has}
 use Rattle.held_names.proofs.DirectoryLaws.{none_some}
-use Rattle.store_move.specs.Exports.{IsMoved, export_checks, vector_in}
+use Rattle.key_records.specs.declared.faults.RecordFault.{RecordFault}
+use Rattle.key_records.specs.declared.faults.RecordFault.TheVariants.{Damaged, DiskFault}
+use Rattle.key_transport.specs.Changes.{ChangesKeys}
+use Rattle.store_move.specs.Reading.{FailsAt}
+use Rattle.store_move.specs.Exports.{ChangesWork, IsMoved, export_checks, vector_in}
 use Rattle.store_move.specs.Stored.{IsStored, stored_checks}
 use Rattle.store_move.specs.declared.moving.Moved.TheVariants.{Kept, Token}
 
@@ -104,3 +108,37 @@ pub exported_under : (old new : Lease) (judged transport : Judged) (token : List
     → token ≡ external_token (opened (bench_of old) transport).key (opened (bench_of old) judged)
 exported_under old new judged transport token rest is =
     subst (λ (b : Bench). token ≡ external_token (opened b transport).key (opened b judged)) (ap bench_of rest) is
+
+-- ---- why a record wasn't read
+
+abbrev pub failed : (T : Type 0) → RecordFault → Result T RecordFault
+failed T e = Err e
+
+module _ (cell before now : ℕ) where
+  pub fails_none : {A B : Type 0} (x : A) (y : B) → FailsAt cell before now (Ok x) → FailsAt cell before now (Ok y)
+  fails_none x y fails = record { later = fails.later; failed = λ is. absurd (cc is); quiet = λ _. fails.quiet (λ is. cc is); faults = tt }
+
+  pub fails_same : (A B : Type 0) (e : RecordFault) → FailsAt cell before now (failed A e) → FailsAt cell before now (failed B e)
+  fails_same A B e fails = record { later = fails.later; failed = λ is. fails.failed (cc is); quiet = λ other. fails.quiet (λ is. other (cc is)); faults = fails.faults }
+
+  pub read_fails : {B : Type 0} (found : Bool) (result : Result B RecordFault) → HasReadCause before now (Ok found) → (result ≡ Err DiskFault → ⊥)
+      → IfErr result (λ fault. (fault ≡ DiskFault) ⊎ (fault ≡ Damaged cell)) → FailsAt cell before now result
+  read_fails found result cause other faults = record { later = cause.later; failed = λ is. absurd (other is); quiet = λ _. cause.quiet (λ is. cc is); faults = faults }
+
+  pub unread_fails : (B : Type 0) (e : RecordFault) → HasReadCause before now (Err e) → (e ≡ DiskFault) ⊎ (e ≡ Damaged cell) → FailsAt cell before now (failed B e)
+  unread_fails B e cause faults = record { later = cause.later; failed = λ is. cause.failed (cc is); quiet = λ other. cause.quiet (λ is. other (cc is)); faults = faults }
+
+-- ---- the lease
+
+pub body_works : (old new : Lease) → KeepsAllButBody old new → ChangesWork old new
+body_works old new keeps =
+    keeps ∙ ap (λ (l : Lease). holding old (record (bench_of old) { first = (bench_of l).first; key = (bench_of l).key; schedules = (bench_of l).schedules; body = (bench_of new).body })) (sym keeps)
+
+pub body_kept : (old new : Lease) → ChangesKeys old new → (bench_of new).body ≡ (bench_of old).body
+body_kept old new keys = ap (λ (l : Lease). (bench_of l).body) keys
+
+pub keys_work : (first between last : Lease) → KeepsAllButBody first between → ChangesKeys between last → ChangesWork first last
+keys_work first between last body keys =
+    keys
+    ∙ ap (λ (l : Lease). holding l (record (bench_of l) { first = (bench_of last).first; key = (bench_of last).key; schedules = (bench_of last).schedules })) body
+    ∙ ap (λ (b : List ℕ). holding first (record (bench_of first) { first = (bench_of last).first; key = (bench_of last).key; schedules = (bench_of last).schedules; body = b })) (sym (body_kept between last keys))

@@ -1,5 +1,5 @@
-use Rattle.std.proofs.Common.{◌≡◌, None, ap, refl, sym, ◌∙◌}
-use Rattle.std.specs.Prelude.{IsSome}
+use Rattle.std.proofs.Common.{◌≡◌, None, Ok, Err, inr, ap, refl, sym, ◌∙◌}
+use Rattle.std.specs.Prelude.{IsSome, Result}
 use Rattle.key_cells.specs.Lease.{bench_of}
 use Rattle.key_tokens.specs.Denotes.{denoted}
 use Rattle.record_bodies.specs.StoreStands.{entry_at}
@@ -7,9 +7,17 @@ use Rattle.verb_rules.specs.KeyChecks.{age_of}
 use Rattle.verb_rules.specs.Keys.{HasHalves, keys_of}
 use Rattle.verb_rules.specs.StoredKeys.{IsRead}
 use Rattle.verb_rules.proofs.JudgeLemmas.{if_ok_gives}
-use Rattle.store_move.proofs.StoredLemmas.{never_damaged, stored_as, stored_key, stored_some}
+use Rattle.store_move.proofs.StoredLemmas.{failed, never_damaged, read_fails, unread_fails, stored_as, stored_key, stored_some}
+use Rattle.key_records.specs.declared.faults.RecordFault.{RecordFault}
+use Rattle.key_records.specs.declared.faults.RecordFault.TheVariants.{Damaged}
+use Rattle.verb_rules.specs.declared.judging.Judged.{Judged}
+use Rattle.verb_rules.specs.declared.rules.Rule.{Rule}
+use Rattle.verb_rules.specs.declared.rules.Rule.TheVariants.{Null}
 use Rattle.store_move.specs.Reading.{if_found}
 use Rattle.store_move.proofs.stored.judge_record.Goals as goal
+
+abbrev null_answer : Result (Result Judged Rule) RecordFault
+null_answer = Ok (Err Null)
 
 pub returns-in-Some-clause-stored : goal.returns-in-Some-clause-stored
 returns-in-Some-clause-stored g c = λ m s loaded told.
@@ -69,3 +77,107 @@ returns-in-Ok-false-clause-own g c = λ m loaded. (
   },
   refl,
 )
+
+-- ---- what is asked, and what stays
+
+pub read-requires-clause-held : goal.read-requires-clause-held
+read-requires-clause-held g c = c.requires.held
+
+pub read-requires-clause-size : goal.read-requires-clause-size
+read-requires-clause-size g c = c.requires.size
+
+pub read-requires-clause-holds : goal.read-requires-clause-holds
+read-requires-clause-holds g c = c.requires.holds
+
+pub returns-in-Some-clause-fails : goal.returns-in-Some-clause-fails
+returns-in-Some-clause-fails g c = read_fails c.args.place (g.D.Disk.faults c.args.store.now) (g.D.Disk.faults c.read.new.store) c.in-Ok-true.field-0 (Ok c.in-Some.judged) c.in-Ok-true.ensures.cause (λ is. cc is) tt
+
+pub returns-in-None-clause-fails : goal.returns-in-None-clause-fails
+returns-in-None-clause-fails g c = read_fails c.args.place (g.D.Disk.faults c.args.store.now) (g.D.Disk.faults c.read.new.store) c.in-Ok-true.field-0 (failed (Result Judged Rule) (Damaged c.cell.result)) c.in-Ok-true.ensures.cause (λ is. cc is) (inr (ap Damaged c.cell.ensures))
+
+pub returns-in-Ok-false-clause-fails : goal.returns-in-Ok-false-clause-fails
+returns-in-Ok-false-clause-fails g c = read_fails c.args.place (g.D.Disk.faults c.args.store.now) (g.D.Disk.faults c.read.new.store) c.in-Ok-false.field-0 (null_answer) c.in-Ok-false.ensures.cause (λ is. cc is) tt
+
+pub returns-in-Err-clause-fails : goal.returns-in-Err-clause-fails
+returns-in-Err-clause-fails g c = unread_fails c.args.place (g.D.Disk.faults c.args.store.now) (g.D.Disk.faults c.read.new.store) (Result Judged Rule) c.in-Err.fault c.in-Err.ensures.cause c.in-Err.ensures.faults
+
+pub returns-in-Some-clause-damaged : goal.returns-in-Some-clause-damaged
+returns-in-Some-clause-damaged g c m s loaded told cell is = absurd (cc is)
+
+pub returns-in-Ok-false-clause-damaged : goal.returns-in-Ok-false-clause-damaged
+returns-in-Ok-false-clause-damaged g c m s loaded told cell is = absurd (cc is)
+
+pub returns-in-Err-clause-damaged : goal.returns-in-Err-clause-damaged
+returns-in-Err-clause-damaged g c m s loaded told cell is = (c.in-Err.ensures.damaged cell (cc is)).1
+
+pub returns-in-None-clause-stored : goal.returns-in-None-clause-stored
+returns-in-None-clause-stored g c m s loaded told = tt
+
+pub returns-in-None-clause-own : goal.returns-in-None-clause-own
+returns-in-None-clause-own g c m loaded = tt
+
+pub returns-in-None-clause-halves : goal.returns-in-None-clause-halves
+returns-in-None-clause-halves g c = tt
+
+pub returns-in-None-clause-age : goal.returns-in-None-clause-age
+returns-in-None-clause-age g c = tt
+
+pub returns-in-None-clause-under : goal.returns-in-None-clause-under
+returns-in-None-clause-under g c = tt
+
+pub returns-in-None-clause-double : goal.returns-in-None-clause-double
+returns-in-None-clause-double g c is = tt
+
+pub returns-in-Err-clause-stored : goal.returns-in-Err-clause-stored
+returns-in-Err-clause-stored g c m s loaded told = tt
+
+pub returns-in-Err-clause-own : goal.returns-in-Err-clause-own
+returns-in-Err-clause-own g c m loaded = tt
+
+pub returns-in-Err-clause-halves : goal.returns-in-Err-clause-halves
+returns-in-Err-clause-halves g c = tt
+
+pub returns-in-Err-clause-age : goal.returns-in-Err-clause-age
+returns-in-Err-clause-age g c = tt
+
+pub returns-in-Err-clause-under : goal.returns-in-Err-clause-under
+returns-in-Err-clause-under g c = tt
+
+pub returns-in-Err-clause-double : goal.returns-in-Err-clause-double
+returns-in-Err-clause-double g c is = tt
+
+pub returns-in-Ok-false-clause-halves : goal.returns-in-Ok-false-clause-halves
+returns-in-Ok-false-clause-halves g c = tt
+
+pub returns-in-Ok-false-clause-age : goal.returns-in-Ok-false-clause-age
+returns-in-Ok-false-clause-age g c = tt
+
+pub returns-in-Ok-false-clause-under : goal.returns-in-Ok-false-clause-under
+returns-in-Ok-false-clause-under g c = tt
+
+pub returns-in-Ok-false-clause-double : goal.returns-in-Ok-false-clause-double
+returns-in-Ok-false-clause-double g c is = tt
+
+pub returns-in-Some-clause-keeps : goal.returns-in-Some-clause-keeps
+returns-in-Some-clause-keeps g c = c.read.ensures.keeps
+
+pub returns-in-Some-clause-rest : goal.returns-in-Some-clause-rest
+returns-in-Some-clause-rest g c = c.read.ensures.rest
+
+pub returns-in-None-clause-keeps : goal.returns-in-None-clause-keeps
+returns-in-None-clause-keeps g c = c.read.ensures.keeps
+
+pub returns-in-None-clause-rest : goal.returns-in-None-clause-rest
+returns-in-None-clause-rest g c = c.read.ensures.rest
+
+pub returns-in-Ok-false-clause-keeps : goal.returns-in-Ok-false-clause-keeps
+returns-in-Ok-false-clause-keeps g c = c.read.ensures.keeps
+
+pub returns-in-Ok-false-clause-rest : goal.returns-in-Ok-false-clause-rest
+returns-in-Ok-false-clause-rest g c = c.read.ensures.rest
+
+pub returns-in-Err-clause-keeps : goal.returns-in-Err-clause-keeps
+returns-in-Err-clause-keeps g c = c.read.ensures.keeps
+
+pub returns-in-Err-clause-rest : goal.returns-in-Err-clause-rest
+returns-in-Err-clause-rest g c = c.read.ensures.rest
