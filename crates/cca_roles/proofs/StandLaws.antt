@@ -1,18 +1,20 @@
 -- What a module stands for, and what a change of one cell makes of it.
-use Rattle.std.proofs.Common.{◌≡◌, ◌≢◌, ◌≤◌, ◌<◌, ◌+◌, inl, inr, ⊎_elim, ℕ, List, length, set, Option, None, Some, Result, Ok, Err, true, false, sym, ap, subst, ◌∙◌, arith}
-use Rattle.std.specs.Prelude.{OnOk, is_err, IsErrAnd}
+use Rattle.std.proofs.Common.{◌≡◌, ◌≢◌, ◌≤◌, ◌<◌, ◌+◌, inl, inr, ⊎_elim, ℕ, List, length, set, Option, None, Some, Result, Ok, Err, true, false, refl, sym, ap, subst, ◌∙◌, arith}
+use Rattle.std.specs.Prelude.{◌⊎◌, IfErr, OnOk, is_err, IsErrAnd}
 use Rattle.std.proofs.lemmas.Bool.{cases_eq, cases_lt}
 use Rattle.std.proofs.lemmas.List.{get_or-set_same, get_or-set_other, length-set, ext_get_or}
 use Rattle.std.proofs.lemmas.List.FromFn.{length-map-range_with_len, get_or-map-range_with_len}
 use Rattle.device_cells.specs.Cells.{body, IsReplaced, IsReplacing}
-use Rattle.device_cells.specs.Medium.{Medium, Told, From, Becomes, EachImage}
+use Rattle.device_cells.specs.Medium.{Medium, Told, IsSettled, From, Becomes, EachImage}
 use Rattle.device_cells.specs.SpareBytes.{HasTurned}
-use Rattle.device_cells.proofs.Media.{told_at, becomes_told, becomes_weaker, each_weaker}
-use Rattle.cca_roles.specs.Changes.{HoldsEither}
+use Rattle.device_cells.proofs.Media.{told_at, becomes_told, becomes_weaker, each_still, each_weaker}
+use Rattle.cca_roles.specs.Changes.{ChangesRoles, HasRoleCause, HoldsEither}
 use Rattle.held_names.specs.Directory.{name_at, AreApart}
 use Rattle.cca_roles.specs.RoleBody.{ReadsPlace, slot_in}
 use Rattle.cca_roles.specs.Roles.{names, name_of, role_at}
 use Rattle.cca_roles.specs.RolesStand.{StandsForRoles, roles_in, IsDamagedPlace, IsFirstDamaged}
+use Rattle.cca_roles.specs.declared.faults.RoleFault.{RoleFault}
+use Rattle.cca_roles.specs.declared.faults.RoleFault.TheVariants.{DiskFault}
 use Rattle.cca_roles.specs.declared.roles.Role.{Role}
 use Rattle.cca_roles.proofs.BodyLaws.{reads_one}
 use Rattle.cca_roles.proofs.TableLaws.{name_of_place}
@@ -113,3 +115,37 @@ unless_err (Err e) is holds = let wrong : true ≡ false = is in absurd (cc)
 pub handed_on : {T E : Type 0} (r : Result T E) (fault : E) → IsErrAnd r (λ e. e ≡ fault) → r ≡ Err fault
 handed_on (Ok x) fault is = absurd is
 handed_on (Err e) fault is = ap (λ f. Err f) is
+
+-- ---- a change that is refused calls no device
+
+pub refused_changes : (place : ℕ) (s next : List (Option Role)) (m : Medium) (fault : RoleFault) → IsSettled m → Told m (λ image. StandsForRoles image s) → ChangesRoles place s next m m (Err fault)
+refused_changes place s next m fault settled start = record {
+  settled = tt;
+  stands = tt;
+  turned = tt;
+  either = record { size = refl; told = λ c is. (c, is, either_none c (told_at m.content (λ image. StandsForRoles image s) c is start)); still = λ some. some };
+  moments = each_weaker m m m.images (From (HoldsEither (place + 1) s next) m) (each_still m)
+      (λ c image. (c, settled.only c image, either_none c (told_at m.content (λ image. StandsForRoles image s) c (settled.only c image) start)));
+}
+  where
+    either_none : (c : List ℕ) → StandsForRoles c s → HoldsEither (place + 1) s next c c
+    either_none c stands = record { outside = record { size = refl; before = λ k below. refl; after = λ k above. refl }; others = λ n other. refl; untouched = λ k is. refl; stands = inl stands }
+
+pub refused_cause : (count : ℕ) (fault : RoleFault) → (fault ≡ DiskFault → ⊥) → HasRoleCause count count (Err fault)
+refused_cause count fault other = record { later = omega arith; failed = λ is. absurd (other (cc is)); quiet = λ _. refl }
+
+-- a change that isn't refused fails by the disk alone
+module _ (result : Result (Unit {0}) RoleFault) (faults : IfErr result (λ fault. fault ≡ DiskFault)) (refusal : RoleFault) (other : refusal ≡ DiskFault → ⊥) where
+  pub never_refused : result ≡ Err refusal → ⊥
+  never_refused is = by_result result faults is
+    where
+      by_result : (r : Result (Unit {0}) RoleFault) → IfErr r (λ fault. fault ≡ DiskFault) → r ≡ Err refusal → ⊥
+      by_result (Ok x) faults is = cc is
+      by_result (Err e) faults is = let same : e ≡ refusal = cc is in other (sym same ∙ faults)
+
+  pub disk_or : IfErr result (λ fault. (fault ≡ DiskFault) ⊎ (fault ≡ refusal))
+  disk_or = by_result result faults
+    where
+      by_result : (r : Result (Unit {0}) RoleFault) → IfErr r (λ fault. fault ≡ DiskFault) → IfErr r (λ fault. (fault ≡ DiskFault) ⊎ (fault ≡ refusal))
+      by_result (Ok x) faults = tt
+      by_result (Err e) faults = inl faults
