@@ -11,6 +11,7 @@ pub mod EndingLemmas
 pub mod CourseLemmas
 pub mod ProgressLemmas
 pub mod BegunLemmas
+pub mod LeftLemmas
 mod SentLemmas
 mod KeptLemmas
 mod EntryLaws
