@@ -7,3 +7,6 @@ pub mod OpeningLemmas
 pub mod RunLemmas
 pub mod CourseLemmas
 pub mod TakenLemmas
+pub mod AnsweredLemmas
+mod LeftLemmas
+mod ProgressLemmas

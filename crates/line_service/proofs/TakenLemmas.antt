@@ -120,6 +120,9 @@ read_failed fault is = subst (λ (x : LineFault). AsRead (Err x) (Err ReadFault)
 pub read_over : (fault : LineFault) → fault ≡ line_fault.InputLimit → AsRead (Err fault) (Err InputLimit)
 read_over fault is = subst (λ (x : LineFault). AsRead (Err x) (Err InputLimit)) (sym is) over_read
 
+pub over_not_failed : (fault : LineFault) → fault ≡ line_fault.InputLimit → ◌≡◌ {A = Result Taken LineFault} (Err fault) (Err line_fault.ReadFault) → ⊥
+over_not_failed fault is h = cc (is, h)
+
 -- a read that gave a line is none of these
 not_end : (taken : Taken) (q : Result Served Stop) → AsRead (Ok taken) q → (◌≡◌ {A = Result Taken LineFault} (Ok taken) (Ok End) → ⊥) → ⊥
 not_end taken q tells never = by_answer tells.unanswered

@@ -1,11 +1,14 @@
 -- What a line leaves, by how far it came.
-use Rattle.std.proofs.Common.{◌≡◌, ◌++◌, ℕ, List, Ok, Err, subst, refl, rules}
+use Rattle.std.proofs.Common.{◌≡◌, ◌++◌, ℕ, List, None, Ok, Err, ap, subst, refl, inl, inr}
 use Rattle.device_cells.specs.WhereTold.{WhereTold}
+use Rattle.line_service.specs.Devices.{devices, outside}
 use Rattle.line_service.specs.Machine.{world}
 use Rattle.line_service.specs.Sending.{GotPart}
+use Rattle.line_service.specs.declared.serving.Served.TheVariants.{Replied, Ended}
+use Rattle.line_service.specs.declared.stops.Stop.TheVariants.{ReadFault, WriteFault, InputLimit}
+use Rattle.line_service.proofs.AnsweredLemmas.{outside_cut, outside_replied, outside_stopped, outside_untouched, cut_of_sink, replied_of_sink, undamaged_answered, undamaged_stopped, undamaged_untouched, unmoved_cut, unmoved_replied, unmoved_stopped, unmoved_untouched}
 use Rattle.line_service.proofs.LineLemmas.{line_replied, line_cut, line_lost, line_ended, line_unread, line_over}
-use Rattle.line_service.proofs.StopLemmas.{devices_stopped, devices_unread, no_desk_read, no_desk_write, count_still, grows_none}
-use Rattle.line_service.proofs.TakenLemmas.{line_was_taken, no_line_was_taken, answered_replied, answered_cut, answered_stop, read_ended, read_failed, read_over}
+use Rattle.line_service.proofs.TakenLemmas.{line_was_taken, no_line_was_taken, over_not_failed, answered_replied, answered_cut, answered_stop, read_ended, read_failed, read_over}
 use Rattle.line_service.proofs.serving.serve_one.Goals as goal
 
 pub returns-in-Ok-send-clause-serves : goal.returns-in-Ok-send-clause-serves
@@ -85,22 +88,112 @@ returns-in-Err-InputLimit-clause-taken g c =
     no_line_was_taken (Err c.in-Err-InputLimit.field-0) _ c.args.lines.now c.read_line.new.buffer _ (read_over _ c.in-Err-InputLimit.field-0-is) tt tt c.in-Err-InputLimit.ensures.end c.read_line.ensures.ended c.in-Err-InputLimit.ensures.ends
     c.read_line.ensures.at_end c.read_line.ensures.counted c.read_line.ensures.within c.read_line.ensures.early c.in-Err-InputLimit.ensures.limit c.in-Err-InputLimit.ensures.full c.in-Err-InputLimit.ensures.short c.in-Err-InputLimit.ensures.emptied c.in-Err-InputLimit.ensures.lost
 
+pub returns-in-Ok-send-clause-left : goal.returns-in-Ok-send-clause-left
+returns-in-Ok-send-clause-left g c =
+    outside_replied (record {
+      old = outside (g.S.Source.left c.args.source.now) (g.S.Source.faults c.args.source.now) (g.K.Sink.held c.args.sink.now) (g.K.Sink.faults c.args.sink.now)
+          (devices (g.M.Disk.medium c.args.module.now) (g.M.Disk.faults c.args.module.now) (g.D.Disk.medium c.args.store.now) (g.D.Disk.faults c.args.store.now) (g.E.Entropy.left c.args.entropy.now) (g.E.Entropy.faults c.args.entropy.now));
+      new = outside (g.S.Source.left c.read_line.new.source) (g.S.Source.faults c.read_line.new.source) (g.K.Sink.held c.send.new.sink) (g.K.Sink.faults c.send.new.sink)
+          (devices (g.M.Disk.medium c.answer_taken.new.module) (g.M.Disk.faults c.answer_taken.new.module) (g.D.Disk.medium c.answer_taken.new.store) (g.D.Disk.faults c.answer_taken.new.store) (g.E.Entropy.left c.answer_taken.new.entropy) (g.E.Entropy.faults c.answer_taken.new.entropy));
+    })
+    c.read_line.ensures.later (c.in-Ok.ensures.quiet (λ h. cc h)) c.in-Ok-answer_taken.ensures.left c.send.ensures.cause.later _ c.in-Ok-send.ensures.cause.quiet c.in-Ok-send.ensures.all
+
+pub returns-in-Err-send-clause-left : goal.returns-in-Err-send-clause-left
+returns-in-Err-send-clause-left g c =
+    outside_cut (record {
+      old = outside (g.S.Source.left c.args.source.now) (g.S.Source.faults c.args.source.now) (g.K.Sink.held c.args.sink.now) (g.K.Sink.faults c.args.sink.now)
+          (devices (g.M.Disk.medium c.args.module.now) (g.M.Disk.faults c.args.module.now) (g.D.Disk.medium c.args.store.now) (g.D.Disk.faults c.args.store.now) (g.E.Entropy.left c.args.entropy.now) (g.E.Entropy.faults c.args.entropy.now));
+      new = outside (g.S.Source.left c.read_line.new.source) (g.S.Source.faults c.read_line.new.source) (g.K.Sink.held c.send.new.sink) (g.K.Sink.faults c.send.new.sink)
+          (devices (g.M.Disk.medium c.answer_taken.new.module) (g.M.Disk.faults c.answer_taken.new.module) (g.D.Disk.medium c.answer_taken.new.store) (g.D.Disk.faults c.answer_taken.new.store) (g.E.Entropy.left c.answer_taken.new.entropy) (g.E.Entropy.faults c.answer_taken.new.entropy));
+    })
+    c.read_line.ensures.later (c.in-Ok.ensures.quiet (λ h. cc h)) c.in-Ok-answer_taken.ensures.left c.send.ensures.cause.later _ c.in-Err-send.ensures.cause.failed c.in-Err-send.ensures.part
+
 pub returns-in-Err-clause-left : goal.returns-in-Err-clause-left
-returns-in-Err-clause-left g c = record {
-  devices_left = devices_stopped g.A.Desk.machine c.in-Err.stop _ c.in-Err.ensures.left;
-  source_left = record {
-    later = c.read_line.ensures.later;
-    fault = λ h. absurd (no_desk_read c.in-Err.stop c.in-Err.ensures.stops h);
-    quiet = λ none. c.in-Ok.ensures.quiet (λ h. cc h);
-  };
-  sink_left = count_still _ _ (no_desk_write c.in-Err.stop c.in-Err.ensures.stops);
-  sink_grows = grows_none (g.K.Sink.held c.args.sink.now);
-}
+returns-in-Err-clause-left g c =
+    outside_stopped g.A.Desk.machine c.in-Err.stop c.in-Err.ensures.stops
+    (record { old = (devices (g.M.Disk.medium c.args.module.now) (g.M.Disk.faults c.args.module.now) (g.D.Disk.medium c.args.store.now) (g.D.Disk.faults c.args.store.now) (g.E.Entropy.left c.args.entropy.now) (g.E.Entropy.faults c.args.entropy.now)); new = (devices (g.M.Disk.medium c.answer_taken.new.module) (g.M.Disk.faults c.answer_taken.new.module) (g.D.Disk.medium c.answer_taken.new.store) (g.D.Disk.faults c.answer_taken.new.store) (g.E.Entropy.left c.answer_taken.new.entropy) (g.E.Entropy.faults c.answer_taken.new.entropy)) })
+    (g.S.Source.left c.args.source.now) (g.S.Source.left c.read_line.new.source) (g.K.Sink.held c.args.sink.now) (g.S.Source.faults c.args.source.now) (g.S.Source.faults c.read_line.new.source) (g.K.Sink.faults c.args.sink.now) c.read_line.ensures.later (c.in-Ok.ensures.quiet (λ h. cc h)) c.in-Err.ensures.left
+
+pub returns-in-End-clause-left : goal.returns-in-End-clause-left
+returns-in-End-clause-left g c =
+    outside_untouched (devices (g.M.Disk.medium c.args.module.now) (g.M.Disk.faults c.args.module.now) (g.D.Disk.medium c.args.store.now) (g.D.Disk.faults c.args.store.now) (g.E.Entropy.left c.args.entropy.now) (g.E.Entropy.faults c.args.entropy.now))
+    (g.S.Source.left c.args.source.now) (g.S.Source.left c.read_line.new.source) (g.K.Sink.held c.args.sink.now) (g.S.Source.faults c.args.source.now) (g.S.Source.faults c.read_line.new.source) (g.K.Sink.faults c.args.sink.now) (Ok Ended) (inl refl) c.requires.disks.module_settled c.requires.disks.store_settled
+    (record { later = c.read_line.ensures.later; fault = λ h. absurd (cc h); quiet = λ none. c.in-Ok.ensures.quiet (λ h. cc h) })
 
 pub returns-in-Err-ReadFault-clause-left : goal.returns-in-Err-ReadFault-clause-left
-returns-in-Err-ReadFault-clause-left g c = record {
-  devices_left = devices_unread g.A.Desk.machine _;
-  source_left = record { later = c.read_line.ensures.later; fault = λ h. search rules; quiet = λ none. absurd (none refl) };
-  sink_left = count_still _ _ (λ h. cc h);
-  sink_grows = grows_none (g.K.Sink.held c.args.sink.now);
-}
+returns-in-Err-ReadFault-clause-left g c =
+    outside_untouched (devices (g.M.Disk.medium c.args.module.now) (g.M.Disk.faults c.args.module.now) (g.D.Disk.medium c.args.store.now) (g.D.Disk.faults c.args.store.now) (g.E.Entropy.left c.args.entropy.now) (g.E.Entropy.faults c.args.entropy.now))
+    (g.S.Source.left c.args.source.now) (g.S.Source.left c.read_line.new.source) (g.K.Sink.held c.args.sink.now) (g.S.Source.faults c.args.source.now) (g.S.Source.faults c.read_line.new.source) (g.K.Sink.faults c.args.sink.now) (Err ReadFault) (inr (inl refl)) c.requires.disks.module_settled c.requires.disks.store_settled
+    (record { later = c.read_line.ensures.later; fault = λ h. c.in-Err-ReadFault.ensures.fault (ap Err c.in-Err-ReadFault.field-0-is); quiet = λ none. absurd (none refl) })
+
+pub returns-in-Err-InputLimit-clause-left : goal.returns-in-Err-InputLimit-clause-left
+returns-in-Err-InputLimit-clause-left g c =
+    outside_untouched (devices (g.M.Disk.medium c.args.module.now) (g.M.Disk.faults c.args.module.now) (g.D.Disk.medium c.args.store.now) (g.D.Disk.faults c.args.store.now) (g.E.Entropy.left c.args.entropy.now) (g.E.Entropy.faults c.args.entropy.now))
+    (g.S.Source.left c.args.source.now) (g.S.Source.left c.read_line.new.source) (g.K.Sink.held c.args.sink.now) (g.S.Source.faults c.args.source.now) (g.S.Source.faults c.read_line.new.source) (g.K.Sink.faults c.args.sink.now) (Err InputLimit) (inr (inr refl)) c.requires.disks.module_settled c.requires.disks.store_settled
+    (record { later = c.read_line.ensures.later; fault = λ h. absurd (cc h); quiet = λ none. c.in-Err-InputLimit.ensures.quiet (λ h. over_not_failed c.in-Err-InputLimit.field-0 c.in-Err-InputLimit.field-0-is h) })
+
+pub returns-in-Ok-send-clause-undamaged : goal.returns-in-Ok-send-clause-undamaged
+returns-in-Ok-send-clause-undamaged g c =
+    undamaged_answered g.A.Desk.machine (devices (g.M.Disk.medium c.args.module.now) (g.M.Disk.faults c.args.module.now) (g.D.Disk.medium c.args.store.now) (g.D.Disk.faults c.args.store.now) None 0) (Ok Replied) replied_of_sink
+
+pub returns-in-Err-send-clause-undamaged : goal.returns-in-Err-send-clause-undamaged
+returns-in-Err-send-clause-undamaged g c =
+    undamaged_answered g.A.Desk.machine (devices (g.M.Disk.medium c.args.module.now) (g.M.Disk.faults c.args.module.now) (g.D.Disk.medium c.args.store.now) (g.D.Disk.faults c.args.store.now) None 0) (Err WriteFault) cut_of_sink
+
+pub returns-in-Err-clause-undamaged : goal.returns-in-Err-clause-undamaged
+returns-in-Err-clause-undamaged g c =
+    undamaged_stopped g.A.Desk.machine (devices (g.M.Disk.medium c.args.module.now) (g.M.Disk.faults c.args.module.now) (g.D.Disk.medium c.args.store.now) (g.D.Disk.faults c.args.store.now) None 0) c.in-Err.stop c.in-Err.ensures.undamaged
+
+pub returns-in-End-clause-undamaged : goal.returns-in-End-clause-undamaged
+returns-in-End-clause-undamaged g c =
+    undamaged_untouched g.A.Desk.machine (devices (g.M.Disk.medium c.args.module.now) (g.M.Disk.faults c.args.module.now) (g.D.Disk.medium c.args.store.now) (g.D.Disk.faults c.args.store.now) None 0) (Ok Ended) (inl refl)
+
+pub returns-in-Err-ReadFault-clause-undamaged : goal.returns-in-Err-ReadFault-clause-undamaged
+returns-in-Err-ReadFault-clause-undamaged g c =
+    undamaged_untouched g.A.Desk.machine (devices (g.M.Disk.medium c.args.module.now) (g.M.Disk.faults c.args.module.now) (g.D.Disk.medium c.args.store.now) (g.D.Disk.faults c.args.store.now) None 0) (Err ReadFault) (inr (inl refl))
+
+pub returns-in-Err-InputLimit-clause-undamaged : goal.returns-in-Err-InputLimit-clause-undamaged
+returns-in-Err-InputLimit-clause-undamaged g c =
+    undamaged_untouched g.A.Desk.machine (devices (g.M.Disk.medium c.args.module.now) (g.M.Disk.faults c.args.module.now) (g.D.Disk.medium c.args.store.now) (g.D.Disk.faults c.args.store.now) None 0) (Err InputLimit) (inr (inr refl))
+
+pub returns-in-Ok-send-clause-unmoved : goal.returns-in-Ok-send-clause-unmoved
+returns-in-Ok-send-clause-unmoved g c =
+    unmoved_replied c.args.sink.now c.send.new.sink c.args.module.now c.answer_taken.new.module c.args.store.now c.answer_taken.new.store c.args.entropy.now c.answer_taken.new.entropy c.args.desk.now c.answer_taken.new.desk
+
+pub returns-in-Err-send-clause-unmoved : goal.returns-in-Err-send-clause-unmoved
+returns-in-Err-send-clause-unmoved g c =
+    unmoved_cut c.args.sink.now c.send.new.sink c.args.module.now c.answer_taken.new.module c.args.store.now c.answer_taken.new.store c.args.entropy.now c.answer_taken.new.entropy c.args.desk.now c.answer_taken.new.desk
+
+pub returns-in-Err-clause-unmoved : goal.returns-in-Err-clause-unmoved
+returns-in-Err-clause-unmoved g c =
+    unmoved_stopped c.args.sink.now c.args.sink.now c.args.module.now c.answer_taken.new.module c.args.store.now c.answer_taken.new.store c.args.entropy.now c.answer_taken.new.entropy c.args.desk.now c.answer_taken.new.desk c.in-Err.stop c.in-Err.ensures.stops
+
+pub returns-in-End-clause-unmoved : goal.returns-in-End-clause-unmoved
+returns-in-End-clause-unmoved g c =
+    unmoved_untouched (Ok Ended) c.args.sink.now c.args.module.now c.args.store.now c.args.entropy.now c.args.desk.now
+
+pub returns-in-Err-ReadFault-clause-unmoved : goal.returns-in-Err-ReadFault-clause-unmoved
+returns-in-Err-ReadFault-clause-unmoved g c =
+    unmoved_untouched (Err ReadFault) c.args.sink.now c.args.module.now c.args.store.now c.args.entropy.now c.args.desk.now
+
+pub returns-in-Err-InputLimit-clause-unmoved : goal.returns-in-Err-InputLimit-clause-unmoved
+returns-in-Err-InputLimit-clause-unmoved g c =
+    unmoved_untouched (Err InputLimit) c.args.sink.now c.args.module.now c.args.store.now c.args.entropy.now c.args.desk.now
+
+pub returns-in-Ok-send-clause-unread : goal.returns-in-Ok-send-clause-unread
+returns-in-Ok-send-clause-unread g c = c.read_line.ensures.ready
+
+pub returns-in-Err-send-clause-unread : goal.returns-in-Err-send-clause-unread
+returns-in-Err-send-clause-unread g c = c.read_line.ensures.ready
+
+pub returns-in-Err-clause-unread : goal.returns-in-Err-clause-unread
+returns-in-Err-clause-unread g c = c.read_line.ensures.ready
+
+pub returns-in-End-clause-unread : goal.returns-in-End-clause-unread
+returns-in-End-clause-unread g c = c.read_line.ensures.ready
+
+pub returns-in-Err-ReadFault-clause-unread : goal.returns-in-Err-ReadFault-clause-unread
+returns-in-Err-ReadFault-clause-unread g c = c.read_line.ensures.ready
+
+pub returns-in-Err-InputLimit-clause-unread : goal.returns-in-Err-InputLimit-clause-unread
+returns-in-Err-InputLimit-clause-unread g c = c.read_line.ensures.ready
