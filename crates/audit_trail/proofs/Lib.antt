@@ -4,3 +4,4 @@ pub mod TrailLaws
 pub mod OpeningLaws
 pub mod MediumLaws
 pub mod TotalLaws
+mod ReadingLaws
