@@ -5,3 +5,4 @@ pub mod OpeningLaws
 pub mod MediumLaws
 pub mod TotalLaws
 mod ReadingLaws
+mod OpenedLaws

@@ -1,11 +1,13 @@
 use Rattle.std.proofs.Common.{ℕ, Option, None, Some, Err, inl, inr, sym, ap, subst, ◌∙◌, arith}
-use Rattle.device_cells.proofs.Media.{told_after, told_earlier, told_joined, told_map}
+use Rattle.device_cells.proofs.Media.{keeps_then, told_after, told_earlier, told_joined, told_map}
 use Rattle.device_cells.specs.Medium.{Told}
 use Rattle.device_cells.proofs.WhereToldLemmas.{rose_wider}
 use Rattle.audit_trail.specs.Opening.{Scanned, Checked}
 use Rattle.audit_trail.specs.TrailStands.{StandsForTrail, IsFirstStray, IsFirstStale, IsFirstDamaged}
-use Rattle.audit_trail.specs.declared.faults.TrailFault.TheVariants.{Damaged}
+use Rattle.audit_trail.specs.declared.faults.TrailFault.TheVariants.{DiskFault, Damaged}
 use Rattle.audit_trail.proofs.MediumLaws.{same_fault, exact_by}
+use Rattle.audit_trail.proofs.OpenedLaws.{opened_kept, opened_left, failed_then}
+use Rattle.audit_trail.proofs.ReadingLaws.{ok_not_err, err_as}
 use Rattle.audit_trail.proofs.OpeningLaws.{stands_blank, blank_undamaged, stands_checked, checked_undamaged}
 use Rattle.audit_trail.proofs.opening.open_trail.Goals as goal
 
@@ -68,3 +70,55 @@ returns-in-Err-clause-exact g c fell =
     (λ failed. fell (rose_wider _ _ _ _ (omega (arith, c.settle.ensures.cause.later)) c.scan_cells.ensures.later (omega arith) (c.scan_cells.ensures.failed (c.in-Err.is ∙ ap Err failed))))
     c.in-Err.ensures.faults
     (λ n is. returns-in-Err-clause-damaged g c n (ap Err is))
+
+pub returns-in-Ok-None-clause-keeps : goal.returns-in-Ok-None-clause-keeps
+returns-in-Ok-None-clause-keeps g c =
+    opened_kept (g.T.Disk.medium c.args.trail.now) (g.T.Disk.medium c.settle.new.disk) (g.T.Disk.medium c.scan_cells.new.trail) (g.T.Disk.faults c.args.trail.now) (g.T.Disk.faults c.settle.new.disk) (g.T.Disk.faults c.scan_cells.new.trail)
+    c.settle.result c.if-is_err.ensures.value c.settle.ensures.settled c.settle.ensures.content c.settle.ensures.moments c.settle.ensures.cause
+    c.scan_cells.ensures.keeps
+
+pub returns-in-Ok-None-clause-left : goal.returns-in-Ok-None-clause-left
+returns-in-Ok-None-clause-left g c =
+    opened_left (g.T.Disk.medium c.args.trail.now) (g.T.Disk.medium c.settle.new.disk) (g.T.Disk.medium c.scan_cells.new.trail) (g.T.Disk.faults c.args.trail.now) (g.T.Disk.faults c.settle.new.disk) (g.T.Disk.faults c.scan_cells.new.trail)
+    c.settle.result c.if-is_err.ensures.value c.settle.ensures.settled c.settle.ensures.content c.settle.ensures.moments c.settle.ensures.cause
+    c.scan_cells.ensures.keeps _ _
+    c.scan_cells.ensures.later (λ h. absurd (ok_not_err tt DiskFault h)) (λ none. c.in-Ok-None.ensures.quiet (ok_not_err c.in-Ok-None.field-0 DiskFault))
+
+pub returns-in-Ok-clause-keeps : goal.returns-in-Ok-clause-keeps
+returns-in-Ok-clause-keeps g c =
+    opened_kept (g.T.Disk.medium c.args.trail.now) (g.T.Disk.medium c.settle.new.disk) (g.T.Disk.medium c.check_cells.new.trail) (g.T.Disk.faults c.args.trail.now) (g.T.Disk.faults c.settle.new.disk) (g.T.Disk.faults c.check_cells.new.trail)
+    c.settle.result c.if-is_err.ensures.value c.settle.ensures.settled c.settle.ensures.content c.settle.ensures.moments c.settle.ensures.cause
+    (keeps_then (g.T.Disk.medium c.settle.new.disk) (g.T.Disk.medium c.scan_cells.new.trail) (g.T.Disk.medium c.check_cells.new.trail) c.scan_cells.ensures.keeps c.check_cells.ensures.keeps)
+
+pub returns-in-Ok-clause-left : goal.returns-in-Ok-clause-left
+returns-in-Ok-clause-left g c =
+    opened_left (g.T.Disk.medium c.args.trail.now) (g.T.Disk.medium c.settle.new.disk) (g.T.Disk.medium c.check_cells.new.trail) (g.T.Disk.faults c.args.trail.now) (g.T.Disk.faults c.settle.new.disk) (g.T.Disk.faults c.check_cells.new.trail)
+    c.settle.result c.if-is_err.ensures.value c.settle.ensures.settled c.settle.ensures.content c.settle.ensures.moments c.settle.ensures.cause
+    (keeps_then (g.T.Disk.medium c.settle.new.disk) (g.T.Disk.medium c.scan_cells.new.trail) (g.T.Disk.medium c.check_cells.new.trail) c.scan_cells.ensures.keeps c.check_cells.ensures.keeps) _ _
+    (omega (arith, c.scan_cells.ensures.later, c.check_cells.ensures.later)) (λ h. absurd (ok_not_err tt DiskFault h)) (λ none. c.in-Ok.ensures.quiet (ok_not_err tt DiskFault) ∙ (c.in-Ok-Some.ensures.quiet (ok_not_err c.in-Ok-Some.field-0 DiskFault)))
+
+pub returns-in-Err-check_cells-clause-keeps : goal.returns-in-Err-check_cells-clause-keeps
+returns-in-Err-check_cells-clause-keeps g c =
+    opened_kept (g.T.Disk.medium c.args.trail.now) (g.T.Disk.medium c.settle.new.disk) (g.T.Disk.medium c.check_cells.new.trail) (g.T.Disk.faults c.args.trail.now) (g.T.Disk.faults c.settle.new.disk) (g.T.Disk.faults c.check_cells.new.trail)
+    c.settle.result c.if-is_err.ensures.value c.settle.ensures.settled c.settle.ensures.content c.settle.ensures.moments c.settle.ensures.cause
+    (keeps_then (g.T.Disk.medium c.settle.new.disk) (g.T.Disk.medium c.scan_cells.new.trail) (g.T.Disk.medium c.check_cells.new.trail) c.scan_cells.ensures.keeps c.check_cells.ensures.keeps)
+
+pub returns-in-Err-check_cells-clause-left : goal.returns-in-Err-check_cells-clause-left
+returns-in-Err-check_cells-clause-left g c =
+    opened_left (g.T.Disk.medium c.args.trail.now) (g.T.Disk.medium c.settle.new.disk) (g.T.Disk.medium c.check_cells.new.trail) (g.T.Disk.faults c.args.trail.now) (g.T.Disk.faults c.settle.new.disk) (g.T.Disk.faults c.check_cells.new.trail)
+    c.settle.result c.if-is_err.ensures.value c.settle.ensures.settled c.settle.ensures.content c.settle.ensures.moments c.settle.ensures.cause
+    (keeps_then (g.T.Disk.medium c.settle.new.disk) (g.T.Disk.medium c.scan_cells.new.trail) (g.T.Disk.medium c.check_cells.new.trail) c.scan_cells.ensures.keeps c.check_cells.ensures.keeps) _ _
+    (omega (arith, c.scan_cells.ensures.later, c.check_cells.ensures.later)) (failed_then (g.T.Disk.faults c.settle.new.disk) (g.T.Disk.faults c.scan_cells.new.trail) (g.T.Disk.faults c.check_cells.new.trail) _ (c.in-Ok-Some.ensures.quiet (ok_not_err c.in-Ok-Some.field-0 DiskFault)) c.in-Err-check_cells.ensures.failed) (λ none. c.in-Err-check_cells.ensures.quiet none ∙ (c.in-Ok-Some.ensures.quiet (ok_not_err c.in-Ok-Some.field-0 DiskFault)))
+
+pub returns-in-Err-clause-keeps : goal.returns-in-Err-clause-keeps
+returns-in-Err-clause-keeps g c =
+    opened_kept (g.T.Disk.medium c.args.trail.now) (g.T.Disk.medium c.settle.new.disk) (g.T.Disk.medium c.scan_cells.new.trail) (g.T.Disk.faults c.args.trail.now) (g.T.Disk.faults c.settle.new.disk) (g.T.Disk.faults c.scan_cells.new.trail)
+    c.settle.result c.if-is_err.ensures.value c.settle.ensures.settled c.settle.ensures.content c.settle.ensures.moments c.settle.ensures.cause
+    c.scan_cells.ensures.keeps
+
+pub returns-in-Err-clause-left : goal.returns-in-Err-clause-left
+returns-in-Err-clause-left g c =
+    opened_left (g.T.Disk.medium c.args.trail.now) (g.T.Disk.medium c.settle.new.disk) (g.T.Disk.medium c.scan_cells.new.trail) (g.T.Disk.faults c.args.trail.now) (g.T.Disk.faults c.settle.new.disk) (g.T.Disk.faults c.scan_cells.new.trail)
+    c.settle.result c.if-is_err.ensures.value c.settle.ensures.settled c.settle.ensures.content c.settle.ensures.moments c.settle.ensures.cause
+    c.scan_cells.ensures.keeps _ _
+    c.scan_cells.ensures.later (λ h. c.in-Err.ensures.failed (err_as c.in-Err.fault DiskFault h)) (λ none. c.in-Err.ensures.quiet (λ h. none (err_as c.in-Err.fault DiskFault h)))

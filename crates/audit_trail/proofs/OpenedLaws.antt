@@ -1,0 +1,40 @@
+-- What opening leaves of a trail, over plain values: it was settled, and its cells were read then.
+use Rattle.std.proofs.Common.{◌≡◌, ◌≤◌, ℕ, Result, Ok, Err, IsSome, false, OnOk, ◌∙◌, subst, sym, arith}
+use Rattle.std.specs.Result.{is_err}
+use Rattle.device_cells.specs.Faults.{HasCause, Rose}
+use Rattle.device_cells.specs.Medium.{Medium, IsSettled, EachImage, Keeps}
+use Rattle.device_cells.proofs.Media.{keeps_then, settled_kept}
+use Rattle.audit_trail.specs.Changes.{TrailLeft}
+
+on_ok : {T E P : Type 0} (r : Result T E) → false ≡ is_err r → OnOk r P → P
+on_ok (Ok x) is holds = holds
+on_ok (Err e) is holds = absurd (cc is)
+
+-- every image is the content, as it was
+pub settling_keeps : (m0 m1 : Medium) → m1.content ≡ m0.content → EachImage m0 m1 m0.images → Keeps m0 m1
+settling_keeps m0 m1 content moments = record {
+  content = content;
+  images = λ c image. moments.each c (m1.counts_now m0.moment c moments.later image);
+  moments = moments;
+}
+
+module _ {T E : Type 0} (m0 m1 m2 : Medium) (f0 f1 f2 : ℕ) (r : Result T E) (sound : false ≡ is_err r) (settled : OnOk r (IsSettled m1)) (content : m1.content ≡ m0.content)
+    (moments : EachImage m0 m1 m0.images) (cause : HasCause f0 f1 r) (kept : Keeps m1 m2) where
+  pub opened_kept : Keeps m0 m2
+  opened_kept = keeps_then m0 m1 m2 (settling_keeps m0 m1 content moments) kept
+
+  pub opened_left : (done failed : Type 0) → f1 ≤ f2 → (failed → Rose f1 f2) → ((failed → ⊥) → f2 ≡ f1) → TrailLeft m0 m2 f0 f2 done failed
+  opened_left done failed later fault quiet =
+      let same : f1 ≡ f0 = on_ok r sound cause.quiet in
+      record {
+        size = kept.moments.size ∙ moments.size;
+        still = λ some. subst IsSome (sym opened_kept.content) some;
+        settled = λ h. settled_kept m1 m2 kept (on_ok r sound settled);
+        later = omega (arith, cause.later, later);
+        fault = λ h. subst (λ (n : ℕ). Rose n f2) same (fault h);
+        quiet = λ unfailed. quiet unfailed ∙ same;
+      }
+
+-- the second step, after a first one in which the disk didn't fail
+pub failed_then : (f1 f2 f3 : ℕ) (failed : Type 0) → f2 ≡ f1 → (failed → Rose f2 f3) → failed → Rose f1 f3
+failed_then f1 f2 f3 failed same fault h = subst (λ (n : ℕ). Rose n f3) same (fault h)
