@@ -30,6 +30,18 @@ opening_fault a b is = cc
 pub listing_fault : {T : Type 0} (a b : TrailFault) → ◌≡◌ {A = Result T TrailFault} (Err a) (Err b) → ◌≡◌ {A = Ends} (Err (Trail a)) (Err (Trail b))
 listing_fault a b is = cc
 
+pub sent_no_fault : (fault : ListFault) → ◌≡◌ {A = Ends} (Ok tt) (Err fault) → ⊥
+sent_no_fault fault is = cc is
+
+pub read_no_fault : {T : Type 0} (x : T) (fault : TrailFault) → ◌≡◌ {A = Result T TrailFault} (Ok x) (Err fault) → ⊥
+read_no_fault x fault is = cc is
+
+pub write_not_trail : (fault : TrailFault) → ◌≡◌ {A = Ends} (Err WriteFault) (Err (Trail fault)) → ⊥
+write_not_trail fault is = cc is
+
+pub trail_not_write : (fault : TrailFault) → ◌≡◌ {A = Ends} (Err (Trail fault)) (Err WriteFault) → ⊥
+trail_not_write fault is = cc is
+
 same_cell : (a b : ℕ) → ◌≡◌ {A = Ends} (Err (Trail (Damaged a))) (Err (Trail (Damaged b))) → a ≡ b
 same_cell a b is = cc
 
