@@ -1,5 +1,5 @@
 -- What one line leaves besides, whatever disks and trail stand for, over plain values.
-use Rattle.std.proofs.Common.{◌≡◌, ◌<◌, ◌≤◌, ◌+◌, ◌++◌, ℕ, List, [], length, Option, None, Result, Ok, Err, refl, sym, subst, inl, inr}
+use Rattle.std.proofs.Common.{◌≡◌, ◌<◌, ◌≤◌, ◌+◌, ◌++◌, ℕ, List, [], length, Option, None, Result, Ok, Err, refl, sym, subst}
 use Rattle.std.specs.Prelude.{◌↔◌, IsTrue, IfOk, OnErr, OnOk}
 use Rattle.std.specs.Io.KnownBytes.{IsAtEnd}
 use Rattle.device_cells.specs.Medium.{Medium, IsSettled}
@@ -21,10 +21,11 @@ use Rattle.line_service.specs.declared.serving.Served.{Served}
 use Rattle.line_service.specs.declared.serving.Served.TheVariants.{Replied}
 use Rattle.line_service.specs.declared.stops.Stop.{Stop}
 use Rattle.line_service.specs.declared.stops.Stop.TheVariants.{ReadFault, WriteFault}
+use Rattle.line_service.proofs.AnsweredLemmas.{devices_answered, handed_on, outside_untouched, source_read, unanswered_uncut, undamaged_answered, undamaged_untouched}
 use Rattle.line_service.proofs.StopLemmas.{devices_stopped, no_desk_write, count_still, grows_none}
 use Rattle.line_service.proofs.TakenLemmas.{AsRead, line_was_taken, no_line_was_taken, answered_stop}
 use Rattle.audited_service.specs.EachLine.{EntrySent, LineKept, line_part}
-use Rattle.audited_service.proofs.SentLemmas.{source_read, devices_sent, devices_untouched, handed_on, not_cut_by, sent_answered, undamaged_sent, undamaged_untouched}
+use Rattle.audited_service.proofs.SentLemmas.{not_cut_by, sent_answered, sent_stop}
 use Rattle.audited_service.proofs.TrailLemmas.{trail_still}
 
 -- ---- no line was taken
@@ -35,11 +36,6 @@ module _ (A : Machine) (Ready Holds : Type 0) (now : Devices) (a b p : Option (L
     old = record { devices = now; input = a; output = p; source_faults = reads; sink_faults = writes };
     new = record { devices = now; input = b; output = p; source_faults = reads1; sink_faults = writes };
   }
-
-  unread_uncut : (q : Result Served Stop) → IsUnanswered q → q ≡ Err WriteFault → ⊥
-  unread_uncut q (inl ended) is = cc (ended, is)
-  unread_uncut q (inr (inl unread)) is = cc (unread, is)
-  unread_uncut q (inr (inr over)) is = cc (over, is)
 
   -- source and buffer show what was read, and nothing else was called
   pub unread_kept : (f : Result Taken LineFault) (q : Result Served Stop) → AsRead f q
@@ -56,14 +52,9 @@ module _ (A : Machine) (Ready Holds : Type 0) (now : Devices) (a b p : Option (L
     ready = λ h. let replied : q ≡ Ok Replied = cc h in absurd (tells.unreplied replied);
     held = holds;
     taken = no_line_was_taken f around r0 r1 q tells takes shows end still ends at_end counted within early limit full short emptied lost;
-    left = record {
-      devices_left = devices_untouched now q tells.unanswered m d;
-      source_left = source;
-      sink_left = count_still writes _ (unread_uncut q tells.unanswered);
-      sink_grows = grows_none p;
-    };
+    left = outside_untouched now a b p reads reads1 writes q tells.unanswered m d source;
     undamaged = undamaged_untouched A now q tells.unanswered;
-    cut = λ h. let cut : q ≡ Err WriteFault = cc h in absurd (unread_uncut q tells.unanswered cut);
+    cut = λ h. let cut : q ≡ Err WriteFault = cc h in absurd (unanswered_uncut q tells.unanswered cut);
     trail = trail_still t faults _ settled (λ h. cc h);
   }
 
@@ -88,12 +79,12 @@ module _ (A : Machine) (Ready Holds : Type 0) (o : Span Outside) (r0 r1 : Readin
     held = holds;
     taken = was_taken (line_part r) (sent_answered r sent.answers);
     left = record {
-      devices_left = devices_sent (behind o) r sent.answers left;
+      devices_left = devices_answered (behind o) (line_part r) (sent_stop r sent.answers) left;
       source_left = source_read o.old.source_faults o.new.source_faults (line_part r) (sent_answered r sent.answers) later quiet;
       sink_left = sent.count;
       sink_grows = sent.grows;
     };
-    undamaged = undamaged_sent A o.old.devices r sent.answers;
+    undamaged = undamaged_answered A o.old.devices (line_part r) (sent_stop r sent.answers);
     cut = λ h. record { module_settled = left.module_left.settled refl; store_settled = left.store_left.settled refl };
     trail = sent.trail;
   }

@@ -15,7 +15,6 @@ use Rattle.audit_trail.specs.declared.entries.Entry.{Entry}
 use Rattle.audit_trail.specs.declared.faults.TrailFault.{TrailFault}
 use Rattle.audit_trail.specs.declared.faults.TrailFault.TheVariants as trail_fault
 use Rattle.line_service.specs.Answering.{Serves}
-use Rattle.line_service.specs.Devices.{Span, Devices, DevicesLeft, TellsFault, Undamaged}
 use Rattle.line_service.specs.Machine.{Machine, World}
 use Rattle.line_service.specs.Sending.{GotPart}
 use Rattle.line_service.specs.Serving.{IsTheLine}
@@ -23,9 +22,8 @@ use Rattle.line_service.specs.Stops.{IsDeskStop, IsUnanswered}
 use Rattle.line_service.specs.declared.serving.Served.{Served}
 use Rattle.line_service.specs.declared.serving.Served.TheVariants.{Replied}
 use Rattle.line_service.specs.declared.stops.Stop.{Stop}
-use Rattle.line_service.specs.declared.stops.Stop.TheVariants.{ReadFault, WriteFault, InputLimit, Damaged}
-use Rattle.line_service.specs.declared.stops.Device.{Device}
-use Rattle.line_service.proofs.StopLemmas.{disk_still, count_still, grows_none}
+use Rattle.line_service.specs.declared.stops.Stop.TheVariants.{WriteFault}
+use Rattle.line_service.proofs.StopLemmas.{count_still, grows_none}
 use Rattle.audited_service.specs.EachLine.{Agrees, AppendFails, EntrySent, IsAppendFault, IsSent, LineRecorded, TrailAppended, line_part}
 use Rattle.audited_service.specs.Noting.{Noted}
 use Rattle.audited_service.proofs.TrailLemmas.{trail_appended}
@@ -57,83 +55,22 @@ sent_stop r sent stop h = of_sink (line_part r) (sent_part r sent) h
     of_sink q (inl is) h = absurd (cc (is, h))
     of_sink q (inr is) h = cc (is, h)
 
--- ---- the devices
-
--- the devices are left as by the call that answered
-pub devices_sent : (d : Span Devices) (r : Result (Result Served Stop) TrailFault) → IsSent r → DevicesLeft {T = Unit {0}} (Ok tt) d → DevicesLeft (line_part r) d
-devices_sent d r sent left = record {
-  module_left = record {
-    size = left.module_left.size;
-    still = left.module_left.still;
-    settled = λ ok. left.module_left.settled refl;
-    later = left.module_left.later;
-    fault = λ h. absurd (cc (sent_stop r sent _ h));
-    quiet = λ none. left.module_left.quiet (λ h. cc h);
-  };
-  store_left = record {
-    size = left.store_left.size;
-    still = left.store_left.still;
-    settled = λ ok. left.store_left.settled refl;
-    later = left.store_left.later;
-    fault = λ h. absurd (cc (sent_stop r sent _ h));
-    quiet = λ none. left.store_left.quiet (λ h. cc h);
-  };
-  entropy_left = record {
-    later = left.entropy_left.later;
-    fault = λ h. absurd (cc (sent_stop r sent _ h));
-    quiet = λ none. left.entropy_left.quiet (λ h. cc h);
-  };
-}
-
-pub undamaged_sent : (A : Machine) (old : Devices) (r : Result (Result Served Stop) TrailFault) → IsSent r → Undamaged A (line_part r) old
-undamaged_sent A old r sent = record {
-  module_sound = λ cell h. absurd (cc (sent_stop r sent _ h));
-  store_sound = λ cell h. absurd (cc (sent_stop r sent _ h));
-  cells = λ device cell h. absurd (cc (sent_stop r sent _ h));
-  reread = λ device cell h. absurd (cc (sent_stop r sent _ h));
-}
-
--- and so is the sink, where no byte was sent
+-- the sink is as before where no byte was sent
 pub sent_unmoved : {K : Type 0} (r : Result (Result Served Stop) TrailFault) → IsSent r → (sink0 sink1 : K) → OnErr r (sink1 ≡ sink0) → (line_part r ≡ Ok Replied → ⊥) → (line_part r ≡ Err WriteFault → ⊥) → sink1 ≡ sink0
 sent_unmoved (Ok q) sent sink0 sink1 unsent unreplied uncut = absurd (⊎_elim unreplied uncut sent)
 sent_unmoved (Err fault) sent sink0 sink1 unsent unreplied uncut = unsent
 
--- a stop is handed on
-pub handed_on : {T U : Type 0} (stop other : Stop) → ◌≡◌ {A = Result T Stop} (Err stop) (Err other) → ◌≡◌ {A = Result U Stop} (Err stop) (Err other)
-handed_on stop other h = let same : stop ≡ other = cc h in ap Err same
+-- no entry was appended, and trail and sink weren't called
+pub unappended : {T K : Type 0} (r : Result Served Stop) (next : ℕ) (trail : T) (sink : K) → AppendFails (Ok r) next trail trail sink sink
+unappended r next trail sink = record {
+  kinds = tt;
+  unsent = tt;
+  number = λ h. absurd (cc h);
+  uncalled = λ h. absurd (cc h);
+}
 
 pub not_cut_by : (stop : Stop) → IsDeskStop stop → ◌≡◌ {A = Result (Result Served Stop) TrailFault} (Ok (Err stop)) (Ok (Err WriteFault)) → ⊥
 not_cut_by stop kind h = let same : stop ≡ WriteFault = cc h in subst IsDeskStop same kind
-
--- the source gave a line
-pub source_read : (before now : ℕ) (q : Result Served Stop) → (IsUnanswered q → ⊥) → before ≤ now → now ≡ before → TellsFault before now (q ≡ Err ReadFault)
-source_read before now q answered later same = record { later = later; fault = λ h. absurd (answered (inr (inl h))); quiet = λ none. same }
-
--- ---- no line was answered
-
-unanswered_stop : (q : Result Served Stop) → IsUnanswered q → (stop : Stop) → q ≡ Err stop → (stop ≡ ReadFault) ⊎ (stop ≡ InputLimit)
-unanswered_stop q (inl is) stop h = absurd (cc (is, h))
-unanswered_stop q (inr (inl is)) stop h = inl (cc (is, h))
-unanswered_stop q (inr (inr is)) stop h = inr (cc (is, h))
-
--- no device behind the machine was called
-pub devices_untouched : (now : Devices) (q : Result Served Stop) → IsUnanswered q → IsSettled now.world.module_ → IsSettled now.world.store → DevicesLeft q (record { old = now; new = now })
-devices_untouched now q unanswered m d = record {
-  module_left = disk_still now.world.module_ now.module_faults _ _ (λ ok. m) (λ h. ⊎_elim (λ is. cc is) (λ is. cc is) (unanswered_stop q unanswered _ h));
-  store_left = disk_still now.world.store now.store_faults _ _ (λ ok. d) (λ h. ⊎_elim (λ is. cc is) (λ is. cc is) (unanswered_stop q unanswered _ h));
-  entropy_left = count_still now.entropy_faults _ (λ h. ⊎_elim (λ is. cc is) (λ is. cc is) (unanswered_stop q unanswered _ h));
-}
-
-pub undamaged_untouched : (A : Machine) (old : Devices) (q : Result Served Stop) → IsUnanswered q → Undamaged A q old
-undamaged_untouched A old q unanswered = record {
-  module_sound = λ cell h. absurd (never h);
-  store_sound = λ cell h. absurd (never h);
-  cells = λ device cell h. absurd (never h);
-  reread = λ device cell h. absurd (never h);
-}
-  where
-    never : {device : Device} {cell : ℕ} → q ≡ Err (Damaged device cell) → ⊥
-    never h = ⊎_elim (λ is. cc is) (λ is. cc is) (unanswered_stop q unanswered _ h)
 
 -- ---- what the line comes to
 

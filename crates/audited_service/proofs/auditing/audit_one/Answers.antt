@@ -6,10 +6,11 @@ use Rattle.line_service.specs.Devices.{devices, outside}
 use Rattle.line_service.specs.Machine.{world}
 use Rattle.line_service.specs.declared.serving.Served.TheVariants.{Ended}
 use Rattle.line_service.specs.declared.stops.Stop.TheVariants.{ReadFault, InputLimit}
+use Rattle.line_service.proofs.AnsweredLemmas.{unmoved_stopped, unmoved_untouched}
 use Rattle.line_service.proofs.TakenLemmas.{read_ended, read_failed, read_over}
 use Rattle.audited_service.specs.EachLine.{EntrySent}
 use Rattle.audited_service.proofs.RecordLemmas.{stands_off, line_failed, at_end_recorded, unread_recorded, over_recorded}
-use Rattle.audited_service.proofs.SentLemmas.{sent_part, sent_answered, sent_unmoved, line_after_append}
+use Rattle.audited_service.proofs.SentLemmas.{sent_part, sent_answered, sent_unmoved, unappended, line_after_append}
 use Rattle.audited_service.proofs.KeptLemmas.{unread_kept, sent_kept, stopped_kept}
 use Rattle.audited_service.proofs.auditing.audit_one.Goals as goal
 
@@ -144,3 +145,42 @@ returns-in-Err-InputLimit-clause-kept g c =
     tt tt c.in-Err-InputLimit.ensures.end c.read_line.ensures.ended c.in-Err-InputLimit.ensures.ends c.read_line.ensures.at_end c.read_line.ensures.counted c.read_line.ensures.within c.read_line.ensures.early c.in-Err-InputLimit.ensures.limit c.in-Err-InputLimit.ensures.full c.in-Err-InputLimit.ensures.short c.in-Err-InputLimit.ensures.emptied c.in-Err-InputLimit.ensures.lost
     (record { later = c.read_line.ensures.later; fault = λ h. absurd (cc h); quiet = λ none. c.in-Err-InputLimit.ensures.quiet (λ h. cc (h, c.in-Err-InputLimit.field-0-is)) })
     c.requires.disks.module_settled c.requires.disks.store_settled c.requires.trail.settled c.requires.held
+
+pub returns-in-End-clause-unmoved : goal.returns-in-End-clause-unmoved
+returns-in-End-clause-unmoved g c = unmoved_untouched (Ok Ended) c.args.sink.now c.args.module.now c.args.store.now c.args.entropy.now c.args.desk.now
+
+pub returns-in-End-clause-failed : goal.returns-in-End-clause-failed
+returns-in-End-clause-failed g c = unappended (Ok Ended) c.args.held.now c.args.trail.now c.args.sink.now
+
+pub returns-in-End-clause-untrailed : goal.returns-in-End-clause-untrailed
+returns-in-End-clause-untrailed g c = λ unreplied uncut. refl
+
+pub returns-in-Err-ReadFault-clause-unmoved : goal.returns-in-Err-ReadFault-clause-unmoved
+returns-in-Err-ReadFault-clause-unmoved g c =
+    unmoved_untouched (Err ReadFault) c.args.sink.now c.args.module.now c.args.store.now c.args.entropy.now c.args.desk.now
+
+pub returns-in-Err-ReadFault-clause-failed : goal.returns-in-Err-ReadFault-clause-failed
+returns-in-Err-ReadFault-clause-failed g c = unappended (Err ReadFault) c.args.held.now c.args.trail.now c.args.sink.now
+
+pub returns-in-Err-ReadFault-clause-untrailed : goal.returns-in-Err-ReadFault-clause-untrailed
+returns-in-Err-ReadFault-clause-untrailed g c = λ unreplied uncut. refl
+
+pub returns-in-Err-InputLimit-clause-unmoved : goal.returns-in-Err-InputLimit-clause-unmoved
+returns-in-Err-InputLimit-clause-unmoved g c =
+    unmoved_untouched (Err InputLimit) c.args.sink.now c.args.module.now c.args.store.now c.args.entropy.now c.args.desk.now
+
+pub returns-in-Err-InputLimit-clause-failed : goal.returns-in-Err-InputLimit-clause-failed
+returns-in-Err-InputLimit-clause-failed g c = unappended (Err InputLimit) c.args.held.now c.args.trail.now c.args.sink.now
+
+pub returns-in-Err-InputLimit-clause-untrailed : goal.returns-in-Err-InputLimit-clause-untrailed
+returns-in-Err-InputLimit-clause-untrailed g c = λ unreplied uncut. refl
+
+pub returns-in-Err-clause-unmoved : goal.returns-in-Err-clause-unmoved
+returns-in-Err-clause-unmoved g c =
+    unmoved_stopped c.args.sink.now c.args.sink.now c.args.module.now c.answer_taken.new.module c.args.store.now c.answer_taken.new.store c.args.entropy.now c.answer_taken.new.entropy c.args.desk.now c.answer_taken.new.desk c.in-Err.stop c.in-Err.ensures.stops
+
+pub returns-in-Err-clause-failed : goal.returns-in-Err-clause-failed
+returns-in-Err-clause-failed g c = unappended (Err c.in-Err.stop) c.args.held.now c.args.trail.now c.args.sink.now
+
+pub returns-in-Err-clause-untrailed : goal.returns-in-Err-clause-untrailed
+returns-in-Err-clause-untrailed g c = λ unreplied uncut. refl
