@@ -44,7 +44,6 @@ module _ (A : Machine) (k0 k k1 : A.State → Type 0) (start : Outside) (o : Spa
 
   module _ (before : HasLines A k0 k start o.old old) (leaves : (t : A.State) → Stands A t k w.module_ w.store → LineLeaves A t k1 result o old new)
       (taken : LineTaken result o old new) (left : OutsideLeft result o) where
-
     -- ---- from one line to the next
 
     pub lines_more : result ≡ Ok Replied → HasLines A k0 k1 start o.new new
