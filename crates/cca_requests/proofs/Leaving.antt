@@ -8,16 +8,22 @@ use Rattle.device_cells.specs.SpareBytes.{Turned}
 use Rattle.device_cells.proofs.Media.{becomes_same, told_from, told_at}
 use Rattle.device_cells.proofs.SpareLemmas.{turned_same}
 use Rattle.cca_roles.specs.declared.roles.Role.{Role}
+use Rattle.key_cells.specs.Bench.{Bench}
+use Rattle.key_cells.specs.Lease.{loan_of}
+use Rattle.key_cells.specs.declared.leases.Lease.{Lease}
 use Rattle.record_bodies.specs.Entries.{row_directory}
 use Rattle.record_bodies.specs.StoreStands.{HoldsRows}
 use Rattle.record_bodies.specs.declared.rows.Row.{Row}
+use Rattle.master_registers.specs.declared.registers.Registers.{Registers}
 use Rattle.line_service.specs.Devices.{DiskLeft, devices}
-use Rattle.line_service.specs.declared.stops.Device.TheVariants.{Module}
+use Rattle.line_service.specs.declared.stops.Device.TheVariants.{Module, Store}
 use Rattle.line_service.specs.declared.stops.Stop.{Stop}
-use Rattle.line_service.specs.declared.stops.Stop.TheVariants.{ModuleFault, StoreFault, Damaged}
+use Rattle.line_service.specs.declared.stops.Stop.TheVariants.{Damaged, EntropyFault, InputLimit, ModuleFault, ReadFault, StoreFault, WriteFault}
 use Rattle.request_rules.specs.Judging.{IsStoreStop}
 use Rattle.request_rules.specs.Standing.{Tables, tables}
-use Rattle.cca_requests.specs.Serving.{IsSound, IsLoadedStop, LeavesModule, LeavesStore, Leaves}
+use Rattle.request_verbs.specs.Deciding.{GoesThrough, IsReady, WritesStore}
+use Rattle.request_verbs.specs.declared.effects.Effect.{Effect}
+use Rattle.cca_requests.specs.Serving.{IsSound, IsLoadedStop, KeepsToEffect, LeavesModule, LeavesStore, Leaves}
 
 pub ok_always : {P : Type 0} (result : Result (Unit {0}) Stop) → P → OnOk result P
 ok_always (Ok u) p = p
@@ -102,7 +108,7 @@ never_store (Err stop) stops is = cc
 never_module : (result : Result (Unit {0}) Stop) → IfErr result IsStoreStop → result ≡ Err ModuleFault → ⊥
 never_module result stops is = subst (λ (r : Result (Unit {0}) Stop). IfErr r IsStoreStop) is stops
 
-err_always : {P : Type 0} (result : Result (Unit {0}) Stop) → P → OnErr result P
+pub err_always : {P : Type 0} (result : Result (Unit {0}) Stop) → P → OnErr result P
 err_always (Ok u) p = tt
 err_always (Err stop) p = p
 
@@ -183,3 +189,59 @@ leaves_after_reads {result} {reply} {m0} {m1} {m2} {d0} {d1} {d2} {m_before} {m_
 -- once the registers are loaded, the module is damaged no more
 pub no_damage : (result : Result (Unit {0}) Stop) (cell : ℕ) → IfErr result IsLoadedStop → result ≡ Err (Damaged Module cell) → ⊥
 no_damage result cell stops is = subst (λ (r : Result (Unit {0}) Stop). IfErr r IsLoadedStop) is stops
+
+-- ---- what was called for an effect
+
+-- no stop at all
+pub still_keeps : {D : Type 0} {e : Effect} {rows : List (Option Row)} {lease : Lease} {store : D} → KeepsToEffect e (Ok tt) rows rows lease lease store store
+still_keeps = record { stops = tt; entropy = λ is. cc is; kept = λ none. tt; writes = λ is. cc is; spared = λ none. refl; loan = refl }
+
+module_stop : (stop : Stop) → stop ≡ ModuleFault → IsLoadedStop stop
+module_stop stop is = subst IsLoadedStop (sym is) tt
+
+pub store_stop : (stop : Stop) → IsStoreStop stop → IsLoadedStop stop
+store_stop StoreFault is = tt
+store_stop (Damaged Store cell) is = is
+store_stop (Damaged Module cell) is = absurd is
+store_stop EntropyFault is = absurd is
+store_stop ModuleFault is = absurd is
+store_stop ReadFault is = absurd is
+store_stop WriteFault is = absurd is
+store_stop InputLimit is = absurd is
+
+if_err : {P Q : Stop → Type 0} (result : Result (Unit {0}) Stop) → ((stop : Stop) → P stop → Q stop) → IfErr result P → IfErr result Q
+if_err (Ok u) weaker has = tt
+if_err (Err stop) weaker has = weaker stop has
+
+pub stops_as : (P : Stop → Type 0) {fault : Stop} (result : Result (Unit {0}) Stop) → IfErr result P → result ≡ Err fault → P fault
+stops_as P result stops is = subst (λ (r : Result (Unit {0}) Stop). IfErr r P) is stops
+
+module _ {D : Type 0} {e : Effect} {rows later : List (Option Row)} {lease still : Lease} (result : Result (Unit {0}) Stop) where
+  -- the module alone
+  pub module_keeps : {store : D} → IfErr result (λ stop. stop ≡ ModuleFault) → OnErr result (later ≡ rows) → loan_of still ≡ loan_of lease
+      → KeepsToEffect e result rows later lease still store store
+  module_keeps stops kept loan = record {
+    stops = if_err result module_stop stops;
+    entropy = λ is. cc (stops_as (λ stop. stop ≡ ModuleFault) result stops is);
+    kept = λ none. kept;
+    writes = λ is. cc (stops_as (λ stop. stop ≡ ModuleFault) result stops is);
+    spared = λ none. refl;
+    loan = loan;
+  }
+
+  -- the store, for an effect that writes it
+  pub store_keeps : {old new : D} → WritesStore e → IfErr result IsStoreStop → ((GoesThrough e → ⊥) → OnErr result (later ≡ rows)) → loan_of still ≡ loan_of lease
+      → KeepsToEffect e result rows later lease still old new
+  store_keeps writes stops kept loan = record {
+    stops = if_err result store_stop stops;
+    entropy = λ is. absurd (stops_as IsStoreStop result stops is);
+    kept = kept;
+    writes = λ is. writes;
+    spared = λ none. absurd (none writes);
+    loan = loan;
+  }
+
+-- what is certain of an effect is so of its equal
+pub ready_as : (held : Registers) (bench : Bench) (rows : List (Option Row)) (reply : List ℕ) {e known : Effect} → e ≡ known → IsReady held bench rows e reply
+    → IsReady held bench rows known reply
+ready_as held bench rows reply {e} {known} is ready = subst (λ (x : Effect). IsReady held bench rows x reply) is ready

@@ -2,6 +2,7 @@ mod Ageing
 mod Carrying
 mod Changing
 mod Contents
+mod Handing
 mod Leaving
 mod OperandsJudged
 mod Registers

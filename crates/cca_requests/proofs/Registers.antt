@@ -1,6 +1,8 @@
 -- The registers that the code finds in the bench and on the module are those of the state.
-use Rattle.std.proofs.Common.{◌≡◌, ℕ, List, Option, None, Some, refl, sym, ap, ◌∙◌}
+use Rattle.std.proofs.Common.{◌≡◌, ℕ, List, Option, None, Some, refl, sym, ap, subst, ◌∙◌}
 use Rattle.key_cells.specs.Bench.{Bench}
+use Rattle.key_cells.specs.Lease.{bench_of}
+use Rattle.key_cells.specs.declared.leases.Lease.{Lease}
 use Rattle.device_cells.specs.Cells.{body}
 use Rattle.device_cells.specs.Medium.{Medium, Keeps, Told}
 use Rattle.device_cells.proofs.Media.{told_at}
@@ -11,7 +13,7 @@ use Rattle.master_registers.specs.RegisterBody.{StandsForMasters, IsDamaged}
 use Rattle.master_registers.specs.declared.registers.Registers.{Registers}
 use Rattle.master_registers.proofs.BodyLaws.{reads_one}
 use Rattle.cca_machine.specs.State.{State, IsModuleOf}
-use Rattle.request_verbs.specs.Deciding.{with_places}
+use Rattle.request_verbs.specs.Deciding.{ChangesPlaces, with_places}
 
 coming_is : (r : NewRegister) (bytes : List ℕ) → bytes ≡ new_bytes r → coming_in (state_of r) bytes ≡ r
 coming_is Empty bytes is = refl
@@ -44,6 +46,10 @@ loaded_places m held bench other loaded = record {
   placed = record { coming = loaded.placed.coming; current = loaded.placed.current; former = loaded.placed.former };
   told = loaded.told;
 }
+
+pub loaded_after : (m : Masters) (held : Registers) (old new : Lease) → ChangesPlaces old new → Loaded m held (bench_of old) → Loaded m held (bench_of new)
+loaded_after m held old new places loaded =
+    subst (λ (b : Bench). Loaded m held b) (sym (ap bench_of places)) (loaded_places m held (bench_of old) (bench_of new) loaded)
 
 -- the registers that were loaded are those of the state
 pub registers_found : (m0 m1 : Medium) (s : State) (found : Masters) → Holds m0 (IsModuleOf s) → Keeps m0 m1

@@ -1,21 +1,27 @@
 -- An action on the labels of the store is what the machine makes of it.
-use Rattle.std.proofs.Common.{◌≡◌, ℕ, ◌∷◌, [], List, Option, Result, Ok, Err, codes, refl, ap, ◌∙◌, subst, inr}
-use Rattle.std.specs.Prelude.{OnOk, IfOk}
-use Rattle.device_cells.specs.Medium.{Medium, Told, From}
+use Rattle.std.proofs.Common.{◌≡◌, ℕ, ◌∷◌, [], List, Option, Result, Ok, Err, codes, refl, ap, sym, ◌∙◌, subst, inr, ⊎_elim}
+use Rattle.std.specs.Prelude.{◌⊎◌, ◌<◌, OnOk, IfOk}
+use Rattle.device_cells.specs.Medium.{Medium, Told, From, Becomes}
+use Rattle.device_cells.specs.SpareBytes.{Turned}
+use Rattle.key_cells.specs.declared.leases.Lease.{Lease}
 use Rattle.device_cells.proofs.Media.{each_weaker, told_at}
 use Rattle.record_bodies.specs.StoreStands.{KeepsLabels}
 use Rattle.key_records.specs.declared.faults.RecordFault.{RecordFault}
+use Rattle.key_records.specs.declared.faults.RecordFault.TheVariants.{DiskFault, Damaged, Full, Exists}
 use Rattle.record_bodies.specs.declared.rows.Row.{Row}
 use Rattle.script_buffers.specs.Replies.{Number, Done, spelled}
+use Rattle.line_service.specs.declared.stops.Stop.{Stop}
 use Rattle.line_service.specs.declared.stops.Stop.TheVariants.{StoreFault}
 use Rattle.verb_rules.specs.Keys.{keys_of}
 use Rattle.record_bodies.specs.Further.{further, changed_count}
 use Rattle.record_bodies.specs.declared.actions.StoreAction.{StoreAction}
-use Rattle.reencipher.specs.Runs.{IsOnTheWay, Reenciphers}
+use Rattle.reencipher.specs.Runs.{IsCell, IsOnTheWay, LeavesAnyStore, Reenciphers}
 use Rattle.cca_machine.specs.State.{State, IsStoreOf}
 use Rattle.cca_machine.specs.Act.{ChangeLabels, Outcome}
+use Rattle.request_rules.specs.Judging.{IsStoreStop}
 use Rattle.request_rules.specs.Standing.{StandsInStore}
-use Rattle.cca_requests.specs.Serving.{IsEither, SameBut, CarriesStore}
+use Rattle.request_rules.specs.Stored.{IsReadFault, read_stop}
+use Rattle.cca_requests.specs.Serving.{IsEither, SameBut, CarriesStore, LeavesStore}
 use Rattle.cca_requests.specs.Changes.{plainly}
 use Rattle.cca_requests.proofs.Contents.{holds_at}
 use Rattle.cca_requests.proofs.Serving.{told_some}
@@ -63,3 +69,61 @@ module _ (a : StoreAction) (d0 d1 : Medium) (s : State) (rows later : List (Opti
     outside = each_weaker d0 d1 (From (IsOnTheWay a (keys_of s.registers) s.labels) d0) (From (SameBut after.store_cells) d0) runs.moments outside;
     stops = tt;
   }
+
+-- ---- what it leaves whatever the store holds
+
+-- only a disk's fault is told as one of the store
+told_fault : (fault : RecordFault) → (fault ≡ DiskFault) ⊎ ((cell : ℕ) × IsCell cell × (fault ≡ Damaged cell))
+    → IsStoreStop (read_stop fault) × ((read_stop fault ≡ StoreFault → fault ≡ DiskFault) × (fault ≡ DiskFault → read_stop fault ≡ StoreFault))
+told_fault DiskFault which = (tt, (λ is. refl, λ is. refl))
+told_fault (Damaged cell) which = (⊎_elim (λ disk. cc disk) (λ damaged. let within : cell < 1024 = subst (λ n. n < 1024) (sym (cc damaged.2)) damaged.1 in within) which, (λ is. cc is, λ is. cc is))
+told_fault Full which = ⊎_elim (λ disk. cc disk) (λ damaged. cc damaged.2) which
+told_fault Exists which = ⊎_elim (λ disk. cc disk) (λ damaged. cc damaged.2) which
+
+pub read_fault : (fault : RecordFault) → (fault ≡ DiskFault) ⊎ ((cell : ℕ) × IsCell cell × (fault ≡ Damaged cell)) → IsReadFault fault
+read_fault DiskFault which = tt
+read_fault (Damaged cell) which = tt
+read_fault Full which = ⊎_elim (λ disk. cc disk) (λ damaged. cc damaged.2) which
+read_fault Exists which = ⊎_elim (λ disk. cc disk) (λ damaged. cc damaged.2) which
+
+module _ {D : Type 0} {medium : D → Medium} {faults : D → ℕ} {lease later : Lease} {rows next : List (Option Row)} {old new : D} {reply : List ℕ}
+    (size : (medium old).size ≡ 1572864) where
+  pub renewed_left : (n : ℕ) → LeavesAnyStore {T = ℕ} medium faults IsCell lease later rows next old new (Ok n) → Becomes (Turned 1024) (medium old) (medium new)
+      → LeavesStore (medium old) (medium new) (faults old) (faults new) (Ok tt) reply rows next
+  renewed_left n left turned = record {
+    disk = record {
+      size = left.size ∙ sym size;
+      still = left.still;
+      settled = λ ok. left.settled;
+      later = left.cause.later;
+      fault = λ is. cc is;
+      quiet = λ none. left.cause.quiet (λ is. cc is);
+    };
+    told = left.told;
+    turned = turned;
+    holds = left.holds;
+    silent = tt;
+    memory = tt;
+    stops = tt;
+  }
+
+  pub ended_left : (fault : RecordFault) (stop : Stop) → LeavesAnyStore {T = ℕ} medium faults IsCell lease later rows next old new (Err fault) → stop ≡ read_stop fault → reply ≡ []
+      → LeavesStore (medium old) (medium new) (faults old) (faults new) (Err stop) reply rows next
+  ended_left fault stop left is silent =
+      let cause = told_fault fault left.fault in
+      record {
+        disk = record {
+          size = left.size ∙ sym size;
+          still = left.still;
+          settled = λ ok. cc ok;
+          later = left.cause.later;
+          fault = λ failed. left.cause.failed (ap Err (cause.1.0 (sym is ∙ cc failed)));
+          quiet = λ none. left.cause.quiet (λ failed. none (ap Err (is ∙ cause.1.1 (cc failed))));
+        };
+        told = left.told;
+        turned = tt;
+        holds = tt;
+        silent = silent;
+        memory = left.directory;
+        stops = subst IsStoreStop (sym is) cause.0;
+      }

@@ -1,5 +1,5 @@
 -- How what is said of the disks is carried from call to call.
-use Rattle.std.proofs.Common.{◌≡◌, ℕ, List, [], Option, Some, Result, Ok, Err, refl, sym, ap, ◌∙◌, subst, inl, inr, ⊎_elim}
+use Rattle.std.proofs.Common.{◌≡◌, ℕ, Bool, List, [], Option, Some, Result, Ok, Err, refl, sym, ap, ◌∙◌, subst, inl, inr, ⊎_elim}
 use Rattle.std.specs.Prelude.{OnOk, IfErr, IfSome, IsSome}
 use Rattle.device_cells.specs.Medium.{Medium, Told, IsSettled, From, EachImage, EachPair, Keeps}
 use Rattle.device_cells.proofs.Media.{goes_on, settled_image, each_weaker, each_pair, keeps_still, settled_kept}
@@ -21,7 +21,14 @@ use Rattle.line_service.specs.Machine.{world}
 use Rattle.std.proofs.KnownBytes.{Consumes-nil}
 use Rattle.request_rules.specs.Standing.{Tables, tables, StandsInModule, StandsInStore, Stands}
 use Rattle.cca_requests.specs.Serving.{IsEither, ArePair, SameButCell, SameBut, IsFault, IsDoneInModule, CarriesModule, IsDoneInStore, CarriesStore, IsDone, Carries, Serves}
-use Rattle.request_verbs.specs.Deciding.{HasDrawn}
+use Rattle.key_cells.specs.Bench.{Bench}
+use Rattle.cca_machine.specs.Keys.{any_old}
+use Rattle.cca_machine.specs.Operands.{Operands, listed}
+use Rattle.cca_machine.specs.Granted.{AreGranted, any_old_key}
+use Rattle.cca_machine.specs.declared.granted.Granted.{Granted}
+use Rattle.request_verbs.specs.Deciding.{Decides, HasDrawn, IsDecided}
+use Rattle.request_verbs.specs.declared.effects.Effect.{Effect as CodeEffect}
+use Rattle.request_verbs.proofs.Acting.{any_old_are}
 
 -- ---- one disk
 
@@ -345,6 +352,29 @@ drawn_serves s request drawn result reply t m0 m1 d0 d1 left now carries random 
   permitted = λ fault. absurd (never fault);
   undrawn = λ fault. absurd (never fault);
 }
+
+-- a verb decided, and what it decided was carried out
+pub decided_serves : (s : State) (request : Request) (result : Result (Unit {0}) Stop) (reply : List ℕ) (t : Tables) (m0 m1 d0 d1 : Medium)
+    (left now : Option (List ℕ)) {bench : Bench} {e : CodeEffect} {before : List ℕ} → ((v : Option Refusal) → verdict_by s request v ≡ v)
+    → Decides s bench request e before left now
+    → ((drawn : List ℕ) → IsDecided s bench drawn request e before
+    → Carries (or_act (whole_verb_verdict s drawn request) s drawn request) s result reply t m0 m1 d0 d1)
+    → (result ≡ Err EntropyFault → ⊥) → Serves s request result reply t (world m0 d0 left) (world m1 d1 now)
+decided_serves s request result reply t m0 m1 d0 d1 left now is decides carries never =
+    let drawn = decides.drawn in
+    let whole = whole_verb_verdict s drawn request in
+    drawn_serves s request drawn result reply t m0 m1 d0 d1 left now
+    (subst (λ (x : Outcome). Carries x s result reply t m0 m1 d0 d1) (sym (performed_by s drawn request whole (is whole))) (carries drawn decides.decided))
+    (record {
+      consumed = decides.random.consumed;
+      size = decides.random.size ∙ sym (taken_for s drawn request (verb_verdict s request) (is (verb_verdict s request)));
+    })
+    never
+
+-- a key is under the old master key where one that was granted is
+pub old_as : (s : State) (bench : Bench) (os : Operands) (granted : Granted) (warns : Bool) → AreGranted s bench os granted → warns ≡ any_old_key granted
+    → any_old s (listed os) ≡ warns
+old_as s bench os granted warns grants is = any_old_are s bench os granted grants ∙ sym is
 
 -- both disks were read before
 pub serves_after_reads : (s : State) (request : Request) (result : Result (Unit {0}) Stop) (reply : List ℕ) (before t : Tables) (m0 m1 m2 d0 d1 d2 : Medium)

@@ -1,5 +1,5 @@
 -- What a request leaves of the disks, in a few records.
-use Rattle.std.specs.Prelude.{◌≡◌, ◌⊎◌, ◌≤◌, ◌<◌, ℕ, List, [], length, true, false, Option, Result, Err, OnOk, OnErr, IfErr, IsOk, IsSome, IsTrue, ⊤}
+use Rattle.std.specs.Prelude.{◌≡◌, ◌≢◌, ◌⊎◌, ◌≤◌, ◌<◌, ℕ, List, [], length, true, false, Option, Result, Err, OnOk, OnErr, IfErr, IsOk, IsSome, IsTrue, ⊤}
 use Rattle.device_cells.specs.Medium.{Medium, Told, Keeps, From, Becomes, EachImage, EachPair}
 use Rattle.device_cells.specs.SpareBytes.{Turned}
 use Rattle.script_buffers.specs.Reading.{line_limit}
@@ -25,7 +25,8 @@ use Rattle.cca_machine.specs.State.{State, IsModuleOf, IsStoreOf}
 use Rattle.cca_machine.specs.Operands.{needs_store}
 use Rattle.request_rules.specs.Judging.{IsStoreStop}
 use Rattle.request_rules.specs.Standing.{HasLoaded, Tables, StandsInModule, StandsInStore, Stands}
-use Rattle.request_verbs.specs.Deciding.{HasDrawn}
+use Rattle.request_verbs.specs.Deciding.{GoesThrough, HasDrawn, WritesStore}
+use Rattle.request_verbs.specs.declared.effects.Effect.{Effect}
 use Rattle.cca_machine.specs.Act.{Outcome, NoCell, performed}
 pub use Rattle.cca_machine.specs.Sound.{IsSound}
 pub use Rattle.cca_machine.specs.Written.{SameBut, SameButCell}
@@ -227,6 +228,17 @@ pub record Leaves (result : Result (Unit {0}) Stop) (reply : List ℕ) (d : Span
   -- after an error the memory has the roles that it had, and holds the labels that it held, in their cells
   pub roles : OnErr result (later.roles ≡ t.roles)
   pub labels : OnErr result (row_directory later.rows ≡ row_directory t.rows)
+
+-- What was called and changed for an effect: the store only where the effect writes it; and the memory of the records,
+-- after an error, only where the effect goes through every label.
+pub record KeepsToEffect {D : Type 0} (e : Effect) (result : Result (Unit {0}) Stop)
+    (rows later : List (Option Row)) (lease still : Lease) (store0 store1 : D) : Type 0 where
+  pub stops : IfErr result IsLoadedStop
+  pub entropy : result ≢ Err EntropyFault
+  pub kept : (GoesThrough e → ⊥) → OnErr result (later ≡ rows)
+  pub writes : result ≡ Err StoreFault → WritesStore e
+  pub spared : (WritesStore e → ⊥) → store1 ≡ store0
+  pub loan : loan_of still ≡ loan_of lease
 
 -- cell 0 of the module reads as no registers, and nothing was written
 pub record FindsDamage (old new : Medium) : Type 0 where

@@ -1,15 +1,15 @@
 //! How what a verb left to be done is done: the only calls that write a disk.
-ghost use Rattle.std.specs.Prelude.{◌≡◌, ◌≢◌, ℕ, List, Err, OnErr, IfErr};
-ghost use Rattle.key_cells.specs.Lease.{bench_of, loan_of};
+ghost use Rattle.std.specs.Prelude.{◌≡◌, ℕ, List};
+ghost use Rattle.key_cells.specs.Lease.{bench_of};
 ghost use Rattle.verb_script.specs.Grammar.{Request};
 ghost use Rattle.cca_machine.specs.State.{State};
 ghost use Rattle.cca_machine.specs.Keys.{any_old};
 ghost use Rattle.cca_machine.specs.Operands.{operands, listed};
 ghost use Rattle.cca_machine.specs.Act.{or_act};
 ghost use Rattle.cca_machine.specs.Verdict.{whole_verb_verdict};
-ghost use Rattle.cca_requests.specs.Serving.{Carries, HasDisks, Leaves, IsLoadedStop};
+ghost use Rattle.cca_requests.specs.Serving.{Carries, HasDisks, KeepsToEffect, Leaves};
 ghost use Rattle.request_rules.specs.Standing.{tables, At};
-ghost use Rattle.request_verbs.specs.Deciding.{IsDecided, IsReady, WritesStore, GoesThrough};
+ghost use Rattle.request_verbs.specs.Deciding.{IsDecided, IsReady};
 
 use crate::changing_module::{change_registers, define_role, remove_role};
 use crate::changing_store::{create, delete, renew, write};
@@ -50,12 +50,8 @@ pub(crate) fn carry<M: Disk, D: Disk>(
     ensures left { Leaves result reply.new (⟦<(M, D) as Shown>⟧.between
         («module».old, store.old) («module».new, store.new))
         (tables roles.old records.old) (tables roles.new records.new) }
-    ensures stops { IfErr result IsLoadedStop }
-    ensures entropy { result ≢ Err Stop.EntropyFault }
-    ensures rows { (GoesThrough effect.now → ⊥) → OnErr result (records.new ≡ records.old) }
-    ensures writes { result ≡ Err Stop.StoreFault → WritesStore effect.now }
-    ensures spared { (WritesStore effect.now → ⊥) → store.new ≡ store.old }
-    ensures loan { loan_of lease.new ≡ loan_of lease.old }
+    ensures keeps { KeepsToEffect effect.now result records.old records.new lease.old lease.new
+        store.old store.new }
 {
     match effect {
         Effect::Refused(refusal) => {

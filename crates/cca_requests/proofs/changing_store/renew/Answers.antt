@@ -1,13 +1,14 @@
-use Rattle.std.proofs.Common.{◌∷◌, ◌∙◌, [], length, Err, ap, codes, refl, sym, subst, ⊎_elim, arith, rules}
+use Rattle.std.proofs.Common.{◌∷◌, ◌∙◌, [], length, Err, ap, codes, refl, sym, subst, ⊎_elim, arith}
 use Rattle.std.proofs.lemmas.Fmt.{length-decimal-le}
 use Rattle.device_cells.proofs.Media.{told_at}
+use Rattle.key_cells.specs.Lease.{loan_of}
 use Rattle.script_buffers.specs.Replies.{Number}
 use Rattle.cca_machine.specs.Act.{ChangeLabels}
 use Rattle.cca_requests.specs.Changes.{plainly}
 use Rattle.cca_requests.specs.Serving.{CarriesStore}
 use Rattle.request_rules.specs.Stored.{read_stop}
 use Rattle.request_verbs.proofs.Fields.{one_number}
-use Rattle.cca_requests.proofs.Renewing.{renewed, ended}
+use Rattle.cca_requests.proofs.Renewing.{ended, ended_left, read_fault, renewed, renewed_left}
 use Rattle.cca_requests.proofs.Storing.{kept_labels}
 use Rattle.cca_requests.proofs.changing_store.renew.Goals as goal
 
@@ -40,12 +41,25 @@ pub number-requires : goal.number-requires
 number-requires g c = omega (arith, length-decimal-le 10 c.in-Ok.changed (omega arith) (omega arith) (omega arith), ap length c.requires.empty)
 
 pub returns-in-Ok-clause-left : goal.returns-in-Ok-clause-left
-returns-in-Ok-clause-left g c = record {
-  disk = search rules;
-  told = search rules;
-  turned = c.in-Ok.ensures.cells.turned;
-  holds = search rules;
-  silent = search rules;
-  memory = search rules;
-  stops = search rules;
-}
+returns-in-Ok-clause-left g c = renewed_left c.requires.store.size c.in-Ok.changed c.in-Ok.ensures.left c.in-Ok.ensures.cells.turned
+
+pub returns-in-Err-clause-left : goal.returns-in-Err-clause-left
+returns-in-Err-clause-left g c = ended_left c.requires.store.size c.in-Err.fault c.stop_of.result c.in-Err.ensures.left c.stop_of.ensures c.requires.empty
+
+pub returns-in-Ok-clause-loan : goal.returns-in-Ok-clause-loan
+returns-in-Ok-clause-loan g c = ap loan_of c.in-Ok.ensures.left.rest
+
+pub returns-in-Err-clause-loan : goal.returns-in-Err-clause-loan
+returns-in-Err-clause-loan g c = ap loan_of c.in-Err.ensures.left.rest
+
+pub ok-requires : goal.ok-requires
+ok-requires g c = omega (arith, ap length c.requires.empty)
+
+pub end-requires : goal.end-requires
+end-requires g c = omega (arith, c.number.ensures.size, c.number.ensures.short, c.ok.ensures.size, ap length c.requires.empty)
+
+pub stop_of-requires : goal.stop_of-requires
+stop_of-requires g c = read_fault c.in-Err.fault c.in-Err.ensures.left.fault
+
+pub carry_out-requires-clause-store : goal.carry_out-requires-clause-store
+carry_out-requires-clause-store g c = c.requires.store

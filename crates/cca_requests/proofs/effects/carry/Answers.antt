@@ -7,10 +7,10 @@ use Rattle.cca_machine.specs.Keys.{warning}
 use Rattle.cca_machine.specs.Verdict.{define_questions, remove_questions}
 use Rattle.cca_machine.specs.Refusals.{refusal_of}
 use Rattle.request_rules.specs.Standing.{tables}
-use Rattle.request_verbs.specs.Deciding.{IsDecided}
+use Rattle.request_verbs.specs.Deciding.{GoesThrough, IsDecided, WritesStore}
 use Rattle.cca_requests.proofs.Carrying.{action_carries, carries_as, create_carries, define_carries, delete_carries, outcome_is, refused_is, remove_carries, renew_carries, shown_is, write_carries}
 use Rattle.cca_requests.proofs.Contents.{sound}
-use Rattle.cca_requests.proofs.Leaving.{module_left, registers_left, still_left, store_left}
+use Rattle.cca_requests.proofs.Leaving.{err_always, module_keeps, module_left, ready_as, registers_left, still_keeps, still_left, store_keeps, store_left}
 use Rattle.cca_requests.proofs.Serving.{still_carries}
 use Rattle.cca_requests.proofs.effects.carry.Goals as goal
 
@@ -125,3 +125,104 @@ pub returns-in-Reencipher-clause-left : goal.returns-in-Reencipher-clause-left
 returns-in-Reencipher-clause-left g c =
     store_left c.renew.ensures.left c.requires.disks.at.settled
     (sound (g.M.Disk.medium c.args.module.now) (masters_in c.args.held.now (bench_of c.args.lease.now)) c.args.roles.now c.requires.disks.at.stands c.requires.disks.at.remembered)
+
+-- ---- what was called
+
+pub returns-in-Refused-clause-keeps : goal.returns-in-Refused-clause-keeps
+returns-in-Refused-clause-keeps g c = still_keeps
+
+pub returns-in-Shown-clause-keeps : goal.returns-in-Shown-clause-keeps
+returns-in-Shown-clause-keeps g c = still_keeps
+
+pub returns-in-Change-clause-keeps : goal.returns-in-Change-clause-keeps
+returns-in-Change-clause-keeps g c = module_keeps c.change_registers.result c.change_registers.ensures.left.stops c.change_registers.ensures.memory c.change_registers.ensures.loan
+
+pub returns-in-DefineRole-clause-keeps : goal.returns-in-DefineRole-clause-keeps
+returns-in-DefineRole-clause-keeps g c = module_keeps c.define_role.result c.define_role.ensures.left.stops (err_always c.define_role.result refl) c.define_role.ensures.loan
+
+pub returns-in-RemoveRole-clause-keeps : goal.returns-in-RemoveRole-clause-keeps
+returns-in-RemoveRole-clause-keeps g c = module_keeps c.remove_role.result c.remove_role.ensures.left.stops (err_always c.remove_role.result refl) c.remove_role.ensures.loan
+
+pub returns-in-Create-clause-keeps : goal.returns-in-Create-clause-keeps
+returns-in-Create-clause-keeps g c = store_keeps c.create.result (subst WritesStore (sym c.in-Create.is) tt) c.create.ensures.left.left.stops (λ none. c.create.ensures.left.kept) c.create.ensures.left.loan
+
+pub returns-in-Write-clause-keeps : goal.returns-in-Write-clause-keeps
+returns-in-Write-clause-keeps g c = store_keeps c.write.result (subst WritesStore (sym c.in-Write.is) tt) c.write.ensures.left.left.stops (λ none. c.write.ensures.left.kept) c.write.ensures.left.loan
+
+pub returns-in-Delete-clause-keeps : goal.returns-in-Delete-clause-keeps
+returns-in-Delete-clause-keeps g c = store_keeps c.delete.result (subst WritesStore (sym c.in-Delete.is) tt) c.delete.ensures.left.left.stops (λ none. c.delete.ensures.left.kept) c.delete.ensures.left.loan
+
+pub returns-in-Reencipher-clause-keeps : goal.returns-in-Reencipher-clause-keeps
+returns-in-Reencipher-clause-keeps g c = store_keeps c.renew.result (subst WritesStore (sym c.in-Reencipher.is) tt) c.renew.ensures.left.stops
+    (λ none. absurd (none (subst GoesThrough (sym c.in-Reencipher.is) tt))) c.renew.ensures.loan
+
+-- ---- what each call needs
+
+pub refuse-requires-clause-empty : goal.refuse-requires-clause-empty
+refuse-requires-clause-empty g c = (ready_as c.args.held.now (bench_of c.args.lease.now) c.args.records.now c.args.reply.now c.in-Refused.is c.requires.ready).0
+
+pub refuse-requires-clause-short : goal.refuse-requires-clause-short
+refuse-requires-clause-short g c = (ready_as c.args.held.now (bench_of c.args.lease.now) c.args.records.now c.args.reply.now c.in-Refused.is c.requires.ready).1
+
+pub finish-requires : goal.finish-requires
+finish-requires g c = ready_as c.args.held.now (bench_of c.args.lease.now) c.args.records.now c.args.reply.now c.in-Shown.is c.requires.ready
+
+pub change_registers-requires-clause-at : goal.change_registers-requires-clause-at
+change_registers-requires-clause-at g c = c.requires.disks.at
+
+pub change_registers-requires-clause-empty : goal.change_registers-requires-clause-empty
+change_registers-requires-clause-empty g c = ready_as c.args.held.now (bench_of c.args.lease.now) c.args.records.now c.args.reply.now c.in-Change.is c.requires.ready
+
+pub define_role-requires-clause-at : goal.define_role-requires-clause-at
+define_role-requires-clause-at g c = c.requires.disks.at
+
+pub define_role-requires-clause-empty : goal.define_role-requires-clause-empty
+define_role-requires-clause-empty g c = ready_as c.args.held.now (bench_of c.args.lease.now) c.args.records.now c.args.reply.now c.in-DefineRole.is c.requires.ready
+
+pub remove_role-requires-clause-at : goal.remove_role-requires-clause-at
+remove_role-requires-clause-at g c = c.requires.disks.at
+
+pub remove_role-requires-clause-empty : goal.remove_role-requires-clause-empty
+remove_role-requires-clause-empty g c = (ready_as c.args.held.now (bench_of c.args.lease.now) c.args.records.now c.args.reply.now c.in-RemoveRole.is c.requires.ready).0
+
+pub remove_role-requires-clause-other : goal.remove_role-requires-clause-other
+remove_role-requires-clause-other g c = (ready_as c.args.held.now (bench_of c.args.lease.now) c.args.records.now c.args.reply.now c.in-RemoveRole.is c.requires.ready).1
+
+pub create-requires-clause-store : goal.create-requires-clause-store
+create-requires-clause-store g c = c.requires.disks.store
+
+pub write-requires-clause-store : goal.write-requires-clause-store
+write-requires-clause-store g c = c.requires.disks.store
+
+pub delete-requires-clause-store : goal.delete-requires-clause-store
+delete-requires-clause-store g c = c.requires.disks.store
+
+pub renew-requires-clause-store : goal.renew-requires-clause-store
+renew-requires-clause-store g c = c.requires.disks.store
+
+pub create-requires-clause-empty : goal.create-requires-clause-empty
+create-requires-clause-empty g c = ready_as c.args.held.now (bench_of c.args.lease.now) c.args.records.now c.args.reply.now c.in-Create.is c.requires.ready
+
+pub write-requires-clause-loaded : goal.write-requires-clause-loaded
+write-requires-clause-loaded g c = c.requires.disks.at.loaded
+
+pub write-requires-clause-ready : goal.write-requires-clause-ready
+write-requires-clause-ready g c = ready_as c.args.held.now (bench_of c.args.lease.now) c.args.records.now c.args.reply.now c.in-Write.is c.requires.ready
+
+pub delete-requires-clause-empty : goal.delete-requires-clause-empty
+delete-requires-clause-empty g c = (ready_as c.args.held.now (bench_of c.args.lease.now) c.args.records.now c.args.reply.now c.in-Delete.is c.requires.ready).0
+
+pub delete-requires-clause-held : goal.delete-requires-clause-held
+delete-requires-clause-held g c = (ready_as c.args.held.now (bench_of c.args.lease.now) c.args.records.now c.args.reply.now c.in-Delete.is c.requires.ready).1
+
+pub renew-requires-clause-loaded : goal.renew-requires-clause-loaded
+renew-requires-clause-loaded g c = c.requires.disks.at.loaded
+
+pub renew-requires-clause-empty : goal.renew-requires-clause-empty
+renew-requires-clause-empty g c = (ready_as c.args.held.now (bench_of c.args.lease.now) c.args.records.now c.args.reply.now c.in-Reencipher.is c.requires.ready).0
+
+pub renew-requires-clause-current : goal.renew-requires-clause-current
+renew-requires-clause-current g c = (ready_as c.args.held.now (bench_of c.args.lease.now) c.args.records.now c.args.reply.now c.in-Reencipher.is c.requires.ready).1
+
+pub renew-requires-clause-ready : goal.renew-requires-clause-ready
+renew-requires-clause-ready g c = (ready_as c.args.held.now (bench_of c.args.lease.now) c.args.records.now c.args.reply.now c.in-Reencipher.is c.requires.ready).2

@@ -1,17 +1,15 @@
-use Rattle.std.proofs.Common.{◌≡◌, ◌∙◌, Ok, Err, sym, ap, subst}
-use Rattle.line_service.specs.declared.stops.Stop.TheVariants.{EntropyFault}
-use Rattle.key_cells.specs.Lease.{bench_of}
-use Rattle.master_registers.specs.Loaded.{Loaded}
+use Rattle.std.proofs.Common.{◌≡◌, ◌∙◌, Ok, Err, refl, sym, ap, subst}
+use Rattle.line_service.specs.declared.stops.Stop.TheVariants.{EntropyFault, StoreFault}
+use Rattle.key_cells.specs.Lease.{bench_of, loan_of}
 use Rattle.device_cells.proofs.Media.{keeps_still}
 use Rattle.verb_script.specs.Parsed.{seen}
-use Rattle.cca_machine.specs.Act.{Outcome}
 use Rattle.cca_machine.specs.Operands.{operands}
-use Rattle.cca_machine.specs.Verdict.{verb_verdict, whole_verb_verdict}
+use Rattle.cca_machine.specs.Verdict.{verb_verdict}
 use Rattle.request_rules.specs.Standing.{tables}
-use Rattle.cca_requests.specs.Serving.{Carries, IsFault}
-use Rattle.request_verbs.proofs.Acting.{any_old_are}
-use Rattle.cca_requests.proofs.Registers.{loaded_places}
-use Rattle.cca_requests.proofs.Serving.{performed_by, taken_for, drawn_serves, stopped_serves}
+use Rattle.cca_requests.specs.Serving.{IsFault, IsLoadedStop}
+use Rattle.cca_requests.proofs.Handing.{decide_stopped, disks_decided}
+use Rattle.cca_requests.proofs.Registers.{loaded_after}
+use Rattle.cca_requests.proofs.Serving.{decided_serves, old_as, stopped_serves}
 use Rattle.request_verbs.proofs.Settling.{takes_on}
 use Rattle.cca_requests.proofs.Storing.{recorded}
 use Rattle.cca_requests.proofs.performing.act.Goals as goal
@@ -20,7 +18,6 @@ pub returns-in-Ok-clause-serves : goal.returns-in-Ok-clause-serves
 returns-in-Ok-clause-serves g c = λ s at granted is.
     let request = seen c.args.request.now in
     let bench = bench_of c.args.lease.now in
-    let other = bench_of c.decide.new.lease in
     let t = tables c.carry.new.roles c.carry.new.records in
     let m0 = g.M.Disk.medium c.args.module.now in
     let m1 = g.M.Disk.medium c.carry.new.module in
@@ -28,18 +25,11 @@ returns-in-Ok-clause-serves g c = λ s at granted is.
     let d1 = g.D.Disk.medium c.carry.new.store in
     let decides = c.in-Ok.ensures.decision.decided.decides s
     (record { loaded = at.loaded; recorded = recorded s c.args.records.now d0 at.stands.on_store; grants = granted }) in
-    let loaded : Loaded s.registers c.args.held.now other =
-    subst (λ b. Loaded s.registers c.args.held.now b) (sym (ap bench_of c.decide.ensures.decision.places)) (loaded_places s.registers c.args.held.now bench other at.loaded) in
-    drawn_serves s request decides.drawn c.carry.result c.carry.new.reply t m0 m1 d0 d1 (g.E.Entropy.left c.args.entropy.now) (g.E.Entropy.left c.decide.new.entropy)
-    (subst (λ (x : Outcome). Carries x s c.carry.result c.carry.new.reply t m0 m1 d0 d1)
-    (sym (performed_by s decides.drawn request (whole_verb_verdict s decides.drawn request) (is (whole_verb_verdict s decides.drawn request))))
-    (c.carry.ensures.carries s request decides.drawn (record { loaded = loaded; stands = at.stands })
-    (any_old_are s bench (operands request) c.args.granted.now granted ∙ sym c.is_old.ensures) decides.decided))
-    (record {
-      consumed = decides.random.consumed;
-      size = decides.random.size ∙ sym (taken_for s decides.drawn request (verb_verdict s request) (is (verb_verdict s request)));
-    })
-    c.carry.ensures.entropy
+    let loaded = loaded_after s.registers c.args.held.now c.args.lease.now c.decide.new.lease c.decide.ensures.decision.places at.loaded in
+    decided_serves s request c.carry.result c.carry.new.reply t m0 m1 d0 d1 (g.E.Entropy.left c.args.entropy.now) (g.E.Entropy.left c.decide.new.entropy) is decides
+    (λ drawn. c.carry.ensures.carries s request drawn (record { loaded = loaded; stands = at.stands })
+    (old_as s bench (operands request) c.args.granted.now c.is_old.result granted c.is_old.ensures))
+    c.carry.ensures.keeps.entropy
 
 pub returns-in-Err-clause-serves : goal.returns-in-Err-clause-serves
 returns-in-Err-clause-serves g c = λ s at granted is.
@@ -55,7 +45,7 @@ returns-in-Err-clause-serves g c = λ s at granted is.
     c.requires.disks.at.settled c.requires.disks.store.settled (keeps_still m) (keeps_still d) at.stands
 
 pub returns-in-Ok-clause-takes : goal.returns-in-Ok-clause-takes
-returns-in-Ok-clause-takes g c = takes_on c.decide.ensures.decision.takes (λ is. absurd (c.carry.ensures.entropy is))
+returns-in-Ok-clause-takes g c = takes_on c.decide.ensures.decision.takes (λ is. absurd (c.carry.ensures.keeps.entropy is))
     (λ is. let no : Ok c.in-Ok.effect ≡ Err EntropyFault = sym c.in-Ok.is ∙ is in cc no)
 
 pub returns-in-Err-clause-takes : goal.returns-in-Err-clause-takes
@@ -66,3 +56,47 @@ pub decide-requires : goal.decide-requires
 decide-requires g c = record {
   can = record { passed = c.requires.passed; loaded = c.requires.disks.at.loaded; empty = c.requires.empty };
 }
+
+pub returns-in-Ok-clause-stops : goal.returns-in-Ok-clause-stops
+returns-in-Ok-clause-stops g c = c.carry.ensures.keeps.stops
+
+pub returns-in-Err-clause-stops : goal.returns-in-Err-clause-stops
+returns-in-Err-clause-stops g c = subst IsLoadedStop (sym c.in-Err.ensures.decision.decided.stops) tt
+
+pub returns-in-Ok-clause-rows : goal.returns-in-Ok-clause-rows
+returns-in-Ok-clause-rows g c = λ none. c.carry.ensures.keeps.kept (λ goes. cc (sym none ∙ c.in-Ok.ensures.decision.decided.through goes))
+
+pub returns-in-Err-clause-rows : goal.returns-in-Err-clause-rows
+returns-in-Err-clause-rows g c = λ none. refl
+
+pub returns-in-Ok-clause-store : goal.returns-in-Ok-clause-store
+returns-in-Ok-clause-store g c = record {
+  named = λ is. c.in-Ok.ensures.decision.decided.named (c.carry.ensures.keeps.writes is);
+  spared = λ none. c.carry.ensures.keeps.spared (λ writes. cc (sym none ∙ c.in-Ok.ensures.decision.decided.named writes));
+}
+
+pub returns-in-Err-clause-store : goal.returns-in-Err-clause-store
+returns-in-Err-clause-store g c = record {
+  named = λ is. let no : EntropyFault ≡ StoreFault = sym c.in-Err.ensures.decision.decided.stops ∙ cc is in cc no;
+  spared = λ none. refl;
+}
+
+pub returns-in-Ok-clause-left : goal.returns-in-Ok-clause-left
+returns-in-Ok-clause-left g c = c.carry.ensures.left
+
+pub returns-in-Err-clause-left : goal.returns-in-Err-clause-left
+returns-in-Err-clause-left g c = decide_stopped c.decide.new.reply c.requires.disks.at.settled c.requires.disks.store.settled c.in-Err.ensures.decision.decided.stops c.in-Err.ensures.decision.decided.silent
+
+pub returns-in-Ok-clause-loan : goal.returns-in-Ok-clause-loan
+returns-in-Ok-clause-loan g c = c.carry.ensures.keeps.loan ∙ ap loan_of c.decide.ensures.decision.places
+
+pub returns-in-Err-clause-loan : goal.returns-in-Err-clause-loan
+returns-in-Err-clause-loan g c = ap loan_of c.decide.ensures.decision.places
+
+pub carry-requires-clause-disks : goal.carry-requires-clause-disks
+carry-requires-clause-disks g c =
+    disks_decided c.args.held.now c.args.lease.now c.decide.new.lease (tables c.args.roles.now c.args.records.now)
+    (g.M.Disk.medium c.args.module.now) (g.D.Disk.medium c.args.store.now) c.decide.ensures.decision.places c.requires.disks
+
+pub carry-requires-clause-ready : goal.carry-requires-clause-ready
+carry-requires-clause-ready g c = c.in-Ok.ensures.decision.decided.ready

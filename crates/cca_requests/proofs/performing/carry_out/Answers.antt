@@ -1,9 +1,9 @@
-use Rattle.std.proofs.Common.{◌≡◌, ◌∙◌, false, None, Some, Result, Err, refl, sym, ap, subst, codes, rules}
+use Rattle.std.proofs.Common.{◌≡◌, ◌∙◌, false, None, Some, Result, Ok, Err, refl, sym, ap, subst, codes, rules}
 use Rattle.std.specs.Prelude.{IsSome, IsTrue}
 use Rattle.std.proofs.lemmas.Bool.{or_parts}
 use Rattle.std.specs.Option.{option_map}
 use Rattle.cca_vectors.specs.Checks.{first_failing}
-use Rattle.key_cells.specs.Lease.{bench_of}
+use Rattle.key_cells.specs.Lease.{bench_of, loan_of}
 use Rattle.line_service.specs.declared.stops.Stop.{Stop}
 use Rattle.line_service.specs.declared.stops.Stop.TheVariants.{EntropyFault, StoreFault}
 use Rattle.master_registers.specs.Loaded.{Loaded, masters_in}
@@ -14,6 +14,7 @@ use Rattle.verb_script.specs.Parsed.{seen}
 use Rattle.cca_machine.specs.Operands.{Operands, operands, listed, names_label, is_reencipher, needs_store}
 use Rattle.cca_machine.specs.Verdict.{refusal, general_checks, verb_verdict}
 use Rattle.cca_machine.specs.Refusals.{refusal_of}
+use Rattle.request_rules.specs.Judging.{IsStoreStop}
 use Rattle.request_rules.specs.Standing.{tables}
 use Rattle.cca_requests.specs.Serving.{IsFault}
 use Rattle.request_verbs.proofs.Acting.{verdict_general}
@@ -22,7 +23,9 @@ use Rattle.request_verbs.proofs.Delivering.{either_right}
 use Rattle.request_rules.proofs.GrantsKept.{grants_kept, loaded_kept}
 use Rattle.cca_requests.proofs.OperandsJudged.{operands_granted, operands_refused, whole_short, whole_spelled}
 use Rattle.cca_requests.proofs.Serving.{refused_serves, stopped_serves, serves_after_reads, stands_kept}
-use Rattle.cca_requests.proofs.Leaving.{still_turned, read_turned, leaves_after_reads}
+use Rattle.cca_requests.proofs.Contents.{sound}
+use Rattle.cca_requests.proofs.Handing.{disks_read, draws_none, has_passed, no_stop, spares_still, store_kept, store_stopped}
+use Rattle.cca_requests.proofs.Leaving.{leaves_after_reads, still_left, stops_as, store_stop}
 use Rattle.cca_requests.proofs.performing.carry_out.Goals as goal
 
 pub refuse-requires-clause-short : goal.refuse-requires-clause-short
@@ -138,34 +141,18 @@ returns-in-Ok-Granted-clause-store g c = record {
 -- ---- what is left
 
 pub returns-in-Some-clause-left : goal.returns-in-Some-clause-left
-returns-in-Some-clause-left g c = record {
-  module_disk = search rules;
-  store_disk = search rules;
-  module_told = search rules;
-  store_told = search rules;
-  module_turned = still_turned 33 (g.M.Disk.medium c.args.module.now) (g.M.Disk.medium c.args.module.now) refl refl;
-  store_turned = still_turned 1024 (g.D.Disk.medium c.args.store.now) (g.D.Disk.medium c.args.store.now) refl refl;
-  sound = search rules;
-  holds = search rules;
-  silent = search rules;
-  roles = search rules;
-  labels = search rules;
-}
+returns-in-Some-clause-left g c =
+    still_left c.requires.disks.at.settled c.requires.disks.store.settled
+    (sound (g.M.Disk.medium c.args.module.now) (masters_in c.args.held.now (bench_of c.args.lease.now)) c.args.roles.now c.requires.disks.at.stands c.requires.disks.at.remembered) c.requires.disks.store.holds
 
 pub returns-in-Ok-Refused-clause-left : goal.returns-in-Ok-Refused-clause-left
-returns-in-Ok-Refused-clause-left g c = record {
-  module_disk = search rules;
-  store_disk = search rules;
-  module_told = search rules;
-  store_told = search rules;
-  module_turned = still_turned 33 (g.M.Disk.medium c.args.module.now) (g.M.Disk.medium c.args.module.now) refl refl;
-  store_turned = read_turned 1024 (g.D.Disk.medium c.args.store.now) (g.D.Disk.medium c.judge.new.store) c.judge.ensures.reads.keeps;
-  sound = search rules;
-  holds = search rules;
-  silent = search rules;
-  roles = search rules;
-  labels = search rules;
-}
+returns-in-Ok-Refused-clause-left g c =
+    let d1 = g.D.Disk.medium c.judge.new.store in
+    let store = store_kept c.args.records.now (g.D.Disk.medium c.args.store.now) d1 c.judge.ensures.reads.keeps c.requires.disks.store in
+    leaves_after_reads {reply = c.refuse-in-Ok-Refused.new.reply}
+    (keeps_still (g.M.Disk.medium c.args.module.now)) refl c.judge.ensures.reads.keeps (c.in-Ok-Refused.ensures.reads.disk.quiet (λ is. cc is))
+    (still_left {reply = c.refuse-in-Ok-Refused.new.reply} c.requires.disks.at.settled store.settled
+    (sound (g.M.Disk.medium c.args.module.now) (masters_in c.args.held.now (bench_of c.args.lease.now)) c.args.roles.now c.requires.disks.at.stands c.requires.disks.at.remembered) store.holds)
 
 pub returns-in-Ok-Granted-clause-left : goal.returns-in-Ok-Granted-clause-left
 returns-in-Ok-Granted-clause-left g c =
@@ -217,3 +204,52 @@ returns-in-Ok-Granted-clause-own g c =
           c.in-Ok-Granted.granted c.operands_of.ensures.table
           (c.in-Ok-Granted.ensures.own (masters_in held bench) c.requires.disks.at.loaded) c.in-Ok-Granted.field-0-is;
     })
+
+-- ---- what is handed on
+
+pub act-requires-clause-passed : goal.act-requires-clause-passed
+act-requires-clause-passed g c =
+    has_passed (seen c.args.request.now) c.args.held.now c.args.records.now c.args.lease.now c.judge.new.lease c.in-Ok-Granted.granted
+    c.requires.accepted c.operands_of.ensures.table c.in-Ok-Granted.ensures.shaped c.in-Ok-Granted.ensures.keyed c.in-Ok-Granted.field-0-is c.judge.ensures.reads.rest
+    (c.in_default.ensures.master refl)
+
+pub act-requires-clause-disks : goal.act-requires-clause-disks
+act-requires-clause-disks g c =
+    disks_read c.args.held.now c.args.lease.now c.judge.new.lease (tables c.args.roles.now c.args.records.now)
+    (g.M.Disk.medium c.args.module.now) (g.D.Disk.medium c.args.store.now) (g.D.Disk.medium c.judge.new.store) c.judge.ensures.reads.rest c.judge.ensures.reads.keeps c.requires.disks
+
+-- ---- where it ends
+
+pub returns-in-Some-clause-random : goal.returns-in-Some-clause-random
+returns-in-Some-clause-random g c = draws_none (Ok tt) (no_stop EntropyFault)
+
+pub returns-in-Ok-Refused-clause-random : goal.returns-in-Ok-Refused-clause-random
+returns-in-Ok-Refused-clause-random g c = draws_none (Ok tt) (no_stop EntropyFault)
+
+pub returns-in-Err-clause-random : goal.returns-in-Err-clause-random
+returns-in-Err-clause-random g c = draws_none (Err c.in-Err.stop) (stops_as IsStoreStop (Err c.in-Err.stop) c.in-Err.ensures.reads.stops)
+
+pub returns-in-Some-clause-store : goal.returns-in-Some-clause-store
+returns-in-Some-clause-store g c = spares_still (Ok tt) (no_stop StoreFault)
+
+pub returns-in-Err-clause-left : goal.returns-in-Err-clause-left
+returns-in-Err-clause-left g c =
+    store_stopped c.args.reply.now c.requires.disks.at.settled c.judge.ensures.reads.keeps c.in-Err.ensures.reads.stops c.in-Err.ensures.reads.disk c.requires.empty
+
+pub returns-in-Ok-Granted-clause-stops : goal.returns-in-Ok-Granted-clause-stops
+returns-in-Ok-Granted-clause-stops g c = c.act.ensures.stops
+
+pub returns-in-Err-clause-stops : goal.returns-in-Err-clause-stops
+returns-in-Err-clause-stops g c = store_stop c.in-Err.stop c.in-Err.ensures.reads.stops
+
+pub returns-in-Ok-Granted-clause-rows : goal.returns-in-Ok-Granted-clause-rows
+returns-in-Ok-Granted-clause-rows g c = c.act.ensures.rows
+
+pub returns-in-Ok-Refused-clause-loan : goal.returns-in-Ok-Refused-clause-loan
+returns-in-Ok-Refused-clause-loan g c = ap loan_of c.judge.ensures.reads.rest
+
+pub returns-in-Ok-Granted-clause-loan : goal.returns-in-Ok-Granted-clause-loan
+returns-in-Ok-Granted-clause-loan g c = c.act.ensures.loan ∙ ap loan_of c.judge.ensures.reads.rest
+
+pub returns-in-Err-clause-loan : goal.returns-in-Err-clause-loan
+returns-in-Err-clause-loan g c = ap loan_of c.judge.ensures.reads.rest

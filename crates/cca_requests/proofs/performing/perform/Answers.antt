@@ -1,12 +1,14 @@
 use Rattle.std.proofs.Common.{◌∙◌, Err, refl, sym, ap, subst}
 use Rattle.key_cells.specs.Lease.{bench_of}
 use Rattle.master_registers.specs.Loaded.{Loaded, masters_in}
-use Rattle.line_service.specs.declared.stops.Stop.TheVariants.{ModuleFault}
+use Rattle.line_service.specs.declared.stops.Stop.TheVariants.{Damaged, ModuleFault}
+use Rattle.line_service.specs.declared.stops.Device.TheVariants.{Module}
 use Rattle.device_cells.proofs.Media.{keeps_still}
 use Rattle.verb_script.specs.Parsed.{seen}
 use Rattle.verb_script.proofs.GrammarLaws.{spelled_values}
 use Rattle.request_rules.specs.Standing.{tables}
 use Rattle.request_rules.proofs.AsRead.{rests_before}
+use Rattle.cca_requests.proofs.Handing.{disks_loaded, draws_none, load_apart, load_stopped, request_stop, spares_still}
 use Rattle.cca_requests.proofs.Leaving.{no_damage, leaves_after_reads}
 use Rattle.cca_requests.proofs.Registers.{registers_found, undamaged}
 use Rattle.cca_requests.proofs.Serving.{stopped_serves, serves_after_reads, stands_kept}
@@ -76,3 +78,51 @@ pub returns-in-Ok-clause-own : goal.returns-in-Ok-clause-own
 returns-in-Ok-clause-own g c =
     rests_before c.carry_out.result (g.M.Disk.medium c.args.module.now) (g.M.Disk.medium c.load.new.module)
     (tables c.args.roles.now c.args.records.now) (seen c.args.request.now) c.carry_out.new.reply c.load.ensures.keeps c.carry_out.ensures.own
+
+-- ---- what is handed on
+
+pub carry_out-requires-clause-disks : goal.carry_out-requires-clause-disks
+carry_out-requires-clause-disks g c =
+    disks_loaded c.in-Ok.held (bench_of c.load.new.lease) (tables c.args.roles.now c.args.records.now)
+    (g.M.Disk.medium c.args.module.now) (g.M.Disk.medium c.load.new.module) (g.D.Disk.medium c.args.store.now) c.load.ensures.keeps
+    c.requires.disks.module_size c.requires.disks.module_settled c.requires.known.remembered c.in-Ok.ensures.loaded c.in-Ok.ensures.stands
+    (record { size = c.requires.disks.store_size; settled = c.requires.disks.store_settled; holds = c.requires.known.recorded })
+
+-- ---- where it ends
+
+pub returns-in-Ok-clause-records : goal.returns-in-Ok-clause-records
+returns-in-Ok-clause-records g c = c.carry_out.ensures.rows
+
+pub returns-in-Ok-clause-store : goal.returns-in-Ok-clause-store
+returns-in-Ok-clause-store g c = c.carry_out.ensures.store
+
+pub returns-in-Ok-clause-stops : goal.returns-in-Ok-clause-stops
+returns-in-Ok-clause-stops g c = request_stop c.carry_out.result c.carry_out.ensures.stops
+
+pub returns-in-Err-DiskFault-clause-left : goal.returns-in-Err-DiskFault-clause-left
+returns-in-Err-DiskFault-clause-left g c =
+    load_stopped c.clear.new.self (g.M.Disk.medium c.args.module.now) (g.M.Disk.medium c.load.new.module) (g.D.Disk.medium c.args.store.now) c.requires.disks.store_settled c.load.ensures.keeps (λ is. cc is) c.load.ensures.cause.later
+    (λ is. c.load.ensures.cause.failed (c.in-Err-DiskFault.is ∙ ap Err c.in-Err-DiskFault.field-0-is)) (λ never. absurd (never refl)) c.clear.ensures
+
+pub returns-clause-left : goal.returns-clause-left
+returns-clause-left g c =
+    load_stopped c.clear.new.self (g.M.Disk.medium c.args.module.now) (g.M.Disk.medium c.load.new.module) (g.D.Disk.medium c.args.store.now) c.requires.disks.store_settled c.load.ensures.keeps (λ is. cc is) c.load.ensures.cause.later
+    (λ is. cc is) (λ never. c.load.ensures.cause.quiet (λ failed. load_apart (sym (c.in-Err-Damaged.is ∙ ap Err c.in-Err-Damaged.field-0-is) ∙ failed))) c.clear.ensures
+
+pub returns-clause-damage : goal.returns-clause-damage
+returns-clause-damage g c = λ is. record {
+  damaged = c.load.ensures.damaged (c.in-Err-Damaged.is ∙ ap Err c.in-Err-Damaged.field-0-is);
+  kept = c.load.ensures.keeps;
+}
+
+pub returns-in-Err-DiskFault-clause-store : goal.returns-in-Err-DiskFault-clause-store
+returns-in-Err-DiskFault-clause-store g c = spares_still (Err ModuleFault) (λ is. cc is)
+
+pub returns-clause-store : goal.returns-clause-store
+returns-clause-store g c = spares_still (Err (Damaged Module 0)) (λ is. cc is)
+
+pub returns-in-Err-DiskFault-clause-random : goal.returns-in-Err-DiskFault-clause-random
+returns-in-Err-DiskFault-clause-random g c = draws_none (Err ModuleFault) (λ is. cc is)
+
+pub returns-clause-random : goal.returns-clause-random
+returns-clause-random g c = draws_none (Err (Damaged Module 0)) (λ is. cc is)
