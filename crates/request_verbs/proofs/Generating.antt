@@ -1,5 +1,5 @@
 -- Keys that are generated: their rules, and what is left with the random bytes that were drawn.
-use Rattle.std.proofs.Common.{◌≡◌, ℕ, Bool, true, false, List, Option, None, Some, refl, sym, ap, ◌∙◌, codes}
+use Rattle.std.proofs.Common.{◌≡◌, ℕ, Bool, true, false, List, Option, None, Some, refl, sym, ap, subst, ◌∙◌, codes}
 use Rattle.std.specs.Prelude.{bytes_eq, if◌then◌else◌}
 use Rattle.cca_vectors.specs.Checks.{first_failing}
 use Rattle.cca_vectors.specs.KeyTypes.{type_name}
@@ -13,7 +13,9 @@ use Rattle.key_transport.specs.declared.generating.Form.TheVariants.{Opex, Opim,
 use Rattle.master_registers.specs.Masters.{Masters}
 use Rattle.verb_rules.specs.TypeChecks.{length_checks, pair_checks}
 use Rattle.cca_machine.specs.Choices.{key_length_named, out_form_named, pair_form_named, type_in}
-use Rattle.cca_machine.specs.Verdict.{Refusal, first_refusal, generate_questions, or_refused, pair_questions}
+use Rattle.cca_machine.specs.Verdict.{Refusal, first_refusal, generate_questions, or_refused, pair_questions, refusal}
+use Rattle.cca_machine.specs.Refusals.{HasRefused}
+use Rattle.cca_machine.specs.declared.refusals.Refusal.{Refusal as CodeRefusal}
 
 -- the name of a type names it
 pub type_is : (type : KeyType) → type_in (type_name type) ≡ type
@@ -59,6 +61,24 @@ first_refused first second key_length r none is =
     let rule = first_failing (length_checks first key_length) in
     let other = first_refusal (generate_questions second key_length) in
     ap (λ (x : Option ℕ). or_refused x (codes "type2") (or_refused rule (codes "length") other)) none ∙ refused_first rule (codes "length") other r is
+
+-- the two types don't go together
+pub pair_refused : (first second : KeyType) (key_length : Length) (n : ℕ) → first_failing (pair_checks first second) ≡ Some n
+    → first_refusal (pair_questions first second key_length) ≡ Some (refusal n (codes "type2"))
+pair_refused first second key_length n is =
+    let others = or_refused (first_failing (length_checks first key_length)) (codes "length") (first_refusal (generate_questions second key_length)) in
+    ap (λ (x : Option ℕ). or_refused x (codes "type2") others) is
+
+-- they go together, and the first has the length
+pub second_judged : (first second : KeyType) (key_length : Length) (r : Option CodeRefusal) → first_failing (pair_checks first second) ≡ None
+    → first_refusal (generate_questions first key_length) ≡ None → HasRefused (first_refusal (generate_questions second key_length)) r
+    → HasRefused (first_refusal (pair_questions first second key_length)) r
+second_judged first second key_length r none lengths judged =
+    let rule = first_failing (length_checks first key_length) in
+    let other = first_refusal (generate_questions second key_length) in
+    subst (λ (v : Option Refusal). HasRefused v r)
+    (sym (ap (λ (x : Option ℕ). or_refused x (codes "type2") (or_refused rule (codes "length") other)) none
+    ∙ ap (λ (x : Option ℕ). or_refused x (codes "length") other) (one_length first key_length lengths))) judged
 
 -- ---- the forms
 
