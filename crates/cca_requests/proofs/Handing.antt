@@ -38,7 +38,6 @@ use Rattle.cca_requests.proofs.Registers.{loaded_places}
 
 -- ---- what is handed on
 
-
 -- the body is no place of the registers
 loaded_with : (m : Masters) (held : Registers) (bench : Bench) (bytes : List ℕ) → Loaded m held bench → Loaded m held (record bench { body = bytes })
 loaded_with m held bench bytes loaded = record {
@@ -146,10 +145,10 @@ draws_none result never = record {
 pub spares_still : {D : Type 0} {request : Request} {store : D} (result : Result (Unit {0}) Stop) → (result ≡ Err StoreFault → ⊥) → SparesStore request result store store
 spares_still result never = record { named = λ is. absurd (never is); spared = λ none. refl }
 
-abbrev done : Result (Unit {0}) Stop
-done = Ok tt
+abbrev served : Result (Unit {0}) Stop
+served = Ok tt
 
-pub no_stop : (fault : Stop) → done ≡ Err fault → ⊥
+pub no_stop : (fault : Stop) → served ≡ Err fault → ⊥
 no_stop fault is = cc is
 
 pub request_stop : (result : Result (Unit {0}) Stop) → IfErr result IsLoadedStop → IfErr result IsRequestStop

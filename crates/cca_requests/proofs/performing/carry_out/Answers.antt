@@ -157,7 +157,7 @@ returns-in-Ok-Refused-clause-left g c =
 pub returns-in-Ok-Granted-clause-left : goal.returns-in-Ok-Granted-clause-left
 returns-in-Ok-Granted-clause-left g c =
     let m = g.M.Disk.medium c.args.module.now in
-    leaves_after_reads
+    leaves_after_reads {reply = c.act.new.reply} {later = tables c.act.new.roles c.act.new.records}
     (keeps_still m) refl c.judge.ensures.reads.keeps (c.in-Ok-Granted.ensures.reads.disk.quiet (λ is. cc is)) c.act.ensures.left
 
 -- ---- what the reply rests on
