@@ -71,7 +71,7 @@ returns-in-Ok-clause-damage g c = λ is. absurd (no_damage c.carry_out.result 0 
 pub returns-in-Ok-clause-left : goal.returns-in-Ok-clause-left
 returns-in-Ok-clause-left g c =
     let d = g.D.Disk.medium c.args.store.now in
-    leaves_after_reads
+    leaves_after_reads {reply = c.carry_out.new.reply} {later = tables c.carry_out.new.roles c.carry_out.new.records}
     c.load.ensures.keeps (c.in-Ok.ensures.cause.quiet (λ is. cc is)) (keeps_still d) refl c.carry_out.ensures.left
 
 pub returns-in-Ok-clause-own : goal.returns-in-Ok-clause-own
