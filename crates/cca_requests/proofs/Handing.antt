@@ -1,6 +1,6 @@
 -- What a call of a request hands on to the next one, and what it leaves where it ends.
 use Rattle.std.proofs.Common.{◌≡◌, ◌∙◌, ℕ, List, [], None, Option, Result, Ok, Err, ap, refl, sym, subst, arith}
-use Rattle.std.specs.Prelude.{◌≤◌, IfErr, IfSome, IsNone, IsOk, IsSome, IsTrue}
+use Rattle.std.specs.Prelude.{◌≤◌, IfErr, IfSome, IsOk, IsSome, IsTrue}
 use Rattle.device_cells.specs.Medium.{IsSettled, Keeps, Medium, Told}
 use Rattle.device_cells.specs.Faults.{Rose}
 use Rattle.device_cells.proofs.Media.{keeps_still, settled_kept}
@@ -15,6 +15,7 @@ use Rattle.line_service.specs.Devices.{DiskLeft, devices}
 use Rattle.line_service.specs.declared.stops.Device.TheVariants.{Module, Store}
 use Rattle.line_service.specs.declared.stops.Stop.{Stop}
 use Rattle.line_service.specs.declared.stops.Stop.TheVariants.{Damaged, EntropyFault, InputLimit, ModuleFault, ReadFault, StoreFault, WriteFault}
+use Rattle.master_registers.specs.Changes.{HasLoadCause}
 use Rattle.master_registers.specs.Loaded.{IsLoaded, Loaded, StandsForLoaded, masters_in}
 use Rattle.master_registers.specs.Masters.{Masters}
 use Rattle.master_registers.specs.declared.faults.LoadFault.{LoadFault}
@@ -24,7 +25,7 @@ use Rattle.verb_script.specs.Grammar.{Request}
 use Rattle.cca_machine.specs.Operands.{Operands, operands}
 use Rattle.cca_machine.specs.State.{State, module_size}
 use Rattle.cca_machine.specs.Verdict.{needs_master}
-use Rattle.cca_machine.specs.Granted.{AreKeyed, HaveShapes, IsAccepted}
+use Rattle.cca_machine.specs.Granted.{IsAccepted}
 use Rattle.cca_machine.specs.declared.granted.Granted.{Granted}
 use Rattle.request_rules.specs.Judging.{AreKeyedOperands, AreShaped, IsStoreStop}
 use Rattle.request_rules.specs.Standing.{Tables}
@@ -165,7 +166,7 @@ request_stop (Err InputLimit) stops = absurd stops
 abbrev load_fails : LoadFault → Result Registers LoadFault
 load_fails fault = Err fault
 
-pub load_apart : load_fails load_fault.Damaged ≡ load_fails load_fault.DiskFault → ⊥
+load_apart : load_fails load_fault.Damaged ≡ load_fails load_fault.DiskFault → ⊥
 load_apart is = cc is
 
 abbrev fails : (T : Type 0) → Stop → Result T Stop
@@ -215,7 +216,7 @@ module _ {stop : Stop} (reply : List ℕ) {t : Tables} where
       silent
 
   -- a stop where the registers are loaded
-  pub load_stopped : (m0 m1 d : Medium) {before now count : ℕ} → IsSettled d → Keeps m0 m1 → (stop ≡ StoreFault → ⊥) → before ≤ now
+  load_stopped : (m0 m1 d : Medium) {before now count : ℕ} → IsSettled d → Keeps m0 m1 → (stop ≡ StoreFault → ⊥) → before ≤ now
       → (stop ≡ ModuleFault → Rose before now) → ((stop ≡ ModuleFault → ⊥) → now ≡ before) → reply ≡ []
       → Leaves (Err stop) reply (record { old = devices m0 before d count None 0; new = devices m1 now d count None 0 }) t t
   load_stopped m0 m1 d {before} {now} {count} settled keeps never later fault quiet silent =
@@ -234,3 +235,17 @@ module _ {stop : Stop} (reply : List ℕ) {t : Tables} where
       (untouched_left m m_count (Err stop) ModuleFault settled_m (λ failed. let no : EntropyFault ≡ ModuleFault = sym is ∙ cc failed in cc no))
       (untouched_left d d_count (Err stop) StoreFault settled_d (λ failed. let no : EntropyFault ≡ StoreFault = sym is ∙ cc failed in cc no))
       silent
+
+-- the module failed while the registers were loaded
+pub load_failed : (reply : List ℕ) (t : Tables) (m0 m1 d : Medium) {before now count : ℕ} {r : Result Registers LoadFault} → IsSettled d → Keeps m0 m1
+    → HasLoadCause before now r → r ≡ Err load_fault.DiskFault → reply ≡ []
+    → Leaves (Err ModuleFault) reply (record { old = devices m0 before d count None 0; new = devices m1 now d count None 0 }) t t
+load_failed reply t m0 m1 d settled keeps cause is silent =
+    load_stopped reply m0 m1 d settled keeps (λ other. cc other) cause.later (λ failed. cause.failed is) (λ never. absurd (never refl)) silent
+
+-- they were damaged
+pub load_damaged : (reply : List ℕ) (t : Tables) (m0 m1 d : Medium) {before now count : ℕ} {r : Result Registers LoadFault} → IsSettled d → Keeps m0 m1
+    → HasLoadCause before now r → r ≡ Err load_fault.Damaged → reply ≡ []
+    → Leaves (Err (Damaged Module 0)) reply (record { old = devices m0 before d count None 0; new = devices m1 now d count None 0 }) t t
+load_damaged reply t m0 m1 d settled keeps cause is silent =
+    load_stopped reply m0 m1 d settled keeps (λ other. cc other) cause.later (λ failed. cc failed) (λ never. cause.quiet (λ failed. load_apart (sym is ∙ failed))) silent

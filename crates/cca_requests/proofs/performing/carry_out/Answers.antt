@@ -1,4 +1,4 @@
-use Rattle.std.proofs.Common.{◌≡◌, ◌∙◌, false, None, Some, Result, Ok, Err, refl, sym, ap, subst, codes, rules}
+use Rattle.std.proofs.Common.{◌≡◌, ◌∙◌, false, None, Some, Result, Ok, Err, refl, sym, ap, subst, codes}
 use Rattle.std.specs.Prelude.{IsSome, IsTrue}
 use Rattle.std.proofs.lemmas.Bool.{or_parts}
 use Rattle.std.specs.Option.{option_map}

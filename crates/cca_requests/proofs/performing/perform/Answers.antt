@@ -8,7 +8,7 @@ use Rattle.verb_script.specs.Parsed.{seen}
 use Rattle.verb_script.proofs.GrammarLaws.{spelled_values}
 use Rattle.request_rules.specs.Standing.{tables}
 use Rattle.request_rules.proofs.AsRead.{rests_before}
-use Rattle.cca_requests.proofs.Handing.{disks_loaded, draws_none, load_apart, load_stopped, request_stop, spares_still}
+use Rattle.cca_requests.proofs.Handing.{disks_loaded, draws_none, load_damaged, load_failed, request_stop, spares_still}
 use Rattle.cca_requests.proofs.Leaving.{no_damage, leaves_after_reads}
 use Rattle.cca_requests.proofs.Registers.{registers_found, undamaged}
 use Rattle.cca_requests.proofs.Serving.{stopped_serves, serves_after_reads, stands_kept}
@@ -101,13 +101,13 @@ returns-in-Ok-clause-stops g c = request_stop c.carry_out.result c.carry_out.ens
 
 pub returns-in-Err-DiskFault-clause-left : goal.returns-in-Err-DiskFault-clause-left
 returns-in-Err-DiskFault-clause-left g c =
-    load_stopped c.clear.new.self (g.M.Disk.medium c.args.module.now) (g.M.Disk.medium c.load.new.module) (g.D.Disk.medium c.args.store.now) c.requires.disks.store_settled c.load.ensures.keeps (λ is. cc is) c.load.ensures.cause.later
-    (λ is. c.load.ensures.cause.failed (c.in-Err-DiskFault.is ∙ ap Err c.in-Err-DiskFault.field-0-is)) (λ never. absurd (never refl)) c.clear.ensures
+    load_failed c.clear.new.self (tables c.args.roles.now c.args.records.now) (g.M.Disk.medium c.args.module.now) (g.M.Disk.medium c.load.new.module) (g.D.Disk.medium c.args.store.now)
+    c.requires.disks.store_settled c.load.ensures.keeps c.load.ensures.cause (c.in-Err-DiskFault.is ∙ ap Err c.in-Err-DiskFault.field-0-is) c.clear.ensures
 
 pub returns-clause-left : goal.returns-clause-left
 returns-clause-left g c =
-    load_stopped c.clear.new.self (g.M.Disk.medium c.args.module.now) (g.M.Disk.medium c.load.new.module) (g.D.Disk.medium c.args.store.now) c.requires.disks.store_settled c.load.ensures.keeps (λ is. cc is) c.load.ensures.cause.later
-    (λ is. cc is) (λ never. c.load.ensures.cause.quiet (λ failed. load_apart (sym (c.in-Err-Damaged.is ∙ ap Err c.in-Err-Damaged.field-0-is) ∙ failed))) c.clear.ensures
+    load_damaged c.clear.new.self (tables c.args.roles.now c.args.records.now) (g.M.Disk.medium c.args.module.now) (g.M.Disk.medium c.load.new.module) (g.D.Disk.medium c.args.store.now)
+    c.requires.disks.store_settled c.load.ensures.keeps c.load.ensures.cause (c.in-Err-Damaged.is ∙ ap Err c.in-Err-Damaged.field-0-is) c.clear.ensures
 
 pub returns-clause-damage : goal.returns-clause-damage
 returns-clause-damage g c = λ is. record {
