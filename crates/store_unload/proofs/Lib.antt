@@ -11,3 +11,6 @@ mod PieceLaws
 mod RecordLaws
 mod RestLemmas
 mod ToldLemmas
+mod BothLemmas
+mod CalledLemmas
+mod LeftLemmas

@@ -201,6 +201,11 @@ loaded_after m held old new is loaded = record {
   told = loaded.told;
 }
 
+-- a bench of which the body alone changes
+pub body_changes : (old new : Bench) → new ≡ record old { body = new.body } → new ≡ record old { key = new.key; schedules = new.schedules; body = new.body }
+body_changes old new is =
+    subst (λ (b : Bench). new ≡ record old { key = b.key; schedules = b.schedules; body = new.body }) (sym is) is
+
 pub is_loaded_after : (held : Registers) (old new : Bench)
     → new ≡ record old { key = new.key; schedules = new.schedules; body = new.body } → IsLoaded held old → IsLoaded held new
 is_loaded_after held old new is loaded =

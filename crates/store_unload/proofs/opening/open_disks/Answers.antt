@@ -1,12 +1,10 @@
 -- The registers and roles that were read, with the labels that were read under them, are those of one state.
-use Rattle.std.proofs.Common.{◌≡◌, ◌∙◌, Err, refl, ap, subst, arith, rules}
-use Rattle.device_cells.proofs.Media.{keeps_still}
-use Rattle.line_service.specs.declared.stops.Stop.TheVariants.{ModuleFault, StoreFault}
-use Rattle.cca_machine.specs.Coprocessor.{IsModuleStop}
+use Rattle.std.proofs.Common.{ap}
 use Rattle.key_cells.specs.Lease.{bench_of}
 use Rattle.master_registers.specs.Loaded.{masters_in}
 use Rattle.master_registers.specs.declared.registers.Registers.{Registers}
-use Rattle.store_unload.proofs.OpeningLemmas.{as_stop, broken_record, handed_judged, handed_record, is_loaded_after, judged_record, never_judged, opened_as, registers_after, stands_unbroken, unjudged_store}
+use Rattle.store_unload.proofs.OpeningLemmas.{is_loaded_after, opened_as, registers_after}
+use Rattle.store_unload.proofs.BothLemmas.{module_damage, module_shut, sound_damage, sound_left, store_damage, store_shut}
 use Rattle.store_unload.proofs.KnownLemmas.{opened_known}
 use Rattle.store_unload.proofs.opening.open_disks.Goals as goal
 
@@ -35,83 +33,59 @@ returns-in-Ok-open_store-clause-registers g c =
 
 pub returns-in-Ok-open_store-clause-damage : goal.returns-in-Ok-open_store-clause-damage
 returns-in-Ok-open_store-clause-damage g c =
-    let m0 = g.M.Disk.medium c.args.module.now in
-    let m1 = g.M.Disk.medium c.open_module.new.module in
-    let d0 = g.D.Disk.medium c.args.store.now in
-    let masters = masters_in c.in-Ok.held (bench_of c.open_module.new.lease) in
-    record {
-      module_damaged = λ cell h. absurd (cc h);
-      store_damaged = λ cell h. absurd (cc h);
-      module_judged = λ still.
-          stands_unbroken m0 m1 masters c.open_module.new.roles _
-          c.open_module.ensures.kept.content c.in-Ok.ensures.registers c.in-Ok.ensures.roles;
-      store_judged = λ still_m still_d.
-          judged_record m0 m1 d0 masters _
-          c.open_module.ensures.kept.content c.in-Ok.ensures.registers
-          (never_judged c.open_store.result c.in-Ok-open_store.field-0 c.in-Ok-open_store.is d0 _ _ (c.open_store.ensures.judged still_d));
-      cells = λ device cell h. absurd (cc h);
-    }
+    sound_damage Registers c.open_store.result
+    (g.M.Disk.medium c.args.module.now) (g.M.Disk.faults c.args.module.now)
+    (g.M.Disk.medium c.open_module.new.module) (g.M.Disk.faults c.open_module.new.module)
+    (g.D.Disk.medium c.args.store.now) (g.D.Disk.faults c.args.store.now)
+    (g.D.Disk.medium c.open_store.new.store) (g.D.Disk.faults c.open_store.new.store)
+    (masters_in c.in-Ok.held (bench_of c.open_module.new.lease)) c.open_module.new.roles
+    c.open_module.ensures.kept.content c.in-Ok.ensures.registers c.in-Ok.ensures.roles
+    c.open_store.ensures.judged c.in-Ok.held c.in-Ok-open_store.field-0 c.in-Ok-open_store.is
 
 pub returns-in-Err-open_store-clause-damage : goal.returns-in-Err-open_store-clause-damage
 returns-in-Err-open_store-clause-damage g c =
-    let m0 = g.M.Disk.medium c.args.module.now in
-    let m1 = g.M.Disk.medium c.open_module.new.module in
-    let d0 = g.D.Disk.medium c.args.store.now in
-    let stop = c.in-Err-open_store.stop in
-    let masters = masters_in c.in-Ok.held (bench_of c.open_module.new.lease) in
-    record {
-      module_damaged = search rules;
-      store_damaged = λ cell h.
-          broken_record m0 m1 d0 masters c.open_module.new.roles cell
-          c.open_module.ensures.kept.content c.in-Ok.ensures.registers c.in-Ok.ensures.roles
-          (c.open_store.ensures.damaged cell (as_stop Registers c.open_store.result stop _ c.in-Err-open_store.is h));
-      module_judged = λ still.
-          stands_unbroken m0 m1 masters c.open_module.new.roles _
-          c.open_module.ensures.kept.content c.in-Ok.ensures.registers c.in-Ok.ensures.roles;
-      store_judged = λ still_m still_d.
-          judged_record m0 m1 d0 masters _
-          c.open_module.ensures.kept.content c.in-Ok.ensures.registers
-          (handed_record Registers c.open_store.result stop c.in-Err-open_store.is d0 _ (c.open_store.ensures.judged still_d));
-      cells = search rules;
-    }
+    store_damage Registers c.open_store.result
+    (g.M.Disk.medium c.args.module.now) (g.M.Disk.faults c.args.module.now)
+    (g.M.Disk.medium c.open_module.new.module) (g.M.Disk.faults c.open_module.new.module)
+    (g.D.Disk.medium c.args.store.now) (g.D.Disk.faults c.args.store.now)
+    (g.D.Disk.medium c.open_store.new.store) (g.D.Disk.faults c.open_store.new.store)
+    (masters_in c.in-Ok.held (bench_of c.open_module.new.lease)) c.open_module.new.roles
+    c.open_module.ensures.kept.content c.in-Ok.ensures.registers c.in-Ok.ensures.roles
+    c.open_store.ensures.judged c.in-Err-open_store.stop c.in-Err-open_store.is c.in-Err-open_store.ensures.stops c.open_store.ensures.damaged
 
 pub returns-in-Err-clause-damage : goal.returns-in-Err-clause-damage
 returns-in-Err-clause-damage g c =
-    let m0 = g.M.Disk.medium c.args.module.now in
-    let d0 = g.D.Disk.medium c.args.store.now in
-    record {
-      module_damaged = search rules;
-      store_damaged = search rules;
-      module_judged = λ still.
-          handed_judged Registers c.open_module.result c.in-Err.stop c.in-Err.is m0 (c.open_module.ensures.judged still);
-      store_judged = λ still_m still_d.
-          unjudged_store m0 d0 c.in-Err.stop _ c.in-Err.ensures.stops
-          (λ is. still_m (c.open_module.ensures.left.fault (c.in-Err.is ∙ ap Err is)))
-          (λ cell is. c.open_module.ensures.damaged cell (c.in-Err.is ∙ ap Err is));
-      cells = search rules;
-    }
+    module_damage Registers c.open_module.result c.in-Err.stop
+    (g.M.Disk.medium c.args.module.now) (g.M.Disk.faults c.args.module.now)
+    (g.M.Disk.medium c.open_module.new.module) (g.M.Disk.faults c.open_module.new.module)
+    (g.D.Disk.medium c.args.store.now) (g.D.Disk.faults c.args.store.now)
+    c.in-Err.is c.in-Err.ensures.stops c.open_module.ensures.damaged c.open_module.ensures.judged c.open_module.ensures.left.fault
+
+pub returns-in-Ok-open_store-clause-left : goal.returns-in-Ok-open_store-clause-left
+returns-in-Ok-open_store-clause-left g c =
+    sound_left Registers c.open_module.result c.open_store.result
+    (g.M.Disk.medium c.args.module.now) (g.M.Disk.faults c.args.module.now)
+    (g.M.Disk.medium c.open_module.new.module) (g.M.Disk.faults c.open_module.new.module)
+    (g.D.Disk.medium c.args.store.now) (g.D.Disk.faults c.args.store.now)
+    (g.D.Disk.medium c.open_store.new.store) (g.D.Disk.faults c.open_store.new.store)
+    c.open_module.ensures.kept c.open_module.ensures.left c.in-Ok.held c.in-Ok.held c.in-Ok-open_store.field-0
+    c.in-Ok.is c.in-Ok-open_store.is c.open_store.ensures.kept c.open_store.ensures.left
+
+pub returns-in-Err-open_store-clause-left : goal.returns-in-Err-open_store-clause-left
+returns-in-Err-open_store-clause-left g c =
+    store_shut Registers c.open_module.result c.open_store.result
+    (g.M.Disk.medium c.args.module.now) (g.M.Disk.faults c.args.module.now)
+    (g.M.Disk.medium c.open_module.new.module) (g.M.Disk.faults c.open_module.new.module)
+    (g.D.Disk.medium c.args.store.now) (g.D.Disk.faults c.args.store.now)
+    (g.D.Disk.medium c.open_store.new.store) (g.D.Disk.faults c.open_store.new.store)
+    c.open_module.ensures.kept c.open_module.ensures.left c.in-Ok.held c.in-Err-open_store.stop
+    c.in-Ok.is c.in-Err-open_store.is c.in-Err-open_store.ensures.stops c.open_store.ensures.kept c.open_store.ensures.left
 
 pub returns-in-Err-clause-left : goal.returns-in-Err-clause-left
 returns-in-Err-clause-left g c =
-    let stop = c.in-Err.stop in
-    let left = c.open_module.ensures.left in
-    record {
-      module_kept = c.open_module.ensures.kept;
-      store_kept = keeps_still (g.D.Disk.medium c.args.store.now);
-      module_left = record {
-        size = left.size;
-        still = left.still;
-        settled = λ ok. absurd (cc ok);
-        later = left.later;
-        fault = λ h. let same : stop ≡ ModuleFault = cc h in left.fault (c.in-Err.is ∙ ap Err same);
-        quiet = λ never. left.quiet (λ h. never (let same : stop ≡ ModuleFault = cc (c.in-Err.is, h) in ap Err same));
-      };
-      store_left = record {
-        size = refl;
-        still = λ some. some;
-        settled = λ ok. absurd (cc ok);
-        later = omega arith;
-        fault = λ h. let same : stop ≡ StoreFault = cc h in absurd (subst IsModuleStop same c.in-Err.ensures.stops);
-        quiet = λ never. refl;
-      };
-    }
+    module_shut Registers c.open_module.result c.open_module.result
+    (g.M.Disk.medium c.args.module.now) (g.M.Disk.faults c.args.module.now)
+    (g.M.Disk.medium c.open_module.new.module) (g.M.Disk.faults c.open_module.new.module)
+    (g.D.Disk.medium c.args.store.now) (g.D.Disk.faults c.args.store.now)
+    (g.D.Disk.medium c.args.store.now) (g.D.Disk.faults c.args.store.now)
+    c.open_module.ensures.kept c.open_module.ensures.left c.in-Err.stop c.in-Err.is c.in-Err.ensures.stops

@@ -16,10 +16,30 @@ use Rattle.line_service.specs.declared.stops.Stop.TheVariants.{Damaged, ModuleFa
 use Rattle.cca_machine.specs.Coprocessor.{IsBrokenModule, IsModuleStop}
 use Rattle.store_unload.specs.Stops.{load_stop, role_stop}
 use Rattle.store_unload.proofs.DiskLemmas.{Left, at_load, at_role, cell_named, err_told, left_open, left_shut, load_broken, load_judged, of_load, of_role, role_cell, same_fault, settled_keeps}
-use Rattle.store_unload.proofs.OpeningLemmas.{stands_unbroken, broken_role, judged_role}
+use Rattle.store_unload.proofs.OpeningLemmas.{body_changes, broken_role, is_loaded_after, judged_role, registers_after, stands_unbroken}
+use Rattle.store_unload.proofs.BothLemmas.{never_err}
 use Rattle.store_unload.proofs.opening.open_module.Goals as goal
 
 -- ---- the module was opened
+
+pub returns-in-Ok-open_roles-clause-loaded : goal.returns-in-Ok-open_roles-clause-loaded
+returns-in-Ok-open_roles-clause-loaded g c =
+    let before = bench_of c.load.new.lease in
+    let now = bench_of c.open_roles.new.lease in
+    is_loaded_after c.in-Ok-load.held before now (body_changes before now (ap bench_of c.open_roles.ensures.rest)) c.in-Ok-load.ensures.loaded
+
+pub returns-in-Ok-open_roles-clause-registers : goal.returns-in-Ok-open_roles-clause-registers
+returns-in-Ok-open_roles-clause-registers g c =
+    let before = bench_of c.load.new.lease in
+    let now = bench_of c.open_roles.new.lease in
+    registers_after c.in-Ok-load.held before now (body_changes before now (ap bench_of c.open_roles.ensures.rest))
+    (g.M.Disk.medium c.open_roles.new.module) (g.M.Disk.medium c.load.new.module) (sym c.open_roles.ensures.keeps.content) c.in-Ok-load.ensures.stands
+
+pub returns-in-Ok-open_roles-clause-roles : goal.returns-in-Ok-open_roles-clause-roles
+returns-in-Ok-open_roles-clause-roles g c = c.in-Ok-open_roles.ensures.stands
+
+pub returns-in-Ok-open_roles-clause-damaged : goal.returns-in-Ok-open_roles-clause-damaged
+returns-in-Ok-open_roles-clause-damaged g c = λ cell h. absurd (never_err c.in-Ok-load.held (Damaged Module cell) h)
 
 pub returns-in-Ok-open_roles-clause-judged : goal.returns-in-Ok-open_roles-clause-judged
 returns-in-Ok-open_roles-clause-judged g c = λ still.
