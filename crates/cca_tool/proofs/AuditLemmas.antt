@@ -1,10 +1,16 @@
 -- The status of an audited run tells how its lines ended.
-use Rattle.std.proofs.Common.{◌≡◌, Result, Ok, Err, refl, sym, ap, ◌∙◌, subst, inl, inr}
+use Rattle.std.proofs.Common.{◌≡◌, ℕ, None, Result, Ok, Err, refl, sym, ap, ◌∙◌, subst, inl, inr}
 use Rattle.std.specs.Prelude.{◌⊎◌}
 use Rattle.audit_trail.specs.declared.faults.TrailFault.{TrailFault}
 use Rattle.audit_trail.specs.declared.faults.TrailFault.TheVariants.{DiskFault, Full, Damaged}
+use Rattle.audited_service.specs.Growing.{TrailGrows}
+use Rattle.audited_service.proofs.GrowingLemmas.{grows_kept}
+use Rattle.device_cells.specs.Medium.{Medium}
+use Rattle.device_cells.proofs.Media.{keeps_still}
+use Rattle.line_service.specs.Devices.{devices}
+use Rattle.line_service.specs.Running.{Untouched}
 use Rattle.line_service.specs.declared.stops.Stop.{Stop}
-use Rattle.cca_tool.specs.Auditing.{audit_status_of_lem, AuditEnded, AuditCallsNone}
+use Rattle.cca_tool.specs.Auditing.{audit_status_of_lem, AllUncalled, AuditEnded, AuditCallsNone}
 use Rattle.store_unload.specs.Statuses.{status_of_lem}
 use Rattle.store_unload.specs.declared.status.Status.{Status}
 use Rattle.store_unload.specs.declared.status.Status.TheVariants as status
@@ -53,3 +59,25 @@ usage_audited P = λ r h. absurd (never_audited r (inr h))
 pub audits_some : (outcome : AuditStatus) (r : Result (Result (Unit {0}) Stop) TrailFault) → outcome ≡ audit_status_of_lem r → AuditCallsNone outcome → ⊥
 audits_some outcome r is (inl usage) = never_audited r (inr (sym usage ∙ is))
 audits_some outcome r is (inr memory) = never_audited r (inl (sym memory ∙ is))
+
+-- ---- nothing was called
+
+pub none_called : {S K M D E T : Type 0} (source : S) (sink : K) (m : M) (d : D) (entropy : E) (trail : T)
+    → AllUncalled source source sink sink m m d d entropy entropy trail trail
+none_called source sink m d entropy trail = record {
+  devices = record { no_source = refl; no_sink = refl; no_module = refl; no_store = refl; no_entropy = refl };
+  no_trail = refl;
+}
+
+pub all_as_before : {S K E : Type 0} (source : S) (sink : K) (entropy : E) (m : Medium) (m_count : ℕ) (d : Medium) (d_count : ℕ)
+    → Untouched source source sink sink entropy entropy (record { old = devices m m_count d d_count None 0; new = devices m m_count d d_count None 0 })
+all_as_before source sink entropy m m_count d d_count = record {
+  unsound_source = refl;
+  unsound_sink = refl;
+  unsound_entropy = refl;
+  unsound_module = keeps_still m;
+  unsound_store = keeps_still d;
+}
+
+pub trail_as_before : (t : Medium) → TrailGrows t t
+trail_as_before t = grows_kept t t (keeps_still t)

@@ -4,7 +4,7 @@ use Rattle.std.proofs.Common.{◌≡◌, refl, ◌⊎◌, ℕ, ◌+◌, ◌<◌,
 use Rattle.device_cells.specs.Faults.{Rose}
 use Rattle.device_cells.specs.Medium.{Medium, Told, EachImage}
 use Rattle.device_cells.specs.WhereTold.{WhereTold}
-use Rattle.device_cells.proofs.Media.{told_from, told_at}
+use Rattle.device_cells.proofs.Media.{each_still, each_weaker, told_from, told_at}
 use Rattle.script_buffers.specs.Lines.{lines, EndsLine}
 use Rattle.script_buffers.specs.Reading.{input_limit}
 use Rattle.line_service.specs.Devices.{Span, DiskLeft, TellsFault, DamageTold, Devices, devices, Outside, outside}
@@ -21,13 +21,14 @@ use Rattle.cca_machine.specs.Coprocessor.{cca, IsBrokenModule, IsBrokenStore}
 use Rattle.command_words.specs.Counting.{counted, counted_summary}
 use Rattle.command_words.specs.Demo.{demo_lines, demo_text, summary, summary_text, are_ok, are_refused}
 use Rattle.cca_tool.specs.DemoRun.{SummarySent, SummaryCut, DemoLost}
-use Rattle.cca_tool.specs.Running.{DemoLeft, DemoRan}
+use Rattle.cca_tool.specs.Running.{DemoLeft, DemoLines, DemoRan}
 use Rattle.store_unload.specs.Statuses.{status_of_lem}
 use Rattle.store_unload.specs.declared.status.Status.{Status}
 use Rattle.store_unload.specs.declared.status.Status.TheVariants as status
 use Rattle.command_words.proofs.CountingLemmas.{ok-is, refused-is, old-is}
 use Rattle.command_words.proofs.DemoLemmas.{lines-demo_text, demo-short}
 use Rattle.cca_tool.proofs.RepliesEnd.{replies-end}
+use Rattle.cca_tool.proofs.StatusLemmas.{no_memory_ended}
 
 -- a count that is always 0 doesn't rise
 pub never_rose : Rose 0 0 → ⊥
@@ -176,4 +177,46 @@ module _ (done : Unit {0}) (q : Result (Unit {0}) Stop) (undamaged : (device : D
     sink_grows = grows;
     module_left = disk_after m0 m1 m_before m_now ModuleFault unfailed.0 on_module;
     store_left = disk_after d0 d1 d_before d_now StoreFault unfailed.1 on_store;
+  }
+
+-- ---- no line was served
+
+module _ {K : Type 0} (n : ℕ) (sink : K) (held : Option (List ℕ)) (count : ℕ) (m : Medium) (m_count : ℕ) (d : Medium) (d_count : ℕ) where
+  abbrev as_before : Span Outside
+  as_before = record {
+    old = outside None 0 held count (devices m m_count d d_count None 0);
+    new = outside None 0 held count (devices m m_count d d_count None 0);
+  }
+
+  none_done : (status.NoMemory ≡ status.Done) ⊎ (status.NoMemory ≡ status.WriteFault) → ⊥
+  none_done (inl h) = cc h
+  none_done (inr h) = cc h
+
+  none_lines : (s : State) → DemoLines n s status.NoMemory as_before
+  none_lines s = record {
+    demo_done = λ h. absurd (cc h);
+    demo_cut = λ h. absurd (cc h);
+    demo_lost = λ h. absurd (cc h);
+    demo_store_lost = λ h. absurd (cc h);
+    demo_moments = each_weaker m m m.images _ (each_still m) (λ c image. inl image);
+    demo_store_moments = each_weaker d d d.images _ (each_still d) (λ c image. inl image);
+    demo_spare = record {
+      on_module = each_weaker m m m.images _ (each_still m) (λ c image. inl image);
+      on_store = each_weaker d d d.images _ (each_still d) (λ c image. inl image);
+    };
+    demo_at_rest = λ h. absurd (none_done h);
+    demo_complete = λ quiet still_m still_d. inr refl;
+  }
+
+  pub none_ran : DemoRan n status.NoMemory sink sink as_before
+  none_ran = record {
+    answers = record {
+      demo_sink = λ undone uncut. refl;
+      demo_words = λ h. cc h;
+      demo_read = λ h. cc h;
+      demo_limit = λ h. cc h;
+      demo_drawn = λ h. cc h;
+    };
+    lines = λ s disks. none_lines s;
+    ends = no_memory_ended _;
   }

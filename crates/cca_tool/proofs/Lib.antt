@@ -5,7 +5,9 @@ mod BetweenLemmas
 mod KnownLemmas
 mod LineLemmas
 mod ListingLemmas
+mod OpenedLemmas
 mod ReadingLemmas
 mod RepliesEnd
+mod SessionLemmas
 mod StopLemmas
 mod StatusLemmas

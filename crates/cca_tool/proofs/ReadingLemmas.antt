@@ -2,6 +2,7 @@
 use Rattle.std.proofs.Common.{◌≡◌, ℕ, List, [], ◌++◌, ◌+◌, ◌<◌, ◌≤◌, length, Option, Result, Ok, Err, refl, ⊎_elim}
 use Rattle.std.specs.Prelude.{◌↔◌, IfOk, IsTrue, OnErr}
 use Rattle.std.specs.Io.KnownBytes.{IsAtEnd}
+use Rattle.device_cells.specs.Faults.{Rose}
 use Rattle.device_cells.specs.WhereTold.{WhereTold}
 use Rattle.device_cells.proofs.WhereToldLemmas.{told_weaker}
 use Rattle.script_buffers.specs.Lines.{NoNewline}
@@ -10,6 +11,7 @@ use Rattle.script_buffers.specs.declared.lines.LineFault.{LineFault}
 use Rattle.script_buffers.specs.declared.lines.LineFault.TheVariants as line_fault
 use Rattle.script_buffers.specs.declared.lines.Taken.{Taken}
 use Rattle.script_buffers.specs.declared.lines.Taken.TheVariants.{End}
+use Rattle.line_service.specs.Devices.{TellsFault}
 use Rattle.line_service.specs.declared.stops.Stop.{Stop}
 use Rattle.line_service.specs.declared.stops.Stop.TheVariants.{InputLimit, ReadFault}
 use Rattle.cca_tool.specs.Sessions.{InputRead}
@@ -69,3 +71,15 @@ module _ (f : Result Taken LineFault) (q : Result Taken Stop) (told : IsTold f q
     short = ⊎_elim (λ h. short (told.failed h)) (λ h. early (ends (told.ended.0 h)));
     emptied = emptied;
   }
+
+-- ---- the faults of the source
+
+module _ (f : Result Taken LineFault) (before now : ℕ) (later : before ≤ now) (quiet : (f ≡ Err line_fault.ReadFault → ⊥) → now ≡ before) where
+  pub line_left : (taken : Taken) → f ≡ Ok taken → TellsFault before now (◌≡◌ {A = Result Taken Stop} (Ok taken) (Err ReadFault))
+  line_left taken is = record { later = later; fault = λ h. absurd (cc h); quiet = λ never. quiet (λ h. cc (is, h)) }
+
+  pub limit_left : f ≡ Err line_fault.InputLimit → TellsFault before now (◌≡◌ {A = Result Taken Stop} (Err InputLimit) (Err ReadFault))
+  limit_left is = record { later = later; fault = λ h. absurd (cc h); quiet = λ never. quiet (λ h. cc (is, h)) }
+
+  pub fault_left : Rose before now → TellsFault before now (◌≡◌ {A = Result Taken Stop} (Err ReadFault) (Err ReadFault))
+  fault_left rose = record { later = later; fault = λ h. rose; quiet = λ never. absurd (never refl) }

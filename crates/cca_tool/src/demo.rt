@@ -64,9 +64,9 @@ fn room_for(alloc: Global, number: u32) -> Result<DemoRoom, NoMemory>
     requires { number ≤ 1000 }
     ensures { IfOk result (λ room. (room.text ≡ demo_text number) × (room.line ≡ [])) }
 {
-    let session = Session::new(alloc)?;
-    let text = DemoText::new(alloc, number)?;
     let line = ReplyBuffer::new(alloc)?;
+    let text = DemoText::new(alloc, number)?;
+    let session = Session::new(alloc)?;
     Ok(DemoRoom {
         session,
         text,

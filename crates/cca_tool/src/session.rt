@@ -56,8 +56,8 @@ impl Session {
     pub fn new(alloc: Global) -> Result<Session, NoMemory>
         ensures { IfOk result (λ session. session ≡ blank_memory) }
     {
-        let lines = LineBuffer::new(alloc)?;
         let reply = ReplyBuffer::new(alloc)?;
+        let lines = LineBuffer::new(alloc)?;
         let records = Records::new(alloc)?;
         Ok(Session {
             lines,

@@ -7,7 +7,9 @@ use Rattle.line_service.specs.Serving.{LineServed}
 use Rattle.cca_machine.specs.Coprocessor.{cca}
 use Rattle.store_unload.specs.Opening.{AreKnown, remembers}
 use Rattle.cca_tool.specs.Sessions.{Memory}
+use Rattle.cca_tool.specs.declared.coprocessor.Coprocessor.{Coprocessor}
 use Rattle.cca_tool.proofs.KnownLemmas.{stands_known}
+use Rattle.cca_tool.proofs.SessionLemmas.{idle_inside, served_stops, taken_shown, unmoved_shown}
 use Rattle.cca_tool.proofs.session.Session.serve_one.Goals as goal
 
 pub returns-clause-serves : goal.returns-clause-serves
@@ -22,3 +24,37 @@ returns-clause-serves g c = λ s disks.
     (g.S.Source.left c.args.source.now) (g.S.Source.left c.serve_one.new.source) (g.K.Sink.held c.args.sink.now) (g.K.Sink.held c.serve_one.new.sink) r c.serve_one.new.lines)
     (ap (λ (memory : Memory). memory.reading) c.self.view_is)
     (c.serve_one.ensures.serves s (stands_known s held m0 d0 known disks))
+
+pub returns-clause-known : goal.returns-clause-known
+returns-clause-known g c = c.serve_one.ensures.ready
+
+pub returns-clause-left : goal.returns-clause-left
+returns-clause-left g c = c.serve_one.ensures.left
+
+pub returns-clause-undamaged : goal.returns-clause-undamaged
+returns-clause-undamaged g c = c.serve_one.ensures.undamaged
+
+pub returns-clause-cut : goal.returns-clause-cut
+returns-clause-cut g c = c.serve_one.ensures.cut
+
+pub returns-clause-bench : goal.returns-clause-bench
+returns-clause-bench g c = c.serve_one.ensures.bench
+
+pub returns-clause-stops : goal.returns-clause-stops
+returns-clause-stops g c = served_stops c.serve_one.result c.serve_one.ensures.undamaged.cells
+
+pub returns-clause-unmoved : goal.returns-clause-unmoved
+returns-clause-unmoved g c =
+    unmoved_shown (λ (desk : Coprocessor). tables desk.roles desk.records) c.serve_one.result
+    c.args.sink.now c.serve_one.new.sink c.args.module.now c.serve_one.new.module c.args.store.now c.serve_one.new.store
+    c.args.entropy.now c.serve_one.new.entropy c.self.inside.desk c.serve_one.new.desk c.args.self.now.tables
+    (ap (λ (memory : Memory). memory.tables) c.self.view_is) c.serve_one.ensures.unmoved
+
+pub returns-clause-taken : goal.returns-clause-taken
+returns-clause-taken g c =
+    taken_shown c.serve_one.result _
+    (record { reading = c.self.inside.lines; tables = tables c.self.inside.desk.roles c.self.inside.desk.records; reply = c.self.inside.reply; waiting = c.self.inside.waiting })
+    c.args.self.now c.serve_one.new.lines c.self.view_is c.serve_one.ensures.taken
+
+pub returns-clause-idle : goal.returns-clause-idle
+returns-clause-idle g c = idle_inside _ c.args.self.now c.self.view_is c.requires.idle

@@ -2,9 +2,10 @@
 use Rattle.std.proofs.Common.{Ok, Err, ap, subst, ◌∙◌}
 use Rattle.script_buffers.specs.Reading.{Reading}
 use Rattle.script_buffers.specs.declared.lines.Taken.{Taken}
+use Rattle.script_buffers.specs.declared.lines.Taken.TheVariants.{End}
 use Rattle.line_service.specs.declared.stops.Stop.TheVariants.{InputLimit, ReadFault}
 use Rattle.cca_tool.specs.Sessions.{InputRead, Memory}
-use Rattle.cca_tool.proofs.ReadingLemmas.{fault_told, input_read, limit_told, line_told}
+use Rattle.cca_tool.proofs.ReadingLemmas.{fault_left, fault_told, input_read, limit_left, limit_told, line_left, line_told}
 use Rattle.cca_tool.proofs.session.Session.take_line.Goals as goal
 
 pub returns-in-Ok-End-clause-read : goal.returns-in-Ok-End-clause-read
@@ -36,3 +37,35 @@ returns-in-Err-InputLimit-clause-read g c =
     (input_read c.read_line.result (Err InputLimit) (limit_told c.read_line.result (c.in-Err-InputLimit.is ∙ ap Err c.in-Err-InputLimit.field-0-is))
     (g.S.Source.left c.args.source.now) (g.S.Source.left c.read_line.new.source) c.self.inside.lines c.read_line.new.buffer
     tt tt tt here.end here.ends here.limit c.in-Err-InputLimit.ensures.lost here.ended here.at_end here.counted here.within here.full here.short here.early c.in-Err-InputLimit.ensures.emptied)
+
+pub returns-in-Ok-clause-read : goal.returns-in-Ok-clause-read
+returns-in-Ok-clause-read g c =
+    let here = c.read_line.ensures in
+    let ok = c.in-Ok.ensures in
+    subst (λ (r : Reading). InputRead (Ok c.in-Ok.taken) (g.S.Source.left c.args.source.now) (g.S.Source.left c.read_line.new.source) r c.read_line.new.buffer)
+    (ap (λ (memory : Memory). memory.reading) c.self.view_is)
+    (input_read c.read_line.result (Ok c.in-Ok.taken) (line_told c.read_line.result c.in-Ok.taken c.in-Ok.is)
+    (g.S.Source.left c.args.source.now) (g.S.Source.left c.read_line.new.source) c.self.inside.lines c.read_line.new.buffer
+    ok.answer ok.shown ok.advances here.end here.ends here.limit tt here.ended here.at_end here.counted here.within here.full here.short here.early tt)
+
+-- ---- the faults of the source
+
+pub returns-in-Ok-End-clause-left : goal.returns-in-Ok-End-clause-left
+returns-in-Ok-End-clause-left g c =
+    line_left c.read_line.result (g.S.Source.faults c.args.source.now) (g.S.Source.faults c.read_line.new.source) c.read_line.ensures.later c.read_line.ensures.quiet
+    End (c.in-Ok-End.is ∙ ap Ok c.in-Ok-End.field-0-is)
+
+pub returns-in-Ok-clause-left : goal.returns-in-Ok-clause-left
+returns-in-Ok-clause-left g c =
+    line_left c.read_line.result (g.S.Source.faults c.args.source.now) (g.S.Source.faults c.read_line.new.source) c.read_line.ensures.later c.read_line.ensures.quiet
+    c.in-Ok.taken c.in-Ok.is
+
+pub returns-in-Err-ReadFault-clause-left : goal.returns-in-Err-ReadFault-clause-left
+returns-in-Err-ReadFault-clause-left g c =
+    fault_left c.read_line.result (g.S.Source.faults c.args.source.now) (g.S.Source.faults c.read_line.new.source) c.read_line.ensures.later c.read_line.ensures.quiet
+    (c.read_line.ensures.fault (c.in-Err-ReadFault.is ∙ ap Err c.in-Err-ReadFault.field-0-is))
+
+pub returns-in-Err-InputLimit-clause-left : goal.returns-in-Err-InputLimit-clause-left
+returns-in-Err-InputLimit-clause-left g c =
+    limit_left c.read_line.result (g.S.Source.faults c.args.source.now) (g.S.Source.faults c.read_line.new.source) c.read_line.ensures.later c.read_line.ensures.quiet
+    (c.in-Err-InputLimit.is ∙ ap Err c.in-Err-InputLimit.field-0-is)
