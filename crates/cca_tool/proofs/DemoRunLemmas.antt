@@ -9,7 +9,7 @@ use Rattle.script_buffers.specs.Lines.{lines, EndsLine}
 use Rattle.script_buffers.specs.Reading.{input_limit}
 use Rattle.line_service.specs.Devices.{Span, DiskLeft, TellsFault, DamageTold, Devices, devices, Outside, outside}
 use Rattle.line_service.specs.Machine.{World, world}
-use Rattle.line_service.specs.Running.{ServesSound}
+use Rattle.line_service.specs.Running.{ServesSound, Untouched}
 use Rattle.line_service.specs.Sending.{GotPart, Grows}
 use Rattle.line_service.specs.Serving.{Led, AllAnswered, LineLost, Unopened, IsOnTheWay, AtRest}
 use Rattle.line_service.specs.declared.stops.Device.{Device}
@@ -21,8 +21,8 @@ use Rattle.cca_machine.specs.Coprocessor.{cca, IsBrokenModule, IsBrokenStore}
 use Rattle.command_words.specs.Counting.{counted, counted_summary}
 use Rattle.command_words.specs.Demo.{demo_lines, demo_text, summary, summary_text, are_ok, are_refused}
 use Rattle.cca_tool.specs.DemoRun.{SummarySent, SummaryCut, DemoLost}
-use Rattle.cca_tool.specs.Running.{DemoLeft, DemoLines, DemoRan}
-use Rattle.store_unload.specs.Statuses.{status_of_lem}
+use Rattle.cca_tool.specs.Running.{DemoAnswers, DemoLeft, DemoLines, DemoRan, DemoUntouched, DisksUncalled, Uncalled}
+use Rattle.store_unload.specs.Statuses.{CallsNone, status_of_lem}
 use Rattle.store_unload.specs.declared.status.Status.{Status}
 use Rattle.store_unload.specs.declared.status.Status.TheVariants as status
 use Rattle.command_words.proofs.CountingLemmas.{ok-is, refused-is, old-is}
@@ -220,3 +220,29 @@ module _ {K : Type 0} (n : ℕ) (sink : K) (held : Option (List ℕ)) (count : �
     lines = λ s disks. none_lines s;
     ends = no_memory_ended _;
   }
+
+-- ---- what a demo doesn't call
+
+pub demo_uncalled : {S K M D E : Type 0} (out : Status) (source : S) (sink0 sink1 : K) (module0 module1 : M) (store0 store1 : D) (entropy : E)
+    → DemoAnswers out sink0 sink1 → (out ≡ status.NoMemory → DisksUncalled module0 module1 store0 store1) → CallsNone out
+    → Uncalled source source sink0 sink1 module0 module1 store0 store1 entropy entropy
+demo_uncalled out source sink0 sink1 module0 module1 store0 store1 entropy answers uncalled (inl usage) = absurd (answers.demo_words usage)
+demo_uncalled out source sink0 sink1 module0 module1 store0 store1 entropy answers uncalled (inr memory) =
+    let disks = uncalled memory in
+    record {
+      no_source = refl;
+      no_sink = answers.demo_sink (λ h. cc (memory, h)) (λ h. cc (memory, h));
+      no_module = disks.no_module;
+      no_store = disks.no_store;
+      no_entropy = refl;
+    }
+
+pub demo_untouched : {S K E : Type 0} (source : S) (sink0 sink1 : K) (entropy : E) (d : Span Devices) → DemoUntouched sink0 sink1 d
+    → Untouched source source sink0 sink1 entropy entropy d
+demo_untouched source sink0 sink1 entropy d all = record {
+  unsound_source = refl;
+  unsound_sink = all.unsound_sink;
+  unsound_entropy = refl;
+  unsound_module = all.unsound_module;
+  unsound_store = all.unsound_store;
+}

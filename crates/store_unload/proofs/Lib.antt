@@ -4,6 +4,7 @@ mod JudgeLemmas
 pub mod KnownLemmas
 mod LabelLaws
 mod LeaseLaws
+mod LineLaws
 mod MoveLemmas
 pub mod OpeningLemmas
 mod PartLaws

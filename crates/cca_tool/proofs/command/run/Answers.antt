@@ -1,7 +1,8 @@
 -- The status tells how the lines ended; and where no device was called, nothing has changed.
 use Rattle.std.proofs.Common.{◌∙◌, Some, ap, refl, inl, inr}
 use Rattle.cca_tool.proofs.StatusLemmas.{usage_ended}
-use Rattle.cca_tool.proofs.DemoRunLemmas.{ran_at}
+use Rattle.cca_tool.proofs.AuditLemmas.{all_as_before}
+use Rattle.cca_tool.proofs.DemoRunLemmas.{demo_uncalled, demo_untouched, ran_at}
 use Rattle.command_words.proofs.WordLemmas.{the_number, one_number, not_both}
 use Rattle.cca_tool.proofs.command.run.Goals as goal
 
@@ -56,3 +57,22 @@ returns-in-Some-Demo-clause-demo g c = λ n demo. record {
       (one_number c.command.result c.in-Some-Demo.field-0 c.in-Some-Demo.number c.args.words.now c.in-Some-Demo.is c.in-Some-Demo.field-0-is c.command.ensures.demo n demo)
       c.serve_demo.ensures.ran;
 }
+
+pub returns-in-Some-Demo-clause-uncalled : goal.returns-in-Some-Demo-clause-uncalled
+returns-in-Some-Demo-clause-uncalled g c =
+    demo_uncalled c.serve_demo.result c.args.source.now c.args.sink.now c.serve_demo.new.sink c.args.module.now c.serve_demo.new.module
+    c.args.store.now c.serve_demo.new.store c.args.entropy.now c.serve_demo.ensures.ran.answers c.serve_demo.ensures.uncalled
+
+pub returns-in-Some-Demo-clause-unsound : goal.returns-in-Some-Demo-clause-unsound
+returns-in-Some-Demo-clause-unsound g c = λ never.
+    demo_untouched c.args.source.now c.args.sink.now c.serve_demo.new.sink c.args.entropy.now _ (c.serve_demo.ensures.unsound never)
+
+-- ---- other words
+
+pub returns-in-None-clause-uncalled : goal.returns-in-None-clause-uncalled
+returns-in-None-clause-uncalled g c = λ none. record { no_source = refl; no_sink = refl; no_module = refl; no_store = refl; no_entropy = refl }
+
+pub returns-in-None-clause-unsound : goal.returns-in-None-clause-unsound
+returns-in-None-clause-unsound g c = λ never.
+    all_as_before c.args.source.now c.args.sink.now c.args.entropy.now
+    (g.M.Disk.medium c.args.module.now) (g.M.Disk.faults c.args.module.now) (g.D.Disk.medium c.args.store.now) (g.D.Disk.faults c.args.store.now)
