@@ -1,6 +1,6 @@
 -- The key that is read of a label's record is the machine's.
 use Rattle.std.proofs.Common.{◌≡◌, ◌∙◌, ℕ, List, [], ◌∷◌, ◌++◌, drop, Option, None, Some, inl, inr, refl, sym, ap, subst}
-use Rattle.std.specs.Prelude.{◌⊎◌, if◌then◌else◌, is_none, option_map, IfOk, IfSome, IsSome, IsTrue, Result, Ok, Err, slice_index}
+use Rattle.std.specs.Prelude.{◌⊎◌, if◌then◌else◌, is_none, option_map, IfErr, IfOk, IfSome, IsSome, OnOk, IsTrue, Result, Ok, Err, slice_index}
 use Rattle.std.proofs.lemmas.Bool.{eqb-true}
 use Rattle.cca_vectors.specs.Checks.{Check, check, first_failing}
 use Rattle.cca_vectors.proofs.Judging.{none_in_first, passed_over, passes_first, stopped_in}
@@ -15,9 +15,11 @@ use Rattle.record_bodies.specs.declared.rows.Row.{Row}
 use Rattle.key_tokens.specs.Denotes.{Denoted, denoted, denoted_under}
 use Rattle.key_tokens.specs.Fields.{kind_of, pattern_of_token, token_of}
 use Rattle.key_tokens.specs.Kinds.{is_asked, kind_at}
-use Rattle.key_tokens.specs.TokenChecks.{token_checks}
+use Rattle.key_tokens.specs.TokenChecks.{rule_of, token_checks}
 use Rattle.key_tokens.specs.declared.key_token.Asked.TheVariants as asked
 use Rattle.key_tokens.specs.declared.key_token.Kind.TheVariants as kind
+use Rattle.key_tokens.specs.declared.key_token.Token.{Token as ReadToken}
+use Rattle.key_tokens.specs.declared.key_token.TokenFault.{TokenFault}
 use Rattle.line_service.specs.declared.stops.Stop.TheVariants.{StoreFault}
 use Rattle.master_registers.specs.Loaded.{Loaded, registers_of}
 use Rattle.master_registers.specs.Masters.{Masters}
@@ -28,7 +30,7 @@ use Rattle.store_move.specs.Stored.{IsStored, stored_checks}
 use Rattle.verb_rules.specs.Classes.{has}
 use Rattle.verb_rules.specs.KeyChecks.{age_in, age_of, key_checks, read_checks, use_checks}
 use Rattle.verb_rules.specs.Keys.{HasHalves, IsDouble, keys_of, opened_key, opened_under}
-use Rattle.verb_rules.specs.Rules.{Judges}
+use Rattle.verb_rules.specs.Rules.{Judges, rule_number}
 use Rattle.verb_rules.specs.declared.judging.Judged.{Judged}
 use Rattle.verb_rules.specs.declared.needs.Need.{Need}
 use Rattle.verb_rules.specs.declared.rules.Rule.{Rule}
@@ -178,6 +180,33 @@ module _ (digits bytes : List ℕ) (spelled : bytes ≡ hex_value digits) (need 
   token_keyed m bench (Err _) under opens = tt
   token_keyed m bench (Ok judged) under opens =
       subst IsSome (sym (ap (denoted (keys_of m)) (sym spelled) ∙ opens)) (some_opened bench judged under)
+
+-- ---- a token of either kind
+
+module _ (s : State) (bench : Bench) (digits bytes : List ℕ) (spelled : bytes ≡ hex_value digits) where
+  checks_as : first_failing (token_checks asked.Either (hex_value digits)) ≡ first_failing (token_checks asked.Either bytes)
+  checks_as = ap (λ b. first_failing (token_checks asked.Either b)) (sym spelled)
+
+  pub either_read : (r : Result ReadToken TokenFault) (token : ReadToken) (grant : Grant) → r ≡ Ok token → IfOk r (λ found. found ≡ token_of bytes)
+      → OnOk r (first_failing (token_checks asked.Either bytes) ≡ None) → grant ≡ record { token = Some token; key = None; place = None }
+      → IsAsked s bench digits AnyToken (Ok grant)
+  either_read (Err fault) token grant is reads passes made = cc is
+  either_read (Ok found) token grant is reads passes made =
+      let same : token ≡ found = cc is in (
+        checks_as ∙ passes,
+        (ap (λ (g : Grant). g.token) made ∙ ap Some (same ∙ reads ∙ ap token_of spelled), ap (λ (g : Grant). g.key) made),
+      )
+
+  pub either_refused : (r : Result ReadToken TokenFault) (fault : TokenFault) (named : Rule) → r ≡ Err fault
+      → IfErr r (λ broken. first_failing (token_checks asked.Either bytes) ≡ Some (rule_of broken)) → rule_number named ≡ rule_of fault
+      → IsAsked s bench digits AnyToken (Err named)
+  either_refused (Ok found) fault named is fails number = cc is
+  either_refused (Err broken) fault named is fails number =
+      let same : broken ≡ fault = cc is in
+      checks_as ∙ fails ∙ ap Some (ap rule_of same ∙ sym number)
+
+pub either_shape : (token : ReadToken) (grant : Grant) (digits : List ℕ) → grant ≡ record { token = Some token; key = None; place = None } → IsShaped [] digits AnyToken (Ok grant)
+either_shape token grant digits made = subst IsSome (sym (ap (λ (g : Grant). g.token) made)) refl
 
 -- ---- the rules of an operand that names a label
 

@@ -1,4 +1,5 @@
 pub mod AsRead
 pub mod GrantsKept
 mod LabelsRead
+mod OperandsJudged
 mod StoreReads

@@ -22,7 +22,6 @@ use Rattle.cca_machine.specs.Refusals.{refusal_of}
 use Rattle.request_rules.specs.declared.operands.Operand.{Operand as CodeOperand}
 use Rattle.request_rules.specs.declared.operands.Operands.{Operands as CodeOperands}
 use Rattle.cca_machine.specs.declared.granted.Grant.{Grant}
-use Rattle.cca_machine.specs.declared.granted.Granted.{Granted}
 use Rattle.request_rules.specs.declared.judging.Verdict.{Verdict}
 use Rattle.request_rules.specs.declared.judging.Verdict.TheVariants as verdict
 

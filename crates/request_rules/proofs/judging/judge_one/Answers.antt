@@ -1,4 +1,4 @@
-use Rattle.std.proofs.Common.{◌≡◌, ◌∙◌, None, Some, sym, ap, subst}
+use Rattle.std.proofs.Common.{◌≡◌, ◌∙◌, [], None, Ok, Some, refl, sym, ap, subst}
 use Rattle.std.specs.Prelude.{is_some, option_copied}
 use Rattle.key_cells.specs.Lease.{bench_of}
 use Rattle.verb_rules.specs.declared.needs.Need.{Need}
@@ -6,11 +6,13 @@ use Rattle.verb_rules.proofs.JudgeLemmas.{if_ok_gives}
 use Rattle.verb_script.specs.Named.{label_named}
 use Rattle.cca_machine.specs.Operands.{is_named_by}
 use Rattle.cca_machine.specs.declared.asking.Ask.{Ask}
-use Rattle.cca_machine.specs.declared.asking.Ask.TheVariants.{Token}
+use Rattle.cca_machine.specs.declared.asking.Ask.TheVariants.{AnyToken, External, Held, Key, NewLabel, Record, Target, Token}
 use Rattle.request_rules.specs.Judging.{IsAsked, IsKeyedAnswer}
-use Rattle.request_rules.specs.Stored.{IsLabelAsked}
+use Rattle.request_rules.specs.Stored.{IsAskedAsRead, IsLabelAsked}
+use Rattle.cca_machine.specs.declared.granted.Grant.{Grant}
 use Rattle.request_rules.proofs.AsRead.{named_as_read, record_as_read, unnamed_as_read}
 use Rattle.request_rules.proofs.LabelsRead.{key_by_label, key_by_token, record_asked}
+use Rattle.request_rules.proofs.OperandsJudged.{keyed_in, label_keyed, label_shaped, record_shaped, shaped_in}
 use Rattle.request_rules.proofs.StoreReads.{reads_label, reads_untouched}
 use Rattle.request_rules.proofs.judging.judge_one.Goals as goal
 
@@ -77,6 +79,74 @@ returns-in-Target-clause-asked g c = λ s at.
     subst (λ (a : Ask). IsAsked s (bench_of c.args.lease.now) c.args.operand.now.text.now a c.judge_target.result) (sym c.in-Target.is)
     (c.judge_target.ensures.asked s (bench_of c.args.lease.now) at.stands.agrees)
 
+pub returns-in-Nothing-clause-asked : goal.returns-in-Nothing-clause-asked
+returns-in-Nothing-clause-asked g c = λ s at.
+    subst (λ (a : Ask). IsAsked s (bench_of c.args.lease.now) c.args.operand.now.text.now a (Ok c.nothing.result)) (sym c.in-Nothing.is)
+    (refl, ap (λ (grant : Grant). grant.key) c.nothing.ensures)
+
+-- ---- what is certain in every state
+
+pub returns-in-AnyToken-clause-shaped : goal.returns-in-AnyToken-clause-shaped
+returns-in-AnyToken-clause-shaped g c =
+    shaped_in c.args.records.now c.args.operand.now.text.now c.args.operand.now.ask [] c.args.operand.now.text.now AnyToken AnyToken c.judge_any_token.result c.in-AnyToken.is (λ grant shape. shape) c.judge_any_token.ensures.shaped
+
+pub returns-in-None-clause-shaped : goal.returns-in-None-clause-shaped
+returns-in-None-clause-shaped g c =
+    shaped_in c.args.records.now c.args.operand.now.text.now c.args.operand.now.ask [] c.digits_of.result.now (Token c.in-Key.need) (Key c.in-Key.need) c.judge_token.result c.in-Key.is (λ grant shape. shape) c.judge_token.ensures.shaped
+
+pub returns-in-Token-clause-shaped : goal.returns-in-Token-clause-shaped
+returns-in-Token-clause-shaped g c =
+    shaped_in c.args.records.now c.args.operand.now.text.now c.args.operand.now.ask [] c.args.operand.now.text.now (Token c.in-Token.need) (Token c.in-Token.need) c.judge_token-in-Token.result c.in-Token.is (λ grant shape. shape) c.judge_token-in-Token.ensures.shaped
+
+pub returns-in-External-clause-shaped : goal.returns-in-External-clause-shaped
+returns-in-External-clause-shaped g c =
+    shaped_in c.args.records.now c.args.operand.now.text.now c.args.operand.now.ask [] c.args.operand.now.text.now (External c.in-External.need) (External c.in-External.need) c.judge_external.result c.in-External.is (λ grant shape. shape) c.judge_external.ensures.shaped
+
+pub returns-in-Held-clause-shaped : goal.returns-in-Held-clause-shaped
+returns-in-Held-clause-shaped g c =
+    shaped_in c.args.records.now c.args.operand.now.text.now c.args.operand.now.ask c.args.records.now c.args.operand.now.text.now Held Held c.judge_held.result c.in-Held.is (λ grant shape. shape) c.judge_held.ensures.shaped
+
+pub returns-in-NewLabel-clause-shaped : goal.returns-in-NewLabel-clause-shaped
+returns-in-NewLabel-clause-shaped g c =
+    shaped_in c.args.records.now c.args.operand.now.text.now c.args.operand.now.ask [] c.args.operand.now.text.now NewLabel NewLabel c.judge_new_label.result c.in-NewLabel.is (λ grant shape. shape) c.judge_new_label.ensures.shaped
+
+pub returns-in-Target-clause-shaped : goal.returns-in-Target-clause-shaped
+returns-in-Target-clause-shaped g c =
+    shaped_in c.args.records.now c.args.operand.now.text.now c.args.operand.now.ask c.args.records.now c.args.operand.now.text.now Target Target c.judge_target.result c.in-Target.is (λ grant shape. shape) c.judge_target.ensures.shaped
+
+pub returns-in-Some-clause-shaped : goal.returns-in-Some-clause-shaped
+returns-in-Some-clause-shaped g c =
+    label_shaped c.args.records.now c.args.operand.now.text.now c.args.operand.now.ask c.in-Key.need c.judge_label.result c.in-Key.is c.judge_label.ensures.shaped
+
+pub returns-in-Record-clause-shaped : goal.returns-in-Record-clause-shaped
+returns-in-Record-clause-shaped g c =
+    record_shaped c.args.records.now c.args.operand.now.text.now c.args.operand.now.ask c.any_key.result c.judge_label-in-Record.result c.in-Record.is
+    c.any_key.ensures c.judge_label-in-Record.ensures.shaped
+
+pub returns-in-AnyToken-clause-keyed : goal.returns-in-AnyToken-clause-keyed
+returns-in-AnyToken-clause-keyed g c = λ m loaded. keyed_in m c.args.operand.now.text.now c.args.operand.now.ask AnyToken c.in-AnyToken.is tt c.judge_any_token.result
+
+pub returns-in-Some-clause-keyed : goal.returns-in-Some-clause-keyed
+returns-in-Some-clause-keyed g c = λ m loaded. label_keyed m c.args.operand.now.text.now c.args.operand.now.ask (Key c.in-Key.need) c.in-Key.is tt c.judge_label.result
+
+pub returns-in-None-clause-keyed : goal.returns-in-None-clause-keyed
+returns-in-None-clause-keyed g c = λ m loaded. keyed_in m c.args.operand.now.text.now c.args.operand.now.ask (Key c.in-Key.need) c.in-Key.is tt c.judge_token.result
+
+pub returns-in-External-clause-keyed : goal.returns-in-External-clause-keyed
+returns-in-External-clause-keyed g c = λ m loaded. keyed_in m c.args.operand.now.text.now c.args.operand.now.ask (External c.in-External.need) c.in-External.is tt c.judge_external.result
+
+pub returns-in-Record-clause-keyed : goal.returns-in-Record-clause-keyed
+returns-in-Record-clause-keyed g c = λ m loaded. label_keyed m c.args.operand.now.text.now c.args.operand.now.ask Record c.in-Record.is tt c.judge_label-in-Record.result
+
+pub returns-in-Held-clause-keyed : goal.returns-in-Held-clause-keyed
+returns-in-Held-clause-keyed g c = λ m loaded. keyed_in m c.args.operand.now.text.now c.args.operand.now.ask Held c.in-Held.is tt c.judge_held.result
+
+pub returns-in-NewLabel-clause-keyed : goal.returns-in-NewLabel-clause-keyed
+returns-in-NewLabel-clause-keyed g c = λ m loaded. keyed_in m c.args.operand.now.text.now c.args.operand.now.ask NewLabel c.in-NewLabel.is tt c.judge_new_label.result
+
+pub returns-in-Target-clause-keyed : goal.returns-in-Target-clause-keyed
+returns-in-Target-clause-keyed g c = λ m loaded. keyed_in m c.args.operand.now.text.now c.args.operand.now.ask Target c.in-Target.is tt c.judge_target.result
+
 -- ---- what is read
 
 pub returns-in-Some-clause-reads : goal.returns-in-Some-clause-reads
@@ -130,3 +200,27 @@ returns-in-Record-clause-own g c = λ m loaded.
     record_as_read m (bench_of c.args.lease.now) c.args.records.now c.args.operand.now.text.now (bench_of c.judge_label-in-Record.new.lease).body
     c.args.operand.now.ask c.any_key.result c.judge_label-in-Record.result c.in-Record.is c.any_key.ensures
     (λ cell held. c.judge_label-in-Record.ensures.own m cell loaded held)
+
+pub returns-in-AnyToken-clause-own : goal.returns-in-AnyToken-clause-own
+returns-in-AnyToken-clause-own g c = λ m loaded.
+    subst (λ (a : Ask). IsAskedAsRead m (bench_of c.args.lease.now) c.args.records.now c.args.operand.now.text.now a c.judge_any_token.result) (sym c.in-AnyToken.is) tt
+
+pub returns-in-Token-clause-own : goal.returns-in-Token-clause-own
+returns-in-Token-clause-own g c = λ m loaded.
+    subst (λ (a : Ask). IsAskedAsRead m (bench_of c.args.lease.now) c.args.records.now c.args.operand.now.text.now a c.judge_token-in-Token.result) (sym c.in-Token.is) tt
+
+pub returns-in-External-clause-own : goal.returns-in-External-clause-own
+returns-in-External-clause-own g c = λ m loaded.
+    subst (λ (a : Ask). IsAskedAsRead m (bench_of c.args.lease.now) c.args.records.now c.args.operand.now.text.now a c.judge_external.result) (sym c.in-External.is) tt
+
+pub returns-in-Held-clause-own : goal.returns-in-Held-clause-own
+returns-in-Held-clause-own g c = λ m loaded.
+    subst (λ (a : Ask). IsAskedAsRead m (bench_of c.args.lease.now) c.args.records.now c.args.operand.now.text.now a c.judge_held.result) (sym c.in-Held.is) tt
+
+pub returns-in-NewLabel-clause-own : goal.returns-in-NewLabel-clause-own
+returns-in-NewLabel-clause-own g c = λ m loaded.
+    subst (λ (a : Ask). IsAskedAsRead m (bench_of c.args.lease.now) c.args.records.now c.args.operand.now.text.now a c.judge_new_label.result) (sym c.in-NewLabel.is) tt
+
+pub returns-in-Target-clause-own : goal.returns-in-Target-clause-own
+returns-in-Target-clause-own g c = λ m loaded.
+    subst (λ (a : Ask). IsAskedAsRead m (bench_of c.args.lease.now) c.args.records.now c.args.operand.now.text.now a c.judge_target.result) (sym c.in-Target.is) tt
