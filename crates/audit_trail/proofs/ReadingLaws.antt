@@ -1,8 +1,9 @@
 -- What reading a record leaves of a trail, over plain values.
-use Rattle.std.proofs.Common.{◌≡◌, ◌%◌, Bool, true, false, ℕ, List, Result, Ok, Err, ap, refl, subst, sym, arith}
+use Rattle.std.proofs.Common.{◌≡◌, ◌≤◌, ◌%◌, Bool, true, false, ℕ, List, IsSome, Result, Ok, Err, ap, refl, subst, sym, arith}
 use Rattle.device_cells.specs.Cells.{body}
-use Rattle.device_cells.specs.Medium.{Medium, IsSettled, Told}
-use Rattle.device_cells.proofs.Media.{told_joined, told_map}
+use Rattle.device_cells.specs.Faults.{Rose}
+use Rattle.device_cells.specs.Medium.{Medium, IsSettled, Keeps, Told}
+use Rattle.device_cells.proofs.Media.{settled_kept, told_joined, told_map}
 use Rattle.audit_trail.specs.Changes.{TrailLeft}
 use Rattle.audit_trail.specs.Entries.{entry_at}
 use Rattle.audit_trail.specs.RecordBody.{Spells}
@@ -28,6 +29,9 @@ err_as a b is = let same : a ≡ b = cc is in ap Err same
 pub not_of_disk : {T U : Type 0} (fault : TrailFault) (cell : ℕ) → ◌≡◌ {A = Result T TrailFault} (Err fault) (Err (Damaged cell)) → ◌≡◌ {A = Result U TrailFault} (Err fault) (Err DiskFault) → ⊥
 not_of_disk fault cell is h = let same : fault ≡ Damaged cell = cc is in let other : fault ≡ DiskFault = cc h in cc (same, other)
 
+pub damaged_not_of_disk : {T : Type 0} (cell : ℕ) → ◌≡◌ {A = Result T TrailFault} (Err (Damaged cell)) (Err DiskFault) → ⊥
+damaged_not_of_disk cell is = cc is
+
 -- ---- what is left of the trail
 
 pub left_uncalled : (t : Medium) (count : ℕ) (failed : Type 0) → (failed → ⊥) → TrailLeft t t count count (IsSettled t) failed
@@ -49,6 +53,17 @@ left_as t0 t1 before now done failed same on back left = record {
   later = left.later;
   fault = λ h. left.fault (on h);
   quiet = λ unfailed. left.quiet (λ h. unfailed (back h));
+}
+
+-- what reading leaves
+pub left_kept : (t0 t1 : Medium) (before now : ℕ) (failed : Type 0) → Keeps t0 t1 → before ≤ now → (failed → Rose before now) → ((failed → ⊥) → now ≡ before) → TrailLeft t0 t1 before now (IsSettled t0) failed
+left_kept t0 t1 before now failed kept later fault quiet = record {
+  size = kept.moments.size;
+  still = λ some. subst IsSome (sym kept.content) some;
+  settled = λ settled. settled_kept t0 t1 kept settled;
+  later = later;
+  fault = fault;
+  quiet = quiet;
 }
 
 -- ---- the record that was read
