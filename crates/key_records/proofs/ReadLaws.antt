@@ -4,11 +4,11 @@ use Rattle.std.specs.Prelude.{is_some, is_err, option_map, slice_index, Result, 
 use Rattle.held_names.proofs.DirectoryLaws.{none_some}
 use Rattle.device_cells.specs.Cells.{body, cell_size}
 use Rattle.device_cells.specs.Medium.{Medium, Told}
-use Rattle.device_cells.proofs.Media.{told_joined, told_map}
+use Rattle.device_cells.proofs.Media.{told_map}
 use Rattle.device_cells.specs.Faults.{HasCause}
 use Rattle.key_tokens.specs.Denotes.{MasterKeys, Denoted}
 use Rattle.master_registers.specs.declared.patterns.Pattern.{Pattern}
-use Rattle.key_records.specs.Changes.{HasReadCause, HasRecordCause, IsReadOf, ReadsToken, has_key}
+use Rattle.key_records.specs.Changes.{HasReadCause, HasRecordCause, ReadsToken}
 use Rattle.record_bodies.specs.Entries.{Entry, entry_label, row_directory, row_label, remembered, pattern_for, pattern_ahead}
 use Rattle.record_bodies.specs.Labels.{IsLabel}
 use Rattle.record_bodies.specs.Directory.{label_at}
@@ -18,7 +18,7 @@ use Rattle.key_cells.specs.Bench.{Bench}
 use Rattle.master_registers.specs.Loaded.{Loaded}
 use Rattle.master_registers.specs.Masters.{Masters}
 use Rattle.master_registers.specs.declared.registers.Registers.{Registers}
-use Rattle.record_bodies.specs.RecordBody.{IsTokenOf, entry_in, token_in, second_in, kept, held_token, ReadsEntry, ReadsWhat, ReadsRow, StandsAs}
+use Rattle.record_bodies.specs.RecordBody.{entry_in, token_in, second_in, kept, held_token, ReadsEntry, ReadsWhat, ReadsRow, StandsAs}
 use Rattle.record_bodies.specs.StoreStands.{KeepsLabels, HoldsRows, entry_at}
 use Rattle.key_records.specs.declared.faults.RecordFault.{RecordFault}
 use Rattle.key_records.specs.declared.faults.RecordFault.TheVariants.{DiskFault}
@@ -86,46 +86,9 @@ keeps_holds masters rows s image keeps = record {
       (row_reads masters (body image n) (entry_at s n) (keeps.stands.reads n below));
 }
 
--- ---- what a read answers, by the body that was read
-
 -- a cell lies within a store of 1,024 cells
 pub cell_fits : (size n k : ℕ) → size ≡ 1572864 → n < 1024 → k ≡ n → cell_size * (k + 1) ≤ size
 cell_fits size n k is within same = omega arith
-
-pub cause_unread : {T E : Type 0} (before now : ℕ) (r : Result T E) → HasCause before now r → is_err r ≡ true → HasReadCause before now (Err DiskFault)
-cause_unread before now (Ok x) cause unread = let wrong : false ≡ true = unread in absurd (cc)
-cause_unread before now (Err e) cause unread = record { later = cause.later; failed = λ _. cause.failed; quiet = λ other. absurd (other refl) }
-
-module _ (rows : List (Option Row)) (place : ℕ) (row : Row) where
-  pub null_read : (found : Bool) → get_or rows place None ≡ Some row → found ≡ is_some row.pattern → found ≡ has_key (get_or rows place None)
-  null_read found held is = is ∙ ap has_key (sym held)
-
-  pub own_read : (body bytes : List ℕ) (found : Bool) (token : List ℕ) → get_or rows place None ≡ Some row → body ≡ bytes → ReadsRow body (Some row) → (found ≡ true → IsTokenOf body row token)
-      → IsReadOf (get_or rows place None) bytes found token
-  own_read body bytes found token held here reads is =
-      subst (λ (o : Option Row). IsReadOf o bytes found token) (sym held)
-      (subst (λ (b : List ℕ). IsReadOf (Some row) b found token) here (record { held = refl; known = reads; token = is }))
-
-  pub null_token : (m : Medium) (masters : MasterKeys) (s : List (Option Entry)) (token : List ℕ) → Told m (KeepsLabels masters rows s) → get_or rows place None ≡ Some row → place < 1024 → false ≡ is_some row.pattern
-      → Told m (λ _. ReadsToken masters (entry_at s place) false token)
-  null_token m masters s token start held within null =
-      told_map m (KeepsLabels masters rows s) (λ _. ReadsToken masters (entry_at s place) false token) start
-      (λ image keeps. of_entry (the_entry masters rows s image place row keeps held within))
-    where
-      of_entry : IsRowOf masters (entry_at s place) row → ReadsToken masters (entry_at s place) false token
-      of_entry entry =
-          let none : is_some entry.entry.what ≡ false = sym (null ∙ ap (λ p. is_some p) entry.pattern ∙ some_mapped (pattern_for masters) entry.entry.what) in
-          subst (λ (o : Option Entry). ReadsToken masters o false token) (sym entry.is)
-          (sym none, λ key is. let some : is_some entry.entry.what ≡ true = ap (λ o. is_some o) is in absurd (cc))
-
-  pub damaged_read : (m : Medium) (cell n : ℕ) (bytes : List ℕ) → cell ≡ place → cell < 1024 → cell ≡ n → get_or rows place None ≡ Some row → Told m (HoldsRows rows)
-      → Told m (λ image. bytes ≡ body image cell) → (ReadsRow bytes (Some row) → ⊥) → (n ≡ place) × Told m (λ _. ⊥)
-  damaged_read m cell n bytes at within same held holds read never = (
-    sym same ∙ at,
-    told_joined m (HoldsRows rows) (λ image. bytes ≡ body image cell) (λ _. ⊥) holds read (λ image had here. never
-        (subst (λ (b : List ℕ). ReadsRow b (Some row)) (sym here)
-        (subst (ReadsRow (body image cell)) (ap (λ k. get_or rows k None) at ∙ held) (had.reads cell within)))),
-  )
 
 -- ---- opening one cell
 

@@ -1,4 +1,4 @@
-use Rattle.std.proofs.Common.{◌≡◌, ◌<◌, inl, inr, ℕ, List, Bool, true, false, Option, Some, None, Ok, Err, get_or, refl, sym, ap, subst, ◌∙◌}
+use Rattle.std.proofs.Common.{◌≡◌, ◌<◌, ℕ, List, Bool, true, false, Option, Some, None, Ok, Err, get_or, refl, sym, ap, subst, ◌∙◌}
 use Rattle.std.specs.Prelude.{is_some, slice_index, IfSome}
 use Rattle.device_cells.proofs.Media.{told_joined, told_map}
 use Rattle.device_cells.specs.Cells.{body}
@@ -10,7 +10,7 @@ use Rattle.record_bodies.specs.Entries.{Entry, label_or}
 use Rattle.record_bodies.specs.StoreStands.{KeepsLabels, entry_at}
 use Rattle.key_records.specs.declared.faults.RecordFault.TheVariants.{Damaged}
 use Rattle.record_bodies.specs.declared.rows.Row.{Row}
-use Rattle.key_records.proofs.ReadLaws.{cause_read, cause_unread, cell_fits, damaged_read, null_read, null_token, own_read, read_token}
+use Rattle.key_records.proofs.ReadLaws.{cause_read, read_token}
 use Rattle.record_bodies.proofs.PieceLaws.{token_is_held}
 use Rattle.record_bodies.proofs.KeptLaws.{unless_err}
 use Rattle.key_records.proofs.records.Records.read.Goals as goal
@@ -79,142 +79,3 @@ returns-in-None-clause-cause g c =
 
 pub returns-in-Some-None-clause-untouched : goal.returns-in-Some-None-clause-untouched
 returns-in-Some-None-clause-untouched g c _ = refl
-
--- ---- what the calls ask
-
-pub cell-cell-requires : goal.cell-cell-requires
-cell-cell-requires g c = c.requires.held
-
-pub row-row-requires : goal.row-row-requires
-row-row-requires g c = c.requires.held
-
-pub read_cell-requires : goal.read_cell-requires
-read_cell-requires g c =
-    cell_fits (g.D.Disk.medium c.args.store.now).size c.cell-cell.result c.new.result c.requires.size c.cell-cell.ensures.within c.new.ensures
-
--- ---- the disk failed
-
-pub returns-then-is_err-clause-null : goal.returns-then-is_err-clause-null
-returns-then-is_err-clause-null g c = tt
-
-pub returns-then-is_err-clause-token : goal.returns-then-is_err-clause-token
-returns-then-is_err-clause-token g c masters s start = tt
-
-pub returns-then-is_err-clause-bytes : goal.returns-then-is_err-clause-bytes
-returns-then-is_err-clause-bytes g c is = absurd (cc is)
-
-pub returns-then-is_err-clause-own : goal.returns-then-is_err-clause-own
-returns-then-is_err-clause-own g c = tt
-
-pub returns-then-is_err-clause-untouched : goal.returns-then-is_err-clause-untouched
-returns-then-is_err-clause-untouched g c _ = refl
-
-pub returns-then-is_err-clause-damaged : goal.returns-then-is_err-clause-damaged
-returns-then-is_err-clause-damaged g c n is = absurd (cc is)
-
-pub returns-then-is_err-clause-faults : goal.returns-then-is_err-clause-faults
-returns-then-is_err-clause-faults g c = inl refl
-
-pub returns-then-is_err-clause-cause : goal.returns-then-is_err-clause-cause
-returns-then-is_err-clause-cause g c =
-    cause_unread (g.D.Disk.faults c.args.store.now) (g.D.Disk.faults c.read_cell.new.disk) c.read_cell.result c.read_cell.ensures.cause (sym c.is_err.ensures.value ∙ c.if-is_err.true)
-
--- ---- a token
-
-pub returns-in-Some-Some-clause-null : goal.returns-in-Some-Some-clause-null
-returns-in-Some-Some-clause-null g c =
-    null_read c.args.self.now c.args.place c.row-row.result true c.row-row.ensures (ap (λ (o : Option (List ℕ)). is_some o) (sym c.in-Some-Some.field-0-is) ∙ c.in-Some-Some.ensures.null)
-
-pub returns-in-Some-Some-clause-own : goal.returns-in-Some-Some-clause-own
-returns-in-Some-Some-clause-own g c =
-    let row : Row = c.row-row.result in
-    let body = c.body.result.now in
-    own_read c.args.self.now c.args.place row body c.read_cell.new.out true c.in-Some-Some.token c.row-row.ensures c.body.ensures (c.in-Some-Some.ensures.reads refl)
-    (λ _. subst (λ (o : Option (List ℕ)). IfSome o (IsTokenOf body row)) c.in-Some-Some.field-0-is c.in-Some-Some.ensures.token)
-
-pub returns-in-Some-Some-clause-untouched : goal.returns-in-Some-Some-clause-untouched
-returns-in-Some-Some-clause-untouched g c other = absurd (other refl)
-
-pub returns-in-Some-Some-clause-damaged : goal.returns-in-Some-Some-clause-damaged
-returns-in-Some-Some-clause-damaged g c n is = absurd (cc is)
-
-pub returns-in-Some-Some-clause-faults : goal.returns-in-Some-Some-clause-faults
-returns-in-Some-Some-clause-faults g c = tt
-
--- ---- a null record
-
-pub returns-in-Some-None-clause-null : goal.returns-in-Some-None-clause-null
-returns-in-Some-None-clause-null g c =
-    null_read c.args.self.now c.args.place c.row-row.result false c.row-row.ensures (ap (λ (o : Option (List ℕ)). is_some o) (sym c.in-Some-None.field-0-is) ∙ c.in-Some-None.ensures.null)
-
-pub returns-in-Some-None-clause-bytes : goal.returns-in-Some-None-clause-bytes
-returns-in-Some-None-clause-bytes g c is = absurd (cc is)
-
-pub returns-in-Some-None-clause-token : goal.returns-in-Some-None-clause-token
-returns-in-Some-None-clause-token g c masters s start =
-    null_token c.args.self.now c.args.place c.row-row.result (g.D.Disk.medium c.args.store.now) masters s c.args.out.now start c.row-row.ensures
-    (subst (λ k. k < 1024) c.cell-cell.ensures.cell c.cell-cell.ensures.within)
-    (ap (λ (o : Option (List ℕ)). is_some o) (sym c.in-Some-None.field-0-is) ∙ c.in-Some-None.ensures.null)
-
-pub returns-in-Some-None-clause-own : goal.returns-in-Some-None-clause-own
-returns-in-Some-None-clause-own g c =
-    own_read c.args.self.now c.args.place c.row-row.result c.body.result.now c.read_cell.new.out false c.args.out.now c.row-row.ensures c.body.ensures (c.in-Some-None.ensures.reads refl) (λ is. absurd (cc is))
-
-pub returns-in-Some-None-clause-damaged : goal.returns-in-Some-None-clause-damaged
-returns-in-Some-None-clause-damaged g c n is = absurd (cc is)
-
-pub returns-in-Some-None-clause-faults : goal.returns-in-Some-None-clause-faults
-returns-in-Some-None-clause-faults g c = tt
-
--- ---- a damaged one
-
-pub returns-in-None-clause-null : goal.returns-in-None-clause-null
-returns-in-None-clause-null g c = tt
-
-pub returns-in-None-clause-token : goal.returns-in-None-clause-token
-returns-in-None-clause-token g c masters s start = tt
-
-pub returns-in-None-clause-bytes : goal.returns-in-None-clause-bytes
-returns-in-None-clause-bytes g c is = absurd (cc is)
-
-pub returns-in-None-clause-own : goal.returns-in-None-clause-own
-returns-in-None-clause-own g c = tt
-
-pub returns-in-None-clause-untouched : goal.returns-in-None-clause-untouched
-returns-in-None-clause-untouched g c _ = refl
-
-pub returns-in-None-clause-damaged : goal.returns-in-None-clause-damaged
-returns-in-None-clause-damaged g c n is =
-    let m = g.D.Disk.medium c.args.store.now in
-    damaged_read c.args.self.now c.args.place c.row-row.result m c.cell-cell.result n c.read_cell.new.out c.cell-cell.ensures.cell c.cell-cell.ensures.within (cc is) c.row-row.ensures c.requires.holds
-    (subst (λ k. Told m (λ image. c.read_cell.new.out ≡ body image k)) c.new.ensures (unless_err c.read_cell.result (sym c.is_err.ensures.value ∙ c.if-is_err.false) c.read_cell.ensures.bytes))
-    (λ reads. c.in-None.ensures.none refl (subst (λ (b : List ℕ). ReadsRow b (Some c.row-row.result)) (sym c.body.ensures) reads))
-
-pub returns-in-None-clause-faults : goal.returns-in-None-clause-faults
-returns-in-None-clause-faults g c = inr (ap Damaged c.cell-cell.ensures.cell)
-
--- ---- the disk and the lease
-
-pub returns-then-is_err-clause-keeps : goal.returns-then-is_err-clause-keeps
-returns-then-is_err-clause-keeps g c = c.read_cell.ensures.keeps
-
-pub returns-then-is_err-clause-rest : goal.returns-then-is_err-clause-rest
-returns-then-is_err-clause-rest g c = refl
-
-pub returns-in-Some-Some-clause-keeps : goal.returns-in-Some-Some-clause-keeps
-returns-in-Some-Some-clause-keeps g c = c.read_cell.ensures.keeps
-
-pub returns-in-Some-Some-clause-rest : goal.returns-in-Some-Some-clause-rest
-returns-in-Some-Some-clause-rest g c = refl
-
-pub returns-in-Some-None-clause-keeps : goal.returns-in-Some-None-clause-keeps
-returns-in-Some-None-clause-keeps g c = c.read_cell.ensures.keeps
-
-pub returns-in-Some-None-clause-rest : goal.returns-in-Some-None-clause-rest
-returns-in-Some-None-clause-rest g c = refl
-
-pub returns-in-None-clause-keeps : goal.returns-in-None-clause-keeps
-returns-in-None-clause-keeps g c = c.read_cell.ensures.keeps
-
-pub returns-in-None-clause-rest : goal.returns-in-None-clause-rest
-returns-in-None-clause-rest g c = refl
