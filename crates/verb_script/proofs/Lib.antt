@@ -2,6 +2,7 @@ pub mod DigitLemmas
 pub mod FieldLaws
 pub mod FormLaws
 pub mod GrammarLaws
+mod PartLemmas
 pub mod PlainRows
 pub mod PointLemmas
 pub mod ReadingLaws
