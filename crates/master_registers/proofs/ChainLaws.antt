@@ -8,13 +8,13 @@ module _ {P Q : Type 0} where
   pub and_then : (u r v : Bool) → u ≡ true → v ≡ r → (IsTrue u ↔ P) → (IsTrue r ↔ Q) → IsTrue v ↔ (P × Q)
   and_then u r v is same first second = (
     (λ yes. (first.0 is, second.0 (sym same ∙ yes))),
-    (λ both. same ∙ second.1 both.1)
+    (λ both. same ∙ second.1 both.1),
   )
 
   pub and_else : (u v : Bool) → u ≡ false → v ≡ u → (IsTrue u ↔ P) → IsTrue v ↔ (P × Q)
   and_else u v is same first = (
     (λ yes. let wrong : false ≡ true = sym is ∙ sym same ∙ yes in absurd (cc)),
-    (λ both. same ∙ first.1 both.0)
+    (λ both. same ∙ first.1 both.0),
   )
 
 -- the parts of a form in the order in which they are judged
@@ -31,5 +31,5 @@ form_in_order v body judged = (
     former = all.0.1;
     rest = all.1;
   }),
-  (λ form. judged.1 (((((form.states, form.gap), form.coming), form.current), form.former), form.rest))
+  (λ form. judged.1 (((((form.states, form.gap), form.coming), form.current), form.former), form.rest)),
 )
