@@ -1,3 +1,5 @@
+pub mod ExitLaws
+pub mod TwoLaws
 pub mod KeptLaws
 pub mod SecondLaws
 pub mod BodyLaws
