@@ -79,7 +79,7 @@ pub is_zero-requires : goal.is_zero-requires
 is_zero-requires c = tt
 
 pub returns-then-not-is_zero-clause-none : goal.returns-then-not-is_zero-clause-none
-returns-then-not-is_zero-clause-none c _ first second = 
+returns-then-not-is_zero-clause-none c _ first second =
     let length_is : c.length.result ≡ length_of (vector_bytes_of c.args.token.now) = c.length.ensures.length ∙ ap (λ (t : Token). length_of t.vector) c.in-Ok.ensures.token in
     never (sym c.if-not-is_zero.true ∙ c.is_zero.ensures.zero.1 (second.single (sym length_is ∙ c.if-length-eq8.true)))
 
@@ -99,7 +99,7 @@ pub write_token-written-requires-clause-pattern : goal.write_token-written-requi
 write_token-written-requires-clause-pattern c = tt
 
 pub write_token-written-requires-clause-right : goal.write_token-written-requires-clause-right
-write_token-written-requires-clause-right c single = 
+write_token-written-requires-clause-right c single =
     elim c.else-length-eq8.branch [
       | else-length-eq8-via-then-length-eq8+else-not-is_zero w ↦ w.is_zero.ensures.zero.0 w.if-not-is_zero.false
       | else-length-eq8-via-else-length-eq8 w ↦ absurd (w.if-length-eq8.false (c.length.ensures.length ∙ single))

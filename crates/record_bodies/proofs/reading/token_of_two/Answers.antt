@@ -39,7 +39,7 @@ pub returns-then-eq-2-clause-kept : goal.returns-then-eq-2-clause-kept
 returns-then-eq-2-clause-kept c = kept_under c.args.pattern.now c.pattern_in-first.result c.args.token.now (c.in-Some.ensures.first refl) c.pattern_in-first.ensures (same_patterns c.eq.result c.pattern_in-first.result c.args.pattern.now c.eq.ensures c.if-eq.true)
 
 pub returns-then-eq-2-clause-some : goal.returns-then-eq-2-clause-some
-returns-then-eq-2-clause-some c _ = 
+returns-then-eq-2-clause-some c _ =
     holds_ahead c.args.pattern.now c.args.ahead c.in-Some-ahead.ahead c.in-Some-ahead.is c.args.token.now c.args.second.now (returns-then-eq-2-clause-kept c) (c.in-Some.ensures.second refl)
     (same_patterns c.eq-then-eq.result c.args.second.now.pattern c.in-Some-ahead.ahead c.eq-then-eq.ensures c.if-eq-2.true)
 
@@ -47,7 +47,7 @@ pub returns-then-eq-2-clause-found : goal.returns-then-eq-2-clause-found
 returns-then-eq-2-clause-found c = token_ahead c.args.pattern.now c.args.ahead c.in-Some-ahead.ahead c.in-Some-ahead.is c.args.token.now c.args.second.now
 
 pub returns-else-eq-clause-none : goal.returns-else-eq-clause-none
-returns-else-eq-clause-none c _ held = 
+returns-else-eq-clause-none c _ held =
     elim c.else-eq.branch [
       | else-eq-via-then-eq+else-eq-2 w ↦ other_patterns w.eq-then-eq.result c.args.second.now.pattern c.in-Some-ahead.ahead w.eq-then-eq.ensures w.if-eq-2.false
           (beside_ahead c.args.pattern.now c.args.ahead c.in-Some-ahead.ahead c.in-Some-ahead.is c.args.token.now c.args.second.now held)
@@ -68,7 +68,7 @@ pub returns-then-eq-3-clause-none : goal.returns-then-eq-3-clause-none
 returns-then-eq-3-clause-none c is _ = never (sym is)
 
 pub returns-then-eq-3-clause-some : goal.returns-then-eq-3-clause-some
-returns-then-eq-3-clause-some c _ = 
+returns-then-eq-3-clause-some c _ =
     holds_turned c.args.pattern.now c.args.ahead c.in-None-ahead.is c.args.token.now c.args.second.now (c.in-Some.ensures.first refl) (c.in-Some.ensures.second refl)
     (same_patterns c.eq-in-None-ahead.result c.args.second.now.pattern c.args.pattern.now c.eq-in-None-ahead.ensures c.if-eq-3.true)
 
@@ -79,7 +79,7 @@ pub returns-then-eq-3-clause-found : goal.returns-then-eq-3-clause-found
 returns-then-eq-3-clause-found c = c.in-Some.ensures.found ∙ token_turned c.args.pattern.now c.args.ahead c.in-None-ahead.is c.args.token.now c.args.second.now
 
 pub returns-else-eq-3-clause-none : goal.returns-else-eq-3-clause-none
-returns-else-eq-3-clause-none c _ held = 
+returns-else-eq-3-clause-none c _ held =
     other_patterns c.eq-in-None-ahead.result c.args.second.now.pattern c.args.pattern.now c.eq-in-None-ahead.ensures c.if-eq-3.false
     (under_turned c.args.pattern.now c.args.ahead c.in-None-ahead.is c.args.token.now c.args.second.now held)
 
