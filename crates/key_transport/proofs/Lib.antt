@@ -1,3 +1,4 @@
+pub mod FailLaws
 pub mod PlaceLemmas
 pub mod HalfLemmas
 pub mod DrawLaws
