@@ -79,3 +79,19 @@ returns-in_ok-fill-in-Sixteen-clause-failed g c = no_fault Failed
 
 pub returns-in_ok-fill-in-Sixteen-clause-quiet : goal.returns-in_ok-fill-in-Sixteen-clause-quiet
 returns-in_ok-fill-in-Sixteen-clause-quiet g c _ = c.in_ok-fill-in-Sixteen.ensures.quiet
+
+pub returns-in_ok-fill_unique-in-Unique-clause-drawn : goal.returns-in_ok-fill_unique-in-Unique-clause-drawn
+returns-in_ok-fill_unique-in-Unique-clause-drawn g c =
+    subst (λ l. DrawsBytes l (g.E.Entropy.left c.args.entropy.now) (g.E.Entropy.left c.fill_unique.new.entropy) c.fill_unique.new.key) (sym c.in-Unique.is) c.in_ok-fill_unique-in-Unique.ensures.drawn
+
+pub returns-in_ok-fill_unique-in-Unique-clause-repeated : goal.returns-in_ok-fill_unique-in-Unique-clause-repeated
+returns-in_ok-fill_unique-in-Unique-clause-repeated g c = no_fault Repeated
+
+pub returns-in_ok-fill_unique-in-Unique-clause-later : goal.returns-in_ok-fill_unique-in-Unique-clause-later
+returns-in_ok-fill_unique-in-Unique-clause-later g c = c.fill_unique.ensures.later
+
+pub returns-in_ok-fill_unique-in-Unique-clause-failed : goal.returns-in_ok-fill_unique-in-Unique-clause-failed
+returns-in_ok-fill_unique-in-Unique-clause-failed g c = no_fault Failed
+
+pub returns-in_ok-fill_unique-in-Unique-clause-quiet : goal.returns-in_ok-fill_unique-in-Unique-clause-quiet
+returns-in_ok-fill_unique-in-Unique-clause-quiet g c quiet = c.in_ok-fill_unique-in-Unique.ensures.quiet quiet
