@@ -146,6 +146,21 @@ names_right_half asked bytes header vector single right =
     (or_from (not (eqb (length_of (vector_bytes_of bytes)) 8)) (is_zero (slice_range bytes 24 32))
     (not_from_true (eqb (length_of (vector_bytes_of bytes)) 8) (eq-eqb (length_of (vector_bytes_of bytes)) 8 single)) right)
 
+pub accepts_right_half : (asked : Asked) (bytes : List ℕ) → first_failing (header_checks asked bytes) ≡ None
+    → first_failing (vector_checks (vector_bytes_of bytes)) ≡ None → has_right_half bytes ≡ true → first_failing (token_checks asked bytes) ≡ None
+accepts_right_half asked bytes header vector right =
+    passed_over (header_checks asked bytes ++ vector_checks (vector_bytes_of bytes)) (check 16 (not (has_right_half bytes)) ∷ [])
+    (passed_over (header_checks asked bytes) (vector_checks (vector_bytes_of bytes)) header ∙ vector)
+    ∙ passes 16 (has_right_half bytes) [] right refl
+
+pub right_half_is_zero : (bytes : List ℕ) → is_zero (slice_range bytes 24 32) ≡ true → has_right_half bytes ≡ true
+right_half_is_zero bytes right = or_right (not (eqb (length_of (vector_bytes_of bytes)) 8)) (is_zero (slice_range bytes 24 32)) right
+
+pub right_half_of_double : (bytes : List ℕ) (size : ℕ) → size ≡ length_of (vector_bytes_of bytes) → size ≢ 8 → has_right_half bytes ≡ true
+right_half_of_double bytes size is other =
+    or_left (not (eqb (length_of (vector_bytes_of bytes)) 8)) (is_zero (slice_range bytes 24 32))
+    (not_from_false (eqb (length_of (vector_bytes_of bytes)) 8) (ne_eqb (length_of (vector_bytes_of bytes)) 8 (λ e. other (is ∙ e))))
+
 module _ (bytes : List ℕ) (whole : length bytes ≡ 64) (token : Token) (h : IsToken bytes token) where
   first_byte : get_or bytes 0 0 ≡ kind_byte token.kind
   first_byte = byte_of_piece bytes 0 (kind_byte token.kind) (omega arith) h.places.0
