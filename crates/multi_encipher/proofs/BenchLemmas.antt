@@ -1,12 +1,14 @@
 -- Places of the workbench that stay.
-use Rattle.std.proofs.Common.{◌≡◌, ℕ, List, refl}
+use Rattle.std.proofs.Common.{◌≡◌, ℕ, List, refl, ap, ◌∙◌}
 use Rattle.key_cells.specs.Bench.{Bench, key_of, with_key}
+use Rattle.key_cells.specs.Lease.{bench_of, holding}
+use Rattle.key_cells.specs.declared.leases.Lease.{Lease}
 use Rattle.key_cells.specs.declared.places.KeyPlace.{KeyPlace}
 use Rattle.key_cells.specs.declared.places.KeyPlace.TheVariants as place
 use Rattle.key_cells.specs.declared.schedules.Schedule.{Schedule}
 use Rattle.multi_encipher.specs.declared.halves.Under.{Under}
 use Rattle.multi_encipher.specs.declared.halves.Under.TheVariants.{Current, Old, New, First, Second}
-use Rattle.multi_encipher.specs.Bundles.{bundle_under, IsElsewhere}
+use Rattle.multi_encipher.specs.Bundles.{bundle_under, ChangesKeyAt, IsElsewhere}
 
 pub key_of-with_key : (bench : Bench) (into : KeyPlace) (bytes : List ℕ) → key_of (with_key bench into bytes) into ≡ bytes
 key_of-with_key bench place.First bytes = refl
@@ -50,3 +52,16 @@ bundle-schedules bench Old schedules = refl
 bundle-schedules bench New schedules = refl
 bundle-schedules bench First schedules = refl
 bundle-schedules bench Second schedules = refl
+
+-- another key is put over one that was put, and schedules are made again: only they change
+pub key-again : (l mid : Lease) (into : KeyPlace) (w : List ℕ) → ChangesKeyAt into l mid → ChangesKeyAt into l (holding mid (with_key (bench_of mid) into w))
+key-again l mid place.First w is = ap (λ x. holding x (with_key (bench_of x) place.First w)) is
+key-again l mid place.Second w is = ap (λ x. holding x (with_key (bench_of x) place.Second w)) is
+key-again l mid place.Key w is = ap (λ x. holding x (with_key (bench_of x) place.Key w)) is
+key-again l mid place.Fresh w is = ap (λ x. holding x (with_key (bench_of x) place.Fresh w)) is
+
+pub key-then : (l mid new : Lease) (into : KeyPlace) → ChangesKeyAt into l mid → ChangesKeyAt into mid new → ChangesKeyAt into l new
+key-then l mid new place.First first second = second ∙ ap (λ x. holding x (record (with_key (bench_of x) place.First (key_of (bench_of new) place.First)) { schedules = (bench_of new).schedules })) first
+key-then l mid new place.Second first second = second ∙ ap (λ x. holding x (record (with_key (bench_of x) place.Second (key_of (bench_of new) place.Second)) { schedules = (bench_of new).schedules })) first
+key-then l mid new place.Key first second = second ∙ ap (λ x. holding x (record (with_key (bench_of x) place.Key (key_of (bench_of new) place.Key)) { schedules = (bench_of new).schedules })) first
+key-then l mid new place.Fresh first second = second ∙ ap (λ x. holding x (record (with_key (bench_of x) place.Fresh (key_of (bench_of new) place.Fresh)) { schedules = (bench_of new).schedules })) first

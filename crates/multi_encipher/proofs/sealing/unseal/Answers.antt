@@ -6,7 +6,7 @@ use Rattle.key_cells.specs.Bench.{key_of, with_key}
 use Rattle.key_cells.specs.Lease.{bench_of}
 use Rattle.multi_encipher.specs.Bundles.{bundle_under}
 use Rattle.multi_encipher.specs.Seals.{opened_half}
-use Rattle.multi_encipher.proofs.BenchLemmas.{key_of-with_key, bundle-elsewhere}
+use Rattle.multi_encipher.proofs.BenchLemmas.{key_of-with_key, key-again, key-then, bundle-elsewhere}
 use Rattle.multi_encipher.proofs.SealLaws.{double_put, double_unless_single, double_sealed, sealed_again, single_put, single_sealed}
 use Rattle.multi_encipher.proofs.sealing.unseal.Goals as goal
 
@@ -56,3 +56,10 @@ returns-else-length-eq8-clause-sealed c =
     (key_of (bench_of c.put_deciphered_half-else-length-eq8.new.lease) c.args.into) c.args.sealed.now
     (double_sealed c.args.vector.now c.args.sealed.now double c.put_deciphered_half.ensures.bytes c.put_deciphered_half-else-length-eq8.ensures.bytes)
     (returns-else-length-eq8-clause-key c)
+
+pub returns-then-length-eq8-clause-stays : goal.returns-then-length-eq8-clause-stays
+returns-then-length-eq8-clause-stays c = key-again c.args.lease.now c.put_deciphered_half.new.lease c.args.into c.put_zeros.new.place c.put_deciphered_half.ensures.stays
+
+pub returns-else-length-eq8-clause-stays : goal.returns-else-length-eq8-clause-stays
+returns-else-length-eq8-clause-stays c =
+    key-then c.args.lease.now c.put_deciphered_half.new.lease c.put_deciphered_half-else-length-eq8.new.lease c.args.into c.put_deciphered_half.ensures.stays c.put_deciphered_half-else-length-eq8.ensures.stays
