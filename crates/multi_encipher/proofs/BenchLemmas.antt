@@ -1,5 +1,6 @@
 -- Places of the workbench that stay.
-use Rattle.std.proofs.Common.{◌≡◌, ℕ, List, refl, ap, ◌∙◌}
+use Rattle.std.proofs.Common.{◌≡◌, ℕ, zero, suc, ◌+◌, ◌*◌, ◌%◌, ◌<◌, ◌≤◌, List, ◌++◌, length, take, drop, refl, sym, ap, ◌∙◌, arith}
+use Rattle.std.proofs.lemmas.List.{drop-append-le, drop_at, length-drop, take-append-le, take-take}
 use Rattle.key_cells.specs.Bench.{Bench, key_of, with_key}
 use Rattle.key_cells.specs.Lease.{bench_of, holding}
 use Rattle.key_cells.specs.declared.leases.Lease.{Lease}
@@ -8,7 +9,7 @@ use Rattle.key_cells.specs.declared.places.KeyPlace.TheVariants as place
 use Rattle.key_cells.specs.declared.schedules.Schedule.{Schedule}
 use Rattle.multi_encipher.specs.declared.halves.Under.{Under}
 use Rattle.multi_encipher.specs.declared.halves.Under.TheVariants.{Current, Old, New, First, Second}
-use Rattle.multi_encipher.specs.Bundles.{bundle_under, ChangesKeyAt, IsElsewhere}
+use Rattle.multi_encipher.specs.Bundles.{bundle_under, key_of_bundle, transport_bundle, ChangesKeyAt, IsElsewhere}
 
 pub key_of-with_key : (bench : Bench) (into : KeyPlace) (bytes : List ℕ) → key_of (with_key bench into bytes) into ≡ bytes
 key_of-with_key bench place.First bytes = refl
@@ -65,3 +66,11 @@ key-then l mid new place.First first second = second ∙ ap (λ x. holding x (re
 key-then l mid new place.Second first second = second ∙ ap (λ x. holding x (record (with_key (bench_of x) place.Second (key_of (bench_of new) place.Second)) { schedules = (bench_of new).schedules })) first
 key-then l mid new place.Key first second = second ∙ ap (λ x. holding x (record (with_key (bench_of x) place.Key (key_of (bench_of new) place.Key)) { schedules = (bench_of new).schedules })) first
 key-then l mid new place.Fresh first second = second ∙ ap (λ x. holding x (record (with_key (bench_of x) place.Fresh (key_of (bench_of new) place.Fresh)) { schedules = (bench_of new).schedules })) first
+
+-- the keys of a transport key's bundle are its halves in turn
+pub transport-part : (key : List ℕ) (n : ℕ) → n < 3 → length key ≡ 16 → key_of_bundle key (n % 2) ≡ key_of_bundle (transport_bundle key) n
+transport-part key zero h long = sym (take-append-le 8 key (take 8 key) (omega (arith, long)))
+transport-part key (suc zero) h long =
+    sym (ap (take 8) (drop-append-le 8 key (take 8 key) (omega (arith, long))) ∙ take-append-le 8 (drop 8 key) (take 8 key) (omega (arith, length-drop 8 key, long)))
+transport-part key (suc (suc zero)) h long = sym (ap (take 8) (drop_at key (take 8 key) 16 long) ∙ take-take 8 8 key (omega arith))
+transport-part key (suc (suc (suc n))) h long = absurd (omega arith)
