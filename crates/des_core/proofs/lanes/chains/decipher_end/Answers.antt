@@ -5,7 +5,7 @@ use borrow.Rule.Slice.PartMut.{put_mid, same_len_mid}
 use Rattle.key_cells.specs.Bench.{text_of}
 use Rattle.key_cells.specs.Lease.{bench_of}
 use Rattle.des_blocks.specs.Schedules.{ded_bytes}
-use Rattle.des_blocks.specs.Texts.{uncbc_text}
+use Rattle.des_blocks.specs.Texts.{uncbc_text, with_text_in}
 use Rattle.des_core.proofs.ChainLemmas.{text-kept}
 use Rattle.des_core.proofs.PartLemmas.{end-deciphered, end-put}
 use Rattle.des_core.proofs.lanes.chains.decipher_end.Goals as goal
@@ -34,3 +34,14 @@ returns-clause-text c =
     let kept : length copied ≡ length (take n (drop at now)) = search rules in
     let kept_long : length (put_mid at n now copied) ≡ bench.text.size = same_len_mid at n now copied kept ∙ c.text_mut-text.ensures.size in
     text-kept bench.text (put_mid at n now copied) kept_long ∙ end-put text now copied out at n refl c.text_mut-text.ensures.value deciphered
+
+pub returns-clause-stays : goal.returns-clause-stays
+returns-clause-stays c =
+    let at = c.args.at in
+    let bench = bench_of c.args.lease.now in
+    let now = c.text_mut-text.result.now in
+    let n = length now - at in
+    let copied = c.copy_from_slice.new.self in
+    let kept : length copied ≡ length (take n (drop at now)) = search rules in
+    let long : length (put_mid at n now copied) ≡ bench.text.size = same_len_mid at n now copied kept ∙ c.text_mut-text.ensures.size in
+    ap (λ w. with_text_in c.args.lease.now w) (sym (text-kept bench.text (put_mid at n now copied) long))
