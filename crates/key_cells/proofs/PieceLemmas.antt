@@ -6,7 +6,7 @@ pub put-more : (old piece : List ℕ) (at byte : ℕ) → at + byte < length old
     → set (take at old ++ take byte piece ++ drop (at + byte) old) (at + byte) (get_or piece byte 0) ≡ take at old ++ take (byte + 1) piece ++ drop (at + (byte + 1)) old
 put-more old piece at byte within inside =
     let front : List ℕ = take at old ++ take byte piece in
-    let long : length front ≡ at + byte = simp (length-append, length-take) (omega arith) in
+    let long : length front ≡ at + byte = omega (arith, length-append (take at old) (take byte piece), length-take at old, length-take byte piece) in
     let next : at + byte + 1 ≡ at + (byte + 1) = omega arith in
     ap (λ rest. set (front ++ rest) (at + byte) (get_or piece byte 0)) (drop_more old (at + byte) 0 within)
     ∙ set_at front (get_or old (at + byte) 0) (drop (at + byte + 1) old) (get_or piece byte 0) (at + byte) long
