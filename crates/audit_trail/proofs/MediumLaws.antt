@@ -72,3 +72,7 @@ exact_by m fault sound (inl failed) damaged = absurd (sound failed)
 exact_by m fault sound (inr named) damaged =
     told_map m (λ image. IsFirstDamaged image named.0) _ (damaged named.0 named.2)
     (λ image first cell other. ap Err (named.2 ∙ ap Damaged (first_one image named.0 cell first other)))
+
+pub named_within : (cell : ℕ) (fault : TrailFault) → cell < 4096 → (fault ≡ DiskFault) ⊎ (fault ≡ Damaged cell) → (fault ≡ DiskFault) ⊎ ((n : ℕ) × (n < 4096) × (fault ≡ Damaged n))
+named_within cell fault within (inl failed) = inl failed
+named_within cell fault within (inr damaged) = inr (cell, within, damaged)

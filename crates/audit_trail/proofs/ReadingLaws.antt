@@ -32,6 +32,9 @@ not_of_disk fault cell is h = let same : fault ≡ Damaged cell = cc is in let o
 pub damaged_not_of_disk : {T : Type 0} (cell : ℕ) → ◌≡◌ {A = Result T TrailFault} (Err (Damaged cell)) (Err DiskFault) → ⊥
 damaged_not_of_disk cell is = cc is
 
+pub disk_not_of_damaged : {T : Type 0} (cell : ℕ) → ◌≡◌ {A = Result T TrailFault} (Err DiskFault) (Err (Damaged cell)) → ⊥
+disk_not_of_damaged cell is = cc is
+
 -- ---- what is left of the trail
 
 pub left_uncalled : (t : Medium) (count : ℕ) (failed : Type 0) → (failed → ⊥) → TrailLeft t t count count (IsSettled t) failed
