@@ -100,3 +100,21 @@ returns-in-Err-clause-ends g c =
     (line_still g.K.Sink.held g.M.Disk.medium g.D.Disk.medium g.E.Entropy.left g.T.Disk.medium (Err c.in-Err.fault) c.each_line.held c.each_line.sink c.audit_one.new.sink
     c.each_line.module c.audit_one.new.module c.each_line.store c.audit_one.new.store c.each_line.entropy c.audit_one.new.entropy c.each_line.desk c.audit_one.new.desk c.each_line.trail c.audit_one.new.trail
     c.in-Err.ensures.unmoved c.in-Err.ensures.untrailed c.in-Err.ensures.failed)
+
+pub audit_one-requires-clause-bench : goal.audit_one-requires-clause-bench
+audit_one-requires-clause-bench g c = c.each_line.invariant.blank
+
+pub audit_one-requires-clause-ready : goal.audit_one-requires-clause-ready
+audit_one-requires-clause-ready g c = c.each_line.invariant.ready
+
+pub audit_one-requires-clause-held : goal.audit_one-requires-clause-held
+audit_one-requires-clause-held g c = c.each_line.invariant.held
+
+pub returns-in-Ended-clause-bench : goal.returns-in-Ended-clause-bench
+returns-in-Ended-clause-bench g c = c.audit_one.ensures.bench
+
+pub returns-in-Err-served-clause-bench : goal.returns-in-Err-served-clause-bench
+returns-in-Err-served-clause-bench g c = c.audit_one.ensures.bench
+
+pub returns-in-Err-clause-bench : goal.returns-in-Err-clause-bench
+returns-in-Err-clause-bench g c = c.audit_one.ensures.bench

@@ -1,5 +1,5 @@
 -- A run serves from the state of its disks and the entries of its trail.
-use Rattle.std.proofs.Common.{refl}
+use Rattle.std.proofs.Common.{refl, ◌∙◌}
 use Rattle.device_cells.proofs.Media.{keeps_still}
 use Rattle.line_service.specs.Devices.{devices, outside}
 use Rattle.audited_service.proofs.FullLemmas.{stood_before, stood_for_some}
@@ -61,3 +61,78 @@ returns-in-Err-open_trail-clause-trail_grows g c = grows_kept (g.T.Disk.medium c
 
 pub returns-in-Err-clause-trail_grows : goal.returns-in-Err-clause-trail_grows
 returns-in-Err-clause-trail_grows g c = grows_kept (g.T.Disk.medium c.args.trail.now) (g.T.Disk.medium c.args.trail.now) (keeps_still (g.T.Disk.medium c.args.trail.now))
+
+pub clear-requires : goal.clear-requires
+clear-requires g c = tt
+
+pub open-requires-clause-disks : goal.open-requires-clause-disks
+open-requires-clause-disks g c = c.requires.disks
+
+pub open-requires-clause-bench : goal.open-requires-clause-bench
+open-requires-clause-bench g c = c.requires.bench
+
+pub open_trail-requires : goal.open_trail-requires
+open_trail-requires g c = c.requires.trail
+
+pub audit_all-requires-clause-fresh : goal.audit_all-requires-clause-fresh
+audit_all-requires-clause-fresh g c = c.clear.ensures
+
+pub audit_all-requires-clause-disks : goal.audit_all-requires-clause-disks
+audit_all-requires-clause-disks g c =
+    record {
+      module_size = c.open.ensures.left.module_kept.moments.size ∙ c.requires.disks.module_size;
+      store_size = c.open.ensures.left.store_kept.moments.size ∙ c.requires.disks.store_size;
+      module_settled = c.in-Ok.ensures.left.module_left.settled refl;
+      store_settled = c.in-Ok.ensures.left.store_left.settled refl;
+    }
+
+pub audit_all-requires-clause-trail : goal.audit_all-requires-clause-trail
+audit_all-requires-clause-trail g c = record { size_is = c.open_trail.ensures.keeps.moments.size ∙ c.requires.trail; settled = c.in-Ok-open_trail.ensures.left.settled refl }
+
+pub audit_all-requires-clause-ready : goal.audit_all-requires-clause-ready
+audit_all-requires-clause-ready g c = c.in-Ok.ensures.ready
+
+pub audit_all-requires-clause-held : goal.audit_all-requires-clause-held
+audit_all-requires-clause-held g c = c.in-Ok-open_trail.ensures.stands
+
+pub audit_all-requires-clause-bench : goal.audit_all-requires-clause-bench
+audit_all-requires-clause-bench g c = c.open.ensures.bench
+
+pub returns-in-Ok-open_trail-clause-unsound : goal.returns-in-Ok-open_trail-clause-unsound
+returns-in-Ok-open_trail-clause-unsound g c = λ unsound. absurd (unsound c.in-Ok.ensures.sound)
+
+pub returns-in-Ok-open_trail-clause-bench : goal.returns-in-Ok-open_trail-clause-bench
+returns-in-Ok-open_trail-clause-bench g c = c.audit_all.ensures.bench
+
+pub returns-in-Err-open_trail-clause-unsound : goal.returns-in-Err-open_trail-clause-unsound
+returns-in-Err-open_trail-clause-unsound g c = λ unsound. absurd (unsound c.in-Ok.ensures.sound)
+
+pub returns-in-Err-open_trail-clause-bench : goal.returns-in-Err-open_trail-clause-bench
+returns-in-Err-open_trail-clause-bench g c = c.open.ensures.bench
+
+pub returns-in-Err-open_trail-clause-unsound_trail : goal.returns-in-Err-open_trail-clause-unsound_trail
+returns-in-Err-open_trail-clause-unsound_trail g c = λ unsound. (
+  record {
+    unsound_source = refl;
+    unsound_sink = refl;
+    unsound_entropy = refl;
+    unsound_module = c.open.ensures.left.module_kept;
+    unsound_store = c.open.ensures.left.store_kept;
+  },
+  c.open_trail.ensures.keeps,
+)
+
+pub returns-in-Err-clause-unsound : goal.returns-in-Err-clause-unsound
+returns-in-Err-clause-unsound g c = λ unsound. (
+  record {
+    unsound_source = refl;
+    unsound_sink = refl;
+    unsound_entropy = refl;
+    unsound_module = c.open.ensures.left.module_kept;
+    unsound_store = c.open.ensures.left.store_kept;
+  },
+  refl,
+)
+
+pub returns-in-Err-clause-bench : goal.returns-in-Err-clause-bench
+returns-in-Err-clause-bench g c = c.open.ensures.bench
