@@ -1,11 +1,11 @@
 -- An entry more on a disk.
-use Rattle.std.proofs.Common.{◌≡◌, ◌<◌, ◌+◌, ◌%◌, ◌^◌, ◌⊎◌, inl, inr, ℕ, List, [], ◌∷◌, ◌++◌, length, Result, Ok, Err, sym, ap, subst, ◌∙◌, arith}
+use Rattle.std.proofs.Common.{◌≡◌, ◌<◌, ◌+◌, ◌%◌, ◌^◌, ◌⊎◌, inl, inr, ℕ, List, [], ◌∷◌, ◌++◌, length, Result, Ok, Err, refl, sym, ap, subst, ◌∙◌, arith}
 use Rattle.std.specs.Prelude.{OnOk}
 use Rattle.std.proofs.lemmas.List.{length-append}
 use Rattle.std.proofs.lemmas.Option.{same_Some}
 use Rattle.device_cells.specs.Cells.{body, IsReplaced, IsReplacing}
 use Rattle.device_cells.specs.Medium.{Medium, IsSettled, Told, From, Becomes, EachImage}
-use Rattle.device_cells.proofs.Media.{told_from, told_at, becomes_told, each_weaker, told_joined, told_map}
+use Rattle.device_cells.proofs.Media.{told_from, told_at, becomes_same, becomes_told, each_weaker, told_joined, told_map}
 use Rattle.audit_trail.specs.Changes.{Appending, AppendsEntry}
 use Rattle.audit_trail.specs.Entries.{IsEntry}
 use Rattle.audit_trail.specs.RecordBody.{record_body}
@@ -47,6 +47,30 @@ module _ (next : ℕ) (e : Entry) (is : IsEntry e) (low : next < 2 ^ 63) (m0 m1 
     either = record { size = becomes.size; told = λ c is. from c (becomes.told c is); still = becomes.still };
     moments = each_weaker m0 m1 (From (IsReplacing (next % 4096) (record_body next e)) m0) (From (Appending next e) m0) moments from;
   }
+
+-- a trail that is as before, after an error
+appending_none : (next : ℕ) (e : Entry) (c : List ℕ) → Appending next e c c
+appending_none next e c = record {
+  outside = record { size = refl; before = λ k below. refl; after = λ k above. refl };
+  others = λ n other. refl;
+  untouched = λ k free. refl;
+  stands = λ es trail. inl trail;
+}
+
+pub unappended : (next : ℕ) (e : Entry) (m : Medium) (fault : TrailFault) → IsSettled m → AppendsEntry next e m m (Err fault)
+unappended next e m fault settled = record {
+  settled = tt;
+  stands = λ es trail. tt;
+  replaced = tt;
+  either = becomes_same m m (Appending next e) refl refl (appending_none next e);
+  moments = record {
+    size = refl;
+    later = omega arith;
+    each = λ c at. (c, settled.only c (m.only_now c at), appending_none next e c);
+    before = λ t c le at. inl at;
+    keeps = λ t c le at. at;
+  };
+}
 
 -- a trail to which an entry was appended stands for one more
 pub stands_more : (next : ℕ) (e : Entry) (m0 m1 : Medium) (result : Result (Unit {0}) TrailFault) → AppendsEntry next e m0 m1 result → Told m0 (λ c. StandsForTrail c next)

@@ -1,5 +1,5 @@
 -- What reading a record leaves of a trail, over plain values.
-use Rattle.std.proofs.Common.{◌≡◌, ◌≤◌, ◌%◌, Bool, true, false, ℕ, List, IsSome, Result, Ok, Err, ap, refl, subst, sym, arith}
+use Rattle.std.proofs.Common.{◌≡◌, ◌≤◌, ◌%◌, Bool, true, false, ℕ, List, IsSome, IsOk, Result, Ok, Err, ap, refl, subst, sym, ◌∙◌, arith}
 use Rattle.device_cells.specs.Cells.{body}
 use Rattle.device_cells.specs.Faults.{Rose}
 use Rattle.device_cells.specs.Medium.{Medium, IsSettled, Keeps, Told}
@@ -10,7 +10,7 @@ use Rattle.audit_trail.specs.RecordBody.{Spells}
 use Rattle.audit_trail.specs.TrailStands.{IsHeld, StandsForTrail}
 use Rattle.audit_trail.specs.declared.entries.Entry.{Entry}
 use Rattle.audit_trail.specs.declared.faults.TrailFault.{TrailFault}
-use Rattle.audit_trail.specs.declared.faults.TrailFault.TheVariants.{DiskFault, Damaged}
+use Rattle.audit_trail.specs.declared.faults.TrailFault.TheVariants.{DiskFault, Damaged, Full}
 
 -- ---- answers
 
@@ -32,6 +32,12 @@ not_of_disk fault cell is h = let same : fault ≡ Damaged cell = cc is in let o
 pub damaged_not_of_disk : {T : Type 0} (cell : ℕ) → ◌≡◌ {A = Result T TrailFault} (Err (Damaged cell)) (Err DiskFault) → ⊥
 damaged_not_of_disk cell is = cc is
 
+pub err_undone : (T : Type 0) (fault : TrailFault) → IsOk {T = T} (Err fault) → ⊥
+err_undone T fault done = cc done
+
+pub full_not_of_disk : {T : Type 0} → ◌≡◌ {A = Result T TrailFault} (Err Full) (Err DiskFault) → ⊥
+full_not_of_disk is = cc is
+
 pub disk_not_of_damaged : {T : Type 0} (cell : ℕ) → ◌≡◌ {A = Result T TrailFault} (Err DiskFault) (Err (Damaged cell)) → ⊥
 disk_not_of_damaged cell is = cc is
 
@@ -42,6 +48,16 @@ left_uncalled t count failed never = record {
   size = refl;
   still = λ some. some;
   settled = λ settled. settled;
+  later = omega arith;
+  fault = λ h. absurd (never h);
+  quiet = λ unfailed. refl;
+}
+
+pub left_refused : (t : Medium) (count : ℕ) (done failed : Type 0) → (done → ⊥) → (failed → ⊥) → TrailLeft t t count count done failed
+left_refused t count done failed undone never = record {
+  size = refl;
+  still = λ some. some;
+  settled = λ h. absurd (undone h);
   later = omega arith;
   fault = λ h. absurd (never h);
   quiet = λ unfailed. refl;
@@ -70,6 +86,9 @@ left_kept t0 t1 before now failed kept later fault quiet = record {
 }
 
 -- ---- the record that was read
+
+pub told_cell : (t : Medium) (number cell place : ℕ) (bytes : List ℕ) → cell ≡ number % 4096 → place ≡ cell → Told t (λ image. bytes ≡ body image place) → Told t (λ image. bytes ≡ body image (number % 4096))
+told_cell t number cell place bytes is at told = subst (λ (k : ℕ). Told t (λ image. bytes ≡ body image k)) (at ∙ is) told
 
 module _ (t : Medium) (number : ℕ) (bytes : List ℕ) (told : Told t (λ image. bytes ≡ body image (number % 4096))) where
   pub spelled_there : (e : Entry) → Spells bytes number e → Told t (λ image. Spells (body image (number % 4096)) number e)
