@@ -184,3 +184,51 @@ returns-in-Err-clause-failed g c = unappended (Err c.in-Err.stop) c.args.held.no
 
 pub returns-in-Err-clause-untrailed : goal.returns-in-Err-clause-untrailed
 returns-in-Err-clause-untrailed g c = λ unreplied uncut. refl
+
+pub read_line-requires : goal.read_line-requires
+read_line-requires g c = c.requires.at_end
+
+pub returns-in-End-clause-bench : goal.returns-in-End-clause-bench
+returns-in-End-clause-bench g c = c.requires.bench
+
+pub returns-in-Err-ReadFault-clause-bench : goal.returns-in-Err-ReadFault-clause-bench
+returns-in-Err-ReadFault-clause-bench g c = c.requires.bench
+
+pub returns-in-Err-InputLimit-clause-bench : goal.returns-in-Err-InputLimit-clause-bench
+returns-in-Err-InputLimit-clause-bench g c = c.requires.bench
+
+pub returns-in-Ok-answer_taken-clause-failed : goal.returns-in-Ok-answer_taken-clause-failed
+returns-in-Ok-answer_taken-clause-failed g c = c.append_and_send.ensures.failed
+
+pub returns-in-Ok-answer_taken-clause-bench : goal.returns-in-Ok-answer_taken-clause-bench
+returns-in-Ok-answer_taken-clause-bench g c = c.answer_taken.ensures.bench
+
+pub returns-in-Err-clause-bench : goal.returns-in-Err-clause-bench
+returns-in-Err-clause-bench g c = c.answer_taken.ensures.bench
+
+pub append_and_send-requires-clause-trail : goal.append_and_send-requires-clause-trail
+append_and_send-requires-clause-trail g c = c.requires.trail
+
+pub append_and_send-requires-clause-held : goal.append_and_send-requires-clause-held
+append_and_send-requires-clause-held g c = c.requires.held
+
+pub append_and_send-requires-clause-entry : goal.append_and_send-requires-clause-entry
+append_and_send-requires-clause-entry g c = c.entry_taken-entry.ensures.whole
+
+pub answer_taken-requires-clause-shown : goal.answer_taken-requires-clause-shown
+answer_taken-requires-clause-shown g c = c.in-Ok.ensures.shown
+
+pub answer_taken-requires-clause-disks : goal.answer_taken-requires-clause-disks
+answer_taken-requires-clause-disks g c = c.requires.disks
+
+pub answer_taken-requires-clause-ready : goal.answer_taken-requires-clause-ready
+answer_taken-requires-clause-ready g c = c.requires.ready
+
+pub answer_taken-requires-clause-bench : goal.answer_taken-requires-clause-bench
+answer_taken-requires-clause-bench g c = c.requires.bench
+
+pub entry_taken-entry-requires : goal.entry_taken-entry-requires
+entry_taken-entry-requires g c = c.in-Ok.ensures.shown
+
+pub bytes-bytes-requires : goal.bytes-bytes-requires
+bytes-bytes-requires g c = tt
