@@ -142,6 +142,22 @@ undamaged_answered A old q of_sink = record {
   reread = λ device cell h. absurd (cc (of_sink _ h));
 }
 
+-- what is left where no device was called
+pub undamaged_done : (A : Machine) (old : Devices) → Undamaged {T = Unit {0}} A (Ok tt) old
+undamaged_done A old = record {
+  module_sound = λ cell h. absurd (cc h);
+  store_sound = λ cell h. absurd (cc h);
+  cells = λ device cell h. absurd (cc h);
+  reread = λ device cell h. absurd (cc h);
+}
+
+pub devices_done : (now : Devices) → IsSettled now.world.module_ → IsSettled now.world.store → DevicesLeft {T = Unit {0}} (Ok tt) (record { old = now; new = now })
+devices_done now m d = record {
+  module_left = disk_still now.world.module_ now.module_faults _ _ (λ ok. m) (λ h. cc h);
+  store_left = disk_still now.world.store now.store_faults _ _ (λ ok. d) (λ h. cc h);
+  entropy_left = count_still now.entropy_faults _ (λ h. cc h);
+}
+
 pub undamaged_stopped : (A : Machine) (old : Devices) (stop : Stop) → Undamaged {T = Unit {0}} A (Err stop) old → Undamaged {T = Served} A (Err stop) old
 undamaged_stopped A old stop undamaged = record {
   module_sound = λ cell h. undamaged.module_sound cell (handed_on {T = Served} {U = Unit {0}} stop _ h);

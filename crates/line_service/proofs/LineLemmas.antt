@@ -1,5 +1,5 @@
 -- One line, as it is taken, answered and sent.
-use Rattle.std.proofs.Common.{◌≡◌, ℕ, zero, suc, ◌+◌, Bool, List, [], ◌∷◌, ◌++◌, length, Option, None, Some, Result, Ok, Err, refl, ap, sym, subst, inl, inr, ⊎_elim, arith}
+use Rattle.std.proofs.Common.{◌≡◌, ◌≤◌, ◌∙◌, ℕ, zero, suc, ◌+◌, Bool, List, [], ◌∷◌, ◌++◌, length, Option, None, Some, Result, Ok, Err, refl, ap, sym, subst, inl, inr, ⊎_elim, arith}
 use Rattle.std.specs.Prelude.{⊤, ◌⊎◌, OnOk, replicate}
 use Rattle.std.specs.Io.KnownBytes.{Consumes}
 use Rattle.std.proofs.KnownBytes.{Consumes-nil}
@@ -8,7 +8,7 @@ use Rattle.device_cells.specs.WhereTold.{WhereTold}
 use Rattle.device_cells.proofs.Media.{each_weaker, each_still, each_pair, image_now, settled_image, told_from}
 use Rattle.device_cells.proofs.WhereToldLemmas.{told_weaker}
 use Rattle.script_buffers.specs.Lines.{lines}
-use Rattle.script_buffers.specs.Reading.{Reading, TakesLine, line_limit, Takes}
+use Rattle.script_buffers.specs.Reading.{Reading, TakesLine, line_limit, Shows, Takes}
 use Rattle.script_buffers.specs.declared.lines.Taken.{Taken}
 use Rattle.script_buffers.specs.declared.lines.Taken.TheVariants.{Line, TooLong, End}
 use Rattle.line_service.specs.Machine.{Machine, World}
@@ -390,3 +390,14 @@ module _ (A : Machine) (s : A.State) (K : A.State → Type 0) where
       turns = λ h. absurd (⊎_elim (λ replied. cc replied) (λ cut. let same : stop ≡ WriteFault = cc cut in subst IsLineStop same is_line_stop) h);
       goes_on = tt;
     }
+
+-- ---- the line that the buffer shows
+
+pub short_line : (taken : Taken) (r : Reading) (text : List ℕ) → taken ≡ Line → Shows taken r → text ≡ r.line → length text ≤ line_limit
+short_line taken r text is shown same = let parts = subst (λ (t : Taken). Shows t r) is shown in subst (λ (l : List ℕ). length l ≤ line_limit) (sym same) parts.1
+
+pub line_serves : (A : Machine) (s : A.State) (K : A.State → Type 0) (taken : Taken) (r : Reading) (text line : List ℕ) → taken ≡ Line → text ≡ r.line → IsTheLine taken r line
+    → (q : Result (Unit {0}) Stop) (reply : List ℕ) (w0 w1 : World) → Serves A s K text q reply w0 w1 → Serves A s K line q reply w0 w1
+line_serves A s K taken r text line is same shown q reply w0 w1 serves =
+    let there : line ≡ r.line = subst (λ (t : Taken). IsTheLine t r line) is shown in
+    subst (λ (l : List ℕ). Serves A s K l q reply w0 w1) (same ∙ sym there) serves

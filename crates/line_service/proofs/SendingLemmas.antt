@@ -1,7 +1,7 @@
 -- A piece that is sent in parts.
-use Rattle.std.proofs.Common.{◌≡◌, ℕ, List, ◌++◌, take, drop, Option, sym, ap, ◌∙◌, append_assoc}
+use Rattle.std.proofs.Common.{◌≡◌, ℕ, List, [], ◌++◌, ◌-◌, length, take, drop, Option, None, Some, refl, sym, subst, arith, ap, append-nil, ◌∙◌, append_assoc}
 use Rattle.std.specs.Io.KnownBytes.{Appends}
-use Rattle.std.proofs.lemmas.List.{take-append-drop}
+use Rattle.std.proofs.lemmas.List.{take-append-drop, take_all, length-drop}
 use Rattle.device_cells.specs.WhereTold.{WhereTold}
 use Rattle.device_cells.proofs.WhereToldLemmas.{told_then, told_appended}
 
@@ -23,3 +23,15 @@ one_more a b c piece rest count so_far appends =
       parts = first.parts ∙ (ap (λ xs. first.sent ++ xs) (sym (take-append-drop count rest)) ∙ sym (append_assoc first.sent (take count rest) (drop count rest)));
     })
     so_far (told_appended b c (take count rest) appends)
+
+pub none_sent : (a : Option (List ℕ)) (piece : List ℕ) → WhereTold a a (λ before now. GotAllBut before now piece piece)
+none_sent None piece = tt
+none_sent (Some x) piece = record { sent = []; held = sym (append-nil x); parts = refl }
+
+-- the rest as the slice behind what was taken
+pub more_sent : (a b c : Option (List ℕ)) (piece rest : List ℕ) (count : ℕ)
+    → WhereTold a b (λ before now. GotAllBut before now piece rest) → Appends b c (take count rest)
+    → WhereTold a c (λ before now. GotAllBut before now piece (take (length rest - count) (drop count rest)))
+more_sent a b c piece rest count so_far appends =
+    subst (λ (r : List ℕ). WhereTold a c (λ before now. GotAllBut before now piece r)) (sym (take_all (length rest - count) (drop count rest) (omega (arith, length-drop count rest))))
+    (one_more a b c piece rest count so_far appends)
