@@ -16,3 +16,10 @@ pub part_permitted : (same whole : Bool) → first_failing (check 32 (not same) 
 part_permitted false whole is = cc is
 part_permitted true true is = cc is
 part_permitted true false is = refl
+
+-- what no rule refuses has the length of the key, which is a part
+pub part_meets : (same part : Bool) → first_refusal (questions (codes "part") (check 32 (not same) ∷ []) ∷ questions (codes "key") (check 35 (not part) ∷ []) ∷ []) ≡ None
+    → (same ≡ true) × (part ≡ true)
+part_meets false part none = cc none
+part_meets true false none = cc none
+part_meets true true none = (refl, refl)

@@ -1,4 +1,5 @@
 pub mod Acting
+mod Changing
 pub mod Delivering
 mod DrawnKeys
 pub mod Fields
@@ -8,6 +9,7 @@ mod KeyParts
 mod KeyedRows
 mod KeyedVerbs
 mod ListedLabels
+mod OverKeys
 mod Points
 mod SegmentRules
 mod SetRules
