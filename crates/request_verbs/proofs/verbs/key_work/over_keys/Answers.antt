@@ -4,6 +4,7 @@ use Rattle.verb_script.specs.Parsed.{seen}
 use Rattle.verb_script.specs.declared.request.Request.{Request as Parsed}
 use Rattle.verb_script.specs.declared.request.Request.TheVariants as parsed
 use Rattle.request_verbs.specs.KeyWorks.{is_over_keys}
+use Rattle.request_verbs.proofs.OverKeys.{can_deliver, can_of, double_key, some_key}
 use Rattle.request_verbs.proofs.Settling.{handed_on, handed_on_drawing}
 use Rattle.request_verbs.proofs.verbs.key_work.over_keys.Goals as goal
 
@@ -22,6 +23,113 @@ refused g c (parsed.CsnbkpiFirst role rule kind part to) is over = c.in_default.
 refused g c (parsed.CsnbkpiMiddle role rule key part to) is over = c.in_default.not-CsnbkpiMiddle role rule key part to is
 refused g c (parsed.Csnbktr role token transport1 transport2) is over = c.in_default.not-Csnbktr role token transport1 transport2 is
 refused g c _ is over = absurd (true≢false (sym over))
+
+pub csnbkyt-requires-clause-key : goal.csnbkyt-requires-clause-key
+csnbkyt-requires-clause-key g c = some_key ((can_of (ap seen c.in-Csnbkyt.is) c.requires.can).passed.shaped.0)
+
+pub csnbkyt-requires-clause-empty : goal.csnbkyt-requires-clause-empty
+csnbkyt-requires-clause-empty g c = c.requires.can.empty
+
+pub csnbcki-requires-clause-clear : goal.csnbcki-requires-clause-clear
+csnbcki-requires-clause-clear g c = (can_of (ap seen c.in-Csnbcki.is) c.requires.can).passed.accepted.1.0
+
+pub csnbcki-requires-clause-delivers : goal.csnbcki-requires-clause-delivers
+csnbcki-requires-clause-delivers g c = 
+    let can = can_of (ap seen c.in-Csnbcki.is) c.requires.can in
+    can_deliver c.in-Csnbcki.to.now c.args.granted.now.first can (can.passed.master refl) can.passed.shaped.0
+
+pub generate_one-requires : goal.generate_one-requires
+generate_one-requires g c = 
+    let can = can_of (ap seen c.in-CsnbkgnOp.is) c.requires.can in
+    record { delivers = can_deliver c.in-CsnbkgnOp.to.now c.args.granted.now.first can (can.passed.master refl) can.passed.shaped.0 }
+
+pub generate_pair-requires-clause-form : goal.generate_pair-requires-clause-form
+generate_pair-requires-clause-form g c = (can_of (ap seen c.in-CsnbkgnPair.is) c.requires.can).passed.accepted.1.0
+
+pub generate_pair-requires-clause-delivers : goal.generate_pair-requires-clause-delivers
+generate_pair-requires-clause-delivers g c = 
+    let can = can_of (ap seen c.in-CsnbkgnPair.is) c.requires.can in
+    can_deliver c.in-CsnbkgnPair.to.now c.args.granted.now.second can (can.passed.master refl) can.passed.shaped.1
+
+pub generate_out-requires-clause-form : goal.generate_out-requires-clause-form
+generate_out-requires-clause-form g c = (can_of (ap seen c.in-CsnbkgnOut.is) c.requires.can).passed.accepted.1.0
+
+pub generate_out-requires-clause-master : goal.generate_out-requires-clause-master
+generate_out-requires-clause-master g c = (can_of (ap seen c.in-CsnbkgnOut.is) c.requires.can).passed.master refl
+
+pub generate_out-requires-clause-loaded : goal.generate_out-requires-clause-loaded
+generate_out-requires-clause-loaded g c = c.requires.can.loaded
+
+pub generate_out-requires-clause-empty : goal.generate_out-requires-clause-empty
+generate_out-requires-clause-empty g c = c.requires.can.empty
+
+pub csnbkim-requires-clause-source : goal.csnbkim-requires-clause-source
+csnbkim-requires-clause-source g c = (can_of (ap seen c.in-Csnbkim.is) c.requires.can).passed.shaped.0
+
+pub csnbkim-requires-clause-transport : goal.csnbkim-requires-clause-transport
+csnbkim-requires-clause-transport g c = double_key refl ((can_of (ap seen c.in-Csnbkim.is) c.requires.can).passed.shaped.1)
+
+pub csnbkim-requires-clause-delivers : goal.csnbkim-requires-clause-delivers
+csnbkim-requires-clause-delivers g c = 
+    let can = can_of (ap seen c.in-Csnbkim.is) c.requires.can in
+    can_deliver c.in-Csnbkim.to.now c.args.granted.now.third can (can.passed.master refl) can.passed.shaped.2
+
+pub csnbkex-requires-clause-key : goal.csnbkex-requires-clause-key
+csnbkex-requires-clause-key g c = some_key ((can_of (ap seen c.in-Csnbkex.is) c.requires.can).passed.shaped.0)
+
+pub csnbkex-requires-clause-transport : goal.csnbkex-requires-clause-transport
+csnbkex-requires-clause-transport g c = double_key refl ((can_of (ap seen c.in-Csnbkex.is) c.requires.can).passed.shaped.1)
+
+pub csnbkex-requires-clause-empty : goal.csnbkex-requires-clause-empty
+csnbkex-requires-clause-empty g c = c.requires.can.empty
+
+pub csnbpex-requires-clause-key : goal.csnbpex-requires-clause-key
+csnbpex-requires-clause-key g c = some_key ((can_of (ap seen c.in-Csnbpex.is) c.requires.can).passed.shaped.0)
+
+pub csnbpex-requires-clause-delivers : goal.csnbpex-requires-clause-delivers
+csnbpex-requires-clause-delivers g c = 
+    let can = can_of (ap seen c.in-Csnbpex.is) c.requires.can in
+    can_deliver c.in-Csnbpex.to.now c.args.granted.now.second can (can.passed.master refl) can.passed.shaped.1
+
+pub csnbktc-requires-clause-key : goal.csnbktc-requires-clause-key
+csnbktc-requires-clause-key g c = some_key ((can_of (ap seen c.in-Csnbktc.is) c.requires.can).passed.shaped.0)
+
+pub csnbktc-requires-clause-master : goal.csnbktc-requires-clause-master
+csnbktc-requires-clause-master g c = (can_of (ap seen c.in-Csnbktc.is) c.requires.can).passed.master refl
+
+pub csnbktc-requires-clause-empty : goal.csnbktc-requires-clause-empty
+csnbktc-requires-clause-empty g c = c.requires.can.empty
+
+pub first-requires-clause-part : goal.first-requires-clause-part
+first-requires-clause-part g c = (can_of (ap seen c.in-CsnbkpiFirst.is) c.requires.can).passed.accepted.1.1.1.0
+
+pub first-requires-clause-delivers : goal.first-requires-clause-delivers
+first-requires-clause-delivers g c = 
+    let can = can_of (ap seen c.in-CsnbkpiFirst.is) c.requires.can in
+    can_deliver c.in-CsnbkpiFirst.to.now c.args.granted.now.first can (can.passed.master refl) can.passed.shaped.0
+
+pub further-requires-clause-key : goal.further-requires-clause-key
+further-requires-clause-key g c = some_key ((can_of (ap seen c.in-CsnbkpiMiddle.is) c.requires.can).passed.shaped.0)
+
+pub further-requires-clause-part : goal.further-requires-clause-part
+further-requires-clause-part g c = (can_of (ap seen c.in-CsnbkpiMiddle.is) c.requires.can).passed.accepted.1.1.1.0
+
+pub further-requires-clause-delivers : goal.further-requires-clause-delivers
+further-requires-clause-delivers g c = 
+    let can = can_of (ap seen c.in-CsnbkpiMiddle.is) c.requires.can in
+    can_deliver c.in-CsnbkpiMiddle.to.now c.args.granted.now.second can (can.passed.master refl) can.passed.shaped.1
+
+pub csnbktr-requires-clause-source : goal.csnbktr-requires-clause-source
+csnbktr-requires-clause-source g c = (can_of (ap seen c.in-Csnbktr.is) c.requires.can).passed.shaped.0
+
+pub csnbktr-requires-clause-one : goal.csnbktr-requires-clause-one
+csnbktr-requires-clause-one g c = double_key refl ((can_of (ap seen c.in-Csnbktr.is) c.requires.can).passed.shaped.1)
+
+pub csnbktr-requires-clause-two : goal.csnbktr-requires-clause-two
+csnbktr-requires-clause-two g c = double_key refl ((can_of (ap seen c.in-Csnbktr.is) c.requires.can).passed.shaped.2)
+
+pub csnbktr-requires-clause-empty : goal.csnbktr-requires-clause-empty
+csnbktr-requires-clause-empty g c = c.requires.can.empty
 
 pub unreachable-requires : goal.unreachable-requires
 unreachable-requires g c = refused g c c.args.request.now refl c.requires.keys
