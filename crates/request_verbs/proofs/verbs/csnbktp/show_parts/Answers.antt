@@ -1,4 +1,4 @@
-use Rattle.std.proofs.Common.{◌++◌, codes, ap, ◌∙◌}
+use Rattle.std.proofs.Common.{◌++◌, length, codes, ap, arith, ◌∙◌}
 use Rattle.cca_machine.specs.Act.{class_name}
 use Rattle.script_buffers.specs.Replies.{number_field, ok_text, text_field}
 use Rattle.request_verbs.proofs.TokenReply.{five_fields}
@@ -13,3 +13,7 @@ returns-clause-fields c =
     (c.number.ensures.bytes ∙ ap (λ n. c.text-2.new.self ++ number_field (codes "length") n) c.length.ensures.length)
     c.show_vector.ensures.bytes
     c.hex.ensures.bytes
+
+pub returns-clause-size : goal.returns-clause-size
+returns-clause-size c =
+    omega (arith, ap length c.requires, c.ok.ensures.size, c.text.ensures.size, c.text-2.ensures.size, c.number.ensures.size, c.number.ensures.short, c.show_vector.ensures.size, c.hex.ensures.size, c.name_of_kind.ensures.size, c.name_of_class.ensures.size, c.as_bytes.ensures.len, c.as_bytes-2.ensures.len)
