@@ -1,15 +1,20 @@
 -- The transport key of a move is the key of its label.
-use Rattle.std.proofs.Common.{◌≡◌, ◌∙◌, ℕ, Bool, false, List, [], ◌∷◌, ◌++◌, get_or, Option, None, Some, Result, Ok, Err, refl, sym, ap, subst}
-use Rattle.std.specs.Prelude.{is_none, not, option_map, IfOk}
+use Rattle.std.proofs.Common.{◌≡◌, ◌∙◌, ℕ, ◌<◌, Bool, false, List, [], ◌∷◌, ◌++◌, get_or, Option, None, Some, Result, Ok, Err, refl, sym, ap, subst, inl, inr}
+use Rattle.std.specs.Prelude.{◌⊎◌, is_none, not, option_map, IfErr, IfOk, IsSome}
 use Rattle.cca_roles.specs.declared.roles.Role.{Role}
 use Rattle.cca_vectors.specs.Checks.{Check, check, first_failing}
 use Rattle.cca_vectors.proofs.Judging.{passed_over, stopped_in}
 use Rattle.key_cells.specs.Bench.{Bench}
+use Rattle.key_cells.specs.declared.leases.Lease.{Lease}
+use Rattle.key_records.specs.Changes.{KeepsAllButBody}
 use Rattle.record_bodies.specs.Directory.{cell_of}
 use Rattle.record_bodies.specs.Entries.{row_directory}
 use Rattle.record_bodies.specs.Labels.{IsLabel, is_label}
 use Rattle.record_bodies.specs.StoreStands.{Agrees, KeepsLabels, entry_at}
 use Rattle.key_records.specs.declared.faults.RecordFault.{RecordFault}
+use Rattle.key_records.specs.declared.faults.RecordFault.TheVariants.{Damaged, DiskFault}
+use Rattle.line_service.specs.Devices.{TellsFault}
+use Rattle.line_service.proofs.StopLemmas.{count_still}
 use Rattle.record_bodies.specs.declared.rows.Row.{Row}
 use Rattle.key_tokens.specs.Denotes.{Denoted}
 use Rattle.key_tokens.specs.declared.key_token.Age.{Age}
@@ -17,7 +22,7 @@ use Rattle.master_registers.specs.Masters.{Masters}
 use Rattle.device_cells.specs.Medium.{Medium, Told}
 use Rattle.device_cells.proofs.Media.{told_from, told_joined, told_map}
 use Rattle.store_move.specs.Exports.{IsTransport, exporter, transport_checks}
-use Rattle.store_move.specs.Reading.{HoldsAsRead}
+use Rattle.store_move.specs.Reading.{FailsAt, HoldsAsRead}
 use Rattle.verb_rules.specs.KeyChecks.{use_checks}
 use Rattle.verb_rules.specs.Keys.{keys_of, opened}
 use Rattle.verb_rules.specs.declared.judging.Judged.{Judged}
@@ -26,7 +31,7 @@ use Rattle.cca_machine.specs.Keys.{cell_with, key_of_label, or_no_key, what_at, 
 use Rattle.cca_machine.specs.State.{State}
 use Rattle.cca_machine.specs.Verdict.{record_checks}
 use Rattle.cca_machine.proofs.KnownLabels.{cell_is}
-use Rattle.store_unload.specs.Judging.{IsJudged, JudgedAsRead, RefusedAsRead, checks_as_read, role_checks_by}
+use Rattle.store_unload.specs.Judging.{IsJudged, IsStoreFault, JudgedAsRead, RefusedAsRead, checks_as_read, role_checks_by}
 use Rattle.store_unload.specs.Moves.{clear_of, move_checks, role_checks}
 use Rattle.command_words.specs.declared.moves.Move.{Move}
 
@@ -194,3 +199,35 @@ module _ (m : Masters) (roles : List (Option Role)) (w : Move) (rows : List (Opt
           → IfOk r (JudgedAsRead m roles w rows bench bytes)
       label_as_read (Ok judged) own = record_as_read own.0 judged own.1 own.2
       label_as_read (Err fault) own = tt
+
+-- ---- what is left of the store and of the lease
+
+-- a place holds a label
+pub holds_one : (o : Option (List ℕ)) (label : List ℕ) → o ≡ Some label → IsSome o
+holds_one o label is = subst IsSome (sym is) refl
+
+-- where a rule is told, no cell is
+pub undamaged : {T : Type 0} (told : T) (m : Medium) (cell : ℕ) → ◌≡◌ {A = Result T RecordFault} (Ok told) (Err (Damaged cell)) → Told m (λ _. ⊥)
+undamaged told m cell is = absurd (cc is)
+
+-- and the store, which wasn't called, didn't fail
+pub unfailed : {T : Type 0} (told : T) (count : ℕ) → TellsFault count count (◌≡◌ {A = Result T RecordFault} (Ok told) (Err DiskFault))
+unfailed told count = count_still count _ (λ is. cc is)
+
+pub kept_whole : (l : Lease) → KeepsAllButBody l l
+kept_whole l = refl
+
+module _ {T : Type 0} (r : Result T RecordFault) (place before now : ℕ) (fails : FailsAt place before now r) where
+  pub read_left : TellsFault before now (r ≡ Err DiskFault)
+  read_left = record { later = fails.later; fault = fails.failed; quiet = fails.quiet }
+
+  pub read_faults : place < 1024 → IfErr r IsStoreFault
+  read_faults within = by_case r fails.faults
+    where
+      by_kind : (fault : RecordFault) → (fault ≡ DiskFault) ⊎ (fault ≡ Damaged place) → IsStoreFault fault
+      by_kind fault (inl is) = inl is
+      by_kind fault (inr is) = inr (place, within, is)
+
+      by_case : (q : Result T RecordFault) → IfErr q (λ fault. (fault ≡ DiskFault) ⊎ (fault ≡ Damaged place)) → IfErr q IsStoreFault
+      by_case (Ok told) kind = tt
+      by_case (Err fault) kind = by_kind fault kind

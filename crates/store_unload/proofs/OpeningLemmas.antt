@@ -2,7 +2,7 @@
 use Rattle.std.proofs.Common.{◌≡◌, ℕ, List, Option, Result, Ok, Err, refl, sym, ap, subst, ◌∙◌, inl, inr}
 use Rattle.std.specs.Prelude.{IsOk}
 use Rattle.key_cells.specs.Bench.{Bench}
-use Rattle.key_cells.specs.Lease.{bench_of}
+use Rattle.key_cells.specs.Lease.{bench_of, loan_of}
 use Rattle.key_cells.specs.declared.leases.Lease.{Lease}
 use Rattle.device_cells.specs.Cells.{body}
 use Rattle.device_cells.specs.Medium.{Medium, Told}
@@ -23,10 +23,12 @@ use Rattle.record_bodies.specs.declared.rows.Row.{Row}
 use Rattle.record_bodies.proofs.OpeningLaws.{stands_one as labels_one, stands_undamaged as labels_undamaged}
 use Rattle.line_service.specs.Answering.{OnDisks}
 use Rattle.line_service.specs.Devices.{DamageTold, Devices, OpeningLeft, Span}
+use Rattle.line_service.specs.Stops.{IsOpeningStop}
 use Rattle.line_service.specs.declared.stops.Device.TheVariants.{Module, Store}
 use Rattle.line_service.specs.declared.stops.Stop.{Stop}
 use Rattle.line_service.specs.declared.stops.Stop.TheVariants.{ReadFault, WriteFault, EntropyFault, ModuleFault, StoreFault, Damaged, InputLimit}
 use Rattle.cca_machine.specs.State.{State}
+use Rattle.request_rules.specs.Judging.{IsStoreStop}
 use Rattle.request_rules.specs.Standing.{tables}
 use Rattle.store_unload.specs.Opening.{IsOpened}
 use Rattle.cca_machine.specs.Coprocessor.{cca, IsBrokenModule, IsBrokenStore, IsModuleStop, module_stands}
@@ -255,3 +257,31 @@ unjudged_store m0 d0 stop X kind still damaged =
     told_from m0.content _ (λ c is. told_from d0.content _ (λ d is_d cell broken.
     absurd (no_stop stop c broken.registers broken.roles kind still
     (λ n named. told_at m0.content (IsBrokenModule n) c is (damaged n named)) broken.in_registers broken.in_roles)))
+
+-- ---- the stop and the lease
+
+-- the module ended it
+pub module_opening : (stop : Stop) → IsModuleStop stop → IsOpeningStop stop
+module_opening ModuleFault kind = tt
+module_opening (Damaged Module cell) kind = tt
+module_opening (Damaged Store cell) kind = tt
+module_opening StoreFault kind = tt
+module_opening ReadFault kind = kind
+module_opening WriteFault kind = kind
+module_opening InputLimit kind = kind
+module_opening EntropyFault kind = kind
+
+-- the store did
+pub store_opening : (stop : Stop) → IsStoreStop stop → IsOpeningStop stop
+store_opening ModuleFault kind = tt
+store_opening (Damaged Module cell) kind = tt
+store_opening (Damaged Store cell) kind = tt
+store_opening StoreFault kind = tt
+store_opening ReadFault kind = kind
+store_opening WriteFault kind = kind
+store_opening InputLimit kind = kind
+store_opening EntropyFault kind = kind
+
+-- the bench is lent as before
+pub loan_kept : (old loaded new : Lease) → loan_of loaded ≡ loan_of old → ChangesKeyAndBody loaded new → loan_of new ≡ loan_of old
+loan_kept old loaded new same rest = ap loan_of rest ∙ same

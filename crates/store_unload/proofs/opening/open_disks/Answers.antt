@@ -3,7 +3,7 @@ use Rattle.std.proofs.Common.{ap}
 use Rattle.key_cells.specs.Lease.{bench_of}
 use Rattle.master_registers.specs.Loaded.{masters_in}
 use Rattle.master_registers.specs.declared.registers.Registers.{Registers}
-use Rattle.store_unload.proofs.OpeningLemmas.{is_loaded_after, opened_as, registers_after}
+use Rattle.store_unload.proofs.OpeningLemmas.{is_loaded_after, loan_kept, module_opening, opened_as, registers_after, store_opening}
 use Rattle.store_unload.proofs.BothLemmas.{module_damage, module_shut, sound_damage, sound_left, store_damage, store_shut}
 use Rattle.store_unload.proofs.KnownLemmas.{opened_known}
 use Rattle.store_unload.proofs.opening.open_disks.Goals as goal
@@ -89,3 +89,60 @@ returns-in-Err-clause-left g c =
     (g.D.Disk.medium c.args.store.now) (g.D.Disk.faults c.args.store.now)
     (g.D.Disk.medium c.args.store.now) (g.D.Disk.faults c.args.store.now)
     c.open_module.ensures.kept c.open_module.ensures.left c.in-Err.stop c.in-Err.is c.in-Err.ensures.stops
+
+-- ---- the disks are called
+
+pub open_module-requires : goal.open_module-requires
+open_module-requires g c = c.requires.module_size
+
+pub open_store-requires-clause-size : goal.open_store-requires-clause-size
+open_store-requires-clause-size g c = c.requires.store_size
+
+pub open_store-requires-clause-loaded : goal.open_store-requires-clause-loaded
+open_store-requires-clause-loaded g c = c.in-Ok.ensures.loaded
+
+-- ---- the stop and the lease
+
+pub returns-in-Ok-open_store-clause-stops : goal.returns-in-Ok-open_store-clause-stops
+returns-in-Ok-open_store-clause-stops g c = tt
+
+pub returns-in-Ok-open_store-clause-loan : goal.returns-in-Ok-open_store-clause-loan
+returns-in-Ok-open_store-clause-loan g c =
+    loan_kept c.args.lease.now c.open_module.new.lease c.open_store.new.lease c.open_module.ensures.loan c.open_store.ensures.rest
+
+pub returns-in-Err-open_store-clause-known : goal.returns-in-Err-open_store-clause-known
+returns-in-Err-open_store-clause-known g c = tt
+
+pub returns-in-Err-open_store-clause-opened : goal.returns-in-Err-open_store-clause-opened
+returns-in-Err-open_store-clause-opened g c = λ s disks. tt
+
+pub returns-in-Err-open_store-clause-loaded : goal.returns-in-Err-open_store-clause-loaded
+returns-in-Err-open_store-clause-loaded g c = tt
+
+pub returns-in-Err-open_store-clause-registers : goal.returns-in-Err-open_store-clause-registers
+returns-in-Err-open_store-clause-registers g c = tt
+
+pub returns-in-Err-open_store-clause-stops : goal.returns-in-Err-open_store-clause-stops
+returns-in-Err-open_store-clause-stops g c = store_opening c.in-Err-open_store.stop c.in-Err-open_store.ensures.stops
+
+pub returns-in-Err-open_store-clause-loan : goal.returns-in-Err-open_store-clause-loan
+returns-in-Err-open_store-clause-loan g c =
+    loan_kept c.args.lease.now c.open_module.new.lease c.open_store.new.lease c.open_module.ensures.loan c.open_store.ensures.rest
+
+pub returns-in-Err-clause-known : goal.returns-in-Err-clause-known
+returns-in-Err-clause-known g c = tt
+
+pub returns-in-Err-clause-opened : goal.returns-in-Err-clause-opened
+returns-in-Err-clause-opened g c = λ s disks. tt
+
+pub returns-in-Err-clause-loaded : goal.returns-in-Err-clause-loaded
+returns-in-Err-clause-loaded g c = tt
+
+pub returns-in-Err-clause-registers : goal.returns-in-Err-clause-registers
+returns-in-Err-clause-registers g c = tt
+
+pub returns-in-Err-clause-stops : goal.returns-in-Err-clause-stops
+returns-in-Err-clause-stops g c = module_opening c.in-Err.stop c.in-Err.ensures.stops
+
+pub returns-in-Err-clause-loan : goal.returns-in-Err-clause-loan
+returns-in-Err-clause-loan g c = c.open_module.ensures.loan
