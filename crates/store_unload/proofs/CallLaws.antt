@@ -1,5 +1,5 @@
 -- What telling a label leaves of the devices, by the one fault that a call may end in.
-use Rattle.std.proofs.Common.{◌≡◌, ℕ, ◌<◌, inl, inr, List, ◌++◌, Option, Result, Ok, Err, sym, ap, subst, arith}
+use Rattle.std.proofs.Common.{◌≡◌, ℕ, ◌<◌, inl, inr, List, ◌++◌, Option, Result, Ok, Err, refl, sym, ap, subst, arith}
 use Rattle.std.specs.Prelude.{◌⊎◌, IfErr}
 use Rattle.device_cells.specs.WhereTold.{WhereTold}
 use Rattle.device_cells.proofs.WhereToldLemmas.{told_weaker}
@@ -80,6 +80,9 @@ work_only a b changed = record {
   coming = ap (λ (l : Lease). (bench_of l).coming) changed;
   loan = ap loan_of changed;
 }
+
+pub kept_masters : (l : Lease) → KeepsMasters l l
+kept_masters l = record { current = refl; former = refl; coming = refl; loan = refl }
 
 -- ---- from label to label
 

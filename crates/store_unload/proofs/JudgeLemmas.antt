@@ -5,6 +5,7 @@ use Rattle.cca_roles.specs.declared.roles.Role.{Role}
 use Rattle.cca_vectors.specs.Checks.{Check, check, first_failing}
 use Rattle.cca_vectors.proofs.Judging.{passed_over, stopped_in}
 use Rattle.key_cells.specs.Bench.{Bench}
+use Rattle.key_cells.specs.Lease.{loan_of}
 use Rattle.key_cells.specs.declared.leases.Lease.{Lease}
 use Rattle.key_records.specs.Changes.{KeepsAllButBody}
 use Rattle.record_bodies.specs.Directory.{cell_of}
@@ -216,6 +217,10 @@ unfailed told count = count_still count _ (λ is. cc is)
 
 pub kept_whole : (l : Lease) → KeepsAllButBody l l
 kept_whole l = refl
+
+-- the bench is lent as before
+pub judged_loan : (old new : Lease) → KeepsAllButBody old new → loan_of new ≡ loan_of old
+judged_loan old new rest = ap loan_of rest
 
 module _ {T : Type 0} (r : Result T RecordFault) (place before now : ℕ) (fails : FailsAt place before now r) where
   pub read_left : TellsFault before now (r ≡ Err DiskFault)

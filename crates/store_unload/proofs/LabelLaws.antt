@@ -86,6 +86,13 @@ module _ (s : State) (w : Move) (label : List ℕ) where
         undamaged = sink_fault WriteFault (λ cell same. cc) result fault;
       })
 
+  -- the label that is named there
+  pub tells_target : (m : Medium) (result : Ends) (f r0 r1 : Option (List ℕ)) → bytes_eq label w.transport_there ≡ true
+      → Gets (with_newlines (remarks_by (Some (codes "target")) label)) result r0 r1 → IfErr result (λ fault. fault ≡ ReportFault)
+      → Told m (λ _. TellsIt result f f r0 r1)
+  tells_target m result f r0 r1 named gets fault =
+      told_from m.content (λ _. TellsIt result f f r0 r1) (λ image is. kept_label (codes "target") result f r0 r1 (by_target true named) gets fault)
+
   -- the store failed
   pub tells_failed : (m : Medium) (fault : RecordFault) (f r : Option (List ℕ))
       → ((cell : ℕ) → ◌≡◌ {A = Result Moved RecordFault} (Err fault) (Err (Damaged cell)) → Told m (λ _. ⊥))

@@ -17,7 +17,7 @@ use Rattle.store_unload.specs.Judging.{IsStoreFault}
 use Rattle.command_words.specs.declared.moves.Move.{Move}
 use Rattle.cca_machine.specs.Coprocessor.{IsCell, cca}
 use Rattle.store_unload.specs.Statuses.{status_of_lem}
-use Rattle.store_unload.specs.Unloading.{IsLabelStatus, MoveTold, TellsLabels, disk_stop, status_stop}
+use Rattle.store_unload.specs.Unloading.{IsLabelStatus, IsOpenStatus, MoveTold, TellsLabels, disk_stop, status_stop}
 use Rattle.store_unload.specs.declared.status.Status.{Status}
 use Rattle.store_unload.specs.declared.status.Status.TheVariants as status
 use Rattle.store_unload.specs.declared.unloading.MoveStatus.{MoveStatus}
@@ -183,3 +183,19 @@ never_opened m P holds never = told_at m.content (λ _. ⊥) holds.image holds.t
 pub no_ok : {T U : Type 0} (r : Result T Stop) (other : Result U Stop) (why : Stop) → r ≡ Err why → IsOk r → IsOk other
 no_ok (Ok done) other why is ok = absurd (cc is)
 no_ok (Err stop) other why is ok = absurd (cc ok)
+
+-- a stop of opening is one of the ways in which a move ends
+pub stop_opens : {T : Type 0} (r : Result T Stop) (why : Stop) (told : Status) → r ≡ Err why → told ≡ status_of_lem (Err why) → IsOpeningStop why
+    → ((device : Device) (cell : ℕ) → r ≡ Err (stop.Damaged device cell) → IsCell device cell) → IsOpenStatus (Run told)
+stop_opens r why told named is kind cells =
+    subst (λ (t : Status). IsOpenStatus (Run t)) (sym is) (by_case why kind (λ device cell same. cells device cell (named ∙ ap Err same)))
+  where
+    by_case : (why : Stop) → IsOpeningStop why → ((device : Device) (cell : ℕ) → why ≡ stop.Damaged device cell → IsCell device cell)
+        → IsOpenStatus (Run (status_of_lem (Err why)))
+    by_case stop.ModuleFault kind cells = tt
+    by_case stop.StoreFault kind cells = tt
+    by_case (stop.Damaged device cell) kind cells = cells device cell refl
+    by_case stop.EntropyFault kind cells = absurd kind
+    by_case stop.ReadFault kind cells = absurd kind
+    by_case stop.WriteFault kind cells = absurd kind
+    by_case stop.InputLimit kind cells = absurd kind

@@ -10,9 +10,12 @@ use Rattle.store_unload.specs.Moves.{remarks_by, with_newlines}
 use Rattle.store_unload.specs.Telling.{requests_text}
 use Rattle.key_records.specs.declared.faults.RecordFault.TheVariants.{DiskFault}
 use Rattle.store_unload.specs.declared.writing.MoveFault.TheVariants.{ReportFault, WriteFault, Store}
-use Rattle.store_unload.proofs.CallLaws.{is_fault, none_called, not_called, some_sent, store_failed, store_fault, store_read, work_only}
+use Rattle.store_unload.proofs.CallLaws.{is_fault, none_called, not_called, some_sent, store_failed, store_fault, store_read, work_only, kept_masters}
+use Rattle.record_bodies.specs.Directory.{label_at}
+use Rattle.record_bodies.specs.Entries.{row_directory}
+use Rattle.store_unload.proofs.JudgeLemmas.{holds_one}
 use Rattle.store_unload.proofs.PartLaws.{grew_none}
-use Rattle.store_unload.proofs.LabelLaws.{failed_as_read, kept_as_read, moved_as_read, target_as_read, tells_failed, tells_kept, tells_moved}
+use Rattle.store_unload.proofs.LabelLaws.{failed_as_read, kept_as_read, moved_as_read, target_as_read, tells_failed, tells_kept, tells_moved, tells_target}
 use Rattle.store_unload.proofs.telling.tell_label.Goals as goal
 
 -- what was read, at the place by the label
@@ -192,3 +195,32 @@ returns-in-Err-clause-keeps g c =
 pub returns-in-Err-clause-masters : goal.returns-in-Err-clause-masters
 returns-in-Err-clause-masters g c =
     work_only c.args.lease.now c.unload_label.new.lease c.in-Err.ensures.rest
+
+-- ---- the label that is named there
+
+pub returns-then-is_same-clause-tells : goal.returns-then-is_same-clause-tells
+returns-then-is_same-clause-tells g c = λ s loaded told opens.
+    tells_target s c.args.how.now c.args.label.now (g.D.Disk.medium c.args.store.now) c.send_remark.result
+    (g.K.Sink.held c.args.file.now) (g.P.Sink.held c.args.report.now) (g.P.Sink.held c.send_remark.new.report)
+    (sym c.is_same.ensures ∙ c.if-is_same.true) c.send_remark.ensures.sends c.send_remark.ensures.fault
+
+pub returns-then-is_same-clause-masters : goal.returns-then-is_same-clause-masters
+returns-then-is_same-clause-masters g c = kept_masters c.args.lease.now
+
+-- ---- the record is read
+
+pub place_of-place-requires : goal.place_of-place-requires
+place_of-place-requires g c = c.requires.held
+
+pub unload_label-requires-clause-held : goal.unload_label-requires-clause-held
+unload_label-requires-clause-held g c =
+    holds_one (label_at (row_directory c.args.records.now) c.place_of-place.result) c.args.label.now c.place_of-place.ensures.held
+
+pub unload_label-requires-clause-size : goal.unload_label-requires-clause-size
+unload_label-requires-clause-size g c = c.requires.size
+
+pub unload_label-requires-clause-holds : goal.unload_label-requires-clause-holds
+unload_label-requires-clause-holds g c = c.requires.holds
+
+pub unload_label-requires-clause-double : goal.unload_label-requires-clause-double
+unload_label-requires-clause-double g c = c.requires.double

@@ -11,6 +11,7 @@ use Rattle.store_unload.specs.Statuses.{status_of_lem}
 use Rattle.store_unload.specs.Unloading.{IsLabelStatus, MoveRests, MoveTold, Still, TellsNone}
 use Rattle.store_unload.specs.declared.unloading.MoveStatus.{MoveStatus}
 use Rattle.store_unload.specs.declared.unloading.MoveStatus.TheVariants.{Refused}
+use Rattle.store_unload.proofs.JudgeLemmas.{judged_loan}
 use Rattle.store_unload.proofs.MoveLemmas.{fault_told, never_opened, told_opened}
 use Rattle.store_unload.proofs.RestLemmas.{none_told, read_key, read_rule, still_loaded, unread}
 use Rattle.store_unload.proofs.ToldLemmas.{fault_then, file_as, judged_key, labels_told, never_none, never_refused, of_store, report_as, rests_told, rule_told, store_as, told_kind, where_told}
@@ -169,3 +170,37 @@ returns-in-Err-clause-outputs g c = record {
   file_grows = grows_none (g.K.Sink.held c.args.sink.now);
   report_grows = grows_none (g.P.Sink.held c.args.report.now);
 }
+
+-- ---- where no label was told, the store is as it was judged
+
+pub returns-in-Ok-Err-clause-statuses : goal.returns-in-Ok-Err-clause-statuses
+returns-in-Ok-Err-clause-statuses g c = tt
+
+pub returns-in-Ok-Err-clause-untold : goal.returns-in-Ok-Err-clause-untold
+returns-in-Ok-Err-clause-untold g c = λ none. record { no_file = refl; no_report = refl }
+
+pub returns-in-Ok-Err-clause-keeps : goal.returns-in-Ok-Err-clause-keeps
+returns-in-Ok-Err-clause-keeps g c = c.judge_move.ensures.keeps
+
+pub returns-in-Err-clause-keeps : goal.returns-in-Err-clause-keeps
+returns-in-Err-clause-keeps g c = c.judge_move.ensures.keeps
+
+-- ---- the bench is lent as before
+
+pub returns-in-Ok-Ok-clause-loan : goal.returns-in-Ok-Ok-clause-loan
+returns-in-Ok-Ok-clause-loan g c =
+    c.write_move.ensures.loan ∙ judged_loan c.args.lease.now c.judge_move.new.lease c.judge_move.ensures.rest
+
+pub returns-in-Ok-Err-clause-loan : goal.returns-in-Ok-Err-clause-loan
+returns-in-Ok-Err-clause-loan g c = judged_loan c.args.lease.now c.judge_move.new.lease c.judge_move.ensures.rest
+
+pub returns-in-Err-clause-loan : goal.returns-in-Err-clause-loan
+returns-in-Err-clause-loan g c = judged_loan c.args.lease.now c.judge_move.new.lease c.judge_move.ensures.rest
+
+-- ---- the store is called
+
+pub judge_move-requires-clause-size : goal.judge_move-requires-clause-size
+judge_move-requires-clause-size g c = c.requires.size
+
+pub judge_move-requires-clause-holds : goal.judge_move-requires-clause-holds
+judge_move-requires-clause-holds g c = c.requires.holds

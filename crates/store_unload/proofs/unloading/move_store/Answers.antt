@@ -1,8 +1,10 @@
 -- The disks that were opened stand for a state.
+use Rattle.std.proofs.Common.{◌∙◌}
 use Rattle.key_cells.specs.Lease.{bench_of}
 use Rattle.request_rules.specs.Standing.{tables}
 use Rattle.store_unload.proofs.CalledLemmas.{labels_opens}
 use Rattle.store_unload.proofs.LeftLemmas.{left_opened, left_unopened}
+use Rattle.store_unload.proofs.MoveLemmas.{stop_opens}
 use Rattle.store_unload.proofs.unloading.move_store.Goals as goal
 
 pub returns-in-Ok-clause-ends : goal.returns-in-Ok-clause-ends
@@ -40,3 +42,24 @@ returns-in-Err-clause-ends g c =
 
 pub returns-in-Ok-clause-statuses : goal.returns-in-Ok-clause-statuses
 returns-in-Ok-clause-statuses g c = labels_opens c.move_labels.result c.move_labels.ensures.statuses
+
+pub returns-in-Err-clause-statuses : goal.returns-in-Err-clause-statuses
+returns-in-Err-clause-statuses g c =
+    stop_opens c.open_disks.result c.in-Err.stop c.status_of.result c.in-Err.is c.status_of.ensures c.in-Err.ensures.stops
+    c.open_disks.ensures.damage.cells
+
+-- ---- the bench is lent as before
+
+pub returns-in-Ok-clause-loan : goal.returns-in-Ok-clause-loan
+returns-in-Ok-clause-loan g c = c.move_labels.ensures.loan ∙ c.open_disks.ensures.loan
+
+pub returns-in-Err-clause-loan : goal.returns-in-Err-clause-loan
+returns-in-Err-clause-loan g c = c.open_disks.ensures.loan
+
+-- ---- the disks are called
+
+pub open_disks-requires : goal.open_disks-requires
+open_disks-requires g c = c.requires
+
+pub move_labels-requires-clause-holds : goal.move_labels-requires-clause-holds
+move_labels-requires-clause-holds g c = c.in-Ok.ensures.known.in_store

@@ -36,3 +36,20 @@ returns-in_default-clause-uncalled g c = λ none. record { no_file = refl; no_re
 
 pub returns-in_default-clause-ends : goal.returns-in_default-clause-ends
 returns-in_default-clause-ends g c = λ called. absurd (called (inl refl))
+
+-- ---- how it ends
+
+pub returns-in-Err-clause-statuses : goal.returns-in-Err-clause-statuses
+returns-in-Err-clause-statuses g c = tt
+
+pub returns-in_default-clause-statuses : goal.returns-in_default-clause-statuses
+returns-in_default-clause-statuses g c = tt
+
+pub returns-in_default-clause-bench : goal.returns-in_default-clause-bench
+returns-in_default-clause-bench g c = c.wipe.ensures
+
+pub returns-in-Err-clause-bench : goal.returns-in-Err-clause-bench
+returns-in-Err-clause-bench g c = c.wipe.ensures
+
+pub move_store-requires : goal.move_store-requires
+move_store-requires g c = c.requires
