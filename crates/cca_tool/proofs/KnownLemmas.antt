@@ -108,6 +108,9 @@ same_memory a b r q x y o p reading roles rows reply =
 
 -- what holds of a session's memory holds of the fields that it shows
 module _ (inside shown : Memory) (same : inside ≡ shown) where
+  pub known_inside : (m d : Medium) → AreKnown shown.tables m d → AreKnown inside.tables m d
+  known_inside m d known = subst (λ (memory : Memory). AreKnown memory.tables m d) (sym same) known
+
   pub stands_inside : (s : State) (m d : Medium) → AreKnown shown.tables m d → OnDisks cca s m d → Stands cca s (remembers inside.tables) m d
   stands_inside s m d known disks =
       stands_known s inside.tables m d (subst (λ (memory : Memory). AreKnown memory.tables m d) (sym same) known) disks

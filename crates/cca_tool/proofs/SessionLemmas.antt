@@ -1,5 +1,5 @@
 -- What a session shows of a line that its desk has served.
-use Rattle.std.proofs.Common.{◌≡◌, ℕ, None, Result, Ok, Err, refl, ap, subst, ◌∙◌}
+use Rattle.std.proofs.Common.{◌≡◌, ℕ, Option, None, Result, Ok, Err, refl, sym, ap, subst, ◌∙◌}
 use Rattle.std.specs.Prelude.{IfErr}
 use Rattle.cca_machine.specs.Coprocessor.{IsCell, IsStop}
 use Rattle.line_service.specs.Devices.{Outside, Span}
@@ -9,7 +9,8 @@ use Rattle.line_service.specs.declared.stops.Device.{Device}
 use Rattle.line_service.specs.declared.stops.Stop.{Stop}
 use Rattle.line_service.specs.declared.stops.Stop.TheVariants.{ReadFault, WriteFault, EntropyFault, ModuleFault, StoreFault, Damaged, InputLimit}
 use Rattle.script_buffers.specs.Reading.{Reading}
-use Rattle.cca_tool.specs.Sessions.{Memory}
+use Rattle.script_buffers.specs.declared.lines.Taken.{Taken}
+use Rattle.cca_tool.specs.Sessions.{Memory, ShowsWaiting}
 
 -- a stop names a cell of its device
 pub served_stops : (r : Result Served Stop) → ((device : Device) (cell : ℕ) → r ≡ Err (Damaged device cell) → IsCell device cell) → IfErr r IsStop
@@ -42,3 +43,7 @@ taken_shown r o inside shown later is taken = subst (λ (memory : Memory). LineT
 
 pub idle_inside : (inside shown : Memory) → inside ≡ shown → shown.waiting ≡ None → inside.waiting ≡ None
 idle_inside inside shown is idle = ap (λ (memory : Memory). memory.waiting) is ∙ idle
+
+-- where no line waits, any reading will do
+pub idle_shows : (waiting : Option Taken) (reading : Reading) → waiting ≡ None → ShowsWaiting waiting reading
+idle_shows waiting reading idle = subst (λ (o : Option Taken). ShowsWaiting o reading) (sym idle) tt

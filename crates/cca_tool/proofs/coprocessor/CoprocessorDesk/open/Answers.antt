@@ -57,3 +57,20 @@ returns-in-Ok-clause-ready g c = c.in-Ok.ensures.known
 
 pub returns-clause-stops : goal.returns-clause-stops
 returns-clause-stops g c = c.in-Err.ensures.stops
+
+-- ---- a call that is stopped knows nothing
+
+pub open_disks-requires : goal.open_disks-requires
+open_disks-requires g c = c.requires.disks
+
+pub returns-in-Ok-clause-stops : goal.returns-in-Ok-clause-stops
+returns-in-Ok-clause-stops g c = tt
+
+pub returns-clause-sound : goal.returns-clause-sound
+returns-clause-sound g c = tt
+
+pub returns-clause-knows : goal.returns-clause-knows
+returns-clause-knows g c = tt
+
+pub returns-clause-ready : goal.returns-clause-ready
+returns-clause-ready g c = tt

@@ -1,7 +1,8 @@
 -- The line that waits, answered over disks that are known.
-use Rattle.std.proofs.Common.{sym, ◌∙◌}
+use Rattle.std.proofs.Common.{ap, sym, ◌∙◌}
 use Rattle.line_service.specs.Machine.{world}
-use Rattle.cca_tool.proofs.KnownLemmas.{stands_inside, line_inside}
+use Rattle.cca_tool.specs.Sessions.{Memory}
+use Rattle.cca_tool.proofs.KnownLemmas.{known_inside, stands_inside, line_inside}
 use Rattle.cca_tool.proofs.LineLemmas.{silent_serves}
 use Rattle.cca_tool.proofs.session.Session.answer.Goals as goal
 
@@ -35,3 +36,38 @@ returns-in-Err-clause-undamaged g c = c.in-Err.ensures.undamaged
 
 pub returns-in-Err-clause-stops : goal.returns-in-Err-clause-stops
 returns-in-Err-clause-stops g c = c.in-Err.ensures.stops
+
+-- ---- what else the memory shows, and the bench
+
+pub answer_taken-requires-clause-disks : goal.answer_taken-requires-clause-disks
+answer_taken-requires-clause-disks g c = c.requires.disks
+
+pub answer_taken-requires-clause-ready : goal.answer_taken-requires-clause-ready
+answer_taken-requires-clause-ready g c = known_inside _ c.args.self.now c.self.view_is (g.M.Disk.medium c.args.module.now) (g.D.Disk.medium c.args.store.now) c.requires.known
+
+pub answer_taken-requires-clause-bench : goal.answer_taken-requires-clause-bench
+answer_taken-requires-clause-bench g c = c.wipe.ensures
+
+pub returns-in-Ok-clause-reading : goal.returns-in-Ok-clause-reading
+returns-in-Ok-clause-reading g c = ap (λ (memory : Memory). memory.reading) c.self.view_is
+
+pub returns-in-Ok-clause-unanswered : goal.returns-in-Ok-clause-unanswered
+returns-in-Ok-clause-unanswered g c = tt
+
+pub returns-in-Ok-clause-stops : goal.returns-in-Ok-clause-stops
+returns-in-Ok-clause-stops g c = tt
+
+pub returns-in-Ok-clause-bench : goal.returns-in-Ok-clause-bench
+returns-in-Ok-clause-bench g c = c.answer_taken.ensures.bench
+
+pub returns-in-Err-clause-known : goal.returns-in-Err-clause-known
+returns-in-Err-clause-known g c = tt
+
+pub returns-in-Err-clause-reading : goal.returns-in-Err-clause-reading
+returns-in-Err-clause-reading g c = ap (λ (memory : Memory). memory.reading) c.self.view_is
+
+pub returns-in-Err-clause-unanswered : goal.returns-in-Err-clause-unanswered
+returns-in-Err-clause-unanswered g c = c.clear.ensures
+
+pub returns-in-Err-clause-bench : goal.returns-in-Err-clause-bench
+returns-in-Err-clause-bench g c = c.answer_taken.ensures.bench

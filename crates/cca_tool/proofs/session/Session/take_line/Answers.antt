@@ -6,6 +6,7 @@ use Rattle.script_buffers.specs.declared.lines.Taken.TheVariants.{End}
 use Rattle.line_service.specs.declared.stops.Stop.TheVariants.{InputLimit, ReadFault}
 use Rattle.cca_tool.specs.Sessions.{InputRead, Memory}
 use Rattle.cca_tool.proofs.ReadingLemmas.{fault_left, fault_told, input_read, limit_left, limit_told, line_left, line_told}
+use Rattle.cca_tool.proofs.SessionLemmas.{idle_inside, idle_shows}
 use Rattle.cca_tool.proofs.session.Session.take_line.Goals as goal
 
 pub returns-in-Ok-End-clause-read : goal.returns-in-Ok-End-clause-read
@@ -69,3 +70,59 @@ pub returns-in-Err-InputLimit-clause-left : goal.returns-in-Err-InputLimit-claus
 returns-in-Err-InputLimit-clause-left g c =
     limit_left c.read_line.result (g.S.Source.faults c.args.source.now) (g.S.Source.faults c.read_line.new.source) c.read_line.ensures.later c.read_line.ensures.quiet
     (c.in-Err-InputLimit.is ∙ ap Err c.in-Err-InputLimit.field-0-is)
+
+-- ---- what else the memory shows
+
+pub returns-in-Ok-End-clause-waits : goal.returns-in-Ok-End-clause-waits
+returns-in-Ok-End-clause-waits g c = idle_inside _ c.args.self.now c.self.view_is c.requires.idle
+
+pub returns-in-Ok-End-clause-tables : goal.returns-in-Ok-End-clause-tables
+returns-in-Ok-End-clause-tables g c = ap (λ (memory : Memory). memory.tables) c.self.view_is
+
+pub returns-in-Ok-End-clause-reply : goal.returns-in-Ok-End-clause-reply
+returns-in-Ok-End-clause-reply g c = ap (λ (memory : Memory). memory.reply) c.self.view_is
+
+pub returns-in-Ok-End-clause-stops : goal.returns-in-Ok-End-clause-stops
+returns-in-Ok-End-clause-stops g c = tt
+
+pub returns-in-Err-ReadFault-clause-waits : goal.returns-in-Err-ReadFault-clause-waits
+returns-in-Err-ReadFault-clause-waits g c = idle_inside _ c.args.self.now c.self.view_is c.requires.idle
+
+pub returns-in-Err-ReadFault-clause-tables : goal.returns-in-Err-ReadFault-clause-tables
+returns-in-Err-ReadFault-clause-tables g c = ap (λ (memory : Memory). memory.tables) c.self.view_is
+
+pub returns-in-Err-ReadFault-clause-reply : goal.returns-in-Err-ReadFault-clause-reply
+returns-in-Err-ReadFault-clause-reply g c = ap (λ (memory : Memory). memory.reply) c.self.view_is
+
+pub returns-in-Err-ReadFault-clause-stops : goal.returns-in-Err-ReadFault-clause-stops
+returns-in-Err-ReadFault-clause-stops g c = tt
+
+pub returns-in-Err-InputLimit-clause-waits : goal.returns-in-Err-InputLimit-clause-waits
+returns-in-Err-InputLimit-clause-waits g c = idle_inside _ c.args.self.now c.self.view_is c.requires.idle
+
+pub returns-in-Err-InputLimit-clause-tables : goal.returns-in-Err-InputLimit-clause-tables
+returns-in-Err-InputLimit-clause-tables g c = ap (λ (memory : Memory). memory.tables) c.self.view_is
+
+pub returns-in-Err-InputLimit-clause-reply : goal.returns-in-Err-InputLimit-clause-reply
+returns-in-Err-InputLimit-clause-reply g c = ap (λ (memory : Memory). memory.reply) c.self.view_is
+
+pub returns-in-Err-InputLimit-clause-stops : goal.returns-in-Err-InputLimit-clause-stops
+returns-in-Err-InputLimit-clause-stops g c = tt
+
+pub returns-in-Ok-clause-tables : goal.returns-in-Ok-clause-tables
+returns-in-Ok-clause-tables g c = ap (λ (memory : Memory). memory.tables) c.self.view_is
+
+pub returns-in-Ok-clause-reply : goal.returns-in-Ok-clause-reply
+returns-in-Ok-clause-reply g c = ap (λ (memory : Memory). memory.reply) c.self.view_is
+
+pub returns-in-Ok-clause-stops : goal.returns-in-Ok-clause-stops
+returns-in-Ok-clause-stops g c = tt
+
+pub invariant_of-self : goal.invariant_of-self
+invariant_of-self g c = idle_shows _ c.read_line.new.buffer (idle_inside _ c.args.self.now c.self.view_is c.requires.idle)
+
+pub invariant_of-self-in-Err-ReadFault : goal.invariant_of-self-in-Err-ReadFault
+invariant_of-self-in-Err-ReadFault g c = idle_shows _ c.read_line.new.buffer (idle_inside _ c.args.self.now c.self.view_is c.requires.idle)
+
+pub invariant_of-self-in-Err-InputLimit : goal.invariant_of-self-in-Err-InputLimit
+invariant_of-self-in-Err-InputLimit g c = idle_shows _ c.read_line.new.buffer (idle_inside _ c.args.self.now c.self.view_is c.requires.idle)
