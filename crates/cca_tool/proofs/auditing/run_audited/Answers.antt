@@ -87,3 +87,14 @@ returns-then-not-are_just-clause-unsound_trail g c = λ never. (
 
 pub returns-then-not-are_just-clause-trail_grows : goal.returns-then-not-are_just-clause-trail_grows
 returns-then-not-are_just-clause-trail_grows g c = trail_as_before (g.T.Disk.medium c.args.trail.now)
+
+-- ---- the lines are served
+
+pub serve_audited-requires-clause-disks : goal.serve_audited-requires-clause-disks
+serve_audited-requires-clause-disks g c = c.requires.disks
+
+pub serve_audited-requires-clause-trail : goal.serve_audited-requires-clause-trail
+serve_audited-requires-clause-trail g c = c.requires.trail
+
+pub serve_audited-requires-clause-bench : goal.serve_audited-requires-clause-bench
+serve_audited-requires-clause-bench g c = c.wipe.ensures

@@ -76,3 +76,26 @@ pub returns-in-None-clause-unsound : goal.returns-in-None-clause-unsound
 returns-in-None-clause-unsound g c = λ never.
     all_as_before c.args.source.now c.args.sink.now c.args.entropy.now
     (g.M.Disk.medium c.args.module.now) (g.M.Disk.faults c.args.module.now) (g.D.Disk.medium c.args.store.now) (g.D.Disk.faults c.args.store.now)
+
+-- ---- the calls, and the bench that they leave
+
+pub serve_source-requires-clause-blank : goal.serve_source-requires-clause-blank
+serve_source-requires-clause-blank g c = c.wipe.ensures
+
+pub serve_source-requires-clause-disks : goal.serve_source-requires-clause-disks
+serve_source-requires-clause-disks g c = c.requires
+
+pub serve_demo-requires-clause-blank : goal.serve_demo-requires-clause-blank
+serve_demo-requires-clause-blank g c = c.wipe.ensures
+
+pub serve_demo-requires-clause-disks : goal.serve_demo-requires-clause-disks
+serve_demo-requires-clause-disks g c = c.requires
+
+pub returns-in-Some-Run-clause-bench : goal.returns-in-Some-Run-clause-bench
+returns-in-Some-Run-clause-bench g c = c.serve_source.ensures.bench
+
+pub returns-in-Some-Demo-clause-bench : goal.returns-in-Some-Demo-clause-bench
+returns-in-Some-Demo-clause-bench g c = c.serve_demo.ensures.bench
+
+pub returns-in-None-clause-bench : goal.returns-in-None-clause-bench
+returns-in-None-clause-bench g c = c.wipe.ensures

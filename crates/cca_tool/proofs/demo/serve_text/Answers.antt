@@ -41,3 +41,23 @@ pub returns-in-Err-clause-unsound : goal.returns-in-Err-clause-unsound
 returns-in-Err-clause-unsound g c = λ none.
     let all = c.serve.ensures.unsound none in
     record { unsound_sink = refl; unsound_module = all.unsound_module; unsound_store = all.unsound_store }
+
+-- ---- the calls, and the bench that they leave
+
+pub serve-requires : goal.serve-requires
+serve-requires g c = c.requires.disks
+
+pub put_summary-requires-clause-empty : goal.put_summary-requires-clause-empty
+put_summary-requires-clause-empty g c = c.requires.line
+
+pub put_summary-requires-clause-number : goal.put_summary-requires-clause-number
+put_summary-requires-clause-number g c = c.requires.number.1
+
+pub returns-in-Ok-send-clause-bench : goal.returns-in-Ok-send-clause-bench
+returns-in-Ok-send-clause-bench g c = c.serve.ensures.bench
+
+pub returns-in-Err-send-clause-bench : goal.returns-in-Err-send-clause-bench
+returns-in-Err-send-clause-bench g c = c.serve.ensures.bench
+
+pub returns-in-Err-clause-bench : goal.returns-in-Err-clause-bench
+returns-in-Err-clause-bench g c = c.serve.ensures.bench

@@ -60,3 +60,20 @@ returns-in-Err-clause-serves g c = λ s stands.
     unspelled_serves s (remembers (tables c.args.self.now.roles c.args.self.now.records)) c.args.line.now c.refuse_line.new.reply
     (g.M.Disk.medium c.args.module.now) (g.D.Disk.medium c.args.store.now) (g.E.Entropy.left c.args.entropy.now)
     c.requires.short (sym c.in-Err.ensures.exact) c.refuse_line.ensures stands c.requires.disks.module_settled c.requires.disks.store_settled
+
+-- ---- the call, and the bench that it leaves
+
+pub perform-requires-clause-disks : goal.perform-requires-clause-disks
+perform-requires-clause-disks g c = c.requires.disks
+
+pub returns-in-Ok-clause-bench : goal.returns-in-Ok-clause-bench
+returns-in-Ok-clause-bench g c = c.perform.ensures.bench
+
+pub returns-in-Err-clause-ready : goal.returns-in-Err-clause-ready
+returns-in-Err-clause-ready g c = c.requires.ready
+
+pub returns-in-Err-clause-stops : goal.returns-in-Err-clause-stops
+returns-in-Err-clause-stops g c = tt
+
+pub returns-in-Err-clause-bench : goal.returns-in-Err-clause-bench
+returns-in-Err-clause-bench g c = c.requires.bench
