@@ -50,12 +50,14 @@ returns c =
           let same : key ≡ opened bench judged =
           key_is bench (key_of_token s (hex_value token)) c.args.granted.now.first judged is.grants.0 c.key_in.ensures.is c.key_in.ensures.under in
           shows_or s (bench_of c.token_change-changed.new.lease) (asked Csnbktc (role ∷ c.args.rule.now ∷ token ∷ [])) None (fields s.registers target key) code.Shown c.hex.new.self left refl
-          (change_permitted s c.args.held.now bench target is.loaded (λ new. full (named ∙ new))) refl
-          (refl, record {
-            is = shown ∙ (ap (λ t. written (Hex (codes "token") t ∷ [])) (c.token_change-changed.ensures.token s.registers is.loaded)
-                ∙ (ap (λ (t : Target). written (fields s.registers t (opened bench judged))) named
-                ∙ ap (λ (k : ClearKey). written (fields s.registers target k)) (sym same)));
-            size = short;
-          }))
+          (change_permitted s c.args.held.now bench target is.loaded (λ new. full (named ∙ new))) refl (
+            refl,
+            record {
+              is = shown ∙ (ap (λ t. written (Hex (codes "token") t ∷ [])) (c.token_change-changed.ensures.token s.registers is.loaded)
+                  ∙ (ap (λ (t : Target). written (fields s.registers t (opened bench judged))) named
+                  ∙ ap (λ (k : ClearKey). written (fields s.registers target k)) (sym same)));
+              size = short;
+            },
+          ))
           (λ shaped. short) (λ writes. absurd writes) (λ through. absurd through);
     }

@@ -34,12 +34,12 @@ pub csnbcki-requires-clause-clear : goal.csnbcki-requires-clause-clear
 csnbcki-requires-clause-clear g c = (can_of (ap seen c.in-Csnbcki.is) c.requires.can).passed.accepted.1.0
 
 pub csnbcki-requires-clause-delivers : goal.csnbcki-requires-clause-delivers
-csnbcki-requires-clause-delivers g c = 
+csnbcki-requires-clause-delivers g c =
     let can = can_of (ap seen c.in-Csnbcki.is) c.requires.can in
     can_deliver c.in-Csnbcki.to.now c.args.granted.now.first can (can.passed.master refl) can.passed.shaped.0
 
 pub generate_one-requires : goal.generate_one-requires
-generate_one-requires g c = 
+generate_one-requires g c =
     let can = can_of (ap seen c.in-CsnbkgnOp.is) c.requires.can in
     record { delivers = can_deliver c.in-CsnbkgnOp.to.now c.args.granted.now.first can (can.passed.master refl) can.passed.shaped.0 }
 
@@ -47,7 +47,7 @@ pub generate_pair-requires-clause-form : goal.generate_pair-requires-clause-form
 generate_pair-requires-clause-form g c = (can_of (ap seen c.in-CsnbkgnPair.is) c.requires.can).passed.accepted.1.0
 
 pub generate_pair-requires-clause-delivers : goal.generate_pair-requires-clause-delivers
-generate_pair-requires-clause-delivers g c = 
+generate_pair-requires-clause-delivers g c =
     let can = can_of (ap seen c.in-CsnbkgnPair.is) c.requires.can in
     can_deliver c.in-CsnbkgnPair.to.now c.args.granted.now.second can (can.passed.master refl) can.passed.shaped.1
 
@@ -70,7 +70,7 @@ pub csnbkim-requires-clause-transport : goal.csnbkim-requires-clause-transport
 csnbkim-requires-clause-transport g c = double_key refl ((can_of (ap seen c.in-Csnbkim.is) c.requires.can).passed.shaped.1)
 
 pub csnbkim-requires-clause-delivers : goal.csnbkim-requires-clause-delivers
-csnbkim-requires-clause-delivers g c = 
+csnbkim-requires-clause-delivers g c =
     let can = can_of (ap seen c.in-Csnbkim.is) c.requires.can in
     can_deliver c.in-Csnbkim.to.now c.args.granted.now.third can (can.passed.master refl) can.passed.shaped.2
 
@@ -87,7 +87,7 @@ pub csnbpex-requires-clause-key : goal.csnbpex-requires-clause-key
 csnbpex-requires-clause-key g c = some_key ((can_of (ap seen c.in-Csnbpex.is) c.requires.can).passed.shaped.0)
 
 pub csnbpex-requires-clause-delivers : goal.csnbpex-requires-clause-delivers
-csnbpex-requires-clause-delivers g c = 
+csnbpex-requires-clause-delivers g c =
     let can = can_of (ap seen c.in-Csnbpex.is) c.requires.can in
     can_deliver c.in-Csnbpex.to.now c.args.granted.now.second can (can.passed.master refl) can.passed.shaped.1
 
@@ -104,7 +104,7 @@ pub first-requires-clause-part : goal.first-requires-clause-part
 first-requires-clause-part g c = (can_of (ap seen c.in-CsnbkpiFirst.is) c.requires.can).passed.accepted.1.1.1.0
 
 pub first-requires-clause-delivers : goal.first-requires-clause-delivers
-first-requires-clause-delivers g c = 
+first-requires-clause-delivers g c =
     let can = can_of (ap seen c.in-CsnbkpiFirst.is) c.requires.can in
     can_deliver c.in-CsnbkpiFirst.to.now c.args.granted.now.first can (can.passed.master refl) can.passed.shaped.0
 
@@ -115,7 +115,7 @@ pub further-requires-clause-part : goal.further-requires-clause-part
 further-requires-clause-part g c = (can_of (ap seen c.in-CsnbkpiMiddle.is) c.requires.can).passed.accepted.1.1.1.0
 
 pub further-requires-clause-delivers : goal.further-requires-clause-delivers
-further-requires-clause-delivers g c = 
+further-requires-clause-delivers g c =
     let can = can_of (ap seen c.in-CsnbkpiMiddle.is) c.requires.can in
     can_deliver c.in-CsnbkpiMiddle.to.now c.args.granted.now.second can (can.passed.master refl) can.passed.shaped.1
 
