@@ -1,5 +1,5 @@
 -- The rule of a token that is changed to another master key, by what the memory knows of the new register.
-use Rattle.std.proofs.Common.{◌≡◌, ℕ, List, Some, None, refl, ap, ◌∙◌, not, true, false, [], ◌∷◌, codes}
+use Rattle.std.proofs.Common.{◌≡◌, Some, None, refl, ap, not, [], ◌∷◌, codes}
 use Rattle.std.specs.Prelude.{◌≢◌}
 use Rattle.cca_vectors.specs.Checks.{check}
 use Rattle.key_cells.specs.Bench.{Bench}
