@@ -12,6 +12,26 @@ use Rattle.script_buffers.specs.declared.lines.LineFault.{LineFault}
 use Rattle.script_buffers.specs.declared.lines.LineFault.TheVariants.{ReadFault, InputLimit}
 use Rattle.script_buffers.proofs.LineLemmas.{lines-nil, lines-whole, lines-last}
 
+-- ---- answers
+
+pub ok_not_err : {T : Type 0} (x : T) (fault : LineFault) → ◌≡◌ {A = Result T LineFault} (Ok x) (Err fault) → ⊥
+ok_not_err x fault is = cc is
+
+pub err_not_ok : {T : Type 0} (fault : LineFault) (x : T) → ◌≡◌ {A = Result T LineFault} (Err fault) (Ok x) → ⊥
+err_not_ok fault x is = cc is
+
+pub true_not_false : ◌≡◌ {A = Result Bool LineFault} (Ok true) (Ok false) → ⊥
+true_not_false is = cc is
+
+pub limit_not_fault : {T : Type 0} → ◌≡◌ {A = Result T LineFault} (Err InputLimit) (Err ReadFault) → ⊥
+limit_not_fault is = cc is
+
+pub fault_not_limit : {T : Type 0} → ◌≡◌ {A = Result T LineFault} (Err ReadFault) (Err InputLimit) → ⊥
+fault_not_limit is = cc is
+
+pub err_as : {T U : Type 0} (a b : LineFault) → ◌≡◌ {A = Result T LineFault} (Err a) (Err b) → ◌≡◌ {A = Result U LineFault} (Err a) (Err b)
+err_as a b is = let same : a ≡ b = cc is in ap Err same
+
 -- ---- lines
 
 -- a part that has its newline is the first line

@@ -1,7 +1,9 @@
 -- Each part that moves and each read grow what was gathered.
-use Rattle.std.proofs.Common.{◌≤◌, refl, sym, ap, subst, ◌∙◌, inl, inr}
+use Rattle.std.proofs.Common.{◌≤◌, true, false, refl, sym, ap, subst, ◌∙◌, inl, inr}
 use Rattle.std.proofs.lemmas.Bool.{iff_false}
 use Rattle.device_cells.specs.Faults.{Rose}
+use Rattle.script_buffers.specs.declared.lines.LineFault.TheVariants.{ReadFault, InputLimit}
+use Rattle.script_buffers.proofs.AnswerLemmas.{ok_not_err, err_not_ok, true_not_false, limit_not_fault, fault_not_limit}
 use Rattle.script_buffers.proofs.GatheringLemmas.{same-later, gathering-none, gathering-moved, gathering-cut, gathering-refilled, gathering-failed, not-ready}
 use Rattle.script_buffers.proofs.lines.gather.Goals as goal
 
@@ -93,3 +95,54 @@ returns-in-Err-clause-ready g c = λ ready. absurd (elim c.parts.invariant.2 [
   | inl unread ↦ not-ready c.args.buffer.now _ _ unread.1 c.if-move_part.ensures (sym c.has_ended.ensures ∙ c.if-has_ended.false) (iff_false c.is_full.ensures c.if-is_full.false) ready
   | inr read ↦ read ready
 ])
+
+pub returns-then-move_part-clause-end : goal.returns-then-move_part-clause-end
+returns-then-move_part-clause-end g c h = absurd (true_not_false h)
+
+pub returns-then-move_part-clause-going : goal.returns-then-move_part-clause-going
+returns-then-move_part-clause-going g c = tt
+
+pub returns-then-move_part-clause-full : goal.returns-then-move_part-clause-full
+returns-then-move_part-clause-full g c h = absurd (ok_not_err true InputLimit h)
+
+pub returns-then-move_part-clause-short : goal.returns-then-move_part-clause-short
+returns-then-move_part-clause-short g c h = absurd (ok_not_err true ReadFault h)
+
+pub returns-then-move_part-clause-fault : goal.returns-then-move_part-clause-fault
+returns-then-move_part-clause-fault g c h = absurd (ok_not_err true ReadFault h)
+
+pub returns-then-has_ended-clause-going : goal.returns-then-has_ended-clause-going
+returns-then-has_ended-clause-going g c = tt
+
+pub returns-then-has_ended-clause-full : goal.returns-then-has_ended-clause-full
+returns-then-has_ended-clause-full g c h = absurd (ok_not_err false InputLimit h)
+
+pub returns-then-has_ended-clause-short : goal.returns-then-has_ended-clause-short
+returns-then-has_ended-clause-short g c h = absurd (ok_not_err false ReadFault h)
+
+pub returns-then-has_ended-clause-fault : goal.returns-then-has_ended-clause-fault
+returns-then-has_ended-clause-fault g c h = absurd (ok_not_err false ReadFault h)
+
+pub returns-then-is_full-clause-end : goal.returns-then-is_full-clause-end
+returns-then-is_full-clause-end g c h = absurd (err_not_ok InputLimit false h)
+
+pub returns-then-is_full-clause-full : goal.returns-then-is_full-clause-full
+returns-then-is_full-clause-full g c h = c.is_full.ensures.0 c.if-is_full.true
+
+pub returns-then-is_full-clause-short : goal.returns-then-is_full-clause-short
+returns-then-is_full-clause-short g c h = absurd (limit_not_fault h)
+
+pub returns-then-is_full-clause-fault : goal.returns-then-is_full-clause-fault
+returns-then-is_full-clause-fault g c h = absurd (limit_not_fault h)
+
+pub returns-in-Err-clause-end : goal.returns-in-Err-clause-end
+returns-in-Err-clause-end g c h = absurd (err_not_ok ReadFault false h)
+
+pub returns-in-Err-clause-full : goal.returns-in-Err-clause-full
+returns-in-Err-clause-full g c h = absurd (fault_not_limit h)
+
+pub refill-requires-clause-used : goal.refill-requires-clause-used
+refill-requires-clause-used g c = ap (λ r. r.pending) c.if-move_part.ensures.1
+
+pub refill-requires-clause-going : goal.refill-requires-clause-going
+refill-requires-clause-going g c = sym c.has_ended.ensures ∙ c.if-has_ended.false
