@@ -1,5 +1,5 @@
 """The build, in a small checkout of three crates, under a kit whose prover only notes what it is asked to prove: what is proved, and
-when; and what is kept where a proof fails, the text changes, or the build is stopped."""
+when, in how many processes; and what is kept where a proof fails, the text changes, or the build is stopped."""
 import os
 import shutil
 import signal
@@ -18,11 +18,13 @@ kit=$(cd "$(dirname "$0")/.." && pwd)
 while [ $# -gt 1 ]; do
     case $1 in
         --crate-name) name=$2 ;;
+        --jobs) jobs=$2 ;;
         -o) made=$2 ;;
     esac
     shift
 done
 echo "$name" >>"$kit/proved"
+echo "$jobs" >>"$kit/jobs"
 while [ -e "$kit/hold.$name" ]; do sleep 0.05; done
 if [ -e "$kit/do.$name" ]; then . "$kit/do.$name"; fi
 case $made in
@@ -56,6 +58,9 @@ class Building(unittest.TestCase):
         (self.checkout / "HANDLES").write_text("")
         shutil.copytree(TOP / "tools/build", self.checkout / "tools/build")
         shutil.copy2(TOP / "cca", self.checkout / "cca")
+        # a stub needs no memory, so that the processors alone say how many crates are proved at once
+        prove = self.checkout / "tools/build/prove"
+        prove.write_text(prove.read_text().replace("MEMORY_EACH = 5_000_000_000", "MEMORY_EACH = 1"))
 
     def write(self, name, text):
         root = "main.rt" if name == "cca" else "lib.rt"
@@ -97,6 +102,18 @@ class Building(unittest.TestCase):
         self.assertEqual(self.proved(), ["lists", "keys", "cca"])
         self.assertEqual(self.called("run"), (0, "ran run\n"))
         self.assertEqual(self.proved(), [])
+
+    def test_processors(self):
+        """A crate whose proof nothing else can go beside has all the processors."""
+        processors = sorted(os.sched_getaffinity(0))
+        self.addCleanup(os.sched_setaffinity, 0, processors)
+        for count in range(1, min(len(processors), 3) + 1):
+            with self.subTest(count):
+                self.write("lists", f"for {count}")
+                os.sched_setaffinity(0, processors[:count])
+                self.assertEqual(self.called("run")[0], 0)
+                self.assertEqual((self.kit / "jobs").read_text().split(), 3 * [str(count)])
+                (self.kit / "jobs").unlink()
 
     def test_what_changed_and_what_stands_on_it(self):
         self.called()
