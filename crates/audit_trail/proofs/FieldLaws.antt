@@ -5,11 +5,11 @@ use Rattle.std.proofs.lemmas.List.{length-append, length-replicate, length-drop,
 use Rattle.std.proofs.lemmas.List.Sums.{list_all-from_AllPass, prefix_len-le-length}
 use Rattle.std.specs.List.{list_all, position_or_len}
 use Rattle.std.specs.Prelude.{IsTrue, nat_le, unwrap_or, position, None, Some, ◌==◌, ◌&&◌, if◌then◌else◌}
-use Rattle.byte_lists.specs.Bytes.{IsZero}
-use Rattle.held_names.specs.Characters.{is_letter}
-use Rattle.held_names.specs.Names.{is_label, IsLabel, starts_name, is_name_byte, is_role_name, IsRoleName}
-use Rattle.held_names.proofs.NameLemmas.{label_short, role_short}
-use Rattle.byte_lists.proofs.ByteLemmas.{zeros_of, IsZero-replicate}
+use Rattle.key_cells.specs.Bytes.{IsZero}
+use Rattle.cca_roles.specs.Characters.{is_letter}
+use Rattle.cca_roles.specs.Names.{is_label, IsLabel, starts_name, is_name_byte, is_role_name, IsRoleName}
+use Rattle.cca_roles.specs.NameLaws.{label_short, role_short}
+use Rattle.key_cells.proofs.ByteLemmas.{zeros_of, IsZero-replicate}
 use Rattle.audit_trail.specs.Entries.{filled, IsVerb, HoldsText, HoldsLabel, IsEntry}
 use Rattle.audit_trail.specs.declared.entries.Entry.{Entry}
 

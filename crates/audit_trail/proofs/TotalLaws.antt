@@ -7,9 +7,9 @@ use Rattle.std.proofs.lemmas.List.Sums.{AllPass-from_list_all}
 use Rattle.std.proofs.lemmas.Bool.{cases_eq, cases_lt}
 use Rattle.std.proofs.lemmas.Slice.Eq.{bytes_eq-Decides}
 use Rattle.device_cells.specs.Cells.{body}
-use Rattle.byte_lists.specs.Bytes.{IsZero}
-use Rattle.held_names.specs.Characters.{is_letter}
-use Rattle.held_names.specs.Names.{is_label, is_role_name, is_name_byte, IsLabel, IsRoleName}
+use Rattle.key_cells.specs.Bytes.{IsZero}
+use Rattle.cca_roles.specs.Characters.{is_letter}
+use Rattle.cca_roles.specs.Names.{is_label, is_role_name, is_name_byte, IsLabel, IsRoleName}
 use Rattle.audit_trail.specs.Entries.{IsEntry, IsVerb, HoldsText, HoldsLabel}
 use Rattle.audit_trail.specs.Opening.{CellReads, Scanned, Checked, newest_number, greater}
 use Rattle.audit_trail.specs.Reading.{record_in}
@@ -17,7 +17,7 @@ use Rattle.audit_trail.specs.RecordBody.{record_body, blank_body, Spells}
 use Rattle.audit_trail.specs.TrailStands.{StandsForTrail, IsStray, IsFirstDamaged}
 use Rattle.audit_trail.specs.declared.entries.Entry.{Entry}
 use Rattle.audit_trail.specs.declared.bodies.Record.{Record}
-use Rattle.held_names.proofs.NameLemmas.{label_short, role_short}
+use Rattle.cca_roles.specs.NameLaws.{label_short, role_short}
 use Rattle.audit_trail.proofs.FieldLaws.{role_bytes, verb_letters, label_some, long_field, long_label, filled_from, within_field, text_in, label_in}
 use Rattle.audit_trail.proofs.BodyLaws.{spelled_in}
 use Rattle.audit_trail.proofs.OpeningLaws.{scanned_none, scanned_more, stray_first, stray_here, checked_none, checked_more, stale_first, stands_blank, stands_checked}

@@ -1,8 +1,8 @@
 -- What a record says of a line.
 use Rattle.std.specs.Prelude.{◌≡◌, ◌⊎◌, ℕ, ◌-◌, ◌<◌, ◌≤◌, List, [], ◌++◌, length, replicate, get_or}
 use Rattle.std.specs.List.{AllPass}
-use Rattle.held_names.specs.Characters.{is_letter}
-use Rattle.held_names.specs.Names.{IsLabel, IsRoleName}
+use Rattle.cca_roles.specs.Characters.{is_letter}
+use Rattle.cca_roles.specs.Names.{IsLabel, IsRoleName}
 use Rattle.audit_trail.specs.declared.entries.Entry.{Entry}
 
 -- a text filled with zeros to this length

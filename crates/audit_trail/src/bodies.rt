@@ -7,7 +7,7 @@ ghost use Rattle.audit_trail.specs.declared.entries.Entry.{Entry as AnyEntry};
 
 use crate::entries::Entry;
 use crate::trail::NUMBERS;
-use byte_lists::is_zero;
+use key_cells::is_zero;
 
 /// What byte 0 of a record is.
 const VERSION: u8 = 1;

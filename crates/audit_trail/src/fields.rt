@@ -1,12 +1,12 @@
 //! The fields of an entry: texts filled with zeros.
 ghost use Rattle.std.specs.Prelude.{◌↔◌, ◌≡◌, ◌≤◌, ◌==◌, length, position, IsTrue};
 ghost use Rattle.std.specs.List.{list_all, position_or_len};
-ghost use Rattle.held_names.specs.Characters.{is_letter};
-ghost use Rattle.held_names.specs.Names.{IsRoleName};
+ghost use Rattle.cca_roles.specs.Characters.{is_letter};
+ghost use Rattle.cca_roles.specs.Names.{IsRoleName};
 ghost use Rattle.audit_trail.specs.Entries.{IsVerb, HoldsText, HoldsLabel};
 
-use byte_lists::is_zero;
-use held_names::{is_label, is_letter, is_role_name};
+use cca_roles::{is_label, is_letter, is_role_name};
+use key_cells::is_zero;
 
 /// Where the first zero stands.
 fn first_zero(field: &[u8]) -> Option<usize>

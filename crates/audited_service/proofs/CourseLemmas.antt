@@ -4,8 +4,8 @@ use Rattle.std.specs.Prelude.{◌⊎◌, OnErr, IfErr, IfOk, IsOk, IsSome}
 use Rattle.device_cells.specs.Medium.{Medium, EachImage, IsSettled, Told}
 use Rattle.device_cells.specs.WhereTold.{WhereTold}
 use Rattle.device_cells.proofs.WhereToldLemmas.{told_weaker}
-use Rattle.script_buffers.specs.Lines.{lines}
-use Rattle.script_buffers.specs.Reading.{Reading}
+use Rattle.line_service.specs.Lines.{lines}
+use Rattle.line_service.specs.Reading.{Reading}
 use Rattle.audit_trail.specs.TrailStands.{IsTrail}
 use Rattle.audit_trail.specs.declared.entries.Entry.{Entry}
 use Rattle.audit_trail.specs.declared.faults.TrailFault.{TrailFault}

@@ -5,8 +5,8 @@ use Rattle.std.proofs.lemmas.List.{append-nil}
 use Rattle.device_cells.specs.Medium.{Medium, Keeps}
 use Rattle.device_cells.specs.WhereTold.{WhereTold}
 use Rattle.device_cells.proofs.WhereToldLemmas.{told_weaker}
-use Rattle.script_buffers.specs.Lines.{lines}
-use Rattle.script_buffers.specs.Reading.{input_limit}
+use Rattle.line_service.specs.Lines.{lines}
+use Rattle.line_service.specs.Reading.{input_limit}
 use Rattle.audit_trail.specs.declared.entries.Entry.{Entry}
 use Rattle.audit_trail.specs.declared.faults.TrailFault.{TrailFault}
 use Rattle.audit_trail.specs.declared.faults.TrailFault.TheVariants as trail_fault

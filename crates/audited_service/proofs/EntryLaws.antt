@@ -3,8 +3,8 @@ use Rattle.std.proofs.Common.{◌≡◌, ◌∙◌, ℕ, ◌<◌, inl, inr, true
 use Rattle.std.specs.Prelude.{◌⊎◌, unwrap_or}
 use Rattle.std.specs.List.{list_all}
 use Rattle.std.proofs.lemmas.List.Sums.{AllPass-from_list_all}
-use Rattle.held_names.specs.Characters.{is_letter}
-use Rattle.held_names.specs.Names.{IsLabel, IsRoleName}
+use Rattle.cca_roles.specs.Characters.{is_letter}
+use Rattle.cca_roles.specs.Names.{IsLabel, IsRoleName}
 use Rattle.verb_script.specs.Grammar.{Request, row_of, value_of}
 use Rattle.verb_script.specs.Parts.{first_label}
 use Rattle.audit_trail.specs.Entries.{IsEntry, IsVerb, filled}

@@ -5,8 +5,8 @@ use Rattle.device_cells.specs.Medium.{Medium, Told, Keeps}
 use Rattle.device_cells.specs.WhereTold.{WhereTold}
 use Rattle.device_cells.proofs.WhereToldLemmas.{told_weaker}
 use Rattle.device_cells.proofs.Media.{told_from, told_at}
-use Rattle.script_buffers.specs.Lines.{lines}
-use Rattle.script_buffers.specs.Reading.{Reading, input_limit}
+use Rattle.line_service.specs.Lines.{lines}
+use Rattle.line_service.specs.Reading.{Reading, input_limit}
 use Rattle.audit_trail.specs.TrailStands.{IsTrail, StandsForTrail, IsFirstDamaged}
 use Rattle.audit_trail.proofs.OpeningLaws.{trail_undamaged}
 use Rattle.audit_trail.specs.declared.entries.Entry.{Entry}

@@ -4,12 +4,12 @@ use Rattle.std.specs.Prelude.{◌↔◌, IsTrue, IfOk, OnErr, OnOk}
 use Rattle.std.specs.Io.KnownBytes.{IsAtEnd}
 use Rattle.device_cells.specs.Medium.{Medium, IsSettled}
 use Rattle.device_cells.specs.WhereTold.{WhereTold}
-use Rattle.script_buffers.specs.Lines.{NoNewline}
-use Rattle.script_buffers.specs.Reading.{Reading, blank, input_limit, given, LosesPart, Takes, Shows, Advances}
-use Rattle.script_buffers.specs.declared.lines.LineFault.{LineFault}
-use Rattle.script_buffers.specs.declared.lines.LineFault.TheVariants as line_fault
-use Rattle.script_buffers.specs.declared.lines.Taken.{Taken}
-use Rattle.script_buffers.specs.declared.lines.Taken.TheVariants.{End}
+use Rattle.line_service.specs.Lines.{NoNewline}
+use Rattle.line_service.specs.Reading.{Reading, blank, input_limit, given, LosesPart, Takes, Shows, Advances}
+use Rattle.line_service.specs.declared.lines.LineFault.{LineFault}
+use Rattle.line_service.specs.declared.lines.LineFault.TheVariants as line_fault
+use Rattle.line_service.specs.declared.lines.Taken.{Taken}
+use Rattle.line_service.specs.declared.lines.Taken.TheVariants.{End}
 use Rattle.audit_trail.specs.declared.entries.Entry.{Entry}
 use Rattle.audit_trail.specs.declared.faults.TrailFault.{TrailFault}
 use Rattle.line_service.specs.Machine.{Machine}

@@ -4,7 +4,7 @@ use Rattle.std.proofs.Common.{◌≡◌, ◌^◌, ℕ, List, Option, Result, Ok,
 use Rattle.std.specs.Prelude.{OnErr, IfErr, IsOk}
 use Rattle.device_cells.specs.Medium.{Medium, IsSettled, Told}
 use Rattle.device_cells.specs.WhereTold.{WhereTold}
-use Rattle.script_buffers.specs.Reading.{Reading, blank}
+use Rattle.line_service.specs.Reading.{Reading, blank}
 use Rattle.audit_trail.specs.TrailStands.{StandsForTrail}
 use Rattle.audit_trail.specs.declared.entries.Entry.{Entry}
 use Rattle.audit_trail.specs.declared.faults.TrailFault.{TrailFault}

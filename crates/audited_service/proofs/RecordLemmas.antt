@@ -5,9 +5,9 @@ use Rattle.device_cells.specs.Medium.{Medium, EachImage, IsSettled, Told, From}
 use Rattle.device_cells.specs.WhereTold.{WhereTold}
 use Rattle.device_cells.proofs.Media.{each_weaker, each_still, image_now, settled_image, told_at}
 use Rattle.device_cells.proofs.WhereToldLemmas.{told_weaker}
-use Rattle.script_buffers.specs.Reading.{Reading, TakesLine, Takes}
-use Rattle.script_buffers.specs.declared.lines.Taken.{Taken}
-use Rattle.script_buffers.specs.declared.lines.Taken.TheVariants.{End}
+use Rattle.line_service.specs.Reading.{Reading, TakesLine, Takes}
+use Rattle.line_service.specs.declared.lines.Taken.{Taken}
+use Rattle.line_service.specs.declared.lines.Taken.TheVariants.{End}
 use Rattle.audit_trail.specs.Changes.{Appending, AppendsEntry}
 use Rattle.audit_trail.specs.TrailStands.{IsTrail}
 use Rattle.audit_trail.specs.declared.entries.Entry.{Entry}

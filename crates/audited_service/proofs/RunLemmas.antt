@@ -7,7 +7,7 @@ use Rattle.device_cells.specs.Medium.{Medium, EachImage, IsSettled, Told}
 use Rattle.device_cells.specs.WhereTold.{WhereTold}
 use Rattle.device_cells.proofs.Media.{goes_on, each_weaker}
 use Rattle.device_cells.proofs.WhereToldLemmas.{told_then, told_same, told_both, told_weaker}
-use Rattle.script_buffers.specs.Reading.{Reading, LosesPart}
+use Rattle.line_service.specs.Reading.{Reading, LosesPart}
 use Rattle.audit_trail.specs.TrailStands.{IsTrail}
 use Rattle.audit_trail.specs.declared.entries.Entry.{Entry}
 use Rattle.audit_trail.specs.declared.faults.TrailFault.{TrailFault}

@@ -5,9 +5,9 @@ use Rattle.device_cells.specs.Faults.{Rose}
 use Rattle.device_cells.specs.Medium.{Medium, IsSettled, Told}
 use Rattle.device_cells.specs.WhereTold.{WhereTold}
 use Rattle.device_cells.proofs.WhereToldLemmas.{told_weaker}
-use Rattle.script_buffers.specs.Reading.{Reading, Takes}
-use Rattle.script_buffers.specs.declared.lines.Taken.{Taken}
-use Rattle.script_buffers.specs.declared.lines.Taken.TheVariants.{End}
+use Rattle.line_service.specs.Reading.{Reading, Takes}
+use Rattle.line_service.specs.declared.lines.Taken.{Taken}
+use Rattle.line_service.specs.declared.lines.Taken.TheVariants.{End}
 use Rattle.audit_trail.specs.Changes.{AppendsEntry, TrailLeft}
 use Rattle.audit_trail.proofs.MediumLaws.{same_fault}
 use Rattle.audit_trail.specs.TrailStands.{IsTrail}

@@ -3,8 +3,8 @@ use Rattle.std.specs.Prelude.{◌≡◌, ◌+◌, ◌^◌, ◌<◌, ◌≤◌, �
 use Rattle.device_cells.specs.Faults.{Rose}
 use Rattle.device_cells.specs.Medium.{Medium, Told, Becomes}
 use Rattle.device_cells.specs.WhereTold.{WhereTold}
-use Rattle.script_buffers.specs.Lines.{lines}
-use Rattle.script_buffers.specs.Reading.{input_limit}
+use Rattle.line_service.specs.Lines.{lines}
+use Rattle.line_service.specs.Reading.{input_limit}
 use Rattle.audit_trail.specs.Changes.{TrailLeft}
 use Rattle.audit_trail.specs.TrailStands.{IsTrail, IsFirstDamaged}
 use Rattle.audit_trail.specs.declared.entries.Entry.{Entry}

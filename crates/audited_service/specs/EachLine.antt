@@ -4,8 +4,8 @@ use Rattle.std.specs.Prelude.{⊤, ◌≡◌, ◌⊎◌, ◌+◌, ◌^◌, ◌<�
 use Rattle.std.specs.Io.KnownBytes.{Consumes}
 use Rattle.device_cells.specs.Medium.{Medium, Told, IsSettled, Becomes, EachImage}
 use Rattle.device_cells.specs.WhereTold.{WhereTold}
-use Rattle.script_buffers.specs.Lines.{lines}
-use Rattle.script_buffers.specs.Reading.{TakesLine, Reading}
+use Rattle.line_service.specs.Lines.{lines}
+use Rattle.line_service.specs.Reading.{TakesLine, Reading}
 use Rattle.audit_trail.specs.Changes.{AppendsEntry, TrailLeft}
 use Rattle.audit_trail.specs.TrailStands.{IsTrail}
 use Rattle.audit_trail.specs.declared.entries.Entry.{Entry}

@@ -1,8 +1,8 @@
 -- The entry of a line and its reply.
 use Rattle.std.specs.Prelude.{ℕ, ◌+◌, ◌-◌, ◌*◌, nat_le, nat_eq, List, [], length, replicate, slice_index, codes, unwrap_or, Option, None, Some, if◌then◌else◌}
 use Rattle.std.specs.List.{starts_with}
-use Rattle.held_names.specs.Characters.{is_digit}
-use Rattle.script_buffers.specs.Reading.{line_limit}
+use Rattle.cca_roles.specs.Characters.{is_digit}
+use Rattle.line_service.specs.Reading.{line_limit}
 use Rattle.verb_script.specs.Grammar.{Request, row_of, value_of}
 use Rattle.verb_script.specs.Parts.{first_label}
 use Rattle.verb_script.specs.Requests.{request_of}

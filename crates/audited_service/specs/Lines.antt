@@ -1,8 +1,8 @@
 -- The lines of a listing.
 use Rattle.std.specs.Prelude.{◌==◌, ◌+◌, ◌-◌, ◌++◌, ◌∷◌, [], ℕ, List, length, codes, decimal}
 use Rattle.std.specs.List.{before_first, flat_map, range_with_len}
-use Rattle.script_buffers.specs.Lines.{newline}
-use Rattle.script_buffers.specs.Replies.{two_digits}
+use Rattle.line_service.specs.Lines.{newline}
+use Rattle.line_service.specs.Replies.{two_digits}
 use Rattle.audit_trail.specs.Entries.{entry_at}
 use Rattle.audit_trail.specs.declared.entries.Entry.{Entry}
 

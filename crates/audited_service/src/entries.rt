@@ -1,14 +1,14 @@
 //! The entry of a line and its reply.
 ghost use Rattle.std.specs.Prelude.{◌≡◌, ◌≤◌, ◌<◌, ◌∷◌, ℕ, List, [], length, replicate, codes, slice_index, nat_eq, Some, None, IsTrue};
 ghost use Rattle.std.specs.List.{starts_with};
-ghost use Rattle.script_buffers.specs.Reading.{line_limit};
+ghost use Rattle.line_service.specs.Reading.{line_limit};
 ghost use Rattle.verb_script.specs.Parsed.{seen};
 ghost use Rattle.audit_trail.specs.Entries.{IsEntry, filled};
 ghost use Rattle.audited_service.specs.LineEntries.{digit, rule_in, entry_with, entry_of};
 
 use audit_trail::Entry;
-use byte_lists::put_front;
-use held_names::is_digit;
+use key_cells::put_front;
+use cca_roles::is_digit;
 use verb_script::{Request, parse_request};
 
 /// The entry of a line that is no longer than a line may be, and of its reply.

@@ -1,11 +1,11 @@
 //! The line of a record.
 ghost use Rattle.std.specs.Prelude.{◌≡◌, ◌+◌, ◌≤◌, ◌==◌, ◌++◌, [], length, position, IfSome};
-ghost use Rattle.script_buffers.specs.Replies.{reply_limit};
+ghost use Rattle.line_service.specs.Replies.{reply_limit};
 ghost use Rattle.audited_service.specs.Lines.{text_of, word, record_line};
 
 use audit_trail::Entry;
 use itoa::Buffer;
-use script_buffers::ReplyBuffer;
+use line_service::ReplyBuffer;
 
 /// Writes the line of a record.
 #[tactic(auto, unfolding(crate::specs::Lines::record_line))]

@@ -17,8 +17,7 @@ ghost use Rattle.audited_service.specs.Sending.{SendsLine, SendsSome, IsFault};
 use crate::lines::write_line;
 use audit_trail::{CELLS, Entry, Trail, TrailFault, open_trail};
 use device_cells::{Disk, Failed, Sink};
-use line_service::send;
-use script_buffers::ReplyBuffer;
+use line_service::{ReplyBuffer, send};
 use thiserror::Error;
 
 // How many records a trail holds.

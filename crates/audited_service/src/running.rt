@@ -2,7 +2,7 @@
 ghost use Rattle.std.specs.Prelude.{◌≡◌};
 ghost use Rattle.key_cells.specs.Bench.{blank_bench};
 ghost use Rattle.device_cells.specs.Medium.{Told, Keeps};
-ghost use Rattle.script_buffers.specs.Reading.{blank};
+ghost use Rattle.line_service.specs.Reading.{blank};
 ghost use Rattle.audit_trail.specs.TrailStands.{trail_size, StandsForTrail};
 ghost use Rattle.line_service.specs.Answering.{IsSound};
 ghost use Rattle.line_service.specs.Devices.{AreSettled, HaveSizes};
@@ -16,8 +16,7 @@ use crate::scribe::Scribe;
 use audit_trail::{Trail, TrailFault, open_trail};
 use device_cells::{Disk, Entropy, Sink, Source};
 use key_cells::Workbench;
-use line_service::{Desk, Served, Shown, ShownOutside, Stop};
-use script_buffers::{LineBuffer, ReplyBuffer};
+use line_service::{Desk, LineBuffer, ReplyBuffer, Served, Shown, ShownOutside, Stop};
 
 // Serves line after line, each recorded, to the end of the input.
 fn audit_all<A: Desk, W: Scribe, S: Source, K: Sink, M: Disk, D: Disk, E: Entropy, T: Disk>(

@@ -4,7 +4,7 @@ use Rattle.device_cells.specs.Cells.{other_body}
 use Rattle.device_cells.specs.Medium.{Medium, Told, Becomes, Keeps}
 use Rattle.device_cells.specs.SpareBytes.{SameCell}
 use Rattle.device_cells.proofs.Media.{becomes_weaker}
-use Rattle.script_buffers.specs.Lines.{lines}
+use Rattle.line_service.specs.Lines.{lines}
 use Rattle.audited_service.specs.LineEntries.{entry_of}
 use Rattle.audit_trail.specs.declared.entries.Entry.{Entry}
 use Rattle.audit_trail.specs.declared.faults.TrailFault.{TrailFault}

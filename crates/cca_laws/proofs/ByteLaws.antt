@@ -14,8 +14,8 @@ use Rattle.hex.specs.Hex.{decode_of}
 use Rattle.hex.specs.declared.error.FromHexError.{FromHexError}
 use Rattle.hex.proofs.HexLemmas.{decode_of-ok}
 use Rattle.sha1.specs.Sha1.{digest_bytes, hash_after, padded_message, sha1}
-use Rattle.byte_lists.specs.Bytes.{is_zero, xor}
-use Rattle.byte_lists.proofs.ByteLemmas.{are_bytes}
+use Rattle.key_cells.specs.Bytes.{is_zero, xor}
+use Rattle.key_cells.proofs.ByteLemmas.{are_bytes}
 use Rattle.cca_vectors.specs.Bits.{even_byte}
 use Rattle.cca_vectors.specs.Closing.{closed_byte, closed_half, closed_to_export, closed_zero}
 use Rattle.cca_vectors.specs.DefaultVectors.{default_for, default_vector}

@@ -6,7 +6,7 @@ use Rattle.master_registers.specs.Actions.{after_action, has_wrong_state, repeat
 use Rattle.master_registers.specs.Masters.{Masters, NewRegister, Empty, is_full, is_partial}
 use Rattle.master_registers.specs.declared.actions.Action.{Action}
 use Rattle.master_registers.specs.declared.actions.Action.TheVariants.{First, Middle, Last, Clear, Set}
-use Rattle.script_buffers.specs.Replies.{Field}
+use Rattle.line_service.specs.Replies.{Field}
 use Rattle.verb_script.specs.Grammar.{Request, value_of}
 use Rattle.verb_script.specs.declared.rows.RequestName.{RequestName}
 use Rattle.verb_script.specs.declared.rows.RequestName.TheVariants.{Csnbcki, CsnbkgnOp, CsnbkgnPair, Csnbkim, Csnbpex, CsnbkpiFirst, CsnbkpiMiddle, CsnbmkpPart, CsnbmkpClear, CsnbmkpSet}

@@ -6,8 +6,8 @@ use Rattle.std.specs.List.{list_all}
 use Rattle.std.proofs.lemmas.List.Folds.{list_all-append}
 use Rattle.std.proofs.lemmas.List.Sums.{AllPass-from_list_all}
 use Rattle.hex.specs.Hex.{encode_with, lower_digits}
-use Rattle.script_buffers.specs.Lines.{newline, NoNewline}
-use Rattle.script_buffers.specs.Replies.{Field, Hex, Text, Number, Reply, Refused, Done, field_name, field_text, fields_text, hex_field, number_field, ok_text, refusal, spelled, text_field, two_digits, written}
+use Rattle.line_service.specs.Lines.{newline, NoNewline}
+use Rattle.line_service.specs.Replies.{Field, Hex, Text, Number, Reply, Refused, Done, field_name, field_text, fields_text, hex_field, number_field, ok_text, refusal, spelled, text_field, two_digits, written}
 use Rattle.cca_laws.specs.ReplyLines.{IsOneLine}
 
 -- ---- tests

@@ -5,7 +5,7 @@ use Rattle.std.specs.Str.{bytes_eq}
 use Rattle.cca_vectors.specs.Checks.{first_failing}
 use Rattle.key_tokens.specs.Denotes.{ClearKey}
 use Rattle.key_transport.specs.Tokens.{as_current}
-use Rattle.script_buffers.specs.Replies.{Done, Field}
+use Rattle.line_service.specs.Replies.{Done, Field}
 use Rattle.verb_rules.specs.Keys.{keys_of, token_for}
 use Rattle.verb_script.specs.Grammar.{Request}
 use Rattle.cca_machine.specs.Act.{Effect, delivered_with, effect, effected, fields_after, or_act, performed, state_after, written_in}

@@ -1,8 +1,8 @@
 -- What the requests that go through every label make of one: AHEAD and DROP, SET, and REENCIPHER without an action.
 use Rattle.std.proofs.Common.{◌≡◌, ◌⊎◌, inl, inr, ℕ, Bool, true, false, List, [], ◌∷◌, map, Option, None, Some, refl, sym, ap, subst, ◌∙◌, arith}
 use Rattle.std.specs.Prelude.{if◌then◌else◌}
-use Rattle.held_names.specs.Directory.{has_name}
-use Rattle.held_names.proofs.DirectoryLaws.{has_name_is, none_some}
+use Rattle.cca_roles.specs.Directory.{has_name}
+use Rattle.cca_roles.proofs.DirectoryLaws.{has_name_is, none_some}
 use Rattle.record_bodies.specs.Ages.{has_old_key, is_ahead_entry, is_old as is_old_age}
 use Rattle.record_bodies.specs.Entries.{Entry, entry, entry_label}
 use Rattle.record_bodies.specs.Turning.{aged, aged_entry, aged_key}

@@ -1,12 +1,12 @@
 -- What each effect of a permitted request may do to labels.
 use Rattle.std.proofs.Common.{◌≡◌, ◌≢◌, ◌⊎◌, inl, inr, ℕ, Bool, true, false, cond, not, List, Option, None, Some, refl, ap, codes}
 use Rattle.std.specs.Prelude.{⊤, is_some}
-use Rattle.held_names.proofs.DirectoryLaws.{none_of}
+use Rattle.cca_roles.proofs.DirectoryLaws.{none_of}
 use Rattle.record_bodies.specs.Entries.{Entry}
 use Rattle.record_bodies.specs.Labels.{IsLabel, is_label}
 use Rattle.record_bodies.specs.Turning.{aged}
 use Rattle.key_tokens.specs.Denotes.{Denoted}
-use Rattle.script_buffers.specs.Replies.{Field}
+use Rattle.line_service.specs.Replies.{Field}
 use Rattle.verb_script.specs.Grammar.{Request, value_of}
 use Rattle.verb_script.specs.declared.rows.RequestName.{RequestName}
 use Rattle.verb_script.specs.declared.rows.RequestName.TheVariants.{Csnbcki, CsnbkgnOp, CsnbkgnPair, Csnbkim, Csnbpex, CsnbkpiFirst, CsnbkpiMiddle, Csnbkrc, Csnbkrw, Csnbkrd, CsnbmkpPart, CsnbmkpClear, CsnbmkpSet}

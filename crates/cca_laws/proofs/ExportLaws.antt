@@ -26,7 +26,7 @@ use Rattle.key_transport.specs.declared.changing.Target.TheVariants.{Current as 
 use Rattle.master_registers.specs.Loaded.{registers_of}
 use Rattle.master_registers.specs.Masters.{Empty, Full, Masters, NewRegister, Partial, is_full}
 use Rattle.multi_encipher.specs.Bundles.{transport_bundle}
-use Rattle.script_buffers.specs.Replies.{Field, Hex}
+use Rattle.line_service.specs.Replies.{Field, Hex}
 use Rattle.verb_rules.specs.KeyChecks.{read_checks}
 use Rattle.verb_rules.specs.Keys.{keys_of, master_key, master_under, sealed_token, token_for}
 use Rattle.verb_script.specs.Grammar.{Request, value_of}

@@ -18,7 +18,7 @@ use Rattle.key_transport.specs.Generated.{HasKeyLength, generated_key, generated
 use Rattle.key_transport.specs.Tokens.{as_current, external_token}
 use Rattle.key_transport.specs.UniqueHalves.{key_drawn, key_taken, repeats}
 use Rattle.key_transport.proofs.GeneratedLemmas.{length-generated_vector}
-use Rattle.script_buffers.specs.Replies.{Done, Field, Hex}
+use Rattle.line_service.specs.Replies.{Done, Field, Hex}
 use Rattle.verb_script.specs.Grammar.{AreValues, FieldForm, IsValue, Request, Values, row_of, type_text, value_among, value_of}
 use Rattle.verb_script.specs.declared.rows.RequestName.{RequestName}
 use Rattle.verb_script.specs.declared.rows.RequestName.TheVariants.{CsnbkgnOp, CsnbkgnPair, CsnbkgnOut}

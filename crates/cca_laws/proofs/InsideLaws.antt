@@ -23,7 +23,7 @@ use Rattle.master_registers.specs.Loaded.{registers_of}
 use Rattle.master_registers.specs.Masters.{Masters, is_empty, is_full, is_partial}
 use Rattle.master_registers.specs.declared.actions.Action.{Action}
 use Rattle.master_registers.specs.declared.registers.Registers.{Registers}
-use Rattle.script_buffers.specs.Replies.{Done, Field, Hex, Text}
+use Rattle.line_service.specs.Replies.{Done, Field, Hex, Text}
 use Rattle.text_segments.specs.Chains.{first_chain}
 use Rattle.text_segments.specs.declared.modes.Mode.TheVariants as mode
 use Rattle.verb_rules.specs.KeyChecks.{is_under_none, key_checks, part_check, read_checks, vector_use_checks}

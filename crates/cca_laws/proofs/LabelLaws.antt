@@ -1,7 +1,7 @@
 -- What a request leaves of the labels that it isn't given.
 use Rattle.std.proofs.Common.{◌≡◌, ◌≢◌, ℕ, Bool, true, false, List, [], ◌∷◌, Option, None, Some, ⊎_elim, refl, sym, ap, subst, ◌∙◌, codes, ◌||◌, IsSome, true≢false}
 use Rattle.std.specs.Prelude.{⊤, if◌then◌else◌}
-use Rattle.held_names.specs.Directory.{has_name}
+use Rattle.cca_roles.specs.Directory.{has_name}
 use Rattle.record_bodies.specs.Ages.{any_old, has_old_key, is_old, is_old_entry}
 use Rattle.record_bodies.specs.Directory.{cell_of, free_cell}
 use Rattle.record_bodies.specs.LabelChanges.{null_entry, with_what}
@@ -10,7 +10,7 @@ use Rattle.record_bodies.specs.StoreStands.{entry_at}
 use Rattle.record_bodies.specs.Turning.{aged}
 use Rattle.key_tokens.specs.Denotes.{ClearKey, Denoted}
 use Rattle.key_tokens.specs.declared.key_token.Age.TheVariants.{Old}
-use Rattle.script_buffers.specs.Replies.{Field}
+use Rattle.line_service.specs.Replies.{Field}
 use Rattle.verb_script.specs.Grammar.{Request, value_of}
 use Rattle.verb_script.specs.declared.rows.RequestName.{RequestName}
 use Rattle.verb_script.specs.declared.rows.RequestName.TheVariants.{Csnbcki, CsnbkgnOp, CsnbkgnPair, Csnbkim, Csnbpex, CsnbkpiFirst, CsnbkpiMiddle, Csnbkrc, CsnbmkpPart, CsnbmkpClear, CsnbmkpSet, Reencipher, ReencipherAhead, ReencipherDrop}

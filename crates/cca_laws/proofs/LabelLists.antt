@@ -1,8 +1,8 @@
 -- What a label finds in a list of places, before a change and after it.
 use Rattle.std.proofs.Common.{◌≡◌, ◌≢◌, ℕ, zero, suc, ◌+◌, Bool, true, false, List, [], ◌∷◌, set, Option, None, Some, refl, sym, ap, subst, ◌∙◌, add-one, option_map, true≢false, arith}
 use Rattle.std.specs.Prelude.{⊤, if◌then◌else◌}
-use Rattle.held_names.specs.Directory.{has_name, name_at, place_from, place_of, free_from, free_place}
-use Rattle.held_names.proofs.DirectoryLaws.{has_name_is, held_at}
+use Rattle.cca_roles.specs.Directory.{has_name, name_at, place_from, place_of, free_from, free_place}
+use Rattle.cca_roles.proofs.DirectoryLaws.{has_name_is, held_at}
 use Rattle.record_bodies.specs.LabelChanges.{with_what}
 use Rattle.record_bodies.specs.Entries.{Entry, directory, entry_label}
 use Rattle.record_bodies.specs.StoreStands.{entry_at}

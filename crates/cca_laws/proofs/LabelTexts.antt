@@ -4,8 +4,8 @@ use Rattle.std.specs.Prelude.{nat_le, not, ◌&&◌}
 use Rattle.std.specs.List.{list_all}
 use Rattle.std.proofs.lemmas.Bool.{and_parts, ne_eqb}
 use Rattle.std.proofs.lemmas.Bool.Decides.{nat_tests}
-use Rattle.held_names.specs.Characters.{is_label_byte}
-use Rattle.held_names.specs.Names.{IsLabel, is_label, starts_label}
+use Rattle.cca_roles.specs.Characters.{is_label_byte}
+use Rattle.cca_roles.specs.Names.{IsLabel, is_label, starts_label}
 use Rattle.verb_script.specs.Named.{is_label_text, is_visible}
 
 seen_byte : (c : ℕ) → is_label_byte c ≡ true → is_visible c ≡ true

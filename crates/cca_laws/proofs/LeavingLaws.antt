@@ -30,7 +30,7 @@ use Rattle.mac_verbs.specs.Codes.{code_of}
 use Rattle.master_registers.specs.Loaded.{registers_of}
 use Rattle.master_registers.specs.Masters.{Empty, Full, Masters, NewRegister, Partial, is_full, state_of}
 use Rattle.master_registers.specs.Actions.{after_action}
-use Rattle.script_buffers.specs.Replies.{Field, Hex, Text}
+use Rattle.line_service.specs.Replies.{Field, Hex, Text}
 use Rattle.text_segments.specs.Chains.{chain_bytes, first_chain}
 use Rattle.text_segments.specs.Segments.{chain_after, last_code, last_text, segment_text}
 use Rattle.text_segments.specs.declared.chains.Chain.{Chain}

@@ -8,7 +8,7 @@ use Rattle.std.proofs.lemmas.List.{length-replicate}
 use Rattle.hex.specs.Hex.{decode_of}
 use Rattle.hex.specs.declared.error.FromHexError.{FromHexError}
 use Rattle.hex.proofs.HexLemmas.{decode_of-ok}
-use Rattle.byte_lists.specs.Bytes.{is_zero, xor}
+use Rattle.key_cells.specs.Bytes.{is_zero, xor}
 use Rattle.cca_vectors.specs.Closing.{closed_half, closed_to_export, closed_zero}
 use Rattle.cca_vectors.specs.DefaultVectors.{default_for}
 use Rattle.cca_vectors.specs.PartVectors.{as_part, part_half, with_bit_changed}
@@ -37,7 +37,7 @@ use Rattle.key_transport.specs.Generated.{generated_vector}
 use Rattle.key_transport.specs.Tokens.{as_current, changed_token, external_token, full_bytes, new_token}
 use Rattle.key_transport.specs.declared.changing.Target.{Target}
 use Rattle.key_transport.specs.declared.changing.Target.TheVariants.{Current, New}
-use Rattle.script_buffers.proofs.PartLemmas.{length-slice_range_le}
+use Rattle.line_service.proofs.PartLemmas.{length-slice_range_le}
 use Rattle.cipher_verbs.specs.CipherTexts.{deciphered_text, enciphered_text}
 use Rattle.cipher_verbs.specs.declared.padding.Pad.{Pad}
 use Rattle.cipher_verbs.specs.declared.padding.Pad.TheVariants as padding

@@ -6,7 +6,7 @@ use Rattle.std.proofs.lemmas.Bool.{and_parts}
 use Rattle.std.proofs.lemmas.Bool.Decides.{Decides-eqb}
 use Rattle.std.proofs.lemmas.List.Elements.{All-cons, All-head, All-nil, All-push, All-tail}
 use Rattle.hex.specs.Hex.{is_hex_digit}
-use Rattle.byte_lists.specs.Bytes.{AreBytes, xor}
+use Rattle.key_cells.specs.Bytes.{AreBytes, xor}
 use Rattle.key_parts.specs.Parts.{IsOnlyPart, xor_all}
 use Rattle.key_parts.proofs.XorLemmas.{bytes-xor, only_part, xor-again, xor-comm, xor-fold}
 use Rattle.master_registers.specs.Actions.{after_action}

@@ -4,7 +4,7 @@ use Rattle.std.proofs.Common.{◌≡◌, ℕ, Bool, true, List, [], ◌∷◌, �
 use Rattle.std.specs.Prelude.{is_none, not}
 use Rattle.std.specs.Option.{option_map}
 use Rattle.std.specs.Str.{bytes_eq}
-use Rattle.held_names.specs.Names.{IsLabel}
+use Rattle.cca_roles.specs.Names.{IsLabel}
 use Rattle.cca_roles.specs.Points.{includes}
 use Rattle.cca_roles.specs.Roles.{points_of}
 use Rattle.cca_vectors.specs.Checks.{Check, check, first_failing}
@@ -15,7 +15,7 @@ use Rattle.cca_vectors.proofs.Judging.{none_in_first, passed_over, passes, passe
 use Rattle.record_bodies.specs.Labels.{is_label}
 use Rattle.key_tokens.specs.Denotes.{ClearKey, Denoted}
 use Rattle.key_transport.specs.Tokens.{external_token}
-use Rattle.script_buffers.specs.Replies.{Done, Hex}
+use Rattle.line_service.specs.Replies.{Done, Hex}
 use Rattle.store_move.specs.Exports.{export_checks, exporter}
 use Rattle.verb_rules.specs.KeyChecks.{use_checks}
 use Rattle.verb_rules.proofs.NeedLemmas.{every_has}

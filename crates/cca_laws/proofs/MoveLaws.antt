@@ -9,9 +9,9 @@ use Rattle.std.proofs.lemmas.Cmp.{nat_list_cmp_total, tied_itself}
 use Rattle.std.proofs.lemmas.List.{get_or-map, length-map, map-append, take-map}
 use Rattle.std.proofs.lemmas.List.FromFn.{get_or-range_with_len, length-range_with_len}
 use Rattle.std.proofs.lemmas.Slice.Eq.{bytes_eq-Decides}
-use Rattle.held_names.specs.Names.{IsLabel, is_label}
-use Rattle.held_names.specs.Directory.{AreApart}
-use Rattle.held_names.proofs.DirectoryLaws.{held_at, none_some}
+use Rattle.cca_roles.specs.Names.{IsLabel, is_label}
+use Rattle.cca_roles.specs.Directory.{AreApart}
+use Rattle.cca_roles.proofs.DirectoryLaws.{held_at, none_some}
 use Rattle.cca_vectors.specs.Checks.{first_failing}
 use Rattle.record_bodies.specs.Directory.{cell_of, held_count, label_at}
 use Rattle.record_bodies.specs.Entries.{directory}
@@ -19,7 +19,7 @@ use Rattle.record_bodies.specs.Rank.{IsNth, is_smaller, smaller_count}
 use Rattle.key_tokens.specs.Denotes.{Denoted}
 use Rattle.key_transport.specs.Tokens.{as_current}
 use Rattle.line_service.specs.Machine.{outcome_of_lines}
-use Rattle.script_buffers.specs.Replies.{two_digits}
+use Rattle.line_service.specs.Replies.{two_digits}
 use Rattle.store_move.specs.Exports.{export_checks}
 use Rattle.cca_machine.specs.Keys.{cell_with, key_of_label, what_at}
 use Rattle.cca_machine.specs.Lines.{line_outcome}

@@ -3,10 +3,10 @@ use Rattle.std.proofs.Common.{◌≡◌, ℕ, List, [], ◌∷◌, ◌++◌, len
 use Rattle.std.specs.Prelude.{nat_le, ◌&&◌}
 use Rattle.std.specs.List.{concat, flat_map, list_all}
 use Rattle.hex.specs.Hex.{encode_lower}
-use Rattle.held_names.specs.Names.{IsRoleName, is_name_byte, is_role_name, starts_name}
+use Rattle.cca_roles.specs.Names.{IsRoleName, is_name_byte, is_role_name, starts_name}
 use Rattle.record_bodies.specs.Entries.{directory}
-use Rattle.script_buffers.specs.Lines.{lines, newline}
-use Rattle.script_buffers.proofs.LineLemmas.{lines-nil, lines-whole}
+use Rattle.line_service.specs.Lines.{lines, newline}
+use Rattle.line_service.proofs.CutLines.{lines-nil, lines-whole}
 use Rattle.cca_machine.specs.State.{State}
 use Rattle.store_unload.specs.Moves.{create_line, import_line, labels_of, move_file, moving_requests, reason, requests_by, requests_for, token_of_label, with_newlines}
 use Rattle.command_words.specs.declared.moves.Move.{Move}

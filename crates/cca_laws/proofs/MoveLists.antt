@@ -3,8 +3,8 @@ use Rattle.std.proofs.Common.{◌≡◌, ◌≢◌, ◌⊎◌, inl, inr, ⊎_eli
 use Rattle.std.specs.Prelude.{◌==◌, ◌||◌, is_some, if◌then◌else◌}
 use Rattle.std.proofs.lemmas.List.{get_or-set_same, length-map, map-set, set-get_or}
 use Rattle.std.proofs.lemmas.List.Sums.{sum_by-cons, sum_by-set}
-use Rattle.held_names.specs.Directory.{has_name, name_at, free_from}
-use Rattle.held_names.proofs.DirectoryLaws.{has_name_is, has_name_not, held_at, held_nowhere, none_some, place_found}
+use Rattle.cca_roles.specs.Directory.{has_name, name_at, free_from}
+use Rattle.cca_roles.proofs.DirectoryLaws.{has_name_is, has_name_not, held_at, held_nowhere, none_some, place_found}
 use Rattle.record_bodies.specs.LabelChanges.{created, null_entry, with_what}
 use Rattle.record_bodies.specs.Directory.{cell_of, free_cell, held_count}
 use Rattle.record_bodies.specs.Entries.{Entry, directory, entry, entry_label}

@@ -4,8 +4,8 @@ use Rattle.std.specs.Prelude.{◌==◌, ◌&&◌, ◌||◌, ⊤, Contains, filte
 use Rattle.std.specs.List.{AllByRecursion, flat_map, range_with_len}
 use Rattle.std.proofs.lemmas.Bool.{eqb-true}
 use Rattle.std.proofs.lemmas.List.{get_or-set_same}
-use Rattle.held_names.specs.Directory.{AreApart, free_from, name_at}
-use Rattle.held_names.proofs.DirectoryLaws.{apart_set, held_nowhere, place_is}
+use Rattle.cca_roles.specs.Directory.{AreApart, free_from, name_at}
+use Rattle.cca_roles.proofs.DirectoryLaws.{apart_set, held_nowhere, place_is}
 use Rattle.record_bodies.specs.LabelChanges.{created}
 use Rattle.record_bodies.specs.Directory.{cell_of, free_cell, held_count}
 use Rattle.record_bodies.specs.Entries.{Entry, directory, entry_label}

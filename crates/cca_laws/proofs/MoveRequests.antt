@@ -6,9 +6,9 @@ use Rattle.std.proofs.lemmas.List.{append-nil}
 use Rattle.std.proofs.lemmas.List.Sums.{list_all-from_AllPass}
 use Rattle.hex.specs.Hex.{IsBytes, encode_lower, is_hex_digit, lower_digits}
 use Rattle.hex.proofs.HexLemmas.{decode_of-encode_lower, decode_of-ok, length-encode_with}
-use Rattle.held_names.proofs.NameLemmas.{label_short, role_short}
-use Rattle.held_names.specs.Names.{IsLabel, IsRoleName, is_label}
-use Rattle.script_buffers.specs.Reading.{line_limit}
+use Rattle.cca_roles.specs.NameLaws.{label_short, role_short}
+use Rattle.cca_roles.specs.Names.{IsLabel, IsRoleName, is_label}
+use Rattle.line_service.specs.Reading.{line_limit}
 use Rattle.verb_script.specs.Grammar.{Request, Spells}
 use Rattle.verb_script.specs.declared.rows.RequestName.TheVariants.{Csnbkim, Csnbkrc}
 use Rattle.verb_script.specs.Requests.{request_of}

@@ -8,7 +8,7 @@ use Rattle.std.proofs.lemmas.Bool.{ne_eqb}
 use Rattle.std.proofs.lemmas.Nat.{and_assoc}
 use Rattle.hex.specs.Hex.{encode_lower}
 use Rattle.hex.proofs.HexLemmas.{decode_of-encode_lower}
-use Rattle.held_names.specs.Names.{IsLabel, IsRoleName}
+use Rattle.cca_roles.specs.Names.{IsLabel, IsRoleName}
 use Rattle.cca_roles.specs.Points.{includes}
 use Rattle.cca_roles.specs.Roles.{points_of}
 use Rattle.cca_vectors.specs.Checks.{check, first_failing}
@@ -32,8 +32,8 @@ use Rattle.key_transport.specs.Tokens.{as_current, external_token}
 use Rattle.master_registers.specs.Loaded.{registers_of}
 use Rattle.master_registers.specs.Masters.{Masters}
 use Rattle.master_registers.specs.declared.registers.Registers.{Registers}
-use Rattle.script_buffers.specs.Reading.{line_limit}
-use Rattle.script_buffers.specs.Replies.{two_digits}
+use Rattle.line_service.specs.Reading.{line_limit}
+use Rattle.line_service.specs.Replies.{two_digits}
 use Rattle.store_move.specs.Exports.{export_checks}
 use Rattle.verb_rules.specs.KeyChecks.{is_under_none, key_checks, read_checks, use_checks}
 use Rattle.verb_rules.specs.declared.needs.Need.{Need}

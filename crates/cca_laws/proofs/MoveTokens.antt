@@ -5,12 +5,12 @@ use Rattle.std.proofs.lemmas.Bool.{cases_lt}
 use Rattle.std.proofs.lemmas.List.{get_or_past}
 use Rattle.hex.specs.Hex.{IsBytes}
 use Rattle.device_cells.specs.Cells.{body}
-use Rattle.byte_lists.specs.Bytes.{AreBytes}
-use Rattle.byte_lists.proofs.ByteLemmas.{IsZero-replicate}
+use Rattle.key_cells.specs.Bytes.{AreBytes}
+use Rattle.key_cells.proofs.ByteLemmas.{IsZero-replicate}
 use Rattle.cca_vectors.specs.Checks.{first_failing}
 use Rattle.cca_vectors.specs.Vectors.{IsValid}
-use Rattle.held_names.specs.Names.{IsLabel}
-use Rattle.held_names.proofs.DirectoryLaws.{held_at}
+use Rattle.cca_roles.specs.Names.{IsLabel}
+use Rattle.cca_roles.proofs.DirectoryLaws.{held_at}
 use Rattle.record_bodies.specs.Directory.{cell_of}
 use Rattle.record_bodies.specs.Entries.{Entry, directory, entry_label}
 use Rattle.record_bodies.specs.RecordBody.{ReadsEntry, ReadsWhat, kept}

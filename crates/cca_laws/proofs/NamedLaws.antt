@@ -25,7 +25,7 @@ use Rattle.master_registers.specs.declared.actions.Action.TheVariants.{First, Mi
 use Rattle.master_registers.specs.declared.registers.NewState.{NewState}
 use Rattle.master_registers.specs.declared.registers.Registers.{Registers}
 use Rattle.cipher_verbs.specs.CipherTexts.{enciphered_text, deciphered_text, test_value}
-use Rattle.script_buffers.specs.Replies.{Field, Hex, Text, Done}
+use Rattle.line_service.specs.Replies.{Field, Hex, Text, Done}
 use Rattle.verb_rules.specs.Keys.{keys_of, token_for}
 use Rattle.verb_rules.specs.KeyChecks.{key_checks, use_checks}
 use Rattle.verb_rules.specs.declared.needs.Need.{Need}

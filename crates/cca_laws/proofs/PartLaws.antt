@@ -10,10 +10,10 @@ use Rattle.std.proofs.lemmas.List.Elements.{All-cons, All-head, All-nil, All-tai
 use Rattle.std.proofs.lemmas.List.Sums.{AllPass-from_list_all}
 use Rattle.hex.specs.Hex.{is_hex_digit}
 use Rattle.hex.proofs.HexLemmas.{decode_of-digits, decode_of-ok}
-use Rattle.byte_lists.specs.Bytes.{AreBytes}
-use Rattle.held_names.specs.Directory.{has_name}
-use Rattle.byte_lists.proofs.ByteLemmas.{are_bytes}
-use Rattle.held_names.proofs.DirectoryLaws.{held_at}
+use Rattle.key_cells.specs.Bytes.{AreBytes}
+use Rattle.cca_roles.specs.Directory.{has_name}
+use Rattle.key_cells.proofs.ByteLemmas.{are_bytes}
+use Rattle.cca_roles.proofs.DirectoryLaws.{held_at}
 use Rattle.cca_vectors.specs.Checks.{Check, check, first_failing}
 use Rattle.cca_vectors.specs.DefaultVectors.{default_vector}
 use Rattle.cca_vectors.specs.KeyTypes.{type_name}

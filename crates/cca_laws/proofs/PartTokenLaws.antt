@@ -3,7 +3,7 @@ use Rattle.std.proofs.Common.{◌≡◌, ◌≢◌, ℕ, ◌/◌, ◌==◌, Bool
 use Rattle.std.specs.Prelude.{All, fold, ◌&&◌, is_none}
 use Rattle.std.proofs.lemmas.Bool.Decides.{Decides-eqb}
 use Rattle.std.proofs.lemmas.List.Elements.{All-cons, All-head, All-nil, All-push, All-tail}
-use Rattle.byte_lists.specs.Bytes.{AreBytes, xor}
+use Rattle.key_cells.specs.Bytes.{AreBytes, xor}
 use Rattle.cca_vectors.specs.Checks.{check, first_failing}
 use Rattle.cca_vectors.specs.DefaultVectors.{default_vector}
 use Rattle.cca_vectors.specs.KeyTypes.{type_name}

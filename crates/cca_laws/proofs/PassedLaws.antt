@@ -3,8 +3,8 @@ use Rattle.std.proofs.Common.{◌≡◌, ℕ, Bool, true, false, not, List, [], 
 use Rattle.std.specs.Prelude.{◌&&◌, ◌||◌, ◌==◌, is_none, option_map, if◌then◌else◌}
 use Rattle.std.specs.Str.{bytes_eq}
 use Rattle.std.proofs.lemmas.Bool.{eqb-true}
-use Rattle.byte_lists.specs.Bytes.{AreBytes, xor}
-use Rattle.byte_lists.proofs.ByteLemmas.{IsZero-replicate}
+use Rattle.key_cells.specs.Bytes.{AreBytes, xor}
+use Rattle.key_cells.proofs.ByteLemmas.{IsZero-replicate}
 use Rattle.cca_vectors.specs.Checks.{check, first_failing}
 use Rattle.cca_vectors.specs.Permissions.{is_exportable}
 use Rattle.cca_vectors.specs.Vectors.{length_of}
@@ -24,7 +24,7 @@ use Rattle.master_registers.specs.Masters.{Empty, Full, Masters, NewRegister, Pa
 use Rattle.multi_encipher.specs.Bundles.{transport_bundle}
 use Rattle.multi_encipher.specs.Seals.{seal}
 use Rattle.multi_encipher.proofs.SealLaws.{one_to_one}
-use Rattle.script_buffers.specs.Replies.{Hex}
+use Rattle.line_service.specs.Replies.{Hex}
 use Rattle.verb_rules.specs.Keys.{keys_of, master_key, master_under, new_key, sealed_token, token_for}
 use Rattle.verb_rules.specs.PartChecks.{part_length_checks}
 use Rattle.verb_script.specs.Grammar.{Request, key_field, key_part_field, key_text, row_of, token_field, value_of}

@@ -5,7 +5,7 @@ use Rattle.cca_vectors.specs.Checks.{first_failing}
 use Rattle.key_tokens.specs.Denotes.{Denoted}
 use Rattle.key_transport.specs.declared.changing.Target.{Target}
 use Rattle.key_transport.specs.declared.changing.Target.TheVariants.{Current, New}
-use Rattle.script_buffers.specs.Replies.{Field, Hex, Number, Refused, Reply, Text}
+use Rattle.line_service.specs.Replies.{Field, Hex, Number, Refused, Reply, Text}
 use Rattle.verb_script.specs.Grammar.{Request, value_of}
 use Rattle.verb_script.specs.declared.rows.RequestName.{RequestName}
 use Rattle.verb_script.specs.declared.rows.RequestName.TheVariants.{Csnbenc, CsnbencFirst, CsnbencMiddle, CsnbencLast, Csnbdec, CsnbdecFirst, CsnbdecMiddle, CsnbdecLast, Csnbmgn, CsnbmgnFirst, CsnbmgnMiddle, CsnbmgnLast, Csnbmvr, CsnbmvrFirst, CsnbmvrMiddle, CsnbmvrLast, Csnbkyt, Csnbcki, CsnbkgnOp, CsnbkgnPair, CsnbkgnOut, Csnbkim, Csnbkex, Csnbpex, CsnbkpiFirst, CsnbkpiMiddle, Csnbktr, Csnbktc, Csnbkrr, Csnbkrl}

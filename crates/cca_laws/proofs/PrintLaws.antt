@@ -11,7 +11,7 @@ use Rattle.std.proofs.lemmas.List.Sums.{AllPass-from_list_all}
 use Rattle.hex.specs.Hex.{encode_with, lower_digits}
 use Rattle.std.specs.Str.{bytes_eq}
 use Rattle.device_cells.specs.Cells.{body}
-use Rattle.held_names.specs.Characters.{is_label_byte}
+use Rattle.cca_roles.specs.Characters.{is_label_byte}
 use Rattle.cca_vectors.specs.Checks.{Check, first_failing}
 use Rattle.cca_vectors.specs.Classes.{class_of}
 use Rattle.cca_vectors.specs.declared.key_class.Class.{Class}
@@ -32,7 +32,7 @@ use Rattle.key_transport.specs.declared.changing.Target.{Target}
 use Rattle.key_transport.specs.declared.changing.Target.TheVariants.{Current, New}
 use Rattle.mac_verbs.specs.Codes.{is_code}
 use Rattle.master_registers.specs.Masters.{NewRegister, Empty, Partial, Full}
-use Rattle.script_buffers.specs.Replies.{Field, Hex, Text, Number, Reply, Refused, Done, field_name, field_text, fields_text, hex_field, number_field, ok_text, refusal, spelled, text_field, two_digits, written}
+use Rattle.line_service.specs.Replies.{Field, Hex, Text, Number, Reply, Refused, Done, field_name, field_text, fields_text, hex_field, number_field, ok_text, refusal, spelled, text_field, two_digits, written}
 use Rattle.text_segments.specs.Chains.{chain_of, first_chain}
 use Rattle.text_segments.specs.Segments.{last_code}
 use Rattle.text_segments.specs.declared.chains.Chain.{Chain}

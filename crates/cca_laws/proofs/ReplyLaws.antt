@@ -3,7 +3,7 @@ use Rattle.std.proofs.Common.{◌≡◌, ℕ, ◌<◌, zero, suc, Bool, true, fa
 use Rattle.std.specs.Prelude.{⊤, ◌&&◌, nat_le, filter, nat_eq, if◌then◌else◌}
 use Rattle.std.specs.List.{list_all, range_with_len, starts_with}
 use Rattle.device_cells.specs.Cells.{body}
-use Rattle.held_names.specs.Characters.{is_label_byte}
+use Rattle.cca_roles.specs.Characters.{is_label_byte}
 use Rattle.cca_vectors.specs.Checks.{first_failing}
 use Rattle.cca_vectors.specs.Classes.{class_of}
 use Rattle.cca_vectors.specs.declared.key_class.Class.{Class}
@@ -24,9 +24,9 @@ use Rattle.key_transport.specs.declared.changing.Target.TheVariants.{Current, Ne
 use Rattle.master_registers.specs.Masters.{NewRegister, Empty, Partial, Full}
 use Rattle.record_bodies.specs.Further.{further}
 use Rattle.record_bodies.specs.declared.actions.StoreAction.{StoreAction}
-use Rattle.script_buffers.specs.Lines.{lines, newline}
-use Rattle.script_buffers.proofs.LineLemmas.{lines-nil, lines-whole}
-use Rattle.script_buffers.specs.Replies.{Field, spelled}
+use Rattle.line_service.specs.Lines.{lines, newline}
+use Rattle.line_service.proofs.CutLines.{lines-nil, lines-whole}
+use Rattle.line_service.specs.Replies.{Field, spelled}
 use Rattle.verb_rules.specs.Keys.{keys_of}
 use Rattle.verb_script.specs.Grammar.{Request, value_of}
 use Rattle.verb_script.specs.declared.rows.RequestName.{RequestName}

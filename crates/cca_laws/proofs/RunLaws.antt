@@ -7,8 +7,8 @@ use Rattle.device_cells.specs.Medium.{Told, Becomes}
 use Rattle.device_cells.specs.SpareBytes.{SameCell}
 use Rattle.device_cells.specs.WhereTold.{WhereTold}
 use Rattle.device_cells.proofs.Media.{told_at, told_from}
-use Rattle.script_buffers.specs.Lines.{lines}
-use Rattle.script_buffers.proofs.LineLemmas.{lines-append}
+use Rattle.line_service.specs.Lines.{lines}
+use Rattle.line_service.proofs.CutLines.{lines-append}
 use Rattle.line_service.specs.Answering.{OnDisks}
 use Rattle.line_service.specs.Devices.{Outside, Span}
 use Rattle.line_service.specs.Machine.{Outcome, World, outcome_of_lines}

@@ -5,7 +5,7 @@ use Rattle.std.proofs.lemmas.Bool.{cases_eq}
 use Rattle.std.proofs.lemmas.Grind.{same_number_lists}
 use Rattle.std.proofs.lemmas.List.Elements.{Contains-append_left, Contains-append_right}
 use Rattle.std.proofs.lemmas.Slice.Eq.{bytes_eq-Decides}
-use Rattle.held_names.proofs.DirectoryLaws.{none_some}
+use Rattle.cca_roles.proofs.DirectoryLaws.{none_some}
 use Rattle.device_cells.specs.Cells.{body, body_at, body_place, other_body, selected}
 use Rattle.device_cells.specs.SpareBytes.{SameCell}
 use Rattle.device_cells.proofs.CellSteps.{get_or-range, length-range, selected_below}

@@ -31,7 +31,7 @@ use Rattle.record_bodies.specs.Entries.{Entry, directory, entry_label}
 use Rattle.record_bodies.specs.Labels.{is_label}
 use Rattle.record_bodies.specs.RecordBody.{ReadsEntry, ReadsWhat, kept}
 use Rattle.record_bodies.specs.StoreStands.{entry_at}
-use Rattle.held_names.proofs.NameLemmas.{label_short}
+use Rattle.cca_roles.specs.NameLaws.{label_short}
 use Rattle.record_bodies.proofs.RankLaws.{count_bound}
 use Rattle.key_tokens.specs.Denotes.{ClearKey, Denoted, MasterKey, MasterKeys, clear_of, denoted, denoted_or, denoted_under, is_token}
 use Rattle.key_tokens.specs.Fields.{pattern_of_token, token_of}
@@ -49,9 +49,9 @@ use Rattle.mac_verbs.specs.Codes.{code_of, is_code}
 use Rattle.master_registers.specs.Masters.{NewRegister, Empty, Partial, Full}
 use Rattle.multi_encipher.specs.Bundles.{transport_bundle}
 use Rattle.record_bodies.specs.Further.{changed_count}
-use Rattle.script_buffers.specs.Lines.{newline}
-use Rattle.script_buffers.specs.Replies.{Field, Hex, Text, Number, Reply, Refused, Done, field_name, field_text, fields_text, hex_field, number_field, ok_text, refusal, reply_limit, spelled, text_field, two_digits, written}
-use Rattle.script_buffers.proofs.PartLemmas.{length-slice_range_le}
+use Rattle.line_service.specs.Lines.{newline}
+use Rattle.line_service.specs.Replies.{Field, Hex, Text, Number, Reply, Refused, Done, field_name, field_text, fields_text, hex_field, number_field, ok_text, refusal, reply_limit, spelled, text_field, two_digits, written}
+use Rattle.line_service.proofs.PartLemmas.{length-slice_range_le}
 use Rattle.text_segments.specs.Chains.{chain_bytes, chain_checks, chain_of, first_chain, is_chain}
 use Rattle.text_segments.specs.Segments.{chain_after, last_code, last_text, last_use, segment_text}
 use Rattle.text_segments.specs.declared.chains.Chain.{Chain}

@@ -3,8 +3,8 @@ use Rattle.std.proofs.Common.{◌≡◌, inl, inr, ⊎_elim, ℕ, ◌+◌, ◌-�
 use Rattle.std.specs.Prelude.{Contains, slice_index}
 use Rattle.std.proofs.lemmas.Bool.{cases_lt}
 use Rattle.std.proofs.lemmas.List.{get_or_past, length-append, length-replicate}
-use Rattle.held_names.proofs.DirectoryLaws.{none_some}
-use Rattle.held_names.proofs.NameLemmas.{label_short}
+use Rattle.cca_roles.proofs.DirectoryLaws.{none_some}
+use Rattle.cca_roles.specs.NameLaws.{label_short}
 use Rattle.device_cells.specs.Cells.{body, selected}
 use Rattle.device_cells.proofs.CellSteps.{selected_below}
 use Rattle.cca_vectors.specs.Checks.{first_failing}

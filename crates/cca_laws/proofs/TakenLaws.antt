@@ -12,8 +12,8 @@ use Rattle.cca_vectors.specs.declared.key_length.Length.TheVariants.{Eight, Sixt
 use Rattle.cipher_verbs.specs.RandomBytes.{in_form}
 use Rattle.key_transport.specs.UniqueHalves.{halves_drawn, is_same_half, key_taken}
 use Rattle.key_transport.proofs.HalfLemmas.{last_where_apart, more_where_same}
-use Rattle.script_buffers.specs.Reading.{line_limit}
-use Rattle.script_buffers.specs.Replies.{Done, Hex}
+use Rattle.line_service.specs.Reading.{line_limit}
+use Rattle.line_service.specs.Replies.{Done, Hex}
 use Rattle.verb_script.specs.Grammar.{Request, value_of}
 use Rattle.verb_script.specs.declared.rows.RequestName.{RequestName}
 use Rattle.verb_script.specs.declared.rows.RequestName.TheVariants.{Csnbrng, CsnbkgnOp, CsnbkgnPair, CsnbkgnOut}

@@ -1,7 +1,7 @@
 -- The tokens among the fields of a reply.
 use Rattle.std.proofs.Common.{ℕ, Bool, true, false, List, [], ◌∷◌, ◌++◌}
 use Rattle.std.specs.Prelude.{⊤}
-use Rattle.script_buffers.specs.Replies.{Field, Hex, Text, Number}
+use Rattle.line_service.specs.Replies.{Field, Hex, Text, Number}
 use Rattle.cca_machine.specs.Act.{Effect, Show, Write, fields_after}
 use Rattle.cca_machine.specs.Keys.{warning}
 use Rattle.cca_machine.specs.State.{State}

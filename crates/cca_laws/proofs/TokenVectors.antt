@@ -6,7 +6,7 @@ use Rattle.std.specs.Str.{bytes_eq}
 use Rattle.std.proofs.lemmas.Bool.{and_cases, and_parts, and_right, eqb-true, or_from, or_parts}
 use Rattle.std.proofs.lemmas.List.{append_assoc, drop_at, length-append, length-drop, length-set, length-take, take-append-drop, take_all}
 use Rattle.sha1.specs.Sha1.{digest_bytes, sha1}
-use Rattle.byte_lists.specs.Bytes.{is_zero}
+use Rattle.key_cells.specs.Bytes.{is_zero}
 use Rattle.cca_vectors.specs.Bits.{bit}
 use Rattle.cca_vectors.specs.Checks.{check, first_failing}
 use Rattle.cca_vectors.specs.Closing.{closed_half, closed_to_export, closed_zero}

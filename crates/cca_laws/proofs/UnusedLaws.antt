@@ -1,7 +1,7 @@
 -- The tokens that labels no longer use: SET leaves them of labels that were ahead, and no other request makes one.
 use Rattle.std.proofs.Common.{◌≡◌, ◌⊎◌, inl, inr, ⊎_elim, ℕ, zero, suc, ◌<◌, Bool, true, false, List, [], ◌∷◌, length, get_or, set, Option, None, Some, refl, sym, subst, ◌∙◌, arith}
 use Rattle.std.specs.Prelude.{Contains}
-use Rattle.held_names.proofs.DirectoryLaws.{none_some}
+use Rattle.cca_roles.proofs.DirectoryLaws.{none_some}
 use Rattle.record_bodies.specs.LabelChanges.{null_entry, with_what}
 use Rattle.record_bodies.specs.Directory.{free_cell}
 use Rattle.record_bodies.specs.Entries.{Entry, directory}

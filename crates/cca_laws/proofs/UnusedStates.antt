@@ -18,7 +18,7 @@ use Rattle.master_registers.specs.declared.actions.Action.TheVariants.{Clear, Se
 use Rattle.record_bodies.specs.Further.{changed_count, changed_entry, further, is_changed, is_changed_by, made_by}
 use Rattle.record_bodies.specs.declared.actions.StoreAction.{StoreAction}
 use Rattle.record_bodies.specs.declared.actions.StoreAction.TheVariants.{Renew, Ahead, Drop}
-use Rattle.script_buffers.specs.Replies.{Field, Number, spelled}
+use Rattle.line_service.specs.Replies.{Field, Number, spelled}
 use Rattle.verb_rules.specs.Keys.{keys_of}
 use Rattle.verb_script.specs.Grammar.{Request, value_of}
 use Rattle.verb_script.specs.declared.rows.RequestName.{RequestName}

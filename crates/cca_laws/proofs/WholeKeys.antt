@@ -12,8 +12,8 @@ use Rattle.std.proofs.lemmas.List.Sums.{AllPass-from_list_all}
 use Rattle.hex.specs.Hex.{is_hex_digit}
 use Rattle.hex.proofs.HexLemmas.{decode_of-digits, decode_of-ok}
 use Rattle.device_cells.specs.Cells.{body}
-use Rattle.byte_lists.specs.Bytes.{AreBytes}
-use Rattle.byte_lists.proofs.ByteLemmas.{are_bytes}
+use Rattle.key_cells.specs.Bytes.{AreBytes}
+use Rattle.key_cells.proofs.ByteLemmas.{are_bytes}
 use Rattle.record_bodies.specs.Entries.{Entry}
 use Rattle.record_bodies.specs.RecordBody.{ReadsEntry, ReadsWhat, kept}
 use Rattle.record_bodies.specs.StoreStands.{entry_at}

@@ -3,7 +3,7 @@ use Rattle.std.specs.Prelude.{◌≡◌, ℕ, List, ◌∷◌, codes, Option, No
 use Rattle.key_tokens.specs.Denotes.{ClearKey, DenotesUnder, IsTokenOf, MasterKey}
 use Rattle.key_tokens.specs.declared.key_token.Kind.TheVariants.{Internal}
 use Rattle.key_transport.specs.Tokens.{as_current}
-use Rattle.script_buffers.specs.Replies.{Done, Field, Hex, Reply}
+use Rattle.line_service.specs.Replies.{Done, Field, Hex, Reply}
 use Rattle.verb_rules.specs.Keys.{keys_of}
 use Rattle.verb_script.specs.Grammar.{AreValues, Request, row_of}
 use Rattle.cca_machine.specs.Act.{Outcome}

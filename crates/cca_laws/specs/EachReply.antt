@@ -1,6 +1,6 @@
 -- What holds of each reply of a session.
 use Rattle.std.specs.Prelude.{◌≡◌, ℕ, List, [], ◌∷◌, Some, ⊤}
-use Rattle.script_buffers.specs.Replies.{Reply}
+use Rattle.line_service.specs.Replies.{Reply}
 use Rattle.verb_script.specs.Grammar.{Request}
 use Rattle.verb_script.specs.Requests.{request_of}
 use Rattle.cca_machine.specs.Lines.{line_outcome}

@@ -1,7 +1,7 @@
 -- Replies that give keys out, data that is enciphered or deciphered, and MACs; and the access control points that they need.
 use Rattle.std.specs.Prelude.{◌≡◌, ℕ, Bool, false, ◌||◌, List, [], ◌∷◌, bit_or, codes, ⊤}
 use Rattle.std.specs.Str.{bytes_eq}
-use Rattle.script_buffers.specs.Replies.{Done, Field, Hex, Number, Refused, Reply, Text}
+use Rattle.line_service.specs.Replies.{Done, Field, Hex, Number, Refused, Reply, Text}
 use Rattle.verb_script.specs.declared.rows.RequestName.{RequestName}
 use Rattle.verb_script.specs.declared.rows.RequestName.TheVariants.{Csnbenc, CsnbencFirst, CsnbencMiddle, CsnbencLast, Csnbdec, CsnbdecFirst, CsnbdecMiddle, CsnbdecLast, Csnbmgn, CsnbmgnFirst, CsnbmgnMiddle, CsnbmgnLast, Csnbmvr, CsnbmvrFirst, CsnbmvrMiddle, CsnbmvrLast, Csnbkyt, CsnbkgnPair, CsnbkgnOut, Csnbkex, Csnbktr, Csnbkrr}
 use Rattle.cca_machine.specs.Points.{point}

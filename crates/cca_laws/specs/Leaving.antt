@@ -27,7 +27,7 @@ use Rattle.multi_encipher.specs.Bundles.{transport_bundle}
 use Rattle.multi_encipher.specs.Seals.{seal}
 use Rattle.record_bodies.specs.Further.{changed_count}
 use Rattle.record_bodies.specs.declared.actions.StoreAction.TheVariants.{Renew, Ahead, Drop}
-use Rattle.script_buffers.specs.Replies.{Done, Field, Hex, Number, Refused, Reply, Text}
+use Rattle.line_service.specs.Replies.{Done, Field, Hex, Number, Refused, Reply, Text}
 use Rattle.std.specs.List.{list_any}
 use Rattle.std.specs.Str.{bytes_eq}
 use Rattle.text_segments.specs.Chains.{chain_bytes, first_chain}

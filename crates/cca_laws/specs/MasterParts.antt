@@ -1,7 +1,7 @@
 -- A master key that is entered in parts through the machine: the requests of a key ceremony, and what a part says of the
 -- master key.
 use Rattle.std.specs.Prelude.{◌≡◌, ℕ, List, [], ◌∷◌, ◌++◌, codes, map}
-use Rattle.byte_lists.specs.Bytes.{AreBytes}
+use Rattle.key_cells.specs.Bytes.{AreBytes}
 use Rattle.master_registers.specs.Masters.{Full, NewRegister}
 use Rattle.verb_script.specs.Grammar.{Request}
 use Rattle.verb_script.specs.declared.rows.RequestName.TheVariants.{CsnbmkpPart, CsnbmkpSet}

@@ -1,7 +1,7 @@
 -- A store that is moved to another module, and what the other module holds before and after.
 use Rattle.std.specs.Prelude.{◌≡◌, ◌≢◌, ◌≤◌, ◌<◌, ◌+◌, ℕ, ◌&&◌, bit_or, false, is_none, List, [], ◌∷◌, ◌++◌, take, length, filter, get_or, codes, Option, None, Some, IsTrue}
 use Rattle.std.specs.List.{flat_map}
-use Rattle.held_names.specs.Names.{IsLabel, IsRoleName}
+use Rattle.cca_roles.specs.Names.{IsLabel, IsRoleName}
 use Rattle.cca_roles.specs.Points.{includes}
 use Rattle.cca_roles.specs.Roles.{points_of}
 use Rattle.cca_vectors.specs.Checks.{first_failing}

@@ -1,7 +1,7 @@
 -- The requests that pass a key on: the key and its control vector stay, and none lifts the ban on its export.
 use Rattle.std.specs.Prelude.{◌≡◌, ℕ, Bool, true, false, List, codes, Option, None, Some, option_map, if◌then◌else◌}
 use Rattle.std.specs.Str.{bytes_eq}
-use Rattle.byte_lists.specs.Bytes.{xor}
+use Rattle.key_cells.specs.Bytes.{xor}
 use Rattle.cca_vectors.specs.Closing.{closed_to_export}
 use Rattle.cca_vectors.specs.PartVectors.{as_part}
 use Rattle.cca_vectors.specs.Permissions.{is_exportable}

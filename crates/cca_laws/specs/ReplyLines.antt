@@ -1,7 +1,7 @@
 -- What a reply line is.
 use Rattle.std.specs.Prelude.{◌≡◌, ◌≤◌, ℕ, List, [], ◌∷◌, ◌++◌}
 use Rattle.std.specs.List.{All}
-use Rattle.script_buffers.specs.Lines.{newline, NoNewline}
+use Rattle.line_service.specs.Lines.{newline, NoNewline}
 
 -- one line: a text in which no byte is a newline, and a newline behind it
 pub record IsOneLine (bytes : List ℕ) : Type 0 where

@@ -1,7 +1,7 @@
 -- The key tokens in a reply.
 use Rattle.std.specs.Prelude.{ℕ, Bool, true, false, List, [], ◌∷◌, ⊤, codes, take, Option, None, Some, if◌then◌else◌}
 use Rattle.std.specs.Str.{bytes_eq}
-use Rattle.script_buffers.specs.Replies.{Field, Hex, Text, Number, Reply, Refused, Done}
+use Rattle.line_service.specs.Replies.{Field, Hex, Text, Number, Reply, Refused, Done}
 
 -- the field is called token, token1 or token2
 abbrev pub is_token_field : List ℕ → Bool

@@ -1,6 +1,6 @@
 -- The random bytes that lines take.
 use Rattle.std.specs.Prelude.{◌≡◌, ℕ, Bool, true, false, All, nat_le, count_ones, ◌%◌, List, [], ◌∷◌, codes, length, take, Option, None, Some}
-use Rattle.script_buffers.specs.Reading.{line_limit}
+use Rattle.line_service.specs.Reading.{line_limit}
 use Rattle.verb_script.specs.Grammar.{Request}
 use Rattle.verb_script.specs.declared.rows.RequestName.{RequestName}
 use Rattle.verb_script.specs.declared.rows.RequestName.TheVariants.{Csnbrng, CsnbkgnOp, CsnbkgnPair, CsnbkgnOut}

@@ -8,7 +8,7 @@ use Rattle.cca_vectors.specs.declared.key_class.Class.TheVariants.{Data, Cipher,
 use Rattle.cca_vectors.specs.declared.key_usage.Usage.{Usage}
 use Rattle.cca_vectors.specs.declared.key_usage.Usage.TheVariants.{Encipher, Decipher, MacGenerate, MacVerify, Transport, Translate, PairOperational, PairImportExport, PairSame}
 use Rattle.key_tokens.specs.Denotes.{Denoted}
-use Rattle.script_buffers.specs.Replies.{Reply}
+use Rattle.line_service.specs.Replies.{Reply}
 use Rattle.verb_rules.specs.Classes.{classes_of, has}
 use Rattle.verb_rules.specs.declared.needs.Need.{Need}
 use Rattle.verb_script.specs.Grammar.{Request}

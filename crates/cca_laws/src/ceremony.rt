@@ -1,7 +1,7 @@
 //! A master key that is made of its parts, through the machine.
 
 ghost use Rattle.std.specs.Prelude.{◌≡◌, ◌∷◌, ◌++◌, All, ℕ, List, Some, map};
-ghost use Rattle.byte_lists.specs.Bytes.{AreBytes};
+ghost use Rattle.key_cells.specs.Bytes.{AreBytes};
 ghost use Rattle.cca_machine.specs.State.{State};
 ghost use Rattle.key_parts.specs.Parts.{IsOnlyPart, xor_all};
 ghost use Rattle.master_registers.specs.Masters.{Empty, Full, Partial};

@@ -1,7 +1,7 @@
 //! Separate duties in a key ceremony.
 
 ghost use Rattle.std.specs.Prelude.{◌≡◌, ℕ, List, false};
-ghost use Rattle.byte_lists.specs.Bytes.{AreBytes, xor};
+ghost use Rattle.key_cells.specs.Bytes.{AreBytes, xor};
 ghost use Rattle.cca_machine.specs.Session.{state_after};
 ghost use Rattle.cca_machine.specs.State.{State};
 ghost use Rattle.master_registers.specs.Masters.{Empty, Partial, is_full};

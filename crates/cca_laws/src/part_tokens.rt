@@ -1,7 +1,7 @@
 //! A key that is brought in by parts and delivered into records and as tokens, through the machine.
 
 ghost use Rattle.std.specs.Prelude.{◌≡◌, All, ℕ, List, Some, true};
-ghost use Rattle.byte_lists.specs.Bytes.{AreBytes};
+ghost use Rattle.key_cells.specs.Bytes.{AreBytes};
 ghost use Rattle.cca_machine.specs.Keys.{key_in_text};
 ghost use Rattle.cca_machine.specs.Operands.{Operand};
 ghost use Rattle.cca_machine.specs.State.{State};

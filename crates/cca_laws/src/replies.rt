@@ -5,8 +5,8 @@ ghost use Rattle.std.specs.List.{All};
 ghost use Rattle.cca_machine.specs.Lines.{line_outcome};
 ghost use Rattle.cca_machine.specs.Session.{replies};
 ghost use Rattle.cca_machine.specs.State.{State, IsStoreOf};
-ghost use Rattle.script_buffers.specs.Lines.{lines as lines_of};
-ghost use Rattle.script_buffers.specs.Replies.{reply_limit, spelled};
+ghost use Rattle.line_service.specs.Lines.{lines as lines_of};
+ghost use Rattle.line_service.specs.Replies.{reply_limit, spelled};
 ghost use Rattle.cca_laws.specs.ReplyLines.{IsOneLine, IsPrintableLine};
 
 /// Each reply is one line, whatever the line was that it answers: no byte of it but its last is a newline. So from a state

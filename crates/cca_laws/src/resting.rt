@@ -2,7 +2,7 @@
 
 ghost use Rattle.std.specs.Prelude.{◌≡◌, ℕ, List, ◌++◌, Some, Result};
 ghost use Rattle.device_cells.specs.Medium.{Told};
-ghost use Rattle.script_buffers.specs.Lines.{lines};
+ghost use Rattle.line_service.specs.Lines.{lines};
 ghost use Rattle.audited_service.specs.LineEntries.{entry_of};
 ghost use Rattle.audit_trail.specs.declared.entries.Entry.{Entry};
 ghost use Rattle.audit_trail.specs.declared.faults.TrailFault.{TrailFault};

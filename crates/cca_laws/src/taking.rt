@@ -8,7 +8,7 @@ ghost use Rattle.cca_machine.specs.Session.{random_after};
 ghost use Rattle.cca_machine.specs.State.{State};
 ghost use Rattle.cca_machine.specs.Verdict.{verdict};
 ghost use Rattle.cca_vectors.specs.declared.key_length.Length.{Length};
-ghost use Rattle.script_buffers.specs.Replies.{Done, Hex};
+ghost use Rattle.line_service.specs.Replies.{Done, Hex};
 ghost use Rattle.verb_script.specs.Grammar.{Request, value_of};
 ghost use Rattle.verb_script.specs.declared.rows.RequestName.TheVariants.{Csnbrng};
 ghost use Rattle.cca_laws.specs.DrawnKeys.{IsDrawnKey, IsGenerating};

@@ -7,7 +7,7 @@ use Rattle.cca_vectors.specs.Checks.{check, first_failing}
 use Rattle.des_blocks.specs.Modes.{blocks, cbc, e, joined, zero_block}
 use Rattle.des_blocks.proofs.ValueLemmas.{bytes-enciphered}
 use Rattle.key_tokens.specs.Denotes.{ClearKey}
-use Rattle.script_buffers.specs.Replies.{Field, Reply, Done, Hex, Text}
+use Rattle.line_service.specs.Replies.{Field, Reply, Done, Hex, Text}
 use Rattle.text_segments.specs.Chains.{chain_bytes, chain_checks, chain_of, first_chain}
 use Rattle.text_segments.specs.Cuttings.{chain_through, text_through, uncut_text}
 use Rattle.text_segments.specs.Segments.{IsCipher, chain_after, code_cipher, last_checks, last_code, last_text, last_use, segment_text, whole_part}

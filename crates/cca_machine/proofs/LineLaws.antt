@@ -3,8 +3,8 @@ use Rattle.std.proofs.Common.{◌≡◌, ℕ, ◌<◌, ◌≤◌, true, false, L
 use Rattle.std.specs.Prelude.{nat_le, nat_lt}
 use Rattle.std.proofs.lemmas.Bool.Decides.{nat_tests}
 use Rattle.cca_vectors.specs.Checks.{first_failing}
-use Rattle.script_buffers.specs.Reading.{line_limit}
-use Rattle.script_buffers.specs.Replies.{Refused}
+use Rattle.line_service.specs.Reading.{line_limit}
+use Rattle.line_service.specs.Replies.{Refused}
 use Rattle.verb_script.specs.Grammar.{Request}
 use Rattle.verb_script.specs.Requests.{request_of}
 use Rattle.cca_machine.specs.State.{State}

@@ -5,7 +5,7 @@ use Rattle.std.proofs.lemmas.Bool.{cases_lt}
 use Rattle.std.proofs.lemmas.List.{get_or-replicate, get_or_past}
 use Rattle.std.proofs.lemmas.List.Elements.{All-take, All-drop}
 use Rattle.std.proofs.lemmas.Slice.Eq.{bytes_eq-Decides}
-use Rattle.byte_lists.specs.Bytes.{AreBytes}
+use Rattle.key_cells.specs.Bytes.{AreBytes}
 use Rattle.device_cells.specs.Cells.{body, body_place, selected}
 use Rattle.device_cells.proofs.CellSteps.{selected_below, length-range}
 use Rattle.cca_roles.specs.RolesStand.{StandsForRoles, roles_in}

@@ -11,7 +11,7 @@ use Rattle.record_bodies.specs.Further.{changed as changed_label, changed_entry,
 use Rattle.record_bodies.specs.declared.actions.StoreAction.{StoreAction}
 use Rattle.record_bodies.specs.declared.actions.StoreAction.TheVariants.{Renew, Ahead, Drop}
 use Rattle.record_bodies.proofs.FurtherLaws.{rerun, changed_all, whole}
-use Rattle.script_buffers.specs.Replies.{Reply, Done, Number}
+use Rattle.line_service.specs.Replies.{Reply, Done, Number}
 use Rattle.verb_rules.specs.Keys.{keys_of}
 use Rattle.cca_machine.specs.State.{State, IsStoreOf}
 use Rattle.cca_machine.specs.Verdict.{Refusal, verdict, verdict_by, ahead_checks, first_refusal, questions}

@@ -9,7 +9,7 @@ use Rattle.key_tokens.specs.declared.key_token.Kind.{Kind}
 use Rattle.key_tokens.specs.declared.key_token.Kind.TheVariants.{Internal, External}
 use Rattle.key_tokens.specs.declared.key_token.Token.{Token}
 use Rattle.key_tokens.specs.Fields.{token_of}
-use Rattle.script_buffers.specs.Replies.{Reply, Refused, Done, Field, Hex, Text, Number}
+use Rattle.line_service.specs.Replies.{Reply, Refused, Done, Field, Hex, Text, Number}
 use Rattle.master_registers.specs.Masters.{NewRegister, Empty, Partial, Full, Masters}
 use Rattle.record_bodies.specs.LabelChanges.{created, written, deleted}
 use Rattle.record_bodies.specs.Directory.{free_cell}

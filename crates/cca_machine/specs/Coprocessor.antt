@@ -7,7 +7,7 @@ use Rattle.device_cells.proofs.SpareLemmas.{same_spare}
 use Rattle.master_registers.specs.Masters.{Masters}
 use Rattle.master_registers.specs.RegisterBody.{StandsForMasters}
 use Rattle.master_registers.proofs.BodyLaws.{reads_one}
-use Rattle.script_buffers.specs.Replies.{Reply, Refused, Done}
+use Rattle.line_service.specs.Replies.{Reply, Refused, Done}
 use Rattle.verb_rules.specs.Keys.{keys_of}
 use Rattle.verb_script.specs.Grammar.{Request, Spells}
 use Rattle.cca_roles.specs.RolesStand.{StandsForRoles}

@@ -5,7 +5,7 @@ use Rattle.std.specs.Str.{bytes_eq}
 use Rattle.des_blocks.specs.Modes.{joined}
 use Rattle.key_tokens.specs.Denotes.{ClearKey}
 use Rattle.mac_verbs.specs.Codes.{code_of}
-use Rattle.script_buffers.specs.Replies.{Field, Done, Hex, Text}
+use Rattle.line_service.specs.Replies.{Field, Done, Hex, Text}
 use Rattle.text_segments.specs.Cuttings.{uncut_text}
 use Rattle.text_segments.specs.Segments.{IsCipher}
 use Rattle.text_segments.specs.declared.modes.Mode.{Mode}

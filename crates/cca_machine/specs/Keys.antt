@@ -7,7 +7,7 @@ use Rattle.record_bodies.specs.Entries.{Entry, directory}
 pub use Rattle.record_bodies.specs.Ages.{is_old as is_old_age, has_old_key as is_old}
 pub use Rattle.record_bodies.specs.Entries.{what_in}
 use Rattle.record_bodies.specs.StoreStands.{entry_at}
-use Rattle.script_buffers.specs.Replies.{Field, Text}
+use Rattle.line_service.specs.Replies.{Field, Text}
 use Rattle.verb_rules.specs.Keys.{keys_of}
 use Rattle.verb_script.specs.Grammar.{Request, value_of}
 use Rattle.verb_script.specs.Named.{label_named}

@@ -4,6 +4,8 @@ pub mod Broken
 pub mod Choices
 pub mod Coprocessor
 pub mod CutRequests
+pub mod Decided
+pub mod Deciding
 pub mod Draws
 pub mod FieldWords
 pub mod Granted

@@ -3,7 +3,7 @@ use Rattle.std.specs.Prelude.{ℕ, Bool, false, ◌==◌, nat_eq, List, [], ◌�
 use Rattle.std.specs.List.{range_with_len, starts_with}
 use Rattle.record_bodies.specs.Directory.{held_count}
 use Rattle.record_bodies.specs.Rank.{smaller_count}
-use Rattle.script_buffers.specs.Replies.{Field, Number, Text}
+use Rattle.line_service.specs.Replies.{Field, Number, Text}
 
 abbrev pub has_rank : ℕ → List (Option (List ℕ)) → Option (List ℕ) → Bool
 has_rank index d None = false

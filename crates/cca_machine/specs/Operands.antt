@@ -267,6 +267,26 @@ abbrev pub names_label : List Operand → Bool
 names_label [] = false
 names_label (o ∷ os) = is_named_by o.text o.ask || names_label os
 
+-- a request over a text
+abbrev pub is_over_text : RequestName → Bool
+is_over_text Csnbenc = true
+is_over_text CsnbencFirst = true
+is_over_text CsnbencMiddle = true
+is_over_text CsnbencLast = true
+is_over_text Csnbdec = true
+is_over_text CsnbdecFirst = true
+is_over_text CsnbdecMiddle = true
+is_over_text CsnbdecLast = true
+is_over_text Csnbmgn = true
+is_over_text CsnbmgnFirst = true
+is_over_text CsnbmgnMiddle = true
+is_over_text CsnbmgnLast = true
+is_over_text Csnbmvr = true
+is_over_text CsnbmvrFirst = true
+is_over_text CsnbmvrMiddle = true
+is_over_text CsnbmvrLast = true
+is_over_text _ = false
+
 -- the request goes through every label of the store
 abbrev pub is_reencipher : RequestName → Bool
 is_reencipher Reencipher = true

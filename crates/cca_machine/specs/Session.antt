@@ -1,6 +1,6 @@
 -- A session: the machine's replies to lines, one after another, and the state after them.
 use Rattle.std.specs.Prelude.{ℕ, List}
-use Rattle.script_buffers.specs.Replies.{spelled}
+use Rattle.line_service.specs.Replies.{spelled}
 use Rattle.line_service.specs.Machine.{Outcome, outcome_of_lines}
 use Rattle.cca_machine.specs.State.{State}
 use Rattle.cca_machine.specs.Lines.{line_outcome}

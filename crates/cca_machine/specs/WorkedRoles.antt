@@ -1,6 +1,6 @@
 -- Requests on roles whose replies are known from outside, with the replies that the machine gives from a blank module.
 use Rattle.std.specs.Prelude.{ℕ, List, [], ◌∷◌, ◌++◌, codes}
-use Rattle.script_buffers.specs.Lines.{newline}
+use Rattle.line_service.specs.Lines.{newline}
 
 -- a line and the reply to it
 pub record Worked : Type 0 where

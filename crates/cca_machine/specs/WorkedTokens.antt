@@ -1,7 +1,7 @@
 -- Lines whose replies are known from outside, with the replies that the machine gives.
 use Rattle.std.specs.Prelude.{◌≡◌, ℕ, List, [], ◌∷◌, ◌++◌, codes, ⊤}
-use Rattle.script_buffers.specs.Lines.{newline}
-use Rattle.script_buffers.specs.Replies.{spelled}
+use Rattle.line_service.specs.Lines.{newline}
+use Rattle.line_service.specs.Replies.{spelled}
 use Rattle.cca_machine.specs.State.{blank_state}
 use Rattle.cca_machine.specs.Lines.{line_outcome}
 

@@ -4,8 +4,8 @@
 #![tactic(auto)]
 
 ghost use Rattle.std.specs.Prelude.{◌≡◌, ℕ, List, [], ◌∷◌, ◌++◌, ◌<◌, ◌≤◌, length, take, replicate, codes, None, Some};
-ghost use Rattle.script_buffers.specs.Reading.{line_limit};
-ghost use Rattle.script_buffers.specs.Replies.{Refused, Done, Number};
+ghost use Rattle.line_service.specs.Reading.{line_limit};
+ghost use Rattle.line_service.specs.Replies.{Refused, Done, Number};
 ghost use Rattle.device_cells.specs.Cells.{body};
 ghost use Rattle.verb_script.specs.Requests.{request_of};
 ghost use Rattle.verb_script.specs.Grammar.{Request};
@@ -30,6 +30,7 @@ ghost use Rattle.cca_machine.specs.WorkedTokens.{TokensAnswered, worked_tokens};
 
 mod asking;
 mod choices;
+mod effects;
 mod granted;
 mod grants;
 mod pairs;
@@ -41,6 +42,7 @@ pub use choices::{
     is_last_part, key_length_of, mac_length_of, mac_rule_of, out_form_of, pad_of, pair_form_of,
     part_action_of, random_form_of, target_of,
 };
+pub use effects::Effect;
 pub use granted::{Grant, Granted, token_bytes};
 pub use grants::{double_key_in, external_in, is_old, key_in, place_in, token_in};
 pub use pairs::a_pair_stands_for_one_state;

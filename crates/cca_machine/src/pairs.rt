@@ -1,6 +1,6 @@
 //! What a module and a store stand for.
 ghost use Rattle.std.specs.Prelude.{◌≡◌, ◌⊎◌, ℕ, List};
-ghost use Rattle.byte_lists.specs.Bytes.{AreBytes};
+ghost use Rattle.key_cells.specs.Bytes.{AreBytes};
 ghost use Rattle.cca_machine.specs.Pairs.{ArePairOf, IsBrokenPair};
 ghost use Rattle.cca_machine.specs.State.{State, module_size, store_size};
 

@@ -17,7 +17,7 @@ use Rattle.master_registers.specs.Actions.{after_action}
 use Rattle.master_registers.specs.Masters.{NewRegister, Empty, Partial, Full, Masters, IsMasters, is_empty, is_partial, first_refused, combine_refused, set_refused, same_pattern}
 use Rattle.master_registers.specs.declared.actions.Action.{Action}
 use Rattle.master_registers.specs.declared.actions.Action.TheVariants.{First, Middle, Last, Clear, Set}
-use Rattle.script_buffers.specs.Replies.{Field, Done}
+use Rattle.line_service.specs.Replies.{Field, Done}
 use Rattle.verb_rules.specs.Keys.{keys_of, master_key, new_key}
 use Rattle.verb_script.specs.Grammar.{Request}
 use Rattle.cca_machine.specs.Keys.{warning}
@@ -26,7 +26,7 @@ use Rattle.cca_machine.specs.Verdict.{Questions, Refusal, questions, first_refus
 use Rattle.cca_machine.specs.Act.{Effect, Show, Become, DefineRole, RemoveRole, Create, Write, Delete, ChangeLabels, Outcome, effect, state_after, fields_after, state_between, module_cells_after, store_cells_after, effected, refused, or_act}
 use Rattle.request_rules.specs.Standing.{Tables, tables, StandsInModule, StandsInStore}
 use Rattle.cca_requests.specs.Serving.{CarriesModule, CarriesStore, Carries}
-use Rattle.request_verbs.specs.Deciding.{WarnsNot, labels_after, LosesNone, IsWritten, IsDeleted}
+use Rattle.cca_machine.specs.Deciding.{WarnsNot, labels_after, LosesNone, IsWritten, IsDeleted}
 use Rattle.cca_requests.specs.Changes.{plainly, or_effected, rows_after, IsTurnedBy, action_outcome, role_outcome, create_outcome}
 use Rattle.cca_requests.proofs.Ageing.{store_ages, memory_ages, none_ahead}
 use Rattle.cca_requests.proofs.Leaving.{ok_always}

@@ -16,7 +16,7 @@ use Rattle.master_registers.specs.Changes.{ChangesModule, HoldsEither, WhenRefus
 use Rattle.master_registers.specs.declared.faults.RegisterFault.{RegisterFault}
 use Rattle.master_registers.specs.declared.faults.RegisterFault.TheVariants.{DiskFault, RegisterState, SamePattern}
 use Rattle.master_registers.specs.declared.registers.Registers.{Registers}
-use Rattle.script_buffers.specs.Replies.{Done, Text, spelled}
+use Rattle.line_service.specs.Replies.{Done, Text, spelled}
 use Rattle.cca_machine.specs.State.{State, IsModuleOf}
 use Rattle.cca_machine.specs.Verdict.{questions, first_refusal}
 use Rattle.cca_machine.specs.Act.{Outcome, NoCell, OneCell, Become, new_name}

@@ -31,8 +31,8 @@ use Rattle.request_rules.specs.Judging.{AreKeyedOperands, AreShaped, IsStoreStop
 use Rattle.request_rules.specs.Standing.{Tables}
 use Rattle.request_rules.specs.declared.judging.Verdict.{Verdict}
 use Rattle.request_rules.specs.declared.judging.Verdict.TheVariants as verdict
-use Rattle.request_verbs.specs.Decided.{HasPassed}
-use Rattle.request_verbs.specs.Deciding.{ChangesPlaces}
+use Rattle.cca_machine.specs.Decided.{HasPassed}
+use Rattle.cca_machine.specs.Deciding.{ChangesPlaces}
 use Rattle.cca_requests.specs.Serving.{DrawsOnly, HasDisks, IsLoadedStop, IsRequestStop, Leaves, SparesStore}
 use Rattle.cca_requests.proofs.Leaving.{stops_as, untouched_left}
 use Rattle.cca_requests.proofs.Registers.{loaded_places}

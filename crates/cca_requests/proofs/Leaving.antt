@@ -21,8 +21,8 @@ use Rattle.line_service.specs.declared.stops.Stop.{Stop}
 use Rattle.line_service.specs.declared.stops.Stop.TheVariants.{Damaged, EntropyFault, InputLimit, ModuleFault, ReadFault, StoreFault, WriteFault}
 use Rattle.request_rules.specs.Judging.{IsStoreStop}
 use Rattle.request_rules.specs.Standing.{Tables, tables}
-use Rattle.request_verbs.specs.Deciding.{GoesThrough, IsReady, WritesStore}
-use Rattle.request_verbs.specs.declared.effects.Effect.{Effect}
+use Rattle.cca_machine.specs.Deciding.{GoesThrough, IsReady, WritesStore}
+use Rattle.cca_machine.specs.declared.effects.Effect.{Effect}
 use Rattle.cca_requests.specs.Serving.{IsSound, IsLoadedStop, KeepsToEffect, LeavesModule, LeavesStore, Leaves}
 
 pub ok_always : {P : Type 0} (result : Result (Unit {0}) Stop) → P → OnOk result P

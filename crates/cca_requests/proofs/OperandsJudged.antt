@@ -4,7 +4,7 @@ use Rattle.std.specs.Option.{option_map}
 use Rattle.std.specs.Prelude.{◌<◌}
 use Rattle.cca_vectors.specs.Checks.{first_failing}
 use Rattle.key_cells.specs.Bench.{Bench}
-use Rattle.script_buffers.specs.Replies.{Refused, spelled}
+use Rattle.line_service.specs.Replies.{Refused, spelled}
 use Rattle.verb_rules.specs.Rules.{rule_number}
 use Rattle.verb_rules.specs.declared.rules.Rule.{Rule}
 use Rattle.verb_script.specs.Grammar.{Request}
@@ -18,7 +18,7 @@ use Rattle.cca_machine.specs.declared.granted.Granted.{Granted}
 use Rattle.request_rules.specs.declared.judging.Verdict.{Verdict}
 use Rattle.request_rules.specs.declared.judging.Verdict.TheVariants as code
 use Rattle.cca_machine.specs.declared.refusals.Refusal.{Refusal as CodeRefusal}
-use Rattle.request_verbs.proofs.Acting.{verdict_operands}
+use Rattle.cca_machine.proofs.Acting.{verdict_operands}
 
 -- ---- a rule that the request as a whole breaks
 

@@ -13,7 +13,7 @@ use Rattle.master_registers.specs.RegisterBody.{StandsForMasters, IsDamaged}
 use Rattle.master_registers.specs.declared.registers.Registers.{Registers}
 use Rattle.master_registers.proofs.BodyLaws.{reads_one}
 use Rattle.cca_machine.specs.State.{State, IsModuleOf}
-use Rattle.request_verbs.specs.Deciding.{ChangesPlaces, with_places}
+use Rattle.cca_machine.specs.Deciding.{ChangesPlaces, with_places}
 
 coming_is : (r : NewRegister) (bytes : List ℕ) → bytes ≡ new_bytes r → coming_in (state_of r) bytes ≡ r
 coming_is Empty bytes is = refl

@@ -9,7 +9,7 @@ use Rattle.record_bodies.specs.StoreStands.{KeepsLabels}
 use Rattle.key_records.specs.declared.faults.RecordFault.{RecordFault}
 use Rattle.key_records.specs.declared.faults.RecordFault.TheVariants.{DiskFault, Damaged, Full, Exists}
 use Rattle.record_bodies.specs.declared.rows.Row.{Row}
-use Rattle.script_buffers.specs.Replies.{Number, Done, spelled}
+use Rattle.line_service.specs.Replies.{Number, Done, spelled}
 use Rattle.line_service.specs.declared.stops.Stop.{Stop}
 use Rattle.line_service.specs.declared.stops.Stop.TheVariants.{StoreFault}
 use Rattle.verb_rules.specs.Keys.{keys_of}

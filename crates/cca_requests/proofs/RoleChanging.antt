@@ -12,7 +12,7 @@ use Rattle.cca_roles.specs.declared.faults.RoleFault.TheVariants.{DiskFault}
 use Rattle.cca_roles.specs.declared.roles.Role.{Role}
 use Rattle.master_registers.specs.Masters.{Masters}
 use Rattle.master_registers.specs.RegisterBody.{StandsForMasters}
-use Rattle.script_buffers.specs.Replies.{Reply, Refused, Done, spelled}
+use Rattle.line_service.specs.Replies.{Reply, Refused, Done, spelled}
 use Rattle.line_service.specs.declared.stops.Stop.{Stop}
 use Rattle.line_service.specs.declared.stops.Stop.TheVariants.{ModuleFault}
 use Rattle.cca_machine.specs.State.{State, IsModuleOf}

@@ -3,7 +3,7 @@ use Rattle.std.proofs.Common.{◌≡◌, ℕ, Bool, List, [], Option, Some, Resu
 use Rattle.std.specs.Prelude.{OnOk, IfErr, IfSome, IsSome}
 use Rattle.device_cells.specs.Medium.{Medium, Told, IsSettled, From, EachImage, EachPair, Keeps}
 use Rattle.device_cells.proofs.Media.{goes_on, settled_image, each_weaker, each_pair, keeps_still, settled_kept}
-use Rattle.script_buffers.specs.Replies.{spelled, Refused}
+use Rattle.line_service.specs.Replies.{spelled, Refused}
 use Rattle.cca_roles.specs.declared.roles.Role.{Role}
 use Rattle.record_bodies.specs.StoreStands.{Agrees}
 use Rattle.record_bodies.specs.declared.rows.Row.{Row}
@@ -26,9 +26,9 @@ use Rattle.cca_machine.specs.Keys.{any_old}
 use Rattle.cca_machine.specs.Operands.{Operands, listed}
 use Rattle.cca_machine.specs.Granted.{AreGranted, any_old_key}
 use Rattle.cca_machine.specs.declared.granted.Granted.{Granted}
-use Rattle.request_verbs.specs.Deciding.{Decides, HasDrawn, IsDecided}
-use Rattle.request_verbs.specs.declared.effects.Effect.{Effect as CodeEffect}
-use Rattle.request_verbs.proofs.Acting.{any_old_are}
+use Rattle.cca_machine.specs.Deciding.{Decides, HasDrawn, IsDecided}
+use Rattle.cca_machine.specs.declared.effects.Effect.{Effect as CodeEffect}
+use Rattle.cca_machine.proofs.Acting.{any_old_are}
 
 -- ---- one disk
 

@@ -17,7 +17,7 @@ use Rattle.key_records.specs.declared.faults.RecordFault.{RecordFault}
 use Rattle.key_records.specs.declared.faults.RecordFault.TheVariants.{DiskFault, Damaged, Full, Exists}
 use Rattle.record_bodies.specs.declared.rows.Row.{Row}
 use Rattle.key_records.proofs.StoreLaws.{same_directory}
-use Rattle.script_buffers.specs.Replies.{Done, Refused, spelled}
+use Rattle.line_service.specs.Replies.{Done, Refused, spelled}
 use Rattle.line_service.specs.declared.stops.Stop.{Stop}
 use Rattle.line_service.specs.declared.stops.Stop.TheVariants.{StoreFault}
 use Rattle.verb_rules.specs.Keys.{keys_of}
@@ -27,7 +27,7 @@ use Rattle.verb_script.specs.Grammar.{Request}
 use Rattle.cca_machine.specs.Act.{Effect, Create, Delete, Write, Cells, OneCell, Outcome, cell_or_none, deleted_in, effected, refused, written_in}
 use Rattle.request_rules.specs.Standing.{StandsInStore}
 use Rattle.cca_requests.specs.Serving.{IsEither, SameBut, CarriesStore, LeavesStore}
-use Rattle.request_verbs.specs.Deciding.{IsDeleted, IsRecorded, IsWritten}
+use Rattle.cca_machine.specs.Deciding.{IsDeleted, IsRecorded, IsWritten}
 use Rattle.cca_requests.specs.Changes.{or_effected, plainly, record_stop, record_reply}
 use Rattle.device_cells.proofs.SpareLemmas.{becomes_turned}
 use Rattle.cca_requests.proofs.Leaving.{still_store_left}

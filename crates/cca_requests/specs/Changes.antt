@@ -14,14 +14,14 @@ use Rattle.master_registers.specs.declared.registers.NewState.TheVariants as new
 use Rattle.master_registers.specs.declared.registers.Registers.{Registers}
 use Rattle.master_registers.specs.declared.faults.RegisterFault.{RegisterFault}
 use Rattle.master_registers.specs.declared.faults.RegisterFault.TheVariants as fault
-use Rattle.script_buffers.specs.Replies.{Reply, Refused, Done, Text, spelled}
+use Rattle.line_service.specs.Replies.{Reply, Refused, Done, Text, spelled}
 use Rattle.line_service.specs.declared.stops.Stop.{Stop}
 use Rattle.line_service.specs.declared.stops.Stop.TheVariants.{ModuleFault, StoreFault}
 use Rattle.verb_rules.specs.Rules.{rule_number}
 use Rattle.cca_machine.specs.State.{State}
 use Rattle.cca_machine.specs.Verdict.{Questions, Refusal, first_refusal, action_questions, create_questions}
 use Rattle.cca_machine.specs.Act.{Effect, Become, Create, Outcome, state_after, state_between, fields_after, module_cells_after, store_cells_after, refused}
-use Rattle.request_verbs.specs.Deciding.{labels_after}
+use Rattle.cca_machine.specs.Deciding.{labels_after}
 use Rattle.cca_requests.specs.declared.changes.Unmade.{Unmade}
 use Rattle.cca_requests.specs.declared.changes.Unmade.TheVariants as unmade
 

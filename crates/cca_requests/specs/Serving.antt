@@ -2,8 +2,8 @@
 use Rattle.std.specs.Prelude.{◌≡◌, ◌≢◌, ◌⊎◌, ◌≤◌, ◌<◌, ℕ, List, [], length, true, false, Option, Result, Err, OnOk, OnErr, IfErr, IsOk, IsSome, IsTrue, ⊤}
 use Rattle.device_cells.specs.Medium.{Medium, Told, Keeps, From, Becomes, EachImage, EachPair}
 use Rattle.device_cells.specs.SpareBytes.{Turned}
-use Rattle.script_buffers.specs.Reading.{line_limit}
-use Rattle.script_buffers.specs.Replies.{spelled}
+use Rattle.line_service.specs.Reading.{line_limit}
+use Rattle.line_service.specs.Replies.{spelled}
 use Rattle.cca_roles.specs.RolesStand.{StandsForRoles}
 use Rattle.cca_roles.specs.declared.roles.Role.{Role}
 use Rattle.key_cells.specs.Bench.{Bench}
@@ -25,8 +25,8 @@ use Rattle.cca_machine.specs.State.{State, IsModuleOf, IsStoreOf}
 use Rattle.cca_machine.specs.Operands.{needs_store}
 use Rattle.request_rules.specs.Judging.{IsStoreStop}
 use Rattle.request_rules.specs.Standing.{HasLoaded, Tables, StandsInModule, StandsInStore, Stands}
-use Rattle.request_verbs.specs.Deciding.{GoesThrough, HasDrawn, WritesStore}
-use Rattle.request_verbs.specs.declared.effects.Effect.{Effect}
+use Rattle.cca_machine.specs.Deciding.{GoesThrough, HasDrawn, WritesStore}
+use Rattle.cca_machine.specs.declared.effects.Effect.{Effect}
 use Rattle.cca_machine.specs.Act.{Outcome, NoCell, performed}
 pub use Rattle.cca_machine.specs.Sound.{IsSound}
 pub use Rattle.cca_machine.specs.Written.{SameBut, SameButCell}

@@ -15,11 +15,11 @@ ghost use Rattle.cca_machine.specs.State.{State};
 ghost use Rattle.cca_machine.specs.Keys.{any_old};
 ghost use Rattle.cca_machine.specs.Operands.{operands, listed};
 ghost use Rattle.cca_machine.specs.Act.{Effect as MachineEffect, ChangeLabels, effected};
-ghost use Rattle.request_verbs.specs.declared.effects.Effect.TheVariants as code;
+ghost use Rattle.cca_machine.specs.declared.effects.Effect.TheVariants as code;
 ghost use Rattle.cca_requests.specs.Serving.{CarriesStore, LeavesRecords, LeavesStore};
 ghost use Rattle.cca_requests.specs.Changes.{IsAnswer, IsShortlyNamed, made_reply, made_stop, plainly, create_outcome, record_stop, record_reply};
 ghost use Rattle.request_rules.specs.Standing.{AtStore};
-ghost use Rattle.request_verbs.specs.Deciding.{IsReady, IsHeldAt, IsWritten, IsDeleted};
+ghost use Rattle.cca_machine.specs.Deciding.{IsReady, IsHeldAt, IsWritten, IsDeleted};
 
 use crate::changes::{Unmade, answer};
 use crate::endings::{end, finish};

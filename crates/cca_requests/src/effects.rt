@@ -9,18 +9,18 @@ ghost use Rattle.cca_machine.specs.Act.{or_act};
 ghost use Rattle.cca_machine.specs.Verdict.{whole_verb_verdict};
 ghost use Rattle.cca_requests.specs.Serving.{Carries, HasDisks, KeepsToEffect, Leaves};
 ghost use Rattle.request_rules.specs.Standing.{tables, At};
-ghost use Rattle.request_verbs.specs.Deciding.{IsDecided, IsReady};
+ghost use Rattle.cca_machine.specs.Deciding.{IsDecided, IsReady};
 
 use crate::changing_module::{change_registers, define_role, remove_role};
 use crate::changing_store::{create, delete, renew, write};
 use crate::endings::{finish, refuse};
+use cca_machine::Effect;
 use cca_roles::Roles;
 use device_cells::Disk;
 use key_cells::Lease;
 use key_records::Records;
 use line_service::{Shown, Stop};
 use master_registers::Registers;
-use request_verbs::Effect;
 use verb_script::ReplyBuffer;
 
 /// Does what a verb left to be done. A change reads a disk once at most, and writes and syncs it twice; re-enciphering

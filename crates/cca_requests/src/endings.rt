@@ -1,6 +1,6 @@
 //! How the reply to a request ends: one that was carried out, or one that a rule refuses.
 ghost use Rattle.std.specs.Prelude.{◌≡◌, ◌<◌, ◌≤◌, ◌+◌, ◌++◌, [], List, length};
-ghost use Rattle.script_buffers.specs.Replies.{Field, Done, Refused, spelled, written};
+ghost use Rattle.line_service.specs.Replies.{Field, Done, Refused, spelled, written};
 ghost use Rattle.verb_rules.specs.Rules.{rule_number};
 ghost use Rattle.cca_machine.specs.Keys.{warning};
 
@@ -29,7 +29,7 @@ pub(crate) fn end(reply: &mut ReplyBuffer)
 }
 
 /// Writes the reply that names the rule and the operand.
-#[tactic(auto, unfolding(script_buffers::specs::Replies::refusal))]
+#[tactic(auto, unfolding(line_service::specs::Replies::refusal))]
 pub(crate) fn refuse(reply: &mut ReplyBuffer, refusal: &Refusal)
     requires empty { reply.old ≡ [] }
     requires short { length refusal.now.operand.now < 100 }

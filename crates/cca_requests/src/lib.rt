@@ -8,6 +8,7 @@
 mod changes;
 mod changing_module;
 mod changing_store;
+mod deciding;
 mod effects;
 mod endings;
 mod performing;

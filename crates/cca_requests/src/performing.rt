@@ -12,8 +12,9 @@ ghost use Rattle.request_rules.specs.ByRecords.{RestsOnRecords};
 ghost use Rattle.cca_requests.specs.Serving.{HasDisks, IsSpelled, IsRequestStop, IsLoadedStop, Serves, Leaves, FindsDamage, SparesStore, DrawsOnly, AreRemembered};
 ghost use Rattle.request_rules.specs.Standing.{Stands, tables, At};
 ghost use Rattle.cca_machine.specs.Granted.{IsAccepted, AreGranted};
-ghost use Rattle.request_verbs.specs.Decided.{HasPassed, TakesOnly, source};
+ghost use Rattle.cca_machine.specs.Decided.{HasPassed, TakesOnly, source};
 
+use crate::deciding::decide;
 use crate::effects::carry;
 use crate::endings::refuse;
 use cca_machine::{Granted, Refusal, is_old};
@@ -24,7 +25,6 @@ use key_records::Records;
 use line_service::{Device, Shown, Stop};
 use master_registers::{LoadFault, Registers, load};
 use request_rules::{Verdict, general_rule, judge, operands_of};
-use request_verbs::{Effect, decide};
 use verb_script::{ReplyBuffer, Request};
 
 /// Judges a request, carries it out where no rule refuses it, and writes the reply into the reply buffer.

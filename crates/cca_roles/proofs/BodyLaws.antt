@@ -6,7 +6,7 @@ use Rattle.std.proofs.lemmas.Bool.{false_from_ne_true}
 use Rattle.std.proofs.lemmas.List.{append_assoc, take_at, drop_at, length-append, length-replicate}
 use Rattle.std.proofs.lemmas.Nat.{from_be_bytes-to_be_bytes_4}
 use Rattle.std.proofs.lemmas.Slice.Eq.{bytes_eq-Decides}
-use Rattle.held_names.proofs.NameLemmas.{role_short}
+use Rattle.cca_roles.specs.NameLaws.{role_short}
 use Rattle.cca_roles.specs.Points.{ArePoints, every_point, are_points}
 use Rattle.cca_roles.specs.RoleNames.{is_role_name, IsRoleName, default_name}
 use Rattle.cca_roles.specs.Roles.{role}

@@ -1,6 +1,7 @@
-pub mod PointLaws
 pub mod BodyLaws
-pub mod TableLaws
-pub mod StandLaws
+pub mod DirectoryLaws
 pub mod OpeningLaws
+pub mod PointLaws
+pub mod StandLaws
+pub mod TableLaws
 pub mod TotalLaws

@@ -10,14 +10,14 @@ use Rattle.device_cells.proofs.Media.{told_map}
 use Rattle.cca_roles.specs.Changes.{HasRoleCause}
 use Rattle.cca_roles.specs.declared.faults.RoleFault.{RoleFault}
 use Rattle.cca_roles.specs.declared.faults.RoleFault.TheVariants.{DiskFault}
-use Rattle.held_names.specs.Directory.{name_at, IsHeld}
+use Rattle.cca_roles.specs.Directory.{name_at, IsHeld}
 use Rattle.cca_roles.specs.Opening.{Opens, IsRefused, OpenedTo}
 use Rattle.cca_roles.specs.RoleBody.{ReadsPlace, slot_in}
 use Rattle.cca_roles.specs.Roles.{AreRoles, names, name_of, role_at, blank_roles}
 use Rattle.cca_roles.specs.RolesStand.{StandsForRoles, IsDamagedPlace, IsFirstDamaged, Repeats}
 use Rattle.cca_roles.specs.declared.roles.Role.{Role}
 use Rattle.cca_roles.proofs.BodyLaws.{reads_one, ReadsNothing}
-use Rattle.held_names.proofs.DirectoryLaws.{none_some}
+use Rattle.cca_roles.proofs.DirectoryLaws.{none_some}
 use Rattle.cca_roles.proofs.TableLaws.{name_of_place, role_named}
 
 module _ (image : List ℕ) (place : ℕ) (roles : List (Option Role)) (opened : OpenedTo image place roles) where

@@ -9,7 +9,7 @@ use Rattle.device_cells.specs.Medium.{Medium, Told, IsSettled, From, Becomes, Ea
 use Rattle.device_cells.specs.SpareBytes.{HasTurned}
 use Rattle.device_cells.proofs.Media.{told_at, becomes_told, becomes_weaker, each_still, each_weaker}
 use Rattle.cca_roles.specs.Changes.{ChangesRoles, HasRoleCause, HoldsEither}
-use Rattle.held_names.specs.Directory.{name_at, AreApart}
+use Rattle.cca_roles.specs.Directory.{name_at, AreApart}
 use Rattle.cca_roles.specs.RoleBody.{ReadsPlace, slot_in}
 use Rattle.cca_roles.specs.Roles.{names, name_of, role_at}
 use Rattle.cca_roles.specs.RolesStand.{StandsForRoles, roles_in, IsDamagedPlace, IsFirstDamaged}

@@ -2,11 +2,11 @@
 use Rattle.std.proofs.Common.{◌≡◌, ◌≢◌, ◌<◌, ◌≤◌, ◌+◌, ⊎_elim, ℕ, zero, suc, List, [], ◌∷◌, length, get_or, drop, set, replicate, Option, None, Some, refl, sym, ap, subst, ◌∙◌, arith}
 use Rattle.std.proofs.lemmas.Bool.{cases_eq}
 use Rattle.std.proofs.lemmas.List.{get_or-set_same, get_or-set_other, length-set, length-map, map-set, get_or_read, drop_more, drop_all}
-use Rattle.held_names.specs.Directory.{name_at, AreApart, place_of}
+use Rattle.cca_roles.specs.Directory.{name_at, AreApart, place_of}
 use Rattle.cca_roles.specs.RoleNames.{default_name}
 use Rattle.cca_roles.specs.Roles.{AreRoles, names, name_of, role_at, blank_roles, points_of}
 use Rattle.cca_roles.specs.declared.roles.Role.{Role}
-use Rattle.held_names.proofs.DirectoryLaws.{none_some, apart_blank, apart_set, held_at}
+use Rattle.cca_roles.proofs.DirectoryLaws.{none_some, apart_blank, apart_set, held_at}
 use Rattle.std.proofs.lemmas.Option.{same_Some}
 
 pub name_of_place : (s : List (Option Role)) (n : ℕ) → name_at (names s) n ≡ name_of (role_at s n)

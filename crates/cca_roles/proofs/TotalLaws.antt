@@ -2,7 +2,7 @@
 use Rattle.std.proofs.Common.{◌≡◌, ◌≢◌, ◌≤◌, ◌<◌, ◌+◌, ◌⊎◌, inl, inr, ⊎_elim, ℕ, zero, suc, Bool, true, false, List, set, Option, None, Some, refl, sym, ap, subst, arith}
 use Rattle.std.specs.Prelude.{is_some}
 use Rattle.device_cells.specs.Cells.{body}
-use Rattle.held_names.specs.Directory.{AreApart, place_of}
+use Rattle.cca_roles.specs.Directory.{AreApart, place_of}
 use Rattle.cca_roles.specs.Opening.{OpenedTo}
 use Rattle.cca_roles.specs.RoleBody.{ReadsPlace, slot_in}
 use Rattle.cca_roles.specs.RoleNames.{default_name}
@@ -10,7 +10,7 @@ use Rattle.cca_roles.specs.Roles.{AreRoles, names, name_of, blank_roles}
 use Rattle.cca_roles.specs.RolesStand.{StandsForRoles, roles_in, IsFirstDamaged}
 use Rattle.cca_roles.specs.declared.roles.Role.{Role}
 use Rattle.cca_roles.proofs.BodyLaws.{ReadsNothing, decided_place}
-use Rattle.held_names.proofs.DirectoryLaws.{apart_set, apart_none, apart_same, held_somewhere, held_nowhere}
+use Rattle.cca_roles.proofs.DirectoryLaws.{apart_set, apart_none, apart_same, held_somewhere, held_nowhere}
 use Rattle.cca_roles.proofs.OpeningLaws.{opened_first, opened_more, opened_all, refused_damaged, first_damaged}
 use Rattle.cca_roles.proofs.StandLaws.{stands_one}
 use Rattle.cca_roles.proofs.TableLaws.{blank_table, table_set}

@@ -1,7 +1,7 @@
 -- Opening a module, cell by cell.
 use Rattle.std.specs.Prelude.{◌≡◌, ◌≤◌, ◌<◌, ◌⊎◌, ◌+◌, ℕ, List, set, Option, None, Some}
 use Rattle.device_cells.specs.Cells.{body}
-use Rattle.held_names.specs.Directory.{IsHeld}
+use Rattle.cca_roles.specs.Directory.{IsHeld}
 use Rattle.cca_roles.specs.RoleBody.{ReadsPlace, slot_in}
 use Rattle.cca_roles.specs.Roles.{names, role_at}
 use Rattle.cca_roles.specs.declared.roles.Role.{Role}

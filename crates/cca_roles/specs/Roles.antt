@@ -2,7 +2,7 @@
 use Rattle.std.specs.Prelude.{◌≡◌, ℕ, ◌==◌, Bool, ◌&&◌, List, [], ◌∷◌, length, map, get_or, set, replicate, Option, None, Some, is_none, unwrap_or, bytes_eq, if◌then◌else◌}
 use Rattle.cca_roles.specs.Points.{every_point}
 use Rattle.cca_roles.specs.RoleNames.{default_name}
-use Rattle.held_names.specs.Directory.{name_at, AreApart, place_of, free_place}
+use Rattle.cca_roles.specs.Directory.{name_at, AreApart, place_of, free_place}
 use Rattle.cca_roles.specs.declared.roles.Role.{Role}
 
 abbrev pub role : List ℕ → ℕ → Role

@@ -2,7 +2,7 @@
 use Rattle.std.specs.Prelude.{◌≡◌, ◌≤◌, ◌<◌, ◌⊎◌, ◌+◌, ℕ, List, length, map, Option, Some}
 use Rattle.std.specs.List.{range_with_len}
 use Rattle.device_cells.specs.Cells.{body}
-use Rattle.held_names.specs.Directory.{AreApart}
+use Rattle.cca_roles.specs.Directory.{AreApart}
 use Rattle.cca_roles.specs.RoleBody.{ReadsPlace, slot_in}
 use Rattle.cca_roles.specs.Roles.{names, role_at}
 use Rattle.cca_roles.specs.declared.roles.Role.{Role}

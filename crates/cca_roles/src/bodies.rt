@@ -9,7 +9,7 @@ ghost use Rattle.cca_roles.specs.declared.roles.Role.{Role};
 use crate::access_points::AccessPoints;
 use crate::names::{RoleName, default_role};
 use crate::roles::Role;
-use byte_lists::is_zero;
+use key_cells::is_zero;
 
 /// What byte 0 is.
 const VERSION: u8 = 1;

@@ -2,7 +2,7 @@
 ghost use Rattle.std.specs.Prelude.{◌≡◌, ◌≢◌, ◌↔◌, ◌⊎◌, ◌+◌, ◌*◌, ◌≤◌, ◌<◌, ℕ, Option, None, Some, Result, Ok, Err, set, IfErr, IfSome, IsNone, IsTrue};
 ghost use Rattle.device_cells.specs.Medium.{Told, IsSettled};
 ghost use Rattle.cca_roles.specs.Changes.{ChangesRoles, ReplacesBody, Remembers, HasRoleCause, KeepsAllButBody};
-ghost use Rattle.held_names.specs.Directory.{AreApart};
+ghost use Rattle.cca_roles.specs.Directory.{AreApart};
 ghost use Rattle.cca_roles.specs.RoleBody.{ReadsPlace, blank_body, role_body};
 ghost use Rattle.cca_roles.specs.RoleNames.{default_name};
 ghost use Rattle.cca_roles.specs.Roles.{names, name_of, define_place, after_define, define_refused};

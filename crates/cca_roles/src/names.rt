@@ -2,9 +2,10 @@
 ghost use Rattle.std.specs.Prelude.{◌≡◌};
 ghost use Rattle.cca_roles.specs.RoleNames.{default_name, is_role_name};
 ghost use Rattle.std.proofs.Common.{arith};
-ghost use Rattle.held_names.proofs.NameLemmas.{role_short};
+ghost use Rattle.cca_roles.specs.NameLaws.{role_short};
 
-use held_names::{Form, FormedText, is_role_name};
+use crate::formed_texts::{Form, FormedText};
+use crate::forms::is_role_name;
 
 /// The form of a role's name.
 pub struct RoleForm;

@@ -1,7 +1,7 @@
 //! The roles that are held, as the memory knows them.
 ghost use Rattle.std.specs.Prelude.{◌≡◌, ◌≢◌, ◌+◌, ◌≤◌, ◌<◌, None, Some, length, set};
 ghost use Rattle.std.specs.Prelude.{IfSome, IsNone, IsTrue, IsFalse, option_map};
-ghost use Rattle.held_names.specs.Directory.{place_of, free_place, AreApart, IsFresh, IsHeld};
+ghost use Rattle.cca_roles.specs.Directory.{place_of, free_place, AreApart, IsFresh, IsHeld};
 ghost use Rattle.cca_roles.specs.Points.{includes};
 ghost use Rattle.cca_roles.specs.Roles.{AreRoles, blank_roles, names, name_of, points_of};
 ghost use Rattle.cca_roles.specs.RoleNames.{default_name};

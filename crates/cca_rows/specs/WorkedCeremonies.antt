@@ -1,6 +1,6 @@
 -- Key ceremonies whose replies are known from outside, with the replies that the machine gives.
 use Rattle.std.specs.Prelude.{◌≡◌, ℕ, List, [], ◌∷◌, ◌++◌, codes}
-use Rattle.script_buffers.specs.Lines.{newline}
+use Rattle.line_service.specs.Lines.{newline}
 use Rattle.cca_machine.specs.State.{blank_state}
 use Rattle.cca_machine.specs.Session.{replies}
 

@@ -5,7 +5,7 @@ use Rattle.key_tokens.specs.Denotes.{Denoted}
 use Rattle.record_bodies.specs.Further.{further}
 use Rattle.record_bodies.specs.declared.actions.StoreAction.{StoreAction}
 use Rattle.record_bodies.specs.declared.actions.StoreAction.TheVariants.{Renew, Ahead, Drop}
-use Rattle.script_buffers.specs.Replies.{Field}
+use Rattle.line_service.specs.Replies.{Field}
 use Rattle.verb_script.specs.Grammar.{Request, Spells}
 use Rattle.verb_script.specs.declared.rows.RequestName.{RequestName}
 use Rattle.verb_script.specs.declared.rows.RequestName.TheVariants.{Csnbktp, Csnbcki, CsnbkgnOp, CsnbkgnPair, CsnbkpiFirst, CsnbkpiMiddle, Csnbkim, Csnbpex, Reencipher, ReencipherAhead, ReencipherDrop}

@@ -5,8 +5,8 @@ use Rattle.device_cells.specs.Faults.{Rose}
 use Rattle.device_cells.specs.Medium.{Medium, Told, EachImage}
 use Rattle.device_cells.specs.WhereTold.{WhereTold}
 use Rattle.device_cells.proofs.Media.{each_still, each_weaker, told_from, told_at}
-use Rattle.script_buffers.specs.Lines.{lines, EndsLine}
-use Rattle.script_buffers.specs.Reading.{input_limit}
+use Rattle.line_service.specs.Lines.{lines, EndsLine}
+use Rattle.line_service.specs.Reading.{input_limit}
 use Rattle.line_service.specs.Devices.{Span, DiskLeft, TellsFault, DamageTold, Devices, devices, Outside, outside}
 use Rattle.line_service.specs.Machine.{World, world}
 use Rattle.line_service.specs.Running.{ServesSound, Untouched}

@@ -14,8 +14,8 @@ use Rattle.line_service.specs.Answering.{OnDisks, Stands}
 use Rattle.line_service.specs.declared.stops.Stop.{Stop}
 use Rattle.cca_machine.specs.Coprocessor.{cca}
 use Rattle.line_service.specs.Serving.{IsTheLine}
-use Rattle.script_buffers.specs.Reading.{Reading}
-use Rattle.script_buffers.specs.declared.lines.Taken.{Taken}
+use Rattle.line_service.specs.Reading.{Reading}
+use Rattle.line_service.specs.declared.lines.Taken.{Taken}
 use Rattle.store_unload.specs.Opening.{AreKnown, remembers}
 use Rattle.store_unload.proofs.KnownLemmas.{known_remembers, state_at}
 use Rattle.cca_tool.specs.Sessions.{Memory, IsWaitingLine}

@@ -6,8 +6,8 @@ use Rattle.std.proofs.Math.Seq.{take-nil}
 use Rattle.device_cells.specs.Medium.{Medium, IsSettled, From, Becomes, EachImage}
 use Rattle.device_cells.specs.SpareBytes.{Turned}
 use Rattle.device_cells.proofs.Media.{each_weaker, image_now}
-use Rattle.script_buffers.specs.Reading.{line_limit}
-use Rattle.script_buffers.specs.Replies.{Refused, spelled}
+use Rattle.line_service.specs.Reading.{line_limit}
+use Rattle.line_service.specs.Replies.{Refused, spelled}
 use Rattle.verb_script.specs.Grammar.{Request, Spells}
 use Rattle.verb_script.specs.Requests.{request_of}
 use Rattle.cca_machine.specs.State.{State, IsModuleOf, IsStoreOf}
@@ -19,7 +19,7 @@ use Rattle.cca_machine.proofs.DrawLaws.{early_some, verdict_empty}
 use Rattle.cca_machine.proofs.LineLaws.{line-no_request, line-too_long, line-request, line-drawn}
 use Rattle.request_rules.specs.Standing.{Tables, Stands as StandsFor}
 use Rattle.cca_requests.specs.Serving.{Serves as Performs, IsDone, IsAround, IsEither, IsFault, SameBut}
-use Rattle.request_verbs.specs.Deciding.{HasDrawn}
+use Rattle.cca_machine.specs.Deciding.{HasDrawn}
 use Rattle.line_service.specs.Answering.{Holds, Stands, Steps, Around, Both, Moves, Stays, Serves, Unwritten, WritesWithin, Turns}
 use Rattle.line_service.specs.Machine.{World, world}
 use Rattle.line_service.specs.Stops.{IsLineStop}

@@ -5,12 +5,12 @@ use Rattle.std.specs.Io.KnownBytes.{IsAtEnd}
 use Rattle.device_cells.specs.Faults.{Rose}
 use Rattle.device_cells.specs.WhereTold.{WhereTold}
 use Rattle.device_cells.proofs.WhereToldLemmas.{told_weaker}
-use Rattle.script_buffers.specs.Lines.{NoNewline}
-use Rattle.script_buffers.specs.Reading.{Advances, LosesPart, Reading, Shows, Takes, blank, given, input_limit}
-use Rattle.script_buffers.specs.declared.lines.LineFault.{LineFault}
-use Rattle.script_buffers.specs.declared.lines.LineFault.TheVariants as line_fault
-use Rattle.script_buffers.specs.declared.lines.Taken.{Taken}
-use Rattle.script_buffers.specs.declared.lines.Taken.TheVariants.{End}
+use Rattle.line_service.specs.Lines.{NoNewline}
+use Rattle.line_service.specs.Reading.{Advances, LosesPart, Reading, Shows, Takes, blank, given, input_limit}
+use Rattle.line_service.specs.declared.lines.LineFault.{LineFault}
+use Rattle.line_service.specs.declared.lines.LineFault.TheVariants as line_fault
+use Rattle.line_service.specs.declared.lines.Taken.{Taken}
+use Rattle.line_service.specs.declared.lines.Taken.TheVariants.{End}
 use Rattle.line_service.specs.Devices.{TellsFault}
 use Rattle.line_service.specs.declared.stops.Stop.{Stop}
 use Rattle.line_service.specs.declared.stops.Stop.TheVariants.{InputLimit, ReadFault}

@@ -1,7 +1,7 @@
 -- The replies end with a newline.
 use Rattle.std.proofs.Common.{◌≡◌, ℕ, List, [], ◌∷◌, ◌++◌, refl, sym, ap, ◌∙◌, subst, inl, inr, append_assoc, append-nil}
-use Rattle.script_buffers.specs.Lines.{newline, EndsLine}
-use Rattle.script_buffers.specs.Replies.{Reply, Refused, Done, spelled, refusal, written}
+use Rattle.line_service.specs.Lines.{newline, EndsLine}
+use Rattle.line_service.specs.Replies.{Reply, Refused, Done, spelled, refusal, written}
 use Rattle.line_service.specs.Machine.{Outcome}
 use Rattle.line_service.specs.Serving.{session, Runs}
 use Rattle.cca_machine.specs.State.{State}

@@ -8,8 +8,8 @@ use Rattle.line_service.specs.declared.serving.Served.{Served}
 use Rattle.line_service.specs.declared.stops.Device.{Device}
 use Rattle.line_service.specs.declared.stops.Stop.{Stop}
 use Rattle.line_service.specs.declared.stops.Stop.TheVariants.{ReadFault, WriteFault, EntropyFault, ModuleFault, StoreFault, Damaged, InputLimit}
-use Rattle.script_buffers.specs.Reading.{Reading}
-use Rattle.script_buffers.specs.declared.lines.Taken.{Taken}
+use Rattle.line_service.specs.Reading.{Reading}
+use Rattle.line_service.specs.declared.lines.Taken.{Taken}
 use Rattle.cca_tool.specs.Sessions.{Memory, ShowsWaiting}
 
 -- a stop names a cell of its device

@@ -2,10 +2,10 @@
 use Rattle.std.specs.Prelude.{⊤, ◌≡◌, ◌⊎◌, ◌↔◌, ◌+◌, ◌<◌, ◌≤◌, ◌++◌, ℕ, List, [], length, Option, Some, None, IsTrue, IfOk, OnErr, replicate, Result, Ok, Err}
 use Rattle.std.specs.Io.KnownBytes.{IsAtEnd}
 use Rattle.device_cells.specs.WhereTold.{WhereTold}
-use Rattle.script_buffers.specs.Lines.{NoNewline}
-use Rattle.script_buffers.specs.Reading.{Reading, blank, given, input_limit, Takes, Shows, Advances, LosesPart}
-use Rattle.script_buffers.specs.declared.lines.Taken.{Taken}
-use Rattle.script_buffers.specs.declared.lines.Taken.TheVariants.{Line, TooLong, End}
+use Rattle.line_service.specs.Lines.{NoNewline}
+use Rattle.line_service.specs.Reading.{Reading, blank, given, input_limit, Takes, Shows, Advances, LosesPart}
+use Rattle.line_service.specs.declared.lines.Taken.{Taken}
+use Rattle.line_service.specs.declared.lines.Taken.TheVariants.{Line, TooLong, End}
 use Rattle.line_service.specs.Serving.{IsTheLine}
 use Rattle.line_service.specs.declared.stops.Stop.{Stop}
 use Rattle.line_service.specs.declared.stops.Stop.TheVariants.{ReadFault, WriteFault, EntropyFault, ModuleFault, StoreFault, Damaged, InputLimit}

@@ -1,6 +1,6 @@
 //! What answers the lines of the coprocessor.
 ghost use Rattle.std.specs.Prelude.{◌≡◌, ◌≤◌, codes};
-ghost use Rattle.script_buffers.specs.Replies.{Refused, spelled};
+ghost use Rattle.line_service.specs.Replies.{Refused, spelled};
 ghost use Rattle.request_rules.specs.Standing.{tables};
 ghost use Rattle.cca_machine.specs.Coprocessor.{cca};
 ghost use Rattle.store_unload.specs.Opening.{AreKnown, remembers};

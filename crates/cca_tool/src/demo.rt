@@ -1,20 +1,17 @@
 //! A demo: lines that are made up are served, and the replies are counted.
-ghost use Rattle.std.specs.Prelude.{◌≡◌, ◌++◌, ◌+◌, ◌≤◌, [], IfOk, length};
+ghost use Rattle.std.specs.Prelude.{◌≡◌, ◌≤◌, [], IfOk};
 ghost use Rattle.key_cells.specs.Bench.{blank_bench};
-ghost use Rattle.script_buffers.specs.Replies.{number_field, reply_limit};
 ghost use Rattle.line_service.specs.Answering.{IsSound};
 ghost use Rattle.line_service.specs.Devices.{HaveSizes};
 ghost use Rattle.cca_machine.specs.State.{module_size, store_size};
 ghost use Rattle.cca_machine.specs.Coprocessor.{cca};
-ghost use Rattle.command_words.specs.Demo.{demo_lines, demo_text};
-ghost use Rattle.command_words.specs.Counting.{counted_summary};
+ghost use Rattle.command_words.specs.Demo.{demo_text};
 ghost use Rattle.cca_tool.specs.Running.{DemoRan, DemoUntouched, DisksUncalled};
 ghost use Rattle.store_unload.specs.Statuses.{status_of_lem};
 
 use crate::session::Session;
-use command_words::{DemoText, Tally, Unused};
+use command_words::{DemoText, Tally, Unused, put_summary};
 use device_cells::{Disk, NoMemory, Sink};
-use itoa::Buffer;
 use key_cells::Workbench;
 use line_service::{Shown, ShownOutside, Stop, send};
 use std::alloc::Global;
@@ -116,39 +113,4 @@ fn serve_text<K: Sink, M: Disk, D: Disk>(
         }
         Err(stop) => Err(stop),
     }
-}
-
-// How many lines the demo has.
-fn line_count(number: u32) -> u32
-    requires { number ≤ 1000 }
-    ensures { result ≡ length (demo_lines number) }
-{
-    10 + 4 * number + (number + 1) / 2
-}
-
-// Writes the summary of the replies.
-#[tactic(auto, unfolding(command_words::specs::Demo::summary_text))]
-fn put_summary(line: &mut ReplyBuffer, number: u32, tally: &Tally)
-    requires empty { line.old ≡ [] }
-    requires number { number ≤ 1000 }
-    ensures { line.new ≡ counted_summary number tally.now }
-{
-    let mut digits = Buffer::new();
-    line.more(b"demo ");
-    line.more(digits.format(number).as_bytes());
-    line.more(b":");
-    put_number(line, "lines", line_count(number));
-    put_number(line, "ok", tally.ok());
-    put_number(line, "refused", tally.refused());
-    put_number(line, "old", tally.old());
-    line.finish();
-}
-
-// Writes a field whose value is a number, which has at most ten digits.
-fn put_number(line: &mut ReplyBuffer, name: &str, value: u32)
-    requires { length line.old + length name.now + 12 ≤ reply_limit }
-    ensures bytes { line.new ≡ line.old ++ number_field name.now value }
-    ensures size { length line.new ≤ length line.old + length name.now + 12 }
-{
-    line.number(name, value);
 }

@@ -2,7 +2,7 @@
 ghost use Rattle.std.specs.Prelude.{◌≡◌, ℕ, List, [], None, IsSome, IsTrue, Err, OnOk, OnErr, IfOk, IfErr};
 ghost use Rattle.std.specs.Io.KnownBytes.{IsAtEnd};
 ghost use Rattle.key_cells.specs.Bench.{blank_bench};
-ghost use Rattle.script_buffers.specs.Reading.{blank};
+ghost use Rattle.line_service.specs.Reading.{blank};
 ghost use Rattle.line_service.specs.Answering.{OnDisks, IsSound, Serves};
 ghost use Rattle.line_service.specs.Devices.{HaveSizes, AreSettled, BothSettled, DamageTold, DevicesLeft, OpeningLeft, OutsideLeft, TellsFault, Undamaged};
 ghost use Rattle.line_service.specs.Machine.{world};

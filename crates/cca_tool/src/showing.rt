@@ -18,7 +18,7 @@ use audit_trail::{TRAIL_LEN, TrailFault};
 use audited_service::{ListFault, list_trail};
 use command_words::Words;
 use device_cells::{Disk, Sink};
-use script_buffers::ReplyBuffer;
+use line_service::ReplyBuffer;
 use std::alloc::Global;
 use store_unload::Status;
 

@@ -3,8 +3,8 @@ use Rattle.std.proofs.Common.{◌≡◌, ◌≢◌, ◌⊎◌, ℕ, ◌+◌, ◌
 use Rattle.std.specs.Prelude.{count_ones, if◌then◌else◌}
 use Rattle.std.specs.Int.{bit_at}
 use Rattle.std.proofs.lemmas.Bool.{cases_eq}
-use Rattle.byte_lists.specs.Bytes.{is_zero, IsZero}
-use Rattle.byte_lists.proofs.ByteLemmas.{is_zero-Decides, zeros_of}
+use Rattle.key_cells.specs.Bytes.{is_zero, IsZero}
+use Rattle.key_cells.proofs.ByteLemmas.{is_zero-Decides, zeros_of}
 use Rattle.cca_vectors.specs.Bits.{bit}
 use Rattle.cca_vectors.specs.ClosedBits.{HasClosed}
 use Rattle.cca_vectors.specs.Closing.{closed_byte, closed_half, closed_to_export, closed_zero}

@@ -7,8 +7,8 @@ use Rattle.std.proofs.lemmas.Bool.{cases_eq, cases_lt}
 use Rattle.std.proofs.lemmas.List.{get_or-set_same, get_or-set_other, get_or-take, get_or-drop, get_or_past, get_or_default, length-set, length-append, length-take, length-drop, set_comm, take_at, drop_at, take_all}
 use Rattle.std.proofs.lemmas.List.Elements.{All-append}
 use lib.Count.{ones}
-use Rattle.byte_lists.specs.Bytes.{is_zero, IsZero}
-use Rattle.byte_lists.proofs.ByteLemmas.{is_zero-Decides, zeros_of}
+use Rattle.key_cells.specs.Bytes.{is_zero, IsZero}
+use Rattle.key_cells.proofs.ByteLemmas.{is_zero-Decides, zeros_of}
 use Rattle.cca_vectors.specs.Bits.{bit, even_byte}
 use Rattle.cca_vectors.specs.Closing.{closed_byte, closed_half, closed_to_export, closed_zero}
 use Rattle.cca_vectors.specs.Permissions.{is_exportable}

@@ -7,8 +7,8 @@ use Rattle.std.proofs.lemmas.List.{get_or-set_same, get_or-set_other, length-set
 use Rattle.std.proofs.lemmas.List.Elements.{All-append}
 use Rattle.std.proofs.lemmas.Nat.Bits.{bit_at-lt, bit_at-pow_other, bit_at_xor}
 use lib.Count.{ones}
-use Rattle.byte_lists.specs.Bytes.{is_zero, IsZero}
-use Rattle.byte_lists.proofs.ByteLemmas.{is_zero-Decides, zeros_of}
+use Rattle.key_cells.specs.Bytes.{is_zero, IsZero}
+use Rattle.key_cells.proofs.ByteLemmas.{is_zero-Decides, zeros_of}
 use Rattle.cca_vectors.specs.Bits.{bit, even_byte}
 use Rattle.cca_vectors.specs.PartVectors.{as_part, part_half}
 use Rattle.cca_vectors.specs.Vectors.{left_of, right_of, form_of, length_of, is_part_of, single_length, right_of_double, right_of_unique, IsEven, IsAntiVariant, IsRightHalfFor, HasKeyForm, IsValid}

@@ -10,8 +10,8 @@ use Rattle.std.proofs.lemmas.Bool.Decides.{Decides-eqb, Decides-by_and, Decides-
 use Rattle.std.proofs.lemmas.Nat.Bits.{same_from_bits_below}
 use Rattle.std.proofs.lemmas.Slice.Eq.{bytes_eq-Decides}
 use Rattle.std.proofs.lemmas.List.{get_or-set_same, get_or-set_other, length-set, ext_get_or, length-take, length-drop, get_or-take, get_or-drop, get_or_past, get_or_default}
-use Rattle.byte_lists.specs.Bytes.{is_zero}
-use Rattle.byte_lists.proofs.ByteLemmas.{is_zero-Decides}
+use Rattle.key_cells.specs.Bytes.{is_zero}
+use Rattle.key_cells.proofs.ByteLemmas.{is_zero-Decides}
 use Rattle.cca_vectors.specs.Bits.{bit, even_byte}
 use Rattle.cca_vectors.specs.Checks.{check, first_failing}
 use Rattle.cca_vectors.specs.Vectors.{left_of, right_of, form_of, single_length, left_of_double, right_of_double, left_of_unique, right_of_unique, IsEven, IsAntiVariant, IsRightHalfFor, HasKeyForm, IsValid}

@@ -1,6 +1,6 @@
 -- A control vector made one that forbids export.
 use Rattle.std.specs.Prelude.{ℕ, ◌-◌, ◌*◌, ◌/◌, ◌%◌, List, ◌++◌, slice_index, slice_set, if◌then◌else◌}
-use Rattle.byte_lists.specs.Bytes.{is_zero}
+use Rattle.key_cells.specs.Bytes.{is_zero}
 use Rattle.cca_vectors.specs.Bits.{even_byte}
 use Rattle.cca_vectors.specs.DefaultVectors.{vector_with}
 use Rattle.cca_vectors.specs.Permissions.{is_exportable}

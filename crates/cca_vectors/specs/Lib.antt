@@ -9,4 +9,4 @@ pub mod DefaultVectors
 pub mod ClosedBits
 pub mod Closing
 pub mod PartVectors
-pub use Rattle.byte_lists.specs.Bytes
+pub use Rattle.key_cells.specs.Bytes

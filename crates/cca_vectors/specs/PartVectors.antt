@@ -1,6 +1,6 @@
 -- The control vector of a key made that of a key part, and that of a key part made that of the whole key.
 use Rattle.std.specs.Prelude.{ℕ, ◌-◌, ◌/◌, ◌%◌, ◌^◌, List, ◌++◌, slice_index, slice_set, bit_xor, if◌then◌else◌}
-use Rattle.byte_lists.specs.Bytes.{is_zero}
+use Rattle.key_cells.specs.Bytes.{is_zero}
 use Rattle.cca_vectors.specs.Vectors.{left_of, right_of}
 
 -- the same bytes with bit n changed

@@ -3,7 +3,7 @@ use Rattle.std.specs.Prelude.{ℕ, Bool, nat_le, ◌&&◌, ◌||◌, List, ◌==
 use Rattle.cca_vectors.specs.declared.key_usage.Usage.{Usage}
 use Rattle.cca_vectors.specs.declared.key_usage.Usage.TheVariants as usage
 use Rattle.cca_vectors.specs.Bits.{bit}
-use Rattle.byte_lists.specs.Bytes.{is_zero}
+use Rattle.key_cells.specs.Bytes.{is_zero}
 use Rattle.cca_vectors.specs.Vectors.{left_of}
 
 -- the permission bit of each use

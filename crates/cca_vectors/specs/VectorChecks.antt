@@ -3,7 +3,7 @@
 use Rattle.std.specs.Prelude.{ℕ, ◌+◌, ◌*◌, ◌%◌, Bool, not, ◌&&◌, ◌||◌, List, [], ◌∷◌, slice_index, slice_set, count_ones, ◌==◌}
 use Rattle.std.specs.List.{list_all}
 use Rattle.std.specs.Str.{bytes_eq}
-use Rattle.byte_lists.specs.Bytes.{is_zero}
+use Rattle.key_cells.specs.Bytes.{is_zero}
 use Rattle.cca_vectors.specs.declared.control_vector.VectorFault.{VectorFault}
 use Rattle.cca_vectors.specs.declared.control_vector.VectorFault.TheVariants.{Parity, AntiVariant, Form}
 use Rattle.cca_vectors.specs.Bits.{bit, even_byte}

@@ -2,7 +2,7 @@
 -- its right half. The bits of each half are counted from 0.
 use Rattle.std.specs.Prelude.{◌≡◌, ◌≢◌, ◌⊎◌, ℕ, ◌+◌, ◌*◌, ◌%◌, ◌<◌, Bool, List, length, slice_index, slice_range, count_ones, ◌==◌, if◌then◌else◌}
 use Rattle.std.specs.List.{All}
-use Rattle.byte_lists.specs.Bytes.{IsZero}
+use Rattle.key_cells.specs.Bytes.{IsZero}
 use Rattle.cca_vectors.specs.Bits.{bit}
 
 -- the vector of the left half of the key

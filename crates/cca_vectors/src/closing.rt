@@ -1,6 +1,6 @@
 //! What changes of a control vector that is made one that forbids export.
 ghost use Rattle.std.specs.Prelude.{◌≡◌, ℕ, List, false};
-ghost use Rattle.byte_lists.specs.Bytes.{is_zero};
+ghost use Rattle.key_cells.specs.Bytes.{is_zero};
 ghost use Rattle.cca_vectors.specs.Closing.{closed_to_export};
 ghost use Rattle.cca_vectors.specs.ClosedBits.{HasClosed};
 ghost use Rattle.cca_vectors.specs.Vectors.{IsValid, left_of, right_of};

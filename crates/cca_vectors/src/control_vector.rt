@@ -12,7 +12,7 @@ ghost use Rattle.cca_vectors.specs.PartVectors.{as_part};
 use crate::key_class::Class;
 use crate::key_part::part_half;
 use crate::key_usage::{Usage, is_data_bit};
-use byte_lists::is_zero;
+use key_cells::is_zero;
 use std::marker::Model;
 use thiserror::Error;
 

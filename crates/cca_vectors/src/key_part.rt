@@ -1,11 +1,11 @@
 //! The bits of a control vector that say whether a key is a part.
 ghost use Rattle.std.specs.Prelude.{◌≡◌, ◌≢◌, ◌<◌, ◌-◌, not, false, length, ℕ, List};
-ghost use Rattle.byte_lists.specs.Bytes.{is_zero as is_zero_bytes};
+ghost use Rattle.key_cells.specs.Bytes.{is_zero as is_zero_bytes};
 ghost use Rattle.cca_vectors.specs.Bits.{bit as bit_of};
 ghost use Rattle.cca_vectors.specs.PartVectors.{as_part, part_half, with_bit_changed};
 ghost use Rattle.cca_vectors.specs.Vectors.{IsValid, is_part_of, left_of, length_of, right_of};
 
-use byte_lists::is_zero;
+use key_cells::is_zero;
 
 /// The bit that says that a key is a part.
 const KEY_PART: usize = 44;

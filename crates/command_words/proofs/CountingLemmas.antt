@@ -6,8 +6,8 @@ use Rattle.std.proofs.lemmas.List.Elements.{All-append, All-nil, All-cons}
 use Rattle.std.proofs.lemmas.List.{take_more}
 use Rattle.std.proofs.lemmas.List.Sums.{fold-append}
 use Rattle.std.proofs.lemmas.Slice.Eq.{bytes_eq-Decides}
-use Rattle.script_buffers.specs.Lines.{newline, lines, NoNewline, EndsLine}
-use Rattle.script_buffers.proofs.LineLemmas.{lines-nil, lines-whole}
+use Rattle.line_service.specs.Lines.{newline, lines, NoNewline, EndsLine}
+use Rattle.line_service.proofs.CutLines.{lines-nil, lines-whole}
 use Rattle.command_words.specs.declared.counts.Begun.{Begun}
 use Rattle.command_words.specs.declared.counts.Begun.TheVariants.{Empty, FirstO, FirstN, Done, Refused, Other}
 use Rattle.command_words.specs.declared.counts.Counts.{Counts}

@@ -5,9 +5,9 @@ use Rattle.std.specs.List.{list_all}
 use Rattle.std.specs.Fmt.{digit_glyph}
 use Rattle.std.proofs.lemmas.Bool.{eqb-true, eqb-false, ne_eqb}
 use Rattle.std.proofs.lemmas.List.Elements.{All-nil, All-cons, All-head, All-tail, All-append, All-from_recursion}
-use Rattle.script_buffers.specs.Lines.{newline, lines, NoNewline}
-use Rattle.script_buffers.proofs.LineLemmas.{lines-nil, lines-whole}
-use Rattle.script_buffers.specs.Reading.{input_limit}
+use Rattle.line_service.specs.Lines.{newline, lines, NoNewline}
+use Rattle.line_service.proofs.CutLines.{lines-nil, lines-whole}
+use Rattle.line_service.specs.Reading.{input_limit}
 use Rattle.command_words.specs.Demo.{demo_lines, demo_text, joined, for_each, key_set, key_made, key_used, key_tested, key_deleted, first_part, second_part, four_digits, four_hex_digits}
 
 -- ---- lines and their text

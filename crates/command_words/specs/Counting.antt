@@ -1,6 +1,6 @@
 -- Counting replies byte by byte.
 use Rattle.std.specs.Prelude.{ℕ, ◌+◌, ◌-◌, ◌^◌, ◌==◌, ◌&&◌, nat_lt, min, Bool, true, false, List, codes, fold, slice_index, if◌then◌else◌}
-use Rattle.script_buffers.specs.Lines.{newline}
+use Rattle.line_service.specs.Lines.{newline}
 use Rattle.command_words.specs.Demo.{summary_text}
 use Rattle.command_words.specs.declared.counts.Begun.{Begun}
 use Rattle.command_words.specs.declared.counts.Begun.TheVariants.{Empty, FirstO, FirstN, Done, Refused, Other}

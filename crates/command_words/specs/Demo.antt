@@ -2,8 +2,8 @@
 use Rattle.std.specs.Prelude.{◌≡◌, ◌⊎◌, ◌≤◌, ◌==◌, ◌+◌, ◌-◌, ◌/◌, ◌%◌, ◌^◌, ℕ, zero, suc, min, Bool, false, List, [], ◌∷◌, ◌++◌, codes, decimal, length, drop, take, count_by, flat_map, if◌then◌else◌}
 use Rattle.std.specs.Fmt.{digit_glyph}
 use Rattle.std.specs.Str.{bytes_eq}
-use Rattle.script_buffers.specs.Lines.{newline, lines}
-use Rattle.script_buffers.specs.Replies.{number_field}
+use Rattle.line_service.specs.Lines.{newline, lines}
+use Rattle.line_service.specs.Replies.{number_field}
 
 -- ---- the words
 

@@ -2,7 +2,7 @@
 use Rattle.std.specs.Prelude.{◌≡◌, [], ◌∷◌, ◌++◌, ℕ, List, codes, length}
 use Rattle.audit_trail.specs.Entries.{filled}
 use Rattle.audit_trail.specs.declared.entries.Entry.{Entry}
-use Rattle.script_buffers.specs.Lines.{newline}
+use Rattle.line_service.specs.Lines.{newline}
 use Rattle.audited_service.specs.Lines.{record_line}
 
 -- a record by its rule, role, verb and label

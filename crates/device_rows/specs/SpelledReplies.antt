@@ -1,7 +1,7 @@
 -- Replies, and the bytes of their lines.
 use Rattle.std.specs.Prelude.{◌≡◌, [], ◌∷◌, ◌++◌, codes}
-use Rattle.script_buffers.specs.Lines.{newline}
-use Rattle.script_buffers.specs.Replies.{Hex, Text, Number, Refused, Done, spelled}
+use Rattle.line_service.specs.Lines.{newline}
+use Rattle.line_service.specs.Replies.{Hex, Text, Number, Refused, Done, spelled}
 
 pub record RepliesSpelled : Type 0 where
   pub bare : spelled (Done []) ≡ codes "OK" ++ newline ∷ []

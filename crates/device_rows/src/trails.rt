@@ -1,7 +1,7 @@
 //! A trail that is listed: its lines from the bytes of records, and a fault at each call of a device.
 use audit_trail::{TRAIL_LEN, TrailFault};
 use audited_service::{ListFault, list_trail};
-use script_buffers::ReplyBuffer;
+use line_service::ReplyBuffer;
 use slot_disk::{Disk, MemoryDisk, MemorySink};
 use std::alloc::Global;
 use std::process::Abort;

@@ -3,8 +3,8 @@ use Rattle.std.proofs.Common.{◌≡◌, ℕ, ◌+◌, ◌-◌, ◌≤◌, true,
 use Rattle.std.specs.Prelude.{All, fold, slice_range}
 use Rattle.std.proofs.lemmas.List.{length-take-le}
 use Rattle.std.proofs.lemmas.List.Elements.{All-cons, All-head, All-nil, All-tail}
-use Rattle.byte_lists.specs.Bytes.{AreBytes, xor}
-use Rattle.byte_lists.proofs.ByteLemmas.{xor-zeros}
+use Rattle.key_cells.specs.Bytes.{AreBytes, xor}
+use Rattle.key_cells.proofs.ByteLemmas.{xor-zeros}
 use Rattle.cca_vectors.specs.PartVectors.{as_part}
 use Rattle.cca_vectors.specs.Vectors.{is_part_of, length_of}
 use Rattle.cca_vectors.specs.declared.key_type.KeyType.{KeyType}

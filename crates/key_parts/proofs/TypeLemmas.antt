@@ -1,7 +1,7 @@
 -- The control vectors of types are those of whole keys.
 use Rattle.std.proofs.Common.{◌≡◌, ℕ, Bool, true, false, List, [], ◌∷◌, Option, None, Some, eqb, refl, ap, ◌∙◌}
 use Rattle.std.specs.Prelude.{IfSome, is_none, not, option_map, unwrap_or, if◌then◌else◌}
-use Rattle.byte_lists.specs.Bytes.{is_zero}
+use Rattle.key_cells.specs.Bytes.{is_zero}
 use Rattle.cca_vectors.specs.Checks.{check, first_failing}
 use Rattle.cca_vectors.specs.DefaultVectors.{default_vector, double_default, single_default, vector_with}
 use Rattle.cca_vectors.specs.PartVectors.{as_part}

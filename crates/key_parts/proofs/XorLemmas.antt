@@ -5,8 +5,8 @@ use Rattle.std.specs.Int.Bits.{xor_assoc, xor_self, xor_zero_l}
 use Rattle.std.proofs.lemmas.Nat.{xor_comm, xor_of_8}
 use Rattle.std.proofs.lemmas.List.{length-replicate}
 use Rattle.std.proofs.lemmas.List.Elements.{All-cons, All-from_get_or, All-get_or, All-head, All-replicate, All-tail}
-use Rattle.byte_lists.specs.Bytes.{AreBytes, xor}
-use Rattle.byte_lists.proofs.ByteLemmas.{get_or-xor, length-xor, xor-zeros}
+use Rattle.key_cells.specs.Bytes.{AreBytes, xor}
+use Rattle.key_cells.proofs.ByteLemmas.{get_or-xor, length-xor, xor-zeros}
 use Rattle.key_parts.specs.Parts.{IsOnlyPart, xor_all}
 
 -- ---- two lists

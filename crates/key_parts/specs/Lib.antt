@@ -1,6 +1,6 @@
 pub mod Parts
 pub mod Changes
-pub use Rattle.byte_lists.specs.Bytes
+pub use Rattle.key_cells.specs.Bytes
 pub use Rattle.cca_vectors.specs.PartVectors
 pub use Rattle.key_cells.specs.Bench
 pub use Rattle.key_cells.specs.Lease

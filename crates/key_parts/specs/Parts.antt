@@ -1,6 +1,6 @@
 -- Keys that are brought in by parts. Each part has as many bytes as the key, which is the exclusive or (XOR) of all.
 use Rattle.std.specs.Prelude.{◌≡◌, ℕ, Bool, true, false, List, [], ◌∷◌, ◌++◌, length, replicate, fold, if◌then◌else◌}
-use Rattle.byte_lists.specs.Bytes.{AreBytes, xor}
+use Rattle.key_cells.specs.Bytes.{AreBytes, xor}
 use Rattle.cca_vectors.specs.PartVectors.{as_part}
 use Rattle.cca_vectors.specs.declared.key_type.KeyType.{KeyType}
 use Rattle.key_cells.specs.Bench.{Bench}

@@ -1,6 +1,6 @@
 //! What keys in parts are, and why a part says nothing of the key.
 ghost use Rattle.std.specs.Prelude.{◌≡◌, ◌∷◌, ◌++◌, [], All, Some, true, false, ℕ, List};
-ghost use Rattle.byte_lists.specs.Bytes.{AreBytes};
+ghost use Rattle.key_cells.specs.Bytes.{AreBytes};
 ghost use Rattle.cca_vectors.specs.Checks.{first_failing};
 ghost use Rattle.cca_vectors.specs.Vectors.{is_part_of};
 ghost use Rattle.cca_vectors.specs.declared.key_type.KeyType.{KeyType};

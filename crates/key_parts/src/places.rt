@@ -1,6 +1,6 @@
 //! The places of the workbench in which a key is made of its parts.
 ghost use Rattle.std.specs.Prelude.{◌≡◌, length, replicate};
-ghost use Rattle.byte_lists.specs.Bytes.{xor};
+ghost use Rattle.key_cells.specs.Bytes.{xor};
 ghost use Rattle.key_cells.specs.Bench.{with_key};
 ghost use Rattle.key_cells.specs.Lease.{bench_of, holding};
 

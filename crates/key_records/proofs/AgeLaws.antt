@@ -4,7 +4,7 @@ use Rattle.std.specs.Prelude.{slice_index, bytes_eq, ◌||◌}
 use Rattle.std.specs.List.{list_any}
 use Rattle.std.proofs.lemmas.Bool.{cases_eq, false_from_ne_true}
 use Rattle.std.proofs.lemmas.Slice.Eq.{bytes_eq-Decides}
-use Rattle.byte_lists.specs.Bytes.{AreBytes}
+use Rattle.key_cells.specs.Bytes.{AreBytes}
 use Rattle.key_tokens.specs.Denotes.{MasterKey, MasterKeys, Denoted, Denotes, HaveDistinctPatterns, denoted}
 use Rattle.key_tokens.specs.declared.key_token.Age.{Age}
 use Rattle.key_tokens.specs.declared.key_token.Age.TheVariants.{Current, Old}
@@ -17,7 +17,7 @@ use Rattle.record_bodies.specs.Entries.{Entry, remembered, pattern_for, pattern_
 use Rattle.record_bodies.specs.RecordBody.{kept, ReadsEntry, ReadsWhat}
 use Rattle.record_bodies.specs.StoreStands.{KeepsLabels, entry_at}
 use Rattle.record_bodies.specs.declared.rows.Row.{Row}
-use Rattle.held_names.proofs.DirectoryLaws.{none_some}
+use Rattle.cca_roles.proofs.DirectoryLaws.{none_some}
 use Rattle.record_bodies.proofs.KeptLaws.{kept_flag, kept_with_flag}
 
 pub kept_denoted : (masters : MasterKeys) (token : List ℕ) (key : Denoted) → kept masters token ≡ Some key → denoted masters token ≡ Some key

@@ -3,7 +3,7 @@ use Rattle.std.proofs.Common.{◌≡◌, ◌-◌, ℕ, Bool, true, false, List, 
 use Rattle.std.specs.Prelude.{option_map, if◌then◌else◌}
 use Rattle.std.proofs.lemmas.List.{take_at}
 use Rattle.std.proofs.lemmas.Slice.Eq.{bytes_eq-Decides}
-use Rattle.held_names.proofs.DirectoryLaws.{none_some}
+use Rattle.cca_roles.proofs.DirectoryLaws.{none_some}
 use Rattle.cca_vectors.specs.Vectors.{length_of}
 use Rattle.key_cells.specs.Bench.{Bench}
 use Rattle.key_tokens.specs.Denotes.{ClearKey, MasterKey, Denoted, denoted}

@@ -1,7 +1,7 @@
 -- Reading a record that is held.
 use Rattle.std.proofs.Common.{◌≡◌, ◌<◌, inl, inr, set, ℕ, zero, suc, Bool, true, false, List, [], ◌∷◌, get_or, map, Option, None, Some, refl, sym, ap, subst, ◌∙◌, ◌+◌, ◌*◌, ◌≤◌, arith}
 use Rattle.std.specs.Prelude.{is_some, is_err, option_map, slice_index, Result, Ok, Err}
-use Rattle.held_names.proofs.DirectoryLaws.{none_some}
+use Rattle.cca_roles.proofs.DirectoryLaws.{none_some}
 use Rattle.device_cells.specs.Cells.{body, cell_size}
 use Rattle.device_cells.specs.Medium.{Medium, Told}
 use Rattle.device_cells.proofs.Media.{told_map}

@@ -18,7 +18,7 @@ use Rattle.record_bodies.specs.StoreStands.{StandsForLabels, KeepsLabels, HoldsR
 use Rattle.key_records.specs.declared.faults.RecordFault.{RecordFault}
 use Rattle.key_records.specs.declared.faults.RecordFault.TheVariants.{DiskFault, Exists, Full}
 use Rattle.record_bodies.specs.declared.rows.Row.{Row}
-use Rattle.held_names.proofs.DirectoryLaws.{none_some}
+use Rattle.cca_roles.proofs.DirectoryLaws.{none_some}
 use Rattle.record_bodies.proofs.OpeningLaws.{directory_remembered, label_remembered, label_of_entry}
 
 module _ (masters : MasterKeys) (n : ℕ) (bytes : List ℕ) (slot : Option Entry) (s : List (Option Entry)) (within : n < 1024) (reads : ReadsEntry masters bytes slot) where

@@ -3,8 +3,8 @@ use Rattle.std.proofs.Common.{◌≡◌, inr, ⊎_elim, ℕ, zero, suc, Bool, tr
 use Rattle.std.specs.Prelude.{slice_index, ◌||◌, ◌==◌, if◌then◌else◌}
 use Rattle.std.proofs.lemmas.Bool.{cases_eq}
 use Rattle.std.proofs.lemmas.List.{ext_get_or, get_or-map}
-use Rattle.byte_lists.specs.Bytes.{AreBytes, IsZero}
-use Rattle.held_names.proofs.DirectoryLaws.{none_some}
+use Rattle.key_cells.specs.Bytes.{AreBytes, IsZero}
+use Rattle.cca_roles.proofs.DirectoryLaws.{none_some}
 use Rattle.device_cells.specs.Cells.{body}
 use Rattle.key_tokens.specs.Denotes.{ClearKey, Denoted, Denotes, HaveDistinctPatterns, MasterKey, MasterKeys, denoted, denoted_or, is_token}
 use Rattle.key_tokens.specs.Fields.{vector_bytes_of}

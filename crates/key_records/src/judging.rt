@@ -4,7 +4,7 @@ ghost use Rattle.key_cells.specs.Lease.{bench_of};
 ghost use Rattle.master_registers.specs.Loaded.{IsLoaded, Loaded};
 ghost use Rattle.master_registers.specs.Masters.{Masters, has_pattern_of};
 ghost use Rattle.master_registers.specs.declared.registers.NewState.{NewState};
-ghost use Rattle.key_records.specs.Ready.{IsReadyAhead};
+ghost use Rattle.verb_rules.specs.Ready.{IsReadyAhead};
 
 use key_cells::{Lease, MasterPlace};
 use master_registers::{Registers, has_pattern, pattern_of};

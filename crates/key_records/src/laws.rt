@@ -1,6 +1,6 @@
 //! What a store can stand for, and that each place in the order of labels has one.
 ghost use Rattle.std.specs.Prelude.{◌≡◌, ◌<◌, ◌⊎◌, ℕ, false, List, Option, None, Some, map};
-ghost use Rattle.byte_lists.specs.Bytes.{AreBytes};
+ghost use Rattle.key_cells.specs.Bytes.{AreBytes};
 ghost use Rattle.key_tokens.specs.Denotes.{HaveDistinctPatterns, MasterKey, MasterKeys};
 ghost use Rattle.record_bodies.specs.Ages.{any_old, any_ahead_entry};
 ghost use Rattle.key_records.specs.Changes.{any_under, any_ahead};

@@ -1,6 +1,6 @@
 //! Kinds of characters, and texts that are names.
 
-use held_names::{is_digit, is_label, is_label_byte, is_letter, is_role_name};
+use cca_roles::{is_digit, is_label, is_label_byte, is_letter, is_role_name};
 
 /// Characters, and whether each is a letter, a digit and a character of labels.
 const KINDS: [(u8, bool, bool, bool); 13] = [

@@ -1,7 +1,7 @@
 //! Keys of zeros under a transport key and under a master key.
 ghost use Rattle.std.specs.Prelude.{◌≡◌};
 ghost use Rattle.cca_vectors.specs.Vectors.{length_of};
-ghost use Rattle.byte_lists.specs.Bytes.{IsZero};
+ghost use Rattle.key_cells.specs.Bytes.{IsZero};
 ghost use Rattle.multi_encipher.specs.Bundles.{IsElsewhere};
 
 use crate::sealed_keys::vector;

@@ -7,8 +7,8 @@ use Rattle.std.proofs.lemmas.List.Elements.{All-drop, All-take}
 use Rattle.std.proofs.lemmas.Bool.{cases_lt, false_from_ne_true}
 use Rattle.std.proofs.lemmas.Slice.Eq.{bytes_eq-Decides}
 use Rattle.cca_vectors.specs.Checks.{first_failing}
-use Rattle.byte_lists.specs.Bytes.{AreBytes, IsZero}
-use Rattle.byte_lists.proofs.ByteLemmas.{zeros_of}
+use Rattle.key_cells.specs.Bytes.{AreBytes, IsZero}
+use Rattle.key_cells.proofs.ByteLemmas.{zeros_of}
 use Rattle.multi_encipher.specs.Bundles.{transport_bundle}
 use Rattle.multi_encipher.specs.Seals.{IsSealed, seal, unseal}
 use Rattle.multi_encipher.proofs.SealLaws.{one_to_one}

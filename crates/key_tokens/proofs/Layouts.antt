@@ -6,8 +6,8 @@ use Rattle.std.proofs.lemmas.Bool.{eqb-true, eq-eqb, and_from, or_left, or_right
 use Rattle.std.proofs.lemmas.Bool.Decides.{Decides-eqb, Decides-and, Decides-or}
 use Rattle.std.proofs.lemmas.Nat.{be_bytes_4, from_be_bytes-to_be_bytes_4}
 use Rattle.std.proofs.lemmas.List.{length-take, length-drop, drop_more}
-use Rattle.byte_lists.specs.Bytes.{IsZero, is_zero}
-use Rattle.byte_lists.proofs.ByteLemmas.{zeros_of, is_zero-Decides}
+use Rattle.key_cells.specs.Bytes.{IsZero, is_zero}
+use Rattle.key_cells.proofs.ByteLemmas.{zeros_of, is_zero-Decides}
 use Rattle.cca_vectors.specs.Checks.{check, first_failing}
 use Rattle.cca_vectors.specs.Vectors.{IsValid, length_of}
 use Rattle.cca_vectors.specs.VectorChecks.{vector_checks}

@@ -1,7 +1,7 @@
 -- The 64 bytes of a key token, as a table of places.
 use Rattle.std.specs.Prelude.{◌≡◌, ◌⊎◌, ℕ, ◌+◌, List, [], ◌∷◌, ◌++◌, length, replicate, slice_index, slice_range, ⊤}
 use Rattle.std.specs.Int.{to_be_bytes, w32}
-use Rattle.byte_lists.specs.Bytes.{IsZero}
+use Rattle.key_cells.specs.Bytes.{IsZero}
 use Rattle.cca_vectors.specs.Vectors.{IsValid, length_of}
 use Rattle.key_tokens.specs.declared.key_token.Kind.{Kind}
 use Rattle.key_tokens.specs.declared.key_token.Kind.TheVariants.{Internal, External}

@@ -4,7 +4,7 @@ pub mod Kinds
 pub mod Fields
 pub mod Layout
 pub mod TokenChecks
-pub use Rattle.byte_lists.specs.Bytes
+pub use Rattle.key_cells.specs.Bytes
 pub use Rattle.cca_vectors.specs.Bits
 pub use Rattle.cca_vectors.specs.Checks
 pub use Rattle.cca_vectors.specs.Classes

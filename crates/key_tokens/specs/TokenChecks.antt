@@ -1,6 +1,6 @@
 -- The rules that the 64 bytes of a key token can break, in their order, as tests.
 use Rattle.std.specs.Prelude.{ℕ, Bool, not, ◌&&◌, ◌||◌, List, [], ◌∷◌, ◌++◌, slice_index, slice_range, ◌==◌}
-use Rattle.byte_lists.specs.Bytes.{is_zero}
+use Rattle.key_cells.specs.Bytes.{is_zero}
 use Rattle.cca_vectors.specs.Checks.{Check, check}
 use Rattle.cca_vectors.specs.Vectors.{length_of}
 use Rattle.cca_vectors.specs.VectorChecks.{vector_checks}

@@ -1,6 +1,6 @@
 //! What a key token stands for.
 ghost use Rattle.std.specs.Prelude.{ℕ, List};
-ghost use Rattle.byte_lists.specs.Bytes.{AreBytes};
+ghost use Rattle.key_cells.specs.Bytes.{AreBytes};
 ghost use Rattle.key_tokens.specs.Denotes.{HaveDistinctPatterns, DenotesOne, MasterKeys};
 
 /// The 64 bytes of a token stand for at most one clear key with its control vector: an internal token under the

@@ -10,7 +10,7 @@ ghost use Rattle.key_tokens.specs.TokenChecks.{stored_tvv, has_flag, reserved_is
 
 use crate::key_token::{Asked, Kind, Token, TokenFault};
 use crate::validation::{tvv, word_at};
-use byte_lists::is_zero;
+use key_cells::is_zero;
 use cca_vectors::{Vector, VectorFault, vector_of};
 use multi_encipher::Sealed;
 

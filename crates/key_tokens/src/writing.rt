@@ -1,6 +1,6 @@
 //! Tokens as they are written.
 ghost use Rattle.std.specs.Prelude.{◌≡◌, ◌+◌, ◌≤◌, ◌++◌, None, length, take, slice_index};
-ghost use Rattle.byte_lists.specs.Bytes.{IsZero};
+ghost use Rattle.key_cells.specs.Bytes.{IsZero};
 ghost use Rattle.cca_vectors.specs.Checks.{first_failing};
 ghost use Rattle.cca_vectors.specs.Vectors.{length_of, IsValid};
 ghost use Rattle.key_tokens.specs.declared.key_token.Asked.{Asked};

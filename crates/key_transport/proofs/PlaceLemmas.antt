@@ -1,7 +1,7 @@
 -- Keys in the places of the workbench, and the tokens that are written for them.
 use Rattle.std.proofs.Common.{◌≡◌, ℕ, ◌-◌, None, Some, List, ◌++◌, replicate, sym, ap, ◌∙◌, arith}
 use Rattle.std.proofs.lemmas.List.{append-nil, take_at}
-use Rattle.byte_lists.specs.Bytes.{AreBytes}
+use Rattle.key_cells.specs.Bytes.{AreBytes}
 use Rattle.cca_vectors.specs.Vectors.{length_of}
 use Rattle.key_cells.specs.Bench.{Bench}
 use Rattle.key_tokens.specs.declared.key_token.Kind.TheVariants.{Internal, External}

@@ -1,6 +1,6 @@
 //! The tokens that are written for the key in the workbench: under a transport key, and under the new master key.
 ghost use Rattle.std.specs.Prelude.{◌≡◌, Some, slice_index};
-ghost use Rattle.byte_lists.specs.Bytes.{AreBytes};
+ghost use Rattle.key_cells.specs.Bytes.{AreBytes};
 ghost use Rattle.key_cells.specs.declared.places.KeyPlace.{KeyPlace};
 ghost use Rattle.key_cells.specs.Lease.{bench_of};
 ghost use Rattle.key_tokens.specs.Denotes.{denoted_under};

@@ -5,7 +5,7 @@ use Rattle.std.specs.Io.KnownBytes.{IsAtEnd}
 use Rattle.device_cells.specs.Medium.{Medium, IsSettled}
 use Rattle.device_cells.specs.WhereTold.{WhereTold}
 use Rattle.device_cells.proofs.WhereToldLemmas.{told_weaker}
-use Rattle.script_buffers.specs.Reading.{Reading, blank, input_limit}
+use Rattle.line_service.specs.Reading.{Reading, blank, input_limit}
 use Rattle.line_service.specs.Machine.{Machine, World, world}
 use Rattle.line_service.specs.Answering.{Stands}
 use Rattle.line_service.specs.Devices.{Span, Outside, BothSettled, DevicesLeft, OutsideLeft, Undamaged, behind}

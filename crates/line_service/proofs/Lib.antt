@@ -1,12 +1,19 @@
-pub mod SendingLemmas
+pub mod AnswerLemmas
+pub mod AnsweredLemmas
+pub mod CourseLemmas
+pub mod CutLines
+pub mod FirstNewline
+pub mod GatheringLemmas
+mod LeftLemmas
 pub mod LineLemmas
+pub mod OpeningLemmas
+pub mod PartLemmas
+mod ProgressLemmas
+pub mod RefillLemmas
+pub mod ReplyLemmas
+pub mod RunLemmas
+pub mod SendingLemmas
 pub mod SessionLemmas
 pub mod SpareLaws
 pub mod StopLemmas
-pub mod OpeningLemmas
-pub mod RunLemmas
-pub mod CourseLemmas
 pub mod TakenLemmas
-pub mod AnsweredLemmas
-mod LeftLemmas
-mod ProgressLemmas

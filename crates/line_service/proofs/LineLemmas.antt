@@ -7,10 +7,10 @@ use Rattle.device_cells.specs.Medium.{Medium, From, EachImage, EachPair, IsSettl
 use Rattle.device_cells.specs.WhereTold.{WhereTold}
 use Rattle.device_cells.proofs.Media.{each_weaker, each_still, each_pair, image_now, settled_image, told_from}
 use Rattle.device_cells.proofs.WhereToldLemmas.{told_weaker}
-use Rattle.script_buffers.specs.Lines.{lines}
-use Rattle.script_buffers.specs.Reading.{Reading, TakesLine, line_limit, Shows, Takes}
-use Rattle.script_buffers.specs.declared.lines.Taken.{Taken}
-use Rattle.script_buffers.specs.declared.lines.Taken.TheVariants.{Line, TooLong, End}
+use Rattle.line_service.specs.Lines.{lines}
+use Rattle.line_service.specs.Reading.{Reading, TakesLine, line_limit, Shows, Takes}
+use Rattle.line_service.specs.declared.lines.Taken.{Taken}
+use Rattle.line_service.specs.declared.lines.Taken.TheVariants.{Line, TooLong, End}
 use Rattle.line_service.specs.Machine.{Machine, World}
 use Rattle.line_service.specs.Sending.{GotPart}
 use Rattle.line_service.specs.Stops.{IsLineStop, IsDeskStop}

@@ -6,7 +6,7 @@ use Rattle.device_cells.specs.WhereTold.{WhereTold}
 use Rattle.device_cells.specs.SpareBytes.{SameSpare}
 use Rattle.device_cells.proofs.Media.{goes_on, each_weaker, keeps_then, told_from, told_at}
 use Rattle.device_cells.proofs.WhereToldLemmas.{told_same, told_weaker, rose_wider}
-use Rattle.script_buffers.specs.Reading.{input_limit}
+use Rattle.line_service.specs.Reading.{input_limit}
 use Rattle.line_service.specs.Machine.{Machine, World, world}
 use Rattle.line_service.specs.Stops.{IsOpeningStop, IsFaultless}
 use Rattle.line_service.specs.Answering.{Holds, OnDisks, Stands, IsSound}

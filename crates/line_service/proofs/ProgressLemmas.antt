@@ -2,7 +2,7 @@
 use Rattle.std.proofs.Common.{◌≡◌, None, Result, Ok, Err, refl, inl, subst, sym}
 use Rattle.std.specs.Prelude.{IsOk}
 use Rattle.device_cells.specs.Medium.{IsSettled}
-use Rattle.script_buffers.specs.Reading.{Reading, blank}
+use Rattle.line_service.specs.Reading.{Reading, blank}
 use Rattle.line_service.specs.Answering.{Stands}
 use Rattle.line_service.specs.Devices.{Span, BothSettled, Outside, OutsideLeft, Undamaged, devices}
 use Rattle.line_service.specs.Machine.{Machine, World}

@@ -4,9 +4,9 @@ use Rattle.std.specs.Prelude.{◌⊎◌, ◌↔◌, IsOk}
 use Rattle.std.proofs.lemmas.List.{append-nil}
 use Rattle.device_cells.specs.WhereTold.{WhereTold}
 use Rattle.device_cells.proofs.WhereToldLemmas.{told_weaker, told_same, told_both}
-use Rattle.script_buffers.specs.Lines.{lines}
-use Rattle.script_buffers.specs.Reading.{input_limit}
-use Rattle.script_buffers.proofs.LineLemmas.{lines-nil, lines-append}
+use Rattle.line_service.specs.Lines.{lines}
+use Rattle.line_service.specs.Reading.{input_limit}
+use Rattle.line_service.proofs.CutLines.{lines-nil, lines-append}
 use Rattle.line_service.specs.Machine.{Machine, World}
 use Rattle.line_service.specs.Serving.{Leads, Led, AllAnswered, WholeLinesAnswered, ReplyCut, LineLost, Unopened, PrefixSent, RunServed}
 use Rattle.line_service.specs.declared.stops.Stop.{Stop}

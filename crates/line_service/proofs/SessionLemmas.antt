@@ -8,9 +8,9 @@ use Rattle.device_cells.specs.Medium.{EachImage, IsSettled}
 use Rattle.device_cells.specs.WhereTold.{WhereTold}
 use Rattle.device_cells.proofs.Media.{goes_on, each_weaker}
 use Rattle.device_cells.proofs.WhereToldLemmas.{told_weaker, told_then, told_same, told_both}
-use Rattle.script_buffers.specs.Lines.{newline, lines, NoNewline, EndsLine}
-use Rattle.script_buffers.specs.Reading.{Reading, blank, input_limit, LosesPart}
-use Rattle.script_buffers.proofs.LineLemmas.{lines-nil, lines-whole, lines-append}
+use Rattle.line_service.specs.Lines.{newline, lines, NoNewline, EndsLine}
+use Rattle.line_service.specs.Reading.{Reading, blank, input_limit, LosesPart}
+use Rattle.line_service.proofs.CutLines.{lines-nil, lines-whole, lines-append}
 use Rattle.line_service.specs.Machine.{Machine, Outcome, World}
 use Rattle.line_service.specs.Sending.{GotPart}
 use Rattle.line_service.specs.Stops.{IsLineStop}

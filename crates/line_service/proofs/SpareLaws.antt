@@ -8,7 +8,7 @@ use Rattle.device_cells.specs.SpareBytes.{SameSpare, SameCell, HasTurned, Turned
 use Rattle.device_cells.proofs.CellSteps.{length-range, get_or-range}
 use Rattle.device_cells.proofs.Media.{becomes_same, becomes_then, each_weaker, each_still, from_then, goes_on}
 use Rattle.device_cells.proofs.SpareLemmas.{same_spare, same_spare_then, turned_same}
-use Rattle.script_buffers.specs.Lines.{lines}
+use Rattle.line_service.specs.Lines.{lines}
 use Rattle.line_service.specs.Machine.{Machine, World}
 use Rattle.line_service.specs.Answering.{Holds, OnDisks, WritesWithin, Turns}
 use Rattle.line_service.specs.Serving.{Leads, KeepsSpare, WasSelected, Rests, AtRest, SparesAlways}

@@ -4,12 +4,12 @@ use Rattle.std.specs.Prelude.{◌⊎◌, ◌↔◌, IsTrue, IsErr, IfOk, OnErr}
 use Rattle.std.specs.Io.KnownBytes.{IsAtEnd}
 use Rattle.device_cells.specs.WhereTold.{WhereTold}
 use Rattle.device_cells.proofs.WhereToldLemmas.{told_weaker}
-use Rattle.script_buffers.specs.Lines.{NoNewline}
-use Rattle.script_buffers.specs.Reading.{Reading, blank, input_limit, given, LosesPart, Takes, Shows, Advances, bytes_ahead}
-use Rattle.script_buffers.specs.declared.lines.LineFault.{LineFault}
-use Rattle.script_buffers.specs.declared.lines.LineFault.TheVariants as line_fault
-use Rattle.script_buffers.specs.declared.lines.Taken.{Taken}
-use Rattle.script_buffers.specs.declared.lines.Taken.TheVariants.{Line, TooLong, End}
+use Rattle.line_service.specs.Lines.{NoNewline}
+use Rattle.line_service.specs.Reading.{Reading, blank, input_limit, given, LosesPart, Takes, Shows, Advances, bytes_ahead}
+use Rattle.line_service.specs.declared.lines.LineFault.{LineFault}
+use Rattle.line_service.specs.declared.lines.LineFault.TheVariants as line_fault
+use Rattle.line_service.specs.declared.lines.Taken.{Taken}
+use Rattle.line_service.specs.declared.lines.Taken.TheVariants.{Line, TooLong, End}
 use Rattle.line_service.specs.Devices.{Span, Outside}
 use Rattle.line_service.specs.Running.{LineTaken}
 use Rattle.line_service.specs.Stops.{IsDeskStop, IsUnanswered}

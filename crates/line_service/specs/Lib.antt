@@ -1,7 +1,12 @@
-pub mod Machine
-pub mod Sending
-pub mod Stops
-pub mod Devices
 pub mod Answering
-pub mod Serving
+pub mod Devices
+pub mod Gathering
+pub mod Inside
+pub mod Lines
+pub mod Machine
+pub mod Reading
+pub mod Replies
 pub mod Running
+pub mod Sending
+pub mod Serving
+pub mod Stops

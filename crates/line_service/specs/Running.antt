@@ -4,10 +4,10 @@ use Rattle.std.specs.Io.KnownBytes.{IsAtEnd}
 use Rattle.device_cells.specs.Faults.{Rose}
 use Rattle.device_cells.specs.Medium.{Keeps}
 use Rattle.device_cells.specs.WhereTold.{WhereTold}
-use Rattle.script_buffers.specs.Lines.{NoNewline}
-use Rattle.script_buffers.specs.Reading.{Reading, blank, given, input_limit, Takes, Shows, LosesPart, bytes_ahead}
-use Rattle.script_buffers.specs.declared.lines.Taken.{Taken}
-use Rattle.script_buffers.specs.declared.lines.Taken.TheVariants.{End}
+use Rattle.line_service.specs.Lines.{NoNewline}
+use Rattle.line_service.specs.Reading.{Reading, blank, given, input_limit, Takes, Shows, LosesPart, bytes_ahead}
+use Rattle.line_service.specs.declared.lines.Taken.{Taken}
+use Rattle.line_service.specs.declared.lines.Taken.TheVariants.{End}
 use Rattle.line_service.specs.Machine.{Machine}
 use Rattle.line_service.specs.Answering.{IsSound, OnDisks, Stands}
 use Rattle.line_service.specs.Devices.{Span, Devices, BothSettled, DamageTold, Undamaged, Outside, OutsideLeft, behind}

@@ -5,10 +5,10 @@ use Rattle.device_cells.specs.Cells.{body, other_body}
 use Rattle.device_cells.specs.Medium.{Medium, From, Becomes, EachImage, EachPair, Keeps}
 use Rattle.device_cells.specs.SpareBytes.{SameSpare, SameCell}
 use Rattle.device_cells.specs.WhereTold.{WhereTold}
-use Rattle.script_buffers.specs.Lines.{lines, NoNewline, EndsLine}
-use Rattle.script_buffers.specs.Reading.{TakesLine, Reading, line_limit}
-use Rattle.script_buffers.specs.declared.lines.Taken.{Taken}
-use Rattle.script_buffers.specs.declared.lines.Taken.TheVariants.{Line, TooLong, End}
+use Rattle.line_service.specs.Lines.{lines, NoNewline, EndsLine}
+use Rattle.line_service.specs.Reading.{TakesLine, Reading, line_limit}
+use Rattle.line_service.specs.declared.lines.Taken.{Taken}
+use Rattle.line_service.specs.declared.lines.Taken.TheVariants.{Line, TooLong, End}
 use Rattle.line_service.specs.Machine.{Machine, Outcome, outcome_of_lines, World}
 use Rattle.line_service.specs.Sending.{GotPart}
 use Rattle.line_service.specs.Answering.{Steps, Around, Both, OnDisks, Stands, Unwritten, Turns}

@@ -2,17 +2,17 @@
 ghost use Rattle.std.specs.Prelude.{◌≡◌, ◌≤◌, ◌<◌, ℕ, List, [], length, OnOk, IfErr};
 ghost use Rattle.key_cells.specs.Bench.{blank_bench};
 ghost use Rattle.device_cells.specs.Medium.{Medium};
-ghost use Rattle.script_buffers.specs.Reading.{line_limit};
+ghost use Rattle.line_service.specs.Reading.{line_limit};
 ghost use Rattle.line_service.specs.Machine.{Machine, world};
 ghost use Rattle.line_service.specs.Answering.{OnDisks, IsSound, Stands, Steps, Serves};
 ghost use Rattle.line_service.specs.Devices.{AreSettled, HaveSizes, DamageTold, DevicesLeft, OpeningLeft, Undamaged};
 ghost use Rattle.line_service.specs.Stops.{IsDeskStop, IsOpeningStop};
 
 use crate::devices::Shown;
+use crate::reply::ReplyBuffer;
 use crate::stops::Stop;
 use device_cells::{Disk, Entropy};
 use key_cells::Workbench;
-use script_buffers::ReplyBuffer;
 
 /// What answers lines, over two disks and a random source. It keeps in memory what it read of the disks.
 pub trait Desk {

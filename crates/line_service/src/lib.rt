@@ -1,8 +1,11 @@
-//! Lines served one after another, for any machine that answers lines.
+//! Lines: the buffer that takes them from a source of bytes, the one in which a reply line is written, and their service
+//! one after another, for any machine that answers lines. All memory of a buffer is taken when it is made.
 #![tactic(auto)]
 
 mod desk;
 mod devices;
+mod lines;
+mod reply;
 mod running;
 mod sending;
 mod serving;
@@ -10,6 +13,8 @@ mod stops;
 
 pub use desk::Desk;
 pub use devices::{Shown, ShownOutside};
+pub use lines::{INPUT_LIMIT, LINE_LIMIT, LineBuffer, LineFault, Taken, read_line};
+pub use reply::{REPLY_ROOM, ReplyBuffer};
 pub use running::serve;
 pub use sending::send;
 pub use serving::{Served, answer_taken, serve_one};

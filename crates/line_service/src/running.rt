@@ -1,18 +1,19 @@
 //! Line after line, to the end of the input.
 ghost use Rattle.std.specs.Prelude.{◌≡◌};
 ghost use Rattle.key_cells.specs.Bench.{blank_bench};
-ghost use Rattle.script_buffers.specs.Reading.{blank};
+ghost use Rattle.line_service.specs.Reading.{blank};
 ghost use Rattle.line_service.specs.Answering.{IsSound};
 ghost use Rattle.line_service.specs.Devices.{AreSettled, HaveSizes};
 ghost use Rattle.line_service.specs.Running.{LinesLeft, SessionLeft, Untouched};
 
 use crate::desk::Desk;
 use crate::devices::{Shown, ShownOutside};
+use crate::lines::LineBuffer;
+use crate::reply::ReplyBuffer;
 use crate::serving::{Served, serve_one};
 use crate::stops::Stop;
 use device_cells::{Disk, Entropy, Sink, Source};
 use key_cells::Workbench;
-use script_buffers::{LineBuffer, ReplyBuffer};
 
 // Serves line after line, to the end of the input. It reads each byte once, and sends each reply by itself.
 fn serve_all<A: Desk, S: Source, K: Sink, M: Disk, D: Disk, E: Entropy>(

@@ -2,7 +2,7 @@
 ghost use Rattle.std.specs.Prelude.{◌≡◌, ℕ, List, IsTrue, Err, OnOk, IfErr};
 ghost use Rattle.std.specs.Io.KnownBytes.{IsAtEnd};
 ghost use Rattle.key_cells.specs.Bench.{blank_bench};
-ghost use Rattle.script_buffers.specs.Reading.{IsReady, Shows};
+ghost use Rattle.line_service.specs.Reading.{IsReady, Shows};
 ghost use Rattle.line_service.specs.Machine.{world};
 ghost use Rattle.line_service.specs.Answering.{Stands, Serves};
 ghost use Rattle.line_service.specs.Devices.{AreSettled, BothSettled, DevicesLeft, OutsideLeft, Undamaged};
@@ -12,11 +12,12 @@ ghost use Rattle.line_service.specs.Stops.{IsDeskStop};
 
 use crate::desk::Desk;
 use crate::devices::{Shown, ShownOutside};
+use crate::lines::{LineBuffer, LineFault, Taken, read_line};
+use crate::reply::ReplyBuffer;
 use crate::sending::send;
 use crate::stops::Stop;
 use device_cells::{Disk, Entropy, Sink, Source};
 use key_cells::Workbench;
-use script_buffers::{LineBuffer, LineFault, ReplyBuffer, Taken, read_line};
 
 /// What serving one line came to.
 #[derive(Clone, Copy, Debug, PartialEq, Eq)]

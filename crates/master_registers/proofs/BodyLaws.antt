@@ -2,8 +2,8 @@
 use Rattle.std.proofs.Common.{◌≡◌, ◌≤◌, ◌<◌, ◌-◌, inr, ⊎_elim, ℕ, zero, suc, ◌+◌, Bool, true, false, List, [], ◌∷◌, ◌++◌, length, get_or, take, drop, replicate, Option, None, Some, refl, sym, ap, subst, ◌∙◌, arith}
 use Rattle.std.specs.Prelude.{IsTrue, slice_range, slice_index}
 use Rattle.std.proofs.lemmas.List.{append_assoc, drop-drop, drop_at, get_or-drop, get_or-take, get_or_default, length-append, length-drop, length-take, take-append-drop, take_all, take_at}
-use Rattle.byte_lists.specs.Bytes.{IsZero}
-use Rattle.byte_lists.proofs.ByteLemmas.{zeros_of, IsZero-replicate}
+use Rattle.key_cells.specs.Bytes.{IsZero}
+use Rattle.key_cells.proofs.ByteLemmas.{zeros_of, IsZero-replicate}
 use Rattle.master_registers.specs.Masters.{NewRegister, Empty, Partial, Full, Masters, IsMaster, IsMasters, AreApart, blank_masters, new_bytes, kept_bytes, state_of}
 use Rattle.master_registers.specs.RegisterBody.{registers_body, blank_body, state_code, kept_code, ReadsMasters}
 use Rattle.master_registers.specs.BodyForm.{coming_at, kept_at, masters_at, state_at, pattern_at, IsBody, HasBodyForm, AreMasterKeys}

@@ -2,7 +2,7 @@
 use Rattle.std.proofs.Common.{◌≡◌, ◌↔◌, ℕ, Bool, true, false, List, sym, ◌∙◌}
 use Rattle.std.specs.Prelude.{IsTrue, slice_range}
 use Rattle.master_registers.specs.BodyForm.{HasBodyForm, HasStates, IsZeroWhereEmpty}
-use Rattle.byte_lists.specs.Bytes.{IsZero}
+use Rattle.key_cells.specs.Bytes.{IsZero}
 
 module _ {P Q : Type 0} where
   pub and_then : (u r v : Bool) → u ≡ true → v ≡ r → (IsTrue u ↔ P) → (IsTrue r ↔ Q) → IsTrue v ↔ (P × Q)

@@ -1,6 +1,6 @@
 -- Bodies of cell 0, byte by byte, for the functions that write and read them.
 use Rattle.std.specs.Prelude.{◌≡◌, ◌≤◌, ◌<◌, ◌+◌, ℕ, zero, suc, List, ◌∷◌, length, replicate, Option, None, Some, slice_index, slice_range}
-use Rattle.byte_lists.specs.Bytes.{IsZero}
+use Rattle.key_cells.specs.Bytes.{IsZero}
 use Rattle.master_registers.specs.RegisterBody.{state_code, kept_code}
 use Rattle.master_registers.specs.Masters.{NewRegister, Empty, Partial, Full, Masters, IsMaster, new_bytes, kept_bytes, pattern_of_master}
 use Rattle.master_registers.specs.declared.registers.NewState.{NewState}

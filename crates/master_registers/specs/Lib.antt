@@ -4,7 +4,7 @@ pub mod Changes
 pub mod Loaded
 pub mod Masters
 pub mod RegisterBody
-pub use Rattle.byte_lists.specs.Bytes
+pub use Rattle.key_cells.specs.Bytes
 pub use Rattle.key_cells.specs.Bench
 pub use Rattle.key_cells.specs.Lease
 pub use Rattle.device_cells.specs.Cells

@@ -4,7 +4,7 @@ use Rattle.std.specs.Str.{bytes_eq}
 use Rattle.key_cells.specs.Bench.{Bench}
 use Rattle.key_cells.specs.Lease.{bench_of, holding}
 use Rattle.key_cells.specs.declared.leases.Lease.{Lease}
-use Rattle.byte_lists.specs.Bytes.{xor}
+use Rattle.key_cells.specs.Bytes.{xor}
 use Rattle.master_registers.specs.Masters.{NewRegister, Empty, Partial, Full, Masters, IsMasters, new_bytes, kept_bytes, pattern_of_master, state_of}
 use Rattle.master_registers.specs.RegisterBody.{StandsForMasters}
 use Rattle.master_registers.specs.declared.registers.NewState.{NewState}

@@ -1,7 +1,7 @@
 -- The three master key registers with their clear contents, and what each step of a key ceremony makes of them.
 use Rattle.std.specs.Prelude.{◌≢◌, ℕ, Bool, true, false, not, List, ◌∷◌, take, replicate, Option, None, Some, bytes_eq, ⊤}
 use Rattle.sha1.specs.Sha1.{sha1}
-use Rattle.byte_lists.specs.Bytes.{AreBytes, xor}
+use Rattle.key_cells.specs.Bytes.{AreBytes, xor}
 use Rattle.master_registers.specs.declared.registers.NewState.{NewState}
 use Rattle.master_registers.specs.declared.registers.NewState.TheVariants as state
 

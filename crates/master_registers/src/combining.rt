@@ -1,8 +1,8 @@
 //! The exclusive or (XOR) of bytes with a guarded array, in place.
 ghost use Rattle.std.specs.Prelude.{◌≡◌, length};
 ghost use Rattle.key_cells.specs.Secret.{bytes_of};
-ghost use Rattle.byte_lists.specs.Bytes.{AreBytes};
-ghost use Rattle.byte_lists.specs.Bytes as lists;
+ghost use Rattle.key_cells.specs.Bytes.{AreBytes};
+ghost use Rattle.key_cells.specs.Bytes as lists;
 
 use key_cells::Secret;
 

@@ -8,8 +8,7 @@ ghost use Rattle.master_registers.specs.BodyForm.{states_body, IsBody, HasBodyFo
 use crate::moves::put_master;
 use crate::patterns::Pattern;
 use crate::registers::{NewState, Registers};
-use byte_lists::is_zero;
-use key_cells::{Lease, MasterPlace};
+use key_cells::{Lease, MasterPlace, is_zero};
 
 /// What byte 0 is.
 const VERSION: u8 = 1;

@@ -2,7 +2,7 @@
 ghost use Rattle.std.specs.Prelude.{◌≡◌, ◌≢◌, ◌+◌, ◌≤◌, ◌++◌, length, take, drop, replicate, slice_range};
 ghost use Rattle.key_cells.specs.Bench.{master_of, with_master};
 ghost use Rattle.key_cells.specs.Lease.{bench_of, holding};
-ghost use Rattle.byte_lists.specs.Bytes.{xor};
+ghost use Rattle.key_cells.specs.Bytes.{xor};
 ghost use Rattle.master_registers.specs.Masters.{IsMaster};
 
 use crate::combining::xor_secret;

@@ -5,8 +5,8 @@ use Rattle.std.proofs.lemmas.Bool.{eq-eqb, ne_eqb}
 use Rattle.std.proofs.lemmas.List.{append-nil, take-append-drop, take_all, take_at, drop_at, length-take, length-drop, length-append, length-replicate, get_or-replicate, take-take, drop-take, drop_all, get_or_default}
 use Rattle.std.proofs.lemmas.List.Elements.{All-take, All-drop, All-append}
 use Rattle.cca_vectors.specs.Vectors.{left_of, right_of, form_of, single_length, length_of}
-use Rattle.byte_lists.specs.Bytes.{AreBytes, IsZero}
-use Rattle.byte_lists.proofs.ByteLemmas.{zeros_of, IsZero-replicate}
+use Rattle.key_cells.specs.Bytes.{AreBytes, IsZero}
+use Rattle.key_cells.proofs.ByteLemmas.{zeros_of, IsZero-replicate}
 use Rattle.des_blocks.proofs.ValueLemmas.{bytes-ede, bytes-ded, ded-ede, ede-ded}
 use Rattle.multi_encipher.specs.declared.halves.Sealed.{Sealed}
 use Rattle.multi_encipher.specs.Bundles.{key_in, with_zeros}

@@ -1,6 +1,6 @@
 pub mod Bundles
 pub mod Seals
-pub use Rattle.byte_lists.specs.Bytes
+pub use Rattle.key_cells.specs.Bytes
 pub use Rattle.cca_vectors.specs.Vectors
 pub use Rattle.des_blocks.specs.TripleDes
 pub use Rattle.key_cells.specs.Bench

@@ -2,7 +2,7 @@
 -- bytes of a key bundle, each XORed with the control vector of that half. A bundle is one list of 24 bytes.
 use Rattle.std.specs.Prelude.{◌≡◌, ℕ, List, [], ◌++◌, replicate, slice_range, ◌==◌, if◌then◌else◌}
 use Rattle.cca_vectors.specs.Vectors.{left_of, right_of, length_of}
-use Rattle.byte_lists.specs.Bytes.{xor, AreBytes, IsZero}
+use Rattle.key_cells.specs.Bytes.{xor, AreBytes, IsZero}
 use Rattle.des_blocks.specs.TripleDes.{ede, ded}
 use Rattle.multi_encipher.specs.Bundles.{key_of_bundle}
 use Rattle.multi_encipher.specs.declared.halves.Sealed.{Sealed}

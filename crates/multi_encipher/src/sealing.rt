@@ -3,7 +3,7 @@ ghost use Rattle.std.specs.Prelude.{◌≡◌, ◌+◌, ◌≤◌, ℕ, List, �
 ghost use Rattle.key_cells.specs.Bench.{Bench, key_of};
 ghost use Rattle.key_cells.specs.Lease.{bench_of};
 ghost use Rattle.cca_vectors.specs.Vectors.{length_of};
-ghost use Rattle.byte_lists.specs.Bytes.{AreBytes, IsZero};
+ghost use Rattle.key_cells.specs.Bytes.{AreBytes, IsZero};
 ghost use Rattle.multi_encipher.specs.Bundles.{ChangesKeyAt, ChangesSchedules, bundle_under, IsElsewhere, key_in, with_zeros};
 ghost use Rattle.multi_encipher.specs.Seals.{IsSealed, SealIsOneToOne, opened_half, sealed_half};
 ghost use Rattle.multi_encipher.specs.Seals as seals;

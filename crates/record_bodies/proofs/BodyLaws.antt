@@ -4,8 +4,8 @@ use Rattle.std.specs.Prelude.{slice_index, bytes_eq, IsSome, IsTrue, is_some, no
 use Rattle.std.proofs.lemmas.Bool.{false_from_ne_true}
 use Rattle.std.proofs.lemmas.List.{append_assoc, take_at, drop_at, length-append, length-replicate}
 use Rattle.std.proofs.lemmas.Slice.Eq.{bytes_eq-Decides}
-use Rattle.held_names.proofs.NameLemmas.{label_short}
-use Rattle.byte_lists.specs.Bytes.{AreBytes}
+use Rattle.cca_roles.specs.NameLaws.{label_short}
+use Rattle.key_cells.specs.Bytes.{AreBytes}
 use Rattle.key_tokens.specs.Denotes.{MasterKeys, Denoted}
 use Rattle.record_bodies.specs.Labels.{IsLabel}
 use Rattle.record_bodies.specs.Entries.{Entry}

@@ -8,7 +8,7 @@ use Rattle.std.proofs.lemmas.List.{get_or-take, get_or_past, length-take, length
 use Rattle.record_bodies.specs.Ascending.{AreAscending, IsBefore, IsPlace, Lists, labels_of, text_at, text_in}
 use Rattle.record_bodies.specs.Directory.{AreApart, label_at, held_count}
 use Rattle.record_bodies.specs.Rank.{IsNth}
-use Rattle.held_names.proofs.DirectoryLaws.{none_some}
+use Rattle.cca_roles.proofs.DirectoryLaws.{none_some}
 use Rattle.record_bodies.proofs.HalvingLaws.{greater_before, equal_same, before_middle}
 use Rattle.record_bodies.proofs.ListedLaws.{label_listed, lists_insert, lists_none, lists_same}
 use Rattle.record_bodies.proofs.RankLaws.{count_listed, nth_listed}

@@ -15,10 +15,10 @@ use Rattle.key_tokens.specs.declared.key_token.Age.TheVariants.{Current, Old}
 use Rattle.key_tokens.specs.declared.key_token.Asked.TheVariants as asked
 use Rattle.master_registers.specs.declared.patterns.Pattern.{Pattern}
 use Rattle.record_bodies.specs.Entries.{Entry, remembered, pattern_for, pattern_under, pattern_or, pattern_ahead}
-use Rattle.byte_lists.specs.Bytes.{AreBytes}
+use Rattle.key_cells.specs.Bytes.{AreBytes}
 use Rattle.record_bodies.specs.RecordBody.{kept, IsKept, IsFirst, IsAhead, HasToken, StandsAs, ReadsEntry, ReadsWhat, ReadsRow, ReadsPattern}
 use Rattle.record_bodies.specs.declared.rows.Second.{Second}
-use Rattle.held_names.proofs.DirectoryLaws.{none_some}
+use Rattle.cca_roles.proofs.DirectoryLaws.{none_some}
 
 -- what is known where a call answers Ok
 pub unless_err : {T E P : Type 0} (r : Result T E) → is_err r ≡ false → OnOk r P → P

@@ -7,7 +7,7 @@ use Rattle.std.proofs.lemmas.List.{get_or-map, get_or_past, get_or-set_same, get
 use Rattle.std.proofs.lemmas.List.Edits.{get_or-remove_below, get_or-remove_above, length-remove}
 use Rattle.record_bodies.specs.Ascending.{AreAscending, IsAmong, IsPlace, Lists, labels_of, text_at, text_in}
 use Rattle.record_bodies.specs.Directory.{AreApart, cell_of, label_at}
-use Rattle.held_names.proofs.DirectoryLaws.{none_some, place_found, place_is}
+use Rattle.cca_roles.proofs.DirectoryLaws.{none_some, place_found, place_is}
 use Rattle.record_bodies.proofs.SortedLaws.{ascending_insert, ascending_remove, map_insert, map_remove, not_itself}
 
 -- ---- labels of places

@@ -2,7 +2,7 @@
 use Rattle.std.proofs.Common.{◌≡◌, ◌<◌, ⊎_elim, ℕ, List, [], Bool, true, false, inl, inr, Option, None, Some, sym, ap, subst, ◌∙◌}
 use Rattle.std.specs.Prelude.{slice_index}
 use Rattle.std.proofs.lemmas.Bool.{cases_eq}
-use Rattle.byte_lists.specs.Bytes.{AreBytes}
+use Rattle.key_cells.specs.Bytes.{AreBytes}
 use Rattle.device_cells.specs.Cells.{body}
 use Rattle.key_tokens.specs.Denotes.{ClearKey, Denoted, MasterKey, MasterKeys, IsTokenOf, Denotes, HaveDistinctPatterns}
 use Rattle.key_tokens.specs.Layout.{made}
@@ -18,7 +18,7 @@ use Rattle.record_bodies.specs.RecordBody.{kept, key_body, both_body, second_fie
 use Rattle.record_bodies.specs.StoreStands.{StandsForLabels}
 use Rattle.record_bodies.specs.Written.{register_of, token_under, token_bytes, second_under, key_record, record_bytes, written_body}
 use Rattle.record_bodies.specs.declared.rows.Second.{Second}
-use Rattle.held_names.proofs.DirectoryLaws.{none_some}
+use Rattle.cca_roles.proofs.DirectoryLaws.{none_some}
 use Rattle.record_bodies.proofs.KeptLaws.{kept_flag, kept_with_flag}
 use Rattle.record_bodies.proofs.RowTurns.{is_next}
 use Rattle.record_bodies.proofs.SecondLaws.{same_second}

@@ -1,14 +1,14 @@
 -- What stands in the body of a label, piece by piece.
 use Rattle.std.proofs.Common.{◌≡◌, inl, inr, ℕ, Bool, true, false, List, Option, None, Some, refl, sym, ap, subst, ◌∙◌}
 use Rattle.std.specs.Prelude.{is_some, slice_index}
-use Rattle.byte_lists.specs.Bytes.{AreBytes}
+use Rattle.key_cells.specs.Bytes.{AreBytes}
 use Rattle.key_tokens.specs.Fields.{pattern_of_token}
 use Rattle.master_registers.specs.declared.patterns.Pattern.{Pattern}
 use Rattle.record_bodies.specs.Labels.{IsLabel}
 use Rattle.record_bodies.specs.RecordBody.{record_body, token_in, second_in, no_token, no_second, held_token, ReadsRow, ReadsPattern, HoldsToken, HoldsUnder, StandsAs, IsKept, IsKeptWith, IsTokenOf, IsFirst, IsSecond, null_kind, key_kind, both_kind}
 use Rattle.record_bodies.specs.declared.rows.Row.{Row}
 use Rattle.record_bodies.specs.declared.rows.Second.{Second}
-use Rattle.held_names.proofs.NameLemmas.{label_short}
+use Rattle.cca_roles.specs.NameLaws.{label_short}
 use Rattle.record_bodies.proofs.BodyLaws.{kind_again, token_again, second_again, length-no_token}
 use Rattle.record_bodies.proofs.KeptLaws.{pattern as as_pattern}
 use Rattle.record_bodies.proofs.SecondLaws.{IsLong, none_long, second_long, second_pattern}

@@ -12,7 +12,7 @@ use Rattle.std.proofs.lemmas.List.Sums.{sum_by-cons, sum_by-set}
 use Rattle.record_bodies.specs.Ascending.{IsAmong, Lists, labels_of, text_at, text_in}
 use Rattle.record_bodies.specs.Directory.{label_at, held_count}
 use Rattle.record_bodies.specs.Rank.{is_smaller, smaller_count, IsNth}
-use Rattle.held_names.proofs.DirectoryLaws.{none_some}
+use Rattle.cca_roles.proofs.DirectoryLaws.{none_some}
 use Rattle.record_bodies.proofs.ListedLaws.{blank_or_held, held_below, label_listed, lists_remove, not_held}
 
 -- ---- a sum over the places is one over the cells that hold a label

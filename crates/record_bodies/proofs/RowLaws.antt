@@ -7,7 +7,7 @@ use Rattle.record_bodies.specs.Directory.{AreApart, label_at}
 use Rattle.record_bodies.specs.Entries.{row_directory, row_label}
 use Rattle.record_bodies.specs.Rows.{AreRows, AreListed}
 use Rattle.record_bodies.specs.declared.rows.Row.{Row}
-use Rattle.held_names.proofs.DirectoryLaws.{apart_blank, none_some}
+use Rattle.cca_roles.proofs.DirectoryLaws.{apart_blank, none_some}
 use Rattle.record_bodies.proofs.ListedLaws.{lists_none}
 
 -- ---- the label of a row

@@ -1,7 +1,7 @@
 -- Rows of labels that are turned: the second token breaks no rule, and is then the one that the label is under.
 use Rattle.std.proofs.Common.{◌≡◌, inr, ℕ, zero, suc, List, [], ◌∷◌, get_or, map, Option, None, Some, refl, sym, ap, subst, ◌∙◌}
 use Rattle.std.specs.Prelude.{slice_index}
-use Rattle.byte_lists.specs.Bytes.{AreBytes}
+use Rattle.key_cells.specs.Bytes.{AreBytes}
 use Rattle.cca_vectors.specs.Checks.{first_failing}
 use Rattle.device_cells.specs.Cells.{body}
 use Rattle.key_tokens.specs.Layout.{IsToken}

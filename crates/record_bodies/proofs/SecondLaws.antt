@@ -7,7 +7,7 @@ use Rattle.std.proofs.lemmas.List.{get_or_past, take_at, length-append}
 use Rattle.std.proofs.lemmas.List.Elements.{All-append, All-cons, All-take, All-drop}
 use Rattle.std.proofs.lemmas.Nat.{mod_below}
 use Rattle.std.proofs.lemmas.Slice.Eq.{bytes_eq-Decides}
-use Rattle.byte_lists.specs.Bytes.{AreBytes, IsZero}
+use Rattle.key_cells.specs.Bytes.{AreBytes, IsZero}
 use Rattle.cca_vectors.specs.Vectors.{length_of, right_of}
 use Rattle.multi_encipher.specs.Seals.{seal, sealed_half}
 use Rattle.multi_encipher.proofs.SealLaws.{all_zeros}

@@ -4,7 +4,7 @@ use Rattle.std.specs.Prelude.{slice_index, bytes_eq, is_some, IsSome, IsTrue}
 use Rattle.std.proofs.lemmas.Bool.{cases_eq}
 use Rattle.std.proofs.lemmas.Slice.Eq.{bytes_eq-Decides}
 use Rattle.device_cells.proofs.CellSteps.{selected_below}
-use Rattle.byte_lists.specs.Bytes.{AreBytes, IsZero}
+use Rattle.key_cells.specs.Bytes.{AreBytes, IsZero}
 use Rattle.cca_vectors.specs.Checks.{first_failing}
 use Rattle.cca_vectors.specs.Vectors.{length_of}
 use Rattle.device_cells.specs.Cells.{body, body_place, selected}
@@ -25,7 +25,7 @@ use Rattle.record_bodies.specs.declared.rows.Row.{Row}
 use Rattle.record_bodies.specs.declared.rows.Second.{Second}
 use Rattle.record_bodies.proofs.SecondLaws.{same_second, slice_bytes}
 use Rattle.record_bodies.proofs.BodyLaws.{spelled, spelled_label, spelled_again, spelled_what, entry_blank, entry_reads}
-use Rattle.held_names.proofs.DirectoryLaws.{none_some, apart_set, apart_none, held_somewhere, held_nowhere}
+use Rattle.cca_roles.proofs.DirectoryLaws.{none_some, apart_set, apart_none, held_somewhere, held_nowhere}
 use Rattle.record_bodies.proofs.OpeningLaws.{label_remembered, opened_none, opened_more, opened_all, refused_damaged}
 use Rattle.record_bodies.proofs.RowLaws.{blank_rows, rows_set}
 

@@ -13,7 +13,7 @@ pub mod Written
 pub mod Turning
 pub mod Further
 pub mod Leaving
-pub use Rattle.byte_lists.specs.Bytes
+pub use Rattle.key_cells.specs.Bytes
 pub use Rattle.cca_vectors.specs.Checks
 pub use Rattle.key_tokens.specs.Denotes
 pub use Rattle.key_tokens.specs.Fields

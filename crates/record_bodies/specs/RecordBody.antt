@@ -1,6 +1,6 @@
 -- A record as the body of a cell.
 use Rattle.std.specs.Prelude.{◌≡◌, ◌⊎◌, IsSome, IsTrue, ℕ, Bool, true, false, not, ◌&&◌, ◌-◌, ◌==◌, List, ◌∷◌, ◌++◌, length, take, drop, replicate, Option, None, Some, is_some, slice_index, slice_range, bytes_eq, if◌then◌else◌}
-use Rattle.byte_lists.specs.Bytes.{AreBytes, IsZero}
+use Rattle.key_cells.specs.Bytes.{AreBytes, IsZero}
 use Rattle.cca_vectors.specs.Checks.{first_failing}
 use Rattle.cca_vectors.specs.Vectors.{length_of}
 use Rattle.multi_encipher.specs.Seals.{seal}

@@ -1,7 +1,7 @@
 //! A record as the body of a cell.
 ghost use Rattle.std.specs.Prelude.{◌≡◌, ◌↔◌, ◌+◌, ◌≤◌, ◌<◌, Option, None, Some, IfSome, IsSome, IsNone, IsTrue, false};
 ghost use Rattle.std.specs.Prelude.{slice_range};
-ghost use Rattle.byte_lists.specs.Bytes.{AreBytes};
+ghost use Rattle.key_cells.specs.Bytes.{AreBytes};
 ghost use Rattle.cca_vectors.specs.Checks.{first_failing};
 ghost use Rattle.key_tokens.specs.Denotes.{MasterKeys, denoted};
 ghost use Rattle.key_tokens.specs.Fields.{pattern_of_token, token_of};
@@ -12,7 +12,7 @@ ghost use Rattle.record_bodies.specs.Labels.{IsLabel};
 
 use crate::labels::Label;
 use crate::rows::Second;
-use byte_lists::is_zero;
+use key_cells::is_zero;
 use key_tokens::{Asked, Kind, Token, read_token, write_token};
 use master_registers::Pattern;
 use multi_encipher::Sealed;

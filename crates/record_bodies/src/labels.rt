@@ -1,9 +1,9 @@
 //! Labels of records.
 ghost use Rattle.record_bodies.specs.Labels.{is_label};
 ghost use Rattle.std.proofs.Common.{arith};
-ghost use Rattle.held_names.proofs.NameLemmas.{label_short};
+ghost use Rattle.cca_roles.specs.NameLaws.{label_short};
 
-use held_names::{Form, FormedText, is_label};
+use cca_roles::{Form, FormedText, is_label};
 
 /// The form of a label.
 pub struct LabelForm;

@@ -7,7 +7,7 @@ use Rattle.device_cells.specs.Medium.{Medium, Told, IsSettled, From, Becomes, Ea
 use Rattle.device_cells.specs.SpareBytes.{Turned}
 use Rattle.device_cells.proofs.Media.{told_at, each_weaker, each_still, goes_on, becomes_same, becomes_weaker, becomes_both, becomes_then, from_then}
 use Rattle.device_cells.proofs.SpareLemmas.{turned_same}
-use Rattle.held_names.proofs.DirectoryLaws.{none_some}
+use Rattle.cca_roles.proofs.DirectoryLaws.{none_some}
 use Rattle.cca_vectors.specs.Checks.{first_failing}
 use Rattle.key_cells.specs.Bench.{Bench}
 use Rattle.key_tokens.specs.Denotes.{denoted}

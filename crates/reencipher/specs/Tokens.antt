@@ -1,6 +1,6 @@
 -- The tokens that an action puts into a record.
 use Rattle.std.specs.Prelude.{◌≡◌, ℕ, Bool, true, not, List, Option, Some, IsSome}
-use Rattle.byte_lists.specs.Bytes.{AreBytes}
+use Rattle.key_cells.specs.Bytes.{AreBytes}
 use Rattle.key_cells.specs.Bench.{Bench}
 use Rattle.key_tokens.specs.Denotes.{ClearKey, Denoted, MasterKeys, denoted}
 use Rattle.record_bodies.specs.Ages.{has_old_key}

@@ -6,7 +6,8 @@ ghost use Rattle.record_bodies.specs.StoreStands.{HasStore, KeepsLabels};
 ghost use Rattle.master_registers.specs.Loaded.{IsLoaded, Loaded};
 ghost use Rattle.master_registers.specs.Masters.{Masters};
 ghost use Rattle.reencipher.specs.Runs.{IsCell, LeavesAnyStore, Reenciphers, TurnsCells};
-ghost use Rattle.key_records.specs.Ready.{IsReadyAhead, IsReadyFor};
+ghost use Rattle.key_records.specs.Ready.{IsReadyFor};
+ghost use Rattle.verb_rules.specs.Ready.{IsReadyAhead};
 ghost use Rattle.device_cells.specs.Medium.{Told};
 ghost use Rattle.verb_rules.specs.Keys.{keys_of};
 

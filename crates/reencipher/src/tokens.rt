@@ -1,6 +1,6 @@
 //! The tokens that an action makes of a token.
 ghost use Rattle.std.specs.Prelude.{◌≡◌, IfSome, IsSome, Some, is_some};
-ghost use Rattle.byte_lists.specs.Bytes.{AreBytes};
+ghost use Rattle.key_cells.specs.Bytes.{AreBytes};
 ghost use Rattle.key_cells.specs.declared.places.KeyPlace.{KeyPlace};
 ghost use Rattle.key_cells.specs.Bench.{Bench};
 ghost use Rattle.key_cells.specs.Lease.{bench_of};
@@ -12,12 +12,12 @@ ghost use Rattle.master_registers.specs.Masters.{Masters};
 ghost use Rattle.multi_encipher.specs.Bundles.{ChangesKeyAt};
 ghost use Rattle.record_bodies.specs.Further.{under_current, has_current_key};
 ghost use Rattle.reencipher.specs.Tokens.{AreMade, AreSecond, IsComing, changes_key};
-ghost use Rattle.key_records.specs.Ready.{IsReadyAhead, IsReadyFor};
+ghost use Rattle.key_records.specs.Ready.{IsReadyFor};
+ghost use Rattle.verb_rules.specs.Ready.{IsReadyAhead};
 ghost use Rattle.verb_rules.specs.Keys.{HasHalves, keys_of, opened_key};
 
 use crate::writing::Tokens;
-use byte_lists::is_zero;
-use key_cells::{KeyPlace, Lease};
+use key_cells::{KeyPlace, Lease, is_zero};
 use key_records::Second;
 use key_tokens::{Age, Asked, read_token};
 use master_registers::{Pattern, Registers, has_pattern};

@@ -14,7 +14,7 @@ use Rattle.key_tokens.specs.Denotes.{Denoted}
 use Rattle.line_service.specs.declared.stops.Stop.{Stop}
 use Rattle.master_registers.specs.Masters.{Masters}
 use Rattle.master_registers.specs.RegisterBody.{StandsForMasters}
-use Rattle.script_buffers.specs.Replies.{Refused, spelled}
+use Rattle.line_service.specs.Replies.{Refused, spelled}
 use Rattle.device_cells.specs.Medium.{Keeps, Medium}
 use Rattle.store_move.specs.Stored.{IsStored, stored_checks}
 use Rattle.verb_rules.specs.Keys.{keys_of}

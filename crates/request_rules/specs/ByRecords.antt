@@ -9,7 +9,7 @@ use Rattle.record_bodies.specs.declared.rows.Row.{Row}
 use Rattle.key_tokens.specs.Denotes.{Denoted, MasterKeys}
 use Rattle.master_registers.specs.Masters.{Masters}
 use Rattle.master_registers.specs.RegisterBody.{StandsForMasters}
-use Rattle.script_buffers.specs.Replies.{Refused, spelled}
+use Rattle.line_service.specs.Replies.{Refused, spelled}
 use Rattle.device_cells.specs.Medium.{Medium, Told}
 use Rattle.store_move.specs.Reading.{HoldsAsRead}
 use Rattle.store_move.specs.Stored.{stored_checks}

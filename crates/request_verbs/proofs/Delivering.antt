@@ -2,7 +2,7 @@
 use Rattle.std.proofs.Common.{◌≡◌, ◌≤◌, ◌∙◌, ℕ, true, false, List, [], length, Option, None, Some, refl, sym, ap, subst, arith}
 use Rattle.std.specs.Prelude.{Bool, IsSome, IsTrue, is_some, ◌||◌}
 use Rattle.key_cells.specs.Bench.{Bench}
-use Rattle.held_names.proofs.NameLemmas.{label_short}
+use Rattle.cca_roles.specs.NameLaws.{label_short}
 use Rattle.record_bodies.specs.Directory.{label_at}
 use Rattle.record_bodies.specs.Entries.{row_directory}
 use Rattle.record_bodies.specs.declared.rows.Row.{Row}
@@ -10,17 +10,17 @@ use Rattle.key_tokens.specs.Denotes.{Denoted, denoted}
 use Rattle.master_registers.specs.Loaded.{IsLoaded, Loaded, masters_in}
 use Rattle.master_registers.specs.Masters.{Masters}
 use Rattle.master_registers.specs.declared.registers.Registers.{Registers}
-use Rattle.script_buffers.specs.Replies.{ok_text, written}
+use Rattle.line_service.specs.Replies.{ok_text, written}
 use Rattle.verb_rules.specs.Keys.{keys_of}
 use Rattle.verb_script.specs.Grammar.{Request}
 use Rattle.cca_machine.specs.Act.{Effect}
 use Rattle.cca_machine.specs.State.{State}
 use Rattle.cca_machine.specs.Verdict.{Refusal}
-use Rattle.request_verbs.specs.Deciding.{GoesThrough, IsDelivered, IsDelivery, IsHeldAt, IsLeft, IsReady, WritesStore}
+use Rattle.cca_machine.specs.Deciding.{GoesThrough, IsDelivered, IsDelivery, IsHeldAt, IsLeft, IsReady, WritesStore}
 use Rattle.request_verbs.specs.Drawing.{IsHeldPlace}
 use Rattle.cca_machine.specs.Granted.{HasPlace, HasTarget, IsPlaceFor}
-use Rattle.request_verbs.specs.declared.effects.Effect.{Effect as CodeEffect}
-use Rattle.request_verbs.specs.declared.effects.Effect.TheVariants as code
+use Rattle.cca_machine.specs.declared.effects.Effect.{Effect as CodeEffect}
+use Rattle.cca_machine.specs.declared.effects.Effect.TheVariants as code
 use Rattle.cca_machine.specs.declared.granted.Grant.{Grant}
 
 -- a label that a key goes to is short

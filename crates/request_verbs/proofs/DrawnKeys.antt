@@ -24,18 +24,18 @@ use Rattle.cca_machine.specs.Lines.{drawn_where}
 use Rattle.cca_machine.specs.Operands.{needs_store, operands}
 use Rattle.cca_machine.specs.State.{State}
 use Rattle.cca_machine.specs.Verdict.{Refusal, draw_verdict, or_last, refusal, verb_verdict, whole_verb_verdict}
-use Rattle.request_verbs.specs.Decided.{IsGrantedIn, SettlesDrawing, Source, TakesOnly}
-use Rattle.request_verbs.specs.Deciding.{ChangesPlaces, GoesThrough, IsDelivered, IsDelivery, IsReady, WritesStore, HasDrawn}
+use Rattle.cca_machine.specs.Decided.{IsGrantedIn, SettlesDrawing, Source, TakesOnly}
+use Rattle.cca_machine.specs.Deciding.{ChangesPlaces, GoesThrough, IsDelivered, IsDelivery, IsReady, WritesStore, HasDrawn}
 use Rattle.request_verbs.specs.Drawing.{IsHeldPlace, RefusesDrawn}
 use Rattle.cca_machine.specs.Granted.{HaveShapes, IsPlaceFor}
 use Rattle.cca_machine.specs.Refusals.{HasRefused, IsRefusal, refusal_of}
-use Rattle.request_verbs.specs.declared.effects.Effect.{Effect as CodeEffect}
-use Rattle.request_verbs.specs.declared.effects.Effect.TheVariants as code
+use Rattle.cca_machine.specs.declared.effects.Effect.{Effect as CodeEffect}
+use Rattle.cca_machine.specs.declared.effects.Effect.TheVariants as code
 use Rattle.cca_machine.specs.declared.granted.Granted.{Granted}
 use Rattle.cca_machine.specs.declared.refusals.Refusal.{Refusal as CodeRefusal}
 use Rattle.request_verbs.specs.declared.verbs.csnbkgn.Drawn.{Drawn}
 use Rattle.request_verbs.proofs.Delivering.{delivered_left, delivery_named, delivery_ready, delivery_single}
-use Rattle.request_verbs.proofs.Settling.{stopped_decides}
+use Rattle.cca_machine.proofs.Settling.{stopped_decides}
 
 -- a rule that the machine knows as broken is one that was found
 pub some_broken : (v : Option Refusal) (broken : Option CodeRefusal) → HasRefused v broken → IsSome v → IsSome broken

@@ -1,7 +1,7 @@
 -- Replies of no field and of one, as they are written.
 use Rattle.std.proofs.Common.{◌≡◌, ℕ, List, [], ◌∷◌, ◌++◌, sym, ap, ◌∙◌}
 use Rattle.std.proofs.lemmas.List.{append-nil}
-use Rattle.script_buffers.specs.Replies.{Hex, Text, Number, written, ok_text, hex_field, text_field, number_field}
+use Rattle.line_service.specs.Replies.{Hex, Text, Number, written, ok_text, hex_field, text_field, number_field}
 
 append_nothing : (ok field : List ℕ) → (([] ++ ok) ++ field) ≡ ok ++ (field ++ [])
 append_nothing ok field = simp append-nil

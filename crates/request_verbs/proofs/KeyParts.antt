@@ -18,7 +18,7 @@ use Rattle.verb_rules.specs.Keys.{keys_of, opened}
 use Rattle.verb_rules.specs.declared.judging.Judged.{Judged}
 use Rattle.verb_script.specs.Values.{hex_value}
 use Rattle.cca_machine.specs.Verdict.{first_refusal, further_part_questions, questions, refusal}
-use Rattle.request_verbs.specs.Deciding.{MakesToken}
+use Rattle.cca_machine.specs.Deciding.{MakesToken}
 
 pub part_refusal : (same whole : Bool) (n : ℕ) → first_failing (check 32 (not same) ∷ check 35 whole ∷ []) ≡ Some n
     → first_refusal (questions (codes "part") (check 32 (not same) ∷ []) ∷ questions (codes "key") (check 35 whole ∷ []) ∷ [])

@@ -5,7 +5,7 @@ use Rattle.std.specs.List.{range_with_len, starts_with}
 use Rattle.std.proofs.lemmas.List.{append_assoc, append-nil, length-append}
 use Rattle.std.proofs.lemmas.List.FromFn.{filter_of_map_range_with_len_more}
 use Rattle.record_bodies.specs.Rank.{IsNth}
-use Rattle.script_buffers.specs.Replies.{Number, Text, field_name, number_field, ok_text, text_field, written}
+use Rattle.line_service.specs.Replies.{Number, Text, field_name, number_field, ok_text, text_field, written}
 use Rattle.cca_machine.specs.Listing.{beginning, nth_label, with_commas}
 use Rattle.cca_machine.proofs.RankLemmas.{nth_is}
 

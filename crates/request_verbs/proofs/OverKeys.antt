@@ -10,7 +10,7 @@ use Rattle.cca_machine.specs.Granted.{HasDoubleKey, HasJudged, HasSomeJudged, Ha
 use Rattle.cca_machine.specs.declared.granted.Grant.{Grant}
 use Rattle.cca_machine.specs.declared.granted.Granted.{Granted}
 use Rattle.verb_rules.specs.declared.needs.Need.{Need}
-use Rattle.request_verbs.specs.Decided.{CanDecide, CanDeliver}
+use Rattle.cca_machine.specs.Decided.{CanDecide, CanDeliver}
 
 -- a key that was judged by some need
 pub some_key : {need : Need} {grant : Grant} → HasJudged need grant → HasSomeJudged grant

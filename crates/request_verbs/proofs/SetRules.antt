@@ -17,7 +17,7 @@ use Rattle.master_registers.specs.declared.actions.Action.TheVariants.{Set}
 use Rattle.cca_machine.specs.Actions.{action_checks}
 use Rattle.cca_machine.specs.State.{State}
 use Rattle.cca_machine.specs.Verdict.{Refusal, action_questions, first_refusal, refusal, set_questions, clear_questions, ahead_questions, or_refused}
-use Rattle.request_verbs.specs.Deciding.{IsRecorded}
+use Rattle.cca_machine.specs.Deciding.{IsRecorded}
 
 -- by rules 25 and 26, and whether a label is under the old master key
 abbrev pub or_old : Option ℕ → Bool → Option Refusal

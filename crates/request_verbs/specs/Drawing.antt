@@ -14,7 +14,7 @@ use Rattle.cca_machine.specs.Lines.{drawn_where}
 use Rattle.cca_machine.specs.Verdict.{Refusal, draw_verdict, or_last}
 use Rattle.cca_machine.specs.Refusals.{IsRefusal}
 use Rattle.cca_machine.specs.declared.refusals.Refusal.{Refusal as CodeRefusal}
-use Rattle.request_verbs.specs.Deciding.{IsHeldAt, HasDrawn}
+use Rattle.cca_machine.specs.Deciding.{IsHeldAt, HasDrawn}
 use Rattle.request_verbs.specs.declared.verbs.csnbkgn.Drawn.{Drawn}
 use Rattle.request_verbs.specs.declared.verbs.csnbkgn.Drawn.TheVariants.{Keys, Refused}
 

@@ -1,10 +1,11 @@
-//! What each verb decides of its request: over the operands that were granted, in every state that
-//! the memory and the workbench stand for.
+//! What each verb decides of its request, one that isn't over a text: over the operands that were granted, in every
+//! state that the memory and the workbench stand for.
+ghost use Rattle.std.specs.Prelude.{◌≡◌, false};
 ghost use Rattle.key_cells.specs.Lease.{bench_of};
 ghost use Rattle.verb_script.specs.Parsed.{seen};
-ghost use Rattle.request_verbs.specs.Decided.{CanDecide, Decision, source};
+ghost use Rattle.cca_machine.specs.Decided.{CanDecide, Decision, source};
+ghost use Rattle.cca_machine.specs.Operands.{is_over_text};
 
-use crate::effects::Effect;
 use crate::verbs::csnbkrc::csnbkrc;
 use crate::verbs::csnbkrd::csnbkrd;
 use crate::verbs::csnbkrl::csnbkrl;
@@ -13,9 +14,8 @@ use crate::verbs::csnbkrw::csnbkrw;
 use crate::verbs::csnbktp::csnbktp;
 use crate::verbs::csnbrng::csnbrng;
 use crate::verbs::key_work::over_keys;
-use crate::verbs::text_work::{over_text, text_work};
 use crate::verbs::{csnbmkp, csuaaci, reenciphering};
-use cca_machine::Granted;
+use cca_machine::{Effect, Granted};
 use device_cells::Entropy;
 use key_cells::Lease;
 use key_records::Records;
@@ -33,6 +33,7 @@ pub fn decide<E: Entropy>(
     records: &Records,
     reply: &mut ReplyBuffer,
 ) -> Result<Effect, Stop>
+    requires other { is_over_text (seen request.now).name ≡ false }
     requires can { CanDecide (seen request.now) granted.now held.now records.now
         (bench_of lease.old) reply.old }
     ensures decision { Decision (seen request.now) granted.now held.now records.now
@@ -56,7 +57,7 @@ pub fn decide<E: Entropy>(
         | Request::Csnbmvr { .. }
         | Request::CsnbmvrFirst { .. }
         | Request::CsnbmvrMiddle { .. }
-        | Request::CsnbmvrLast { .. } => Ok(over_text(text_work(request), granted, lease, reply)),
+        | Request::CsnbmvrLast { .. } => unreachable!(),
         Request::Csnbkyt { .. }
         | Request::Csnbcki { .. }
         | Request::CsnbkgnOp { .. }

@@ -1,7 +1,5 @@
 //! What each verb decides, over what its operands stand for. No verb sees a disk.
 
-pub(crate) mod code_segments;
-pub(crate) mod codes;
 pub(crate) mod csnbcki;
 pub(crate) mod csnbkex;
 pub(crate) mod csnbkgn;
@@ -25,7 +23,3 @@ mod key_digits;
 pub(crate) mod key_work;
 mod old_labels;
 pub(crate) mod reenciphering;
-pub(crate) mod segments;
-pub(crate) mod text_work;
-mod texts;
-pub(crate) mod whole_texts;

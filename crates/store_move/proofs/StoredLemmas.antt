@@ -21,7 +21,7 @@ use Rattle.verb_rules.specs.declared.judging.Judged.{Judged}
 use Rattle.verb_rules.specs.declared.needs.Need.{Need}
 use Rattle.verb_rules.specs.declared.rules.Rule.{Rule}
 use Rattle.verb_rules.proofs.NeedLemmas.{every_has}
-use Rattle.held_names.proofs.DirectoryLaws.{none_some}
+use Rattle.cca_roles.proofs.DirectoryLaws.{none_some}
 use Rattle.key_records.specs.declared.faults.RecordFault.{RecordFault}
 use Rattle.key_records.specs.declared.faults.RecordFault.TheVariants.{Damaged, DiskFault}
 use Rattle.key_transport.specs.Changes.{ChangesKeys}

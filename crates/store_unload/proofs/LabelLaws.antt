@@ -3,7 +3,7 @@ use Rattle.std.proofs.Common.{◌≡◌, ◌∙◌, ℕ, Bool, true, false, List
 use Rattle.std.specs.Prelude.{if◌then◌else◌, is_some, IfErr, IsSome}
 use Rattle.std.specs.Option.{option_map}
 use Rattle.std.specs.Str.{bytes_eq}
-use Rattle.held_names.proofs.DirectoryLaws.{held_nowhere}
+use Rattle.cca_roles.proofs.DirectoryLaws.{held_nowhere}
 use Rattle.cca_vectors.specs.Checks.{first_failing}
 use Rattle.key_cells.specs.Bench.{Bench}
 use Rattle.record_bodies.specs.Directory.{cell_of, label_at}
@@ -15,7 +15,7 @@ use Rattle.record_bodies.specs.declared.rows.Row.{Row}
 use Rattle.record_bodies.proofs.OpeningLaws.{directory_remembered}
 use Rattle.key_tokens.specs.Denotes.{ClearKey, Denoted, MasterKeys}
 use Rattle.key_transport.specs.Tokens.{external_token}
-use Rattle.script_buffers.specs.Replies.{two_digits}
+use Rattle.line_service.specs.Replies.{two_digits}
 use Rattle.device_cells.specs.Medium.{Medium, Told}
 use Rattle.device_cells.proofs.Media.{told_at, told_from}
 use Rattle.store_move.specs.Exports.{IsMoved, export_checks}

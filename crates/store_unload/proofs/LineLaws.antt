@@ -1,8 +1,8 @@
 -- The bytes of a request, as the parts that were put one behind the other.
 use Rattle.std.proofs.Common.{◌≡◌, ◌∙◌, ℕ, List, [], ◌∷◌, ◌++◌, ap, append_assoc, codes, sym}
 use Rattle.hex.specs.Hex.{encode_lower}
-use Rattle.script_buffers.specs.Lines.{newline}
-use Rattle.script_buffers.specs.Replies.{field_name, hex_field}
+use Rattle.line_service.specs.Lines.{newline}
+use Rattle.line_service.specs.Replies.{field_name, hex_field}
 use Rattle.store_unload.specs.Moves.{import_line}
 use Rattle.command_words.specs.declared.moves.Move.{Move}
 

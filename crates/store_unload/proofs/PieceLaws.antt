@@ -5,7 +5,7 @@ use Rattle.std.proofs.lemmas.List.{append-nil}
 use Rattle.device_cells.specs.WhereTold.{WhereTold}
 use Rattle.device_cells.proofs.WhereToldLemmas.{told_weaker, told_then, told_same}
 use Rattle.line_service.specs.Sending.{GotPart}
-use Rattle.script_buffers.specs.Lines.{newline}
+use Rattle.line_service.specs.Lines.{newline}
 use Rattle.store_unload.specs.Moves.{with_newlines}
 use Rattle.store_unload.specs.Telling.{Gets, GotSome}
 

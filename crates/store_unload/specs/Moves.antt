@@ -9,8 +9,8 @@ use Rattle.cca_vectors.specs.Checks.{Check, first_failing}
 use Rattle.key_tokens.specs.Denotes.{ClearKey}
 use Rattle.key_transport.specs.Tokens.{external_token}
 use Rattle.record_bodies.specs.Entries.{directory}
-use Rattle.script_buffers.specs.Lines.{newline}
-use Rattle.script_buffers.specs.Replies.{two_digits}
+use Rattle.line_service.specs.Lines.{newline}
+use Rattle.line_service.specs.Replies.{two_digits}
 use Rattle.cca_roles.specs.Roles.{points_of}
 use Rattle.store_move.specs.Exports.{export_checks, exporter}
 use Rattle.verb_rules.specs.KeyChecks.{use_checks}

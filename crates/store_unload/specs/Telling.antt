@@ -8,7 +8,7 @@ use Rattle.key_records.specs.declared.faults.RecordFault.{RecordFault}
 use Rattle.key_records.specs.declared.faults.RecordFault.TheVariants.{Damaged}
 use Rattle.record_bodies.specs.declared.rows.Row.{Row}
 use Rattle.key_tokens.specs.Denotes.{Denoted, MasterKeys}
-use Rattle.script_buffers.specs.Replies.{two_digits}
+use Rattle.line_service.specs.Replies.{two_digits}
 use Rattle.store_move.specs.Exports.{IsMoved}
 use Rattle.store_move.specs.Reading.{HoldsAsRead}
 use Rattle.store_move.specs.declared.moving.Moved.{Moved}

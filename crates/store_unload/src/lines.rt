@@ -1,11 +1,11 @@
 //! The lines of the file and of the report, each with its newline.
 ghost use Rattle.std.specs.Prelude.{◌≡◌, ◌+◌, ◌≤◌, ◌++◌, [], ◌∷◌, Some, length};
-ghost use Rattle.script_buffers.specs.Lines.{newline};
+ghost use Rattle.line_service.specs.Lines.{newline};
 ghost use Rattle.store_unload.specs.Moves.{create_line, import_line, remarks_by, with_newlines};
 
 use command_words::Move;
 use key_records::Label;
-use script_buffers::ReplyBuffer;
+use line_service::ReplyBuffer;
 
 /// Writes the request that creates the label's record at the other module.
 pub(crate) fn write_create(line: &mut ReplyBuffer, how: &Move, label: &Label)
@@ -19,7 +19,7 @@ pub(crate) fn write_create(line: &mut ReplyBuffer, how: &Move, label: &Label)
 }
 
 /// Writes the request that imports the label's key there.
-#[tactic(auto, unfolding(script_buffers::specs::Replies::field_name, script_buffers::specs::Replies::hex_field))]
+#[tactic(auto, unfolding(line_service::specs::Replies::field_name, line_service::specs::Replies::hex_field))]
 pub(crate) fn write_import(line: &mut ReplyBuffer, how: &Move, token: &[u8; 64], label: &Label)
     requires { line.old ≡ [] }
     ensures { line.new ≡ import_line how.now token.now label.now ++ newline ∷ [] }
@@ -47,7 +47,7 @@ pub(crate) fn write_remark(line: &mut ReplyBuffer, label: &Label, why: &[u8])
 }
 
 // Writes what begins a request of the role there, as far as its name.
-#[tactic(auto, using(held_names::proofs::NameLemmas::role_short))]
+#[tactic(auto, using(cca_roles::specs::NameLaws::role_short))]
 fn put_role(line: &mut ReplyBuffer, front: &[u8], how: &Move)
     requires empty { line.old ≡ [] }
     requires short { length front.now ≤ 13 }
@@ -59,7 +59,7 @@ fn put_role(line: &mut ReplyBuffer, front: &[u8], how: &Move)
 }
 
 // Writes a label.
-#[tactic(auto, using(held_names::proofs::NameLemmas::label_short))]
+#[tactic(auto, using(cca_roles::specs::NameLaws::label_short))]
 fn put_label(line: &mut ReplyBuffer, label: &Label)
     requires { length line.old ≤ 1000 }
     ensures bytes { line.new ≡ line.old ++ label.now }

@@ -10,8 +10,7 @@ use crate::writing::MoveFault;
 use command_words::Move;
 use device_cells::{Failed, Sink};
 use key_records::Label;
-use line_service::send;
-use script_buffers::ReplyBuffer;
+use line_service::{ReplyBuffer, send};
 
 /// Sends the two requests that move a label: a write for each, unless the file takes it in parts.
 pub(crate) fn send_requests<K: Sink>(

@@ -9,7 +9,7 @@ ghost use Rattle.line_service.specs.Devices.{TellsFault};
 ghost use Rattle.line_service.specs.Sending.{Grows};
 ghost use Rattle.master_registers.specs.Loaded.{Loaded};
 ghost use Rattle.master_registers.specs.Masters.{Masters};
-ghost use Rattle.script_buffers.specs.Replies.{two_digits};
+ghost use Rattle.line_service.specs.Replies.{two_digits};
 ghost use Rattle.device_cells.specs.Medium.{Keeps, Told};
 ghost use Rattle.device_cells.specs.WhereTold.{WhereTold};
 ghost use Rattle.verb_rules.specs.Keys.{IsDouble, keys_of, opened};
@@ -26,7 +26,7 @@ use device_cells::{Disk, Sink, Steps};
 use key_cells::Lease;
 use key_records::{Label, Place, RecordFault, Records, STORE_LEN};
 use master_registers::Registers;
-use script_buffers::ReplyBuffer;
+use line_service::ReplyBuffer;
 use store_move::{Moved, unload_label};
 use verb_rules::{Judged, Rule};
 

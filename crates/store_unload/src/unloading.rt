@@ -26,10 +26,9 @@ use command_words::{Move, Words};
 use device_cells::{Disk, NoMemory, Sink};
 use key_cells::{Lease, Workbench};
 use key_records::Records;
-use line_service::Shown;
+use line_service::{ReplyBuffer, Shown};
 use master_registers::Registers;
 use request_rules::stop_of;
-use script_buffers::ReplyBuffer;
 use std::alloc::Global;
 
 /// How a move ended.

@@ -19,7 +19,7 @@ use device_cells::{Disk, Sink};
 use key_cells::Lease;
 use key_records::{RecordFault, Records, STORE_LEN};
 use master_registers::Registers;
-use script_buffers::ReplyBuffer;
+use line_service::ReplyBuffer;
 use thiserror::Error;
 use verb_rules::Judged;
 

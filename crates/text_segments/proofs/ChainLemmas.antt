@@ -3,7 +3,7 @@ use Rattle.std.proofs.Common.{◌≡◌, ◌∙◌, ℕ, zero, suc, ◌+◌, ◌
 use Rattle.std.proofs.lemmas.Bool.{le-leb}
 use Rattle.std.proofs.lemmas.List.{append_assoc, append-nil, drop-drop, drop_at, get_or-append-add, length-append, length-drop, length-take-le, nil_from_length, take-append-drop, take_at}
 use Rattle.std.proofs.Math.Seq.{set-append_seam}
-use Rattle.byte_lists.specs.Bytes.{IsZero, is_zero}
+use Rattle.key_cells.specs.Bytes.{IsZero, is_zero}
 use Rattle.des_blocks.proofs.BitLemmas.{drop-add}
 use Rattle.text_segments.specs.Chains.{chain_bytes, chain_of, is_chain}
 use Rattle.text_segments.specs.declared.chains.Chain.{Chain}

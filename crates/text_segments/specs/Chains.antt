@@ -1,7 +1,7 @@
 -- The chain of a text that goes in segments: the chaining block, and the carried bytes, which are no whole block yet.
 -- In 16 bytes: the chaining block, the number of carried bytes, and these, filled with zeros.
 use Rattle.std.specs.Prelude.{ℕ, ◌+◌, ◌-◌, nat_le, Bool, not, ◌&&◌, List, [], ◌∷◌, ◌++◌, length, take, drop, replicate, slice_index}
-use Rattle.byte_lists.specs.Bytes.{is_zero}
+use Rattle.key_cells.specs.Bytes.{is_zero}
 use Rattle.cca_vectors.specs.Checks.{Check, check}
 use Rattle.text_segments.specs.declared.chains.Chain.{Chain}
 

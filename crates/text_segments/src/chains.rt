@@ -3,7 +3,7 @@ ghost use Rattle.std.specs.Prelude.{◌≡◌, ◌≤◌, ◌++◌, ◌∷◌, N
 ghost use Rattle.cca_vectors.specs.Checks.{first_failing};
 ghost use Rattle.text_segments.specs.Chains.{chain_bytes, chain_checks, chain_of, first_chain, is_chain};
 
-use byte_lists::{ShortList, is_zero};
+use key_cells::{ShortList, is_zero};
 
 /// How many bytes a block has.
 const BLOCK: usize = 8;

@@ -1,14 +1,13 @@
 //! The text in its place in the bench, with the carried bytes before it and without the rest.
 ghost use Rattle.std.specs.Prelude.{◌≡◌, ◌≤◌, ◌+◌, ◌-◌, ◌*◌, ◌/◌, ◌%◌, ◌++◌, drop, length, take};
-ghost use Rattle.byte_lists.specs.Bytes.{xor};
+ghost use Rattle.key_cells.specs.Bytes.{xor};
 ghost use Rattle.des_blocks.specs.Modes.{blocks, fill, last_block};
 ghost use Rattle.des_blocks.specs.Texts.{text_in};
 ghost use Rattle.key_cells.specs.Bench.{with_size};
 ghost use Rattle.key_cells.specs.Lease.{bench_of, holding};
 ghost use Rattle.text_segments.specs.Segments.{rest_part, whole_part};
 
-use byte_lists::ShortList;
-use key_cells::Lease;
+use key_cells::{Lease, ShortList};
 
 /// How many bytes a block has.
 const BLOCK: usize = 8;
@@ -78,7 +77,7 @@ fn combine_front(text: &mut [u8], block: &[u8; 8])
     requires { 8 ≤ length text.old }
     ensures { text.new ≡ xor (take 8 text.old) block.now ++ drop 8 text.old }
 {
-    byte_lists::xor(&mut text[..BLOCK], block);
+    key_cells::xor(&mut text[..BLOCK], block);
 }
 
 /// Combines the first block of the text with the start of a chain.

@@ -4,7 +4,7 @@ use Rattle.std.specs.Prelude.{slice_range, if◌then◌else◌}
 use Rattle.std.proofs.lemmas.Bool.{eq-eqb, ne_eqb}
 use Rattle.std.proofs.lemmas.List.{append-nil, take_all, take-append-le, length-append, length-drop, length-take-le}
 use Rattle.std.proofs.lemmas.List.Elements.{All-append, All-take}
-use Rattle.byte_lists.specs.Bytes.{AreBytes}
+use Rattle.key_cells.specs.Bytes.{AreBytes}
 use Rattle.cca_vectors.specs.Vectors.{left_of, right_of, length_of}
 use Rattle.des_blocks.specs.Schedules.{AreOf}
 use Rattle.key_cells.specs.declared.schedules.Schedule.{Schedule}

@@ -1,6 +1,6 @@
 -- The clear key that a judged token stands for.
 use Rattle.std.specs.Prelude.{◌≡◌, List, ℕ, Option, None, Some, option_map, replicate}
-use Rattle.byte_lists.specs.Bytes.{IsZero}
+use Rattle.key_cells.specs.Bytes.{IsZero}
 use Rattle.cca_vectors.specs.Vectors.{length_of}
 use Rattle.key_cells.specs.Bench.{Bench}
 use Rattle.key_tokens.specs.declared.key_token.Age.{Age}

@@ -1,6 +1,6 @@
 //! The token that is written for a key in the workbench.
 ghost use Rattle.std.specs.Prelude.{◌≡◌, IsSome, Some, slice_index};
-ghost use Rattle.byte_lists.specs.Bytes.{AreBytes};
+ghost use Rattle.key_cells.specs.Bytes.{AreBytes};
 ghost use Rattle.key_cells.specs.Bench.{Bench};
 ghost use Rattle.key_cells.specs.Lease.{bench_of};
 ghost use Rattle.key_tokens.specs.Denotes.{denoted};

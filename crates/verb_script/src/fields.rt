@@ -7,7 +7,7 @@ use crate::values::{
     are_points, is_hex_of, is_hex_text, is_key, is_label_text, is_mac, is_one_of, is_other_role,
     is_part, is_prefix, is_to, is_type,
 };
-use held_names::is_role_name;
+use cca_roles::is_role_name;
 
 /// A field of the grammar. Two fields of one name accept different texts.
 #[derive(Clone, Copy)]

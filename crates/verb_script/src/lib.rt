@@ -15,9 +15,9 @@ mod words;
 pub use digits::decode;
 pub use labels::named_label;
 pub use laws::a_line_spells_one_request;
+pub use line_service::{
+    LINE_LIMIT, LineBuffer, LineFault, REPLY_ROOM, ReplyBuffer, Taken, read_line,
+};
 pub use parsing::parse_request;
 pub use request::{FormFault, Request};
 pub use rows::RequestName;
-pub use script_buffers::{
-    LINE_LIMIT, LineBuffer, LineFault, REPLY_ROOM, ReplyBuffer, Taken, read_line,
-};

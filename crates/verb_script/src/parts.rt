@@ -2,8 +2,8 @@
 ghost use Rattle.std.specs.Prelude.{◌≡◌, ◌⊎◌, None, Some, IfSome, true, codes, length, option_copied};
 ghost use Rattle.std.specs.Option.{option_or};
 ghost use Rattle.std.specs.List.{list_all};
-ghost use Rattle.held_names.specs.Characters.{is_letter};
-ghost use Rattle.held_names.specs.Names.{IsLabel, IsRoleName};
+ghost use Rattle.cca_roles.specs.Characters.{is_letter};
+ghost use Rattle.cca_roles.specs.Names.{IsLabel, IsRoleName};
 ghost use Rattle.verb_script.specs.Grammar.{row_of, value_of};
 ghost use Rattle.verb_script.specs.Named.{label_named};
 ghost use Rattle.verb_script.specs.Parsed.{seen};
@@ -11,8 +11,7 @@ ghost use Rattle.verb_script.specs.Parts.{Says, as_label, first_label};
 
 use crate::labels::named_label;
 use crate::request::Request;
-use cca_roles::RoleName;
-use held_names::is_label;
+use cca_roles::{RoleName, is_label};
 use std::fmt;
 
 /// What may name the first label of a request.

@@ -4,7 +4,7 @@ ghost use Rattle.std.specs.Int.{to_be_bytes, from_be_bytes, w32};
 ghost use Rattle.std.specs.List.{list_all, list_any};
 ghost use Rattle.std.specs.Option.{option_map};
 ghost use Rattle.std.specs.Str.{bytes_eq};
-ghost use Rattle.held_names.specs.Characters.{is_label_byte};
+ghost use Rattle.cca_roles.specs.Characters.{is_label_byte};
 ghost use Rattle.cca_roles.specs.Points.{are_points};
 ghost use Rattle.cca_roles.specs.RoleNames.{is_role_name};
 ghost use Rattle.cca_vectors.specs.KeyTypes.{type_named};
@@ -16,9 +16,8 @@ ghost use Rattle.verb_script.specs.Words.{texts};
 
 use crate::digits::decode;
 use crate::labels::named_label;
-use cca_roles::AccessPoints;
+use cca_roles::{AccessPoints, is_label_byte, is_role_name};
 use cca_vectors::KeyType;
-use held_names::{is_label_byte, is_role_name};
 
 /// Whether the text is the name of a role other than DEFAULT.
 pub(crate) fn is_other_role(text: &[u8]) -> bool

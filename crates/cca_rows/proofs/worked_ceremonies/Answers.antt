@@ -3,7 +3,7 @@ use Rattle.std.proofs.Common.{refl}
 use Rattle.std.specs.Fmt.{digits}
 use lib.Count.{ones}
 use Rattle.hex.specs.Hex.{encode_with, decode_pairs}
-use Rattle.script_buffers.specs.Replies.{hex_field, text_field, number_field, field_name, ok_text, refusal}
+use Rattle.line_service.specs.Replies.{hex_field, text_field, number_field, field_name, ok_text, refusal}
 use Rattle.cca_roles.specs.RoleNames.{is_role_name}
 use Rattle.verb_script.specs.Requests.{request_of}
 use Rattle.cca_machine.specs.Act.{performed}

@@ -12,9 +12,8 @@ ghost use Rattle.des_core.specs.Lanes.{AreVectors};
 
 use super::ciphers::decipher_words;
 use crate::words::put_word;
-use byte_lists::put_front;
+use key_cells::{Lease, put_front};
 use des_blocks::word_at;
-use key_cells::Lease;
 use std::simd::prelude::*;
 
 /// The 128 blocks of 1,024 bytes, as words.

@@ -2,7 +2,7 @@
 use Rattle.std.proofs.Common.{refl}
 use Rattle.std.specs.Fmt.{digits}
 use Rattle.hex.specs.Hex.{encode_with}
-use Rattle.script_buffers.specs.Replies.{hex_field, text_field, number_field, field_name, ok_text, refusal}
+use Rattle.line_service.specs.Replies.{hex_field, text_field, number_field, field_name, ok_text, refusal}
 use Rattle.device_rows.proofs.spelled_replies.Goals as goal
 
 pub returns : goal.returns

@@ -7,13 +7,12 @@ ghost use Rattle.verb_script.specs.Grammar.{is_hex};
 ghost use Rattle.verb_script.specs.declared.rows.RequestName.TheVariants.{Csnbcki as row};
 ghost use Rattle.verb_script.specs.Values.{hex_value};
 ghost use Rattle.cipher_verbs.specs.Imported.{imported_key};
-ghost use Rattle.request_verbs.specs.Decided.{Settles, asked, CanDeliver};
-ghost use Rattle.request_verbs.specs.Deciding.{MakesToken};
+ghost use Rattle.cca_machine.specs.Decided.{Settles, asked, CanDeliver};
+ghost use Rattle.cca_machine.specs.Deciding.{MakesToken};
 
-use crate::effects::Effect;
 use crate::verbs::delivering::deliver;
 use crate::verbs::key_digits::put_key;
-use cca_machine::Granted;
+use cca_machine::{Effect, Granted};
 use cipher_verbs::clear_key_import;
 use key_cells::{KeyPlace, Lease};
 use master_registers::Registers;

@@ -1,11 +1,10 @@
 //! CSNBKEX: a key exported under a transport key.
 ghost use Rattle.std.specs.Prelude.{◌≡◌, ◌∷◌, [], ℕ, List};
 ghost use Rattle.verb_script.specs.declared.rows.RequestName.TheVariants.{Csnbkex as row};
-ghost use Rattle.request_verbs.specs.Decided.{SettlesOver, asked};
+ghost use Rattle.cca_machine.specs.Decided.{SettlesOver, asked};
 ghost use Rattle.cca_machine.specs.Granted.{HasDoubleKey, HasSomeJudged};
 
-use crate::effects::Effect;
-use cca_machine::{Granted, double_key_in, key_in};
+use cca_machine::{Effect, Granted, double_key_in, key_in};
 use key_cells::Lease;
 use key_transport::export;
 use verb_script::ReplyBuffer;

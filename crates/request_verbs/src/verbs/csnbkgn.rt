@@ -8,19 +8,20 @@ ghost use Rattle.key_transport.specs.Changes.{ChangesKeys};
 ghost use Rattle.key_transport.specs.Generated.{AreGiven, HaveLength};
 ghost use Rattle.line_service.specs.Devices.{TellsFault};
 ghost use Rattle.master_registers.specs.Loaded.{IsLoaded};
-ghost use Rattle.script_buffers.specs.Replies.{Hex};
+ghost use Rattle.line_service.specs.Replies.{Hex};
 ghost use Rattle.verb_script.specs.declared.rows.RequestName.TheVariants.{CsnbkgnOp, CsnbkgnOut, CsnbkgnPair};
 ghost use Rattle.cca_machine.specs.Verdict.{Refusal as Refused, first_refusal, generate_questions, pair_questions};
-ghost use Rattle.request_verbs.specs.Decided.{SettlesDrawing, asked, source, CanDeliver};
-ghost use Rattle.request_verbs.specs.Deciding.{token2_fields, Shows};
+ghost use Rattle.cca_machine.specs.Decided.{SettlesDrawing, asked, source, CanDeliver};
+ghost use Rattle.cca_machine.specs.Deciding.{token2_fields, Shows};
 ghost use Rattle.request_verbs.specs.Drawing.{MakesKeys};
 ghost use Rattle.cca_machine.specs.FieldWords.{IsOutForm, IsPairForm};
 ghost use Rattle.cca_machine.specs.Granted.{HasDoubleKey};
 ghost use Rattle.cca_machine.specs.Refusals.{HasRefused};
 
-use crate::effects::Effect;
 use crate::verbs::delivering::{deliver, show_second};
-use cca_machine::{Granted, Refusal, double_key_in, key_length_of, out_form_of, pair_form_of};
+use cca_machine::{
+    Effect, Granted, Refusal, double_key_in, key_length_of, out_form_of, pair_form_of,
+};
 use cca_vectors::{KeyType, Length};
 use device_cells::Entropy;
 use key_cells::Lease;

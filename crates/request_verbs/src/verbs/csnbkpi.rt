@@ -13,15 +13,14 @@ ghost use Rattle.verb_script.specs.Grammar.{accepts, part_text};
 ghost use Rattle.verb_script.specs.declared.rows.RequestName.TheVariants.{CsnbkpiFirst, CsnbkpiMiddle};
 ghost use Rattle.verb_script.specs.Values.{hex_value};
 ghost use Rattle.cca_machine.specs.Verdict.{first_refusal, further_part_questions};
-ghost use Rattle.request_verbs.specs.Decided.{Settles, asked, CanDeliver};
-ghost use Rattle.request_verbs.specs.Deciding.{MakesToken};
+ghost use Rattle.cca_machine.specs.Decided.{Settles, asked, CanDeliver};
+ghost use Rattle.cca_machine.specs.Deciding.{MakesToken};
 ghost use Rattle.cca_machine.specs.Granted.{HasSomeJudged};
 ghost use Rattle.cca_machine.specs.Refusals.{HasRefused};
 
-use crate::effects::Effect;
 use crate::verbs::delivering::deliver;
 use crate::verbs::key_digits::put_key;
-use cca_machine::{Granted, Refusal, is_last_part, key_in};
+use cca_machine::{Effect, Granted, Refusal, is_last_part, key_in};
 use cca_vectors::KeyType;
 use key_cells::{KeyPlace, Lease};
 use key_parts::{combine_part, first_part};

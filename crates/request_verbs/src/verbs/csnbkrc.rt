@@ -5,10 +5,10 @@ ghost use Rattle.record_bodies.specs.Labels.{IsLabel};
 ghost use Rattle.record_bodies.specs.declared.rows.Row.{Row};
 ghost use Rattle.master_registers.specs.declared.registers.Registers.{Registers};
 ghost use Rattle.verb_script.specs.declared.rows.RequestName.TheVariants.{Csnbkrc as row};
-ghost use Rattle.request_verbs.specs.Decided.{Settles, asked};
+ghost use Rattle.cca_machine.specs.Decided.{Settles, asked};
 ghost use Rattle.cca_machine.specs.declared.granted.Granted.{Granted};
 
-use crate::effects::Effect;
+use cca_machine::Effect;
 use key_records::Label;
 
 /// Leaves the label to be held.

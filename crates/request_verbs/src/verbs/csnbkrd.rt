@@ -4,10 +4,9 @@ ghost use Rattle.key_cells.specs.declared.leases.Lease.{Lease};
 ghost use Rattle.record_bodies.specs.declared.rows.Row.{Row};
 ghost use Rattle.master_registers.specs.declared.registers.Registers.{Registers};
 ghost use Rattle.verb_script.specs.declared.rows.RequestName.TheVariants.{Csnbkrd as row};
-ghost use Rattle.request_verbs.specs.Decided.{Settles, asked};
+ghost use Rattle.cca_machine.specs.Decided.{Settles, asked};
 
-use crate::effects::Effect;
-use cca_machine::{Granted, place_in};
+use cca_machine::{Effect, Granted, place_in};
 
 /// Leaves the label to be taken away.
 pub(crate) fn csnbkrd(granted: &Granted) -> Effect

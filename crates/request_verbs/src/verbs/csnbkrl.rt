@@ -5,10 +5,10 @@ ghost use Rattle.record_bodies.specs.Entries.{row_directory};
 ghost use Rattle.master_registers.specs.declared.registers.Registers.{Registers};
 ghost use Rattle.verb_script.specs.declared.rows.RequestName.TheVariants.{Csnbkrl as row};
 ghost use Rattle.cca_machine.specs.Listing.{ascending, beginning, with_commas};
-ghost use Rattle.request_verbs.specs.Decided.{Settles, asked};
+ghost use Rattle.cca_machine.specs.Decided.{Settles, asked};
 ghost use Rattle.cca_machine.specs.declared.granted.Granted.{Granted};
 
-use crate::effects::Effect;
+use cca_machine::Effect;
 use key_records::Records;
 use verb_script::ReplyBuffer;
 

@@ -5,11 +5,10 @@ ghost use Rattle.key_cells.specs.declared.leases.Lease.{Lease};
 ghost use Rattle.record_bodies.specs.declared.rows.Row.{Row};
 ghost use Rattle.master_registers.specs.declared.registers.Registers.{Registers};
 ghost use Rattle.verb_script.specs.declared.rows.RequestName.TheVariants.{Csnbkrr as row};
-ghost use Rattle.request_verbs.specs.Decided.{Settles, asked};
+ghost use Rattle.cca_machine.specs.Decided.{Settles, asked};
 ghost use Rattle.cca_machine.specs.Granted.{HasSomeJudged};
 
-use crate::effects::Effect;
-use cca_machine::{Granted, key_in};
+use cca_machine::{Effect, Granted, key_in};
 use key_tokens::{Kind, Token, write_token};
 use verb_script::ReplyBuffer;
 

@@ -10,10 +10,9 @@ ghost use Rattle.verb_rules.specs.Keys.{keys_of};
 ghost use Rattle.verb_script.specs.Grammar.{is_hex};
 ghost use Rattle.verb_script.specs.declared.rows.RequestName.TheVariants.{Csnbkrw as row};
 ghost use Rattle.verb_script.specs.Values.{hex_value};
-ghost use Rattle.request_verbs.specs.Decided.{Settles, asked};
+ghost use Rattle.cca_machine.specs.Decided.{Settles, asked};
 
-use crate::effects::Effect;
-use cca_machine::{Granted, place_in, token_bytes};
+use cca_machine::{Effect, Granted, place_in, token_bytes};
 use verb_script::ReplyBuffer;
 
 /// Leaves the token that the digits spell to be written into the record.

@@ -2,11 +2,10 @@
 ghost use Rattle.std.specs.Prelude.{◌≡◌, ◌∷◌, [], ℕ, IsSome, List, Option};
 ghost use Rattle.record_bodies.specs.declared.rows.Row.{Row};
 ghost use Rattle.verb_script.specs.declared.rows.RequestName.TheVariants.{Csnbktc as row};
-ghost use Rattle.request_verbs.specs.Decided.{Settles, asked};
+ghost use Rattle.cca_machine.specs.Decided.{Settles, asked};
 ghost use Rattle.cca_machine.specs.Granted.{HasSomeJudged};
 
-use crate::effects::Effect;
-use cca_machine::{Granted, Refusal, key_in, target_of};
+use cca_machine::{Effect, Granted, Refusal, key_in, target_of};
 use key_cells::Lease;
 use key_transport::{Target, token_change};
 use master_registers::{NewState, Registers};

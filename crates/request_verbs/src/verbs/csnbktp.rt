@@ -4,12 +4,11 @@ ghost use Rattle.cca_machine.specs.Act.{token_fields, kind_name, class_name, sho
 ghost use Rattle.key_cells.specs.declared.leases.Lease.{Lease};
 ghost use Rattle.record_bodies.specs.declared.rows.Row.{Row};
 ghost use Rattle.master_registers.specs.declared.registers.Registers.{Registers};
-ghost use Rattle.script_buffers.specs.Replies.{written, hex_field};
+ghost use Rattle.line_service.specs.Replies.{written, hex_field};
 ghost use Rattle.verb_script.specs.declared.rows.RequestName.TheVariants.{Csnbktp as row};
-ghost use Rattle.request_verbs.specs.Decided.{Settles, asked};
+ghost use Rattle.cca_machine.specs.Decided.{Settles, asked};
 
-use crate::effects::Effect;
-use cca_machine::{Granted, token_in};
+use cca_machine::{Effect, Granted, token_in};
 use cca_vectors::{Class, Vector};
 use key_tokens::{Kind, Token};
 use verb_script::ReplyBuffer;

@@ -1,11 +1,10 @@
 //! CSNBKTR: a key translated from one transport key to another.
 ghost use Rattle.std.specs.Prelude.{◌≡◌, ◌∷◌, [], ℕ, List};
 ghost use Rattle.verb_script.specs.declared.rows.RequestName.TheVariants.{Csnbktr as row};
-ghost use Rattle.request_verbs.specs.Decided.{SettlesOver, asked};
+ghost use Rattle.cca_machine.specs.Decided.{SettlesOver, asked};
 ghost use Rattle.cca_machine.specs.Granted.{HasDoubleKey, HasJudgedExternal};
 
-use crate::effects::Effect;
-use cca_machine::{Granted, double_key_in, external_in};
+use cca_machine::{Effect, Granted, double_key_in, external_in};
 use key_cells::Lease;
 use key_parts::translate;
 use verb_script::ReplyBuffer;

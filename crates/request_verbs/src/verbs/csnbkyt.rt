@@ -1,11 +1,10 @@
 //! CSNBKYT: the test value of a key.
 ghost use Rattle.std.specs.Prelude.{◌≡◌, ◌∷◌, [], ℕ, List};
 ghost use Rattle.verb_script.specs.declared.rows.RequestName.TheVariants.{Csnbkyt as row};
-ghost use Rattle.request_verbs.specs.Decided.{SettlesOver, asked};
+ghost use Rattle.cca_machine.specs.Decided.{SettlesOver, asked};
 ghost use Rattle.cca_machine.specs.Granted.{HasSomeJudged};
 
-use crate::effects::Effect;
-use cca_machine::{Granted, key_in};
+use cca_machine::{Effect, Granted, key_in};
 use cipher_verbs::key_test;
 use key_cells::Lease;
 use verb_script::ReplyBuffer;

@@ -14,13 +14,12 @@ ghost use Rattle.master_registers.specs.declared.registers.Registers.{Registers 
 ghost use Rattle.master_registers.specs.Masters.{Masters};
 ghost use Rattle.verb_rules.specs.Rules.{rule_number};
 ghost use Rattle.cca_machine.specs.Actions.{action_checks};
-ghost use Rattle.request_verbs.specs.Decided.{Settles, asked};
+ghost use Rattle.cca_machine.specs.Decided.{Settles, asked};
 ghost use Rattle.cca_machine.specs.FieldWords.{IsPartAction};
 ghost use Rattle.cca_machine.specs.declared.granted.Granted.{Granted};
 
-use crate::effects::Effect;
 use crate::verbs::old_labels::any_old;
-use cca_machine::{Refusal, part_action_of};
+use cca_machine::{Effect, Refusal, part_action_of};
 use key_cells::{Lease, MasterPlace};
 use key_records::Records;
 use master_registers::{Action, NewState, Registers, pattern_of};

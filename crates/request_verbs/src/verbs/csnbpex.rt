@@ -3,12 +3,11 @@ ghost use Rattle.std.specs.Prelude.{◌∷◌, [], ℕ, List, Option};
 ghost use Rattle.key_cells.specs.Lease.{bench_of};
 ghost use Rattle.record_bodies.specs.declared.rows.Row.{Row};
 ghost use Rattle.verb_script.specs.declared.rows.RequestName.TheVariants.{Csnbpex as row};
-ghost use Rattle.request_verbs.specs.Decided.{Settles, asked, CanDeliver};
+ghost use Rattle.cca_machine.specs.Decided.{Settles, asked, CanDeliver};
 ghost use Rattle.cca_machine.specs.Granted.{HasSomeJudged};
 
-use crate::effects::Effect;
 use crate::verbs::delivering::deliver;
-use cca_machine::{Granted, key_in};
+use cca_machine::{Effect, Granted, key_in};
 use key_cells::Lease;
 use key_transport::prohibit_export;
 use master_registers::Registers;

@@ -4,11 +4,10 @@ ghost use Rattle.key_cells.specs.declared.leases.Lease.{Lease};
 ghost use Rattle.record_bodies.specs.declared.rows.Row.{Row};
 ghost use Rattle.master_registers.specs.declared.registers.Registers.{Registers};
 ghost use Rattle.verb_script.specs.declared.rows.RequestName.TheVariants.{Csnbrng as row};
-ghost use Rattle.request_verbs.specs.Decided.{SettlesDrawing, asked, source};
+ghost use Rattle.cca_machine.specs.Decided.{SettlesDrawing, asked, source};
 ghost use Rattle.cca_machine.specs.declared.granted.Granted.{Granted};
 
-use crate::effects::Effect;
-use cca_machine::random_form_of;
+use cca_machine::{Effect, random_form_of};
 use cipher_verbs::random_number;
 use device_cells::Entropy;
 use line_service::Stop;

@@ -6,10 +6,10 @@ ghost use Rattle.key_cells.specs.declared.leases.Lease.{Lease};
 ghost use Rattle.record_bodies.specs.declared.rows.Row.{Row};
 ghost use Rattle.master_registers.specs.declared.registers.Registers.{Registers};
 ghost use Rattle.verb_script.specs.declared.rows.RequestName.TheVariants.{CsuaaciDefine, CsuaaciRemove};
-ghost use Rattle.request_verbs.specs.Decided.{Settles, asked};
+ghost use Rattle.cca_machine.specs.Decided.{Settles, asked};
 ghost use Rattle.cca_machine.specs.declared.granted.Granted.{Granted};
 
-use crate::effects::Effect;
+use cca_machine::Effect;
 use cca_roles::{AccessPoints, RoleName};
 
 /// DEFINE: leaves the role to get these points.

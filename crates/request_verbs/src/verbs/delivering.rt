@@ -1,15 +1,15 @@
 //! A key delivered: into the record that the field `to` names, or into the reply.
 ghost use Rattle.std.specs.Prelude.{◌≡◌, ◌≤◌, ◌+◌, ◌++◌, [], Some, length};
 ghost use Rattle.key_tokens.specs.Denotes.{Denoted, denoted};
-ghost use Rattle.script_buffers.specs.Replies.{fields_text};
+ghost use Rattle.line_service.specs.Replies.{fields_text};
 ghost use Rattle.verb_rules.specs.Keys.{keys_of, token_for};
 ghost use Rattle.verb_script.specs.Named.{label_named};
 ghost use Rattle.cca_machine.specs.Act.{delivered_with};
 ghost use Rattle.cca_machine.specs.State.{State};
-ghost use Rattle.request_verbs.specs.Deciding.{IsDelivered, IsDelivery, token2_fields};
+ghost use Rattle.cca_machine.specs.Deciding.{IsDelivered, IsDelivery, token2_fields};
 ghost use Rattle.cca_machine.specs.Granted.{IsPlaceFor, target_cell};
 
-use crate::effects::Effect;
+use cca_machine::Effect;
 use key_records::Place;
 use verb_script::{ReplyBuffer, named_label};
 

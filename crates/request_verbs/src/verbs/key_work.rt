@@ -2,10 +2,9 @@
 ghost use Rattle.std.specs.Prelude.{IsTrue};
 ghost use Rattle.key_cells.specs.Lease.{bench_of};
 ghost use Rattle.verb_script.specs.Parsed.{seen};
-ghost use Rattle.request_verbs.specs.Decided.{CanDecide, Decision, source};
+ghost use Rattle.cca_machine.specs.Decided.{CanDecide, Decision, source};
 ghost use Rattle.request_verbs.specs.KeyWorks.{is_over_keys};
 
-use crate::effects::Effect;
 use crate::verbs::csnbcki::csnbcki;
 use crate::verbs::csnbkex::csnbkex;
 use crate::verbs::csnbkgn::{generate_one, generate_out, generate_pair};
@@ -15,7 +14,7 @@ use crate::verbs::csnbktc::csnbktc;
 use crate::verbs::csnbktr::csnbktr;
 use crate::verbs::csnbkyt::csnbkyt;
 use crate::verbs::csnbpex::csnbpex;
-use cca_machine::Granted;
+use cca_machine::{Effect, Granted};
 use device_cells::Entropy;
 use key_cells::Lease;
 use key_records::Records;

@@ -4,7 +4,7 @@ ghost use Rattle.key_cells.specs.Bench.{Bench};
 ghost use Rattle.record_bodies.specs.Ages.{any_old};
 ghost use Rattle.master_registers.specs.Loaded.{Loaded};
 ghost use Rattle.cca_machine.specs.State.{State};
-ghost use Rattle.request_verbs.specs.Deciding.{IsRecorded};
+ghost use Rattle.cca_machine.specs.Deciding.{IsRecorded};
 
 use key_records::Records;
 use master_registers::Registers;

@@ -8,15 +8,14 @@ ghost use Rattle.record_bodies.specs.declared.rows.Row.{Row};
 ghost use Rattle.master_registers.specs.Loaded.{IsLoaded, Loaded};
 ghost use Rattle.master_registers.specs.Masters.{Masters, set_refused, has_pattern_of};
 ghost use Rattle.master_registers.specs.declared.registers.Registers.{Registers as HeldRegisters};
-ghost use Rattle.key_records.specs.Ready.{IsReadyAhead};
+ghost use Rattle.verb_rules.specs.Ready.{IsReadyAhead};
 ghost use Rattle.verb_rules.specs.Rules.{rule_number};
 ghost use Rattle.verb_script.specs.declared.rows.RequestName.TheVariants.{Reencipher, ReencipherAhead, ReencipherDrop};
-ghost use Rattle.request_verbs.specs.Decided.{Settles, asked};
+ghost use Rattle.cca_machine.specs.Decided.{Settles, asked};
 ghost use Rattle.cca_machine.specs.declared.granted.Granted.{Granted};
 
-use crate::effects::Effect;
 use crate::verbs::old_labels::any_old;
-use cca_machine::Refusal;
+use cca_machine::{Effect, Refusal};
 use key_cells::Lease;
 use key_records::{Records, is_taken};
 use master_registers::{NewState, Registers};

@@ -1,6 +1,6 @@
 use Rattle.std.proofs.Common.{refl, sym, ◌∙◌}
 use Rattle.std.proofs.lemmas.Bool.{both_ways}
-use Rattle.held_names.specs.Names.{is_name_byte, IsRoleName}
+use Rattle.cca_roles.specs.Names.{is_name_byte, IsRoleName}
 use Rattle.audit_trail.proofs.FieldLaws.{role_bytes, by_zeros, by_text}
 use Rattle.audit_trail.proofs.fields.holds_role.Goals as goal
 

@@ -1,6 +1,6 @@
 use Rattle.std.proofs.Common.{refl}
 use Rattle.std.proofs.lemmas.Bool.{both_ways}
-use Rattle.held_names.specs.Characters.{is_letter}
+use Rattle.cca_roles.specs.Characters.{is_letter}
 use Rattle.audit_trail.specs.Entries.{IsVerb}
 use Rattle.audit_trail.proofs.FieldLaws.{verb_letters, by_zeros, by_text}
 use Rattle.audit_trail.proofs.fields.holds_verb.Goals as goal

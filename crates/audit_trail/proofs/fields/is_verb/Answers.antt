@@ -1,7 +1,7 @@
 use Rattle.std.proofs.Common.{length, sym, ◌∙◌, arith}
 use Rattle.std.proofs.lemmas.Bool.{eqb-false}
 use Rattle.std.proofs.lemmas.List.Sums.{AllPass-from_list_all}
-use Rattle.held_names.specs.Characters.{is_letter}
+use Rattle.cca_roles.specs.Characters.{is_letter}
 use Rattle.audit_trail.proofs.FieldLaws.{verb_letters}
 use Rattle.audit_trail.proofs.fields.is_verb.Goals as goal
 

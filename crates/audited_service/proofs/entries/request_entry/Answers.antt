@@ -2,8 +2,8 @@
 use Rattle.std.proofs.Common.{◌≡◌, ◌∙◌, ℕ, true, List, length, sym, subst, arith}
 use Rattle.std.specs.Prelude.{◌⊎◌}
 use Rattle.std.specs.List.{list_all}
-use Rattle.held_names.specs.Characters.{is_letter}
-use Rattle.held_names.proofs.NameLemmas.{label_short, role_short}
+use Rattle.cca_roles.specs.Characters.{is_letter}
+use Rattle.cca_roles.specs.NameLaws.{label_short, role_short}
 use Rattle.audit_trail.proofs.FieldLaws.{role_size, label_size}
 use Rattle.verb_script.specs.Parsed.{seen}
 use Rattle.audited_service.proofs.EntryLaws.{whole_labelled, whole_unlabelled, with_label, without_label}

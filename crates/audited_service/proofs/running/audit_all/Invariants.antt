@@ -1,7 +1,7 @@
 use Rattle.std.proofs.Common.{◌≡◌}
 use Rattle.key_cells.specs.Bench.{blank_bench}
 use Rattle.device_cells.specs.Medium.{Told}
-use Rattle.script_buffers.specs.Reading.{bytes_ahead}
+use Rattle.line_service.specs.Reading.{bytes_ahead}
 use Rattle.audit_trail.specs.TrailStands.{StandsForTrail}
 use Rattle.line_service.specs.Devices.{outside, devices}
 use Rattle.audited_service.proofs.ProgressLemmas.{HasRecords}

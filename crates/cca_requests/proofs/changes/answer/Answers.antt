@@ -1,5 +1,5 @@
 use Rattle.std.proofs.Common.{◌∙◌, [], ap, sym, rules}
-use Rattle.script_buffers.specs.Replies.{spelled}
+use Rattle.line_service.specs.Replies.{spelled}
 use Rattle.cca_requests.specs.Changes.{made_reply}
 use Rattle.request_verbs.proofs.Fields.{no_fields}
 use Rattle.cca_requests.proofs.changes.answer.Goals as goal

@@ -1,5 +1,5 @@
 use Rattle.std.proofs.Common.{◌∙◌, [], ◌∷◌, ◌++◌, codes, sym, ap, rules}
-use Rattle.script_buffers.specs.Replies.{Text, spelled, text_field}
+use Rattle.line_service.specs.Replies.{Text, spelled, text_field}
 use Rattle.cca_requests.specs.Changes.{state_name, change_reply}
 use Rattle.request_verbs.proofs.Fields.{one_text}
 use Rattle.cca_requests.proofs.changing_module.answer_change.Goals as goal

@@ -6,11 +6,11 @@ use Rattle.master_registers.specs.Actions.{after_action, has_wrong_state, repeat
 use Rattle.master_registers.specs.Changes.{ChangesModule}
 use Rattle.master_registers.specs.Loaded.{Loaded, masters_in}
 use Rattle.master_registers.specs.declared.faults.RegisterFault.TheVariants.{RegisterState, SamePattern}
-use Rattle.script_buffers.specs.Replies.{spelled}
+use Rattle.line_service.specs.Replies.{spelled}
 use Rattle.cca_requests.specs.Serving.{CarriesModule, LeavesModule}
 use Rattle.record_bodies.specs.StoreStands.{HoldsRows}
 use Rattle.cca_requests.specs.Changes.{IsTurnedBy, action_outcome, change_reply, change_stop, rows_by}
-use Rattle.request_verbs.specs.Deciding.{labels_after}
+use Rattle.cca_machine.specs.Deciding.{labels_after}
 use Rattle.cca_requests.proofs.TurnedRows.{is_turned, err_kept, held_after}
 use Rattle.cca_requests.proofs.Registers.{masters_are}
 use Rattle.cca_requests.proofs.Changing.{changes_as, still_as, left_as}

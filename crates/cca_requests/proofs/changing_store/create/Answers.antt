@@ -3,7 +3,7 @@ use Rattle.std.specs.Prelude.{◌==◌, OnErr, is_some, set}
 use Rattle.record_bodies.specs.Directory.{free_cell, cell_of}
 use Rattle.record_bodies.specs.Entries.{directory, row_directory, null_row}
 use Rattle.record_bodies.specs.RecordBody.{null_body}
-use Rattle.script_buffers.specs.Replies.{spelled}
+use Rattle.line_service.specs.Replies.{spelled}
 use Rattle.verb_rules.specs.Keys.{keys_of}
 use Rattle.cca_requests.specs.Serving.{CarriesStore, LeavesStore}
 use Rattle.cca_requests.specs.Changes.{create_outcome, record_reply}

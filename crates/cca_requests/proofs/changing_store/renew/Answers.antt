@@ -2,7 +2,7 @@ use Rattle.std.proofs.Common.{◌∷◌, ◌∙◌, [], length, Err, ap, codes, 
 use Rattle.std.proofs.lemmas.Fmt.{length-decimal-le}
 use Rattle.device_cells.proofs.Media.{told_at}
 use Rattle.key_cells.specs.Lease.{loan_of}
-use Rattle.script_buffers.specs.Replies.{Number}
+use Rattle.line_service.specs.Replies.{Number}
 use Rattle.cca_machine.specs.Act.{ChangeLabels}
 use Rattle.cca_requests.specs.Changes.{plainly}
 use Rattle.cca_requests.specs.Serving.{CarriesStore}

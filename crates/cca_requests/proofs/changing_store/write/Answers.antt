@@ -1,5 +1,5 @@
 use Rattle.std.proofs.Common.{◌∙◌, ◌++◌, Bool, Ok, Err, ap, sym, rules}
-use Rattle.script_buffers.specs.Replies.{Done, spelled}
+use Rattle.line_service.specs.Replies.{Done, spelled}
 use Rattle.verb_rules.specs.Keys.{keys_of}
 use Rattle.cca_machine.specs.Keys.{warning}
 use Rattle.cca_requests.proofs.Storing.{kept_labels, stored_left, writes_as}

@@ -1,13 +1,13 @@
 use Rattle.std.proofs.Common.{◌∙◌, ◌++◌, Bool, Ok, refl, sym, subst, ap}
 use Rattle.key_cells.specs.Lease.{bench_of}
 use Rattle.master_registers.specs.Loaded.{masters_in}
-use Rattle.script_buffers.specs.Replies.{Done, spelled}
+use Rattle.line_service.specs.Replies.{Done, spelled}
 use Rattle.cca_machine.specs.Act.{Show, effected, refused}
 use Rattle.cca_machine.specs.Keys.{warning}
 use Rattle.cca_machine.specs.Verdict.{define_questions, remove_questions}
 use Rattle.cca_machine.specs.Refusals.{refusal_of}
 use Rattle.request_rules.specs.Standing.{tables}
-use Rattle.request_verbs.specs.Deciding.{GoesThrough, IsDecided, WritesStore}
+use Rattle.cca_machine.specs.Deciding.{GoesThrough, IsDecided, WritesStore}
 use Rattle.cca_requests.proofs.Carrying.{action_carries, carries_as, create_carries, define_carries, delete_carries, outcome_is, refused_is, remove_carries, renew_carries, shown_is, write_carries}
 use Rattle.cca_requests.proofs.Contents.{sound}
 use Rattle.cca_requests.proofs.Leaving.{err_always, module_keeps, module_left, ready_as, registers_left, still_keeps, still_left, store_keeps, store_left}

@@ -10,7 +10,7 @@ use Rattle.cca_requests.specs.Serving.{IsFault, IsLoadedStop}
 use Rattle.cca_requests.proofs.Handing.{decide_stopped, disks_decided}
 use Rattle.cca_requests.proofs.Registers.{loaded_after}
 use Rattle.cca_requests.proofs.Serving.{decided_serves, old_as, stopped_serves}
-use Rattle.request_verbs.proofs.Settling.{takes_on}
+use Rattle.cca_machine.proofs.Settling.{takes_on}
 use Rattle.cca_requests.proofs.Storing.{recorded}
 use Rattle.cca_requests.proofs.performing.act.Goals as goal
 

@@ -17,7 +17,7 @@ use Rattle.cca_machine.specs.Refusals.{refusal_of}
 use Rattle.request_rules.specs.Judging.{IsStoreStop}
 use Rattle.request_rules.specs.Standing.{tables}
 use Rattle.cca_requests.specs.Serving.{IsFault}
-use Rattle.request_verbs.proofs.Acting.{verdict_general}
+use Rattle.cca_machine.proofs.Acting.{verdict_general}
 use Rattle.request_rules.proofs.AsRead.{grants_by_records, on_ok_always, refusal_by_record}
 use Rattle.request_verbs.proofs.Delivering.{either_right}
 use Rattle.request_rules.proofs.GrantsKept.{grants_kept, loaded_kept}

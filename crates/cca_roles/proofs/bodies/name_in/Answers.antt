@@ -2,7 +2,7 @@ use Rattle.std.proofs.Common.{◌≤◌, length, drop, arith}
 use Rattle.std.specs.Prelude.{slice_index}
 use Rattle.std.proofs.lemmas.List.{length-take, length-drop}
 use Rattle.cca_roles.specs.RoleBody.{name_in}
-use Rattle.held_names.proofs.NameLemmas.{role_short}
+use Rattle.cca_roles.specs.NameLaws.{role_short}
 use Rattle.cca_roles.proofs.bodies.name_in.Goals as goal
 
 pub returns-then-length-gt8-clause-none : goal.returns-then-length-gt8-clause-none

@@ -2,7 +2,7 @@ use Rattle.std.proofs.Common.{◌≡◌, List, ℕ, Option, Some, Ok, Err, inl, 
 use Rattle.std.specs.Prelude.{set}
 use Rattle.device_cells.proofs.Media.{told_map}
 use Rattle.device_cells.specs.Cells.{body}
-use Rattle.held_names.specs.Directory.{AreApart}
+use Rattle.cca_roles.specs.Directory.{AreApart}
 use Rattle.cca_roles.specs.Opening.{OpenedTo}
 use Rattle.cca_roles.specs.RoleBody.{ReadsPlace, slot_in}
 use Rattle.cca_roles.specs.Roles.{AreRoles, names, name_of, blank_roles}

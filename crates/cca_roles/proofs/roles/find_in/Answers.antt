@@ -1,10 +1,10 @@
 use Rattle.std.proofs.Common.{◌≡◌, ◌<◌, ◌+◌, List, Option, None, Some, true, false, length, drop, sym, ap, ◌∙◌, arith}
 use Rattle.std.specs.Prelude.{if◌then◌else◌, bytes_eq}
 use Rattle.std.proofs.lemmas.List.{length-map}
-use Rattle.held_names.specs.Directory.{name_at, place_from, place_of}
+use Rattle.cca_roles.specs.Directory.{name_at, place_from, place_of}
 use Rattle.cca_roles.specs.Roles.{names, name_of}
 use Rattle.cca_roles.specs.declared.roles.Role.{Role}
-use Rattle.held_names.proofs.DirectoryLaws.{place_step, place_end, none_from}
+use Rattle.cca_roles.proofs.DirectoryLaws.{place_step, place_end, none_from}
 use Rattle.cca_roles.proofs.TableLaws.{name_read}
 use Rattle.cca_roles.proofs.roles.find_in.Goals.{in-Some+else-is, in_default}
 use Rattle.cca_roles.proofs.roles.find_in.Goals as goal

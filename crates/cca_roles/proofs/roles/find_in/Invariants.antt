@@ -1,6 +1,6 @@
 -- The name is none of the places before.
 use Rattle.std.proofs.Common.{◌≡◌, drop}
-use Rattle.held_names.specs.Directory.{place_from}
+use Rattle.cca_roles.specs.Directory.{place_from}
 use Rattle.cca_roles.specs.Roles.{names}
 use Rattle.cca_roles.proofs.roles.find_in.Given as goal
 

@@ -1,10 +1,10 @@
 use Rattle.std.proofs.Common.{◌≡◌, List, Option, None, Some, sym, ap, ◌∙◌, arith}
 use Rattle.std.specs.Prelude.{not}
 use Rattle.std.proofs.lemmas.List.{length-map}
-use Rattle.held_names.specs.Directory.{name_at, free_place}
+use Rattle.cca_roles.specs.Directory.{name_at, free_place}
 use Rattle.cca_roles.specs.Roles.{names, name_of}
 use Rattle.cca_roles.specs.declared.roles.Role.{Role}
-use Rattle.held_names.proofs.DirectoryLaws.{none_of, some_of, free_here, free_step, free_end}
+use Rattle.cca_roles.proofs.DirectoryLaws.{none_of, some_of, free_here, free_step, free_end}
 use Rattle.cca_roles.proofs.TableLaws.{name_read}
 use Rattle.cca_roles.proofs.roles.free_in.Goals as goal
 

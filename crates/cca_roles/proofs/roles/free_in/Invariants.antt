@@ -1,6 +1,6 @@
 -- Each place before holds a name.
 use Rattle.std.proofs.Common.{◌≡◌, drop}
-use Rattle.held_names.specs.Directory.{free_from}
+use Rattle.cca_roles.specs.Directory.{free_from}
 use Rattle.cca_roles.specs.Roles.{names}
 use Rattle.cca_roles.proofs.roles.free_in.Given as goal
 

@@ -3,7 +3,7 @@ use Rattle.std.specs.Prelude.{if◌then◌else◌, bytes_eq}
 use Rattle.std.proofs.lemmas.List.{get_or_read}
 use Rattle.cca_roles.specs.Roles.{points_of, role_at}
 use Rattle.cca_roles.specs.declared.roles.Role.{Role}
-use Rattle.held_names.proofs.DirectoryLaws.{none_from}
+use Rattle.cca_roles.proofs.DirectoryLaws.{none_from}
 use Rattle.cca_roles.proofs.TableLaws.{points_step, points_end}
 use Rattle.cca_roles.proofs.roles.points_in.Goals.{in-Some+else-is, in_default}
 use Rattle.cca_roles.proofs.roles.points_in.Goals as goal

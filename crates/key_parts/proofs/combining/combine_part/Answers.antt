@@ -1,5 +1,5 @@
 use Rattle.std.proofs.Common.{◌≡◌, ◌∙◌, Some, ap}
-use Rattle.byte_lists.specs.Bytes.{xor}
+use Rattle.key_cells.specs.Bytes.{xor}
 use Rattle.key_cells.specs.Lease.{bench_of}
 use Rattle.key_tokens.specs.Denotes.{ClearKey}
 use Rattle.master_registers.specs.Loaded.{Loaded}

@@ -1,5 +1,5 @@
 use Rattle.std.proofs.Common.{◌≡◌, ◌∙◌, Some, length, take, replicate, sym, ap}
-use Rattle.byte_lists.specs.Bytes.{xor}
+use Rattle.key_cells.specs.Bytes.{xor}
 use Rattle.cca_vectors.specs.PartVectors.{as_part}
 use Rattle.key_cells.specs.Lease.{bench_of}
 use Rattle.master_registers.specs.Loaded.{Loaded}

@@ -1,6 +1,6 @@
 use Rattle.std.proofs.Common.{◌∷◌, ◌++◌, []}
 use Rattle.std.proofs.lemmas.List.Elements.{All-head, All-tail}
-use Rattle.byte_lists.specs.Bytes.{AreBytes}
+use Rattle.key_cells.specs.Bytes.{AreBytes}
 use Rattle.key_parts.proofs.PartLemmas.{after_last, before_last}
 use Rattle.key_parts.proofs.laws.a_key_in_parts.Goals as goal
 

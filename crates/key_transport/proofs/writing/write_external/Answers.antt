@@ -1,5 +1,5 @@
 use Rattle.std.proofs.Common.{◌≡◌, ◌∙◌, ◌<◌, ℕ, get_or, length, replicate, ap, subst, rules}
-use Rattle.byte_lists.specs.Bytes.{AreBytes}
+use Rattle.key_cells.specs.Bytes.{AreBytes}
 use Rattle.key_cells.specs.Lease.{bench_of}
 use Rattle.key_tokens.specs.Layout.{IsToken, made}
 use Rattle.key_tokens.specs.declared.key_token.Kind.TheVariants.{External}

@@ -1,6 +1,6 @@
 use Rattle.std.proofs.Common.{◌≡◌}
 use Rattle.key_cells.specs.Bench.{blank_bench}
-use Rattle.script_buffers.specs.Reading.{bytes_ahead}
+use Rattle.line_service.specs.Reading.{bytes_ahead}
 use Rattle.line_service.specs.Devices.{outside, devices}
 use Rattle.line_service.proofs.ProgressLemmas.{HasLines}
 use Rattle.line_service.proofs.running.serve_all.Given as goal

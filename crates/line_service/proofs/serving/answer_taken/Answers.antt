@@ -5,7 +5,7 @@ use Rattle.line_service.specs.Machine.{world}
 use Rattle.line_service.specs.Serving.{IsTheLine}
 use Rattle.line_service.proofs.AnsweredLemmas.{devices_done, undamaged_done}
 use Rattle.line_service.proofs.LineLemmas.{line_serves, refused_serves, short_line}
-use Rattle.script_buffers.specs.declared.lines.Taken.{Taken}
+use Rattle.line_service.specs.declared.lines.Taken.{Taken}
 use Rattle.line_service.proofs.serving.answer_taken.Goals as goal
 
 pub returns-in-TooLong-clause-serves : goal.returns-in-TooLong-clause-serves

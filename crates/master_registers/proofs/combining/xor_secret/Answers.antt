@@ -1,6 +1,6 @@
 use Rattle.std.proofs.Common.{◌≡◌, length, refl, arith}
 use Rattle.key_cells.specs.Secret.{bytes_of}
-use Rattle.byte_lists.proofs.ByteLemmas.{combined_none, combined_more, combined_all, combined_bytes}
+use Rattle.key_cells.proofs.ByteLemmas.{combined_none, combined_more, combined_all, combined_bytes}
 use Rattle.master_registers.proofs.combining.xor_secret.Goals as goal
 
 pub loop-at-init : goal.loop-at-init

@@ -1,6 +1,6 @@
 -- The bytes before `at` are combined, and the rest is as before.
 use Rattle.key_cells.specs.Secret.{bytes_of}
-use Rattle.byte_lists.proofs.ByteLemmas.{IsCombined}
+use Rattle.key_cells.proofs.ByteLemmas.{IsCombined}
 use Rattle.master_registers.proofs.combining.xor_secret.Given as goal
 
 abbrev pub invariant-loop-at : goal.invariant-loop-at

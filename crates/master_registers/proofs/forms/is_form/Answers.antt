@@ -1,6 +1,6 @@
 use Rattle.std.proofs.Common.{◌↔◌, refl, arith}
 use Rattle.std.specs.Prelude.{IsTrue, slice_range}
-use Rattle.byte_lists.specs.Bytes.{IsZero}
+use Rattle.key_cells.specs.Bytes.{IsZero}
 use Rattle.master_registers.specs.BodyForm.{HasStates, IsZeroWhereEmpty}
 use Rattle.master_registers.proofs.ChainLaws.{and_then, and_else, form_in_order}
 use Rattle.master_registers.proofs.forms.is_form.Goals.{then-has_states, else-has_states, then-is_zero, else-is_zero, then-is_zero_where_empty, else-is_zero_where_empty, then-is_zero_where_empty-2, else-is_zero_where_empty-2}

@@ -1,8 +1,8 @@
 use Rattle.std.proofs.Common.{List, ℕ, ap, subst, ◌∙◌}
 use Rattle.key_cells.specs.Lease.{bench_of, holding}
-use Rattle.byte_lists.specs.Bytes.{xor}
+use Rattle.key_cells.specs.Bytes.{xor}
 use Rattle.master_registers.specs.Masters.{IsMaster}
-use Rattle.byte_lists.proofs.ByteLemmas.{xor-zeros}
+use Rattle.key_cells.proofs.ByteLemmas.{xor-zeros}
 use Rattle.master_registers.proofs.moves.put_part.Goals as goal
 
 pub returns-clause-put : goal.returns-clause-put

@@ -2,7 +2,7 @@
 use Rattle.std.proofs.Common.{◌≡◌, List, ℕ, refl, sym, ap, subst, ◌∙◌}
 use Rattle.std.specs.Prelude.{replicate, slice_range}
 use Rattle.cca_vectors.specs.Vectors.{left_of, right_of, length_of}
-use Rattle.byte_lists.specs.Bytes.{AreBytes}
+use Rattle.key_cells.specs.Bytes.{AreBytes}
 use Rattle.key_cells.specs.Lease.{bench_of}
 use Rattle.multi_encipher.specs.Bundles.{key_in, bundle_under}
 use Rattle.multi_encipher.specs.Seals.{sealed_half}

@@ -2,7 +2,7 @@ use Rattle.std.proofs.Common.{◌≤◌, length, drop, arith}
 use Rattle.std.specs.Prelude.{slice_index}
 use Rattle.std.proofs.lemmas.List.{length-take, length-drop}
 use Rattle.record_bodies.specs.RecordBody.{label_in}
-use Rattle.held_names.proofs.NameLemmas.{label_short}
+use Rattle.cca_roles.specs.NameLaws.{label_short}
 use Rattle.record_bodies.proofs.bodies.label_in.Goals as goal
 
 pub returns-then-length-gt64-clause-none : goal.returns-then-length-gt64-clause-none

@@ -1,5 +1,5 @@
 use Rattle.std.proofs.Common.{◌≡◌, ◌∙◌, refl, sym, ap, arith}
-use Rattle.held_names.proofs.DirectoryLaws.{none_some}
+use Rattle.cca_roles.proofs.DirectoryLaws.{none_some}
 use Rattle.cca_vectors.specs.Vectors.{length_of}
 use Rattle.key_tokens.specs.Fields.{vector_bytes_of}
 use Rattle.key_tokens.specs.TokenChecks.{rule_of}

@@ -4,7 +4,7 @@ use Rattle.std.proofs.lemmas.List.{length-map}
 use Rattle.record_bodies.specs.Directory.{label_at, free_cell}
 use Rattle.record_bodies.specs.Entries.{row_directory, row_label}
 use Rattle.record_bodies.specs.declared.rows.Row.{Row}
-use Rattle.held_names.proofs.DirectoryLaws.{none_of, some_of, free_here, free_step, free_end}
+use Rattle.cca_roles.proofs.DirectoryLaws.{none_of, some_of, free_here, free_step, free_end}
 use Rattle.record_bodies.proofs.RowLaws.{label_read}
 use Rattle.record_bodies.proofs.rows.free_in.Goals as goal
 

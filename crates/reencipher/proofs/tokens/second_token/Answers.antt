@@ -6,7 +6,7 @@ use Rattle.master_registers.specs.Masters.{Masters}
 use Rattle.master_registers.proofs.LoadedLaws.{loaded_one}
 use Rattle.multi_encipher.specs.declared.halves.Sealed.{Sealed}
 use Rattle.verb_rules.specs.Keys.{keys_of, opened}
-use Rattle.key_records.specs.Ready.{IsNewApart}
+use Rattle.verb_rules.specs.Ready.{IsNewApart}
 use Rattle.reencipher.proofs.TokenLaws.{opened_at, sealed_again, coming_is}
 use Rattle.reencipher.proofs.tokens.second_token.Goals as goal
 

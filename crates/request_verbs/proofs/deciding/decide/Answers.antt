@@ -1,18 +1,21 @@
-use Rattle.std.proofs.Common.{refl, sym, ap, subst, inl, inr}
+use Rattle.std.proofs.Common.{◌≡◌, false, refl, sym, ap, subst, inl, inr, ◌∙◌, true≢false}
 use Rattle.std.specs.Prelude.{IsTrue}
 use Rattle.key_cells.specs.Lease.{bench_of}
 use Rattle.master_registers.specs.Loaded.{masters_in}
 use Rattle.verb_script.specs.Grammar.{Request}
 use Rattle.verb_script.specs.Parsed.{seen}
 use Rattle.verb_script.specs.declared.request.Request.{Request as Parsed}
-use Rattle.cca_machine.specs.Operands.{operands}
+use Rattle.cca_machine.specs.Operands.{is_over_text, operands}
 use Rattle.cca_machine.specs.Verdict.{needs_master}
 use Rattle.cca_machine.specs.Granted.{AreKeyed}
 use Rattle.request_verbs.specs.KeyWorks.{is_over_keys}
-use Rattle.request_verbs.specs.TextWorks.{is_over_text}
-use Rattle.request_verbs.proofs.TextWorks.{may_work}
-use Rattle.request_verbs.proofs.Settling.{handed_on, handed_on_drawing, handed_on_silent}
+use Rattle.cca_machine.proofs.Settling.{handed_on, handed_on_drawing, handed_on_silent}
 use Rattle.request_verbs.proofs.deciding.decide.Goals as goal
+
+-- a request over a text is none of the others
+is_other : {request other : Parsed} → request ≡ other → IsTrue (is_over_text (seen other).name) → is_over_text (seen request).name ≡ false → ⊥
+is_other {request} {other} is over none =
+    true≢false (sym (subst (λ (r : Parsed). IsTrue (is_over_text (seen r).name)) (sym is) over) ∙ none)
 
 pub over_keys-requires-clause-keys : goal.over_keys-requires-clause-keys
 over_keys-requires-clause-keys g c =
@@ -31,31 +34,26 @@ over_keys-requires-clause-keys g c =
       | inr (inr (inr (inr (inr (inr (inr (inr (inr (inr (inr w)))))))))) ↦ subst (λ (r : Parsed). IsTrue (is_over_keys (seen r).name)) (sym w.4) refl
     ]
 
-pub text_work-requires : goal.text_work-requires
-text_work-requires g c = record {
-  text =
-      elim c.in-Csnbenc.is [
-        | inl w ↦ subst (λ (r : Parsed). IsTrue (is_over_text (seen r).name)) (sym w.5) refl
-        | inr (inl w) ↦ subst (λ (r : Parsed). IsTrue (is_over_text (seen r).name)) (sym w.5) refl
-        | inr (inr (inl w)) ↦ subst (λ (r : Parsed). IsTrue (is_over_text (seen r).name)) (sym w.5) refl
-        | inr (inr (inr (inl w))) ↦ subst (λ (r : Parsed). IsTrue (is_over_text (seen r).name)) (sym w.6) refl
-        | inr (inr (inr (inr (inl w)))) ↦ subst (λ (r : Parsed). IsTrue (is_over_text (seen r).name)) (sym w.5) refl
-        | inr (inr (inr (inr (inr (inl w))))) ↦ subst (λ (r : Parsed). IsTrue (is_over_text (seen r).name)) (sym w.5) refl
-        | inr (inr (inr (inr (inr (inr (inl w)))))) ↦ subst (λ (r : Parsed). IsTrue (is_over_text (seen r).name)) (sym w.5) refl
-        | inr (inr (inr (inr (inr (inr (inr (inl w))))))) ↦ subst (λ (r : Parsed). IsTrue (is_over_text (seen r).name)) (sym w.6) refl
-        | inr (inr (inr (inr (inr (inr (inr (inr (inl w)))))))) ↦ subst (λ (r : Parsed). IsTrue (is_over_text (seen r).name)) (sym w.5) refl
-        | inr (inr (inr (inr (inr (inr (inr (inr (inr (inl w))))))))) ↦ subst (λ (r : Parsed). IsTrue (is_over_text (seen r).name)) (sym w.5) refl
-        | inr (inr (inr (inr (inr (inr (inr (inr (inr (inr (inl w)))))))))) ↦ subst (λ (r : Parsed). IsTrue (is_over_text (seen r).name)) (sym w.6) refl
-        | inr (inr (inr (inr (inr (inr (inr (inr (inr (inr (inr (inl w))))))))))) ↦ subst (λ (r : Parsed). IsTrue (is_over_text (seen r).name)) (sym w.7) refl
-        | inr (inr (inr (inr (inr (inr (inr (inr (inr (inr (inr (inr (inl w)))))))))))) ↦ subst (λ (r : Parsed). IsTrue (is_over_text (seen r).name)) (sym w.5) refl
-        | inr (inr (inr (inr (inr (inr (inr (inr (inr (inr (inr (inr (inr (inl w))))))))))))) ↦ subst (λ (r : Parsed). IsTrue (is_over_text (seen r).name)) (sym w.5) refl
-        | inr (inr (inr (inr (inr (inr (inr (inr (inr (inr (inr (inr (inr (inr (inl w)))))))))))))) ↦ subst (λ (r : Parsed). IsTrue (is_over_text (seen r).name)) (sym w.6) refl
-        | inr (inr (inr (inr (inr (inr (inr (inr (inr (inr (inr (inr (inr (inr (inr w)))))))))))))) ↦ subst (λ (r : Parsed). IsTrue (is_over_text (seen r).name)) (sym w.7) refl
-      ];
-}
-
-pub over_text-requires : goal.over_text-requires
-over_text-requires g c = record { may = may_work c.text_work.ensures.work c.requires.can.passed c.requires.can.empty }
+pub unreachable-requires : goal.unreachable-requires
+unreachable-requires g c =
+    elim c.in-Csnbenc.is [
+      | inl w ↦ is_other w.5 refl c.requires.other
+      | inr (inl w) ↦ is_other w.5 refl c.requires.other
+      | inr (inr (inl w)) ↦ is_other w.5 refl c.requires.other
+      | inr (inr (inr (inl w))) ↦ is_other w.6 refl c.requires.other
+      | inr (inr (inr (inr (inl w)))) ↦ is_other w.5 refl c.requires.other
+      | inr (inr (inr (inr (inr (inl w))))) ↦ is_other w.5 refl c.requires.other
+      | inr (inr (inr (inr (inr (inr (inl w)))))) ↦ is_other w.5 refl c.requires.other
+      | inr (inr (inr (inr (inr (inr (inr (inl w))))))) ↦ is_other w.6 refl c.requires.other
+      | inr (inr (inr (inr (inr (inr (inr (inr (inl w)))))))) ↦ is_other w.5 refl c.requires.other
+      | inr (inr (inr (inr (inr (inr (inr (inr (inr (inl w))))))))) ↦ is_other w.5 refl c.requires.other
+      | inr (inr (inr (inr (inr (inr (inr (inr (inr (inr (inl w)))))))))) ↦ is_other w.6 refl c.requires.other
+      | inr (inr (inr (inr (inr (inr (inr (inr (inr (inr (inr (inl w))))))))))) ↦ is_other w.7 refl c.requires.other
+      | inr (inr (inr (inr (inr (inr (inr (inr (inr (inr (inr (inr (inl w)))))))))))) ↦ is_other w.5 refl c.requires.other
+      | inr (inr (inr (inr (inr (inr (inr (inr (inr (inr (inr (inr (inr (inl w))))))))))))) ↦ is_other w.5 refl c.requires.other
+      | inr (inr (inr (inr (inr (inr (inr (inr (inr (inr (inr (inr (inr (inr (inl w)))))))))))))) ↦ is_other w.6 refl c.requires.other
+      | inr (inr (inr (inr (inr (inr (inr (inr (inr (inr (inr (inr (inr (inr (inr w)))))))))))))) ↦ is_other w.7 refl c.requires.other
+    ]
 
 pub returns-in-Csnbktp : goal.returns-in-Csnbktp
 returns-in-Csnbktp g c = record {
@@ -148,11 +146,4 @@ returns-in-ReencipherDrop g c = record {
   decision =
       handed_on_silent (ap seen c.in-ReencipherDrop.is) c.requires.can.empty (c.drop.ensures.settles c.in-ReencipherDrop.role c.in-ReencipherDrop.action.now c.args.granted.now c.args.held.now c.args.records.now c.args.lease.now
       (c.requires.can.passed.master (subst (λ (r : Request). IsTrue (needs_master r.name)) (sym (ap seen c.in-ReencipherDrop.is)) refl)) c.requires.can.loaded) c.requires.can.passed.shaped;
-}
-
-pub returns-in-Csnbenc : goal.returns-in-Csnbenc
-returns-in-Csnbenc g c = record {
-  decision =
-      let of = c.text_work.ensures.work in
-      handed_on of.is (c.over_text.ensures.settles of.verifies of.role of.key of.segment c.args.held.now c.args.records.now) c.requires.can.passed.shaped;
 }

@@ -1,6 +1,6 @@
 use Rattle.std.proofs.Common.{◌≡◌, ◌∙◌, ◌+◌, ◌++◌, length, take, drop, ap, sym, arith}
 use Rattle.std.proofs.lemmas.List.{length-append}
-use Rattle.byte_lists.specs.Bytes.{xor}
+use Rattle.key_cells.specs.Bytes.{xor}
 use Rattle.des_blocks.specs.Modes.{fill}
 use Rattle.des_blocks.specs.Texts.{text_in}
 use Rattle.key_cells.specs.Lease.{bench_of}

@@ -3,7 +3,7 @@ use Rattle.std.specs.Prelude.{set}
 use Rattle.std.proofs.lemmas.List.{map-set}
 use Rattle.device_cells.specs.Cells.{IsReplaced, IsReplacing}
 use Rattle.device_cells.specs.Medium.{Becomes, EachImage, From}
-use Rattle.held_names.specs.Directory.{AreApart}
+use Rattle.cca_roles.specs.Directory.{AreApart}
 use Rattle.cca_roles.specs.Roles.{names, name_of}
 use Rattle.cca_roles.specs.declared.roles.Role.{Role}
 use Rattle.cca_roles.proofs.StandLaws.{unless_err, told_set, told_turned, either_becomes, either_moments}

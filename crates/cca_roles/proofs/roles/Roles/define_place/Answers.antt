@@ -2,7 +2,7 @@ use Rattle.std.proofs.Common.{Option, None, Some, sym, ap, ◌∙◌}
 use Rattle.std.specs.Prelude.{is_some, IfSome}
 use Rattle.cca_roles.specs.RoleNames.{default_name}
 use Rattle.cca_roles.specs.Roles.{names}
-use Rattle.held_names.proofs.DirectoryLaws.{apart_set, apart_same, held_at, held_nowhere, free_first}
+use Rattle.cca_roles.proofs.DirectoryLaws.{apart_set, apart_same, held_at, held_nowhere, free_first}
 use Rattle.cca_roles.proofs.TableLaws.{first_is_default}
 use Rattle.cca_roles.proofs.roles.Roles.define_place.Goals as goal
 

@@ -1,8 +1,8 @@
 use Rattle.std.proofs.Common.{sym, ap, subst, ◌∙◌}
 use Rattle.std.specs.Prelude.{is_some}
-use Rattle.held_names.specs.Directory.{IsFresh, IsHeld}
+use Rattle.cca_roles.specs.Directory.{IsFresh, IsHeld}
 use Rattle.cca_roles.specs.Roles.{names, name_of}
-use Rattle.held_names.proofs.DirectoryLaws.{held_somewhere, held_nowhere}
+use Rattle.cca_roles.proofs.DirectoryLaws.{held_somewhere, held_nowhere}
 use Rattle.cca_roles.proofs.roles.Roles.holds_name_of.Goals as goal
 
 pub returns-in-Some-clause-held : goal.returns-in-Some-clause-held

@@ -1,8 +1,8 @@
 use Rattle.std.proofs.Common.{List, Option, subst}
-use Rattle.held_names.specs.Directory.{AreApart}
+use Rattle.cca_roles.specs.Directory.{AreApart}
 use Rattle.cca_roles.specs.Roles.{AreRoles, names, name_of}
 use Rattle.cca_roles.specs.declared.roles.Role.{Role}
-use Rattle.held_names.proofs.DirectoryLaws.{fresh_apart}
+use Rattle.cca_roles.proofs.DirectoryLaws.{fresh_apart}
 use Rattle.cca_roles.proofs.roles.Roles.put.Goals as goal
 
 pub returns-then-holds_name_of-clause-roles : goal.returns-then-holds_name_of-clause-roles

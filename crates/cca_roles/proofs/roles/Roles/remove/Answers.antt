@@ -1,7 +1,7 @@
 use Rattle.std.proofs.Common.{sym, ◌∙◌, inr, refl}
 use Rattle.cca_roles.specs.Roles.{names, after_remove, remove_place}
 use Rattle.cca_roles.proofs.BodyLaws.{reads_none}
-use Rattle.held_names.proofs.DirectoryLaws.{apart_none}
+use Rattle.cca_roles.proofs.DirectoryLaws.{apart_none}
 use Rattle.cca_roles.proofs.TableLaws.{place_not_first}
 use Rattle.cca_roles.specs.declared.faults.RoleFault.TheVariants.{Unknown}
 use Rattle.cca_roles.proofs.StandLaws.{disk_or, never_refused, refused_cause, refused_changes}

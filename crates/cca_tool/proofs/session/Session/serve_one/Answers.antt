@@ -1,6 +1,6 @@
 -- A line served over disks that are known.
 use Rattle.std.proofs.Common.{ap, sym, subst}
-use Rattle.script_buffers.specs.Reading.{Reading}
+use Rattle.line_service.specs.Reading.{Reading}
 use Rattle.request_rules.specs.Standing.{Tables, tables}
 use Rattle.line_service.specs.Machine.{world}
 use Rattle.line_service.specs.Serving.{LineServed}

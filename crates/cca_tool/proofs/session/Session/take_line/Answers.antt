@@ -1,8 +1,8 @@
 -- A line is read, and told as taken.
 use Rattle.std.proofs.Common.{Ok, Err, ap, subst, ◌∙◌}
-use Rattle.script_buffers.specs.Reading.{Reading}
-use Rattle.script_buffers.specs.declared.lines.Taken.{Taken}
-use Rattle.script_buffers.specs.declared.lines.Taken.TheVariants.{End}
+use Rattle.line_service.specs.Reading.{Reading}
+use Rattle.line_service.specs.declared.lines.Taken.{Taken}
+use Rattle.line_service.specs.declared.lines.Taken.TheVariants.{End}
 use Rattle.line_service.specs.declared.stops.Stop.TheVariants.{InputLimit, ReadFault}
 use Rattle.cca_tool.specs.Sessions.{InputRead, Memory}
 use Rattle.cca_tool.proofs.ReadingLemmas.{fault_left, fault_told, input_read, limit_left, limit_told, line_left, line_told}

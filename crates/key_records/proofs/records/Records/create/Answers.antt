@@ -9,7 +9,7 @@ use Rattle.key_records.specs.declared.faults.RecordFault.TheVariants.{Exists, Fu
 use Rattle.record_bodies.specs.declared.rows.Row.{Row}
 use Rattle.record_bodies.specs.declared.rows.Second.{Second}
 use Rattle.record_bodies.proofs.BodyLaws.{no_token_is}
-use Rattle.held_names.proofs.DirectoryLaws.{held_nowhere, apart_set}
+use Rattle.cca_roles.proofs.DirectoryLaws.{held_nowhere, apart_set}
 use Rattle.key_records.proofs.StoreLaws.{changed_as, created_is, labels_changed, refused_labels, refused_record, refuses_full, refuses_held, refuses_none}
 use Rattle.key_records.proofs.records.Records.create.Goals as goal
 

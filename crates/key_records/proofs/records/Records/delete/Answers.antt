@@ -4,7 +4,7 @@ use Rattle.record_bodies.specs.LabelChanges.{deleted}
 use Rattle.record_bodies.specs.Entries.{row_directory}
 use Rattle.record_bodies.specs.RecordBody.{blank_body}
 use Rattle.record_bodies.specs.declared.rows.Row.{Row}
-use Rattle.held_names.proofs.DirectoryLaws.{apart_none}
+use Rattle.cca_roles.proofs.DirectoryLaws.{apart_none}
 use Rattle.key_records.proofs.StoreLaws.{changed_as, labels_changed}
 use Rattle.key_records.proofs.records.Records.delete.Goals as goal
 

@@ -3,7 +3,7 @@ use Rattle.record_bodies.specs.Directory.{cell_of, label_at}
 use Rattle.record_bodies.specs.Entries.{row_directory}
 use Rattle.record_bodies.specs.Rows.{AreRows}
 use Rattle.record_bodies.specs.declared.rows.Row.{Row}
-use Rattle.held_names.proofs.DirectoryLaws.{held_at}
+use Rattle.cca_roles.proofs.DirectoryLaws.{held_at}
 use Rattle.record_bodies.proofs.RowLaws.{held_within}
 use Rattle.key_records.proofs.records.Records.find.Goals as goal
 

@@ -3,7 +3,7 @@ use Rattle.std.proofs.lemmas.List.{get_or_default}
 use Rattle.record_bodies.specs.Directory.{cell_of, label_at}
 use Rattle.record_bodies.specs.Entries.{row_directory, row_label}
 use Rattle.record_bodies.specs.declared.rows.Row.{Row}
-use Rattle.held_names.proofs.DirectoryLaws.{place_is}
+use Rattle.cca_roles.proofs.DirectoryLaws.{place_is}
 use Rattle.record_bodies.proofs.RowLaws.{label_of_row}
 use Rattle.key_records.proofs.records.Records.label_in.Goals as goal
 

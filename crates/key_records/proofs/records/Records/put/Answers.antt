@@ -3,7 +3,7 @@ use Rattle.record_bodies.specs.Directory.{AreApart}
 use Rattle.record_bodies.specs.Entries.{row_directory, row_label}
 use Rattle.record_bodies.specs.Rows.{AreRows}
 use Rattle.record_bodies.specs.declared.rows.Row.{Row}
-use Rattle.held_names.proofs.DirectoryLaws.{fresh_apart}
+use Rattle.cca_roles.proofs.DirectoryLaws.{fresh_apart}
 use Rattle.key_records.proofs.records.Records.put.Goals as goal
 
 pub returns-then-holds_label_of-clause-rows : goal.returns-then-holds_label_of-clause-rows

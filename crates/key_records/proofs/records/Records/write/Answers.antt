@@ -12,7 +12,7 @@ use Rattle.key_tokens.specs.Fields.{pattern_of_token}
 use Rattle.master_registers.specs.Loaded.{masters_in}
 use Rattle.master_registers.specs.declared.patterns.Pattern.{Pattern}
 use Rattle.verb_rules.specs.Keys.{keys_of}
-use Rattle.held_names.proofs.DirectoryLaws.{apart_same, some_of}
+use Rattle.cca_roles.proofs.DirectoryLaws.{apart_same, some_of}
 use Rattle.record_bodies.proofs.KeptLaws.{denoted_sound, denoted_pattern, pattern}
 use Rattle.key_records.proofs.StoreLaws.{changed_as, written_is, labels_changed}
 use Rattle.key_records.proofs.records.Records.write.Goals as goal

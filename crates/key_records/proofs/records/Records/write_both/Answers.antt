@@ -1,5 +1,5 @@
 use Rattle.std.proofs.Common.{◌≡◌, ℕ, List, Option, None, Some, get_or, refl, sym, ap, subst, ◌∙◌}
-use Rattle.byte_lists.specs.Bytes.{AreBytes}
+use Rattle.key_cells.specs.Bytes.{AreBytes}
 use Rattle.cca_vectors.specs.Vectors.{length_of}
 use Rattle.key_cells.specs.Lease.{bench_of}
 use Rattle.key_tokens.specs.Denotes.{ClearKey, Denoted, MasterKeys}
@@ -16,7 +16,7 @@ use Rattle.record_bodies.specs.declared.rows.Second.{Second}
 use Rattle.master_registers.specs.Loaded.{masters_in}
 use Rattle.master_registers.specs.declared.patterns.Pattern.{Pattern}
 use Rattle.verb_rules.specs.Keys.{keys_of}
-use Rattle.held_names.proofs.DirectoryLaws.{apart_same}
+use Rattle.cca_roles.proofs.DirectoryLaws.{apart_same}
 use Rattle.record_bodies.proofs.KeptLaws.{denoted_sound, denoted_pattern, denoted_vector, pattern}
 use Rattle.record_bodies.proofs.SecondLaws.{second_pattern, stands_for_none, sealed_single}
 use Rattle.key_records.proofs.StoreLaws.{changed_as, written_ahead_is, labels_changed}

@@ -7,7 +7,7 @@ use Rattle.master_registers.specs.Loaded.{masters_in}
 use Rattle.verb_script.specs.Values.{hex_value}
 use Rattle.verb_script.specs.Named.{label_named}
 use Rattle.request_verbs.proofs.Delivering.{either_left, stands_after, target_place}
-use Rattle.request_verbs.proofs.Settling.{delivery_settles}
+use Rattle.request_verbs.proofs.Delivered.{delivery_settles}
 use Rattle.request_verbs.proofs.verbs.csnbcki.csnbcki.Goals as goal
 
 pub returns : goal.returns

@@ -2,14 +2,14 @@ use Rattle.std.proofs.Common.{◌≡◌, ◌∙◌, [], ◌∷◌, codes, refl, 
 use Rattle.key_cells.specs.Lease.{bench_of}
 use Rattle.key_tokens.specs.Denotes.{ClearKey}
 use Rattle.key_transport.specs.Tokens.{external_token}
-use Rattle.script_buffers.specs.Replies.{Hex, written}
+use Rattle.line_service.specs.Replies.{Hex, written}
 use Rattle.verb_rules.specs.Keys.{opened}
 use Rattle.verb_script.specs.declared.rows.RequestName.TheVariants.{Csnbkex}
 use Rattle.cca_machine.specs.Keys.{key_in_field, key_in_text, key_of_request}
-use Rattle.request_verbs.specs.Decided.{asked}
-use Rattle.request_verbs.proofs.Acting.{key_is}
+use Rattle.cca_machine.specs.Decided.{asked}
+use Rattle.cca_machine.proofs.Acting.{key_is}
 use Rattle.request_verbs.proofs.Fields.{one_hex}
-use Rattle.request_verbs.proofs.Settling.{shown_settles, keys_within}
+use Rattle.cca_machine.proofs.Settling.{shown_settles, keys_within}
 use Rattle.request_verbs.proofs.verbs.csnbkex.csnbkex.Goals as goal
 
 pub returns : goal.returns

@@ -17,15 +17,15 @@ use Rattle.cca_machine.specs.Choices.{key_length_named}
 use Rattle.cca_machine.specs.Draws.{KeyBytes}
 use Rattle.cca_machine.specs.Operands.{needs_store}
 use Rattle.cca_machine.specs.Verdict.{first_refusal, generate_questions}
-use Rattle.request_verbs.specs.Decided.{asked, source}
-use Rattle.request_verbs.specs.Deciding.{IsDelivered}
+use Rattle.cca_machine.specs.Decided.{asked, source}
+use Rattle.cca_machine.specs.Deciding.{IsDelivered}
 use Rattle.request_verbs.specs.Drawing.{MakesKeys}
 use Rattle.request_verbs.specs.declared.verbs.csnbkgn.Drawn.{Drawn}
 use Rattle.request_verbs.specs.declared.verbs.csnbkgn.Drawn.TheVariants.{Keys}
 use Rattle.request_verbs.proofs.Delivering.{either_left, stands_after, target_place}
 use Rattle.request_verbs.proofs.DrawnKeys.{drawn_delivered, drawn_refused, drawn_stopped, none_broken, some_broken}
 use Rattle.request_verbs.proofs.Generating.{one_verdict, type_is}
-use Rattle.request_verbs.proofs.Settling.{keys_within}
+use Rattle.cca_machine.proofs.Settling.{keys_within}
 use Rattle.request_verbs.proofs.verbs.csnbkgn.generate_one.Goals as goal
 
 pub returns-in-Ok-Keys : goal.returns-in-Ok-Keys

@@ -8,7 +8,7 @@ use Rattle.key_transport.specs.Generated.{HaveLength, generated_key, generated_t
 use Rattle.key_transport.specs.Tokens.{external_token}
 use Rattle.key_transport.specs.declared.generating.Form.{Form}
 use Rattle.key_transport.specs.declared.generating.Generated.{Generated}
-use Rattle.script_buffers.specs.Replies.{Hex, written}
+use Rattle.line_service.specs.Replies.{Hex, written}
 use Rattle.verb_rules.specs.Keys.{opened}
 use Rattle.verb_script.specs.declared.rows.RequestName.TheVariants.{CsnbkgnOut}
 use Rattle.cca_machine.specs.Act.{Show}
@@ -16,15 +16,15 @@ use Rattle.cca_machine.specs.Choices.{key_length_named, type_in}
 use Rattle.cca_machine.specs.Draws.{KeyBytes}
 use Rattle.cca_machine.specs.Keys.{key_in_field, key_in_text}
 use Rattle.cca_machine.specs.Verdict.{first_refusal, pair_questions}
-use Rattle.request_verbs.specs.Decided.{asked, source}
-use Rattle.request_verbs.specs.Deciding.{IsShown, token2_fields}
+use Rattle.cca_machine.specs.Decided.{asked, source}
+use Rattle.cca_machine.specs.Deciding.{IsShown, token2_fields}
 use Rattle.request_verbs.specs.Drawing.{MakesKeys}
 use Rattle.request_verbs.specs.declared.verbs.csnbkgn.Drawn.{Drawn}
 use Rattle.request_verbs.specs.declared.verbs.csnbkgn.Drawn.TheVariants.{Keys}
-use Rattle.request_verbs.proofs.Acting.{key_is}
+use Rattle.cca_machine.proofs.Acting.{key_is}
 use Rattle.request_verbs.proofs.DrawnKeys.{drawn_left, drawn_refused, drawn_stopped, none_broken, some_broken}
 use Rattle.request_verbs.proofs.Generating.{out_lengths, out_tokens, two_lengths, two_verdict, type_is}
-use Rattle.request_verbs.proofs.Settling.{keys_within}
+use Rattle.cca_machine.proofs.Settling.{keys_within}
 use Rattle.request_verbs.proofs.verbs.csnbkgn.generate_out.Goals as goal
 
 pub draw-requires-clause-lengths : goal.draw-requires-clause-lengths

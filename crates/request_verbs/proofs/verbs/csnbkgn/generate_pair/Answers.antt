@@ -11,7 +11,7 @@ use Rattle.key_transport.specs.Tokens.{as_current, current_token, external_token
 use Rattle.key_transport.specs.declared.generating.Form.{Form}
 use Rattle.key_transport.specs.declared.generating.Generated.{Generated}
 use Rattle.master_registers.specs.Loaded.{masters_in}
-use Rattle.script_buffers.specs.Replies.{Field, Hex}
+use Rattle.line_service.specs.Replies.{Field, Hex}
 use Rattle.verb_rules.specs.Keys.{opened}
 use Rattle.verb_script.specs.declared.rows.RequestName.TheVariants.{CsnbkgnPair}
 use Rattle.verb_script.specs.Named.{label_named}
@@ -21,16 +21,16 @@ use Rattle.cca_machine.specs.Draws.{KeyBytes}
 use Rattle.cca_machine.specs.Keys.{key_in_field, key_in_text}
 use Rattle.cca_machine.specs.State.{State}
 use Rattle.cca_machine.specs.Verdict.{first_refusal, pair_questions}
-use Rattle.request_verbs.specs.Decided.{asked, source}
-use Rattle.request_verbs.specs.Deciding.{IsDelivered, token2_fields}
+use Rattle.cca_machine.specs.Decided.{asked, source}
+use Rattle.cca_machine.specs.Deciding.{IsDelivered, token2_fields}
 use Rattle.request_verbs.specs.Drawing.{MakesKeys}
-use Rattle.request_verbs.proofs.Acting.{key_is}
+use Rattle.cca_machine.proofs.Acting.{key_is}
 use Rattle.request_verbs.specs.declared.verbs.csnbkgn.Drawn.{Drawn}
 use Rattle.request_verbs.specs.declared.verbs.csnbkgn.Drawn.TheVariants.{Keys}
 use Rattle.request_verbs.proofs.Delivering.{either_left, either_right, stands_after, target_place}
 use Rattle.request_verbs.proofs.DrawnKeys.{drawn_delivered, drawn_refused, drawn_stopped, none_broken, some_broken}
 use Rattle.request_verbs.proofs.Generating.{pair_lengths, pair_operational, pair_tokens, two_lengths, two_verdict, type_is}
-use Rattle.request_verbs.proofs.Settling.{keys_within}
+use Rattle.cca_machine.proofs.Settling.{keys_within}
 use Rattle.request_verbs.proofs.verbs.csnbkgn.generate_pair.Goals as goal
 
 pub draw-requires-clause-lengths : goal.draw-requires-clause-lengths

@@ -11,11 +11,12 @@ use Rattle.verb_script.specs.Values.{hex_value}
 use Rattle.verb_script.specs.Named.{label_named}
 use Rattle.cca_machine.specs.Act.{delivered}
 use Rattle.cca_machine.specs.Keys.{imported, key_in_field, key_in_text, or_no_clear}
-use Rattle.request_verbs.specs.Decided.{asked}
-use Rattle.request_verbs.specs.Deciding.{IsDelivered}
-use Rattle.request_verbs.proofs.Acting.{key_is}
+use Rattle.cca_machine.specs.Decided.{asked}
+use Rattle.cca_machine.specs.Deciding.{IsDelivered}
+use Rattle.cca_machine.proofs.Acting.{key_is}
 use Rattle.request_verbs.proofs.Delivering.{either_left, either_right, stands_after, target_place}
-use Rattle.request_verbs.proofs.Settling.{delivery_settles, keys_within}
+use Rattle.cca_machine.proofs.Settling.{keys_within}
+use Rattle.request_verbs.proofs.Delivered.{delivery_settles}
 use Rattle.request_verbs.proofs.verbs.csnbkim.csnbkim.Goals as goal
 
 pub returns : goal.returns

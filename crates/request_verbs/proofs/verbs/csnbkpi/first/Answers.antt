@@ -10,10 +10,11 @@ use Rattle.verb_script.specs.Values.{hex_value}
 use Rattle.verb_script.specs.Named.{label_named}
 use Rattle.cca_machine.specs.Act.{delivered}
 use Rattle.cca_machine.specs.Verdict.{first_refusal, first_part_questions, or_refused}
-use Rattle.request_verbs.specs.Deciding.{IsDelivered}
+use Rattle.cca_machine.specs.Deciding.{IsDelivered}
 use Rattle.request_verbs.proofs.Delivering.{either_left, stands_after, target_place}
 use Rattle.request_verbs.proofs.Generating.{type_is}
-use Rattle.request_verbs.proofs.Settling.{delivery_settles, refused_settles}
+use Rattle.cca_machine.proofs.Settling.{refused_settles}
+use Rattle.request_verbs.proofs.Delivered.{delivery_settles}
 use Rattle.request_verbs.proofs.verbs.csnbkpi.first.Goals as goal
 
 pub returns-in-Err : goal.returns-in-Err

@@ -14,12 +14,13 @@ use Rattle.cca_machine.specs.Act.{delivered}
 use Rattle.cca_machine.specs.Choices.{is_last_part}
 use Rattle.cca_machine.specs.Keys.{key_in_text, key_of_request}
 use Rattle.cca_machine.specs.Verdict.{first_refusal, further_part_questions}
-use Rattle.request_verbs.specs.Decided.{asked}
-use Rattle.request_verbs.specs.Deciding.{IsDelivered}
+use Rattle.cca_machine.specs.Decided.{asked}
+use Rattle.cca_machine.specs.Deciding.{IsDelivered}
 use Rattle.cca_machine.specs.Refusals.{HasRefused}
-use Rattle.request_verbs.proofs.Acting.{key_is}
+use Rattle.cca_machine.proofs.Acting.{key_is}
 use Rattle.request_verbs.proofs.Delivering.{either_left, either_right, stands_after, target_place}
-use Rattle.request_verbs.proofs.Settling.{delivery_settles, refused_settles}
+use Rattle.cca_machine.proofs.Settling.{refused_settles}
+use Rattle.request_verbs.proofs.Delivered.{delivery_settles}
 use Rattle.request_verbs.proofs.verbs.csnbkpi.further.Goals as goal
 
 pub returns-in-Some : goal.returns-in-Some

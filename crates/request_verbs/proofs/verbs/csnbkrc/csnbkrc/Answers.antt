@@ -1,8 +1,8 @@
 use Rattle.std.proofs.Common.{[], ◌∷◌, ℕ, List, refl, subst, sym}
 use Rattle.verb_script.specs.declared.rows.RequestName.TheVariants.{Csnbkrc}
-use Rattle.request_verbs.specs.Decided.{Settles, asked}
-use Rattle.request_verbs.specs.declared.effects.Effect.TheVariants as code
-use Rattle.request_verbs.proofs.Settling.{left_settles}
+use Rattle.cca_machine.specs.Decided.{Settles, asked}
+use Rattle.cca_machine.specs.declared.effects.Effect.TheVariants as code
+use Rattle.cca_machine.proofs.Settling.{left_settles}
 use Rattle.request_verbs.proofs.verbs.csnbkrc.csnbkrc.Goals as goal
 
 pub returns : goal.returns

@@ -1,12 +1,12 @@
 use Rattle.std.proofs.Common.{◌∙◌, refl, sym}
 use Rattle.key_cells.specs.Lease.{bench_of}
 use Rattle.request_verbs.proofs.Delivering.{held_at}
-use Rattle.request_verbs.proofs.Settling.{settles}
-use Rattle.request_verbs.proofs.Acting.{decides}
-use Rattle.request_verbs.specs.Decided.{asked}
+use Rattle.cca_machine.proofs.Settling.{settles}
+use Rattle.cca_machine.proofs.Acting.{decides}
+use Rattle.cca_machine.specs.Decided.{asked}
 use Rattle.verb_script.specs.declared.rows.RequestName.TheVariants.{Csnbkrd}
 use Rattle.std.proofs.Common.{[], ◌∷◌}
-use Rattle.request_verbs.specs.declared.effects.Effect.TheVariants as code
+use Rattle.cca_machine.specs.declared.effects.Effect.TheVariants as code
 use Rattle.request_verbs.proofs.verbs.csnbkrd.csnbkrd.Goals as goal
 
 pub returns : goal.returns

@@ -2,11 +2,11 @@ use Rattle.std.proofs.Common.{◌≡◌, [], ◌++◌, length, codes, refl, sym,
 use Rattle.std.proofs.lemmas.Fmt.{length-decimal-le_succ}
 use Rattle.key_records.proofs.StoreLaws.{same_directory}
 use Rattle.record_bodies.specs.Entries.{directory, row_directory}
-use Rattle.script_buffers.specs.Replies.{ok_text, text_field, number_field, written}
+use Rattle.line_service.specs.Replies.{ok_text, text_field, number_field, written}
 use Rattle.verb_rules.specs.Keys.{keys_of}
 use Rattle.cca_machine.specs.Listing.{ascending, beginning, label_fields, with_commas}
 use Rattle.request_verbs.proofs.ListedLabels.{counted_labels}
-use Rattle.request_verbs.proofs.Settling.{shown_settles}
+use Rattle.cca_machine.proofs.Settling.{shown_settles}
 use Rattle.request_verbs.proofs.verbs.csnbkrl.csnbkrl.Goals as goal
 
 pub number-requires : goal.number-requires

@@ -3,7 +3,7 @@ use Rattle.std.specs.Prelude.{if◌then◌else◌}
 use Rattle.std.specs.List.{starts_with}
 use Rattle.std.proofs.lemmas.List.{append_assoc}
 use Rattle.record_bodies.specs.Entries.{row_directory}
-use Rattle.held_names.proofs.NameLemmas.{label_short}
+use Rattle.cca_roles.specs.NameLaws.{label_short}
 use Rattle.cca_machine.specs.Listing.{with_commas}
 use Rattle.request_verbs.proofs.ListedLabels.{so_far, are_none, with_one, without_one, commas_more, none_more}
 use Rattle.request_verbs.proofs.verbs.csnbkrl.put_beginning.Goals as goal

@@ -3,15 +3,15 @@ use Rattle.key_cells.specs.Lease.{bench_of}
 use Rattle.key_tokens.specs.Denotes.{Denoted}
 use Rattle.master_registers.specs.Loaded.{registers_of}
 use Rattle.multi_encipher.specs.Seals.{IsSealed}
-use Rattle.script_buffers.specs.Replies.{Hex, written}
+use Rattle.line_service.specs.Replies.{Hex, written}
 use Rattle.verb_rules.specs.KeyChecks.{age_of}
 use Rattle.verb_rules.specs.Keys.{keys_of, opened_key, token_for}
 use Rattle.verb_rules.specs.declared.judging.Judged.{Judged}
 use Rattle.cca_machine.specs.Keys.{key_of_label, or_no_key}
 use Rattle.cca_machine.specs.State.{State}
-use Rattle.request_verbs.proofs.Acting.{opens, or_none_is}
+use Rattle.cca_machine.proofs.Acting.{opens, or_none_is}
 use Rattle.request_verbs.proofs.Fields.{one_hex}
-use Rattle.request_verbs.proofs.Settling.{shown_settles}
+use Rattle.cca_machine.proofs.Settling.{shown_settles}
 use Rattle.request_verbs.proofs.TokensAgain.{token_again}
 use Rattle.request_verbs.proofs.verbs.csnbkrr.csnbkrr.Goals as goal
 

@@ -4,15 +4,15 @@ use Rattle.key_cells.specs.Lease.{bench_of}
 use Rattle.key_tokens.specs.Denotes.{Denoted}
 use Rattle.verb_rules.specs.declared.judging.Judged.{Judged}
 use Rattle.cca_machine.specs.Keys.{key_of_token, or_no_key}
-use Rattle.script_buffers.specs.Replies.{written}
+use Rattle.line_service.specs.Replies.{written}
 use Rattle.verb_script.specs.declared.rows.RequestName.TheVariants.{Csnbkrw}
 use Rattle.verb_script.specs.Values.{hex_value}
-use Rattle.request_verbs.specs.Decided.{Settles, asked}
-use Rattle.request_verbs.specs.declared.effects.Effect.TheVariants as code
+use Rattle.cca_machine.specs.Decided.{Settles, asked}
+use Rattle.cca_machine.specs.declared.effects.Effect.TheVariants as code
 use Rattle.request_verbs.proofs.Delivering.{held_at, no_fields_short}
 use Rattle.request_verbs.proofs.Fields.{no_fields}
-use Rattle.request_verbs.proofs.Settling.{settles}
-use Rattle.request_verbs.proofs.Acting.{decides, opens, or_none_is}
+use Rattle.cca_machine.proofs.Settling.{settles}
+use Rattle.cca_machine.proofs.Acting.{decides, opens, or_none_is}
 use Rattle.request_verbs.proofs.verbs.csnbkrw.csnbkrw.Goals as goal
 
 pub returns : goal.returns

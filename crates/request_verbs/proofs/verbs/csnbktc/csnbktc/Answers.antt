@@ -7,18 +7,18 @@ use Rattle.key_transport.specs.declared.changing.Target.{Target}
 use Rattle.key_transport.specs.declared.changing.Target.TheVariants.{New}
 use Rattle.master_registers.specs.Masters.{Masters}
 use Rattle.master_registers.specs.declared.registers.NewState.TheVariants as state
-use Rattle.script_buffers.specs.Replies.{Hex, written}
+use Rattle.line_service.specs.Replies.{Hex, written}
 use Rattle.verb_rules.specs.Keys.{opened}
 use Rattle.verb_script.specs.Values.{hex_value}
 use Rattle.verb_script.specs.declared.rows.RequestName.TheVariants.{Csnbktc}
 use Rattle.cca_machine.specs.Choices.{target_named}
 use Rattle.cca_machine.specs.Keys.{key_of_token, or_no_key}
-use Rattle.request_verbs.specs.Decided.{asked}
-use Rattle.request_verbs.specs.declared.effects.Effect.TheVariants as code
-use Rattle.request_verbs.proofs.Acting.{key_is, shows_or}
+use Rattle.cca_machine.specs.Decided.{asked}
+use Rattle.cca_machine.specs.declared.effects.Effect.TheVariants as code
+use Rattle.cca_machine.proofs.Acting.{key_is, shows_or}
 use Rattle.request_verbs.proofs.Changing.{change_permitted, change_refused}
 use Rattle.request_verbs.proofs.Fields.{one_hex}
-use Rattle.request_verbs.proofs.Settling.{key_within, settles, whole_settles}
+use Rattle.cca_machine.proofs.Settling.{key_within, settles, whole_settles}
 use Rattle.request_verbs.proofs.verbs.csnbktc.csnbktc.Goals as goal
 
 pub returns-then-ne : goal.returns-then-ne

@@ -1,10 +1,10 @@
 use Rattle.std.proofs.Common.{◌≡◌, ◌∙◌, refl, ap, arith}
 use Rattle.key_tokens.specs.Fields.{token_of}
 use Rattle.key_tokens.specs.declared.key_token.Token.{Token}
-use Rattle.script_buffers.specs.Replies.{written}
+use Rattle.line_service.specs.Replies.{written}
 use Rattle.verb_script.specs.Values.{hex_value}
 use Rattle.cca_machine.specs.Act.{token_fields}
-use Rattle.request_verbs.proofs.Settling.{shown_settles}
+use Rattle.cca_machine.proofs.Settling.{shown_settles}
 use Rattle.request_verbs.proofs.verbs.csnbktp.csnbktp.Goals as goal
 
 pub returns : goal.returns

@@ -1,6 +1,6 @@
 use Rattle.std.proofs.Common.{◌++◌, length, codes, ap, arith, ◌∙◌}
 use Rattle.cca_machine.specs.Act.{class_name}
-use Rattle.script_buffers.specs.Replies.{number_field, ok_text, text_field}
+use Rattle.line_service.specs.Replies.{number_field, ok_text, text_field}
 use Rattle.request_verbs.proofs.TokenReply.{five_fields}
 use Rattle.request_verbs.proofs.verbs.csnbktp.show_parts.Goals as goal
 

@@ -2,15 +2,15 @@ use Rattle.std.proofs.Common.{◌≡◌, ◌∙◌, [], ◌∷◌, codes, refl, 
 use Rattle.key_cells.specs.Lease.{bench_of}
 use Rattle.key_tokens.specs.Denotes.{ClearKey}
 use Rattle.key_transport.specs.Tokens.{external_token, transported_key}
-use Rattle.script_buffers.specs.Replies.{Hex, written}
+use Rattle.line_service.specs.Replies.{Hex, written}
 use Rattle.verb_rules.specs.Keys.{opened, opened_under}
 use Rattle.verb_script.specs.declared.rows.RequestName.TheVariants.{Csnbktr}
 use Rattle.verb_script.specs.Values.{hex_value}
 use Rattle.cca_machine.specs.Keys.{imported, key_in_field, key_in_text, or_no_clear}
-use Rattle.request_verbs.specs.Decided.{asked}
-use Rattle.request_verbs.proofs.Acting.{key_is}
+use Rattle.cca_machine.specs.Decided.{asked}
+use Rattle.cca_machine.proofs.Acting.{key_is}
 use Rattle.request_verbs.proofs.Fields.{one_hex}
-use Rattle.request_verbs.proofs.Settling.{shown_settles, keys_within}
+use Rattle.cca_machine.proofs.Settling.{shown_settles, keys_within}
 use Rattle.request_verbs.proofs.verbs.csnbktr.csnbktr.Goals as goal
 
 pub returns : goal.returns

@@ -1,11 +1,11 @@
 -- What the row shows of its key, which computes.
 use Rattle.std.proofs.Common.{List, [], ◌∷◌, ℕ, None, codes, refl, rules}
 use Rattle.cipher_verbs.specs.CipherTexts.{test_value}
-use Rattle.script_buffers.specs.Replies.{Hex}
+use Rattle.line_service.specs.Replies.{Hex}
 use Rattle.verb_script.specs.declared.rows.RequestName.TheVariants.{Csnbkyt}
-use Rattle.request_verbs.specs.Decided.{asked}
-use Rattle.request_verbs.proofs.KeyedVerbs.{IsKeyed}
-use Rattle.request_verbs.proofs.Settling.{keyed_settles}
+use Rattle.cca_machine.specs.Decided.{asked}
+use Rattle.cca_machine.proofs.KeyedVerbs.{IsKeyed}
+use Rattle.cca_machine.proofs.Settling.{keyed_settles}
 use Rattle.request_verbs.proofs.verbs.csnbkyt.csnbkyt.Goals as goal
 
 keyed : (role key : List ℕ) → IsKeyed (asked Csnbkyt (role ∷ key ∷ [])) (λ k. None) (λ k. Hex (codes "value") (test_value k) ∷ [])

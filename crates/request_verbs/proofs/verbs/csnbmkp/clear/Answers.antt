@@ -2,7 +2,7 @@ use Rattle.std.proofs.Common.{true, false, refl, sym, ◌∙◌}
 use Rattle.key_records.proofs.TurnedLaws.{ahead_known}
 use Rattle.verb_rules.specs.Keys.{keys_of}
 use Rattle.request_verbs.proofs.SetRules.{clear_refusal, none_ahead}
-use Rattle.request_verbs.proofs.Settling.{left_settles, whole_settles}
+use Rattle.cca_machine.proofs.Settling.{left_settles, whole_settles}
 use Rattle.request_verbs.proofs.verbs.csnbmkp.clear.Goals as goal
 
 pub returns-then-any_ahead : goal.returns-then-any_ahead

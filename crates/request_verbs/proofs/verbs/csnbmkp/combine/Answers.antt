@@ -6,11 +6,11 @@ use Rattle.verb_script.specs.Values.{hex_value}
 use Rattle.verb_script.specs.declared.rows.RequestName.TheVariants.{CsnbmkpPart}
 use Rattle.cca_machine.specs.Act.{Become}
 use Rattle.cca_machine.specs.Actions.{part_action}
-use Rattle.request_verbs.specs.Decided.{Settles, asked}
-use Rattle.request_verbs.specs.Deciding.{labels_after}
-use Rattle.request_verbs.specs.declared.effects.Effect.TheVariants as code
-use Rattle.request_verbs.proofs.Acting.{labels_kept, none_lost}
-use Rattle.request_verbs.proofs.Settling.{left_settles, part_within}
+use Rattle.cca_machine.specs.Decided.{Settles, asked}
+use Rattle.cca_machine.specs.Deciding.{labels_after}
+use Rattle.cca_machine.specs.declared.effects.Effect.TheVariants as code
+use Rattle.cca_machine.proofs.Acting.{labels_kept, none_lost}
+use Rattle.cca_machine.proofs.Settling.{left_settles, part_within}
 use Rattle.request_verbs.proofs.verbs.csnbmkp.combine.Goals as goal
 
 pub returns : goal.returns

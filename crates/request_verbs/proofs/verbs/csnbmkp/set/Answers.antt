@@ -6,7 +6,7 @@ use Rattle.master_registers.specs.declared.actions.Action.TheVariants.{Set}
 use Rattle.verb_rules.specs.Rules.{rule_number}
 use Rattle.cca_machine.specs.Actions.{action_checks}
 use Rattle.request_verbs.proofs.SetRules.{or_old, set_parts, set_refusal}
-use Rattle.request_verbs.proofs.Settling.{left_settles, whole_settles}
+use Rattle.cca_machine.proofs.Settling.{left_settles, whole_settles}
 use Rattle.request_verbs.proofs.verbs.csnbmkp.set.Goals as goal
 
 pub returns-in-Some : goal.returns-in-Some

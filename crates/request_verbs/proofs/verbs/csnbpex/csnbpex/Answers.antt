@@ -10,11 +10,12 @@ use Rattle.verb_script.specs.declared.rows.RequestName.TheVariants.{Csnbpex}
 use Rattle.verb_script.specs.Named.{label_named}
 use Rattle.cca_machine.specs.Act.{delivered}
 use Rattle.cca_machine.specs.Keys.{key_in_text, key_of_request}
-use Rattle.request_verbs.specs.Decided.{asked}
-use Rattle.request_verbs.specs.Deciding.{IsDelivered}
-use Rattle.request_verbs.proofs.Acting.{key_is}
+use Rattle.cca_machine.specs.Decided.{asked}
+use Rattle.cca_machine.specs.Deciding.{IsDelivered}
+use Rattle.cca_machine.proofs.Acting.{key_is}
 use Rattle.request_verbs.proofs.Delivering.{either_left, either_right, stands_after, target_place}
-use Rattle.request_verbs.proofs.Settling.{delivery_settles, key_within}
+use Rattle.cca_machine.proofs.Settling.{key_within}
+use Rattle.request_verbs.proofs.Delivered.{delivery_settles}
 use Rattle.request_verbs.proofs.verbs.csnbpex.csnbpex.Goals as goal
 
 pub returns : goal.returns

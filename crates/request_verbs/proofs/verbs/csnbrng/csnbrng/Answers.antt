@@ -1,8 +1,8 @@
 use Rattle.std.proofs.Common.{[], ◌∷◌, ◌∙◌, codes, refl, ap, rules}
 use Rattle.cipher_verbs.specs.RandomBytes.{in_form}
-use Rattle.script_buffers.specs.Replies.{Hex, written}
+use Rattle.line_service.specs.Replies.{Hex, written}
 use Rattle.request_verbs.proofs.Fields.{one_hex}
-use Rattle.request_verbs.proofs.Settling.{stopped_decides, takes_drawn, takes_failed}
+use Rattle.cca_machine.proofs.Settling.{stopped_decides, takes_drawn, takes_failed}
 use Rattle.request_verbs.proofs.verbs.csnbrng.csnbrng.Goals as goal
 
 pub returns-in-Ok : goal.returns-in-Ok

@@ -1,7 +1,7 @@
 use Rattle.std.proofs.Common.{refl, ap}
 use Rattle.cca_machine.specs.Act.{DefineRole}
 use Rattle.request_verbs.proofs.Points.{same_points}
-use Rattle.request_verbs.proofs.Settling.{left_settles}
+use Rattle.cca_machine.proofs.Settling.{left_settles}
 use Rattle.request_verbs.proofs.verbs.csuaaci.define.Goals as goal
 
 pub returns : goal.returns

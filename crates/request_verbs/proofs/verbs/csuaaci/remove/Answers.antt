@@ -1,5 +1,5 @@
 use Rattle.std.proofs.Common.{refl}
-use Rattle.request_verbs.proofs.Settling.{left_settles}
+use Rattle.cca_machine.proofs.Settling.{left_settles}
 use Rattle.request_verbs.proofs.verbs.csuaaci.remove.Goals as goal
 
 pub returns : goal.returns

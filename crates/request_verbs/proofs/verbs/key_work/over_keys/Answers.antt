@@ -5,7 +5,7 @@ use Rattle.verb_script.specs.declared.request.Request.{Request as Parsed}
 use Rattle.verb_script.specs.declared.request.Request.TheVariants as parsed
 use Rattle.request_verbs.specs.KeyWorks.{is_over_keys}
 use Rattle.request_verbs.proofs.OverKeys.{can_deliver, can_of, double_key, some_key}
-use Rattle.request_verbs.proofs.Settling.{handed_on, handed_on_drawing}
+use Rattle.cca_machine.proofs.Settling.{handed_on, handed_on_drawing}
 use Rattle.request_verbs.proofs.verbs.key_work.over_keys.Goals as goal
 
 -- no other request is one over keys

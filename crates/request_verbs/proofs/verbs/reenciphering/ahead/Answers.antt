@@ -3,7 +3,7 @@ use Rattle.std.specs.Option.{option_map}
 use Rattle.key_cells.specs.Lease.{bench_of}
 use Rattle.verb_rules.specs.Rules.{rule_number}
 use Rattle.request_verbs.proofs.SetRules.{or_old, ahead_refusal}
-use Rattle.request_verbs.proofs.Settling.{left_settles, whole_settles}
+use Rattle.cca_machine.proofs.Settling.{left_settles, whole_settles}
 use Rattle.request_verbs.proofs.verbs.reenciphering.ahead.Goals as goal
 
 pub returns-in-Some : goal.returns-in-Some

@@ -1,6 +1,6 @@
 use Rattle.std.proofs.Common.{◌≡◌, ◌∙◌, ◌+◌, ◌-◌, ◌≤◌, ℕ, List, length, take, drop, slice_index, ap, refl, subst, arith}
 use Rattle.std.proofs.lemmas.List.{length-drop, take_all}
-use Rattle.byte_lists.specs.Bytes.{IsZero}
+use Rattle.key_cells.specs.Bytes.{IsZero}
 use Rattle.text_segments.specs.Chains.{chain_bytes}
 use Rattle.text_segments.specs.declared.chains.Chain.{Chain}
 use Rattle.text_segments.proofs.ChainLemmas.{same}

@@ -1,2 +1,0 @@
-pub mod DirectoryLaws
-pub mod NameLemmas

@@ -1,3 +1,0 @@
-pub mod Characters
-pub mod Directory
-pub mod Names

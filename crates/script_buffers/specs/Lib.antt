@@ -1,5 +1,0 @@
-pub mod Gathering
-pub mod Inside
-pub mod Lines
-pub mod Reading
-pub mod Replies

@@ -1,0 +1,4 @@
+mod KeyedRows
+mod SegmentRules
+mod TextSizes
+pub mod TextWorks

@@ -1,0 +1,3 @@
+pub mod CodePurposes
+pub mod TextWorks
+pub mod WholeTexts
