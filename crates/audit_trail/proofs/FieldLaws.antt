@@ -129,3 +129,30 @@ label_in n field (inr held) some = (
   subst (λ (k : ℕ). IsLabel (take k field)) (sym held.2) (subst IsLabel (sym (text_again 64 held.0 field held.3)) held.1),
   subst (λ (k : ℕ). IsZero (drop k field)) (sym held.2) (zeros_behind 64 held.0 field held.3),
 )
+
+module _ (n : ℕ) (field : List ℕ) where
+  pub label_blank : n ≡ 0 → length field ≡ 64 → IsZero field ↔ HoldsLabel n field
+  label_blank is long = (λ zeros. inl (is, zeros_of 64 field long zeros), back)
+    where
+      back : HoldsLabel n field → IsZero field
+      back (inl blank) = subst IsZero (sym blank.1) (IsZero-replicate 64)
+      back (inr held) = absurd (label_some held.0 held.1 (sym held.2 ∙ is))
+
+  pub label_beyond : 64 < n → HoldsLabel n field → ⊥
+  label_beyond above (inl blank) = omega (arith, above, blank.0)
+  label_beyond above (inr held) = omega (arith, above, held.2, label_short held.0 held.1)
+
+  -- where a label stands at the front, it is the zeros behind that decide
+  pub label_by_zeros : length field ≡ 64 → (n ≡ 0 → ⊥) → n ≤ 64 → IsLabel (take n field) → (IsZero (take (64 - n) (drop n field))) ↔ HoldsLabel n field
+  label_by_zeros long some within label = (
+    λ zeros. inr (
+      take n field,
+      label,
+      sym (length-take n field ∙ omega (arith, long, within)),
+      filled_from 64 n field long within (subst IsZero behind zeros),
+    ),
+    λ held. subst IsZero (sym behind) (label_in n field held some).1,
+  )
+    where
+      behind : take (64 - n) (drop n field) ≡ drop n field
+      behind = take_all (64 - n) (drop n field) (omega (arith, long, length-drop n field))

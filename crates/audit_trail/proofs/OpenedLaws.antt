@@ -1,5 +1,5 @@
 -- What opening leaves of a trail, over plain values: it was settled, and its cells were read then.
-use Rattle.std.proofs.Common.{◌≡◌, ◌≤◌, ℕ, Result, Ok, Err, IsSome, false, OnOk, ◌∙◌, subst, sym, arith}
+use Rattle.std.proofs.Common.{◌≡◌, ◌≤◌, ℕ, Result, Ok, Err, IsSome, true, false, OnOk, OnErr, ◌∙◌, subst, sym, arith}
 use Rattle.std.specs.Result.{is_err}
 use Rattle.device_cells.specs.Faults.{HasCause, Rose}
 use Rattle.device_cells.specs.Medium.{Medium, IsSettled, EachImage, Keeps}
@@ -10,6 +10,10 @@ on_ok : {T E P : Type 0} (r : Result T E) → false ≡ is_err r → OnOk r P �
 on_ok (Ok x) is holds = holds
 on_ok (Err e) is holds = absurd (cc is)
 
+on_err : {T E P : Type 0} (r : Result T E) → true ≡ is_err r → OnErr r P → P
+on_err (Err e) is holds = holds
+on_err (Ok x) is holds = absurd (cc is)
+
 -- every image is the content, as it was
 pub settling_keeps : (m0 m1 : Medium) → m1.content ≡ m0.content → EachImage m0 m1 m0.images → Keeps m0 m1
 settling_keeps m0 m1 content moments = record {
@@ -17,6 +21,21 @@ settling_keeps m0 m1 content moments = record {
   images = λ c image. moments.each c (m1.counts_now m0.moment c moments.later image);
   moments = moments;
 }
+
+-- settling failed
+module _ {T E : Type 0} (m0 m1 : Medium) (f0 f1 : ℕ) (r : Result T E) (broken : true ≡ is_err r) (cause : HasCause f0 f1 r) where
+  pub unsettled_rose : Rose f0 f1
+  unsettled_rose = on_err r broken cause.failed
+
+  pub unsettled_left : (done failed : Type 0) → (done → ⊥) → failed → m1.content ≡ m0.content → EachImage m0 m1 m0.images → TrailLeft m0 m1 f0 f1 done failed
+  unsettled_left done failed undone holds content moments = record {
+    size = moments.size;
+    still = λ some. subst IsSome (sym content) some;
+    settled = λ h. absurd (undone h);
+    later = cause.later;
+    fault = λ h. unsettled_rose;
+    quiet = λ unfailed. absurd (unfailed holds);
+  }
 
 module _ {T E : Type 0} (m0 m1 m2 : Medium) (f0 f1 f2 : ℕ) (r : Result T E) (sound : false ≡ is_err r) (settled : OnOk r (IsSettled m1)) (content : m1.content ≡ m0.content)
     (moments : EachImage m0 m1 m0.images) (cause : HasCause f0 f1 r) (kept : Keeps m1 m2) where

@@ -1,5 +1,5 @@
 use Rattle.std.proofs.Common.{◌≡◌, sym, ap, subst, ◌∙◌, arith}
-use Rattle.std.proofs.lemmas.Bool.{both_ways}
+use Rattle.std.proofs.lemmas.Bool.{both_ways, true≢false}
 use Rattle.audit_trail.specs.Entries.{IsEntry}
 use Rattle.audit_trail.specs.RecordBody.{record_body}
 use Rattle.audit_trail.specs.declared.bodies.Record.{Record}
@@ -20,3 +20,25 @@ pub returns-else-is_record-clause-none : goal.returns-else-is_record-clause-none
 returns-else-is_record-clause-none c _ n e spells =
     let same : c.record_in-record.result ≡ made n e = c.record_in-record.ensures ∙ spelled_in c.args.body.now n e spells in
     both_ways c.is_record.result c.if-is_record.false (c.is_record.ensures.1 (spells.body ∙ ap (λ (r : Record). record_body r.number r.entry) (sym same)))
+
+pub returns-then-record-ge-NUMBERS-clause-reads : goal.returns-then-record-ge-NUMBERS-clause-reads
+returns-then-record-ge-NUMBERS-clause-reads c = tt
+
+pub returns-then-not-is_whole-clause-reads : goal.returns-then-not-is_whole-clause-reads
+returns-then-not-is_whole-clause-reads c = tt
+
+pub returns-else-is_record-clause-reads : goal.returns-else-is_record-clause-reads
+returns-else-is_record-clause-reads c = tt
+
+pub is_record-requires : goal.is_record-requires
+is_record-requires c = c.is_whole.ensures.0 c.if-not-is_whole.false
+
+pub returns-then-is_record-clause-reads : goal.returns-then-is_record-clause-reads
+returns-then-is_record-clause-reads c = record {
+  entry = c.is_whole.ensures.0 c.if-not-is_whole.false;
+  below = omega (arith, c.if-record-ge-NUMBERS.false);
+  body = c.is_record.ensures.0 c.if-is_record.true;
+}
+
+pub returns-then-is_record-clause-none : goal.returns-then-is_record-clause-none
+returns-then-is_record-clause-none c none n e spells = true≢false none

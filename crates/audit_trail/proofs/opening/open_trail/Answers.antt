@@ -1,4 +1,5 @@
-use Rattle.std.proofs.Common.{ℕ, Option, None, Some, Err, inl, inr, sym, ap, subst, ◌∙◌, arith}
+use Rattle.std.proofs.Common.{ℕ, ◌^◌, ◌<◌, Option, None, Some, IfSome, Err, inl, inr, refl, sym, ap, subst, ◌∙◌, arith}
+use Rattle.std.proofs.lemmas.Bool.{false≢true}
 use Rattle.device_cells.proofs.Media.{keeps_then, told_after, told_earlier, told_joined, told_map}
 use Rattle.device_cells.specs.Medium.{Told}
 use Rattle.device_cells.proofs.WhereToldLemmas.{rose_wider}
@@ -6,8 +7,8 @@ use Rattle.audit_trail.specs.Opening.{Scanned, Checked}
 use Rattle.audit_trail.specs.TrailStands.{StandsForTrail, IsFirstStray, IsFirstStale, IsFirstDamaged}
 use Rattle.audit_trail.specs.declared.faults.TrailFault.TheVariants.{DiskFault, Damaged}
 use Rattle.audit_trail.proofs.MediumLaws.{same_fault, exact_by}
-use Rattle.audit_trail.proofs.OpenedLaws.{opened_kept, opened_left, failed_then}
-use Rattle.audit_trail.proofs.ReadingLaws.{ok_not_err, err_as}
+use Rattle.audit_trail.proofs.OpenedLaws.{opened_kept, opened_left, failed_then, settling_keeps, unsettled_rose, unsettled_left}
+use Rattle.audit_trail.proofs.ReadingLaws.{ok_not_err, err_as, disk_not_of_damaged}
 use Rattle.audit_trail.proofs.OpeningLaws.{stands_blank, blank_undamaged, stands_checked, checked_undamaged}
 use Rattle.audit_trail.proofs.opening.open_trail.Goals as goal
 
@@ -122,3 +123,80 @@ returns-in-Err-clause-left g c =
     c.settle.result c.if-is_err.ensures.value c.settle.ensures.settled c.settle.ensures.content c.settle.ensures.moments c.settle.ensures.cause
     c.scan_cells.ensures.keeps _ _
     c.scan_cells.ensures.later (λ h. c.in-Err.ensures.failed (err_as c.in-Err.fault DiskFault h)) (λ none. c.in-Err.ensures.quiet (λ h. none (err_as c.in-Err.fault DiskFault h)))
+
+pub returns-then-is_err-clause-stands : goal.returns-then-is_err-clause-stands
+returns-then-is_err-clause-stands g c = tt
+
+pub returns-then-is_err-clause-unopened : goal.returns-then-is_err-clause-unopened
+returns-then-is_err-clause-unopened g c = refl
+
+pub returns-then-is_err-clause-damaged : goal.returns-then-is_err-clause-damaged
+returns-then-is_err-clause-damaged g c n is = absurd (disk_not_of_damaged n is)
+
+pub returns-then-is_err-clause-exact : goal.returns-then-is_err-clause-exact
+returns-then-is_err-clause-exact g c fell =
+    absurd (fell (unsettled_rose (g.T.Disk.medium c.args.trail.now) (g.T.Disk.medium c.settle.new.disk) (g.T.Disk.faults c.args.trail.now) (g.T.Disk.faults c.settle.new.disk)
+    c.settle.result c.if-is_err.ensures.value c.settle.ensures.cause))
+
+pub returns-then-is_err-clause-faults : goal.returns-then-is_err-clause-faults
+returns-then-is_err-clause-faults g c = inl refl
+
+pub returns-then-is_err-clause-keeps : goal.returns-then-is_err-clause-keeps
+returns-then-is_err-clause-keeps g c =
+    settling_keeps (g.T.Disk.medium c.args.trail.now) (g.T.Disk.medium c.settle.new.disk) c.settle.ensures.content c.settle.ensures.moments
+
+pub returns-then-is_err-clause-left : goal.returns-then-is_err-clause-left
+returns-then-is_err-clause-left g c =
+    unsettled_left (g.T.Disk.medium c.args.trail.now) (g.T.Disk.medium c.settle.new.disk) (g.T.Disk.faults c.args.trail.now) (g.T.Disk.faults c.settle.new.disk)
+    c.settle.result c.if-is_err.ensures.value c.settle.ensures.cause _ _ false≢true refl c.settle.ensures.content c.settle.ensures.moments
+
+pub scan_cells-requires : goal.scan_cells-requires
+scan_cells-requires g c = c.settle.ensures.moments.size ∙ c.requires
+
+pub check_cells-requires-clause-size : goal.check_cells-requires-clause-size
+check_cells-requires-clause-size g c = c.scan_cells.ensures.keeps.moments.size ∙ (c.settle.ensures.moments.size ∙ c.requires)
+
+pub check_cells-requires-clause-scanned : goal.check_cells-requires-clause-scanned
+check_cells-requires-clause-scanned g c =
+    let m1 = g.T.Disk.medium c.settle.new.disk in
+    told_after m1 (g.T.Disk.medium c.scan_cells.new.trail) (λ image. Scanned image 4096 (Some c.in-Ok-Some.last)) c.scan_cells.ensures.keeps.content
+    (subst (λ (o : Option ℕ). Told m1 (λ image. Scanned image 4096 o)) c.in-Ok-Some.field-0-is c.in-Ok-Some.ensures.scanned)
+
+pub after-requires : goal.after-requires
+after-requires g c = subst (λ (o : Option ℕ). IfSome o (λ (n : ℕ). n < 2 ^ 63)) c.in-Ok-Some.field-0-is c.in-Ok-Some.ensures.low
+
+pub returns-in-Ok-None-clause-unopened : goal.returns-in-Ok-None-clause-unopened
+returns-in-Ok-None-clause-unopened g c = tt
+
+pub returns-in-Ok-None-clause-damaged : goal.returns-in-Ok-None-clause-damaged
+returns-in-Ok-None-clause-damaged g c n is = absurd (ok_not_err tt (Damaged n) is)
+
+pub returns-in-Ok-None-clause-faults : goal.returns-in-Ok-None-clause-faults
+returns-in-Ok-None-clause-faults g c = tt
+
+pub returns-in-Ok-clause-unopened : goal.returns-in-Ok-clause-unopened
+returns-in-Ok-clause-unopened g c = tt
+
+pub returns-in-Ok-clause-damaged : goal.returns-in-Ok-clause-damaged
+returns-in-Ok-clause-damaged g c n is = absurd (ok_not_err tt (Damaged n) is)
+
+pub returns-in-Ok-clause-faults : goal.returns-in-Ok-clause-faults
+returns-in-Ok-clause-faults g c = tt
+
+pub returns-in-Err-check_cells-clause-stands : goal.returns-in-Err-check_cells-clause-stands
+returns-in-Err-check_cells-clause-stands g c = tt
+
+pub returns-in-Err-check_cells-clause-unopened : goal.returns-in-Err-check_cells-clause-unopened
+returns-in-Err-check_cells-clause-unopened g c = refl
+
+pub returns-in-Err-check_cells-clause-faults : goal.returns-in-Err-check_cells-clause-faults
+returns-in-Err-check_cells-clause-faults g c = c.in-Err-check_cells.ensures.faults
+
+pub returns-in-Err-clause-stands : goal.returns-in-Err-clause-stands
+returns-in-Err-clause-stands g c = tt
+
+pub returns-in-Err-clause-unopened : goal.returns-in-Err-clause-unopened
+returns-in-Err-clause-unopened g c = refl
+
+pub returns-in-Err-clause-faults : goal.returns-in-Err-clause-faults
+returns-in-Err-clause-faults g c = c.in-Err.ensures.faults
