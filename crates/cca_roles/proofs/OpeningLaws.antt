@@ -2,14 +2,16 @@
 use Rattle.std.proofs.Common.{◌≡◌, ◌≤◌, ◌<◌, ◌*◌, inl, inr, ⊎_elim, ℕ, true, false, Result, Ok, Err, zero, suc, ◌+◌, List, length, get_or, set, replicate, Option, None, Some, refl, sym, ap, subst, ◌∙◌, arith}
 use Rattle.std.proofs.lemmas.Bool.{cases_eq, cases_lt}
 use Rattle.std.proofs.lemmas.List.{get_or-set_same, get_or-set_other}
-use Rattle.std.specs.Prelude.{is_err}
+use Rattle.std.specs.Prelude.{is_err, OnOk, OnErr}
 use Rattle.device_cells.specs.Cells.{body, cell_size}
 use Rattle.device_cells.specs.Faults.{HasCause}
-use Rattle.device_cells.specs.Medium.{Medium, Told}
-use Rattle.device_cells.proofs.Media.{told_map}
-use Rattle.cca_roles.specs.Changes.{HasRoleCause}
+use Rattle.device_cells.specs.Medium.{Medium, Told, Keeps}
+use Rattle.device_cells.proofs.Media.{told_map, told_next}
+use Rattle.key_cells.specs.Lease.{holding, bench_of}
+use Rattle.key_cells.specs.declared.leases.Lease.{Lease}
+use Rattle.cca_roles.specs.Changes.{HasRoleCause, KeepsAllButBody}
 use Rattle.cca_roles.specs.declared.faults.RoleFault.{RoleFault}
-use Rattle.cca_roles.specs.declared.faults.RoleFault.TheVariants.{DiskFault}
+use Rattle.cca_roles.specs.declared.faults.RoleFault.TheVariants.{DiskFault, Damaged}
 use Rattle.cca_roles.specs.Directory.{name_at, IsHeld}
 use Rattle.cca_roles.specs.Opening.{Opens, IsRefused, OpenedTo}
 use Rattle.cca_roles.specs.RoleBody.{ReadsPlace, slot_in}
@@ -149,3 +151,42 @@ pub refused_first : (m : Medium) (bytes copy : List ℕ) (cell n : ℕ) → copy
 refused_first m bytes copy cell n same is_cell read is none =
     told_map m (λ image. bytes ≡ body image cell) (λ image. IsFirstDamaged image n) read
     (λ image here. subst (IsFirstDamaged image) is (first_damaged image (subst (λ (b : List ℕ). ReadsNothing 0 b) (same ∙ here ∙ ap (body image) is_cell) none)))
+
+-- ---- what opening answers
+
+pub ok_not_err : (fault : RoleFault) → ◌≡◌ {A = Result (Unit {0}) RoleFault} (Ok tt) (Err fault) → ⊥
+ok_not_err fault is = cc is
+
+pub disk_not_damaged : (cell : ℕ) → ◌≡◌ {A = Result (Unit {0}) RoleFault} (Err DiskFault) (Err (Damaged cell)) → ⊥
+disk_not_damaged cell is = cc is
+
+pub damaged_not_disk : (cell : ℕ) → ◌≡◌ {A = Result (Unit {0}) RoleFault} (Err (Damaged cell)) (Err DiskFault) → ⊥
+damaged_not_disk cell is = cc is
+
+pub one_cell : (cell n : ℕ) → ◌≡◌ {A = Result (Unit {0}) RoleFault} (Err (Damaged cell)) (Err (Damaged n)) → cell ≡ n
+one_cell cell n is = cc is
+
+-- a fault that is handed on
+module _ (r : Result (Unit {0}) RoleFault) (fault : RoleFault) (same : r ≡ Err fault) where
+  pub handed_ok : (P : Type 0) → OnOk r P
+  handed_ok P = subst (λ (o : Result (Unit {0}) RoleFault). OnOk o P) (sym same) tt
+
+  pub handed_err : (P : Type 0) → P → OnErr r P
+  handed_err P holds = subst (λ (o : Result (Unit {0}) RoleFault). OnErr o P) (sym same) holds
+
+  pub handed_cause : (start before now : ℕ) → before ≡ start → (from : Result (Unit {0}) RoleFault) → from ≡ Err fault → HasRoleCause before now from → HasRoleCause start now r
+  handed_cause start before now as_before from was cause =
+      subst (λ (n : ℕ). HasRoleCause n now r) as_before (subst (HasRoleCause before now) (was ∙ sym same) cause)
+
+pub opened_cause : (before now : ℕ) → now ≡ before → HasRoleCause before now (Ok tt)
+opened_cause before now same = record { later = omega (arith, same); failed = λ is. absurd (ok_not_err DiskFault is); quiet = λ _. same }
+
+pub rest_then : (a b c : Lease) → KeepsAllButBody a b → KeepsAllButBody b c → KeepsAllButBody a c
+rest_then a b c first second = second ∙ ap (λ (l : Lease). holding l (record (bench_of l) { body = (bench_of c).body })) first
+
+-- one cell more was read
+pub told_more : (m0 m1 : Medium) (place : ℕ) (old new : List (Option Role)) → Keeps m0 m1 → place < 32 → AreRoles old → Told m0 (λ image. OpenedTo image place old)
+    → Told m1 (λ image. Opens (body image (place + 1)) place old new) → Told m0 (λ image. OpenedTo image (place + 1) new)
+told_more m0 m1 place old new kept within are opened opens =
+    told_next m0 m1 (λ image. OpenedTo image place old) (λ image. Opens (body image (place + 1)) place old new) (λ image. OpenedTo image (place + 1) new) kept opened opens
+    (λ image before here. opened_more image place old before new (omega (arith, within, are.size)) here)

@@ -6,9 +6,9 @@ use Rattle.cca_roles.specs.Directory.{AreApart}
 use Rattle.cca_roles.specs.Opening.{OpenedTo}
 use Rattle.cca_roles.specs.RoleBody.{ReadsPlace, slot_in}
 use Rattle.cca_roles.specs.Roles.{AreRoles, names, name_of, blank_roles}
-use Rattle.cca_roles.specs.declared.faults.RoleFault.TheVariants.{Damaged}
+use Rattle.cca_roles.specs.declared.faults.RoleFault.TheVariants.{DiskFault, Damaged}
 use Rattle.cca_roles.specs.declared.roles.Role.{Role}
-use Rattle.cca_roles.proofs.OpeningLaws.{cause_read, cause_unread, opened_first, place_fits, refused_first}
+use Rattle.cca_roles.proofs.OpeningLaws.{ok_not_err, disk_not_damaged, damaged_not_disk, one_cell, cause_read, cause_unread, opened_first, place_fits, refused_first}
 use Rattle.cca_roles.proofs.StandLaws.{unless_err}
 use Rattle.cca_roles.proofs.TableLaws.{blank_table}
 use Rattle.cca_roles.proofs.TotalLaws.{default_read, default_apart}
@@ -46,7 +46,7 @@ pub returns-then-is_err-clause-opened : goal.returns-then-is_err-clause-opened
 returns-then-is_err-clause-opened g c = tt
 
 pub returns-then-is_err-clause-damaged : goal.returns-then-is_err-clause-damaged
-returns-then-is_err-clause-damaged g c n is = absurd (cc is)
+returns-then-is_err-clause-damaged g c n is = absurd (disk_not_damaged n is)
 
 pub returns-then-is_err-clause-faults : goal.returns-then-is_err-clause-faults
 returns-then-is_err-clause-faults g c = inl refl
@@ -59,14 +59,14 @@ pub returns-in-Some-clause-roles : goal.returns-in-Some-clause-roles
 returns-in-Some-clause-roles g c = c.set_place.ensures.roles
 
 pub returns-in-Some-clause-damaged : goal.returns-in-Some-clause-damaged
-returns-in-Some-clause-damaged g c n is = absurd (cc is)
+returns-in-Some-clause-damaged g c n is = absurd (ok_not_err (Damaged n) is)
 
 pub returns-in-Some-clause-faults : goal.returns-in-Some-clause-faults
 returns-in-Some-clause-faults g c = tt
 
 pub returns-in-Some-clause-cause : goal.returns-in-Some-clause-cause
 returns-in-Some-clause-cause g c =
-    cause_read (g.M.Disk.faults c.args.«module».now) (g.M.Disk.faults c.read_cell.new.disk) c.read_cell.result c.read_cell.ensures.cause (sym c.is_err.ensures.value ∙ c.if-is_err.false) (Ok tt) (λ is. cc is)
+    cause_read (g.M.Disk.faults c.args.«module».now) (g.M.Disk.faults c.read_cell.new.disk) c.read_cell.result c.read_cell.ensures.cause (sym c.is_err.ensures.value ∙ c.if-is_err.false) (Ok tt) (ok_not_err DiskFault)
 
 pub returns-in-None-clause-opened : goal.returns-in-None-clause-opened
 returns-in-None-clause-opened g c = tt
@@ -76,13 +76,13 @@ returns-in-None-clause-faults g c = inr refl
 
 pub returns-in-None-clause-cause : goal.returns-in-None-clause-cause
 returns-in-None-clause-cause g c =
-    cause_read (g.M.Disk.faults c.args.«module».now) (g.M.Disk.faults c.read_cell.new.disk) c.read_cell.result c.read_cell.ensures.cause (sym c.is_err.ensures.value ∙ c.if-is_err.false) (Err (Damaged 1)) (λ is. cc is)
+    cause_read (g.M.Disk.faults c.args.«module».now) (g.M.Disk.faults c.read_cell.new.disk) c.read_cell.result c.read_cell.ensures.cause (sym c.is_err.ensures.value ∙ c.if-is_err.false) (Err (Damaged 1)) (damaged_not_disk 1)
 
 pub returns-in-None-clause-damaged : goal.returns-in-None-clause-damaged
 returns-in-None-clause-damaged g c n is =
     refused_first (g.M.Disk.medium c.args.«module».now) c.read_cell.new.out c.body.result.now c.new.result n c.body.ensures c.new.ensures
     (unless_err c.read_cell.result (sym c.is_err.ensures.value ∙ c.if-is_err.false) c.read_cell.ensures.bytes)
-    (cc is) (c.in-None.ensures.none refl)
+    (one_cell 1 n is) (c.in-None.ensures.none refl)
 
 pub returns-then-is_err-clause-keeps : goal.returns-then-is_err-clause-keeps
 returns-then-is_err-clause-keeps g c = c.read_cell.ensures.keeps

@@ -1,6 +1,6 @@
 use Rattle.std.proofs.Common.{◌+◌, Ok, Err, inl, inr, refl, sym, ◌∙◌}
-use Rattle.cca_roles.specs.declared.faults.RoleFault.TheVariants.{Damaged}
-use Rattle.cca_roles.proofs.OpeningLaws.{cause_read, cause_unread, opens_read, place_fits, refused_held, refused_read}
+use Rattle.cca_roles.specs.declared.faults.RoleFault.TheVariants.{DiskFault, Damaged}
+use Rattle.cca_roles.proofs.OpeningLaws.{ok_not_err, disk_not_damaged, damaged_not_disk, one_cell, cause_read, cause_unread, opens_read, place_fits, refused_held, refused_read}
 use Rattle.cca_roles.proofs.StandLaws.{unless_err}
 use Rattle.cca_roles.proofs.opening.open_place.Goals as goal
 
@@ -22,7 +22,7 @@ pub returns-then-is_err-clause-opened : goal.returns-then-is_err-clause-opened
 returns-then-is_err-clause-opened g c = tt
 
 pub returns-then-is_err-clause-damaged : goal.returns-then-is_err-clause-damaged
-returns-then-is_err-clause-damaged g c n is = absurd (cc is)
+returns-then-is_err-clause-damaged g c n is = absurd (disk_not_damaged n is)
 
 pub returns-then-is_err-clause-faults : goal.returns-then-is_err-clause-faults
 returns-then-is_err-clause-faults g c = inl refl
@@ -40,7 +40,7 @@ returns-then-put-clause-opened g c =
     c.in-Some.slot c.put.new.self c.in-Some.ensures.found c.in-Some.ensures.reads (c.if-put.ensures.put refl)
 
 pub returns-then-put-clause-damaged : goal.returns-then-put-clause-damaged
-returns-then-put-clause-damaged g c n is = absurd (cc is)
+returns-then-put-clause-damaged g c n is = absurd (ok_not_err (Damaged n) is)
 
 pub returns-then-put-clause-faults : goal.returns-then-put-clause-faults
 returns-then-put-clause-faults g c = tt
@@ -49,21 +49,21 @@ pub returns-else-put-clause-damaged : goal.returns-else-put-clause-damaged
 returns-else-put-clause-damaged g c n is =
     refused_held (g.M.Disk.medium c.args.«module».now) c.args.place c.read_cell.new.out c.body.result.now c.new.result c.args.roles.now c.body.ensures c.new.ensures
     (unless_err c.read_cell.result (sym c.is_err.ensures.value ∙ c.if-is_err.false) c.read_cell.ensures.bytes)
-    n c.in-Some.slot (cc is) c.in-Some.ensures.reads (c.if-put.ensures.held refl)
+    n c.in-Some.slot (one_cell (c.args.place + 1) n is) c.in-Some.ensures.reads (c.if-put.ensures.held refl)
 
 pub returns-in-None-clause-damaged : goal.returns-in-None-clause-damaged
 returns-in-None-clause-damaged g c n is =
     refused_read (g.M.Disk.medium c.args.«module».now) c.args.place c.read_cell.new.out c.body.result.now c.new.result c.args.roles.now c.body.ensures c.new.ensures
     (unless_err c.read_cell.result (sym c.is_err.ensures.value ∙ c.if-is_err.false) c.read_cell.ensures.bytes)
-    n (cc is) (inl (c.in-None.ensures.none refl))
+    n (one_cell (c.args.place + 1) n is) (inl (c.in-None.ensures.none refl))
 
 pub returns-then-put-clause-cause : goal.returns-then-put-clause-cause
 returns-then-put-clause-cause g c =
-    cause_read (g.M.Disk.faults c.args.«module».now) (g.M.Disk.faults c.read_cell.new.disk) c.read_cell.result c.read_cell.ensures.cause (sym c.is_err.ensures.value ∙ c.if-is_err.false) (Ok tt) (λ is. cc is)
+    cause_read (g.M.Disk.faults c.args.«module».now) (g.M.Disk.faults c.read_cell.new.disk) c.read_cell.result c.read_cell.ensures.cause (sym c.is_err.ensures.value ∙ c.if-is_err.false) (Ok tt) (ok_not_err DiskFault)
 
 pub returns-else-put-clause-cause : goal.returns-else-put-clause-cause
 returns-else-put-clause-cause g c =
-    cause_read (g.M.Disk.faults c.args.«module».now) (g.M.Disk.faults c.read_cell.new.disk) c.read_cell.result c.read_cell.ensures.cause (sym c.is_err.ensures.value ∙ c.if-is_err.false) (Err (Damaged (c.args.place + 1))) (λ is. cc is)
+    cause_read (g.M.Disk.faults c.args.«module».now) (g.M.Disk.faults c.read_cell.new.disk) c.read_cell.result c.read_cell.ensures.cause (sym c.is_err.ensures.value ∙ c.if-is_err.false) (Err (Damaged (c.args.place + 1))) (damaged_not_disk (c.args.place + 1))
 
 pub returns-else-put-clause-opened : goal.returns-else-put-clause-opened
 returns-else-put-clause-opened g c = tt
@@ -73,7 +73,7 @@ returns-else-put-clause-faults g c = inr refl
 
 pub returns-in-None-clause-cause : goal.returns-in-None-clause-cause
 returns-in-None-clause-cause g c =
-    cause_read (g.M.Disk.faults c.args.«module».now) (g.M.Disk.faults c.read_cell.new.disk) c.read_cell.result c.read_cell.ensures.cause (sym c.is_err.ensures.value ∙ c.if-is_err.false) (Err (Damaged (c.args.place + 1))) (λ is. cc is)
+    cause_read (g.M.Disk.faults c.args.«module».now) (g.M.Disk.faults c.read_cell.new.disk) c.read_cell.result c.read_cell.ensures.cause (sym c.is_err.ensures.value ∙ c.if-is_err.false) (Err (Damaged (c.args.place + 1))) (damaged_not_disk (c.args.place + 1))
 
 pub returns-in-None-clause-opened : goal.returns-in-None-clause-opened
 returns-in-None-clause-opened g c = tt
