@@ -1,12 +1,12 @@
 -- A first token under the current master key, and a second one under a full new register.
-use Rattle.std.proofs.Common.{◌≡◌, ◌-◌, ℕ, Bool, true, false, List, Option, None, Some, take, replicate, refl, sym, ap, ◌∙◌, arith}
-use Rattle.std.specs.Prelude.{option_map, if◌then◌else◌}
+use Rattle.std.proofs.Common.{◌≡◌, ◌↔◌, ◌-◌, ℕ, Bool, true, false, List, Option, None, Some, take, replicate, refl, sym, ap, ◌∙◌, arith}
+use Rattle.std.specs.Prelude.{IsTrue, is_some, option_map, if◌then◌else◌}
 use Rattle.std.proofs.lemmas.List.{take_at}
 use Rattle.std.proofs.lemmas.Slice.Eq.{bytes_eq-Decides}
 use Rattle.cca_roles.proofs.DirectoryLaws.{none_some}
 use Rattle.cca_vectors.specs.Vectors.{length_of}
 use Rattle.key_cells.specs.Bench.{Bench}
-use Rattle.key_tokens.specs.Denotes.{ClearKey, MasterKey, Denoted, denoted}
+use Rattle.key_tokens.specs.Denotes.{ClearKey, MasterKey, MasterKeys, Denoted, denoted}
 use Rattle.key_tokens.specs.Fields.{pattern_of_token, token_of}
 use Rattle.key_tokens.specs.declared.key_token.Age.{Age}
 use Rattle.key_tokens.specs.declared.key_token.Age.TheVariants.{Current, Old}
@@ -23,12 +23,13 @@ use Rattle.verb_rules.specs.Keys.{keys_of, new_key, opened, opened_key}
 use Rattle.verb_rules.proofs.DenotedLemmas.{denoted_opened, judged_with}
 use Rattle.record_bodies.specs.Entries.{pattern_for, pattern_or, pattern_ahead}
 use Rattle.record_bodies.specs.Opening.{pattern_coming}
-use Rattle.record_bodies.specs.RecordBody.{kept, second_of, is_turned, what_of, ahead_of, both_kind, IsFirst, IsPair}
+use Rattle.record_bodies.specs.RecordBody.{kept, second_of, second_token, is_turned, what_of, ahead_of, both_kind, IsFirst, IsPair}
 use Rattle.record_bodies.specs.declared.rows.Row.{Row}
 use Rattle.record_bodies.specs.declared.rows.Second.{Second}
 use Rattle.record_bodies.proofs.BodyLaws.{what_turned, ahead_turned}
 use Rattle.record_bodies.proofs.KeptLaws.{denoted_pattern, kept_with_flag, pattern}
 use Rattle.record_bodies.proofs.SecondLaws.{same_second}
+use Rattle.key_records.proofs.ReadLaws.{some_mapped}
 
 some_one : {A : Type 0} {x y : A} → Some x ≡ Some y → x ≡ y
 some_one is = cc is
@@ -99,6 +100,24 @@ module _ (m : Masters) (held : Registers) (bench : Bench) (token : List ℕ) (lo
       row : List ℕ → Option Pattern → Option Pattern → Row
       row l p a = record { label = l; pattern = p; ahead = a }
 
+-- the row of a label that is under its second token
+module _ (masters : MasterKeys) (token under : List ℕ) (second : Second) (found : under ≡ second_token token second) where
+  pub turned_as : (pattern : Option Pattern) → pattern ≡ option_map (pattern_for masters) (kept masters under) → is_turned masters token second ≡ is_some pattern
+  turned_as pattern is = ap (λ t. is_some (kept masters t)) (sym found) ∙ sym (some_mapped (pattern_for masters) (kept masters under)) ∙ ap (λ o. is_some o) (sym is)
+
+  pub turned_row : (label : List ℕ) (pattern : Pattern) → Some pattern ≡ option_map (pattern_for masters) (kept masters under)
+      → ◌≡◌ {A = Option Row} (Some (record { label = label; pattern = Some pattern; ahead = None }))
+      (Some (record { label = label; pattern = option_map (pattern_for masters) (what_of masters both_kind token second); ahead = pattern_ahead masters (ahead_of masters both_kind token second) }))
+  turned_row label pattern is =
+      let turned : is_turned masters token second ≡ true = turned_as (Some pattern) is in
+      let patterns : Some pattern ≡ option_map (pattern_for masters) (what_of masters both_kind token second) =
+      is ∙ ap (λ t. option_map (pattern_for masters) (kept masters t)) found ∙ ap (option_map (pattern_for masters)) (sym (what_turned masters token second true turned)) in
+      let aheads : None ≡ pattern_ahead masters (ahead_of masters both_kind token second) = ap (pattern_ahead masters) (sym (ahead_turned masters token second true turned)) in
+      ap (λ p. Some (row label p None)) patterns ∙ ap (λ p. Some (row label (option_map (pattern_for masters) (what_of masters both_kind token second)) p)) aheads
+    where
+      row : List ℕ → Option Pattern → Option Pattern → Row
+      row l p a = record { label = l; pattern = p; ahead = a }
+
 -- a full new register, by its pattern
 pub coming_is : (m : Masters) (held : Registers) (bench : Bench) (p : Pattern) → Loaded m held bench → pattern_coming (keys_of m) ≡ Some p → (keys_of m).coming ≡ Some (record { key = bench.coming; pattern = p.bytes })
 coming_is m held bench p loaded is = by_coming m.coming loaded.placed.coming is
@@ -137,3 +156,10 @@ module _ (m : Masters) (held : Registers) (bench : Bench) (token : List ℕ) (se
       ∙ ap (λ (c : ClearKey). seal bench.coming c.vector c.key) (ap (λ (k : Denoted). k.clear) (sym key))
       ∙ ap (λ (k : MasterKey). seal k.key pair.key.clear.vector pair.key.clear.key) (sym keys)
       ∙ ap (λ (s : Second). s.sealed) (sym pair.sealed)
+
+-- where they are no pair
+pub no_pair : {P : Type 0} → (P → ⊥) → IsTrue false ↔ P
+no_pair none = (λ (is : false ≡ true). absurd (cc is), λ p. absurd (none p))
+
+pub pair_coming : (masters : MasterKeys) (token : List ℕ) (second : Second) → IsPair masters token second → pattern_coming masters ≡ Some second.pattern
+pair_coming masters token second pair = ap (option_map (λ (k : MasterKey). pattern k.pattern)) pair.is_coming ∙ ap (λ (s : Second). Some s.pattern) (sym pair.sealed)

@@ -8,13 +8,15 @@ use Rattle.device_cells.proofs.Media.{told_map}
 use Rattle.device_cells.specs.Faults.{HasCause}
 use Rattle.key_tokens.specs.Denotes.{MasterKeys, Denoted}
 use Rattle.master_registers.specs.declared.patterns.Pattern.{Pattern}
-use Rattle.key_records.specs.Changes.{HasReadCause, HasRecordCause, ReadsToken}
+use Rattle.key_records.specs.Changes.{ChangesKeyAndBody, HasReadCause, HasRecordCause, ReadsToken}
 use Rattle.record_bodies.specs.Entries.{Entry, entry_label, row_directory, row_label, remembered, pattern_for, pattern_ahead}
 use Rattle.record_bodies.specs.Labels.{IsLabel}
 use Rattle.record_bodies.specs.Directory.{label_at}
 use Rattle.record_bodies.specs.Opening.{IsRefused, Opens}
 use Rattle.record_bodies.proofs.OpeningLaws.{label_remembered}
 use Rattle.key_cells.specs.Bench.{Bench}
+use Rattle.key_cells.specs.Lease.{bench_of, holding}
+use Rattle.key_cells.specs.declared.leases.Lease.{Lease}
 use Rattle.master_registers.specs.Loaded.{Loaded}
 use Rattle.master_registers.specs.Masters.{Masters}
 use Rattle.master_registers.specs.declared.registers.Registers.{Registers}
@@ -99,6 +101,22 @@ opened_cause before now (Err e) cause read result other = let wrong : true ≡ f
 pub unopened_cause : {T E : Type 0} (before now : ℕ) (r : Result T E) → HasCause before now r → is_err r ≡ true → HasRecordCause before now (Err DiskFault)
 unopened_cause before now (Ok x) cause unread = let wrong : false ≡ true = unread in absurd (cc)
 unopened_cause before now (Err e) cause unread = record { later = cause.later; failed = λ _. cause.failed; quiet = λ other. absurd (other refl) }
+
+pub no_err : {E T P : Type 0} {x : T} {e : E} → ◌≡◌ {A = Result T E} (Ok x) (Err e) → P
+no_err is = absurd (cc is)
+
+-- no fault was counted before
+pub cause_from : (old before now : ℕ) (result : Result (Unit {0}) RecordFault) → before ≡ old → HasRecordCause before now result → HasRecordCause old now result
+cause_from old before now result same cause = subst (λ (n : ℕ). HasRecordCause n now result) same cause
+
+-- nor now
+pub cause_none : (before now : ℕ) → now ≡ before → HasRecordCause before now (Ok _)
+cause_none before now same = record { later = omega (arith, same); failed = λ is. no_err is; quiet = λ _. same }
+
+-- of the lease no more has changed in both steps
+pub changed_then : (old between new : Lease) → ChangesKeyAndBody old between → ChangesKeyAndBody between new → ChangesKeyAndBody old new
+changed_then old between new first then =
+    then ∙ ap (λ l. holding l (record (bench_of l) { key = (bench_of new).key; schedules = (bench_of new).schedules; body = (bench_of new).body })) first
 
 pub loaded_with : (m : Masters) (held : Registers) (bench : Bench) (bytes : List ℕ) → Loaded m held bench → Loaded m held (record bench { body = bytes })
 loaded_with m held bench bytes loaded = record {

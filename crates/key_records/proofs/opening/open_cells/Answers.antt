@@ -1,5 +1,4 @@
-use Rattle.std.proofs.Common.{◌≡◌, ◌+◌, ℕ, Err, ⊎_elim, refl, sym, ap, subst, ◌∙◌, arith}
-use Rattle.key_cells.specs.Lease.{bench_of, holding}
+use Rattle.std.proofs.Common.{◌≡◌, ◌+◌, ℕ, Err, inl, inr, ⊎_elim, refl, sym, ap, subst, ◌∙◌, arith}
 use Rattle.device_cells.specs.Cells.{body}
 use Rattle.device_cells.specs.Medium.{Told}
 use Rattle.device_cells.proofs.WhereToldLemmas.{rose_wider}
@@ -10,6 +9,7 @@ use Rattle.record_bodies.specs.Opening.{OpenedTo, IsRefused, Opens}
 use Rattle.record_bodies.specs.StoreStands.{KeepsLabels, labels_in, IsFirstDamaged}
 use Rattle.record_bodies.proofs.OpeningLaws.{opened_none, opened_more, opened_all, refused_damaged, stands_undamaged, first_one}
 use Rattle.key_records.proofs.StoreLaws.{told_all}
+use Rattle.key_records.proofs.ReadLaws.{cause_from, cause_none, changed_then, no_err}
 use Rattle.key_records.proofs.opening.open_cells.Goals as goal
 
 pub loop-cell-init : goal.loop-cell-init
@@ -30,6 +30,32 @@ returns-in-Err-clause-damaged g c n is =
     (λ image. IsFirstDamaged (keys_of g.m) image cell) c.loop-cell.invariant.keeps c.loop-cell.invariant.opened refused.1
     (λ image opened refuses. refused_damaged (keys_of g.m) image cell c.loop-cell.records opened c.loop-cell.invariant.rows c.loop-cell-test.true refuses))
 
+pub returns-in-Err-clause-faults : goal.returns-in-Err-clause-faults
+returns-in-Err-clause-faults g c =
+    ⊎_elim
+    (λ (failed : c.in-Err.fault ≡ DiskFault). inl failed)
+    (λ (damaged : c.in-Err.fault ≡ Damaged c.loop-cell.cell). inr (c.loop-cell.cell, c.loop-cell-test.true, damaged))
+    c.in-Err.ensures.faults
+
+pub returns-in-Err-clause-keeps : goal.returns-in-Err-clause-keeps
+returns-in-Err-clause-keeps g c = keeps_then (g.D.Disk.medium c.args.store.now) (g.D.Disk.medium c.loop-cell.store) (g.D.Disk.medium c.open_cell.new.store) c.loop-cell.invariant.keeps c.open_cell.ensures.keeps
+
+pub returns-in-Err-clause-cause : goal.returns-in-Err-clause-cause
+returns-in-Err-clause-cause g c =
+    cause_from (g.D.Disk.faults c.args.store.now) (g.D.Disk.faults c.loop-cell.store) (g.D.Disk.faults c.open_cell.new.store) (Err c.in-Err.fault) c.loop-cell.invariant.quiet c.in-Err.ensures.cause
+
+pub returns-in-Err-clause-rest : goal.returns-in-Err-clause-rest
+returns-in-Err-clause-rest g c = changed_then c.args.lease.now c.loop-cell.lease c.open_cell.new.lease c.loop-cell.invariant.rest c.open_cell.ensures.rest
+
+pub returns-clause-keeps : goal.returns-clause-keeps
+returns-clause-keeps g c = c.loop-cell.invariant.keeps
+
+pub returns-clause-cause : goal.returns-clause-cause
+returns-clause-cause g c = cause_none (g.D.Disk.faults c.args.store.now) (g.D.Disk.faults c.loop-cell.store) c.loop-cell.invariant.quiet
+
+pub returns-clause-rest : goal.returns-clause-rest
+returns-clause-rest g c = c.loop-cell.invariant.rest
+
 pub loop-cell-preserved : goal.loop-cell-preserved
 loop-cell-preserved g c =
     let cell : ℕ = c.loop-cell.cell in
@@ -39,8 +65,8 @@ loop-cell-preserved g c =
           (λ image opened opens. opened_more (keys_of g.m) image cell c.loop-cell.records opened c.open_cell.new.records (omega (arith, c.loop-cell.invariant.rows.size, c.loop-cell-test.true)) opens);
       rows = c.open_cell.ensures.rows;
       keeps = keeps_then (g.D.Disk.medium c.args.store.now) (g.D.Disk.medium c.loop-cell.store) (g.D.Disk.medium c.open_cell.new.store) c.loop-cell.invariant.keeps c.open_cell.ensures.keeps;
-      quiet = c.in-Ok.ensures.cause.quiet (λ is. cc is) ∙ c.loop-cell.invariant.quiet;
-      rest = c.open_cell.ensures.rest ∙ ap (λ l. holding l (record (bench_of l) { key = (bench_of c.open_cell.new.lease).key; schedules = (bench_of c.open_cell.new.lease).schedules; body = (bench_of c.open_cell.new.lease).body })) c.loop-cell.invariant.rest;
+      quiet = c.in-Ok.ensures.cause.quiet (λ is. no_err is) ∙ c.loop-cell.invariant.quiet;
+      rest = changed_then c.args.lease.now c.loop-cell.lease c.open_cell.new.lease c.loop-cell.invariant.rest c.open_cell.ensures.rest;
     }
 
 pub returns-clause-stands : goal.returns-clause-stands

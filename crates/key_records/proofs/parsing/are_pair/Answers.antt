@@ -1,4 +1,5 @@
 use Rattle.std.proofs.Common.{◌≡◌, ◌∙◌, true, false, List, ℕ, Some, refl, sym, ap}
+use Rattle.cca_roles.proofs.DirectoryLaws.{none_some}
 use Rattle.key_cells.specs.Lease.{bench_of}
 use Rattle.key_cells.specs.declared.leases.Lease.{Lease}
 use Rattle.key_tokens.specs.Fields.{token_of}
@@ -6,22 +7,35 @@ use Rattle.key_tokens.specs.declared.key_token.Age.TheVariants.{Current}
 use Rattle.key_tokens.specs.declared.key_token.Token.{Token}
 use Rattle.multi_encipher.specs.Bundles.{key_in}
 use Rattle.multi_encipher.specs.Seals.{seal}
-use Rattle.verb_rules.specs.Keys.{opened}
+use Rattle.verb_rules.specs.Keys.{keys_of, opened}
 use Rattle.verb_rules.proofs.DenotedLemmas.{judged_with}
 use Rattle.record_bodies.proofs.KeptLaws.{pattern}
-use Rattle.key_records.proofs.PairLaws.{under_current, pair_of, of_pair, key_again}
+use Rattle.key_records.proofs.PairLaws.{under_current, pair_of, of_pair, key_again, no_pair, pair_coming}
 use Rattle.key_records.proofs.parsing.are_pair.Goals as goal
 
 no_test : {P : Type 0} → false ≡ true → P
 no_test is = absurd (cc is)
 
+pub returns-in-Err-clause-pair : goal.returns-in-Err-clause-pair
+returns-in-Err-clause-pair g c = no_pair (λ pair. none_some _ (sym c.requires.1.1.sound ∙ c.in-Err.ensures.refused))
+
+pub returns-in-Err-clause-rest : goal.returns-in-Err-clause-rest
+returns-in-Err-clause-rest g c = refl
+
 pub returns-then-not-has_pattern-clause-pair : goal.returns-then-not-has_pattern-clause-pair
-returns-then-not-has_pattern-clause-pair g c = (
-  λ no. no_test no,
-  λ pair.
-      let has = under_current g.m c.args.held.now (bench_of c.args.lease.now) c.args.token.now c.requires.0 c.requires.1.1 pair.key pair.is_kept pair.current in
-      c.if-not-has_pattern.ensures.held.1 (has ∙ ap (λ (t : Token). Some (pattern t.pattern)) (sym c.in-Ok.ensures.token)),
-)
+returns-then-not-has_pattern-clause-pair g c = no_pair (λ pair.
+    let has = under_current g.m c.args.held.now (bench_of c.args.lease.now) c.args.token.now c.requires.0 c.requires.1.1 pair.key pair.is_kept pair.current in
+    no_test (c.if-not-has_pattern.ensures.held.1 (has ∙ ap (λ (t : Token). Some (pattern t.pattern)) (sym c.in-Ok.ensures.token))))
+
+pub returns-then-not-has_pattern-clause-rest : goal.returns-then-not-has_pattern-clause-rest
+returns-then-not-has_pattern-clause-rest g c = refl
+
+pub returns-then-not-has_pattern-2-clause-pair : goal.returns-then-not-has_pattern-2-clause-pair
+returns-then-not-has_pattern-2-clause-pair g c =
+    no_pair (λ pair. no_test (c.if-not-has_pattern-2.ensures.held.1 (c.requires.1.0 ∙ pair_coming (keys_of g.m) c.args.token.now c.args.second.now pair)))
+
+pub returns-then-not-has_pattern-2-clause-rest : goal.returns-then-not-has_pattern-2-clause-rest
+returns-then-not-has_pattern-2-clause-rest g c = refl
 
 pub returns-clause-pair : goal.returns-clause-pair
 returns-clause-pair g c =
