@@ -4,6 +4,9 @@ use Rattle.std.proofs.lemmas.List.{append-nil, take_at}
 use Rattle.key_cells.specs.Bytes.{AreBytes}
 use Rattle.cca_vectors.specs.Vectors.{length_of}
 use Rattle.key_cells.specs.Bench.{Bench}
+use Rattle.key_cells.specs.Lease.{bench_of, holding}
+use Rattle.key_cells.specs.declared.leases.Lease.{Lease}
+use Rattle.key_cells.specs.declared.schedules.Schedule.{Schedule}
 use Rattle.key_tokens.specs.declared.key_token.Kind.TheVariants.{Internal, External}
 use Rattle.key_tokens.specs.Denotes.{ClearKey, MasterKeys, HaveDistinctPatterns, denoted_under}
 use Rattle.key_tokens.specs.Layout.{IsToken, made}
@@ -15,6 +18,7 @@ use Rattle.master_registers.specs.declared.registers.Registers.{Registers}
 use Rattle.multi_encipher.specs.Bundles.{key_in, transport_bundle, with_zeros}
 use Rattle.multi_encipher.specs.Seals.{IsKey, seal}
 use Rattle.verb_rules.specs.Keys.{master_key, sealed_token}
+use Rattle.key_transport.specs.Changes.{ChangesKeys}
 use Rattle.key_transport.specs.Tokens.{full_bytes, new_token}
 
 -- ---- keys in 16 bytes
@@ -37,6 +41,20 @@ still_loaded m held old new coming current former loaded = record {
   placed = record { coming = coming ∙ loaded.placed.coming; current = current ∙ loaded.placed.current; former = former ∙ loaded.placed.former };
   told = loaded.told;
 }
+
+-- ---- what changes of a lease
+
+abbrev changed : Lease → List ℕ → List ℕ → List Schedule → Lease
+changed old first key schedules = holding old (record (bench_of old) { first = first; key = key; schedules = schedules })
+
+-- the place of the key alone has changed
+pub key_changes : (old new : Lease) → new ≡ holding old (record (bench_of old) { key = (bench_of new).key }) → ChangesKeys old new
+key_changes old new is = is ∙ ap (λ l. changed old (bench_of l).first (bench_of new).key (bench_of l).schedules) (sym is)
+
+-- and then the others
+pub key_changes_then : (old between new : Lease) → between ≡ holding old (record (bench_of old) { key = (bench_of between).key })
+    → ChangesKeys between new → ChangesKeys old new
+key_changes_then old between new is then = then ∙ ap (λ l. changed l (bench_of new).first (bench_of new).key (bench_of new).schedules) is
 
 -- ---- external tokens
 

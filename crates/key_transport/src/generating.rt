@@ -294,6 +294,8 @@ pub fn generate<E: Entropy>(
     ensures quiet { (result ≡ Err Failed → ⊥) → E.faults entropy.new ≡ E.faults entropy.old }
     ensures stays { ChangesKeys lease.old lease.new }
 {
-    draw_key(lease, length, entropy)?;
-    Ok(write_tokens(lease, held, form, length, first, second, one, two))
+    match draw_key(lease, length, entropy) {
+        Ok(()) => Ok(write_tokens(lease, held, form, length, first, second, one, two)),
+        Err(fault) => Err(fault),
+    }
 }
