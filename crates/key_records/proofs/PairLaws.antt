@@ -102,8 +102,10 @@ module _ (m : Masters) (held : Registers) (bench : Bench) (token : List ℕ) (lo
 
 -- the row of a label that is under its second token
 module _ (masters : MasterKeys) (token under : List ℕ) (second : Second) (found : under ≡ second_token token second) where
-  pub turned_as : (pattern : Option Pattern) → pattern ≡ option_map (pattern_for masters) (kept masters under) → is_turned masters token second ≡ is_some pattern
-  turned_as pattern is = ap (λ t. is_some (kept masters t)) (sym found) ∙ sym (some_mapped (pattern_for masters) (kept masters under)) ∙ ap (λ o. is_some o) (sym is)
+  pub turned_as : (pattern : Option Pattern) → pattern ≡ option_map (pattern_for masters) (kept masters under)
+      → is_turned masters token second ≡ is_some pattern
+  turned_as pattern is =
+      ap (λ t. is_some (kept masters t)) (sym found) ∙ sym (some_mapped (pattern_for masters) (kept masters under)) ∙ ap (λ o. is_some o) (sym is)
 
   pub turned_row : (label : List ℕ) (pattern : Pattern) → Some pattern ≡ option_map (pattern_for masters) (kept masters under)
       → ◌≡◌ {A = Option Row} (Some (record { label = label; pattern = Some pattern; ahead = None }))
@@ -111,8 +113,10 @@ module _ (masters : MasterKeys) (token under : List ℕ) (second : Second) (foun
   turned_row label pattern is =
       let turned : is_turned masters token second ≡ true = turned_as (Some pattern) is in
       let patterns : Some pattern ≡ option_map (pattern_for masters) (what_of masters both_kind token second) =
-      is ∙ ap (λ t. option_map (pattern_for masters) (kept masters t)) found ∙ ap (option_map (pattern_for masters)) (sym (what_turned masters token second true turned)) in
-      let aheads : None ≡ pattern_ahead masters (ahead_of masters both_kind token second) = ap (pattern_ahead masters) (sym (ahead_turned masters token second true turned)) in
+      is ∙ ap (λ t. option_map (pattern_for masters) (kept masters t)) found
+      ∙ ap (option_map (pattern_for masters)) (sym (what_turned masters token second true turned)) in
+      let aheads : None ≡ pattern_ahead masters (ahead_of masters both_kind token second) =
+      ap (pattern_ahead masters) (sym (ahead_turned masters token second true turned)) in
       ap (λ p. Some (row label p None)) patterns ∙ ap (λ p. Some (row label (option_map (pattern_for masters) (what_of masters both_kind token second)) p)) aheads
     where
       row : List ℕ → Option Pattern → Option Pattern → Row
@@ -162,4 +166,5 @@ pub no_pair : {P : Type 0} → (P → ⊥) → IsTrue false ↔ P
 no_pair none = (λ (is : false ≡ true). absurd (cc is), λ p. absurd (none p))
 
 pub pair_coming : (masters : MasterKeys) (token : List ℕ) (second : Second) → IsPair masters token second → pattern_coming masters ≡ Some second.pattern
-pair_coming masters token second pair = ap (option_map (λ (k : MasterKey). pattern k.pattern)) pair.is_coming ∙ ap (λ (s : Second). Some s.pattern) (sym pair.sealed)
+pair_coming masters token second pair =
+    ap (option_map (λ (k : MasterKey). pattern k.pattern)) pair.is_coming ∙ ap (λ (s : Second). Some s.pattern) (sym pair.sealed)

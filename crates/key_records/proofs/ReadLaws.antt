@@ -54,6 +54,11 @@ pub cause_read : {T E : Type 0} (before now : ℕ) (r : Result T E) → HasCause
 cause_read before now (Ok x) cause read result other = record { later = cause.later; failed = λ is. absurd (other is); quiet = λ _. cause.quiet }
 cause_read before now (Err e) cause read result other = let wrong : true ≡ false = read in absurd (cc)
 
+-- no cell was read
+pub cause_unread : {T E : Type 0} (before now : ℕ) (r : Result T E) → HasCause before now r → is_err r ≡ true → HasReadCause before now (Err DiskFault)
+cause_unread before now (Ok x) cause unread = let wrong : false ≡ true = unread in absurd (cc)
+cause_unread before now (Err e) cause unread = record { later = cause.later; failed = λ _. cause.failed; quiet = λ other. absurd (other refl) }
+
 -- ---- the token of a label
 
 module _ (masters : MasterKeys) (rows : List (Option Row)) (s : List (Option Entry)) (image : List ℕ) (place : ℕ) (row : Row) (keeps : KeepsLabels masters rows s image)
@@ -106,7 +111,8 @@ pub no_err : {E T P : Type 0} {x : T} {e : E} → ◌≡◌ {A = Result T E} (Ok
 no_err is = absurd (cc is)
 
 -- no fault was counted before
-pub cause_from : (old before now : ℕ) (result : Result (Unit {0}) RecordFault) → before ≡ old → HasRecordCause before now result → HasRecordCause old now result
+pub cause_from : (old before now : ℕ) (result : Result (Unit {0}) RecordFault) → before ≡ old → HasRecordCause before now result
+    → HasRecordCause old now result
 cause_from old before now result same cause = subst (λ (n : ℕ). HasRecordCause n now result) same cause
 
 -- nor now

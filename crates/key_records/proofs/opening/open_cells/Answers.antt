@@ -38,14 +38,18 @@ returns-in-Err-clause-faults g c =
     c.in-Err.ensures.faults
 
 pub returns-in-Err-clause-keeps : goal.returns-in-Err-clause-keeps
-returns-in-Err-clause-keeps g c = keeps_then (g.D.Disk.medium c.args.store.now) (g.D.Disk.medium c.loop-cell.store) (g.D.Disk.medium c.open_cell.new.store) c.loop-cell.invariant.keeps c.open_cell.ensures.keeps
+returns-in-Err-clause-keeps g c =
+    keeps_then (g.D.Disk.medium c.args.store.now) (g.D.Disk.medium c.loop-cell.store) (g.D.Disk.medium c.open_cell.new.store)
+    c.loop-cell.invariant.keeps c.open_cell.ensures.keeps
 
 pub returns-in-Err-clause-cause : goal.returns-in-Err-clause-cause
 returns-in-Err-clause-cause g c =
-    cause_from (g.D.Disk.faults c.args.store.now) (g.D.Disk.faults c.loop-cell.store) (g.D.Disk.faults c.open_cell.new.store) (Err c.in-Err.fault) c.loop-cell.invariant.quiet c.in-Err.ensures.cause
+    cause_from (g.D.Disk.faults c.args.store.now) (g.D.Disk.faults c.loop-cell.store) (g.D.Disk.faults c.open_cell.new.store) (Err c.in-Err.fault)
+    c.loop-cell.invariant.quiet c.in-Err.ensures.cause
 
 pub returns-in-Err-clause-rest : goal.returns-in-Err-clause-rest
-returns-in-Err-clause-rest g c = changed_then c.args.lease.now c.loop-cell.lease c.open_cell.new.lease c.loop-cell.invariant.rest c.open_cell.ensures.rest
+returns-in-Err-clause-rest g c =
+    changed_then c.args.lease.now c.loop-cell.lease c.open_cell.new.lease c.loop-cell.invariant.rest c.open_cell.ensures.rest
 
 pub returns-clause-keeps : goal.returns-clause-keeps
 returns-clause-keeps g c = c.loop-cell.invariant.keeps

@@ -13,12 +13,14 @@ pub returns-in-Some-kept_pattern-clause-some : goal.returns-in-Some-kept_pattern
 returns-in-Some-kept_pattern-clause-some g c = λ _. record {
   is_first = c.in-Some.ensures.first refl;
   is_second = c.in-Some.ensures.second refl;
-  either = inl (turned_as (keys_of g.m) c.args.token.now c.in-Some.under c.args.second.now c.in-Some.ensures.found (Some c.in-Some-kept_pattern.pattern) c.in-Some-kept_pattern.ensures);
+  either = inl (turned_as (keys_of g.m) c.args.token.now c.in-Some.under c.args.second.now c.in-Some.ensures.found
+      (Some c.in-Some-kept_pattern.pattern) c.in-Some-kept_pattern.ensures);
 }
 
 pub returns-in-Some-kept_pattern-clause-row : goal.returns-in-Some-kept_pattern-clause-row
 returns-in-Some-kept_pattern-clause-row g c =
-    turned_row (keys_of g.m) c.args.token.now c.in-Some.under c.args.second.now c.in-Some.ensures.found c.args.label.now c.in-Some-kept_pattern.pattern c.in-Some-kept_pattern.ensures
+    turned_row (keys_of g.m) c.args.token.now c.in-Some.under c.args.second.now c.in-Some.ensures.found c.args.label.now
+    c.in-Some-kept_pattern.pattern c.in-Some-kept_pattern.ensures
 
 pub returns-then-are_pair-clause-some : goal.returns-then-are_pair-clause-some
 returns-then-are_pair-clause-some g c = λ _. record {
@@ -29,7 +31,8 @@ returns-then-are_pair-clause-some g c = λ _. record {
 
 pub returns-then-are_pair-clause-row : goal.returns-then-are_pair-clause-row
 returns-then-are_pair-clause-row g c =
-    pair_row g.m c.args.held.now (bench_of c.args.lease.now) c.args.token.now c.requires.0 (c.in-Some.ensures.first refl) c.args.label.now c.args.second.now (c.if-are_pair.ensures.pair.0 refl)
+    pair_row g.m c.args.held.now (bench_of c.args.lease.now) c.args.token.now c.requires.0 (c.in-Some.ensures.first refl) c.args.label.now
+    c.args.second.now (c.if-are_pair.ensures.pair.0 refl)
     (turned_as (keys_of g.m) c.args.token.now c.in-Some.under c.args.second.now c.in-Some.ensures.found None c.in-None-kept_pattern.ensures)
 
 pub returns-then-are_pair-clause-rest : goal.returns-then-are_pair-clause-rest
