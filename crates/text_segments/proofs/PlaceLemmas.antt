@@ -1,15 +1,25 @@
 -- What the lengths of segments say, and the place of the text.
-use Rattle.std.proofs.Common.{◌≡◌, ◌∙◌, ◌==◌, ℕ, ◌+◌, ◌-◌, ◌%◌, ◌≤◌, Bool, true, false, ◌&&◌, nat_le, List, [], ◌++◌, drop, replicate, refl, sym, ap, arith, None}
-use Rattle.std.proofs.lemmas.Bool.{eqb-true, leb-true}
-use Rattle.std.proofs.lemmas.List.{drop-drop}
+use Rattle.std.proofs.Common.{◌≡◌, ◌∙◌, ◌==◌, ℕ, ◌+◌, ◌-◌, ◌*◌, ◌/◌, ◌%◌, ◌≤◌, Bool, true, false, ◌&&◌, nat_le, List, [], ◌∷◌, ◌++◌, length, take, drop, replicate, refl, sym, ap, arith, None, Some}
+use Rattle.std.specs.Int.{div_ceil}
+use Rattle.std.proofs.lemmas.Bool.{eq-eqb, eqb-true, le-leb, leb-true}
+use Rattle.std.proofs.lemmas.List.{append-nil, drop-drop, drop_all, drop_at, length-append, length-drop, length-replicate, length-take-le, nil_from_length, take_all, take_at, take-take}
+use borrow.Rule.Slice.PartMut.{post_of}
+use Rattle.std.specs.List.{copy_within}
+use Rattle.des_blocks.specs.Modes.{fill}
 use Rattle.cca_vectors.specs.Checks.{first_failing}
 use Rattle.cca_vectors.proofs.Judging.{passes, passes_first}
-use Rattle.key_cells.specs.Bench.{Text}
-use Rattle.cipher_verbs.specs.CipherTexts.{cleared}
-use Rattle.text_segments.specs.Segments.{spent}
-use Rattle.verb_rules.specs.LengthChecks.{are_blocks, has_length, is_segment, text_checks}
+use Rattle.key_cells.specs.Bench.{Text, text_of}
+use Rattle.key_tokens.specs.Denotes.{ClearKey}
+use Rattle.cipher_verbs.specs.CipherTexts.{cleared, enciphered_text, enciphering}
+use Rattle.cipher_verbs.specs.declared.padding.Pad.{Pad}
+use Rattle.cipher_verbs.specs.declared.padding.Pad.TheVariants as padding
+use Rattle.text_segments.specs.Segments.{IsCipher, last_text, last_use, rest_part, spent}
+use Rattle.text_segments.specs.declared.chains.Chain.{Chain}
+use Rattle.text_segments.specs.declared.modes.Mode.{Mode}
+use Rattle.text_segments.specs.declared.modes.Mode.TheVariants as mode
+use Rattle.verb_rules.specs.LengthChecks.{are_blocks, has_length, is_segment, is_whole, text_checks}
 use Rattle.verb_rules.specs.declared.lengths.TextUse.{TextUse}
-use Rattle.verb_rules.specs.declared.lengths.TextUse.TheVariants.{LastDecipher, LastMac}
+use Rattle.verb_rules.specs.declared.lengths.TextUse.TheVariants.{Decipher, LastDecipher, LastMac, LastPadded}
 
 first_holds : (p q : Bool) → (p && q) ≡ true → p ≡ true
 first_holds true q is = refl
@@ -63,3 +73,95 @@ pub past_further : (m n : ℕ) (xs ys : List ℕ) → m ≤ n → drop m xs ≡ 
 past_further m n xs ys further same =
     let at : m + (n - m) ≡ n = omega (arith, further) in
     ap (λ k. drop k xs) (sym at) ∙ sym (drop-drop (n - m) m xs) ∙ ap (drop (n - m)) same ∙ drop-drop (n - m) m ys ∙ ap (λ k. drop k ys) at
+
+-- what is left after the whole blocks
+pub rest_is : (one two hand : List ℕ) → one ≡ hand → two ≡ hand → take (length two - length one / 8 * 8) (drop (length one / 8 * 8) two) ≡ rest_part hand
+rest_is one two hand first second =
+    let at = length hand / 8 * 8 in
+    ap (λ xs. take (length two - length xs / 8 * 8) (drop (length xs / 8 * 8) two)) first
+    ∙ ap (λ xs. take (length xs - at) (drop at xs)) second
+    ∙ take_all (length hand - at) (drop at hand) (omega (arith, length-drop at hand))
+
+-- ---- the last segment has a length of the whole text's use
+
+whole_passes : (full : ℕ) → full % 8 ≡ 0 → 8 ≤ full → full ≤ 4096 → is_whole full ≡ true
+whole_passes full whole some room =
+    ap (λ p. (p && nat_le 8 full) && nat_le full 4096) (eq-eqb (full % 8) 0 whole)
+    ∙ ap (λ p. p && nat_le full 4096) (le-leb 8 full some)
+    ∙ le-leb full 4096 room
+
+pub decipher_passes : (carried size full : ℕ) → full ≡ carried + size → carried ≤ 7 → first_failing (text_checks (LastDecipher carried) size) ≡ None
+    → first_failing (text_checks Decipher full) ≡ None
+decipher_passes carried size full is few held =
+    let lengths = decipher_lengths carried size held in
+    passes 23 (is_whole full) [] (whole_passes full (ap (λ n. n % 8) is ∙ lengths.whole) (omega (arith, is, lengths.some)) (omega (arith, is, few, lengths.short))) refl
+
+pub encipher_passes : (padding : Pad) (carried size full : ℕ) → full ≡ carried + size → carried ≤ 7 → first_failing (text_checks (last_use mode.Encipher padding carried) size) ≡ None
+    → first_failing (text_checks (enciphering padding) full) ≡ None
+encipher_passes padding.None carried size full is few held = decipher_passes carried size full is few held
+encipher_passes padding.X923 carried size full is few held =
+    let short : size ≤ 4088 = leb-true size 4088 (has_its_length LastPadded size held) in
+    passes 23 (nat_le full 4095) [] (le-leb full 4095 (omega (arith, is, few, short))) refl
+
+pub is_encipher : (given : Mode) → IsCipher given → (given ≡ mode.Decipher → ⊥) → given ≡ mode.Encipher
+is_encipher mode.Encipher is other = refl
+is_encipher mode.Decipher is other = absurd (other refl)
+is_encipher (mode.Mac rule) is other = absurd is
+
+pub last_enciphered : (given : Mode) → IsCipher given → (given ≡ mode.Decipher → ⊥) → (clear : ClearKey) (chain : Chain) (padding : Pad) (text : List ℕ)
+    → last_text clear given chain padding text ≡ Some (enciphered_text clear chain.block padding (chain.carried ++ text))
+last_enciphered given is other clear chain padding text = ap (λ m. last_text clear m chain padding text) (is_encipher given is other)
+
+-- ---- what is written in the place of the text
+
+-- the bytes of a text move up by those that are put before it
+pub moved_up : (text bytes moved first : List ℕ) → length bytes ≤ length text → moved ≡ copy_within text 0 (length text - length bytes) (length bytes) → first ≡ bytes
+    → first ++ drop (length bytes) moved ≡ bytes ++ take (length text - length bytes) text
+moved_up text bytes moved first few is same =
+    let n = length bytes in
+    let kept = length text - n in
+    let all : kept - 0 ≡ kept = omega arith in
+    let end : drop (n + kept) text ≡ [] = drop_all (n + kept) text (omega (arith, few)) in
+    ap (λ xs. xs ++ drop n moved) same
+    ∙ ap (λ xs. bytes ++ drop n xs)
+    (is ∙ ap (λ k. (take n text ++ take k text) ++ drop (n + k) text) all ∙ ap (λ xs. (take n text ++ take kept text) ++ xs) end ∙ append-nil (take n text ++ take kept text))
+    ∙ ap (λ xs. bytes ++ xs) (drop_at (take n text) (take kept text) n (length-take-le n text few))
+
+pub none_before : (text bytes : List ℕ) → length bytes ≡ 0 → text ≡ bytes ++ take (length text - length bytes) text
+none_before text [] none = sym (take_all (length text - 0) text (omega arith))
+none_before text (b ∷ bytes) none = absurd (omega arith)
+
+-- a place whose text was made longer, and its end made zeros
+pub record Filled (place longer : Text) (new : List ℕ) : Type 0 where
+  pub text : take longer.size (new ++ drop longer.size longer.bytes) ≡ fill (text_of place)
+  pub size : longer.size ≡ (place.size + 7) / 8 * 8
+  pub past : drop longer.size (new ++ drop longer.size longer.bytes) ≡ drop longer.size place.bytes
+
+pub filled : (place longer : Text) (text lent zeros : List ℕ) (count : ℕ) → text ≡ text_of place → length text ≡ place.size → count ≡ div_ceil (length text) 8
+    → longer ≡ record place { size = count * 8 } → lent ≡ text_of longer → length lent ≡ longer.size
+    → zeros ≡ replicate (length (take (length lent - length text) (drop (length text) lent))) 0
+    → Filled place longer (take (length text) lent ++ (zeros ++ post_of (length text) (length lent - length text) lent))
+filled place longer text lent zeros count read text_long up is given lent_long zero =
+    let n = length text in
+    let full = longer.size in
+    let size_is : full ≡ count * 8 = ap (λ t. t.size) is in
+    let more : n ≤ full = omega (arith, up, size_is) in
+    let after = drop n lent in
+    let after_long : length after ≡ full - n = omega (arith, length-drop n lent, lent_long) in
+    let rest = post_of n (length lent - n) lent in
+    let none : rest ≡ [] = nil_from_length rest (omega (arith, length-drop (length lent - n) after, after_long, lent_long)) in
+    let front : take n lent ≡ text
+    = ap (take n) (given ∙ ap (λ t. take full t.bytes) is) ∙ take-take n full place.bytes more ∙ ap (λ k. take k place.bytes) text_long ∙ sym read in
+    let added : length (take (length lent - n) after) ≡ (8 - n % 8) % 8 = omega (arith, ap (λ xs. length xs) (take_all (length lent - n) after (omega (arith, after_long, lent_long))), after_long, up, size_is) in
+    let new = take n lent ++ (zeros ++ rest) in
+    let made : new ≡ fill text
+    = ap (λ xs. xs ++ (zeros ++ rest)) front
+    ∙ ap (λ xs. text ++ (zeros ++ xs)) none
+    ∙ ap (λ xs. text ++ xs) (append-nil zeros ∙ zero ∙ ap (λ k. replicate k 0) added) in
+    let long : length new ≡ full
+    = ap (λ xs. length xs) made ∙ omega (arith, length-append text (replicate ((8 - n % 8) % 8) 0), length-replicate {A = ℕ} ((8 - n % 8) % 8) 0, up, size_is) in
+    record {
+      text = take_at new (drop full longer.bytes) full long ∙ made ∙ ap fill read;
+      size = omega (arith, size_is, up, text_long);
+      past = drop_at new (drop full longer.bytes) full long ∙ ap (λ t. drop full t.bytes) is;
+    }
