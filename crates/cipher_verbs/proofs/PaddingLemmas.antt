@@ -48,7 +48,8 @@ pub record Padded (place longer : Text) (new : List ℕ) : Type 0 where
   pub whole : longer.size % 8 ≡ 0
   pub room : place.size < 4096 → longer.size ≤ 4096
 
-pub padded_place : (place longer : Text) (text lent new : List ℕ) → text ≡ text_of place → length text ≡ place.size → longer ≡ record place { size = length text + 8 - length text % 8 }
+pub padded_place : (place longer : Text) (text lent new : List ℕ) → text ≡ text_of place → length text ≡ place.size
+    → longer ≡ record place { size = length text + 8 - length text % 8 }
     → lent ≡ text_of longer → length lent ≡ longer.size
     → new ≡ take (length text) lent ++ (replicate (length lent - length text - 1) 0 ++ (length lent - length text) ∷ []) → Padded place longer new
 unfolding pad
@@ -57,14 +58,17 @@ padded_place place longer text lent new read text_long is given lent_long put =
     let full = longer.size in
     let size_is : full ≡ n + 8 - n % 8 = ap (λ t. t.size) is in
     let front : take n lent ≡ text
-    = ap (take n) (given ∙ ap (λ t. take full t.bytes) is) ∙ take-take n full place.bytes (omega (arith, size_is)) ∙ ap (λ k. take k place.bytes) text_long ∙ sym read in
+    = ap (take n) (given ∙ ap (λ t. take full t.bytes) is) ∙ take-take n full place.bytes (omega (arith, size_is))
+    ∙ ap (λ k. take k place.bytes) text_long ∙ sym read in
     let count : length lent - n ≡ added text = omega (arith, lent_long, size_is) in
     let zeros : List ℕ = replicate (added text - 1) 0 in
     let made : new ≡ text ++ (zeros ++ added text ∷ [])
-    = put ∙ ap (λ xs. xs ++ (replicate (length lent - n - 1) 0 ++ (length lent - n) ∷ [])) front ∙ ap (λ k. text ++ (replicate (k - 1) 0 ++ k ∷ [])) count in
+    = put ∙ ap (λ xs. xs ++ (replicate (length lent - n - 1) 0 ++ (length lent - n) ∷ [])) front
+    ∙ ap (λ k. text ++ (replicate (k - 1) 0 ++ k ∷ [])) count in
     let long : length new ≡ full
     = ap (λ xs. length xs) made
-    ∙ omega (arith, length-append text (zeros ++ added text ∷ []), length-append zeros (added text ∷ []), length-replicate {A = ℕ} (added text - 1) 0, size_is) in
+    ∙ omega (arith, length-append text (zeros ++ added text ∷ []), length-append zeros (added text ∷ []), length-replicate {A = ℕ} (added text - 1) 0,
+    size_is) in
     record {
       text = take_at new (drop full longer.bytes) full long ∙ made ∙ sym (append_assoc text zeros (added text ∷ [])) ∙ ap pad read;
       whole = omega (arith, size_is);
@@ -87,9 +91,11 @@ unfolding unpad
 many_counted text one two first second many =
     let n = slice_index two (length one - 1) in
     ap (λ k. if nat_lt 0 k && nat_le k 8 then Some (take (length text - k) text) else None) (sym (count_is text one two first second))
-    ∙ ap (λ p. if p then Some (take (length text - n) text) else None) (ap (λ p. p && nat_le n 8) (lt-ltb 0 n (omega (arith, many))) ∙ lt-leb n 8 many)
+    ∙ ap (λ p. if p then Some (take (length text - n) text) else None)
+    (ap (λ p. p && nat_le n 8) (lt-ltb 0 n (omega (arith, many))) ∙ lt-leb n 8 many)
 
-pub counted : (place kept : Text) (one two : List ℕ) → one ≡ text_of place → two ≡ text_of place → length one ≡ place.size → kept ≡ record place { size = length one - slice_index two (length one - 1) }
+pub counted : (place kept : Text) (one two : List ℕ) → one ≡ text_of place → two ≡ text_of place → length one ≡ place.size
+    → kept ≡ record place { size = length one - slice_index two (length one - 1) }
     → 0 < slice_index two (length one - 1) → slice_index two (length one - 1) ≤ 8 → unpad (text_of place) ≡ Some (text_of kept)
 unfolding unpad
 counted place kept one two first second size is some few =
@@ -102,7 +108,8 @@ counted place kept one two first second size is some few =
     ∙ ap {B = Option (List ℕ)} (λ xs. Some xs) (take-take left place.size place.bytes (omega (arith, size)) ∙ sym (ap text_of is))
 
 -- whether the padding was taken off is what rule 31 says
-pub judged : {A : Type 0} (given : Option (List ℕ)) (left : List ℕ) (result : Result A Rule) → OnOk result (given ≡ Some left) → OnErr result (given ≡ None)
+pub judged : {A : Type 0} (given : Option (List ℕ)) (left : List ℕ) (result : Result A Rule) → OnOk result (given ≡ Some left)
+    → OnErr result (given ≡ None)
     → IfErr result (λ rule. rule ≡ Rule.PadCount) → Judges (check 31 (is_none given) ∷ []) result
 judged given left (Ok x) taken refused rule = ap (λ o. first_failing (check 31 (is_none o) ∷ [])) taken
 judged given left (Err r) taken refused rule = ap (λ o. first_failing (check 31 (is_none o) ∷ [])) refused ∙ ap (λ r. Some (rule_number r)) (sym rule)
@@ -135,11 +142,13 @@ whole_length size held =
 
 -- ---- the lease
 
-pub text_stays : (old new : Lease) (text : Text) → new ≡ holding old (record (bench_of old) { text = text }) → new ≡ holding old (record (bench_of old) { text = (bench_of new).text })
+pub text_stays : (old new : Lease) (text : Text) → new ≡ holding old (record (bench_of old) { text = text })
+    → new ≡ holding old (record (bench_of old) { text = (bench_of new).text })
 text_stays old new text is = is ∙ ap (λ t. holding old (record (bench_of old) { text = t })) (sym (ap (λ l. (bench_of l).text) is))
 
 -- a change of the text after one of the key, the schedules and the text
-pub changed_text : (old mid new : Lease) → ChangesText old mid → new ≡ holding mid (record (bench_of mid) { text = (bench_of new).text }) → ChangesText old new
+pub changed_text : (old mid new : Lease) → ChangesText old mid → new ≡ holding mid (record (bench_of mid) { text = (bench_of new).text })
+    → ChangesText old new
 changed_text old mid new first second =
     let text = (bench_of new).text in
     second

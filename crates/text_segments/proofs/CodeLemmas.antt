@@ -25,7 +25,8 @@ code_under X99 clear held schedules text result long is hold made = made clear.k
 code_under X919 clear held schedules text result long is hold made = made (take 8 clear.key) (left_schedule held schedules clear.key is hold)
 
 -- another text in its place leaves the clear key
-pub same_key : (old new : Lease) (text : Text) (key : Judged) → new ≡ holding old (record (bench_of old) { text = text }) → opened (bench_of new) key ≡ opened (bench_of old) key
+pub same_key : (old new : Lease) (text : Text) (key : Judged) → new ≡ holding old (record (bench_of old) { text = text })
+    → opened (bench_of new) key ≡ opened (bench_of old) key
 same_key old new text key is = ap (λ l. opened (bench_of l) key) is
 
 abbrev made : List ℕ → List ℕ → Chain

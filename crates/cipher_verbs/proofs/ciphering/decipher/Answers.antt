@@ -25,9 +25,12 @@ remove_padding-requires-clause-room c =
     omega (arith, (whole_length (bench_of c.args.lease.now).text.size c.requires.length).room, ap (λ t. t.size) c.decipher_blocks.ensures.place.0)
 
 -- what is deciphered, without padding
-plain : (c : goal.In-None) → deciphered_text (opened (bench_of c.args.lease.now) c.args.key.now) c.args.start.now c.args.padding (text_in c.args.lease.now) ≡ Some (text_in c.decipher_blocks.new.lease)
+plain : (c : goal.In-None)
+    → deciphered_text (opened (bench_of c.args.lease.now) c.args.key.now) c.args.start.now c.args.padding (text_in c.args.lease.now)
+    ≡ Some (text_in c.decipher_blocks.new.lease)
 plain c =
-    ap (λ p. unpadded p (uncbc_text (une (opened (bench_of c.args.lease.now) c.args.key.now).key) c.args.start.now (text_in c.args.lease.now))) c.in-None.is
+    ap (λ p. unpadded p (uncbc_text (une (opened (bench_of c.args.lease.now) c.args.key.now).key) c.args.start.now (text_in c.args.lease.now)))
+    c.in-None.is
     ∙ sym (ap Some c.decipher_blocks.ensures.text)
 
 pub returns-in-None-clause-judges : goal.returns-in-None-clause-judges
@@ -44,10 +47,13 @@ pub returns-in-None-clause-stays : goal.returns-in-None-clause-stays
 returns-in-None-clause-stays c = c.decipher_blocks.ensures.stays
 
 -- what is deciphered, with padding
-padded : (c : goal.After-remove_padding) → unpad (text_in c.decipher_blocks.new.lease) ≡ deciphered_text (opened (bench_of c.args.lease.now) c.args.key.now) c.args.start.now c.args.padding (text_in c.args.lease.now)
+padded : (c : goal.After-remove_padding)
+    → unpad (text_in c.decipher_blocks.new.lease)
+    ≡ deciphered_text (opened (bench_of c.args.lease.now) c.args.key.now) c.args.start.now c.args.padding (text_in c.args.lease.now)
 padded c =
     ap unpad c.decipher_blocks.ensures.text
-    ∙ sym (ap (λ p. unpadded p (uncbc_text (une (opened (bench_of c.args.lease.now) c.args.key.now).key) c.args.start.now (text_in c.args.lease.now))) c.in-X923.is)
+    ∙ sym (ap (λ p. unpadded p (uncbc_text (une (opened (bench_of c.args.lease.now) c.args.key.now).key) c.args.start.now (text_in c.args.lease.now)))
+    c.in-X923.is)
 
 pub returns-in-X923-clause-judges : goal.returns-in-X923-clause-judges
 returns-in-X923-clause-judges c =
@@ -56,7 +62,8 @@ returns-in-X923-clause-judges c =
     c.remove_padding.ensures.text c.remove_padding.ensures.refused c.remove_padding.ensures.rule)
 
 pub returns-in-X923-clause-text : goal.returns-in-X923-clause-text
-returns-in-X923-clause-text c = subst (λ o. OnOk c.remove_padding.result (o ≡ Some (text_in c.remove_padding.new.lease))) (padded c) c.remove_padding.ensures.text
+returns-in-X923-clause-text c =
+    subst (λ o. OnOk c.remove_padding.result (o ≡ Some (text_in c.remove_padding.new.lease))) (padded c) c.remove_padding.ensures.text
 
 pub returns-in-X923-clause-refused : goal.returns-in-X923-clause-refused
 returns-in-X923-clause-refused c =
@@ -69,4 +76,5 @@ returns-in-X923-clause-room c = c.remove_padding.ensures.room
 
 pub returns-in-X923-clause-stays : goal.returns-in-X923-clause-stays
 returns-in-X923-clause-stays c =
-    changed_text c.args.lease.now c.decipher_blocks.new.lease c.remove_padding.new.lease c.decipher_blocks.ensures.stays c.remove_padding.ensures.stays
+    changed_text c.args.lease.now c.decipher_blocks.new.lease c.remove_padding.new.lease c.decipher_blocks.ensures.stays
+    c.remove_padding.ensures.stays

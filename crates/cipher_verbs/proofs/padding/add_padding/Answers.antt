@@ -6,8 +6,10 @@ use Rattle.cipher_verbs.proofs.padding.add_padding.Goals as goal
 
 written : (c : goal.After-lease-1) → Padded (bench_of c.args.lease.now).text (bench_of c.set_text_length.new.self).text c.put_padding.new.text
 written c =
-    padded_place (bench_of c.args.lease.now).text (bench_of c.set_text_length.new.self).text c.text-size.result.now c.text_mut.result.now c.put_padding.new.text
-    c.text-size.ensures.value c.text-size.ensures.size (ap (λ l. (bench_of l).text) c.set_text_length.ensures) c.text_mut.ensures.value c.text_mut.ensures.size c.put_padding.ensures
+    padded_place (bench_of c.args.lease.now).text (bench_of c.set_text_length.new.self).text c.text-size.result.now c.text_mut.result.now
+    c.put_padding.new.text
+    c.text-size.ensures.value c.text-size.ensures.size (ap (λ l. (bench_of l).text) c.set_text_length.ensures) c.text_mut.ensures.value
+    c.text_mut.ensures.size c.put_padding.ensures
 
 pub returns-clause-whole : goal.returns-clause-whole
 returns-clause-whole c = (written c).whole

@@ -15,16 +15,19 @@ bounds-text-size c = omega (arith, c.requires.blocks, c.text-size.ensures.size, 
 pub returns-then-count-eq0-clause-refused : goal.returns-then-count-eq0-clause-refused
 returns-then-count-eq0-clause-refused c = elim c.then-count-eq0.branch [
     then-count-eq0-via-then-count-eq0 w ↦
-        none_counted (text_in c.args.lease.now) c.text-size.result.now c.text.result.now c.text-size.ensures.value c.text.ensures.value w.if-count-eq0.true
+        none_counted (text_in c.args.lease.now) c.text-size.result.now c.text.result.now c.text-size.ensures.value c.text.ensures.value
+        w.if-count-eq0.true
   | then-count-eq0-via-else-count-eq0+then-count-gt-BLOCK w ↦
-        many_counted (text_in c.args.lease.now) c.text-size.result.now c.text.result.now c.text-size.ensures.value c.text.ensures.value w.if-count-gt-BLOCK.true
+        many_counted (text_in c.args.lease.now) c.text-size.result.now c.text.result.now c.text-size.ensures.value c.text.ensures.value
+        w.if-count-gt-BLOCK.true
 ]
 
 pub returns-then-count-eq0-clause-cleared : goal.returns-then-count-eq0-clause-cleared
 returns-then-count-eq0-clause-cleared c = ap (λ l. (bench_of l).text) c.clear_text.ensures
 
 pub returns-then-count-eq0-clause-stays : goal.returns-then-count-eq0-clause-stays
-returns-then-count-eq0-clause-stays c = text_stays c.args.lease.now c.clear_text.new.lease (cleared (bench_of c.args.lease.now).text) c.clear_text.ensures
+returns-then-count-eq0-clause-stays c =
+    text_stays c.args.lease.now c.clear_text.new.lease (cleared (bench_of c.args.lease.now).text) c.clear_text.ensures
 
 pub returns-then-count-eq0-clause-room : goal.returns-then-count-eq0-clause-room
 returns-then-count-eq0-clause-room c = omega (arith, ap (λ l. (bench_of l).text.size) c.clear_text.ensures)
@@ -37,7 +40,8 @@ set_text_length-requires c = omega (arith, c.requires.room, c.text-size.ensures.
 
 pub returns-clause-text : goal.returns-clause-text
 returns-clause-text c =
-    counted (bench_of c.args.lease.now).text (bench_of c.set_text_length.new.self).text c.text-size.result.now c.text.result.now c.text-size.ensures.value c.text.ensures.value
+    counted (bench_of c.args.lease.now).text (bench_of c.set_text_length.new.self).text c.text-size.result.now c.text.result.now
+    c.text-size.ensures.value c.text.ensures.value
     c.text-size.ensures.size (ap (λ l. (bench_of l).text) c.set_text_length.ensures) (omega (arith, c.if-count-eq0.false)) c.if-count-gt-BLOCK.false
 
 pub returns-clause-room : goal.returns-clause-room

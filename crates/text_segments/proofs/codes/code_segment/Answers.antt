@@ -1,4 +1,4 @@
-use Rattle.std.proofs.Common.{◌≡◌, ◌∙◌, ◌+◌, ◌++◌, length, drop, ap, subst, sym, arith}
+use Rattle.std.proofs.Common.{◌≡◌, ◌∙◌, ◌++◌, length, drop, ap, subst, sym, arith}
 use Rattle.std.proofs.lemmas.List.{length-append}
 use Rattle.des_blocks.specs.Texts.{text_in}
 use Rattle.key_cells.specs.Lease.{bench_of, holding}
@@ -15,7 +15,8 @@ returns-clause-chain c =
     let key = c.args.key.now in
     let hand = c.args.chain.now.carried ++ text_in old in
     let read : c.text.result.now ≡ hand = c.text.ensures.value ∙ c.put_carried.ensures.text in
-    coded c.args.rule (opened (bench_of old) key) (opened (bench_of new) key) c.args.chain.now.block hand c.text.result.now (text_in new) c.chained_block-block.result c.of-carried.result
+    coded c.args.rule (opened (bench_of old) key) (opened (bench_of new) key) c.args.chain.now.block hand c.text.result.now (text_in new)
+    c.chained_block-block.result c.of-carried.result
     (same_key old new (bench_of new).text key c.put_carried.ensures.stays) read c.put_carried.ensures.text c.chained_block-block.ensures.block
     (c.of-carried.ensures ∙ rest_is c.text.result.now c.text-2.result.now hand read (c.text-2.ensures.value ∙ c.put_carried.ensures.text))
 

@@ -14,7 +14,8 @@ Written c =
 
 written : (c : goal.After-lease-1) → Written c
 written c =
-    filled (bench_of c.args.lease.now).text (bench_of c.set_text_length.new.self).text c.text-size.result.now c.text_mut.result.now c.fill.new.self c.div_ceil.result
+    filled (bench_of c.args.lease.now).text (bench_of c.set_text_length.new.self).text c.text-size.result.now c.text_mut.result.now c.fill.new.self
+    c.div_ceil.result
     c.text-size.ensures.value c.text-size.ensures.size c.div_ceil.ensures (ap (λ l. (bench_of l).text) c.set_text_length.ensures)
     c.text_mut.ensures.value c.text_mut.ensures.size (c.fill.ensures.after (λ y e. e))
 
@@ -34,5 +35,6 @@ pub returns-clause-stays : goal.returns-clause-stays
 returns-clause-stays c =
     let text = c.text-size.result.now in
     let lent = c.text_mut.result.now in
-    let place = with_text (bench_of c.set_text_length.new.self).text (take (length text) lent ++ (c.fill.new.self ++ post_of (length text) (length lent - length text) lent)) in
+    let place = with_text (bench_of c.set_text_length.new.self).text
+    (take (length text) lent ++ (c.fill.new.self ++ post_of (length text) (length lent - length text) lent)) in
     ap (λ l. holding l (record (bench_of l) { text = place })) c.set_text_length.ensures

@@ -9,4 +9,5 @@ returns-then-is_empty c =
 
 pub returns : goal.returns
 returns c =
-    moved_up c.args.text.now c.args.bytes.now c.copy_within.new.self c.copy_from_slice.new.self c.requires c.copy_within.ensures.after c.copy_from_slice.ensures.after
+    moved_up c.args.text.now c.args.bytes.now c.copy_within.new.self c.copy_from_slice.new.self c.requires c.copy_within.ensures.after
+    c.copy_from_slice.ensures.after

@@ -1,4 +1,4 @@
-use Rattle.std.proofs.Common.{◌≡◌, ◌∙◌, ◌+◌, ◌++◌, length, drop, ap, subst, sym, arith, [], ◌∷◌, None, Some}
+use Rattle.std.proofs.Common.{◌≡◌, ◌∙◌, ◌++◌, length, drop, ap, subst, sym, arith, [], ◌∷◌, None, Some}
 use Rattle.std.specs.Prelude.{OnErr, OnOk, is_none}
 use Rattle.std.proofs.lemmas.List.{length-append}
 use Rattle.cca_vectors.specs.Checks.{check, first_failing}
@@ -26,13 +26,16 @@ encipher-requires c =
     let size = (bench_of c.args.lease.now).text.size in
     record {
       halves = c.requires.halves;
-      length = encipher_passes c.args.padding (length carried) size (bench_of c.put_carried.new.lease).text.size c.put_carried.ensures.size c.put_carried.ensures.few
+      length = encipher_passes c.args.padding (length carried) size (bench_of c.put_carried.new.lease).text.size c.put_carried.ensures.size
+          c.put_carried.ensures.few
           (subst (λ m. first_failing (text_checks (last_use m c.args.padding (length carried)) size) ≡ None)
           (is_encipher c.args.mode c.requires.mode c.in_default.not-Decipher) c.requires.text);
     }
 
 -- what is deciphered is the text that the segment gives
-same_text : (c : goal.After-decipher) → deciphered_text (opened (bench_of c.put_carried.new.lease) c.args.key.now) c.args.chain.now.block c.args.padding (text_in c.put_carried.new.lease)
+same_text : (c : goal.After-decipher)
+    → deciphered_text (opened (bench_of c.put_carried.new.lease) c.args.key.now) c.args.chain.now.block c.args.padding
+    (text_in c.put_carried.new.lease)
     ≡ last_text (opened (bench_of c.args.lease.now) c.args.key.now) c.args.mode c.args.chain.now c.args.padding (text_in c.args.lease.now)
 same_text c =
     let key = c.args.key.now in
@@ -57,9 +60,11 @@ returns-in-Decipher-clause-refused c =
     let text = text_in c.args.lease.now in
     let place = (bench_of c.args.lease.now).text in
     let one = (bench_of c.put_carried.new.lease).text in
-    let size : one.size ≡ length (carried ++ text) = omega (arith, c.put_carried.ensures.size, c.put_carried.ensures.long, length-append carried text) in
+    let size : one.size ≡ length (carried ++ text)
+    = omega (arith, c.put_carried.ensures.size, c.put_carried.ensures.long, length-append carried text) in
     let past = subst (λ n. drop n one.bytes ≡ drop n place.bytes) size c.put_carried.ensures.past in
-    subst (λ t. OnErr c.decipher.result ((bench_of c.decipher.new.lease).text ≡ t)) (cleared_is place one (length (carried ++ text)) size past) c.decipher.ensures.refused
+    subst (λ t. OnErr c.decipher.result ((bench_of c.decipher.new.lease).text ≡ t)) (cleared_is place one (length (carried ++ text)) size past)
+    c.decipher.ensures.refused
 
 pub returns-in-Decipher-clause-stays : goal.returns-in-Decipher-clause-stays
 returns-in-Decipher-clause-stays c =

@@ -13,7 +13,8 @@ abbrev made : List ℕ → List ℕ → Chain
 made block carried = record { block = block; carried = carried }
 
 -- the bytes after the carried ones
-rest_all : (bytes : List ℕ) → length bytes ≡ 16 → take (16 - (9 + slice_index bytes 8)) (drop (9 + slice_index bytes 8) bytes) ≡ drop (9 + slice_index bytes 8) bytes
+rest_all : (bytes : List ℕ) → length bytes ≡ 16
+    → take (16 - (9 + slice_index bytes 8)) (drop (9 + slice_index bytes 8) bytes) ≡ drop (9 + slice_index bytes 8) bytes
 rest_all bytes size =
     let at = 9 + slice_index bytes 8 in
     take_all (16 - at) (drop at bytes) (omega (arith, length-drop at bytes, size))
@@ -22,7 +23,8 @@ rest_all bytes size =
 tested : (bytes : List ℕ) (test : Bool) → length bytes ≡ 16 → slice_index bytes 8 ≤ 7
     → test ≡ is_zero (take (16 - (9 + slice_index bytes 8)) (drop (9 + slice_index bytes 8) bytes)) → is_chain bytes ≡ test
 tested bytes test size few is =
-    ap (λ p. p && is_zero (drop (9 + slice_index bytes 8) bytes)) (le-leb (slice_index bytes 8) 7 few) ∙ ap is_zero (sym (rest_all bytes size)) ∙ sym is
+    ap (λ p. p && is_zero (drop (9 + slice_index bytes 8) bytes)) (le-leb (slice_index bytes 8) 7 few) ∙ ap is_zero (sym (rest_all bytes size))
+    ∙ sym is
 
 -- what is read is the chain
 chain_is : (c : goal.After-of) → made c.front_block.result c.of.result ≡ chain_of c.args.bytes.now
@@ -35,7 +37,9 @@ chain_is c =
 pub returns-then-count-gt-MOST-clause-judges : goal.returns-then-count-gt-MOST-clause-judges
 returns-then-count-gt-MOST-clause-judges c = elim c.then-count-gt-MOST.branch [
     then-count-gt-MOST-via-then-count-gt-MOST w ↦
-        fails_first 36 (is_chain c.args.bytes.now) [] (ap (λ p. p && is_zero (drop (9 + slice_index c.args.bytes.now 8) c.args.bytes.now)) (lt-leb (slice_index c.args.bytes.now 8) 7 w.if-count-gt-MOST.true))
+        fails_first 36 (is_chain c.args.bytes.now) []
+        (ap (λ p. p && is_zero (drop (9 + slice_index c.args.bytes.now 8) c.args.bytes.now))
+        (lt-leb (slice_index c.args.bytes.now 8) 7 w.if-count-gt-MOST.true))
   | then-count-gt-MOST-via-else-count-gt-MOST+then-not-is_zero w ↦
         fails_first 36 (is_chain c.args.bytes.now) []
         (tested c.args.bytes.now w.is_zero.result c.told-bytes w.if-count-gt-MOST.false w.is_zero.ensures.value ∙ w.if-not-is_zero.true)
@@ -51,8 +55,11 @@ returns-clause-chain c = chain_is c
 
 pub returns-clause-same : goal.returns-clause-same
 returns-clause-same c =
-    ap chain_bytes (chain_is c) ∙ same c.args.bytes.now c.told-bytes c.if-count-gt-MOST.false (subst IsZero (rest_all c.args.bytes.now c.told-bytes) (c.if-not-is_zero.ensures.zero.0 refl))
+    ap chain_bytes (chain_is c)
+    ∙ same c.args.bytes.now c.told-bytes c.if-count-gt-MOST.false
+    (subst IsZero (rest_all c.args.bytes.now c.told-bytes) (c.if-not-is_zero.ensures.zero.0 refl))
 
 pub returns-clause-few : goal.returns-clause-few
 returns-clause-few c =
-    omega (arith, ap (λ xs. length xs) c.of.ensures, length-take (9 + slice_index c.args.bytes.now 8 - 9) (drop 9 c.args.bytes.now), c.if-count-gt-MOST.false)
+    omega (arith, ap (λ xs. length xs) c.of.ensures, length-take (9 + slice_index c.args.bytes.now 8 - 9) (drop 9 c.args.bytes.now),
+    c.if-count-gt-MOST.false)
