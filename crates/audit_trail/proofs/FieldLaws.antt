@@ -143,7 +143,8 @@ module _ (n : ℕ) (field : List ℕ) where
   label_beyond above (inr held) = omega (arith, above, held.2, label_short held.0 held.1)
 
   -- where a label stands at the front, it is the zeros behind that decide
-  pub label_by_zeros : length field ≡ 64 → (n ≡ 0 → ⊥) → n ≤ 64 → IsLabel (take n field) → (IsZero (take (64 - n) (drop n field))) ↔ HoldsLabel n field
+  pub label_by_zeros : length field ≡ 64 → (n ≡ 0 → ⊥) → n ≤ 64 → IsLabel (take n field)
+      → (IsZero (take (64 - n) (drop n field))) ↔ HoldsLabel n field
   label_by_zeros long some within label = (
     λ zeros. inr (
       take n field,

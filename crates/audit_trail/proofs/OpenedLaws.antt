@@ -27,7 +27,8 @@ module _ {T E : Type 0} (m0 m1 : Medium) (f0 f1 : ℕ) (r : Result T E) (broken 
   pub unsettled_rose : Rose f0 f1
   unsettled_rose = on_err r broken cause.failed
 
-  pub unsettled_left : (done failed : Type 0) → (done → ⊥) → failed → m1.content ≡ m0.content → EachImage m0 m1 m0.images → TrailLeft m0 m1 f0 f1 done failed
+  pub unsettled_left : (done failed : Type 0) → (done → ⊥) → failed → m1.content ≡ m0.content → EachImage m0 m1 m0.images
+      → TrailLeft m0 m1 f0 f1 done failed
   unsettled_left done failed undone holds content moments = record {
     size = moments.size;
     still = λ some. subst IsSome (sym content) some;

@@ -242,6 +242,21 @@ stray_here image cell out n e here some spells other = record {
   none = λ m held. other (ap (λ (k : ℕ). k % 4096) (one_number out n m e held.entry spells (subst (λ (b : List ℕ). Spells b m held.entry) (sym here) held.spells)) ∙ held.belongs);
 }
 
+pub stray_none : (image : List ℕ) (cell : ℕ) (out : List ℕ) → out ≡ body image cell → (out ≡ blank_body → ⊥)
+    → ((n : ℕ) (e : Entry) → Spells out n e → ⊥) → IsStray image cell
+stray_none image cell out here some unspelled = record {
+  some = λ blank. some (here ∙ blank);
+  none = λ m held. unspelled m held.entry (subst (λ (b : List ℕ). Spells b m held.entry) (sym here) held.spells);
+}
+
+pub holds_here : (image : List ℕ) (cell : ℕ) (out : List ℕ) (n : ℕ) (e : Entry) → out ≡ body image cell → Spells out n e → n % 4096 ≡ cell
+    → HoldsNumber image cell n
+holds_here image cell out n e here spells belongs = record {
+  entry = e;
+  spells = subst (λ (b : List ℕ). Spells b n e) here spells;
+  belongs = belongs;
+}
+
 -- ---- one first damaged cell
 
 pub first_one : (image : List ℕ) (a b : ℕ) → IsFirstDamaged image a → IsFirstDamaged image b → a ≡ b

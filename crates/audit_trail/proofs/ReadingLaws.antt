@@ -41,6 +41,9 @@ full_not_of_disk is = cc is
 pub disk_not_of_damaged : {T : Type 0} (cell : ℕ) → ◌≡◌ {A = Result T TrailFault} (Err DiskFault) (Err (Damaged cell)) → ⊥
 disk_not_of_damaged cell is = cc is
 
+pub one_cell : {T : Type 0} (cell n : ℕ) → ◌≡◌ {A = Result T TrailFault} (Err (Damaged cell)) (Err (Damaged n)) → n ≡ cell
+one_cell cell n is = cc is
+
 -- ---- what is left of the trail
 
 pub left_uncalled : (t : Medium) (count : ℕ) (failed : Type 0) → (failed → ⊥) → TrailLeft t t count count (IsSettled t) failed

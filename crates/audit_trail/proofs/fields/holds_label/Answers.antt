@@ -16,9 +16,6 @@ returns-then-at-gt64 c = (
   λ held. absurd (label_beyond c.args.length c.args.field.now c.if-at-gt64.true held),
 )
 
-pub shared_ref_as_front-is_label : goal.shared_ref_as_front-is_label
-shared_ref_as_front-is_label c = c.if-at-gt64.false
-
 pub slice_bounds-is_zero-start : goal.slice_bounds-is_zero-start
 slice_bounds-is_zero-start c = omega (arith, c.if-at-gt64.false)
 
@@ -27,7 +24,8 @@ slice_bounds-is_zero-end-then-is_label c = omega arith
 
 pub returns-then-is_label : goal.returns-then-is_label
 returns-then-is_label c =
-    let same = label_by_zeros c.args.length c.args.field.now c.told-field c.if-at-eq0.false c.if-at-gt64.false (sym c.is_label.ensures ∙ c.if-is_label.true) in (
+    let same =
+    label_by_zeros c.args.length c.args.field.now c.told-field c.if-at-eq0.false c.if-at-gt64.false (sym c.is_label.ensures ∙ c.if-is_label.true) in (
       λ yes. same.0 (c.is_zero-then-is_label.ensures.zero.0 yes),
       λ held. c.is_zero-then-is_label.ensures.zero.1 (same.1 held),
     )

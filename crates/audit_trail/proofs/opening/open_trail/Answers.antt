@@ -135,7 +135,8 @@ returns-then-is_err-clause-damaged g c n is = absurd (disk_not_of_damaged n is)
 
 pub returns-then-is_err-clause-exact : goal.returns-then-is_err-clause-exact
 returns-then-is_err-clause-exact g c fell =
-    absurd (fell (unsettled_rose (g.T.Disk.medium c.args.trail.now) (g.T.Disk.medium c.settle.new.disk) (g.T.Disk.faults c.args.trail.now) (g.T.Disk.faults c.settle.new.disk)
+    absurd (fell (unsettled_rose (g.T.Disk.medium c.args.trail.now) (g.T.Disk.medium c.settle.new.disk) (g.T.Disk.faults c.args.trail.now)
+    (g.T.Disk.faults c.settle.new.disk)
     c.settle.result c.if-is_err.ensures.value c.settle.ensures.cause))
 
 pub returns-then-is_err-clause-faults : goal.returns-then-is_err-clause-faults
@@ -147,7 +148,8 @@ returns-then-is_err-clause-keeps g c =
 
 pub returns-then-is_err-clause-left : goal.returns-then-is_err-clause-left
 returns-then-is_err-clause-left g c =
-    unsettled_left (g.T.Disk.medium c.args.trail.now) (g.T.Disk.medium c.settle.new.disk) (g.T.Disk.faults c.args.trail.now) (g.T.Disk.faults c.settle.new.disk)
+    unsettled_left (g.T.Disk.medium c.args.trail.now) (g.T.Disk.medium c.settle.new.disk) (g.T.Disk.faults c.args.trail.now)
+    (g.T.Disk.faults c.settle.new.disk)
     c.settle.result c.if-is_err.ensures.value c.settle.ensures.cause _ _ false≢true refl c.settle.ensures.content c.settle.ensures.moments
 
 pub scan_cells-requires : goal.scan_cells-requires

@@ -1,16 +1,17 @@
-use Rattle.std.proofs.Common.{◌≡◌, inl, inr, None, Some, refl, ap, ◌∙◌}
+use Rattle.std.proofs.Common.{◌≡◌, inl, inr, None, Some, refl, sym, ap, ◌∙◌}
 use Rattle.std.proofs.lemmas.Bool.{both_ways}
 use Rattle.device_cells.proofs.Media.{told_map}
 use Rattle.device_cells.specs.Cells.{body}
-use Rattle.audit_trail.specs.TrailStands.{IsStray}
-use Rattle.audit_trail.proofs.OpeningLaws.{stray_here}
+use Rattle.audit_trail.specs.TrailStands.{HoldsNumber, IsStray}
+use Rattle.audit_trail.specs.RecordBody.{blank_body}
+use Rattle.audit_trail.proofs.OpeningLaws.{stray_here, stray_none, holds_here}
 use Rattle.audit_trail.specs.declared.faults.TrailFault.TheVariants.{DiskFault, Damaged}
-use Rattle.audit_trail.proofs.ReadingLaws.{ok_not_err, damaged_not_of_disk, disk_not_of_damaged}
+use Rattle.audit_trail.proofs.ReadingLaws.{one_cell, ok_not_err, damaged_not_of_disk, disk_not_of_damaged}
 use Rattle.audit_trail.proofs.opening.read_number.Goals as goal
 
 pub returns-else-cell_of-cell-clause-damaged : goal.returns-else-cell_of-cell-clause-damaged
 returns-else-cell_of-cell-clause-damaged g c n is =
-    let same : n ≡ c.args.cell = cc is in (
+    let same : n ≡ c.args.cell = one_cell c.args.cell n is in (
       same,
       told_map (g.T.Disk.medium c.args.trail.now) (λ image. c.read_cell.new.out ≡ body image c.new.result) (λ image. IsStray image c.args.cell) c.in-Ok.ensures.bytes
           (λ image read. stray_here image c.args.cell c.read_cell.new.out c.in-Some.record.number c.in-Some.record.entry (read ∙ ap (body image) c.new.ensures)
@@ -124,3 +125,26 @@ returns-in-Err-clause-failed g c is = c.in-Err.ensures.cause.failed
 
 pub returns-in-Err-clause-quiet : goal.returns-in-Err-clause-quiet
 returns-in-Err-clause-quiet g c never = absurd (never refl)
+
+pub returns-in-None-clause-damaged : goal.returns-in-None-clause-damaged
+returns-in-None-clause-damaged g c n is = (
+  one_cell c.args.cell n is,
+  told_map (g.T.Disk.medium c.args.trail.now) (λ image. c.read_cell.new.out ≡ body image c.new.result) (λ image. IsStray image c.args.cell)
+      c.in-Ok.ensures.bytes
+      (λ image read. stray_none image c.args.cell c.read_cell.new.out (read ∙ ap (body image) c.new.ensures)
+      (λ blank. both_ways c.is_blank.result c.if-is_blank.false (c.is_blank.ensures.1 blank)) (c.in-None.ensures.none refl)),
+)
+
+pub returns-then-is_blank-clause-reads : goal.returns-then-is_blank-clause-reads
+returns-then-is_blank-clause-reads g c =
+    told_map (g.T.Disk.medium c.args.trail.now) (λ image. c.read_cell.new.out ≡ body image c.new.result)
+    (λ image. body image c.args.cell ≡ blank_body) c.in-Ok.ensures.bytes
+    (λ image read. sym (read ∙ ap (body image) c.new.ensures) ∙ c.is_blank.ensures.0 c.if-is_blank.true)
+
+pub returns-then-cell_of-cell-clause-reads : goal.returns-then-cell_of-cell-clause-reads
+returns-then-cell_of-cell-clause-reads g c =
+    told_map (g.T.Disk.medium c.args.trail.now) (λ image. c.read_cell.new.out ≡ body image c.new.result)
+    (λ image. HoldsNumber image c.args.cell c.in-Some.record.number) c.in-Ok.ensures.bytes
+    (λ image read. holds_here image c.args.cell c.read_cell.new.out c.in-Some.record.number c.in-Some.record.entry
+    (read ∙ ap (body image) c.new.ensures)
+    c.in-Some.ensures.reads (sym c.cell_of.ensures ∙ c.if-cell_of-cell.true))

@@ -17,7 +17,8 @@ pub returns-else-verb : goal.returns-else-verb
 returns-else-verb c = (
   λ yes. absurd (both_ways _ (search) yes),
   λ is. absurd (
-    ⊎_elim (λ w. both_ways c.holds_verb-verb.result w.2 (c.holds_verb-verb.ensures.1 is.verb))
-    (λ other. ⊎_elim (λ w. both_ways c.holds_role-role.result w.1 (c.holds_role-role.ensures.1 is.role)) (λ high. omega (arith, high, is.rule)) other)
-    c.if-verb.either),
+      ⊎_elim (λ w. both_ways c.holds_verb-verb.result w.2 (c.holds_verb-verb.ensures.1 is.verb))
+      (λ other. ⊎_elim (λ w. both_ways c.holds_role-role.result w.1 (c.holds_role-role.ensures.1 is.role)) (λ high. omega (arith, high, is.rule))
+      other)
+      c.if-verb.either),
 )
