@@ -174,7 +174,8 @@ module _ (r : Result (Unit {0}) RoleFault) (fault : RoleFault) (same : r ≡ Err
   pub handed_err : (P : Type 0) → P → OnErr r P
   handed_err P holds = subst (λ (o : Result (Unit {0}) RoleFault). OnErr o P) (sym same) holds
 
-  pub handed_cause : (start before now : ℕ) → before ≡ start → (from : Result (Unit {0}) RoleFault) → from ≡ Err fault → HasRoleCause before now from → HasRoleCause start now r
+  pub handed_cause : (start before now : ℕ) → before ≡ start → (from : Result (Unit {0}) RoleFault) → from ≡ Err fault
+      → HasRoleCause before now from → HasRoleCause start now r
   handed_cause start before now as_before from was cause =
       subst (λ (n : ℕ). HasRoleCause n now r) as_before (subst (HasRoleCause before now) (was ∙ sym same) cause)
 
@@ -185,8 +186,10 @@ pub rest_then : (a b c : Lease) → KeepsAllButBody a b → KeepsAllButBody b c 
 rest_then a b c first second = second ∙ ap (λ (l : Lease). holding l (record (bench_of l) { body = (bench_of c).body })) first
 
 -- one cell more was read
-pub told_more : (m0 m1 : Medium) (place : ℕ) (old new : List (Option Role)) → Keeps m0 m1 → place < 32 → AreRoles old → Told m0 (λ image. OpenedTo image place old)
+pub told_more : (m0 m1 : Medium) (place : ℕ) (old new : List (Option Role)) → Keeps m0 m1 → place < 32 → AreRoles old
+    → Told m0 (λ image. OpenedTo image place old)
     → Told m1 (λ image. Opens (body image (place + 1)) place old new) → Told m0 (λ image. OpenedTo image (place + 1) new)
 told_more m0 m1 place old new kept within are opened opens =
-    told_next m0 m1 (λ image. OpenedTo image place old) (λ image. Opens (body image (place + 1)) place old new) (λ image. OpenedTo image (place + 1) new) kept opened opens
+    told_next m0 m1 (λ image. OpenedTo image place old) (λ image. Opens (body image (place + 1)) place old new)
+    (λ image. OpenedTo image (place + 1) new) kept opened opens
     (λ image before here. opened_more image place old before new (omega (arith, within, are.size)) here)

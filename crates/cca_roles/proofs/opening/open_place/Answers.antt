@@ -1,6 +1,7 @@
 use Rattle.std.proofs.Common.{◌+◌, Ok, Err, inl, inr, refl, sym, ◌∙◌}
 use Rattle.cca_roles.specs.declared.faults.RoleFault.TheVariants.{DiskFault, Damaged}
-use Rattle.cca_roles.proofs.OpeningLaws.{ok_not_err, disk_not_damaged, damaged_not_disk, one_cell, cause_read, cause_unread, opens_read, place_fits, refused_held, refused_read}
+use Rattle.cca_roles.proofs.OpeningLaws.{ok_not_err, disk_not_damaged, damaged_not_disk, one_cell, cause_read}
+use Rattle.cca_roles.proofs.OpeningLaws.{cause_unread, opens_read, place_fits, refused_held, refused_read}
 use Rattle.cca_roles.proofs.StandLaws.{unless_err}
 use Rattle.cca_roles.proofs.opening.open_place.Goals as goal
 
@@ -59,11 +60,13 @@ returns-in-None-clause-damaged g c n is =
 
 pub returns-then-put-clause-cause : goal.returns-then-put-clause-cause
 returns-then-put-clause-cause g c =
-    cause_read (g.M.Disk.faults c.args.«module».now) (g.M.Disk.faults c.read_cell.new.disk) c.read_cell.result c.read_cell.ensures.cause (sym c.is_err.ensures.value ∙ c.if-is_err.false) (Ok tt) (ok_not_err DiskFault)
+    cause_read (g.M.Disk.faults c.args.«module».now) (g.M.Disk.faults c.read_cell.new.disk) c.read_cell.result c.read_cell.ensures.cause
+    (sym c.is_err.ensures.value ∙ c.if-is_err.false) (Ok tt) (ok_not_err DiskFault)
 
 pub returns-else-put-clause-cause : goal.returns-else-put-clause-cause
 returns-else-put-clause-cause g c =
-    cause_read (g.M.Disk.faults c.args.«module».now) (g.M.Disk.faults c.read_cell.new.disk) c.read_cell.result c.read_cell.ensures.cause (sym c.is_err.ensures.value ∙ c.if-is_err.false) (Err (Damaged (c.args.place + 1))) (damaged_not_disk (c.args.place + 1))
+    cause_read (g.M.Disk.faults c.args.«module».now) (g.M.Disk.faults c.read_cell.new.disk) c.read_cell.result c.read_cell.ensures.cause
+    (sym c.is_err.ensures.value ∙ c.if-is_err.false) (Err (Damaged (c.args.place + 1))) (damaged_not_disk (c.args.place + 1))
 
 pub returns-else-put-clause-opened : goal.returns-else-put-clause-opened
 returns-else-put-clause-opened g c = tt
@@ -73,7 +76,8 @@ returns-else-put-clause-faults g c = inr refl
 
 pub returns-in-None-clause-cause : goal.returns-in-None-clause-cause
 returns-in-None-clause-cause g c =
-    cause_read (g.M.Disk.faults c.args.«module».now) (g.M.Disk.faults c.read_cell.new.disk) c.read_cell.result c.read_cell.ensures.cause (sym c.is_err.ensures.value ∙ c.if-is_err.false) (Err (Damaged (c.args.place + 1))) (damaged_not_disk (c.args.place + 1))
+    cause_read (g.M.Disk.faults c.args.«module».now) (g.M.Disk.faults c.read_cell.new.disk) c.read_cell.result c.read_cell.ensures.cause
+    (sym c.is_err.ensures.value ∙ c.if-is_err.false) (Err (Damaged (c.args.place + 1))) (damaged_not_disk (c.args.place + 1))
 
 pub returns-in-None-clause-opened : goal.returns-in-None-clause-opened
 returns-in-None-clause-opened g c = tt

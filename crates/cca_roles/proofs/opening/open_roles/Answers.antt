@@ -8,7 +8,8 @@ use Rattle.cca_roles.specs.declared.faults.RoleFault.{RoleFault}
 use Rattle.cca_roles.specs.declared.faults.RoleFault.TheVariants.{DiskFault, Damaged}
 use Rattle.cca_roles.specs.Opening.{OpenedTo, IsRefused}
 use Rattle.cca_roles.specs.RolesStand.{StandsForRoles, IsFirstDamaged, IsRoleCell}
-use Rattle.cca_roles.proofs.OpeningLaws.{opened_all, refused_damaged, ok_not_err, handed_ok, handed_err, handed_cause, opened_cause, rest_then, told_more}
+use Rattle.cca_roles.proofs.OpeningLaws.{opened_all, refused_damaged, ok_not_err, handed_ok}
+use Rattle.cca_roles.proofs.OpeningLaws.{handed_err, handed_cause, opened_cause, rest_then, told_more}
 use Rattle.cca_roles.proofs.StandLaws.{handed_on, first_one, stands_undamaged}
 use Rattle.cca_roles.proofs.opening.open_roles.Goals as goal
 
@@ -34,7 +35,8 @@ pub returns-in_err-open_place-clause-damaged : goal.returns-in_err-open_place-cl
 returns-in_err-open_place-clause-damaged g c cell is =
     let place : ℕ = c.loop-place.place in
     let fault = c.in_err-open_place.field-0.0 in
-    let same : c.from_residual-in_err-open_place.result ≡ Err fault = handed_on c.from_residual-in_err-open_place.result fault c.from_residual-in_err-open_place.ensures.1 in
+    let same : c.from_residual-in_err-open_place.result ≡ Err fault =
+    handed_on c.from_residual-in_err-open_place.result fault c.from_residual-in_err-open_place.ensures.1 in
     let refused = c.open_place.ensures.damaged cell (c.in_err-open_place.was ∙ sym same ∙ is) in
     subst (λ (k : ℕ). Told (g.M.Disk.medium c.args.«module».now) (λ image. IsFirstDamaged image k)) (sym refused.0)
     (told_next (g.M.Disk.medium c.args.«module».now) (g.M.Disk.medium c.loop-place.«module») (λ image. OpenedTo image place c.loop-place.opened) (λ image. IsRefused (body image (place + 1)) place c.loop-place.opened)
@@ -44,7 +46,8 @@ returns-in_err-open_place-clause-damaged g c cell is =
 pub returns-in_err-open_place-clause-exact : goal.returns-in_err-open_place-clause-exact
 returns-in_err-open_place-clause-exact g c fell =
     let fault = c.in_err-open_place.field-0.0 in
-    let same : c.from_residual-in_err-open_place.result ≡ Err fault = handed_on c.from_residual-in_err-open_place.result fault c.from_residual-in_err-open_place.ensures.1 in
+    let same : c.from_residual-in_err-open_place.result ≡ Err fault =
+    handed_on c.from_residual-in_err-open_place.result fault c.from_residual-in_err-open_place.ensures.1 in
     ⊎_elim
     (λ (failed : fault ≡ DiskFault). absurd (fell (rose_wider (g.M.Disk.faults c.args.«module».now) (g.M.Disk.faults c.loop-place.«module») (g.M.Disk.faults c.open_place.new.«module») (g.M.Disk.faults c.open_place.new.«module») (omega (arith, c.loop-place.invariant.quiet))
     c.open_place.ensures.cause.later (omega arith) (c.open_place.ensures.cause.failed (c.in_err-open_place.was ∙ ap (λ f. Err f) failed)))))
@@ -77,7 +80,8 @@ returns-in_err-open_default-clause-faults g c =
 pub returns-in_err-open_place-clause-faults : goal.returns-in_err-open_place-clause-faults
 returns-in_err-open_place-clause-faults g c =
     let fault = c.in_err-open_place.field-0.0 in
-    let same : c.from_residual-in_err-open_place.result ≡ Err fault = handed_on c.from_residual-in_err-open_place.result fault c.from_residual-in_err-open_place.ensures.1 in
+    let same : c.from_residual-in_err-open_place.result ≡ Err fault =
+    handed_on c.from_residual-in_err-open_place.result fault c.from_residual-in_err-open_place.ensures.1 in
     role_faults c.from_residual-in_err-open_place.result fault (c.loop-place.place + 1) (omega arith, omega (arith, c.loop-place-test.true)) same c.in_err-open_place.ensures.faults
 
 pub open_default-requires-clause-size : goal.open_default-requires-clause-size
@@ -111,7 +115,8 @@ pub returns-in_err-open_default-clause-cause : goal.returns-in_err-open_default-
 returns-in_err-open_default-clause-cause g c =
     let fault = c.in_err-open_default.field-0.0 in
     let same : c.from_residual.result ≡ Err fault = handed_on c.from_residual.result fault c.from_residual.ensures.1 in
-    handed_cause c.from_residual.result fault same (g.M.Disk.faults c.args.«module».now) (g.M.Disk.faults c.args.«module».now) (g.M.Disk.faults c.open_default.new.«module») refl c.open_default.result c.in_err-open_default.was c.open_default.ensures.cause
+    handed_cause c.from_residual.result fault same (g.M.Disk.faults c.args.«module».now) (g.M.Disk.faults c.args.«module».now)
+    (g.M.Disk.faults c.open_default.new.«module») refl c.open_default.result c.in_err-open_default.was c.open_default.ensures.cause
 
 pub returns-in_err-open_default-clause-rest : goal.returns-in_err-open_default-clause-rest
 returns-in_err-open_default-clause-rest g c = c.open_default.ensures.rest
@@ -140,24 +145,29 @@ open_place-requires-clause-roles g c = c.loop-place.invariant.roles
 pub returns-in_err-open_place-clause-stands : goal.returns-in_err-open_place-clause-stands
 returns-in_err-open_place-clause-stands g c =
     let fault = c.in_err-open_place.field-0.0 in
-    let same : c.from_residual-in_err-open_place.result ≡ Err fault = handed_on c.from_residual-in_err-open_place.result fault c.from_residual-in_err-open_place.ensures.1 in
+    let same : c.from_residual-in_err-open_place.result ≡ Err fault =
+    handed_on c.from_residual-in_err-open_place.result fault c.from_residual-in_err-open_place.ensures.1 in
     handed_ok c.from_residual-in_err-open_place.result fault same _
 
 pub returns-in_err-open_place-clause-unopened : goal.returns-in_err-open_place-clause-unopened
 returns-in_err-open_place-clause-unopened g c =
     let fault = c.in_err-open_place.field-0.0 in
-    let same : c.from_residual-in_err-open_place.result ≡ Err fault = handed_on c.from_residual-in_err-open_place.result fault c.from_residual-in_err-open_place.ensures.1 in
+    let same : c.from_residual-in_err-open_place.result ≡ Err fault =
+    handed_on c.from_residual-in_err-open_place.result fault c.from_residual-in_err-open_place.ensures.1 in
     handed_err c.from_residual-in_err-open_place.result fault same _ refl
 
 pub returns-in_err-open_place-clause-keeps : goal.returns-in_err-open_place-clause-keeps
 returns-in_err-open_place-clause-keeps g c =
-    keeps_then (g.M.Disk.medium c.args.«module».now) (g.M.Disk.medium c.loop-place.«module») (g.M.Disk.medium c.open_place.new.«module») c.loop-place.invariant.keeps c.open_place.ensures.keeps
+    keeps_then (g.M.Disk.medium c.args.«module».now) (g.M.Disk.medium c.loop-place.«module») (g.M.Disk.medium c.open_place.new.«module»)
+    c.loop-place.invariant.keeps c.open_place.ensures.keeps
 
 pub returns-in_err-open_place-clause-cause : goal.returns-in_err-open_place-clause-cause
 returns-in_err-open_place-clause-cause g c =
     let fault = c.in_err-open_place.field-0.0 in
-    let same : c.from_residual-in_err-open_place.result ≡ Err fault = handed_on c.from_residual-in_err-open_place.result fault c.from_residual-in_err-open_place.ensures.1 in
-    handed_cause c.from_residual-in_err-open_place.result fault same (g.M.Disk.faults c.args.«module».now) (g.M.Disk.faults c.loop-place.«module») (g.M.Disk.faults c.open_place.new.«module») c.loop-place.invariant.quiet c.open_place.result
+    let same : c.from_residual-in_err-open_place.result ≡ Err fault =
+    handed_on c.from_residual-in_err-open_place.result fault c.from_residual-in_err-open_place.ensures.1 in
+    handed_cause c.from_residual-in_err-open_place.result fault same (g.M.Disk.faults c.args.«module».now) (g.M.Disk.faults c.loop-place.«module»)
+    (g.M.Disk.faults c.open_place.new.«module») c.loop-place.invariant.quiet c.open_place.result
     c.in_err-open_place.was c.open_place.ensures.cause
 
 pub returns-in_err-open_place-clause-rest : goal.returns-in_err-open_place-clause-rest
@@ -169,10 +179,13 @@ loop-place-smaller g c = omega (arith, c.loop-place-test.true)
 
 pub loop-place-preserved : goal.loop-place-preserved
 loop-place-preserved g c = record {
-  opened = told_more (g.M.Disk.medium c.args.«module».now) (g.M.Disk.medium c.loop-place.«module») c.loop-place.place c.loop-place.opened c.open_place.new.roles
-      c.loop-place.invariant.keeps c.loop-place-test.true c.loop-place.invariant.roles c.loop-place.invariant.opened c.in_ok-open_place.ensures.opened;
+  opened = told_more (g.M.Disk.medium c.args.«module».now) (g.M.Disk.medium c.loop-place.«module») c.loop-place.place c.loop-place.opened
+      c.open_place.new.roles
+      c.loop-place.invariant.keeps c.loop-place-test.true c.loop-place.invariant.roles c.loop-place.invariant.opened
+      c.in_ok-open_place.ensures.opened;
   roles = c.open_place.ensures.roles;
-  keeps = keeps_then (g.M.Disk.medium c.args.«module».now) (g.M.Disk.medium c.loop-place.«module») (g.M.Disk.medium c.open_place.new.«module») c.loop-place.invariant.keeps c.open_place.ensures.keeps;
+  keeps = keeps_then (g.M.Disk.medium c.args.«module».now) (g.M.Disk.medium c.loop-place.«module») (g.M.Disk.medium c.open_place.new.«module»)
+      c.loop-place.invariant.keeps c.open_place.ensures.keeps;
   quiet = c.in_ok-open_place.ensures.cause.quiet (ok_not_err DiskFault) ∙ c.loop-place.invariant.quiet;
   rest = rest_then c.args.lease.now c.loop-place.lease c.open_place.new.lease c.loop-place.invariant.rest c.open_place.ensures.rest;
 }
