@@ -16,10 +16,28 @@ use Rattle.store_move.specs.declared.moving.Moved.{Moved}
 use Rattle.store_unload.specs.Telling.{Gets, GotSome, KeepsMasters}
 use Rattle.store_unload.specs.Writing.{IsFault}
 use Rattle.store_unload.specs.declared.writing.MoveFault.{MoveFault}
-use Rattle.store_unload.specs.declared.writing.MoveFault.TheVariants.{Store}
+use Rattle.store_unload.specs.declared.writing.MoveFault.TheVariants.{ReportFault, Store, WriteFault}
 
 abbrev Ends : Type 0
 Ends = Result (Unit {0}) MoveFault
+
+-- ---- what a call doesn't end in
+
+pub file_not_report : WriteFault ≡ ReportFault → ⊥
+file_not_report same = cc same
+
+pub report_not_file : ReportFault ≡ WriteFault → ⊥
+report_not_file same = cc same
+
+pub store_not_file : {fault : RecordFault} → Store fault ≡ WriteFault → ⊥
+store_not_file same = cc same
+
+pub store_not_report : {fault : RecordFault} → Store fault ≡ ReportFault → ⊥
+store_not_report same = cc same
+
+-- one that ends well ends in no fault
+pub done_not : {done : Unit {0}} {fault : MoveFault} → ◌≡◌ {A = Ends} (Ok done) (Err fault) → ⊥
+done_not same = cc same
 
 -- ---- what a device holds
 

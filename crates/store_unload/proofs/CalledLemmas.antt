@@ -8,6 +8,10 @@ use Rattle.store_unload.specs.declared.status.Status.TheVariants as status
 use Rattle.store_unload.specs.declared.unloading.MoveStatus.{MoveStatus}
 use Rattle.store_unload.specs.declared.unloading.MoveStatus.TheVariants.{Run, Refused, ReportFault}
 
+-- the words are right, but there was no memory
+pub not_usage : Run status.NoMemory ≡ Run status.Usage → ⊥
+not_usage is = cc is
+
 -- a move that opens the disks calls them
 pub opens_called : (r : MoveStatus) → IsOpenStatus r → MoveCallsNone r → ⊥
 opens_called r kind (inl is) = subst IsOpenStatus is kind

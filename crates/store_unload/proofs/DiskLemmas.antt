@@ -66,6 +66,10 @@ err_told told stop other is h = cc (is, h)
 pub same_fault : {T F : Type 0} (r : Result T F) (fault other : F) → r ≡ Err fault → r ≡ Err other → fault ≡ other
 same_fault r fault other is h = cc (is, h)
 
+-- a value is no fault
+pub no_fault : {T F : Type 0} {r : Result T F} {held : T} {fault : F} → r ≡ Ok held → r ≡ Err fault → ⊥
+no_fault is h = cc (is, h)
+
 -- of a fault that names a damaged cell the stop names the same cell
 module _ {F : Type 0} (stop : F → Stop) (damaged : ℕ → F) (named : ℕ → Stop) (is_named : (n : ℕ) → stop (damaged n) ≡ named n) where
   -- the stop of a lost disk is that of no other fault

@@ -95,6 +95,13 @@ never_none (Err (move_fault.Store record_fault.Full)) (inr (inr h)) = cc h.1
 never_none (Err (move_fault.Store record_fault.Exists)) (inr (inl h)) = cc h
 never_none (Err (move_fault.Store record_fault.Exists)) (inr (inr h)) = cc h.1
 
+-- and a move that a rule refuses has no other status
+pub not_run : {rule : ℕ} {told : Status} → Refused rule ≡ Run told → ⊥
+not_run h = cc h
+
+pub not_report : {rule : ℕ} → Refused rule ≡ ReportFault → ⊥
+not_report h = cc h
+
 -- ---- of which outcome it tells
 
 pub at_file : (r : Result (Unit {0}) MoveFault) → told_status r ≡ Run status.WriteFault → r ≡ Err move_fault.WriteFault
@@ -143,6 +150,16 @@ module _ (r : Result (Unit {0}) MoveFault) (outcome : MoveStatus) (is : outcome 
     fault = λ h. left.fault (at_store r faults (sym is ∙ h));
     quiet = λ never. left.quiet (λ h. never (is ∙ ap told_status h));
   }
+
+-- the count of the store, as the fault of its reading tells it
+pub read_as : {T : Type 0} (r : Result T RecordFault) (fault : RecordFault) → r ≡ Err fault → (before now : ℕ)
+    → TellsFault before now (r ≡ Err record_fault.DiskFault)
+    → TellsFault before now (◌≡◌ {A = Result (Unit {0}) MoveFault} (Err (move_fault.Store fault)) (Err (move_fault.Store record_fault.DiskFault)))
+read_as r fault is before now left = record {
+  later = left.later;
+  fault = λ h. left.fault (cc (is, h));
+  quiet = λ never. left.quiet (λ h. never (cc (is, h)));
+}
 
 -- no fault came of a call before
 pub fault_then : (a b c : ℕ) (X Y : Type 0) → TellsFault a b X → (X → ⊥) → TellsFault b c Y → TellsFault a c Y

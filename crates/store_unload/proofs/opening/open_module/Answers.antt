@@ -15,7 +15,8 @@ use Rattle.line_service.specs.declared.stops.Stop.{Stop}
 use Rattle.line_service.specs.declared.stops.Stop.TheVariants.{Damaged, ModuleFault}
 use Rattle.cca_machine.specs.Coprocessor.{IsBrokenModule, IsModuleStop}
 use Rattle.store_unload.specs.Stops.{load_stop, role_stop}
-use Rattle.store_unload.proofs.DiskLemmas.{Left, at_load, at_role, cell_named, err_told, left_open, left_shut, load_broken, load_judged, of_load, of_role, role_cell, same_fault, settled_keeps}
+use Rattle.store_unload.proofs.DiskLemmas.{Left, at_load, at_role, cell_named, err_told, left_open, left_shut, load_broken, load_judged, no_fault}
+use Rattle.store_unload.proofs.DiskLemmas.{of_load, of_role, role_cell, same_fault, settled_keeps}
 use Rattle.store_unload.proofs.OpeningLemmas.{body_changes, broken_role, is_loaded_after, judged_role, registers_after, stands_unbroken}
 use Rattle.store_unload.proofs.BothLemmas.{never_err}
 use Rattle.store_unload.proofs.opening.open_module.Goals as goal
@@ -71,7 +72,8 @@ returns-in-Ok-open_roles-clause-left g c =
     (omega (arith, c.settle.ensures.cause.later, c.load.ensures.cause.later, c.open_roles.ensures.cause.later))
     c.in-Ok-load.held ModuleFault
     (settled_kept m1 m3 (keeps_then m1 m2 m3 c.load.ensures.keeps c.open_roles.ensures.keeps) c.in-Ok.ensures.settled)
-    (c.open_roles.ensures.cause.quiet (λ h. cc (h, c.in-Ok-open_roles.is)) ∙ (c.load.ensures.cause.quiet (λ h. cc (h, c.in-Ok-load.is)) ∙ c.in-Ok.ensures.cause.quiet))
+    (c.open_roles.ensures.cause.quiet (λ h. no_fault c.in-Ok-open_roles.is h)
+    ∙ (c.load.ensures.cause.quiet (λ h. no_fault c.in-Ok-load.is h) ∙ c.in-Ok.ensures.cause.quiet))
 
 -- ---- its roles weren't read
 
@@ -118,7 +120,7 @@ returns-in-Err-open_roles-clause-left g c =
     (λ h. rose_wider _ _ _ _ (omega (arith, c.settle.ensures.cause.later, c.load.ensures.cause.later)) c.open_roles.ensures.cause.later (omega arith)
     (c.open_roles.ensures.cause.failed (here.is ∙ ap Err (at_role here.fault here.ensures.faults h))))
     (λ never. c.open_roles.ensures.cause.quiet (λ h. never (ap role_stop (same_fault c.open_roles.result here.fault role_fault.DiskFault here.is h)))
-    ∙ (c.load.ensures.cause.quiet (λ h. cc (h, c.in-Ok-load.is)) ∙ c.in-Ok.ensures.cause.quiet)))
+    ∙ (c.load.ensures.cause.quiet (λ h. no_fault c.in-Ok-load.is h) ∙ c.in-Ok.ensures.cause.quiet)))
 
 pub returns-in-Err-open_roles-clause-stops : goal.returns-in-Err-open_roles-clause-stops
 returns-in-Err-open_roles-clause-stops g c =

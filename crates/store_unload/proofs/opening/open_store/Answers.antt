@@ -13,7 +13,8 @@ use Rattle.line_service.specs.declared.stops.Stop.{Stop}
 use Rattle.line_service.specs.declared.stops.Stop.TheVariants.{Damaged, StoreFault}
 use Rattle.request_rules.specs.Judging.{IsStoreStop}
 use Rattle.request_rules.specs.Stored.{read_stop}
-use Rattle.store_unload.proofs.DiskLemmas.{Left, at_record, cell_named, err_told, left_open, left_shut, of_record, record_cell, record_kind, same_fault, settled_keeps}
+use Rattle.store_unload.proofs.DiskLemmas.{Left, at_record, cell_named, err_told, left_open, left_shut, no_fault, of_record, record_cell, record_kind}
+use Rattle.store_unload.proofs.DiskLemmas.{same_fault, settled_keeps}
 use Rattle.store_unload.proofs.OpeningLemmas.{told_earlier_as, kept_undamaged}
 use Rattle.store_unload.proofs.opening.open_store.Goals as goal
 
@@ -39,7 +40,7 @@ returns-in-Ok-open_records-clause-left g c =
     (keeps_then d0 d1 d2 (settled_keeps d0 d1 c.settle.ensures.content c.settle.ensures.moments) c.open_records.ensures.keeps)
     (omega (arith, c.settle.ensures.cause.later, c.open_records.ensures.cause.later)) tt StoreFault
     (settled_kept d1 d2 c.open_records.ensures.keeps c.in-Ok.ensures.settled)
-    (c.open_records.ensures.cause.quiet (λ h. cc (h, c.in-Ok-open_records.is)) ∙ c.in-Ok.ensures.cause.quiet)
+    (c.open_records.ensures.cause.quiet (λ h. no_fault c.in-Ok-open_records.is h) ∙ c.in-Ok.ensures.cause.quiet)
 
 -- ---- its records weren't read
 

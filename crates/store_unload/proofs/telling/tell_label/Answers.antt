@@ -1,4 +1,5 @@
 use Rattle.std.proofs.Common.{◌≡◌, ℕ, List, Option, None, Some, get_or, sym, subst, codes, ◌∙◌}
+use Rattle.std.proofs.lemmas.Option.{same_Some}
 use Rattle.key_cells.specs.Lease.{bench_of}
 use Rattle.record_bodies.specs.declared.rows.Row.{Row}
 use Rattle.key_tokens.specs.Denotes.{Denoted}
@@ -10,7 +11,8 @@ use Rattle.store_unload.specs.Moves.{remarks_by, with_newlines}
 use Rattle.store_unload.specs.Telling.{requests_text}
 use Rattle.key_records.specs.declared.faults.RecordFault.TheVariants.{DiskFault}
 use Rattle.store_unload.specs.declared.writing.MoveFault.TheVariants.{ReportFault, WriteFault, Store}
-use Rattle.store_unload.proofs.CallLaws.{is_fault, none_called, not_called, some_sent, store_failed, store_fault, store_read, work_only, kept_masters}
+use Rattle.store_unload.proofs.CallLaws.{file_not_report, is_fault, kept_masters, none_called, not_called, report_not_file, some_sent}
+use Rattle.store_unload.proofs.CallLaws.{store_failed, store_fault, store_not_file, store_not_report, store_read, work_only}
 use Rattle.record_bodies.specs.Directory.{label_at}
 use Rattle.record_bodies.specs.Entries.{row_directory}
 use Rattle.store_unload.proofs.JudgeLemmas.{holds_one}
@@ -57,7 +59,8 @@ returns-in-Err-clause-own g c = λ m place loaded found.
 pub returns-in-Ok-Token-clause-own : goal.returns-in-Ok-Token-clause-own
 returns-in-Ok-Token-clause-own g c = λ m place loaded found.
     let own = c.in-Ok-Token.ensures.own m loaded in
-    let here : c.place_of-place.result ≡ place = cc (sym c.place_of-place.ensures.found ∙ found) in
+    let here : c.place_of-place.result ≡ place =
+        same_Some c.place_of-place.result place (sym c.place_of-place.ensures.found ∙ found) in
     moved_as_read (keys_of m) c.args.how.now c.args.label.now (get_or c.args.records.now place None) _ _
     own.0 c.in-Ok-Token.field-0 (at_place m c.args.records.now c.place_of-place.result place (bench_of c.unload_label.new.lease).body own.0 here own.1) own.2 (sym c.is_same.ensures ∙ c.if-is_same.false)
     c.in-Ok-Token.token c.send_requests.result _ _ _ c.in-Ok-Token.field-0-is c.send_requests.ensures.sends c.send_requests.ensures.fault
@@ -65,7 +68,8 @@ returns-in-Ok-Token-clause-own g c = λ m place loaded found.
 pub returns-in-Ok-Kept-clause-own : goal.returns-in-Ok-Kept-clause-own
 returns-in-Ok-Kept-clause-own g c = λ m place loaded found.
     let own = c.in-Ok-Kept.ensures.own m loaded in
-    let here : c.place_of-place.result ≡ place = cc (sym c.place_of-place.ensures.found ∙ found) in
+    let here : c.place_of-place.result ≡ place =
+        same_Some c.place_of-place.result place (sym c.place_of-place.ensures.found ∙ found) in
     kept_as_read (keys_of m) c.args.how.now c.args.label.now (get_or c.args.records.now place None) _ _
     own.0 c.in-Ok-Kept.field-0 (at_place m c.args.records.now c.place_of-place.result place (bench_of c.unload_label.new.lease).body own.0 here own.1) own.2 (sym c.is_same.ensures ∙ c.if-is_same.false)
     c.in-Ok-Kept.rule c.digits_of.result c.send_remark-in-Ok-Kept.result _ _ _ c.in-Ok-Kept.field-0-is c.digits_of.ensures c.send_remark-in-Ok-Kept.ensures.sends c.send_remark-in-Ok-Kept.ensures.fault
@@ -86,7 +90,8 @@ returns-then-is_same-clause-faults g c =
 
 pub returns-then-is_same-clause-file_left : goal.returns-then-is_same-clause-file_left
 returns-then-is_same-clause-file_left g c =
-    not_called ReportFault c.send_remark.result c.send_remark.ensures.fault WriteFault (λ same. cc same) (g.K.Sink.faults c.args.file.now)
+    not_called ReportFault c.send_remark.result c.send_remark.ensures.fault WriteFault (λ same. file_not_report same)
+    (g.K.Sink.faults c.args.file.now)
 
 pub returns-then-is_same-clause-report_left : goal.returns-then-is_same-clause-report_left
 returns-then-is_same-clause-report_left g c =
@@ -94,7 +99,8 @@ returns-then-is_same-clause-report_left g c =
 
 pub returns-then-is_same-clause-store_left : goal.returns-then-is_same-clause-store_left
 returns-then-is_same-clause-store_left g c =
-    not_called ReportFault c.send_remark.result c.send_remark.ensures.fault (Store DiskFault) (λ same. cc same) (g.D.Disk.faults c.args.store.now)
+    not_called ReportFault c.send_remark.result c.send_remark.ensures.fault (Store DiskFault) (λ same. store_not_report same)
+    (g.D.Disk.faults c.args.store.now)
 
 pub returns-then-is_same-clause-keeps : goal.returns-then-is_same-clause-keeps
 returns-then-is_same-clause-keeps g c =
@@ -118,11 +124,14 @@ returns-in-Ok-Token-clause-file_left g c =
 
 pub returns-in-Ok-Token-clause-report_left : goal.returns-in-Ok-Token-clause-report_left
 returns-in-Ok-Token-clause-report_left g c =
-    not_called WriteFault c.send_requests.result c.send_requests.ensures.fault ReportFault (λ same. cc same) (g.P.Sink.faults c.args.report.now)
+    not_called WriteFault c.send_requests.result c.send_requests.ensures.fault ReportFault (λ same. report_not_file same)
+    (g.P.Sink.faults c.args.report.now)
 
 pub returns-in-Ok-Token-clause-store_left : goal.returns-in-Ok-Token-clause-store_left
 returns-in-Ok-Token-clause-store_left g c =
-    store_read WriteFault c.send_requests.result c.send_requests.ensures.fault (λ same. cc same) c.in-Ok-Token.field-0 c.place_of-place.result (g.D.Disk.faults c.args.store.now) (g.D.Disk.faults c.unload_label.new.store) c.in-Ok-Token.ensures.fails
+    store_read WriteFault c.send_requests.result c.send_requests.ensures.fault (λ same. store_not_file same)
+    c.in-Ok-Token.field-0 c.place_of-place.result (g.D.Disk.faults c.args.store.now) (g.D.Disk.faults c.unload_label.new.store)
+    c.in-Ok-Token.ensures.fails
 
 pub returns-in-Ok-Token-clause-keeps : goal.returns-in-Ok-Token-clause-keeps
 returns-in-Ok-Token-clause-keeps g c =
@@ -146,7 +155,8 @@ returns-in-Ok-Kept-clause-faults g c =
 
 pub returns-in-Ok-Kept-clause-file_left : goal.returns-in-Ok-Kept-clause-file_left
 returns-in-Ok-Kept-clause-file_left g c =
-    not_called ReportFault c.send_remark-in-Ok-Kept.result c.send_remark-in-Ok-Kept.ensures.fault WriteFault (λ same. cc same) (g.K.Sink.faults c.args.file.now)
+    not_called ReportFault c.send_remark-in-Ok-Kept.result c.send_remark-in-Ok-Kept.ensures.fault WriteFault (λ same. file_not_report same)
+    (g.K.Sink.faults c.args.file.now)
 
 pub returns-in-Ok-Kept-clause-report_left : goal.returns-in-Ok-Kept-clause-report_left
 returns-in-Ok-Kept-clause-report_left g c =
@@ -154,7 +164,9 @@ returns-in-Ok-Kept-clause-report_left g c =
 
 pub returns-in-Ok-Kept-clause-store_left : goal.returns-in-Ok-Kept-clause-store_left
 returns-in-Ok-Kept-clause-store_left g c =
-    store_read ReportFault c.send_remark-in-Ok-Kept.result c.send_remark-in-Ok-Kept.ensures.fault (λ same. cc same) c.in-Ok-Kept.field-0 c.place_of-place.result (g.D.Disk.faults c.args.store.now) (g.D.Disk.faults c.unload_label.new.store) c.in-Ok-Kept.ensures.fails
+    store_read ReportFault c.send_remark-in-Ok-Kept.result c.send_remark-in-Ok-Kept.ensures.fault (λ same. store_not_report same)
+    c.in-Ok-Kept.field-0 c.place_of-place.result (g.D.Disk.faults c.args.store.now) (g.D.Disk.faults c.unload_label.new.store)
+    c.in-Ok-Kept.ensures.fails
 
 pub returns-in-Ok-Kept-clause-keeps : goal.returns-in-Ok-Kept-clause-keeps
 returns-in-Ok-Kept-clause-keeps g c =
@@ -178,11 +190,11 @@ returns-in-Err-clause-faults g c =
 
 pub returns-in-Err-clause-file_left : goal.returns-in-Err-clause-file_left
 returns-in-Err-clause-file_left g c =
-    none_called c.in-Err.fault WriteFault (λ same. cc same) (g.K.Sink.faults c.args.file.now)
+    none_called c.in-Err.fault WriteFault (λ same. store_not_file same) (g.K.Sink.faults c.args.file.now)
 
 pub returns-in-Err-clause-report_left : goal.returns-in-Err-clause-report_left
 returns-in-Err-clause-report_left g c =
-    none_called c.in-Err.fault ReportFault (λ same. cc same) (g.P.Sink.faults c.args.report.now)
+    none_called c.in-Err.fault ReportFault (λ same. store_not_report same) (g.P.Sink.faults c.args.report.now)
 
 pub returns-in-Err-clause-store_left : goal.returns-in-Err-clause-store_left
 returns-in-Err-clause-store_left g c =

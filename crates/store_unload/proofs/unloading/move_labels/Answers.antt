@@ -6,15 +6,18 @@ use Rattle.key_cells.specs.Lease.{bench_of}
 use Rattle.verb_rules.specs.Keys.{opened}
 use Rattle.line_service.proofs.StopLemmas.{count_still, grows_none}
 use Rattle.request_rules.specs.Stored.{read_stop}
-use Rattle.store_unload.specs.declared.writing.MoveFault.TheVariants.{Store}
+use Rattle.store_unload.specs.declared.writing.MoveFault.TheVariants.{ReportFault, Store, WriteFault}
 use Rattle.store_unload.specs.Statuses.{status_of_lem}
 use Rattle.store_unload.specs.Unloading.{IsLabelStatus, MoveRests, MoveTold, Still, TellsNone}
 use Rattle.store_unload.specs.declared.unloading.MoveStatus.{MoveStatus}
 use Rattle.store_unload.specs.declared.unloading.MoveStatus.TheVariants.{Refused}
+use Rattle.store_unload.proofs.CallLaws.{none_called, store_not_file, store_not_report}
+use Rattle.store_unload.proofs.DiskLemmas.{no_fault}
 use Rattle.store_unload.proofs.JudgeLemmas.{judged_loan}
 use Rattle.store_unload.proofs.MoveLemmas.{fault_told, never_opened, told_opened}
 use Rattle.store_unload.proofs.RestLemmas.{none_told, read_key, read_rule, still_loaded, unread}
-use Rattle.store_unload.proofs.ToldLemmas.{fault_then, file_as, judged_key, labels_told, never_none, never_refused, of_store, report_as, rests_told, rule_told, store_as, told_kind, where_told}
+use Rattle.store_unload.proofs.ToldLemmas.{fault_then, file_as, judged_key, labels_told, never_none, never_refused, not_report, not_run, of_store}
+use Rattle.store_unload.proofs.ToldLemmas.{read_as, report_as, rests_told, rule_told, store_as, told_kind, where_told}
 use Rattle.store_unload.proofs.unloading.move_labels.Goals as goal
 
 -- ---- the labels were told
@@ -72,7 +75,7 @@ returns-in-Ok-Ok-clause-keeps g c =
 
 pub returns-in-Ok-Ok-clause-store_left : goal.returns-in-Ok-Ok-clause-store_left
 returns-in-Ok-Ok-clause-store_left g c =
-    fault_then _ _ _ _ _ c.judge_move.ensures.store_left (λ h. cc (h, c.in-Ok-Ok.is))
+    fault_then _ _ _ _ _ c.judge_move.ensures.store_left (λ h. no_fault c.in-Ok-Ok.is h)
     (store_as c.write_move.result c.status_of_told.result c.status_of_told.ensures _ _ c.write_move.ensures.faults c.write_move.ensures.store_left)
 
 pub returns-in-Ok-Ok-clause-outputs : goal.returns-in-Ok-Ok-clause-outputs
@@ -94,7 +97,7 @@ returns-in-Ok-Err-clause-told g c = λ s opened.
 
 pub returns-in-Ok-Err-clause-own : goal.returns-in-Ok-Err-clause-own
 returns-in-Ok-Err-clause-own g c = λ m loaded told.
-    absurd (none_told (Refused c.number.result) (λ is. cc is) c.args.sink.now c.args.report.now told)
+    absurd (none_told (Refused c.number.result) (λ is. not_run is) c.args.sink.now c.args.report.now told)
 
 pub returns-in-Ok-Err-clause-refusal : goal.returns-in-Ok-Err-clause-refusal
 returns-in-Ok-Err-clause-refusal g c = λ m loaded rule is.
@@ -107,14 +110,14 @@ returns-in-Ok-Err-clause-refusal g c = λ m loaded rule is.
 pub returns-in-Ok-Err-clause-store_left : goal.returns-in-Ok-Err-clause-store_left
 returns-in-Ok-Err-clause-store_left g c = record {
   later = c.judge_move.ensures.store_left.later;
-  fault = λ h. absurd (cc h);
-  quiet = λ never. c.judge_move.ensures.store_left.quiet (λ h. cc (h, c.in-Ok-Err.is));
+  fault = λ h. absurd (not_run h);
+  quiet = λ never. c.judge_move.ensures.store_left.quiet (λ h. no_fault c.in-Ok-Err.is h);
 }
 
 pub returns-in-Ok-Err-clause-outputs : goal.returns-in-Ok-Err-clause-outputs
 returns-in-Ok-Err-clause-outputs g c = record {
-  file_left = count_still _ _ (λ h. cc h);
-  report_left = count_still _ _ (λ h. cc h);
+  file_left = count_still _ _ (λ h. not_run h);
+  report_left = count_still _ _ (λ h. not_report h);
   file_grows = grows_none (g.K.Sink.held c.args.sink.now);
   report_grows = grows_none (g.P.Sink.held c.args.report.now);
 }
@@ -158,15 +161,16 @@ returns-in-Err-clause-untold g c = λ none.
 
 pub returns-in-Err-clause-store_left : goal.returns-in-Err-clause-store_left
 returns-in-Err-clause-store_left g c =
-    let left = c.judge_move.ensures.store_left in
     store_as (Err (Store c.in-Err.fault)) c.status_of_told-in-Err.result c.status_of_told-in-Err.ensures _ _
     (of_store c.in-Err.fault c.in-Err.ensures.faults)
-    (record { later = left.later; fault = λ h. left.fault (cc (c.in-Err.is, h)); quiet = λ never. left.quiet (λ h. never (cc (c.in-Err.is, h))) })
+    (read_as c.judge_move.result c.in-Err.fault c.in-Err.is _ _ c.judge_move.ensures.store_left)
 
 pub returns-in-Err-clause-outputs : goal.returns-in-Err-clause-outputs
 returns-in-Err-clause-outputs g c = record {
-  file_left = file_as (Err (Store c.in-Err.fault)) c.status_of_told-in-Err.result c.status_of_told-in-Err.ensures _ _ (count_still _ _ (λ h. cc h));
-  report_left = report_as (Err (Store c.in-Err.fault)) c.status_of_told-in-Err.result c.status_of_told-in-Err.ensures _ _ (count_still _ _ (λ h. cc h));
+  file_left = file_as (Err (Store c.in-Err.fault)) c.status_of_told-in-Err.result c.status_of_told-in-Err.ensures _ _
+      (none_called c.in-Err.fault WriteFault (λ same. store_not_file same) (g.K.Sink.faults c.args.sink.now));
+  report_left = report_as (Err (Store c.in-Err.fault)) c.status_of_told-in-Err.result c.status_of_told-in-Err.ensures _ _
+      (none_called c.in-Err.fault ReportFault (λ same. store_not_report same) (g.P.Sink.faults c.args.report.now));
   file_grows = grows_none (g.K.Sink.held c.args.sink.now);
   report_grows = grows_none (g.P.Sink.held c.args.report.now);
 }

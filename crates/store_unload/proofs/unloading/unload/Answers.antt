@@ -1,6 +1,6 @@
 -- The words ask for one move.
 use Rattle.std.proofs.Common.{refl, inl, inr}
-use Rattle.store_unload.proofs.CalledLemmas.{opens_called, opens_ends, opens_usage}
+use Rattle.store_unload.proofs.CalledLemmas.{not_usage, opens_called, opens_ends, opens_usage}
 use Rattle.store_unload.proofs.unloading.unload.Goals as goal
 
 -- ---- the disks were opened
@@ -21,7 +21,7 @@ returns-in-Ok-clause-ends g c = λ called. (c.in-Some.how, c.in-Some.ensures.fou
 -- ---- there was no memory
 
 pub returns-in-Err-clause-usage : goal.returns-in-Err-clause-usage
-returns-in-Err-clause-usage g c = (λ is. cc is, λ never. absurd (never (c.in-Some.how, c.in-Some.ensures.found)))
+returns-in-Err-clause-usage g c = (λ is. absurd (not_usage is), λ never. absurd (never (c.in-Some.how, c.in-Some.ensures.found)))
 
 pub returns-in-Err-clause-uncalled : goal.returns-in-Err-clause-uncalled
 returns-in-Err-clause-uncalled g c = λ none. record { no_file = refl; no_report = refl; no_module = refl; no_store = refl }

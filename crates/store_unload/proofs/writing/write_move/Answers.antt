@@ -11,7 +11,7 @@ use Rattle.key_records.specs.declared.faults.RecordFault.TheVariants.{DiskFault}
 use Rattle.device_cells.proofs.Media.{keeps_still, keeps_then}
 use Rattle.line_service.proofs.StopLemmas.{count_on}
 use Rattle.store_unload.specs.declared.writing.MoveFault.TheVariants.{ReportFault, Store, WriteFault}
-use Rattle.store_unload.proofs.CallLaws.{quiet_to}
+use Rattle.store_unload.proofs.CallLaws.{done_not, quiet_to}
 use Rattle.store_unload.proofs.LeaseLaws.{masters_then, loaded_later, opened_later, labels_later}
 use Rattle.store_unload.proofs.PartLaws.{grew, grew_none, told_all, told_more, told_to}
 use Rattle.store_unload.proofs.RecordLaws.{got_none, read_more, rests_all, rests_to}
@@ -77,9 +77,9 @@ loop-index-preserved g c =
           (c.in-Ok.ensures.own m place (loaded_later c.args.lease.now c.loop-index.lease before.masters m c.args.held.now loaded) found));
       file_grows = grew (g.K.Sink.held c.args.file.now) (g.K.Sink.held c.loop-index.file) (g.K.Sink.held c.tell_label.new.file) before.file_grows c.in-Ok.ensures.file_grows;
       report_grows = grew (g.P.Sink.held c.args.report.now) (g.P.Sink.held c.loop-index.report) (g.P.Sink.held c.tell_label.new.report) before.report_grows c.in-Ok.ensures.report_grows;
-      file_quiet = c.in-Ok.ensures.file_left.quiet (λ is. cc is) ∙ before.file_quiet;
-      report_quiet = c.in-Ok.ensures.report_left.quiet (λ is. cc is) ∙ before.report_quiet;
-      store_quiet = c.in-Ok.ensures.store_left.quiet (λ is. cc is) ∙ before.store_quiet;
+      file_quiet = c.in-Ok.ensures.file_left.quiet (λ is. done_not is) ∙ before.file_quiet;
+      report_quiet = c.in-Ok.ensures.report_left.quiet (λ is. done_not is) ∙ before.report_quiet;
+      store_quiet = c.in-Ok.ensures.store_left.quiet (λ is. done_not is) ∙ before.store_quiet;
       keeps = keeps_then m0 m1 (g.D.Disk.medium c.tell_label.new.store) before.keeps c.in-Ok.ensures.keeps;
       masters = masters_then c.args.lease.now c.loop-index.lease c.tell_label.new.lease before.masters c.in-Ok.ensures.masters;
     }
@@ -155,15 +155,18 @@ returns-clause-report_grows g c =
 
 pub returns-clause-file_left : goal.returns-clause-file_left
 returns-clause-file_left g c =
-    quiet_to (g.K.Sink.faults c.args.file.now) (g.K.Sink.faults c.loop-index.file) (◌≡◌ {A = Result (Unit {0}) MoveFault} (Ok tt) (Err WriteFault)) c.loop-index.invariant.file_quiet (λ same. cc same)
+    quiet_to (g.K.Sink.faults c.args.file.now) (g.K.Sink.faults c.loop-index.file)
+    (◌≡◌ {A = Result (Unit {0}) MoveFault} (Ok tt) (Err WriteFault)) c.loop-index.invariant.file_quiet (λ same. done_not same)
 
 pub returns-clause-report_left : goal.returns-clause-report_left
 returns-clause-report_left g c =
-    quiet_to (g.P.Sink.faults c.args.report.now) (g.P.Sink.faults c.loop-index.report) (◌≡◌ {A = Result (Unit {0}) MoveFault} (Ok tt) (Err ReportFault)) c.loop-index.invariant.report_quiet (λ same. cc same)
+    quiet_to (g.P.Sink.faults c.args.report.now) (g.P.Sink.faults c.loop-index.report)
+    (◌≡◌ {A = Result (Unit {0}) MoveFault} (Ok tt) (Err ReportFault)) c.loop-index.invariant.report_quiet (λ same. done_not same)
 
 pub returns-clause-store_left : goal.returns-clause-store_left
 returns-clause-store_left g c =
-    quiet_to (g.D.Disk.faults c.args.store.now) (g.D.Disk.faults c.loop-index.store) (◌≡◌ {A = Result (Unit {0}) MoveFault} (Ok tt) (Err (Store DiskFault))) c.loop-index.invariant.store_quiet (λ same. cc same)
+    quiet_to (g.D.Disk.faults c.args.store.now) (g.D.Disk.faults c.loop-index.store)
+    (◌≡◌ {A = Result (Unit {0}) MoveFault} (Ok tt) (Err (Store DiskFault))) c.loop-index.invariant.store_quiet (λ same. done_not same)
 
 pub returns-clause-keeps : goal.returns-clause-keeps
 returns-clause-keeps g c =
