@@ -8,7 +8,7 @@ use Rattle.audit_trail.specs.declared.faults.TrailFault.TheVariants.{DiskFault, 
 use Rattle.audit_trail.proofs.MediumLaws.{same_fault, named_within}
 use Rattle.audit_trail.proofs.OpeningLaws.{no_stray, checked_more, stale_first}
 use Rattle.audit_trail.proofs.OpenedLaws.{failed_then}
-use Rattle.audit_trail.proofs.ReadingLaws.{ok_not_err, err_as, damaged_not_of_disk}
+use Rattle.audit_trail.proofs.ReadingLaws.{ok_not_err, err_as, damaged_not_of_disk, one_cell}
 use Rattle.audit_trail.proofs.opening.check_cells.Goals as goal
 
 pub returns-then-not-is_same-clause-damaged : goal.returns-then-not-is_same-clause-damaged
@@ -16,7 +16,7 @@ returns-then-not-is_same-clause-damaged g c n is =
     let cell : ℕ = c.loop-cell.cell in
     let last : ℕ = c.args.last in
     let m0 = g.T.Disk.medium c.args.trail.now in
-    let same : cell ≡ n = cc is in
+    let same : cell ≡ n = sym (one_cell cell n is) in
     subst (λ (k : ℕ). Told m0 (λ image. IsFirstStale image last k)) same
     (told_next m0 (g.T.Disk.medium c.loop-cell.trail) (λ image. Scanned image 4096 (Some last) × Checked image last cell) (λ image. CellReads image cell c.in-Ok.number) (λ image. IsFirstStale image last cell)
     c.loop-cell.invariant.keeps
