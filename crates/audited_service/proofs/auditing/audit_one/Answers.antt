@@ -1,18 +1,28 @@
 -- What a line leaves, by how far it came.
-use Rattle.std.proofs.Common.{ℕ, List, Ok, Err, refl, ap, subst, ◌∙◌, ⊎_elim}
+use Rattle.std.proofs.Common.{◌≡◌, ℕ, List, Result, Ok, Err, refl, ap, subst, ◌∙◌, ⊎_elim}
 use Rattle.device_cells.specs.Medium.{Told}
 use Rattle.audit_trail.specs.TrailStands.{StandsForTrail}
 use Rattle.line_service.specs.Devices.{devices, outside}
 use Rattle.line_service.specs.Machine.{world}
+use Rattle.line_service.specs.declared.serving.Served.{Served}
 use Rattle.line_service.specs.declared.serving.Served.TheVariants.{Ended}
+use Rattle.line_service.specs.declared.stops.Stop.{Stop}
 use Rattle.line_service.specs.declared.stops.Stop.TheVariants.{ReadFault, InputLimit}
 use Rattle.line_service.proofs.AnsweredLemmas.{unmoved_stopped, unmoved_untouched}
-use Rattle.line_service.proofs.TakenLemmas.{read_ended, read_failed, read_over}
+use Rattle.line_service.proofs.TakenLemmas.{over_not_failed, read_ended, read_failed, read_over}
 use Rattle.audited_service.specs.EachLine.{EntrySent}
 use Rattle.audited_service.proofs.RecordLemmas.{stands_off, line_failed, at_end_recorded, unread_recorded, over_recorded}
 use Rattle.audited_service.proofs.SentLemmas.{sent_part, sent_answered, sent_unmoved, unappended, line_after_append}
 use Rattle.audited_service.proofs.KeptLemmas.{unread_kept, sent_kept, stopped_kept}
 use Rattle.audited_service.proofs.auditing.audit_one.Goals as goal
+
+-- a line or the end is no fault
+no_err : {A B : Type 0} {v : A} {e : B} → ◌≡◌ {A = Result A B} (Ok v) (Err e) → ⊥
+no_err is = cc is
+
+-- and an input that is too long isn't one that failed
+over_not_unread : ◌≡◌ {A = Result Served Stop} (Err InputLimit) (Err ReadFault) → ⊥
+over_not_unread is = cc is
 
 pub returns-in-Ok-answer_taken-clause-serves : goal.returns-in-Ok-answer_taken-clause-serves
 returns-in-Ok-answer_taken-clause-serves g c = λ s stands.
@@ -46,7 +56,8 @@ returns-in-Ok-answer_taken-clause-kept g c =
           (devices (g.M.Disk.medium c.answer_taken.new.module) (g.M.Disk.faults c.answer_taken.new.module) (g.D.Disk.medium c.answer_taken.new.store) (g.D.Disk.faults c.answer_taken.new.store) (g.E.Entropy.left c.answer_taken.new.entropy) (g.E.Entropy.faults c.answer_taken.new.entropy));
     })
     c.args.lines.now c.read_line.new.buffer c.in-Ok.taken c.in_default.not-End c.in-Ok.ensures.answer c.in-Ok.ensures.shown c.in-Ok.ensures.advances c.in-Ok.ensures.end
-    c.read_line.ensures.ended c.read_line.ensures.at_end c.read_line.ensures.counted c.read_line.ensures.within c.in-Ok.ensures.limit c.read_line.ensures.later (c.in-Ok.ensures.quiet (λ h. cc h))
+    c.read_line.ensures.ended c.read_line.ensures.at_end c.read_line.ensures.counted c.read_line.ensures.within
+    c.in-Ok.ensures.limit c.read_line.ensures.later (c.in-Ok.ensures.quiet (λ h. no_err h))
     c.append_and_send.result c.args.held.now c.entry_taken-entry.result _ (g.T.Disk.medium c.args.trail.now) (g.T.Disk.medium c.append_and_send.new.trail)
     (g.T.Disk.faults c.args.trail.now) (g.T.Disk.faults c.append_and_send.new.trail) c.append_and_send.ensures.sent c.in-Ok-answer_taken.ensures.left c.in-Ok-answer_taken.ensures.ready c.append_and_send.ensures.held
 
@@ -75,7 +86,8 @@ returns-in-Err-clause-kept g c =
           (devices (g.M.Disk.medium c.answer_taken.new.module) (g.M.Disk.faults c.answer_taken.new.module) (g.D.Disk.medium c.answer_taken.new.store) (g.D.Disk.faults c.answer_taken.new.store) (g.E.Entropy.left c.answer_taken.new.entropy) (g.E.Entropy.faults c.answer_taken.new.entropy));
     })
     c.args.lines.now c.read_line.new.buffer c.in-Ok.taken c.in_default.not-End c.in-Ok.ensures.answer c.in-Ok.ensures.shown c.in-Ok.ensures.advances c.in-Ok.ensures.end
-    c.read_line.ensures.ended c.read_line.ensures.at_end c.read_line.ensures.counted c.read_line.ensures.within c.in-Ok.ensures.limit c.read_line.ensures.later (c.in-Ok.ensures.quiet (λ h. cc h))
+    c.read_line.ensures.ended c.read_line.ensures.at_end c.read_line.ensures.counted c.read_line.ensures.within
+    c.in-Ok.ensures.limit c.read_line.ensures.later (c.in-Ok.ensures.quiet (λ h. no_err h))
     c.in-Err.stop c.in-Err.ensures.stops c.in-Err.ensures.left c.in-Err.ensures.undamaged refl refl (g.T.Disk.medium c.args.trail.now) (g.T.Disk.faults c.args.trail.now) c.requires.trail.settled c.requires.held
 
 pub returns-in-End-clause-serves : goal.returns-in-End-clause-serves
@@ -121,7 +133,7 @@ returns-in-End-clause-kept g c =
     (g.S.Source.left c.args.source.now) (g.S.Source.left c.read_line.new.source) (g.K.Sink.held c.args.sink.now) (g.S.Source.faults c.args.source.now) (g.S.Source.faults c.read_line.new.source) (g.K.Sink.faults c.args.sink.now)
     (g.T.Disk.medium c.args.trail.now) (g.T.Disk.faults c.args.trail.now) c.args.lines.now c.read_line.new.buffer (Ok c.in-Ok.taken) (Ok Ended) (read_ended _ c.in-End.is)
     c.in-Ok.ensures.answer c.in-Ok.ensures.shown c.in-Ok.ensures.end c.read_line.ensures.ended c.in-Ok.ensures.ends c.read_line.ensures.at_end c.read_line.ensures.counted c.read_line.ensures.within c.read_line.ensures.early c.in-Ok.ensures.limit c.in-Ok.ensures.full c.in-Ok.ensures.short tt tt
-    (record { later = c.read_line.ensures.later; fault = λ h. absurd (cc h); quiet = λ none. c.in-Ok.ensures.quiet (λ h. cc h) })
+    (record { later = c.read_line.ensures.later; fault = λ h. absurd (no_err h); quiet = λ none. c.in-Ok.ensures.quiet (λ h. no_err h) })
     c.requires.disks.module_settled c.requires.disks.store_settled c.requires.trail.settled c.requires.held
 
 pub returns-in-Err-ReadFault-clause-kept : goal.returns-in-Err-ReadFault-clause-kept
@@ -143,7 +155,11 @@ returns-in-Err-InputLimit-clause-kept g c =
     (g.S.Source.left c.args.source.now) (g.S.Source.left c.read_line.new.source) (g.K.Sink.held c.args.sink.now) (g.S.Source.faults c.args.source.now) (g.S.Source.faults c.read_line.new.source) (g.K.Sink.faults c.args.sink.now)
     (g.T.Disk.medium c.args.trail.now) (g.T.Disk.faults c.args.trail.now) c.args.lines.now c.read_line.new.buffer (Err c.in-Err-InputLimit.field-0) (Err InputLimit) (read_over _ c.in-Err-InputLimit.field-0-is)
     tt tt c.in-Err-InputLimit.ensures.end c.read_line.ensures.ended c.in-Err-InputLimit.ensures.ends c.read_line.ensures.at_end c.read_line.ensures.counted c.read_line.ensures.within c.read_line.ensures.early c.in-Err-InputLimit.ensures.limit c.in-Err-InputLimit.ensures.full c.in-Err-InputLimit.ensures.short c.in-Err-InputLimit.ensures.emptied c.in-Err-InputLimit.ensures.lost
-    (record { later = c.read_line.ensures.later; fault = λ h. absurd (cc h); quiet = λ none. c.in-Err-InputLimit.ensures.quiet (λ h. cc (h, c.in-Err-InputLimit.field-0-is)) })
+    (record {
+      later = c.read_line.ensures.later;
+      fault = λ h. absurd (over_not_unread h);
+      quiet = λ none. c.in-Err-InputLimit.ensures.quiet (over_not_failed c.in-Err-InputLimit.field-0 c.in-Err-InputLimit.field-0-is);
+    })
     c.requires.disks.module_settled c.requires.disks.store_settled c.requires.trail.settled c.requires.held
 
 pub returns-in-End-clause-unmoved : goal.returns-in-End-clause-unmoved

@@ -1,16 +1,22 @@
-use Rattle.std.proofs.Common.{◌≡◌, ℕ, List, Option, Err, inl, inr, refl, sym, ap, subst, ◌∙◌, arith}
-use Rattle.std.specs.Prelude.{IsSome}
+use Rattle.std.proofs.Common.{◌≡◌, ◌⊎◌, ℕ, List, Option, Err, inl, inr, refl, sym, ap, subst, ◌∙◌, arith}
+use Rattle.std.specs.Prelude.{IsOk, IsSome}
 use Rattle.device_cells.proofs.Media.{keeps_then, told_earlier, told_from, told_at, settled_kept}
 use Rattle.device_cells.proofs.WhereToldLemmas.{rose_wider}
 use Rattle.audit_trail.specs.TrailStands.{IsFirstDamaged, IsTrail}
 use Rattle.audit_trail.specs.declared.entries.Entry.{Entry as AnyEntry}
+use Rattle.audit_trail.specs.declared.faults.TrailFault.{TrailFault}
 use Rattle.audit_trail.specs.declared.faults.TrailFault.TheVariants.{DiskFault, Damaged}
-use Rattle.audited_service.specs.declared.listing.ListFault.TheVariants.{Trail}
-use Rattle.audited_service.proofs.DamageLaws.{opening_fault, listing_fault, each_within, opened_undamaged, told_never, sound_opened, listed_none}
+use Rattle.audited_service.specs.declared.listing.ListFault.TheVariants.{Trail, WriteFault}
+use Rattle.audited_service.proofs.DamageLaws.{Ends, opening_fault, listing_fault, each_within, opened_undamaged, told_never, sound_opened, listed_none, read_no_fault, trail_not_write}
 use Rattle.audited_service.specs.Listing.{Listed}
 use Rattle.audited_service.proofs.ReadLaws.{read_nothing}
 use Rattle.audited_service.proofs.SendingLaws.{grew_none}
 use Rattle.audited_service.proofs.listing.list_trail.Goals as goal
+
+-- a listing that the trail ended is neither done nor ended by the sink
+not_done : (fault : TrailFault) → IsOk {T = Unit {0}} (Err (Trail fault)) ⊎ (◌≡◌ {A = Ends} (Err (Trail fault)) (Err WriteFault)) → ⊥
+not_done fault (inl done) = cc done
+not_done fault (inr of_sink) = trail_not_write fault of_sink
 
 pub returns-in-Ok-clause-damage : goal.returns-in-Ok-clause-damage
 returns-in-Ok-clause-damage g c =
@@ -59,14 +65,14 @@ returns-in-Ok-clause-trail_left g c =
       settled = λ done. settled_kept m1 m2 c.send_records.ensures.keeps (c.in-Ok.ensures.left.settled refl);
       later = omega (arith, c.in-Ok.ensures.left.later, c.send_records.ensures.trail_left.later);
       fault = λ is. rose_wider _ _ _ _ c.in-Ok.ensures.left.later (c.send_records.ensures.trail_left.later) (omega arith) (c.send_records.ensures.trail_left.fault is);
-      quiet = λ none. c.send_records.ensures.trail_left.quiet none ∙ c.in-Ok.ensures.left.quiet (λ h. cc h);
+      quiet = λ none. c.send_records.ensures.trail_left.quiet none ∙ c.in-Ok.ensures.left.quiet (read_no_fault tt DiskFault);
     }
 
 pub returns-in-Err-clause-trail_left : goal.returns-in-Err-clause-trail_left
 returns-in-Err-clause-trail_left g c = record {
   size = c.in-Err.ensures.left.size;
   still = c.in-Err.ensures.left.still;
-  settled = λ done. elim done [ inl wrong ↦ cc | inr wrong ↦ cc ];
+  settled = λ done. absurd (not_done c.in-Err.fault done);
   later = c.in-Err.ensures.left.later;
   fault = λ is. c.in-Err.ensures.left.fault (opening_fault c.in-Err.fault DiskFault is);
   quiet = λ none. c.in-Err.ensures.left.quiet (λ is. none (listing_fault c.in-Err.fault DiskFault is));
@@ -100,4 +106,4 @@ pub returns-in-Err-clause-keeps : goal.returns-in-Err-clause-keeps
 returns-in-Err-clause-keeps g c = c.in-Err.ensures.keeps
 
 pub returns-in-Err-clause-sink_left : goal.returns-in-Err-clause-sink_left
-returns-in-Err-clause-sink_left g c = record { later = omega arith; fault = λ is. cc; quiet = λ none. refl }
+returns-in-Err-clause-sink_left g c = record { later = omega arith; fault = λ is. absurd (trail_not_write c.in-Err.fault is); quiet = λ none. refl }

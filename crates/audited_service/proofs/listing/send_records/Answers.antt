@@ -7,7 +7,8 @@ use Rattle.audit_trail.specs.declared.faults.TrailFault.TheVariants.{DiskFault, 
 use Rattle.audited_service.specs.Lines.{record_line}
 use Rattle.audited_service.specs.Listing.{Listed}
 use Rattle.audited_service.specs.Sending.{SendsLine}
-use Rattle.audited_service.specs.declared.listing.ListFault.TheVariants.{Trail}
+use Rattle.audited_service.specs.declared.listing.ListFault.TheVariants.{Trail, WriteFault}
+use Rattle.audited_service.proofs.DamageLaws.{sent_no_fault}
 use Rattle.audited_service.proofs.SendingLaws.{HasLinesBelow, of_each, of_both, of_none, no_line, one_line, listed_all, listed_part, grew, grew_none, quiet_before}
 use Rattle.audited_service.proofs.ReadLaws.{read_all, read_more, read_none, read_part}
 use Rattle.audited_service.proofs.listing.send_records.Goals as goal
@@ -48,8 +49,8 @@ loop-number-preserved g c =
           read_more (c.args.held.now - 4096) number held0 held1 held2 c.loop-number.invariant.own sent.0 sent.1 sent.2);
       grows = grew held0 held1 held2 c.loop-number.invariant.grows c.in-Ok.ensures.grows;
       keeps = keeps_then m0 m1 (g.T.Disk.medium c.send_record.new.trail) c.loop-number.invariant.keeps c.in-Ok.ensures.keeps;
-      trail_quiet = c.in-Ok.ensures.trail_left.quiet (λ h. cc h) ∙ c.loop-number.invariant.trail_quiet;
-      sink_quiet = c.in-Ok.ensures.sink_left.quiet (λ h. cc h) ∙ c.loop-number.invariant.sink_quiet;
+      trail_quiet = c.in-Ok.ensures.trail_left.quiet (sent_no_fault (Trail DiskFault)) ∙ c.loop-number.invariant.trail_quiet;
+      sink_quiet = c.in-Ok.ensures.sink_left.quiet (sent_no_fault WriteFault) ∙ c.loop-number.invariant.sink_quiet;
       from = omega (arith, c.loop-number.invariant.from);
       empty = c.in-Ok.ensures.emptied;
     }
@@ -119,7 +120,7 @@ pub returns-clause-grows : goal.returns-clause-grows
 returns-clause-grows g c = c.loop-number.invariant.grows
 
 pub returns-clause-undamaged : goal.returns-clause-undamaged
-returns-clause-undamaged g c = λ cell is. cc
+returns-clause-undamaged g c = λ cell is. absurd (sent_no_fault (Trail (Damaged cell)) is)
 
 pub returns-clause-faults : goal.returns-clause-faults
 returns-clause-faults g c = tt
@@ -130,14 +131,14 @@ returns-clause-keeps g c = c.loop-number.invariant.keeps
 pub returns-clause-trail_left : goal.returns-clause-trail_left
 returns-clause-trail_left g c = record {
   later = omega (arith, c.loop-number.invariant.trail_quiet);
-  fault = λ is. cc;
+  fault = λ is. absurd (sent_no_fault (Trail DiskFault) is);
   quiet = λ none. c.loop-number.invariant.trail_quiet;
 }
 
 pub returns-clause-sink_left : goal.returns-clause-sink_left
 returns-clause-sink_left g c = record {
   later = omega (arith, c.loop-number.invariant.sink_quiet);
-  fault = λ is. cc;
+  fault = λ is. absurd (sent_no_fault WriteFault is);
   quiet = λ none. c.loop-number.invariant.sink_quiet;
 }
 
