@@ -15,7 +15,8 @@ returns-in-Ok-clause-listed c =
     let at = c.in-Ok.at in
     let long : length d ≡ 1024 = length-map rows row_label ∙ c.requires.listed.are.size in
     let here : label_at d c.args.cell ≡ Some c.in-Some.row.label = label_read rows c.args.cell c.index-rows-cell.result (omega (arith, c.requires.within, c.requires.listed.are.size)) c.index-rows-cell.is ∙ ap row_label c.in-Some.is in
-    let found : (at < length cells) × (label_at d (get_or cells at 0) ≡ Some c.in-Some.row.label) = subst (λ (l : List _). (at < length l) × (label_at d (get_or l at 0) ≡ Some c.in-Some.row.label)) (cc c.deref.ensures.value) c.in-Ok.ensures.found in
+    let found : (at < length cells) × (label_at d (get_or cells at 0) ≡ Some c.in-Some.row.label) =
+    subst (λ (l : List _). (at < length l) × (label_at d (get_or l at 0) ≡ Some c.in-Some.row.label)) c.deref.ensures.value c.in-Ok.ensures.found in
     subst (Lists (set d c.args.cell None)) (sym c.remove.ensures.items)
     (lists_taken d c.args.cell (omega (arith, long, c.requires.within)) cells at c.requires.listed.listed found.0 (c.requires.listed.are.apart (get_or cells at 0) c.args.cell c.in-Some.row.label found.1 here))
 
@@ -25,7 +26,8 @@ returns-in-Some-clause-listed c =
     let d = row_directory rows in
     let cells : List _ = c.args.cells.now.items in
     let here : label_at d c.args.cell ≡ Some c.in-Some.row.label = label_read rows c.args.cell c.index-rows-cell.result (omega (arith, c.requires.within, c.requires.listed.are.size)) c.index-rows-cell.is ∙ ap row_label c.in-Some.is in
-    let place : IsPlace (labels_of d cells) c.in-Some.row.label c.in-Err.field-0 = subst (λ (l : List _). IsPlace (labels_of d l) c.in-Some.row.label c.in-Err.field-0) (cc c.deref.ensures.value) c.in-Err.ensures.missing in
+    let place : IsPlace (labels_of d cells) c.in-Some.row.label c.in-Err.field-0 =
+    subst (λ (l : List _). IsPlace (labels_of d l) c.in-Some.row.label c.in-Err.field-0) c.deref.ensures.value c.in-Err.ensures.missing in
     absurd (find_missing d cells c.requires.listed.listed c.in-Err.field-0 c.in-Some.row.label place c.args.cell here)
 
 pub returns-clause-listed : goal.returns-clause-listed
