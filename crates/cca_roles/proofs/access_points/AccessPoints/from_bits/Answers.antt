@@ -1,4 +1,4 @@
-use Rattle.std.proofs.Common.{refl, sym, ap, subst, ◌∙◌}
+use Rattle.std.proofs.Common.{refl, sym, ap, subst, ◌∙◌, true≢false}
 use Rattle.std.specs.Int.RustNames.{bit_and}
 use Rattle.cca_roles.specs.Points.{ArePoints}
 use Rattle.cca_roles.proofs.PointLaws.{known_points, points_kept, are_kept}
@@ -15,6 +15,6 @@ invariant_of-result c = subst ArePoints (sym (c.in-Some.ensures.value tt)) ((ret
 
 pub returns-in-None-clause-known : goal.returns-in-None-clause-known
 returns-in-None-clause-known c = (
-  λ none. cc,
+  λ none. absurd (true≢false (sym none)),
   λ are. (c.in-None.ensures.known tt).1 (ap (bit_and c.args.bits) known_points ∙ points_kept c.args.bits are),
 )

@@ -1,10 +1,14 @@
-use Rattle.std.proofs.Common.{ℕ, List, Option, Some, set, inr, refl, subst}
+use Rattle.std.proofs.Common.{◌≡◌, ℕ, List, Option, Some, set, inr, refl, subst, true≢false}
 use Rattle.cca_roles.specs.Changes.{ChangesRoles, Remembers}
 use Rattle.cca_roles.specs.Roles.{after_define, define_place}
-use Rattle.cca_roles.specs.declared.faults.RoleFault.TheVariants.{TableFull}
+use Rattle.cca_roles.specs.declared.faults.RoleFault.TheVariants.{DiskFault, TableFull}
 use Rattle.cca_roles.specs.declared.roles.Role.{Role}
 use Rattle.cca_roles.proofs.StandLaws.{disk_or, never_refused, refused_cause, refused_changes}
 use Rattle.cca_roles.proofs.roles.Roles.define.Goals as goal
+
+-- a full table is no fault of the disk
+full_not_disk : TableFull ≡ DiskFault → ⊥
+full_not_disk is = cc is
 
 -- ---- a refusal
 
@@ -21,7 +25,7 @@ pub returns-in-None-clause-rest : goal.returns-in-None-clause-rest
 returns-in-None-clause-rest g c = refl
 
 pub returns-in-None-clause-cause : goal.returns-in-None-clause-cause
-returns-in-None-clause-cause g c = refused_cause (g.M.Disk.faults c.args.«module».now) TableFull (λ is. cc is)
+returns-in-None-clause-cause g c = refused_cause (g.M.Disk.faults c.args.«module».now) TableFull full_not_disk
 
 pub returns-in-None-clause-faults : goal.returns-in-None-clause-faults
 returns-in-None-clause-faults g c = inr refl
@@ -50,21 +54,21 @@ pub returns-clause-cause : goal.returns-clause-cause
 returns-clause-cause g c = c.change.ensures.cause
 
 pub returns-clause-faults : goal.returns-clause-faults
-returns-clause-faults g c = disk_or c.change.result c.change.ensures.faults TableFull (λ is. cc is)
+returns-clause-faults g c = disk_or c.change.result c.change.ensures.faults TableFull full_not_disk
 
 pub returns-clause-untouched : goal.returns-clause-untouched
-returns-clause-untouched g c is = absurd (never_refused c.change.result c.change.ensures.faults TableFull (λ same. cc same) is)
+returns-clause-untouched g c is = absurd (never_refused c.change.result c.change.ensures.faults TableFull full_not_disk is)
 
 pub returns-clause-lease_untouched : goal.returns-clause-lease_untouched
-returns-clause-lease_untouched g c is = absurd (never_refused c.change.result c.change.ensures.faults TableFull (λ same. cc same) is)
+returns-clause-lease_untouched g c is = absurd (never_refused c.change.result c.change.ensures.faults TableFull full_not_disk is)
 
 pub returns-in-None-clause-full : goal.returns-in-None-clause-full
 returns-in-None-clause-full g c = (λ _. c.in-None.ensures.none.0 refl, λ _. refl)
 
 pub returns-clause-full : goal.returns-clause-full
 returns-clause-full g c = (
-  λ is. absurd (never_refused c.change.result c.change.ensures.faults TableFull (λ same. cc same) is),
-  λ refused. absurd (cc (c.in-Some.ensures.none.1 refused)),
+  λ is. absurd (never_refused c.change.result c.change.ensures.faults TableFull full_not_disk is),
+  λ refused. absurd (true≢false (c.in-Some.ensures.none.1 refused)),
 )
 
 pub change-requires-clause-within : goal.change-requires-clause-within

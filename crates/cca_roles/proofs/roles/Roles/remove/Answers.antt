@@ -1,11 +1,15 @@
-use Rattle.std.proofs.Common.{sym, ◌∙◌, inr, refl}
+use Rattle.std.proofs.Common.{◌≡◌, sym, ◌∙◌, inr, refl}
 use Rattle.cca_roles.specs.Roles.{names, after_remove, remove_place}
 use Rattle.cca_roles.proofs.BodyLaws.{reads_none}
 use Rattle.cca_roles.proofs.DirectoryLaws.{apart_none}
 use Rattle.cca_roles.proofs.TableLaws.{place_not_first}
-use Rattle.cca_roles.specs.declared.faults.RoleFault.TheVariants.{Unknown}
+use Rattle.cca_roles.specs.declared.faults.RoleFault.TheVariants.{DiskFault, Unknown}
 use Rattle.cca_roles.proofs.StandLaws.{disk_or, never_refused, refused_cause, refused_changes}
 use Rattle.cca_roles.proofs.roles.Roles.remove.Goals as goal
+
+-- an unknown name is no fault of the disk
+unknown_not_disk : Unknown ≡ DiskFault → ⊥
+unknown_not_disk is = cc is
 
 pub change-requires-clause-reads : goal.change-requires-clause-reads
 change-requires-clause-reads g c =
@@ -33,7 +37,7 @@ pub returns-in-None-clause-rest : goal.returns-in-None-clause-rest
 returns-in-None-clause-rest g c = refl
 
 pub returns-in-None-clause-cause : goal.returns-in-None-clause-cause
-returns-in-None-clause-cause g c = refused_cause (g.M.Disk.faults c.args.«module».now) Unknown (λ is. cc is)
+returns-in-None-clause-cause g c = refused_cause (g.M.Disk.faults c.args.«module».now) Unknown unknown_not_disk
 
 pub returns-in-None-clause-faults : goal.returns-in-None-clause-faults
 returns-in-None-clause-faults g c = inr refl
@@ -62,10 +66,10 @@ pub returns-clause-cause : goal.returns-clause-cause
 returns-clause-cause g c = c.change.ensures.cause
 
 pub returns-clause-faults : goal.returns-clause-faults
-returns-clause-faults g c = disk_or c.change.result c.change.ensures.faults Unknown (λ is. cc is)
+returns-clause-faults g c = disk_or c.change.result c.change.ensures.faults Unknown unknown_not_disk
 
 pub returns-clause-untouched : goal.returns-clause-untouched
-returns-clause-untouched g c is = absurd (never_refused c.change.result c.change.ensures.faults Unknown (λ same. cc same) is)
+returns-clause-untouched g c is = absurd (never_refused c.change.result c.change.ensures.faults Unknown unknown_not_disk is)
 
 pub returns-clause-lease_untouched : goal.returns-clause-lease_untouched
-returns-clause-lease_untouched g c is = absurd (never_refused c.change.result c.change.ensures.faults Unknown (λ same. cc same) is)
+returns-clause-lease_untouched g c is = absurd (never_refused c.change.result c.change.ensures.faults Unknown unknown_not_disk is)
