@@ -39,6 +39,10 @@ audited_as P r outcome is p = λ q h. subst P (sym (audited_is r) ∙ (ap outcom
 run_told : (a b : Status) → audit_status.Run a ≡ audit_status.Run b → a ≡ b
 run_told a b h = cc h
 
+-- the words are right, but there was no memory
+pub no_usage_audited : audit_status.Run status.NoMemory ≡ audit_status.Run status.Usage → ⊥
+no_usage_audited h = cc h
+
 never_audited : (r : Result (Result (Unit {0}) Stop) TrailFault) → (audit_status.Run status.NoMemory ≡ audit_status_of_lem r) ⊎ (audit_status.Run status.Usage ≡ audit_status_of_lem r) → ⊥
 never_audited (Ok r) (inl h) = never_told r (inl (run_told status.NoMemory (status_of_lem r) h))
 never_audited (Ok r) (inr h) = never_told r (inr (run_told status.Usage (status_of_lem r) h))

@@ -35,6 +35,10 @@ module _ (r : Result (Unit {0}) Stop) (outcome : Status) (is : outcome ≡ statu
   pub as_told : (told : Status) → outcome ≡ told → r ≡ outcome_of told
   as_told told h = sym (outcome_is r) ∙ (ap outcome_of (sym is) ∙ ap outcome_of h)
 
+-- the words are right, but there was no memory
+pub not_usage : status.NoMemory ≡ status.Usage → ⊥
+not_usage h = cc h
+
 -- ---- what holds of the outcome of which a status tells
 
 pub ended_as : (P : Result (Unit {0}) Stop → Type 0) (r : Result (Unit {0}) Stop) (outcome : Status) → outcome ≡ status_of_lem r → P r → Ended outcome P

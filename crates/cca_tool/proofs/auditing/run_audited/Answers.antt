@@ -1,7 +1,9 @@
 -- The status tells how the lines ended.
-use Rattle.cca_tool.proofs.AuditLemmas.{all_as_before, audited_as, audits_some, no_memory_audited, none_called, trail_as_before, usage_audited}
+use Rattle.cca_tool.proofs.AuditLemmas.{all_as_before, audited_as, audits_some, no_memory_audited, no_usage_audited, none_called, trail_as_before}
+use Rattle.cca_tool.proofs.AuditLemmas.{usage_audited}
 use Rattle.device_cells.proofs.Media.{keeps_still}
 use Rattle.std.proofs.Common.{inl, refl}
+use Rattle.std.proofs.lemmas.Bool.{both_ways}
 use Rattle.cca_tool.proofs.auditing.run_audited.Goals as goal
 
 pub returns-in-Ok-clause-ends : goal.returns-in-Ok-clause-ends
@@ -32,7 +34,7 @@ pub returns-in-Err-clause-ends : goal.returns-in-Err-clause-ends
 returns-in-Err-clause-ends g c = no_memory_audited _
 
 pub returns-in-Err-clause-usage : goal.returns-in-Err-clause-usage
-returns-in-Err-clause-usage g c = (λ is. absurd (cc is), λ never. absurd (never (c.are_just.ensures.0 c.if-not-are_just.false)))
+returns-in-Err-clause-usage g c = (λ is. absurd (no_usage_audited is), λ never. absurd (never (c.are_just.ensures.0 c.if-not-are_just.false)))
 
 pub returns-in-Err-clause-bench : goal.returns-in-Err-clause-bench
 returns-in-Err-clause-bench g c = c.wipe.ensures
@@ -62,7 +64,10 @@ pub returns-then-not-are_just-clause-ends : goal.returns-then-not-are_just-claus
 returns-then-not-are_just-clause-ends g c = usage_audited _
 
 pub returns-then-not-are_just-clause-usage : goal.returns-then-not-are_just-clause-usage
-returns-then-not-are_just-clause-usage g c = (λ is words. cc (c.are_just.ensures.1 words, c.if-not-are_just.true), λ never. refl)
+returns-then-not-are_just-clause-usage g c = (
+  λ is words. both_ways c.are_just.result c.if-not-are_just.true (c.are_just.ensures.1 words),
+  λ never. refl,
+)
 
 pub returns-then-not-are_just-clause-bench : goal.returns-then-not-are_just-clause-bench
 returns-then-not-are_just-clause-bench g c = c.wipe.ensures

@@ -2,7 +2,7 @@
 use Rattle.std.proofs.Common.{◌∙◌, refl, sym}
 use Rattle.cca_tool.proofs.AuditLemmas.{all_as_before}
 use Rattle.cca_tool.proofs.DemoRunLemmas.{never_usage}
-use Rattle.cca_tool.proofs.StatusLemmas.{ended_as, no_memory_ended, calls_some}
+use Rattle.cca_tool.proofs.StatusLemmas.{calls_some, ended_as, no_memory_ended, not_usage}
 use Rattle.cca_tool.proofs.command.serve_source.Goals as goal
 
 pub returns-in-Ok-clause-words : goal.returns-in-Ok-clause-words
@@ -23,7 +23,7 @@ returns-in-Err-clause-ends g c = no_memory_ended _
 -- ---- there was no memory
 
 pub returns-in-Err-clause-words : goal.returns-in-Err-clause-words
-returns-in-Err-clause-words g c = λ h. cc h
+returns-in-Err-clause-words g c = λ h. not_usage h
 
 pub returns-in-Err-clause-uncalled : goal.returns-in-Err-clause-uncalled
 returns-in-Err-clause-uncalled g c = λ none. record { no_source = refl; no_sink = refl; no_module = refl; no_store = refl; no_entropy = refl }
