@@ -1,4 +1,6 @@
-use Rattle.std.proofs.Common.{◌≡◌, ◌∙◌, Ok, Err, refl, sym, ap, subst}
+use Rattle.std.proofs.Common.{◌≡◌, ◌∙◌, Result, Ok, Err, refl, sym, ap, subst}
+use Rattle.std.proofs.lemmas.Bool.{false≢true}
+use Rattle.line_service.specs.declared.stops.Stop.{Stop}
 use Rattle.line_service.specs.declared.stops.Stop.TheVariants.{EntropyFault, StoreFault}
 use Rattle.key_cells.specs.Lease.{bench_of, loan_of}
 use Rattle.device_cells.proofs.Media.{keeps_still}
@@ -13,6 +15,18 @@ use Rattle.cca_requests.proofs.Serving.{decided_serves, old_as, stopped_serves}
 use Rattle.cca_machine.proofs.Settling.{takes_on}
 use Rattle.cca_requests.proofs.Storing.{recorded}
 use Rattle.cca_requests.proofs.performing.act.Goals as goal
+
+-- ---- answers that aren't one
+
+-- an effect is no stop
+no_err : {A B : Type 0} {v : A} {e : B} → ◌≡◌ {A = Result A B} (Ok v) (Err e) → ⊥
+no_err is = cc is
+
+-- and the random source isn't the store
+not_of_store : (stop : Stop) → stop ≡ EntropyFault → ◌≡◌ {A = Result (Unit {0}) Stop} (Err stop) (Err StoreFault) → ⊥
+not_of_store stop of_random is = let same : stop ≡ StoreFault = cc is in let no : EntropyFault ≡ StoreFault = sym of_random ∙ same in cc no
+
+-- ---- what the machine does
 
 pub returns-in-Ok-clause-serves : goal.returns-in-Ok-clause-serves
 returns-in-Ok-clause-serves g c = λ s at granted is.
@@ -46,7 +60,7 @@ returns-in-Err-clause-serves g c = λ s at granted is.
 
 pub returns-in-Ok-clause-takes : goal.returns-in-Ok-clause-takes
 returns-in-Ok-clause-takes g c = takes_on c.decide.ensures.decision.takes (λ is. absurd (c.carry.ensures.keeps.entropy is))
-    (λ is. let no : Ok c.in-Ok.effect ≡ Err EntropyFault = sym c.in-Ok.is ∙ is in cc no)
+    (λ is. absurd (no_err (sym c.in-Ok.is ∙ is)))
 
 pub returns-in-Err-clause-takes : goal.returns-in-Err-clause-takes
 returns-in-Err-clause-takes g c = takes_on c.decide.ensures.decision.takes (λ is. c.in-Err.is ∙ ap Err c.in-Err.ensures.decision.decided.stops)
@@ -64,7 +78,7 @@ pub returns-in-Err-clause-stops : goal.returns-in-Err-clause-stops
 returns-in-Err-clause-stops g c = subst IsLoadedStop (sym c.in-Err.ensures.decision.decided.stops) tt
 
 pub returns-in-Ok-clause-rows : goal.returns-in-Ok-clause-rows
-returns-in-Ok-clause-rows g c = λ none. c.carry.ensures.keeps.kept (λ goes. cc (sym none ∙ c.in-Ok.ensures.decision.decided.through goes))
+returns-in-Ok-clause-rows g c = λ none. c.carry.ensures.keeps.kept (λ goes. false≢true (sym none ∙ c.in-Ok.ensures.decision.decided.through goes))
 
 pub returns-in-Err-clause-rows : goal.returns-in-Err-clause-rows
 returns-in-Err-clause-rows g c = λ none. refl
@@ -72,12 +86,12 @@ returns-in-Err-clause-rows g c = λ none. refl
 pub returns-in-Ok-clause-store : goal.returns-in-Ok-clause-store
 returns-in-Ok-clause-store g c = record {
   named = λ is. c.in-Ok.ensures.decision.decided.named (c.carry.ensures.keeps.writes is);
-  spared = λ none. c.carry.ensures.keeps.spared (λ writes. cc (sym none ∙ c.in-Ok.ensures.decision.decided.named writes));
+  spared = λ none. c.carry.ensures.keeps.spared (λ writes. false≢true (sym none ∙ c.in-Ok.ensures.decision.decided.named writes));
 }
 
 pub returns-in-Err-clause-store : goal.returns-in-Err-clause-store
 returns-in-Err-clause-store g c = record {
-  named = λ is. let no : EntropyFault ≡ StoreFault = sym c.in-Err.ensures.decision.decided.stops ∙ cc is in cc no;
+  named = λ is. absurd (not_of_store c.in-Err.stop c.in-Err.ensures.decision.decided.stops is);
   spared = λ none. refl;
 }
 

@@ -28,6 +28,18 @@ use Rattle.cca_requests.proofs.Handing.{disks_read, draws_none, has_passed, no_s
 use Rattle.cca_requests.proofs.Leaving.{leaves_after_reads, still_left, stops_as, store_stop}
 use Rattle.cca_requests.proofs.performing.carry_out.Goals as goal
 
+-- ---- answers that aren't one
+
+-- what was judged is no stop
+no_err : {A B : Type 0} {v : A} {e : B} → ◌≡◌ {A = Result A B} (Ok v) (Err e) → ⊥
+no_err is = cc is
+
+-- and the store isn't the random source
+store_not_random : StoreFault ≡ EntropyFault → ⊥
+store_not_random is = cc is
+
+-- ---- what the machine does
+
 pub refuse-requires-clause-short : goal.refuse-requires-clause-short
 refuse-requires-clause-short g c = whole_short c.of_request.result c.of_request.ensures
 
@@ -98,7 +110,7 @@ returns-in-Err-clause-serves g c = λ s at.
     let left = g.E.Entropy.left c.args.entropy.now in
     let fault : c.in-Err.stop ≡ StoreFault = c.in-Err.ensures.reads.sound s (record { loaded = at.loaded; stands = at.stands.on_store }) in
     stopped_serves s request c.in-Err.stop c.args.reply.now t t m m (g.D.Disk.medium c.args.store.now) (g.D.Disk.medium c.judge.new.store) left left
-    (subst IsFault (sym fault) tt) (λ is. let no : StoreFault ≡ EntropyFault = sym fault ∙ is in cc no)
+    (subst IsFault (sym fault) tt) (λ is. absurd (store_not_random (sym fault ∙ is)))
     c.requires.disks.at.settled c.requires.disks.store.settled (keeps_still m) c.judge.ensures.reads.keeps at.stands
 
 -- ---- where the store isn't needed
@@ -127,7 +139,7 @@ returns-in-Err-clause-store g c = record {
 
 pub returns-in-Ok-Refused-clause-store : goal.returns-in-Ok-Refused-clause-store
 returns-in-Ok-Refused-clause-store g c = record {
-  named = λ is. cc is;
+  named = λ is. absurd (no_stop StoreFault is);
   spared = λ none. c.judge.ensures.reads.spared (unnamed (seen c.args.request.now) _ c.operands_of.ensures.table none);
 }
 
@@ -150,7 +162,7 @@ returns-in-Ok-Refused-clause-left g c =
     let d1 = g.D.Disk.medium c.judge.new.store in
     let store = store_kept c.args.records.now (g.D.Disk.medium c.args.store.now) d1 c.judge.ensures.reads.keeps c.requires.disks.store in
     leaves_after_reads {reply = c.refuse-in-Ok-Refused.new.reply}
-    (keeps_still (g.M.Disk.medium c.args.module.now)) refl c.judge.ensures.reads.keeps (c.in-Ok-Refused.ensures.reads.disk.quiet (λ is. cc is))
+    (keeps_still (g.M.Disk.medium c.args.module.now)) refl c.judge.ensures.reads.keeps (c.in-Ok-Refused.ensures.reads.disk.quiet (λ is. no_err is))
     (still_left {reply = c.refuse-in-Ok-Refused.new.reply} c.requires.disks.at.settled store.settled
     (sound (g.M.Disk.medium c.args.module.now) (masters_in c.args.held.now (bench_of c.args.lease.now)) c.args.roles.now c.requires.disks.at.stands c.requires.disks.at.remembered) store.holds)
 
@@ -158,7 +170,7 @@ pub returns-in-Ok-Granted-clause-left : goal.returns-in-Ok-Granted-clause-left
 returns-in-Ok-Granted-clause-left g c =
     let m = g.M.Disk.medium c.args.module.now in
     leaves_after_reads {reply = c.act.new.reply} {later = tables c.act.new.roles c.act.new.records}
-    (keeps_still m) refl c.judge.ensures.reads.keeps (c.in-Ok-Granted.ensures.reads.disk.quiet (λ is. cc is)) c.act.ensures.left
+    (keeps_still m) refl c.judge.ensures.reads.keeps (c.in-Ok-Granted.ensures.reads.disk.quiet (λ is. no_err is)) c.act.ensures.left
 
 -- ---- what the reply rests on
 

@@ -1,7 +1,8 @@
-use Rattle.std.proofs.Common.{◌∙◌, Err, refl, sym, ap, subst}
+use Rattle.std.proofs.Common.{◌≡◌, ◌∙◌, Result, Ok, Err, refl, sym, ap, subst}
 use Rattle.key_cells.specs.Lease.{bench_of}
 use Rattle.master_registers.specs.Loaded.{Loaded, masters_in}
-use Rattle.line_service.specs.declared.stops.Stop.TheVariants.{Damaged, ModuleFault}
+use Rattle.line_service.specs.declared.stops.Stop.{Stop}
+use Rattle.line_service.specs.declared.stops.Stop.TheVariants.{Damaged, EntropyFault, ModuleFault, StoreFault}
 use Rattle.line_service.specs.declared.stops.Device.TheVariants.{Module}
 use Rattle.device_cells.proofs.Media.{keeps_still}
 use Rattle.verb_script.specs.Parsed.{seen}
@@ -13,6 +14,30 @@ use Rattle.cca_requests.proofs.Leaving.{no_damage, leaves_after_reads}
 use Rattle.cca_requests.proofs.Registers.{registers_found, undamaged}
 use Rattle.cca_requests.proofs.Serving.{stopped_serves, serves_after_reads, stands_kept}
 use Rattle.cca_requests.proofs.performing.perform.Goals as goal
+
+-- ---- answers that aren't one
+
+-- what was loaded is no fault
+no_err : {A B : Type 0} {v : A} {e : B} → ◌≡◌ {A = Result A B} (Ok v) (Err e) → ⊥
+no_err is = cc is
+
+abbrev error : Stop → Result (Unit {0}) Stop
+error stop = Err stop
+
+-- neither a fault of the module nor its damage is one of the store or of the random source
+module_not_store : error ModuleFault ≡ error StoreFault → ⊥
+module_not_store is = cc is
+
+module_not_random : error ModuleFault ≡ error EntropyFault → ⊥
+module_not_random is = cc is
+
+damage_not_store : error (Damaged Module 0) ≡ error StoreFault → ⊥
+damage_not_store is = cc is
+
+damage_not_random : error (Damaged Module 0) ≡ error EntropyFault → ⊥
+damage_not_random is = cc is
+
+-- ---- what the machine does
 
 pub returns-in-Ok-clause-serves : goal.returns-in-Ok-clause-serves
 returns-in-Ok-clause-serves g c = λ s stands.
@@ -36,7 +61,8 @@ returns-in-Err-DiskFault-clause-serves g c = λ s stands.
     let t = tables c.args.roles.now c.args.records.now in
     let d = g.D.Disk.medium c.args.store.now in
     let left = g.E.Entropy.left c.args.entropy.now in
-    stopped_serves s (seen c.args.request.now) ModuleFault c.clear.new.self t t (g.M.Disk.medium c.args.module.now) (g.M.Disk.medium c.load.new.module) d d left left tt (λ is. cc is)
+    stopped_serves s (seen c.args.request.now) ModuleFault c.clear.new.self t t
+    (g.M.Disk.medium c.args.module.now) (g.M.Disk.medium c.load.new.module) d d left left tt (λ is. absurd (module_not_random (ap Err is)))
     c.requires.disks.module_settled c.requires.disks.store_settled c.load.ensures.keeps (keeps_still d) stands
 
 pub returns-clause-serves : goal.returns-clause-serves
@@ -72,7 +98,7 @@ pub returns-in-Ok-clause-left : goal.returns-in-Ok-clause-left
 returns-in-Ok-clause-left g c =
     let d = g.D.Disk.medium c.args.store.now in
     leaves_after_reads {reply = c.carry_out.new.reply} {later = tables c.carry_out.new.roles c.carry_out.new.records}
-    c.load.ensures.keeps (c.in-Ok.ensures.cause.quiet (λ is. cc is)) (keeps_still d) refl c.carry_out.ensures.left
+    c.load.ensures.keeps (c.in-Ok.ensures.cause.quiet (λ is. no_err is)) (keeps_still d) refl c.carry_out.ensures.left
 
 pub returns-in-Ok-clause-own : goal.returns-in-Ok-clause-own
 returns-in-Ok-clause-own g c =
@@ -116,13 +142,13 @@ returns-clause-damage g c = λ is. record {
 }
 
 pub returns-in-Err-DiskFault-clause-store : goal.returns-in-Err-DiskFault-clause-store
-returns-in-Err-DiskFault-clause-store g c = spares_still (Err ModuleFault) (λ is. cc is)
+returns-in-Err-DiskFault-clause-store g c = spares_still (Err ModuleFault) module_not_store
 
 pub returns-clause-store : goal.returns-clause-store
-returns-clause-store g c = spares_still (Err (Damaged Module 0)) (λ is. cc is)
+returns-clause-store g c = spares_still (Err (Damaged Module 0)) damage_not_store
 
 pub returns-in-Err-DiskFault-clause-random : goal.returns-in-Err-DiskFault-clause-random
-returns-in-Err-DiskFault-clause-random g c = draws_none (Err ModuleFault) (λ is. cc is)
+returns-in-Err-DiskFault-clause-random g c = draws_none (Err ModuleFault) module_not_random
 
 pub returns-clause-random : goal.returns-clause-random
-returns-clause-random g c = draws_none (Err (Damaged Module 0)) (λ is. cc is)
+returns-clause-random g c = draws_none (Err (Damaged Module 0)) damage_not_random
