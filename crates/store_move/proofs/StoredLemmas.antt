@@ -114,6 +114,17 @@ exported_under old new judged transport token rest is =
 abbrev pub failed : (T : Type 0) → RecordFault → Result T RecordFault
 failed T e = Err e
 
+pub no_err : {E T P : Type 0} {x : T} {e : E} → ◌≡◌ {A = Result T E} (Ok x) (Err e) → P
+no_err is = absurd (cc is)
+
+-- the same fault, of another call
+pub failed_as : (A B : Type 0) (e f : RecordFault) → failed A e ≡ failed A f → failed B e ≡ failed B f
+failed_as A B e f is = cc is
+
+-- a damaged cell was read
+pub was_read : (A : Type 0) (n : ℕ) → failed A (Damaged n) ≡ failed A DiskFault → ⊥
+was_read A n is = cc is
+
 module _ (cell before now : ℕ) where
   pub fails_none : {A B : Type 0} (x : A) (y : B) → FailsAt cell before now (Ok x) → FailsAt cell before now (Ok y)
   fails_none x y fails = record { later = fails.later; failed = λ is. absurd (cc is); quiet = λ _. fails.quiet (λ is. cc is); faults = tt }

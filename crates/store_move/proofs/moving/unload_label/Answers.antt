@@ -11,7 +11,9 @@ use Rattle.verb_rules.specs.declared.rules.Rule.{Rule}
 use Rattle.store_move.specs.declared.moving.Moved.{Moved}
 use Rattle.store_move.specs.declared.moving.Moved.TheVariants.{Kept, Token}
 use Rattle.store_move.specs.Reading.{HoldsAsRead}
-use Rattle.store_move.proofs.StoredLemmas.{body_kept, body_works, exported_under, fails_none, fails_same, keys_work, moved_kept, moved_token}
+use Rattle.key_records.specs.declared.faults.RecordFault.TheVariants.{Damaged}
+use Rattle.store_move.proofs.StoredLemmas.{body_kept, body_works, exported_under, failed_as, fails_none, fails_same}
+use Rattle.store_move.proofs.StoredLemmas.{keys_work, moved_kept, moved_token, no_err}
 use Rattle.store_move.proofs.moving.unload_label.Goals as goal
 
 pub returns-in-Ok-Ok-clause-moved : goal.returns-in-Ok-Ok-clause-moved
@@ -59,13 +61,14 @@ pub judge_record-requires-clause-holds : goal.judge_record-requires-clause-holds
 judge_record-requires-clause-holds g c = c.requires.holds
 
 pub returns-in-Ok-Ok-clause-damaged : goal.returns-in-Ok-Ok-clause-damaged
-returns-in-Ok-Ok-clause-damaged g c m s loaded told cell is = absurd (cc is)
+returns-in-Ok-Ok-clause-damaged g c m s loaded told cell is = no_err is
 
 pub returns-in-Ok-Err-clause-damaged : goal.returns-in-Ok-Err-clause-damaged
-returns-in-Ok-Err-clause-damaged g c m s loaded told cell is = absurd (cc is)
+returns-in-Ok-Err-clause-damaged g c m s loaded told cell is = no_err is
 
 pub returns-in-Err-clause-damaged : goal.returns-in-Err-clause-damaged
-returns-in-Err-clause-damaged g c m s loaded told cell is = c.in-Err.ensures.damaged m s loaded told cell (cc is)
+returns-in-Err-clause-damaged g c m s loaded told cell is =
+    c.in-Err.ensures.damaged m s loaded told cell (failed_as Moved (Result Judged Rule) c.in-Err.fault (Damaged cell) is)
 
 pub returns-in-Ok-Ok-clause-fails : goal.returns-in-Ok-Ok-clause-fails
 returns-in-Ok-Ok-clause-fails g c = fails_none c.args.place (g.D.Disk.faults c.args.store.now) (g.D.Disk.faults c.judge_record.new.store) c.in-Ok-Ok.field-0 (Token c.export.result) c.in-Ok-Ok.ensures.fails

@@ -1,4 +1,4 @@
-use Rattle.std.proofs.Common.{◌≡◌, None, Ok, Err, inr, ap, refl, sym, ◌∙◌}
+use Rattle.std.proofs.Common.{◌≡◌, Bool, None, Ok, Err, inr, ap, refl, sym, ◌∙◌}
 use Rattle.std.specs.Prelude.{IsSome, Result}
 use Rattle.key_cells.specs.Lease.{bench_of}
 use Rattle.key_tokens.specs.Denotes.{denoted}
@@ -7,7 +7,8 @@ use Rattle.verb_rules.specs.KeyChecks.{age_of}
 use Rattle.verb_rules.specs.Keys.{HasHalves, keys_of}
 use Rattle.verb_rules.specs.StoredKeys.{IsRead}
 use Rattle.verb_rules.proofs.JudgeLemmas.{if_ok_gives}
-use Rattle.store_move.proofs.StoredLemmas.{failed, never_damaged, read_fails, unread_fails, stored_as, stored_key, stored_some}
+use Rattle.store_move.proofs.StoredLemmas.{failed, failed_as, never_damaged, no_err, read_fails, unread_fails}
+use Rattle.store_move.proofs.StoredLemmas.{stored_as, stored_key, stored_some, was_read}
 use Rattle.key_records.specs.declared.faults.RecordFault.{RecordFault}
 use Rattle.key_records.specs.declared.faults.RecordFault.TheVariants.{Damaged}
 use Rattle.verb_rules.specs.declared.judging.Judged.{Judged}
@@ -90,25 +91,33 @@ pub read-requires-clause-holds : goal.read-requires-clause-holds
 read-requires-clause-holds g c = c.requires.holds
 
 pub returns-in-Some-clause-fails : goal.returns-in-Some-clause-fails
-returns-in-Some-clause-fails g c = read_fails c.args.place (g.D.Disk.faults c.args.store.now) (g.D.Disk.faults c.read.new.store) c.in-Ok-true.field-0 (Ok c.in-Some.judged) c.in-Ok-true.ensures.cause (λ is. cc is) tt
+returns-in-Some-clause-fails g c =
+    read_fails c.args.place (g.D.Disk.faults c.args.store.now) (g.D.Disk.faults c.read.new.store) c.in-Ok-true.field-0 (Ok c.in-Some.judged)
+    c.in-Ok-true.ensures.cause (λ is. no_err is) tt
 
 pub returns-in-None-clause-fails : goal.returns-in-None-clause-fails
-returns-in-None-clause-fails g c = read_fails c.args.place (g.D.Disk.faults c.args.store.now) (g.D.Disk.faults c.read.new.store) c.in-Ok-true.field-0 (failed (Result Judged Rule) (Damaged c.cell.result)) c.in-Ok-true.ensures.cause (λ is. cc is) (inr (ap Damaged c.cell.ensures))
+returns-in-None-clause-fails g c =
+    read_fails c.args.place (g.D.Disk.faults c.args.store.now) (g.D.Disk.faults c.read.new.store) c.in-Ok-true.field-0
+    (failed (Result Judged Rule) (Damaged c.cell.result)) c.in-Ok-true.ensures.cause (was_read (Result Judged Rule) c.cell.result)
+    (inr (ap Damaged c.cell.ensures))
 
 pub returns-in-Ok-false-clause-fails : goal.returns-in-Ok-false-clause-fails
-returns-in-Ok-false-clause-fails g c = read_fails c.args.place (g.D.Disk.faults c.args.store.now) (g.D.Disk.faults c.read.new.store) c.in-Ok-false.field-0 (null_answer) c.in-Ok-false.ensures.cause (λ is. cc is) tt
+returns-in-Ok-false-clause-fails g c =
+    read_fails c.args.place (g.D.Disk.faults c.args.store.now) (g.D.Disk.faults c.read.new.store) c.in-Ok-false.field-0 (null_answer)
+    c.in-Ok-false.ensures.cause (λ is. no_err is) tt
 
 pub returns-in-Err-clause-fails : goal.returns-in-Err-clause-fails
 returns-in-Err-clause-fails g c = unread_fails c.args.place (g.D.Disk.faults c.args.store.now) (g.D.Disk.faults c.read.new.store) (Result Judged Rule) c.in-Err.fault c.in-Err.ensures.cause c.in-Err.ensures.faults
 
 pub returns-in-Some-clause-damaged : goal.returns-in-Some-clause-damaged
-returns-in-Some-clause-damaged g c m s loaded told cell is = absurd (cc is)
+returns-in-Some-clause-damaged g c m s loaded told cell is = no_err is
 
 pub returns-in-Ok-false-clause-damaged : goal.returns-in-Ok-false-clause-damaged
-returns-in-Ok-false-clause-damaged g c m s loaded told cell is = absurd (cc is)
+returns-in-Ok-false-clause-damaged g c m s loaded told cell is = no_err is
 
 pub returns-in-Err-clause-damaged : goal.returns-in-Err-clause-damaged
-returns-in-Err-clause-damaged g c m s loaded told cell is = (c.in-Err.ensures.damaged cell (cc is)).1
+returns-in-Err-clause-damaged g c m s loaded told cell is =
+    (c.in-Err.ensures.damaged cell (failed_as (Result Judged Rule) Bool c.in-Err.fault (Damaged cell) is)).1
 
 pub returns-in-None-clause-stored : goal.returns-in-None-clause-stored
 returns-in-None-clause-stored g c m s loaded told = tt
