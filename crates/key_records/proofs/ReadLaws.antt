@@ -23,7 +23,7 @@ use Rattle.master_registers.specs.declared.registers.Registers.{Registers}
 use Rattle.record_bodies.specs.RecordBody.{entry_in, token_in, second_in, kept, held_token, ReadsEntry, ReadsWhat, ReadsRow, StandsAs}
 use Rattle.record_bodies.specs.StoreStands.{KeepsLabels, HoldsRows, entry_at}
 use Rattle.key_records.specs.declared.faults.RecordFault.{RecordFault}
-use Rattle.key_records.specs.declared.faults.RecordFault.TheVariants.{DiskFault}
+use Rattle.key_records.specs.declared.faults.RecordFault.TheVariants.{Damaged, DiskFault}
 use Rattle.record_bodies.specs.declared.rows.Row.{Row}
 use Rattle.record_bodies.proofs.KeptLaws.{kept_first, row_reads, stands_as}
 use Rattle.record_bodies.proofs.PieceLaws.{key_body_is}
@@ -109,6 +109,13 @@ unopened_cause before now (Err e) cause unread = record { later = cause.later; f
 
 pub no_err : {E T P : Type 0} {x : T} {e : E} → ◌≡◌ {A = Result T E} (Ok x) (Err e) → P
 no_err is = absurd (cc is)
+
+-- a cell that couldn't be read isn't a damaged one
+pub not_damaged : {T P : Type 0} (n : ℕ) → ◌≡◌ {A = Result T RecordFault} (Err DiskFault) (Err (Damaged n)) → P
+not_damaged n is = absurd (cc is)
+
+pub damaged_one : {T : Type 0} (a b : ℕ) → ◌≡◌ {A = Result T RecordFault} (Err (Damaged a)) (Err (Damaged b)) → a ≡ b
+damaged_one a b is = cc is
 
 -- no fault was counted before
 pub cause_from : (old before now : ℕ) (result : Result (Unit {0}) RecordFault) → before ≡ old → HasRecordCause before now result

@@ -5,7 +5,8 @@ use Rattle.device_cells.specs.Medium.{Told}
 use Rattle.key_records.specs.declared.faults.RecordFault.TheVariants.{Damaged}
 use Rattle.record_bodies.proofs.KeptLaws.{unless_err}
 use Rattle.verb_rules.specs.Keys.{keys_of}
-use Rattle.key_records.proofs.ReadLaws.{cell_fits, loaded_with, opened_cause, opens_read, refused_held, refused_unread, unopened_cause}
+use Rattle.key_records.proofs.ReadLaws.{cell_fits, damaged_one, loaded_with, no_err, not_damaged}
+use Rattle.key_records.proofs.ReadLaws.{opened_cause, opens_read, refused_held, refused_unread, unopened_cause}
 use Rattle.key_records.proofs.opening.open_cell.Goals as goal
 
 pub read_cell-requires : goal.read_cell-requires
@@ -26,7 +27,7 @@ pub returns-then-is_err-clause-rows : goal.returns-then-is_err-clause-rows
 returns-then-is_err-clause-rows g c = c.requires.1.1.1.1.1
 
 pub returns-then-is_err-clause-damaged : goal.returns-then-is_err-clause-damaged
-returns-then-is_err-clause-damaged g c n is = absurd (cc is)
+returns-then-is_err-clause-damaged g c n is = not_damaged n is
 
 pub returns-then-is_err-clause-faults : goal.returns-then-is_err-clause-faults
 returns-then-is_err-clause-faults g c = inl refl
@@ -48,7 +49,7 @@ returns-then-put-clause-opened g c =
     c.in-Some.row c.put.new.self (c.in-Some.ensures.reads refl) c.in-Some.ensures.row (c.if-put.ensures.put refl)
 
 pub returns-then-put-clause-damaged : goal.returns-then-put-clause-damaged
-returns-then-put-clause-damaged g c n is = absurd (cc is)
+returns-then-put-clause-damaged g c n is = no_err is
 
 pub returns-then-put-clause-faults : goal.returns-then-put-clause-faults
 returns-then-put-clause-faults g c = tt
@@ -58,21 +59,22 @@ returns-else-put-clause-damaged g c n is =
     let m = g.D.Disk.medium c.args.store.now in
     refused_held m (keys_of g.m) c.read_cell.new.out c.args.cell c.args.records.now
     (subst (λ k. Told m (λ image. c.read_cell.new.out ≡ body image k)) c.new.ensures (unless_err c.read_cell.result (sym c.is_err.ensures.value ∙ c.if-is_err.false) c.read_cell.ensures.bytes))
-    n c.in-Some.row (cc is) (c.in-Some.ensures.reads refl) c.in-Some.ensures.row (c.if-put.ensures.held refl)
+    n c.in-Some.row (damaged_one c.args.cell n is) (c.in-Some.ensures.reads refl) c.in-Some.ensures.row (c.if-put.ensures.held refl)
 
 pub returns-in-None-clause-damaged : goal.returns-in-None-clause-damaged
 returns-in-None-clause-damaged g c n is =
     let m = g.D.Disk.medium c.args.store.now in
     refused_unread m (keys_of g.m) c.read_cell.new.out c.args.cell c.args.records.now
     (subst (λ k. Told m (λ image. c.read_cell.new.out ≡ body image k)) c.new.ensures (unless_err c.read_cell.result (sym c.is_err.ensures.value ∙ c.if-is_err.false) c.read_cell.ensures.bytes))
-    n (cc is) (c.in-None.ensures.none refl)
+    n (damaged_one c.args.cell n is) (c.in-None.ensures.none refl)
 
 pub returns-in-None-clause-rows : goal.returns-in-None-clause-rows
 returns-in-None-clause-rows g c = c.requires.1.1.1.1.1
 
 pub returns-then-put-clause-cause : goal.returns-then-put-clause-cause
 returns-then-put-clause-cause g c =
-    opened_cause (g.D.Disk.faults c.args.store.now) (g.D.Disk.faults c.read_cell.new.disk) c.read_cell.result c.read_cell.ensures.cause (sym c.is_err.ensures.value ∙ c.if-is_err.false) (Ok tt) (λ is. cc is)
+    opened_cause (g.D.Disk.faults c.args.store.now) (g.D.Disk.faults c.read_cell.new.disk) c.read_cell.result c.read_cell.ensures.cause
+    (sym c.is_err.ensures.value ∙ c.if-is_err.false) (Ok tt) (λ is. no_err is)
 
 pub returns-then-put-clause-rest : goal.returns-then-put-clause-rest
 returns-then-put-clause-rest g c = c.read_row.ensures.rest
@@ -82,7 +84,8 @@ returns-then-put-clause-rows g c = c.put.ensures.rows
 
 pub returns-else-put-clause-cause : goal.returns-else-put-clause-cause
 returns-else-put-clause-cause g c =
-    opened_cause (g.D.Disk.faults c.args.store.now) (g.D.Disk.faults c.read_cell.new.disk) c.read_cell.result c.read_cell.ensures.cause (sym c.is_err.ensures.value ∙ c.if-is_err.false) (Err (Damaged c.args.cell)) (λ is. cc is)
+    opened_cause (g.D.Disk.faults c.args.store.now) (g.D.Disk.faults c.read_cell.new.disk) c.read_cell.result c.read_cell.ensures.cause
+    (sym c.is_err.ensures.value ∙ c.if-is_err.false) (Err (Damaged c.args.cell)) (λ is. not_damaged c.args.cell (sym is))
 
 pub returns-else-put-clause-rest : goal.returns-else-put-clause-rest
 returns-else-put-clause-rest g c = c.read_row.ensures.rest
@@ -98,7 +101,8 @@ returns-else-put-clause-faults g c = inr refl
 
 pub returns-in-None-clause-cause : goal.returns-in-None-clause-cause
 returns-in-None-clause-cause g c =
-    opened_cause (g.D.Disk.faults c.args.store.now) (g.D.Disk.faults c.read_cell.new.disk) c.read_cell.result c.read_cell.ensures.cause (sym c.is_err.ensures.value ∙ c.if-is_err.false) (Err (Damaged c.args.cell)) (λ is. cc is)
+    opened_cause (g.D.Disk.faults c.args.store.now) (g.D.Disk.faults c.read_cell.new.disk) c.read_cell.result c.read_cell.ensures.cause
+    (sym c.is_err.ensures.value ∙ c.if-is_err.false) (Err (Damaged c.args.cell)) (λ is. not_damaged c.args.cell (sym is))
 
 pub returns-in-None-clause-rest : goal.returns-in-None-clause-rest
 returns-in-None-clause-rest g c = c.read_row.ensures.rest

@@ -1,4 +1,5 @@
-use Rattle.std.proofs.Common.{◌≡◌, ◌∙◌, inl, inr, true, false, ⊎_elim, None, Some, refl, sym}
+use Rattle.std.proofs.Common.{◌≡◌, ◌∙◌, inl, inr, false, ⊎_elim, None, Some, refl, sym, true≢false}
+use Rattle.std.proofs.lemmas.Bool.{false≢true}
 use Rattle.std.specs.Prelude.{IsTrue}
 use Rattle.key_cells.specs.Lease.{bench_of}
 use Rattle.verb_rules.specs.Keys.{keys_of}
@@ -43,8 +44,8 @@ returns-else-are_pair-clause-none g c = λ _ both.
     let isnt : is_turned (keys_of g.m) c.args.token.now c.args.second.now ≡ false =
     turned_as (keys_of g.m) c.args.token.now c.in-Some.under c.args.second.now c.in-Some.ensures.found None c.in-None-kept_pattern.ensures in
     ⊎_elim
-    (λ (turned : IsTrue (is_turned (keys_of g.m) c.args.token.now c.args.second.now)). let wrong : true ≡ false = sym turned ∙ isnt in absurd (cc))
-    (λ (pair : IsPair (keys_of g.m) c.args.token.now c.args.second.now). let wrong : false ≡ true = c.if-are_pair.ensures.pair.1 pair in absurd (cc)) both.either
+    (λ (turned : IsTrue (is_turned (keys_of g.m) c.args.token.now c.args.second.now)). true≢false (sym turned ∙ isnt))
+    (λ (pair : IsPair (keys_of g.m) c.args.token.now c.args.second.now). false≢true (c.if-are_pair.ensures.pair.1 pair)) both.either
 
 pub returns-else-are_pair-clause-rest : goal.returns-else-are_pair-clause-rest
 returns-else-are_pair-clause-rest g c = c.if-are_pair.ensures.rest

@@ -5,7 +5,7 @@ use Rattle.record_bodies.specs.LabelChanges.{created, null_entry}
 use Rattle.record_bodies.specs.Directory.{cell_of, free_cell, AreApart}
 use Rattle.record_bodies.specs.Entries.{row_directory, null_row}
 use Rattle.record_bodies.specs.RecordBody.{record_body, null_body, no_second, null_kind}
-use Rattle.key_records.specs.declared.faults.RecordFault.TheVariants.{Exists, Full}
+use Rattle.key_records.specs.declared.faults.RecordFault.TheVariants.{DiskFault, Exists, Full}
 use Rattle.record_bodies.specs.declared.rows.Row.{Row}
 use Rattle.record_bodies.specs.declared.rows.Second.{Second}
 use Rattle.record_bodies.proofs.BodyLaws.{no_token_is}
@@ -21,6 +21,13 @@ wrote_null label body second is none =
 -- a label that isn't found may be put into a cell
 new_apart : (label : List ℕ) (d : List (Option (List ℕ))) (n : ℕ) (found : Option ℕ) (test : Bool) → AreApart d → test ≡ is_some found → found ≡ cell_of label d → test ≡ false → AreApart (set d n (Some label))
 new_apart label d n found test apart tested is missing = apart_set d n label apart (held_nowhere label d (sym (tested ∙ ap (λ o. is_some o) is) ∙ missing))
+
+-- a label that is refused is no fault of the disk
+not_full : Full ≡ DiskFault → ⊥
+not_full is = cc is
+
+not_held : Exists ≡ DiskFault → ⊥
+not_held is = cc is
 
 pub change-requires-clause-reads : goal.change-requires-clause-reads
 change-requires-clause-reads g c = (c.write_record.ensures.label, (wrote_null c.args.label.now c.write_record.new.body c.no_second.result c.write_record.ensures.body c.no_second.ensures, refl))
@@ -66,7 +73,8 @@ change-requires-clause-holds g c = c.requires.holds
 
 pub returns-in_default-clause-changes : goal.returns-in_default-clause-changes
 returns-in_default-clause-changes g c =
-    refused_record g.D.Disk.medium g.D.Disk.faults (free_cell (row_directory c.args.self.now)) (null_body c.args.label.now) (Some (null_row c.args.label.now)) c.args.self.now c.args.lease.now c.args.store.now Full c.requires.settled (λ is. cc is)
+    refused_record g.D.Disk.medium g.D.Disk.faults (free_cell (row_directory c.args.self.now)) (null_body c.args.label.now)
+    (Some (null_row c.args.label.now)) c.args.self.now c.args.lease.now c.args.store.now Full c.requires.settled not_full
 
 pub returns-in_default-clause-labels : goal.returns-in_default-clause-labels
 returns-in_default-clause-labels g c masters s start =
@@ -74,7 +82,8 @@ returns-in_default-clause-labels g c masters s start =
 
 pub returns-then-is_some-clause-changes : goal.returns-then-is_some-clause-changes
 returns-then-is_some-clause-changes g c =
-    refused_record g.D.Disk.medium g.D.Disk.faults (free_cell (row_directory c.args.self.now)) (null_body c.args.label.now) (Some (null_row c.args.label.now)) c.args.self.now c.args.lease.now c.args.store.now Exists c.requires.settled (λ is. cc is)
+    refused_record g.D.Disk.medium g.D.Disk.faults (free_cell (row_directory c.args.self.now)) (null_body c.args.label.now)
+    (Some (null_row c.args.label.now)) c.args.self.now c.args.lease.now c.args.store.now Exists c.requires.settled not_held
 
 pub returns-then-is_some-clause-labels : goal.returns-then-is_some-clause-labels
 returns-then-is_some-clause-labels g c masters s start =

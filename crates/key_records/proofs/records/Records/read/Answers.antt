@@ -1,4 +1,6 @@
-use Rattle.std.proofs.Common.{◌≡◌, ◌<◌, inl, inr, ℕ, List, Bool, true, false, Option, Some, None, Result, Ok, Err, get_or, refl, sym, ap, subst, ◌∙◌}
+use Rattle.std.proofs.Common.{◌≡◌, ◌<◌, inl, inr, ℕ, List, Bool, true, false, Option, Some, None, Result, Ok, Err, get_or}
+use Rattle.std.proofs.Common.{refl, sym, ap, subst, ◌∙◌}
+use Rattle.std.proofs.lemmas.Bool.{false≢true}
 use Rattle.std.specs.Prelude.{is_some, slice_index, IfSome}
 use Rattle.device_cells.proofs.Media.{told_joined, told_map}
 use Rattle.device_cells.specs.Cells.{body}
@@ -9,9 +11,9 @@ use Rattle.record_bodies.specs.RecordBody.{IsTokenOf, token_in, second_in, held_
 use Rattle.record_bodies.specs.Entries.{Entry, label_or}
 use Rattle.record_bodies.specs.StoreStands.{HoldsRows, KeepsLabels, entry_at}
 use Rattle.key_records.specs.declared.faults.RecordFault.{RecordFault}
-use Rattle.key_records.specs.declared.faults.RecordFault.TheVariants.{Damaged, DiskFault}
+use Rattle.key_records.specs.declared.faults.RecordFault.TheVariants.{Damaged}
 use Rattle.record_bodies.specs.declared.rows.Row.{Row}
-use Rattle.key_records.proofs.ReadLaws.{cause_read, cause_unread, cell_fits, no_err, read_token}
+use Rattle.key_records.proofs.ReadLaws.{cause_read, cause_unread, cell_fits, damaged_one, no_err, not_damaged, read_token}
 use Rattle.record_bodies.proofs.PieceLaws.{token_is_held}
 use Rattle.record_bodies.proofs.KeptLaws.{unless_err}
 use Rattle.key_records.proofs.records.Records.read.Goals as goal
@@ -49,16 +51,10 @@ read_of o row read bytes token found is same reads tokens =
 null_token : (masters : MasterKeys) (o : Option Entry) (found : Bool) (token out : List ℕ) → found ≡ false → ReadsToken masters o found token → ReadsToken masters o false out
 null_token masters None found token out none reads = reads
 null_token masters (Some e) found token out none reads =
-    (sym none ∙ reads.0, λ key is. let wrong : false ≡ true = sym none ∙ reads.0 ∙ ap (λ w. is_some w) is in absurd (cc))
-
-not_damaged : {P : Type 0} (n : ℕ) → ◌≡◌ {A = Result Bool RecordFault} (Err DiskFault) (Err (Damaged n)) → P
-not_damaged n is = absurd (cc is)
+    (sym none ∙ reads.0, λ key is. absurd (false≢true (sym none ∙ reads.0 ∙ ap (λ w. is_some w) is)))
 
 not_found : {P : Type 0} → ◌≡◌ {A = Result Bool RecordFault} (Ok false) (Ok true) → P
 not_found is = absurd (cc is)
-
-damaged_one : (a b : ℕ) → ◌≡◌ {A = Result Bool RecordFault} (Err (Damaged a)) (Err (Damaged b)) → a ≡ b
-damaged_one a b is = cc is
 
 pub cell-cell-requires : goal.cell-cell-requires
 cell-cell-requires g c = c.requires.held
@@ -166,7 +162,7 @@ returns-in-Some-Some-clause-own g c =
 pub returns-in-Some-None-clause-own : goal.returns-in-Some-None-clause-own
 returns-in-Some-None-clause-own g c =
     read_of (get_or c.args.self.now c.args.place None) c.row-row.result c.body.result.now c.read_cell.new.out c.args.out.now false c.row-row.ensures c.body.ensures
-    (c.in-Some-None.ensures.reads refl) (λ found. let wrong : false ≡ true = found in absurd (cc))
+    (c.in-Some-None.ensures.reads refl) (λ found. absurd (false≢true found))
 
 pub returns-in-None-clause-damaged : goal.returns-in-None-clause-damaged
 returns-in-None-clause-damaged g c n is =
@@ -247,7 +243,8 @@ returns-in-Some-None-clause-cause g c =
 
 pub returns-in-None-clause-cause : goal.returns-in-None-clause-cause
 returns-in-None-clause-cause g c =
-    cause_read (g.D.Disk.faults c.args.store.now) (g.D.Disk.faults c.read_cell.new.disk) c.read_cell.result c.read_cell.ensures.cause (sym c.is_err.ensures.value ∙ c.if-is_err.false) (Err (Damaged c.cell-cell.result)) (λ is. cc is)
+    cause_read (g.D.Disk.faults c.args.store.now) (g.D.Disk.faults c.read_cell.new.disk) c.read_cell.result c.read_cell.ensures.cause
+    (sym c.is_err.ensures.value ∙ c.if-is_err.false) (Err (Damaged c.cell-cell.result)) (λ is. not_damaged c.cell-cell.result (sym is))
 
 pub returns-in-Some-None-clause-untouched : goal.returns-in-Some-None-clause-untouched
 returns-in-Some-None-clause-untouched g c _ = refl
