@@ -1,5 +1,6 @@
 use Rattle.std.proofs.Common.{◌≡◌, ◌∙◌, [], ◌∷◌, false, codes, refl, sym, ap, subst}
 use Rattle.std.specs.Prelude.{is_some, ◌||◌}
+use Rattle.std.proofs.lemmas.Option.{same_Some}
 use Rattle.key_cells.specs.Lease.{bench_of}
 use Rattle.key_cells.specs.declared.leases.Lease.{Lease}
 use Rattle.key_tokens.specs.Denotes.{ClearKey}
@@ -36,7 +37,7 @@ returns c = record {
       (λ s is.
       let key : key_in_field s request (codes "transport") ≡ opened bench under =
       key_is bench (key_in_text s transport) c.args.granted.now.second under is.grants.1 c.double_key_in.ensures.key.is c.double_key_in.ensures.key.under in
-      let same : is.grants.0.judged ≡ source = cc (is.grants.0.is, c.external_in-source.ensures.key) in
+      let same : is.grants.0.judged ≡ source = same_Some is.grants.0.judged source (sym is.grants.0.is ∙ c.external_in-source.ensures.key) in
       let brought : imported (key_in_field s request (codes "transport")) (hex_value token) ≡ clear =
       ap (λ (k : ClearKey). imported k (hex_value token)) key
       ∙ (ap or_no_clear (is.grants.0.opens (opened bench under).key) ∙ ap (opened_under (opened bench under).key) same) in

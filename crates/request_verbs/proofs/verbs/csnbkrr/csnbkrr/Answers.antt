@@ -1,4 +1,5 @@
 use Rattle.std.proofs.Common.{◌≡◌, ◌∙◌, [], ◌∷◌, Option, codes, refl, sym, ap, subst, rules}
+use Rattle.std.proofs.lemmas.Option.{same_Some}
 use Rattle.key_cells.specs.Lease.{bench_of}
 use Rattle.key_tokens.specs.Denotes.{Denoted}
 use Rattle.master_registers.specs.Loaded.{registers_of}
@@ -24,7 +25,7 @@ returns c = record {
       let halves : IsSealed judged.token.vector judged.token.sealed = record { left = c.are_bytes.ensures; right = c.are_bytes-2.ensures; single = c.key_in-key.ensures.halves } in
       shown_settles refl (λ s. fields s (key_of_label s label)) refl (λ s. refl) (λ s. refl)
       (λ s is.
-      let same : is.grants.0.has.judged ≡ judged = cc (is.grants.0.has.is, c.key_in-key.ensures.is) in
+      let same : is.grants.0.has.judged ≡ judged = same_Some is.grants.0.has.judged judged (sym is.grants.0.has.is ∙ c.key_in-key.ensures.is) in
       let age = subst (λ (j : Judged). j.age ≡ age_of (registers_of s.registers) j.token) same is.grants.0.age in
       let some = or_none_is (opened_key bench judged) (opens bench judged c.key_in-key.ensures.under) in
       let key : key_of_label s label ≡ opened_key bench judged = is.grants.0.has.key_is ∙ ap (opened_key bench) same in

@@ -1,5 +1,6 @@
 use Rattle.std.proofs.Common.{◌≡◌, [], ◌∷◌, ℕ, List, Option, refl, sym, subst, ◌∙◌}
 use Rattle.std.specs.Prelude.{IsSome}
+use Rattle.std.proofs.lemmas.Option.{same_Some}
 use Rattle.key_cells.specs.Lease.{bench_of}
 use Rattle.key_tokens.specs.Denotes.{Denoted}
 use Rattle.verb_rules.specs.declared.judging.Judged.{Judged}
@@ -28,7 +29,7 @@ returns c = record {
       (λ shaped s is left.
       let key = key_of_token s (hex_value c.args.token.now) in
       let has = is.grants.1 in
-      let same : shaped.1.judged ≡ has.judged = cc (shaped.1.is, has.is) in
+      let same : shaped.1.judged ≡ has.judged = same_Some shaped.1.judged has.judged (sym shaped.1.is ∙ has.is) in
       let under = subst (λ (j : Judged). IsSome j.age) same shaped.1.under in
       let some = subst (λ (k : Option Denoted). IsSome k) (sym has.key_is) (opens bench has.judged under) in
       decides s bench request effect (written []) left refl (

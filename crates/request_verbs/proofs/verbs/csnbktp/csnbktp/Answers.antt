@@ -1,4 +1,5 @@
-use Rattle.std.proofs.Common.{◌≡◌, ◌∙◌, refl, ap, arith}
+use Rattle.std.proofs.Common.{◌≡◌, ◌∙◌, refl, sym, ap, arith}
+use Rattle.std.proofs.lemmas.Option.{same_Some}
 use Rattle.key_tokens.specs.Fields.{token_of}
 use Rattle.key_tokens.specs.declared.key_token.Token.{Token}
 use Rattle.line_service.specs.Replies.{written}
@@ -11,7 +12,9 @@ pub returns : goal.returns
 returns c = record {
   settles = λ role token held rows lease.
       shown_settles refl (λ s. token_fields (token_of (hex_value token))) refl (λ s. refl) (λ s. refl)
-      (λ s is. let same : c.token_in.result.now ≡ token_of (hex_value token) = cc (is.grants.0.0, c.token_in.ensures) in
+      (λ s is.
+      let read = token_of (hex_value token) in
+      let same : c.token_in.result.now ≡ read = same_Some c.token_in.result.now read (sym c.token_in.ensures ∙ is.grants.0.0) in
       c.show_parts.ensures.fields ∙ ap (λ (t : Token). written (token_fields t)) same)
       (omega (arith, c.show_parts.ensures.size));
 }

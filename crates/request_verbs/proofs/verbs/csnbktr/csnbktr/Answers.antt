@@ -1,4 +1,5 @@
 use Rattle.std.proofs.Common.{◌≡◌, ◌∙◌, [], ◌∷◌, codes, refl, sym, ap, rules}
+use Rattle.std.proofs.lemmas.Option.{same_Some}
 use Rattle.key_cells.specs.Lease.{bench_of}
 use Rattle.key_tokens.specs.Denotes.{ClearKey}
 use Rattle.key_transport.specs.Tokens.{external_token, transported_key}
@@ -31,7 +32,7 @@ returns c = record {
       key_is bench (key_in_text s transport1) c.args.granted.now.second one is.grants.1 c.double_key_in-one.ensures.key.is c.double_key_in-one.ensures.key.under in
       let to : key_in_field s request (codes "transport2") ≡ opened bench two =
       key_is bench (key_in_text s transport2) c.args.granted.now.third two is.grants.2 c.double_key_in.ensures.key.is c.double_key_in.ensures.key.under in
-      let same : is.grants.0.judged ≡ source = cc (is.grants.0.is, c.external_in-source.ensures.key) in
+      let same : is.grants.0.judged ≡ source = same_Some is.grants.0.judged source (sym is.grants.0.is ∙ c.external_in-source.ensures.key) in
       let brought : imported (key_in_field s request (codes "transport1")) bytes ≡ transported_key bench source one =
       ap (λ (k : ClearKey). imported k bytes) from
       ∙ (ap or_no_clear (is.grants.0.opens (opened bench one).key) ∙ ap (opened_under (opened bench one).key) same) in

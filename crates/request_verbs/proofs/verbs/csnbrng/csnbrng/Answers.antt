@@ -1,4 +1,4 @@
-use Rattle.std.proofs.Common.{[], ◌∷◌, ◌∙◌, codes, refl, ap, rules}
+use Rattle.std.proofs.Common.{[], ◌∷◌, ◌∙◌, codes, refl, sym, ap, rules, true≢false}
 use Rattle.cipher_verbs.specs.RandomBytes.{in_form}
 use Rattle.line_service.specs.Replies.{Hex, written}
 use Rattle.request_verbs.proofs.Fields.{one_hex}
@@ -30,7 +30,7 @@ returns-in-Ok g c = record {
           silent = tt;
           stops = tt;
         };
-        takes = takes_drawn c.in-Ok.ensures.cause.quiet (λ s refused. cc refused) refl;
+        takes = takes_drawn c.in-Ok.ensures.cause.quiet (λ s refused. absurd (true≢false (sym refused))) refl;
         places = refl;
       };
 }
@@ -39,7 +39,7 @@ pub returns-in-Err : goal.returns-in-Err
 returns-in-Err g c = record {
   settles = λ role granted held rows lease. record {
     decided = λ shaped. stopped_decides (λ s. refl) refl c.requires.empty;
-    takes = takes_failed c.random_number.ensures.cause.later c.in-Err.ensures.cause.failed (λ s refused. cc refused) refl;
+    takes = takes_failed c.random_number.ensures.cause.later c.in-Err.ensures.cause.failed (λ s refused. absurd (true≢false (sym refused))) refl;
     places = refl;
   };
 }
