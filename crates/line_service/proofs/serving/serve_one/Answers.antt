@@ -1,15 +1,25 @@
 -- What a line leaves, by how far it came.
-use Rattle.std.proofs.Common.{◌≡◌, ◌++◌, ℕ, List, None, Ok, Err, ap, subst, refl, inl, inr}
+use Rattle.std.proofs.Common.{◌≡◌, ◌++◌, ℕ, List, None, Result, Ok, Err, ap, subst, refl, inl, inr}
 use Rattle.device_cells.specs.WhereTold.{WhereTold}
 use Rattle.line_service.specs.Devices.{devices, outside}
 use Rattle.line_service.specs.Machine.{world}
 use Rattle.line_service.specs.Sending.{GotPart}
+use Rattle.line_service.specs.declared.serving.Served.{Served}
 use Rattle.line_service.specs.declared.serving.Served.TheVariants.{Replied, Ended}
+use Rattle.line_service.specs.declared.stops.Stop.{Stop}
 use Rattle.line_service.specs.declared.stops.Stop.TheVariants.{ReadFault, WriteFault, InputLimit}
 use Rattle.line_service.proofs.AnsweredLemmas.{outside_cut, outside_replied, outside_stopped, outside_untouched, cut_of_sink, replied_of_sink, undamaged_answered, undamaged_stopped, undamaged_untouched, unmoved_cut, unmoved_replied, unmoved_stopped, unmoved_untouched}
 use Rattle.line_service.proofs.LineLemmas.{line_replied, line_cut, line_lost, line_ended, line_unread, line_over}
 use Rattle.line_service.proofs.TakenLemmas.{line_was_taken, no_line_was_taken, over_not_failed, answered_replied, answered_cut, answered_stop, read_ended, read_failed, read_over}
 use Rattle.line_service.proofs.serving.serve_one.Goals as goal
+
+-- a line or the end is no fault
+no_err : {A B : Type 0} {v : A} {e : B} → ◌≡◌ {A = Result A B} (Ok v) (Err e) → ⊥
+no_err is = cc is
+
+-- and an input that is too long isn't one that failed
+over_not_unread : ◌≡◌ {A = Result Served Stop} (Err InputLimit) (Err ReadFault) → ⊥
+over_not_unread is = cc is
 
 pub returns-in-Ok-send-clause-serves : goal.returns-in-Ok-send-clause-serves
 returns-in-Ok-send-clause-serves g c = λ s stands.
@@ -96,7 +106,8 @@ returns-in-Ok-send-clause-left g c =
       new = outside (g.S.Source.left c.read_line.new.source) (g.S.Source.faults c.read_line.new.source) (g.K.Sink.held c.send.new.sink) (g.K.Sink.faults c.send.new.sink)
           (devices (g.M.Disk.medium c.answer_taken.new.module) (g.M.Disk.faults c.answer_taken.new.module) (g.D.Disk.medium c.answer_taken.new.store) (g.D.Disk.faults c.answer_taken.new.store) (g.E.Entropy.left c.answer_taken.new.entropy) (g.E.Entropy.faults c.answer_taken.new.entropy));
     })
-    c.read_line.ensures.later (c.in-Ok.ensures.quiet (λ h. cc h)) c.in-Ok-answer_taken.ensures.left c.send.ensures.cause.later _ c.in-Ok-send.ensures.cause.quiet c.in-Ok-send.ensures.all
+    c.read_line.ensures.later (c.in-Ok.ensures.quiet (λ h. no_err h)) c.in-Ok-answer_taken.ensures.left
+    c.send.ensures.cause.later _ c.in-Ok-send.ensures.cause.quiet c.in-Ok-send.ensures.all
 
 pub returns-in-Err-send-clause-left : goal.returns-in-Err-send-clause-left
 returns-in-Err-send-clause-left g c =
@@ -106,19 +117,22 @@ returns-in-Err-send-clause-left g c =
       new = outside (g.S.Source.left c.read_line.new.source) (g.S.Source.faults c.read_line.new.source) (g.K.Sink.held c.send.new.sink) (g.K.Sink.faults c.send.new.sink)
           (devices (g.M.Disk.medium c.answer_taken.new.module) (g.M.Disk.faults c.answer_taken.new.module) (g.D.Disk.medium c.answer_taken.new.store) (g.D.Disk.faults c.answer_taken.new.store) (g.E.Entropy.left c.answer_taken.new.entropy) (g.E.Entropy.faults c.answer_taken.new.entropy));
     })
-    c.read_line.ensures.later (c.in-Ok.ensures.quiet (λ h. cc h)) c.in-Ok-answer_taken.ensures.left c.send.ensures.cause.later _ c.in-Err-send.ensures.cause.failed c.in-Err-send.ensures.part
+    c.read_line.ensures.later (c.in-Ok.ensures.quiet (λ h. no_err h)) c.in-Ok-answer_taken.ensures.left
+    c.send.ensures.cause.later _ c.in-Err-send.ensures.cause.failed c.in-Err-send.ensures.part
 
 pub returns-in-Err-clause-left : goal.returns-in-Err-clause-left
 returns-in-Err-clause-left g c =
     outside_stopped g.A.Desk.machine c.in-Err.stop c.in-Err.ensures.stops
     (record { old = (devices (g.M.Disk.medium c.args.module.now) (g.M.Disk.faults c.args.module.now) (g.D.Disk.medium c.args.store.now) (g.D.Disk.faults c.args.store.now) (g.E.Entropy.left c.args.entropy.now) (g.E.Entropy.faults c.args.entropy.now)); new = (devices (g.M.Disk.medium c.answer_taken.new.module) (g.M.Disk.faults c.answer_taken.new.module) (g.D.Disk.medium c.answer_taken.new.store) (g.D.Disk.faults c.answer_taken.new.store) (g.E.Entropy.left c.answer_taken.new.entropy) (g.E.Entropy.faults c.answer_taken.new.entropy)) })
-    (g.S.Source.left c.args.source.now) (g.S.Source.left c.read_line.new.source) (g.K.Sink.held c.args.sink.now) (g.S.Source.faults c.args.source.now) (g.S.Source.faults c.read_line.new.source) (g.K.Sink.faults c.args.sink.now) c.read_line.ensures.later (c.in-Ok.ensures.quiet (λ h. cc h)) c.in-Err.ensures.left
+    (g.S.Source.left c.args.source.now) (g.S.Source.left c.read_line.new.source) (g.K.Sink.held c.args.sink.now)
+    (g.S.Source.faults c.args.source.now) (g.S.Source.faults c.read_line.new.source) (g.K.Sink.faults c.args.sink.now)
+    c.read_line.ensures.later (c.in-Ok.ensures.quiet (λ h. no_err h)) c.in-Err.ensures.left
 
 pub returns-in-End-clause-left : goal.returns-in-End-clause-left
 returns-in-End-clause-left g c =
     outside_untouched (devices (g.M.Disk.medium c.args.module.now) (g.M.Disk.faults c.args.module.now) (g.D.Disk.medium c.args.store.now) (g.D.Disk.faults c.args.store.now) (g.E.Entropy.left c.args.entropy.now) (g.E.Entropy.faults c.args.entropy.now))
     (g.S.Source.left c.args.source.now) (g.S.Source.left c.read_line.new.source) (g.K.Sink.held c.args.sink.now) (g.S.Source.faults c.args.source.now) (g.S.Source.faults c.read_line.new.source) (g.K.Sink.faults c.args.sink.now) (Ok Ended) (inl refl) c.requires.disks.module_settled c.requires.disks.store_settled
-    (record { later = c.read_line.ensures.later; fault = λ h. absurd (cc h); quiet = λ none. c.in-Ok.ensures.quiet (λ h. cc h) })
+    (record { later = c.read_line.ensures.later; fault = λ h. absurd (no_err h); quiet = λ none. c.in-Ok.ensures.quiet (λ h. no_err h) })
 
 pub returns-in-Err-ReadFault-clause-left : goal.returns-in-Err-ReadFault-clause-left
 returns-in-Err-ReadFault-clause-left g c =
@@ -130,7 +144,11 @@ pub returns-in-Err-InputLimit-clause-left : goal.returns-in-Err-InputLimit-claus
 returns-in-Err-InputLimit-clause-left g c =
     outside_untouched (devices (g.M.Disk.medium c.args.module.now) (g.M.Disk.faults c.args.module.now) (g.D.Disk.medium c.args.store.now) (g.D.Disk.faults c.args.store.now) (g.E.Entropy.left c.args.entropy.now) (g.E.Entropy.faults c.args.entropy.now))
     (g.S.Source.left c.args.source.now) (g.S.Source.left c.read_line.new.source) (g.K.Sink.held c.args.sink.now) (g.S.Source.faults c.args.source.now) (g.S.Source.faults c.read_line.new.source) (g.K.Sink.faults c.args.sink.now) (Err InputLimit) (inr (inr refl)) c.requires.disks.module_settled c.requires.disks.store_settled
-    (record { later = c.read_line.ensures.later; fault = λ h. absurd (cc h); quiet = λ none. c.in-Err-InputLimit.ensures.quiet (λ h. over_not_failed c.in-Err-InputLimit.field-0 c.in-Err-InputLimit.field-0-is h) })
+    (record {
+      later = c.read_line.ensures.later;
+      fault = λ h. absurd (over_not_unread h);
+      quiet = λ none. c.in-Err-InputLimit.ensures.quiet (over_not_failed c.in-Err-InputLimit.field-0 c.in-Err-InputLimit.field-0-is);
+    })
 
 pub returns-in-Ok-send-clause-undamaged : goal.returns-in-Ok-send-clause-undamaged
 returns-in-Ok-send-clause-undamaged g c =
