@@ -1,4 +1,4 @@
-use Rattle.std.proofs.Common.{◌≡◌, ℕ, Option, Some, true, false, refl, sym, ap, subst, ◌∙◌}
+use Rattle.std.proofs.Common.{◌≡◌, ℕ, Option, Some, refl, sym, ap, subst, ◌∙◌, true≢false}
 use Rattle.std.specs.Prelude.{IfSome, IsSome, is_some}
 use Rattle.record_bodies.specs.Directory.{label_at}
 use Rattle.record_bodies.specs.Entries.{row_directory}
@@ -17,4 +17,4 @@ returns-clause-held c =
     (ap is_some c.in-Some.ensures.label)
 
 pub returns-clause-none : goal.returns-clause-none
-returns-clause-none c none = let wrong : true ≡ false = ap is_some (sym (found_is c)) ∙ none in absurd (cc)
+returns-clause-none c none = absurd (true≢false (ap is_some (sym (found_is c)) ∙ none))
