@@ -1,4 +1,4 @@
-use Rattle.std.proofs.Common.{◌≡◌, ◌∙◌, ℕ, List, [], Option, None, Some, get_or, refl, sym, ap, subst, rules}
+use Rattle.std.proofs.Common.{◌≡◌, ◌∙◌, ℕ, List, [], Option, None, Some, get_or, refl, sym, ap, subst, rules, true≢false}
 use Rattle.std.specs.Prelude.{Err}
 use Rattle.key_cells.specs.Lease.{bench_of}
 use Rattle.record_bodies.specs.StoreStands.{entry_at}
@@ -39,7 +39,7 @@ pub returns-in-Err-judge_record-clause-reads : goal.returns-in-Err-judge_record-
 returns-in-Err-judge_record-clause-reads g c = record {
   keeps = search rules;
   disk = search rules;
-  spared = λ none. cc none;
+  spared = λ none. absurd (true≢false none);
   named = λ is. refl;
   stops = search rules;
   sound = λ s at.
