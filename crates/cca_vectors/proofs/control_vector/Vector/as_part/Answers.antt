@@ -15,8 +15,7 @@ invariant_of-result c = subst IsValid (sym (part_is c)) (part_valid c.self.insid
 
 pub returns-clause-length : goal.returns-clause-length
 returns-clause-length c =
-    let same : c.self.inside.bytes ≡ c.args.self.now = cc in
-    ap length_of (part_is c) ∙ (part_length c.self.inside.bytes c.self.invariant ∙ ap length_of same)
+    ap length_of (part_is c) ∙ (part_length c.self.inside.bytes c.self.invariant ∙ ap length_of c.self.view_is)
 
 pub returns-clause-valid : goal.returns-clause-valid
 returns-clause-valid c = subst IsValid (sym (part_is c)) (part_valid c.self.inside.bytes c.self.invariant)

@@ -22,7 +22,7 @@ halves vector left right closed_left closed_right joined l r cl cr is ex z =
 
 closed_is : (c : goal.After-joined) → c.joined.result ≡ closed_to_export c.self.inside.bytes
 closed_is c =
-    let same : c.args.self.now ≡ c.self.inside.bytes = cc in
+    let same : c.args.self.now ≡ c.self.inside.bytes = sym c.self.view_is in
     halves c.self.inside.bytes c.left_half.result c.right_half.result c.closed_half-left.result c.closed_half-right.result c.joined.result
     c.left_half.ensures c.right_half.ensures c.closed_half-left.ensures c.closed_half-right.ensures c.joined.ensures
     (c.if-not-exportable.ensures ∙ ap is_exportable same) c.if-is_zero.ensures.value
@@ -36,8 +36,7 @@ returns-clause-closed c =
 
 pub returns-clause-length : goal.returns-clause-length
 returns-clause-length c =
-    let same : c.self.inside.bytes ≡ c.args.self.now = cc in
-    ap length_of (closed_is c) ∙ (closing_length c.self.inside.bytes c.self.invariant ∙ ap length_of same)
+    ap length_of (closed_is c) ∙ (closing_length c.self.inside.bytes c.self.invariant ∙ ap length_of c.self.view_is)
 
 pub returns-clause-valid : goal.returns-clause-valid
 returns-clause-valid c = subst IsValid (sym (closed_is c)) (closing_valid c.self.inside.bytes c.self.invariant)
