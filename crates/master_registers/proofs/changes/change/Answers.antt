@@ -1,12 +1,19 @@
-use Rattle.std.proofs.Common.{ap}
+use Rattle.std.proofs.Common.{◌≡◌, ap}
 use Rattle.std.specs.Prelude.{IsTrue}
 use Rattle.key_cells.specs.Lease.{bench_of}
 use Rattle.master_registers.specs.Actions.{after_action, has_wrong_state, repeats_pattern}
 use Rattle.master_registers.specs.Loaded.{masters_in}
 use Rattle.master_registers.specs.RegisterBody.{registers_body}
-use Rattle.master_registers.specs.declared.faults.RegisterFault.TheVariants.{RegisterState, SamePattern}
+use Rattle.master_registers.specs.declared.faults.RegisterFault.TheVariants.{DiskFault, RegisterState, SamePattern}
 use Rattle.master_registers.proofs.ChangeLemmas.{carries_none, changes_registers, refuses_none, rest_stored}
 use Rattle.master_registers.proofs.changes.change.Goals as goal
+
+-- neither of the two rules is a fault of the disk
+state_not_disk : RegisterState ≡ DiskFault → ⊥
+state_not_disk is = cc is
+
+pattern_not_disk : SamePattern ≡ DiskFault → ⊥
+pattern_not_disk is = cc is
 
 pub prepare-requires : goal.prepare-requires
 prepare-requires g c = c.requires.loaded
@@ -29,11 +36,15 @@ returns-in-Ok-clause-registers g c =
 
 pub returns-in-Ok-clause-state : goal.returns-in-Ok-clause-state
 returns-in-Ok-clause-state g c =
-    refuses_none c.store.result c.in-Ok.next RegisterState (IsTrue (has_wrong_state c.args.action (masters_in c.args.held.now (bench_of c.args.lease.now)))) c.store.ensures.fault (λ is. cc is) c.in-Ok.ensures.state
+    refuses_none c.store.result c.in-Ok.next RegisterState
+    (IsTrue (has_wrong_state c.args.action (masters_in c.args.held.now (bench_of c.args.lease.now))))
+    c.store.ensures.fault state_not_disk c.in-Ok.ensures.state
 
 pub returns-in-Ok-clause-same : goal.returns-in-Ok-clause-same
 returns-in-Ok-clause-same g c =
-    refuses_none c.store.result c.in-Ok.next SamePattern (IsTrue (repeats_pattern c.args.action (masters_in c.args.held.now (bench_of c.args.lease.now)))) c.store.ensures.fault (λ is. cc is) c.in-Ok.ensures.same
+    refuses_none c.store.result c.in-Ok.next SamePattern
+    (IsTrue (repeats_pattern c.args.action (masters_in c.args.held.now (bench_of c.args.lease.now))))
+    c.store.ensures.fault pattern_not_disk c.in-Ok.ensures.same
 
 pub returns-in-Err-clause-registers : goal.returns-in-Err-clause-registers
 returns-in-Err-clause-registers g c =

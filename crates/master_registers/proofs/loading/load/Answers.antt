@@ -1,4 +1,4 @@
-use Rattle.std.proofs.Common.{◌≡◌, Result, Ok, Err, true, false, None, refl, sym, ap, subst, ◌∙◌}
+use Rattle.std.proofs.Common.{◌≡◌, Result, Ok, Err, false, None, refl, sym, ap, subst, ◌∙◌, true≢false}
 use Rattle.std.specs.Result.{OnOk, is_err, result_ok}
 use Rattle.std.specs.Option.{IsNone}
 use Rattle.device_cells.specs.Cells.{body}
@@ -9,7 +9,7 @@ use Rattle.master_registers.proofs.loading.load.Goals as goal
 
 unless_failed : {T E P : Type 0} (r : Result T E) → is_err r ≡ false → OnOk r P → P
 unless_failed (Ok x) not_failed holds = holds
-unless_failed (Err e) not_failed holds = let wrong : true ≡ false = not_failed in absurd (cc)
+unless_failed (Err e) not_failed holds = absurd (true≢false not_failed)
 
 pub returns-clause-damaged : goal.returns-clause-damaged
 returns-clause-damaged g c failed =
