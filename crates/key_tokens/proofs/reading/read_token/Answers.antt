@@ -1,5 +1,6 @@
 -- No rule is broken exactly where the bytes are a token of the kind that is asked for.
 use Rattle.std.proofs.Common.{◌≡◌, None, Some, Ok, sym, ap, ◌∙◌, subst}
+use Rattle.std.proofs.lemmas.Option.{none-some}
 use Rattle.cca_vectors.specs.Checks.{first_failing}
 use Rattle.key_tokens.specs.declared.key_token.Token.{Token}
 use Rattle.key_tokens.specs.Kinds.{IsAsked}
@@ -14,7 +15,7 @@ returns-in_err-vector-clause-only c = λ token is_token asked.
     let none : first_failing (token_checks c.args.asked c.args.bytes.now) ≡ None =
     none_from_token c.args.asked c.args.bytes.now c.told-bytes c.fits-bytes token is_token asked in
     let broken : first_failing (token_checks c.args.asked c.args.bytes.now) ≡ Some (rule_of c.in_err-vector.field-0.0) = c.in_err-vector.ensures.refused in
-    absurd (cc (none, broken))
+    absurd (none-some (rule_of c.in_err-vector.field-0.0) (sym none ∙ broken))
 
 pub returns-clause-layout : goal.returns-clause-layout
 returns-clause-layout c =
