@@ -1,5 +1,5 @@
 -- The replies end with a newline.
-use Rattle.std.proofs.Common.{◌≡◌, ℕ, List, [], ◌∷◌, ◌++◌, refl, sym, ap, ◌∙◌, subst, inl, inr, append_assoc, append-nil}
+use Rattle.std.proofs.Common.{ℕ, List, [], ◌∷◌, ◌++◌, refl, sym, ap, ◌∙◌, subst, inl, inr, append_assoc, append-nil}
 use Rattle.line_service.specs.Lines.{newline, EndsLine}
 use Rattle.line_service.specs.Replies.{Reply, Refused, Done, spelled, refusal, written}
 use Rattle.line_service.specs.Machine.{Outcome}
