@@ -1,5 +1,6 @@
-use Rattle.std.proofs.Common.{◌≡◌, None, Some, Result, Ok, Err, refl}
+use Rattle.std.proofs.Common.{◌≡◌, None, Some, Result, Ok, Err, refl, sym, ◌∙◌}
 use Rattle.std.specs.Prelude.{IsOk, IfErr}
+use Rattle.std.proofs.lemmas.Option.{none-some}
 use lib.Count.{ones}
 use Rattle.cca_vectors.specs.Checks.{first_failing}
 use Rattle.cca_vectors.specs.VectorChecks.{vector_checks, rule_of}
@@ -13,7 +14,7 @@ passes = refl
 
 ok_from : {V : Type 0} (r : Result V VectorFault) → IfErr r (λ fault. first_failing (vector_checks data_vector) ≡ Some (rule_of fault)) → IsOk r
 ok_from (Ok v) h = refl
-ok_from (Err fault) h = let p = passes in cc
+ok_from (Err fault) h = absurd (none-some (rule_of fault) (sym passes ∙ h))
 
 pub unwrap-requires : goal.unwrap-requires
 unwrap-requires c = ok_from c.vector_of.result c.vector_of.ensures.refused
