@@ -149,6 +149,10 @@ spares_still result never = record { named = λ is. absurd (never is); spared = 
 abbrev served : Result (Unit {0}) Stop
 served = Ok tt
 
+-- a value is no error
+pub no_err : {A B : Type 0} {v : A} {e : B} → ◌≡◌ {A = Result A B} (Ok v) (Err e) → ⊥
+no_err is = cc is
+
 pub no_stop : (fault : Stop) → served ≡ Err fault → ⊥
 no_stop fault is = cc is
 

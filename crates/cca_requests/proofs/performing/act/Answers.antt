@@ -9,7 +9,7 @@ use Rattle.cca_machine.specs.Operands.{operands}
 use Rattle.cca_machine.specs.Verdict.{verb_verdict}
 use Rattle.request_rules.specs.Standing.{tables}
 use Rattle.cca_requests.specs.Serving.{IsFault, IsLoadedStop}
-use Rattle.cca_requests.proofs.Handing.{decide_stopped, disks_decided}
+use Rattle.cca_requests.proofs.Handing.{decide_stopped, disks_decided, no_err}
 use Rattle.cca_requests.proofs.Registers.{loaded_after}
 use Rattle.cca_requests.proofs.Serving.{decided_serves, old_as, stopped_serves}
 use Rattle.cca_machine.proofs.Settling.{takes_on}
@@ -17,10 +17,6 @@ use Rattle.cca_requests.proofs.Storing.{recorded}
 use Rattle.cca_requests.proofs.performing.act.Goals as goal
 
 -- ---- answers that aren't one
-
--- an effect is no stop
-no_err : {A B : Type 0} {v : A} {e : B} → ◌≡◌ {A = Result A B} (Ok v) (Err e) → ⊥
-no_err is = cc is
 
 -- and the random source isn't the store
 not_of_store : (stop : Stop) → stop ≡ EntropyFault → ◌≡◌ {A = Result (Unit {0}) Stop} (Err stop) (Err StoreFault) → ⊥

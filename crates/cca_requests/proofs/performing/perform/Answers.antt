@@ -9,17 +9,13 @@ use Rattle.verb_script.specs.Parsed.{seen}
 use Rattle.verb_script.proofs.GrammarLaws.{spelled_values}
 use Rattle.request_rules.specs.Standing.{tables}
 use Rattle.request_rules.proofs.AsRead.{rests_before}
-use Rattle.cca_requests.proofs.Handing.{disks_loaded, draws_none, load_damaged, load_failed, request_stop, spares_still}
+use Rattle.cca_requests.proofs.Handing.{disks_loaded, draws_none, load_damaged, load_failed, no_err, request_stop, spares_still}
 use Rattle.cca_requests.proofs.Leaving.{no_damage, leaves_after_reads}
 use Rattle.cca_requests.proofs.Registers.{registers_found, undamaged}
 use Rattle.cca_requests.proofs.Serving.{stopped_serves, serves_after_reads, stands_kept}
 use Rattle.cca_requests.proofs.performing.perform.Goals as goal
 
 -- ---- answers that aren't one
-
--- what was loaded is no fault
-no_err : {A B : Type 0} {v : A} {e : B} → ◌≡◌ {A = Result A B} (Ok v) (Err e) → ⊥
-no_err is = cc is
 
 abbrev error : Stop → Result (Unit {0}) Stop
 error stop = Err stop
