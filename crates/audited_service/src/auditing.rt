@@ -15,7 +15,10 @@ use crate::scribe::{Scribe, entry_taken};
 use audit_trail::{Entry, Trail, TrailFault};
 use device_cells::{Disk, Entropy, Sink, Source};
 use key_cells::Workbench;
-use line_service::{Desk, LineBuffer, LineFault, ReplyBuffer, Served, Shown, ShownOutside, Stop, Taken, answer_taken, read_line, send};
+use line_service::{
+    Desk, LineBuffer, LineFault, ReplyBuffer, Served, Shown, ShownOutside, Stop, Taken,
+    answer_taken, read_line, send,
+};
 
 // Appends the entry of a line that was answered, and sends the reply then. Where the trail fails no byte is sent.
 fn append_and_send<K: Sink, T: Disk>(

@@ -7,8 +7,8 @@ ghost use Rattle.audit_trail.specs.Entries.{IsEntry, filled};
 ghost use Rattle.audited_service.specs.LineEntries.{digit, rule_in, entry_with, entry_of};
 
 use audit_trail::Entry;
-use key_cells::put_front;
 use cca_roles::is_digit;
+use key_cells::put_front;
 use verb_script::{Request, parse_request};
 
 /// The entry of a line that is no longer than a line may be, and of its reply.

@@ -67,8 +67,13 @@ padded_place place longer text lent new read text_long is given lent_long put =
     ∙ ap (λ k. text ++ (replicate (k - 1) 0 ++ k ∷ [])) count in
     let long : length new ≡ full
     = ap (λ xs. length xs) made
-    ∙ omega (arith, length-append text (zeros ++ added text ∷ []), length-append zeros (added text ∷ []), length-replicate {A = ℕ} (added text - 1) 0,
-    size_is) in
+    ∙ omega (
+      arith,
+      length-append text (zeros ++ added text ∷ []),
+      length-append zeros (added text ∷ []),
+      length-replicate {A = ℕ} (added text - 1) 0,
+      size_is,
+    ) in
     record {
       text = take_at new (drop full longer.bytes) full long ∙ made ∙ sym (append_assoc text zeros (added text ∷ [])) ∙ ap pad read;
       whole = omega (arith, size_is);

@@ -6,10 +6,10 @@ ghost use Rattle.des_blocks.specs.Modes.{cbc_mac, mac_x919, mac_x99};
 ghost use Rattle.des_blocks.specs.Schedules.{IsOf, deciphered_under, enciphered_under};
 ghost use Rattle.des_blocks.specs.Texts.{fill_block};
 
-use key_cells::{Schedule, put_front};
 use des_blocks::{
     decipher_block, encipher_block, encipher_next, final_block, initial_halves, word_at,
 };
+use key_cells::{Schedule, put_front};
 
 /// The bytes of the last block of a text, fewer than eight, and zeros, as a word.
 fn filled_word(bytes: &[u8]) -> u64

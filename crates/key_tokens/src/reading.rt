@@ -10,8 +10,8 @@ ghost use Rattle.key_tokens.specs.TokenChecks.{stored_tvv, has_flag, reserved_is
 
 use crate::key_token::{Asked, Kind, Token, TokenFault};
 use crate::validation::{tvv, word_at};
-use key_cells::is_zero;
 use cca_vectors::{Vector, VectorFault, vector_of};
+use key_cells::is_zero;
 use multi_encipher::Sealed;
 
 pub(crate) const INTERNAL: u8 = 0x01;

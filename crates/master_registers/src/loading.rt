@@ -14,8 +14,8 @@ use crate::forms::{CURRENT, CURRENT_STATE, NEW, NEW_STATE, OLD, OLD_STATE, is_fo
 use crate::moves::{clear_master, take_master};
 use crate::patterns::{Pattern, pattern_of};
 use crate::registers::{NewState, Registers};
-use key_cells::{Lease, MasterPlace, is_zero};
 use device_cells::{Cell, Disk, read_cell};
+use key_cells::{Lease, MasterPlace, is_zero};
 
 /// Reads cell 0 of the module into the places of the three registers. The disk is as before. Of the lease the places
 /// `Current`, `Old` and `New` and the body change, and after an error they may hold any bytes.

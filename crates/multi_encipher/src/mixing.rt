@@ -8,8 +8,8 @@ ghost use Rattle.multi_encipher.specs.Bundles.{ChangesSchedules, bundle_under, k
 ghost use Rattle.multi_encipher.specs.Seals.{variant_key};
 
 use crate::halves::Under;
-use key_cells::{KeyPlace, Lease, MasterPlace, Schedule, Secret, xor};
 use des_blocks::schedule;
+use key_cells::{KeyPlace, Lease, MasterPlace, Schedule, Secret, xor};
 
 /// Copies one key of the bundle.
 fn copy_key(lease: &Lease, under: Under, number: usize, out: &mut [u8; 8])

@@ -25,8 +25,8 @@ use command_words::Move;
 use device_cells::{Disk, Sink, Steps};
 use key_cells::Lease;
 use key_records::{Label, Place, RecordFault, Records, STORE_LEN};
-use master_registers::Registers;
 use line_service::ReplyBuffer;
+use master_registers::Registers;
 use store_move::{Moved, unload_label};
 use verb_rules::{Judged, Rule};
 

@@ -18,8 +18,8 @@ use command_words::Move;
 use device_cells::{Disk, Sink};
 use key_cells::Lease;
 use key_records::{RecordFault, Records, STORE_LEN};
-use master_registers::Registers;
 use line_service::ReplyBuffer;
+use master_registers::Registers;
 use thiserror::Error;
 use verb_rules::Judged;
 

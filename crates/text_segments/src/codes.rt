@@ -15,9 +15,9 @@ ghost use Rattle.text_segments.specs.Segments.{at_hand, chain_after, code_cipher
 
 use crate::chains::Chain;
 use crate::places::{combine_start, fill_text, put_carried};
-use key_cells::{KeyPlace, Lease, ShortList};
 use cipher_verbs::clear_text;
 use des_core::cbc_mac;
+use key_cells::{KeyPlace, Lease, ShortList};
 use mac_verbs::mac_generate;
 use verb_rules::{Judged, MacRule, TextUse, schedule_key};
 

@@ -12,8 +12,8 @@ ghost use Rattle.des_core.specs.Lanes.{AreVectors};
 
 use super::ciphers::decipher_words;
 use crate::words::put_word;
-use key_cells::{Lease, put_front};
 use des_blocks::word_at;
+use key_cells::{Lease, put_front};
 use std::simd::prelude::*;
 
 /// The 128 blocks of 1,024 bytes, as words.

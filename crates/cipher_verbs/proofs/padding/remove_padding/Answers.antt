@@ -14,12 +14,12 @@ bounds-text-size c = omega (arith, c.requires.blocks, c.text-size.ensures.size, 
 
 pub returns-then-count-eq0-clause-refused : goal.returns-then-count-eq0-clause-refused
 returns-then-count-eq0-clause-refused c = elim c.then-count-eq0.branch [
-    then-count-eq0-via-then-count-eq0 w ↦
-        none_counted (text_in c.args.lease.now) c.text-size.result.now c.text.result.now c.text-size.ensures.value c.text.ensures.value
-        w.if-count-eq0.true
+  | then-count-eq0-via-then-count-eq0 w ↦
+      none_counted (text_in c.args.lease.now) c.text-size.result.now c.text.result.now c.text-size.ensures.value c.text.ensures.value
+      w.if-count-eq0.true
   | then-count-eq0-via-else-count-eq0+then-count-gt-BLOCK w ↦
-        many_counted (text_in c.args.lease.now) c.text-size.result.now c.text.result.now c.text-size.ensures.value c.text.ensures.value
-        w.if-count-gt-BLOCK.true
+      many_counted (text_in c.args.lease.now) c.text-size.result.now c.text.result.now c.text-size.ensures.value c.text.ensures.value
+      w.if-count-gt-BLOCK.true
 ]
 
 pub returns-then-count-eq0-clause-cleared : goal.returns-then-count-eq0-clause-cleared

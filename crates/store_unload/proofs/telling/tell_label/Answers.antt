@@ -60,7 +60,7 @@ pub returns-in-Ok-Token-clause-own : goal.returns-in-Ok-Token-clause-own
 returns-in-Ok-Token-clause-own g c = λ m place loaded found.
     let own = c.in-Ok-Token.ensures.own m loaded in
     let here : c.place_of-place.result ≡ place =
-        same_Some c.place_of-place.result place (sym c.place_of-place.ensures.found ∙ found) in
+    same_Some c.place_of-place.result place (sym c.place_of-place.ensures.found ∙ found) in
     moved_as_read (keys_of m) c.args.how.now c.args.label.now (get_or c.args.records.now place None) _ _
     own.0 c.in-Ok-Token.field-0 (at_place m c.args.records.now c.place_of-place.result place (bench_of c.unload_label.new.lease).body own.0 here own.1) own.2 (sym c.is_same.ensures ∙ c.if-is_same.false)
     c.in-Ok-Token.token c.send_requests.result _ _ _ c.in-Ok-Token.field-0-is c.send_requests.ensures.sends c.send_requests.ensures.fault
@@ -69,7 +69,7 @@ pub returns-in-Ok-Kept-clause-own : goal.returns-in-Ok-Kept-clause-own
 returns-in-Ok-Kept-clause-own g c = λ m place loaded found.
     let own = c.in-Ok-Kept.ensures.own m loaded in
     let here : c.place_of-place.result ≡ place =
-        same_Some c.place_of-place.result place (sym c.place_of-place.ensures.found ∙ found) in
+    same_Some c.place_of-place.result place (sym c.place_of-place.ensures.found ∙ found) in
     kept_as_read (keys_of m) c.args.how.now c.args.label.now (get_or c.args.records.now place None) _ _
     own.0 c.in-Ok-Kept.field-0 (at_place m c.args.records.now c.place_of-place.result place (bench_of c.unload_label.new.lease).body own.0 here own.1) own.2 (sym c.is_same.ensures ∙ c.if-is_same.false)
     c.in-Ok-Kept.rule c.digits_of.result c.send_remark-in-Ok-Kept.result _ _ _ c.in-Ok-Kept.field-0-is c.digits_of.ensures c.send_remark-in-Ok-Kept.ensures.sends c.send_remark-in-Ok-Kept.ensures.fault

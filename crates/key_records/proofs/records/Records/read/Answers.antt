@@ -171,8 +171,7 @@ returns-in-None-clause-damaged g c n is =
     let rows : List (Option Row) = c.args.self.now in
     let held : get_or rows cell None ≡ Some c.row-row.result = ap (λ k. get_or rows k None) c.cell-cell.ensures.cell ∙ c.row-row.ensures in
     let read : Told m (λ image. c.read_cell.new.out ≡ body image cell) = subst (λ k. Told m (λ image. c.read_cell.new.out ≡ body image k)) c.new.ensures
-    (unless_err c.read_cell.result (sym c.is_err.ensures.value ∙ c.if-is_err.false) c.read_cell.ensures.bytes) in
-    (
+    (unless_err c.read_cell.result (sym c.is_err.ensures.value ∙ c.if-is_err.false) c.read_cell.ensures.bytes) in (
       sym (damaged_one cell n is) ∙ c.cell-cell.ensures.cell,
       told_joined m (HoldsRows rows) (λ image. c.read_cell.new.out ≡ body image cell) (λ _. ⊥) c.requires.holds read
           (λ image holds here. c.in-None.ensures.none refl (row_there rows cell c.row-row.result c.body.result.now image c.cell-cell.ensures.within held (c.body.ensures ∙ here) holds)),

@@ -36,13 +36,13 @@ chain_is c =
 
 pub returns-then-count-gt-MOST-clause-judges : goal.returns-then-count-gt-MOST-clause-judges
 returns-then-count-gt-MOST-clause-judges c = elim c.then-count-gt-MOST.branch [
-    then-count-gt-MOST-via-then-count-gt-MOST w ↦
-        fails_first 36 (is_chain c.args.bytes.now) []
-        (ap (λ p. p && is_zero (drop (9 + slice_index c.args.bytes.now 8) c.args.bytes.now))
-        (lt-leb (slice_index c.args.bytes.now 8) 7 w.if-count-gt-MOST.true))
+  | then-count-gt-MOST-via-then-count-gt-MOST w ↦
+      fails_first 36 (is_chain c.args.bytes.now) []
+      (ap (λ p. p && is_zero (drop (9 + slice_index c.args.bytes.now 8) c.args.bytes.now))
+      (lt-leb (slice_index c.args.bytes.now 8) 7 w.if-count-gt-MOST.true))
   | then-count-gt-MOST-via-else-count-gt-MOST+then-not-is_zero w ↦
-        fails_first 36 (is_chain c.args.bytes.now) []
-        (tested c.args.bytes.now w.is_zero.result c.told-bytes w.if-count-gt-MOST.false w.is_zero.ensures.value ∙ w.if-not-is_zero.true)
+      fails_first 36 (is_chain c.args.bytes.now) []
+      (tested c.args.bytes.now w.is_zero.result c.told-bytes w.if-count-gt-MOST.false w.is_zero.ensures.value ∙ w.if-not-is_zero.true)
 ]
 
 pub returns-clause-judges : goal.returns-clause-judges
@@ -61,5 +61,9 @@ returns-clause-same c =
 
 pub returns-clause-few : goal.returns-clause-few
 returns-clause-few c =
-    omega (arith, ap (λ xs. length xs) c.of.ensures, length-take (9 + slice_index c.args.bytes.now 8 - 9) (drop 9 c.args.bytes.now),
-    c.if-count-gt-MOST.false)
+    omega (
+      arith,
+      ap (λ xs. length xs) c.of.ensures,
+      length-take (9 + slice_index c.args.bytes.now 8 - 9) (drop 9 c.args.bytes.now),
+      c.if-count-gt-MOST.false,
+    )
