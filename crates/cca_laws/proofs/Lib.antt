@@ -51,3 +51,4 @@ pub mod UnusedLaws
 pub mod UnusedStates
 pub mod UseLaws
 pub mod WholeKeys
+pub mod WritingLaws

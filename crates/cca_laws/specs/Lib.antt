@@ -25,3 +25,4 @@ pub mod Targets
 pub mod UniqueKeys
 pub mod UnusedTokens
 pub mod Uses
+pub mod WrittenLines

@@ -25,6 +25,7 @@ mod sealing;
 mod taking;
 mod unused;
 mod usage;
+mod writing;
 
 pub use ceremony::a_master_key_from_its_parts;
 pub use drawing::keys_are_drawn;
@@ -49,3 +50,4 @@ pub use sealing::the_store_is_sealed;
 pub use taking::random_bytes_are_used_once;
 pub use unused::unused_tokens_say_nothing;
 pub use usage::keys_are_used_as_permitted;
+pub use writing::what_a_line_writes;
