@@ -3,7 +3,7 @@ use Rattle.std.proofs.Common.{◌≡◌, ◌≤◌, ℕ, Result, Ok, Err, IsSome
 use Rattle.std.specs.Result.{is_err}
 use Rattle.device_cells.specs.Faults.{HasCause, Rose}
 use Rattle.device_cells.specs.Medium.{Medium, IsSettled, EachImage, Keeps}
-use Rattle.device_cells.proofs.Media.{keeps_then, settled_kept}
+use Rattle.device_cells.proofs.Media.{keeps_then, settled_kept, settled_keeps}
 use Rattle.audit_trail.specs.Changes.{TrailLeft}
 
 on_ok : {T E P : Type 0} (r : Result T E) → false ≡ is_err r → OnOk r P → P
@@ -13,14 +13,6 @@ on_ok (Err e) is holds = absurd (cc is)
 on_err : {T E P : Type 0} (r : Result T E) → true ≡ is_err r → OnErr r P → P
 on_err (Err e) is holds = holds
 on_err (Ok x) is holds = absurd (cc is)
-
--- every image is the content, as it was
-pub settling_keeps : (m0 m1 : Medium) → m1.content ≡ m0.content → EachImage m0 m1 m0.images → Keeps m0 m1
-settling_keeps m0 m1 content moments = record {
-  content = content;
-  images = λ c image. moments.each c (m1.counts_now m0.moment c moments.later image);
-  moments = moments;
-}
 
 -- settling failed
 module _ {T E : Type 0} (m0 m1 : Medium) (f0 f1 : ℕ) (r : Result T E) (broken : true ≡ is_err r) (cause : HasCause f0 f1 r) where
@@ -41,7 +33,7 @@ module _ {T E : Type 0} (m0 m1 : Medium) (f0 f1 : ℕ) (r : Result T E) (broken 
 module _ {T E : Type 0} (m0 m1 m2 : Medium) (f0 f1 f2 : ℕ) (r : Result T E) (sound : false ≡ is_err r) (settled : OnOk r (IsSettled m1)) (content : m1.content ≡ m0.content)
     (moments : EachImage m0 m1 m0.images) (cause : HasCause f0 f1 r) (kept : Keeps m1 m2) where
   pub opened_kept : Keeps m0 m2
-  opened_kept = keeps_then m0 m1 m2 (settling_keeps m0 m1 content moments) kept
+  opened_kept = keeps_then m0 m1 m2 (settled_keeps m0 m1 content moments) kept
 
   pub opened_left : (done failed : Type 0) → f1 ≤ f2 → (failed → Rose f1 f2) → ((failed → ⊥) → f2 ≡ f1) → TrailLeft m0 m2 f0 f2 done failed
   opened_left done failed later fault quiet =

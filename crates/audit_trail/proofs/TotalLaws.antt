@@ -1,11 +1,10 @@
 -- The bytes of a trail stand for entries, or else they have a first damaged cell.
 use Rattle.std.proofs.Common.{◌≡◌, ◌≤◌, ◌<◌, ◌+◌, ◌%◌, ◌^◌, ◌⊎◌, inl, inr, ⊎_elim, ℕ, zero, suc, Bool, true, false, List, Option, None, Some, refl, sym, ap, subst, ◌∙◌, arith}
-use Rattle.std.specs.Prelude.{◌≢◌, ◌==◌, bytes_eq, replicate, take, drop, length}
+use Rattle.std.specs.Prelude.{◌≢◌, ◌==◌, replicate, take, drop, length}
 use Rattle.std.specs.List.{list_all, position_or_len}
 use Rattle.std.proofs.lemmas.List.{length-take}
 use Rattle.std.proofs.lemmas.List.Sums.{AllPass-from_list_all}
 use Rattle.std.proofs.lemmas.Bool.{cases_eq, cases_lt}
-use Rattle.std.proofs.lemmas.Slice.Eq.{bytes_eq-Decides}
 use Rattle.device_cells.specs.Cells.{body}
 use Rattle.key_cells.specs.Bytes.{IsZero}
 use Rattle.cca_roles.specs.Characters.{is_letter}
@@ -21,38 +20,20 @@ use Rattle.cca_roles.specs.NameLaws.{label_short, role_short}
 use Rattle.audit_trail.proofs.FieldLaws.{role_bytes, verb_letters, label_some, long_field, long_label, filled_from, within_field, text_in, label_in}
 use Rattle.audit_trail.proofs.BodyLaws.{spelled_in}
 use Rattle.audit_trail.proofs.OpeningLaws.{scanned_none, scanned_more, stray_first, stray_here, checked_none, checked_more, stale_first, stands_blank, stands_checked}
+use Rattle.cca_roles.proofs.DecidableLaws.{Decidable, both_decidable, by_bool, like, same_bytes}
 
 -- ---- what is decided
 
-abbrev Decided : Type 0 → Type 0
-Decided P = P ⊎ (P → ⊥)
-
-by_bool : (b : Bool) → Decided (b ≡ true)
-by_bool true = inl refl
-by_bool false = inr (λ is. let wrong : false ≡ true = is in cc)
-
-like : (P Q : Type 0) → (P → Q) → (Q → P) → Decided P → Decided Q
-like P Q there back (inl p) = inl (there p)
-like P Q there back (inr none) = inr (λ q. none (back q))
-
-both : (P Q : Type 0) → Decided P → Decided Q → Decided (P × Q)
-both P Q (inl p) (inl q) = inl (p, q)
-both P Q (inl p) (inr q) = inr (λ pair. q pair.1)
-both P Q (inr p) q = inr (λ pair. p pair.0)
-
-same_bytes : (a b : List ℕ) → Decided (a ≡ b)
-same_bytes a b = like (bytes_eq a b ≡ true) (a ≡ b) (bytes_eq-Decides a b).0 (bytes_eq-Decides a b).1 (by_bool (bytes_eq a b))
-
-some_zeros : (bytes : List ℕ) → Decided (IsZero bytes)
+some_zeros : (bytes : List ℕ) → Decidable (IsZero bytes)
 some_zeros bytes = same_bytes bytes (replicate (length bytes) 0)
 
-decided_below : (a b : ℕ) → Decided (a < b)
+decided_below : (a b : ℕ) → Decidable (a < b)
 decided_below a b = ⊎_elim (λ (below : a < b). inl below) (λ (above : b ≤ a). inr (λ below. omega (arith, above, below))) (cases_lt a b)
 
-decided_up_to : (a b : ℕ) → Decided (a ≤ b)
+decided_up_to : (a b : ℕ) → Decidable (a ≤ b)
 decided_up_to a b = ⊎_elim (λ (above : b < a). inr (λ up. omega (arith, above, up))) (λ (up : a ≤ b). inl up) (cases_lt b a)
 
-same_number : (a b : Option ℕ) → Decided (a ≡ b)
+same_number : (a b : Option ℕ) → Decidable (a ≡ b)
 same_number None None = inl refl
 same_number None (Some b) = inr (λ is. cc)
 same_number (Some a) None = inr (λ is. cc)
@@ -60,28 +41,28 @@ same_number (Some a) (Some b) = like (a ≡ b) (◌≡◌ {A = Option ℕ} (Some
 
 -- ---- an entry
 
-decided_verb : (word : List ℕ) → Decided (IsVerb word)
+decided_verb : (word : List ℕ) → Decidable (IsVerb word)
 decided_verb word = like (((0 < length word) × (length word ≤ 10)) × (list_all is_letter word ≡ true)) (IsVerb word)
     (λ parts. record { some = parts.0.0; most = parts.0.1; letters = AllPass-from_list_all is_letter word parts.1 })
     (λ is. ((is.some, is.most), verb_letters word is))
-    (both ((0 < length word) × (length word ≤ 10)) (list_all is_letter word ≡ true)
-    (both (0 < length word) (length word ≤ 10) (decided_below 0 (length word)) (decided_up_to (length word) 10))
+    (both_decidable ((0 < length word) × (length word ≤ 10)) (list_all is_letter word ≡ true)
+    (both_decidable (0 < length word) (length word ≤ 10) (decided_below 0 (length word)) (decided_up_to (length word) 10))
     (by_bool (list_all is_letter word)))
 
 module _ (n : ℕ) (P : List ℕ → Type 0) (p : ℕ → Bool) (none : p 0 ≡ false) (each : (text : List ℕ) → P text → list_all p text ≡ true) (short : (text : List ℕ) → P text → length text ≤ n)
-    (decided : (text : List ℕ) → Decided (P text)) (field : List ℕ) where
+    (decided : (text : List ℕ) → Decidable (P text)) (field : List ℕ) where
   abbrev at : ℕ
   at = position_or_len (λ byte. byte == 0) field
 
   abbrev Within : Type 0
   Within = (length field ≡ n) × (P (take at field) × IsZero (drop at field))
 
-  decided_within : Decided Within
+  decided_within : Decidable Within
   decided_within =
-      both (length field ≡ n) (P (take at field) × IsZero (drop at field)) (cases_eq (length field) n)
-      (both (P (take at field)) (IsZero (drop at field)) (decided (take at field)) (some_zeros (drop at field)))
+      both_decidable (length field ≡ n) (P (take at field) × IsZero (drop at field)) (cases_eq (length field) n)
+      (both_decidable (P (take at field)) (IsZero (drop at field)) (decided (take at field)) (some_zeros (drop at field)))
 
-  held_or_none : (field ≡ replicate n 0 → ⊥) → Decided Within → Decided (HoldsText n P field)
+  held_or_none : (field ≡ replicate n 0 → ⊥) → Decidable Within → Decidable (HoldsText n P field)
   held_or_none some (inl within) = inl (inr (
     take at field,
     within.1.0,
@@ -93,7 +74,7 @@ module _ (n : ℕ) (P : List ℕ → Type 0) (p : ℕ → Bool) (none : p 0 ≡ 
       back (inl blank) = some blank
       back (inr held) = outside (long_field n P field short (inr held), text_in P p none each n field at refl held.0 held.1 held.2)
 
-  decided_text : Decided (HoldsText n P field)
+  decided_text : Decidable (HoldsText n P field)
   decided_text = ⊎_elim
       (λ (blank : field ≡ replicate n 0). inl (inl blank))
       (λ (some : field ≡ replicate n 0 → ⊥). held_or_none some decided_within)
@@ -103,13 +84,13 @@ module _ (n : ℕ) (field : List ℕ) where
   abbrev Named : Type 0
   Named = ((n ≤ 64) × (length field ≡ 64)) × (IsLabel (take n field) × IsZero (drop n field))
 
-  decided_named : Decided Named
+  decided_named : Decidable Named
   decided_named =
-      both ((n ≤ 64) × (length field ≡ 64)) (IsLabel (take n field) × IsZero (drop n field))
-      (both (n ≤ 64) (length field ≡ 64) (decided_up_to n 64) (cases_eq (length field) 64))
-      (both (IsLabel (take n field)) (IsZero (drop n field)) (by_bool (is_label (take n field))) (some_zeros (drop n field)))
+      both_decidable ((n ≤ 64) × (length field ≡ 64)) (IsLabel (take n field) × IsZero (drop n field))
+      (both_decidable (n ≤ 64) (length field ≡ 64) (decided_up_to n 64) (cases_eq (length field) 64))
+      (both_decidable (IsLabel (take n field)) (IsZero (drop n field)) (by_bool (is_label (take n field))) (some_zeros (drop n field)))
 
-  no_label : n ≡ 0 → Decided (field ≡ replicate 64 0) → Decided (HoldsLabel n field)
+  no_label : n ≡ 0 → Decidable (field ≡ replicate 64 0) → Decidable (HoldsLabel n field)
   no_label is (inl blank) = inl (inl (is, blank))
   no_label is (inr some) = inr back
     where
@@ -117,7 +98,7 @@ module _ (n : ℕ) (field : List ℕ) where
       back (inl blank) = some blank.1
       back (inr held) = label_some held.0 held.1 (sym held.2 ∙ is)
 
-  a_label : (n ≡ 0 → ⊥) → Decided Named → Decided (HoldsLabel n field)
+  a_label : (n ≡ 0 → ⊥) → Decidable Named → Decidable (HoldsLabel n field)
   a_label isnt (inl named) = inl (inr (
     take n field,
     named.1.0,
@@ -133,13 +114,13 @@ module _ (n : ℕ) (field : List ℕ) where
       back : HoldsLabel n field → ⊥
       back holds = other ((low holds, long_label n field holds), label_in n field holds isnt)
 
-  decided_label : Decided (HoldsLabel n field)
+  decided_label : Decidable (HoldsLabel n field)
   decided_label = ⊎_elim
       (λ (is : n ≡ 0). no_label is (same_bytes field (replicate 64 0)))
       (λ (isnt : n ≡ 0 → ⊥). a_label isnt decided_named)
       (cases_eq n 0)
 
-decided_entry : (e : Entry) → Decided (IsEntry e)
+decided_entry : (e : Entry) → Decidable (IsEntry e)
 decided_entry e =
     let Role : Type 0 = HoldsText 8 IsRoleName e.role in
     let Verb : Type 0 = HoldsText 10 IsVerb e.verb in
@@ -147,9 +128,9 @@ decided_entry e =
     like (((e.rule < 100) × Role) × (Verb × Label)) (IsEntry e)
     (λ parts. record { rule = parts.0.0; role = parts.0.1; verb = parts.1.0; label = parts.1.1 })
     (λ is. ((is.rule, is.role), (is.verb, is.label)))
-    (both ((e.rule < 100) × Role) (Verb × Label)
-    (both (e.rule < 100) Role (decided_below e.rule 100) (decided_text 8 IsRoleName is_name_byte refl role_bytes role_short (λ text. by_bool (is_role_name text)) e.role))
-    (both Verb Label (decided_text 10 IsVerb is_letter refl verb_letters (λ text verb. verb.most) decided_verb e.verb) (decided_label e.label_length e.label)))
+    (both_decidable ((e.rule < 100) × Role) (Verb × Label)
+    (both_decidable (e.rule < 100) Role (decided_below e.rule 100) (decided_text 8 IsRoleName is_name_byte refl role_bytes role_short (λ text. by_bool (is_role_name text)) e.role))
+    (both_decidable Verb Label (decided_text 10 IsVerb is_letter refl verb_letters (λ text verb. verb.most) decided_verb e.verb) (decided_label e.label_length e.label)))
 
 -- ---- a cell
 
@@ -157,13 +138,13 @@ module _ (bytes : List ℕ) where
   abbrev here : Record
   here = record_in bytes
 
-  decided_here : Decided (Spells bytes here.number here.entry)
+  decided_here : Decidable (Spells bytes here.number here.entry)
   decided_here =
       like (((here.number < 2 ^ 63) × IsEntry here.entry) × (bytes ≡ record_body here.number here.entry)) (Spells bytes here.number here.entry)
       (λ parts. record { entry = parts.0.1; below = parts.0.0; body = parts.1 })
       (λ spells. ((spells.below, spells.entry), spells.body))
-      (both ((here.number < 2 ^ 63) × IsEntry here.entry) (bytes ≡ record_body here.number here.entry)
-      (both (here.number < 2 ^ 63) (IsEntry here.entry) (decided_below here.number (2 ^ 63)) (decided_entry here.entry))
+      (both_decidable ((here.number < 2 ^ 63) × IsEntry here.entry) (bytes ≡ record_body here.number here.entry)
+      (both_decidable (here.number < 2 ^ 63) (IsEntry here.entry) (decided_below here.number (2 ^ 63)) (decided_entry here.entry))
       (same_bytes bytes (record_body here.number here.entry)))
 
   -- what the body spells stands at the places of a record
@@ -174,7 +155,7 @@ module _ (image : List ℕ) where
   abbrev Reads : ℕ → Type 0
   Reads n = (number : Option ℕ) × CellReads image n number
 
-  a_record : (n : ℕ) → body image n ≢ blank_body → Decided (Spells (body image n) (here (body image n)).number (here (body image n)).entry) → Reads n ⊎ IsStray image n
+  a_record : (n : ℕ) → body image n ≢ blank_body → Decidable (Spells (body image n) (here (body image n)).number (here (body image n)).entry) → Reads n ⊎ IsStray image n
   a_record n some (inr nothing) = inr (record {
     some = some;
     none = λ m held. nothing (nothing_else (body image n) m held.entry held.spells);

@@ -1,5 +1,5 @@
 -- What the sink has of a listing, line after line.
-use Rattle.std.proofs.Common.{◌≡◌, ◌≤◌, ◌<◌, ◌+◌, ◌%◌, ℕ, List, [], ◌++◌, length, Option, Some, Result, Ok, Err, sym, ap, subst, ◌∙◌, append_assoc, arith}
+use Rattle.std.proofs.Common.{◌≡◌, ◌≤◌, ◌<◌, ◌+◌, ◌%◌, ℕ, List, ◌++◌, length, Option, Some, Result, Ok, Err, sym, ap, subst, ◌∙◌, append_assoc, arith}
 use Rattle.std.proofs.lemmas.List.{append-nil, length-append}
 use Rattle.device_cells.specs.Cells.{body}
 use Rattle.device_cells.specs.Medium.{Medium, Told}
@@ -101,14 +101,6 @@ module _ (es : List Entry) (number : ℕ) (from : held_from (length es) ≤ numb
             ∙ append_assoc (lines_below es number ++ second.sent) second.missing rest;
         some = omega (arith, length-append second.missing rest, second.some);
       }
-
-pub grew_none : (a : Option (List ℕ)) → WhereTold a a Grows
-grew_none a = told_same a Grows (λ x. ([], sym (append-nil x)))
-
-pub grew : (a b c : Option (List ℕ)) → WhereTold a b Grows → WhereTold b c Grows → WhereTold a c Grows
-grew a b c first second =
-    told_then a b c Grows Grows Grows
-    (λ x y z one two. (one.0 ++ two.0, two.1 ∙ (ap (λ bytes. bytes ++ two.0) one.1 ∙ append_assoc x one.0 two.0))) first second
 
 pub grew_line : (line : List ℕ) (a b : Option (List ℕ)) → WhereTold a b (λ x y. y ≡ x ++ line) → WhereTold a b Grows
 grew_line line a b = told_weaker a b (λ x y. y ≡ x ++ line) Grows (λ x y is. (line, is))

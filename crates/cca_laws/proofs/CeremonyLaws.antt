@@ -22,6 +22,7 @@ use Rattle.cca_laws.specs.Points.{HoldsNone}
 use Rattle.cca_laws.proofs.EffectLaws.{second_passed}
 use Rattle.cca_laws.proofs.LineCases.{over_lines, permitted, refused_none}
 use Rattle.cca_laws.proofs.PointLaws.{lacks_them}
+use Rattle.cca_laws.proofs.UseLaws.{not_false}
 
 -- ---- the registers become others by a step alone
 
@@ -129,10 +130,6 @@ some_point n some is = subst (λ k. T (not (k == 0))) is some
 abbrev with_coming : Masters → NewRegister → Masters
 with_coming m c = record m { coming = c }
 
-not_true : (b : Bool) → not b ≡ false → b ≡ true
-not_true true is = refl
-not_true false is = cc is
-
 module _ (start : Masters) where
   abbrev Stays : Masters → Type 0
   Stays m = m ≡ start
@@ -141,12 +138,12 @@ module _ (start : Masters) where
       → Stays m → Stays (after_action action part m)
   first_step empty First part m none ready now = absurd (some_point (bit_and (action_points First) first_point) tt none)
   first_step empty Middle part m none ready now =
-      absurd (true≢false (sym (not_true (is_partial m.coming) ready) ∙ ap is_partial (ap (λ (x : Masters). x.coming) now ∙ empty)))
+      absurd (true≢false (sym (not_false (is_partial m.coming) ready) ∙ ap is_partial (ap (λ (x : Masters). x.coming) now ∙ empty)))
   first_step empty Last part m none ready now =
-      absurd (true≢false (sym (not_true (is_partial m.coming) ready) ∙ ap is_partial (ap (λ (x : Masters). x.coming) now ∙ empty)))
+      absurd (true≢false (sym (not_false (is_partial m.coming) ready) ∙ ap is_partial (ap (λ (x : Masters). x.coming) now ∙ empty)))
   first_step empty Clear part m none ready now = ap (with_coming m) (sym (ap (λ (x : Masters). x.coming) now ∙ empty)) ∙ now
   first_step empty Set part m none ready now =
-      absurd (true≢false (sym (not_true (is_full m.coming) ready) ∙ ap is_full (ap (λ (x : Masters). x.coming) now ∙ empty)))
+      absurd (true≢false (sym (not_false (is_full m.coming) ready) ∙ ap is_full (ap (λ (x : Masters). x.coming) now ∙ empty)))
 
   abbrev IsUnset : Masters → Type 0
   IsUnset m = (is_full m.coming ≡ false) × SameKeys start m
@@ -157,7 +154,7 @@ module _ (start : Masters) where
   combine_step Middle part m none ready now = absurd (some_point (bit_and (action_points Middle) combine_point) tt none)
   combine_step Last part m none ready now = absurd (some_point (bit_and (action_points Last) combine_point) tt none)
   combine_step Clear part m none ready now = (refl, record { current = now.1.current; former = now.1.former })
-  combine_step Set part m none ready now = absurd (true≢false (sym (not_true (is_full m.coming) ready) ∙ now.0))
+  combine_step Set part m none ready now = absurd (true≢false (sym (not_false (is_full m.coming) ready) ∙ now.0))
 
   set_step : (action : Action) (part : List ℕ) (m : Masters) → bit_and (action_points action) set_point ≡ 0 → has_wrong_state action m ≡ false
       → SameKeys start m → SameKeys start (after_action action part m)

@@ -1,14 +1,12 @@
 -- Contents stand for one state, and a state has one store.
-use Rattle.std.proofs.Common.{◌≡◌, ◌<◌, ℕ, List, Option, None, Some, ⊎_elim, sym, ap, subst, ◌∙◌}
+use Rattle.std.proofs.Common.{◌≡◌, ◌<◌, ℕ, List, ⊎_elim, sym, ap, subst, ◌∙◌}
 use Rattle.device_cells.specs.Cells.{body}
-use Rattle.cca_roles.specs.declared.roles.Role.{Role}
 use Rattle.cca_roles.proofs.StandLaws.{stands_one}
-use Rattle.record_bodies.specs.Entries.{Entry}
 use Rattle.record_bodies.specs.StoreStands.{labels_in}
 use Rattle.record_bodies.proofs.OneBody.{same_bodies}
 use Rattle.record_bodies.proofs.OpeningLaws.{stands_one as labels_one}
 use Rattle.verb_rules.proofs.TokenLemmas.{keys_apart}
-use Rattle.key_tokens.specs.Denotes.{HaveDistinctPatterns, MasterKey}
+use Rattle.key_tokens.specs.Denotes.{HaveDistinctPatterns}
 use Rattle.master_registers.specs.Masters.{IsMasters, Masters, blank_masters}
 use Rattle.master_registers.specs.RegisterBody.{blank_body, registers_body}
 use Rattle.master_registers.proofs.BodyLaws.{reads_one}
@@ -16,12 +14,8 @@ use Rattle.verb_rules.specs.Keys.{keys_of}
 use Rattle.cca_machine.specs.Session.{replies, state_after}
 use Rattle.cca_machine.specs.State.{State, IsModuleOf, IsStoreOf}
 use Rattle.cca_laws.specs.Disks.{StandFor}
-
-same_state : (s t : State) → s.registers ≡ t.registers → s.roles ≡ t.roles → s.labels ≡ t.labels → s ≡ t
-same_state s t registers roles labels =
-    ap (λ (m : Masters). let x : State = record { registers = m; roles = s.roles; labels = s.labels } in x) registers
-    ∙ (ap (λ (r : List (Option Role)). let x : State = record { registers = t.registers; roles = r; labels = s.labels } in x) roles
-    ∙ ap (λ (l : List (Option Entry)). let x : State = record { registers = t.registers; roles = t.roles; labels = l } in x) labels)
+use Rattle.store_unload.proofs.KnownLemmas.{same_state}
+use Rattle.cca_roles.proofs.DirectoryLaws.{none_some}
 
 pub one_state : (s t : State) (c d : List ℕ) → StandFor s c d → StandFor t c d → s ≡ t
 one_state s t c d first second =
@@ -33,9 +27,6 @@ one_state s t c d first second =
 
 pub same_replies : (s t : State) (c d random : List ℕ) (lines : List (List ℕ)) → StandFor s c d → StandFor t c d → replies s random lines ≡ replies t random lines
 same_replies s t c d random lines first second = ap (λ (x : State). replies x random lines) (one_state s t c d first second)
-
-none_some : (x : MasterKey) → None ≡ Some x → ⊥
-none_some x is = cc
 
 -- the master keys of a module have different patterns
 pub module_distinct : (s : State) (c : List ℕ) → IsModuleOf s c → HaveDistinctPatterns (keys_of s.registers)

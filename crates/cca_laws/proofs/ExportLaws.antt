@@ -48,6 +48,8 @@ use Rattle.cca_laws.proofs.PartLaws.{key_found}
 use Rattle.cca_laws.proofs.TokenFields.{EffectShows, each-append, fields_have, warning_has}
 use Rattle.cca_laws.proofs.TokenVectors.{Forbids, closed_is, external_forbids, part_is_closed, sealed_forbids}
 use Rattle.cca_laws.proofs.UseLaws.{behind, first_passes, token_vector}
+use Rattle.key_tokens.proofs.DenotedKeys.{none_from_test}
+use Rattle.cca_roles.proofs.DirectoryLaws.{none_some}
 
 -- ---- the keys of tokens and of labels
 
@@ -94,10 +96,6 @@ text_token s image text key stands is = by_name (label_named text) is
 if_token : (t : Bool) (o : Option Denoted) (key : Denoted) → (if t then o else None) ≡ Some key → (t ≡ true) × (o ≡ Some key)
 if_token true o key is = (refl, is)
 if_token false o key is = cc is
-
-none_from_test : (o : Option ℕ) → is_none o ≡ true → o ≡ None
-none_from_test None is = refl
-none_from_test (Some n) is = cc is
 
 -- the master key of a register by the age
 abbrev pub register_of : Masters → Age → Option (List ℕ)
@@ -340,9 +338,6 @@ module _ (s : State) (image drawn : List ℕ) (stands : IsStoreOf s image) (r : 
 abbrev Writes : List ℕ → Effect → Type 0
 Writes label (Write other key fields) = other ≡ label
 Writes label _ = ⊥
-
-none_some : (label : List ℕ) → None ≡ Some label → ⊥
-none_some label is = cc is
 
 same_label : (o l : List ℕ) → (Some o ≢ Some l → ⊥) → o ≡ l
 same_label o l not_other = by_test (bytes_eq o l) refl

@@ -40,7 +40,7 @@ use Rattle.cca_laws.proofs.Delivering.{acted, in_record, in_reply, reply_stands,
 use Rattle.cca_laws.proofs.HalfLaws.{draws_key, not_repeated, unique_key}
 use Rattle.cca_laws.proofs.LineCases.{permitted, refused_none}
 use Rattle.cca_laws.proofs.MoveTokens.{IsWhole, out_denotes}
-use Rattle.cca_laws.proofs.PartLaws.{where_had}
+use Rattle.key_parts.proofs.TypeLemmas.{where_had}
 
 -- ---- what its fields say
 

@@ -20,7 +20,7 @@ use Rattle.cca_vectors.proofs.DefaultLemmas.{default_for_valid}
 use Rattle.des_blocks.specs.Modes.{added, blocks, cbc, e, joined, last_block, pad, uncbc, une, unpad, is_padded, pad_count}
 use Rattle.des_blocks.specs.Texts.{cbc_text, uncbc_text}
 use Rattle.des_blocks.proofs.BitLemmas.{length-pieces}
-use Rattle.des_blocks.proofs.ValueLemmas.{bytes-ede, bytes-enciphered}
+use Rattle.des_blocks.proofs.ValueLemmas.{bytes-ede}
 use Rattle.multi_encipher.specs.Bundles.{transport_bundle}
 use Rattle.multi_encipher.specs.Seals.{seal, sealed_half, variant_key}
 use Rattle.key_tokens.specs.Denotes.{ClearKey, Denoted}
@@ -30,8 +30,6 @@ use Rattle.key_tokens.specs.declared.key_token.Age.TheVariants as age
 use Rattle.key_tokens.specs.declared.key_token.Token.{Token}
 use Rattle.master_registers.specs.Masters.{Masters, pattern_of_master}
 use Rattle.verb_rules.specs.Keys.{keys_of, master_key, master_under, sealed_token, token_for}
-use Rattle.verb_rules.specs.declared.lengths.MacRule.{MacRule}
-use Rattle.verb_rules.specs.declared.lengths.MacRule.TheVariants.{X99, X919}
 use Rattle.verb_script.specs.Values.{hex_value}
 use Rattle.key_transport.specs.Generated.{generated_vector}
 use Rattle.key_transport.specs.Tokens.{as_current, changed_token, external_token, full_bytes, new_token}
@@ -49,6 +47,8 @@ use Rattle.text_segments.specs.declared.modes.Mode.TheVariants.{Encipher, Deciph
 use Rattle.text_segments.proofs.BlockLemmas.{AreBlocks, blocks-eight, cbc-eight, joined_length, rest_length, whole_length}
 use Rattle.text_segments.proofs.CutLaws.{e_length, une_length}
 use Rattle.cca_machine.specs.Act.{or_empty}
+use Rattle.cca_machine.proofs.CutReplies.{code_cipher_length}
+use Rattle.cca_vectors.proofs.ClosingLemmas.{size_of_closed}
 
 -- ---- fronts, and one of two
 
@@ -161,14 +161,10 @@ last_block_short : (start : List ℕ) (bs : List (List ℕ)) → length start �
 last_block_short start [] short are = short
 last_block_short start (b ∷ bs) short are = last_block_short b bs (omega (arith, are.0)) are.1
 
-code_eight : (rule : MacRule) (clear : ClearKey) (block : List ℕ) → length (code_cipher rule clear block) ≡ 8
-code_eight X99 clear block = (bytes-enciphered clear.key block).size
-code_eight X919 clear block = (bytes-enciphered (take 8 clear.key) block).size
-
 cipher_eight : (clear : ClearKey) (mode : Mode) (start : List ℕ) (bs : List (List ℕ)) → AreBlocks bs → AreBlocks (cipher_blocks clear mode start bs)
 cipher_eight clear Encipher start bs are = cbc-eight (e clear.key) (e_length clear.key) start bs
 cipher_eight clear Decipher start bs are = are
-cipher_eight clear (Mac rule) start bs are = cbc-eight (code_cipher rule clear) (code_eight rule clear) start bs
+cipher_eight clear (Mac rule) start bs are = cbc-eight (code_cipher rule clear) (code_cipher_length rule clear) start bs
 
 bytes_short : (chain : Chain) → length chain.block ≤ 8 → length chain.carried < 8 → length (chain_bytes chain) ≤ 16
 bytes_short chain block carried =
@@ -197,9 +193,6 @@ either_length : (t : Bool) (one other : List ℕ) (n : ℕ) → length one ≡ n
 either_length true one other n first second = first
 either_length false one other n first second = second
 
-closed_half_length : (half : List ℕ) → length (closed_half half) ≡ length half
-closed_half_length half = either_length (is_zero half) half _ (length half) refl (length-set half 2 _)
-
 pub closed_short : (vector : List ℕ) → length vector ≤ 16 → length (closed_to_export vector) ≤ 16
 closed_short vector short =
     either_short (is_exportable vector) _ vector 16
@@ -207,8 +200,8 @@ closed_short vector short =
     (omega (
       arith,
       length-append (closed_half (left_of vector)) (closed_half (right_of vector)),
-      closed_half_length (left_of vector),
-      closed_half_length (right_of vector),
+      size_of_closed (left_of vector),
+      size_of_closed (right_of vector),
       length-slice_range_le vector 0 8,
       length-slice_range_le vector 8 16,
     )))

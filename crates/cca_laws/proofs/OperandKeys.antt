@@ -27,6 +27,7 @@ use Rattle.cca_machine.specs.Keys.{cell_with, key_bytes, key_in_text, key_named,
 use Rattle.cca_machine.specs.State.{State}
 use Rattle.cca_machine.specs.Verdict.{key_questions, record_checks}
 use Rattle.cca_laws.proofs.EffectLaws.{third_passed}
+use Rattle.cca_laws.proofs.UseLaws.{check_passes}
 
 -- ---- a token
 
@@ -79,10 +80,6 @@ internal_byte byte is = by_byte (byte == 0x01) is
     by_byte : (t : Bool) → not t ≡ false → (if t then kind.Internal else kind.External) ≡ kind.Internal
     by_byte true same = refl
     by_byte false same = cc same
-
-check_passes : (rule : ℕ) (fails : Bool) (checks : List Check) → first_failing (check rule fails ∷ checks) ≡ None → (fails ≡ false) × (first_failing checks ≡ None)
-check_passes rule true checks is = cc is
-check_passes rule false checks is = (refl, is)
 
 pub token_checked : (asks : Asked) (need : Need) (held : Registers) (bytes : List ℕ) → need.asked ≡ asks → first_failing (key_checks need held bytes) ≡ None
     → first_failing (token_checks asks bytes) ≡ None

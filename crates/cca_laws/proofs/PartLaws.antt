@@ -1,6 +1,6 @@
 -- A key that is brought in by parts, from request to request.
 use Rattle.std.proofs.Common.{◌≡◌, ◌≢◌, ℕ, zero, suc, ◌/◌, ◌%◌, ◌==◌, Bool, true, false, not, List, [], ◌∷◌, ◌++◌, length, map, set, Option, None, Some, IsTrue, refl, sym, ap, subst, ◌∙◌, codes, arith}
-use Rattle.std.specs.Prelude.{All, IfSome, fold, is_none, unwrap_or, ◌&&◌, ◌||◌, if◌then◌else◌}
+use Rattle.std.specs.Prelude.{All, fold, is_none, ◌&&◌, ◌||◌, if◌then◌else◌}
 use Rattle.std.specs.List.{list_all}
 use Rattle.std.specs.Result.{result_unwrap_or}
 use Rattle.std.proofs.lemmas.Bool.{and_parts}
@@ -14,7 +14,7 @@ use Rattle.key_cells.specs.Bytes.{AreBytes}
 use Rattle.cca_roles.specs.Directory.{has_name}
 use Rattle.key_cells.proofs.ByteLemmas.{are_bytes}
 use Rattle.cca_roles.proofs.DirectoryLaws.{held_at}
-use Rattle.cca_vectors.specs.Checks.{Check, check, first_failing}
+use Rattle.cca_vectors.specs.Checks.{check, first_failing}
 use Rattle.cca_vectors.specs.DefaultVectors.{default_vector}
 use Rattle.cca_vectors.specs.KeyTypes.{type_name}
 use Rattle.cca_vectors.specs.PartVectors.{as_part}
@@ -49,6 +49,8 @@ use Rattle.cca_machine.specs.declared.asking.Ask.{Ask}
 use Rattle.cca_laws.specs.KeyInParts.{AreCarriedOut, AsksWhole, BroughtIn, Custodian, IsPermitted, IsReached, SameRecord, by_label, bytes_of, first_request, further_request, parts_of, size_of}
 use Rattle.cca_laws.proofs.LabelLists.{Alike, Same, alike_set, entries_compare, key_is, label_kept, name_of_entry, place_other}
 use Rattle.cca_laws.proofs.LineCases.{after, permitted, refused_none}
+use Rattle.cca_laws.proofs.UseLaws.{not_false, check_passes}
+use Rattle.key_parts.proofs.TypeLemmas.{where_had}
 
 -- ---- a key that is written into a place with a label
 
@@ -98,14 +100,6 @@ module _ (s : State) (label : List ℕ) (cell : ℕ) (held : cell_with s label �
 
 -- ---- what has passed
 
-pub passes : (rule : ℕ) (fails : Bool) (checks : List Check) → first_failing (check rule fails ∷ checks) ≡ None → (fails ≡ false) × (first_failing checks ≡ None)
-passes rule true checks is = cc
-passes rule false checks is = (refl, is)
-
-pub not_false : (b : Bool) → not b ≡ false → b ≡ true
-not_false true is = refl
-not_false false is = cc is
-
 some_cell : (o : Option ℕ) → is_none o ≡ false → (cell : ℕ) × (o ≡ Some cell)
 some_cell None is = cc is
 some_cell (Some cell) is = (cell, refl)
@@ -118,8 +112,8 @@ pub record Stands (s : State) (label : List ℕ) : Type 0 where
 
 pub stands : (s : State) (label : List ℕ) → first_failing (held_checks s label) ≡ None → Stands s label
 stands s label is =
-    let well = passes 6 (not (is_label label)) (check 7 (is_none (cell_with s label)) ∷ []) is in
-    let some = some_cell (cell_with s label) (passes 7 (is_none (cell_with s label)) [] well.1).0 in
+    let well = check_passes 6 (not (is_label label)) (check 7 (is_none (cell_with s label)) ∷ []) is in
+    let some = some_cell (cell_with s label) (check_passes 7 (is_none (cell_with s label)) [] well.1).0 in
     record { well = not_false (is_label label) well.0; cell = some.0; held = some.1 }
 
 named : (label : List ℕ) → IsTrue (accepts to_text (by_label label)) → label_named (by_label label) ≡ Some label
@@ -206,7 +200,7 @@ module _ (s : State) (label : List ℕ) (cell : ℕ) (held : cell_with s label �
       let found : key_of_request t r ≡ clear =
       ap (λ (o : Option (List ℕ)). (or_no_key (key_named t o (by_label label))).clear) names ∙ ap (λ (k : Option Denoted). (or_no_key k).clear) (key_found s label cell held (as_current clear)) in
       let verb = (refused_none (first_failing (check 32 (not (length c.part / 2 == length_of (key_of_request t r).vector)) ∷ [])) (codes "part") _ p.verb).0 in
-      let same = (Decides-eqb (length c.part / 2) (length_of (key_of_request t r).vector)).0 (not_false _ (passes 32 _ [] verb).0) in
+      let same = (Decides-eqb (length c.part / 2) (length_of (key_of_request t r).vector)).0 (not_false _ (check_passes 32 _ [] verb).0) in
       let sized : length c.part / 2 ≡ size = same ∙ (ap (λ (k : ClearKey). length_of k.vector) found ∙ long) in
       record {
         bytes = subst (λ n. AreBytes n (bytes_of c)) sized (part_bytes c.part is.spelled.1.1.1.0);
@@ -230,10 +224,6 @@ module _ (s : State) (label : List ℕ) (cell : ℕ) (held : cell_with s label �
       (rest.0, All-cons (AreBytes size) (bytes_of c) (map bytes_of cs) one.bytes rest.1)
 
 -- ---- all of them
-
-pub where_had : (P : List ℕ → Type 0) (o : Option (List ℕ)) → first_failing (check 32 (is_none o) ∷ []) ≡ None → IfSome o P → P (unwrap_or o [])
-where_had P None has h = cc
-where_had P (Some v) has h = h
 
 -- the vector of a part has its type's length
 pub first_length : (kind : KeyType) (size : ℕ) → HasLength kind size → length_of (as_part (vector_for kind size)) ≡ size

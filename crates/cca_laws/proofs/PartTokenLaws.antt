@@ -43,7 +43,9 @@ use Rattle.cca_laws.proofs.Delivering.{acted, in_reply, nothing_written, token_o
 use Rattle.cca_laws.proofs.KeyTokens.{written}
 use Rattle.cca_laws.proofs.LineCases.{permitted, refused_none}
 use Rattle.cca_laws.proofs.MoveTokens.{IsWhole}
-use Rattle.cca_laws.proofs.PartLaws.{cells_stay, first_length, key_found, label_refused, not_false, operand_refused, other_stays, part_bytes, passes, stands, type_is, where_had, with_key}
+use Rattle.cca_laws.proofs.PartLaws.{cells_stay, first_length, key_found, label_refused, operand_refused, other_stays, part_bytes, stands, type_is, with_key}
+use Rattle.cca_laws.proofs.UseLaws.{not_false, check_passes}
+use Rattle.key_parts.proofs.TypeLemmas.{where_had}
 
 -- ---- what a text names
 
@@ -211,7 +213,7 @@ module _ (size : ℕ) where
       let p = permitted s [] r d.permitted.permitted in
       let found : key_of_request s r ≡ clear = ap (λ (k : Option Denoted). (or_no_key k).clear) has.key in
       let verb = (refused_none (first_failing (check 32 (not (length e.part / 2 == length_of (key_of_request s r).vector)) ∷ [])) (codes "part") _ p.verb).0 in
-      let same = (Decides-eqb (length e.part / 2) (length_of (key_of_request s r).vector)).0 (not_false _ (passes 32 _ [] verb).0) in
+      let same = (Decides-eqb (length e.part / 2) (length_of (key_of_request s r).vector)).0 (not_false _ (check_passes 32 _ [] verb).0) in
       let sized : length e.part / 2 ≡ size = same ∙ (ap (λ (k : ClearKey). length_of k.vector) found ∙ is.size_) in
       let bytes : AreBytes size (entry_bytes e) = subst (λ n. AreBytes n (entry_bytes e)) sized (part_bytes e.part d.permitted.spelled.1.1.1.0) in
       let made : ClearKey = combined_key (is_last_part rule) clear (entry_bytes e) in

@@ -58,10 +58,10 @@ use Rattle.text_segments.specs.declared.chains.Chain.{Chain}
 use Rattle.text_segments.specs.declared.modes.Mode.{Mode}
 use Rattle.text_segments.specs.declared.modes.Mode.TheVariants as mode
 use Rattle.verb_rules.specs.Keys.{keys_of, token_for}
-use Rattle.verb_rules.specs.LengthChecks.{has_length, is_segment, is_whole, text_checks}
+use Rattle.verb_rules.specs.LengthChecks.{has_length, text_checks}
 use Rattle.verb_rules.specs.declared.lengths.MacRule.{MacRule}
 use Rattle.verb_rules.specs.declared.lengths.TextUse.{TextUse}
-use Rattle.verb_rules.specs.declared.lengths.TextUse.TheVariants.{EncipherPlain, EncipherPadded, Decipher, Mac as ForMac, Segment, LastPlain, LastPadded, LastDecipher, LastMac}
+use Rattle.verb_rules.specs.declared.lengths.TextUse.TheVariants.{Decipher, Segment}
 use Rattle.verb_script.specs.Grammar.{AreValues, FieldForm, IsValue, Request, Values, hex_digits, row_of, value_among, value_of}
 use Rattle.verb_script.specs.declared.rows.RequestName.{RequestName}
 use Rattle.verb_script.specs.declared.rows.RequestName.TheVariants.{Csnbktp, Csnbenc, CsnbencFirst, CsnbencMiddle, CsnbencLast, Csnbdec, CsnbdecFirst, CsnbdecMiddle, CsnbdecLast, Csnbmgn, CsnbmgnFirst, CsnbmgnMiddle, CsnbmgnLast, Csnbmvr, CsnbmvrFirst, CsnbmvrMiddle, CsnbmvrLast, Csnbkyt, Csnbcki, Csnbrng, CsnbkgnOp, CsnbkgnPair, CsnbkgnOut, Csnbkim, Csnbkex, Csnbpex, Csnbktc, CsnbkpiFirst, CsnbkpiMiddle, Csnbktr, Csnbkrw, Csnbkrr, Csnbkrl}
@@ -80,6 +80,7 @@ use Rattle.cca_machine.specs.Verdict.{Questions, Refusal, bytes_in, chain_in, ch
 use Rattle.cca_laws.proofs.CleanLaws.{first_of_both, second_of_both, true_of}
 use Rattle.cca_laws.proofs.LengthLemmas.{chain_short, changed_short, closed_short, decimal_short, deciphered_short, either_short, enciphered_short, external_short, last_short, part_short, segment_short, take_short, token_short, value_short, vector_short}
 use Rattle.cca_laws.proofs.LineCases.{of_verdict, permitted, refused_none}
+use Rattle.verb_rules.proofs.LengthLemmas.{text_fits}
 
 -- ---- fields
 
@@ -146,27 +147,10 @@ pass_each s os is =
     let c = refused_none (broken_by s os.third) os.third.name None b.1 in
     (a.0, b.0, c.0)
 
-whole : (n : ℕ) → is_whole n ≡ true → n ≤ 4096
-whole n is = let last = (and_parts _ (nat_le n 4096) is).1 in grind (arith, nat_tests, last)
-
-segment : (n : ℕ) → is_segment n ≡ true → n ≤ 4096
-segment n is = grind (arith, nat_tests, is)
-
-fits : (use_of : TextUse) (n : ℕ) → has_length use_of n ≡ true → n ≤ 4096
-fits EncipherPlain n is = whole n is
-fits EncipherPadded n is = grind (arith, nat_tests, is)
-fits Decipher n is = whole n is
-fits Segment n is = segment n is
-fits (LastPlain carried) n is = segment n (and_parts (is_segment n) _ is).0
-fits LastPadded n is = segment n is
-fits (LastDecipher carried) n is = segment n (and_parts (is_segment n) _ is).0
-fits (LastMac carried) n is = segment n (and_parts (is_segment n) _ is).0
-fits ForMac n is = let last = (and_parts (nat_le 1 n) (nat_le n 4096) is).1 in grind (arith, nat_tests, last)
-
 -- a text that passes rule 23
 text_short : (use_of : TextUse) (r : Request) → first_failing (text_checks use_of (text_size r)) ≡ None → length (bytes_in r (codes "text")) ≤ 4096
 text_short use_of r is =
-    omega (arith, fits use_of (text_size r) (passed (has_length use_of (text_size r)) 23 None is), value_short (value_of r (codes "text")))
+    omega (arith, text_fits use_of (text_size r) (passed (has_length use_of (text_size r)) 23 None is), value_short (value_of r (codes "text")))
 
 few : (n : ℕ) → nat_le n 7 ≡ true → n ≤ 7
 few n is = grind (arith, nat_tests, is)

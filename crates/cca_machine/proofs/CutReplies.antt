@@ -50,7 +50,7 @@ chain_again c eight =
     chain_with : List ℕ → List ℕ → Chain
     chain_with block carried = record { block = block; carried = carried }
 
-code_cipher_length : (rule : MacRule) (clear : ClearKey) (block : List ℕ) → length (code_cipher rule clear block) ≡ 8
+pub code_cipher_length : (rule : MacRule) (clear : ClearKey) (block : List ℕ) → length (code_cipher rule clear block) ≡ 8
 code_cipher_length X99 clear block = (bytes-enciphered clear.key block).size
 code_cipher_length X919 clear block = (bytes-enciphered (take 8 clear.key) block).size
 
@@ -96,7 +96,7 @@ none_after : (v w : Option Refusal) → or_then v w ≡ None → w ≡ None
 none_after None w is = is
 none_after (Some r) w is = cc is
 
-none_of : (x : Option ℕ) (operand : List ℕ) (others : Option Refusal) → or_refused x operand others ≡ None → (x ≡ None) × (others ≡ None)
+pub none_of : (x : Option ℕ) (operand : List ℕ) (others : Option Refusal) → or_refused x operand others ≡ None → (x ≡ None) × (others ≡ None)
 none_of None operand others is = (refl, is)
 none_of (Some rule) operand others is = cc is
 

@@ -1,5 +1,5 @@
 pub mod Acting
-mod CutReplies
+pub mod CutReplies
 pub mod DrawLaws
 mod HexTexts
 pub mod KeyedVerbs

@@ -1,7 +1,7 @@
 -- A module and a store stand for one state, or have a first damaged cell.
-use Rattle.std.proofs.Common.{◌≡◌, ◌≢◌, ◌⊎◌, inl, inr, ⊎_elim, ℕ, zero, suc, ◌+◌, ◌-◌, ◌<◌, ◌≤◌, Bool, true, false, List, length, drop, replicate, Option, None, Some, refl, sym, ap, subst, ◌∙◌, arith}
+use Rattle.std.proofs.Common.{◌≡◌, ◌≢◌, ◌⊎◌, inl, inr, ⊎_elim, ℕ, zero, suc, ◌+◌, ◌-◌, ◌<◌, ◌≤◌, true, false, List, length, drop, replicate, Option, None, Some, refl, sym, ap, subst, ◌∙◌, arith}
 use Rattle.std.specs.Prelude.{slice_range, slice_index, bytes_eq}
-use Rattle.std.proofs.lemmas.Bool.{cases_lt}
+use Rattle.std.proofs.lemmas.Bool.{cases_lt, cases_Bool}
 use Rattle.std.proofs.lemmas.List.{get_or-replicate, get_or_past}
 use Rattle.std.proofs.lemmas.List.Elements.{All-take, All-drop}
 use Rattle.std.proofs.lemmas.Slice.Eq.{bytes_eq-Decides}
@@ -46,15 +46,11 @@ keys_at bytes is = record {
   former = kept_is (slice_index bytes 3) (slice_range bytes 56 80) (master_piece bytes 56 is (omega arith));
 }
 
-tested : (b : Bool) → (b ≡ true) ⊎ (b ≡ false)
-tested true = inl refl
-tested false = inr refl
-
 same_or_not : (xs ys : List ℕ) → (xs ≡ ys) ⊎ (xs ≢ ys)
 same_or_not xs ys = ⊎_elim
     (λ (is : bytes_eq xs ys ≡ true). inl ((bytes_eq-Decides xs ys).0 is))
     (λ (other : bytes_eq xs ys ≡ false). inr (λ same. let both : true ≡ false = sym ((bytes_eq-Decides xs ys).1 same) ∙ other in cc both))
-    (tested (bytes_eq xs ys))
+    (cases_Bool (bytes_eq xs ys))
 
 apart_or_not : (current former : Option (List ℕ)) → AreApart current former ⊎ (AreApart current former → ⊥)
 apart_or_not current None = inl tt

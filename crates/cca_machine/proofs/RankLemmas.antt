@@ -11,6 +11,7 @@ use Rattle.record_bodies.specs.Directory.{label_at}
 use Rattle.record_bodies.specs.Rank.{is_smaller, smaller_count, IsNth}
 use Rattle.record_bodies.proofs.HalvingLaws.{equal_same}
 use Rattle.cca_machine.specs.Listing.{first_label, has_rank, nth_label}
+use Rattle.cca_roles.proofs.DirectoryLaws.{none_some}
 
 -- ---- counts
 
@@ -37,12 +38,9 @@ module _ {X : Type 0} (p q : X → Bool) (implies : (x : X) → p x ≡ true →
 
 -- ---- ranks
 
-no_label : (label : List ℕ) → None ≡ Some label → ⊥
-no_label label is = cc is
-
 pub within_of : (d : List (Option (List ℕ))) (k : ℕ) (label : List ℕ) → label_at d k ≡ Some label → k < length d
 within_of d k label held =
-    ⊎_elim (λ (below : k < length d). below) (λ (past : length d ≤ k). absurd (no_label label (sym (get_or_past d k None past) ∙ held))) (cases_lt k (length d))
+    ⊎_elim (λ (below : k < length d). below) (λ (past : length d ≤ k). absurd (none_some label (sym (get_or_past d k None past) ∙ held))) (cases_lt k (length d))
 
 is_less : (o : Ordering) → is_lt o ≡ true → o ≡ Less
 is_less Less is = refl
@@ -75,8 +73,8 @@ module _ (test : Option (List ℕ) → Bool) (blank : test None ≡ false) (labe
   first_is : (d : List (Option (List ℕ))) (k : ℕ) → label_at d k ≡ Some label → test (Some label) ≡ true
       → ((j : ℕ) (other : List ℕ) → label_at d j ≡ Some other → test (Some other) ≡ true → other ≡ label)
       → first_label (filter test d) ≡ label
-  first_is [] k held passes only = absurd (no_label label held)
-  first_is (None ∷ rest) zero held passes only = absurd (no_label label held)
+  first_is [] k held passes only = absurd (none_some label held)
+  first_is (None ∷ rest) zero held passes only = absurd (none_some label held)
   first_is (None ∷ rest) (suc k) held passes only = skip rest None blank ∙ first_is rest k held passes (λ j other at holds. only (suc j) other at holds)
   first_is (Some l ∷ rest) k held passes only =
       by_test (test (Some l)) refl (λ j at. first_is rest j at passes (λ n other there holds. only (suc n) other there holds))

@@ -1,6 +1,7 @@
 //! The machine: the state, the verdict on a request, what a permitted request does, and what comes of a line, as definitions
 //! in `specs/` with laws over them. With it stands what a verb is given of its request, once no rule refuses it: what the
-//! operands stand for ([`Granted`]), and what the words of fields choose; and the refusal by a rule ([`Refusal`]).
+//! operands stand for ([`Granted`]), and what the words of fields choose; the refusal by a rule ([`Refusal`]); and what a verb
+//! leaves to be carried out ([`Effect`]).
 #![tactic(auto)]
 
 ghost use Rattle.std.specs.Prelude.{◌≡◌, ℕ, List, [], ◌∷◌, ◌++◌, ◌<◌, ◌≤◌, length, take, replicate, codes, None, Some};

@@ -14,6 +14,7 @@ use Rattle.record_bodies.specs.declared.rows.Row.{Row}
 use Rattle.key_records.proofs.TurningLaws.{store_turns, memory_turns}
 use Rattle.master_registers.specs.Masters.{NewRegister, Empty, Partial, Full, Masters, pattern_of_master, after_set, set_refused, same_pattern, has_pattern_of}
 use Rattle.verb_rules.specs.Keys.{keys_of, master_key}
+use Rattle.cca_roles.proofs.DirectoryLaws.{none_some}
 
 -- ---- patterns
 
@@ -37,9 +38,6 @@ set_apart m state same = by_registers m.coming m.current state same
         made_is bytes key is = cc is
 
 -- ---- SET
-
-pub none_some : {A : Type 0} (x : A) → None ≡ Some x → ⊥
-none_some x is = cc is
 
 pub turn_is : (m : Masters) → set_refused m ≡ false → keys_of (after_set m) ≡ after_turn (keys_of m)
 turn_is m state = by_coming m.coming state

@@ -1,9 +1,9 @@
 -- What a call of a request hands on to the next one, and what it leaves where it ends.
 use Rattle.std.proofs.Common.{◌≡◌, ◌∙◌, ℕ, List, [], None, Option, Result, Ok, Err, ap, refl, sym, subst, arith}
-use Rattle.std.specs.Prelude.{◌≤◌, IfErr, IfSome, IsOk, IsSome, IsTrue}
+use Rattle.std.specs.Prelude.{◌≤◌, IfErr, IsOk, IsSome, IsTrue}
 use Rattle.device_cells.specs.Medium.{IsSettled, Keeps, Medium, Told}
 use Rattle.device_cells.specs.Faults.{Rose}
-use Rattle.device_cells.proofs.Media.{keeps_still, settled_kept}
+use Rattle.device_cells.proofs.Media.{keeps_still, settled_kept, told_still}
 use Rattle.key_cells.specs.Bench.{Bench}
 use Rattle.key_cells.specs.Lease.{bench_of}
 use Rattle.key_cells.specs.declared.leases.Lease.{Lease}
@@ -36,16 +36,9 @@ use Rattle.cca_machine.specs.Deciding.{ChangesPlaces}
 use Rattle.cca_requests.specs.Serving.{DrawsOnly, HasDisks, IsLoadedStop, IsRequestStop, Leaves, SparesStore}
 use Rattle.cca_requests.proofs.Leaving.{stops_as, untouched_left}
 use Rattle.cca_requests.proofs.Registers.{loaded_places}
+use Rattle.key_records.proofs.ReadLaws.{loaded_with}
 
 -- ---- what is handed on
-
--- the body is no place of the registers
-loaded_with : (m : Masters) (held : Registers) (bench : Bench) (bytes : List ℕ) → Loaded m held bench → Loaded m held (record bench { body = bytes })
-loaded_with m held bench bytes loaded = record {
-  valid = loaded.valid;
-  placed = record { coming = loaded.placed.coming; current = loaded.placed.current; former = loaded.placed.former };
-  told = loaded.told;
-}
 
 loaded_without : (m : Masters) (held : Registers) (bench : Bench) (bytes : List ℕ) → Loaded m held (record bench { body = bytes }) → Loaded m held bench
 loaded_without m held bench bytes loaded = record {
@@ -54,14 +47,11 @@ loaded_without m held bench bytes loaded = record {
   told = loaded.told;
 }
 
-told_kept : (m0 m1 : Medium) (P : List ℕ → Type 0) → Keeps m0 m1 → Told m0 P → Told m1 P
-told_kept m0 m1 P keeps told = subst (λ (o : Option (List ℕ)). IfSome o P) (sym keeps.content) told
-
 pub store_kept : (rows : List (Option Row)) (d0 d1 : Medium) → Keeps d0 d1 → HasStore rows d0 → HasStore rows d1
 store_kept rows d0 d1 keeps store = record {
   size = keeps.moments.size ∙ store.size;
   settled = settled_kept d0 d1 keeps store.settled;
-  holds = told_kept d0 d1 (HoldsRows rows) keeps store.holds;
+  holds = told_still d0 d1 (HoldsRows rows) keeps store.holds;
 }
 
 -- the store was read, and the body of the bench with it
@@ -106,7 +96,7 @@ disks_loaded held bench t m0 m1 d keeps size settled remembered loaded stands st
     settled = settled_kept m0 m1 keeps settled;
     loaded = loaded;
     stands = stands;
-    remembered = told_kept m0 m1 (λ image. StandsForRoles image t.roles) keeps remembered;
+    remembered = told_still m0 m1 (λ image. StandsForRoles image t.roles) keeps remembered;
   };
   store = store;
 }
@@ -148,10 +138,6 @@ spares_still result never = record { named = λ is. absurd (never is); spared = 
 
 abbrev served : Result (Unit {0}) Stop
 served = Ok tt
-
--- a value is no error
-pub no_err : {A B : Type 0} {v : A} {e : B} → ◌≡◌ {A = Result A B} (Ok v) (Err e) → ⊥
-no_err is = cc is
 
 pub no_stop : (fault : Stop) → served ≡ Err fault → ⊥
 no_stop fault is = cc is

@@ -1,7 +1,7 @@
 -- How what is said of the disks is carried from call to call.
 use Rattle.std.proofs.Common.{◌≡◌, ℕ, Bool, List, [], Option, Some, Result, Ok, Err, refl, sym, ap, ◌∙◌, subst, inl, inr, ⊎_elim}
-use Rattle.std.specs.Prelude.{OnOk, IfErr, IfSome, IsSome}
-use Rattle.device_cells.specs.Medium.{Medium, Told, IsSettled, From, EachImage, EachPair, Keeps}
+use Rattle.std.specs.Prelude.{OnOk, IfErr, IsSome}
+use Rattle.device_cells.specs.Medium.{Medium, IsSettled, From, EachImage, EachPair, Keeps}
 use Rattle.device_cells.proofs.Media.{goes_on, settled_image, each_weaker, each_pair, keeps_still, settled_kept}
 use Rattle.line_service.specs.Replies.{spelled, Refused}
 use Rattle.cca_roles.specs.declared.roles.Role.{Role}
@@ -29,11 +29,9 @@ use Rattle.cca_machine.specs.declared.granted.Granted.{Granted}
 use Rattle.cca_machine.specs.Deciding.{Decides, HasDrawn, IsDecided}
 use Rattle.cca_machine.specs.declared.effects.Effect.{Effect as CodeEffect}
 use Rattle.cca_machine.proofs.Acting.{any_old_are}
+use Rattle.line_service.proofs.OpeningLemmas.{holds_told}
 
 -- ---- one disk
-
-pub holds_told : (m : Medium) (P : List ℕ → Type 0) → Holds m P → Told m P
-holds_told m P holds = subst (λ (o : Option (List ℕ)). IfSome o P) (sym holds.told) holds.has
 
 pub told_some : (m : Medium) (image : List ℕ) → m.content ≡ Some image → IsSome m.content
 told_some m image told = subst IsSome (sym told) refl

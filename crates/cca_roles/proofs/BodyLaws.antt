@@ -1,5 +1,5 @@
 -- The body of a role, and what it reads as.
-use Rattle.std.proofs.Common.{◌≡◌, ◌≢◌, ◌≤◌, ◌<◌, ◌-◌, ◌^◌, ◌⊎◌, inl, inr, ⊎_elim, ℕ, zero, suc, Bool, true, false, List, ◌++◌, length, take, drop, replicate, Option, None, Some, refl, sym, ap, subst, ◌∙◌, arith}
+use Rattle.std.proofs.Common.{◌≡◌, ◌≢◌, ◌≤◌, ◌<◌, ◌-◌, ◌^◌, ◌⊎◌, inl, inr, ⊎_elim, ℕ, zero, suc, List, ◌++◌, length, take, drop, replicate, Option, None, Some, refl, sym, ap, subst, ◌∙◌, arith}
 use Rattle.std.specs.Int.{to_be_bytes, from_be_bytes, w32}
 use Rattle.std.specs.Prelude.{slice_index, bytes_eq, if◌then◌else◌}
 use Rattle.std.proofs.lemmas.Bool.{false_from_ne_true}
@@ -13,6 +13,7 @@ use Rattle.cca_roles.specs.Roles.{role}
 use Rattle.cca_roles.specs.RoleBody.{role_body, blank_body, ReadsRole, ReadsSlot, ReadsDefault, ReadsPlace, name_in, points_in, role_in, blank_slot, slot_in}
 use Rattle.cca_roles.specs.declared.roles.Role.{Role}
 use Rattle.cca_roles.proofs.PointLaws.{points_below}
+use Rattle.cca_roles.proofs.DecidableLaws.{by_bool, same_bytes}
 
 -- ---- the body of a role
 
@@ -85,16 +86,6 @@ reads_one (suc n) bytes (Some r) reads = slot_of_role (suc n) bytes r reads
 
 -- ---- whether a body reads as anything
 
-abbrev pub Decided : Type 0 → Type 0
-Decided P = P ⊎ (P → ⊥)
-
-pub by_bool : (b : Bool) → Decided (b ≡ true)
-by_bool true = inl refl
-by_bool false = inr (λ is. let wrong : false ≡ true = is in cc)
-
-pub same_bytes : (a b : List ℕ) → Decided (a ≡ b)
-same_bytes a b = ⊎_elim (λ (is : bytes_eq a b ≡ true). inl ((bytes_eq-Decides a b).0 is)) (λ (isnt : bytes_eq a b ≡ true → ⊥). inr (λ same. isnt ((bytes_eq-Decides a b).1 same))) (by_bool (bytes_eq a b))
-
 -- a body that reads as some role reads as the one that stands in it
 pub reads_again : (bytes : List ℕ) (r : Role) → ReadsRole bytes r → ReadsRole bytes (role_in bytes)
 reads_again bytes r reads = subst (ReadsRole bytes) (sym (role_of_body bytes r reads)) reads
@@ -158,9 +149,6 @@ decided_place n bytes = ⊎_elim
         (λ (isnt : name_in bytes ≡ default_name → ⊥). inr (reads_no_default bytes (role_in bytes) some there isnt))
         (same_bytes (name_in bytes) default_name)
     by_place (suc n) some there = inl (subst (ReadsSlot bytes) (sym (slot_there (suc n) bytes some)) there)
-
-pub not_true : (b : Bool) → b ≡ false → b ≡ true → ⊥
-not_true b is holds = let both : true ≡ false = sym holds ∙ is in cc
 
 pub blank_later : (n : ℕ) → n ≢ 0 → blank_slot n ≡ None
 blank_later zero later = absurd (later refl)

@@ -1,4 +1,5 @@
 pub mod BodyLaws
+pub mod DecidableLaws
 pub mod DirectoryLaws
 pub mod OpeningLaws
 pub mod PointLaws

@@ -2,7 +2,7 @@
 use Rattle.std.proofs.Common.{◌≡◌, ◌≢◌, ◌⊎◌, ℕ, ◌+◌, ◌-◌, ◌*◌, ◌/◌, ◌%◌, ◌<◌, Bool, true, false, ◌||◌, List, length, get_or, eqb, refl, sym, ap, ◌∙◌, subst, inl, inr, ⊎_elim, arith}
 use Rattle.std.specs.Prelude.{count_ones, if◌then◌else◌}
 use Rattle.std.specs.Int.{bit_at}
-use Rattle.std.proofs.lemmas.Bool.{cases_eq}
+use Rattle.std.proofs.lemmas.Bool.{cases_eq, cases_Bool}
 use Rattle.key_cells.specs.Bytes.{is_zero, IsZero}
 use Rattle.key_cells.proofs.ByteLemmas.{is_zero-Decides, zeros_of}
 use Rattle.cca_vectors.specs.Bits.{bit}
@@ -77,10 +77,6 @@ zero_bit half size zeros = ap (λ h. bit h 17) (zeros_of 8 half size zeros)
 
 -- ---- the vector
 
-tested : (b : Bool) → (b ≡ true) ⊎ (b ≡ false)
-tested true = inl refl
-tested false = inr refl
-
 or_off : (a b : Bool) → (a || b) ≡ false → b ≡ false
 or_off true b is = cc is
 or_off false b is = is
@@ -127,7 +123,7 @@ module _ (vector : List ℕ) (valid : IsValid vector) (some : is_zero vector ≡
     subst (HasClosed (left_of vector)) (sym (left_is vector valid))
         (half_closed (left_of vector) (left_half vector valid).size (left_counts vector valid ex some)
         (subst (λ h. IsEven (get_or h 2 0)) (left_is vector valid) ((left_half (closed vector valid) (new_valid ex)).even 2))),
-    subst (HasClosed (right_of vector)) (sym (right_is vector valid)) (by_right (tested (is_zero (right_of vector)))),
+    subst (HasClosed (right_of vector)) (sym (right_is vector valid)) (by_right (cases_Bool (is_zero (right_of vector)))),
   )
     where
       even : IsEven (get_or (closed_half (right_of vector)) 2 0)
@@ -142,4 +138,4 @@ module _ (vector : List ℕ) (valid : IsValid vector) (some : is_zero vector ≡
   halves_closed = ⊎_elim
       (λ (ex : is_exportable vector ≡ true). subst Both (sym (closed_as (is_exportable vector) (is_zero vector) vector closed_zero (closed vector valid) ex some)) (by_halves ex))
       (λ (none : is_exportable vector ≡ false). subst Both (sym (stays_as (is_exportable vector) vector (if is_zero vector then closed_zero else closed vector valid) none)) (as_it_was none))
-      (tested (is_exportable vector))
+      (cases_Bool (is_exportable vector))

@@ -75,7 +75,7 @@ each_of P half size each closed k =
     (cases_eq k 2))
     (tested half)
 
-size_of_closed : (half : List ℕ) → length (closed_half half) ≡ length half
+pub size_of_closed : (half : List ℕ) → length (closed_half half) ≡ length half
 size_of_closed half =
     ⊎_elim (λ (e : is_zero half ≡ true). ap length (closed_as_is half e))
     (λ (e : is_zero half ≡ false). ap length (closed_set half e) ∙ length-set half 2 (closed_byte (get_or half 2 0)))

@@ -1,9 +1,9 @@
 -- The default vectors break no rule.
-use Rattle.std.proofs.Common.{◌≡◌, ℕ, zero, suc, ◌<◌, Bool, true, false, ◌&&◌, List, [], ◌∷◌, Option, None, Some, Result, Ok, Err, length, get_or, eqb, ltb, refl, sym, ap, subst, arith}
+use Rattle.std.proofs.Common.{◌≡◌, ℕ, zero, suc, ◌<◌, Bool, true, false, List, [], ◌∷◌, Option, None, Some, Result, Ok, Err, length, get_or, eqb, ltb, refl, sym, ap, subst, arith}
 use Rattle.std.specs.Prelude.{IfSome, IfOk, IfErr, option_map, if◌then◌else◌}
 use Rattle.std.specs.List.{list_all}
 use Rattle.std.specs.Result.{result_ok}
-use Rattle.std.proofs.lemmas.Bool.{eqb-true}
+use Rattle.std.proofs.lemmas.Bool.{eqb-true, and_parts}
 use borrow.Author.Tests.{ltb-true}
 use lib.Count.{ones}
 use Rattle.cca_vectors.specs.Checks.{first_failing}
@@ -95,14 +95,10 @@ default_for_passes kind Unique = unique_passes kind
 
 -- ---- the facts
 
-both : (a b : Bool) → (a && b) ≡ true → (a ≡ true) × (b ≡ true)
-both true b h = (refl, h)
-both false b h = cc
-
 each_below : (xs : List ℕ) → list_all (λ b. ltb b 256) xs ≡ true → (k : ℕ) → get_or xs k 0 < 256
 each_below [] h k = omega arith
-each_below (x ∷ xs) h zero = ltb-true x 256 (both (ltb x 256) (list_all (λ b. ltb b 256) xs) h).0
-each_below (x ∷ xs) h (suc k) = each_below xs (both (ltb x 256) (list_all (λ b. ltb b 256) xs) h).1 k
+each_below (x ∷ xs) h zero = ltb-true x 256 (and_parts (ltb x 256) (list_all (λ b. ltb b 256) xs) h).0
+each_below (x ∷ xs) h (suc k) = each_below xs (and_parts (ltb x 256) (list_all (λ b. ltb b 256) xs) h).1 k
 
 pub valid_by_tests : (n : ℕ) (vector : List ℕ) → Passes n vector → IsValid vector
 valid_by_tests n vector passes = valid_from_none vector passes.whole (each_below vector passes.bytes) passes.none

@@ -13,12 +13,6 @@ unfolding bits
 length-bits zero n = refl
 length-bits (suc w) n = ap suc (length-bits w n)
 
-pub length-xor : (xs ys : List ℕ) → length xs ≡ length ys → length (xor xs ys) ≡ length xs
-unfolding xor
-length-xor [] ys h = refl
-length-xor (x ∷ xs) [] h = sym h
-length-xor (x ∷ xs) (y ∷ ys) h = ap suc (length-xor xs ys (omega arith))
-
 -- ---- joined words
 
 bits-low : (k j a b : ℕ) → j ≤ k → bits j (a * 2 ^ k + b) ≡ bits j b
@@ -52,7 +46,7 @@ shl_or-lt m k a b h g fits =
 
 -- ---- xor
 
-bit-xor : (a b i : ℕ) → bit_at (bit_xor a b) i ≡ bit_xor (bit_at a i) (bit_at b i)
+pub bit-xor : (a b i : ℕ) → bit_at (bit_xor a b) i ≡ bit_xor (bit_at a i) (bit_at b i)
 bit-xor a b i = ap (λ x. x % 2) (xor_shr a b i) ∙ xor_mod (a / 2 ^ i) (b / 2 ^ i) 1
 
 pub bits-xor : (w a b : ℕ) → bits w (bit_xor a b) ≡ xor (bits w a) (bits w b)

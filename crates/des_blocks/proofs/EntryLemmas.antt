@@ -11,11 +11,13 @@ use Rattle.des_blocks.specs.Schedules.{group_bits}
 use Rattle.des_blocks.specs.Tables.{Box, boxes, expansion, permutation}
 use Rattle.des_blocks.specs.declared.box_tables.TheConstants.{S1, S2, S3, S4, S5, S6, S7, S8}
 use Rattle.des_blocks.proofs.BitLemmas.{length-bits}
-use Rattle.des_blocks.proofs.GatherLemmas.{all_below, both-true, from-all_below, from-same, nat-below, nat-same, same}
+use Rattle.des_blocks.proofs.GatherLemmas.{all_below, from-all_below, from-same, nat-below, nat-same, same}
 use Rattle.des_blocks.proofs.HalfLemmas.{six-of}
 use Rattle.des_blocks.proofs.LawLemmas.{length-f}
 use Rattle.des_blocks.proofs.PlaceLemmas.{length-places}
-use Rattle.des_blocks.proofs.XorLemmas.{places-xor, spread-xor, xor-append, xor-zeros-left, xor-zeros-right}
+use Rattle.des_blocks.proofs.XorLemmas.{places-xor, spread-xor, xor-append, xor-zeros-right}
+use Rattle.key_cells.proofs.ByteLemmas.{xor-zeros}
+use Rattle.std.proofs.lemmas.Bool.{and_parts}
 
 -- what P and E make of the bits of the S-boxes
 combined : List ℕ → List ℕ
@@ -55,8 +57,8 @@ table-of : (j : ℕ) (table : List ℕ) → box_holds j table ≡ true → IsTab
 unfolding box_holds number_holds byte_holds
 table-of j table holds byte below =
     let v = value (slice_index_or boxes j []) (bits 6 byte) in
-    let tests = both-true (all_below (number_holds j table) 16) (all_below (byte_holds j table) 256) holds in
-    let here = both-true (nat_lt v 16) (nat_eq (slice_index table byte) (entry_of j table v)) (from-all_below (byte_holds j table) 256 byte tests.1 below) in
+    let tests = and_parts (all_below (number_holds j table) 16) (all_below (byte_holds j table) 256) holds in
+    let here = and_parts (nat_lt v 16) (nat_eq (slice_index table byte) (entry_of j table v)) (from-all_below (byte_holds j table) 256 byte tests.1 below) in
     ap spread (nat-same (slice_index table byte) (entry_of j table v) here.1)
     ∙ from-same _ _ (from-all_below (number_holds j table) 16 v tests.0 (nat-below v 16 here.0))
     ∙ sym (ap (λ four. places expansion (places permutation (in_place j four))) (look_up-is (slice_index_or boxes j []) (bits 6 byte)))
@@ -127,14 +129,14 @@ entry-join j n a b four tail size rest p q =
     ap spread (xor_comm b a) ∙ spread-xor a b ∙ ap (λ xs. xor xs (spread b)) p ∙ ap (xor (combined (zeros ++ (four ++ replicate n 0)))) q
     ∙ sym (combined-xor (zeros ++ (four ++ replicate n 0)) (zeros ++ (replicate 4 0 ++ tail)) long)
     ∙ ap combined (xor-append zeros (four ++ replicate n 0) zeros (replicate 4 0 ++ tail) refl
-    ∙ ap (λ xs. xs ++ xor (four ++ replicate n 0) (replicate 4 0 ++ tail)) (xor-zeros-left (4 * j) zeros (length-replicate {A = ℕ} (4 * j) 0))
+    ∙ ap (λ xs. xs ++ xor (four ++ replicate n 0) (replicate 4 0 ++ tail)) (xor-zeros (4 * j) zeros (length-replicate {A = ℕ} (4 * j) 0))
     ∙ ap (λ xs. zeros ++ xs) (xor-append four (replicate n 0) (replicate 4 0) tail size
-    ∙ ap (λ xs. xs ++ xor (replicate n 0) tail) (xor-zeros-right 4 four size) ∙ ap (λ xs. four ++ xs) (xor-zeros-left n tail rest)))
+    ∙ ap (λ xs. xs ++ xor (replicate n 0) tail) (xor-zeros-right 4 four size) ∙ ap (λ xs. four ++ xs) (xor-zeros n tail rest)))
 
 -- ---- the substitution
 
 -- the substitution from a place of the 48 bits on
-looked_up : List Box → ℕ → List ℕ → List ℕ
+pub looked_up : List Box → ℕ → List ℕ → List ℕ
 looked_up [] n xs = []
 looked_up (box ∷ rest) n xs = look_up box (take 6 (drop n xs)) ++ looked_up rest (n + 6) xs
 

@@ -1,7 +1,7 @@
 -- Words gathered from small tables: where each entry is what a table of places makes of its bits, the whole word is.
 use Rattle.std.proofs.Common.{◌≡◌, ℕ, zero, suc, ◌+◌, ◌-◌, ◌*◌, ◌/◌, ◌%◌, ◌^◌, ◌<◌, Bool, true, false, ◌&&◌, nat_eq, nat_lt, List, [], ◌∷◌, length, drop, get_or, slice_index, bit_xor, refl, sym, ap, ◌∙◌, arith, subst, inl, inr}
 use Rattle.std.specs.Int.Bits.{xor_assoc, xor_zero_r}
-use Rattle.std.proofs.lemmas.Bool.{cases_lt}
+use Rattle.std.proofs.lemmas.Bool.{cases_lt, and_parts}
 use Rattle.std.proofs.lemmas.Bool.Decides.{nat_tests}
 use Rattle.std.proofs.lemmas.List.{drop_all, drop_more, get_or_default}
 use Rattle.std.proofs.lemmas.Nat.{xor_block, xor_comm, pow-add, pow_pos, mod_below, shr_split, div_below}
@@ -60,10 +60,6 @@ same [] (y ∷ ys) = false
 same (x ∷ xs) [] = false
 same (x ∷ xs) (y ∷ ys) = nat_eq x y && same xs ys
 
-pub both-true : (a b : Bool) → (a && b) ≡ true → (a ≡ true) × (b ≡ true)
-both-true true b h = (refl, h)
-both-true false b h = cc
-
 pub nat-same : (x y : ℕ) → nat_eq x y ≡ true → x ≡ y
 nat-same x y h = grind (arith, nat_tests)
 
@@ -76,7 +72,7 @@ from-same [] [] h = refl
 from-same [] (y ∷ ys) h = cc
 from-same (x ∷ xs) [] h = cc
 from-same (x ∷ xs) (y ∷ ys) h =
-    let t = both-true (nat_eq x y) (same xs ys) h in
+    let t = and_parts (nat_eq x y) (same xs ys) h in
     ap {B = List ℕ} (λ z. z ∷ xs) (nat-same x y t.0) ∙ ap {B = List ℕ} (λ zs. y ∷ zs) (from-same xs ys t.1)
 
 -- a test of all numbers below a bound
@@ -87,8 +83,8 @@ all_below test (suc n) = test n && all_below test n
 pub from-all_below : (test : ℕ → Bool) (n i : ℕ) → all_below test n ≡ true → i < n → test i ≡ true
 from-all_below test zero i h l = absurd (omega arith)
 from-all_below test (suc n) i h l = elim (cases_lt i n) [
-  | inl below ↦ from-all_below test n i (both-true _ _ h).1 below
-  | inr above ↦ let same : i ≡ n = omega arith in ap test same ∙ (both-true _ _ h).0
+  | inl below ↦ from-all_below test n i (and_parts _ _ h).1 below
+  | inr above ↦ let same : i ≡ n = omega arith in ap test same ∙ (and_parts _ _ h).0
 ]
 
 -- ---- the rows
@@ -132,8 +128,8 @@ row-is out inp o i t n k zero row h v small =
 row-is out inp o i t n k (suc s) row h v small =
     let high = slice_index row (2 ^ s % n) in
     let joins = λ (w : ℕ). nat_eq (slice_index row ((w + 2 ^ s) % n)) (bit_xor (slice_index row (w % n)) high) in
-    let tests = both-true (row_holds out inp t n k s row) (same (out high) (places t (inp (2 ^ s * 2 ^ k))) && all_below joins (2 ^ s)) h in
-    let bits = both-true (same (out high) (places t (inp (2 ^ s * 2 ^ k)))) (all_below joins (2 ^ s)) tests.1 in
+    let tests = and_parts (row_holds out inp t n k s row) (same (out high) (places t (inp (2 ^ s * 2 ^ k))) && all_below joins (2 ^ s)) h in
+    let bits = and_parts (same (out high) (places t (inp (2 ^ s * 2 ^ k)))) (all_below joins (2 ^ s)) tests.1 in
     let more : suc s ≡ s + 1 = omega arith in
     let double : 2 ^ suc s ≡ 2 ^ s + 2 ^ s = ap (λ m. 2 ^ m) more ∙ pow-add 2 s 1 ∙ omega arith in
     elim (cases_lt v (2 ^ s)) [
@@ -162,7 +158,7 @@ gathered-is out inp o i t n s k low [] x h small =
     let none : 0 ≡ x * 2 ^ k = sym (ap (λ n. n * 2 ^ k) e ∙ omega arith) in
     from-same (out 0) (places t (inp 0)) h ∙ ap (λ n. places t (inp n)) none
 gathered-is out inp o i t n s k low (row ∷ rows) x h small =
-    let tests = both-true (row_holds out inp t n k s row) (rows_hold out inp t n s (k + s) rows) h in
+    let tests = and_parts (row_holds out inp t n k s row) (rows_hold out inp t n s (k + s) rows) h in
     let first : out (slice_index row (x % 2 ^ s % n)) ≡ places t (inp (x % 2 ^ s * 2 ^ k))
     = row-is out inp o i t n k s row tests.0 (x % 2 ^ s) (mod_below x (2 ^ s) (pow_pos s)) in
     let size : s * length (row ∷ rows) ≡ s * length rows + s = omega arith in

@@ -12,12 +12,13 @@ use Rattle.des_blocks.specs.Schedules.{group_bits}
 use Rattle.des_blocks.specs.Tables.{expansion, initial_permutation, final_permutation}
 use Rattle.des_blocks.specs.declared.final_tables.TheConstants.{FINAL_LEFT, FINAL_RIGHT}
 use Rattle.des_blocks.specs.declared.initial_tables.TheConstants.{INITIAL_LEFT, INITIAL_RIGHT}
-use Rattle.des_blocks.proofs.BitLemmas.{bits-xor, length-bits, length-xor}
+use Rattle.des_blocks.proofs.BitLemmas.{bits-xor, length-bits}
 use Rattle.des_blocks.proofs.ByteLemmas.{byte_at-is}
 use Rattle.des_blocks.proofs.GatherLemmas.{Reads, gathered-whole, row_holds, rows_hold, same}
 use Rattle.des_blocks.proofs.GroupLemmas.{drop-group_bits, group_bits-single, length-group_bits, take-group_bits}
 use Rattle.des_blocks.proofs.PlaceLemmas.{drop-places, length-places, take-places, places-all, places-places}
-use Rattle.des_blocks.proofs.XorLemmas.{places-xor, spread-xor, xor-append, xor-zeros-left, xor-zeros-right}
+use Rattle.des_blocks.proofs.XorLemmas.{places-xor, spread-xor, xor-append, xor-zeros-right}
+use Rattle.key_cells.proofs.ByteLemmas.{length-xor, xor-zeros}
 
 -- ---- six bits of a word
 
@@ -164,7 +165,7 @@ unfolding half_in
 half_in-xor a b = ap (places contraction) (spread-xor a b) ∙ places-xor contraction (spread a) (spread b) (length-spread a ∙ sym (length-spread b))
 
 zeros : xor (replicate 32 0) (replicate 32 0) ≡ replicate 32 0
-zeros = xor-zeros-left 32 (replicate 32 0) refl
+zeros = xor-zeros 32 (replicate 32 0) refl
 
 reads-beside : Reads beside_zeros
 unfolding beside_zeros
@@ -202,5 +203,5 @@ exit-block left right both h g are =
     ∙ sym (places-xor final_permutation (l ++ replicate 32 0) (replicate 32 0 ++ r) long)
     ∙ ap (places final_permutation) (xor-append l (replicate 32 0) (replicate 32 0) r are.left_half.size
     ∙ ap (λ xs. xs ++ xor (replicate 32 0) r) (xor-zeros-right 32 l are.left_half.size)
-    ∙ ap (λ xs. l ++ xs) (xor-zeros-left 32 r are.right_half.size)
+    ∙ ap (λ xs. l ++ xs) (xor-zeros 32 r are.right_half.size)
     ∙ take-append-drop 32 both)

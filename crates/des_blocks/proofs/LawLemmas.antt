@@ -7,8 +7,8 @@ use Rattle.des_blocks.specs.Des.{places, f, rounds, crypt}
 use Rattle.key_cells.specs.declared.schedules.Schedule.{Schedule}
 use Rattle.des_blocks.specs.Schedules.{ded_under, ede_under, keys_of, schedule_at}
 use Rattle.des_blocks.specs.Tables.{permutation, initial_permutation, final_permutation}
-use Rattle.des_blocks.proofs.BitLemmas.{length-xor}
 use Rattle.des_blocks.proofs.PlaceLemmas.{length-places, places-places, places-all}
+use Rattle.key_cells.proofs.ByteLemmas.{length-xor}
 
 -- ---- f gives 32 bits
 

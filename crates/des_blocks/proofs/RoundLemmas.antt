@@ -80,7 +80,7 @@ halves-joined left right l r p q =
       right_half = record { size = ap length d ∙ q.size; groups = q.groups ∙ sym (ap (places _) d) };
     }
 
-none-left : (l r : List ℕ) → rounds [] l r ≡ r ++ l
+pub none-left : (l r : List ℕ) → rounds [] l r ≡ r ++ l
 unfolding rounds
 none-left l r = refl
 

@@ -2,7 +2,7 @@
 use Rattle.std.proofs.Common.{◌≡◌, ℕ, zero, suc, ◌-◌, ◌*◌, ◌/◌, ◌%◌, ◌^◌, List, [], ◌∷◌, ◌++◌, length, slice_index, bit_xor, replicate, refl, sym, ap, ◌∙◌, arith}
 use Rattle.std.specs.Int.{byte_at, bytes_high_first}
 use Rattle.std.specs.Int.Bits.{xor_zero_r}
-use Rattle.std.proofs.lemmas.Nat.{xor_comm, xor_mod, xor_shr}
+use Rattle.std.proofs.lemmas.Nat.{xor_mod, xor_shr}
 use Rattle.des_blocks.specs.Bits.{bits, byte_bits, xor}
 use Rattle.des_blocks.specs.Des.{places}
 use Rattle.des_blocks.specs.Halves.{spread}
@@ -35,14 +35,6 @@ xor-append (p ∷ ps) qs [] ss e = absurd (omega arith)
 xor-append (p ∷ ps) qs (r ∷ rs) ss e = ap {B = List ℕ} (λ zs. bit_xor p r ∷ zs) (xor-append ps qs rs ss (omega arith))
 
 -- ---- zeros
-
-pub xor-zeros-left : (n : ℕ) (xs : List ℕ) → length xs ≡ n → xor (replicate n 0) xs ≡ xs
-unfolding xor
-xor-zeros-left zero [] h = refl
-xor-zeros-left zero (x ∷ xs) h = absurd (omega arith)
-xor-zeros-left (suc n) [] h = absurd (omega arith)
-xor-zeros-left (suc n) (x ∷ xs) h =
-    ap {B = List ℕ} (λ y. y ∷ xor (replicate n 0) xs) (xor_comm 0 x ∙ xor_zero_r x) ∙ ap {B = List ℕ} (λ ys. x ∷ ys) (xor-zeros-left n xs (omega arith))
 
 pub xor-zeros-right : (n : ℕ) (xs : List ℕ) → length xs ≡ n → xor xs (replicate n 0) ≡ xs
 unfolding xor

@@ -12,12 +12,13 @@ use Rattle.des_blocks.specs.Modes.{blocks, cbc, joined, uncbc}
 use Rattle.des_blocks.specs.Schedules.{AreOf, ded_bytes, ded_under, ede_bytes}
 use Rattle.des_blocks.specs.Texts.{put_at}
 use Rattle.des_blocks.specs.TripleDes.{ded, ede}
-use Rattle.des_blocks.proofs.BitLemmas.{drop-add, length-pieces, length-xor}
+use Rattle.des_blocks.proofs.BitLemmas.{drop-add, length-pieces}
 use Rattle.des_blocks.proofs.ByteLemmas.{byte_bits-to_be_bytes, small-to_be_bytes, to_bytes-byte_bits}
 use Rattle.des_blocks.proofs.CallLemmas.{ded-same_bytes, ede-same_bytes}
 use Rattle.des_blocks.proofs.ClearKeyLemmas.{cbc-same, uncbc-same}
 use Rattle.des_blocks.proofs.LawLemmas.{length-crypt}
 use Rattle.des_blocks.proofs.XorLemmas.{byte-xor}
+use Rattle.key_cells.proofs.ByteLemmas.{length-xor}
 
 -- ---- words and their bytes
 

@@ -12,7 +12,8 @@ use Rattle.des_blocks.proofs.LawLemmas.{initial-final}
 use Rattle.des_core.specs.Lanes.{AreVectors, bit_of, lane, word}
 use Rattle.des_core.proofs.CircuitLemmas.{pick}
 use Rattle.des_core.proofs.LaneHalfLemmas.{numbers, pick-take, vectors-append}
-use Rattle.des_blocks.proofs.GatherLemmas.{both-true}
+use Rattle.des_blocks.proofs.RoundLemmas.{none-left}
+use Rattle.std.proofs.lemmas.Bool.{and_parts}
 
 -- ---- rounds
 
@@ -29,10 +30,6 @@ pub rounds-more : (keys : List (List ℕ)) (l r next other out : List ℕ) (i : 
 rounds-more keys l r next other out i h one two before =
     let wider : 2 * (i + 1) ≡ 2 * i + 1 + 1 = omega arith in
     ap (λ n. rounds (drop n keys) next other) wider ∙ sym (round-more keys r next other (2 * i + 1) h two) ∙ sym (round-more keys l r next (2 * i) (omega arith) one) ∙ before
-
-none-left : (l r : List ℕ) → rounds [] l r ≡ r ++ l
-unfolding rounds
-none-left l r = refl
 
 -- after the last one
 pub rounds-done : (keys : List (List ℕ)) (l r out : List ℕ) (i : ℕ) → length keys ≡ 2 * i → rounds (drop (2 * i) keys) l r ≡ out → out ≡ r ++ l
@@ -119,13 +116,13 @@ are_below n (k ∷ ks) = nat_lt k n && are_below n ks
 
 pub vectors-pick : (table : List ℕ) (n : ℕ) (ws : List (List ℕ)) → length ws ≡ n → AreVectors ws → are_below n table ≡ true → AreVectors (pick [] table ws)
 vectors-pick [] n ws e p t k h = absurd (omega arith)
-vectors-pick (m ∷ ms) n ws e p t zero h = let u = (both-true (nat_lt m n) (are_below n ms) t).0 in let below : m < length ws = grind (arith, nat_tests, u, e) in p m below
-vectors-pick (m ∷ ms) n ws e p t (suc k) h = vectors-pick ms n ws e p (both-true (nat_lt m n) (are_below n ms) t).1 k (omega arith)
+vectors-pick (m ∷ ms) n ws e p t zero h = let u = (and_parts (nat_lt m n) (are_below n ms) t).0 in let below : m < length ws = grind (arith, nat_tests, u, e) in p m below
+vectors-pick (m ∷ ms) n ws e p t (suc k) h = vectors-pick ms n ws e p (and_parts (nat_lt m n) (are_below n ms) t).1 k (omega arith)
 
 pub below-each : (n : ℕ) (table : List ℕ) → are_below n table ≡ true → (k : ℕ) → k < length table → slice_index table k < n
 below-each n [] t k h = absurd (omega arith)
-below-each n (m ∷ ms) t zero h = let u = (both-true (nat_lt m n) (are_below n ms) t).0 in grind (arith, nat_tests, u)
-below-each n (m ∷ ms) t (suc k) h = below-each n ms (both-true (nat_lt m n) (are_below n ms) t).1 k (omega arith)
+below-each n (m ∷ ms) t zero h = let u = (and_parts (nat_lt m n) (are_below n ms) t).0 in grind (arith, nat_tests, u)
+below-each n (m ∷ ms) t (suc k) h = below-each n ms (and_parts (nat_lt m n) (are_below n ms) t).1 k (omega arith)
 
 pub record AreHalves (ws : List (List ℕ)) : Type 0 where
   pub size : length ws ≡ 64

@@ -1,7 +1,7 @@
 -- Circuits as data: what one makes of words is, at each lane, what it makes of the bits there.
 use Rattle.std.proofs.Common.{◌≡◌, ℕ, zero, suc, ◌+◌, ◌-◌, ◌%◌, ◌^◌, ◌<◌, Bool, true, ◌&&◌, List, [], ◌∷◌, length, map, get_or, bit_and, bit_or, bit_xor, min, max, refl, sym, ap, ◌∙◌, arith, inl, inr}
 use Rattle.std.specs.Int.{bit_at, w64}
-use Rattle.std.proofs.lemmas.Bool.{cases_lt}
+use Rattle.std.proofs.lemmas.Bool.{cases_lt, and_parts}
 use Rattle.std.specs.Simd.Lanes.{zip2, Each1}
 use mir.Val.{Fits}
 use Rattle.std.proofs.lemmas.List.{get_or-map, length-map}
@@ -10,7 +10,7 @@ use Rattle.std.proofs.lemmas.Nat.{and_le_l, or_lt, xor_lt}
 use Rattle.std.proofs.lemmas.Nat.Bits.{bit_at-zero, bit_at_and, bit_at_or, bit_at_xor, bit_at_not, bit_at-lt}
 use Rattle.des_blocks.specs.Des.{look_up}
 use Rattle.des_blocks.specs.Tables.{Box}
-use Rattle.des_blocks.proofs.GatherLemmas.{both-true, from-same, same}
+use Rattle.des_blocks.proofs.GatherLemmas.{from-same, same}
 use Rattle.des_core.specs.Lanes.{AreVectors, lane}
 
 -- a gate over earlier words, which it names by how many stand between
@@ -162,7 +162,7 @@ from-all_bits zero test e i [] p h = h
 from-all_bits zero test e i (w ∷ ws) p h = absurd (omega arith)
 from-all_bits (suc n) test e i [] p h = absurd (omega arith)
 from-all_bits (suc n) test e i (w ∷ ws) p h =
-    let t = both-true (all_bits n (λ bs. test (0 ∷ bs))) (all_bits n (λ bs. test (1 ∷ bs))) h in
+    let t = and_parts (all_bits n (λ bs. test (0 ∷ bs))) (all_bits n (λ bs. test (1 ∷ bs))) h in
     let long : length ws ≡ n = omega arith in
     let b = bit_at (get_or w e 0) i in
     elim (cases_lt b 1) [

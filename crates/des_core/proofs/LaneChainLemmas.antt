@@ -9,11 +9,12 @@ use Rattle.des_blocks.specs.Bits.{bits, byte_bits, pieces, to_bytes, xor}
 use Rattle.des_blocks.specs.Modes.{blocks, uncbc}
 use Rattle.des_blocks.specs.Schedules.{ded_bytes, ded_under}
 use Rattle.des_blocks.specs.Texts.{put_at, uncbc_text}
-use Rattle.des_blocks.proofs.BitLemmas.{drop-add, length-xor}
+use Rattle.des_blocks.proofs.BitLemmas.{drop-add}
 use Rattle.des_blocks.proofs.ByteLemmas.{byte_bits-to_be_bytes}
 use Rattle.des_core.proofs.ChainLemmas.{bytes-of, length-put, two-more, uncbc-done}
 use Rattle.des_core.specs.Chains.{Hold, part_at, with_part}
 use Rattle.des_core.specs.Lanes.{AreVectors, word}
+use Rattle.key_cells.proofs.ByteLemmas.{length-xor}
 
 -- deciphered words hold the deciphered blocks
 pub hold-deciphered : (keys : List Schedule) (old new : List (List ℕ)) (part : List ℕ) → Hold (λ block. block) old part

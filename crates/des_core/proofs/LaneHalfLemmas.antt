@@ -1,9 +1,8 @@
 -- A round over lanes: vectors taken by a table of places, joined with others, and with the bits of a round key.
-use Rattle.std.proofs.Common.{◌≡◌, ℕ, zero, suc, ◌+◌, ◌-◌, ◌%◌, ◌/◌, ◌^◌, ◌<◌, ◌≤◌, true, ◌&&◌, nat_lt, nat_le, List, [], ◌∷◌, ◌++◌, length, map, take, drop, get_or, bit_xor, refl, sym, ap, ◌∙◌, arith}
+use Rattle.std.proofs.Common.{◌≡◌, ℕ, zero, suc, ◌+◌, ◌-◌, ◌%◌, ◌<◌, ◌≤◌, true, ◌&&◌, nat_lt, nat_le, List, [], ◌∷◌, ◌++◌, length, map, take, drop, get_or, bit_xor, refl, sym, ap, ◌∙◌, arith}
 use Rattle.std.specs.Int.{bit_at, w64}
 use Rattle.std.specs.Simd.Lanes.{zip2}
 use Rattle.std.proofs.lemmas.List.{take_all, drop-drop, get_or-drop, length-append, length-drop}
-use Rattle.std.proofs.lemmas.Nat.{xor_mod, xor_shr}
 use Rattle.std.proofs.lemmas.Nat.Bits.{bit_at-zero, bit_at_not}
 use Rattle.std.proofs.lemmas.Simd.{get_or-zip2, length-zip2}
 use Rattle.std.proofs.lemmas.Bool.Decides.{nat_tests}
@@ -15,7 +14,9 @@ use Rattle.des_blocks.proofs.Numbers.{are_numbers}
 use Rattle.des_blocks.proofs.PlaceLemmas.{drop-places, take-places}
 use Rattle.des_core.specs.Lanes.{AreVectors, bit_of, joined_at, lane}
 use Rattle.des_core.proofs.CircuitLemmas.{pick}
-use Rattle.des_blocks.proofs.GatherLemmas.{both-true}
+use Rattle.des_blocks.proofs.BitLemmas.{bit-xor}
+use Rattle.std.proofs.lemmas.Bool.{and_parts}
+use Rattle.key_cells.proofs.ByteLemmas.{take-xor}
 
 -- the elements at the places of a table
 abbrev pub taken : {A : Type 0} → A → List ℕ → List A → List A
@@ -39,9 +40,6 @@ pub lane-taken : (e i : ℕ) (table : List ℕ) (vs : List (List ℕ)) → lane 
 unfolding places
 lane-taken e i [] vs = refl
 lane-taken e i (n ∷ ns) vs = ap {B = List ℕ} (λ x. x ∷ lane e i (taken [] ns vs)) (sym (lane-at e i (n - 1) vs)) ∙ ap {B = List ℕ} (λ xs. get_or (lane e i vs) (n - 1) 0 ∷ xs) (lane-taken e i ns vs)
-
-bit-xor : (a b i : ℕ) → bit_at (bit_xor a b) i ≡ bit_xor (bit_at a i) (bit_at b i)
-bit-xor a b i = ap (λ x. x % 2) (xor_shr a b i) ∙ xor_mod (a / 2 ^ i) (b / 2 ^ i) 1
 
 abbrev pub Twos : List (List ℕ) → Type 0
 Twos [] = Unit {0}
@@ -97,13 +95,6 @@ pick-take {A} d (suc n) (x ∷ xs) h = ap {B = List A} (λ ys. x ∷ ys) (get-su
 abbrev pub ins : ℕ → List (List ℕ) → List (List ℕ) → List (List ℕ)
 ins n right masks = joined (taken [] (take 6 (drop n expansion)) right) masks
 
-take-xor : (n : ℕ) (xs ys : List ℕ) → take n (xor xs ys) ≡ xor (take n xs) (take n ys)
-unfolding xor
-take-xor zero xs ys = refl
-take-xor (suc n) [] ys = refl
-take-xor (suc n) (x ∷ xs) [] = refl
-take-xor (suc n) (x ∷ xs) (y ∷ ys) = ap {B = List ℕ} (λ zs. bit_xor x y ∷ zs) (take-xor n xs ys)
-
 xor-nil : (xs : List ℕ) → xor xs [] ≡ []
 unfolding xor
 xor-nil [] = refl
@@ -119,11 +110,11 @@ drop-xor (suc n) (x ∷ xs) (y ∷ ys) = drop-xor n xs ys
 vectors-taken : (table : List ℕ) (vs : List (List ℕ)) → length vs ≡ 32 → AreVectors vs → are_numbers 32 table ≡ true → AreVectors (taken [] table vs)
 vectors-taken [] vs e p t k h = absurd (omega arith)
 vectors-taken (n ∷ ns) vs e p t zero h =
-    let u = both-true (nat_lt 0 n && nat_le n 32) (are_numbers 32 ns) t in
-    let v = both-true (nat_lt 0 n) (nat_le n 32) u.0 in
+    let u = and_parts (nat_lt 0 n && nat_le n 32) (are_numbers 32 ns) t in
+    let v = and_parts (nat_lt 0 n) (nat_le n 32) u.0 in
     let below : n - 1 < length vs = grind (arith, nat_tests, v.0, v.1, e) in
     p (n - 1) below
-vectors-taken (n ∷ ns) vs e p t (suc k) h = vectors-taken ns vs e p (both-true (nat_lt 0 n && nat_le n 32) (are_numbers 32 ns) t).1 k (omega arith)
+vectors-taken (n ∷ ns) vs e p t (suc k) h = vectors-taken ns vs e p (and_parts (nat_lt 0 n && nat_le n 32) (are_numbers 32 ns) t).1 k (omega arith)
 
 twos-all : (vs : List (List ℕ)) → AreVectors vs → Twos vs
 twos-all [] p = tt

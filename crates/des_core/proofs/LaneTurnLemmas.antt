@@ -2,9 +2,10 @@
 use Rattle.std.proofs.Common.{◌≡◌, ℕ, ◌-◌, ◌%◌, ◌/◌, ◌<◌, ◌^◌, Bool, true, ◌&&◌, nat_eq, nat_lt, List, [], ◌∷◌, get_or, refl, ap, ◌∙◌, arith}
 use Rattle.std.specs.Int.{bit_at}
 use Rattle.std.proofs.lemmas.Bool.Decides.{nat_tests}
-use Rattle.des_blocks.proofs.GatherLemmas.{all_below, both-true, from-all_below, nat-same}
+use Rattle.des_blocks.proofs.GatherLemmas.{all_below, from-all_below, nat-same}
 use Rattle.des_core.specs.Lanes.{bit_of}
 use Rattle.des_core.specs.Stages.{IsStage, with_bit}
+use Rattle.std.proofs.lemmas.Bool.{and_parts}
 
 -- ---- the masks
 
@@ -66,8 +67,8 @@ back : (apart : ℕ) (more : List ℕ) (x y r c : ℕ) → ends (apart ∷ more)
 back apart more x y r c h =
     let row = with_bit apart r c in
     let column = with_bit apart c r in
-    let one = both-true (nat_lt row 64) (nat_lt column 64 && ends more x y row column) h in
-    let two = both-true (nat_lt column 64) (ends more x y row column) one.1 in
+    let one = and_parts (nat_lt row 64) (nat_lt column 64 && ends more x y row column) h in
+    let two = and_parts (nat_lt column 64) (ends more x y row column) one.1 in
     record { row = grind (arith, nat_tests, one.0); column = grind (arith, nat_tests, two.0); rest = two.1 }
 
 -- what a stage does
@@ -95,7 +96,7 @@ transposed w0 w1 w2 w3 w4 w5 w6 s32 s16 s8 s4 s2 s1 e r c h hr hc =
     let b32 = back 32 [] c r r5 c5 b16.rest in
     let r6 = with_bit 32 r5 c5 in
     let c6 = with_bit 32 c5 r5 in
-    let last = both-true (nat_eq r6 c) (nat_eq c6 r) b32.rest in
+    let last = and_parts (nat_eq r6 c) (nat_eq c6 r) b32.rest in
     let row : r6 ≡ c = nat-same r6 c last.0 in
     let column : c6 ≡ r = nat-same c6 r last.1 in
     s1 e r c h hr hc ∙ s2 e r1 c1 h b1.row b1.column ∙ s4 e r2 c2 h b2.row b2.column ∙ s8 e r3 c3 h b4.row b4.column ∙ s16 e r4 c4 h b8.row b8.column ∙ s32 e r5 c5 h b16.row b16.column

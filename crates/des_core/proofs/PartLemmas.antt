@@ -9,9 +9,10 @@ use Rattle.des_core.specs.Lanes.{word}
 use Rattle.des_blocks.specs.Modes.{blocks, joined, last_block, uncbc}
 use Rattle.des_blocks.specs.Schedules.{ded_bytes, ded_under}
 use Rattle.des_blocks.specs.Texts.{uncbc_from, uncbc_text}
-use Rattle.des_blocks.proofs.BitLemmas.{length-pieces, length-xor}
+use Rattle.des_blocks.proofs.BitLemmas.{length-pieces}
 use Rattle.des_core.proofs.ChainLemmas.{joined-pieces, length-ded_bytes, pieces-append, pieces-take}
 use Rattle.des_core.proofs.LaneChainLemmas.{hold-deciphered, part-last}
+use Rattle.key_cells.proofs.ByteLemmas.{length-xor}
 
 -- ---- blocks of eight bytes
 

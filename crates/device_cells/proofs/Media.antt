@@ -170,3 +170,11 @@ each_pair a0 a1 b0 b1 P Q R one two joined = record {
   later2 = two.later;
   each = λ c d left right. joined c d (one.each c left) (two.each d right);
 }
+
+-- where each image has become the content, the disk is kept
+pub settled_keeps : (m0 m1 : Medium) → m1.content ≡ m0.content → EachImage m0 m1 m0.images → Keeps m0 m1
+settled_keeps m0 m1 content moments = record {
+  content = content;
+  images = λ c image. moments.each c (m1.counts_now m0.moment c moments.later image);
+  moments = moments;
+}

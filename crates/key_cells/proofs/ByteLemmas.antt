@@ -119,3 +119,10 @@ combined_all xs ys now n so_far hx hy =
 
 pub combined_bytes : (xs ys now : List ℕ) (n at : ℕ) → IsCombined xs ys now at → length now ≡ n → AreBytes n now
 combined_bytes xs ys now n at so_far long = record { size = long; each = are_bytes now so_far.fits }
+
+pub take-xor : (n : ℕ) (xs ys : List ℕ) → take n (xor xs ys) ≡ xor (take n xs) (take n ys)
+unfolding xor
+take-xor zero xs ys = refl
+take-xor (suc n) [] ys = refl
+take-xor (suc n) (x ∷ xs) [] = refl
+take-xor (suc n) (x ∷ xs) (y ∷ ys) = ap {B = List ℕ} (λ rest. bit_xor x y ∷ rest) (take-xor n xs ys)

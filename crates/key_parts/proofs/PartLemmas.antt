@@ -4,7 +4,7 @@ use Rattle.std.specs.Prelude.{All, fold, slice_range}
 use Rattle.std.proofs.lemmas.List.{length-take-le}
 use Rattle.std.proofs.lemmas.List.Elements.{All-cons, All-head, All-nil, All-tail}
 use Rattle.key_cells.specs.Bytes.{AreBytes, xor}
-use Rattle.key_cells.proofs.ByteLemmas.{xor-zeros}
+use Rattle.key_cells.proofs.ByteLemmas.{xor-zeros, take-xor}
 use Rattle.cca_vectors.specs.PartVectors.{as_part}
 use Rattle.cca_vectors.specs.Vectors.{is_part_of, length_of}
 use Rattle.cca_vectors.specs.declared.key_type.KeyType.{KeyType}
@@ -15,7 +15,7 @@ use Rattle.multi_encipher.specs.Bundles.{key_in, with_zeros}
 use Rattle.multi_encipher.specs.Seals.{IsKey}
 use Rattle.key_parts.specs.Parts.{combined_key, first_key, key_before_last, key_of_parts, xor_all}
 use Rattle.key_parts.proofs.TypeLemmas.{type_part, type_twice}
-use Rattle.key_parts.proofs.XorLemmas.{take-xor, xor-assoc, xor-comm, xor-fold, xor_all-append}
+use Rattle.key_parts.proofs.XorLemmas.{xor-assoc, xor-comm, xor-fold, xor_all-append}
 
 abbrev clear_key : List ℕ → List ℕ → ClearKey
 clear_key key vector = record { key = key; vector = vector }

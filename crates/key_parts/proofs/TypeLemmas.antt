@@ -60,7 +60,7 @@ default_whole kind size =
     by_length (eqb size 8) (eqb size 16) (option_map single_vector (single_default kind)) (double_default kind) (single_whole kind) (double_whole kind)
 
 -- what holds of the vector where there is one
-where_had : (P : List ℕ → Type 0) (o : Option (List ℕ)) → first_failing (check 32 (is_none o) ∷ []) ≡ None → IfSome o P → P (unwrap_or o [])
+pub where_had : (P : List ℕ → Type 0) (o : Option (List ℕ)) → first_failing (check 32 (is_none o) ∷ []) ≡ None → IfSome o P → P (unwrap_or o [])
 where_had P None has h = cc
 where_had P (Some v) has h = h
 

@@ -1,13 +1,13 @@
 -- The exclusive or of lists, and that of many lists of one length.
-use Rattle.std.proofs.Common.{◌≡◌, ℕ, zero, suc, ◌<◌, List, [], ◌∷◌, ◌++◌, length, get_or, take, replicate, refl, sym, ap, ◌∙◌, arith}
+use Rattle.std.proofs.Common.{◌≡◌, ℕ, ◌<◌, List, [], ◌∷◌, ◌++◌, length, get_or, replicate, refl, sym, ap, ◌∙◌, arith}
 use Rattle.std.specs.Prelude.{All, bit_xor, fold}
 use Rattle.std.specs.Int.Bits.{xor_assoc, xor_self, xor_zero_l}
 use Rattle.std.proofs.lemmas.Nat.{xor_comm, xor_of_8}
-use Rattle.std.proofs.lemmas.List.{length-replicate}
-use Rattle.std.proofs.lemmas.List.Elements.{All-cons, All-from_get_or, All-get_or, All-head, All-replicate, All-tail}
+use Rattle.std.proofs.lemmas.List.Elements.{All-cons, All-from_get_or, All-get_or, All-head, All-tail}
 use Rattle.key_cells.specs.Bytes.{AreBytes, xor}
 use Rattle.key_cells.proofs.ByteLemmas.{get_or-xor, length-xor, xor-zeros}
 use Rattle.key_parts.specs.Parts.{IsOnlyPart, xor_all}
+use Rattle.multi_encipher.proofs.SealLaws.{all_zeros}
 
 -- ---- two lists
 
@@ -40,13 +40,6 @@ xor-again (x ∷ xs) (y ∷ ys) same = ap {B = List ℕ} (λ b. b ∷ xor xs (xo
 pub xor-back : (xs ys : List ℕ) → length xs ≡ length ys → xor (xor xs ys) ys ≡ xs
 xor-back xs ys same = ap (λ l. xor l ys) (xor-comm xs ys) ∙ (xor-comm (xor ys xs) ys ∙ xor-again ys xs (sym same))
 
-pub take-xor : (n : ℕ) (xs ys : List ℕ) → take n (xor xs ys) ≡ xor (take n xs) (take n ys)
-unfolding xor
-take-xor zero xs ys = refl
-take-xor (suc n) [] ys = refl
-take-xor (suc n) (x ∷ xs) [] = refl
-take-xor (suc n) (x ∷ xs) (y ∷ ys) = ap {B = List ℕ} (λ rest. bit_xor x y ∷ rest) (take-xor n xs ys)
-
 pub bytes-xor : (n : ℕ) (xs ys : List ℕ) → AreBytes n xs → AreBytes n ys → AreBytes n (xor xs ys)
 bytes-xor n xs ys first second = record {
   size = length-xor xs ys (first.size ∙ sym second.size) ∙ first.size;
@@ -66,11 +59,8 @@ bytes-xor n xs ys first second = record {
 
 -- ---- many lists
 
-bytes-zeros : (n : ℕ) → AreBytes n (replicate n 0)
-bytes-zeros n = record { size = length-replicate n 0; each = All-replicate (λ b. b < 256) n 0 (omega arith) }
-
 pub bytes-xor_all : (n : ℕ) (parts : List (List ℕ)) → All (AreBytes n) parts → AreBytes n (xor_all n parts)
-bytes-xor_all n [] are = bytes-zeros n
+bytes-xor_all n [] are = all_zeros n
 bytes-xor_all n (part ∷ parts) are =
     bytes-xor n part (xor_all n parts) (All-head (AreBytes n) part parts are) (bytes-xor_all n parts (All-tail (AreBytes n) part parts are))
 

@@ -1,10 +1,8 @@
 -- A first token under the current master key, and a second one under a full new register.
-use Rattle.std.proofs.Common.{◌≡◌, ◌↔◌, ◌-◌, ℕ, Bool, true, false, List, Option, None, Some, take, replicate, refl, sym, ap, ◌∙◌, arith}
+use Rattle.std.proofs.Common.{◌≡◌, ◌↔◌, ◌-◌, ℕ, Bool, true, false, List, Option, None, Some, refl, sym, ap, ◌∙◌}
 use Rattle.std.specs.Prelude.{IsTrue, is_some, option_map, if◌then◌else◌}
-use Rattle.std.proofs.lemmas.List.{take_at}
 use Rattle.std.proofs.lemmas.Slice.Eq.{bytes_eq-Decides}
 use Rattle.cca_roles.proofs.DirectoryLaws.{none_some}
-use Rattle.cca_vectors.specs.Vectors.{length_of}
 use Rattle.key_cells.specs.Bench.{Bench}
 use Rattle.key_tokens.specs.Denotes.{ClearKey, MasterKey, MasterKeys, Denoted, denoted}
 use Rattle.key_tokens.specs.Fields.{pattern_of_token, token_of}
@@ -15,8 +13,7 @@ use Rattle.master_registers.specs.Loaded.{Loaded, has_pattern}
 use Rattle.master_registers.specs.Masters.{NewRegister, Empty, Partial, Full, Masters, new_bytes}
 use Rattle.master_registers.specs.declared.patterns.Pattern.{Pattern}
 use Rattle.master_registers.specs.declared.registers.Registers.{Registers}
-use Rattle.multi_encipher.specs.Bundles.{key_in, with_zeros}
-use Rattle.multi_encipher.specs.Seals.{IsKey, seal}
+use Rattle.multi_encipher.specs.Seals.{seal}
 use Rattle.multi_encipher.specs.declared.halves.Sealed.{Sealed}
 use Rattle.verb_rules.specs.KeyChecks.{register_with}
 use Rattle.verb_rules.specs.Keys.{keys_of, new_key, opened, opened_key}
@@ -30,15 +27,7 @@ use Rattle.record_bodies.proofs.BodyLaws.{what_turned, ahead_turned}
 use Rattle.record_bodies.proofs.KeptLaws.{denoted_pattern, kept_with_flag, pattern}
 use Rattle.record_bodies.proofs.SecondLaws.{same_second}
 use Rattle.key_records.proofs.ReadLaws.{some_mapped}
-
-some_one : {A : Type 0} {x y : A} → Some x ≡ Some y → x ≡ y
-some_one is = cc is
-
--- the key that stands in 16 bytes, with zeros after it
-pub key_again : (vector key : List ℕ) → IsKey vector key → key_in vector (with_zeros vector key) ≡ key
-key_again vector key is =
-    let none : length_of vector - 0 ≡ length_of vector = omega arith in
-    ap (λ n. take n (with_zeros vector key)) none ∙ take_at key (replicate (16 - length_of vector) 0) (length_of vector) is.size
+use Rattle.std.proofs.lemmas.Option.{same_Some}
 
 has_is : (o : Option Pattern) (bytes : List ℕ) → has_pattern o bytes ≡ true → o ≡ Some (pattern bytes)
 has_is None bytes is = let no : false ≡ true = is in absurd (cc)
@@ -54,7 +43,7 @@ current_of false false is = let wrong : None ≡ Some Current = is in absurd (cc
 
 age_of_key : (bench : Bench) (token : Token) (age : Option Age) (key : Denoted) → opened_key bench (judged_with token age) ≡ Some key → age ≡ Some key.age
 age_of_key bench token None key is = absurd (none_some key is)
-age_of_key bench token (Some a) key is = ap (λ (d : Denoted). Some d.age) (some_one is)
+age_of_key bench token (Some a) key is = ap (λ (d : Denoted). Some d.age) (same_Some _ _ is)
 
 -- a token that was read and breaks no rule, with flag c0
 module _ (m : Masters) (held : Registers) (bench : Bench) (token : List ℕ) (loaded : Loaded m held bench) (first : IsFirst token) where
@@ -130,7 +119,7 @@ coming_is m held bench p loaded is = by_coming m.coming loaded.placed.coming is
     by_coming Empty placed is = absurd (none_some p is)
     by_coming (Partial bytes) placed is = absurd (none_some p is)
     by_coming (Full bytes) placed is =
-        ap (λ x. Some (record { key = bytes; pattern = x })) (ap (λ (q : Pattern). q.bytes) (some_one is))
+        ap (λ x. Some (record { key = bytes; pattern = x })) (ap (λ (q : Pattern). q.bytes) (same_Some _ _ is))
         ∙ ap (λ k. Some (record { key = k; pattern = p.bytes })) (sym placed)
 
 -- the second token, compared with the key of the first sealed under the new register
@@ -154,8 +143,8 @@ module _ (m : Masters) (held : Registers) (bench : Bench) (token : List ℕ) (se
 
   pub of_pair : sealed ≡ seal bench.coming clear.vector clear.key → IsPair (keys_of m) token second → sealed ≡ second.sealed
   of_pair is pair =
-      let key : pair.key ≡ record { clear = clear; age = Current } = some_one (sym pair.is_kept ∙ current_key m held bench token loaded first current) in
-      let keys : pair.coming ≡ master = some_one (sym pair.is_coming ∙ coming_is m held bench second.pattern loaded coming) in
+      let key : pair.key ≡ record { clear = clear; age = Current } = same_Some _ _ (sym pair.is_kept ∙ current_key m held bench token loaded first current) in
+      let keys : pair.coming ≡ master = same_Some _ _ (sym pair.is_coming ∙ coming_is m held bench second.pattern loaded coming) in
       is
       ∙ ap (λ (c : ClearKey). seal bench.coming c.vector c.key) (ap (λ (k : Denoted). k.clear) (sym key))
       ∙ ap (λ (k : MasterKey). seal k.key pair.key.clear.vector pair.key.clear.key) (sym keys)

@@ -27,6 +27,7 @@ use Rattle.key_records.specs.declared.faults.RecordFault.TheVariants.{Damaged, D
 use Rattle.record_bodies.specs.declared.rows.Row.{Row}
 use Rattle.record_bodies.proofs.KeptLaws.{kept_first, row_reads, stands_as}
 use Rattle.record_bodies.proofs.PieceLaws.{key_body_is}
+use Rattle.key_cells.proofs.AnswerLemmas.{no_err}
 
 pub row_of_entry : (masters : MasterKeys) (s : List (Option Entry)) (n : ℕ) → get_or (map (remembered masters) s) n None ≡ remembered masters (entry_at s n)
 row_of_entry masters [] n = refl
@@ -106,9 +107,6 @@ opened_cause before now (Err e) cause read result other = let wrong : true ≡ f
 pub unopened_cause : {T E : Type 0} (before now : ℕ) (r : Result T E) → HasCause before now r → is_err r ≡ true → HasRecordCause before now (Err DiskFault)
 unopened_cause before now (Ok x) cause unread = let wrong : false ≡ true = unread in absurd (cc)
 unopened_cause before now (Err e) cause unread = record { later = cause.later; failed = λ _. cause.failed; quiet = λ other. absurd (other refl) }
-
-pub no_err : {E T P : Type 0} {x : T} {e : E} → ◌≡◌ {A = Result T E} (Ok x) (Err e) → P
-no_err is = absurd (cc is)
 
 -- a cell that couldn't be read isn't a damaged one
 pub not_damaged : {T P : Type 0} (n : ℕ) → ◌≡◌ {A = Result T RecordFault} (Err DiskFault) (Err (Damaged n)) → P

@@ -25,10 +25,11 @@ use Rattle.key_tokens.specs.Layout.{IsToken, IsPatternFor}
 use Rattle.key_tokens.specs.Fields.{kind_of, pattern_of_token, sealed_of, token_of, vector_bytes_of}
 use Rattle.key_tokens.specs.TokenChecks.{token_checks}
 use Rattle.key_tokens.proofs.Layouts.{none_from_token, same_token, token_from_none, token_is, with_fields}
+use Rattle.std.proofs.lemmas.Option.{same_Some}
 
 -- ---- tests
 
-none_from_test : (o : Option ℕ) → is_none o ≡ true → o ≡ None
+pub none_from_test : (o : Option ℕ) → is_none o ≡ true → o ≡ None
 none_from_test None h = refl
 none_from_test (Some x) h = cc
 
@@ -39,9 +40,6 @@ test_from_none (Some x) h = cc
 if_then : {A : Type 0} (test : Bool) (o : Option A) (y : A) → (if test then o else None) ≡ Some y → (test ≡ true) × (o ≡ Some y)
 if_then true o y h = (refl, h)
 if_then false o y h = cc
-
-same_some : {A : Type 0} (x y : A) → Some x ≡ Some y → x ≡ y
-same_some x y h = cc
 
 abbrev clear_key : List ℕ → List ℕ → ClearKey
 clear_key key vector = record { key = key; vector = vector }
@@ -132,7 +130,7 @@ module _ (bytes : List ℕ) (are_bytes : AreBytes 64 bytes) where
           → (if t then Some (denoted_as (clear_of master.key bytes) age) else other) ≡ Some answer
           → ((m : MasterKey) × ((Some master ≡ Some m) × ((pattern_of_token bytes ≡ m.pattern) × (denoted_as (clear_of m.key bytes) age ≡ answer))))
           ⊎ (other ≡ Some answer)
-      by_test true same e = inl (master, (refl, (same refl, same_some (denoted_as (clear_of master.key bytes) age) answer e)))
+      by_test true same e = inl (master, (refl, (same refl, same_Some (denoted_as (clear_of master.key bytes) age) answer e)))
       by_test false same e = inr e
 
 module _ (masters : MasterKeys) (transport bytes : List ℕ) (are_bytes : AreBytes 64 bytes) (apart : HaveDistinctPatterns masters) where
@@ -188,7 +186,7 @@ module _ (masters : MasterKeys) (transport bytes : List ℕ) (are_bytes : AreByt
       let token : IsToken bytes (token_of bytes) × (kind_of bytes ≡ kind.External) = token_of_test bytes are_bytes asked.External parts.0 in
       let zero : IsZero (pattern_of_token bytes) = subst (λ k. IsPatternFor k (pattern_of_token bytes)) token.1 token.0.pattern in
       let long : length (pattern_of_token bytes) ≡ 8 = simp (length-take, length-drop) (omega (arith, are_bytes.size)) in
-      subst (DenotesUnder transport bytes) (same_some (clear_of (transport_bundle transport) bytes) clear parts.1)
+      subst (DenotesUnder transport bytes) (same_Some (clear_of (transport_bundle transport) bytes) clear parts.1)
       (key_of_token bytes are_bytes (transport_bundle transport) kind.External (replicate 8 0) token.0 token.1 (zeros_of 8 (pattern_of_token bytes) long zero))
 
   pub denotes_one : DenotesOne masters transport bytes

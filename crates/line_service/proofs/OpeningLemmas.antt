@@ -1,6 +1,6 @@
 -- A run from the disks as they were before they were opened.
 use Rattle.std.proofs.Common.{◌≡◌, ℕ, List, Option, IsSome, Result, Err, refl, sym, ◌∙◌, subst, inl, inr, arith}
-use Rattle.std.specs.Prelude.{◌⊎◌, ◌↔◌, ◌+◌, ◌≤◌, IsOk, length}
+use Rattle.std.specs.Prelude.{◌⊎◌, ◌↔◌, ◌+◌, ◌≤◌, IsOk, length, IfSome}
 use Rattle.device_cells.specs.Medium.{Medium, Told, From, Becomes, Keeps}
 use Rattle.device_cells.specs.WhereTold.{WhereTold}
 use Rattle.device_cells.specs.SpareBytes.{SameSpare}
@@ -211,3 +211,7 @@ unopened_no_stop stop kind on_module on_store = record {
   on_store = on_store;
   draws = no_opening_draw stop kind;
 }
+
+-- what a disk holds is told of it
+pub holds_told : (m : Medium) (P : List ℕ → Type 0) → Holds m P → Told m P
+holds_told m P holds = subst (λ (o : Option (List ℕ)). IfSome o P) (sym holds.told) holds.has

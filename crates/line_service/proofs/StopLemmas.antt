@@ -173,3 +173,7 @@ no_desk_read stop kind h = let same : stop ≡ ReadFault = cc h in subst IsDeskS
 
 pub no_desk_write : {T : Type 0} (stop : Stop) → IsDeskStop stop → ◌≡◌ {A = Result T Stop} (Err stop) (Err WriteFault) → ⊥
 no_desk_write stop kind h = let same : stop ≡ WriteFault = cc h in subst IsDeskStop same kind
+
+-- an input that is too long isn't one that failed
+pub over_not_unread : ◌≡◌ {A = Result Served Stop} (Err InputLimit) (Err ReadFault) → ⊥
+over_not_unread is = cc is

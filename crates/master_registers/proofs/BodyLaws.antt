@@ -1,5 +1,5 @@
 -- The table of the registers written and read back.
-use Rattle.std.proofs.Common.{◌≡◌, ◌≤◌, ◌<◌, ◌-◌, inr, ⊎_elim, ℕ, zero, suc, ◌+◌, Bool, true, false, List, [], ◌∷◌, ◌++◌, length, get_or, take, drop, replicate, Option, None, Some, refl, sym, ap, subst, ◌∙◌, arith}
+use Rattle.std.proofs.Common.{◌≡◌, ◌≤◌, ◌<◌, ◌-◌, inr, ⊎_elim, ℕ, zero, suc, ◌+◌, Bool, false, List, [], ◌∷◌, ◌++◌, length, get_or, take, drop, replicate, Option, None, Some, refl, sym, ap, subst, ◌∙◌, arith}
 use Rattle.std.specs.Prelude.{IsTrue, slice_range, slice_index}
 use Rattle.std.proofs.lemmas.List.{append_assoc, drop-drop, drop_at, get_or-drop, get_or-take, get_or_default, length-append, length-drop, length-take, take-append-drop, take_all, take_at}
 use Rattle.key_cells.specs.Bytes.{IsZero}
@@ -13,6 +13,7 @@ use Rattle.master_registers.specs.declared.registers.NewState.{NewState}
 use Rattle.master_registers.specs.declared.registers.Registers.{Registers}
 use Rattle.key_cells.specs.Bench.{Bench}
 use Rattle.master_registers.specs.declared.patterns.Pattern.{Pattern}
+use Rattle.key_cells.proofs.AnswerLemmas.{not_true}
 
 -- ---- a register's state and contents
 
@@ -262,9 +263,6 @@ told_taken body state current old is_state is_current is_old =
     ap (λ s. registers_made s current old) (is_state ∙ state_of-at (slice_index body 1) (slice_range body 8 32))
     ∙ ap (λ p. registers_made (state_of (masters_at body).coming) p old) (is_current ∙ pattern_in-at (slice_index body 2) (slice_range body 32 56))
     ∙ ap (λ p. registers_made (state_of (masters_at body).coming) (pattern_in (masters_at body).current) p) (is_old ∙ pattern_in-at (slice_index body 3) (slice_range body 56 80))
-
-not_true : (b : Bool) → b ≡ false → IsTrue b → ⊥
-not_true b is holds = let both : true ≡ false = sym holds ∙ is in cc
 
 -- a body that is neither blank nor in the form reads as nothing
 pub unread : (body copy again : List ℕ) (is_zero is_form : Bool) → copy ≡ body → again ≡ body → is_zero ≡ false → (IsZero copy → IsTrue is_zero)

@@ -1,6 +1,6 @@
 -- The registers that were prepared in a bench are those that are written.
 use Rattle.std.proofs.Common.{◌≡◌, ◌≤◌, ◌+◌, ◌*◌, inl, inr, ⊎_elim, ℕ, true, false, List, Result, Ok, Err, refl, sym, ap, subst, ◌∙◌, arith}
-use Rattle.std.specs.Prelude.{◌↔◌, IfOk, OnOk, is_err}
+use Rattle.std.specs.Prelude.{◌↔◌, IfOk, is_err}
 use Rattle.device_cells.specs.Cells.{cell_size, IsReplaced, IsReplacing}
 use Rattle.device_cells.specs.Faults.{HasCause}
 use Rattle.device_cells.specs.Medium.{Medium, Told, IsSettled, From, Becomes, EachImage}
@@ -116,10 +116,6 @@ cause_failed before now (Err e) cause failed = record { later = cause.later; fai
 pub cause_done : {T E : Type 0} (before now : ℕ) (r : Result T E) → HasCause before now r → is_err r ≡ false → (held : Registers) → HasDiskCause before now (Ok held)
 cause_done before now (Ok x) cause done held = record { later = cause.later; failed = λ is. absurd (cc is); quiet = λ _. cause.quiet }
 cause_done before now (Err e) cause done held = let wrong : true ≡ false = done in absurd (cc)
-
-pub unless_err : {T E P : Type 0} (r : Result T E) → is_err r ≡ false → OnOk r P → P
-unless_err (Ok x) done holds = holds
-unless_err (Err e) done holds = let wrong : true ≡ false = done in absurd (cc)
 
 -- cell 0 lies within the module
 pub first_fits : (size k : ℕ) → 1536 ≤ size → k ≡ 0 → cell_size * (k + 1) ≤ size

@@ -1,5 +1,5 @@
 -- Places of the workbench that stay.
-use Rattle.std.proofs.Common.{◌≡◌, ℕ, zero, suc, ◌+◌, ◌*◌, ◌%◌, ◌<◌, ◌≤◌, List, ◌++◌, length, take, drop, refl, sym, ap, ◌∙◌, arith}
+use Rattle.std.proofs.Common.{◌≡◌, ℕ, zero, suc, ◌%◌, ◌<◌, List, length, take, drop, refl, sym, ap, ◌∙◌, arith}
 use Rattle.std.proofs.lemmas.List.{drop-append-le, drop_at, length-drop, take-append-le, take-take}
 use Rattle.key_cells.specs.Bench.{Bench, key_of, with_key}
 use Rattle.key_cells.specs.Lease.{bench_of, holding}

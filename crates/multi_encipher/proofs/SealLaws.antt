@@ -92,7 +92,7 @@ bytes_back key bytes = record {
   each = All-take (λ b. b < 256) 8 (drop 8 key) (All-drop (λ b. b < 256) 8 key bytes.each);
 }
 
-bytes_joined : (left right : List ℕ) → AreBytes 8 left → AreBytes 8 right → AreBytes 16 (left ++ right)
+pub bytes_joined : (left right : List ℕ) → AreBytes 8 left → AreBytes 8 right → AreBytes 16 (left ++ right)
 bytes_joined left right lefts rights = record {
   size = simp length-append (omega arith);
   each = All-append (λ b. b < 256) left right lefts.each rights.each;
@@ -196,7 +196,7 @@ key_back vector bytes double =
     let all : length_of vector - 0 ≡ 8 + 8 = omega arith in
     ap (λ n. take 8 (drop 8 (take n bytes))) all ∙ ap (take 8) (drop-take 8 8 bytes) ∙ take-take 8 8 (drop 8 bytes) (omega arith)
 
-key_in-with_zeros : (vector key : List ℕ) → IsKey vector key → key_in vector (with_zeros vector key) ≡ key
+pub key_in-with_zeros : (vector key : List ℕ) → IsKey vector key → key_in vector (with_zeros vector key) ≡ key
 key_in-with_zeros vector key bytes = take_at key (replicate (16 - length_of vector) 0) (length_of vector - 0) (omega (arith, bytes.size))
 
 -- what was put in a place is sealed again to the halves that it came from

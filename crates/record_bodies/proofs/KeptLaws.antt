@@ -1,6 +1,6 @@
 -- The pattern of a token that is kept for a key is that of the register that it is under.
-use Rattle.std.proofs.Common.{◌≡◌, ◌≢◌, inl, inr, ⊎_elim, ℕ, Bool, true, false, List, Option, None, Some, Result, Ok, Err, refl, sym, ap, ◌∙◌}
-use Rattle.std.specs.Prelude.{slice_index, bytes_eq, option_map, is_none, is_err, OnOk, ◌==◌, if◌then◌else◌}
+use Rattle.std.proofs.Common.{◌≡◌, ◌≢◌, inl, inr, ⊎_elim, ℕ, Bool, true, false, List, Option, None, Some, refl, sym, ap, ◌∙◌}
+use Rattle.std.specs.Prelude.{slice_index, bytes_eq, option_map, is_none, ◌==◌, if◌then◌else◌}
 use Rattle.std.proofs.lemmas.Bool.{cases_eq, false_from_ne_true}
 use Rattle.std.proofs.lemmas.Bool.Decides.{Decides-eqb}
 use Rattle.std.proofs.lemmas.Slice.Eq.{bytes_eq-Decides}
@@ -19,11 +19,6 @@ use Rattle.key_cells.specs.Bytes.{AreBytes}
 use Rattle.record_bodies.specs.RecordBody.{kept, IsKept, IsFirst, IsAhead, HasToken, StandsAs, ReadsEntry, ReadsWhat, ReadsRow, ReadsPattern}
 use Rattle.record_bodies.specs.declared.rows.Second.{Second}
 use Rattle.cca_roles.proofs.DirectoryLaws.{none_some}
-
--- what is known where a call answers Ok
-pub unless_err : {T E P : Type 0} (r : Result T E) → is_err r ≡ false → OnOk r P → P
-unless_err (Ok x) is holds = holds
-unless_err (Err e) is holds = let wrong : true ≡ false = is in absurd (cc)
 
 pub kept_flag : (masters : MasterKeys) (token : List ℕ) → slice_index token 6 ≢ 0xc0 → kept masters token ≡ None
 unfolding kept

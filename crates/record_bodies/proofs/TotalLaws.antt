@@ -1,8 +1,7 @@
 -- A store of bytes stands for a state, or else it has a first damaged cell.
 use Rattle.std.proofs.Common.{◌≡◌, ◌≤◌, ◌<◌, ◌+◌, ◌⊎◌, inl, inr, ⊎_elim, ℕ, zero, suc, Bool, true, false, List, length, set, replicate, Option, None, Some, refl, sym, ap, subst, ◌∙◌, arith}
-use Rattle.std.specs.Prelude.{slice_index, bytes_eq, is_some, IsSome, IsTrue}
+use Rattle.std.specs.Prelude.{slice_index, is_some, IsSome, IsTrue}
 use Rattle.std.proofs.lemmas.Bool.{cases_eq}
-use Rattle.std.proofs.lemmas.Slice.Eq.{bytes_eq-Decides}
 use Rattle.device_cells.proofs.CellSteps.{selected_below}
 use Rattle.key_cells.specs.Bytes.{AreBytes, IsZero}
 use Rattle.cca_vectors.specs.Checks.{first_failing}
@@ -28,74 +27,58 @@ use Rattle.record_bodies.proofs.BodyLaws.{spelled, spelled_label, spelled_again,
 use Rattle.cca_roles.proofs.DirectoryLaws.{none_some, apart_set, apart_none, held_somewhere, held_nowhere}
 use Rattle.record_bodies.proofs.OpeningLaws.{label_remembered, opened_none, opened_more, opened_all, refused_damaged}
 use Rattle.record_bodies.proofs.RowLaws.{blank_rows, rows_set}
+use Rattle.std.proofs.lemmas.Option.{same_Some}
+use Rattle.cca_roles.proofs.DecidableLaws.{Decidable, both_decidable, by_bool, same_bytes}
 
 -- ---- what is decided
 
-abbrev Decided : Type 0 → Type 0
-Decided P = P ⊎ (P → ⊥)
-
-by_bool : (b : Bool) → Decided (b ≡ true)
-by_bool true = inl refl
-by_bool false = inr (λ is. let wrong : false ≡ true = is in cc)
-
-same_bytes : (a b : List ℕ) → Decided (a ≡ b)
-same_bytes a b = ⊎_elim (λ (is : bytes_eq a b ≡ true). inl ((bytes_eq-Decides a b).0 is)) (λ (isnt : bytes_eq a b ≡ true → ⊥). inr (λ same. isnt ((bytes_eq-Decides a b).1 same))) (by_bool (bytes_eq a b))
-
-both : (P Q : Type 0) → Decided P → Decided Q → Decided (P × Q)
-both P Q (inl p) (inl q) = inl (p, q)
-both P Q (inl p) (inr q) = inr (λ pair. q pair.1)
-both P Q (inr p) q = inr (λ pair. p pair.0)
-
-either : (P Q : Type 0) → Decided P → Decided Q → Decided (P ⊎ Q)
+either : (P Q : Type 0) → Decidable P → Decidable Q → Decidable (P ⊎ Q)
 either P Q (inl p) q = inl (inl p)
 either P Q (inr p) (inl q) = inl (inr q)
 either P Q (inr p) (inr q) = inr (λ any. ⊎_elim p q any)
 
-three : (P Q R : Type 0) → Decided P → Decided Q → Decided R → Decided (P × Q × R)
+three : (P Q R : Type 0) → Decidable P → Decidable Q → Decidable R → Decidable (P × Q × R)
 three P Q R (inl p) (inl q) (inl r) = inl (p, q, r)
 three P Q R (inl p) (inl q) (inr r) = inr (λ all. r all.2)
 three P Q R (inl p) (inr q) r = inr (λ all. q all.1)
 three P Q R (inr p) q r = inr (λ all. p all.0)
 
-follows : (P Q : Type 0) → Decided P → Decided Q → Decided (P → Q)
+follows : (P Q : Type 0) → Decidable P → Decidable Q → Decidable (P → Q)
 follows P Q (inl p) (inl q) = inl (λ _. q)
 follows P Q (inl p) (inr q) = inr (λ f. q (f p))
 follows P Q (inr p) q = inl (λ is. absurd (p is))
 
-decided_none : (o : Option ℕ) → Decided (o ≡ None)
+decided_none : (o : Option ℕ) → Decidable (o ≡ None)
 decided_none None = inl refl
 decided_none (Some x) = inr (λ is. let wrong : Some x ≡ None = is in cc)
 
-decided_age : (age : Age) → Decided (age ≡ Current)
+decided_age : (age : Age) → Decidable (age ≡ Current)
 decided_age Current = inl refl
 decided_age Old = inr (λ is. let wrong : Old ≡ Current = is in cc)
 
-decided_second : (a b : Second) → Decided (a ≡ b)
+decided_second : (a b : Second) → Decidable (a ≡ b)
 decided_second a b = by_parts (three (a.pattern.bytes ≡ b.pattern.bytes) (a.sealed.left ≡ b.sealed.left) (a.sealed.right ≡ b.sealed.right)
     (same_bytes a.pattern.bytes b.pattern.bytes) (same_bytes a.sealed.left b.sealed.left) (same_bytes a.sealed.right b.sealed.right))
   where
-    by_parts : Decided ((a.pattern.bytes ≡ b.pattern.bytes) × (a.sealed.left ≡ b.sealed.left) × (a.sealed.right ≡ b.sealed.right)) → Decided (a ≡ b)
+    by_parts : Decidable ((a.pattern.bytes ≡ b.pattern.bytes) × (a.sealed.left ≡ b.sealed.left) × (a.sealed.right ≡ b.sealed.right)) → Decidable (a ≡ b)
     by_parts (inl is) = inl (same_second a b is.0 is.1 is.2)
     by_parts (inr isnt) = inr (λ is. isnt (ap (λ (s : Second). s.pattern.bytes) is, ap (λ (s : Second). s.sealed.left) is, ap (λ (s : Second). s.sealed.right) is))
 
 -- ---- two tokens
 
-some_one : {A : Type 0} (x y : A) → Some x ≡ Some y → x ≡ y
-some_one x y is = cc is
-
-decided_pair : (masters : MasterKeys) (token : List ℕ) (second : Second) → Decided (IsPair masters token second)
+decided_pair : (masters : MasterKeys) (token : List ℕ) (second : Second) → Decidable (IsPair masters token second)
 decided_pair masters token second = by_key (kept masters token) refl masters.coming refl
   where
-    by_key : (o : Option Denoted) → kept masters token ≡ o → (c : Option MasterKey) → masters.coming ≡ c → Decided (IsPair masters token second)
+    by_key : (o : Option Denoted) → kept masters token ≡ o → (c : Option MasterKey) → masters.coming ≡ c → Decidable (IsPair masters token second)
     by_key None is c is_coming = inr (λ p. none_some p.key (sym is ∙ p.is_kept))
     by_key (Some key) is None is_coming = inr (λ p. none_some p.coming (sym is_coming ∙ p.is_coming))
-    by_key (Some key) is (Some coming) is_coming = by_parts (both (key.age ≡ Current) (second ≡ second_of coming key.clear) (decided_age key.age) (decided_second second (second_of coming key.clear)))
+    by_key (Some key) is (Some coming) is_coming = by_parts (both_decidable (key.age ≡ Current) (second ≡ second_of coming key.clear) (decided_age key.age) (decided_second second (second_of coming key.clear)))
       where
-        by_parts : Decided ((key.age ≡ Current) × (second ≡ second_of coming key.clear)) → Decided (IsPair masters token second)
+        by_parts : Decidable ((key.age ≡ Current) × (second ≡ second_of coming key.clear)) → Decidable (IsPair masters token second)
         by_parts (inl parts) = inl (record { key = key; is_kept = is; current = parts.0; coming = coming; is_coming = is_coming; sealed = parts.1 })
         by_parts (inr parts) = inr (λ p.
-            let same : p.key ≡ key = some_one p.key key (sym p.is_kept ∙ is) in
-            let master : p.coming ≡ coming = some_one p.coming coming (sym p.is_coming ∙ is_coming) in
+            let same : p.key ≡ key = same_Some p.key key (sym p.is_kept ∙ is) in
+            let master : p.coming ≡ coming = same_Some p.coming coming (sym p.is_coming ∙ is_coming) in
             parts (
               ap (λ (k : Denoted). k.age) (sym same) ∙ p.current,
               p.sealed ∙ ap (λ (m : MasterKey). second_of m p.key.clear) master ∙ ap (λ (k : Denoted). second_of coming k.clear) same,
@@ -114,14 +97,14 @@ Sound token = (first_failing (token_checks Internal token) ≡ None) × (slice_i
 abbrev Single : List ℕ → Second → Type 0
 Single token second = length_of (vector_bytes_of token) ≡ 8 → IsZero second.sealed.right
 
-decided_both : (masters : MasterKeys) (token : List ℕ) (second : Second) → HasBytes token second → Decided (IsBoth masters token second)
+decided_both : (masters : MasterKeys) (token : List ℕ) (second : Second) → HasBytes token second → Decidable (IsBoth masters token second)
 decided_both masters token second are = by_parts
     (three (Sound token) (Single token second) (IsTrue (is_turned masters token second) ⊎ IsPair masters token second)
-    (both (first_failing (token_checks Internal token) ≡ None) (slice_index token 6 ≡ 0xc0) (decided_none (first_failing (token_checks Internal token))) (cases_eq (slice_index token 6) 0xc0))
+    (both_decidable (first_failing (token_checks Internal token) ≡ None) (slice_index token 6 ≡ 0xc0) (decided_none (first_failing (token_checks Internal token))) (cases_eq (slice_index token 6) 0xc0))
     (follows (length_of (vector_bytes_of token) ≡ 8) (IsZero second.sealed.right) (cases_eq (length_of (vector_bytes_of token)) 8) (same_bytes second.sealed.right (replicate (length second.sealed.right) 0)))
     (either (IsTrue (is_turned masters token second)) (IsPair masters token second) (by_bool (is_turned masters token second)) (decided_pair masters token second)))
   where
-    by_parts : Decided (Sound token × Single token second × (IsTrue (is_turned masters token second) ⊎ IsPair masters token second)) → Decided (IsBoth masters token second)
+    by_parts : Decidable (Sound token × Single token second × (IsTrue (is_turned masters token second) ⊎ IsPair masters token second)) → Decidable (IsBoth masters token second)
     by_parts (inl is) = inl (record {
       is_first = record { bytes = are.token_are; sound = is.0.0; flag = is.0.1 };
       is_second = record { pattern = are.pattern_are; left = are.left_are; right = are.right_are; single = is.1 };
@@ -129,13 +112,13 @@ decided_both masters token second are = by_parts
     })
     by_parts (inr isnt) = inr (λ b. isnt ((b.is_first.sound, b.is_first.flag), b.is_second.single, b.either))
 
-decided_what : (masters : MasterKeys) (kind : ℕ) (token : List ℕ) (second : Second) → HasBytes token second → Decided (IsWhat masters kind token second)
+decided_what : (masters : MasterKeys) (kind : ℕ) (token : List ℕ) (second : Second) → HasBytes token second → Decidable (IsWhat masters kind token second)
 decided_what masters kind token second are =
     either ((kind ≡ null_kind) × (token ≡ no_token) × (second ≡ no_second)) (((kind ≡ key_kind) × (second ≡ no_second) × IsSome (kept masters token)) ⊎ ((kind ≡ both_kind) × IsBoth masters token second))
     (three (kind ≡ null_kind) (token ≡ no_token) (second ≡ no_second) (cases_eq kind null_kind) (same_bytes token no_token) (decided_second second no_second))
     (either ((kind ≡ key_kind) × (second ≡ no_second) × IsSome (kept masters token)) ((kind ≡ both_kind) × IsBoth masters token second)
     (three (kind ≡ key_kind) (second ≡ no_second) (IsSome (kept masters token)) (cases_eq kind key_kind) (decided_second second no_second) (by_bool (is_some (kept masters token))))
-    (both (kind ≡ both_kind) (IsBoth masters token second) (cases_eq kind both_kind) (decided_both masters token second are)))
+    (both_decidable (kind ≡ both_kind) (IsBoth masters token second) (cases_eq kind both_kind) (decided_both masters token second are)))
 
 abbrev ReadsNothing : MasterKeys → List ℕ → Type 0
 ReadsNothing masters bytes = (e : Option Entry) → ReadsEntry masters bytes e → ⊥

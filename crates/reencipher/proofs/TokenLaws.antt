@@ -30,8 +30,8 @@ use Rattle.verb_rules.specs.declared.judging.Judged.{Judged}
 use Rattle.key_cells.specs.Lease.{bench_of}
 use Rattle.key_cells.specs.declared.leases.Lease.{Lease}
 use Rattle.key_cells.specs.declared.places.KeyPlace.TheVariants.{Key}
-use Rattle.key_records.proofs.PairLaws.{key_again}
 use Rattle.verb_rules.proofs.DenotedLemmas.{denoted_opened, judged_as, judged_with}
+use Rattle.multi_encipher.proofs.SealLaws.{key_in-with_zeros}
 
 abbrev from_old : Bool → Option Age
 from_old b = if b then Some Old else None
@@ -95,7 +95,7 @@ pub sealed_again : (old new : Lease) (vector key : List ℕ) (sealed : Sealed) �
 sealed_again old new vector key sealed stays placed is_key is =
     is
     ∙ ap (λ (l : Lease). seal (bench_of l).coming vector (key_in vector (bench_of new).key)) stays
-    ∙ ap (seal (bench_of old).coming vector) (ap (key_in vector) placed ∙ key_again vector key is_key)
+    ∙ ap (seal (bench_of old).coming vector) (ap (key_in vector) placed ∙ key_in-with_zeros vector key is_key)
 
 -- ---- a full new register
 

@@ -1,6 +1,6 @@
 -- One cell's turn.
 use Rattle.std.proofs.Common.{◌≡◌, ◌<◌, inl, inr, ⊎_elim, ℕ, zero, suc, List, [], ◌∷◌, length, Option, None, Some, Ok, Err, Bool, true, false, set, get_or, refl, sym, ap, subst, ◌∙◌, arith}
-use Rattle.std.specs.Prelude.{is_some, not, ◌&&◌, slice_index, ◌==◌, if◌then◌else◌, IsSome}
+use Rattle.std.specs.Prelude.{is_some, not, ◌&&◌, IsSome}
 use Rattle.std.proofs.lemmas.List.{get_or-set_same, set-get_or, map-set}
 use Rattle.cca_roles.proofs.DirectoryLaws.{none_some}
 use Rattle.key_cells.specs.Bench.{Bench}
@@ -36,6 +36,7 @@ use Rattle.record_bodies.specs.declared.actions.StoreAction.TheVariants.{Renew, 
 use Rattle.reencipher.specs.declared.writing.Tokens.{Tokens}
 use Rattle.reencipher.specs.declared.writing.Tokens.TheVariants.{One, Two}
 use Rattle.record_bodies.proofs.FurtherLaws.{and_false, changed_is, changed_same}
+use Rattle.key_records.proofs.AgeLaws.{kept_denoted}
 
 -- ---- the label and its token
 
@@ -43,14 +44,6 @@ use Rattle.record_bodies.proofs.FurtherLaws.{and_false, changed_is, changed_same
 abbrev pub what_of : Option Entry → Option Denoted
 what_of None = None
 what_of (Some e) = e.what
-
-kept_denoted : (masters : MasterKeys) (token : List ℕ) (key : Denoted) → kept masters token ≡ Some key → denoted masters token ≡ Some key
-unfolding kept
-kept_denoted masters token key is = by_test (slice_index token 6 == 0xc0) is
-  where
-    by_test : (t : Bool) → (if t then denoted masters token else None) ≡ Some key → denoted masters token ≡ Some key
-    by_test true is = is
-    by_test false is = cc is
 
 -- the token that is read is that of the label's key
 pub reads_what : (masters : MasterKeys) (o : Option Entry) (token : List ℕ) → ReadsToken masters o true token → what_of o ≡ denoted masters token

@@ -1,5 +1,5 @@
 -- What a run does to a store and to the memory, and when each answer comes.
-use Rattle.std.specs.Prelude.{◌≡◌, ◌≤◌, ◌<◌, ◌+◌, ◌⊎◌, ◌&&◌, ℕ, zero, suc, Bool, true, false, not, cond, List, Option, None, Some, is_some, get_or, slice_index, length}
+use Rattle.std.specs.Prelude.{◌≡◌, ◌≤◌, ◌<◌, ◌+◌, ◌⊎◌, ◌&&◌, ℕ, zero, suc, Bool, true, false, not, cond, List, Option, None, Some, is_some, get_or}
 use Rattle.std.specs.Prelude.{Result, Err, OnOk, OnErr, IfOk, IfErr, IsSome}
 use Rattle.key_cells.specs.declared.leases.Lease.{Lease}
 use Rattle.device_cells.specs.Cells.{body, other_body}

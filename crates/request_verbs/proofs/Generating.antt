@@ -16,6 +16,7 @@ use Rattle.cca_machine.specs.Choices.{key_length_named, out_form_named, pair_for
 use Rattle.cca_machine.specs.Verdict.{Refusal, first_refusal, generate_questions, or_refused, pair_questions, refusal}
 use Rattle.cca_machine.specs.Refusals.{HasRefused}
 use Rattle.cca_machine.specs.declared.refusals.Refusal.{Refusal as CodeRefusal}
+use Rattle.cca_machine.proofs.CutReplies.{none_of}
 
 -- the name of a type names it
 pub type_is : (type : KeyType) → type_in (type_name type) ≡ type
@@ -34,10 +35,6 @@ type_is kind.Okeyxlat = refl
 type_is kind.Ikeyxlat = refl
 
 -- ---- the rules
-
-none_of : (x : Option ℕ) (operand : List ℕ) (others : Option Refusal) → or_refused x operand others ≡ None → (x ≡ None) × (others ≡ None)
-none_of None operand others is = (refl, is)
-none_of (Some rule) operand others is = cc is
 
 pub one_length : (type : KeyType) (key_length : Length) → first_refusal (generate_questions type key_length) ≡ None → HasKeyLength type key_length
 one_length type key_length is = (none_of (first_failing (length_checks type key_length)) (codes "length") None is).0

@@ -1,8 +1,7 @@
 -- The reply to CSNBKTP.
-use Rattle.std.proofs.Common.{◌≡◌, ℕ, ◌≤◌, ◌++◌, ◌-◌, List, [], length, take, drop, sym, ap, ◌∙◌, arith}
+use Rattle.std.proofs.Common.{◌≡◌, ℕ, ◌≤◌, ◌++◌, ◌-◌, List, [], length, ap, ◌∙◌, arith}
 use Rattle.std.specs.Prelude.{decimal}
-use Rattle.cca_vectors.specs.Vectors.{left_of, right_of}
-use Rattle.std.proofs.lemmas.List.{append_assoc, append-nil, take-append-drop, take_rest}
+use Rattle.std.proofs.lemmas.List.{append_assoc, append-nil}
 use Rattle.std.proofs.lemmas.Fmt.{length-decimal-le_succ}
 
 in_order : (ok a b d e f : List ℕ) → ((((([] ++ ok) ++ a) ++ b) ++ d) ++ e) ++ f ≡ ok ++ (a ++ (b ++ (d ++ (e ++ (f ++ [])))))
@@ -10,12 +9,6 @@ in_order ok a b d e f = simp (append-nil, append_assoc)
 
 pub decimal_size : (n : ℕ) → n ≤ 16 → length (decimal n) ≤ 17
 decimal_size n small = omega (arith, length-decimal-le_succ n (omega arith))
-
--- a control vector is its two halves
-pub halves : (vector : List ℕ) → length vector ≡ 16 → left_of vector ++ right_of vector ≡ vector
-halves vector size =
-    let right : right_of vector ≡ drop 8 vector = ap (λ n. take (n - 8) (drop 8 vector)) (sym size) ∙ take_rest vector 8 in
-    ap (λ xs. left_of vector ++ xs) right ∙ take-append-drop 8 vector
 
 -- a reply that is written by five fields, one after the other
 pub five_fields : (ok a b d e f empty start one two three four five : List ℕ) → empty ≡ [] → start ≡ empty ++ ok

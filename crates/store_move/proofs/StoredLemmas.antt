@@ -114,9 +114,6 @@ exported_under old new judged transport token rest is =
 abbrev pub failed : (T : Type 0) → RecordFault → Result T RecordFault
 failed T e = Err e
 
-pub no_err : {E T P : Type 0} {x : T} {e : E} → ◌≡◌ {A = Result T E} (Ok x) (Err e) → P
-no_err is = absurd (cc is)
-
 -- the same fault, of another call
 pub failed_as : (A B : Type 0) (e f : RecordFault) → failed A e ≡ failed A f → failed B e ≡ failed B f
 failed_as A B e f is = cc is

@@ -2,8 +2,8 @@
 use Rattle.std.proofs.Common.{◌≡◌, ◌∙◌, ℕ, List, Result, Ok, Err, refl, sym, ap, subst, arith, inl, inr}
 use Rattle.std.specs.Prelude.{◌⊎◌, ◌≤◌, ◌<◌, IsOk, IsSome}
 use Rattle.device_cells.specs.Faults.{Rose}
-use Rattle.device_cells.specs.Medium.{EachImage, IsSettled, Keeps, Medium, Told}
-use Rattle.device_cells.proofs.Media.{image_now, told_map}
+use Rattle.device_cells.specs.Medium.{IsSettled, Keeps, Medium, Told}
+use Rattle.device_cells.proofs.Media.{told_map}
 use Rattle.cca_roles.specs.RolesStand.{IsRoleCell}
 use Rattle.cca_roles.specs.declared.faults.RoleFault.{RoleFault}
 use Rattle.cca_roles.specs.declared.faults.RoleFault.TheVariants as role_fault
@@ -23,10 +23,6 @@ use Rattle.store_unload.specs.Stops.{load_stop, role_stop}
 use Rattle.store_unload.proofs.OpeningLemmas.{told_earlier_as}
 
 -- ---- what is left of a disk
-
--- each image has become the content
-pub settled_keeps : (m0 m1 : Medium) → m1.content ≡ m0.content → EachImage m0 m1 m0.images → Keeps m0 m1
-settled_keeps m0 m1 same moments = record { content = same; images = image_now m0 m1 m0.images moments; moments = moments }
 
 abbrev pub Left : (T : Type 0) → Medium → Medium → ℕ → ℕ → Result T Stop → Stop → Type 0
 Left T m0 m1 before now r other = DiskLeft m0 m1 before now (IsOk r) (r ≡ Err other)

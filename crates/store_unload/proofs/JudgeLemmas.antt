@@ -1,6 +1,6 @@
 -- The transport key of a move is the key of its label.
 use Rattle.std.proofs.Common.{◌≡◌, ◌∙◌, ℕ, ◌<◌, Bool, false, List, [], ◌∷◌, ◌++◌, get_or, Option, None, Some, Result, Ok, Err, refl, sym, ap, subst, inl, inr}
-use Rattle.std.specs.Prelude.{◌⊎◌, is_none, not, option_map, IfErr, IfOk, IsSome}
+use Rattle.std.specs.Prelude.{◌⊎◌, is_none, not, option_map, IfErr, IfOk}
 use Rattle.cca_roles.specs.declared.roles.Role.{Role}
 use Rattle.cca_vectors.specs.Checks.{Check, check, first_failing}
 use Rattle.cca_vectors.proofs.Judging.{passed_over, stopped_in}
@@ -202,10 +202,6 @@ module _ (m : Masters) (roles : List (Option Role)) (w : Move) (rows : List (Opt
       label_as_read (Err fault) own = tt
 
 -- ---- what is left of the store and of the lease
-
--- a place holds a label
-pub holds_one : (o : Option (List ℕ)) (label : List ℕ) → o ≡ Some label → IsSome o
-holds_one o label is = subst IsSome (sym is) refl
 
 -- where a rule is told, no cell is
 pub undamaged : {T : Type 0} (told : T) (m : Medium) (cell : ℕ) → ◌≡◌ {A = Result T RecordFault} (Ok told) (Err (Damaged cell)) → Told m (λ _. ⊥)

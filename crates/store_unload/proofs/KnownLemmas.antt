@@ -23,7 +23,7 @@ use Rattle.store_unload.specs.Opening.{AreKnown, remembers}
 
 -- ---- one state
 
-same_state : (s t : State) → s.registers ≡ t.registers → s.roles ≡ t.roles → s.labels ≡ t.labels → s ≡ t
+pub same_state : (s t : State) → s.registers ≡ t.registers → s.roles ≡ t.roles → s.labels ≡ t.labels → s ≡ t
 same_state s t registers roles labels =
     ap (λ (m : Masters). let x : State = record { registers = m; roles = s.roles; labels = s.labels } in x) registers
     ∙ (ap (λ (r : List (Option Role)). let x : State = record { registers = t.registers; roles = r; labels = s.labels } in x) roles

@@ -1,6 +1,6 @@
 -- How the status of a move tells of disks, and of what was told.
 use Rattle.std.proofs.Common.{◌≡◌, ◌∙◌, ℕ, List, Option, Result, Ok, Err, refl, sym, ap, subst, inl, inr}
-use Rattle.std.specs.Prelude.{◌<◌, IfSome, IsOk}
+use Rattle.std.specs.Prelude.{◌<◌, IsOk}
 use Rattle.device_cells.specs.Medium.{Medium, Told}
 use Rattle.device_cells.proofs.Media.{told_at, told_from}
 use Rattle.key_records.specs.declared.faults.RecordFault.{RecordFault}
@@ -171,10 +171,6 @@ never_broken m d P sound never =
       in_module = record { image = c; told = is; has = here.1 };
       in_store = record { image = e; told = is_e; has = here.2 };
     }))))
-
--- a store that tells its content
-pub told_opened : (m : Medium) (P : List ℕ → Type 0) → Holds m P → Told m P
-told_opened m P holds = subst (λ (o : Option (List ℕ)). IfSome o P) (sym holds.told) holds.has
 
 pub never_opened : (m : Medium) (P : List ℕ → Type 0) → Holds m P → Told m (λ _. ⊥) → ⊥
 never_opened m P holds never = told_at m.content (λ _. ⊥) holds.image holds.told never

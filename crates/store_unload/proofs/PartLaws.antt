@@ -7,8 +7,7 @@ use Rattle.std.proofs.lemmas.List.FromFn.{get_or-map-range_with_len, length-map-
 use Rattle.device_cells.specs.Medium.{Medium, Told}
 use Rattle.device_cells.specs.WhereTold.{WhereTold}
 use Rattle.device_cells.proofs.Media.{told_at, told_from}
-use Rattle.device_cells.proofs.WhereToldLemmas.{told_same, told_then, told_weaker}
-use Rattle.line_service.specs.Sending.{Grows}
+use Rattle.device_cells.proofs.WhereToldLemmas.{told_then, told_weaker}
 use Rattle.record_bodies.specs.Directory.{held_count}
 use Rattle.record_bodies.specs.Entries.{directory, row_directory}
 use Rattle.record_bodies.specs.Rank.{IsNth}
@@ -146,11 +145,3 @@ module _ (s : State) (w : Move) (m : Medium) (f0 r0 : Option (List ℕ)) where
           })
 
 -- ---- bytes are only added
-
-pub grew_none : (a : Option (List ℕ)) → WhereTold a a Grows
-grew_none a = told_same a Grows (λ x. ([], sym (append-nil x)))
-
-pub grew : (a b c : Option (List ℕ)) → WhereTold a b Grows → WhereTold b c Grows → WhereTold a c Grows
-grew a b c first second =
-    told_then a b c Grows Grows Grows
-    (λ x y z one two. (one.0 ++ two.0, two.1 ∙ ap (λ bytes. bytes ++ two.0) one.1 ∙ append_assoc x one.0 two.0)) first second

@@ -13,9 +13,7 @@ use Rattle.key_tokens.specs.Denotes.{ClearKey, Denoted}
 use Rattle.key_tokens.specs.declared.key_token.Age.{Age}
 use Rattle.line_service.specs.declared.stops.Stop.{Stop}
 use Rattle.line_service.specs.declared.stops.Stop.TheVariants as stop
-use Rattle.master_registers.specs.Loaded.{Loaded}
 use Rattle.master_registers.specs.Masters.{Masters}
-use Rattle.master_registers.specs.declared.registers.Registers.{Registers}
 use Rattle.verb_rules.specs.Keys.{keys_of, opened}
 use Rattle.verb_rules.specs.Rules.{rule_number}
 use Rattle.verb_rules.specs.declared.judging.Judged.{Judged}
@@ -29,20 +27,6 @@ use Rattle.store_unload.specs.declared.status.Status.{Status}
 use Rattle.store_unload.specs.declared.status.Status.TheVariants as status
 use Rattle.store_unload.specs.declared.unloading.MoveStatus.{MoveStatus}
 use Rattle.store_unload.specs.declared.unloading.MoveStatus.TheVariants.{Run, Refused}
-
--- where only the body of the bench has changed, the registers are still loaded
-pub still_loaded : (m : Masters) (held : Registers) (old new : Lease) → KeepsAllButBody old new → Loaded m held (bench_of old) → Loaded m held (bench_of new)
-still_loaded m held old new rest loaded =
-    let is : bench_of new ≡ record (bench_of old) { body = (bench_of new).body } = ap bench_of rest in
-    record {
-      valid = loaded.valid;
-      placed = record {
-        coming = ap (λ (b : Bench). b.coming) is ∙ loaded.placed.coming;
-        current = ap (λ (b : Bench). b.current) is ∙ loaded.placed.current;
-        former = ap (λ (b : Bench). b.former) is ∙ loaded.placed.former;
-      };
-      told = loaded.told;
-    }
 
 -- the key of a judged operand, by the register that it is under
 key_opened : (bench : Bench) (judged : Judged) (age : Option Age) (key : Denoted)

@@ -1,14 +1,15 @@
 -- Whole blocks at the front of a text: what chains over them make, one after another.
 use Rattle.std.proofs.Common.{◌≡◌, ◌∙◌, ℕ, zero, suc, ◌+◌, ◌-◌, ◌*◌, ◌/◌, ◌%◌, ◌<◌, ◌≤◌, List, [], ◌∷◌, ◌++◌, length, take, drop, replicate, refl, sym, ap, take_at, drop_at, arith}
-use Rattle.std.proofs.lemmas.List.{append_assoc, append-nil, drop-append-le, length-append, length-drop, length-replicate, length-take, nil_from_length, take-append-le, take_all, take-append-drop, take-take, drop-take}
+use Rattle.std.proofs.lemmas.List.{append_assoc, append-nil, length-append, length-drop, length-replicate, length-take, take_all, take-append-drop, take-take, drop-take}
 use Rattle.std.proofs.lemmas.Grind.{flat_map-append}
 use Rattle.des_blocks.specs.Bits.{pieces, xor}
 use Rattle.des_blocks.specs.Modes.{added, blocks, cbc, fill, joined, last_block, pad, uncbc, zero_block}
 use Rattle.des_blocks.specs.Texts.{cbc_text, uncbc_text}
-use Rattle.des_blocks.proofs.BitLemmas.{drop-add, length-xor}
-use Rattle.des_core.proofs.ChainLemmas.{joined-pieces}
+use Rattle.des_blocks.proofs.BitLemmas.{drop-add}
+use Rattle.des_core.proofs.ChainLemmas.{joined-pieces, pieces-append}
 use Rattle.des_blocks.proofs.XorLemmas.{xor-zeros-right}
 use Rattle.text_segments.specs.Segments.{rest_part, whole_part}
+use Rattle.key_cells.proofs.ByteLemmas.{length-xor}
 
 -- ---- the whole blocks and the rest
 
@@ -31,20 +32,6 @@ pub whole-rest : (xs : List ℕ) → whole_part xs ++ rest_part xs ≡ xs
 whole-rest xs = take-append-drop (length xs / 8 * 8) xs
 
 -- ---- blocks
-
-pieces-append : (i k : ℕ) (xs ys : List ℕ) → length xs ≡ 8 * i → pieces (i + k) 8 (xs ++ ys) ≡ pieces i 8 xs ++ pieces k 8 ys
-unfolding pieces
-pieces-append zero k xs ys e =
-    let none : xs ≡ [] = nil_from_length xs (omega arith) in
-    let same : 0 + k ≡ k = omega arith in
-    ap (λ n. pieces n 8 (xs ++ ys)) same ∙ ap (λ zs. pieces k 8 (zs ++ ys)) none
-pieces-append (suc i) k xs ys e =
-    let more : suc i + k ≡ suc (i + k) = omega arith in
-    let rest : length (drop 8 xs) ≡ 8 * i = omega (arith, length-drop 8 xs) in
-    ap (λ n. pieces n 8 (xs ++ ys)) more
-    ∙ ap {B = List (List ℕ)} (λ zs. zs ∷ pieces (i + k) 8 (drop 8 (xs ++ ys))) (take-append-le 8 xs ys (omega arith))
-    ∙ ap {B = List (List ℕ)} (λ zs. take 8 xs ∷ pieces (i + k) 8 zs) (drop-append-le 8 xs ys (omega arith))
-    ∙ ap {B = List (List ℕ)} (λ zs. take 8 xs ∷ zs) (pieces-append i k (drop 8 xs) ys rest)
 
 pub blocks-append : (xs ys : List ℕ) → length xs % 8 ≡ 0 → blocks (xs ++ ys) ≡ blocks xs ++ blocks ys
 blocks-append xs ys e =

@@ -7,7 +7,6 @@ use borrow.Rule.Slice.PartMut.{post_of}
 use Rattle.std.specs.List.{copy_within}
 use Rattle.des_blocks.specs.Bits.{xor}
 use Rattle.des_blocks.specs.Modes.{fill}
-use Rattle.des_blocks.proofs.BitLemmas.{length-xor}
 use Rattle.cca_vectors.specs.Checks.{first_failing}
 use Rattle.cca_vectors.proofs.Judging.{passes, passes_first}
 use Rattle.key_cells.specs.Bench.{Text, text_of}
@@ -22,6 +21,7 @@ use Rattle.text_segments.specs.declared.modes.Mode.TheVariants as mode
 use Rattle.verb_rules.specs.LengthChecks.{are_blocks, has_length, is_segment, is_whole, text_checks}
 use Rattle.verb_rules.specs.declared.lengths.TextUse.{TextUse}
 use Rattle.verb_rules.specs.declared.lengths.TextUse.TheVariants.{Decipher, LastDecipher, LastMac, LastPadded}
+use Rattle.key_cells.proofs.ByteLemmas.{length-xor}
 
 first_holds : (p q : Bool) → (p && q) ≡ true → p ≡ true
 first_holds true q is = refl

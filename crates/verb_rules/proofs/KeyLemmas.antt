@@ -2,8 +2,8 @@
 use Rattle.std.proofs.Common.{◌≡◌, ℕ, ◌-◌, ◌<◌, ◌≤◌, Bool, true, false, List, [], ◌++◌, length, take, drop, eqb, replicate, sym, ap, ◌∙◌, subst, ⊎_elim, arith}
 use Rattle.std.specs.Prelude.{slice_range, if◌then◌else◌}
 use Rattle.std.proofs.lemmas.Bool.{eq-eqb, ne_eqb}
-use Rattle.std.proofs.lemmas.List.{append-nil, take_all, take-append-le, length-append, length-drop, length-take-le}
-use Rattle.std.proofs.lemmas.List.Elements.{All-append, All-take}
+use Rattle.std.proofs.lemmas.List.{append-nil, take_all, take-append-le, length-drop, length-take-le}
+use Rattle.std.proofs.lemmas.List.Elements.{All-take}
 use Rattle.key_cells.specs.Bytes.{AreBytes}
 use Rattle.cca_vectors.specs.Vectors.{left_of, right_of, length_of}
 use Rattle.des_blocks.specs.Schedules.{AreOf}
@@ -11,14 +11,8 @@ use Rattle.key_cells.specs.declared.schedules.Schedule.{Schedule}
 use Rattle.multi_encipher.specs.declared.halves.Sealed.{Sealed}
 use Rattle.multi_encipher.specs.Bundles.{key_in, with_zeros}
 use Rattle.multi_encipher.specs.Seals.{IsKey, opened_half, unseal}
-use Rattle.multi_encipher.proofs.SealLaws.{bytes-opened_half, length_of-cases, unseal-single, unseal-double}
+use Rattle.multi_encipher.proofs.SealLaws.{bytes-opened_half, length_of-cases, unseal-single, unseal-double, bytes_joined}
 use Rattle.verb_rules.specs.Scheduled.{HoldKey, right_key}
-
-bytes_joined : (left right : List ℕ) → AreBytes 8 left → AreBytes 8 right → AreBytes 16 (left ++ right)
-bytes_joined left right lefts rights = record {
-  size = simp length-append (omega (arith, lefts.size, rights.size));
-  each = All-append (λ b. b < 256) left right lefts.each rights.each;
-}
 
 -- whatever the halves, the key has the length that its vector says
 pub key_of_halves : (bundle vector : List ℕ) (sealed : Sealed) → IsKey vector (unseal bundle vector sealed)

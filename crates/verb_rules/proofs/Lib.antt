@@ -3,6 +3,7 @@ pub mod JudgeLemmas
 pub mod StoredLemmas
 pub mod NeedLemmas
 pub mod KeyLemmas
+pub mod LengthLemmas
 pub mod ModeLemmas
 pub mod ParityLemmas
 pub mod TokenLemmas

@@ -1,13 +1,13 @@
 use Rattle.std.proofs.Common.{ℕ, ◌^◌, ◌<◌, Option, None, Some, IfSome, Err, inl, inr, refl, sym, ap, subst, ◌∙◌, arith}
 use Rattle.std.proofs.lemmas.Bool.{false≢true}
-use Rattle.device_cells.proofs.Media.{keeps_then, told_after, told_earlier, told_joined, told_map}
+use Rattle.device_cells.proofs.Media.{keeps_then, told_after, told_earlier, told_joined, told_map, settled_keeps}
 use Rattle.device_cells.specs.Medium.{Told}
 use Rattle.device_cells.proofs.WhereToldLemmas.{rose_wider}
 use Rattle.audit_trail.specs.Opening.{Scanned, Checked}
 use Rattle.audit_trail.specs.TrailStands.{StandsForTrail, IsFirstStray, IsFirstStale, IsFirstDamaged}
 use Rattle.audit_trail.specs.declared.faults.TrailFault.TheVariants.{DiskFault, Damaged}
 use Rattle.audit_trail.proofs.MediumLaws.{same_fault, exact_by}
-use Rattle.audit_trail.proofs.OpenedLaws.{opened_kept, opened_left, failed_then, settling_keeps, unsettled_rose, unsettled_left}
+use Rattle.audit_trail.proofs.OpenedLaws.{opened_kept, opened_left, failed_then, unsettled_rose, unsettled_left}
 use Rattle.audit_trail.proofs.ReadingLaws.{ok_not_err, err_as, disk_not_of_damaged}
 use Rattle.audit_trail.proofs.OpeningLaws.{stands_blank, blank_undamaged, stands_checked, checked_undamaged}
 use Rattle.audit_trail.proofs.opening.open_trail.Goals as goal
@@ -144,7 +144,7 @@ returns-then-is_err-clause-faults g c = inl refl
 
 pub returns-then-is_err-clause-keeps : goal.returns-then-is_err-clause-keeps
 returns-then-is_err-clause-keeps g c =
-    settling_keeps (g.T.Disk.medium c.args.trail.now) (g.T.Disk.medium c.settle.new.disk) c.settle.ensures.content c.settle.ensures.moments
+    settled_keeps (g.T.Disk.medium c.args.trail.now) (g.T.Disk.medium c.settle.new.disk) c.settle.ensures.content c.settle.ensures.moments
 
 pub returns-then-is_err-clause-left : goal.returns-then-is_err-clause-left
 returns-then-is_err-clause-left g c =

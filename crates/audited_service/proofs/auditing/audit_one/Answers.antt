@@ -1,12 +1,10 @@
 -- What a line leaves, by how far it came.
-use Rattle.std.proofs.Common.{◌≡◌, ℕ, List, Result, Ok, Err, refl, ap, subst, ◌∙◌, ⊎_elim}
+use Rattle.std.proofs.Common.{ℕ, List, Ok, Err, refl, ap, subst, ◌∙◌, ⊎_elim}
 use Rattle.device_cells.specs.Medium.{Told}
 use Rattle.audit_trail.specs.TrailStands.{StandsForTrail}
 use Rattle.line_service.specs.Devices.{devices, outside}
 use Rattle.line_service.specs.Machine.{world}
-use Rattle.line_service.specs.declared.serving.Served.{Served}
 use Rattle.line_service.specs.declared.serving.Served.TheVariants.{Ended}
-use Rattle.line_service.specs.declared.stops.Stop.{Stop}
 use Rattle.line_service.specs.declared.stops.Stop.TheVariants.{ReadFault, InputLimit}
 use Rattle.line_service.proofs.AnsweredLemmas.{unmoved_stopped, unmoved_untouched}
 use Rattle.line_service.proofs.TakenLemmas.{over_not_failed, read_ended, read_failed, read_over}
@@ -15,14 +13,8 @@ use Rattle.audited_service.proofs.RecordLemmas.{stands_off, line_failed, at_end_
 use Rattle.audited_service.proofs.SentLemmas.{sent_part, sent_answered, sent_unmoved, unappended, line_after_append}
 use Rattle.audited_service.proofs.KeptLemmas.{unread_kept, sent_kept, stopped_kept}
 use Rattle.audited_service.proofs.auditing.audit_one.Goals as goal
-
--- a line or the end is no fault
-no_err : {A B : Type 0} {v : A} {e : B} → ◌≡◌ {A = Result A B} (Ok v) (Err e) → ⊥
-no_err is = cc is
-
--- and an input that is too long isn't one that failed
-over_not_unread : ◌≡◌ {A = Result Served Stop} (Err InputLimit) (Err ReadFault) → ⊥
-over_not_unread is = cc is
+use Rattle.key_cells.proofs.AnswerLemmas.{no_err}
+use Rattle.line_service.proofs.StopLemmas.{over_not_unread}
 
 pub returns-in-Ok-answer_taken-clause-serves : goal.returns-in-Ok-answer_taken-clause-serves
 returns-in-Ok-answer_taken-clause-serves g c = λ s stands.

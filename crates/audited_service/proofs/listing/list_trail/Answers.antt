@@ -10,8 +10,8 @@ use Rattle.audited_service.specs.declared.listing.ListFault.TheVariants.{Trail, 
 use Rattle.audited_service.proofs.DamageLaws.{Ends, opening_fault, listing_fault, each_within, opened_undamaged, told_never, sound_opened, listed_none, read_no_fault, trail_not_write}
 use Rattle.audited_service.specs.Listing.{Listed}
 use Rattle.audited_service.proofs.ReadLaws.{read_nothing}
-use Rattle.audited_service.proofs.SendingLaws.{grew_none}
 use Rattle.audited_service.proofs.listing.list_trail.Goals as goal
+use Rattle.line_service.proofs.StopLemmas.{grows_none}
 
 -- a listing that the trail ended is neither done nor ended by the sink
 not_done : (fault : TrailFault) → IsOk {T = Unit {0}} (Err (Trail fault)) ⊎ (◌≡◌ {A = Ends} (Err (Trail fault)) (Err WriteFault)) → ⊥
@@ -100,7 +100,7 @@ pub returns-in-Ok-clause-emptied : goal.returns-in-Ok-clause-emptied
 returns-in-Ok-clause-emptied g c = c.send_records.ensures.emptied
 
 pub returns-in-Err-clause-grows : goal.returns-in-Err-clause-grows
-returns-in-Err-clause-grows g c = grew_none (g.K.Sink.held c.args.sink.now)
+returns-in-Err-clause-grows g c = grows_none (g.K.Sink.held c.args.sink.now)
 
 pub returns-in-Err-clause-keeps : goal.returns-in-Err-clause-keeps
 returns-in-Err-clause-keeps g c = c.in-Err.ensures.keeps

@@ -4,8 +4,9 @@ use Rattle.audited_service.specs.Lines.{record_line}
 use Rattle.audited_service.specs.Sending.{SendsLine}
 use Rattle.audited_service.specs.declared.listing.ListFault.TheVariants.{Trail, WriteFault}
 use Rattle.audited_service.proofs.DamageLaws.{listing_fault, opening_fault, read_fault, read_no_fault, sent_no_fault, trail_not_write, write_not_trail}
-use Rattle.audited_service.proofs.SendingLaws.{grew_line, grew_none, grew_part, never_cut, told_entry}
+use Rattle.audited_service.proofs.SendingLaws.{grew_line, grew_part, never_cut, told_entry}
 use Rattle.audited_service.proofs.listing.send_record.Goals as goal
+use Rattle.line_service.proofs.StopLemmas.{grows_none}
 
 -- ---- the line was sent
 
@@ -112,7 +113,7 @@ pub returns-in-Err-clause-own : goal.returns-in-Err-clause-own
 returns-in-Err-clause-own g c = record { done = tt; cut = λ is. absurd (trail_not_write c.in-Err.fault is) }
 
 pub returns-in-Err-clause-grows : goal.returns-in-Err-clause-grows
-returns-in-Err-clause-grows g c = grew_none (g.K.Sink.held c.args.sink.now)
+returns-in-Err-clause-grows g c = grows_none (g.K.Sink.held c.args.sink.now)
 
 pub returns-in-Err-clause-unsent : goal.returns-in-Err-clause-unsent
 returns-in-Err-clause-unsent g c = λ fault is. refl

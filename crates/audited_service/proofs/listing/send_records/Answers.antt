@@ -9,9 +9,10 @@ use Rattle.audited_service.specs.Listing.{Listed}
 use Rattle.audited_service.specs.Sending.{SendsLine}
 use Rattle.audited_service.specs.declared.listing.ListFault.TheVariants.{Trail, WriteFault}
 use Rattle.audited_service.proofs.DamageLaws.{sent_no_fault}
-use Rattle.audited_service.proofs.SendingLaws.{HasLinesBelow, of_each, of_both, of_none, no_line, one_line, listed_all, listed_part, grew, grew_none, quiet_before}
+use Rattle.audited_service.proofs.SendingLaws.{HasLinesBelow, of_each, of_both, of_none, no_line, one_line, listed_all, listed_part, quiet_before}
 use Rattle.audited_service.proofs.ReadLaws.{read_all, read_more, read_none, read_part}
 use Rattle.audited_service.proofs.listing.send_records.Goals as goal
+use Rattle.line_service.proofs.StopLemmas.{grows_none, grows_on}
 
 pub loop-number-init : goal.loop-number-init
 loop-number-init g c =
@@ -21,7 +22,7 @@ loop-number-init g c =
           (λ es. HasLinesBelow es c.saturating_sub-first.result held held)
           (λ es long. no_line es c.saturating_sub-first.result held (omega (arith, long)));
       own = read_none (c.args.held.now - 4096) c.saturating_sub-first.result held (omega (arith, c.next_number-next.ensures.number));
-      grows = grew_none held;
+      grows = grows_none held;
       keeps = keeps_still (g.T.Disk.medium c.args.trail.now);
       trail_quiet = refl;
       sink_quiet = refl;
@@ -47,7 +48,7 @@ loop-number-preserved g c =
           (λ es long before sends. one_line es number (omega (arith, long, c.loop-number.invariant.from, c.next_number-next.ensures.number)) held0 held1 held2 before sends.done);
       own = (let sent = c.in-Ok.ensures.own.done in
           read_more (c.args.held.now - 4096) number held0 held1 held2 c.loop-number.invariant.own sent.0 sent.1 sent.2);
-      grows = grew held0 held1 held2 c.loop-number.invariant.grows c.in-Ok.ensures.grows;
+      grows = grows_on held0 held1 held2 c.loop-number.invariant.grows c.in-Ok.ensures.grows;
       keeps = keeps_then m0 m1 (g.T.Disk.medium c.send_record.new.trail) c.loop-number.invariant.keeps c.in-Ok.ensures.keeps;
       trail_quiet = c.in-Ok.ensures.trail_left.quiet (sent_no_fault (Trail DiskFault)) ∙ c.loop-number.invariant.trail_quiet;
       sink_quiet = c.in-Ok.ensures.sink_left.quiet (sent_no_fault WriteFault) ∙ c.loop-number.invariant.sink_quiet;
@@ -94,7 +95,7 @@ returns-clause-lines g c =
 
 pub returns-in-Err-clause-grows : goal.returns-in-Err-clause-grows
 returns-in-Err-clause-grows g c =
-    grew (g.K.Sink.held c.args.sink.now) (g.K.Sink.held c.loop-number.sink) (g.K.Sink.held c.send_record.new.sink) c.loop-number.invariant.grows c.in-Err.ensures.grows
+    grows_on (g.K.Sink.held c.args.sink.now) (g.K.Sink.held c.loop-number.sink) (g.K.Sink.held c.send_record.new.sink) c.loop-number.invariant.grows c.in-Err.ensures.grows
 
 pub returns-in-Err-clause-undamaged : goal.returns-in-Err-clause-undamaged
 returns-in-Err-clause-undamaged g c = λ cell is.

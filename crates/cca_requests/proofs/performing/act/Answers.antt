@@ -9,12 +9,13 @@ use Rattle.cca_machine.specs.Operands.{operands}
 use Rattle.cca_machine.specs.Verdict.{verb_verdict}
 use Rattle.request_rules.specs.Standing.{tables}
 use Rattle.cca_requests.specs.Serving.{IsFault, IsLoadedStop}
-use Rattle.cca_requests.proofs.Handing.{decide_stopped, disks_decided, no_err}
+use Rattle.cca_requests.proofs.Handing.{decide_stopped, disks_decided}
 use Rattle.cca_requests.proofs.Registers.{loaded_after}
 use Rattle.cca_requests.proofs.Serving.{decided_serves, old_as, stopped_serves}
 use Rattle.cca_machine.proofs.Settling.{takes_on}
 use Rattle.cca_requests.proofs.Storing.{recorded}
 use Rattle.cca_requests.proofs.performing.act.Goals as goal
+use Rattle.key_cells.proofs.AnswerLemmas.{no_err}
 
 -- ---- answers that aren't one
 

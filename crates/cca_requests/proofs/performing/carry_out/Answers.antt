@@ -24,9 +24,10 @@ use Rattle.request_rules.proofs.GrantsKept.{grants_kept, loaded_kept}
 use Rattle.cca_requests.proofs.OperandsJudged.{operands_granted, operands_refused, whole_short, whole_spelled}
 use Rattle.cca_requests.proofs.Serving.{refused_serves, stopped_serves, serves_after_reads, stands_kept}
 use Rattle.cca_requests.proofs.Contents.{sound}
-use Rattle.cca_requests.proofs.Handing.{disks_read, draws_none, has_passed, no_err, no_stop, spares_still, store_kept, store_stopped}
+use Rattle.cca_requests.proofs.Handing.{disks_read, draws_none, has_passed, no_stop, spares_still, store_kept, store_stopped}
 use Rattle.cca_requests.proofs.Leaving.{leaves_after_reads, still_left, stops_as, store_stop}
 use Rattle.cca_requests.proofs.performing.carry_out.Goals as goal
+use Rattle.key_cells.proofs.AnswerLemmas.{no_err}
 
 -- ---- answers that aren't one
 

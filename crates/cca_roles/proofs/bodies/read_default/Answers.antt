@@ -2,8 +2,9 @@ use Rattle.std.proofs.Common.{List, ℕ, Some, sym, ap, ◌∙◌}
 use Rattle.std.proofs.lemmas.Slice.Eq.{bytes_eq-Decides}
 use Rattle.cca_roles.specs.RoleNames.{default_name}
 use Rattle.cca_roles.specs.Roles.{role}
-use Rattle.cca_roles.proofs.BodyLaws.{slot_blank, slot_of_role, reads_no_default, role_not_blank, not_true}
+use Rattle.cca_roles.proofs.BodyLaws.{slot_blank, slot_of_role, reads_no_default, role_not_blank}
 use Rattle.cca_roles.proofs.bodies.read_default.Goals as goal
+use Rattle.key_cells.proofs.AnswerLemmas.{not_true}
 
 pub returns-then-is_blank-clause-found : goal.returns-then-is_blank-clause-found
 returns-then-is_blank-clause-found c =

@@ -1,8 +1,9 @@
 use Rattle.std.proofs.Common.{◌≡◌, List, ℕ, refl, sym, ap, subst, ◌∙◌}
 use Rattle.cca_roles.specs.RoleBody.{ReadsRole, role_in, points_in}
 use Rattle.cca_roles.specs.Roles.{role}
-use Rattle.cca_roles.proofs.BodyLaws.{reads_again, not_true}
+use Rattle.cca_roles.proofs.BodyLaws.{reads_again}
 use Rattle.cca_roles.proofs.bodies.read_role.Goals as goal
+use Rattle.key_cells.proofs.AnswerLemmas.{not_true}
 
 pub returns-in_err-name-clause-none : goal.returns-in_err-name-clause-none
 returns-in_err-name-clause-none c _ r reads = c.in_err-name.ensures.none refl (reads_again c.args.body.now r reads).name

@@ -10,10 +10,10 @@ use Rattle.cca_roles.specs.declared.faults.RoleFault.TheVariants.{DiskFault, Dam
 use Rattle.cca_roles.specs.declared.roles.Role.{Role}
 use Rattle.cca_roles.proofs.OpeningLaws.{ok_not_err, disk_not_damaged, damaged_not_disk, one_cell}
 use Rattle.cca_roles.proofs.OpeningLaws.{cause_read, cause_unread, opened_first, place_fits, refused_first}
-use Rattle.cca_roles.proofs.StandLaws.{unless_err}
 use Rattle.cca_roles.proofs.TableLaws.{blank_table}
 use Rattle.cca_roles.proofs.TotalLaws.{default_read, default_apart}
 use Rattle.cca_roles.proofs.opening.open_default.Goals as goal
+use Rattle.key_cells.proofs.AnswerLemmas.{unless_err}
 
 pub returns-then-is_err-clause-roles : goal.returns-then-is_err-clause-roles
 returns-then-is_err-clause-roles g c = subst AreRoles (sym c.requires.blank) blank_table

@@ -2,8 +2,8 @@ use Rattle.std.proofs.Common.{◌+◌, Ok, Err, inl, inr, refl, sym, ◌∙◌}
 use Rattle.cca_roles.specs.declared.faults.RoleFault.TheVariants.{DiskFault, Damaged}
 use Rattle.cca_roles.proofs.OpeningLaws.{ok_not_err, disk_not_damaged, damaged_not_disk, one_cell, cause_read}
 use Rattle.cca_roles.proofs.OpeningLaws.{cause_unread, opens_read, place_fits, refused_held, refused_read}
-use Rattle.cca_roles.proofs.StandLaws.{unless_err}
 use Rattle.cca_roles.proofs.opening.open_place.Goals as goal
+use Rattle.key_cells.proofs.AnswerLemmas.{unless_err}
 
 pub read_cell-requires : goal.read_cell-requires
 read_cell-requires g c = place_fits (g.M.Disk.medium c.args.«module».now).size c.args.place c.new.result c.requires.size c.requires.within c.new.ensures

@@ -1,7 +1,6 @@
 use Rattle.std.proofs.Common.{length, subst}
 use Rattle.std.proofs.lemmas.Result.{on_ok_weaker}
 use Rattle.device_cells.specs.Faults.{HasCause}
-use Rattle.device_cells.specs.Medium.{IsSettled}
 use Rattle.device_cells.specs.Ranges.{HoldsPiece, SameOutside}
 use Rattle.device_cells.proofs.Media.{becomes_kept, moments_kept, settled_moments}
 use Rattle.device_cells.proofs.cell.put.Goals as goal

@@ -3,11 +3,11 @@ use Rattle.key_cells.specs.Lease.{bench_of}
 use Rattle.device_cells.specs.Cells.{body}
 use Rattle.device_cells.specs.Medium.{Told}
 use Rattle.key_records.specs.declared.faults.RecordFault.TheVariants.{Damaged}
-use Rattle.record_bodies.proofs.KeptLaws.{unless_err}
 use Rattle.verb_rules.specs.Keys.{keys_of}
-use Rattle.key_records.proofs.ReadLaws.{cell_fits, damaged_one, loaded_with, no_err, not_damaged}
+use Rattle.key_records.proofs.ReadLaws.{cell_fits, damaged_one, loaded_with, not_damaged}
 use Rattle.key_records.proofs.ReadLaws.{opened_cause, opens_read, refused_held, refused_unread, unopened_cause}
 use Rattle.key_records.proofs.opening.open_cell.Goals as goal
+use Rattle.key_cells.proofs.AnswerLemmas.{no_err, unless_err}
 
 pub read_cell-requires : goal.read_cell-requires
 read_cell-requires g c = cell_fits (g.D.Disk.medium c.args.store.now).size c.args.cell c.new.result c.requires.1.0 c.requires.1.1.0 c.new.ensures

@@ -9,8 +9,9 @@ use Rattle.record_bodies.specs.Opening.{OpenedTo, IsRefused, Opens}
 use Rattle.record_bodies.specs.StoreStands.{KeepsLabels, labels_in, IsFirstDamaged}
 use Rattle.record_bodies.proofs.OpeningLaws.{opened_none, opened_more, opened_all, refused_damaged, stands_undamaged, first_one}
 use Rattle.key_records.proofs.StoreLaws.{told_all}
-use Rattle.key_records.proofs.ReadLaws.{cause_from, cause_none, changed_then, no_err}
+use Rattle.key_records.proofs.ReadLaws.{cause_from, cause_none, changed_then}
 use Rattle.key_records.proofs.opening.open_cells.Goals as goal
+use Rattle.key_cells.proofs.AnswerLemmas.{no_err}
 
 pub loop-cell-init : goal.loop-cell-init
 loop-cell-init g c = record {

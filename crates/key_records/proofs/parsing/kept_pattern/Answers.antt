@@ -1,4 +1,4 @@
-use Rattle.std.proofs.Common.{◌≡◌, inl, inr, ℕ, Bool, true, false, Result, Ok, Err, Option, Some, refl, sym, ap, ◌∙◌}
+use Rattle.std.proofs.Common.{◌≡◌, inl, inr, ℕ, true, false, Result, Ok, Err, Option, Some, refl, sym, ap, ◌∙◌}
 use Rattle.std.specs.Prelude.{option_map, is_err, IfErr, OnOk}
 use Rattle.verb_rules.specs.Keys.{keys_of}
 use Rattle.record_bodies.specs.Entries.{pattern_for}
@@ -10,9 +10,7 @@ use Rattle.key_tokens.specs.TokenChecks.{token_checks, rule_of}
 use Rattle.key_tokens.specs.declared.key_token.Asked.TheVariants as asked
 use Rattle.cca_vectors.specs.Checks.{first_failing}
 use Rattle.key_records.proofs.parsing.kept_pattern.Goals as goal
-
-not_true : (b : Bool) → b ≡ false → b ≡ true → ⊥
-not_true b is holds = let both : true ≡ false = sym holds ∙ is in cc
+use Rattle.key_cells.proofs.AnswerLemmas.{not_true}
 
 -- from an answer that is an error
 from_err : {T P : Type 0} (r : Result T TokenFault) (o : Option ℕ) → is_err r ≡ true → IfErr r (λ fault. o ≡ Some (rule_of fault)) → ((rule : ℕ) → o ≡ Some rule → P) → P

@@ -1,4 +1,4 @@
-use Rattle.std.proofs.Common.{◌≡◌, ℕ, List, Bool, true, false, refl, sym, ap, subst, ◌∙◌}
+use Rattle.std.proofs.Common.{◌≡◌, ℕ, List, true, false, refl, sym, ap, subst, ◌∙◌}
 use Rattle.std.specs.Prelude.{slice_index}
 use Rattle.key_cells.specs.Lease.{bench_of}
 use Rattle.verb_rules.specs.Keys.{keys_of}
@@ -9,9 +9,7 @@ use Rattle.record_bodies.specs.RecordBody.{record_body, label_in, token_in, seco
 use Rattle.record_bodies.specs.declared.rows.Second.{Second}
 use Rattle.record_bodies.proofs.BodyLaws.{Spelled, spelled, spelled_label, spelled_again, spelled_what, entry_is, entry_reads}
 use Rattle.key_records.proofs.parsing.read_record.Goals as goal
-
-not_true : (b : Bool) → b ≡ false → b ≡ true → ⊥
-not_true b is holds = let both : true ≡ false = sym holds ∙ is in cc
+use Rattle.key_cells.proofs.AnswerLemmas.{not_true}
 
 -- the pieces of a body as the code has them
 module _ (masters : MasterKeys) (bytes : List ℕ) (kind : ℕ) (label token : List ℕ) (second : Second) (kinds : kind ≡ slice_index bytes 0) (labels : label ≡ label_in bytes)

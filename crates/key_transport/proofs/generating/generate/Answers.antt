@@ -11,9 +11,7 @@ use Rattle.key_transport.specs.declared.generating.GenerateFault.TheVariants.{Fa
 use Rattle.key_transport.proofs.GeneratedLemmas.{first_has, key_is_generated, same_tokens, transport_stays}
 use Rattle.key_transport.proofs.PlaceLemmas.{key_changes, key_changes_then, still_loaded}
 use Rattle.key_transport.proofs.generating.generate.Goals as goal
-
-no_err : {E T P : Type 0} {x : T} {e : E} → ◌≡◌ {A = Result T E} (Ok x) (Err e) → P
-no_err is = absurd (cc is)
+use Rattle.key_cells.proofs.AnswerLemmas.{no_err}
 
 -- the same fault, of another answer
 the_same : {A B E : Type 0} (x y : E) → ◌≡◌ {A = Result A E} (Err x) (Err y) → ◌≡◌ {A = Result B E} (Err x) (Err y)

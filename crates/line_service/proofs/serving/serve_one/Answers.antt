@@ -1,25 +1,17 @@
 -- What a line leaves, by how far it came.
-use Rattle.std.proofs.Common.{◌≡◌, ◌++◌, ℕ, List, None, Result, Ok, Err, ap, subst, refl, inl, inr}
+use Rattle.std.proofs.Common.{◌≡◌, ◌++◌, ℕ, List, None, Ok, Err, ap, subst, refl, inl, inr}
 use Rattle.device_cells.specs.WhereTold.{WhereTold}
 use Rattle.line_service.specs.Devices.{devices, outside}
 use Rattle.line_service.specs.Machine.{world}
 use Rattle.line_service.specs.Sending.{GotPart}
-use Rattle.line_service.specs.declared.serving.Served.{Served}
 use Rattle.line_service.specs.declared.serving.Served.TheVariants.{Replied, Ended}
-use Rattle.line_service.specs.declared.stops.Stop.{Stop}
 use Rattle.line_service.specs.declared.stops.Stop.TheVariants.{ReadFault, WriteFault, InputLimit}
 use Rattle.line_service.proofs.AnsweredLemmas.{outside_cut, outside_replied, outside_stopped, outside_untouched, cut_of_sink, replied_of_sink, undamaged_answered, undamaged_stopped, undamaged_untouched, unmoved_cut, unmoved_replied, unmoved_stopped, unmoved_untouched}
 use Rattle.line_service.proofs.LineLemmas.{line_replied, line_cut, line_lost, line_ended, line_unread, line_over}
 use Rattle.line_service.proofs.TakenLemmas.{line_was_taken, no_line_was_taken, over_not_failed, answered_replied, answered_cut, answered_stop, read_ended, read_failed, read_over}
 use Rattle.line_service.proofs.serving.serve_one.Goals as goal
-
--- a line or the end is no fault
-no_err : {A B : Type 0} {v : A} {e : B} → ◌≡◌ {A = Result A B} (Ok v) (Err e) → ⊥
-no_err is = cc is
-
--- and an input that is too long isn't one that failed
-over_not_unread : ◌≡◌ {A = Result Served Stop} (Err InputLimit) (Err ReadFault) → ⊥
-over_not_unread is = cc is
+use Rattle.key_cells.proofs.AnswerLemmas.{no_err}
+use Rattle.line_service.proofs.StopLemmas.{over_not_unread}
 
 pub returns-in-Ok-send-clause-serves : goal.returns-in-Ok-send-clause-serves
 returns-in-Ok-send-clause-serves g c = λ s stands.

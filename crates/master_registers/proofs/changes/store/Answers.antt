@@ -2,8 +2,9 @@ use Rattle.std.proofs.Common.{refl, sym, ap, ◌∙◌}
 use Rattle.key_cells.specs.Lease.{bench_of}
 use Rattle.key_cells.specs.declared.leases.Lease.{Lease}
 use Rattle.master_registers.specs.Loaded.{masters_in}
-use Rattle.master_registers.proofs.ChangeLemmas.{cause_done, cause_failed, first_fits, store_done, store_failed, unless_err}
+use Rattle.master_registers.proofs.ChangeLemmas.{cause_done, cause_failed, first_fits, store_done, store_failed}
 use Rattle.master_registers.proofs.changes.store.Goals as goal
+use Rattle.key_cells.proofs.AnswerLemmas.{unless_err}
 
 pub write_form-requires : goal.write_form-requires
 write_form-requires g c = c.requires.loaded

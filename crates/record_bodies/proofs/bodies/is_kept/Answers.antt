@@ -1,7 +1,7 @@
 use Rattle.std.proofs.Common.{◌∙◌, sym}
 use Rattle.std.proofs.lemmas.Slice.Eq.{bytes_eq-Decides}
-use Rattle.record_bodies.proofs.KeptLaws.{unless_err}
 use Rattle.record_bodies.proofs.bodies.is_kept.Goals as goal
+use Rattle.key_cells.proofs.AnswerLemmas.{unless_err}
 
 pub returns-clause-kept : goal.returns-clause-kept
 returns-clause-kept c same = record {

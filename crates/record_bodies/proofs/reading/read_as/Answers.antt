@@ -1,4 +1,4 @@
-use Rattle.std.proofs.Common.{◌≡◌, ℕ, List, Bool, true, false, Option, None, refl, sym, ap, subst, ◌∙◌}
+use Rattle.std.proofs.Common.{◌≡◌, ℕ, List, true, false, Option, None, refl, sym, ap, subst, ◌∙◌}
 use Rattle.std.specs.Prelude.{slice_index}
 use Rattle.master_registers.specs.declared.patterns.Pattern.{Pattern}
 use Rattle.record_bodies.specs.RecordBody.{IsKeptWith, record_body, token_in, second_in, null_kind, no_token, no_second, HoldsUnder, ReadsPattern, StandsAs}
@@ -7,9 +7,7 @@ use Rattle.record_bodies.specs.declared.rows.Second.{Second}
 use Rattle.record_bodies.proofs.PieceLaws.{row_body, null_pieces, key_pieces, pieces_stand}
 use Rattle.record_bodies.proofs.reading.read_as.Goals as goal
 use Rattle.record_bodies.proofs.reading.read_as.Goals.{In-Some-token_under}
-
-not_true : (b : Bool) → b ≡ false → b ≡ true → ⊥
-not_true b is holds = let both : true ≡ false = sym holds ∙ is in cc
+use Rattle.key_cells.proofs.AnswerLemmas.{not_true}
 
 -- the pieces of a body as the code has them
 module _ (bytes token : List ℕ) (second : Second) (is_token : token ≡ token_in bytes) (is_second : second ≡ second_in bytes) where

@@ -1,5 +1,5 @@
 use Rattle.std.proofs.Common.{◌≡◌, ◌<◌, ℕ, List, Option, None, Some, Ok, Err, Bool, true, false, get_or, refl, sym, ap, subst, ◌∙◌, arith}
-use Rattle.std.specs.Prelude.{IsSome, ◌&&◌}
+use Rattle.std.specs.Prelude.{◌&&◌}
 use Rattle.key_cells.specs.Lease.{bench_of}
 use Rattle.device_cells.specs.Medium.{Medium, Told}
 use Rattle.device_cells.proofs.Media.{keeps_still, settled_kept, told_joined, told_map, told_still}
@@ -30,6 +30,8 @@ use Rattle.reencipher.proofs.TurnLaws.{IsMade, IsTurn, and_true, reads_what, rea
 use Rattle.std.proofs.lemmas.List.{get_or-set_other}
 use Rattle.reencipher.proofs.turns.turn_cell.Goals as goal
 use Rattle.reencipher.proofs.turns.turn_cell.Goals.{After-made_tokens, In-Some-made_tokens}
+use Rattle.key_cells.proofs.AnswerLemmas.{not_true}
+use Rattle.record_bodies.proofs.ListedLaws.{not_held}
 
 pub returns-in-None-clause-changes : goal.returns-in-None-clause-changes
 returns-in-None-clause-changes g c m s loaded told =
@@ -275,13 +277,6 @@ returns-in-Ok-put-clause-count g c =
 
 -- ---- by what was read
 
-not_held : (o : Option (List ℕ)) → o ≡ None → IsSome o → ⊥
-not_held None none held = cc held
-not_held (Some label) none held = cc none
-
-not_both : (b : Bool) → b ≡ false → b ≡ true → ⊥
-not_both b isnt is = cc
-
 -- of a label that may not change nothing is asked
 none_as_read : (a : StoreAction) (masters : MasterKeys) (before now : Option Row) (bytes : List ℕ) (done : Bool) → ⊥ → TurnsAsRead a masters before now bytes done
 none_as_read a masters before now bytes done wrong = absurd wrong
@@ -296,7 +291,7 @@ returns-then-not-may_change-clause-own g c m loaded held may =
     let rows : List (Option Row) = c.args.records.now in
     let row = get_or rows c.args.cell None in
     let stays = subst (λ n. may_change c.args.action (is_ahead_row (get_or rows n None)) ≡ false) c.in-Some.ensures.place (sym c.may_change.ensures ∙ c.if-not-may_change.true) in
-    none_as_read c.args.action (keys_of m) row row (bench_of c.args.lease.now).body false (not_both (may_change c.args.action (is_ahead_row row)) stays may)
+    none_as_read c.args.action (keys_of m) row row (bench_of c.args.lease.now).body false (not_true (may_change c.args.action (is_ahead_row row)) stays may)
 
 pub returns-in-Err-clause-own : goal.returns-in-Err-clause-own
 returns-in-Err-clause-own g c m loaded held may = tt
@@ -312,9 +307,9 @@ returns-then-not-found-clause-own g c = λ m loaded held may.
         token = c.read.new.out;
         read = c.in-Ok.ensures.own;
         null = c.in-Ok.ensures.null;
-        stays = λ found. absurd (not_both _ c.if-not-found.true found);
+        stays = λ found. absurd (not_true _ c.if-not-found.true found);
       };
-      turns = λ done. absurd (not_both _ refl done);
+      turns = λ done. absurd (not_true _ refl done);
     })
 
 pub returns-in-None-made_tokens-clause-own : goal.returns-in-None-made_tokens-clause-own
@@ -333,7 +328,7 @@ returns-in-None-made_tokens-clause-own g c = λ m loaded held may.
         null = c.in-Ok.ensures.null;
         stays = λ found. sym none;
       });
-      turns = λ done. absurd (not_both _ refl done);
+      turns = λ done. absurd (not_true _ refl done);
     })
 
 pub returns-in-Ok-put-clause-own : goal.returns-in-Ok-put-clause-own
@@ -343,7 +338,7 @@ returns-in-Ok-put-clause-own g c = λ m loaded held may.
     let now = loaded_body m c.args.held.now c.args.lease.now c.read.new.lease loaded c.read.ensures.rest in
     subst (λ n. TurnsAsRead c.args.action (keys_of m) (get_or rows n None) (get_or c.put.new.records n None) (bench_of c.put.new.lease).body true) c.in-Some.ensures.place
     (record {
-      stays = λ done. absurd (not_both _ done refl);
+      stays = λ done. absurd (not_true _ done refl);
       turns = λ done. record {
         token = c.read.new.out;
         changes = sym (c.in-Some-made_tokens.ensures.some m now);

@@ -13,8 +13,9 @@ use Rattle.store_move.specs.declared.moving.Moved.TheVariants.{Kept, Token}
 use Rattle.store_move.specs.Reading.{HoldsAsRead}
 use Rattle.key_records.specs.declared.faults.RecordFault.TheVariants.{Damaged}
 use Rattle.store_move.proofs.StoredLemmas.{body_kept, body_works, exported_under, failed_as, fails_none, fails_same}
-use Rattle.store_move.proofs.StoredLemmas.{keys_work, moved_kept, moved_token, no_err}
+use Rattle.store_move.proofs.StoredLemmas.{keys_work, moved_kept, moved_token}
 use Rattle.store_move.proofs.moving.unload_label.Goals as goal
+use Rattle.key_cells.proofs.AnswerLemmas.{no_err}
 
 pub returns-in-Ok-Ok-clause-moved : goal.returns-in-Ok-Ok-clause-moved
 returns-in-Ok-Ok-clause-moved g c = λ m s loaded told.

@@ -7,7 +7,7 @@ use Rattle.verb_rules.specs.KeyChecks.{age_of}
 use Rattle.verb_rules.specs.Keys.{HasHalves, keys_of}
 use Rattle.verb_rules.specs.StoredKeys.{IsRead}
 use Rattle.verb_rules.proofs.JudgeLemmas.{if_ok_gives}
-use Rattle.store_move.proofs.StoredLemmas.{failed, failed_as, never_damaged, no_err, read_fails, unread_fails}
+use Rattle.store_move.proofs.StoredLemmas.{failed, failed_as, never_damaged, read_fails, unread_fails}
 use Rattle.store_move.proofs.StoredLemmas.{stored_as, stored_key, stored_some, was_read}
 use Rattle.key_records.specs.declared.faults.RecordFault.{RecordFault}
 use Rattle.key_records.specs.declared.faults.RecordFault.TheVariants.{Damaged}
@@ -16,6 +16,7 @@ use Rattle.verb_rules.specs.declared.rules.Rule.{Rule}
 use Rattle.verb_rules.specs.declared.rules.Rule.TheVariants.{Null}
 use Rattle.store_move.specs.Reading.{if_found}
 use Rattle.store_move.proofs.stored.judge_record.Goals as goal
+use Rattle.key_cells.proofs.AnswerLemmas.{no_err}
 
 abbrev null_answer : Result (Result Judged Rule) RecordFault
 null_answer = Ok (Err Null)

@@ -9,8 +9,9 @@ use Rattle.device_cells.proofs.Media.{keeps_still}
 use Rattle.record_bodies.specs.Directory.{label_at}
 use Rattle.record_bodies.specs.Entries.{row_directory}
 use Rattle.verb_rules.specs.declared.rules.Rule.TheVariants.{LabelUnknown}
-use Rattle.store_unload.proofs.JudgeLemmas.{found_at, holds_one, kept_whole, label_as_read, label_judged, label_unknown, read_faults, read_left, role_as_read, role_told, undamaged, unfailed, unknown_as_read}
+use Rattle.store_unload.proofs.JudgeLemmas.{found_at, kept_whole, label_as_read, label_judged, label_unknown, read_faults, read_left, role_as_read, role_told, undamaged, unfailed, unknown_as_read}
 use Rattle.store_unload.proofs.judging.judge_move.Goals as goal
+use Rattle.record_bodies.proofs.ListedLaws.{is_held}
 
 -- a state with these registers and these roles
 abbrev state_with : Masters → List (Option Role) → State
@@ -76,7 +77,7 @@ returns-in-Some-clause-rest g c = kept_whole c.args.lease.now
 
 pub judge_transport-requires-clause-held : goal.judge_transport-requires-clause-held
 judge_transport-requires-clause-held g c =
-    holds_one (label_at (row_directory c.args.records.now) c.in-Some-find.place) c.args.how.now.transport c.in-Some-find.ensures.held
+    is_held (label_at (row_directory c.args.records.now) c.in-Some-find.place) c.args.how.now.transport c.in-Some-find.ensures.held
 
 pub judge_transport-requires-clause-size : goal.judge_transport-requires-clause-size
 judge_transport-requires-clause-size g c = c.requires.size

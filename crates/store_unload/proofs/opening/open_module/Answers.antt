@@ -1,6 +1,6 @@
 -- A broken cell is the one that is named, and what stands for registers and roles has none.
 use Rattle.std.proofs.Common.{◌≡◌, ◌∙◌, ℕ, Result, Err, ap, arith, refl, subst, sym}
-use Rattle.device_cells.proofs.Media.{keeps_then, settled_kept, told_after}
+use Rattle.device_cells.proofs.Media.{keeps_then, settled_kept, told_after, settled_keeps}
 use Rattle.device_cells.specs.Medium.{Told}
 use Rattle.device_cells.proofs.WhereToldLemmas.{rose_wider}
 use Rattle.key_cells.specs.Lease.{bench_of}
@@ -16,7 +16,7 @@ use Rattle.line_service.specs.declared.stops.Stop.TheVariants.{Damaged, ModuleFa
 use Rattle.cca_machine.specs.Coprocessor.{IsBrokenModule, IsModuleStop}
 use Rattle.store_unload.specs.Stops.{load_stop, role_stop}
 use Rattle.store_unload.proofs.DiskLemmas.{Left, at_load, at_role, cell_named, err_told, left_open, left_shut, load_broken, load_judged, no_fault}
-use Rattle.store_unload.proofs.DiskLemmas.{of_load, of_role, role_cell, same_fault, settled_keeps}
+use Rattle.store_unload.proofs.DiskLemmas.{of_load, of_role, role_cell, same_fault}
 use Rattle.store_unload.proofs.OpeningLemmas.{body_changes, broken_role, is_loaded_after, judged_role, registers_after, stands_unbroken}
 use Rattle.store_unload.proofs.BothLemmas.{never_err}
 use Rattle.store_unload.proofs.opening.open_module.Goals as goal

@@ -1,7 +1,7 @@
 -- A damaged cell is the one that is named, and a store that stands for labels has none.
 use Rattle.std.proofs.Common.{◌≡◌, ◌∙◌, ℕ, Result, Err, ap, arith, refl, subst, sym}
 use Rattle.device_cells.specs.Medium.{Told}
-use Rattle.device_cells.proofs.Media.{keeps_then, settled_kept}
+use Rattle.device_cells.proofs.Media.{keeps_then, settled_kept, settled_keeps}
 use Rattle.device_cells.proofs.WhereToldLemmas.{rose_wider}
 use Rattle.key_cells.specs.Lease.{bench_of}
 use Rattle.master_registers.specs.Loaded.{masters_in}
@@ -14,7 +14,7 @@ use Rattle.line_service.specs.declared.stops.Stop.TheVariants.{Damaged, StoreFau
 use Rattle.request_rules.specs.Judging.{IsStoreStop}
 use Rattle.request_rules.specs.Stored.{read_stop}
 use Rattle.store_unload.proofs.DiskLemmas.{Left, at_record, cell_named, err_told, left_open, left_shut, no_fault, of_record, record_cell, record_kind}
-use Rattle.store_unload.proofs.DiskLemmas.{same_fault, settled_keeps}
+use Rattle.store_unload.proofs.DiskLemmas.{same_fault}
 use Rattle.store_unload.proofs.OpeningLemmas.{told_earlier_as, kept_undamaged}
 use Rattle.store_unload.proofs.opening.open_store.Goals as goal
 

@@ -15,10 +15,10 @@ use Rattle.store_unload.proofs.CallLaws.{file_not_report, is_fault, kept_masters
 use Rattle.store_unload.proofs.CallLaws.{store_failed, store_fault, store_not_file, store_not_report, store_read, work_only}
 use Rattle.record_bodies.specs.Directory.{label_at}
 use Rattle.record_bodies.specs.Entries.{row_directory}
-use Rattle.store_unload.proofs.JudgeLemmas.{holds_one}
-use Rattle.store_unload.proofs.PartLaws.{grew_none}
 use Rattle.store_unload.proofs.LabelLaws.{failed_as_read, kept_as_read, moved_as_read, target_as_read, tells_failed, tells_kept, tells_moved, tells_target}
 use Rattle.store_unload.proofs.telling.tell_label.Goals as goal
+use Rattle.line_service.proofs.StopLemmas.{grows_none}
+use Rattle.record_bodies.proofs.ListedLaws.{is_held}
 
 -- what was read, at the place by the label
 at_place : (m : Masters) (rows : List (Option Row)) (n place : ℕ) (bytes : List ℕ) (what : Option Denoted) → n ≡ place
@@ -78,7 +78,7 @@ returns-in-Ok-Kept-clause-own g c = λ m place loaded found.
 
 pub returns-then-is_same-clause-file_grows : goal.returns-then-is_same-clause-file_grows
 returns-then-is_same-clause-file_grows g c =
-    grew_none (g.K.Sink.held c.args.file.now)
+    grows_none (g.K.Sink.held c.args.file.now)
 
 pub returns-then-is_same-clause-report_grows : goal.returns-then-is_same-clause-report_grows
 returns-then-is_same-clause-report_grows g c =
@@ -112,7 +112,7 @@ returns-in-Ok-Token-clause-file_grows g c =
 
 pub returns-in-Ok-Token-clause-report_grows : goal.returns-in-Ok-Token-clause-report_grows
 returns-in-Ok-Token-clause-report_grows g c =
-    grew_none (g.P.Sink.held c.args.report.now)
+    grows_none (g.P.Sink.held c.args.report.now)
 
 pub returns-in-Ok-Token-clause-faults : goal.returns-in-Ok-Token-clause-faults
 returns-in-Ok-Token-clause-faults g c =
@@ -143,7 +143,7 @@ returns-in-Ok-Token-clause-masters g c =
 
 pub returns-in-Ok-Kept-clause-file_grows : goal.returns-in-Ok-Kept-clause-file_grows
 returns-in-Ok-Kept-clause-file_grows g c =
-    grew_none (g.K.Sink.held c.args.file.now)
+    grows_none (g.K.Sink.held c.args.file.now)
 
 pub returns-in-Ok-Kept-clause-report_grows : goal.returns-in-Ok-Kept-clause-report_grows
 returns-in-Ok-Kept-clause-report_grows g c =
@@ -178,11 +178,11 @@ returns-in-Ok-Kept-clause-masters g c =
 
 pub returns-in-Err-clause-file_grows : goal.returns-in-Err-clause-file_grows
 returns-in-Err-clause-file_grows g c =
-    grew_none (g.K.Sink.held c.args.file.now)
+    grows_none (g.K.Sink.held c.args.file.now)
 
 pub returns-in-Err-clause-report_grows : goal.returns-in-Err-clause-report_grows
 returns-in-Err-clause-report_grows g c =
-    grew_none (g.P.Sink.held c.args.report.now)
+    grows_none (g.P.Sink.held c.args.report.now)
 
 pub returns-in-Err-clause-faults : goal.returns-in-Err-clause-faults
 returns-in-Err-clause-faults g c =
@@ -226,7 +226,7 @@ place_of-place-requires g c = c.requires.held
 
 pub unload_label-requires-clause-held : goal.unload_label-requires-clause-held
 unload_label-requires-clause-held g c =
-    holds_one (label_at (row_directory c.args.records.now) c.place_of-place.result) c.args.label.now c.place_of-place.ensures.held
+    is_held (label_at (row_directory c.args.records.now) c.place_of-place.result) c.args.label.now c.place_of-place.ensures.held
 
 pub unload_label-requires-clause-size : goal.unload_label-requires-clause-size
 unload_label-requires-clause-size g c = c.requires.size

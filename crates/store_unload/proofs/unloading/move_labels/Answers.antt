@@ -14,11 +14,13 @@ use Rattle.store_unload.specs.declared.unloading.MoveStatus.TheVariants.{Refused
 use Rattle.store_unload.proofs.CallLaws.{none_called, store_not_file, store_not_report}
 use Rattle.store_unload.proofs.DiskLemmas.{no_fault}
 use Rattle.store_unload.proofs.JudgeLemmas.{judged_loan}
-use Rattle.store_unload.proofs.MoveLemmas.{fault_told, never_opened, told_opened}
-use Rattle.store_unload.proofs.RestLemmas.{none_told, read_key, read_rule, still_loaded, unread}
+use Rattle.store_unload.proofs.MoveLemmas.{fault_told, never_opened}
+use Rattle.store_unload.proofs.RestLemmas.{none_told, read_key, read_rule, unread}
 use Rattle.store_unload.proofs.ToldLemmas.{fault_then, file_as, judged_key, labels_told, never_none, never_refused, not_report, not_run, of_store}
 use Rattle.store_unload.proofs.ToldLemmas.{read_as, report_as, rests_told, rule_told, store_as, told_kind, where_told}
 use Rattle.store_unload.proofs.unloading.move_labels.Goals as goal
+use Rattle.request_rules.proofs.GrantsKept.{loaded_kept}
+use Rattle.line_service.proofs.OpeningLemmas.{holds_told}
 
 -- ---- the labels were told
 
@@ -31,7 +33,7 @@ returns-in-Ok-Ok-clause-told g c = λ s opened.
     let d0 = g.D.Disk.medium c.args.store.now in
     let d1 = g.D.Disk.medium c.judge_move.new.store in
     let r = c.write_move.result in
-    let kept = told_opened d0 _ opened.labels in
+    let kept = holds_told d0 _ opened.labels in
     let judged = judged_key s c.args.how.now c.args.lease.now c.judge_move.new.lease c.judge_move.ensures.rest
     c.in-Ok-Ok.field-0 c.in-Ok-Ok.transport c.in-Ok-Ok.field-0-is
     (where_told d0 d0 _ _ opened.labels refl (c.in-Ok-Ok.ensures.judged s opened.roles opened.loaded kept)) in
@@ -45,7 +47,7 @@ returns-in-Ok-Ok-clause-told g c = λ s opened.
     subst (λ (o : MoveStatus). MoveTold s c.args.how.now o f0 f1 p0 p1 disks outputs) (sym c.status_of_told.ensures)
     (labels_told s c.args.how.now f0 f1 p0 p1 disks outputs judged.0 r c.write_move.ensures.faults
     (where_told d0 d1 _ _ opened.labels c.judge_move.ensures.keeps.content
-    (c.write_move.ensures.tells s (still_loaded s.registers c.args.held.now c.args.lease.now c.judge_move.new.lease c.judge_move.ensures.rest opened.loaded)
+    (c.write_move.ensures.tells s (loaded_kept s.registers c.args.held.now c.args.lease.now c.judge_move.new.lease c.judge_move.ensures.rest opened.loaded)
     (told_after d0 d1 _ c.judge_move.ensures.keeps.content kept) judged.1))
     (λ is still. still.0 (c.write_move.ensures.file_left.fault is))
     (λ is still. still.1 (c.write_move.ensures.report_left.fault is))
@@ -60,7 +62,7 @@ returns-in-Ok-Ok-clause-own g c = λ m loaded told.
     (read_key m c.args.roles.now c.args.how.now c.args.records.now body c.args.lease.now c.judge_move.new.lease c.judge_move.ensures.rest
     c.in-Ok-Ok.field-0 c.in-Ok-Ok.transport c.in-Ok-Ok.field-0-is (c.in-Ok-Ok.ensures.own m loaded))
     (g.K.Sink.held c.args.sink.now) (g.K.Sink.held c.write_move.new.file) (g.P.Sink.held c.args.report.now) (g.P.Sink.held c.write_move.new.report)
-    c.write_move.result (c.write_move.ensures.own m (still_loaded m c.args.held.now c.args.lease.now c.judge_move.new.lease c.judge_move.ensures.rest loaded)))
+    c.write_move.result (c.write_move.ensures.own m (loaded_kept m c.args.held.now c.args.lease.now c.judge_move.new.lease c.judge_move.ensures.rest loaded)))
 
 pub returns-in-Ok-Ok-clause-refusal : goal.returns-in-Ok-Ok-clause-refusal
 returns-in-Ok-Ok-clause-refusal g c = λ m loaded rule is. absurd (never_refused c.write_move.result rule (sym c.status_of_told.ensures ∙ is))
@@ -93,7 +95,7 @@ returns-in-Ok-Err-clause-told g c = λ s opened.
     let d0 = g.D.Disk.medium c.args.store.now in
     rule_told s c.args.how.now (g.K.Sink.held c.args.sink.now) (g.P.Sink.held c.args.report.now) _ _ (bench_of c.args.lease.now)
     c.in-Ok-Err.field-0 c.in-Ok-Err.rule c.number.result c.in-Ok-Err.field-0-is c.number.ensures.number
-    (where_told d0 d0 _ _ opened.labels refl (c.in-Ok-Err.ensures.judged s opened.roles opened.loaded (told_opened d0 _ opened.labels)))
+    (where_told d0 d0 _ _ opened.labels refl (c.in-Ok-Err.ensures.judged s opened.roles opened.loaded (holds_told d0 _ opened.labels)))
 
 pub returns-in-Ok-Err-clause-own : goal.returns-in-Ok-Err-clause-own
 returns-in-Ok-Err-clause-own g c = λ m loaded told.
@@ -144,7 +146,7 @@ returns-in-Err-clause-told g c = λ s opened.
     c.in-Err.fault why (status_of_lem (Err why)) refl refl c.in-Err.ensures.faults
     (λ is still. still (c.judge_move.ensures.store_left.fault (c.in-Err.is ∙ ap Err is)))
     (λ cell is. never_opened (g.D.Disk.medium c.args.store.now) _ opened.labels
-    (c.judge_move.ensures.damaged s opened.loaded (told_opened (g.D.Disk.medium c.args.store.now) _ opened.labels) cell (c.in-Err.is ∙ ap Err is))))
+    (c.judge_move.ensures.damaged s opened.loaded (holds_told (g.D.Disk.medium c.args.store.now) _ opened.labels) cell (c.in-Err.is ∙ ap Err is))))
 
 pub returns-in-Err-clause-own : goal.returns-in-Err-clause-own
 returns-in-Err-clause-own g c = λ m loaded told.

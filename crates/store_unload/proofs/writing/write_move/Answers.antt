@@ -9,11 +9,11 @@ use Rattle.command_words.specs.declared.moves.Move.{Move}
 use Rattle.store_unload.specs.declared.writing.MoveFault.{MoveFault}
 use Rattle.key_records.specs.declared.faults.RecordFault.TheVariants.{DiskFault}
 use Rattle.device_cells.proofs.Media.{keeps_still, keeps_then}
-use Rattle.line_service.proofs.StopLemmas.{count_on}
+use Rattle.line_service.proofs.StopLemmas.{count_on, grows_none, grows_on}
 use Rattle.store_unload.specs.declared.writing.MoveFault.TheVariants.{ReportFault, Store, WriteFault}
 use Rattle.store_unload.proofs.CallLaws.{done_not, quiet_to}
 use Rattle.store_unload.proofs.LeaseLaws.{masters_then, loaded_later, opened_later, labels_later}
-use Rattle.store_unload.proofs.PartLaws.{grew, grew_none, told_all, told_more, told_to}
+use Rattle.store_unload.proofs.PartLaws.{told_all, told_more, told_to}
 use Rattle.store_unload.proofs.RecordLaws.{got_none, read_more, rests_all, rests_to}
 use Rattle.store_unload.proofs.writing.write_move.Goals as goal
 
@@ -43,8 +43,8 @@ loop-index-init g c = record {
   tells = search rules;
   own = λ m loaded.
       got_none (keys_of m) c.args.how.now c.args.records.now (opened (bench_of c.args.lease.now) c.args.transport.now).key (g.K.Sink.held c.args.file.now) (g.P.Sink.held c.args.report.now);
-  file_grows = grew_none (g.K.Sink.held c.args.file.now);
-  report_grows = grew_none (g.P.Sink.held c.args.report.now);
+  file_grows = grows_none (g.K.Sink.held c.args.file.now);
+  report_grows = grows_none (g.P.Sink.held c.args.report.now);
   file_quiet = refl;
   report_quiet = refl;
   store_quiet = refl;
@@ -75,8 +75,8 @@ loop-index-preserved g c =
           (opened (bench_of c.loop-index.lease) c.args.transport.now) (opened (bench_of c.args.lease.now) c.args.transport.now)
           (opened_later c.args.lease.now c.loop-index.lease before.masters c.args.transport.now)
           (c.in-Ok.ensures.own m place (loaded_later c.args.lease.now c.loop-index.lease before.masters m c.args.held.now loaded) found));
-      file_grows = grew (g.K.Sink.held c.args.file.now) (g.K.Sink.held c.loop-index.file) (g.K.Sink.held c.tell_label.new.file) before.file_grows c.in-Ok.ensures.file_grows;
-      report_grows = grew (g.P.Sink.held c.args.report.now) (g.P.Sink.held c.loop-index.report) (g.P.Sink.held c.tell_label.new.report) before.report_grows c.in-Ok.ensures.report_grows;
+      file_grows = grows_on (g.K.Sink.held c.args.file.now) (g.K.Sink.held c.loop-index.file) (g.K.Sink.held c.tell_label.new.file) before.file_grows c.in-Ok.ensures.file_grows;
+      report_grows = grows_on (g.P.Sink.held c.args.report.now) (g.P.Sink.held c.loop-index.report) (g.P.Sink.held c.tell_label.new.report) before.report_grows c.in-Ok.ensures.report_grows;
       file_quiet = c.in-Ok.ensures.file_left.quiet (λ is. done_not is) ∙ before.file_quiet;
       report_quiet = c.in-Ok.ensures.report_left.quiet (λ is. done_not is) ∙ before.report_quiet;
       store_quiet = c.in-Ok.ensures.store_left.quiet (λ is. done_not is) ∙ before.store_quiet;
@@ -115,11 +115,11 @@ returns-clause-own g c m loaded =
 
 pub returns-in-Err-clause-file_grows : goal.returns-in-Err-clause-file_grows
 returns-in-Err-clause-file_grows g c =
-    grew (g.K.Sink.held c.args.file.now) (g.K.Sink.held c.loop-index.file) (g.K.Sink.held c.tell_label.new.file) c.loop-index.invariant.file_grows c.in-Err.ensures.file_grows
+    grows_on (g.K.Sink.held c.args.file.now) (g.K.Sink.held c.loop-index.file) (g.K.Sink.held c.tell_label.new.file) c.loop-index.invariant.file_grows c.in-Err.ensures.file_grows
 
 pub returns-in-Err-clause-report_grows : goal.returns-in-Err-clause-report_grows
 returns-in-Err-clause-report_grows g c =
-    grew (g.P.Sink.held c.args.report.now) (g.P.Sink.held c.loop-index.report) (g.P.Sink.held c.tell_label.new.report) c.loop-index.invariant.report_grows c.in-Err.ensures.report_grows
+    grows_on (g.P.Sink.held c.args.report.now) (g.P.Sink.held c.loop-index.report) (g.P.Sink.held c.tell_label.new.report) c.loop-index.invariant.report_grows c.in-Err.ensures.report_grows
 
 pub returns-in-Err-clause-faults : goal.returns-in-Err-clause-faults
 returns-in-Err-clause-faults g c =

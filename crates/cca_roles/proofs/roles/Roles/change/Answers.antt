@@ -6,8 +6,9 @@ use Rattle.device_cells.specs.Medium.{Becomes, EachImage, From}
 use Rattle.cca_roles.specs.Directory.{AreApart}
 use Rattle.cca_roles.specs.Roles.{names, name_of}
 use Rattle.cca_roles.specs.declared.roles.Role.{Role}
-use Rattle.cca_roles.proofs.StandLaws.{unless_err, told_set, told_turned, either_becomes, either_moments}
+use Rattle.cca_roles.proofs.StandLaws.{told_set, told_turned, either_becomes, either_moments}
 use Rattle.cca_roles.proofs.roles.Roles.change.Goals as goal
+use Rattle.key_cells.proofs.AnswerLemmas.{unless_err}
 
 apart_next : (s : List (Option Role)) (n : ℕ) (slot : Option Role) → AreApart (set (names s) n (name_of slot)) → AreApart (names (set s n slot))
 apart_next s n slot apart = subst AreApart (sym (map-set name_of s n slot)) apart

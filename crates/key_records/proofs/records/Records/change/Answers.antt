@@ -5,8 +5,8 @@ use Rattle.device_cells.specs.Medium.{Told}
 use Rattle.record_bodies.specs.StoreStands.{HoldsRows}
 use Rattle.record_bodies.specs.declared.rows.Row.{Row}
 use Rattle.key_records.proofs.StoreLaws.{replaces_is, rows_changed}
-use Rattle.record_bodies.proofs.KeptLaws.{unless_err}
 use Rattle.key_records.proofs.records.Records.change.Goals as goal
+use Rattle.key_cells.proofs.AnswerLemmas.{unless_err}
 
 pub returns-then-is_err-clause-changes : goal.returns-then-is_err-clause-changes
 returns-then-is_err-clause-changes g c = record {

@@ -13,10 +13,10 @@ use Rattle.record_bodies.specs.StoreStands.{HoldsRows, KeepsLabels, entry_at}
 use Rattle.key_records.specs.declared.faults.RecordFault.{RecordFault}
 use Rattle.key_records.specs.declared.faults.RecordFault.TheVariants.{Damaged}
 use Rattle.record_bodies.specs.declared.rows.Row.{Row}
-use Rattle.key_records.proofs.ReadLaws.{cause_read, cause_unread, cell_fits, damaged_one, no_err, not_damaged, read_token}
+use Rattle.key_records.proofs.ReadLaws.{cause_read, cause_unread, cell_fits, damaged_one, not_damaged, read_token}
 use Rattle.record_bodies.proofs.PieceLaws.{token_is_held}
-use Rattle.record_bodies.proofs.KeptLaws.{unless_err}
 use Rattle.key_records.proofs.records.Records.read.Goals as goal
+use Rattle.key_cells.proofs.AnswerLemmas.{no_err, unless_err}
 
 -- the token of a label, in the body that was read of its cell
 module _ (rows : List (Option Row)) (cell place : ℕ) (row : Row) (bytes token image : List ℕ) (cell_is : cell ≡ place) (within : cell < 1024) (held : get_or rows cell None ≡ Some row)

@@ -1,6 +1,6 @@
--- The vector is its halves.
-use Rattle.request_verbs.proofs.TokenReply.{halves}
+-- The vector is its halves_joined.
 use Rattle.request_verbs.proofs.verbs.csnbktp.vector_bytes.Goals as goal
+use Rattle.key_tokens.proofs.Written.{halves_joined}
 
 pub returns : goal.returns
-returns c = rw (c.join.ensures, c.left.ensures.left, c.right.ensures.right) (halves c.args.vector.now c.left.ensures.valid.whole)
+returns c = rw (c.join.ensures, c.left.ensures.left, c.right.ensures.right) (halves_joined c.args.vector.now c.left.ensures.valid.whole)
