@@ -20,7 +20,7 @@ use Rattle.line_service.specs.declared.serving.Served.{Served}
 use Rattle.line_service.specs.declared.serving.Served.TheVariants.{Replied, Ended}
 use Rattle.line_service.specs.declared.stops.Stop.{Stop}
 use Rattle.line_service.specs.declared.stops.Stop.TheVariants.{ReadFault, WriteFault, EntropyFault, InputLimit}
-use Rattle.line_service.proofs.CourseLemmas.{IsNextLine, IsOnCourse, course_left, course_settled, course_taken, course_undamaged, course_within, run_ended, run_stopped}
+use Rattle.line_service.proofs.CourseLemmas.{IsNextLine, IsOnCourse, course_each, course_left, course_settled, course_taken, course_undamaged, course_within, run_ended, run_stopped}
 use Rattle.line_service.proofs.SessionLemmas.{HasServed}
 use Rattle.line_service.proofs.SpareLaws.{SparesSo, spares_last, spares_always}
 use Rattle.line_service.proofs.StopLemmas.{Follows, follows_ok, follows_stop, ok_no_stop, same_stop, stopped_as, not_ended, not_replied, not_cut, line_not_cut, ended_unsent, ended_uncut}
@@ -245,14 +245,15 @@ module _ (A : Machine) (entry : List ℕ → List ℕ → Entry) (start : Outsid
       → RunRecorded A entry s q start.devices.world o.new.devices.world t0 t1 start.input o.new.input start.output o.new.output)
       → ((s : Noted A.State) → Stands (noting A entry) s (Agrees K t0) start.devices.world.module_ start.devices.world.store → IsSome t0.content → q ≡ Err trail_fault.Full
       → WhereTold start.input o.new.input (λ i r. 2 ^ 63 < length s.entries + length (lines i)))
-      → LineTaken (line_part line) o old new → (IsUnanswered (line_part line) → o.new.devices.world ≡ o.old.devices.world) → (line_part line ≡ Err WriteFault → BothSettled o.new.devices)
+      → LineTaken (line_part line) o old new → ((q ≡ Ok (Err WriteFault) → ⊥) → o.new.output ≡ o.old.output) → (IsUnanswered (line_part line) → o.new.devices.world ≡ o.old.devices.world) → (line_part line ≡ Err WriteFault → BothSettled o.new.devices)
       → Undamaged A (line_part line) o.old.devices → OutsideLeft (line_part line) o
       → TrailAppended t0 t f0 f ⊥ → TrailAppended t t1 f f1 (line ≡ Err trail_fault.DiskFault) → IfErr line IsAppendFault
       → RecordsLeft A entry K q (record { old = start; new = o.new }) t0 t1 f0 f1
-  records_left K t0 t t1 f0 f f1 serves full taken unanswered cut undamaged left one two kinds = record {
+  records_left K t0 t t1 f0 f f1 serves full taken unsent unanswered cut undamaged left one two kinds = record {
     serves = serves;
     full = full;
     taken = record { run = run_taken taken q refl; within = course_within A start o old course (line_part line) (run_part q) new taken };
+    each = course_each A start o old course new (line_part line) taken (q ≡ Ok (Ok tt)) (q ≡ Ok (Err WriteFault)) (λ h. ends.ended (Ok tt) h refl) unsent;
     settled = course_settled A start o old course (line_part line) (run_part q) unanswered cut left ends.follows;
     undamaged = course_undamaged A start o old course (line_part line) (run_part q) ends.follows undamaged;
     left = course_left A start o old course (line_part line) (run_part q) ends.follows left;

@@ -4,7 +4,7 @@ use Rattle.std.specs.Prelude.{◌↔◌, IsTrue, IfOk, OnErr, OnOk}
 use Rattle.std.specs.Io.KnownBytes.{IsAtEnd}
 use Rattle.device_cells.specs.Medium.{Medium, IsSettled}
 use Rattle.device_cells.specs.WhereTold.{WhereTold}
-use Rattle.line_service.specs.Lines.{NoNewline}
+use Rattle.line_service.specs.Lines.{EndsInNewline, NoNewline}
 use Rattle.line_service.specs.Reading.{Reading, blank, input_limit, given, LosesPart, Takes, Shows, Advances}
 use Rattle.line_service.specs.declared.lines.LineFault.{LineFault}
 use Rattle.line_service.specs.declared.lines.LineFault.TheVariants as line_fault
@@ -22,6 +22,7 @@ use Rattle.line_service.specs.declared.serving.Served.TheVariants.{Replied}
 use Rattle.line_service.specs.declared.stops.Stop.{Stop}
 use Rattle.line_service.specs.declared.stops.Stop.TheVariants.{ReadFault, WriteFault}
 use Rattle.line_service.proofs.AnsweredLemmas.{devices_answered, handed_on, outside_untouched, source_read, unanswered_uncut, undamaged_answered, undamaged_untouched}
+use Rattle.line_service.proofs.RepliedLemmas.{got_reply}
 use Rattle.line_service.proofs.StopLemmas.{devices_stopped, no_desk_write, count_still, grows_none}
 use Rattle.line_service.proofs.TakenLemmas.{AsRead, line_was_taken, no_line_was_taken, answered_stop}
 use Rattle.audited_service.specs.EachLine.{EntrySent, LineKept, line_part}
@@ -52,6 +53,7 @@ module _ (A : Machine) (Ready Holds : Type 0) (now : Devices) (a b p : Option (L
     ready = λ h. let replied : q ≡ Ok Replied = cc h in absurd (tells.unreplied replied);
     held = holds;
     taken = no_line_was_taken f around r0 r1 q tells takes shows end still ends at_end counted within early limit full short emptied lost;
+    replied = λ h. let replied : q ≡ Ok Replied = cc h in absurd (tells.unreplied replied);
     left = outside_untouched now a b p reads reads1 writes q tells.unanswered m d source;
     undamaged = undamaged_untouched A now q tells.unanswered;
     cut = λ h. let cut : q ≡ Err WriteFault = cc h in absurd (unanswered_uncut q tells.unanswered cut);
@@ -72,12 +74,13 @@ module _ (A : Machine) (Ready Holds : Type 0) (o : Span Outside) (r0 r1 : Readin
 
   -- it was answered, its entry was appended, and then its reply was sent
   pub sent_kept : (r : Result (Result Served Stop) TrailFault) (n : ℕ) (e : Entry) (reply : List ℕ) (t t1 : Medium) (faults faults1 : ℕ)
-      → EntrySent n e reply r t t1 faults faults1 o.old.output o.new.output o.old.sink_faults o.new.sink_faults → DevicesLeft {T = Unit {0}} (Ok tt) (behind o) → Ready → OnOk r Holds
+      → EntrySent n e reply r t t1 faults faults1 o.old.output o.new.output o.old.sink_faults o.new.sink_faults → EndsInNewline reply → DevicesLeft {T = Unit {0}} (Ok tt) (behind o) → Ready → OnOk r Holds
       → LineKept A Ready Holds r o t t1 faults faults1 r0 r1
-  sent_kept r n e reply t t1 faults faults1 sent left ready holds = record {
+  sent_kept r n e reply t t1 faults faults1 sent line left ready holds = record {
     ready = λ h. ready;
     held = holds;
     taken = was_taken (line_part r) (sent_answered r sent.answers);
+    replied = λ h. got_reply o.old.output o.new.output reply reply refl line (sent.all h);
     left = record {
       devices_left = devices_answered (behind o) (line_part r) (sent_stop r sent.answers) left;
       source_left = source_read o.old.source_faults o.new.source_faults (line_part r) (sent_answered r sent.answers) later quiet;
@@ -97,6 +100,7 @@ module _ (A : Machine) (Ready Holds : Type 0) (o : Span Outside) (r0 r1 : Readin
     ready = λ h. absurd (cc h);
     held = holds;
     taken = was_taken (Err stop) (answered_stop stop stops);
+    replied = λ h. absurd (cc h);
     left = record {
       devices_left = devices_stopped A stop (behind o) left;
       source_left = source_read o.old.source_faults o.new.source_faults (Err stop) (answered_stop stop stops) later quiet;

@@ -18,6 +18,7 @@ use Rattle.line_service.specs.declared.stops.Device.{Device}
 use Rattle.line_service.specs.declared.stops.Stop.{Stop}
 use Rattle.line_service.specs.declared.stops.Stop.TheVariants.{Damaged}
 use Rattle.line_service.proofs.OpeningLemmas.{unbroken, opened_damage, unopened_left, unopened_taken, unopened_sound, unopened_no_stop}
+use Rattle.line_service.proofs.RepliedLemmas.{replied_nothing}
 use Rattle.line_service.proofs.RunLemmas.{no_opening_answer}
 use Rattle.line_service.proofs.StopLemmas.{count_still, grows_none}
 use Rattle.audited_service.specs.Answers.{run_part}
@@ -41,6 +42,12 @@ ok_not_err fault is = cc is
 
 stop_not_fault : (stop : Stop) (fault : TrailFault) → ◌≡◌ {A = Result (Result (Unit {0}) Stop) TrailFault} (Ok (Err stop)) (Err fault) → ⊥
 stop_not_fault stop fault is = cc is
+
+stop_not_done : (stop : Stop) → ◌≡◌ {A = Result (Result (Unit {0}) Stop) TrailFault} (Ok (Err stop)) (Ok (Ok tt)) → ⊥
+stop_not_done stop is = cc is
+
+fault_not_done : (fault : TrailFault) → ◌≡◌ {A = Result (Result (Unit {0}) Stop) TrailFault} (Err fault) (Ok (Ok tt)) → ⊥
+fault_not_done fault is = cc is
 
 module _ (A : Machine) (entry : List ℕ → List ℕ → Entry) (m0 m d0 d t0 : Medium) (mc0 mc dc0 dc : ℕ) (random : Option (List ℕ)) (draws : ℕ) (i p : Option (List ℕ)) (reads writes : ℕ) where
   abbrev begun : Outside
@@ -85,6 +92,7 @@ module _ (A : Machine) (entry : List ℕ → List ℕ → Entry) (m0 m d0 d t0 :
     left_unopened f = record {
       lines = λ s es disks trail. lines_unopened s es disks f;
       taken = record { run = unopened_taken stop opening kind refl; within = told_same i _ (λ x. omega arith) };
+      each = replied_nothing _ _ (stop_not_done stop) i p;
       sound = record { disks = unopened_sound A stop _ kind; trail = λ h. absurd (no_opening_answer stop kind h) };
       damage = record {
         module_damaged = damage.module_damaged;
@@ -124,6 +132,7 @@ module _ (A : Machine) (entry : List ℕ → List ℕ → Entry) (m0 m d0 d t0 :
           lines_unrecorded A entry m0 m d0 d t0 t mc0 mc dc0 dc random draws i p reads writes left.module_kept left.store_kept kept_t f0 f s es disks trail fault faults
           (λ failed. trail_left.fault (ap Err failed)) (λ cell named. damaged cell (ap Err named));
       taken = record { run = tt; within = told_same i _ (λ x. omega arith) };
+      each = replied_nothing _ _ (fault_not_done fault) i p;
       sound = record {
         disks = record { sound = λ h. sound; settled = λ h. record { module_settled = left.module_left.settled refl; store_settled = left.store_left.settled refl } };
         trail = λ audits. absurd (not_full fault faults (audits_full fault audits));
@@ -156,6 +165,7 @@ module _ (A : Machine) (entry : List ℕ → List ℕ → Entry) (m0 m d0 d t0 :
           lines_recorded A entry m0 m d0 d t0 t mc0 mc dc0 dc random draws i p reads writes left.module_kept left.store_kept kept_t f0 f s es disks trail
           left.module_left.later left.store_left.later trail_left.later after t1 f1 k (agrees s disks) result ends;
       taken = record { run = taken_at result (record { old = opened; new = after }) begun.devices ends.taken.run; within = ends.taken.within };
+      each = ends.each;
       sound = record {
         disks = record { sound = λ h. sound; settled = λ h. ends.settled h };
         trail = λ h. stood_before t0 t number kept_t stands;

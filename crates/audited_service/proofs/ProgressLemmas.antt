@@ -21,6 +21,7 @@ use Rattle.line_service.specs.declared.stops.Stop.TheVariants.{WriteFault}
 use Rattle.line_service.proofs.CourseLemmas.{IsOnCourse, course_begins, course_goes_on, unmoved_world}
 use Rattle.line_service.proofs.SessionLemmas.{HasServed, has_served_nothing, has_served_more}
 use Rattle.line_service.proofs.SpareLaws.{SparesSo, spares_nothing, spares_more}
+use Rattle.line_service.proofs.StopLemmas.{ended_uncut, ended_unsent, not_replied}
 use Rattle.audited_service.specs.Noting.{Noted, noting}
 use Rattle.audited_service.specs.Recording.{RunRecorded}
 use Rattle.audited_service.specs.EachLine.{Agrees, AppendFails, IsAppendFault, LineAudited, LineKept, RecordsLeft, TrailAppended, line_part}
@@ -78,6 +79,9 @@ line_still held fm fd fe ft line number k k1 m m1 d d1 e e1 a a1 t t1 unmoved un
     shown (Ok r) same = tt
     shown (Err fault) same = ap held same
 
+cut_as : (stop : Stop) (r : Result Served Stop) → r ≡ Err stop → r ≡ Err WriteFault → ◌≡◌ {A = Result (Result (Unit {0}) Stop) TrailFault} (Ok (Err stop)) (Ok (Err WriteFault))
+cut_as stop r is cut_off = let same : stop ≡ WriteFault = cc (is, cut_off) in cc same
+
 module _ (A : Machine) (entry : List ℕ → List ℕ → Entry) (k0 k k1 : A.State → Type 0) (start : Outside) (o : Span Outside) (t0 t t1 : Medium) (f0 f f1 : ℕ) (old new : Reading)
     (before : HasRecords A entry k0 k start o.old t0 t f0 f old) where
   -- one line more was recorded and answered
@@ -100,7 +104,7 @@ module _ (A : Machine) (entry : List ℕ → List ℕ → Entry) (k0 k k1 : A.St
         on_trail = λ s stands.
             trail_more A entry s k k1 t0 t t1 w0 w w1 (before.trail.left.settled (λ h. h)) start.input o.old.input o.new.input start.output o.old.output old _
             (before.served s stands) (before.on_trail s stands) kept.taken.counted (λ u st. (leaves u st).on_trail);
-        course = course_goes_on A start o old before.course new r (subst IsOk (sym replied) refl) kept.taken kept.left;
+        course = course_goes_on A start o old before.course new r replied kept.taken (kept.replied (ap Ok replied)) kept.left;
         trail = trail_then t0 t t1 f0 f f1 _ _ (λ h. absurd h) (λ h. cc h) before.trail kept.trail;
       }
 
@@ -129,17 +133,17 @@ module _ (A : Machine) (entry : List ℕ → List ℕ → Entry) (k0 k k1 : A.St
     }
 
     -- what the run leaves, by what the lines come to
-    run_left : (q : Result (Result (Unit {0}) Stop) TrailFault) → EndsAs line q
+    run_left : (q : Result (Result (Unit {0}) Stop) TrailFault) → EndsAs line q → ((q ≡ Ok (Err WriteFault) → ⊥) → o.new.output ≡ o.old.output)
         → ((s : Noted A.State) → Stands (noting A entry) s (Agrees k0 t0) start.devices.world.module_ start.devices.world.store
         → RunRecorded A entry s q start.devices.world o.new.devices.world t0 t1 start.input o.new.input start.output o.new.output)
         → RecordsLeft A entry k0 q (record { old = start; new = o.new }) t0 t1 f0 f1
-    run_left q ends recorded =
+    run_left q ends unsent recorded =
         records_left A entry start o old new before.course line q ends k0 t0 t t1 f0 f f1 recorded
         (λ s stands some is.
         let full = ends.fault trail_fault.Full is in
         exit_full A entry s k k1 t start.devices.world o.old.devices.world o.new.devices.world number (before.trail.left.still some) held (same.full full) t1
         start.input o.old.input o.new.input start.output o.old.output old new _ (before.served s stands) kept.taken.counted (λ u st. (leaves u st).unsent trail_fault.Full full))
-        kept.taken same.unanswered (λ h. kept.cut (cut_off line h)) kept.undamaged kept.left before.trail kept.trail same.kinds
+        kept.taken unsent same.unanswered (λ h. kept.cut (cut_off line h)) kept.undamaged kept.left before.trail kept.trail same.kinds
       where
         cut_off : (line : Result (Result Served Stop) TrailFault) → line_part line ≡ Err WriteFault → line ≡ Ok (Err WriteFault)
         cut_off (Ok r) is = ap Ok is
@@ -152,12 +156,13 @@ module _ (A : Machine) (entry : List ℕ → List ℕ → Entry) (k0 k k1 : A.St
         (same : LineStill (Ok r) number o.old.devices.world o.new.devices.world o.old.output o.new.output t t1) where
       pub records_done : r ≡ Ok Ended → RecordsLeft A entry k0 (Ok (Ok tt)) (record { old = start; new = o.new }) t0 t1 f0 f1
       records_done is =
-          run_left number held (Ok r) leaves Ready Holds kept same (Ok (Ok tt)) (ends_done r is)
+          run_left number held (Ok r) leaves Ready Holds kept same (Ok (Ok tt)) (ends_done r is) (λ uncut. same.unsent (ended_unsent r is) (ended_uncut r is))
           (λ s stands. audit_ended A entry s k k1 start o t0 t t1 old new r (next_record number held (Ok r) leaves Ready Holds kept same s stands) is)
 
       pub records_stopped : (stop : Stop) → r ≡ Err stop → RecordsLeft A entry k0 (Ok (Err stop)) (record { old = start; new = o.new }) t0 t1 f0 f1
       records_stopped stop is =
           run_left number held (Ok r) leaves Ready Holds kept same (Ok (Err stop)) (ends_stopped r stop is)
+          (λ uncut. same.unsent (not_replied r stop is) (λ cut_off. uncut (cut_as stop r is cut_off)))
           (λ s stands. audit_stopped A entry s k k1 start o t0 t t1 old new r (next_record number held (Ok r) leaves Ready Holds kept same s stands) stop is)
 
     pub records_failed : (fault : TrailFault)
@@ -166,5 +171,5 @@ module _ (A : Machine) (entry : List ℕ → List ℕ → Entry) (k0 k k1 : A.St
         → LineStill (Err fault) number o.old.devices.world o.new.devices.world o.old.output o.new.output t t1
         → RecordsLeft A entry k0 (Err fault) (record { old = start; new = o.new }) t0 t1 f0 f1
     records_failed fault leaves Ready Holds kept same =
-        run_left number held (Err fault) leaves Ready Holds kept same (Err fault) (ends_failed fault)
+        run_left number held (Err fault) leaves Ready Holds kept same (Err fault) (ends_failed fault) (λ uncut. same.failed_unsent)
         (λ s stands. audit_failed A entry s k k1 start o t0 t t1 old new fault (next_record number held (Err fault) leaves Ready Holds kept same s stands))

@@ -13,9 +13,10 @@ use Rattle.audit_trail.specs.declared.faults.TrailFault.TheVariants.{DiskFault, 
 use Rattle.line_service.specs.Machine.{Machine}
 use Rattle.line_service.specs.Answering.{OnDisks, Holds}
 use Rattle.line_service.specs.Devices.{Span, Devices, DamageTold, Outside, OutsideLeft, behind}
-use Rattle.line_service.specs.Running.{NoneFailed, LinesServed, InputTaken, ServesSound}
+use Rattle.line_service.specs.Running.{EachReplied, NoneFailed, LinesServed, InputTaken, ServesSound}
 use Rattle.line_service.specs.Serving.{PrefixSent}
 use Rattle.line_service.specs.declared.stops.Stop.{Stop}
+use Rattle.line_service.specs.declared.stops.Stop.TheVariants.{WriteFault}
 use Rattle.audited_service.specs.Answers.{run_part, AuditsLines}
 use Rattle.audited_service.specs.Growing.{Grown}
 use Rattle.audited_service.specs.Noting.{noted}
@@ -52,6 +53,11 @@ pub record AuditTaken (result : Result (Result (Unit {0}) Stop) TrailFault) (o :
   pub run : IfOk result (λ r. InputTaken r o)
   pub within : WhereTold o.old.input o.new.input (λ i r. length i ≤ length r + input_limit)
 
+-- the sink got one reply for each line of the input, as RepliesTo says of a run without a trail
+abbrev pub RepliesToAudited : Result (Result (Unit {0}) Stop) TrailFault → Span Outside → Type 0
+RepliesToAudited result o = WhereTold o.old.input o.new.input (λ i r. EachReplied
+    (result ≡ Ok (Ok tt)) (result ≡ Ok (Err WriteFault)) i o.old.output o.new.output)
+
 -- Lines are served only where the disks stand for a state, and nothing of these is unsynced after them; and only where
 -- the trail stands for some entries.
 pub record AuditsSound (A : Machine) (result : Result (Result (Unit {0}) Stop) TrailFault)
@@ -79,6 +85,7 @@ pub record AuditLeft (A : Machine) (entry : List ℕ → List ℕ → Entry)
       → OnDisks A s o.old.devices.world.module_ o.old.devices.world.store
       → Told t0 (λ c. IsTrail c es) → LinesRecorded A entry s es result o t0 t1 before now
   pub taken : AuditTaken result o
+  pub each : RepliesToAudited result o
   pub sound : AuditsSound A result (behind o) t0
   -- damage of the module is told first, then that of the store, then that of the trail
   pub damage : DamageTold A (run_part result) (behind o)

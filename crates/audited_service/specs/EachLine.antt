@@ -15,7 +15,7 @@ use Rattle.line_service.specs.Machine.{Machine, World}
 use Rattle.line_service.specs.Answering.{Steps, OnDisks, Stands, Turns}
 use Rattle.line_service.specs.Devices.{Span, BothSettled, Outside, OutsideLeft, TellsFault, Undamaged}
 use Rattle.line_service.specs.Running.{LineTaken}
-use Rattle.line_service.specs.Sending.{GotPart, Grows}
+use Rattle.line_service.specs.Sending.{GotPart, GotReply, Grows}
 use Rattle.line_service.specs.Serving.{EachPairStands, LineServed, IsAroundLine, KeepsSpare}
 use Rattle.line_service.specs.Stops.{AnswersLines}
 use Rattle.line_service.specs.declared.serving.Served.{Served}
@@ -23,7 +23,7 @@ use Rattle.line_service.specs.declared.serving.Served.TheVariants.{Replied}
 use Rattle.line_service.specs.declared.stops.Stop.{Stop}
 use Rattle.line_service.specs.declared.stops.Stop.TheVariants.{WriteFault}
 use Rattle.audited_service.specs.Answers.{run_part}
-use Rattle.audited_service.specs.Auditing.{AuditTaken}
+use Rattle.audited_service.specs.Auditing.{AuditTaken, RepliesToAudited}
 use Rattle.audited_service.specs.Growing.{TrailGrows, Grown}
 use Rattle.audited_service.specs.Noting.{Noted, noting, Recorded, RecordedEither}
 use Rattle.audited_service.specs.Recording.{RunRecorded}
@@ -152,6 +152,7 @@ pub record LineKept (A : Machine) (Ready Holds : Type 0)
   pub ready : result ≡ Ok (Ok Replied) → Ready
   pub held : OnOk result Holds
   pub taken : LineTaken (line_part result) o r0 r1
+  pub replied : result ≡ Ok (Ok Replied) → WhereTold o.old.output o.new.output GotReply
   pub left : OutsideLeft (line_part result) o
   pub undamaged : Undamaged A (line_part result) o.old.devices
   pub cut : result ≡ Ok (Err WriteFault) → BothSettled o.new.devices
@@ -173,6 +174,7 @@ pub record RecordsLeft (A : Machine) (entry : List ℕ → List ℕ → Entry) (
       → IsSome t0.content → result ≡ Err Full
       → WhereTold o.old.input o.new.input (λ i r. 2 ^ 63 < length s.entries + length (lines i))
   pub taken : AuditTaken result o
+  pub each : RepliesToAudited result o
   pub settled : AnswersLines (run_part result) → BothSettled o.new.devices
   pub undamaged : Undamaged A (run_part result) o.old.devices
   pub left : OutsideLeft (run_part result) o

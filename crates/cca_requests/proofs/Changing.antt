@@ -21,6 +21,7 @@ use Rattle.cca_machine.specs.State.{State, IsModuleOf}
 use Rattle.cca_machine.specs.Verdict.{questions, first_refusal}
 use Rattle.cca_machine.specs.Act.{Outcome, NoCell, OneCell, Become, new_name}
 use Rattle.request_rules.specs.Standing.{StandsInModule}
+use Rattle.line_service.specs.Lines.{EndsInNewline}
 use Rattle.cca_requests.specs.Serving.{IsEither, SameBut, CarriesModule, LeavesModule}
 use Rattle.cca_requests.specs.Changes.{plainly, or_effected, state_name, change_stop, change_reply}
 use Rattle.device_cells.proofs.SpareLemmas.{becomes_turned}
@@ -128,35 +129,37 @@ module _ {A : Type 0} (medium : A → Medium) (old new : A) (s : State) (roles :
 module _ {A : Type 0} (medium : A → Medium) (faults : A → ℕ) (old new : A) (m next : Masters) (roles : List (Option Role))
     (settled : IsSettled (medium old)) (stands : Told (medium old) (λ image. StandsForMasters image m))
     (also : Told (medium old) (λ image. StandsForRoles image roles)) (later : faults old ≤ faults new) where
-  refused_left : (reply : List ℕ) → new ≡ old → LeavesModule (medium old) (medium new) (faults old) (faults new) (Ok tt) reply roles roles
-  refused_left reply untouched =
+  refused_left : (reply : List ℕ) → EndsInNewline reply → new ≡ old → LeavesModule (medium old) (medium new) (faults old) (faults new) (Ok tt) reply roles roles
+  refused_left reply line untouched =
       subst (λ x. LeavesModule (medium old) (medium x) (faults old) (faults x) (Ok tt) reply roles roles) (sym untouched)
-      (still_module_left (medium old) (faults old) reply roles settled (sound (medium old) m roles stands also))
+      (still_module_left (medium old) (faults old) reply roles line settled (sound (medium old) m roles stands also))
 
   -- what an action leaves
   pub left_as : (r : Result Registers RegisterFault) (reply : List ℕ) → ChangesModule m next (medium old) (medium new) r → WhenRefused r (new ≡ old)
       → (r ≡ Err DiskFault → Rose (faults old) (faults new)) → ((r ≡ Err DiskFault → ⊥) → faults new ≡ faults old)
-      → OnErr (change_stop r) (reply ≡ [])
+      → OnOk (change_stop r) (EndsInNewline reply) → OnErr (change_stop r) (reply ≡ [])
       → LeavesModule (medium old) (medium new) (faults old) (faults new) (change_stop r) reply roles roles
-  left_as (Ok now) reply changes untouched cause quiet silent = record {
+  left_as (Ok now) reply changes untouched cause quiet line silent = record {
     disk = record { size = changes.either.size; still = changes.either.still; settled = λ ok. changes.settled; later = later; fault = λ is. cc is; quiet = λ none. quiet (λ is. cc is) };
     told = told_before (HoldsEither m next) (medium old) (medium new) changes.either;
     turned = becomes_turned 0 33 (medium old) (medium new) (registers_body next) changes.replaced;
     sound = sound (medium new) next roles changes.stands
         (becomes_told (medium old) (medium new) (HoldsEither m next) (λ image. StandsForRoles image roles) (λ image. StandsForRoles image roles)
         changes.either also (λ d c p h. roles_alike d c roles h.others p));
+    line = line;
     silent = tt;
     memory = tt;
     stops = tt;
   }
-  left_as (Err DiskFault) reply changes untouched cause quiet silent = record {
+  left_as (Err DiskFault) reply changes untouched cause quiet line silent = record {
     disk = record { size = changes.either.size; still = changes.either.still; settled = λ ok. absurd (cc ok); later = later; fault = λ is. cause refl; quiet = λ none. absurd (none refl) };
     told = told_before (HoldsEither m next) (medium old) (medium new) changes.either;
     turned = tt;
     sound = tt;
+    line = tt;
     silent = silent;
     memory = refl;
     stops = refl;
   }
-  left_as (Err RegisterState) reply changes untouched cause quiet silent = refused_left reply untouched
-  left_as (Err SamePattern) reply changes untouched cause quiet silent = refused_left reply untouched
+  left_as (Err RegisterState) reply changes untouched cause quiet line silent = refused_left reply line untouched
+  left_as (Err SamePattern) reply changes untouched cause quiet line silent = refused_left reply line untouched

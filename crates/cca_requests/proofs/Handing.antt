@@ -188,6 +188,7 @@ module _ {stop : Stop} (reply : List ℕ) {t : Tables} where
     store_turned = tt;
     sound = tt;
     holds = tt;
+    line = tt;
     silent = silent;
     roles = refl;
     labels = refl;

@@ -16,6 +16,7 @@ use Rattle.record_bodies.specs.StoreStands.{HoldsRows}
 use Rattle.record_bodies.specs.declared.rows.Row.{Row}
 use Rattle.master_registers.specs.declared.registers.Registers.{Registers}
 use Rattle.line_service.specs.Devices.{DiskLeft, devices}
+use Rattle.line_service.specs.declared.stops.Device.{Device}
 use Rattle.line_service.specs.declared.stops.Device.TheVariants.{Module, Store}
 use Rattle.line_service.specs.declared.stops.Stop.{Stop}
 use Rattle.line_service.specs.declared.stops.Stop.TheVariants.{Damaged, EntropyFault, InputLimit, ModuleFault, ReadFault, StoreFault, WriteFault}
@@ -23,6 +24,7 @@ use Rattle.request_rules.specs.Judging.{IsStoreStop}
 use Rattle.request_rules.specs.Standing.{Tables, tables}
 use Rattle.cca_machine.specs.Deciding.{GoesThrough, IsReady, WritesStore}
 use Rattle.cca_machine.specs.declared.effects.Effect.{Effect}
+use Rattle.line_service.specs.Lines.{EndsInNewline}
 use Rattle.cca_requests.specs.Serving.{IsSound, IsLoadedStop, KeepsToEffect, LeavesModule, LeavesStore, Leaves}
 
 pub ok_always : {P : Type 0} (result : Result (Unit {0}) Stop) → P → OnOk result P
@@ -33,11 +35,7 @@ ok_always (Err stop) p = tt
 pub still_turned : (count : ℕ) (m0 m1 : Medium) → m1.size ≡ m0.size → m1.content ≡ m0.content → Becomes (Turned count) m0 m1
 still_turned count m0 m1 size content = becomes_same m0 m1 (Turned count) size content (turned_same count)
 
--- a disk that was read
-pub read_turned : (count : ℕ) (m0 m1 : Medium) → Keeps m0 m1 → Becomes (Turned count) m0 m1
-read_turned count m0 m1 keeps = still_turned count m0 m1 keeps.moments.size keeps.content
-
--- and changed after that
+-- a disk that was read, and changed after that
 turned_after : (count : ℕ) (m0 m1 m2 : Medium) (result : Result (Unit {0}) Stop) → Keeps m0 m1 → OnOk result (Becomes (Turned count) m1 m2)
     → OnOk result (Becomes (Turned count) m0 m2)
 turned_after count m0 m1 m2 (Ok u) keeps becomes = record {
@@ -59,35 +57,37 @@ untouched_left m count result stop settled never = record {
   quiet = λ none. refl;
 }
 
-pub still_module_left : (m : Medium) (count : ℕ) (reply : List ℕ) (roles : List (Option Role)) → IsSettled m → Told m (IsSound roles)
+pub still_module_left : (m : Medium) (count : ℕ) (reply : List ℕ) (roles : List (Option Role)) → EndsInNewline reply → IsSettled m → Told m (IsSound roles)
     → LeavesModule m m count count (Ok tt) reply roles roles
-still_module_left m count reply roles settled sound = record {
+still_module_left m count reply roles line settled sound = record {
   disk = untouched_left m count (Ok tt) ModuleFault settled (λ is. cc is);
   told = λ some. some;
   turned = still_turned 33 m m refl refl;
   sound = sound;
+  line = line;
   silent = tt;
   memory = tt;
   stops = tt;
 }
 
-pub still_store_left : (d : Medium) (count : ℕ) (reply : List ℕ) (rows : List (Option Row)) → IsSettled d → Told d (HoldsRows rows)
+pub still_store_left : (d : Medium) (count : ℕ) (reply : List ℕ) (rows : List (Option Row)) → EndsInNewline reply → IsSettled d → Told d (HoldsRows rows)
     → LeavesStore d d count count (Ok tt) reply rows rows
-still_store_left d count reply rows settled holds = record {
+still_store_left d count reply rows line settled holds = record {
   disk = untouched_left d count (Ok tt) StoreFault settled (λ is. cc is);
   told = λ some. some;
   turned = still_turned 1024 d d refl refl;
   holds = holds;
+  line = line;
   silent = tt;
   memory = tt;
   stops = tt;
 }
 
 -- what a call leaves that writes nothing
-pub still_left : {m d : Medium} {m_count d_count : ℕ} {reply : List ℕ} {t : Tables} → IsSettled m → IsSettled d
+pub still_left : {m d : Medium} {m_count d_count : ℕ} {reply : List ℕ} {t : Tables} → EndsInNewline reply → IsSettled m → IsSettled d
     → Told m (IsSound t.roles) → Told d (HoldsRows t.rows)
     → Leaves (Ok tt) reply (record { old = devices m m_count d d_count None 0; new = devices m m_count d d_count None 0 }) t t
-still_left {m} {d} {m_count} {d_count} {reply} {t} settled_module settled_store sound holds = record {
+still_left {m} {d} {m_count} {d_count} {reply} {t} line settled_module settled_store sound holds = record {
   module_disk = untouched_left m m_count (Ok tt) ModuleFault settled_module (λ is. cc is);
   store_disk = untouched_left d d_count (Ok tt) StoreFault settled_store (λ is. cc is);
   module_told = λ some. some;
@@ -96,6 +96,7 @@ still_left {m} {d} {m_count} {d_count} {reply} {t} settled_module settled_store 
   store_turned = still_turned 1024 d d refl refl;
   sound = sound;
   holds = holds;
+  line = line;
   silent = tt;
   roles = tt;
   labels = tt;
@@ -127,6 +128,7 @@ module _ {result : Result (Unit {0}) Stop} {reply : List ℕ} where
     store_turned = ok_always result (still_turned 1024 d d refl refl);
     sound = left.sound;
     holds = ok_always result (told_from d.content (HoldsRows next) (λ c is. turns c (told_at d.content (HoldsRows rows) c is holds)));
+    line = left.line;
     silent = left.silent;
     roles = left.memory;
     labels = on_err_weaker result (λ is. ap row_directory is) kept;
@@ -151,6 +153,7 @@ module _ {result : Result (Unit {0}) Stop} {reply : List ℕ} where
     store_turned = left.turned;
     sound = ok_always result sound;
     holds = left.holds;
+    line = left.line;
     silent = left.silent;
     roles = err_always result refl;
     labels = left.memory;
@@ -181,6 +184,7 @@ leaves_after_reads {result} {reply} {m0} {m1} {m2} {d0} {d1} {d2} {m_before} {m_
   store_turned = turned_after 1024 d0 d1 d2 result keeps_d left.store_turned;
   sound = left.sound;
   holds = left.holds;
+  line = left.line;
   silent = left.silent;
   roles = left.roles;
   labels = left.labels;
@@ -193,8 +197,9 @@ no_damage result cell stops is = subst (λ (r : Result (Unit {0}) Stop). IfErr r
 -- ---- what was called for an effect
 
 -- no stop at all
-pub still_keeps : {D : Type 0} {e : Effect} {rows : List (Option Row)} {lease : Lease} {store : D} → KeepsToEffect e (Ok tt) rows rows lease lease store store
-still_keeps = record { stops = tt; entropy = λ is. cc is; kept = λ none. tt; writes = λ is. cc is; spared = λ none. refl; loan = refl }
+pub still_keeps : {M D : Type 0} {e : Effect} {rows : List (Option Row)} {lease : Lease} {module_ : M} {store : D}
+    → KeepsToEffect e (Ok tt) rows rows lease lease module_ module_ store store
+still_keeps = record { stops = tt; entropy = λ is. cc is; kept = λ none. tt; writes = λ is. cc is; spared = λ none. refl; alone = λ writes. refl; through = λ device cell is. cc is; loan = refl }
 
 module_stop : (stop : Stop) → stop ≡ ModuleFault → IsLoadedStop stop
 module_stop stop is = subst IsLoadedStop (sym is) tt
@@ -216,28 +221,47 @@ if_err (Err stop) weaker has = weaker stop has
 pub stops_as : (P : Stop → Type 0) {fault : Stop} (result : Result (Unit {0}) Stop) → IfErr result P → result ≡ Err fault → P fault
 stops_as P result stops is = subst (λ (r : Result (Unit {0}) Stop). IfErr r P) is stops
 
-module _ {D : Type 0} {e : Effect} {rows later : List (Option Row)} {lease still : Lease} (result : Result (Unit {0}) Stop) where
+-- what stops by one fault alone comes upon no damage
+pub only_fault : (fault : Stop) (result : Result (Unit {0}) Stop) → IfErr result (λ stop. stop ≡ fault) → ((device : Device) (cell : ℕ) → fault ≡ Damaged device cell → ⊥)
+    → (device : Device) (cell : ℕ) → result ≡ Err (Damaged device cell) → ⊥
+only_fault fault result stops apart device cell is = apart device cell (sym (stops_as (λ stop. stop ≡ fault) result stops is))
+
+module_apart : (device : Device) (cell : ℕ) → ModuleFault ≡ Damaged device cell → ⊥
+module_apart device cell is = cc is
+
+store_apart : (device : Device) (cell : ℕ) → StoreFault ≡ Damaged device cell → ⊥
+store_apart device cell is = cc is
+
+-- a change of the store that fails alone
+pub fails_alone : {P : Type 0} (result : Result (Unit {0}) Stop) → IfErr result (λ stop. stop ≡ StoreFault) → (device : Device) (cell : ℕ) → result ≡ Err (Damaged device cell) → P
+fails_alone result stops device cell is = absurd (only_fault StoreFault result stops store_apart device cell is)
+
+module _ {M D : Type 0} {e : Effect} {rows later : List (Option Row)} {lease still : Lease} (result : Result (Unit {0}) Stop) where
   -- the module alone
-  pub module_keeps : {store : D} → IfErr result (λ stop. stop ≡ ModuleFault) → OnErr result (later ≡ rows) → loan_of still ≡ loan_of lease
-      → KeepsToEffect e result rows later lease still store store
-  module_keeps stops kept loan = record {
+  pub module_keeps : {old new : M} {store : D} → (WritesStore e → ⊥) → IfErr result (λ stop. stop ≡ ModuleFault) → OnErr result (later ≡ rows) → loan_of still ≡ loan_of lease
+      → KeepsToEffect e result rows later lease still old new store store
+  module_keeps none stops kept loan = record {
     stops = if_err result module_stop stops;
     entropy = λ is. cc (stops_as (λ stop. stop ≡ ModuleFault) result stops is);
     kept = λ none. kept;
     writes = λ is. cc (stops_as (λ stop. stop ≡ ModuleFault) result stops is);
     spared = λ none. refl;
+    alone = λ writes. absurd (none writes);
+    through = λ device cell is. absurd (only_fault ModuleFault result stops module_apart device cell is);
     loan = loan;
   }
 
   -- the store, for an effect that writes it
-  pub store_keeps : {old new : D} → WritesStore e → IfErr result IsStoreStop → ((GoesThrough e → ⊥) → OnErr result (later ≡ rows)) → loan_of still ≡ loan_of lease
-      → KeepsToEffect e result rows later lease still old new
-  store_keeps writes stops kept loan = record {
+  pub store_keeps : {module_ : M} {old new : D} → WritesStore e → ((device : Device) (cell : ℕ) → result ≡ Err (Damaged device cell) → GoesThrough e) → IfErr result IsStoreStop → ((GoesThrough e → ⊥) → OnErr result (later ≡ rows)) → loan_of still ≡ loan_of lease
+      → KeepsToEffect e result rows later lease still module_ module_ old new
+  store_keeps writes through stops kept loan = record {
     stops = if_err result store_stop stops;
     entropy = λ is. absurd (stops_as IsStoreStop result stops is);
     kept = kept;
     writes = λ is. writes;
     spared = λ none. absurd (none writes);
+    alone = λ writes. refl;
+    through = through;
     loan = loan;
   }
 

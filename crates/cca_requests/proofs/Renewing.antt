@@ -1,6 +1,7 @@
 -- An action on the labels of the store is what the machine makes of it.
-use Rattle.std.proofs.Common.{◌≡◌, ℕ, ◌∷◌, [], List, Option, Result, Ok, Err, codes, refl, ap, sym, ◌∙◌, subst, inr, ⊎_elim}
-use Rattle.std.specs.Prelude.{◌⊎◌, ◌<◌, OnOk, IfOk}
+use Rattle.std.proofs.Common.{◌≡◌, ℕ, zero, suc, Bool, true, false, ◌∷◌, [], List, Option, None, Result, Ok, Err, codes, refl, ap, sym, ◌∙◌, subst, inr, ⊎_elim, arith}
+use Rattle.std.specs.Prelude.{◌⊎◌, ◌<◌, ◌≤◌, OnOk, IfOk, cond, decimal, get_or, length}
+use Rattle.std.proofs.lemmas.Fmt.{length-decimal-le}
 use Rattle.device_cells.specs.Medium.{Medium, Told, From, Becomes}
 use Rattle.device_cells.specs.SpareBytes.{Turned}
 use Rattle.key_cells.specs.declared.leases.Lease.{Lease}
@@ -9,18 +10,20 @@ use Rattle.record_bodies.specs.StoreStands.{KeepsLabels}
 use Rattle.key_records.specs.declared.faults.RecordFault.{RecordFault}
 use Rattle.key_records.specs.declared.faults.RecordFault.TheVariants.{DiskFault, Damaged, Full, Exists}
 use Rattle.record_bodies.specs.declared.rows.Row.{Row}
+use Rattle.master_registers.specs.declared.registers.Registers.{Registers}
 use Rattle.line_service.specs.Replies.{Number, Done, spelled}
 use Rattle.line_service.specs.declared.stops.Stop.{Stop}
 use Rattle.line_service.specs.declared.stops.Stop.TheVariants.{StoreFault}
 use Rattle.verb_rules.specs.Keys.{keys_of}
 use Rattle.record_bodies.specs.Further.{further, changed_count}
 use Rattle.record_bodies.specs.declared.actions.StoreAction.{StoreAction}
-use Rattle.reencipher.specs.Runs.{IsCell, IsOnTheWay, LeavesAnyStore, Reenciphers}
+use Rattle.reencipher.specs.Runs.{IsCell, IsOnTheWay, LeavesAnyStore, Reenciphers, changed_rows, changes_row}
 use Rattle.cca_machine.specs.State.{State, IsStoreOf}
 use Rattle.cca_machine.specs.Act.{ChangeLabels, Outcome}
 use Rattle.request_rules.specs.Judging.{IsStoreStop}
 use Rattle.request_rules.specs.Standing.{StandsInStore}
 use Rattle.request_rules.specs.Stored.{IsReadFault, read_stop}
+use Rattle.line_service.specs.Lines.{EndsInNewline}
 use Rattle.cca_requests.specs.Serving.{IsEither, SameBut, CarriesStore, LeavesStore}
 use Rattle.cca_requests.specs.Changes.{plainly}
 use Rattle.cca_requests.proofs.Contents.{holds_at}
@@ -70,6 +73,29 @@ module _ (a : StoreAction) (d0 d1 : Medium) (s : State) (rows later : List (Opti
     stops = tt;
   }
 
+-- ---- how many labels were changed
+
+one_more : (changes : Bool) → cond changes 1 0 ≤ 1
+one_more true = omega arith
+one_more false = omega arith
+
+-- no more than there are cells
+few_changed : (a : StoreAction) (held : Registers) (rows : List (Option Row)) (cells : ℕ) → changed_rows a held rows cells ≤ cells
+few_changed a held rows zero = omega arith
+few_changed a held rows (suc n) = omega (arith, few_changed a held rows n, one_more (changes_row a held (get_or rows n None)))
+
+few_answered : (a : StoreAction) (held : Registers) (rows : List (Option Row)) (cells n : ℕ) (result : Result ℕ RecordFault) → result ≡ Ok n
+    → IfOk result (λ k. k ≡ changed_rows a held rows cells) → n ≤ cells
+few_answered a held rows cells n result is counted =
+    subst (λ k. k ≤ cells) (sym (subst (λ r. IfOk r (λ k. k ≡ changed_rows a held rows cells)) is counted)) (few_changed a held rows cells)
+
+-- so the number is a short one
+pub short_number : (a : StoreAction) (held : Registers) (rows : List (Option Row)) (n : ℕ) (result : Result ℕ RecordFault) → result ≡ Ok n
+    → IfOk result (λ k. k ≡ changed_rows a held rows 1024) → length (decimal n) ≤ 10
+short_number a held rows n result is counted =
+    let few : n ≤ 1024 = few_answered a held rows 1024 n result is counted in
+    length-decimal-le 10 n (omega arith) (omega (arith, few)) (omega (arith, few))
+
 -- ---- what it leaves whatever the store holds
 
 -- only a disk's fault is told as one of the store
@@ -88,9 +114,9 @@ read_fault Exists which = ⊎_elim (λ disk. cc disk) (λ damaged. cc damaged.2)
 
 module _ {D : Type 0} {medium : D → Medium} {faults : D → ℕ} {lease later : Lease} {rows next : List (Option Row)} {old new : D} {reply : List ℕ}
     (size : (medium old).size ≡ 1572864) where
-  pub renewed_left : (n : ℕ) → LeavesAnyStore {T = ℕ} medium faults IsCell lease later rows next old new (Ok n) → Becomes (Turned 1024) (medium old) (medium new)
+  pub renewed_left : (n : ℕ) → EndsInNewline reply → LeavesAnyStore {T = ℕ} medium faults IsCell lease later rows next old new (Ok n) → Becomes (Turned 1024) (medium old) (medium new)
       → LeavesStore (medium old) (medium new) (faults old) (faults new) (Ok tt) reply rows next
-  renewed_left n left turned = record {
+  renewed_left n line left turned = record {
     disk = record {
       size = left.size ∙ sym size;
       still = left.still;
@@ -102,6 +128,7 @@ module _ {D : Type 0} {medium : D → Medium} {faults : D → ℕ} {lease later 
     told = left.told;
     turned = turned;
     holds = left.holds;
+    line = line;
     silent = tt;
     memory = tt;
     stops = tt;
@@ -123,6 +150,7 @@ module _ {D : Type 0} {medium : D → Medium} {faults : D → ℕ} {lease later 
         told = left.told;
         turned = tt;
         holds = tt;
+        line = tt;
         silent = silent;
         memory = left.directory;
         stops = subst IsStoreStop (sym is) cause.0;

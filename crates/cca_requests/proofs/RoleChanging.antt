@@ -19,6 +19,7 @@ use Rattle.cca_machine.specs.State.{State, IsModuleOf}
 use Rattle.cca_machine.specs.Verdict.{questions}
 use Rattle.cca_machine.specs.Act.{Effect, NoCell, OneCell, Outcome}
 use Rattle.request_rules.specs.Standing.{StandsInModule}
+use Rattle.line_service.specs.Lines.{EndsInNewline}
 use Rattle.cca_requests.specs.Serving.{IsEither, SameBut, CarriesModule, IsSound, LeavesModule}
 use Rattle.cca_requests.specs.Changes.{plainly, role_outcome, role_stop, role_reply}
 use Rattle.device_cells.proofs.SpareLemmas.{changed_turned}
@@ -159,30 +160,38 @@ module _ {A : Type 0} (medium : A → Medium) (faults : A → ℕ) (old new : A)
   Left result = LeavesModule (medium old) (medium new) (faults old) (faults new) result reply before now
 
   left_by : (fault : RoleFault) → (fault ≡ DiskFault) ⊎ (fault ≡ full) → ChangesRoles place before next (medium old) (medium new) (Err fault)
-      → (error fault ≡ Err full → new ≡ old) → now ≡ before → (error fault ≡ Err DiskFault → Rose (faults old) (faults new)) → OnErr (role_stop (Err fault)) (reply ≡ [])
+      → (error fault ≡ Err full → new ≡ old) → now ≡ before → (error fault ≡ Err DiskFault → Rose (faults old) (faults new)) → OnOk (role_stop (Err fault)) (EndsInNewline reply) → OnErr (role_stop (Err fault)) (reply ≡ [])
       → Left (role_stop (Err fault))
-  left_by fault (inl disk) changes untouched memory cause silent = subst (λ f. Left (role_stop (Err f))) (sym disk) (record {
+  left_by fault (inl disk) changes untouched memory cause line silent = subst (λ f. Left (role_stop (Err f))) (sym disk) (record {
     disk = record { size = changes.either.size; still = changes.either.still; settled = λ ok. absurd (cc ok); later = later; fault = λ is. cause (ap error disk); quiet = λ none. absurd (none refl) };
     told = told_before (HoldsEither (place + 1) before next) (medium old) (medium new) changes.either;
     turned = tt;
     sound = tt;
+    line = tt;
     silent = subst (λ f. OnErr (role_stop (Err f)) (reply ≡ [])) disk silent;
     memory = memory;
     stops = refl;
   })
-  left_by fault (inr is) changes untouched memory cause silent =
+  left_by fault (inr is) changes untouched memory cause line silent =
       subst (λ f. Left (role_stop (Err f))) (sym is)
       (subst (λ x. Left x) (sym refusing.stop)
       (subst (λ x. LeavesModule (medium old) (medium x) (faults old) (faults x) (Ok tt) reply before now) (sym (untouched (ap error is)))
       (subst (λ rs. LeavesModule (medium old) (medium old) (faults old) (faults old) (Ok tt) reply before rs) (sym memory)
-      (still_module_left (medium old) (faults old) reply before settled (sound (medium old) m before stands also)))))
+      (still_module_left (medium old) (faults old) reply before told settled (sound (medium old) m before stands also)))))
+    where
+      told_of : (r : Result (Unit {0}) Stop) → r ≡ Ok tt → OnOk r (EndsInNewline reply) → EndsInNewline reply
+      told_of (Ok u) ok says = says
+      told_of (Err stop) ok says = cc ok
+
+      told : EndsInNewline reply
+      told = told_of (role_stop (Err full)) refusing.stop (subst (λ f. OnOk (role_stop (Err f)) (EndsInNewline reply)) is line)
 
   -- what a change leaves
   left_of : (r : Result (Unit {0}) RoleFault) → IfErr r (λ fault. (fault ≡ DiskFault) ⊎ (fault ≡ full))
       → ChangesRoles place before next (medium old) (medium new) r → (r ≡ Err full → new ≡ old) → Remembers before next now r
       → (r ≡ Err DiskFault → Rose (faults old) (faults new)) → ((r ≡ Err DiskFault → ⊥) → faults new ≡ faults old)
-      → OnErr (role_stop r) (reply ≡ []) → Left (role_stop r)
-  left_of (Ok u) each changes untouched memory cause quiet silent = record {
+      → OnOk (role_stop r) (EndsInNewline reply) → OnErr (role_stop r) (reply ≡ []) → Left (role_stop r)
+  left_of (Ok u) each changes untouched memory cause quiet line silent = record {
     disk = record { size = changes.either.size; still = changes.either.still; settled = λ ok. changes.settled; later = later; fault = λ is. cc is; quiet = λ none. quiet (λ is. cc is) };
     told = told_before (HoldsEither (place + 1) before next) (medium old) (medium new) changes.either;
     turned = changed_turned (place + 1) 33 (medium old) (medium new) (HoldsEither (place + 1) before next) changes.either changes.turned
@@ -191,15 +200,16 @@ module _ {A : Type 0} (medium : A → Medium) (faults : A → ℕ) (old new : A)
         (becomes_told (medium old) (medium new) (HoldsEither (place + 1) before next) (λ image. StandsForMasters image m) (λ image. StandsForMasters image m)
         changes.either stands (λ d c p h. registers_alike d c m place h.others p))
         changes.stands);
+    line = line;
     silent = tt;
     memory = tt;
     stops = tt;
   }
-  left_of (Err fault) each changes untouched memory cause quiet silent = left_by fault each changes untouched memory.kept cause silent
+  left_of (Err fault) each changes untouched memory cause quiet line silent = left_by fault each changes untouched memory.kept cause line silent
 
   pub role_left_as : (r : Result (Unit {0}) RoleFault) (result : Result (Unit {0}) Stop) → result ≡ role_stop r → IfErr r (λ fault. (fault ≡ DiskFault) ⊎ (fault ≡ full))
       → ChangesRoles place before next (medium old) (medium new) r → (r ≡ Err full → new ≡ old) → Remembers before next now r
       → (r ≡ Err DiskFault → Rose (faults old) (faults new)) → ((r ≡ Err DiskFault → ⊥) → faults new ≡ faults old)
-      → OnErr result (reply ≡ []) → Left result
-  role_left_as r result is each changes untouched memory cause quiet silent =
-      subst Left (sym is) (left_of r each changes untouched memory cause quiet (subst (λ x. OnErr x (reply ≡ [])) is silent))
+      → OnOk result (EndsInNewline reply) → OnErr result (reply ≡ []) → Left result
+  role_left_as r result is each changes untouched memory cause quiet line silent =
+      subst Left (sym is) (left_of r each changes untouched memory cause quiet (subst (λ x. OnOk x (EndsInNewline reply)) is line) (subst (λ x. OnErr x (reply ≡ [])) is silent))

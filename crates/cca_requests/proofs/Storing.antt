@@ -1,6 +1,6 @@
 -- A change of the records is what the machine makes of it.
 use Rattle.std.proofs.Common.{◌≡◌, ◌≢◌, ℕ, Bool, true, false, List, [], ◌∷◌, Option, None, Some, Result, Ok, Err, codes, refl, sym, ap, ◌∙◌, subst, inl, inr, ⊎_elim, arith}
-use Rattle.std.specs.Prelude.{◌⊎◌, ◌↔◌, ◌==◌, IsTrue, OnOk, OnErr, is_some}
+use Rattle.std.specs.Prelude.{◌⊎◌, ◌↔◌, ◌==◌, IsTrue, OnOk, OnErr, IfErr, is_some}
 use Rattle.std.proofs.lemmas.Bool.{false_from_ne_true}
 use Rattle.std.proofs.lemmas.Bool.Decides.{Decides-eqb}
 use Rattle.key_cells.specs.declared.leases.Lease.{Lease}
@@ -26,6 +26,7 @@ use Rattle.cca_machine.specs.Verdict.{refusal, questions, first_refusal}
 use Rattle.verb_script.specs.Grammar.{Request}
 use Rattle.cca_machine.specs.Act.{Effect, Create, Delete, Write, Cells, OneCell, Outcome, cell_or_none, deleted_in, effected, refused, written_in}
 use Rattle.request_rules.specs.Standing.{StandsInStore}
+use Rattle.line_service.specs.Lines.{EndsInNewline}
 use Rattle.cca_requests.specs.Serving.{IsEither, SameBut, CarriesStore, LeavesStore}
 use Rattle.cca_machine.specs.Deciding.{IsDeleted, IsRecorded, IsWritten}
 use Rattle.cca_requests.specs.Changes.{or_effected, plainly, record_stop, record_reply}
@@ -200,6 +201,14 @@ module _ {A : Type 0} (medium : A → Medium) (old new : A) (s : State) (rows la
 
 -- ---- whatever the store holds
 
+-- a label isn't held for this fault alone
+pub create_fault : (r : Result (Unit {0}) RecordFault) → IfErr (record_stop r) (λ stop. stop ≡ StoreFault)
+create_fault (Ok done) = tt
+create_fault (Err DiskFault) = refl
+create_fault (Err (Damaged n)) = refl
+create_fault (Err Full) = tt
+create_fault (Err Exists) = tt
+
 module _ {A : Type 0} (medium : A → Medium) (faults : A → ℕ) (old new : A) (rows later : List (Option Row)) (reply : List ℕ) (cell : ℕ) (bytes : List ℕ) (row : Option Row) (lease after : Lease) where
   abbrev Changed : Result (Unit {0}) RecordFault → Type 0
   Changed r = ChangesRecord medium faults cell bytes row rows later lease after old new r
@@ -207,14 +216,15 @@ module _ {A : Type 0} (medium : A → Medium) (faults : A → ℕ) (old new : A)
   abbrev Left : Result (Unit {0}) Stop → Type 0
   Left result = LeavesStore (medium old) (medium new) (faults old) (faults new) result reply rows later
 
-  pub stored_left : (u : Unit {0}) → Changed (Ok u) → Left (Ok tt)
-  stored_left u changes =
+  pub stored_left : (u : Unit {0}) → EndsInNewline reply → Changed (Ok u) → Left (Ok tt)
+  stored_left u line changes =
       let quiet : faults new ≡ faults old = changes.cause.quiet (λ is. cc is) in
       record {
         disk = record { size = changes.cell.replacing.size; still = changes.cell.replacing.still; settled = λ ok. changes.cell.settled; later = omega (arith, quiet); fault = λ is. cc is; quiet = λ none. quiet };
         told = told_before (IsReplacing cell bytes) (medium old) (medium new) changes.cell.replacing;
         turned = becomes_turned cell 1024 (medium old) (medium new) bytes changes.cell.replaced;
         holds = changes.holds;
+        line = line;
         silent = tt;
         memory = tt;
         stops = tt;
@@ -226,23 +236,24 @@ module _ {A : Type 0} (medium : A → Medium) (faults : A → ℕ) (old new : A)
     told = told_before (IsReplacing cell bytes) (medium old) (medium new) changes.cell.replacing;
     turned = tt;
     holds = tt;
+    line = tt;
     silent = silent;
     memory = ap row_directory changes.memory.kept;
     stops = tt;
   }
 
   module _ (settled : IsSettled (medium old)) (holds : Told (medium old) (HoldsRows rows)) where
-    refused_left : new ≡ old → later ≡ rows → Left (Ok tt)
-    refused_left untouched memory =
+    refused_left : EndsInNewline reply → new ≡ old → later ≡ rows → Left (Ok tt)
+    refused_left line untouched memory =
         subst (λ x. LeavesStore (medium old) (medium x) (faults old) (faults x) (Ok tt) reply rows later) (sym untouched)
         (subst (λ rs. LeavesStore (medium old) (medium old) (faults old) (faults old) (Ok tt) reply rows rs) (sym memory)
-        (still_store_left (medium old) (faults old) reply rows settled holds))
+        (still_store_left (medium old) (faults old) reply rows line settled holds))
 
     -- what holding another label leaves
     pub create_left_as : (held : List (Option (List ℕ))) (label : List ℕ) (r : Result (Unit {0}) RecordFault) → Changed r → RefusesLabel held label lease after old new r
-        → OnErr (record_stop r) (reply ≡ []) → Left (record_stop r)
-    create_left_as held label (Ok u) changes refuses silent = stored_left u changes
-    create_left_as held label (Err DiskFault) changes refuses silent = failed_left changes silent
-    create_left_as held label (Err (Damaged n)) changes refuses silent = absurd (refuses.undamaged n refl)
-    create_left_as held label (Err Full) changes refuses silent = refused_left (refuses.untouched (inl refl)) changes.memory.kept
-    create_left_as held label (Err Exists) changes refuses silent = refused_left (refuses.untouched (inr refl)) changes.memory.kept
+        → OnOk (record_stop r) (EndsInNewline reply) → OnErr (record_stop r) (reply ≡ []) → Left (record_stop r)
+    create_left_as held label (Ok u) changes refuses line silent = stored_left u line changes
+    create_left_as held label (Err DiskFault) changes refuses line silent = failed_left changes silent
+    create_left_as held label (Err (Damaged n)) changes refuses line silent = absurd (refuses.undamaged n refl)
+    create_left_as held label (Err Full) changes refuses line silent = refused_left line (refuses.untouched (inl refl)) changes.memory.kept
+    create_left_as held label (Err Exists) changes refuses line silent = refused_left line (refuses.untouched (inr refl)) changes.memory.kept

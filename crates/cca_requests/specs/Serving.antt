@@ -16,7 +16,9 @@ use Rattle.master_registers.specs.RegisterBody.{IsDamaged}
 use Rattle.master_registers.specs.declared.registers.Registers.{Registers}
 use Rattle.line_service.specs.Answering.{Unwritten}
 use Rattle.line_service.specs.Devices.{Span, Devices, DiskLeft, TellsFault, ModuleLeft, StoreLeft}
+use Rattle.line_service.specs.Lines.{EndsInNewline}
 use Rattle.line_service.specs.Machine.{World}
+use Rattle.line_service.specs.declared.stops.Device.{Device}
 use Rattle.line_service.specs.declared.stops.Device.TheVariants.{Module, Store}
 use Rattle.line_service.specs.declared.stops.Stop.{Stop}
 use Rattle.line_service.specs.declared.stops.Stop.TheVariants.{ReadFault, WriteFault, EntropyFault, ModuleFault, StoreFault, Damaged, InputLimit}
@@ -188,6 +190,8 @@ pub record LeavesModule (old new : Medium) (before now : ℕ) (result : Result (
   -- after Ok the body that was selected in a cell that has changed stands on the other side
   pub turned : OnOk result (Becomes (Turned 33) old new)
   pub sound : OnOk result (Told new (IsSound later))
+  -- after Ok the reply ends with a newline
+  pub line : OnOk result (EndsInNewline reply)
   pub silent : OnErr result (reply ≡ [])
   pub memory : OnErr result (later ≡ roles)
   pub stops : IfErr result (λ stop. stop ≡ ModuleFault)
@@ -199,16 +203,20 @@ pub record LeavesStore (old new : Medium) (before now : ℕ) (result : Result (U
   pub told : HasTold old new
   pub turned : OnOk result (Becomes (Turned 1024) old new)
   pub holds : OnOk result (Told new (HoldsRows later))
+  -- after Ok the reply ends with a newline
+  pub line : OnOk result (EndsInNewline reply)
   pub silent : OnErr result (reply ≡ [])
   pub memory : OnErr result (row_directory later ≡ row_directory rows)
   pub stops : IfErr result IsStoreStop
 
--- The same of a change of one record: after an error the memory is as it was. The lease is still that of its bench.
+-- The same of a change of one record: after an error the memory is as it was, and the error is that the store failed. The
+-- lease is still that of its bench.
 pub record LeavesRecords {D : Type 0} (medium : D → Medium) (faults : D → ℕ) (lease still : Lease)
     (old new : D) (result : Result (Unit {0}) Stop) (reply : List ℕ)
     (rows later : List (Option Row)) : Type 0 where
   pub left : LeavesStore (medium old) (medium new) (faults old) (faults new) result reply rows later
   pub kept : OnErr result (later ≡ rows)
+  pub fault : IfErr result (λ stop. stop ≡ StoreFault)
   pub loan : loan_of still ≡ loan_of lease
 
 -- what a call leaves of both disks, of the reply and of the memory
@@ -224,20 +232,27 @@ pub record Leaves (result : Result (Unit {0}) Stop) (reply : List ℕ) (d : Span
   pub store_turned : OnOk result (Becomes (Turned 1024) d.old.world.store d.new.world.store)
   pub sound : OnOk result (Told d.new.world.module_ (IsSound later.roles))
   pub holds : OnOk result (Told d.new.world.store (HoldsRows later.rows))
+  -- and after Ok the reply ends with a newline
+  pub line : OnOk result (EndsInNewline reply)
   pub silent : OnErr result (reply ≡ [])
   -- after an error the memory has the roles that it had, and holds the labels that it held, in their cells
   pub roles : OnErr result (later.roles ≡ t.roles)
   pub labels : OnErr result (row_directory later.rows ≡ row_directory t.rows)
 
--- What was called and changed for an effect: the store only where the effect writes it; and the memory of the records,
--- after an error, only where the effect goes through every label.
-pub record KeepsToEffect {D : Type 0} (e : Effect) (result : Result (Unit {0}) Stop)
-    (rows later : List (Option Row)) (lease still : Lease) (store0 store1 : D) : Type 0 where
+-- What was called and changed for an effect: the store only where the effect writes it, and the module only where it
+-- doesn't; and the memory of the records, after an error, only where the effect goes through every label. A damaged cell is
+-- come upon only there too.
+pub record KeepsToEffect {M D : Type 0} (e : Effect) (result : Result (Unit {0}) Stop)
+    (rows later : List (Option Row)) (lease still : Lease) (module0 module1 : M)
+    (store0 store1 : D) : Type 0 where
   pub stops : IfErr result IsLoadedStop
   pub entropy : result ≢ Err EntropyFault
   pub kept : (GoesThrough e → ⊥) → OnErr result (later ≡ rows)
   pub writes : result ≡ Err StoreFault → WritesStore e
   pub spared : (WritesStore e → ⊥) → store1 ≡ store0
+  pub alone : WritesStore e → module1 ≡ module0
+  pub through : (device : Device) (cell : ℕ) → result ≡ Err (Damaged device cell)
+      → GoesThrough e
   pub loan : loan_of still ≡ loan_of lease
 
 -- cell 0 of the module reads as no registers, and nothing was written

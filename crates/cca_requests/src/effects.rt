@@ -51,7 +51,7 @@ pub(crate) fn carry<M: Disk, D: Disk>(
         («module».old, store.old) («module».new, store.new))
         (tables roles.old records.old) (tables roles.new records.new) }
     ensures keeps { KeepsToEffect effect.now result records.old records.new lease.old lease.new
-        store.old store.new }
+        «module».old «module».new store.old store.new }
 {
     match effect {
         Effect::Refused(refusal) => {

@@ -1,9 +1,10 @@
 //! A request, judged and carried out.
-ghost use Rattle.std.specs.Prelude.{◌≡◌, false, [], Option, Err, OnOk, OnErr, IfErr};
+ghost use Rattle.std.specs.Prelude.{◌≡◌, ℕ, false, [], Option, Err, OnOk, OnErr, IfErr};
+ghost use Rattle.device_cells.specs.Medium.{Keeps};
 ghost use Rattle.key_cells.specs.Bench.{blank_bench};
 ghost use Rattle.key_cells.specs.Lease.{bench_of, loan_of};
 ghost use Rattle.line_service.specs.Machine.{world};
-ghost use Rattle.line_service.specs.Devices.{AreSettled};
+ghost use Rattle.line_service.specs.Devices.{AreSettled, DamageSpares};
 ghost use Rattle.verb_script.specs.Parsed.{seen};
 ghost use Rattle.cca_machine.specs.State.{State, module_size, store_size};
 ghost use Rattle.cca_machine.specs.Operands.{operands, is_reencipher};
@@ -32,6 +33,9 @@ use verb_script::{ReplyBuffer, Request};
 /// A refusal is `Ok` with its reply. After a stop the reply buffer is empty, and the session is to be begun again.
 ///
 /// Random bytes are drawn only where no rule that is asked before refuses the request.
+///
+/// Where a cell turns out damaged, no random byte was drawn and the module is as it was; and so is the store, but for
+/// a re-enciphering that came upon the cell on its way.
 ///
 /// Each request reads the module twice, and for each label of a key one cell of the store. A change of a disk reads
 /// it once more at most, and writes and syncs it twice. Re-enciphering goes through the store cell by cell: it costs two
@@ -66,6 +70,11 @@ pub fn perform<M: Disk, D: Disk, E: Entropy>(
     ensures damage { result ≡ Err (Stop.Damaged Device.Module 0)
         → FindsDamage (M.medium «module».old) (M.medium «module».new) }
     ensures store { SparesStore (seen request.now) result store.old store.new }
+    ensures damaged { DamageSpares result (M.medium «module».old) (M.medium «module».new)
+        store.old store.new entropy.old entropy.new }
+    ensures store_kept { is_reencipher (seen request.now).name ≡ false
+        → (cell : ℕ) → result ≡ Err (Stop.Damaged Device.Store cell)
+        → Keeps (D.medium store.old) (D.medium store.new) }
     ensures random { DrawsOnly (λ s. Stands s (tables roles.old records.old)
         (M.medium «module».old) (D.medium store.old)) (seen request.now)
         result entropy.old entropy.new (E.faults entropy.old) (E.faults entropy.new) }
@@ -121,6 +130,11 @@ fn carry_out<M: Disk, D: Disk, E: Entropy>(
     ensures rows { is_reencipher (seen request.now).name ≡ false
         → OnErr result (records.new ≡ records.old) }
     ensures store { SparesStore (seen request.now) result store.old store.new }
+    ensures damaged { DamageSpares result (M.medium «module».old) (M.medium «module».new)
+        store.old store.new entropy.old entropy.new }
+    ensures store_kept { is_reencipher (seen request.now).name ≡ false
+        → (cell : ℕ) → result ≡ Err (Stop.Damaged Device.Store cell)
+        → Keeps (D.medium store.old) (D.medium store.new) }
     ensures loan { loan_of lease.new ≡ loan_of lease.old }
 {
     if let Some(rule) = general_rule(request, held, roles) {
@@ -175,6 +189,11 @@ fn act<M: Disk, D: Disk, E: Entropy>(
     ensures rows { is_reencipher (seen request.now).name ≡ false
         → OnErr result (records.new ≡ records.old) }
     ensures store { SparesStore (seen request.now) result store.old store.new }
+    ensures damaged { DamageSpares result (M.medium «module».old) (M.medium «module».new)
+        store.old store.new entropy.old entropy.new }
+    ensures store_kept { is_reencipher (seen request.now).name ≡ false
+        → (cell : ℕ) → result ≡ Err (Stop.Damaged Device.Store cell)
+        → Keeps (D.medium store.old) (D.medium store.new) }
     ensures loan { loan_of lease.new ≡ loan_of lease.old }
 {
     match decide(request, granted, entropy, lease, held, records, reply) {

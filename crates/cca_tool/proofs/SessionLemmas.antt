@@ -1,5 +1,5 @@
 -- What a session shows of a line that its desk has served.
-use Rattle.std.proofs.Common.{◌≡◌, ℕ, Option, None, Result, Ok, Err, refl, sym, ap, subst, ◌∙◌}
+use Rattle.std.proofs.Common.{◌≡◌, ℕ, Option, None, Some, Result, Ok, Err, refl, sym, ap, subst, ◌∙◌}
 use Rattle.std.specs.Prelude.{IfErr}
 use Rattle.cca_machine.specs.Coprocessor.{IsCell, IsStop}
 use Rattle.line_service.specs.Devices.{Outside, Span}
@@ -10,6 +10,7 @@ use Rattle.line_service.specs.declared.stops.Stop.{Stop}
 use Rattle.line_service.specs.declared.stops.Stop.TheVariants.{ReadFault, WriteFault, EntropyFault, ModuleFault, StoreFault, Damaged, InputLimit}
 use Rattle.line_service.specs.Reading.{Reading}
 use Rattle.line_service.specs.declared.lines.Taken.{Taken}
+use Rattle.line_service.specs.declared.lines.Taken.TheVariants.{End}
 use Rattle.cca_tool.specs.Sessions.{Memory, ShowsWaiting}
 
 -- a stop names a cell of its device
@@ -47,3 +48,7 @@ idle_inside inside shown is idle = ap (λ (memory : Memory). memory.waiting) is 
 -- where no line waits, any reading will do
 pub idle_shows : (waiting : Option Taken) (reading : Reading) → waiting ≡ None → ShowsWaiting waiting reading
 idle_shows waiting reading idle = subst (λ (o : Option Taken). ShowsWaiting o reading) (sym idle) tt
+
+-- a line that waits isn't the end of the input
+pub waits_at_no_end : (waiting : Option Taken) (taken : Taken) (reading : Reading) → ShowsWaiting waiting reading → waiting ≡ Some taken → taken ≡ End → ⊥
+waits_at_no_end waiting taken reading shows is end = subst (λ (o : Option Taken). ShowsWaiting o reading) (is ∙ ap Some end) shows

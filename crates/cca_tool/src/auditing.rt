@@ -131,6 +131,7 @@ pub fn an_audited_run_notes_each_line()
     ensures session { (s : State) (es : List Entry) (random : List ℕ) (lines : List (List ℕ))
         → NotesLines cca entry_of s es random lines }
     ensures led { (s : State) (es : List Entry) (lines : List (List ℕ)) (drawn : List ℕ)
-        (t : Noted State) (sent : List ℕ) → Runs (noting cca entry_of) (noted s es) lines drawn t sent
+        (t : Noted State) (sent : List ℕ)
+        → Runs (noting cca entry_of) (noted s es) lines drawn t sent
         → HaveNoted s es lines drawn t sent }
 {}

@@ -1,6 +1,7 @@
 //! What answers the lines of the coprocessor.
-ghost use Rattle.std.specs.Prelude.{◌≡◌, ◌≤◌, codes};
+ghost use Rattle.std.specs.Prelude.{◌≡◌, codes};
 ghost use Rattle.line_service.specs.Replies.{Refused, spelled};
+ghost use Rattle.verb_rules.specs.Rules.{rule_number};
 ghost use Rattle.request_rules.specs.Standing.{tables};
 ghost use Rattle.cca_machine.specs.Coprocessor.{cca};
 ghost use Rattle.store_unload.specs.Opening.{AreKnown, remembers};
@@ -12,6 +13,7 @@ use key_cells::{Lease, Workbench};
 use key_records::Records;
 use line_service::{Desk, Stop};
 use store_unload::open_disks;
+use verb_rules::Rule;
 use verb_script::{ReplyBuffer, parse_request};
 
 /// The coprocessor. It remembers the roles of the module and the labels of the store.
@@ -49,7 +51,7 @@ impl Desk for Coprocessor {
     }
 
     fn too_long(&self, reply: &mut ReplyBuffer) {
-        refuse_line(reply, 2);
+        refuse_line(reply, Rule::LineLength);
     }
 
     fn answer<M: Disk, D: Disk, E: Entropy>(
@@ -73,7 +75,7 @@ impl Desk for Coprocessor {
                 reply,
             ),
             Err(_) => {
-                refuse_line(reply, 1);
+                refuse_line(reply, Rule::Form);
                 Ok(())
             }
         }
@@ -81,11 +83,10 @@ impl Desk for Coprocessor {
 }
 
 /// Writes the reply to a line that is no request.
-fn refuse_line(reply: &mut ReplyBuffer, rule: u8)
-    requires { rule ≤ 2 }
-    ensures { reply.new ≡ spelled (Refused rule (codes "-")) }
+fn refuse_line(reply: &mut ReplyBuffer, rule: Rule)
+    ensures { reply.new ≡ spelled (Refused (rule_number rule) (codes "-")) }
 {
     reply.clear();
-    reply.refuse(rule, "-");
+    reply.refuse(rule.number(), "-");
     reply.finish();
 }

@@ -1,10 +1,13 @@
 //! Sessions: lines served one after another, over a module and a store.
-ghost use Rattle.std.specs.Prelude.{◌≡◌, ℕ, List, [], None, IsSome, IsTrue, Err, OnOk, OnErr, IfOk, IfErr};
+ghost use Rattle.std.specs.Prelude.{◌≡◌, ℕ, List, [], None, IsSome, IsTrue, Ok, Err, OnOk, OnErr, IfOk, IfErr};
 ghost use Rattle.std.specs.Io.KnownBytes.{IsAtEnd};
 ghost use Rattle.key_cells.specs.Bench.{blank_bench};
+ghost use Rattle.device_cells.specs.WhereTold.{WhereTold};
+ghost use Rattle.line_service.specs.Lines.{EndsInNewline};
 ghost use Rattle.line_service.specs.Reading.{blank};
+ghost use Rattle.line_service.specs.Sending.{GotReply};
 ghost use Rattle.line_service.specs.Answering.{OnDisks, IsSound, Serves};
-ghost use Rattle.line_service.specs.Devices.{HaveSizes, AreSettled, BothSettled, DamageTold, DevicesLeft, OpeningLeft, OutsideLeft, TellsFault, Undamaged};
+ghost use Rattle.line_service.specs.Devices.{HaveSizes, AreSettled, BothSettled, DamageSpares, DamageTold, DevicesLeft, OpeningLeft, OutsideLeft, TellsFault, Undamaged};
 ghost use Rattle.line_service.specs.Machine.{world};
 ghost use Rattle.line_service.specs.Running.{LineLeaves, LineTaken, SessionLeft, Unmoved, Untouched};
 ghost use Rattle.line_service.specs.Stops.{IsDeskStop, IsOpeningStop};
@@ -129,6 +132,9 @@ impl Session {
         ensures known { OnOk result
             (AreKnown self.new.tables (M.medium «module».new) (D.medium store.new)) }
 
+        // Whatever the disks tell, the sink got a reply where the line is said to be answered.
+        ensures replied { result ≡ Ok Served.Replied
+            → WhereTold (K.held sink.old) (K.held sink.new) GotReply }
         // How far the input was taken, and which line is shown.
         ensures taken { LineTaken result (⟦<(S, K, M, D, E) as ShownOutside>⟧.between
             (source.old, sink.old, «module».old, store.old, entropy.old)
@@ -143,6 +149,8 @@ impl Session {
             (source.new, sink.new, «module».new, store.new, entropy.new)) }
         ensures undamaged { Undamaged cca result
             (⟦<(M, D) as Shown>⟧.shown («module».old, store.old)) }
+        ensures damaged { DamageSpares result (M.medium «module».old) (M.medium «module».new)
+            store.old store.new entropy.old entropy.new }
         ensures cut { result ≡ Err Stop.WriteFault → BothSettled
             (⟦<(M, D) as Shown>⟧.shown («module».new, store.new)) }
         ensures stops { IfErr result IsStop }
@@ -227,12 +235,16 @@ impl Session {
             (AreKnown self.new.tables (M.medium «module».new) (D.medium store.new)) }
         ensures reading { self.new.reading ≡ self.old.reading }
         ensures idle { self.new.waiting ≡ None }
+        // Whatever the disks tell, there is a reply, unless it stopped.
+        ensures answered { OnOk result (EndsInNewline self.new.reply) }
         ensures unanswered { OnErr result (self.new.reply ≡ []) }
         // What is left of each device, and why it stopped. Disks that tell their bytes don't turn out damaged.
         ensures left { DevicesLeft result (⟦<(M, D, E) as Shown>⟧.between
             («module».old, store.old, entropy.old) («module».new, store.new, entropy.new)) }
         ensures undamaged { Undamaged cca result
             (⟦<(M, D) as Shown>⟧.shown («module».old, store.old)) }
+        ensures damaged { DamageSpares result (M.medium «module».old) (M.medium «module».new)
+            store.old store.new entropy.old entropy.new }
         ensures stops { IfErr result IsDeskStop }
         ensures bench { bench.new ≡ blank_bench }
     {
@@ -258,7 +270,7 @@ impl Session {
         }
     }
 
-    /// The reply to the line that was answered last, with its newline.
+    /// After `answer`, the reply to that line, with its newline; after a stop of `answer`, nothing.
     pub fn reply(&self) -> &[u8]
         ensures { result.now ≡ self.now.reply }
     {

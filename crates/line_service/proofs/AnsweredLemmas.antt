@@ -2,10 +2,10 @@
 use Rattle.std.proofs.Common.{◌≡◌, ◌≤◌, ◌++◌, ℕ, List, Option, Result, Ok, Err, ap, refl, inl, inr, ⊎_elim}
 use Rattle.std.specs.Prelude.{◌⊎◌}
 use Rattle.device_cells.specs.Faults.{Rose}
-use Rattle.device_cells.specs.Medium.{IsSettled}
+use Rattle.device_cells.specs.Medium.{Medium, IsSettled}
 use Rattle.device_cells.specs.WhereTold.{WhereTold}
 use Rattle.device_cells.proofs.WhereToldLemmas.{told_weaker}
-use Rattle.line_service.specs.Devices.{Span, Devices, BothSettled, DevicesLeft, Outside, OutsideLeft, TellsFault, Undamaged, behind, outside}
+use Rattle.line_service.specs.Devices.{Span, DamageSpares, Devices, DevicesLeft, Outside, OutsideLeft, TellsFault, Undamaged, behind, outside}
 use Rattle.line_service.specs.Machine.{Machine}
 use Rattle.line_service.specs.Running.{Unmoved}
 use Rattle.line_service.specs.Sending.{GotPart}
@@ -13,6 +13,7 @@ use Rattle.line_service.specs.Stops.{IsDeskStop, IsUnanswered}
 use Rattle.line_service.specs.declared.serving.Served.{Served}
 use Rattle.line_service.specs.declared.serving.Served.TheVariants.{Replied}
 use Rattle.line_service.specs.declared.stops.Device.{Device}
+use Rattle.line_service.specs.declared.stops.Device.TheVariants.{Module}
 use Rattle.line_service.specs.declared.stops.Stop.{Stop}
 use Rattle.line_service.specs.declared.stops.Stop.TheVariants.{ReadFault, WriteFault, InputLimit, Damaged}
 use Rattle.line_service.proofs.StopLemmas.{devices_stopped, disk_still, count_still, grows_none, no_desk_write}
@@ -166,9 +167,6 @@ undamaged_stopped A old stop undamaged = record {
   reread = λ device cell h. undamaged.reread device cell (handed_on {T = Served} {U = Unit {0}} stop _ h);
 }
 
-pub both_settled : (d : Span Devices) → DevicesLeft {T = Unit {0}} (Ok tt) d → BothSettled d.new
-both_settled d left = record { module_settled = left.module_left.settled refl; store_settled = left.store_left.settled refl }
-
 -- and so is all that is outside, by what the sink got
 module _ (o : Span Outside) (later : o.old.source_faults ≤ o.new.source_faults) (quiet : o.new.source_faults ≡ o.old.source_faults) where
   module _ (left : DevicesLeft {T = Unit {0}} (Ok tt) (behind o)) (sent : o.old.sink_faults ≤ o.new.sink_faults) (piece : List ℕ) where
@@ -196,4 +194,31 @@ outside_stopped A stop kind d a b p reads reads1 writes later quiet left = recor
   source_left = source_read reads reads1 (Err stop) (answered_stop stop kind) later quiet;
   sink_left = count_still writes _ (no_desk_write stop kind);
   sink_grows = grows_none p;
+}
+
+-- ---- where a cell turned out damaged
+
+-- none did
+pub spares_else : {T D E : Type 0} {m0 m1 : Medium} {d0 d1 : D} {e0 e1 : E} (r : Result T Stop) → ((device : Device) (cell : ℕ) → r ≡ Err (Damaged device cell) → ⊥) → DamageSpares r m0 m1 d0 d1 e0 e1
+spares_else r never = record {
+  undrawn = λ device cell h. absurd (never device cell h);
+  module_kept = λ device cell h. absurd (never device cell h);
+  store_uncalled = λ cell h. absurd (never Module cell h);
+}
+
+pub done_undamaged : {T : Type 0} (x : T) (device : Device) (cell : ℕ) → ◌≡◌ {A = Result T Stop} (Ok x) (Err (Damaged device cell)) → ⊥
+done_undamaged x device cell h = cc h
+
+pub cut_undamaged : {T : Type 0} (device : Device) (cell : ℕ) → ◌≡◌ {A = Result T Stop} (Err WriteFault) (Err (Damaged device cell)) → ⊥
+cut_undamaged device cell h = cc h
+
+pub unanswered_undamaged : (q : Result Served Stop) → IsUnanswered q → (device : Device) (cell : ℕ) → q ≡ Err (Damaged device cell) → ⊥
+unanswered_undamaged q unanswered device cell h = ⊎_elim (λ is. cc is) (λ is. cc is) (unanswered_stop q unanswered _ h)
+
+-- the stop of a call is handed on
+pub spares_on : {T U D E : Type 0} {m0 m1 : Medium} {d0 d1 : D} {e0 e1 : E} (stop : Stop) → DamageSpares {T = T} (Err stop) m0 m1 d0 d1 e0 e1 → DamageSpares {T = U} (Err stop) m0 m1 d0 d1 e0 e1
+spares_on {T} {U} stop spares = record {
+  undrawn = λ device cell h. spares.undrawn device cell (handed_on {T = U} {U = T} stop _ h);
+  module_kept = λ device cell h. spares.module_kept device cell (handed_on {T = U} {U = T} stop _ h);
+  store_uncalled = λ cell h. spares.store_uncalled cell (handed_on {T = U} {U = T} stop _ h);
 }

@@ -1,5 +1,5 @@
 -- How far a run has come, and what it leaves at its last line.
-use Rattle.std.proofs.Common.{◌≡◌, ◌+◌, ◌<◌, ◌≤◌, ℕ, List, Option, None, Some, Result, Ok, Err, length, ap, refl, sym, subst, ◌∙◌, inl, inr, arith}
+use Rattle.std.proofs.Common.{◌≡◌, ◌+◌, ◌++◌, ◌<◌, ◌≤◌, ℕ, List, Option, None, Some, Result, Ok, Err, length, ap, refl, sym, subst, ◌∙◌, inl, inr, arith}
 use Rattle.std.specs.Prelude.{◌⊎◌, IsTrue, IsSome, IfSome, IsOk}
 use Rattle.std.specs.Io.KnownBytes.{IsAtEnd}
 use Rattle.device_cells.specs.Medium.{Medium, IsSettled}
@@ -9,8 +9,8 @@ use Rattle.line_service.specs.Reading.{Reading, blank, input_limit}
 use Rattle.line_service.specs.Machine.{Machine, World, world}
 use Rattle.line_service.specs.Answering.{Stands}
 use Rattle.line_service.specs.Devices.{Span, Outside, BothSettled, DevicesLeft, OutsideLeft, Undamaged, behind}
-use Rattle.line_service.specs.Running.{InputTaken, LineLeaves, LineTaken, LinesLeft, RunLeaves, Unmoved}
-use Rattle.line_service.specs.Sending.{Grows}
+use Rattle.line_service.specs.Running.{EachReplied, InputTaken, LineLeaves, LineTaken, LinesLeft, RunLeaves, Unmoved}
+use Rattle.line_service.specs.Sending.{GotReply, Grows}
 use Rattle.line_service.specs.Serving.{AllAnswered, WholeLinesAnswered, LineLost, AtRest, SparesAlways, RunServed}
 use Rattle.line_service.specs.Stops.{AnswersLines, IsLineStop, IsUnanswered}
 use Rattle.line_service.specs.declared.stops.Device.TheVariants.{Module, Store}
@@ -18,6 +18,7 @@ use Rattle.line_service.specs.declared.serving.Served.{Served}
 use Rattle.line_service.specs.declared.serving.Served.TheVariants.{Replied, Ended}
 use Rattle.line_service.specs.declared.stops.Stop.{Stop}
 use Rattle.line_service.specs.declared.stops.Stop.TheVariants.{ReadFault, WriteFault, EntropyFault, ModuleFault, StoreFault, InputLimit, Damaged}
+use Rattle.line_service.proofs.RepliedLemmas.{HasReplied, replied_all, replied_more, replied_none}
 use Rattle.line_service.proofs.RunLemmas.{limit_is}
 use Rattle.line_service.proofs.SessionLemmas.{HasServed, has_served_all, has_served_whole, has_served_cut, has_served_lost, module_moments, store_moments, cut_at_rest, at_rest_now, counted_on, counted_nothing, blank_open, blank_within}
 use Rattle.line_service.proofs.SpareLaws.{SparesSo, spares_last, spares_always}
@@ -57,6 +58,7 @@ pub record IsOnCourse (start now : Outside) (reading : Reading) : Type 0 where
   pub module_still : IsSome start.devices.world.module_.content → IsSome now.devices.world.module_.content
   pub store_still : IsSome start.devices.world.store.content → IsSome now.devices.world.store.content
   pub counted : WhereTold start.input now.input (λ input rest. reading.taken + length rest ≡ length input)
+  pub each : WhereTold start.input now.input (λ input rest. HasReplied input (reading.pending ++ rest) start.output now.output)
   pub within : reading.taken ≤ input_limit
   pub at_end : IsTrue reading.ended → IsAtEnd now.input
   pub sink_grows : WhereTold start.output now.output Grows
@@ -75,6 +77,7 @@ course_begins now reading fresh module_settled store_settled = record {
   module_still = λ h. h;
   store_still = λ h. h;
   counted = counted_nothing now.input reading fresh;
+  each = replied_none reading now.input now.output fresh;
   within = blank_within reading fresh;
   at_end = λ ended. absurd (blank_open reading fresh ended);
   sink_grows = grows_none now.output;
@@ -86,8 +89,9 @@ course_begins now reading fresh module_settled store_settled = record {
 }
 
 module _ (A : Machine) (start : Outside) (o : Span Outside) (old : Reading) (course : IsOnCourse start o.old old) where
-  pub course_goes_on : (new : Reading) (result : Result Served Stop) → IsOk result → LineTaken result o old new → OutsideLeft result o → IsOnCourse start o.new new
-  course_goes_on new result ok taken left = record {
+  pub course_goes_on : (new : Reading) (result : Result Served Stop) → result ≡ Ok Replied → LineTaken result o old new → WhereTold o.old.output o.new.output GotReply → OutsideLeft result o
+      → IsOnCourse start o.new new
+  course_goes_on new result replied taken got left = let ok = subst IsOk (sym replied) refl in record {
     module_settled = left.devices_left.module_left.settled ok;
     store_settled = left.devices_left.store_left.settled ok;
     module_size = left.devices_left.module_left.size ∙ course.module_size;
@@ -95,6 +99,7 @@ module _ (A : Machine) (start : Outside) (o : Span Outside) (old : Reading) (cou
     module_still = λ h. left.devices_left.module_left.still (course.module_still h);
     store_still = λ h. left.devices_left.store_left.still (course.store_still h);
     counted = counted_on start.input o.old.input o.new.input old.taken new.taken course.counted taken.counted;
+    each = replied_more start o old new result taken course.each replied got;
     within = taken.within;
     at_end = taken.at_end;
     sink_grows = grows_on start.output o.old.output o.new.output course.sink_grows left.sink_grows;
@@ -167,14 +172,20 @@ module _ (A : Machine) (start : Outside) (o : Span Outside) (old : Reading) (cou
       reread = λ device cell h. here.reread device cell (follows.stops (Damaged device cell) h);
     }
 
+  -- each line has its reply
+  pub course_each : (new : Reading) (result : Result Served Stop) → LineTaken result o old new → (done failed : Type 0) → (done → result ≡ Ok Ended)
+      → ((failed → ⊥) → o.new.output ≡ o.old.output) → WhereTold start.input o.new.input (λ i r. EachReplied done failed i start.output o.new.output)
+  course_each new result taken = replied_all start o old new result taken course.each
+
   -- what the run leaves, by what its last line left
   pub lines_left : (K : A.State → Type 0) (new : Reading) (result : Result Served Stop) (q : Result (Unit {0}) Stop) → Follows result q → (IsOk q → result ≡ Ok Ended)
       → ((s : A.State) → Stands A s K start.devices.world.module_ start.devices.world.store → RunLeaves A s q (record { old = start; new = o.new }))
-      → LineTaken result o old new → (IsUnanswered result → o.new.devices.world ≡ o.old.devices.world) → (result ≡ Err WriteFault → BothSettled o.new.devices)
-      → Undamaged A result o.old.devices → OutsideLeft result o → LinesLeft A K q (record { old = start; new = o.new })
-  lines_left K new result q follows ended serves taken unanswered cut undamaged left = record {
+      → LineTaken result o old new → ((q ≡ Err WriteFault → ⊥) → o.new.output ≡ o.old.output) → (IsUnanswered result → o.new.devices.world ≡ o.old.devices.world)
+      → (result ≡ Err WriteFault → BothSettled o.new.devices) → Undamaged A result o.old.devices → OutsideLeft result o → LinesLeft A K q (record { old = start; new = o.new })
+  lines_left K new result q follows ended serves taken unsent unanswered cut undamaged left = record {
     serves = serves;
     taken = course_taken result q new taken follows ended;
+    each = course_each new result taken (IsOk q) (q ≡ Err WriteFault) ended unsent;
     settled = course_settled result q unanswered cut left follows;
     undamaged = course_undamaged result q follows undamaged;
     left = course_left result q follows left;

@@ -1,5 +1,6 @@
 -- What a session leaves at each exit, over plain values: the disks weren't opened, or lines were served.
-use Rattle.std.proofs.Common.{ℕ, List, Option, None, Result, Ok, Err, ap, refl, arith}
+use Rattle.std.proofs.Common.{◌≡◌, ℕ, List, Option, None, Result, Ok, Err, ap, refl, arith}
+use Rattle.std.specs.Prelude.{IsOk}
 use Rattle.device_cells.specs.Medium.{Medium}
 use Rattle.line_service.specs.Answering.{IsSound, OnDisks}
 use Rattle.line_service.specs.Devices.{Span, Devices, DamageTold, OpeningLeft, Outside, outside, devices}
@@ -8,7 +9,9 @@ use Rattle.line_service.specs.Running.{LinesLeft, LinesServed, SessionLeft}
 use Rattle.line_service.specs.Serving.{RunServed}
 use Rattle.line_service.specs.Stops.{IsOpeningStop}
 use Rattle.line_service.specs.declared.stops.Stop.{Stop}
+use Rattle.line_service.specs.declared.stops.Stop.TheVariants.{WriteFault}
 use Rattle.line_service.proofs.OpeningLemmas.{stands_opened, opened as opened_run, unopened, unbroken, not_stopped, opened_damage, unopened_left, unopened_taken, unopened_sound, unopened_no_stop}
+use Rattle.line_service.proofs.RepliedLemmas.{replied_nothing}
 use Rattle.line_service.proofs.RunLemmas.{prefix_sent, completes, no_limit}
 use Rattle.line_service.proofs.StopLemmas.{disk_on}
 
@@ -46,6 +49,7 @@ module _ (A : Machine) (m0 m d0 d : Medium) (mc0 mc dc0 dc : ℕ) (random : Opti
     session_unopened = record {
       lines = lines_unopened;
       taken = unopened_taken stop (record { old = begun; new = opened }) kind refl;
+      each = replied_nothing (IsOk {T = Unit {0}} {E = Stop} (Err stop)) (◌≡◌ {A = Result (Unit {0}) Stop} (Err stop) (Err WriteFault)) (λ h. cc h) i p;
       sound = unopened_sound A stop (record { old = begun.devices; new = opened.devices }) kind;
       damage = record {
         module_damaged = damage.module_damaged;
@@ -78,6 +82,7 @@ module _ (A : Machine) (m0 m d0 d : Medium) (mc0 mc dc0 dc : ℕ) (random : Opti
     session_served sound = record {
       lines = lines_opened;
       taken = record { at_end = ends.taken.at_end; limit = ends.taken.limit; within = ends.taken.within };
+      each = ends.each;
       sound = record { sound = λ h. sound; settled = ends.settled };
       damage = opened_damage A result (record { old = begun.devices; new = after.devices }) opened.devices left.module_kept left.store_kept sound ends.undamaged;
       left = record {

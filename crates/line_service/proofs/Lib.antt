@@ -10,6 +10,7 @@ pub mod OpeningLemmas
 pub mod PartLemmas
 mod ProgressLemmas
 pub mod RefillLemmas
+pub mod RepliedLemmas
 pub mod ReplyLemmas
 pub mod RunLemmas
 pub mod SendingLemmas

@@ -1,12 +1,13 @@
 -- One line more after those that were served, and the end of a run at its last line, over plain values.
-use Rattle.std.proofs.Common.{◌≡◌, None, Result, Ok, Err, refl, inl, subst, sym}
-use Rattle.std.specs.Prelude.{IsOk}
+use Rattle.std.proofs.Common.{◌≡◌, None, Result, Ok, Err, ap, refl, inl, subst}
 use Rattle.device_cells.specs.Medium.{IsSettled}
+use Rattle.device_cells.specs.WhereTold.{WhereTold}
 use Rattle.line_service.specs.Reading.{Reading, blank}
 use Rattle.line_service.specs.Answering.{Stands}
 use Rattle.line_service.specs.Devices.{Span, BothSettled, Outside, OutsideLeft, Undamaged, devices}
 use Rattle.line_service.specs.Machine.{Machine, World}
 use Rattle.line_service.specs.Running.{LineLeaves, LineTaken, LinesLeft}
+use Rattle.line_service.specs.Sending.{GotReply}
 use Rattle.line_service.specs.Stops.{IsUnanswered}
 use Rattle.line_service.specs.declared.serving.Served.{Served}
 use Rattle.line_service.specs.declared.serving.Served.TheVariants.{Replied, Ended}
@@ -15,7 +16,7 @@ use Rattle.line_service.specs.declared.stops.Stop.TheVariants.{WriteFault}
 use Rattle.line_service.proofs.CourseLemmas.{IsNextLine, IsOnCourse, course_begins, course_goes_on, lines_left, run_ended, run_stopped}
 use Rattle.line_service.proofs.SessionLemmas.{HasServed, has_served_more, has_served_nothing}
 use Rattle.line_service.proofs.SpareLaws.{SparesSo, spares_more, spares_nothing}
-use Rattle.line_service.proofs.StopLemmas.{follows_ok, follows_stop}
+use Rattle.line_service.proofs.StopLemmas.{ended_uncut, ended_unsent, follows_ok, follows_stop, not_replied}
 
 -- what the lines since the start came to, up to now
 pub record HasLines (A : Machine) (k0 k : A.State → Type 0) (start now : Outside) (reading : Reading) : Type 0 where
@@ -46,13 +47,13 @@ module _ (A : Machine) (k0 k k1 : A.State → Type 0) (start : Outside) (o : Spa
       (taken : LineTaken result o old new) (left : OutsideLeft result o) where
     -- ---- from one line to the next
 
-    pub lines_more : result ≡ Ok Replied → HasLines A k0 k1 start o.new new
-    lines_more replied = record {
+    pub lines_more : result ≡ Ok Replied → WhereTold o.old.output o.new.output GotReply → HasLines A k0 k1 start o.new new
+    lines_more replied got = record {
       served = λ s begun.
           has_served_more A s k k1 w0 w w1 start.input o.old.input o.new.input start.output o.old.output o.new.output old new _ result (before.served s begun) taken.counted leaves replied;
       spares = λ s begun. let here = before.stands s begun in let line = leaves here.0 here.1 in spares_more A w0 w w1 (before.spares s begun) line.spare (line.turns (inl replied));
       stands = λ s begun. let here = before.stands s begun in on_replied (subst (λ (r : Result Served Stop). LineLeaves A here.0 k1 r o old new) replied (leaves here.0 here.1));
-      course = course_goes_on A start o old before.course new result (subst IsOk (sym replied) refl) taken left;
+      course = course_goes_on A start o old before.course new result replied taken got left;
     }
       where
         on_replied : {t : A.State} → LineLeaves A t k1 (Ok Replied) o old new → (u : A.State) × Stands A u k1 w1.module_ w1.store
@@ -83,9 +84,14 @@ module _ (A : Machine) (k0 k k1 : A.State → Type 0) (start : Outside) (o : Spa
       pub lines_ended : result ≡ Ok Ended → LinesLeft A k0 (Ok tt) (record { old = start; new = o.new })
       lines_ended is =
           lines_left A start o old before.course k0 new result (Ok tt) (follows_ok result Ended (Ok tt) is refl) (λ ok. is)
-          (λ s begun. run_ended A s k k1 start o old new result (next_line s begun) is) taken unanswered settled still_undamaged left
+          (λ s begun. run_ended A s k k1 start o old new result (next_line s begun) is) taken
+          (λ uncut. unsent (ended_unsent result is) (ended_uncut result is)) unanswered settled still_undamaged left
 
       pub lines_stopped : (stop : Stop) → result ≡ Err stop → LinesLeft A k0 (Err stop) (record { old = start; new = o.new })
       lines_stopped stop is =
           lines_left A start o old before.course k0 new result (Err stop) (follows_stop result stop is) (λ ok. absurd (cc ok))
-          (λ s begun. run_stopped A s k k1 start o old new result (next_line s begun) stop is) taken unanswered settled still_undamaged left
+          (λ s begun. run_stopped A s k k1 start o old new result (next_line s begun) stop is) taken
+          (λ uncut. unsent (not_replied result stop is) (λ cut_off. uncut (stopped_by stop result is cut_off))) unanswered settled still_undamaged left
+        where
+          stopped_by : (stop : Stop) (r : Result Served Stop) → r ≡ Err stop → r ≡ Err WriteFault → ◌≡◌ {A = Result (Unit {0}) Stop} (Err stop) (Err WriteFault)
+          stopped_by stop r is cut_off = let same : stop ≡ WriteFault = cc (is, cut_off) in ap Err same

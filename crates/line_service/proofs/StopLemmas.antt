@@ -160,17 +160,6 @@ disk_still m count done failed settled never = record {
   quiet = λ none. refl;
 }
 
--- no device behind the machine was called
-pub devices_unread : {T : Type 0} (A : Machine) (now : Devices) → DevicesLeft {T = T} (Err ReadFault) (record { old = now; new = now })
-devices_unread A now = record {
-  module_left = disk_still now.world.module_ now.module_faults _ _ (λ ok. absurd (cc ok)) (λ h. cc h);
-  store_left = disk_still now.world.store now.store_faults _ _ (λ ok. absurd (cc ok)) (λ h. cc h);
-  entropy_left = count_still now.entropy_faults _ (λ h. cc h);
-}
-
-pub no_desk_read : {T : Type 0} (stop : Stop) → IsDeskStop stop → ◌≡◌ {A = Result T Stop} (Err stop) (Err ReadFault) → ⊥
-no_desk_read stop kind h = let same : stop ≡ ReadFault = cc h in subst IsDeskStop same kind
-
 pub no_desk_write : {T : Type 0} (stop : Stop) → IsDeskStop stop → ◌≡◌ {A = Result T Stop} (Err stop) (Err WriteFault) → ⊥
 no_desk_write stop kind h = let same : stop ≡ WriteFault = cc h in subst IsDeskStop same kind
 

@@ -121,6 +121,15 @@ pub record Undamaged {T : Type 0} (A : Machine) (result : Result T Stop) (old : 
   pub reread : (device : Device) (cell : ℕ) → result ≡ Err (Damaged device cell)
       → A.IsReread device cell
 
+-- A cell turned out damaged: no random byte was drawn and nothing of the module was written; and the store wasn't called,
+-- where the cell is the module's.
+pub record DamageSpares {T D E : Type 0} (result : Result T Stop) (m0 m1 : Medium) (store0 store1 : D)
+    (entropy0 entropy1 : E) : Type 0 where
+  pub undrawn : (device : Device) (cell : ℕ) → result ≡ Err (Damaged device cell)
+      → entropy1 ≡ entropy0
+  pub module_kept : (device : Device) (cell : ℕ) → result ≡ Err (Damaged device cell) → Keeps m0 m1
+  pub store_uncalled : (cell : ℕ) → result ≡ Err (Damaged Module cell) → store1 ≡ store0
+
 -- ---- all that is outside
 
 -- those devices, the bytes still to come from a source, and those that a sink holds

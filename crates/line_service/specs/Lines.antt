@@ -16,6 +16,10 @@ lines (b ∷ bs) = if b == newline then [] ∷ lines bs else onto_first b (lines
 abbrev pub NoNewline : List ℕ → Type 0
 NoNewline bs = All (λ b. b ≢ newline) bs
 
+-- bytes that end with a newline
+abbrev pub EndsInNewline : List ℕ → Type 0
+EndsInNewline bytes = (front : List ℕ) × (bytes ≡ front ++ newline ∷ [])
+
 -- nothing, or bytes that end with a newline
 abbrev pub EndsLine : List ℕ → Type 0
-EndsLine bytes = (bytes ≡ []) ⊎ ((front : List ℕ) × (bytes ≡ front ++ newline ∷ []))
+EndsLine bytes = (bytes ≡ []) ⊎ EndsInNewline bytes

@@ -4,13 +4,14 @@ use Rattle.std.specs.Io.KnownBytes.{IsAtEnd}
 use Rattle.device_cells.specs.Faults.{Rose}
 use Rattle.device_cells.specs.Medium.{Keeps}
 use Rattle.device_cells.specs.WhereTold.{WhereTold}
-use Rattle.line_service.specs.Lines.{NoNewline}
+use Rattle.line_service.specs.Lines.{NoNewline, lines}
 use Rattle.line_service.specs.Reading.{Reading, blank, given, input_limit, Takes, Shows, LosesPart, bytes_ahead}
 use Rattle.line_service.specs.declared.lines.Taken.{Taken}
 use Rattle.line_service.specs.declared.lines.Taken.TheVariants.{End}
 use Rattle.line_service.specs.Machine.{Machine}
 use Rattle.line_service.specs.Answering.{IsSound, OnDisks, Stands}
 use Rattle.line_service.specs.Devices.{Span, Devices, BothSettled, DamageTold, Undamaged, Outside, OutsideLeft, behind}
+use Rattle.line_service.specs.Sending.{GotReplies}
 use Rattle.line_service.specs.Serving.{LineServed, RunServed, PrefixSent}
 use Rattle.line_service.specs.Stops.{AnswersLines, IsUnanswered, IsFaultless}
 use Rattle.line_service.specs.declared.serving.Served.{Served}
@@ -53,6 +54,20 @@ pub record InputTaken (result : Result (Unit {0}) Stop) (o : Span Outside) : Typ
   -- and never beyond the limit
   pub within : WhereTold o.old.input o.new.input (λ i r. length i ≤ length r + input_limit)
 
+-- The sink got one reply for each of some first lines of the input, whatever the disks tell: for all of them where the call
+-- is done. It got no more, unless it failed.
+pub record EachReplied (done failed : Type 0) (input : List ℕ) (before now : Option (List ℕ))
+    : Type 0 where
+  pub first : List (List ℕ)
+  pub others : List (List ℕ)
+  pub lines_are : lines input ≡ first ++ others
+  pub all : done → others ≡ []
+  pub held : (failed → ⊥) → WhereTold before now (GotReplies (length first))
+
+abbrev pub RepliesTo : Result (Unit {0}) Stop → Span Outside → Type 0
+RepliesTo result o = WhereTold o.old.input o.new.input
+    (λ i r. EachReplied (IsOk result) (result ≡ Err WriteFault) i o.old.output o.new.output)
+
 -- Lines are served only where the disks stand for a state, and nothing is unsynced after them.
 pub record ServesSound (A : Machine) (result : Result (Unit {0}) Stop) (d : Span Devices)
     : Type 0 where
@@ -66,6 +81,7 @@ pub record SessionLeft (A : Machine) (result : Result (Unit {0}) Stop) (o : Span
   pub lines : (s : A.State) → OnDisks A s o.old.devices.world.module_ o.old.devices.world.store
       → LinesServed A s result o
   pub taken : InputTaken result o
+  pub each : RepliesTo result o
   pub sound : ServesSound A result (behind o)
   -- damage is told where a cell is broken, and then always, unless a disk failed
   pub damage : DamageTold A result (behind o)
@@ -79,6 +95,7 @@ pub record LinesLeft (A : Machine) (K : A.State → Type 0) (result : Result (Un
       → Stands A s K o.old.devices.world.module_ o.old.devices.world.store
       → RunLeaves A s result o
   pub taken : InputTaken result o
+  pub each : RepliesTo result o
   pub settled : AnswersLines result → BothSettled o.new.devices
   pub undamaged : Undamaged A result o.old.devices
   pub left : OutsideLeft result o

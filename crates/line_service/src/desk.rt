@@ -2,10 +2,11 @@
 ghost use Rattle.std.specs.Prelude.{◌≡◌, ◌≤◌, ◌<◌, ℕ, List, [], length, OnOk, IfErr};
 ghost use Rattle.key_cells.specs.Bench.{blank_bench};
 ghost use Rattle.device_cells.specs.Medium.{Medium};
+ghost use Rattle.line_service.specs.Lines.{EndsInNewline};
 ghost use Rattle.line_service.specs.Reading.{line_limit};
 ghost use Rattle.line_service.specs.Machine.{Machine, world};
 ghost use Rattle.line_service.specs.Answering.{OnDisks, IsSound, Stands, Steps, Serves};
-ghost use Rattle.line_service.specs.Devices.{AreSettled, HaveSizes, DamageTold, DevicesLeft, OpeningLeft, Undamaged};
+ghost use Rattle.line_service.specs.Devices.{AreSettled, HaveSizes, DamageSpares, DamageTold, DevicesLeft, OpeningLeft, Undamaged};
 ghost use Rattle.line_service.specs.Stops.{IsDeskStop, IsOpeningStop};
 
 use crate::devices::Shown;
@@ -53,8 +54,9 @@ pub trait Desk {
 
     /// Answers a line that is too long. It calls no device.
     fn too_long(&self, reply: &mut ReplyBuffer)
-        ensures { (s : machine.State) (line : List ℕ) → line_limit < length line
-            → Steps machine s line [] s reply.new };
+        ensures steps { (s : machine.State) (line : List ℕ) → line_limit < length line
+            → Steps machine s line [] s reply.new }
+        ensures line { EndsInNewline reply.new };
 
     /// Answers a line that is no longer than a line may be.
     fn answer<M: Disk, D: Disk, E: Entropy>(
@@ -79,9 +81,13 @@ pub trait Desk {
             (world (M.medium «module».new) (D.medium store.new) (E.left entropy.new)) }
         ensures ready { OnOk result (ready self.new (M.medium «module».new) (D.medium store.new)) }
 
-        // Disks that tell their bytes don't turn out damaged.
+        // Whatever the disks tell, the line has a reply.
+        ensures line { OnOk result (EndsInNewline reply.new) }
+        // Disks that tell their bytes don't turn out damaged, and what others leave that do.
         ensures undamaged { Undamaged machine result
             (⟦<(M, D) as Shown>⟧.shown («module».old, store.old)) }
+        ensures damaged { DamageSpares result (M.medium «module».old) (M.medium «module».new)
+            store.old store.new entropy.old entropy.new }
         ensures left { DevicesLeft result (⟦<(M, D, E) as Shown>⟧.between
             («module».old, store.old, entropy.old) («module».new, store.new, entropy.new)) }
         ensures stops { IfErr result IsDeskStop }

@@ -115,7 +115,7 @@ impl LineBuffer {
         self.taken = 0;
     }
 
-    // Moves pending bytes to the line, up to their first newline, which goes. Takes whether there
+    // Moves pending bytes to the line, up to their first newline, which goes. Answers whether there
     // was one.
     fn move_part(&mut self) -> bool
         ensures { Moves result self.old self.new }

@@ -2,10 +2,13 @@
 ghost use Rattle.std.specs.Prelude.{◌≡◌, ℕ, List, IsTrue, Err, OnOk, IfErr};
 ghost use Rattle.std.specs.Io.KnownBytes.{IsAtEnd};
 ghost use Rattle.key_cells.specs.Bench.{blank_bench};
+ghost use Rattle.device_cells.specs.WhereTold.{WhereTold};
+ghost use Rattle.line_service.specs.Lines.{EndsInNewline};
 ghost use Rattle.line_service.specs.Reading.{IsReady, Shows};
+ghost use Rattle.line_service.specs.Sending.{GotReply};
 ghost use Rattle.line_service.specs.Machine.{world};
 ghost use Rattle.line_service.specs.Answering.{Stands, Serves};
-ghost use Rattle.line_service.specs.Devices.{AreSettled, BothSettled, DevicesLeft, OutsideLeft, Undamaged};
+ghost use Rattle.line_service.specs.Devices.{AreSettled, BothSettled, DamageSpares, DevicesLeft, OutsideLeft, Undamaged};
 ghost use Rattle.line_service.specs.Running.{LineLeaves, LineTaken, Unmoved};
 ghost use Rattle.line_service.specs.Serving.{IsTheLine};
 ghost use Rattle.line_service.specs.Stops.{IsDeskStop};
@@ -54,8 +57,11 @@ pub fn answer_taken<A: Desk, M: Disk, D: Disk, E: Entropy>(
         (world (M.medium «module».old) (D.medium store.old) (E.left entropy.old))
         (world (M.medium «module».new) (D.medium store.new) (E.left entropy.new)) }
     ensures ready { OnOk result (A.ready desk.new (M.medium «module».new) (D.medium store.new)) }
+    ensures line { (taken ≡ Taken.End → ⊥) → OnOk result (EndsInNewline reply.new) }
     ensures undamaged { Undamaged A.machine result
         (⟦<(M, D) as Shown>⟧.shown («module».old, store.old)) }
+    ensures damaged { DamageSpares result (M.medium «module».old) (M.medium «module».new)
+        store.old store.new entropy.old entropy.new }
     ensures left { DevicesLeft result (⟦<(M, D, E) as Shown>⟧.between
         («module».old, store.old, entropy.old) («module».new, store.new, entropy.new)) }
     ensures stops { IfErr result IsDeskStop }
@@ -107,7 +113,10 @@ pub fn serve_one<A: Desk, S: Source, K: Sink, M: Disk, D: Disk, E: Entropy>(
         (source.old, sink.old, «module».old, store.old, entropy.old)
         (source.new, sink.new, «module».new, store.new, entropy.new)) lines.old lines.new }
 
-    // Where no reply is sent, the sink is as before; and where no line was answered, so is all else.
+    // Whatever the disks tell, the sink got a reply where the line is said to be answered. Where no reply is sent, the
+    // sink is as before; and where no line was answered, so is all else.
+    ensures replied { result ≡ Ok Served.Replied
+        → WhereTold (K.held sink.old) (K.held sink.new) GotReply }
     ensures unmoved { Unmoved result sink.old sink.new «module».old «module».new
         store.old store.new entropy.old entropy.new desk.old desk.new }
 
@@ -117,6 +126,8 @@ pub fn serve_one<A: Desk, S: Source, K: Sink, M: Disk, D: Disk, E: Entropy>(
         (source.new, sink.new, «module».new, store.new, entropy.new)) }
     ensures undamaged { Undamaged A.machine result
         (⟦<(M, D) as Shown>⟧.shown («module».old, store.old)) }
+    ensures damaged { DamageSpares result (M.medium «module».old) (M.medium «module».new)
+        store.old store.new entropy.old entropy.new }
     ensures cut { result ≡ Err Stop.WriteFault → BothSettled
         (⟦<(M, D) as Shown>⟧.shown («module».new, store.new)) }
     ensures bench { bench.new ≡ blank_bench }

@@ -1,8 +1,9 @@
 -- What a line leaves, by how far it came.
-use Rattle.std.proofs.Common.{ℕ, List, Ok, Err, refl, ap, subst, ◌∙◌, ⊎_elim}
+use Rattle.std.proofs.Common.{ℕ, List, Ok, Err, refl, ap, subst, sym, ◌∙◌, ⊎_elim}
 use Rattle.device_cells.specs.Medium.{Told}
 use Rattle.audit_trail.specs.TrailStands.{StandsForTrail}
 use Rattle.line_service.specs.Devices.{devices, outside}
+use Rattle.line_service.specs.Lines.{EndsInNewline}
 use Rattle.line_service.specs.Machine.{world}
 use Rattle.line_service.specs.declared.serving.Served.TheVariants.{Ended}
 use Rattle.line_service.specs.declared.stops.Stop.TheVariants.{ReadFault, InputLimit}
@@ -51,7 +52,8 @@ returns-in-Ok-answer_taken-clause-kept g c =
     c.read_line.ensures.ended c.read_line.ensures.at_end c.read_line.ensures.counted c.read_line.ensures.within
     c.in-Ok.ensures.limit c.read_line.ensures.later (c.in-Ok.ensures.quiet (λ h. no_err h))
     c.append_and_send.result c.args.held.now c.entry_taken-entry.result _ (g.T.Disk.medium c.args.trail.now) (g.T.Disk.medium c.append_and_send.new.trail)
-    (g.T.Disk.faults c.args.trail.now) (g.T.Disk.faults c.append_and_send.new.trail) c.append_and_send.ensures.sent c.in-Ok-answer_taken.ensures.left c.in-Ok-answer_taken.ensures.ready c.append_and_send.ensures.held
+    (g.T.Disk.faults c.args.trail.now) (g.T.Disk.faults c.append_and_send.new.trail) c.append_and_send.ensures.sent
+    (subst EndsInNewline (sym c.bytes-bytes.ensures.bytes) (c.in-Ok-answer_taken.ensures.line c.in_default.not-End)) c.in-Ok-answer_taken.ensures.left c.in-Ok-answer_taken.ensures.ready c.append_and_send.ensures.held
 
 pub returns-in-Ok-answer_taken-clause-unmoved : goal.returns-in-Ok-answer_taken-clause-unmoved
 returns-in-Ok-answer_taken-clause-unmoved g c =

@@ -7,7 +7,7 @@ use Rattle.cca_requests.proofs.changes.answer.Goals as goal
 pub returns-in-Ok : goal.returns-in-Ok
 returns-in-Ok c = record {
   stop = search rules;
-  reply = c.end.ensures [] (no_fields c.args.reply.now c.ok.new.self c.requires.empty c.ok.ensures.bytes)
+  reply = c.end.ensures.spells [] (no_fields c.args.reply.now c.ok.new.self c.requires.empty c.ok.ensures.bytes)
       ∙ ap (λ o. spelled (made_reply o)) (sym c.in-Ok.is);
   silent = search rules;
 }

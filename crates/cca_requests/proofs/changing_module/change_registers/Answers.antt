@@ -11,6 +11,7 @@ use Rattle.cca_requests.specs.Serving.{CarriesModule, LeavesModule}
 use Rattle.record_bodies.specs.StoreStands.{HoldsRows}
 use Rattle.cca_requests.specs.Changes.{IsTurnedBy, action_outcome, change_reply, change_stop, rows_by}
 use Rattle.cca_machine.specs.Deciding.{labels_after}
+use Rattle.cca_requests.proofs.ReplyLines.{answer_line}
 use Rattle.cca_requests.proofs.TurnedRows.{is_turned, err_kept, held_after}
 use Rattle.cca_requests.proofs.Registers.{masters_are}
 use Rattle.cca_requests.proofs.Changing.{changes_as, still_as, left_as}
@@ -57,6 +58,8 @@ returns-clause-left g c =
     let left = left_as g.M.Disk.medium faults c.args.module.now c.carry_out-outcome.new.module m (after_action c.args.action bench.part m) c.args.roles.now
     c.requires.at.settled c.requires.at.stands c.requires.at.remembered c.carry_out-outcome.ensures.registers.cause.later result c.answer_change.new.reply
     c.carry_out-outcome.ensures.registers.changed c.carry_out-outcome.ensures.registers.untouched c.carry_out-outcome.ensures.registers.cause.failed c.carry_out-outcome.ensures.registers.cause.quiet
+    (answer_line (change_reply result) c.answer_change.new.reply (change_stop result)
+    (subst (λ r. OnOk r (c.answer_change.new.reply ≡ spelled (change_reply result))) c.answer_change.ensures.stop c.answer_change.ensures.reply))
     (subst (λ r. OnErr r (c.answer_change.new.reply ≡ [])) c.answer_change.ensures.stop c.answer_change.ensures.silent) in
     subst (λ r. LeavesModule (g.M.Disk.medium c.args.module.now) (g.M.Disk.medium c.carry_out-outcome.new.module) (faults c.args.module.now) (faults c.carry_out-outcome.new.module)
     r c.answer_change.new.reply c.args.roles.now c.args.roles.now) (sym c.answer_change.ensures.stop) left

@@ -6,6 +6,8 @@ use Rattle.cca_roles.specs.Roles.{define_place, after_define, define_refused}
 use Rattle.cca_roles.specs.declared.faults.RoleFault.TheVariants.{TableFull}
 use Rattle.master_registers.specs.Loaded.{masters_in}
 use Rattle.cca_machine.specs.Act.{DefineRole}
+use Rattle.cca_requests.specs.Changes.{role_reply}
+use Rattle.cca_requests.proofs.ReplyLines.{answer_line}
 use Rattle.cca_requests.proofs.RoleChanging.{role_changes_as, role_still_as, role_left_as}
 use Rattle.cca_requests.proofs.changing_module.define_role.Goals as goal
 
@@ -45,4 +47,4 @@ returns-clause-left g c =
     c.requires.at.settled c.requires.at.stands c.requires.at.remembered c.define-outcome.ensures.cause.later c.answer_roles.new.reply
     c.define-outcome.result c.answer_roles.result c.answer_roles.ensures.stop c.define-outcome.ensures.faults c.define-outcome.ensures.changed c.define-outcome.ensures.untouched
     c.define-outcome.ensures.memory c.define-outcome.ensures.cause.failed c.define-outcome.ensures.cause.quiet
-    c.answer_roles.ensures.silent
+    (answer_line (role_reply c.define-outcome.result) c.answer_roles.new.reply c.answer_roles.result c.answer_roles.ensures.reply) c.answer_roles.ensures.silent

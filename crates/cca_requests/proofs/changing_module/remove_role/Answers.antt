@@ -6,6 +6,8 @@ use Rattle.cca_roles.specs.Roles.{remove_place, after_remove, remove_refused}
 use Rattle.cca_roles.specs.declared.faults.RoleFault.TheVariants.{Unknown}
 use Rattle.master_registers.specs.Loaded.{masters_in}
 use Rattle.cca_machine.specs.Act.{RemoveRole}
+use Rattle.cca_requests.specs.Changes.{role_reply}
+use Rattle.cca_requests.proofs.ReplyLines.{answer_line}
 use Rattle.cca_requests.proofs.RoleChanging.{role_changes_as, role_still_as, role_left_as}
 use Rattle.cca_requests.proofs.changing_module.remove_role.Goals as goal
 
@@ -45,4 +47,4 @@ returns-clause-left g c =
     c.requires.at.settled c.requires.at.stands c.requires.at.remembered c.remove-outcome.ensures.cause.later c.answer_roles.new.reply
     c.remove-outcome.result c.answer_roles.result c.answer_roles.ensures.stop c.remove-outcome.ensures.faults c.remove-outcome.ensures.changed c.remove-outcome.ensures.untouched
     c.remove-outcome.ensures.memory c.remove-outcome.ensures.cause.failed c.remove-outcome.ensures.cause.quiet
-    c.answer_roles.ensures.silent
+    (answer_line (role_reply c.remove-outcome.result) c.answer_roles.new.reply c.answer_roles.result c.answer_roles.ensures.reply) c.answer_roles.ensures.silent

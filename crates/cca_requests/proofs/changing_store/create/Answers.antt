@@ -1,13 +1,15 @@
 use Rattle.std.proofs.Common.{◌≡◌, [], Some, OnOk, sym, subst, rules}
-use Rattle.std.specs.Prelude.{◌==◌, OnErr, is_some, set}
+use Rattle.std.specs.Prelude.{◌==◌, IfErr, OnErr, is_some, set}
 use Rattle.record_bodies.specs.Directory.{free_cell, cell_of}
 use Rattle.record_bodies.specs.Entries.{directory, row_directory, null_row}
 use Rattle.record_bodies.specs.RecordBody.{null_body}
 use Rattle.line_service.specs.Replies.{spelled}
+use Rattle.line_service.specs.declared.stops.Stop.TheVariants.{StoreFault}
 use Rattle.verb_rules.specs.Keys.{keys_of}
 use Rattle.cca_requests.specs.Serving.{CarriesStore, LeavesStore}
-use Rattle.cca_requests.specs.Changes.{create_outcome, record_reply}
-use Rattle.cca_requests.proofs.Storing.{kept_labels, known_directory, full_as, exists_as, creates_as, create_left_as}
+use Rattle.cca_requests.specs.Changes.{create_outcome, record_reply, record_stop}
+use Rattle.cca_requests.proofs.ReplyLines.{answer_line}
+use Rattle.cca_requests.proofs.Storing.{kept_labels, known_directory, full_as, exists_as, create_fault, creates_as, create_left_as}
 use Rattle.cca_requests.proofs.changing_store.create.Goals as goal
 
 pub returns-clause-carries : goal.returns-clause-carries
@@ -45,7 +47,10 @@ returns-clause-left g c = record {
       x c.answer_create.new.reply rows now) (sym c.answer_create.ensures.stop)
       (create_left_as medium faults c.args.store.now c.create-outcome.new.store rows now c.answer_create.new.reply cell (null_body label) (Some (null_row label)) c.args.lease.now c.create-outcome.new.lease
       c.requires.store.settled c.requires.store.holds (row_directory rows) label r c.create-outcome.ensures.changes c.create-outcome.ensures.refuses
+      (answer_line (record_reply r) c.answer_create.new.reply (record_stop r)
+      (subst (λ x. OnOk x (c.answer_create.new.reply ≡ spelled (record_reply r))) c.answer_create.ensures.stop c.answer_create.ensures.reply))
       (subst (λ x. OnErr x (c.answer_create.new.reply ≡ [])) c.answer_create.ensures.stop c.answer_create.ensures.silent));
   kept = search rules;
+  fault = subst (λ x. IfErr x (λ stop. stop ≡ StoreFault)) (sym c.answer_create.ensures.stop) (create_fault c.create-outcome.result);
   loan = search rules;
 }

@@ -10,7 +10,7 @@ returns-in-Ok-clause-carries g c = λ s held e at gone.
     let rows = c.args.records.now in
     deletes_as old (g.D.Disk.medium c.delete.new.store) s rows c.delete.new.self at.stands c.args.place c.end.new.reply e gone (Ok c.in-Ok.field-0)
     (c.in-Ok.ensures.labels (keys_of s.registers) s.labels (kept_labels s rows old at.stands))
-    (c.end.ensures [] (no_fields c.args.reply.now c.ok.new.self c.requires.empty c.ok.ensures.bytes))
+    (c.end.ensures.spells [] (no_fields c.args.reply.now c.ok.new.self c.requires.empty c.ok.ensures.bytes))
 
 pub returns-in-Err-clause-carries : goal.returns-in-Err-clause-carries
 returns-in-Err-clause-carries g c = λ s held e at gone.
@@ -23,7 +23,8 @@ pub returns-in-Ok-clause-left : goal.returns-in-Ok-clause-left
 returns-in-Ok-clause-left g c = record {
   left =
       stored_left g.D.Disk.medium g.D.Disk.faults c.args.store.now c.delete.new.store c.args.records.now c.delete.new.self c.end.new.reply c.args.place _ _ c.args.lease.now c.delete.new.lease
-      c.in-Ok.field-0 c.in-Ok.ensures.changes;
+      c.in-Ok.field-0 c.end.ensures.line c.in-Ok.ensures.changes;
   kept = search rules;
+  fault = search rules;
   loan = search rules;
 }

@@ -1,5 +1,4 @@
 use Rattle.std.proofs.Common.{◌∷◌, ◌∙◌, [], length, Err, ap, codes, refl, sym, subst, ⊎_elim, arith}
-use Rattle.std.proofs.lemmas.Fmt.{length-decimal-le}
 use Rattle.device_cells.proofs.Media.{told_at}
 use Rattle.key_cells.specs.Lease.{loan_of}
 use Rattle.line_service.specs.Replies.{Number}
@@ -8,7 +7,7 @@ use Rattle.cca_requests.specs.Changes.{plainly}
 use Rattle.cca_requests.specs.Serving.{CarriesStore}
 use Rattle.request_rules.specs.Stored.{read_stop}
 use Rattle.request_verbs.proofs.Fields.{one_number}
-use Rattle.cca_requests.proofs.Renewing.{ended, ended_left, read_fault, renewed, renewed_left}
+use Rattle.cca_requests.proofs.Renewing.{ended, ended_left, read_fault, renewed, renewed_left, short_number}
 use Rattle.cca_requests.proofs.Storing.{kept_labels}
 use Rattle.cca_requests.proofs.changing_store.renew.Goals as goal
 
@@ -19,7 +18,7 @@ returns-in-Ok-clause-carries g c = λ s at.
     renewed c.args.action old (g.D.Disk.medium c.carry_out.new.store) s rows c.carry_out.new.records at.stands _
     (c.in-Ok.ensures.labels s.registers s.labels at.loaded (kept_labels s rows old at.stands))
     c.in-Ok.changed c.end.new.reply refl
-    (c.end.ensures (Number (codes "changed") c.in-Ok.changed ∷ [])
+    (c.end.ensures.spells (Number (codes "changed") c.in-Ok.changed ∷ [])
     (one_number (codes "changed") c.in-Ok.changed c.args.reply.now c.ok.new.self c.number.new.self c.requires.empty c.ok.ensures.bytes c.number.ensures.bytes))
 
 pub returns-in-Err-clause-carries : goal.returns-in-Err-clause-carries
@@ -38,10 +37,16 @@ returns-in-Err-clause-carries g c = λ s at.
     c.in-Err.ensures.left.fault
 
 pub number-requires : goal.number-requires
-number-requires g c = omega (arith, length-decimal-le 10 c.in-Ok.changed (omega arith) (omega arith) (omega arith), ap length c.requires.empty)
+number-requires g c =
+    omega (
+      arith,
+      ap length c.requires.empty,
+      short_number c.args.action c.args.held.now c.args.records.now c.in-Ok.changed c.carry_out.result c.in-Ok.is
+          c.carry_out.ensures.cells.count,
+    )
 
 pub returns-in-Ok-clause-left : goal.returns-in-Ok-clause-left
-returns-in-Ok-clause-left g c = renewed_left c.requires.store.size c.in-Ok.changed c.in-Ok.ensures.left c.in-Ok.ensures.cells.turned
+returns-in-Ok-clause-left g c = renewed_left c.requires.store.size c.in-Ok.changed c.end.ensures.line c.in-Ok.ensures.left c.in-Ok.ensures.cells.turned
 
 pub returns-in-Err-clause-left : goal.returns-in-Err-clause-left
 returns-in-Err-clause-left g c = ended_left c.requires.store.size c.in-Err.fault c.stop_of.result c.in-Err.ensures.left c.stop_of.ensures c.requires.empty

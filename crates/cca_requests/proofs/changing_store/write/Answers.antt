@@ -12,7 +12,7 @@ returns-in-Ok-clause-carries g c = λ s request e at warns goes.
     writes_as old (g.D.Disk.medium c.write.new.store) s rows c.write.new.self at.stands c.args.place c.finish.new.reply
     request e c.args.token.now c.args.reply.now goes (Ok c.in-Ok.field-0)
     (c.in-Ok.ensures.labels (keys_of s.registers) s.labels goes.key (kept_labels s rows old at.stands) goes.stands)
-    (c.finish.ensures goes.fields goes.reply_is ∙ ap (λ (b : Bool). spelled (Done (goes.fields ++ warning b))) (sym warns))
+    (c.finish.ensures.spells goes.fields goes.reply_is ∙ ap (λ (b : Bool). spelled (Done (goes.fields ++ warning b))) (sym warns))
 
 pub returns-in-Err-clause-carries : goal.returns-in-Err-clause-carries
 returns-in-Err-clause-carries g c = λ s request e at warns goes.
@@ -26,7 +26,8 @@ pub returns-in-Ok-clause-left : goal.returns-in-Ok-clause-left
 returns-in-Ok-clause-left g c = record {
   left =
       stored_left g.D.Disk.medium g.D.Disk.faults c.args.store.now c.write.new.store c.args.records.now c.write.new.self c.finish.new.reply c.args.place _ _ c.args.lease.now c.write.new.lease
-      c.in-Ok.field-0 c.in-Ok.ensures.changes;
+      c.in-Ok.field-0 c.finish.ensures.line c.in-Ok.ensures.changes;
   kept = search rules;
+  fault = search rules;
   loan = search rules;
 }

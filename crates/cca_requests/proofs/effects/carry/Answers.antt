@@ -10,7 +10,7 @@ use Rattle.request_rules.specs.Standing.{tables}
 use Rattle.cca_machine.specs.Deciding.{GoesThrough, IsDecided, WritesStore}
 use Rattle.cca_requests.proofs.Carrying.{action_carries, carries_as, create_carries, define_carries, delete_carries, outcome_is, refused_is, remove_carries, renew_carries, shown_is, write_carries}
 use Rattle.cca_requests.proofs.Contents.{sound}
-use Rattle.cca_requests.proofs.Leaving.{err_always, module_keeps, module_left, ready_as, registers_left, still_keeps, still_left, store_keeps, store_left}
+use Rattle.cca_requests.proofs.Leaving.{err_always, fails_alone, module_keeps, module_left, ready_as, registers_left, still_keeps, still_left, store_keeps, store_left}
 use Rattle.cca_requests.proofs.Serving.{still_carries}
 use Rattle.cca_requests.proofs.effects.carry.Goals as goal
 
@@ -24,7 +24,7 @@ returns-in-Refused-clause-carries g c = λ s request drawn at old decided.
     let m = g.M.Disk.medium c.args.module.now in
     let d = g.D.Disk.medium c.args.store.now in
     carries_as (refused_is s drawn request left)
-    (still_carries (refused s r) s (Ok tt) c.refuse.new.reply t m d refl c.refuse.ensures tt c.requires.disks.at.settled c.requires.disks.store.settled at.stands)
+    (still_carries (refused s r) s (Ok tt) c.refuse.new.reply t m d refl c.refuse.ensures.spells tt c.requires.disks.at.settled c.requires.disks.store.settled at.stands)
 
 pub returns-in-Shown-clause-carries : goal.returns-in-Shown-clause-carries
 returns-in-Shown-clause-carries g c = λ s request drawn at old decided.
@@ -35,7 +35,7 @@ returns-in-Shown-clause-carries g c = λ s request drawn at old decided.
     let d = g.D.Disk.medium c.args.store.now in
     carries_as (shown_is s drawn request left.0 left.1.is)
     (still_carries (effected s request (Show fields)) s (Ok tt) c.finish.new.reply t m d refl
-    (c.finish.ensures fields left.1.reply_is ∙ ap (λ (b : Bool). spelled (Done (fields ++ warning b))) (sym old)) tt c.requires.disks.at.settled c.requires.disks.store.settled at.stands)
+    (c.finish.ensures.spells fields left.1.reply_is ∙ ap (λ (b : Bool). spelled (Done (fields ++ warning b))) (sym old)) tt c.requires.disks.at.settled c.requires.disks.store.settled at.stands)
 
 pub returns-in-Change-clause-carries : goal.returns-in-Change-clause-carries
 returns-in-Change-clause-carries g c = λ s request drawn at old decided.
@@ -86,12 +86,12 @@ returns-in-Reencipher-clause-carries g c = λ s request drawn at old decided.
 
 pub returns-in-Refused-clause-left : goal.returns-in-Refused-clause-left
 returns-in-Refused-clause-left g c =
-    still_left c.requires.disks.at.settled c.requires.disks.store.settled
+    still_left c.refuse.ensures.line c.requires.disks.at.settled c.requires.disks.store.settled
     (sound (g.M.Disk.medium c.args.module.now) (masters_in c.args.held.now (bench_of c.args.lease.now)) c.args.roles.now c.requires.disks.at.stands c.requires.disks.at.remembered) c.requires.disks.store.holds
 
 pub returns-in-Shown-clause-left : goal.returns-in-Shown-clause-left
 returns-in-Shown-clause-left g c =
-    still_left c.requires.disks.at.settled c.requires.disks.store.settled
+    still_left c.finish.ensures.line c.requires.disks.at.settled c.requires.disks.store.settled
     (sound (g.M.Disk.medium c.args.module.now) (masters_in c.args.held.now (bench_of c.args.lease.now)) c.args.roles.now c.requires.disks.at.stands c.requires.disks.at.remembered) c.requires.disks.store.holds
 
 pub returns-in-Change-clause-left : goal.returns-in-Change-clause-left
@@ -135,25 +135,25 @@ pub returns-in-Shown-clause-keeps : goal.returns-in-Shown-clause-keeps
 returns-in-Shown-clause-keeps g c = still_keeps
 
 pub returns-in-Change-clause-keeps : goal.returns-in-Change-clause-keeps
-returns-in-Change-clause-keeps g c = module_keeps c.change_registers.result c.change_registers.ensures.left.stops c.change_registers.ensures.memory c.change_registers.ensures.loan
+returns-in-Change-clause-keeps g c = module_keeps c.change_registers.result (λ writes. subst WritesStore c.in-Change.is writes) c.change_registers.ensures.left.stops c.change_registers.ensures.memory c.change_registers.ensures.loan
 
 pub returns-in-DefineRole-clause-keeps : goal.returns-in-DefineRole-clause-keeps
-returns-in-DefineRole-clause-keeps g c = module_keeps c.define_role.result c.define_role.ensures.left.stops (err_always c.define_role.result refl) c.define_role.ensures.loan
+returns-in-DefineRole-clause-keeps g c = module_keeps c.define_role.result (λ writes. subst WritesStore c.in-DefineRole.is writes) c.define_role.ensures.left.stops (err_always c.define_role.result refl) c.define_role.ensures.loan
 
 pub returns-in-RemoveRole-clause-keeps : goal.returns-in-RemoveRole-clause-keeps
-returns-in-RemoveRole-clause-keeps g c = module_keeps c.remove_role.result c.remove_role.ensures.left.stops (err_always c.remove_role.result refl) c.remove_role.ensures.loan
+returns-in-RemoveRole-clause-keeps g c = module_keeps c.remove_role.result (λ writes. subst WritesStore c.in-RemoveRole.is writes) c.remove_role.ensures.left.stops (err_always c.remove_role.result refl) c.remove_role.ensures.loan
 
 pub returns-in-Create-clause-keeps : goal.returns-in-Create-clause-keeps
-returns-in-Create-clause-keeps g c = store_keeps c.create.result (subst WritesStore (sym c.in-Create.is) tt) c.create.ensures.left.left.stops (λ none. c.create.ensures.left.kept) c.create.ensures.left.loan
+returns-in-Create-clause-keeps g c = store_keeps c.create.result (subst WritesStore (sym c.in-Create.is) tt) (fails_alone c.create.result c.create.ensures.left.fault) c.create.ensures.left.left.stops (λ none. c.create.ensures.left.kept) c.create.ensures.left.loan
 
 pub returns-in-Write-clause-keeps : goal.returns-in-Write-clause-keeps
-returns-in-Write-clause-keeps g c = store_keeps c.write.result (subst WritesStore (sym c.in-Write.is) tt) c.write.ensures.left.left.stops (λ none. c.write.ensures.left.kept) c.write.ensures.left.loan
+returns-in-Write-clause-keeps g c = store_keeps c.write.result (subst WritesStore (sym c.in-Write.is) tt) (fails_alone c.write.result c.write.ensures.left.fault) c.write.ensures.left.left.stops (λ none. c.write.ensures.left.kept) c.write.ensures.left.loan
 
 pub returns-in-Delete-clause-keeps : goal.returns-in-Delete-clause-keeps
-returns-in-Delete-clause-keeps g c = store_keeps c.delete.result (subst WritesStore (sym c.in-Delete.is) tt) c.delete.ensures.left.left.stops (λ none. c.delete.ensures.left.kept) c.delete.ensures.left.loan
+returns-in-Delete-clause-keeps g c = store_keeps c.delete.result (subst WritesStore (sym c.in-Delete.is) tt) (fails_alone c.delete.result c.delete.ensures.left.fault) c.delete.ensures.left.left.stops (λ none. c.delete.ensures.left.kept) c.delete.ensures.left.loan
 
 pub returns-in-Reencipher-clause-keeps : goal.returns-in-Reencipher-clause-keeps
-returns-in-Reencipher-clause-keeps g c = store_keeps c.renew.result (subst WritesStore (sym c.in-Reencipher.is) tt) c.renew.ensures.left.stops
+returns-in-Reencipher-clause-keeps g c = store_keeps c.renew.result (subst WritesStore (sym c.in-Reencipher.is) tt) (λ device cell is. subst GoesThrough (sym c.in-Reencipher.is) tt) c.renew.ensures.left.stops
     (λ none. absurd (none (subst GoesThrough (sym c.in-Reencipher.is) tt))) c.renew.ensures.loan
 
 -- ---- what each call needs

@@ -1,5 +1,6 @@
-use Rattle.std.proofs.Common.{◌≡◌, ◌∙◌, Result, Ok, Err, refl, sym, ap, subst}
+use Rattle.std.proofs.Common.{◌≡◌, ◌∙◌, Result, Err, refl, sym, ap, subst}
 use Rattle.std.proofs.lemmas.Bool.{false≢true}
+use Rattle.line_service.specs.declared.stops.Device.TheVariants.{Store}
 use Rattle.line_service.specs.declared.stops.Stop.{Stop}
 use Rattle.line_service.specs.declared.stops.Stop.TheVariants.{EntropyFault, StoreFault}
 use Rattle.key_cells.specs.Lease.{bench_of, loan_of}
@@ -9,6 +10,7 @@ use Rattle.cca_machine.specs.Operands.{operands}
 use Rattle.cca_machine.specs.Verdict.{verb_verdict}
 use Rattle.request_rules.specs.Standing.{tables}
 use Rattle.cca_requests.specs.Serving.{IsFault, IsLoadedStop}
+use Rattle.cca_requests.proofs.Damage.{effect_spares, random_sound, sound_spares}
 use Rattle.cca_requests.proofs.Handing.{decide_stopped, disks_decided}
 use Rattle.cca_requests.proofs.Registers.{loaded_after}
 use Rattle.cca_requests.proofs.Serving.{decided_serves, old_as, stopped_serves}
@@ -91,6 +93,20 @@ returns-in-Err-clause-store g c = record {
   named = λ is. absurd (not_of_store c.in-Err.stop c.in-Err.ensures.decision.decided.stops is);
   spared = λ none. refl;
 }
+
+pub returns-in-Ok-clause-damaged : goal.returns-in-Ok-clause-damaged
+returns-in-Ok-clause-damaged g c =
+    effect_spares g.M.Disk.medium (seen c.args.request.now) c.carry.ensures.keeps c.in-Ok.ensures.decision.decided.through c.decide.ensures.decision.takes.undrawn
+
+pub returns-in-Err-clause-damaged : goal.returns-in-Err-clause-damaged
+returns-in-Err-clause-damaged g c = sound_spares (random_sound c.in-Err.stop c.in-Err.ensures.decision.decided.stops)
+
+pub returns-in-Ok-clause-store_kept : goal.returns-in-Ok-clause-store_kept
+returns-in-Ok-clause-store_kept g c = λ none cell is.
+    absurd (false≢true (sym none ∙ c.in-Ok.ensures.decision.decided.through (c.carry.ensures.keeps.through Store cell is)))
+
+pub returns-in-Err-clause-store_kept : goal.returns-in-Err-clause-store_kept
+returns-in-Err-clause-store_kept g c = λ none cell is. keeps_still (g.D.Disk.medium c.args.store.now)
 
 pub returns-in-Ok-clause-left : goal.returns-in-Ok-clause-left
 returns-in-Ok-clause-left g c = c.carry.ensures.left

@@ -7,7 +7,7 @@ use Rattle.key_cells.specs.Lease.{bench_of, loan_of}
 use Rattle.line_service.specs.declared.stops.Stop.{Stop}
 use Rattle.line_service.specs.declared.stops.Stop.TheVariants.{EntropyFault, StoreFault}
 use Rattle.master_registers.specs.Loaded.{Loaded, masters_in}
-use Rattle.device_cells.proofs.Media.{keeps_still}
+use Rattle.device_cells.proofs.Media.{keeps_still, keeps_then}
 use Rattle.verb_rules.specs.Rules.{rule_number}
 use Rattle.verb_script.specs.Grammar.{Request}
 use Rattle.verb_script.specs.Parsed.{seen}
@@ -25,6 +25,7 @@ use Rattle.cca_requests.proofs.OperandsJudged.{operands_granted, operands_refuse
 use Rattle.cca_requests.proofs.Serving.{refused_serves, stopped_serves, serves_after_reads, stands_kept}
 use Rattle.cca_requests.proofs.Contents.{sound}
 use Rattle.cca_requests.proofs.Handing.{disks_read, draws_none, has_passed, no_stop, spares_still, store_kept, store_stopped}
+use Rattle.cca_requests.proofs.Damage.{read_spares, served_sound, sound_spares, spares_after_store}
 use Rattle.cca_requests.proofs.Leaving.{leaves_after_reads, still_left, stops_as, store_stop}
 use Rattle.cca_requests.proofs.performing.carry_out.Goals as goal
 use Rattle.key_cells.proofs.AnswerLemmas.{no_err}
@@ -48,7 +49,7 @@ returns-in-Some-clause-serves g c = λ s at.
     let fails : first_failing (general_checks s request) ≡ Some (rule_number c.in-Some.rule) =
     sym (c.general_rule.ensures.rule s (bench_of c.args.lease.now) at.stands.on_module.memory at.loaded) ∙ ap (option_map rule_number) c.in-Some.is in
     refused_serves s request (refusal (rule_number c.in-Some.rule) (codes "-")) c.refuse.new.reply t (g.M.Disk.medium c.args.module.now) d d (g.E.Entropy.left c.args.entropy.now)
-    (verdict_general s request (rule_number c.in-Some.rule) fails) (whole_spelled c.of_request.result c.of_request.ensures c.refuse.ensures) c.requires.disks.at.settled c.requires.disks.store.settled (keeps_still d) at.stands
+    (verdict_general s request (rule_number c.in-Some.rule) fails) (whole_spelled c.of_request.result c.of_request.ensures c.refuse.ensures.spells) c.requires.disks.at.settled c.requires.disks.store.settled (keeps_still d) at.stands
 
 pub returns-in-Ok-Refused-clause-serves : goal.returns-in-Ok-Refused-clause-serves
 returns-in-Ok-Refused-clause-serves g c = λ s at.
@@ -63,7 +64,7 @@ returns-in-Ok-Refused-clause-serves g c = λ s at.
     (c.general_rule.ensures.rule s bench at.stands.on_module.memory at.loaded) c.in_default.is c.operands_of.ensures.table
     (c.in-Ok-Refused.ensures.judged s (record { loaded = at.loaded; stands = at.stands.on_store })) c.in-Ok-Refused.field-0-is in
     refused_serves s request r c.refuse-in-Ok-Refused.new.reply t m d0 d1 (g.E.Entropy.left c.args.entropy.now)
-    fails c.refuse-in-Ok-Refused.ensures c.requires.disks.at.settled c.requires.disks.store.settled c.judge.ensures.reads.keeps at.stands
+    fails c.refuse-in-Ok-Refused.ensures.spells c.requires.disks.at.settled c.requires.disks.store.settled c.judge.ensures.reads.keeps at.stands
 
 pub returns-in-Ok-Granted-clause-serves : goal.returns-in-Ok-Granted-clause-serves
 returns-in-Ok-Granted-clause-serves g c = λ s at.
@@ -151,7 +152,7 @@ returns-in-Ok-Granted-clause-store g c = record {
 
 pub returns-in-Some-clause-left : goal.returns-in-Some-clause-left
 returns-in-Some-clause-left g c =
-    still_left c.requires.disks.at.settled c.requires.disks.store.settled
+    still_left c.refuse.ensures.line c.requires.disks.at.settled c.requires.disks.store.settled
     (sound (g.M.Disk.medium c.args.module.now) (masters_in c.args.held.now (bench_of c.args.lease.now)) c.args.roles.now c.requires.disks.at.stands c.requires.disks.at.remembered) c.requires.disks.store.holds
 
 pub returns-in-Ok-Refused-clause-left : goal.returns-in-Ok-Refused-clause-left
@@ -160,7 +161,7 @@ returns-in-Ok-Refused-clause-left g c =
     let store = store_kept c.args.records.now (g.D.Disk.medium c.args.store.now) d1 c.judge.ensures.reads.keeps c.requires.disks.store in
     leaves_after_reads {reply = c.refuse-in-Ok-Refused.new.reply}
     (keeps_still (g.M.Disk.medium c.args.module.now)) refl c.judge.ensures.reads.keeps (c.in-Ok-Refused.ensures.reads.disk.quiet (λ is. no_err is))
-    (still_left {reply = c.refuse-in-Ok-Refused.new.reply} c.requires.disks.at.settled store.settled
+    (still_left {reply = c.refuse-in-Ok-Refused.new.reply} c.refuse-in-Ok-Refused.ensures.line c.requires.disks.at.settled store.settled
     (sound (g.M.Disk.medium c.args.module.now) (masters_in c.args.held.now (bench_of c.args.lease.now)) c.args.roles.now c.requires.disks.at.stands c.requires.disks.at.remembered) store.holds)
 
 pub returns-in-Ok-Granted-clause-left : goal.returns-in-Ok-Granted-clause-left
@@ -181,7 +182,7 @@ returns-in-Some-clause-own g c =
       general = Some (rule_number c.in-Some.rule);
       as_whole = λ s registers roles.
           sym (c.general_rule.ensures.rule s bench (sym roles) (subst (λ m. Loaded m held bench) (sym registers) c.requires.disks.at.loaded)) ∙ ap (option_map rule_number) c.in-Some.is;
-      judged = whole_spelled c.of_request.result c.of_request.ensures c.refuse.ensures;
+      judged = whole_spelled c.of_request.result c.of_request.ensures c.refuse.ensures.spells;
     }
 
 pub returns-in-Ok-Refused-clause-own : goal.returns-in-Ok-Refused-clause-own
@@ -196,7 +197,7 @@ returns-in-Ok-Refused-clause-own g c =
           sym (c.general_rule.ensures.rule s bench (sym roles) (subst (λ m. Loaded m held bench) (sym registers) c.requires.disks.at.loaded)) ∙ ap (option_map rule_number) c.in_default.is;
       judged = refusal_by_record (masters_in held bench) bench c.args.records.now (seen c.args.request.now) c.refuse-in-Ok-Refused.new.reply
           c.in-Ok-Refused.refusal c.operands_of.ensures.table
-          (c.in-Ok-Refused.ensures.own (masters_in held bench) c.requires.disks.at.loaded) c.in-Ok-Refused.field-0-is c.refuse-in-Ok-Refused.ensures;
+          (c.in-Ok-Refused.ensures.own (masters_in held bench) c.requires.disks.at.loaded) c.in-Ok-Refused.field-0-is c.refuse-in-Ok-Refused.ensures.spells;
     }
 
 pub returns-in-Ok-Granted-clause-own : goal.returns-in-Ok-Granted-clause-own
@@ -240,6 +241,32 @@ returns-in-Err-clause-random g c = draws_none (Err c.in-Err.stop) (stops_as IsSt
 
 pub returns-in-Some-clause-store : goal.returns-in-Some-clause-store
 returns-in-Some-clause-store g c = spares_still (Ok tt) (no_stop StoreFault)
+
+pub returns-in-Some-clause-damaged : goal.returns-in-Some-clause-damaged
+returns-in-Some-clause-damaged g c = sound_spares served_sound
+
+pub returns-in-Ok-Refused-clause-damaged : goal.returns-in-Ok-Refused-clause-damaged
+returns-in-Ok-Refused-clause-damaged g c = sound_spares served_sound
+
+pub returns-in-Ok-Granted-clause-damaged : goal.returns-in-Ok-Granted-clause-damaged
+returns-in-Ok-Granted-clause-damaged g c = spares_after_store c.act.ensures.stops c.act.ensures.damaged
+
+pub returns-in-Err-clause-damaged : goal.returns-in-Err-clause-damaged
+returns-in-Err-clause-damaged g c = read_spares (store_stop c.in-Err.stop c.in-Err.ensures.reads.stops)
+
+pub returns-in-Some-clause-store_kept : goal.returns-in-Some-clause-store_kept
+returns-in-Some-clause-store_kept g c = λ none cell is. keeps_still (g.D.Disk.medium c.args.store.now)
+
+pub returns-in-Ok-Refused-clause-store_kept : goal.returns-in-Ok-Refused-clause-store_kept
+returns-in-Ok-Refused-clause-store_kept g c = λ none cell is. c.judge.ensures.reads.keeps
+
+pub returns-in-Ok-Granted-clause-store_kept : goal.returns-in-Ok-Granted-clause-store_kept
+returns-in-Ok-Granted-clause-store_kept g c = λ none cell is.
+    keeps_then (g.D.Disk.medium c.args.store.now) (g.D.Disk.medium c.judge.new.store) (g.D.Disk.medium c.act.new.store)
+    c.judge.ensures.reads.keeps (c.act.ensures.store_kept none cell is)
+
+pub returns-in-Err-clause-store_kept : goal.returns-in-Err-clause-store_kept
+returns-in-Err-clause-store_kept g c = λ none cell is. c.judge.ensures.reads.keeps
 
 pub returns-in-Err-clause-left : goal.returns-in-Err-clause-left
 returns-in-Err-clause-left g c =

@@ -1,4 +1,4 @@
-use Rattle.std.proofs.Common.{◌≡◌, ◌∙◌, Result, Ok, Err, refl, sym, ap, subst}
+use Rattle.std.proofs.Common.{◌≡◌, ◌∙◌, Result, Err, refl, sym, ap, subst}
 use Rattle.key_cells.specs.Lease.{bench_of}
 use Rattle.master_registers.specs.Loaded.{Loaded, masters_in}
 use Rattle.line_service.specs.declared.stops.Stop.{Stop}
@@ -9,6 +9,7 @@ use Rattle.verb_script.specs.Parsed.{seen}
 use Rattle.verb_script.proofs.GrammarLaws.{spelled_values}
 use Rattle.request_rules.specs.Standing.{tables}
 use Rattle.request_rules.proofs.AsRead.{rests_before}
+use Rattle.cca_requests.proofs.Damage.{load_spares, module_sound, sound_spares, spares_after_module}
 use Rattle.cca_requests.proofs.Handing.{disks_loaded, draws_none, load_damaged, load_failed, request_stop, spares_still}
 use Rattle.cca_requests.proofs.Leaving.{no_damage, leaves_after_reads}
 use Rattle.cca_requests.proofs.Registers.{registers_found, undamaged}
@@ -118,6 +119,24 @@ returns-in-Ok-clause-records g c = c.carry_out.ensures.rows
 
 pub returns-in-Ok-clause-store : goal.returns-in-Ok-clause-store
 returns-in-Ok-clause-store g c = c.carry_out.ensures.store
+
+pub returns-in-Ok-clause-damaged : goal.returns-in-Ok-clause-damaged
+returns-in-Ok-clause-damaged g c = spares_after_module c.load.ensures.keeps c.carry_out.ensures.damaged
+
+pub returns-in-Err-DiskFault-clause-damaged : goal.returns-in-Err-DiskFault-clause-damaged
+returns-in-Err-DiskFault-clause-damaged g c = sound_spares module_sound
+
+pub returns-clause-damaged : goal.returns-clause-damaged
+returns-clause-damaged g c = load_spares c.load.ensures.keeps
+
+pub returns-in-Ok-clause-store_kept : goal.returns-in-Ok-clause-store_kept
+returns-in-Ok-clause-store_kept g c = c.carry_out.ensures.store_kept
+
+pub returns-in-Err-DiskFault-clause-store_kept : goal.returns-in-Err-DiskFault-clause-store_kept
+returns-in-Err-DiskFault-clause-store_kept g c = λ none cell is. keeps_still (g.D.Disk.medium c.args.store.now)
+
+pub returns-clause-store_kept : goal.returns-clause-store_kept
+returns-clause-store_kept g c = λ none cell is. keeps_still (g.D.Disk.medium c.args.store.now)
 
 pub returns-in-Ok-clause-stops : goal.returns-in-Ok-clause-stops
 returns-in-Ok-clause-stops g c = request_stop c.carry_out.result c.carry_out.ensures.stops

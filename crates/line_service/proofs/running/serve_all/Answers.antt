@@ -29,7 +29,7 @@ each_line-preserved g c =
                 (devices (g.M.Disk.medium c.serve_one.new.module) (g.M.Disk.faults c.serve_one.new.module) (g.D.Disk.medium c.serve_one.new.store) (g.D.Disk.faults c.serve_one.new.store) (g.E.Entropy.left c.serve_one.new.entropy) (g.E.Entropy.faults c.serve_one.new.entropy));
           })
           c.each_line.lines c.serve_one.new.lines c.serve_one.result c.each_line.invariant.lines
-          c.serve_one.ensures.serves c.serve_one.ensures.taken c.serve_one.ensures.left replied;
+          c.serve_one.ensures.serves c.serve_one.ensures.taken c.serve_one.ensures.left replied (c.serve_one.ensures.replied replied);
       ready = c.in-Ok-Replied.ensures.ready;
       blank = c.serve_one.ensures.bench;
     }

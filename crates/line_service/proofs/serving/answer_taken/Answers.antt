@@ -1,9 +1,9 @@
 -- A line that is too long is refused from any state.
-use Rattle.std.proofs.Common.{None, subst}
+use Rattle.std.proofs.Common.{None, Ok, subst}
 use Rattle.line_service.specs.Devices.{devices}
 use Rattle.line_service.specs.Machine.{world}
 use Rattle.line_service.specs.Serving.{IsTheLine}
-use Rattle.line_service.proofs.AnsweredLemmas.{devices_done, undamaged_done}
+use Rattle.line_service.proofs.AnsweredLemmas.{devices_done, done_undamaged, spares_else, undamaged_done}
 use Rattle.line_service.proofs.LineLemmas.{line_serves, refused_serves, short_line}
 use Rattle.line_service.specs.declared.lines.Taken.{Taken}
 use Rattle.line_service.proofs.serving.answer_taken.Goals as goal
@@ -12,7 +12,7 @@ pub returns-in-TooLong-clause-serves : goal.returns-in-TooLong-clause-serves
 returns-in-TooLong-clause-serves g c = λ s stands line is.
     refused_serves g.A.Desk.machine s (g.A.Desk.knows c.args.desk.now) line c.too_long.new.reply
     (world (g.M.Disk.medium c.args.module.now) (g.D.Disk.medium c.args.store.now) (g.E.Entropy.left c.args.entropy.now))
-    (c.too_long.ensures s line (subst (λ (t : Taken). IsTheLine t c.args.lines.now line) c.in-TooLong.is is)) stands c.requires.disks.module_settled c.requires.disks.store_settled
+    (c.too_long.ensures.steps s line (subst (λ (t : Taken). IsTheLine t c.args.lines.now line) c.in-TooLong.is is)) stands c.requires.disks.module_settled c.requires.disks.store_settled
 
 pub line-requires : goal.line-requires
 line-requires g c = tt
@@ -83,3 +83,21 @@ returns-in-End-clause-bench g c = c.requires.bench
 
 pub returns-in-End-clause-serves : goal.returns-in-End-clause-serves
 returns-in-End-clause-serves g c = λ s stands line is. absurd (subst (λ (t : Taken). IsTheLine t c.args.lines.now line) c.in-End.is is)
+
+pub returns-in-Line-clause-line : goal.returns-in-Line-clause-line
+returns-in-Line-clause-line g c = λ some. c.answer.ensures.line
+
+pub returns-in-TooLong-clause-line : goal.returns-in-TooLong-clause-line
+returns-in-TooLong-clause-line g c = λ some. c.too_long.ensures.line
+
+pub returns-in-End-clause-line : goal.returns-in-End-clause-line
+returns-in-End-clause-line g c = λ some. absurd (some c.in-End.is)
+
+pub returns-in-Line-clause-damaged : goal.returns-in-Line-clause-damaged
+returns-in-Line-clause-damaged g c = c.answer.ensures.damaged
+
+pub returns-in-TooLong-clause-damaged : goal.returns-in-TooLong-clause-damaged
+returns-in-TooLong-clause-damaged g c = spares_else (Ok tt) (done_undamaged tt)
+
+pub returns-in-End-clause-damaged : goal.returns-in-End-clause-damaged
+returns-in-End-clause-damaged g c = spares_else (Ok tt) (done_undamaged tt)

@@ -1,17 +1,18 @@
 -- What a line leaves, by how far it came.
-use Rattle.std.proofs.Common.{◌≡◌, ◌++◌, ℕ, List, None, Ok, Err, ap, subst, refl, inl, inr}
+use Rattle.std.proofs.Common.{◌≡◌, ◌++◌, ℕ, List, None, Ok, Err, ap, subst, sym, refl, inl, inr}
 use Rattle.device_cells.specs.WhereTold.{WhereTold}
 use Rattle.line_service.specs.Devices.{devices, outside}
 use Rattle.line_service.specs.Machine.{world}
 use Rattle.line_service.specs.Sending.{GotPart}
 use Rattle.line_service.specs.declared.serving.Served.TheVariants.{Replied, Ended}
 use Rattle.line_service.specs.declared.stops.Stop.TheVariants.{ReadFault, WriteFault, InputLimit}
-use Rattle.line_service.proofs.AnsweredLemmas.{outside_cut, outside_replied, outside_stopped, outside_untouched, cut_of_sink, replied_of_sink, undamaged_answered, undamaged_stopped, undamaged_untouched, unmoved_cut, unmoved_replied, unmoved_stopped, unmoved_untouched}
+use Rattle.line_service.proofs.AnsweredLemmas.{cut_undamaged, done_undamaged, outside_cut, outside_replied, outside_stopped, outside_untouched, cut_of_sink, replied_of_sink, spares_else, spares_on, unanswered_undamaged, undamaged_answered, undamaged_stopped, undamaged_untouched, unmoved_cut, unmoved_replied, unmoved_stopped, unmoved_untouched}
 use Rattle.line_service.proofs.LineLemmas.{line_replied, line_cut, line_lost, line_ended, line_unread, line_over}
 use Rattle.line_service.proofs.TakenLemmas.{line_was_taken, no_line_was_taken, over_not_failed, answered_replied, answered_cut, answered_stop, read_ended, read_failed, read_over}
 use Rattle.line_service.proofs.serving.serve_one.Goals as goal
 use Rattle.key_cells.proofs.AnswerLemmas.{no_err}
-use Rattle.line_service.proofs.StopLemmas.{over_not_unread}
+use Rattle.line_service.proofs.RepliedLemmas.{got_reply}
+use Rattle.line_service.proofs.StopLemmas.{ended_unsent, over_not_unread}
 
 pub returns-in-Ok-send-clause-serves : goal.returns-in-Ok-send-clause-serves
 returns-in-Ok-send-clause-serves g c = λ s stands.
@@ -207,3 +208,41 @@ returns-in-Err-ReadFault-clause-unread g c = c.read_line.ensures.ready
 
 pub returns-in-Err-InputLimit-clause-unread : goal.returns-in-Err-InputLimit-clause-unread
 returns-in-Err-InputLimit-clause-unread g c = c.read_line.ensures.ready
+
+pub returns-in-Ok-send-clause-replied : goal.returns-in-Ok-send-clause-replied
+returns-in-Ok-send-clause-replied g c = λ is.
+    got_reply (g.K.Sink.held c.args.sink.now) (g.K.Sink.held c.send.new.sink) c.bytes.result.now c.answer_taken.new.reply c.bytes.ensures.bytes
+    (c.in-Ok-answer_taken.ensures.line c.in_default.not-End) c.in-Ok-send.ensures.all
+
+pub returns-in-Err-send-clause-replied : goal.returns-in-Err-send-clause-replied
+returns-in-Err-send-clause-replied g c = λ is. absurd (no_err (sym is))
+
+pub returns-in-Err-clause-replied : goal.returns-in-Err-clause-replied
+returns-in-Err-clause-replied g c = λ is. absurd (no_err (sym is))
+
+pub returns-in-End-clause-replied : goal.returns-in-End-clause-replied
+returns-in-End-clause-replied g c = λ is. absurd (ended_unsent (Ok Ended) refl is)
+
+pub returns-in-Err-ReadFault-clause-replied : goal.returns-in-Err-ReadFault-clause-replied
+returns-in-Err-ReadFault-clause-replied g c = λ is. absurd (no_err (sym is))
+
+pub returns-in-Err-InputLimit-clause-replied : goal.returns-in-Err-InputLimit-clause-replied
+returns-in-Err-InputLimit-clause-replied g c = λ is. absurd (no_err (sym is))
+
+pub returns-in-Ok-send-clause-damaged : goal.returns-in-Ok-send-clause-damaged
+returns-in-Ok-send-clause-damaged g c = spares_else (Ok Replied) (done_undamaged Replied)
+
+pub returns-in-Err-send-clause-damaged : goal.returns-in-Err-send-clause-damaged
+returns-in-Err-send-clause-damaged g c = spares_else (Err WriteFault) cut_undamaged
+
+pub returns-in-Err-clause-damaged : goal.returns-in-Err-clause-damaged
+returns-in-Err-clause-damaged g c = spares_on c.in-Err.stop c.in-Err.ensures.damaged
+
+pub returns-in-End-clause-damaged : goal.returns-in-End-clause-damaged
+returns-in-End-clause-damaged g c = spares_else (Ok Ended) (done_undamaged Ended)
+
+pub returns-in-Err-ReadFault-clause-damaged : goal.returns-in-Err-ReadFault-clause-damaged
+returns-in-Err-ReadFault-clause-damaged g c = spares_else (Err ReadFault) (unanswered_undamaged (Err ReadFault) (inr (inl refl)))
+
+pub returns-in-Err-InputLimit-clause-damaged : goal.returns-in-Err-InputLimit-clause-damaged
+returns-in-Err-InputLimit-clause-damaged g c = spares_else (Err InputLimit) (unanswered_undamaged (Err InputLimit) (inr (inr refl)))

@@ -1,5 +1,9 @@
 -- A line is a request, or breaks rule 01.
-use Rattle.std.proofs.Common.{sym, rules}
+use Rattle.std.proofs.Common.{Ok, codes, subst, sym, rules}
+use Rattle.line_service.specs.Replies.{Refused}
+use Rattle.line_service.specs.Lines.{EndsInNewline}
+use Rattle.line_service.proofs.AnsweredLemmas.{done_undamaged, spares_else}
+use Rattle.line_service.proofs.ReplyLemmas.{spelled_line}
 use Rattle.verb_script.specs.Parsed.{seen}
 use Rattle.request_rules.specs.Standing.{tables}
 use Rattle.store_unload.specs.Opening.{remembers}
@@ -77,3 +81,15 @@ returns-in-Err-clause-stops g c = tt
 
 pub returns-in-Err-clause-bench : goal.returns-in-Err-clause-bench
 returns-in-Err-clause-bench g c = c.requires.bench
+
+pub returns-in-Ok-clause-line : goal.returns-in-Ok-clause-line
+returns-in-Ok-clause-line g c = c.perform.ensures.left.line
+
+pub returns-in-Err-clause-line : goal.returns-in-Err-clause-line
+returns-in-Err-clause-line g c = subst EndsInNewline (sym c.refuse_line.ensures) (spelled_line (Refused 1 (codes "-")))
+
+pub returns-in-Ok-clause-damaged : goal.returns-in-Ok-clause-damaged
+returns-in-Ok-clause-damaged g c = c.perform.ensures.damaged
+
+pub returns-in-Err-clause-damaged : goal.returns-in-Err-clause-damaged
+returns-in-Err-clause-damaged g c = spares_else (Ok tt) (done_undamaged tt)

@@ -4,6 +4,7 @@ use Rattle.line_service.specs.Machine.{world}
 use Rattle.cca_tool.specs.Sessions.{Memory}
 use Rattle.cca_tool.proofs.KnownLemmas.{known_inside, stands_inside, line_inside}
 use Rattle.cca_tool.proofs.LineLemmas.{silent_serves}
+use Rattle.cca_tool.proofs.SessionLemmas.{waits_at_no_end}
 use Rattle.cca_tool.proofs.session.Session.answer.Goals as goal
 
 pub returns-in-Ok-clause-serves : goal.returns-in-Ok-clause-serves
@@ -71,3 +72,16 @@ returns-in-Err-clause-unanswered g c = c.clear.ensures
 
 pub returns-in-Err-clause-bench : goal.returns-in-Err-clause-bench
 returns-in-Err-clause-bench g c = c.answer_taken.ensures.bench
+
+pub returns-in-Ok-clause-answered : goal.returns-in-Ok-clause-answered
+returns-in-Ok-clause-answered g c =
+    c.in-Ok.ensures.line (waits_at_no_end c.self.inside.waiting c.in-Some.taken c.self.inside.lines c.self.invariant (sym c.take.ensures.value ∙ c.in-Some.is))
+
+pub returns-in-Err-clause-answered : goal.returns-in-Err-clause-answered
+returns-in-Err-clause-answered g c = tt
+
+pub returns-in-Ok-clause-damaged : goal.returns-in-Ok-clause-damaged
+returns-in-Ok-clause-damaged g c = c.in-Ok.ensures.damaged
+
+pub returns-in-Err-clause-damaged : goal.returns-in-Err-clause-damaged
+returns-in-Err-clause-damaged g c = c.in-Err.ensures.damaged

@@ -58,3 +58,9 @@ returns-clause-taken g c =
 
 pub returns-clause-idle : goal.returns-clause-idle
 returns-clause-idle g c = idle_inside _ c.args.self.now c.self.view_is c.requires.idle
+
+pub returns-clause-replied : goal.returns-clause-replied
+returns-clause-replied g c = c.serve_one.ensures.replied
+
+pub returns-clause-damaged : goal.returns-clause-damaged
+returns-clause-damaged g c = c.serve_one.ensures.damaged
