@@ -1,6 +1,7 @@
 -- What AHEAD makes of labels, and what SET makes of labels that are ahead.
 use Rattle.std.proofs.Common.{◌≡◌, ◌≤◌, ℕ, zero, suc, Bool, true, false, not, List, [], ◌∷◌, length, map, Option, None, Some, refl, sym, ap, subst, ◌∙◌, ◌||◌, IsSome, true≢false, arith}
 use Rattle.std.specs.Prelude.{◌&&◌, if◌then◌else◌}
+use Rattle.std.proofs.lemmas.Option.{same_Some}
 use Rattle.cca_roles.specs.Directory.{has_name}
 use Rattle.cca_roles.proofs.DirectoryLaws.{none_some}
 use Rattle.record_bodies.specs.Ages.{any_ahead_entry, any_old, is_ahead_entry, is_old}
@@ -61,9 +62,6 @@ pub performed_is : (s : State) (drawn : List ℕ) (r : Request) → verdict s dr
 unfolding performed
 performed_is s drawn r permits = ap (λ (v : Option Refusal). (or_act v s drawn r).state) permits
 
-same_some : (a b : Denoted) → Some a ≡ Some b → a ≡ b
-same_some a b is = cc
-
 -- ---- AHEAD
 
 abbrev BecomesAhead : Compare
@@ -115,7 +113,7 @@ BecomesCurrent a b = (key : Denoted) → what_in a ≡ Some key → is_ahead_ent
 aged_ahead : (what : Option Denoted) (ahead : Bool) (key : Denoted) → what ≡ Some key → ahead ≡ true → aged_key what ahead ≡ Some (as_current key.clear)
 aged_ahead None ahead key is marked = absurd (none_some key is)
 aged_ahead (Some d) false key is marked = cc marked
-aged_ahead (Some d) true key is marked = ap (λ (k : Denoted). Some (as_current k.clear)) (same_some d key is)
+aged_ahead (Some d) true key is marked = ap (λ (k : Denoted). Some (as_current k.clear)) (same_Some d key is)
 
 becomes_current : (masters : MasterKeys) (e : Option Entry) → BecomesCurrent e (aged_entry masters e)
 becomes_current masters None key is marked = absurd (none_some key is)

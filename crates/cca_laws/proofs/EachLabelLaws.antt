@@ -1,6 +1,7 @@
 -- What the requests that go through every label make of one: AHEAD and DROP, SET, and REENCIPHER without an action.
 use Rattle.std.proofs.Common.{◌≡◌, ◌⊎◌, inl, inr, ℕ, Bool, true, false, List, [], ◌∷◌, map, Option, None, Some, refl, sym, ap, subst, ◌∙◌, arith}
 use Rattle.std.specs.Prelude.{if◌then◌else◌}
+use Rattle.std.proofs.lemmas.Option.{same_Some}
 use Rattle.cca_roles.specs.Directory.{has_name}
 use Rattle.cca_roles.proofs.DirectoryLaws.{has_name_is, none_some}
 use Rattle.record_bodies.specs.Ages.{has_old_key, is_ahead_entry, is_old as is_old_age}
@@ -66,14 +67,8 @@ module _ (s : State) (label : List ℕ) where
       record { cell = cell_kept s label (Marks ahead) t alike; entry = compared s label (Marks ahead) (inl refl) t alike }
 
   marks_named : (drawn : List ℕ) (name : RequestName) (r : Request) (ahead : Bool) → mark_of name ≡ Some ahead → SameButMark ahead s (after_effect s (effect s drawn name r)) label
-  marks_named drawn ReencipherAhead r ahead is = marks_all Ahead ahead (λ e. ap (λ (b : Bool). marked b (Some e)) (same_some true ahead is))
-    where
-      same_some : (a b : Bool) → Some a ≡ Some b → a ≡ b
-      same_some a b same = cc
-  marks_named drawn ReencipherDrop r ahead is = marks_all Drop ahead (λ e. ap (λ (b : Bool). marked b (Some e)) (same_some false ahead is))
-    where
-      same_some : (a b : Bool) → Some a ≡ Some b → a ≡ b
-      same_some a b same = cc
+  marks_named drawn ReencipherAhead r ahead is = marks_all Ahead ahead (λ e. ap (λ (b : Bool). marked b (Some e)) (same_Some true ahead is))
+  marks_named drawn ReencipherDrop r ahead is = marks_all Drop ahead (λ e. ap (λ (b : Bool). marked b (Some e)) (same_Some false ahead is))
   marks_named drawn _ r ahead is = absurd (none_some ahead is)
 
 pub marks_kept : (s : State) (drawn label : List ℕ) (r : Request) (ahead : Bool) → mark_of r.name ≡ Some ahead → SameButMark ahead s (performed s drawn r).state label
@@ -166,11 +161,8 @@ renews_one label (Some e) has = (
   λ never. ap (λ (t : Bool). Some (if t then made_by Renew e else e)) (not_old e.what never),
 )
   where
-    same_some : (a b : List ℕ) → Some a ≡ Some b → a ≡ b
-    same_some a b same = cc
-
     named : e.label ≡ label
-    named = same_some e.label label (has_name_is label (Some e.label) has)
+    named = same_Some e.label label (has_name_is label (Some e.label) has)
 
 pub renewed : (s : State) (image drawn label : List ℕ) (r : Request) → IsStoreOf s image → r.name ≡ Reencipher → verdict s drawn r ≡ None
     → IsRenewed s (performed s drawn r).state label

@@ -5,6 +5,7 @@ use Rattle.std.specs.Str.{bytes_eq}
 use Rattle.std.proofs.lemmas.Bool.{cases_lt}
 use Rattle.std.proofs.lemmas.List.{get_or_past, length-take}
 use Rattle.std.proofs.lemmas.Slice.Eq.{bytes_eq-Decides}
+use Rattle.std.proofs.lemmas.Option.{same_Some}
 use Rattle.device_cells.specs.Cells.{body}
 use Rattle.cca_vectors.specs.Checks.{Check, check, first_failing}
 use Rattle.cca_vectors.specs.Permissions.{is_exportable}
@@ -142,9 +143,6 @@ module _ (s : State) (key : Denoted) (has : HasToken s key) where
   pub full : is_none (register_of s.registers key.age) ≡ false
   full = by_registers (master_key s.registers.current) refl read.1
     where
-      same_some : (d : Denoted) → Some d ≡ Some key → d ≡ key
-      same_some d same = cc
-
       at_age : (age : Age) (clear : ClearKey) (master : MasterKey) → master_key (register_of s.registers age) ≡ Some master → (record { clear = clear; age = age }) ≡ key
           → is_none (register_of s.registers key.age) ≡ false
       at_age age clear master is same =
@@ -155,7 +153,7 @@ module _ (s : State) (key : Denoted) (has : HasToken s key) where
       by_former None is same = cc same
       by_former (Some master) is same =
           let both = if_token (bytes_eq (pattern_of_token has.bytes) master.pattern) _ key same in
-          at_age Old (clear_of master.key has.bytes) master is (same_some _ both.1)
+          at_age Old (clear_of master.key has.bytes) master is (same_Some _ key both.1)
 
       former_or : Option Denoted
       former_or = denoted_or (master_key s.registers.former) Old has.bytes None
@@ -167,7 +165,7 @@ module _ (s : State) (key : Denoted) (has : HasToken s key) where
         where
           by_test : (t : Bool) → (if t then Some (record { clear = clear_of master.key has.bytes; age = Current }) else former_or) ≡ Some key
               → is_none (register_of s.registers key.age) ≡ false
-          by_test true here = at_age Current (clear_of master.key has.bytes) master is (same_some _ here)
+          by_test true here = at_age Current (clear_of master.key has.bytes) master is (same_Some _ key here)
           by_test false there = by_former (master_key s.registers.former) refl there
 
 -- the register of a label's key is full
@@ -179,10 +177,7 @@ label_register s image label key stands is = full s key (label_token s image lab
 
 some_vector : (o : Option Denoted) (vector : List ℕ) → vector_of o ≡ Some vector → (key : Denoted) × (o ≡ Some key) × (key.clear.vector ≡ vector)
 some_vector None vector is = cc is
-some_vector (Some key) vector is = (key, refl, same_some key.clear.vector vector is)
-  where
-    same_some : (a b : List ℕ) → Some a ≡ Some b → a ≡ b
-    same_some a b same = cc
+some_vector (Some key) vector is = (key, refl, same_Some key.clear.vector vector is)
 
 -- a key that is passed on, and forbids export
 record IsPassed (s : State) (o : Option Denoted) : Type 0 where
@@ -268,14 +263,11 @@ external_passes s r os ops =
     none_in_first (token_checks asked.External (bytes_in r (codes "token")))
     (read_checks external_key (registers_of s.registers) (token_of (bytes_in r (codes "token")))) first
 
-same_vector : (a b : List ℕ) → Some a ≡ Some b → a ≡ b
-same_vector a b same = cc
-
 imported_forbids : (transport : ClearKey) (bytes vector : List ℕ) → first_failing (token_checks asked.External bytes) ≡ None → Some (token_of bytes).vector ≡ Some vector
     → is_exportable vector ≡ false → Forbids (imported transport bytes).vector
 imported_forbids transport bytes vector passes is off =
     subst Forbids (sym (imported_vector transport bytes passes))
-    (record { short = simp length-take (omega arith); off = ap is_exportable (same_vector (vector_bytes_of bytes) vector is) ∙ off })
+    (record { short = simp length-take (omega arith); off = ap is_exportable (same_Some (vector_bytes_of bytes) vector is) ∙ off })
 
 combined_forbids : (last : Bool) (clear : ClearKey) (part : List ℕ) → first_failing (vector_checks clear.vector) ≡ None → Forbids clear.vector
     → Forbids (combined_key last clear part).vector
@@ -342,12 +334,9 @@ Writes label _ = ⊥
 same_label : (o l : List ℕ) → (Some o ≢ Some l → ⊥) → o ≡ l
 same_label o l not_other = by_test (bytes_eq o l) refl
   where
-    same_some : Some o ≡ Some l → o ≡ l
-    same_some same = cc
-
     by_test : (t : Bool) → bytes_eq o l ≡ t → o ≡ l
     by_test true is = (bytes_eq-Decides o l).0 is
-    by_test false is = absurd (not_other (λ same. true≢false (sym ((bytes_eq-Decides o l).1 (same_some same)) ∙ is)))
+    by_test false is = absurd (not_other (λ same. true≢false (sym ((bytes_eq-Decides o l).1 (same_Some o l same)) ∙ is)))
 
 delivers_there : (s : State) (field : List ℕ) (o : Option (List ℕ)) (key : Denoted) (fields : List Field) (label : List ℕ) → (o ≢ Some label → ⊥)
     → Writes label (delivered_with s field o key fields)
@@ -374,12 +363,9 @@ there s drawn _ r vector is label given = cc is
 stored_key : (s : State) (label : List ℕ) (d key : Denoted) (fields : List Field) → key_of_label (state_after s (Write label d fields)) label ≡ Some key → d ≡ key
 stored_key s label d key fields is = by_cell (cell_with s label) refl is
   where
-    same_some : (a b : Denoted) → Some a ≡ Some b → a ≡ b
-    same_some a b same = cc
-
     by_cell : (o : Option ℕ) → cell_with s label ≡ o → key_of_label (record s { labels = written_in o d s.labels }) label ≡ Some key → d ≡ key
     by_cell None none has = let nothing : None ≡ Some key = sym (ap (what_at s.labels) none) ∙ has in cc
-    by_cell (Some cell) held has = same_some d key (sym (key_found s label cell held d) ∙ has)
+    by_cell (Some cell) held has = same_Some d key (sym (key_found s label cell held d) ∙ has)
 
 stored : (s : State) (e : Effect) (label : List ℕ) (key : Denoted) → IsClosed e → Writes label e → key_of_label (state_after s e) label ≡ Some key
     → is_exportable key.clear.vector ≡ false

@@ -4,6 +4,7 @@ use Rattle.std.specs.Prelude.{All, is_none, is_some, unwrap_or, if◌then◌else
 use Rattle.std.specs.Str.{bytes_eq}
 use Rattle.std.proofs.lemmas.List.{length-map}
 use Rattle.std.proofs.lemmas.List.Elements.{All-map}
+use Rattle.std.proofs.lemmas.Option.{same_Some}
 use Rattle.cca_vectors.specs.Checks.{check, first_failing}
 use Rattle.cca_vectors.specs.DefaultVectors.{default_for, length_of_name, size_of}
 use Rattle.cca_vectors.specs.KeyTypes.{type_named}
@@ -47,14 +48,11 @@ use Rattle.key_parts.proofs.TypeLemmas.{where_had}
 length_is : (text : List ℕ) (l : Length) → length_of_name text ≡ Some l → key_length_named text ≡ l
 length_is text l is = by_tests (bytes_eq text (codes "8")) (bytes_eq text (codes "16")) (bytes_eq text (codes "DOUBLE-O")) is
   where
-    same_some : (a b : Length) → Some a ≡ Some b → a ≡ b
-    same_some a b same = cc
-
     by_tests : (a b c : Bool) → (if a then Some Eight else if b then Some Sixteen else if c then Some Unique else None) ≡ Some l
         → (if a then Eight else if b then Sixteen else Unique) ≡ l
-    by_tests true b c same = same_some Eight l same
-    by_tests false true c same = same_some Sixteen l same
-    by_tests false false true same = same_some Unique l same
+    by_tests true b c same = same_Some Eight l same
+    by_tests false true c same = same_Some Sixteen l same
+    by_tests false false true same = same_Some Unique l same
     by_tests false false false same = cc same
 
 abbrev is_type : Values → Bool

@@ -1,6 +1,7 @@
 -- What a label finds in a list of places, before a change and after it.
 use Rattle.std.proofs.Common.{◌≡◌, ◌≢◌, ℕ, zero, suc, ◌+◌, Bool, true, false, List, [], ◌∷◌, set, Option, None, Some, refl, sym, ap, subst, ◌∙◌, add-one, option_map, true≢false, arith}
 use Rattle.std.specs.Prelude.{⊤, if◌then◌else◌}
+use Rattle.std.proofs.lemmas.Option.{same_Some}
 use Rattle.cca_roles.specs.Directory.{has_name, name_at, place_from, place_of, free_from, free_place}
 use Rattle.cca_roles.proofs.DirectoryLaws.{has_name_is, held_at}
 use Rattle.record_bodies.specs.LabelChanges.{with_what}
@@ -213,11 +214,8 @@ name_of_entry (e ∷ es) (suc n) = name_of_entry es n
 pub has_other : (label other : List ℕ) → other ≢ label → has_name label (Some other) ≡ false
 has_other label other apart = by_test (has_name label (Some other)) refl
   where
-    same_some : (a b : List ℕ) → Some a ≡ Some b → a ≡ b
-    same_some a b is = cc
-
     by_test : (t : Bool) → has_name label (Some other) ≡ t → has_name label (Some other) ≡ false
-    by_test true is = absurd (apart (same_some other label (has_name_is label (Some other) is)))
+    by_test true is = absurd (apart (same_Some other label (has_name_is label (Some other) is)))
     by_test false is = is
 
 -- the place of another label hasn't this one

@@ -76,9 +76,6 @@ passes_one rule false is = refl
 
 -- ---- tokens
 
-sealed_with : Option (List ℕ) → ClearKey → List ℕ
-sealed_with o clear = sealed_token (master_key o) clear
-
 -- the token of a key under the master key of a full register
 sealed_is : (o : Option (List ℕ)) (master : List ℕ) (clear : ClearKey) → o ≡ Some master → sealed_token (master_key o) clear ≡ under_master master clear
 sealed_is o master clear is = ap (λ (x : Option (List ℕ)). sealed_token (master_key x) clear) is

@@ -3,6 +3,7 @@ use Rattle.std.proofs.Common.{◌≡◌, ◌≢◌, ◌⊎◌, inl, inr, ⊎_eli
 use Rattle.std.specs.Prelude.{◌==◌, ◌||◌, is_some, if◌then◌else◌}
 use Rattle.std.proofs.lemmas.List.{get_or-set_same, length-map, map-set, set-get_or}
 use Rattle.std.proofs.lemmas.List.Sums.{sum_by-cons, sum_by-set}
+use Rattle.std.proofs.lemmas.Option.{same_Some}
 use Rattle.cca_roles.specs.Directory.{has_name, name_at, free_from}
 use Rattle.cca_roles.proofs.DirectoryLaws.{has_name_is, has_name_not, held_at, held_nowhere, none_some, place_found}
 use Rattle.record_bodies.specs.LabelChanges.{created, null_entry, with_what}
@@ -57,15 +58,9 @@ finds_alike label es fs alike = record {
 pub same_or_other : (a b : List ℕ) → (a ≡ b) ⊎ (a ≢ b)
 same_or_other a b = by_test (has_name b (Some a)) refl
   where
-    same_some : Some a ≡ Some b → a ≡ b
-    same_some is = cc
-
     by_test : (t : Bool) → has_name b (Some a) ≡ t → (a ≡ b) ⊎ (a ≢ b)
-    by_test true is = inl (same_some (has_name_is b (Some a) is))
+    by_test true is = inl (same_Some a b (has_name_is b (Some a) is))
     by_test false is = inr (λ same. has_name_not b (Some a) is (ap (λ l. Some l) same))
-
-pub held_from : (o : Option ℕ) (cell : ℕ) → o ≡ Some cell → is_some o ≡ true
-held_from o cell is = ap (λ p. is_some p) is
 
 pub held_with_entry : (label : List ℕ) (es : List (Option Entry)) (e : Entry) → entry_found label es ≡ Some e → IsHeld label es
 held_with_entry label es e is = by_cell (cell_of label (directory es)) is
@@ -171,12 +166,9 @@ entry_there label es n is =
     let e = entry_of (entry_at es n) (sym (name_of_entry es n) ∙ held_at label (directory es) n is) in
     (e.0, e.1.0, e.1.1, omega (arith, place.2, at, length-map es entry_label))
   where
-    same_some : (a b : List ℕ) → Some a ≡ Some b → a ≡ b
-    same_some a b is = cc
-
     entry_of : (o : Option Entry) → entry_label o ≡ Some label → (e : Entry) × ((o ≡ Some e) × (e.label ≡ label))
     entry_of None named = absurd (none_some label named)
-    entry_of (Some e) named = (e, (refl, same_some e.label label named))
+    entry_of (Some e) named = (e, (refl, same_Some e.label label named))
 
 -- the label has the key afterwards, where it is held, and nothing else
 pub import_gives : (label : List ℕ) (key : Denoted) (es : List (Option Entry)) → IsHeld label es → entry_found label (after_import label key es) ≡ Some (entry label (Some key))

@@ -3,6 +3,7 @@ use Rattle.std.proofs.Common.{◌≡◌, ◌≢◌, ⊎_elim, ℕ, ◌<◌, ◌�
 use Rattle.std.specs.Prelude.{is_none, slice_index, if◌then◌else◌, ◌==◌}
 use Rattle.std.proofs.lemmas.Bool.{cases_lt}
 use Rattle.std.proofs.lemmas.List.{get_or_past}
+use Rattle.std.proofs.lemmas.Option.{same_Some}
 use Rattle.hex.specs.Hex.{IsBytes}
 use Rattle.device_cells.specs.Cells.{body}
 use Rattle.key_cells.specs.Bytes.{AreBytes}
@@ -147,12 +148,9 @@ label_well s in_store label cell stands held = by_entry (entry_at s.labels cell)
         (λ (past : 1024 ≤ cell). absurd (some (sym is ∙ get_or_past s.labels cell None (omega (arith, past, stands.size)))))
         (cases_lt cell 1024)
 
-    same_label : (a b : List ℕ) → Some a ≡ Some b → a ≡ b
-    same_label a b same = cc
-
     by_entry : (e : Option Entry) → entry_at s.labels cell ≡ e → IsLabel label
     by_entry None is = let nothing : None ≡ Some label = sym (ap entry_label is) ∙ name in cc
-    by_entry (Some e) is = subst IsLabel (same_label e.label label (sym (ap entry_label is) ∙ name)) (reads (Some e) is (λ no. cc no)).0
+    by_entry (Some e) is = subst IsLabel (same_Some e.label label (sym (ap entry_label is) ∙ name)) (reads (Some e) is (λ no. cc no)).0
 
 -- ---- its external token
 

@@ -3,6 +3,7 @@ use Rattle.std.proofs.Common.{◌≡◌, ◌≢◌, ℕ, ◌/◌, ◌==◌, Bool
 use Rattle.std.specs.Prelude.{All, fold, ◌&&◌, is_none}
 use Rattle.std.proofs.lemmas.Bool.Decides.{Decides-eqb}
 use Rattle.std.proofs.lemmas.List.Elements.{All-cons, All-head, All-nil, All-push, All-tail}
+use Rattle.std.proofs.lemmas.Option.{same_Some}
 use Rattle.key_cells.specs.Bytes.{AreBytes, xor}
 use Rattle.cca_vectors.specs.Checks.{check, first_failing}
 use Rattle.cca_vectors.specs.DefaultVectors.{default_vector}
@@ -72,9 +73,6 @@ part_token need t bytes vector passes is asks whole part =
     ∙ (ap (λ b. first_failing (check 17 (not b && is_part_of (token_of bytes).vector) ∷ rest)) whole
     ∙ ap (λ b. first_failing (check 17 b ∷ rest)) (ap is_part_of is ∙ part)))
 
-same_bytes : (one other : List ℕ) → Some one ≡ Some other → one ≡ other
-same_bytes one other same = cc
-
 module _ (s : State) (r : Request) (clear : ClearKey) (whole : IsWhole clear) (permits : verdict s [] r ≡ None) (full : is_none s.registers.current ≡ false)
     (delivers : effect s [] r.name r ≡ delivered s (codes "token") (label_named (value_of r (codes "to"))) (as_current clear)) where
   abbrev to : Option (List ℕ)
@@ -94,7 +92,7 @@ module _ (s : State) (r : Request) (clear : ClearKey) (whole : IsWhole clear) (p
       let still : (performed s [] r).state ≡ s = ap (λ (o : Outcome). o.state) it_is ∙ nothing_written s (codes "token") clear [] to named in
       let shown : field_in (codes "token") (performed s [] r).reply ≡ Some token =
       ap (λ (o : Outcome). field_in (codes "token") o.reply) it_is ∙ in_reply s (codes "token") clear [] to (warning (any_old s (listed (operands r)))) refl named in
-      let spelled : hex_value given.0 ≡ token = same_bytes (hex_value given.0) token (sym given.2 ∙ shown) in
+      let spelled : hex_value given.0 ≡ token = same_Some (hex_value given.0) token (sym given.2 ∙ shown) in
       let w = written s.registers clear whole full in
       subst (λ (now : State). fits now text) (sym still) (record {
         has = record {

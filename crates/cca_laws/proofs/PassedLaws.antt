@@ -3,6 +3,7 @@ use Rattle.std.proofs.Common.{◌≡◌, ℕ, Bool, true, false, not, List, [], 
 use Rattle.std.specs.Prelude.{◌&&◌, ◌||◌, ◌==◌, is_none, option_map, if◌then◌else◌}
 use Rattle.std.specs.Str.{bytes_eq}
 use Rattle.std.proofs.lemmas.Bool.{eqb-true}
+use Rattle.std.proofs.lemmas.Option.{same_Some}
 use Rattle.key_cells.specs.Bytes.{AreBytes, xor}
 use Rattle.key_cells.proofs.ByteLemmas.{IsZero-replicate}
 use Rattle.cca_vectors.specs.Checks.{check, first_failing}
@@ -50,9 +51,6 @@ use Rattle.cca_laws.proofs.UseLaws.{behind, check_passes, first_passes, not_fals
 use Rattle.cca_laws.proofs.WholeKeys.{digits_spell, external_whole, field_named, label_is_whole, part_spells, text_is_whole, token_whole, value_is}
 
 -- ---- a key that is there
-
-same_clear : (a b : ClearKey) → Some a ≡ Some b → a ≡ b
-same_clear a b is = cc
 
 some_key : (P : List ℕ → Type 0) (o : Option Denoted) → IsKeyWith P o → o ≡ Some (or_no_key o)
 some_key P None has = absurd has
@@ -389,7 +387,7 @@ closed_delivered s drawn r key is_done named has =
     (value_is (row_of r.name).fields r.values (codes "key") key_field (ap (λ n. field_named (row_of n).fields (codes "key")) named) is_done.spelled) has in
     let is : Some passed.0 ≡ Some (closed key.clear) =
     sym passed.1 ∙ (ap (λ n. key_passed s n r) named ∙ ap (λ (o : Option Denoted). option_map closed (clear_in o)) has) in
-    let same : passed.0 ≡ closed key.clear = same_clear passed.0 (closed key.clear) is in (
+    let same : passed.0 ≡ closed key.clear = same_Some passed.0 (closed key.clear) is in (
       passed.0,
       ap (λ (c : ClearKey). c.key) same,
       ap (λ (c : ClearKey). is_exportable c.vector) same ∙ closing_off key.clear.vector whole.vector,

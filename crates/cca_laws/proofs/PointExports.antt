@@ -1,6 +1,7 @@
 -- Which access control points the replies need that give keys out and work on texts.
 use Rattle.std.proofs.Common.{◌≡◌, ◌≢◌, ℕ, Bool, true, false, List, [], ◌∷◌, ◌++◌, take, Option, None, Some, refl, sym, ap, subst, ◌∙◌, codes, bit_or, ◌||◌}
 use Rattle.std.specs.Str.{bytes_eq}
+use Rattle.std.proofs.lemmas.Option.{same_Some}
 use Rattle.cca_vectors.specs.Checks.{first_failing}
 use Rattle.key_tokens.specs.Denotes.{Denoted}
 use Rattle.key_transport.specs.declared.changing.Target.{Target}
@@ -42,9 +43,6 @@ module _ (P : Request → Reply → Type 0) (refusals : (r : Request) (rule : �
   unfolding performed
   of_request s drawn r has = by_verdict s drawn r has (verdict s drawn r) refl
 
-  same_request : (a b : Request) → Some a ≡ Some b → a ≡ b
-  same_request a b is = cc
-
   answer : (s : State) (random line : List ℕ) (r : Request) → request_of line ≡ Some r → Q s r → P r (line_outcome s random line).reply
   unfolding line_outcome
   answer s random line r is has = by_checks (first_failing (line_checks line (request_of line))) (request_of line) is
@@ -53,7 +51,7 @@ module _ (P : Request → Reply → Type 0) (refusals : (r : Request) (rule : �
       by_checks (Some rule) q same = refusals r rule (codes "-")
       by_checks None None same = cc same
       by_checks None (Some other) same =
-          subst (λ (x : Request). P r (outcome_by None s random (Some x)).reply) (sym (same_request other r same)) (of_request s (take (taken_by s random r) random) r has)
+          subst (λ (x : Request). P r (outcome_by None s random (Some x)).reply) (sym (same_Some other r same)) (of_request s (take (taken_by s random r) random) r has)
 
   each_answer : (s : State) (random : List ℕ) (lines : List (List ℕ)) → EachRequest Q s random lines → EachAnswer P s random lines
   each_answer s random [] each = tt

@@ -10,6 +10,7 @@ use Rattle.std.proofs.lemmas.List.Elements.{All-append, All-cons, All-filter, Al
 use Rattle.std.proofs.lemmas.List.Sums.{AllPass-from_list_all}
 use Rattle.hex.specs.Hex.{encode_with, lower_digits}
 use Rattle.std.specs.Str.{bytes_eq}
+use Rattle.std.proofs.lemmas.Option.{same_Some}
 use Rattle.device_cells.specs.Cells.{body}
 use Rattle.cca_roles.specs.Characters.{is_label_byte}
 use Rattle.cca_vectors.specs.Checks.{Check, first_failing}
@@ -200,16 +201,13 @@ label_prints label is k d within =
 named_prints : (name label : List ℕ) → label_named name ≡ Some label → Printable label
 named_prints name label is = by_test (is_named name) refl is
   where
-    same_some : (a b : List ℕ) → Some a ≡ Some b → a ≡ b
-    same_some a b same = cc
-
     behind : is_named name ≡ true → Printable (drop 2 name)
     behind named k d within =
         visible_prints (get_or (drop 2 name) k d)
         (AllPass-from_list_all is_visible (drop 2 name) (and_parts _ (list_all is_visible (drop 2 name)) (and_parts _ (is_label_text (drop 2 name)) named).1).1 k d within)
 
     by_test : (t : Bool) → is_named name ≡ t → (if t then Some (drop 2 name) else None) ≡ Some label → Printable label
-    by_test true named same = subst Printable (same_some (drop 2 name) label same) (behind named)
+    by_test true named same = subst Printable (same_Some (drop 2 name) label same) (behind named)
     by_test false named same = cc same
 
 commas_print : (ls : List (List ℕ)) → All Printable ls → Printable (with_commas ls)

@@ -35,6 +35,7 @@ use Rattle.verb_script.specs.Named.{is_label_text, is_named, is_visible, label_n
 use Rattle.verb_script.specs.Requests.{request_of}
 use Rattle.mac_verbs.specs.Codes.{is_code}
 use Rattle.std.specs.Str.{bytes_eq}
+use Rattle.std.proofs.lemmas.Option.{same_Some}
 use Rattle.text_segments.specs.Segments.{last_code}
 use Rattle.cca_machine.specs.Act.{Effect, Show, Become, DefineRole, RemoveRole, Create, Write, Delete, ChangeLabels, class_name, deleted_in, delivered_with, effect, fields_after, kind_name, new_name, or_act, performed, state_after as after_effect, written_in, yes_or_no}
 use Rattle.cca_machine.specs.Choices.{mac_rule_named, target_named}
@@ -73,14 +74,11 @@ label_clean label is =
 named_clean : (text label : List ℕ) → label_named text ≡ Some label → T (is_clean label)
 named_clean text label is = by_test (is_named text) refl is
   where
-    same_some : (a b : List ℕ) → Some a ≡ Some b → a ≡ b
-    same_some a b same = cc
-
     behind : T (is_named text) → T (is_clean (drop 2 text))
     behind named = all_clean is_visible visible_clean (drop 2 text) (second_of_both _ (list_all is_visible (drop 2 text)) (second_of_both _ (is_label_text (drop 2 text)) named))
 
     by_test : (t : Bool) → is_named text ≡ t → (if t then Some (drop 2 text) else None) ≡ Some label → T (is_clean label)
-    by_test true named same = subst (λ l. T (is_clean l)) (same_some (drop 2 text) label same) (behind (truth (is_named text) named))
+    by_test true named same = subst (λ l. T (is_clean l)) (same_Some (drop 2 text) label same) (behind (truth (is_named text) named))
     by_test false named same = cc same
 
 -- each label of the places is well formed

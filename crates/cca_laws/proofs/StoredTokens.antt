@@ -3,6 +3,7 @@ use Rattle.std.proofs.Common.{◌≡◌, inl, inr, ⊎_elim, ℕ, ◌+◌, ◌-�
 use Rattle.std.specs.Prelude.{Contains, slice_index}
 use Rattle.std.proofs.lemmas.Bool.{cases_lt}
 use Rattle.std.proofs.lemmas.List.{get_or_past, length-append, length-replicate}
+use Rattle.std.proofs.lemmas.Option.{same_Some}
 use Rattle.cca_roles.proofs.DirectoryLaws.{none_some}
 use Rattle.cca_roles.specs.NameLaws.{label_short}
 use Rattle.device_cells.specs.Cells.{body, selected}
@@ -76,16 +77,13 @@ pub record HasFirst (bytes token : List ℕ) : Type 0 where
   pub is_second : IsSecond token second
   pub body : bytes ≡ both_body label token second
 
-same_some : (a b : List ℕ) → Some a ≡ Some b → a ≡ b
-same_some a b is = cc
-
 module _ (masters : MasterKeys) (bytes token : List ℕ) where
   by_token : (label : List ℕ) (key : Denoted) (ahead : Bool) (unused : Option (List ℕ)) (first : List ℕ) → IsLabel label
       → HasToken masters bytes label first key ahead unused → unused ≡ Some token → HasFirst bytes token
   by_token label key false unused first well (inl one) is = absurd (none_some token (sym one.1 ∙ is))
   by_token label key false unused first well (inr two) is =
       let turned : IsTurned bytes label first = two.0 in
-      let same : turned.first ≡ token = same_some turned.first token (sym two.1 ∙ is) in
+      let same : turned.first ≡ token = same_Some turned.first token (sym two.1 ∙ is) in
       record {
         label = label;
         short = label_short label well;

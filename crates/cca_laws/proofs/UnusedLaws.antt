@@ -1,6 +1,7 @@
 -- The tokens that labels no longer use: SET leaves them of labels that were ahead, and no other request makes one.
 use Rattle.std.proofs.Common.{◌≡◌, ◌⊎◌, inl, inr, ⊎_elim, ℕ, zero, suc, ◌<◌, Bool, true, false, List, [], ◌∷◌, length, get_or, set, Option, None, Some, refl, sym, subst, ◌∙◌, arith}
 use Rattle.std.specs.Prelude.{Contains}
+use Rattle.std.proofs.lemmas.Option.{same_Some}
 use Rattle.cca_roles.proofs.DirectoryLaws.{none_some}
 use Rattle.record_bodies.specs.LabelChanges.{null_entry, with_what}
 use Rattle.record_bodies.specs.Directory.{free_cell}
@@ -41,9 +42,6 @@ module _ (masters : MasterKeys) where
   none_left : (a b : Option Entry) → unused_in b ≡ None → Leaves a b
   none_left a b none token is = absurd (none_some token (sym none ∙ is))
 
-  same_some : (a b : List ℕ) → Some a ≡ Some b → a ≡ b
-  same_some a b is = cc
-
   aged_leaves : (e : Option Entry) → Leaves e (aged_entry masters e)
   aged_leaves None token is = absurd (none_some token is)
   aged_leaves (Some e) token is = by_mark e.ahead e.what is
@@ -52,7 +50,7 @@ module _ (masters : MasterKeys) where
           → (e.unused ≡ Some token) ⊎ ((clear : ClearKey) × (token ≡ token_bytes masters.current clear))
       by_mark false what is = inl is
       by_mark true None is = absurd (none_some token is)
-      by_mark true (Some key) is = inr (key.clear, sym (same_some (token_bytes masters.current key.clear) token is))
+      by_mark true (Some key) is = inr (key.clear, sym (same_Some (token_bytes masters.current key.clear) token is))
 
   made_leaves : (a : StoreAction) (e : Entry) → (made_by a e).unused ≡ None
   made_leaves Renew e = refl

@@ -2,6 +2,7 @@
 use Rattle.std.proofs.Common.{◌≡◌, ◌≢◌, ◌⊎◌, ⊎_elim, ℕ, Bool, true, false, not, List, [], ◌∷◌, ◌++◌, Option, None, Some, refl, sym, ap, subst, ◌∙◌, codes, slice_index, true≢false, eq-eqb}
 use Rattle.std.specs.Prelude.{⊤, ◌&&◌, ◌==◌, is_none, if◌then◌else◌}
 use Rattle.std.specs.Str.{bytes_eq}
+use Rattle.std.proofs.lemmas.Option.{same_Some}
 use Rattle.cca_vectors.specs.Checks.{Check, check, first_failing}
 use Rattle.cca_vectors.specs.Classes.{class_of}
 use Rattle.cca_vectors.specs.Permissions.{is_exportable, permits}
@@ -74,11 +75,8 @@ lets false b is holds = cc holds
 
 unforbidden : (usage : Option Usage) (vector : List ℕ) → is_forbidden usage vector ≡ false → (use_of : Usage) → usage ≡ Some use_of → permits vector use_of ≡ true
 unforbidden None vector is use_of same = cc same
-unforbidden (Some other) vector is use_of same = by_use (same_some other use_of same)
+unforbidden (Some other) vector is use_of same = by_use (same_Some other use_of same)
   where
-    same_some : (a b : Usage) → Some a ≡ Some b → a ≡ b
-    same_some a b e = cc
-
     not_true : (b : Bool) → not b ≡ false → b ≡ true
     not_true true e = refl
     not_true false e = cc e

@@ -9,6 +9,7 @@ use Rattle.std.proofs.lemmas.Bool.{and_parts, cases_lt}
 use Rattle.std.proofs.lemmas.Bool.Decides.{Decides-eqb}
 use Rattle.std.proofs.lemmas.List.{get_or_past}
 use Rattle.std.proofs.lemmas.List.Sums.{AllPass-from_list_all}
+use Rattle.std.proofs.lemmas.Option.{same_Some}
 use Rattle.hex.specs.Hex.{is_hex_digit}
 use Rattle.hex.proofs.HexLemmas.{decode_of-digits, decode_of-ok}
 use Rattle.device_cells.specs.Cells.{body}
@@ -38,9 +39,6 @@ abbrev pub field_named : List FieldForm → List ℕ → Option FieldForm
 field_named [] name = None
 field_named (f ∷ fs) name = if bytes_eq f.name name then Some f else field_named fs name
 
-same_field : (f g : FieldForm) → Some f ≡ Some g → f ≡ g
-same_field f g is = cc
-
 pub value_is : (fs : List FieldForm) (vs : List (List ℕ)) (name : List ℕ) (g : FieldForm) → field_named fs name ≡ Some g → AreValues fs vs
     → IsValue g.values (value_among fs vs name)
 value_is [] [] name g is are = cc is
@@ -50,7 +48,7 @@ value_is (f ∷ fs) (v ∷ vs) name g is are = by_name (bytes_eq f.name name) is
   where
     by_name : (t : Bool) → (if t then Some f else field_named fs name) ≡ Some g → (field_named fs name ≡ Some g → IsValue g.values (value_among fs vs name))
         → IsValue g.values (if t then v else value_among fs vs name)
-    by_name true here others = subst (λ (h : FieldForm). IsValue h.values v) (same_field f g here) are.0
+    by_name true here others = subst (λ (h : FieldForm). IsValue h.values v) (same_Some f g here) are.0
     by_name false later others = others later
 
 -- ---- the bytes of digits
@@ -87,9 +85,6 @@ part_spells digits is = by_first (is_hex 16 digits) refl
 
 -- ---- keys of tokens
 
-some_is : (a b : Denoted) → Some a ≡ Some b → a ≡ b
-some_is a b is = cc
-
 -- the master key that an internal token is under
 record IsUnderMaster (bytes : List ℕ) (key : Denoted) : Type 0 where
   master : MasterKey
@@ -105,7 +100,7 @@ module _ (bytes : List ℕ) (key : Denoted) where
       by_test : (t : Bool) → bytes_eq (pattern_of_token bytes) master.pattern ≡ t
           → (if t then Some (record { clear = clear_of master.key bytes; age = age }) else other) ≡ Some key → IsUnderMaster bytes key
       by_test true same here =
-          record { master = master; pattern = same; clear = ap (λ (d : Denoted). d.clear) (some_is (record { clear = clear_of master.key bytes; age = age }) key here) }
+          record { master = master; pattern = same; clear = ap (λ (d : Denoted). d.clear) (same_Some (record { clear = clear_of master.key bytes; age = age }) key here) }
       by_test false same there = otherwise there
 
   none_other : None ≡ Some key → IsUnderMaster bytes key

@@ -10,21 +10,21 @@ use key_transport::{Form, Target};
 use master_registers::Action;
 use verb_rules::MacRule;
 
-/// How a text is padded: NONE or X9.23.
+/// How a text is padded: NONE, and X9.23 for any other text.
 pub fn pad_of(text: &[u8]) -> Pad
     ensures { result ≡ pad_named text.now }
 {
     Pad::read(text).unwrap_or(Pad::X923)
 }
 
-/// How a message authentication code is made: X9.9-1 or X9.19OPT.
+/// How a MAC is made: X9.9-1, and X9.19OPT for any other text.
 pub fn mac_rule_of(text: &[u8]) -> MacRule
     ensures { result ≡ mac_rule_named text.now }
 {
     MacRule::read(text).unwrap_or(MacRule::X919)
 }
 
-/// How many bytes of a message authentication code are shown: 4, 6 or 8.
+/// How many bytes of a MAC are shown: 4, 6, and 8 for any other text.
 pub fn mac_length_of(text: &[u8]) -> usize
     ensures count { result ≡ mac_length_named text.now }
     ensures most { result ≤ 8 }
@@ -38,14 +38,14 @@ pub fn mac_length_of(text: &[u8]) -> usize
     }
 }
 
-/// The form of a random number: RANDOM, ODD or EVEN.
+/// The form of a random number: RANDOM, ODD, and EVEN for any other text.
 pub fn random_form_of(text: &[u8]) -> RandomForm
     ensures { result ≡ form_named text.now }
 {
     RandomForm::read(text).unwrap_or(RandomForm::Even)
 }
 
-/// The length of a generated key: 8, 16 or DOUBLE-O.
+/// The length of a generated key: 8, 16, and DOUBLE-O for any other text.
 pub fn key_length_of(text: &[u8]) -> Length
     ensures { result ≡ key_length_named text.now }
 {
@@ -68,7 +68,7 @@ pub fn out_form_of(text: &[u8]) -> Form
     Form::read(text).unwrap()
 }
 
-/// The master key under which a token is brought: RTCMK or RTNMK.
+/// The master key under which a token is brought: RTCMK, and RTNMK for any other text.
 pub fn target_of(text: &[u8]) -> Target
     ensures { result ≡ target_named text.now }
 {

@@ -2,7 +2,7 @@
 //!
 //! [`general_rule`] names the first rule of the request as a whole that fails, by [`role_rule`], which a move asks too.
 //! [`operands_of`] is the table of operands, and [`judge`] names the first rule that one of them breaks, or gives what they
-//! stand for. What the words of fields choose is a function of its own, since rules ask it as verbs do.
+//! stand for.
 #![tactic(auto)]
 
 mod general;

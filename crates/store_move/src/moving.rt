@@ -56,9 +56,11 @@ pub fn unload_label<D: Disk>(
         → IfOk result (λ moved. (what : Option Denoted)
         × HoldsAsRead (keys_of m) (get_or records.now place None) (bench_of lease.new).body what
         × IsMoved (opened (bench_of lease.old) transport.now).key what moved) }
-    ensures damaged { (m : Masters) (s : List (Option Entry)) → Loaded m held.now (bench_of lease.old)
+    ensures damaged { (m : Masters) (s : List (Option Entry))
+        → Loaded m held.now (bench_of lease.old)
         → Told (D.medium store.old) (KeepsLabels (keys_of m) records.now s)
-        → (cell : ℕ) → result ≡ Err (RecordFault.Damaged cell) → Told (D.medium store.old) (λ _. ⊥) }
+        → (cell : ℕ) → result ≡ Err (RecordFault.Damaged cell)
+        → Told (D.medium store.old) (λ _. ⊥) }
     ensures fails { FailsAt place (D.faults store.old) (D.faults store.new) result }
     ensures keeps { Keeps (D.medium store.old) (D.medium store.new) }
     ensures rest { ChangesWork lease.old lease.new }

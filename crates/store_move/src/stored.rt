@@ -36,7 +36,8 @@ pub fn judge_record<D: Disk>(
     requires size { (D.medium store.old).size ≡ STORE_LEN }
     requires holds { Told (D.medium store.old) (HoldsRows records.now) }
 
-    ensures stored { (m : Masters) (s : List (Option Entry)) → Loaded m held.now (bench_of lease.old)
+    ensures stored { (m : Masters) (s : List (Option Entry))
+        → Loaded m held.now (bench_of lease.old)
         → Told (D.medium store.old) (KeepsLabels (keys_of m) records.now s)
         → IfOk result (λ judged. Told (D.medium store.old)
         (λ _. IsStored (bench_of lease.old) need.now (what_in (entry_at s place)) judged)) }
@@ -49,9 +50,11 @@ pub fn judge_record<D: Disk>(
         IfOk judged (λ key. key.age ≡ age_of held.now key.token)) }
     ensures under { IfOk result (λ judged. IfOk judged (λ key. IsSome key.age)) }
     ensures double { IsTrue need.now.double → IfOk result (λ judged. IfOk judged IsDouble) }
-    ensures damaged { (m : Masters) (s : List (Option Entry)) → Loaded m held.now (bench_of lease.old)
+    ensures damaged { (m : Masters) (s : List (Option Entry))
+        → Loaded m held.now (bench_of lease.old)
         → Told (D.medium store.old) (KeepsLabels (keys_of m) records.now s)
-        → (cell : ℕ) → result ≡ Err (RecordFault.Damaged cell) → Told (D.medium store.old) (λ _. ⊥) }
+        → (cell : ℕ) → result ≡ Err (RecordFault.Damaged cell)
+        → Told (D.medium store.old) (λ _. ⊥) }
     ensures fails { FailsAt place (D.faults store.old) (D.faults store.new) result }
     ensures keeps { Keeps (D.medium store.old) (D.medium store.new) }
     ensures rest { KeepsAllButBody lease.old lease.new }

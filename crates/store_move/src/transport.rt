@@ -41,7 +41,8 @@ pub fn judge_transport<D: Disk>(
     requires size { (D.medium store.old).size ≡ STORE_LEN }
     requires holds { Told (D.medium store.old) (HoldsRows records.now) }
 
-    ensures judged { (m : Masters) (s : List (Option Entry)) → Loaded m held.now (bench_of lease.old)
+    ensures judged { (m : Masters) (s : List (Option Entry))
+        → Loaded m held.now (bench_of lease.old)
         → Told (D.medium store.old) (KeepsLabels (keys_of m) records.now s)
         → IfOk result (λ judged. Told (D.medium store.old)
         (λ _. IsTransport (bench_of lease.old) (what_in (entry_at s place)) judged)) }
@@ -50,9 +51,11 @@ pub fn judge_transport<D: Disk>(
         × HoldsAsRead (keys_of m) (get_or records.now place None) (bench_of lease.new).body what
         × IsTransport (bench_of lease.old) what judged) }
     ensures double { IfOk result (λ judged. IfOk judged IsDouble) }
-    ensures damaged { (m : Masters) (s : List (Option Entry)) → Loaded m held.now (bench_of lease.old)
+    ensures damaged { (m : Masters) (s : List (Option Entry))
+        → Loaded m held.now (bench_of lease.old)
         → Told (D.medium store.old) (KeepsLabels (keys_of m) records.now s)
-        → (cell : ℕ) → result ≡ Err (RecordFault.Damaged cell) → Told (D.medium store.old) (λ _. ⊥) }
+        → (cell : ℕ) → result ≡ Err (RecordFault.Damaged cell)
+        → Told (D.medium store.old) (λ _. ⊥) }
     ensures fails { FailsAt place (D.faults store.old) (D.faults store.new) result }
     ensures keeps { Keeps (D.medium store.old) (D.medium store.new) }
     ensures rest { KeepsAllButBody lease.old lease.new }

@@ -132,9 +132,6 @@ handed_judged U r stop is m judged =
     same_stop u a b first second = cc (first, second)
 
 -- the same of the store, and of a store that was opened
-pub as_stop : (U : Type 0) {T : Type 0} (r : Result T Stop) (stop named : Stop) → r ≡ Err stop → ◌≡◌ {A = Result U Stop} (Err stop) (Err named) → r ≡ Err named
-as_stop U r stop named is h = cc (is, h)
-
 pub handed_record : (U : Type 0) {T : Type 0} (r : Result T Stop) (stop : Stop) → r ≡ Err stop → (m : Medium) (P : List ℕ → ℕ → Type 0)
     → Told m (λ image. (cell : ℕ) → P image cell → r ≡ Err (Damaged Store cell))
     → Told m (λ image. (cell : ℕ) → P image cell → ◌≡◌ {A = Result U Stop} (Err stop) (Err (Damaged Store cell)))

@@ -52,7 +52,8 @@ pub fn judge_move<D: Disk>(
     ensures double { IfOk result (λ judged. IfOk judged IsDouble) }
     ensures damaged { (s : State) → Loaded s.registers held.now (bench_of lease.old)
         → Told (D.medium store.old) (KeepsLabels (keys_of s.registers) records.now s.labels)
-        → (cell : ℕ) → result ≡ Err (RecordFault.Damaged cell) → Told (D.medium store.old) (λ _. ⊥) }
+        → (cell : ℕ) → result ≡ Err (RecordFault.Damaged cell)
+        → Told (D.medium store.old) (λ _. ⊥) }
     ensures faults { IfErr result IsStoreFault }
     ensures store_left { TellsFault (D.faults store.old) (D.faults store.new)
         (result ≡ Err RecordFault.DiskFault) }

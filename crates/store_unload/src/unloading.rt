@@ -82,8 +82,10 @@ pub fn unload<K: Sink, P: Sink, M: Disk, D: Disk>(
         × MoveLeft w result sink.old sink.new report.old report.new
         (⟦<(M, D) as Shown>⟧.between («module».old, store.old) («module».new, store.new))
         (record {
-          old = outputs (K.held sink.old) (K.faults sink.old) (P.held report.old) (P.faults report.old);
-          new = outputs (K.held sink.new) (K.faults sink.new) (P.held report.new) (P.faults report.new);
+          old = outputs (K.held sink.old) (K.faults sink.old)
+              (P.held report.old) (P.faults report.old);
+          new = outputs (K.held sink.new) (K.faults sink.new)
+              (P.held report.new) (P.faults report.new);
         }) }
 
     // No key is left in the bench.
@@ -130,8 +132,10 @@ fn move_store<K: Sink, P: Sink, M: Disk, D: Disk>(
     ensures ends { MoveLeft how.now result sink.old sink.new report.old report.new
         (⟦<(M, D) as Shown>⟧.between («module».old, store.old) («module».new, store.new))
         (record {
-          old = outputs (K.held sink.old) (K.faults sink.old) (P.held report.old) (P.faults report.old);
-          new = outputs (K.held sink.new) (K.faults sink.new) (P.held report.new) (P.faults report.new);
+          old = outputs (K.held sink.old) (K.faults sink.old)
+              (P.held report.old) (P.faults report.old);
+          new = outputs (K.held sink.new) (K.faults sink.new)
+              (P.held report.new) (P.faults report.new);
         }) }
     ensures loan { loan_of lease.new ≡ loan_of lease.old }
 {

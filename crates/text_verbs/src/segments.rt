@@ -148,7 +148,8 @@ fn end(
     requires given { HasText key.now text.now reply.old }
     ensures shows { let clear = opened (bench_of lease.old) key.now in
         let padding = pad_named pad.now in
-        ShowsOver lease.old lease.new (first_refusal (last_text_questions mode clear chain.now padding
+        ShowsOver lease.old lease.new
+        (first_refusal (last_text_questions mode clear chain.now padding
         (length text.now / 2) (hex_value text.now)))
         (last_text_fields clear mode chain.now padding (hex_value text.now))
         result reply.new }

@@ -44,7 +44,8 @@ fn points_in(text: &[u8]) -> AccessPoints
 /// The request of a row whose fields have these texts.
 fn request_with<'a>(name: RequestName, texts: Texts<'a>) -> Request<'a>
     requires role { IsTrue (is_role_name (text_at 0 texts.texts)) }
-    requires accepted { AreAccepted (row_of name).fields (texts_at (row_of name).fields 0 texts.texts) }
+    requires accepted { AreAccepted (row_of name).fields
+        (texts_at (row_of name).fields 0 texts.texts) }
     ensures { seen result ≡ record {
       name = name;
       values = meanings (row_of name).fields (texts_at (row_of name).fields 0 texts.entry.texts);
@@ -310,7 +311,8 @@ fn request_of_row<'a>(form: &RowForm, verb: &[u8], words: Words<'a>) -> Option<R
 /// The request of the first of the rows whose verb and fields these are.
 fn first_of<'a>(rows: &[RowForm], verb: &[u8], words: Words<'a>) -> Option<Request<'a>>
     requires { AreRows rows.now }
-    ensures { seen_option result ≡ first_request (map row_name rows.now) (verb.now ∷ unread words.entry) }
+    ensures { seen_option result
+        ≡ first_request (map row_name rows.now) (verb.now ∷ unread words.entry) }
 {
     for form in rows {
         if let Some(request) = request_of_row(form, verb, words) {

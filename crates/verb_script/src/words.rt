@@ -86,9 +86,11 @@ impl<'a> Words<'a> {
         ensures values { MatchOption result
             (values_in (map field_seen fields.now) (unread self.entry) ≡ None)
             (λ found. values_in (map field_seen fields.now) (unread self.entry)
-            ≡ Some (meanings (map field_seen fields.now) (texts_at (map field_seen fields.now) 0 found.texts))) }
+            ≡ Some (meanings (map field_seen fields.now)
+            (texts_at (map field_seen fields.now) 0 found.texts))) }
         ensures accepted { IfSome result
-            (λ found. AreAccepted (map field_seen fields.now) (texts_at (map field_seen fields.now) 0 found.texts)) }
+            (λ found. AreAccepted (map field_seen fields.now)
+            (texts_at (map field_seen fields.now) 0 found.texts)) }
     {
         let mut texts: [&'a [u8]; 7] = [b""; 7];
         for (i, field) in fields.iter().enumerate() {

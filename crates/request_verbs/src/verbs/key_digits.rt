@@ -24,7 +24,8 @@ pub(super) fn put_key(digits: &[u8], place: KeyPlace, lease: &mut Lease)
     requires digits { IsTrue (accepts hex_text digits.now) }
     requires room { length digits.now ≤ 32 }
     ensures key { lease.new ≡ holding lease.old (with_key (bench_of lease.old) place
-        (hex_value digits.now ++ drop (length digits.now / 2) (key_of (bench_of lease.old) place))) }
+        (hex_value digits.now
+        ++ drop (length digits.now / 2) (key_of (bench_of lease.old) place))) }
     ensures size { length (hex_value digits.now) ≡ length digits.now / 2 }
 {
     put_digits(digits, lease.key_mut(place));
