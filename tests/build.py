@@ -40,6 +40,15 @@ chmod 755 "$2"
 CRATES = "lists:\nkeys: lists\ncca: keys thiserror\n"
 
 
+def children_of(process):
+    return [int(it) for it in subprocess.run(["pgrep", "-P", str(process)], stdout=subprocess.PIPE, text=True).stdout.split()]
+
+
+def state_of(process):
+    """A letter, as `ps` shows it: Z has ended, and nobody has waited for it."""
+    return Path(f"/proc/{process}/stat").read_text().rpartition(")")[2].split()[0]
+
+
 class Building(unittest.TestCase):
     def setUp(self):
         folder = tempfile.TemporaryDirectory()
@@ -78,6 +87,10 @@ class Building(unittest.TestCase):
         said = it.communicate(timeout=60)[0]
         return it.returncode, said
 
+    def prove_of(self, it):
+        """The process that starts the provers, of a command that builds."""
+        return next(child for builder in children_of(it.pid) for child in children_of(builder))
+
     def proved(self):
         """The crates that the prover was called for since this was last asked."""
         noted = self.kit / "proved"
@@ -102,6 +115,24 @@ class Building(unittest.TestCase):
         self.assertEqual(self.proved(), ["lists", "keys", "cca"])
         self.assertEqual(self.called("run"), (0, "ran run\n"))
         self.assertEqual(self.proved(), [])
+
+    @unittest.skipIf(len(os.sched_getaffinity(0)) < 2, "one processor: no two proofs at once")
+    def test_two_that_end_at_once(self):
+        """Both are told, also where the build was stopped meanwhile."""
+        (self.checkout / "crates.txt").write_text(f"{CRATES.replace('cca: keys', 'cca: keys more')}more:\n")
+        shutil.copytree(self.checkout / "crates/lists", self.checkout / "crates/more")
+        holds = [self.kit / f"hold.{name}" for name in ("lists", "more")]
+        for hold in holds:
+            hold.write_text("")
+        first = self.started("run")
+        self.waits(lambda: self.is_proving("lists") and self.is_proving("more"))
+        prove = self.prove_of(first)
+        os.kill(prove, signal.SIGSTOP)
+        for hold in holds:
+            hold.unlink()
+        self.waits(lambda: all(state_of(it) == "Z" for it in children_of(prove)))
+        os.kill(prove, signal.SIGCONT)
+        self.assertEqual((first.communicate(timeout=60)[0].splitlines()[-1], first.returncode), ("ran run", 0))
 
     def test_processors(self):
         """The program itself has all the processors, and each other crate one."""
@@ -159,9 +190,7 @@ class Building(unittest.TestCase):
         second = self.started("run")
         self.assertRegex(second.stdout.readline(), "^cca: building")
         self.assertEqual(second.stdout.readline(), "cca: waiting for another build in this checkout\n")
-        builder = subprocess.run(["pgrep", "-P", str(first.pid), "-f", "tools/build"], capture_output=True, text=True).stdout.split()[0]
-        prove = subprocess.run(["pgrep", "-P", builder], capture_output=True, text=True).stdout.split()[0]
-        os.kill(int(prove), signal.SIGTERM)
+        os.kill(self.prove_of(first), signal.SIGTERM)
         self.assertIn("cca: the program could not be built", first.communicate(timeout=60)[0])
         self.waits(lambda: (self.kit / "proved").read_text().split().count("keys") == 2)
         (self.kit / "hold.keys").unlink()
