@@ -19,7 +19,7 @@ from concurrent.futures import ThreadPoolExecutor
 from pathlib import Path
 
 from tests.edits import CLIENTS, Edit, each_is_found
-from tests.harness import TOP, Case, Fault
+from tests.harness import TOP, Case, Fault, limited
 
 STUB = TOP / "tests" / "stub" / "cca"
 UNIT = CLIENTS / "cca-front.service"
@@ -29,6 +29,7 @@ from trail import HELD, TrailLog, TrailLost  # noqa: E402
 
 FAULTS = [Fault('"$CCA" "$@" | sed -u "s/^NO 01/NO 02/"', case="Begin.test_the_program_itself", tells="no refusal")]
 ROLES = ("TELLER", "OFFICER", "CUSTODY")
+FETCHES_AT_ONCE = "import front, sys; front.FETCH_SECONDS = 0.0; sys.exit(front.main())"
 
 
 EDITS = [
@@ -44,11 +45,26 @@ EDITS = [
     Edit("front.py", "            del self.taken[LONGEST + 1 :]", "            return len(self.taken) <= LONGEST", "Lines.test_too_long"),
     Edit("front.py", 'f"{verb} role={role}{space}{fields}"', 'line', "Lines.test_role"),
     Edit("front.py", 'verb not in VERBS or', "", "Log.test_no_secrets"),
+    Edit("front.py", " CSNBPEX CSNBRNG", " CSNBPEX", "Known.test_verbs"),
     Edit("front.py", '(reply or "").startswith(("NO 01", "NO 02"))', "False", "Log.test_no_secrets"),
     Edit("front.py", "if len(self.times) >= FETCH_AFTER:", "if False:", "Trail.test_fetched_in_time"),
-    Edit("trail.py", "if new and new[0].number > last + 1:", "if False:", "Told.test_gap"),
-    Edit("trail.py", "self.last not in held and", "False and", "Told.test_altered"),
-    Edit("trail.py", "if not held or held[-1].number < last:", "if False:", "Told.test_begins_anew"),
+    Edit("front.py", "return not poll.poll(0)\n\n    def send", "return True\n\n    def send", "Crowd.test_busy"),
+    Edit("front.py", "if self.has_line() and not self.unsent:", "if self.has_line() or self.unsent:", "Crowd.test_unread"),
+    Edit("front.py", "            self.fetch()\n            self.hold_files()", "            self.fetch()", "TrailOfTheProgram.test_files_are_held"),
+    Edit("front.py", "            self.hold_files()\n            raise", "            raise", "Crowd.test_no_reply"),
+    Edit("front.py", "if end.status != IN_USE or", "if True or", "Trail.test_files_in_use"),
+    Edit("front.py", "if status in LOOK_FIRST and status != IN_USE:", "if status in LOOK_FIRST:", "Trail.test_files_in_use_at_the_end"),
+    Edit("front.py", "if end.status != IN_USE or time.monotonic() > until:", "if end.status != IN_USE:", "Trail.test_files_in_use_for_long"),
+    Edit("front.py", "signal.signal(signal.SIGCHLD, signal.SIG_DFL)", "pass", "Begin.test_ignored_signal"),
+    Edit("front.py", "Path(door.path).unlink(missing_ok=True)", "os.unlink(door.path)", "Begin.test_removed_socket"),
+    Edit("front.py", "if os.path.realpath(path) in seen:", "if False:", "Begin.test_twice"),
+    Edit("trail.py", "if it.returncode != IN_USE or", "if True or", "Trail.test_files_in_use"),
+    Edit("trail.py", "if new and new[0].number > self.last + 1:", "if False:", "Told.test_gap"),
+    Edit("trail.py", "if self.kept.get(record.number, record) != record:", "if False:", "Told.test_altered"),
+    Edit("trail.py", "if self.last >= 0 and (not held", "if False and (not held", "Told.test_begins_anew"),
+    Edit("trail.py", "            self.last = -1\n", "", "Told.test_begins_anew"),
+    Edit("trail.py", '"told": why, "follows": self.last}', '"told": why}', "Told.test_begins_anew"),
+    Edit("trail.py", "        if not is_complete:", "        if sent and not is_complete:", "Told.test_others"),
     Edit("trail.py", "os.fsync(log)", "pass", "Told.test_synced"),
     Edit("cca-front.service", "-g cca-officer", "-g cca-teller", "Unit.test_groups"),
     Edit("cca-front.service", "-m 2750", "-m 2770", "Unit.test_groups"),
@@ -87,8 +103,7 @@ class Fronted(Case):
 
     def setUp(self):
         super().setUp()
-        signal.alarm(150)
-        self.addCleanup(signal.alarm, 0)
+        limited(self, 150)
         self.stands = str(STUB)
         (self.folder / "keys").mkdir()
         self.log = self.folder / "front.log"
@@ -113,10 +128,21 @@ class Fronted(Case):
 
     def refuses(self, tells, program=None, **named):
         """A front that must not begin, and say why."""
-        environment = {**os.environ, "CCA": str(program or self.stands)}
+        environment = {**os.environ, "CCA": str(program or self.stands), "PYTHONPATH": str(CLIENTS)}
         it = subprocess.run(self.words(**named), env=environment, stderr=subprocess.PIPE, text=True, timeout=60)
         self.assertEqual(it.returncode, 1, it.stderr)
         self.assertIn(tells, json.loads(it.stderr.splitlines()[-1])["text"])
+
+    def carries(self, what):
+        """Waits until what stands for cca has taken a request with these bytes."""
+        self.comes(lambda: what in (self.folder / "keys" / "carried").read_bytes())
+
+    def comes(self, call):
+        """Waits until a call says that something is so."""
+        until = time.monotonic() + 30
+        while not call():
+            self.assertLess(time.monotonic(), until)
+            time.sleep(0.02)
 
     def told(self):
         """The lines of the log, each of which is a JSON object."""
@@ -224,10 +250,35 @@ class Crowd(Fronted):
             self.assertEqual(it.recv(100), f"OK value=role=TELLER,K{number}\n".encode())
         self.ends_well(front)
 
+    def test_unread(self):
+        """A client that reads no reply loses its place to one that waits for it."""
+        front = self.begin("--limit", "1", "--idle", "1")
+        with connected(self.folder / "TELLER") as unread:
+            unread.sendall(b"A K\n" * 4000)
+            with connected(self.folder / "TELLER") as it:
+                it.sendall(b"A K\n")
+                self.assertEqual(it.recv(100), b"OK value=role=TELLER,K\n")
+        self.ends_well(front)
+
+    def test_busy(self):
+        """A request that comes while the front serves another role's is served, also where others wait for its place."""
+        self.begin("--limit", "2", "--idle", "2")
+        with connected(self.folder / "TELLER") as first, connected(self.folder / "TELLER") as second, ThreadPoolExecutor(2) as others:
+            for it in (first, second):
+                it.sendall(b"A K\n")
+                self.assertEqual(it.recv(100), b"OK value=role=TELLER,K\n")
+            slow = others.submit(asked, self.folder / "OFFICER", "A stub=waits3000 K")
+            self.carries(b"waits3000")
+            third = others.submit(asked, self.folder / "TELLER", "A K3")
+            first.sendall(b"A K1\n")
+            self.assertEqual(first.recv(100), b"OK value=role=TELLER,K1\n")
+            self.assertEqual((slow.result(), third.result()), (["OK value=role=OFFICER,K"], ["OK value=role=TELLER,K3"]))
+
     def test_no_reply(self):
-        """A program that ends: the connection ends without a reply, and all others get theirs from the next one."""
+        """A program that ends: the connection ends without a reply. All others get theirs from the next one, which is started at once."""
         front = self.begin()
         self.assertEqual(asked(self.folder / "TELLER", "A K", "A stub=ends8 K"), ["OK value=role=TELLER,K", ""])
+        self.comes(lambda: any(children_of(front.pid)))
         self.is_serving()
         self.assertEqual(asked(self.folder / "TELLER", "A stub=ends7 K"), [""])
         self.assertEqual(front.wait(30), 1)
@@ -275,6 +326,23 @@ class Begin(Fronted):
 
     def test_role(self):
         self.refuses("no role's name", sockets=("teller",))
+
+    def test_twice(self):
+        self.refuses("TELLER is given twice", sockets=("TELLER", "TELLER"))
+
+    def test_removed_socket(self):
+        """A socket that someone removed: the front ends as always."""
+        front = self.begin()
+        (self.folder / ROLES[0]).unlink()
+        self.ends_well(front)
+
+    def test_ignored_signal(self):
+        """Whoever starts the front may ignore the ends of its children: it sees the exit status of cca all the same."""
+        ignored = "import front, signal, sys; signal.signal(signal.SIGCHLD, signal.SIG_IGN); sys.exit(front.main())"
+        front = self.begin(code=ignored)
+        self.assertEqual(asked(self.folder / "TELLER", "A stub=ends7 K"), [""])
+        self.assertEqual(front.wait(30), 1)
+        self.assertIn("status 7", self.told()[-1]["text"])
 
     def test_the_program_itself(self):
         self.stands = self.program.path
@@ -351,6 +419,13 @@ class Log(Fronted):
             front.stderr.read()
 
 
+class Known(unittest.TestCase):
+    def test_verbs(self):
+        """The verbs that the front knows are those of the table."""
+        rows = json.loads((TOP / "clients" / "verbs.json").read_text())["rows"]
+        self.assertEqual(front_program.VERBS, {it["verb"] for it in rows})
+
+
 class Told(unittest.TestCase):
     """What the trail's log tells of a trail; a script prints what `cca trail` would."""
 
@@ -362,10 +437,14 @@ class Told(unittest.TestCase):
         self.program.write_text("#!/bin/sh\ncat held\n")
         self.program.chmod(0o755)
 
-    def fetch(self, first, last, times=(), label="PAY", **options):
-        """Fetches a trail of these records, as by a front that has just begun."""
+    def hold(self, first, last, label="PAY"):
+        """Makes a trail of these records."""
         held = [f"{number} 00 TELLER CSNBKYT {label}" for number in range(first, last)]
         (self.folder / "held").write_text("".join(f"{line}\n" for line in held))
+
+    def fetch(self, first, last, times=(), label="PAY", **options):
+        """Fetches a trail of these records, as by a front that has just begun."""
+        self.hold(first, last, label)
         return TrailLog(str(self.log), str(self.folder), str(self.program)).fetch(list(times), **options)
 
     def lines(self):
@@ -375,30 +454,62 @@ class Told(unittest.TestCase):
         return [it["number"] for it in self.lines() if "number" in it]
 
     def test_overlap(self):
-        self.assertEqual([self.fetch(0, 3), self.fetch(0, 5), self.fetch(4, 9)], [[], [], []])
+        self.assertEqual([self.fetch(0, 3, "ABC"), self.fetch(0, 5, "DE"), self.fetch(4, 9, "FGHI")], [[], [], []])
         self.assertEqual(self.numbers(), list(range(9)))
         self.assertEqual(stat.S_IMODE(self.log.stat().st_mode), 0o600)
         self.fetch(4, 9)
         self.assertEqual(self.numbers(), list(range(9)))
 
     def test_gap(self):
-        self.fetch(0, 3)
-        self.assertEqual(self.fetch(7, 9), ["records 3 to 6 are missing"])
+        self.fetch(0, 3, "ABC")
+        self.assertEqual(self.fetch(7, 9, "DE"), ["records 3 to 6 are missing"])
         self.assertEqual([it["told"] for it in self.lines() if "told" in it], ["records 3 to 6 are missing"])
         self.assertEqual(self.numbers(), [0, 1, 2, 7, 8])
 
     def test_late(self):
-        self.assertEqual(self.fetch(5, 9), ["records before number 5 are missing"])
+        self.assertEqual(self.fetch(5, 9, "ABCD"), ["records 0 to 4 are missing"])
 
     def test_altered(self):
-        self.fetch(0, 3)
-        told = self.fetch(0, 5, label="OTHER")
-        self.assertRegex(" ".join(told), "record 2 isn't as it was")
+        """Records that differ from those of the log, where the last one of the log doesn't: all of the trail are logged."""
+        self.fetch(0, 3, "ABC")
+        self.program.write_text("#!/bin/sh\nsed '2s/PAY/OTHER/' held\n")
+        self.assertEqual(self.fetch(0, 5, "ABCDE"), ["record 1 isn't as it was: the trail was altered, or begins anew"])
+        self.assertEqual(self.fetch(0, 6, "F"), [])
+        self.assertEqual(self.numbers(), [*range(3), *range(6)])
 
     def test_begins_anew(self):
-        self.fetch(0, 9)
-        self.assertRegex(" ".join(self.fetch(0, 3)), "the trail begins anew: it ended with number 8")
-        self.assertRegex(" ".join(self.fetch(0, 0)), "the trail begins anew")
+        """A trail that was put aside, whose place another one takes: it has fewer records first, none or some, and then more."""
+        anew = "the trail begins anew: it ended with number"
+        for began in (0, 3):
+            with self.subTest(began=began):
+                self.log.unlink(missing_ok=True)
+                self.fetch(0, 5, "ABCDE")
+                self.assertEqual(self.fetch(0, began, "FGH"[:began]), [f"{anew} 4"])
+                self.assertEqual(self.fetch(0, began), [])
+                self.assertEqual(self.fetch(0, 7, "IJKLMNO"[began:]), [])
+                self.assertEqual(self.numbers(), [*range(5), *range(7)])
+                self.assertEqual(self.fetch(0, 2, "PQ"), [f"{anew} 6"])
+
+    def test_begins_anew_in_a_run(self):
+        """The same for one front, whose log is renamed meanwhile."""
+        self.hold(0, 5)
+        log = TrailLog(str(self.log), str(self.folder), str(self.program))
+        self.assertEqual(log.fetch(list("ABCDE")), [])
+        self.log.rename(self.folder / "log.1")
+        self.hold(0, 0)
+        self.assertEqual(log.fetch([]), ["the trail begins anew: it ended with number 4"])
+        self.hold(0, 7)
+        self.assertEqual(log.fetch(list("ABCDEFG")), [])
+        self.assertEqual(self.numbers(), [*range(7)])
+
+    def test_others(self):
+        """Records of requests that this front didn't send: they have no times, and that is told."""
+        others = "; others sent requests, or a front ended before it fetched the records"
+        wanted = f"0 requests were served, and 3 new records came: their times aren't known{others}"
+        self.assertEqual(self.fetch(0, 3), [wanted])
+        wanted = f"1 requests were served, and 2 new records came: their times aren't known{others}"
+        self.assertEqual(self.fetch(0, 5, "A"), [wanted])
+        self.assertEqual([it["time"] for it in self.lines() if "number" in it], [None] * 5)
 
     def test_times(self):
         self.fetch(0, 2, ["A", "B"])
@@ -412,16 +523,16 @@ class Told(unittest.TestCase):
         self.fetch(0, 3)
         log = TrailLog(str(self.log), str(self.folder), str(self.program))
         self.log.rename(self.folder / "log.1")
-        (self.folder / "held").write_text("0 00 A B C\n1 00 A B C\n2 00 TELLER CSNBKYT PAY\n3 00 A B C\n")
-        self.assertEqual(log.fetch([]), [])
+        self.hold(0, 4)
+        self.assertEqual(log.fetch(["A"]), [])
         self.assertEqual(self.lines()[0], {"follows": 2})
         self.assertEqual(self.numbers(), [3])
 
     def test_half_a_line(self):
         """Behind half a line of a machine that stopped the record is written whole."""
-        self.fetch(0, 3)
+        self.fetch(0, 3, "ABC")
         self.log.write_text(self.log.read_text()[:-20])
-        self.assertEqual(self.fetch(0, 4), [])
+        self.assertEqual(self.fetch(0, 4, "AB"), [])
         whole = [line for line in self.log.read_text().splitlines() if line.endswith("}")]
         self.assertEqual([json.loads(it)["number"] for it in whole], [0, 1, 2, 3])
 
@@ -495,7 +606,8 @@ class Trail(Fronted):
         self.ends_well(self.begin("--audit", str(self.kept)))
         self.beside(5000)
         self.ends_well(self.begin("--audit", str(self.kept)))
-        self.assertEqual([it["text"] for it in self.told() if it.get("event") == "trail"], ["records 1 to 904 are missing"])
+        came = "0 requests were served, and 4096 new records came: their times aren't known"
+        self.assertEqual([it["text"].partition(";")[0] for it in self.told() if it.get("event") == "trail"], ["records 1 to 904 are missing", came])
         self.assertEqual([it["number"] for it in self.records()], [0, *range(905, 5002)])
 
     def test_killed(self):
@@ -513,6 +625,61 @@ class Trail(Fronted):
         self.assertNotIn(None, [it["time"] for it in records])
         self.assertGreaterEqual(len(records), 10)
 
+    def test_put_aside(self):
+        """The trail is put aside, as after some exit statuses: a front that begins then logs all records of the new one."""
+        for requests in (4, 6):
+            front = self.begin("--audit", str(self.kept))
+            asked(self.folder / "TELLER", *["A"] * requests)
+            self.ends_well(front)
+            for it in ("records", "cca.trail"):
+                (self.folder / "keys" / it).unlink(missing_ok=True)
+        self.assertEqual([it["text"] for it in self.told() if it.get("event") == "trail"], ["the trail begins anew: it ended with number 4"])
+        self.assertEqual([it["number"] for it in self.records()], [*range(5), *range(7)])
+
+    def in_use(self, which):
+        """From now on these starts of cca end as where another program has the files: a condition on $n, the number of the start."""
+        script, stands = self.folder / "in-use", self.stands
+        number = f"echo >> '{self.folder}'/$1; n=$(wc -l < '{self.folder}'/$1)"
+        script.write_text(f"#!/bin/sh\n{number}; test {which} && exit 11\nexec '{stands}' \"$@\"\n")
+        script.chmod(0o755)
+        self.stands = str(script)
+
+    def starts(self, word):
+        """How often `cca audit` or `cca trail` was started."""
+        return len((self.folder / word).read_text())
+
+    def test_files_in_use(self):
+        """Another program has the files for a while: what is started in vain is started again."""
+        self.in_use("$n -le 3")
+        front = self.begin("--audit", str(self.kept))
+        self.assertEqual(asked(self.folder / "TELLER", "A"), ["NO 01 -"])
+        self.ends_well(front)
+        self.assertEqual((self.starts("audit"), self.starts("trail")), (4, 5))
+        self.assertEqual([it["number"] for it in self.records()], [0, 1])
+
+    def test_files_in_use_at_the_end(self):
+        """The same just when the front has fetched the trail, and ends then: no request was lost."""
+        self.in_use("$1 = audit -a $n -gt 1")
+        front = self.begin("--audit", str(self.kept), code=FETCHES_AT_ONCE)
+        self.comes(lambda: self.starts("audit") > 1)
+        self.ends_well(front)
+
+    def test_files_in_use_for_long(self):
+        """The same for longer than the front tries."""
+        self.in_use("$1 = run")
+        self.refuses("status 11", code="import front, sys; front.IN_USE_SECONDS = 0.3; sys.exit(front.main())")
+
+    def test_front_killed(self):
+        """What a front that is killed hasn't fetched the next one does, without the times, and tells so."""
+        front = self.begin("--audit", str(self.kept))
+        asked(self.folder / "TELLER", "A", "A")
+        front.kill()
+        front.wait()
+        self.ends_well(self.begin("--audit", str(self.kept)))
+        self.assertEqual([it["time"] is None for it in self.records()], [True, True, True, False])
+        texts = [it["text"] for it in self.told() if it.get("event") == "trail"]
+        self.assertRegex(" ".join(texts), "^0 requests were served, and 3 new records came: .* a front ended before it fetched the records$")
+
     def test_log_without_room(self):
         """Where records can't be kept, the front doesn't begin."""
         self.beside(1)
@@ -528,6 +695,25 @@ class TrailOfTheProgram(Trail):
     def setUp(self):
         super().setUp()
         self.stands = self.program.path
+
+    def test_files_are_held(self):
+        """A front that has fetched the trail, and that nobody asks, lets no other program have the files."""
+        front = self.begin("--audit", str(self.kept), code=FETCHES_AT_ONCE)
+        self.comes(lambda: self.kept.exists() and self.records())
+        self.comes(lambda: any("/keys/cca.trail" in " ".join(files_of(child)) for child in children_of(front.pid)))
+        self.ends(self.cca("run", folder=self.folder / "keys"), 11, err="cca: a file could not be opened")
+        self.assertEqual(subprocess.run(["flock", "-n", self.folder / "keys" / "cca.module", "true"]).returncode, 1)
+        self.assertEqual(asked(self.folder / "TELLER", ""), ["NO 01 -"])
+        self.ends_well(front)
+
+
+def files_of(process):
+    """The files that a process has opened."""
+    for it in Path(f"/proc/{process}/fd").glob("*"):
+        try:
+            yield os.readlink(it)
+        except FileNotFoundError:
+            pass
 
 
 def children_of(process):

@@ -32,7 +32,7 @@ from pathlib import Path
 # The client stands beside this file where it is installed, and in clients/python of a checkout.
 sys.path.append(str(Path(__file__).resolve().parent / "../../clients/python/cca"))
 from client import LOOK_FIRST, Coprocessor, Ended
-from trail import HELD, TrailLog, TrailLost, now
+from trail import HELD, IN_USE, IN_USE_PAUSE, IN_USE_SECONDS, TrailLog, TrailLost, now
 
 LONGEST = 9_216  # bytes of a line, before its newline
 BACKLOG = 128  # connections that wait to be taken
@@ -153,6 +153,14 @@ class Connection:
         line, _, self.taken = self.taken.partition(b"\n")
         return bytes(line[: LONGEST + 1])
 
+    def is_silent(self) -> bool:
+        """Whether the client does nothing that the front could take up: it takes no reply, or sends no line."""
+        if self.has_line() and not self.unsent:
+            return False
+        poll = select.poll()
+        poll.register(self.socket, select.POLLOUT if self.unsent else select.POLLIN)
+        return not poll.poll(0)
+
     def send(self) -> bool:
         """Sends as much as there is room for. False where the client has left."""
         try:
@@ -218,24 +226,42 @@ class Service:
             self.first = self.first if self.times else time.monotonic()
             self.times.append(now())
         try:
-            return self.cca.ask(request)
+            return self.reply(request)
         except Ended as end:
             self.journal.tell(event="no reply", status=end.status, text=str(end))
             if end.status in LOOK_FIRST:
                 raise Stop(str(end)) from None
             self.fetch(is_in_doubt=True)
+            self.hold_files()
             raise
+
+    def reply(self, request: str) -> str:
+        """The reply of cca. Where another program has the files, cca is started again for some seconds."""
+        until = time.monotonic() + IN_USE_SECONDS
+        while True:
+            try:
+                return self.cca.ask(request)
+            except Ended as end:
+                if end.status != IN_USE or time.monotonic() > until:
+                    raise
+            time.sleep(IN_USE_PAUSE)
+            self.cca.last = None  # it took no request, and may be started again
+
+    def hold_files(self) -> None:
+        """Starts cca, so that no other program gets its files while no client asks."""
+        self.cca.started()
 
     def fetch_if_due(self) -> None:
         if self.times and time.monotonic() > self.first + FETCH_SECONDS:
             self.fetch()
+            self.hold_files()
 
     def fetch(self, is_in_doubt: bool = False) -> None:
-        """Closes cca, since it has the trail, and fetches the trail. The next request starts cca again."""
+        """Closes cca, since it has the trail, and fetches the trail."""
         if not self.trail:
             return
         status = self.cca.close()
-        if status in LOOK_FIRST:
+        if status in LOOK_FIRST and status != IN_USE:  # at that one it took no request
             raise Stop(f"cca ended with status {status} when its input ended")
         for what in self.trail.fetch(self.times, is_in_doubt):
             self.journal.tell(event="trail", text=what)
@@ -347,7 +373,7 @@ class Front:
         is_crowded = len(door.connections) >= self.limit and door.is_waited_for()
         until = time.monotonic() - (min(CROWDED, self.idle) if is_crowded else self.idle)
         oldest = itertools.takewhile(lambda it: it.used < until, door.connections)
-        silent = [it for it in oldest if not it.has_line()]
+        silent = [it for it in oldest if it.is_silent()]
         for connection in silent[:1] if is_crowded else silent:
             self.leave(connection)
 
@@ -377,16 +403,29 @@ def hold_streams() -> None:
     os.close(number)
 
 
+def named_sockets(words: list[str]) -> list[tuple[str, str]]:
+    """The path and the role of each socket."""
+    sockets, seen = [], set()
+    for word in words:
+        path, _, role = word.rpartition("=")
+        if os.path.realpath(path) in seen:
+            raise Stop(f"{path} is given twice: each socket has a path of its own")
+        seen.add(os.path.realpath(path))
+        sockets.append((path, role))
+    return sockets
+
+
 def served(given: argparse.Namespace, journal: Journal) -> None:
     """Everything from the locks to the end."""
+    sockets = named_sockets(given.sockets)
     folder = locked(given.folder, os.O_RDONLY | os.O_DIRECTORY, "this folder")
     service = Service(given.folder, os.environ.get("CCA", "cca"), journal, given.audit)
     os.umask(0o117)  # sockets and locks are for the user and the group alone
     doors: list[Door] = []
     try:
         service.begin()
-        for word in given.sockets:
-            doors.append(Door(*word.rpartition("=")[::2]))
+        for path, role in sockets:
+            doors.append(Door(path, role))
         front = Front(doors, service, journal, limit_that_fits(given.limit, len(doors)), given.idle)
         journal.tell(event="ready", roles=[door.role for door in doors])
         tell_systemd("READY=1")
@@ -394,7 +433,7 @@ def served(given: argparse.Namespace, journal: Journal) -> None:
         service.fetch()
     finally:  # the trail isn't fetched where something failed: someone should look at the files first
         for door in doors:
-            os.unlink(door.path)
+            Path(door.path).unlink(missing_ok=True)
         service.cca.close()
         os.close(folder)
     journal.tell(event="ended")
@@ -409,6 +448,7 @@ def main() -> int:
     words.add_argument("--idle", type=float, default=IDLE, help="seconds until a silent connection is closed")
     given = words.parse_intermixed_args()
     hold_streams()
+    signal.signal(signal.SIGCHLD, signal.SIG_DFL)  # where it is ignored, no exit status of cca is seen
     journal = Journal()
     try:
         served(given, journal)

@@ -7,12 +7,17 @@ served. The log is opened by its name each time, so that it may be renamed while
 import json
 import os
 import subprocess
+import time
+from collections.abc import Iterator
 from datetime import datetime, timezone
 from typing import NamedTuple
 
 HELD = 4096  # records that a trail keeps
-TAIL = 1 << 16  # bytes at the end of a log in which its last record is looked for
+TAIL = 1 << 21  # bytes at the end of a log: as many records as a trail keeps need less
 PATIENCE = 60.0  # seconds for `cca trail`
+IN_USE = 11  # the exit status of cca where another program has its files
+IN_USE_SECONDS = 10.0  # until the other program must have ended, as a backup
+IN_USE_PAUSE = 0.1
 
 
 class TrailLost(Exception):
@@ -34,33 +39,54 @@ def now() -> str:
     return datetime.now(timezone.utc).isoformat(timespec="microseconds").replace("+00:00", "Z")
 
 
+def shown(folder: str, program: str) -> str:
+    """What `cca trail` prints. Where another program has the files it is asked again for some seconds."""
+    until = time.monotonic() + IN_USE_SECONDS
+    while True:
+        try:
+            it = subprocess.run([program, "trail"], cwd=folder, capture_output=True, text=True, timeout=PATIENCE)
+        except (OSError, subprocess.TimeoutExpired) as error:
+            raise TrailLost(f"cca trail: {error}") from None
+        if it.returncode == 0:
+            return it.stdout
+        if it.returncode != IN_USE or time.monotonic() > until:
+            raise TrailLost(f"cca trail ended with status {it.returncode}: {it.stderr.strip()}")
+        time.sleep(IN_USE_PAUSE)
+
+
 def listed(folder: str, program: str) -> list[Record]:
     """The records that the trail of a folder holds, the oldest first. No run may use the folder."""
-    try:
-        it = subprocess.run([program, "trail"], cwd=folder, capture_output=True, text=True, timeout=PATIENCE)
-    except (OSError, subprocess.TimeoutExpired) as error:
-        raise TrailLost(f"cca trail: {error}") from None
-    if it.returncode != 0:
-        raise TrailLost(f"cca trail ended with status {it.returncode}: {it.stderr.strip()}")
-    rows = [line.split(" ") for line in it.stdout.splitlines()]
+    rows = [line.split(" ") for line in shown(folder, program).splitlines()]
     return [Record(int(number), rule, role, verb, label) for number, rule, role, verb, label in rows]
 
 
-def last_kept(path: str) -> Record | int | None:
-    """The last record of a log; its number alone where the log begins behind that one; None where it has none."""
+def last_lines(path: str) -> list[bytes]:
+    """The last lines of a log, of which the first one may be cut; none where there is no log."""
     try:
         with open(path, "rb") as log:
             log.seek(max(0, os.fstat(log.fileno()).st_size - TAIL))
-            lines = log.read(TAIL).split(b"\n")
+            return log.read(TAIL).split(b"\n")
     except FileNotFoundError:
-        return None
-    for line in reversed(lines):
+        return []
+
+
+def last_kept(path: str) -> tuple[int, dict[int, Record]]:
+    """The number of the last record of a log, or of that behind which it begins, and -1 where it has none; and its last
+    records, by their numbers, as far back as they are of one trail."""
+    kept: dict[int, Record] = {}
+    lowest = None
+    for line in reversed(last_lines(path)):
         try:
             it = json.loads(line)
-            return it["follows"] if "follows" in it else Record(*(it[name] for name in Record._fields))
+            if "follows" in it:
+                return max([it["follows"], *kept]), kept
+            record = Record(*(it[name] for name in Record._fields))
         except (ValueError, KeyError, TypeError):
             continue  # what is told, or half a line of a machine that stopped
-    return None
+        if lowest is not None and record.number >= lowest:
+            break
+        kept[record.number], lowest = record, record.number
+    return max(kept, default=-1), kept
 
 
 class TrailLog:
@@ -68,40 +94,44 @@ class TrailLog:
 
     def __init__(self, path: str, folder: str, program: str):
         self.path, self.folder, self.program = os.path.abspath(path), folder, program
-        self.last = last_kept(self.path)
+        self.last, self.kept = last_kept(self.path)
 
     def fetch(self, times: list[str], is_in_doubt: bool = False) -> list[str]:
         """Appends the new records. Known are the times of the requests since the last fetch, of which the last one may have
         left no record. What is to be told of the trail is given back."""
-        held = listed(self.folder, self.program)
-        new, told = self.news(held)
+        held, fetched = listed(self.folder, self.program), now()
+        lines: list[dict[str, object]] = []
+        why = self.why_another(held)
+        if why:
+            self.last = -1
+            lines.append({"time": fetched, "told": why, "follows": self.last})
+        new = [record for record in held if record.number > self.last]
         is_complete = len(new) == len(times) or (is_in_doubt and len(new) == len(times) - 1)
-        if times and not is_complete:
-            told.append(f"{len(times)} requests were served, and {len(new)} new records came: their times aren't known")
-        known = times if is_complete else []
-        fetched = now()
-        lines: list[dict[str, object]] = [{"time": fetched, "told": what} for what in told]
+        lines += [{"time": fetched, "told": what} for what in self.to_tell(new, len(times), is_complete)]
+        told = [str(it["told"]) for it in lines]
         for place, record in enumerate(new):
-            lines.append({**record._asdict(), "time": known[place] if known else None, "fetched": fetched})
+            lines.append({**record._asdict(), "time": times[place] if is_complete else None, "fetched": fetched})
         self.append(lines)
-        if held:
-            self.last = held[-1]
+        self.last, self.kept = held[-1].number if held else -1, {record.number: record for record in held}
         return told
 
-    def news(self, held: list[Record]) -> tuple[list[Record], list[str]]:
-        """The records that the log hasn't, and what is to be told of them: that some are missing, or were altered."""
-        if self.last is None:
-            return held, [f"records before number {held[0].number} are missing"] if held and held[0].number else []
-        last = self.last if isinstance(self.last, int) else self.last.number
-        if not held or held[-1].number < last:
-            return held, [f"the trail begins anew: it ended with number {last}"]
-        told = []
-        if isinstance(self.last, Record) and self.last not in held and held[0].number <= last:
-            told.append(f"record {last} isn't as it was: the trail was altered, or begins anew")
-        new = [record for record in held if record.number > last]
-        if new and new[0].number > last + 1:
-            told.append(f"records {last + 1} to {new[0].number - 1} are missing")
-        return new, told
+    def why_another(self, held: list[Record]) -> str | None:
+        """Why this isn't the trail whose records the log has, if it isn't: then all its records are new."""
+        if self.last >= 0 and (not held or held[-1].number < self.last):
+            return f"the trail begins anew: it ended with number {self.last}"
+        for record in held:
+            if self.kept.get(record.number, record) != record:
+                return f"record {record.number} isn't as it was: the trail was altered, or begins anew"
+        return None
+
+    def to_tell(self, new: list[Record], sent: int, is_complete: bool) -> Iterator[str]:
+        """What is to be told of new records: that some are missing, or whose they may be."""
+        if new and new[0].number > self.last + 1:
+            yield f"records {self.last + 1} to {new[0].number - 1} are missing"
+        if not is_complete:
+            came = f"{sent} requests were served, and {len(new)} new records came: their times aren't known"
+            others = "; others sent requests, or a front ended before it fetched the records"
+            yield came + (others if len(new) > sent else "")
 
     def append(self, lines: list[dict[str, object]]) -> None:
         """Adds lines to the log, and syncs it."""
@@ -129,6 +159,4 @@ class TrailLog:
             os.fsync(folder)  # so that the log's name is on the drive too
         finally:
             os.close(folder)
-        if self.last is None:
-            return ""
-        return json.dumps({"follows": self.last if isinstance(self.last, int) else self.last.number}) + "\n"
+        return "" if self.last < 0 else json.dumps({"follows": self.last}) + "\n"
