@@ -308,14 +308,18 @@ def async_methods(verbs):
 def python_async(verbs):
     """The module of the package for asyncio: the verbs."""
     yield '"""A method for each verb, for asyncio. Made by clients/make_verbs.py from verbs.py: a change belongs there."""'
+    methods = [*async_methods(verbs)]
     yield from ["from collections.abc import Callable, Iterable", "from typing import Any, Literal, TypeVar", ""]
-    yield from (ast.unparse(it) for it in ast.parse(verbs).body if isinstance(it, ast.ImportFrom) and it.module == "values")
+    for it in ast.parse(verbs).body:
+        if isinstance(it, ast.ImportFrom) and it.module == "values":
+            it.names = [name for name in it.names if re.search(rf"\b{name.name}\b", "\n".join(methods))]
+            yield ast.unparse(it)
     yield "from .verbs import MacRule, Pad, Verbs"
     yield from ["", 'T = TypeVar("T")', "", "", "class AsyncVerbs:"]
     yield from ['    """What waits for a verb: each method is that of Verbs of the same name."""', "", "    verbs: Verbs", ""]
     yield from ["    async def run(self, call: Callable[..., T], *given: Any, **named: Any) -> T:"]
     yield from ['        """Waits for a call, which is made in a thread of its own."""', "        raise NotImplementedError"]
-    yield from async_methods(verbs)
+    yield from methods
 
 
 def files(made):

@@ -6,7 +6,6 @@ import functools
 import os
 import re
 import shutil
-import signal
 import subprocess
 import sys
 import tempfile
@@ -17,7 +16,7 @@ from tests.edits import LIBRARIES
 from tests.formats import chained as by_openssl
 from tests.formats import code as code_by_openssl
 from tests.formats import internal, made, types
-from tests.harness import TOP, Case, scratch
+from tests.harness import TOP, Case, limited, scratch
 
 SOURCES = LIBRARIES / "c"
 WARNINGS = ["-std=c99", "-Wall", "-Wextra", "-Werror", "-pedantic", "-pthread"]
@@ -221,7 +220,7 @@ while IFS= read -r line; do
     reply="$(cat reply)"
     case "$reply" in
     "ends "*) exit "${reply#ends }" ;;
-    waits) sleep 100 ;;
+    waits) exec sleep 100 ;;
     *) printf '%s\\n' "$reply" ;;
     esac
 done
@@ -240,8 +239,7 @@ class Library(Case):
 
     def setUp(self):
         super().setUp()
-        signal.alarm(280)
-        self.addCleanup(signal.alarm, 0)
+        limited(self, 280)
         self.cca = self.opened()
 
     def opened(self, program=None, folder=None, **named):

@@ -12,7 +12,7 @@ import unittest
 from pathlib import Path
 
 from tests.edits import CLIENTS, LIBRARIES, Edit, each_is_found
-from tests.harness import TOP, Case, Fault
+from tests.harness import TOP, Case, Fault, limited
 
 STUB = TOP / "tests" / "stub"
 CLIENT = "clients/python/cca/client.py"
@@ -35,11 +35,20 @@ EDITS = [
     Edit(CLIENT, "was_sent and status not in NONE_TAKEN", "was_sent", "Python.test_ends"),
     Edit(CLIENT, "NONE_TAKEN = frozenset({2, 10", "NONE_TAKEN = frozenset({2, 3, 10", "Python.test_damaged_record"),
     Edit(CLIENT, "self.owner() not in (None, os.getpid())", "False", "Python.test_forked"),
-    Edit("clients/c/cca_client.c", "F_DUPFD_CLOEXEC", "F_DUPFD", "C.test_two_coprocessors"),
+    Edit(CLIENT, "self.child.returncode = UNKNOWN", "self.child.returncode = 0", "Python.test_lost_status"),
+    Edit(CLIENT, "os.register_at_fork(after_in_child=leave_all)", "", "Python.test_child_that_lives_on"),
+    Edit(CLIENT, 'if not line.endswith(b"\\n"):', "if False:", "Programs.test_half_a_line"),
+    Edit("client.c", "if (line[length - 1] != '\\n') {", "if (line[length - 1] == '\\0') {", "Programs.test_half_a_line"),
+    Edit("client.c", "if (came >= 0 && fflush(stdout) == 0)", "if (came >= 0 || fflush(stdout) == 0)", "Programs.test_full"),
+    Edit("clients/c/cca_client.c", "F_DUPFD_CLOEXEC", "F_DUPFD", "C.test_apart"),
+    Edit("clients/c/cca_client.c", "file = STDERR_FILENO + 1,", "file = STDERR_FILENO + 900,", "C.test_apart"),
+    Edit("clients/c/cca_client.c", "    setsid();\n", "", "C.test_apart"),
+    Edit("clients/c/cca_client.c", "if (ended < 0)", "if (ended < -1)", "C.test_lost_status"),
+    Edit("clients/c/cca_client.c", "in_parent, in_child);", "in_parent, in_parent); (void)in_child;", "C.test_child_that_lives_on"),
     Edit("clients/c/cca_client.c", "pthread_mutex_lock(&it->turn);\n    answer", "answer", "C.test_threads"),
     Edit("clients/c/cca_client.c", "pthread_sigmask(SIG_BLOCK, &broken, &before);", "pthread_sigmask(SIG_BLOCK, NULL, &before);", "C.test_each"),
     Edit("clients/c/cca_client.c", "memchr(request, '\\n', length)", "0", "C.test_each"),
-    Edit("client.c", "(size_t)length, reply", "strlen(line), reply", "C.test_zero_byte"),
+    Edit("client.c", "(size_t)length - 1, reply", 'strcspn(line, "\\n"), reply', "C.test_zero_byte"),
     Edit("clients/c/cca_client.c", "return is_one ? 1 : -1;", "return 1 + 0 * is_one;", "C.test_each"),
 ]
 
@@ -53,8 +62,7 @@ class Python(unittest.TestCase):
     """The class of the client in Python."""
 
     def setUp(self):
-        signal.alarm(40)
-        self.addCleanup(signal.alarm, 0)
+        limited(self, 40)
         folder = tempfile.TemporaryDirectory()
         self.addCleanup(folder.cleanup)
         self.folder = Path(folder.name)
@@ -118,7 +126,7 @@ class Python(unittest.TestCase):
             self.is_in_step()
             threading.Timer(0.5, os.kill, (os.getpid(), number)).start()
             with self.assertRaises(kind) as raised:
-                self.cca.ask(own("", "stub=waits1500")[0])
+                self.cca.ask(own("", "stub=waits5000")[0])
             self.assertRegex(" ".join(getattr(raised.exception, "__notes__", [])), "may have been carried out")
             self.is_in_step()
 
@@ -130,7 +138,7 @@ class Python(unittest.TestCase):
         self.is_in_step()
         threading.Timer(0.3, os.kill, (os.getpid(), signal.SIGUSR1)).start()
         with self.assertRaisesRegex(RuntimeError, "in the midst of another one"):
-            self.cca.ask(own("", "stub=waits1500")[0])
+            self.cca.ask(own("", "stub=waits5000")[0])
         self.is_in_step()
 
     def test_threads(self):
@@ -210,6 +218,53 @@ class Python(unittest.TestCase):
         self.is_in_step()
 
 
+    def test_child_that_lives_on(self):
+        """A child has none of the pipes: cca ends with the input of its parent."""
+        self.is_in_step()
+        theirs, ours = os.pipe()
+        child = os.fork()
+        if child == 0:
+            os.close(ours)
+            os.read(theirs, 1)  # as long as its parent holds the other end
+            os._exit(0)
+        self.addCleanup(os.waitpid, child, 0)
+        self.addCleanup(os.close, ours)
+        self.cca.patience = 5.0
+        self.assertEqual(self.cca.close(), 0)
+        os.close(theirs)
+
+    def test_lost_status(self):
+        """Another one takes the status of cca: how it ended isn't known, and it may be that someone should look at the files."""
+
+        def takes_children(*_):
+            try:
+                while os.waitpid(-1, os.WNOHANG)[0]:
+                    pass
+            except ChildProcessError:
+                pass
+
+        self.addCleanup(signal.signal, signal.SIGCHLD, signal.getsignal(signal.SIGCHLD))
+        for handler in (signal.SIG_IGN, takes_children):
+            signal.signal(signal.SIGCHLD, handler)
+            cca = self.client()
+            self.is_in_step(cca)
+            self.assertEqual(self.gets_no_reply("stub=ends7", "status 128", cca).status, 128)
+            carried = self.carried_out()
+            self.gets_no_reply("", "look at the files first", cca, is_in_doubt=False)
+            self.assertEqual(self.carried_out(), carried)
+
+    def test_interrupted_end(self):
+        """An exception of the caller's own while cca doesn't end: it is killed, so that the folder is free."""
+        signal.signal(signal.SIGINT, signal.default_int_handler)
+        self.assertEqual(self.cca.ask("A stub=deaf role=B D"), "OK value=stub=deaf,D")
+        process = self.cca.process
+        threading.Timer(0.5, os.kill, (os.getpid(), signal.SIGINT)).start()
+        with self.assertRaises(KeyboardInterrupt):
+            self.cca.close()
+        self.assertEqual(process.child.returncode, -signal.SIGKILL)
+        self.is_in_step()
+
+
 @unittest.skipUnless(shutil.which("cc"), "cc isn't installed")
 class C(unittest.TestCase):
     """The client in C, as a program and as a part of one, tests/stub/library.c."""
@@ -242,6 +297,19 @@ class C(unittest.TestCase):
     def test_forked(self):
         self.assertEqual(self.says("forked"), ["1 0"])
 
+    def test_child_that_lives_on(self):
+        """A child has none of the pipes: cca ends with the input of its parent."""
+        self.assertEqual(self.says("outlived"), ["0"])
+
+    def test_lost_status(self):
+        """Another one takes the status of cca: how it ended isn't known, and it may be that someone should look at the files."""
+        for how in ("ignored", "taken"):
+            self.assertEqual(self.says(how), ["3 2 128 0"])
+
+    def test_apart(self):
+        """cca has none of the program's descriptors and is in a session of its own, and other programs have none of its pipes."""
+        self.assertEqual(self.says("apart"), ["1 1 1 0"])
+
     def test_each(self):
         """0 a reply, 1 no request, 2 not sent, 3 no reply."""
         kinds = [("newline", "1 -"), ("A stub=deaf role=B D", "0 OK value=stub=deaf,D"), (own(1)[0], "3 -")]
@@ -259,6 +327,42 @@ class C(unittest.TestCase):
         words = [self.folder / "client", self.folders[0], STUB / "cca"]
         it = subprocess.run(words, input=b"A role=B C\0D\nA role=B E\n", stdout=subprocess.PIPE, timeout=60)
         self.assertEqual((it.returncode, (self.folders[0] / "carried").read_bytes()), (0, b"A role=B C\0D\nA role=B E\n"))
+
+
+class Programs(unittest.TestCase):
+    """The clients as programs, over lines of a file."""
+
+    def setUp(self):
+        folder = tempfile.TemporaryDirectory()
+        self.addCleanup(folder.cleanup)
+        self.folder = Path(folder.name)
+        self.programs = [[sys.executable, "-B", LIBRARIES / "python" / "cca" / "client.py"]]
+        if shutil.which("cc"):
+            sources = [CLIENTS / "client.c", LIBRARIES / "c" / "cca_client.c"]
+            subprocess.run(["cc", "-I", LIBRARIES / "c", "-o", self.folder / "client", *sources], check=True)
+            self.programs.append([self.folder / "client"])
+
+    def each(self):
+        """Each client with a folder of its own."""
+        for number, words in enumerate(self.programs):
+            folder = self.folder / str(number)
+            folder.mkdir()
+            yield [*words, folder, STUB / "cca"], folder / "carried"
+
+    def test_half_a_line(self):
+        """A last line without its newline may be half a request: it isn't asked."""
+        for words, carried in self.each():
+            it = subprocess.run(words, input=b"A role=B C\nA role=B D", capture_output=True, timeout=60)
+            self.assertEqual((it.returncode, it.stdout, carried.read_bytes()), (0, b"OK value=role=B,C\n", b"A role=B C\n"))
+            self.assertIn(b"no newline", it.stderr)
+
+    def test_full(self):
+        """A reply that can't be written: the client says so and asks nothing else."""
+        for words, carried in self.each():
+            with open("/dev/full", "wb") as full:
+                it = subprocess.run(words, input=b"A role=B C\nA role=B D\n", stdout=full, stderr=subprocess.PIPE, timeout=60)
+            self.assertEqual((it.returncode, carried.read_bytes()), (1, b"A role=B C\n"))
+            self.assertIn(b"No space left on device", it.stderr)
 
 
 class Auditing(Case):

@@ -1,7 +1,6 @@
 """The clients of examples/clients: each is given the lines of a day at a bank and must print its replies, also where the program is
 killed in between. Many long replies must come while requests are still being written. The front is asked by clients of two roles
-at once, by one that names a role itself and by one that dies in the midst of a line; and after the program was killed. The
-unit of systemd is verified, where that is installed."""
+at once, by one that names a role itself and by one that dies in the midst of a line; and after the program was killed."""
 import os
 import shutil
 import signal
@@ -148,6 +147,14 @@ class Front(Case):
             it.sendall(b"CSNBKRD label=PAY.MAC")  # and no newline
         self.assertEqual(self.asked("OFFICER", "CSNBKRL prefix=PAY."), ["OK count=2 labels=PAY.DATA,PAY.MAC\n"])
 
+    def test_half_a_line_asked(self):
+        """The client of the front: a last line without its newline may be half a request, and isn't asked."""
+        with self.connected("OFFICER"):
+            words = [sys.executable, "-B", CLIENTS / "ask.py", self.folder / "OFFICER"]
+            it = subprocess.run(words, input=b"CSNBKRL prefix=PAY.\nCSNBKRD label=PAY.MAC", capture_output=True)
+        self.assertEqual((it.returncode, it.stdout), (0, b"OK count=2 labels=PAY.DATA,PAY.MAC\n"))
+        self.assertEqual(self.asked("OFFICER", "CSNBKRL prefix=PAY."), ["OK count=2 labels=PAY.DATA,PAY.MAC\n"])
+
     def test_killed(self):
         """A program that is killed: the request gets no reply and the connection ends; the next one starts it again."""
         request, wanted = TESTED
@@ -155,12 +162,3 @@ class Front(Case):
         kill_child_of(self.front.pid)
         self.assertEqual(self.asked("OFFICER", request), [""])
         self.assertEqual(self.asked("OFFICER", request), [f"{wanted}\n"])
-
-
-class Unit(unittest.TestCase):
-    @unittest.skipUnless(shutil.which("systemd-analyze"), "systemd isn't installed")
-    def test_unit(self):
-        """The unit, by systemd itself; that its paths are there isn't asked."""
-        unit = CLIENTS / "cca-front.service"
-        it = subprocess.run(["systemd-analyze", "verify", "--man=no", unit], capture_output=True, text=True)
-        self.assertEqual([line for line in it.stderr.splitlines() if unit.name in line], [])

@@ -7,17 +7,18 @@ import shutil
 import subprocess
 import unittest
 
-from tests.c_library import DOUBLE, IV, MASTER, NEXT, SANITIZERS, SINGLE, SOURCES, TRANSPORT, Library, chained, code, compiled, csnb, data
-from tests.c_library import declared, identifier, key_token, library, padded, room, sanitized, vector, words_of
+from tests.c_library import DOUBLE, IV, MASTER, NEXT, SANITIZERS, SINGLE, SOURCES, TRANSPORT, Library, called, chained, code, compiled, csnb
+from tests.c_library import data, declared, identifier, key_token, library, padded, room, sanitized, vector, words_of
 from tests.edits import Edit, each_is_found
 from tests.formats import closed, external, internal, joined, made, pattern, unique, value
-from tests.harness import EXAMPLES, TOP, Case, Fault
+from tests.harness import EXAMPLES, Case, Fault
 
 FAULTS = [Fault('"$CCA" "$@" | sed -u "s/^NO 07/NO 08/"', case="Ibm.test_storage", tells=r"\(8, 8\) != \(8, 7\)")]
 # Each takes away what one of these cases asks for.
 EDITS = [
     Edit("clients/c/csnb_call.c", "it->used |= 1u << at;", "it->used = (1u << it->count) - 1;", "Ibm.test_reasons"),
-    Edit("clients/c/csnb_call.c", "came.is_old ? 4 : 0", "0", "Ibm.test_old"),
+    Edit("clients/c/csnb_call.c", "came.is_old ? CSNB_OLD_KEY : 0", "0", "Ibm.test_old"),
+    Edit("clients/c/csnb_call.c", "        it->code = 0;\n", "        it->code = came.is_old ? 4 : 0;\n", "Ibm.test_old"),
     Edit("clients/c/csnb_call.c", "came.is_in_doubt ? CSNB_IN_DOUBT", "0 ? CSNB_IN_DOUBT", "Ibm.test_ended"),
     Edit("clients/c/csnb.c", "put_chain(chaining_vector, last);", "put_chain(chaining_vector, clear_text);", "Ibm.test_chaining"),
     Edit("clients/c/csnb.c", "memcmp(verification_pattern, value, 4) != 0", "0", "Ibm.test_check_values"),
@@ -221,15 +222,19 @@ class Ibm(Library):
         return csnb(verb, key, ctypes.byref(mutable(len(text))), text, *words_of(*words), chain, mac)
 
     def test_old(self):
-        """A key under the old master key is used, with return code 4; CSNBKTC brings its token over."""
+        """A key under the old master key is used, with a reason beside return code 0; CSNBKTC brings its token over."""
         self.begun()
         key, test = identifier(key_token(SINGLE, "DATA")), room(8)
         for words, part in ((("FIRST",), NEXT), (("LAST",), bytes(24)), (("SET",), None)):
             self.is_done(csnb("CSNBMKP", *words_of(*words), part))
         words = words_of("KEY-ENC", "GENERATE", "ENC-ZERO")
-        self.assertEqual(csnb("CSNBKYT", *words, key, room(8), test), (4, 10001))
+        self.assertEqual(csnb("CSNBKYT", *words, key, room(8), test), (0, 10001))
+        self.assertEqual(library().csnb_reason(0, 10001), b"done, with a key under the old master key")
         self.assertEqual(test.raw[:4].hex(), value(SINGLE))
-        self.assertEqual(csnb("CSNBKTC", *words_of("RTCMK"), key), (4, 10001))
+        verifier = identifier(key_token(SINGLE, "MACVER"))
+        for given, came in ((code(SINGLE, b"1")[1], (0, 10001)), (bytes(8), (4, 1))):
+            self.assertEqual(self.mac("CSNBMVR", verifier, b"1", ["MACLEN8"], None, given), came)
+        self.assertEqual(csnb("CSNBKTC", *words_of("RTCMK"), key), (0, 10001))
         self.assertEqual(key.raw.hex(), internal(NEXT, SINGLE, vector("DATA", 8)))
         self.is_done(csnb("CSNBKYT", *words, key, room(8), test))
         self.assertEqual(csnb("CSNBKTC", *words_of("RTCMK"), identifier("A")), (8, 105))
@@ -278,10 +283,13 @@ class Ibm(Library):
         self.assertIn(b"CCA_SOCKET", library().csnb_reason(12, 1))
 
     def test_verbs_are_all_called(self):
-        """These cases call each verb of csnb.h."""
-        text = (TOP / "tests" / "library_ibm.py").read_text()
+        """The other cases call each verb of csnb.h."""
+        called.clear()
+        for name in dir(self):
+            if name.startswith("test_") and name != self._testMethodName:
+                Ibm(name).run(unittest.TestResult())
         verbs = {name for name, *_ in declared("csnb.h") if name.startswith("CS")}
-        self.assertEqual({it for it in verbs if f'"{it}"' not in text}, set())
+        self.assertEqual(verbs - called, set())
         self.assertEqual(len(verbs), 22)
 
 
@@ -330,7 +338,7 @@ class Programs(Library):
 
 class Sanitized(Case):
     def test_sanitized(self):
-        sanitized(self, "library_ibm", [Ibm])
+        sanitized(self, "library_ibm", [Ibm], ["test_verbs_are_all_called"])
 
 
 class Planted(unittest.TestCase):

@@ -1,24 +1,19 @@
 """The package `cca` for Python: each verb by its name, compared with OpenSSL's answers; each rule's exception; data in segments; roles;
-threads and asyncio; restarts and replies that don't come; the socket of a front; and the module for tests."""
-import asyncio
+threads; restarts, replies that don't come and those that no request gets; and the module for tests. tests/python_connected.py has
+asyncio and the socket of a front."""
 import importlib.util
 import os
 import pickle
-import select
-import signal
-import socket
 import subprocess
 import sys
 import tempfile
-import threading
-import time
 import tomllib
 import types as kinds
 import unittest
 from concurrent.futures import ThreadPoolExecutor
 from pathlib import Path
 
-from tests.edits import CLIENTS, LIBRARIES, Edit, each_is_found
+from tests.edits import LIBRARIES, Edit, each_is_found
 from tests.formats import (
     as_part,
     blocks,
@@ -35,14 +30,12 @@ from tests.formats import (
     validation,
     value,
 )
-from tests.harness import TOP, Case, Fault
+from tests.harness import TOP, Case, Fault, limited
 from tests.keys import OTHER
 
 sys.path.insert(0, str(LIBRARIES / "python"))
 import cca as package  # noqa: E402
-from cca import AsyncCoprocessor, AsyncSocket, Coprocessor, Ended, Label, Refused, Socket, Token, Unexpected  # noqa: E402
-from cca import testing  # noqa: E402
-from cca.coprocessor import is_ready  # noqa: E402
+from cca import Coprocessor, Ended, Label, Refused, Token, Unexpected, testing  # noqa: E402
 from cca.lines import fields_of, request_line  # noqa: E402
 from cca.rows import POINTS, ROWS, RULES  # noqa: E402
 
@@ -59,12 +52,10 @@ EDITS = [
     Edit("clients/python/cca/verbs.py", "            self._drop()\n            raise", "            raise", "Steps.test_unfitting"),
     Edit("clients/python/cca/lines.py", "        if fault:\n            raise ValueError", "        if False:\n            raise ValueError", "Steps.test_values"),
     Edit("clients/python/cca/lines.py", "len(pairs) != len(wanted)", "False", "Steps.test_unfitting"),
-    Edit("clients/python/cca/coprocessor.py", 'or reply.count(b"\\n") > 1', "", "Connected.test_out_of_step"),
-    Edit("clients/python/cca/coprocessor.py", "if len(reply) >= LONGEST_REPLY:", "if False:", "Connected.test_out_of_step"),
-    Edit("clients/python/cca/coprocessor.py", "if self.connection and is_ready(", "if False and is_ready(", "Connected.test_ended_while_silent"),
-    Edit("clients/python/cca/coprocessor.py", "        with self.own_turn():\n            connection = self._connected()", "        if True:\n            connection = self._connected()", "Connected.test_threads"),
-    Edit("clients/python/cca/coprocessor.py", "                self._close()\n                error.add_note", "                error.add_note", "Connected.test_exception_in_the_midst"),
-    Edit("clients/python/cca/asynchronous.py", "run_in_executor(self.worker, ", "run_in_executor(None, ", "Waiting.test_order"),
+    Edit("clients/python/cca/lines.py", "if not values.keys() <= wanted", "if False and not values.keys() <= wanted", "Steps.test_arguments"),
+    Edit("clients/python/cca/verbs.py", "or len(digits) // 2 not in sizes", "", "Steps.test_unfitting"),
+    Edit("clients/python/cca/verbs.py", 'found.get("stored") == to', '"stored" in found', "Steps.test_unfitting"),
+    Edit("clients/python/cca/testing.py", "    must_be_new(folder)\n    with Coprocessor(folder, audit", "    with Coprocessor(folder, audit", "Tests.test_folder_in_use"),
 ]  # fmt: skip
 STUB = TOP / "tests" / "stub" / "cca"
 IV = bytes.fromhex("1234567890abcdef")
@@ -85,8 +76,7 @@ class Library(Case):
 
     def setUp(self):
         super().setUp()
-        signal.alarm(200)
-        self.addCleanup(signal.alarm, 0)
+        limited(self, 200)
         template = self.shared / "template"
         if not template.exists():
             template.mkdir()
@@ -435,7 +425,8 @@ class Steps(Library):
             (ValueError, "is wanted", self.cca.key_generate, "OP", 24, "DATA"),
             (ValueError, "can't be removed", self.cca.role_remove, "DEFAULT"),
             (ValueError, "no access control point", self.cca.role_define, "A", 1 << 30),
-            (KeyError, "NONE", self.cca.role_define, "A", ["NONE"]),
+            (ValueError, "no access control point is called NONE", self.cca.role_define, "A", ["NONE", "ENC"]),
+            (ValueError, "no row is called csnbpin", self.cca.request, "csnbpin"),
             (ValueError, "48 are wanted", self.cca.master_key_process, "FIRST", bytes(23)),
             (ValueError, "name of a role", self.cca.as_role("a role").random),
             (TypeError, "Label", self.cca.key_test, "TEST.DATA"),
@@ -447,13 +438,51 @@ class Steps(Library):
                 call(*given)
         self.assertEqual(asked, [])
 
+    def test_arguments(self):
+        """An argument that a form doesn't have, or lacks: nothing is sent."""
+        asked = []
+        self.cca.ask = asked.append
+        calls = [
+            ("to isn't taken", self.cca.key_generate, "EXEX", 8, "MAC", "MACVER", EXPORTER, EXPORTER, "NEW"),
+            ("transport2 isn't taken, type2 isn't taken", self.cca.key_generate, "OP", 8, "MAC", "MACVER", None, EXPORTER),
+            ("transport2 is missing, type2 is missing", self.cca.key_generate, "OPEX", 8, "DATA"),
+            ("part isn't taken", self.cca.master_key_process, "CLEAR", bytes(24)),
+            ("part is missing", self.cca.master_key_process, "FIRST"),
+            ("key isn't taken", self.cca.key_part_import, "FIRST", SINGLE, "DATA", DATA),
+            ("type isn't taken", self.cca.key_part_import, "LAST", SINGLE, "DATA", DATA),
+            ("type is missing", self.cca.key_part_import, "FIRST", SINGLE),
+            ("action isn't taken", self.cca.reencipher, "ALL"),
+        ]
+        for tells, call, *given in calls:
+            with self.subTest(tells), self.assertRaisesRegex(TypeError, tells):
+                call(*given)
+        self.assertEqual(asked, [])
+
     def test_unfitting(self):
         """A reply that no such request gets: the program is ended, and started again."""
         asked = self.cca.ask
+        digits = internal(testing.MASTER_KEY, SINGLE, types()["DATA"][8])
         calls = [
             ("OK mac=00000000", self.cca.encipher, DATA, bytes(8), IV),
             ("OK text=zz", self.cca.encipher, DATA, bytes(8), IV),
+            ("OK text=", self.cca.encipher, DATA, bytes(8), IV),
+            (f"OK text={'00' * 8}", self.cca.encipher, DATA, bytes(8), IV, "X9.23"),
+            (f"OK text={'00' * 8}", self.cca.decipher, DATA, bytes(8), IV, "X9.23"),
             ("OK text=00 chain=00", self.cca.encipher, DATA, bytes(8), IV),
+            ("OK chain=00", self.cca.mac_generate, Label("TEST.MAC"), bytes(5000)),
+            ("OK mac=00", self.cca.mac_generate, Label("TEST.MAC"), b"1", "X9.9-1", 8),
+            ("OK value=zz", self.cca.key_test, DATA),
+            ("OK value=00", self.cca.key_test, DATA),
+            ("OK random=00", self.cca.random),
+            ("OK random=00 00 00 00", self.cca.random),
+            ("OK token=00", self.cca.key_export, DATA, EXPORTER),
+            (f"OK token={digits} stored=A", self.cca.key_export, DATA, EXPORTER),
+            ("OK stored=OTHER", self.cca.clear_key_import, SINGLE, "PAY"),
+            ("OK stored=OTHER", self.cca.clear_key_import, SINGLE),
+            (f"OK token={digits}", self.cca.clear_key_import, SINGLE, "PAY"),
+            (f"OK token1={digits} token2=00", self.cca.key_generate, "OPEX", 8, "DATA", "DATA", None, EXPORTER),
+            (f"OK kind=internal class=DATA length=8 vector=00 pattern={'00' * 8}", self.cca.token_parse, bytes.fromhex(digits)),
+            (f"OK kind=inner class=DATA length=8 vector={'00' * 8} pattern={'00' * 8}", self.cca.token_parse, bytes.fromhex(digits)),
             ("OK", self.cca.random),
             ("OK match=maybe", self.cca.mac_verify, DATA, b"1", bytes(4)),
             ("OK new=half", self.cca.master_key_process, "CLEAR"),
@@ -468,8 +497,7 @@ class Steps(Library):
                     call(*given)
                 self.cca.ask = asked
                 self.assertEqual(self.cca.key_test(DATA).hex(), value(SINGLE))
-                if reply != "OK text=zz":
-                    self.assertNotEqual(self.cca.process.child.pid, before)
+                self.assertNotEqual(self.cca.process.child.pid, before)
 
     def test_killed(self):
         self.cca.key_test(DATA)
@@ -479,6 +507,10 @@ class Steps(Library):
             self.cca.key_test(DATA)
         self.assertEqual((raised.exception.status, raised.exception.in_doubt), (-9, False))
         self.assertEqual(self.cca.key_test(DATA).hex(), value(SINGLE))
+
+    def test_no_program(self):
+        with self.assertRaises(FileNotFoundError):
+            Coprocessor(self.folder, program="/nowhere/cca").random()
 
     def test_damaged(self):
         self.cca.close()
@@ -525,220 +557,6 @@ class Steps(Library):
             self.assertTrue(f'"{row}"' in verbs or row.rpartition("_")[0] in ("csnbenc", "csnbdec", "csnbmgn", "csnbmvr"), row)
 
 
-class Waiting(Library):
-    """The verbs for asyncio."""
-
-    def test_verbs(self):
-        async def asks():
-            async with AsyncCoprocessor(self.folder, program=self.program.path) as it:
-                data = bytes(5000)
-                came = await asyncio.gather(
-                    it.encipher(DATA, data, IV), it.key_test(DATA_16), it.as_role("TELLER").key_test(DATA), it.random(form="ODD")
-                )
-                self.assertEqual(came[:3], [chained(SINGLE, IV, data), bytes.fromhex(value(DOUBLE)), bytes.fromhex(value(SINGLE))])
-                with self.assertRaises(Refused):
-                    await it.as_role("NOTHING").random()
-                return await it.ask("x")
-
-        self.cca.close()
-        self.assertEqual(asyncio.run(asks()), "NO 01 -")
-
-    def test_order(self):
-        """A task that stops waiting: the request goes on to its reply, and the next one gets its own."""
-        async def asks():
-            async with AsyncCoprocessor(self.folder, program=STUB) as it:
-                self.assertEqual(await it.ask("A role=B K0"), "OK value=role=B,K0")
-                with self.assertRaises(TimeoutError):
-                    async with asyncio.timeout(0.3):
-                        await it.ask("A role=B stub=waits5000 K1")
-                replies = await asyncio.gather(*[it.ask(f"A role=B K{number}") for number in range(2, 50)])
-                self.assertEqual(replies, [f"OK value=role=B,K{number}" for number in range(2, 50)])
-                # Requests were asked by one thread, in their order.
-                self.assertEqual(len(it.worker._threads), 1)
-                carried = (self.folder / "carried").read_text().split()
-                self.assertEqual([it for it in carried if it[0] == "K"], [f"K{number}" for number in range(50)])
-
-        asyncio.run(asks())
-
-
-class Peer:
-    """What stands for a front: it answers each line with a value of its own, and does what the line says besides."""
-
-    def __init__(self, path):
-        self.listener = socket.socket(socket.AF_UNIX)
-        self.listener.bind(str(path))
-        self.listener.listen(8)
-        self.connections, self.lines = 0, []
-        threading.Thread(target=self.serve, daemon=True).start()
-
-    def serve(self):
-        while True:
-            try:
-                connection = self.listener.accept()[0]
-            except OSError:
-                return
-            self.connections += 1
-            threading.Thread(target=self.answer, args=(connection,), daemon=True).start()
-
-    def answer(self, connection):
-        with connection, connection.makefile("rb") as lines:
-            for line in lines:
-                self.lines.append(line)
-                words = line.split()
-                reply = b"OK value=" + words[-1] + b"\n"
-                try:
-                    if not self.sent(connection, reply, words[1].decode()):
-                        return
-                except OSError:
-                    return
-
-    def sent(self, connection, reply, how):
-        """Answers; whether the connection goes on."""
-        if how.startswith("waits"):
-            time.sleep(int(how[5:]) / 1000)
-        if how == "endless":
-            while True:
-                connection.sendall(b"OK" * 9000)
-        connection.sendall({"half": reply[:4], "twice": reply * 2, "none": b""}.get(how, reply))
-        return how not in ("ends", "none", "half")
-
-
-class Connected(Case):
-    """The socket of a front."""
-
-    def setUp(self):
-        super().setUp()
-        signal.alarm(200)
-        self.addCleanup(signal.alarm, 0)
-        self.path = self.folder / "front"
-        self.peer = Peer(self.path)
-        self.addCleanup(self.peer.listener.close)
-        self.socket = Socket(self.path, patience=60.0)
-        self.addCleanup(self.socket.close)
-
-    def is_in_step(self):
-        for number in range(3):
-            self.assertEqual(self.socket.ask(f"A - K{number}"), f"OK value=K{number}")
-
-    def test_asked(self):
-        self.is_in_step()
-        self.assertEqual(self.peer.connections, 1)
-        with self.assertRaises(ValueError):
-            self.socket.ask("A - K\nA - L")
-        self.is_in_step()
-
-    def test_out_of_step(self):
-        ended, more = "the front ended the connection", "what it wasn't asked|more than it was asked"
-        for how, tells in (("half", ended), ("none", ended), ("twice", more), ("endless", "a reply without an end")):
-            with self.subTest(how):
-                self.is_in_step()
-                self.socket.patience = 20.0
-                with self.assertRaisesRegex(Ended, tells) as raised:
-                    self.socket.ask(f"A {how} X")
-                    time.sleep(0.5)  # where both replies didn't come at once
-                    self.socket.ask("A - Y")
-                self.assertIsNone(raised.exception.status)
-                self.socket.patience = 60.0
-                self.is_in_step()
-
-    def test_no_reply_in_time(self):
-        self.is_in_step()
-        self.socket.patience = 2.0
-        with self.assertRaises(Ended) as raised:
-            self.socket.ask("A waits20000 X")
-        self.assertTrue(raised.exception.in_doubt)
-        self.socket.patience = 60.0
-        self.is_in_step()
-
-    def test_ended_while_silent(self):
-        """A front ends connections that are silent: the next request connects again, and isn't in doubt."""
-        self.assertEqual(self.socket.ask("A ends X"), "OK value=X")
-        self.assertTrue(is_ready(self.socket.connection, select.POLLIN, 60.0))
-        self.is_in_step()
-        self.assertEqual(self.peer.connections, 2)
-
-    def test_exception_in_the_midst(self):
-        def late(*_):
-            raise TimeoutError("the caller's own")
-
-        signal.signal(signal.SIGUSR1, late)
-        signal.signal(signal.SIGINT, signal.default_int_handler)
-        for kind, number in ((TimeoutError, signal.SIGUSR1), (KeyboardInterrupt, signal.SIGINT)):
-            self.is_in_step()
-            threading.Timer(0.5, os.kill, (os.getpid(), number)).start()
-            with self.assertRaises(kind) as raised:
-                self.socket.ask("A waits5000 X")
-            self.assertIn("may have been carried out", " ".join(raised.exception.__notes__))
-            self.is_in_step()
-
-    def test_threads(self):
-        self.socket.patience, wrong = 20.0, []
-
-        def asks(thread):
-            for turn in range(50):
-                if wrong:
-                    return
-                try:
-                    reply = self.socket.ask(f"A - {thread}.{turn}")
-                except Exception as error:  # noqa: BLE001: a thread's error would be unseen
-                    reply = repr(error)
-                if reply != f"OK value={thread}.{turn}":
-                    wrong.append(reply)
-
-        threads = [threading.Thread(target=asks, args=(it,)) for it in range(8)]
-        for it in threads:
-            it.start()
-        for it in threads:
-            it.join()
-        self.assertEqual(wrong[:3], [])
-
-    def test_no_front(self):
-        """Nothing listens: an error of the connection, since nothing was sent."""
-        with self.assertRaises(FileNotFoundError):
-            Socket(self.folder / "none").ask("A - K")
-        with self.assertRaises(ValueError):
-            self.socket.as_role("TELLER")
-
-    def test_asyncio(self):
-        async def asks():
-            async with AsyncSocket(self.path, patience=60.0) as it:
-                return await asyncio.gather(*[it.ask(f"A - K{number}") for number in range(20)])
-
-        self.assertEqual(asyncio.run(asks()), [f"OK value=K{number}" for number in range(20)])
-
-
-class Fronted(Library):
-    """The verbs by a real front."""
-
-    def waits_for(self, path):
-        """Waits until the front listens at a socket."""
-        until = time.monotonic() + 100
-        while True:
-            try:
-                with Socket(path) as it:
-                    return self.assertEqual(it.ask(""), "NO 01 -")
-            except (FileNotFoundError, ConnectionRefusedError):
-                self.assertLess(time.monotonic(), until)
-                time.sleep(0.1)
-
-    def test_roles(self):
-        self.cca.close()
-        paths = {role: self.folder / role for role in ("TELLER", "OFFICER")}
-        words = [sys.executable, "-B", CLIENTS / "front.py", self.folder, *[f"{path}={role}" for role, path in paths.items()]]
-        front = subprocess.Popen(words, env={**os.environ, "CCA": self.program.path}, stderr=subprocess.DEVNULL)
-        self.addCleanup(front.wait)
-        self.addCleanup(front.kill)
-        for path in paths.values():
-            self.waits_for(path)
-        with Socket(paths["TELLER"]) as teller, Socket(paths["OFFICER"]) as officer:
-            data = bytes(9000)
-            self.assertEqual(teller.encipher(DATA, data, IV), chained(SINGLE, IV, data))
-            self.refused(4, "-", officer.encipher, DATA, data, IV)
-            officer.record_create("NEW")
-            self.assertEqual(officer.clear_key_import(SINGLE, to="NEW"), Label("NEW"))
-            self.assertEqual(teller.key_test(Label("NEW")).hex(), value(SINGLE))
-
-
 class Tests(Library):
     """The module for tests, and its fixture."""
 
@@ -748,6 +566,19 @@ class Tests(Library):
             self.assertEqual(it.cca.key_test(DATA).hex(), value(SINGLE))
             self.assertEqual(it.cca.record_list(), sorted(it.keys))
         self.assertFalse(folder.exists())
+
+    def test_folder_in_use(self):
+        """A folder that holds another module, or a part of one: nothing is changed."""
+        for name in ("cca.module", "cca.store", "cca.trail"):
+            folder = self.folder / f"has {name}"
+            folder.mkdir()
+            (folder / name).write_bytes(b"held")
+            for template in (None, self.shared / "template"):
+                with self.assertRaises(FileExistsError), testing.module(folder, template=template, program=self.program.path):
+                    pass
+            with self.assertRaises(FileExistsError):
+                testing.make_template(folder, self.program.path)
+            self.assertEqual([(it.name, it.read_bytes()) for it in folder.iterdir()], [(name, b"held")])
 
     def test_fixture(self):
         """The functions of the fixture, by what stands for pytest."""

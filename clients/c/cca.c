@@ -65,34 +65,40 @@ void cca_tell(const struct cca_result *it, char *text, size_t size)
 
 /* ---- master keys and roles */
 
+/* The reply to a request about the new master key: the state of its register. */
+static struct cca_result master_key_end(struct exchange *x)
+{
+    static const char *const states[] = {"empty", "partial", "full", NULL};
+    exchange_ask(x);
+    exchange_get_word(x, "new", states);
+    return exchange_end(x);
+}
+
 struct cca_result cca_master_key_part(struct cca *it, const char *action, const unsigned char part[24])
 {
     struct exchange x;
     exchange_begin(&x, it, "CSNBMKP");
     exchange_put_text(&x, "action", action);
     exchange_put_hex(&x, "part", part, 24);
-    exchange_ask(&x, it);
-    return exchange_end(&x);
+    return master_key_end(&x);
 }
 
-/* A request with one field, or none, and a reply without a field that is asked for. */
-static struct cca_result plain(struct cca *it, const char *verb, const char *name, const char *text)
+static struct cca_result master_key_without_part(struct cca *it, const char *action)
 {
     struct exchange x;
-    exchange_begin(&x, it, verb);
-    exchange_put_text(&x, name, text);
-    exchange_ask(&x, it);
-    return exchange_end(&x);
+    exchange_begin(&x, it, "CSNBMKP");
+    exchange_put_text(&x, "action", action);
+    return master_key_end(&x);
 }
 
 struct cca_result cca_master_key_clear(struct cca *it)
 {
-    return plain(it, "CSNBMKP", "action", "CLEAR");
+    return master_key_without_part(it, "CLEAR");
 }
 
 struct cca_result cca_master_key_set(struct cca *it)
 {
-    return plain(it, "CSNBMKP", "action", "SET");
+    return master_key_without_part(it, "SET");
 }
 
 struct cca_result cca_role_define(struct cca *it, const char *name, uint32_t points)
@@ -104,7 +110,7 @@ struct cca_result cca_role_define(struct cca *it, const char *name, uint32_t poi
     exchange_put_text(&x, "action", "DEFINE");
     exchange_put_text(&x, "name", name);
     exchange_put_text(&x, "points", digits);
-    exchange_ask(&x, it);
+    exchange_ask(&x);
     return exchange_end(&x);
 }
 
@@ -114,7 +120,7 @@ struct cca_result cca_role_remove(struct cca *it, const char *name)
     exchange_begin(&x, it, "CSUAACI");
     exchange_put_text(&x, "action", "REMOVE");
     exchange_put_text(&x, "name", name);
-    exchange_ask(&x, it);
+    exchange_ask(&x);
     return exchange_end(&x);
 }
 
@@ -124,16 +130,26 @@ struct cca_result cca_reencipher(struct cca *it, const char *action, int *change
     exchange_begin(&x, it, "REENCIPHER");
     if (action)
         exchange_put_text(&x, "action", action);
-    exchange_ask(&x, it);
+    exchange_ask(&x);
     exchange_get_number(&x, "changed", changed);
     return exchange_end(&x);
 }
 
 /* ---- key storage */
 
+/* A request with a label alone, and a reply without a field. */
+static struct cca_result of_label(struct cca *it, const char *verb, const char *label)
+{
+    struct exchange x;
+    exchange_begin(&x, it, verb);
+    exchange_put_text(&x, "label", label);
+    exchange_ask(&x);
+    return exchange_end(&x);
+}
+
 struct cca_result cca_record_create(struct cca *it, const char *label)
 {
-    return plain(it, "CSNBKRC", "label", label);
+    return of_label(it, "CSNBKRC", label);
 }
 
 struct cca_result cca_record_write(struct cca *it, const char *label, const unsigned char *token)
@@ -142,7 +158,7 @@ struct cca_result cca_record_write(struct cca *it, const char *label, const unsi
     exchange_begin(&x, it, "CSNBKRW");
     exchange_put_text(&x, "label", label);
     exchange_put_hex(&x, "token", token, CCA_TOKEN_SIZE);
-    exchange_ask(&x, it);
+    exchange_ask(&x);
     return exchange_end(&x);
 }
 
@@ -151,26 +167,41 @@ struct cca_result cca_record_read(struct cca *it, const char *label, unsigned ch
     struct exchange x;
     exchange_begin(&x, it, "CSNBKRR");
     exchange_put_text(&x, "label", label);
-    exchange_ask(&x, it);
+    exchange_ask(&x);
     exchange_get_hex(&x, "token", token, CCA_TOKEN_SIZE);
     return exchange_end(&x);
 }
 
 struct cca_result cca_record_delete(struct cca *it, const char *label)
 {
-    return plain(it, "CSNBKRD", "label", label);
+    return of_label(it, "CSNBKRD", label);
+}
+
+static int count_labels(const char *labels)
+{
+    int count = labels[0] != '\0';
+    while ((labels = strchr(labels, ',')) != NULL) {
+        labels++;
+        count++;
+    }
+    return count;
 }
 
 struct cca_result cca_record_list(struct cca *it, const char *prefix, char labels[CCA_LABELS_SIZE], int *count)
 {
     struct exchange x;
+    int told = 0;
     exchange_begin(&x, it, "CSNBKRL");
     exchange_put_text(&x, "prefix", prefix);
     x.reply = labels; /* which the list is then taken out of */
     x.reply_size = CCA_LABELS_SIZE;
-    exchange_ask(&x, it);
-    exchange_get_number(&x, "count", count);
+    exchange_ask(&x);
+    exchange_get_number(&x, "count", &told);
     exchange_get_text(&x, "labels", labels, CCA_LABELS_SIZE);
+    if (x.result.outcome == CCA_DONE && count_labels(labels) != told)
+        exchange_doubt(&x);
+    if (x.result.outcome == CCA_DONE && count)
+        *count = told;
     return exchange_end(&x);
 }
 
@@ -182,7 +213,7 @@ struct cca_result cca_clear_key_import(struct cca *it, const unsigned char clear
     exchange_begin(&x, it, "CSNBCKI");
     exchange_put_hex(&x, "clear", clear, 8);
     exchange_put_to(&x, to, token);
-    exchange_ask(&x, it);
+    exchange_ask(&x);
     exchange_get_made(&x, "token", to, token);
     return exchange_end(&x);
 }
@@ -211,7 +242,7 @@ struct cca_result cca_key_generate(struct cca *it, const struct cca_generation *
         exchange_put_to(&x, to, token1);
     if ((is_out && !token1) || (what->type2 && !token2))
         exchange_refuse(&x, "no place for a token is given");
-    exchange_ask(&x, it);
+    exchange_ask(&x);
     exchange_get_made(&x, "token1", is_out ? NULL : to, token1);
     if (what->type2)
         exchange_get_hex(&x, "token2", token2, CCA_TOKEN_SIZE);
@@ -227,7 +258,7 @@ struct cca_result cca_key_part_first(struct cca *it, const char *type, const uns
     exchange_put_text(&x, "type", type);
     exchange_put_hex(&x, "part", part, length);
     exchange_put_to(&x, to, token);
-    exchange_ask(&x, it);
+    exchange_ask(&x);
     exchange_get_made(&x, "token", to, token);
     return exchange_end(&x);
 }
@@ -241,7 +272,7 @@ struct cca_result cca_key_part_next(struct cca *it, const char *rule, struct cca
     exchange_put_key(&x, "key", key);
     exchange_put_hex(&x, "part", part, length);
     exchange_put_to(&x, to, token);
-    exchange_ask(&x, it);
+    exchange_ask(&x);
     exchange_get_made(&x, "token", to, token);
     return exchange_end(&x);
 }
@@ -252,7 +283,7 @@ struct cca_result cca_key_export(struct cca *it, struct cca_key key, struct cca_
     exchange_begin(&x, it, "CSNBKEX");
     exchange_put_key(&x, "key", key);
     exchange_put_key(&x, "transport", transport);
-    exchange_ask(&x, it);
+    exchange_ask(&x);
     exchange_get_hex(&x, "token", external, CCA_TOKEN_SIZE);
     return exchange_end(&x);
 }
@@ -265,7 +296,7 @@ struct cca_result cca_key_import(struct cca *it, const unsigned char *external, 
     exchange_put_hex(&x, "token", external, CCA_TOKEN_SIZE);
     exchange_put_key(&x, "transport", transport);
     exchange_put_to(&x, to, token);
-    exchange_ask(&x, it);
+    exchange_ask(&x);
     exchange_get_made(&x, "token", to, token);
     return exchange_end(&x);
 }
@@ -278,7 +309,7 @@ struct cca_result cca_key_translate(struct cca *it, const unsigned char *externa
     exchange_put_hex(&x, "token", external, CCA_TOKEN_SIZE);
     exchange_put_key(&x, "transport1", transport1);
     exchange_put_key(&x, "transport2", transport2);
-    exchange_ask(&x, it);
+    exchange_ask(&x);
     exchange_get_hex(&x, "token", translated, CCA_TOKEN_SIZE);
     return exchange_end(&x);
 }
@@ -289,7 +320,7 @@ struct cca_result cca_prohibit_export(struct cca *it, struct cca_key key, const 
     exchange_begin(&x, it, "CSNBPEX");
     exchange_put_key(&x, "key", key);
     exchange_put_to(&x, to, token);
-    exchange_ask(&x, it);
+    exchange_ask(&x);
     exchange_get_made(&x, "token", to, token);
     return exchange_end(&x);
 }
@@ -300,7 +331,7 @@ struct cca_result cca_token_change(struct cca *it, const char *rule, const unsig
     exchange_begin(&x, it, "CSNBKTC");
     exchange_put_text(&x, "rule", rule);
     exchange_put_hex(&x, "token", token, CCA_TOKEN_SIZE);
-    exchange_ask(&x, it);
+    exchange_ask(&x);
     exchange_get_hex(&x, "token", changed, CCA_TOKEN_SIZE);
     return exchange_end(&x);
 }
@@ -308,14 +339,17 @@ struct cca_result cca_token_change(struct cca *it, const char *rule, const unsig
 struct cca_result cca_token_parse(struct cca *it, const unsigned char *token, struct cca_parsed *parsed)
 {
     struct exchange x;
+    size_t size;
     memset(parsed, 0, sizeof *parsed);
     exchange_begin(&x, it, "CSNBKTP");
     exchange_put_hex(&x, "token", token, CCA_TOKEN_SIZE);
-    exchange_ask(&x, it);
+    exchange_ask(&x);
     exchange_get_text(&x, "kind", parsed->kind, sizeof parsed->kind);
     exchange_get_text(&x, "class", parsed->key_class, sizeof parsed->key_class);
     exchange_get_number(&x, "length", &parsed->length);
-    exchange_get_data(&x, "vector", parsed->vector, sizeof parsed->vector);
+    size = exchange_get_data(&x, "vector", parsed->vector, sizeof parsed->vector);
+    if ((size != 8 && size != 16) || size != (size_t)parsed->length)
+        exchange_doubt(&x);
     exchange_get_hex(&x, "pattern", parsed->pattern, sizeof parsed->pattern);
     return exchange_end(&x);
 }
@@ -325,7 +359,7 @@ struct cca_result cca_key_test(struct cca *it, struct cca_key key, unsigned char
     struct exchange x;
     exchange_begin(&x, it, "CSNBKYT");
     exchange_put_key(&x, "key", key);
-    exchange_ask(&x, it);
+    exchange_ask(&x);
     exchange_get_hex(&x, "value", value, 4);
     return exchange_end(&x);
 }
@@ -335,7 +369,7 @@ struct cca_result cca_random(struct cca *it, const char *form, unsigned char ran
     struct exchange x;
     exchange_begin(&x, it, "CSNBRNG");
     exchange_put_text(&x, "form", form);
-    exchange_ask(&x, it);
+    exchange_ask(&x);
     exchange_get_hex(&x, "random", random, 8);
     return exchange_end(&x);
 }

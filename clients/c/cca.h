@@ -31,7 +31,7 @@ struct cca {
 enum cca_outcome {
     CCA_DONE,      /* it was carried out */
     CCA_REFUSED,   /* a rule refused it, and nothing was changed */
-    CCA_ENDED,     /* no reply came: is_in_doubt says what that means */
+    CCA_ENDED,     /* no reply came, or one that the request can't have: is_in_doubt says what that means */
     CCA_UNSAYABLE  /* an argument fits no request: nothing was sent */
 };
 

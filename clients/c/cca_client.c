@@ -8,13 +8,51 @@
 #include <fcntl.h>
 #include <poll.h>
 #include <signal.h>
+#include <stdlib.h>
 #include <string.h>
 #include <sys/socket.h>
+#include <sys/syscall.h>
 #include <sys/time.h>
 #include <sys/un.h>
 #include <sys/wait.h>
 #include <time.h>
 #include <unistd.h>
+
+/* The pipes to each cca that runs. A child that this program forks closes them: cca would else not see the end of its input. */
+struct cca_pipes {
+    int to, from;
+    struct cca_pipes *next;
+};
+
+static struct cca_pipes *running;
+static pthread_mutex_t running_turn = PTHREAD_MUTEX_INITIALIZER;
+
+static void before_fork(void)
+{
+    pthread_mutex_lock(&running_turn);
+}
+
+static void in_parent(void)
+{
+    pthread_mutex_unlock(&running_turn);
+}
+
+static void in_child(void)
+{
+    const struct cca_pipes *it;
+    for (it = running; it; it = it->next) {
+        if (it->to >= 0)
+            close(it->to);
+        close(it->from);
+    }
+    running = NULL;
+    pthread_mutex_unlock(&running_turn);
+}
+
+static void heed_forks(void)
+{
+    pthread_atfork(before_fork, in_parent, in_child);
+}
 
 /* A descriptor above those of the standard streams, which goes to no program that is started. */
 static int above_streams(int file)
@@ -37,40 +75,101 @@ static int make_pipe(int ends[2])
     return -1;
 }
 
-/* The child: cca in its folder, with signals as a program expects them. */
+/* Closes every descriptor but the standard streams: a program that is started gets none of ours. */
+static void close_others(void)
+{
+    long file = STDERR_FILENO + 1, most = sysconf(_SC_OPEN_MAX);
+#ifdef SYS_close_range
+    if (syscall(SYS_close_range, (unsigned)file, ~0U, 0U) == 0)
+        return;
+#endif
+    for (; file < most; file++)
+        close((int)file);
+}
+
+/* The child: cca in its folder, with signals as a program expects them, and in a session of its own, so that Ctrl-C at the
+   terminal stops the program that asks, and cca ends its request. */
 static void become(const struct cca_client *it, int input, int output)
 {
     sigset_t none;
     sigemptyset(&none);
     signal(SIGPIPE, SIG_DFL);
     sigprocmask(SIG_SETMASK, &none, NULL);
-    if (dup2(input, STDIN_FILENO) >= 0 && dup2(output, STDOUT_FILENO) >= 0 && chdir(it->folder) == 0)
+    setsid();
+    if (dup2(input, STDIN_FILENO) >= 0 && dup2(output, STDOUT_FILENO) >= 0 && chdir(it->folder) == 0) {
+        close_others();
         execlp(it->program, it->program, it->command, (char *)NULL);
+    }
     _exit(127);
+}
+
+/* Makes both pipes, and notes our ends of them. THEIRS are the others: the input and the output of cca. */
+static int make_pipes(struct cca_client *it, int theirs[2])
+{
+    int down[2], up[2];
+    struct cca_pipes *pipes = malloc(sizeof *pipes);
+    if (!pipes || make_pipe(down) != 0) {
+        free(pipes);
+        return -1;
+    }
+    if (make_pipe(up) != 0) {
+        close(down[0]);
+        close(down[1]);
+        free(pipes);
+        return -1;
+    }
+    theirs[0] = down[0];
+    theirs[1] = up[1];
+    pipes->to = down[1];
+    pipes->from = up[0];
+    pthread_mutex_lock(&running_turn);
+    pipes->next = running;
+    running = it->pipes = pipes;
+    pthread_mutex_unlock(&running_turn);
+    return 0;
+}
+
+/* Ends the input of cca, at which it ends. */
+static void end_input(struct cca_client *it)
+{
+    pthread_mutex_lock(&running_turn);
+    if (it->pipes->to >= 0)
+        close(it->pipes->to);
+    it->pipes->to = -1;
+    pthread_mutex_unlock(&running_turn);
+}
+
+/* Closes our ends of both pipes. */
+static void close_pipes(struct cca_client *it)
+{
+    struct cca_pipes **at = &running;
+    end_input(it);
+    pthread_mutex_lock(&running_turn);
+    while (*at != it->pipes)
+        at = &(*at)->next;
+    *at = it->pipes->next;
+    close(it->pipes->from);
+    free(it->pipes);
+    it->pipes = NULL;
+    pthread_mutex_unlock(&running_turn);
 }
 
 static int start(struct cca_client *it)
 {
-    int down[2], up[2];
-    if (make_pipe(down) != 0)
+    int theirs[2];
+    if (make_pipes(it, theirs) != 0)
         return -1;
-    if (make_pipe(up) != 0) {
-        close(down[0]);
-        close(down[1]);
-        return -1;
-    }
     it->pid = fork();
     if (it->pid == 0)
-        become(it, down[0], up[1]);
-    close(down[0]);
-    close(up[1]);
-    it->to = down[1];
-    it->from = up[0];
+        become(it, theirs[0], theirs[1]);
+    close(theirs[0]);
+    close(theirs[1]);
+    it->to = it->pipes->to;
+    it->from = it->pipes->from;
     if (it->pid > 0)
         return 0;
     it->pid = 0;
-    close(it->to);
-    close(it->from);
+    close_pipes(it);
     return -1;
 }
 
@@ -105,24 +204,31 @@ static void leave(struct cca_client *it)
     it->is_connected = 0;
 }
 
-/* Waits for the process, and kills it where it doesn't end in time. Notes how it ended. Its input stays open until then: it
-   would carry out half a request at its end. */
-static int reap(struct cca_client *it, int seconds)
+/* Waits for a process, and kills it where it doesn't end in time. How it ended. */
+static int wait_for(pid_t pid, int seconds)
 {
     const struct timespec while_it_ends = {0, 10000000};
     int status = 0, waits = seconds * 100;
     pid_t ended = 0;
-    while (waits-- > 0 && (ended = waitpid(it->pid, &status, WNOHANG)) == 0)
+    while (waits-- > 0 && (ended = waitpid(pid, &status, WNOHANG)) == 0)
         nanosleep(&while_it_ends, NULL);
     if (ended == 0) {
-        kill(it->pid, SIGKILL);
-        while (waitpid(it->pid, &status, 0) < 0 && errno == EINTR)
+        if (kill(-pid, SIGKILL) != 0) /* with what it has started, where it is a script */
+            kill(pid, SIGKILL);
+        while ((ended = waitpid(pid, &status, 0)) < 0 && errno == EINTR)
             ;
     }
+    if (ended < 0)
+        return CCA_UNKNOWN;
+    return WIFEXITED(status) ? WEXITSTATUS(status) : 128 + WTERMSIG(status);
+}
+
+/* Waits for cca, and notes how it ended. Its input stays open until then: it would carry out half a request at its end. */
+static int reap(struct cca_client *it, int seconds)
+{
+    it->status = wait_for(it->pid, seconds);
     it->pid = 0;
-    close(it->to);
-    close(it->from);
-    it->status = WIFEXITED(status) ? WEXITSTATUS(status) : 128 + WTERMSIG(status);
+    close_pipes(it);
     return it->status;
 }
 
@@ -245,6 +351,8 @@ static enum cca_answer ask(struct cca_client *it, const char *request, size_t le
 
 void cca_init(struct cca_client *it, const char *folder, const char *program, const char *command)
 {
+    static pthread_once_t once = PTHREAD_ONCE_INIT;
+    pthread_once(&once, heed_forks);
     memset(it, 0, sizeof *it);
     it->folder = folder;
     it->program = program;
@@ -288,10 +396,23 @@ int cca_stop(struct cca_client *it)
     if (it->is_connected)
         leave(it);
     if (it->pid != 0) {
-        close(it->to); /* cca ends once it has answered */
-        it->to = -1;
+        end_input(it); /* cca ends once it has answered */
         status = reap(it, it->patience);
     }
+    pthread_mutex_unlock(&it->turn);
+    return status;
+}
+
+int cca_drop(struct cca_client *it)
+{
+    int status = 0;
+    if (it->owner != getpid())
+        return 0;
+    pthread_mutex_lock(&it->turn);
+    if (it->is_connected)
+        leave(it);
+    if (it->pid != 0)
+        status = reap(it, 0);
     pthread_mutex_unlock(&it->turn);
     return status;
 }
@@ -299,7 +420,7 @@ int cca_stop(struct cca_client *it)
 int cca_look_first(int status)
 {
     switch (status) {
-    case 2: case 3: case 6: case 7: case 11: case 13: case 14: case 15: case 17: case 127:
+    case 2: case 3: case 6: case 7: case 11: case 13: case 14: case 15: case 17: case 127: case CCA_UNKNOWN:
         return 1;
     }
     return 0;

@@ -11,6 +11,7 @@
 #include <sys/types.h>
 
 #define CCA_REPLY_SIZE 66581 /* bytes of the longest reply, with its newline */
+#define CCA_UNKNOWN 128      /* a status that nobody can tell: this program ignores SIGCHLD, or waits for cca itself */
 
 enum cca_answer {
     CCA_REPLY,      /* a whole reply has come */
@@ -23,10 +24,11 @@ struct cca_client {
     const char *folder, *program, *command; /* the command is "run" or "audit" */
     const char *socket;                     /* of a front, in place of these three */
     int patience;                           /* seconds for a reply */
-    int status;                             /* how cca ended: its exit status, or 128 and the number of a signal */
+    int status;                             /* how cca ended: its exit status, 128 and the number of a signal, or CCA_UNKNOWN */
     pid_t owner, pid;                       /* the process that may ask; cca's, or 0 where it isn't running */
     int is_connected;                       /* to the socket */
     int to, from;
+    struct cca_pipes *pipes;                /* of a process */
     pthread_mutex_t turn;
 };
 
@@ -47,6 +49,9 @@ enum cca_answer cca_ask_short(struct cca_client *it, const char *request, size_t
 
 /* Ends the input and waits for cca, or closes the connection. Its status, or 0 where it isn't running. */
 int cca_stop(struct cca_client *it);
+
+/* Kills cca, or closes the connection: for a reply that its request can't have. The status, or 0 where it isn't running. */
+int cca_drop(struct cca_client *it);
 
 /* Whether someone should look at the files before cca is started again: docs/OPERATING.md says how. */
 int cca_look_first(int status);

@@ -196,7 +196,6 @@ void SECURITYAPI CSNBKEX(CSNB_FIRST_FOUR, unsigned char *key_type, unsigned char
     if (call_ready(&it))
         call_came(&it, cca_key_export(it.cca, key.key, exporter.key, external));
     if (it.is_done && !is_of_type(key_type, external)) { /* the key of a label is known by its token alone */
-        it.code = 0;
         call_fault(&it, CSNB_KEY_TYPE);
     } else if (it.is_done) {
         memcpy(target_key_token, external, sizeof external);

@@ -20,9 +20,11 @@
 #define SECURITYAPI
 #endif
 
-/* Return code 4, by reason. */
-#define CSNB_MISMATCH 1    /* the MAC or the check value isn't that of the data or the key */
-#define CSNB_OLD_KEY 10001 /* it was carried out with a key under the old master key */
+/* Return code 0: the reason is 0, or this one. */
+#define CSNB_OLD_KEY 10001 /* it was carried out with a key under the old master key: re-encipher it before the next SET */
+
+/* Return code 4. */
+#define CSNB_MISMATCH 1 /* the MAC or the check value isn't that of the data or the key */
 
 /* Return code 8: a rule refused the request, and the reason is its number, 1 to 36; or nothing was sent, for one of these. */
 #define CSNB_MISSING 101    /* a parameter is a null pointer */

@@ -166,7 +166,7 @@ void call_came(struct call *it, struct cca_result came)
     it->is_done = came.outcome == CCA_DONE;
     switch (came.outcome) {
     case CCA_DONE:
-        it->code = came.is_old ? 4 : 0;
+        it->code = 0;
         it->reason = came.is_old ? CSNB_OLD_KEY : 0;
         break;
     case CCA_REFUSED:
@@ -293,10 +293,9 @@ const char *csnb_reason(long return_code, long reason_code)
     const char *rule = cca_rule(reason_code > 0 && reason_code < 100 ? (int)reason_code : 0);
     switch (return_code) {
     case 0:
-        return "done";
+        return reason_code == CSNB_OLD_KEY ? "done, with a key under the old master key" : "done";
     case 4:
-        return reason_code == CSNB_OLD_KEY ? "done, with a key under the old master key"
-                                           : "the MAC or the check value doesn't match";
+        return "the MAC or the check value doesn't match";
     case 8:
         return rule ? rule : own_reason(reason_code);
     }

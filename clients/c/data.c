@@ -22,6 +22,7 @@ struct data_call {
     unsigned char *chain;
     unsigned char *out; /* CSNBENC, CSNBDEC: what comes, in so many bytes at most; so many came */
     size_t out_room, out_length;
+    size_t least, most;  /* bytes of the whole output, where it is known */
     unsigned char *made; /* CSNBMGN: the MAC */
     int *matches;        /* CSNBMVR */
 };
@@ -34,6 +35,11 @@ static int is_mac(const struct data_call *it)
 static int is_verified(const struct data_call *it)
 {
     return strcmp(it->verb, "CSNBMVR") == 0;
+}
+
+static int is_padded(const struct data_call *it)
+{
+    return it->pad && strcmp(it->pad, "NONE") != 0;
 }
 
 static void put_mac(struct exchange *x, const struct data_call *it)
@@ -49,13 +55,11 @@ static void put_mac(struct exchange *x, const struct data_call *it)
 /* The end of the reply to a last piece, or to the whole. */
 static void get_end(struct exchange *x, struct data_call *it)
 {
-    char match[4];
-    if (!is_verified(it)) {
+    static const char *const matches[] = {"no", "yes", NULL};
+    if (is_verified(it))
+        *it->matches = exchange_get_word(x, "match", matches);
+    else
         exchange_get_hex(x, "mac", it->made, (size_t)it->mac_length);
-        return;
-    }
-    exchange_get_text(x, "match", match, sizeof match);
-    *it->matches = x->result.outcome == CCA_DONE && strcmp(match, "yes") == 0;
 }
 
 /* One request. */
@@ -79,9 +83,11 @@ static struct cca_result piece(struct cca *cca, struct data_call *it, enum place
     if (is_last && !is_mac(it))
         exchange_put_text(&x, "pad", it->pad);
     exchange_put_hex(&x, "text", text, length);
-    exchange_ask(&x, cca);
+    exchange_ask(&x);
     if (!is_mac(it))
         it->out_length += exchange_get_data(&x, "text", it->out + it->out_length, it->out_room - it->out_length);
+    if (is_last && it->most > 0 && (it->out_length < it->least || it->out_length > it->most))
+        exchange_doubt(&x);
     if (!is_last)
         exchange_get_hex(&x, "chain", it->chain, CCA_CHAIN_SIZE);
     else if (is_mac(it))
@@ -113,7 +119,7 @@ static struct cca_result pieces(struct cca *cca, struct data_call *it, enum plac
 static struct cca_result carry_out(struct cca *cca, struct data_call *it, enum place place, const unsigned char *text,
                                    size_t length)
 {
-    size_t longest = it->pad && strcmp(it->pad, "NONE") != 0 ? LONGEST_TEXT - 1 : LONGEST_TEXT;
+    size_t longest = is_padded(it) ? LONGEST_TEXT - 1 : LONGEST_TEXT;
     struct cca_result came;
     if (place == WHOLE && length <= longest)
         came = piece(cca, it, WHOLE, text, length);
@@ -142,6 +148,7 @@ struct cca_result cca_encipher(struct cca *it, struct cca_key key, const unsigne
     unsigned char chain[CCA_CHAIN_SIZE];
     struct data_call call = {.verb = "CSNBENC", .key = key, .iv = iv, .pad = pad, .chain = chain, .out = out};
     call.out_room = length + 8;
+    call.least = call.most = is_padded(&call) ? length / 8 * 8 + 8 : length;
     return cipher(it, &call, WHOLE, text, length, out_length);
 }
 
@@ -151,6 +158,8 @@ struct cca_result cca_decipher(struct cca *it, struct cca_key key, const unsigne
     unsigned char chain[CCA_CHAIN_SIZE];
     struct data_call call = {.verb = "CSNBDEC", .key = key, .iv = iv, .pad = pad, .chain = chain, .out = out};
     call.out_room = length;
+    call.least = is_padded(&call) && length >= 8 ? length - 8 : length;
+    call.most = is_padded(&call) && length >= 8 ? length - 1 : length;
     return cipher(it, &call, WHOLE, text, length, out_length);
 }
 
@@ -193,10 +202,13 @@ struct cca_result cca_mac_generate_segment(struct cca *it, struct cca_key key, c
 static struct cca_result verify(struct cca *cca, struct data_call *it, enum place place, const unsigned char *text, size_t length,
                                 int *matches)
 {
+    struct cca_result came;
     *matches = 0;
     it->verb = "CSNBMVR";
     it->matches = matches;
-    return carry_out(cca, it, place, text, length);
+    came = carry_out(cca, it, place, text, length);
+    *matches &= came.outcome == CCA_DONE;
+    return came;
 }
 
 struct cca_result cca_mac_verify(struct cca *it, struct cca_key key, const char *rule, const unsigned char *mac, int mac_length,

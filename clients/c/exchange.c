@@ -68,10 +68,12 @@ static void put_digits(struct exchange *it, const unsigned char *bytes, size_t l
     }
 }
 
-void exchange_begin(struct exchange *it, const struct cca *cca, const char *verb)
+void exchange_begin(struct exchange *it, struct cca *cca, const char *verb)
 {
     memset(&it->result, 0, sizeof it->result);
+    it->cca = cca;
     it->length = 0;
+    it->left = 0;
     it->reply = it->own_reply;
     it->reply_size = sizeof it->own_reply;
     put(it, verb, strlen(verb));
@@ -120,11 +122,13 @@ void exchange_put_to(struct exchange *it, const char *to, const unsigned char *t
         exchange_refuse(it, "neither a label nor a place for the token is given");
 }
 
-/* A reply that isn't one of cca: what was done isn't known. */
-static void doubt(struct exchange *it)
+void exchange_doubt(struct exchange *it)
 {
+    if (it->result.outcome != CCA_DONE)
+        return;
     it->result.outcome = CCA_ENDED;
     it->result.is_in_doubt = 1;
+    it->result.status = cca_drop(&it->cca->client);
 }
 
 /* Reads OK, OK with fields, or NO with the rule and the field. */
@@ -132,25 +136,30 @@ static void read_reply(struct exchange *it)
 {
     static const char warning[] = " warn=old";
     size_t length = strlen(it->reply);
+    const char *at;
+    int end = 0;
     if (strncmp(it->reply, "OK", 2) == 0 && (it->reply[2] == ' ' || it->reply[2] == '\0')) {
         it->result.outcome = CCA_DONE;
         if (length >= sizeof warning && strcmp(it->reply + length - (sizeof warning - 1), warning) == 0) {
             it->result.is_old = 1;
             it->reply[length - (sizeof warning - 1)] = '\0';
         }
-    } else if (length > 6 && sscanf(it->reply, "NO %2d %11s", &it->result.rule, it->result.field) == 2) {
+        for (at = it->reply; (at = strchr(at, ' ')) != NULL; at++)
+            it->left++;
+    } else if (length > 6 && sscanf(it->reply, "NO %2d %11s%n", &it->result.rule, it->result.field, &end) == 2 &&
+               it->reply[end] == '\0') {
         it->result.outcome = CCA_REFUSED;
     } else {
-        doubt(it);
+        exchange_doubt(it);
     }
 }
 
-void exchange_ask(struct exchange *it, struct cca *cca)
+void exchange_ask(struct exchange *it)
 {
     int status;
     if (it->result.outcome == CCA_UNSAYABLE)
         return;
-    switch (cca_ask_short(&cca->client, it->request, it->length, it->reply, it->reply_size, &status)) {
+    switch (cca_ask_short(&it->cca->client, it->request, it->length, it->reply, it->reply_size, &status)) {
     case CCA_REPLY:
         read_reply(it);
         break;
@@ -175,11 +184,12 @@ static const char *value(struct exchange *it, const char *name, size_t *length)
     while ((at = strchr(at, ' ')) != NULL) {
         at++;
         if (strncmp(at, name, size) == 0 && at[size] == '=') {
+            it->left--;
             *length = strcspn(at + size + 1, " ");
             return at + size + 1;
         }
     }
-    doubt(it);
+    exchange_doubt(it);
     return NULL;
 }
 
@@ -191,7 +201,7 @@ void exchange_get_text(struct exchange *it, const char *name, char *text, size_t
         memmove(text, from, length);
         text[length] = '\0';
     } else if (from) {
-        doubt(it);
+        exchange_doubt(it);
     }
 }
 
@@ -199,8 +209,24 @@ void exchange_get_number(struct exchange *it, const char *name, int *number)
 {
     char text[8];
     exchange_get_text(it, name, text, sizeof text);
-    if (it->result.outcome == CCA_DONE && number)
+    if (it->result.outcome != CCA_DONE)
+        return;
+    if (text[0] == '\0' || text[strspn(text, "0123456789")] != '\0')
+        exchange_doubt(it);
+    else if (number)
         *number = atoi(text);
+}
+
+int exchange_get_word(struct exchange *it, const char *name, const char *const *words)
+{
+    char text[9];
+    int place;
+    exchange_get_text(it, name, text, sizeof text);
+    for (place = 0; it->result.outcome == CCA_DONE && words[place]; place++)
+        if (strcmp(text, words[place]) == 0)
+            return place;
+    exchange_doubt(it);
+    return 0;
 }
 
 static int digit(char it)
@@ -213,11 +239,11 @@ size_t exchange_get_data(struct exchange *it, const char *name, unsigned char *b
     size_t length, at;
     const char *from = value(it, name, &length);
     if (from && (length % 2 != 0 || length / 2 > room))
-        doubt(it);
+        exchange_doubt(it);
     for (at = 0; it->result.outcome == CCA_DONE && at < length; at += 2) {
         int high = digit(from[at]), low = digit(from[at + 1]);
         if (high < 0 || low < 0)
-            doubt(it);
+            exchange_doubt(it);
         else
             bytes[at / 2] = (unsigned char)(high << 4 | low);
     }
@@ -226,21 +252,26 @@ size_t exchange_get_data(struct exchange *it, const char *name, unsigned char *b
 
 void exchange_get_hex(struct exchange *it, const char *name, unsigned char *bytes, size_t length)
 {
-    if (exchange_get_data(it, name, bytes, length) != length && it->result.outcome == CCA_DONE)
-        doubt(it);
+    if (exchange_get_data(it, name, bytes, length) != length)
+        exchange_doubt(it);
 }
 
 void exchange_get_made(struct exchange *it, const char *name, const char *to, unsigned char *token)
 {
     char label[65];
-    if (to)
-        exchange_get_text(it, "stored", label, sizeof label);
-    else
+    if (!to) {
         exchange_get_hex(it, name, token, CCA_TOKEN_SIZE);
+        return;
+    }
+    exchange_get_text(it, "stored", label, sizeof label);
+    if (it->result.outcome == CCA_DONE && strcmp(label, to) != 0)
+        exchange_doubt(it);
 }
 
 struct cca_result exchange_end(struct exchange *it)
 {
+    if (it->left != 0)
+        exchange_doubt(it);
     exchange_wipe(it->request, sizeof it->request);
     exchange_wipe(it->own_reply, sizeof it->own_reply);
     return it->result;

@@ -12,11 +12,13 @@ struct exchange {
     char own_reply[CCA_LINE_SIZE];
     char *reply; /* own_reply, or another one */
     size_t reply_size;
+    int left; /* fields of the reply that weren't taken yet */
+    struct cca *cca;
     struct cca_result result;
 };
 
 /* Begins a request: the verb, and the role where one is named. */
-void exchange_begin(struct exchange *it, const struct cca *cca, const char *verb);
+void exchange_begin(struct exchange *it, struct cca *cca, const char *verb);
 
 /* Each adds a field. A value that would break the line makes the request one that isn't sent. */
 void exchange_put_text(struct exchange *it, const char *name, const char *text);
@@ -29,14 +31,19 @@ void exchange_put_to(struct exchange *it, const char *to, const unsigned char *t
 void exchange_refuse(struct exchange *it, const char *why);
 
 /* Sends it, and reads the reply. */
-void exchange_ask(struct exchange *it, struct cca *cca);
+void exchange_ask(struct exchange *it);
 
-/* Each takes a field of a reply to a request that was carried out. The reply must have the field, in this form. */
+/* Each takes a field of a reply to a request that was carried out. The reply must have the field, in this form, and no other one
+   that isn't taken. */
 void exchange_get_text(struct exchange *it, const char *name, char *text, size_t size);
+int exchange_get_word(struct exchange *it, const char *name, const char *const *words); /* its place; behind the last is a null */
 void exchange_get_number(struct exchange *it, const char *name, int *number);
 void exchange_get_hex(struct exchange *it, const char *name, unsigned char *bytes, size_t length);
 size_t exchange_get_data(struct exchange *it, const char *name, unsigned char *bytes, size_t room);
 void exchange_get_made(struct exchange *it, const char *name, const char *to, unsigned char *token);
+
+/* Ends cca, whose reply is none to this request: what was done isn't known. */
+void exchange_doubt(struct exchange *it);
 
 /* Overwrites request and reply, which may have clear keys and data: the result. */
 struct cca_result exchange_end(struct exchange *it);

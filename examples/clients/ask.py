@@ -25,8 +25,11 @@ def connected(path: str) -> socket.socket:
 def main() -> None:
     with connected(sys.argv[1]) as connection, connection.makefile("rb") as replies:
         for request in sys.stdin.buffer:
+            if not request.endswith(b"\n"):
+                print("the last line has no newline: it may be half a request, and isn't asked", file=sys.stderr)
+                break
             try:
-                connection.sendall(request.rstrip(b"\n") + b"\n")
+                connection.sendall(request)
                 reply = replies.readline()
             except (BrokenPipeError, ConnectionResetError):
                 reply = b""

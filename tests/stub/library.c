@@ -1,8 +1,10 @@
-/* What a program does that takes the client in C: asks two coprocessors, from several threads, and where cca has gone.
+/* What a program does that takes the client in C: asks two coprocessors, from several threads, and where cca has gone; forks, takes
+   its children's ends, and starts other programs.
 
        library WHAT STUB FOLDER [FOLDER] */
 #include "cca_client.h"
 
+#include <poll.h>
 #include <pthread.h>
 #include <signal.h>
 #include <stdio.h>
@@ -102,19 +104,90 @@ static int forked(char **words)
     return 0;
 }
 
+/* A child that lives on: cca ends with the input of its parent all the same. */
+static int outlived(char **words)
+{
+    static char reply[CCA_REPLY_SIZE];
+    int ends[2];
+    char byte;
+    cca_init(&shared, words[3], words[2], "run");
+    shared.patience = 5;
+    if (pipe(ends) != 0 || asked(&shared, "A role=B C", reply) != CCA_REPLY)
+        return 1;
+    if (fork() == 0) {
+        close(ends[1]);
+        _exit((int)read(ends[0], &byte, 1)); /* as long as its parent lives */
+    }
+    printf("%d\n", cca_stop(&shared));
+    return 0;
+}
+
+static void take_children(int number)
+{
+    (void)number;
+    while (waitpid(-1, NULL, WNOHANG) > 0)
+        ;
+}
+
+/* Another one takes the status of cca: what comes of a request at which it ends, and of the next one. */
+static int lost(char **words, void (*handler)(int))
+{
+    static char reply[CCA_REPLY_SIZE];
+    enum cca_answer answers[2];
+    signal(SIGCHLD, handler);
+    cca_init(&shared, words[3], words[2], "run");
+    answers[0] = asked(&shared, "A role=B stub=ends7 C", reply);
+    answers[1] = asked(&shared, "A role=B D", reply);
+    printf("%d %d %d %d\n", answers[0], answers[1], shared.status, cca_stop(&shared));
+    return 0;
+}
+
+static int ignored(char **words)
+{
+    return lost(words, SIG_IGN);
+}
+
+static int taken(char **words)
+{
+    return lost(words, take_children);
+}
+
+/* Whether cca has none of this program's descriptors, is in another session, and leaves its pipes to this program alone. */
+static int apart(char **words)
+{
+    static char reply[CCA_REPLY_SIZE];
+    char command[100];
+    struct pollfd other;
+    int ends[2];
+    if (pipe(ends) != 0)
+        return 1;
+    cca_init(&shared, words[3], words[2], "run");
+    if (asked(&shared, "A role=B C", reply) != CCA_REPLY)
+        return 1;
+    close(ends[1]);
+    other.fd = ends[0];
+    other.events = POLLIN;
+    snprintf(command, sizeof command, "test -e /proc/self/fd/%d -o -e /proc/self/fd/%d", shared.to, shared.from);
+    printf("%d %d", poll(&other, 1, 2000), getsid(shared.pid) == shared.pid);
+    fflush(stdout);
+    printf(" %d", system(command) != 0);
+    printf(" %d\n", cca_stop(&shared));
+    return 0;
+}
+
 int main(int count, char **words)
 {
+    static const struct {
+        const char *name;
+        int (*run)(char **words);
+    } all[] = {{"two", two},         {"threads", threads}, {"each", each},   {"forked", forked},
+               {"outlived", outlived}, {"ignored", ignored}, {"taken", taken}, {"apart", apart}};
+    size_t at;
     if (count < 4)
         return 2;
     alarm(60);
-    switch (words[1][1]) {
-    case 'w':
-        return two(words);
-    case 'h':
-        return threads(words);
-    case 'a':
-        return each(words);
-    default:
-        return forked(words);
-    }
+    for (at = 0; at < sizeof all / sizeof *all; at++)
+        if (strcmp(words[1], all[at].name) == 0)
+            return all[at].run(words);
+    return 2;
 }

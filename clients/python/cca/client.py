@@ -10,6 +10,7 @@ A reply must never be taken for that to another request. So requests take turns,
 request gets no whole reply, whatever the reason, cca is killed and started again for the next one.
 """
 import argparse
+import math
 import os
 import select
 import signal
@@ -18,23 +19,27 @@ import sys
 import tempfile
 import threading
 import time
+import weakref
 from collections.abc import Iterable, Iterator, Sequence
 from contextlib import contextmanager
 
+UNKNOWN = 128  # in the place of a status that nobody can tell: this program ignores SIGCHLD, or waits for cca elsewhere
 # After these ends someone should look at the files before cca is started again: docs/OPERATING.md says how.
-LOOK_FIRST = frozenset({2, 3, 6, 7, 11, 13, 14, 15, 17})
+LOOK_FIRST = frozenset({2, 3, 6, 7, 11, 13, 14, 15, 17, UNKNOWN})
 # At these ends no request was taken. At 3 one may have been: a record is damaged when it is read again.
 NONE_TAKEN = frozenset({2, 10, 11, 14, 17})
 LONGEST_REPLY = 66_581  # bytes, with the newline
 PATIENCE = 300.0  # seconds for a reply; REENCIPHER of a full store syncs the drive some 2,000 times
 ENDING = 10.0  # seconds for a process that has closed its output
+GLANCE = 0.01  # seconds until it is asked again whether a process has ended
 CHUNK = 1 << 18
+HALF = "the last line has no newline: it may be half a request, and isn't asked"
 
 
 class Ended(Exception):
     """A request got no reply, and cca isn't running any more.
 
-    status: how cca ended: its exit status, or less than zero where a signal ended it. None where a front has it.
+    status: how cca ended: its exit status, or less than zero where a signal ended it, or UNKNOWN. None where a front has it.
     in_doubt: whether what got no reply may have been carried out all the same. docs/OPERATING.md tells how to find out.
     replies: those that came before, where several requests were asked at once.
     """
@@ -64,13 +69,18 @@ class Process:
         self.errors = tempfile.TemporaryFile()
         pipe = subprocess.PIPE
         # In a session of its own, so that Ctrl-C at the terminal stops us, and we let cca end its request.
-        self.child = subprocess.Popen(
-            words, cwd=folder, stdin=pipe, stdout=pipe, stderr=self.errors, bufsize=0, start_new_session=True
-        )
+        try:
+            self.child = subprocess.Popen(
+                words, cwd=folder, stdin=pipe, stdout=pipe, stderr=self.errors, bufsize=0, start_new_session=True
+            )
+        except BaseException:
+            self.errors.close()
+            raise
         assert self.child.stdin and self.child.stdout
         self.stdin, self.stdout = self.child.stdin, self.child.stdout
         os.set_blocking(self.stdin.fileno(), False)
         os.set_blocking(self.stdout.fileno(), False)
+        RUNNING.add(self)
 
     def unasked(self) -> str | None:
         """What a process did that nobody asked: nothing is said where it ended by itself. None where it waits."""
@@ -131,25 +141,63 @@ class Process:
         return self.end(patience)
 
     def end(self, patience: float) -> tuple[int, str]:
-        """Waits for the end, and kills the process where that doesn't come in time. The input stays open until then: cca
-        would carry out half a request at its end."""
-        try:
-            self.child.wait(patience)
-        except subprocess.TimeoutExpired:
-            self.kill()
+        """Waits for the end, and kills the process where that doesn't come in time, or where the wait is broken off. The input
+        stays open until then: cca would carry out half a request at its end."""
+        with self.errors:
+            try:
+                self.wait_for_end(patience)
+            finally:
+                status = self.kill()
+                self.leave()
+            self.errors.seek(0)
+            return status, self.errors.read(4096).decode("latin-1").strip() or "no text"
+
+    def kill(self) -> int:
+        """Kills it, and what it has started where it is a script, unless it has ended. Its status."""
+        if self.status() is None:
+            try:
+                os.killpg(self.child.pid, signal.SIGKILL)
+            except ProcessLookupError:
+                pass
+        status = self.wait_for_end(math.inf)
+        assert status is not None
+        return status
+
+    def wait_for_end(self, patience: float) -> int | None:
+        """The status, or None where the end doesn't come in time."""
+        until = time.monotonic() + patience
+        while self.status() is None and time.monotonic() < until:
+            time.sleep(GLANCE)
+        return self.child.returncode
+
+    def status(self) -> int | None:
+        """The status, or None while it runs. Popen itself would say 0 where somebody else has taken it."""
+        if self.child.returncode is None:
+            try:
+                ended, status = os.waitpid(self.child.pid, os.WNOHANG)
+            except ChildProcessError:
+                self.child.returncode = UNKNOWN
+            else:
+                self.child.returncode = os.waitstatus_to_exitcode(status) if ended else None
+        return self.child.returncode
+
+    def leave(self) -> None:
+        """Closes both pipes."""
+        RUNNING.discard(self)
         self.stdin.close()
         self.stdout.close()
-        with self.errors:
-            self.errors.seek(0)
-            return self.child.wait(), self.errors.read(4096).decode("latin-1").strip() or "no text"
 
-    def kill(self) -> None:
-        """Kills it, and what it has started where it is a script."""
-        try:
-            os.killpg(self.child.pid, signal.SIGKILL)
-        except ProcessLookupError:
-            pass
-        self.child.wait()
+
+RUNNING: weakref.WeakSet[Process] = weakref.WeakSet()
+
+
+def leave_all() -> None:
+    """In a child of fork, which would keep cca from the end of its input: the pipes are its parent's alone."""
+    for process in list(RUNNING):
+        process.leave()
+
+
+os.register_at_fork(after_in_child=leave_all)
 
 
 class Turns:
@@ -257,6 +305,9 @@ def main() -> int:
     given = words.parse_args()
     coprocessor = Coprocessor(given.folder, given.program, "audit" if given.audit else "run")
     for line in sys.stdin.buffer:
+        if not line.endswith(b"\n"):
+            print(HALF, file=sys.stderr)
+            break
         try:
             reply = coprocessor.ask(line.removesuffix(b"\n").decode("latin-1"))
         except Ended as end:

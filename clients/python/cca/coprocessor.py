@@ -7,7 +7,7 @@ from types import TracebackType
 from typing import Self
 
 from . import client
-from .client import LONGEST_REPLY, PATIENCE, Broken, Ended, Turns, line_of
+from .client import GLANCE, LONGEST_REPLY, PATIENCE, Broken, Ended, Turns, line_of
 from .verbs import Verbs
 
 
@@ -49,7 +49,8 @@ class Socket(Turns, Verbs):
     """The socket of a front, which names the role. It is connected by the first request, and again after the connection has
     ended. Threads may share it; but each request waits for the one before.
 
-    patience: the seconds that a reply may take. Where one takes longer the connection is closed, and Ended is raised.
+    patience: the seconds that a connection may take, and a reply. Where one takes longer the connection is closed, and Ended is
+    raised.
     """
 
     role = None
@@ -96,12 +97,26 @@ class Socket(Turns, Verbs):
         if self.connection is None:
             connection = socket.socket(socket.AF_UNIX)
             try:
-                connection.connect(self.path)
+                self._connect(connection)
             except BaseException:
                 connection.close()
                 raise
             self.connection, self.connected_by = connection, os.getpid()
         return self.connection
+
+    def _connect(self, connection: socket.socket) -> None:
+        """Connects, also where the front has so many connections that it takes no more for some time."""
+        until = time.monotonic() + self.patience
+        connection.setblocking(False)
+        while True:
+            try:
+                connection.connect(self.path)
+                break
+            except BlockingIOError:
+                if time.monotonic() >= until:
+                    raise Ended("the front took no connection in time", None, False) from None
+                time.sleep(GLANCE)
+        connection.setblocking(True)
 
     def _reply(self, connection: socket.socket, line: bytes) -> str:
         """Sends a line and reads its reply."""

@@ -175,11 +175,19 @@ def request_line(name: str, role: str | None, values: dict[str, str]) -> str:
 
 
 def words_of(row: Row, role: str | None, values: dict[str, str]) -> Iterator[tuple[str, str]]:
-    """The fields of a row with their values. ValueError is raised where one can't be sent."""
+    """The fields of a row with their values. TypeError is raised where there are too many or too few, ValueError where one can't
+    be sent."""
+    fixed = {field.name: field.words[0] for field in row.fields if len(field.words) == 1}
+    wanted = {field.name for field in row.fields} - {"role"}
+    if not values.keys() <= wanted <= values.keys() | fixed.keys():
+        missing, others = sorted(wanted - values.keys() - fixed.keys()), sorted(values.keys() - wanted)
+        told = [f"{it} is missing" for it in missing] + [f"{it} isn't taken" for it in others]
+        raise TypeError(f"{row.verb} in this form: {', '.join(told)}")
+    texts = fixed | values | ({} if role is None else {"role": role})
     for field in row.fields:
-        if field.name == "role" and role is None:
-            continue
-        text = role if field.name == "role" and role else field.words[0] if len(field.words) == 1 else values[field.name]
+        if field.name not in texts:
+            continue  # the role, which the front adds
+        text = texts[field.name]
         fault = fault_of(field, text)
         if fault:
             raise ValueError(f"{field.name}: {fault.reason}")

@@ -7,6 +7,7 @@
 
 Its keys are in this file, and are secret to nobody: never use them elsewhere.
 """
+import errno
 import os
 import shutil
 import tempfile
@@ -80,8 +81,16 @@ def fill(cca: Coprocessor) -> None:
         cca.key_part_import("LAST", bytes(len(key.clear)), key=part, to=label)
 
 
+def must_be_new(folder: str | os.PathLike[str]) -> None:
+    """A module for tests takes the place of no other one: FileExistsError is raised where one is there."""
+    for name in ("cca.module", "cca.store", "cca.trail"):
+        if os.path.lexists(Path(folder) / name):
+            raise FileExistsError(errno.EEXIST, "a module for tests needs an empty folder", str(Path(folder) / name))
+
+
 def make_template(folder: str | os.PathLike[str], program: str | os.PathLike[str] | None = None) -> None:
-    """Makes the files of such a module in a folder, to be copied."""
+    """Makes the files of such a module in an empty folder, to be copied."""
+    must_be_new(folder)
     with Coprocessor(folder, program=program) as cca:
         fill(cca)
 
@@ -101,6 +110,7 @@ def module(
         ) as it:
             yield it
         return
+    must_be_new(folder)
     with Coprocessor(folder, audit, program=program) as cca:
         if template is None:
             fill(cca)

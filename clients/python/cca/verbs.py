@@ -1,19 +1,22 @@
 """A method for each verb, whatever carries the lines."""
+import re
 from collections.abc import Iterable, Iterator
 from typing import Literal, TypeAlias
 
 from .lines import Unexpected, fields_of, request_line
 from .rows import LONGEST_SEGMENT, LONGEST_TEXT, POINTS, ROWS
-from .values import Data, Done, Fields, Generated, Key, Label, Parsed, State, Token, Verified
+from .values import TOKEN_SIZE, Data, Done, Fields, Generated, Key, Label, Parsed, State, Token, Verified
 
 Pad: TypeAlias = Literal["NONE", "X9.23"]
 MacRule: TypeAlias = Literal["X9.9-1", "X9.19OPT"]
+CHAIN_SIZE = 16
+BYTES = re.compile("(?:[0-9a-f]{2})*")
 
 
 class Verbs:
     """The verbs: bytes in and bytes out. Refused is raised where cca refuses a request, Ended where a request gets no reply, and
-    ValueError where a value can't be sent. A key is Label("PAY") or Token(bytes). A key that is made goes under the label `to`,
-    or else it is given back as a token. Data of any length is sent in segments."""
+    ValueError or TypeError where the arguments can't be sent. A key is Label("PAY") or Token(bytes). A key that is made goes under
+    the label `to`, or else it is given back as a token. Data of any length is sent in segments."""
 
     role: str | None = None
 
@@ -33,6 +36,8 @@ class Verbs:
 
     def request(self, row: str, **values: str) -> Fields:
         """Any request, by the name of its row in verbs.json and the texts of its fields: request("csnbkyt", key="L:PAY")."""
+        if row not in ROWS:
+            raise ValueError(f"no row is called {row}")
         wanted = {field.name for field in ROWS[row].fields if len(field.words) != 1} - {"role"}
         if set(values) != wanted:
             raise TypeError(f"{row} has the fields {', '.join(sorted(wanted)) or 'none'}, and not {', '.join(sorted(values)) or 'none'}")
@@ -51,7 +56,7 @@ class Verbs:
     def mac_generate(self, key: Key, data: bytes, rule: MacRule = "X9.9-1", length: Literal[4, 6, 8] = 4) -> Data:
         """MAC_Generate: the leftmost bytes of the MAC."""
         found, is_old = self._segmented("csnbmgn", data, LONGEST_TEXT, {}, {"length": str(length)}, key=key_text(key), rule=rule)
-        return Data(unhex(found["mac"]), is_old)
+        return Data(self._bytes(found["mac"], length), is_old)
 
     def mac_verify(self, key: Key, data: bytes, mac: bytes, rule: MacRule = "X9.9-1") -> Verified:
         """MAC_Verify: whether the bytes are the leftmost ones of the MAC."""
@@ -63,11 +68,11 @@ class Verbs:
     def key_test(self, key: Key) -> Data:
         """Key_Test: the key check value (KCV), 4 bytes, of which most systems show the first 3."""
         found, is_old = self._do("csnbkyt", key=key_text(key))
-        return Data(unhex(found["value"]), is_old)
+        return Data(self._bytes(found["value"], 4), is_old)
 
     def random(self, form: Literal["RANDOM", "ODD", "EVEN"] = "RANDOM") -> Data:
         """Random_Number_Generate: 8 random bytes."""
-        return Data(unhex(self._do("csnbrng", form=form)[0]["random"]))
+        return Data(self._bytes(self._do("csnbrng", form=form)[0]["random"], 8))
 
     # ---- making keys
 
@@ -87,11 +92,13 @@ class Verbs:
     ) -> Generated:
         """Key_Generate: a random key, in one or two tokens."""
         row = {"OP": "csnbkgn_op", "OPEX": "csnbkgn_pair", "OPIM": "csnbkgn_pair"}.get(form, "csnbkgn_out")
-        given = {"form": form, "length": str(length), "type1": type1, "type2": type2, "to": to_text(to)}
+        given = {"form": form, "length": str(length), "type1": type1, "type2": type2}
         given |= {"transport1": key_text(transport1), "transport2": key_text(transport2)}
+        if to is not None or row != "csnbkgn_out":
+            given["to"] = to_text(to)
         found, is_old = self._do(row, **given)
-        second = Token(unhex(found["token2"]), is_old) if "token2" in found else None
-        return Generated(self._key(found, is_old, "token1"), second, is_old)
+        second = self._token_of(found["token2"], is_old) if "token2" in found else None
+        return Generated(self._key(found, is_old, to, "token1"), second, is_old)
 
     def key_part_import(
         self,
@@ -131,10 +138,11 @@ class Verbs:
     def token_parse(self, token: Token) -> Parsed:
         """Key_Token_Parse: the fields of a token."""
         found, _ = self._do("csnbktp", token=token_text(token))
-        sizes = {"8": 8, "16": 16}
-        if found["length"] not in sizes:
-            raise self._unexpected("a length that no key has")
-        return Parsed(found["kind"], found["class"], sizes[found["length"]], unhex(found["vector"]), unhex(found["pattern"]))
+        size = {"8": 8, "16": 16}.get(found["length"])
+        if size is None or found["kind"] not in ("internal", "external"):
+            raise self._unexpected("a kind or a length that no key has")
+        vector, pattern = self._bytes(found["vector"], size), self._bytes(found["pattern"], 8)
+        return Parsed(found["kind"], found["class"], size, vector, pattern)
 
     # ---- labels
 
@@ -176,8 +184,9 @@ class Verbs:
 
     def role_define(self, name: str, points: int | Iterable[str]) -> Done:
         """Access_Control_Initialization: defines a role with access control points, by their sum or by their names."""
-        total = points if isinstance(points, int) else sum({POINTS[it] for it in points})
-        return self._done("csuaaci_define", action="DEFINE", name=name, points=f"{total:08x}")
+        if not isinstance(points, int):
+            points = sum_of_points(points)
+        return self._done("csuaaci_define", action="DEFINE", name=name, points=f"{points:08x}")
 
     def role_remove(self, name: str) -> Done:
         """Access_Control_Initialization: removes a role."""
@@ -210,32 +219,49 @@ class Verbs:
     def _done(self, row: str, **values: str | None) -> Done:
         return Done(self._do(row, **values)[1])
 
+    def _bytes(self, digits: str, *sizes: int) -> bytes:
+        """The bytes of a reply, as many as one of these numbers says."""
+        if not BYTES.fullmatch(digits) or len(digits) // 2 not in sizes:
+            raise self._unexpected(f"a value that isn't {' or '.join(map(str, sizes))} bytes in hexadecimal digits")
+        return bytes.fromhex(digits)
+
+    def _token_of(self, digits: str, is_old: bool) -> Token:
+        return Token(self._bytes(digits, TOKEN_SIZE), is_old)
+
     def _token(self, row: str, **values: str | None) -> Token:
         found, is_old = self._do(row, **values)
-        return Token(unhex(found["token"]), is_old)
+        return self._token_of(found["token"], is_old)
 
     def _made(self, row: str, to: str | None, **values: str | None) -> Key:
-        return self._key(*self._do(row, to=to_text(to), **values))
+        return self._key(*self._do(row, to=to_text(to), **values), to, "token")
 
-    def _key(self, found: dict[str, str], is_old: bool, name: str = "token") -> Key:
-        return Label(found["stored"], is_old) if "stored" in found else Token(unhex(found[name]), is_old)
+    def _key(self, found: dict[str, str], is_old: bool, to: str | None, name: str) -> Key:
+        """A key that was made: under its label, or else as its token."""
+        if to is None and name in found:
+            return self._token_of(found[name], is_old)
+        if to is not None and found.get("stored") == to:
+            return Label(to, is_old)
+        raise self._unexpected("a key that didn't go where it should")
 
     def _ciphered(self, row: str, key: Key, data: bytes, iv: bytes, pad: Pad) -> Data:
+        data = as_bytes(data)
         longest = LONGEST_TEXT - (row == "csnbenc" and pad == "X9.23")  # padding must have room
         found, is_old = self._segmented(row, data, longest, {"iv": hexed(iv)}, {"pad": pad}, key=key_text(key))
-        return Data(unhex(found["text"]), is_old)
+        return Data(self._bytes(found["text"], *sizes_of_output(row, pad, len(data))), is_old)
 
     def _segmented(
         self, row: str, data: bytes, longest: int, first: dict[str, str], last: dict[str, str], **values: str | None
     ) -> tuple[dict[str, str], bool]:
         """Data in one request, or in segments where it is too long: the fields of the last reply, with the whole of the output."""
+        data = as_bytes(data)
         if len(data) <= longest:
             return self._do(row, text=hexed(data), **values, **first, **last)
         more, outputs, is_any_old, found = first, list[str](), False, dict[str, str]()
         for name, segment in segments(data):
             values |= {"text": hexed(segment)}
             found, is_old = self._do(f"{row}_{name}", **values, **more, **(last if name == "last" else {}))
-            more, is_any_old = {"chain": found.get("chain", "")}, is_any_old or is_old
+            more = {} if name == "last" else {"chain": self._bytes(found["chain"], CHAIN_SIZE).hex()}
+            is_any_old = is_any_old or is_old
             outputs.append(found.get("text", ""))
         return {**found, "text": "".join(outputs)}, is_any_old
 
@@ -261,19 +287,31 @@ def segments(data: bytes) -> Iterator[tuple[str, bytes]]:
         yield name, data[at : at + LONGEST_SEGMENT]
 
 
-def hexed(data: bytes) -> str:
-    """Bytes as hexadecimal digits."""
+def as_bytes(data: bytes) -> bytes:
+    """Bytes of any kind."""
     if not isinstance(data, (bytes, bytearray, memoryview)):
         raise TypeError(f"bytes are wanted, and not {type(data).__name__}")
-    return bytes(data).hex()
+    return bytes(data)
 
 
-def unhex(digits: str) -> bytes:
-    """The bytes of hexadecimal digits of a reply."""
-    try:
-        return bytes.fromhex(digits)
-    except ValueError:
-        raise Unexpected("a reply without hexadecimal digits") from None
+def hexed(data: bytes) -> str:
+    """Bytes as hexadecimal digits."""
+    return as_bytes(data).hex()
+
+
+def sizes_of_output(row: str, pad: Pad, size: int) -> Iterable[int]:
+    """How many bytes the output to so many bytes of data may have."""
+    if pad == "NONE":
+        return [size]
+    return [size - size % 8 + 8] if row == "csnbenc" else range(size - 8, size)
+
+
+def sum_of_points(names: Iterable[str]) -> int:
+    """The sum of access control points."""
+    chosen = set(names)
+    if not chosen <= POINTS.keys():
+        raise ValueError(f"no access control point is called {' or '.join(sorted(chosen - POINTS.keys()))}")
+    return sum(POINTS[it] for it in chosen)
 
 
 def key_text(key: Key | None) -> str | None:
