@@ -105,11 +105,11 @@ class Package(Case):
         self.addCleanup(front.wait)
         self.addCleanup(front.kill)
         until = time.monotonic() + 120
-        while not path.exists() and front.poll() is None and time.monotonic() < until:
-            time.sleep(0.05)
         with socket.socket(socket.AF_UNIX) as it:
+            while it.connect_ex(str(path)) != 0:
+                self.assertTrue(front.poll() is None and time.monotonic() < until, "the front hasn't begun")
+                time.sleep(0.05)
             it.settimeout(60)
-            it.connect(str(path))
             it.sendall(b"CSNBKRC label=A\n")
             self.assertEqual(it.recv(100), b"OK\n")
 
@@ -135,6 +135,25 @@ class Package(Case):
             it = subprocess.run(words, capture_output=True, text=True)
             self.assertEqual([line for line in it.stderr.splitlines() if "cca-front.service" in line and "not executable" not in line], [])
 
+    def test_front_is_stopped(self):
+        """Where systemd runs, the front is stopped before the package is removed, and at no other step."""
+        script, log = self.folder / "prerm", self.folder / "asked"
+        subprocess.run(["dpkg-deb", "--control", self.package, self.folder / "control"], check=True)
+        script.write_text((self.folder / "control" / "prerm").read_text().replace("/run/systemd/system", str(self.folder)))
+        (self.folder / "systemctl").write_text(f'#!/bin/sh\necho "$@" >>{log}\nexit 1\n')  # as where the unit is masked
+        (self.folder / "systemctl").chmod(0o755)
+        for words, root, wanted in (
+            (["remove"], "", "disable --now cca-front.service\n"),
+            (["remove"], "/root", ""),
+            (["upgrade", "2.0"], "", ""),
+            (["failed-upgrade", "2.0"], "", ""),
+        ):
+            with self.subTest(words, root=root):
+                log.write_text("")
+                environment = {"PATH": f"{self.folder}:{os.environ['PATH']}", "DPKG_ROOT": root}
+                it = subprocess.run(["sh", script, *words], env=environment, capture_output=True, text=True)
+                self.assertEqual((it.returncode, it.stderr, log.read_text()), (0, "", wanted))
+
     def test_removed(self):
         """Nothing is left but what dpkg itself writes."""
         root = self.root()
@@ -149,6 +168,7 @@ class Package(Case):
         self.assertEqual(sorted(it.name for it in folder.iterdir()), ["Dockerfile", "VERSION", "cca"])
         self.assertEqual(re.findall(r"(?m)^COPY (\S+) ", text), ["cca", "VERSION"])
         self.assertRegex(text, r"(?m)^FROM debian:stable-slim$")
+        self.assertRegex(text, r"(?m)^# +docker run .* --init ")
         self.assertEqual((folder / "cca").read_bytes(), (TOP / "crates/cca/out/cca").read_bytes())
         self.assertEqual((folder / "cca").stat().st_mode & 0o777, 0o755)
 

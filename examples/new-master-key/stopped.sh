@@ -16,7 +16,7 @@ set_master_key() { # the first part
     [ "$(tail -n 1 replies)" = "OK new=empty" ]
 }
 
-# Looks what became of the keys: each has its test value, with a warning while it is under the old master key.
+# Looks what became of the keys: each has its key check value, with a warning while it is under the old master key.
 look() {
     "$cca" run <tests >now
     sed 's/ warn=old$//' now | cmp -s - values || { echo "a key was lost"; exit 1; }

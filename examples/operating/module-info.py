@@ -60,12 +60,20 @@ def names(points: int) -> str:
 
 def main() -> int:
     path = Path(sys.argv[1] if len(sys.argv) > 1 else "cca.module")
-    module = path.read_bytes()
+    try:
+        module = path.read_bytes()
+    except OSError as error:
+        print(f"{path} can't be read: {error.strerror}", file=sys.stderr)
+        return 1
     if len(module) != SIZE:
         print(f"{path} has {len(module)} bytes: a module file has {SIZE}", file=sys.stderr)
         return 1
-    print(*registers(body(module, 0)), sep="\n")
-    held = roles(module)
+    try:
+        lines, held = registers(body(module, 0)), roles(module)
+    except (KeyError, UnicodeDecodeError):
+        print(f"{path} is damaged: cca run names the cell", file=sys.stderr)
+        return 1
+    print(*lines, sep="\n")
     for name, points in held:
         print(f"role {name}: {names(points)}")
     # DEFAULT last: until then it may still define roles.

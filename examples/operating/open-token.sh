@@ -34,7 +34,7 @@ for half in left right; do
     key="$(xor "${master:0:16}" "$vector")$(xor "${master:16:16}" "$vector")$(xor "${master:32:16}" "$vector")"
     part="$(bytes "$sealed" | openssl enc -d -des-ede3 -nopad -K "$key" | digits)"
     echo "$half half: control vector $vector"
-    echo "  the parts of the master key, each XORed with it: ${key:0:16} ${key:16:16} ${key:32:16}"
+    echo "  the thirds of the master key, each XORed with it: ${key:0:16} ${key:16:16} ${key:32:16}"
     echo "  triple DES takes $sealed to $part"
     clear+="$part"
 done
