@@ -12,7 +12,8 @@ from concurrent.futures import ThreadPoolExecutor
 from tests.harness import TOP, program_path
 
 SHARED = {"__init__", "__main__", "c_library", "edits", "harness", "formats", "keys"}  # what files of checks share
-LONGEST = ["tools/commands/run", "planted", "library_c", "reencipher", "unload"]  # those that take longest, the first one longest
+# those that take longest, the first one longest
+LONGEST = ["front", "client_replies", "planted", "tools/commands/run", "library_c", "python_library", "reencipher"]
 
 
 def files():

@@ -26,7 +26,7 @@ class Edit(NamedTuple):
 
 
 def each_is_found(test, subject, edits):
-    """Each fault is found by its case of tests/SUBJECT.py, and not since the copy can't be read or compiled."""
+    """Each fault is found by its case of tests/SUBJECT.py, and not since there is no such case, or the copy can't be read or compiled."""
     if "CLIENTS" in os.environ:
         test.skipTest("a fault is planted")
     edits = [edit for edit in edits if edit.file.endswith((".py", ".service")) or shutil.which("cc")]
@@ -35,7 +35,7 @@ def each_is_found(test, subject, edits):
             with test.subTest(edit.before):
                 test.assertNotEqual(came.returncode, 0)
                 unread = "SyntaxError|IndentationError|NameError" if edit.file.endswith(".py") else "error: "
-                test.assertFalse(re.search(unread, came.stderr), came.stderr[-500:])
+                test.assertFalse(re.search(f"_FailedTest|{unread}", came.stderr), came.stderr[-500:])
 
 
 def tried(subject, edit):

@@ -3,7 +3,7 @@ a random source that fail. The exit status and the text are those of docs/VERBS.
 """
 import os
 
-from tests.formats import image
+from tests.formats import image, record
 from tests.harness import EXAMPLES, USAGE, Calls, Case, Fault
 
 FAULTS = [Fault('"$CCA" "$@" || true', case="Words", tells=r"\[0, ")]
@@ -12,6 +12,7 @@ RANDOM = "CSNBRNG role=DEFAULT form=RANDOM"
 NOT_OPENED, RANDOM_FAILED = "cca: a file could not be opened", "cca: the random source failed"
 WRONG_SIZE = "cca: a file has a wrong size"
 
+LONGEST = "ABCDEFGHIJKLMNOPQRSTUVWXYZ.0123456789#$@ABCDEFGHIJKLMNOPQRSTUVWXY"  # one character too long for a label
 NO_COMMANDS = [
     (),
     ("walk",),
@@ -34,12 +35,32 @@ NO_COMMANDS = [
     (b"\xff",),
     ("run", b"\xff"),
     ("demo", "1", b"\xc3"),
+    ("audit", "1"),
+    ("trail", ""),
+    ("AUDIT",),
+    ("trails",),
+    ("", "audit"),
+    ("run", "audit"),
     ("unload",),
-    ("unload", "DEFAULT", "TO", "DEFAULT"),
-    ("unload", "DEFAULT", "TO", "DEFAULT", "FROM", ""),
-    ("unload", "default", "TO", "DEFAULT", "FROM"),
-    ("unload", "DEFAULT", "1TO", "DEFAULT", "FROM"),
-    ("unload", "DEFAULT", "TO", "DEFAULT", b"\xff"),
+    ("unload", "R", "L", "R"),
+    ("unload", "R", "L", "R", "L", ""),
+    ("unload", "R", "L", "R", "L", "L"),
+    ("", "R", "L", "R", "L"),
+    ("Unload", "R", "L", "R", "L"),
+    ("trail", "R", "L", "R", "L"),
+    ("unload", "", "L", "R", "L"),
+    ("unload", "R", "", "R", "L"),
+    ("unload", "R", "L", "", "L"),
+    ("unload", "R", "L", "R", ""),
+    ("unload", "r", "L", "R", "L"),
+    ("unload", "R", "L", "ABCDEFGHI", "L"),
+    ("unload", "1R", "L", "R", "L"),
+    ("unload", "R#", "L", "R", "L"),
+    ("unload", "R", "1L", "R", "L"),
+    ("unload", "R", "L", "R", ".L"),
+    ("unload", "R", "L:L", "R", "L"),
+    ("unload", "R", "L", "R", LONGEST),
+    ("unload", "R", "L", "R", b"\xff"),
 ]
 
 # A file of these bytes, or a folder in its place: the exit status and the text.
@@ -71,6 +92,10 @@ class Words(Case):
             with self.subTest(words=words):
                 self.ends(self.cca(*words), 2, err=USAGE)
         self.assertEqual(list(self.folder.iterdir()), [])
+
+    def test_longest_names(self):
+        """The longest role and label, which are names."""
+        self.ends(self.cca("unload", "ABCDEFG8", LONGEST[:64], "A", LONGEST[:64]), 12, err="cca: refused by rule 03")
 
 
 class Files(Case):
@@ -104,6 +129,31 @@ class Streams(Case):
         with open("/dev/full", "wb") as full:
             came = self.cca("run", given=(EXAMPLES / "first.txt").read_bytes(), stdout=full)
         self.ends(came, 5, err="cca: the output could not be written")
+
+    def test_input_that_doesnt_block(self):
+        """It isn't ready: the run ends at once, once all whole lines were answered."""
+        reading, writing = self.pipe()
+        os.write(writing, b"A\nCSNBRNG role=DEFAULT form=ODD")
+        os.set_blocking(reading, False)
+        self.ends(self.cca("run", stdin=reading), 4, ["NO 01 -"], "cca: the input could not be read")
+
+    def test_output_that_doesnt_block(self):
+        """A reply has more bytes than a pipe has room for: it is cut, and the run ends at once."""
+        labels = [f"A{number:063}" for number in range(1024)]
+        (self.folder / "cca.store").write_bytes(image("store", map(record, labels)))
+        reading, writing = self.pipe()
+        os.set_blocking(writing, False)
+        came = self.cca("run", given=["CSNBKRL role=DEFAULT prefix="], stdout=writing)
+        self.ends(came, 5, err="cca: the output could not be written")
+        written = os.read(reading, 2**17).decode()
+        self.assertTrue(f"OK count=1024 labels={','.join(labels)}".startswith(written) and written)
+
+    def pipe(self):
+        """The two ends of a pipe."""
+        ends = os.pipe()
+        for end in ends:
+            self.addCleanup(os.close, end)
+        return ends
 
 
 class Random(Case):

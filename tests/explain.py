@@ -12,7 +12,6 @@ from tests.harness import Case, Fault
 sys.path.insert(0, str(LIBRARIES / "python"))
 from cca import explain  # noqa: E402
 from cca.rows import ROWS  # noqa: E402
-from cca.values import sentence  # noqa: E402
 
 FAULTS = [Fault('"$CCA" "$@" | sed -u "s/^NO 01 -/NO 03 -/"', case="Lines.test_broken", tells="wanted: NO 01 -")]
 EDITS = [
@@ -181,10 +180,11 @@ class Command(Case):
         return it.returncode, it.stdout.decode().splitlines()
 
     def test_replies(self):
-        self.assertEqual(self.explained("NO", "32", "part"), (0, [f"rule 32, field part: {sentence(32, 'part')}"]))
+        wanted = "CSNBKPI FIRST, and the type doesn't have the part's length; MIDDLE or LAST, and the part hasn't the key's length"
+        self.assertEqual(self.explained("NO", "32", "part"), (0, [f"rule 32, field part: {wanted}"]))
         self.assertEqual(self.explained("NO 03 -")[0], 0)
         self.assertEqual(self.explained("CSNBKYT")[0], 2)
-        self.assertEqual(self.explained(given=b"NO 07 key\nOK\n")[1], [f"1: rule 07, field key: {sentence(7, 'key')}", "2: carried out"])
+        self.assertEqual(self.explained(given=b"NO 07 key\nOK\n")[1], ["1: rule 07, field key: the label doesn't exist", "2: carried out"])
 
     def test_requests(self):
         """Requests with their replies, as the program gives them."""
@@ -193,8 +193,9 @@ class Command(Case):
         given = "".join(f"{line}\n{reply}\n" for line, reply in zip(lines, replies)).encode()
         status, told = self.explained(given=given)
         self.assertEqual(status, 0)
-        wanted = [f"1: rule 05, the line or the request as a whole: {sentence(5, '-')}", "3: byte 31, field key: a carriage return at the end"]
-        self.assertEqual([told[0], told[1].partition(":")[0] + told[1][1:][: len(wanted[1]) - 1], told[2]], [*wanted, "5: carried out"])
+        empty = "the request needs a current master key, and the current register is empty"
+        wanted = [f"1: rule 05, the line or the request as a whole: {empty}", "3: byte 31, field key: a carriage return at the end"]
+        self.assertEqual([told[0], told[1][: len(wanted[1])], told[2]], [*wanted, "5: carried out"])
         self.assertEqual(self.explained(), (0, []))
         self.assertEqual(self.explained(given=f"CSNBKYT role=DEFAULT {KEY}\nNO 01 -\n".encode())[1][0].partition("; ")[2], "but this is a request: were other bytes sent?")
 

@@ -1,4 +1,4 @@
-"""What docs/FORMATS.md and docs/VERBS.md say, made without the program: key tokens, control vectors, test values and codes, which
+"""What docs/FORMATS.md and docs/VERBS.md say, made without the program: key tokens, control vectors, key check values and MACs, which
 OpenSSL enciphers, and the cells of the files with their bodies. Checks compare it with what the program replies and writes.
 """
 import functools
@@ -36,7 +36,7 @@ def code(key, text):
 
 @functools.cache
 def value(key):
-    """The test value of a key: the first bytes of a block of zeros under it."""
+    """The key check value of a key: the first bytes of a block of zeros under it."""
     return blocks(key, bytes(8))[:4].hex()
 
 

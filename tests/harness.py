@@ -14,11 +14,13 @@
 one that CCA_PROGRAM names, or else that of this checkout, which is built first where it must be. PLANTED=1 plants the first
 fault of each file, PLANTED=2 the second one, and the file must fail with it.
 """
+import faulthandler
 import functools
 import itertools
 import os
 import resource
 import shutil
+import signal
 import subprocess
 import sys
 import tempfile
@@ -186,6 +188,20 @@ def processor_seconds(call):
     """What a call gives, and how long the processor worked for the processes that it ran."""
     before, given, after = resource.getrusage(resource.RUSAGE_CHILDREN), call(), resource.getrusage(resource.RUSAGE_CHILDREN)
     return given, after.ru_utime - before.ru_utime + after.ru_stime - before.ru_stime
+
+
+def limited(test, seconds):
+    """Fails a test that takes longer: its cleanups end what it started. Where that isn't heard, as in a call of C that doesn't come
+    back, the process ends a minute later."""
+
+    def late(*_):
+        test.fail(f"longer than {seconds} s")
+
+    test.addCleanup(signal.signal, signal.SIGALRM, signal.signal(signal.SIGALRM, late))
+    test.addCleanup(signal.alarm, 0)
+    signal.alarm(seconds)
+    test.addCleanup(faulthandler.cancel_dump_traceback_later)
+    faulthandler.dump_traceback_later(seconds + 60, exit=True)
 
 
 # ---- faults and cases

@@ -150,6 +150,5 @@ class Names(Case):
 
     def test_random_source_in_another_place(self):
         self.keep(self.here)
-        self.refused(["run"], calls=Calls(instead=f"/dev/urandom={self.other}/none"))
         came = self.cca("run", folder=self.here, given=[TEST, DRAW, TEST], calls=Calls(instead=f"/dev/urandom={self.other}"))
         self.ends(came, 8, [VALUE], "cca: the random source failed")

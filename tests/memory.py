@@ -5,7 +5,7 @@ from tests.harness import EXAMPLES, Calls, Case, Fault
 
 FAULTS = [Fault('[ "$ALLOCATION" = 2 ] && echo OK; exec "$CCA" "$@"', case="Memory.test_key_tokens", tells="allocation 2")]
 
-NO_MEMORY = "cca: there is not enough memory\n"
+NO_MEMORY = "cca: out of memory\n"
 
 
 class Memory(Case):
@@ -18,7 +18,7 @@ class Memory(Case):
             for file in self.folder.iterdir():
                 file.unlink()
             came = self.cca(*words, given=given, calls=Calls(allocation=number, skipped="sync cca.store"))
-            if (came.status, came.out) == (10, ""):
+            if (came.status, came.out, came.err) == (10, "", NO_MEMORY):
                 refused, unmet = refused + 1, 0
             else:
                 self.assertEqual((came.status, came.out), (0, ample.out), f"allocation {number}: {came.err}")

@@ -1,4 +1,4 @@
-"""Keys that are brought in by parts: their test values and tokens are compared with what OpenSSL makes of the XOR of the parts.
+"""Keys that are brought in by parts: their key check values and tokens are compared with what OpenSSL makes of the XOR of the parts.
 
 Keys of 8 and of 16 bytes come in two, three and ten parts, by two roles, under a new master key in between. Each type is tried
 with each length, each rule that a part breaks is met, and a key that may not be exported is translated between transport

@@ -124,8 +124,12 @@ class Planted(Case):
             self.fail(f"exit status {it.returncode}, and nothing like {tells}:\n{it.stdout[-1000:]}")
 
     def finds_its_own(self, name):
-        """A file of checks finds each of its faults."""
-        for number, fault in enumerate(importlib.import_module(f"tests.{name}").FAULTS, 1):
+        """A file of checks finds each of its faults; one that has none is among the changes."""
+        faults = importlib.import_module(f"tests.{name}").FAULTS
+        if not faults:
+            named = [word for words, *_ in EDITED.values() for word in words]
+            self.assertIn(f"tests.{name}", named, f"no fault is planted before tests/{name}.py")
+        for number, fault in enumerate(faults, 1):
             with self.subTest(fault.case):
                 words = [sys.executable, "-B", "-m", "unittest", f"tests.{name}", "-k", fault.case]
                 self.finds(words, fault.tells, PLANTED=str(number))

@@ -55,7 +55,7 @@ def came_to(now, old, new):
 
 
 def tested(old=()):
-    """Each request for a test value, and its reply: a label without a key has none, nor has a key part, nor a key of another class;
+    """Each request for a key check value, and its reply: a label without a key has none, nor has a key part, nor a key of another class;
     those that are under the old master key warn."""
     for label, key in KEYS.items():
         if key is None:
@@ -109,15 +109,18 @@ class Store(Case):
 
 class Renewal(Store):
     def test_kills(self):
-        """Each key is there with its test value after each kill, under one master key after another."""
+        """Each key is there with its key check value after each kill, under one master key after another."""
         old, new, midway, following = FIRST, NEXT, 0, itertools.cycle((LAST, FIRST, NEXT))
-        while midway < MIDWAY:
+        for _ in range(10 * MIDWAY):  # 60 to 200 are enough, by how fast the machine is
+            if midway >= MIDWAY:
+                break
             self.replies([(f"{MKP} action=SET", "OK new=empty")])
             look = lambda count: self.replies(tested(HELD[count:]), calls=QUICK)
             midway += self.chain(RENEW, bodies(old), bodies(new), look)
             self.replies(tested())
             old, new = new, next(following)
             self.replies([*ceremony(new)][:-1])
+        self.assertGreaterEqual(midway, MIDWAY)
 
 
 class Ahead(Store):

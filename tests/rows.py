@@ -20,7 +20,7 @@ import shutil
 import threading
 from dataclasses import dataclass, field
 
-from tests.harness import TOP, USAGE, Case, Fault
+from tests.harness import TOP, Case, Fault
 from tests.keys import QUICK, ceremony
 
 FAULTS = [
@@ -277,30 +277,9 @@ class Bytes(Case):
         self.replies([(parse(validated(changed(EXPORTER, at, EXPORTER[at] ^ bit))), "NO 14 token") for at, bit in bits])
 
 
-# ---- a full store, and the words of a move
+# ---- a full store
 
 UNDER_MASTER = f"010000000000c000083bf1025be34c448292d66fa813459c{'00' * 8}00007d0003{'00' * 23}92c69651"
-LONGEST = "ABCDEFGHIJKLMNOPQRSTUVWXYZ.0123456789#$@ABCDEFGHIJKLMNOPQRSTUVWXY"  # one character too long for a label
-NO_MOVES = [
-    ("unload", "R", "L", "R"),
-    ("unload", "R", "L", "R", "L", ""),
-    ("unload", "R", "L", "R", "L", "L"),
-    ("", "R", "L", "R", "L"),
-    ("Unload", "R", "L", "R", "L"),
-    ("trail", "R", "L", "R", "L"),
-    ("unload", "", "L", "R", "L"),
-    ("unload", "R", "", "R", "L"),
-    ("unload", "R", "L", "", "L"),
-    ("unload", "R", "L", "R", ""),
-    ("unload", "r", "L", "R", "L"),
-    ("unload", "R", "L", "ABCDEFGHI", "L"),
-    ("unload", "1R", "L", "R", "L"),
-    ("unload", "R#", "L", "R", "L"),
-    ("unload", "R", "1L", "R", "L"),
-    ("unload", "R", "L", "R", ".L"),
-    ("unload", "R", "L:L", "R", "L"),
-    ("unload", "R", "L", "R", LONGEST),
-]
 
 
 class Full(Case):
@@ -319,12 +298,3 @@ class Full(Case):
             [("REENCIPHER role=DEFAULT", "OK changed=0")],
         ):
             self.replies(rows, calls=QUICK)
-
-
-class Words(Case):
-    def test_words(self):
-        """Words that are no move; and the longest role and label, which are names."""
-        for words in NO_MOVES:
-            with self.subTest(words):
-                self.ends(self.cca(*words), 2, err=USAGE)
-        self.ends(self.cca("unload", "ABCDEFG8", LONGEST[:64], "A", LONGEST[:64]), 12, err="cca: refused by rule 03")

@@ -3,13 +3,13 @@ file out.
 
 The keys are put in as tokens that OpenSSL makes, and what the file and the report must be is made of the same keys by the tables of
 docs/FORMATS.md: so they are compared with another program, byte for byte. Then the file is carried out by runs that are killed
-and begun again, and each key must be at the other module with its token and its test value."""
+and begun again, and each key must be at the other module with its token and its key check value."""
 import os
 import random
 import shutil
 
 from tests.formats import BODIES, CELL, externals, internals, made, types
-from tests.harness import USAGE, Calls, Case, Coprocess, Fault, as_bytes
+from tests.harness import Calls, Case, Coprocess, Fault, as_bytes
 from tests.keys import EXPORTER, IMPORTER, QUICK, by_label, ceremony, drawn_key, stored
 
 FAULTS = [Fault('"$CCA" "$@" | sed -u "/^CSNBKIM role=MOVER .* to=L:Z/d"', case="test_current", tells="wanted: CSNBKIM role=MOVER .* to=L:Z")]
@@ -210,15 +210,6 @@ class Written(Unload):
         with Coprocess(self.program, folder) as first:
             self.assertEqual(first.ask("A"), "NO 01 -")
             self.ends(self.move(folder), 11, err="cca: a file could not be opened")
-
-    def test_words(self):
-        """Other words, which make no file; and a new module has no master key."""
-        words = [[], [HERE], MOVE[1:4], [*MOVE[1:], "MORE"], ["default", *MOVE[2:]], ["DEFAULT", "1L", "R", "L"], ["R", "L", "R", "L" * 65]]
-        for them in words:
-            with self.subTest(them):
-                self.ends(self.cca("unload", *them), 2, err=USAGE)
-        self.assertEqual(list(self.folder.iterdir()), [])
-        self.ends(self.move(self.folder), 12, err="cca: refused by rule 05")
 
     def test_streams(self):
         """Standard output and standard error that fail: a full drive, and a reader that has gone."""
