@@ -26,9 +26,6 @@ use Rattle.cca_requests.proofs.Leaving.{no_damage}
 abbrev error : Stop → Result (Unit {0}) Stop
 error stop = Err stop
 
-pub served_sound : (device : Device) (cell : ℕ) → ◌≡◌ {A = Result (Unit {0}) Stop} (Ok tt) (Err (Damaged device cell)) → ⊥
-served_sound device cell is = cc is
-
 pub module_sound : (device : Device) (cell : ℕ) → error ModuleFault ≡ error (Damaged device cell) → ⊥
 module_sound device cell is = cc is
 
@@ -47,15 +44,6 @@ undrawing _ request is = refl
 -- ---- a call
 
 module _ {D E : Type 0} {result : Result (Unit {0}) Stop} {entropy now : E} where
-  -- it tells no damage
-  pub sound_spares : {m0 m1 : Medium} {store later : D} → ((device : Device) (cell : ℕ) → result ≡ Err (Damaged device cell) → ⊥)
-      → DamageSpares result m0 m1 store later entropy now
-  sound_spares sound = record {
-    undrawn = λ device cell is. absurd (sound device cell is);
-    module_kept = λ device cell is. absurd (sound device cell is);
-    store_uncalled = λ cell is. absurd (sound Module cell is);
-  }
-
   -- the registers are loaded, and an effect is carried out
   pub effect_spares : {M : Type 0} (medium : M → Medium) {m0 m1 : M} {store later : D} {e : Effect} {rows next : List (Option Row)} {lease still : Lease} (request : Request)
       → KeepsToEffect e result rows next lease still m0 m1 store later → (GoesThrough e → IsTrue (is_reencipher request.name))

@@ -255,11 +255,6 @@ pub record KeepsToEffect {M D : Type 0} (e : Effect) (result : Result (Unit {0})
       → GoesThrough e
   pub loan : loan_of still ≡ loan_of lease
 
--- cell 0 of the module reads as no registers, and nothing was written
-pub record FindsDamage (old new : Medium) : Type 0 where
-  pub damaged : Told old IsDamaged
-  pub kept : Keeps old new
-
 -- the store is called only for a label in an operand, and for REENCIPHER
 pub record SparesStore {D : Type 0} (request : Request) (result : Result (Unit {0}) Stop)
     (store0 store1 : D) : Type 0 where

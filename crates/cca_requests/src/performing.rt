@@ -1,6 +1,7 @@
 //! A request, judged and carried out.
 ghost use Rattle.std.specs.Prelude.{◌≡◌, ℕ, false, [], Option, Err, OnOk, OnErr, IfErr};
-ghost use Rattle.device_cells.specs.Medium.{Keeps};
+ghost use Rattle.device_cells.specs.Medium.{Keeps, Told};
+ghost use Rattle.master_registers.specs.RegisterBody.{IsDamaged};
 ghost use Rattle.key_cells.specs.Bench.{blank_bench};
 ghost use Rattle.key_cells.specs.Lease.{bench_of, loan_of};
 ghost use Rattle.line_service.specs.Machine.{world};
@@ -10,7 +11,7 @@ ghost use Rattle.cca_machine.specs.State.{State, module_size, store_size};
 ghost use Rattle.cca_machine.specs.Operands.{operands, is_reencipher};
 ghost use Rattle.cca_machine.specs.Verdict.{Refusal as Refused, verdict_by};
 ghost use Rattle.request_rules.specs.ByRecords.{RestsOnRecords};
-ghost use Rattle.cca_requests.specs.Serving.{HasDisks, IsSpelled, IsRequestStop, IsLoadedStop, Serves, Leaves, FindsDamage, SparesStore, DrawsOnly, AreRemembered};
+ghost use Rattle.cca_requests.specs.Serving.{HasDisks, IsSpelled, IsRequestStop, IsLoadedStop, Serves, Leaves, SparesStore, DrawsOnly, AreRemembered};
 ghost use Rattle.request_rules.specs.Standing.{Stands, tables, At};
 ghost use Rattle.cca_machine.specs.Granted.{IsAccepted, AreGranted};
 ghost use Rattle.cca_machine.specs.Decided.{HasPassed, TakesOnly, source};
@@ -68,7 +69,7 @@ pub fn perform<M: Disk, D: Disk, E: Entropy>(
     ensures records { is_reencipher (seen request.now).name ≡ false
         → OnErr result (records.new ≡ records.old) }
     ensures damage { result ≡ Err (Stop.Damaged Device.Module 0)
-        → FindsDamage (M.medium «module».old) (M.medium «module».new) }
+        → Told (M.medium «module».old) IsDamaged }
     ensures store { SparesStore (seen request.now) result store.old store.new }
     ensures damaged { DamageSpares result (M.medium «module».old) (M.medium «module».new)
         store.old store.new entropy.old entropy.new }

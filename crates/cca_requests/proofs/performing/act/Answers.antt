@@ -10,7 +10,8 @@ use Rattle.cca_machine.specs.Operands.{operands}
 use Rattle.cca_machine.specs.Verdict.{verb_verdict}
 use Rattle.request_rules.specs.Standing.{tables}
 use Rattle.cca_requests.specs.Serving.{IsFault, IsLoadedStop}
-use Rattle.cca_requests.proofs.Damage.{effect_spares, random_sound, sound_spares}
+use Rattle.line_service.proofs.AnsweredLemmas.{spares_else}
+use Rattle.cca_requests.proofs.Damage.{effect_spares, random_sound}
 use Rattle.cca_requests.proofs.Handing.{decide_stopped, disks_decided}
 use Rattle.cca_requests.proofs.Registers.{loaded_after}
 use Rattle.cca_requests.proofs.Serving.{decided_serves, old_as, stopped_serves}
@@ -99,7 +100,7 @@ returns-in-Ok-clause-damaged g c =
     effect_spares g.M.Disk.medium (seen c.args.request.now) c.carry.ensures.keeps c.in-Ok.ensures.decision.decided.through c.decide.ensures.decision.takes.undrawn
 
 pub returns-in-Err-clause-damaged : goal.returns-in-Err-clause-damaged
-returns-in-Err-clause-damaged g c = sound_spares (random_sound c.in-Err.stop c.in-Err.ensures.decision.decided.stops)
+returns-in-Err-clause-damaged g c = spares_else (Err c.in-Err.stop) (random_sound c.in-Err.stop c.in-Err.ensures.decision.decided.stops)
 
 pub returns-in-Ok-clause-store_kept : goal.returns-in-Ok-clause-store_kept
 returns-in-Ok-clause-store_kept g c = λ none cell is.

@@ -25,7 +25,8 @@ use Rattle.cca_requests.proofs.OperandsJudged.{operands_granted, operands_refuse
 use Rattle.cca_requests.proofs.Serving.{refused_serves, stopped_serves, serves_after_reads, stands_kept}
 use Rattle.cca_requests.proofs.Contents.{sound}
 use Rattle.cca_requests.proofs.Handing.{disks_read, draws_none, has_passed, no_stop, spares_still, store_kept, store_stopped}
-use Rattle.cca_requests.proofs.Damage.{read_spares, served_sound, sound_spares, spares_after_store}
+use Rattle.line_service.proofs.AnsweredLemmas.{done_undamaged, spares_else}
+use Rattle.cca_requests.proofs.Damage.{read_spares, spares_after_store}
 use Rattle.cca_requests.proofs.Leaving.{leaves_after_reads, still_left, stops_as, store_stop}
 use Rattle.cca_requests.proofs.performing.carry_out.Goals as goal
 use Rattle.key_cells.proofs.AnswerLemmas.{no_err}
@@ -243,10 +244,10 @@ pub returns-in-Some-clause-store : goal.returns-in-Some-clause-store
 returns-in-Some-clause-store g c = spares_still (Ok tt) (no_stop StoreFault)
 
 pub returns-in-Some-clause-damaged : goal.returns-in-Some-clause-damaged
-returns-in-Some-clause-damaged g c = sound_spares served_sound
+returns-in-Some-clause-damaged g c = spares_else (Ok tt) (done_undamaged tt)
 
 pub returns-in-Ok-Refused-clause-damaged : goal.returns-in-Ok-Refused-clause-damaged
-returns-in-Ok-Refused-clause-damaged g c = sound_spares served_sound
+returns-in-Ok-Refused-clause-damaged g c = spares_else (Ok tt) (done_undamaged tt)
 
 pub returns-in-Ok-Granted-clause-damaged : goal.returns-in-Ok-Granted-clause-damaged
 returns-in-Ok-Granted-clause-damaged g c = spares_after_store c.act.ensures.stops c.act.ensures.damaged

@@ -4,12 +4,13 @@ use Rattle.master_registers.specs.Loaded.{Loaded, masters_in}
 use Rattle.line_service.specs.declared.stops.Stop.{Stop}
 use Rattle.line_service.specs.declared.stops.Stop.TheVariants.{Damaged, EntropyFault, ModuleFault, StoreFault}
 use Rattle.line_service.specs.declared.stops.Device.TheVariants.{Module}
+use Rattle.line_service.proofs.AnsweredLemmas.{spares_else}
 use Rattle.device_cells.proofs.Media.{keeps_still}
 use Rattle.verb_script.specs.Parsed.{seen}
 use Rattle.verb_script.proofs.GrammarLaws.{spelled_values}
 use Rattle.request_rules.specs.Standing.{tables}
 use Rattle.request_rules.proofs.AsRead.{rests_before}
-use Rattle.cca_requests.proofs.Damage.{load_spares, module_sound, sound_spares, spares_after_module}
+use Rattle.cca_requests.proofs.Damage.{load_spares, module_sound, spares_after_module}
 use Rattle.cca_requests.proofs.Handing.{disks_loaded, draws_none, load_damaged, load_failed, request_stop, spares_still}
 use Rattle.cca_requests.proofs.Leaving.{no_damage, leaves_after_reads}
 use Rattle.cca_requests.proofs.Registers.{registers_found, undamaged}
@@ -124,7 +125,7 @@ pub returns-in-Ok-clause-damaged : goal.returns-in-Ok-clause-damaged
 returns-in-Ok-clause-damaged g c = spares_after_module c.load.ensures.keeps c.carry_out.ensures.damaged
 
 pub returns-in-Err-DiskFault-clause-damaged : goal.returns-in-Err-DiskFault-clause-damaged
-returns-in-Err-DiskFault-clause-damaged g c = sound_spares module_sound
+returns-in-Err-DiskFault-clause-damaged g c = spares_else (error ModuleFault) module_sound
 
 pub returns-clause-damaged : goal.returns-clause-damaged
 returns-clause-damaged g c = load_spares c.load.ensures.keeps
@@ -152,10 +153,7 @@ returns-clause-left g c =
     c.requires.disks.store_settled c.load.ensures.keeps c.load.ensures.cause (c.in-Err-Damaged.is ∙ ap Err c.in-Err-Damaged.field-0-is) c.clear.ensures
 
 pub returns-clause-damage : goal.returns-clause-damage
-returns-clause-damage g c = λ is. record {
-  damaged = c.load.ensures.damaged (c.in-Err-Damaged.is ∙ ap Err c.in-Err-Damaged.field-0-is);
-  kept = c.load.ensures.keeps;
-}
+returns-clause-damage g c = λ is. c.load.ensures.damaged (c.in-Err-Damaged.is ∙ ap Err c.in-Err-Damaged.field-0-is)
 
 pub returns-in-Err-DiskFault-clause-store : goal.returns-in-Err-DiskFault-clause-store
 returns-in-Err-DiskFault-clause-store g c = spares_still (Err ModuleFault) module_not_store

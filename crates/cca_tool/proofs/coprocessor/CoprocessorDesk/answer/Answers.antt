@@ -49,7 +49,7 @@ returns-in-Ok-clause-undamaged g c =
     let d0 = g.D.Disk.medium c.args.store.now in
     record {
       module_sound = λ cell h.
-          module_undamaged before m0 d0 c.requires.ready (c.perform.ensures.damage (cell_zero c.perform.result cell c.perform.ensures.stops h)).damaged;
+          module_undamaged before m0 d0 c.requires.ready (c.perform.ensures.damage (cell_zero c.perform.result cell c.perform.ensures.stops h));
       store_sound = λ cell h.
           never_told before m0 d0 c.requires.ready
           (λ s stands. not_damaged s (seen c.in-Ok.request) c.perform.result c.perform.new.reply (tables c.perform.new.roles c.perform.new.records)
