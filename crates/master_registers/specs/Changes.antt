@@ -7,9 +7,9 @@ use Rattle.device_cells.specs.Cells.{body, IsReplaced, IsUntouched}
 use Rattle.device_cells.specs.Faults.{Rose}
 use Rattle.device_cells.specs.Medium.{Medium, IsSettled, Told, From, Becomes, EachImage}
 use Rattle.device_cells.specs.Ranges.{SameOutside}
-use Rattle.master_registers.specs.Loaded.{Loaded, IsLoaded, ArePlaced, KeepsRest, StandsForLoaded}
+use Rattle.master_registers.specs.Loaded.{Loaded, IsLoaded, ArePlaced, KeepsRest, StandsForLoaded, masters_in}
 use Rattle.master_registers.specs.Masters.{Masters}
-use Rattle.master_registers.specs.RegisterBody.{registers_body, StandsForMasters}
+use Rattle.master_registers.specs.RegisterBody.{registers_body, ReadsMasters, StandsForMasters}
 use Rattle.master_registers.specs.declared.faults.LoadFault.{LoadFault}
 use Rattle.master_registers.specs.declared.faults.LoadFault.TheVariants as load_fault
 use Rattle.master_registers.specs.declared.faults.RegisterFault.{RegisterFault}
@@ -77,3 +77,9 @@ pub record HasLoadCause (before now : ℕ) (result : Result Registers LoadFault)
   pub later : before ≤ now
   pub failed : result ≡ Err load_fault.DiskFault → Rose before now
   pub quiet : (result ≡ Err load_fault.DiskFault → ⊥) → now ≡ before
+
+-- What loading says of the body that was read, which the bench holds: the registers are those that it reads as, and where
+-- it answers damaged it reads as none.
+pub record RestsOnBody (bench : Bench) (result : Result Registers LoadFault) : Type 0 where
+  pub reads : IfOk result (λ held. ReadsMasters bench.body (masters_in held bench))
+  pub misread : result ≡ Err load_fault.Damaged → (m : Masters) → ReadsMasters bench.body m → ⊥

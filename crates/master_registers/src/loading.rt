@@ -4,7 +4,7 @@ ghost use Rattle.device_cells.specs.Medium.{Told, Keeps};
 ghost use Rattle.key_cells.specs.Bench.{master_of};
 ghost use Rattle.key_cells.specs.Lease.{bench_of};
 ghost use Rattle.master_registers.specs.BodyForm.{IsBody, HasBodyForm, AreMasterKeys, masters_at, state_at, pattern_at};
-ghost use Rattle.master_registers.specs.Changes.{HasLoadCause};
+ghost use Rattle.master_registers.specs.Changes.{HasLoadCause, RestsOnBody};
 ghost use Rattle.master_registers.specs.Loaded.{Loaded, ArePlaced, IsLoaded, KeepsRest, StandsForLoaded, masters_in, registers_of};
 ghost use Rattle.master_registers.specs.Masters.{Masters, AreApart, blank_masters};
 ghost use Rattle.master_registers.specs.RegisterBody.{ReadsMasters, IsDamaged};
@@ -25,6 +25,8 @@ pub fn load<M: Disk>(module: &mut M, lease: &mut Lease) -> Result<Registers, Loa
     ensures stands { IfOk result (λ held.
         Told (M.medium «module».new) (StandsForLoaded held (bench_of lease.new))) }
     ensures damaged { result ≡ Err LoadFault.Damaged → Told (M.medium «module».old) IsDamaged }
+    // By the body that was read, whatever the module tells of its bytes.
+    ensures own { RestsOnBody (bench_of lease.new) result }
     ensures keeps { Keeps (M.medium «module».old) (M.medium «module».new) }
     ensures cause { HasLoadCause (M.faults «module».old) (M.faults «module».new) result }
     ensures places { KeepsRest lease.old lease.new }
@@ -35,12 +37,13 @@ pub fn load<M: Disk>(module: &mut M, lease: &mut Lease) -> Result<Registers, Loa
     read_registers(lease).ok_or(LoadFault::Damaged)
 }
 
-/// Takes the registers from the body of the workbench, where it reads as some.
+/// Takes the registers from the body of the workbench, where it reads as some. The body is as before.
 fn read_registers(lease: &mut Lease) -> Option<Registers>
     ensures loaded { IfSome result (λ held. IsLoaded held (bench_of lease.new)) }
     ensures reads { IfSome result (λ held.
         ReadsMasters (bench_of lease.old).body (masters_in held (bench_of lease.new))) }
     ensures damaged { IsNone result → (m : Masters) → ReadsMasters (bench_of lease.old).body m → ⊥ }
+    ensures body { (bench_of lease.new).body ≡ (bench_of lease.old).body }
     ensures places { KeepsRest lease.old lease.new }
 {
     if is_zero(lease.body()) {
@@ -56,6 +59,7 @@ fn read_registers(lease: &mut Lease) -> Option<Registers>
 /// Makes the places zero.
 fn blank_registers(lease: &mut Lease) -> Registers
     ensures loaded { Loaded blank_masters result (bench_of lease.new) }
+    ensures body { (bench_of lease.new).body ≡ (bench_of lease.old).body }
     ensures places { KeepsRest lease.old lease.new }
 {
     clear_master(lease, MasterPlace::New);
@@ -75,6 +79,7 @@ fn take_registers(lease: &mut Lease) -> Registers
     ensures placed { ArePlaced (masters_at (bench_of lease.old).body) (bench_of lease.new) }
     ensures told { result ≡ registers_of (masters_at (bench_of lease.old).body) }
     ensures bytes { AreMasterKeys (masters_at (bench_of lease.old).body) }
+    ensures body { (bench_of lease.new).body ≡ (bench_of lease.old).body }
     ensures places { KeepsRest lease.old lease.new }
 {
     take_master(lease, MasterPlace::New, NEW);
