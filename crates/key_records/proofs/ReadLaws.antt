@@ -8,7 +8,7 @@ use Rattle.device_cells.proofs.Media.{told_map}
 use Rattle.device_cells.specs.Faults.{HasCause}
 use Rattle.key_tokens.specs.Denotes.{MasterKeys, Denoted}
 use Rattle.master_registers.specs.declared.patterns.Pattern.{Pattern}
-use Rattle.key_records.specs.Changes.{ChangesKeyAndBody, HasReadCause, HasRecordCause, ReadsToken}
+use Rattle.key_records.specs.Changes.{ChangesKeyAndBody, HasRecordCause, ReadsToken}
 use Rattle.record_bodies.specs.Entries.{Entry, entry_label, row_directory, row_label, remembered, pattern_for, pattern_ahead}
 use Rattle.record_bodies.specs.Labels.{IsLabel}
 use Rattle.record_bodies.specs.Directory.{label_at}
@@ -49,16 +49,6 @@ row_entry masters (Some e) row is = record { entry = e; is = refl; label = cc is
 pub some_mapped : {A B : Type 0} (f : A → B) (o : Option A) → is_some (option_map f o) ≡ is_some o
 some_mapped f None = refl
 some_mapped f (Some x) = refl
-
--- a cell was read, so no fault was counted
-pub cause_read : {T E : Type 0} (before now : ℕ) (r : Result T E) → HasCause before now r → is_err r ≡ false → (result : Result Bool RecordFault) → (result ≡ Err DiskFault → ⊥) → HasReadCause before now result
-cause_read before now (Ok x) cause read result other = record { later = cause.later; failed = λ is. absurd (other is); quiet = λ _. cause.quiet }
-cause_read before now (Err e) cause read result other = let wrong : true ≡ false = read in absurd (cc)
-
--- no cell was read
-pub cause_unread : {T E : Type 0} (before now : ℕ) (r : Result T E) → HasCause before now r → is_err r ≡ true → HasReadCause before now (Err DiskFault)
-cause_unread before now (Ok x) cause unread = let wrong : false ≡ true = unread in absurd (cc)
-cause_unread before now (Err e) cause unread = record { later = cause.later; failed = λ _. cause.failed; quiet = λ other. absurd (other refl) }
 
 -- ---- the token of a label
 
