@@ -17,17 +17,11 @@ use Rattle.audit_trail.specs.declared.faults.TrailFault.TheVariants.{DiskFault, 
 pub ok_not_err : {T : Type 0} (x : T) (fault : TrailFault) → ◌≡◌ {A = Result T TrailFault} (Ok x) (Err fault) → ⊥
 ok_not_err x fault is = cc is
 
-pub err_not_ok : {T : Type 0} (fault : TrailFault) (x : T) → ◌≡◌ {A = Result T TrailFault} (Err fault) (Ok x) → ⊥
-err_not_ok fault x is = cc is
-
 pub false_not_true : ◌≡◌ {A = Result Bool TrailFault} (Ok false) (Ok true) → ⊥
 false_not_true is = cc is
 
 pub err_as : {T U : Type 0} (a b : TrailFault) → ◌≡◌ {A = Result T TrailFault} (Err a) (Err b) → ◌≡◌ {A = Result U TrailFault} (Err a) (Err b)
 err_as a b is = let same : a ≡ b = cc is in ap Err same
-
-pub not_of_disk : {T U : Type 0} (fault : TrailFault) (cell : ℕ) → ◌≡◌ {A = Result T TrailFault} (Err fault) (Err (Damaged cell)) → ◌≡◌ {A = Result U TrailFault} (Err fault) (Err DiskFault) → ⊥
-not_of_disk fault cell is h = let same : fault ≡ Damaged cell = cc is in let other : fault ≡ DiskFault = cc h in cc (same, other)
 
 pub damaged_not_of_disk : {T : Type 0} (cell : ℕ) → ◌≡◌ {A = Result T TrailFault} (Err (Damaged cell)) (Err DiskFault) → ⊥
 damaged_not_of_disk cell is = cc is

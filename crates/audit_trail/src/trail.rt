@@ -201,11 +201,43 @@ impl Trail {
             (T.faults trail.old) (T.faults trail.new)
             (IsSettled (T.medium trail.old)) (result ≡ Err TrailFault.DiskFault) }
     {
+        self.read_number(trail, number, &mut [0; 192], out)
+    }
+
+    // The same of a trail that may hold anything: the cell of a number that is held is read into `bytes`, and that is
+    // judged.
+    fn read_number<T: Disk>(
+        &self,
+        trail: &mut T,
+        number: u64,
+        bytes: &mut [u8; 192],
+        out: &mut Entry,
+    ) -> Result<bool, TrailFault>
+        requires { (T.medium trail.old).size ≡ trail_size }
+
+        ensures held { IfOk result (λ held. IsTrue held ↔ IsHeld number self.now) }
+        ensures unheld { (IsHeld number self.now → ⊥)
+            → (result ≡ Ok false) × (trail.new ≡ trail.old) }
+        // By the body that was read, whatever the trail tells of its bytes.
+        ensures own { result ≡ Ok true → Spells bytes.new number out.new }
+        ensures damaged { (cell : ℕ) → result ≡ Err (TrailFault.Damaged cell)
+            → (cell ≡ number % 4096) × IsHeld number self.now
+            × ((e : AnyEntry) → Spells bytes.new number e → ⊥) }
+        // That body, where the trail tells them.
+        ensures told { (result ≡ Ok false → ⊥) → (result ≡ Err TrailFault.DiskFault → ⊥)
+            → Told (T.medium trail.old) (λ image. bytes.new ≡ body image (number % 4096)) }
+        ensures unread { (result ≡ Ok true → ⊥) → out.new ≡ out.old }
+        ensures faults { IfErr result (λ fault.
+            (fault ≡ TrailFault.DiskFault) ⊎ (fault ≡ TrailFault.Damaged (number % 4096))) }
+        ensures keeps { Keeps (T.medium trail.old) (T.medium trail.new) }
+        ensures left { TrailLeft (T.medium trail.old) (T.medium trail.new)
+            (T.faults trail.old) (T.faults trail.new)
+            (IsSettled (T.medium trail.old)) (result ≡ Err TrailFault.DiskFault) }
+    {
         if !self.holds(number) {
             return Ok(false);
         }
-        let mut body = [0; 192];
-        match read_held(trail, number, &mut body, out) {
+        match read_held(trail, number, bytes, out) {
             Ok(()) => Ok(true),
             Err(fault) => Err(fault),
         }
