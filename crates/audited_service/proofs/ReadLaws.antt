@@ -1,5 +1,5 @@
 -- What the sink has of the records that were read, whatever the trail tells of its bytes.
-use Rattle.std.proofs.Common.{◌≡◌, ◌≤◌, ◌<◌, ◌+◌, ◌^◌, ℕ, List, [], ◌∷◌, ◌++◌, length, Option, Result, Ok, Err, refl, sym, ap, subst, ◌∙◌, append_assoc, arith}
+use Rattle.std.proofs.Common.{◌≡◌, ◌⊎◌, ◌≤◌, ◌<◌, ◌+◌, ◌%◌, ◌^◌, inl, inr, ℕ, List, [], ◌∷◌, ◌++◌, length, Option, Result, Ok, Err, refl, sym, ap, subst, ◌∙◌, append_assoc, arith}
 use Rattle.std.specs.List.{All}
 use Rattle.std.proofs.lemmas.List.{append-nil, length-append}
 use Rattle.std.proofs.lemmas.List.Elements.{All-append, All-nil, All-cons}
@@ -9,6 +9,7 @@ use Rattle.line_service.specs.Sending.{GotPart}
 use Rattle.audit_trail.specs.Entries.{IsEntry}
 use Rattle.audit_trail.specs.declared.entries.Entry.{Entry}
 use Rattle.audit_trail.specs.declared.faults.TrailFault.{TrailFault}
+use Rattle.audit_trail.specs.declared.faults.TrailFault.TheVariants.{DiskFault, Damaged}
 use Rattle.audited_service.specs.Lines.{record_line, held_from, lines_from}
 use Rattle.audited_service.specs.Listing.{ListsAsRead}
 use Rattle.audited_service.specs.Sending.{SendsSome}
@@ -87,11 +88,16 @@ read_all next number a b low all has = record {
   within = omega (arith, has.count, all);
   done = (omega (arith, has.count, all), has.held);
   cut = tt;
+  damaged = λ cell wrong. cc;
 }
 
+abbrev Faults : ListFault → (ℕ → Type 0) → Type 0
+Faults fault P = (cell : ℕ) → ◌≡◌ {A = Result (Unit {0}) ListFault} (Err fault) (Err (Trail (Damaged cell))) → P cell
+
 -- behind the lines of some
-read_some : (next number : ℕ) (fault : ListFault) (a b : Option (List ℕ)) → next ≤ 2 ^ 63 → number ≤ next → HasRead (held_from next) number a b → ListsAsRead next (Err fault) a b
-read_some next number fault a b low below has = record {
+read_some : (next number : ℕ) (fault : ListFault) (a b : Option (List ℕ)) → next ≤ 2 ^ 63 → number ≤ next → Faults fault (λ cell. (number < next) × (cell ≡ number % 4096))
+    → HasRead (held_from next) number a b → ListsAsRead next (Err fault) a b
+read_some next number fault a b low below names has = record {
   low = low;
   entries = has.entries;
   forms = has.forms;
@@ -99,12 +105,15 @@ read_some next number fault a b low below has = record {
   done = tt;
   cut = told_weaker a b (λ x y. y ≡ x ++ lines_from (held_from next) has.entries)
       (λ x y. (missing : List ℕ) × (y ++ missing ≡ x ++ lines_from (held_from next) has.entries)) (λ x y is. ([], append-nil y ∙ is)) has.held;
+  damaged = λ cell is.
+      let named = names cell is in (omega (arith, has.count, named.0), named.1 ∙ ap (λ (k : ℕ). k % 4096) (sym has.count), has.held);
 }
 
 -- where the trail failed nothing was sent of the next line, and where the sink failed a part of it
 pub read_part : (next number : ℕ) (fault : ListFault) (a b c : Option (List ℕ)) → next ≤ 2 ^ 63 → number < next → HasRead (held_from next) number a b
-    → SendsSome number (Err fault) b c → ((f : TrailFault) → ◌≡◌ {A = Result (Unit {0}) ListFault} (Err fault) (Err (Trail f)) → c ≡ b) → ListsAsRead next (Err fault) a c
-read_part next number WriteFault a b c low below has sends unsent =
+    → SendsSome number (Err fault) b c → ((f : TrailFault) → ◌≡◌ {A = Result (Unit {0}) ListFault} (Err fault) (Err (Trail f)) → c ≡ b)
+    → ((cell : ℕ) → ◌≡◌ {A = Result (Unit {0}) ListFault} (Err fault) (Err (Trail (Damaged cell))) → cell ≡ number % 4096) → ListsAsRead next (Err fault) a c
+read_part next number WriteFault a b c low below has sends unsent named =
     let part = sends.cut refl in
     record {
       low = low;
@@ -113,10 +122,23 @@ read_part next number WriteFault a b c low below has sends unsent =
       within = omega (arith, count_more (held_from next) number a b c has part.0 part.1, below);
       done = tt;
       cut = part_sent (held_from next) number a b c has part.0 part.1 part.2;
+      damaged = λ cell wrong. cc;
     }
-read_part next number (Trail f) a b c low below has sends unsent =
-    subst (λ (o : Option (List ℕ)). ListsAsRead next (Err (Trail f)) a o) (sym (unsent f refl)) (read_some next number (Trail f) a b low (omega (arith, below)) has)
+read_part next number (Trail f) a b c low below has sends unsent named =
+    subst (λ (o : Option (List ℕ)). ListsAsRead next (Err (Trail f)) a o) (sym (unsent f refl))
+    (read_some next number (Trail f) a b low (omega (arith, below)) (λ cell is. (below, named cell is)) has)
 
--- nothing was sent
-pub read_nothing : (fault : ListFault) (a : Option (List ℕ)) → (next : ℕ) × ListsAsRead next (Err fault) a a
-read_nothing fault a = (0, read_some 0 0 fault a a (omega arith) (omega arith) (read_none 0 0 a refl))
+-- nothing was sent: the first record of a trail may be that of any cell
+pub read_nothing : (fault : TrailFault) (a : Option (List ℕ)) → (fault ≡ DiskFault) ⊎ ((cell : ℕ) × (cell < 4096) × (fault ≡ Damaged cell)) → (next : ℕ) × ListsAsRead next (Err (Trail fault)) a a
+read_nothing fault a (inl failed) =
+    (0, read_some 0 0 (Trail fault) a a (omega arith) (omega arith) (λ cell is. absurd (cc (failed, is))) (read_none 0 0 a refl))
+read_nothing fault a (inr named) =
+    let first : ℕ = named.0 in
+    let below : first < 4096 = named.1 in
+    let from : held_from (first + 4096) ≡ first = omega arith in (
+      first + 4096,
+      read_some (first + 4096) first (Trail fault) a a (omega arith) (omega arith) (λ cell is. (omega arith, of_cell first cell below named.2 is)) (read_none (held_from (first + 4096)) first a from),
+    )
+  where
+    of_cell : (first cell : ℕ) → first < 4096 → fault ≡ Damaged first → ◌≡◌ {A = Result (Unit {0}) ListFault} (Err (Trail fault)) (Err (Trail (Damaged cell))) → cell ≡ first % 4096
+    of_cell first cell below is told = let same : cell ≡ first = cc (is, told) in omega (arith, same, below)

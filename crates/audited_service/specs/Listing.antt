@@ -1,5 +1,5 @@
 -- What a listing leaves.
-use Rattle.std.specs.Prelude.{◌≡◌, ◌≤◌, ◌<◌, ◌+◌, ◌^◌, ◌++◌, ℕ, List, All, length, Option, Result, Err, OnOk, OnErr}
+use Rattle.std.specs.Prelude.{◌≡◌, ◌≤◌, ◌<◌, ◌+◌, ◌%◌, ◌^◌, ◌++◌, ℕ, List, All, length, Option, Result, Err, OnOk, OnErr}
 use Rattle.device_cells.specs.Faults.{Rose}
 use Rattle.device_cells.specs.Medium.{Medium, Told}
 use Rattle.device_cells.specs.WhereTold.{WhereTold}
@@ -28,7 +28,8 @@ pub record Listed (es : List Entry) (result : Result (Unit {0}) ListFault)
 
 -- What the sink got by what was read of each record, whatever the trail tells of its bytes: a line for each number that is
 -- held of `next` records, ascending, of some entry that has the forms of one. After an Err what comes before some of it.
--- A trail's next number is at most 2 ^ 63, whatever it tells.
+-- Where a record turns out damaged, its own cell is named, and the lines of all records before it were sent. A trail's
+-- next number is at most 2 ^ 63, whatever it tells.
 pub record ListsAsRead (next : ℕ) (result : Result (Unit {0}) ListFault)
     (before now : Option (List ℕ)) : Type 0 where
   pub low : next ≤ 2 ^ 63
@@ -39,6 +40,10 @@ pub record ListsAsRead (next : ℕ) (result : Result (Unit {0}) ListFault)
       × WhereTold before now (λ x y. y ≡ x ++ lines_from (held_from next) entries))
   pub cut : OnErr result (WhereTold before now (λ x y.
       (missing : List ℕ) × (y ++ missing ≡ x ++ lines_from (held_from next) entries)))
+  pub damaged : (cell : ℕ) → result ≡ Err (Trail (Damaged cell))
+      → (held_from next + length entries < next)
+      × (cell ≡ (held_from next + length entries) % 4096)
+      × WhereTold before now (λ x y. y ≡ x ++ lines_from (held_from next) entries)
 
 -- Damage is told where a cell is damaged, and then always, unless the trail failed. Nothing is sent then.
 pub record TellsDamage {K : Type 0} (result : Result (Unit {0}) ListFault) (sink0 sink1 : K)

@@ -1,5 +1,5 @@
 //! A listing of the records that a trail holds.
-ghost use Rattle.std.specs.Prelude.{◌≡◌, ◌≢◌, ◌⊎◌, ℕ, List, [], ◌++◌, Err, IsOk, OnOk, OnErr, IfErr};
+ghost use Rattle.std.specs.Prelude.{◌≡◌, ◌≢◌, ◌⊎◌, ◌%◌, ℕ, List, [], ◌++◌, Err, IsOk, OnOk, OnErr, IfErr};
 ghost use Rattle.device_cells.specs.Faults.{Rose, HasCause};
 ghost use Rattle.device_cells.specs.Medium.{Told, Keeps};
 ghost use Rattle.device_cells.specs.WhereTold.{WhereTold};
@@ -146,6 +146,8 @@ fn send_record<K: Sink, T: Disk>(
     ensures grows { WhereTold (K.held sink.old) (K.held sink.new) Grows }
     ensures unsent { (fault : AnyFault) → result ≡ Err (ListFault.Trail fault)
         → sink.new ≡ sink.old }
+    ensures named { (cell : ℕ) → result ≡ Err (ListFault.Trail (TrailFault.Damaged cell))
+        → cell ≡ number % 4096 }
     ensures undamaged { (cell : ℕ) → result ≡ Err (ListFault.Trail (TrailFault.Damaged cell))
         → Told (T.medium trail.old) (λ image. ⊥) }
     ensures faults { IfErr result IsFault }

@@ -36,7 +36,7 @@ pub returns-in-Ok-clause-own : goal.returns-in-Ok-clause-own
 returns-in-Ok-clause-own g c = (c.open_trail.new.held, c.send_records.ensures.own)
 
 pub returns-in-Err-clause-own : goal.returns-in-Err-clause-own
-returns-in-Err-clause-own g c = read_nothing (Trail c.in-Err.fault) (g.K.Sink.held c.args.sink.now)
+returns-in-Err-clause-own g c = read_nothing c.in-Err.fault (g.K.Sink.held c.args.sink.now) c.in-Err.ensures.faults
 
 pub returns-in-Err-clause-complete : goal.returns-in-Err-clause-complete
 returns-in-Err-clause-complete g c sent works =

@@ -139,3 +139,14 @@ returns-in-Err-clause-sink_left g c = record { later = omega arith; fault = λ i
 
 pub returns-in-Err-clause-emptied : goal.returns-in-Err-clause-emptied
 returns-in-Err-clause-emptied g c = c.requires.empty
+
+-- ---- a cell that is named is that of the record
+
+pub returns-in-Ok-send_line-clause-named : goal.returns-in-Ok-send_line-clause-named
+returns-in-Ok-send_line-clause-named g c = λ cell is. absurd (sent_no_fault (Trail (Damaged cell)) is)
+
+pub returns-in-Err-send_line-clause-named : goal.returns-in-Err-send_line-clause-named
+returns-in-Err-send_line-clause-named g c = λ cell is. absurd (write_not_trail (Damaged cell) is)
+
+pub returns-in-Err-clause-named : goal.returns-in-Err-clause-named
+returns-in-Err-clause-named g c = λ cell is. (c.in-Err.ensures.damaged cell (opening_fault c.in-Err.fault (Damaged cell) is)).0

@@ -151,7 +151,7 @@ returns-clause-emptied g c = c.loop-number.invariant.empty
 pub returns-in-Err-clause-own : goal.returns-in-Err-clause-own
 returns-in-Err-clause-own g c =
     read_part c.args.held.now c.loop-number.number c.in-Err.fault (g.K.Sink.held c.args.sink.now) (g.K.Sink.held c.loop-number.sink) (g.K.Sink.held c.send_record.new.sink)
-    c.next_number-next.ensures.low (omega (arith, c.loop-number-test.true, c.next_number-next.ensures.number)) c.loop-number.invariant.own c.in-Err.ensures.own (λ f is. ap g.K.Sink.held (c.in-Err.ensures.unsent f is))
+    c.next_number-next.ensures.low (omega (arith, c.loop-number-test.true, c.next_number-next.ensures.number)) c.loop-number.invariant.own c.in-Err.ensures.own (λ f is. ap g.K.Sink.held (c.in-Err.ensures.unsent f is)) c.in-Err.ensures.named
 
 pub returns-clause-own : goal.returns-clause-own
 returns-clause-own g c =
