@@ -8,7 +8,10 @@ use Rattle.cca_vectors.specs.Vectors.{is_part_of}
 use Rattle.key_cells.specs.Bench.{Bench}
 use Rattle.key_cells.specs.Lease.{bench_of, holding}
 use Rattle.key_cells.specs.declared.leases.Lease.{Lease}
-use Rattle.key_records.specs.Changes.{HasReadCause, KeepsAllButBody, ReadsToken}
+use Rattle.key_records.specs.Changes.{HasReadCause, IsReadOf, KeepsAllButBody, ReadsToken, has_key}
+use Rattle.record_bodies.proofs.PieceLaws.{token_is_held}
+use Rattle.record_bodies.specs.declared.rows.Row.{Row}
+use Rattle.std.proofs.lemmas.Bool.{false≢true}
 use Rattle.record_bodies.specs.Entries.{Entry, what_in}
 use Rattle.key_records.proofs.ReadKeys.{HasRead, read_key}
 use Rattle.key_tokens.specs.Denotes.{Denoted, MasterKeys, denoted}
@@ -25,7 +28,7 @@ use Rattle.cca_roles.proofs.DirectoryLaws.{none_some}
 use Rattle.key_records.specs.declared.faults.RecordFault.{RecordFault}
 use Rattle.key_records.specs.declared.faults.RecordFault.TheVariants.{Damaged, DiskFault}
 use Rattle.key_transport.specs.Changes.{ChangesKeys}
-use Rattle.store_move.specs.Reading.{FailsAt}
+use Rattle.store_move.specs.Reading.{FailsAt, HoldsAsRead, if_found}
 use Rattle.store_move.specs.Exports.{ChangesWork, IsMoved, export_checks, vector_in}
 use Rattle.store_move.specs.Stored.{IsStored, stored_checks}
 use Rattle.store_move.specs.declared.moving.Moved.TheVariants.{Kept, Token}
@@ -60,6 +63,16 @@ module _ (content : Option (List ℕ)) (masters : MasterKeys) (entry : Option En
 
   pub never_damaged : denoted masters token ≡ None → IfSome content (λ _. ⊥)
   never_damaged stands = told_key ⊥ (λ read. none_some read.key (sym stands ∙ read.denotes))
+
+-- a body whose token stands for no key holds nothing as the record of a key
+module _ (masters : MasterKeys) (bytes token : List ℕ) (what : Option Denoted) (found : Bool) (is : found ≡ true) (none : denoted masters token ≡ None) where
+  pub no_key_holds : (row : Option Row) → IsReadOf row bytes found token → found ≡ has_key row → HoldsAsRead masters row bytes what → ⊥
+  no_key_holds None own null holds = false≢true own.held
+  no_key_holds (Some r) own null holds =
+      let found_too : holds.found ≡ true = holds.null ∙ sym null ∙ is in
+      let same : holds.token ≡ token = sym (token_is_held bytes r holds.token own.known.0 (holds.read.token found_too)) ∙ token_is_held bytes r token own.known.0 (own.token is) in
+      let nothing : what ≡ None = holds.holds ∙ ap (λ (b : Bool). if_found b (denoted masters holds.token)) found_too ∙ ap (denoted masters) same ∙ none in
+      false≢true (sym (ap (λ (w : Option Denoted). is_some w) nothing) ∙ holds.key ∙ found_too)
 
 -- ---- the key that is moved
 

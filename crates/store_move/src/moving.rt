@@ -61,6 +61,10 @@ pub fn unload_label<D: Disk>(
         → Told (D.medium store.old) (KeepsLabels (keys_of m) records.now s)
         → (cell : ℕ) → result ≡ Err (RecordFault.Damaged cell)
         → Told (D.medium store.old) (λ _. ⊥) }
+    ensures misread { (m : Masters) → Loaded m held.now (bench_of lease.old)
+        → (cell : ℕ) (what : Option Denoted) → result ≡ Err (RecordFault.Damaged cell)
+        → HoldsAsRead (keys_of m) (get_or records.now place None) (bench_of lease.new).body what
+        → ⊥ }
     ensures fails { FailsAt place (D.faults store.old) (D.faults store.new) result }
     ensures keeps { Keeps (D.medium store.old) (D.medium store.new) }
     ensures rest { ChangesWork lease.old lease.new }

@@ -110,3 +110,15 @@ returns-in-Err-clause-keeps g c = c.judge_record.ensures.keeps
 
 pub returns-in-Err-clause-rest : goal.returns-in-Err-clause-rest
 returns-in-Err-clause-rest g c = body_works c.args.lease.now c.judge_record.new.lease c.judge_record.ensures.rest
+
+-- ---- a record is told as damaged by what was read of it
+
+pub returns-in-Ok-Ok-clause-misread : goal.returns-in-Ok-Ok-clause-misread
+returns-in-Ok-Ok-clause-misread g c m loaded cell what is holds = no_err is
+
+pub returns-in-Ok-Err-clause-misread : goal.returns-in-Ok-Err-clause-misread
+returns-in-Ok-Err-clause-misread g c m loaded cell what is holds = no_err is
+
+pub returns-in-Err-clause-misread : goal.returns-in-Err-clause-misread
+returns-in-Err-clause-misread g c m loaded cell what is holds =
+    c.in-Err.ensures.misread m loaded cell what (failed_as Moved (Result Judged Rule) c.in-Err.fault (Damaged cell) is) holds

@@ -1,4 +1,4 @@
-use Rattle.std.proofs.Common.{◌≡◌, Bool, None, Ok, Err, inr, ap, refl, sym, ◌∙◌}
+use Rattle.std.proofs.Common.{◌≡◌, Bool, None, Ok, Err, get_or, inr, ap, refl, sym, ◌∙◌}
 use Rattle.std.specs.Prelude.{IsSome, Result}
 use Rattle.key_cells.specs.Lease.{bench_of}
 use Rattle.key_tokens.specs.Denotes.{denoted}
@@ -7,7 +7,7 @@ use Rattle.verb_rules.specs.KeyChecks.{age_of}
 use Rattle.verb_rules.specs.Keys.{HasHalves, keys_of}
 use Rattle.verb_rules.specs.StoredKeys.{IsRead}
 use Rattle.verb_rules.proofs.JudgeLemmas.{if_ok_gives}
-use Rattle.store_move.proofs.StoredLemmas.{failed, failed_as, never_damaged, read_fails, unread_fails}
+use Rattle.store_move.proofs.StoredLemmas.{failed, failed_as, never_damaged, no_key_holds, read_fails, unread_fails}
 use Rattle.store_move.proofs.StoredLemmas.{stored_as, stored_key, stored_some, was_read}
 use Rattle.key_records.specs.declared.faults.RecordFault.{RecordFault}
 use Rattle.key_records.specs.declared.faults.RecordFault.TheVariants.{Damaged}
@@ -191,3 +191,20 @@ returns-in-Err-clause-keeps g c = c.read.ensures.keeps
 
 pub returns-in-Err-clause-rest : goal.returns-in-Err-clause-rest
 returns-in-Err-clause-rest g c = c.read.ensures.rest
+
+-- ---- a record is told as damaged by what was read of it
+
+pub returns-in-Some-clause-misread : goal.returns-in-Some-clause-misread
+returns-in-Some-clause-misread g c m loaded cell what is holds = no_err is
+
+pub returns-in-Ok-false-clause-misread : goal.returns-in-Ok-false-clause-misread
+returns-in-Ok-false-clause-misread g c m loaded cell what is holds = no_err is
+
+pub returns-in-None-clause-misread : goal.returns-in-None-clause-misread
+returns-in-None-clause-misread g c m loaded cell what is holds =
+    no_key_holds (keys_of m) (bench_of c.read.new.lease).body c.read.new.out what c.in-Ok-true.field-0 c.in-Ok-true.field-0-test (c.in-None.ensures.stored m (bench_of c.args.lease.now) loaded)
+    (get_or c.args.records.now c.args.place None) c.in-Ok-true.ensures.own c.in-Ok-true.ensures.null holds
+
+pub returns-in-Err-clause-misread : goal.returns-in-Err-clause-misread
+returns-in-Err-clause-misread g c m loaded cell what is holds =
+    c.in-Err.ensures.misread cell (failed_as (Result Judged Rule) Bool c.in-Err.fault (Damaged cell) is) holds.read.known
