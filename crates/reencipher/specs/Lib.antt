@@ -1,4 +1,5 @@
 pub mod Runs
+pub mod Damage
 pub mod Tokens
 pub mod Turns
 pub use Rattle.key_cells.specs.Bench

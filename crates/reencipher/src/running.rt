@@ -5,6 +5,7 @@ ghost use Rattle.record_bodies.specs.Entries.{Entry};
 ghost use Rattle.record_bodies.specs.StoreStands.{HasStore, KeepsLabels};
 ghost use Rattle.master_registers.specs.Loaded.{IsLoaded, Loaded};
 ghost use Rattle.master_registers.specs.Masters.{Masters};
+ghost use Rattle.reencipher.specs.Damage.{IsMisread};
 ghost use Rattle.reencipher.specs.Runs.{IsCell, LeavesAnyStore, Reenciphers, TurnsCells};
 ghost use Rattle.key_records.specs.Ready.{IsReadyFor};
 ghost use Rattle.verb_rules.specs.Ready.{IsReadyAhead};
@@ -45,6 +46,9 @@ pub fn reencipher<D: Disk>(
     ensures cells { TurnsCells StoreAction.Renew held.now records.old records.new
         (D.medium store.old) (D.medium store.new) result }
 
+    // by the body that was read, whatever the store tells of its bytes
+    ensures misread { IsMisread result records.new (bench_of lease.new) }
+
     // whatever the store holds
     ensures left { LeavesAnyStore D.medium D.faults IsCell lease.old lease.new
         records.old records.new store.old store.new result }
@@ -76,6 +80,9 @@ pub fn ahead<D: Disk>(
     ensures cells { TurnsCells StoreAction.Ahead held.now records.old records.new
         (D.medium store.old) (D.medium store.new) result }
 
+    // by the body that was read, whatever the store tells of its bytes
+    ensures misread { IsMisread result records.new (bench_of lease.new) }
+
     // whatever the store holds
     ensures left { LeavesAnyStore D.medium D.faults IsCell lease.old lease.new
         records.old records.new store.old store.new result }
@@ -105,6 +112,9 @@ pub fn drop_ahead<D: Disk>(
     // the labels that the memory knows, also those under neither register
     ensures cells { TurnsCells StoreAction.Drop held.now records.old records.new
         (D.medium store.old) (D.medium store.new) result }
+
+    // by the body that was read, whatever the store tells of its bytes
+    ensures misread { IsMisread result records.new (bench_of lease.new) }
 
     // whatever the store holds
     ensures left { LeavesAnyStore D.medium D.faults IsCell lease.old lease.new
@@ -141,6 +151,9 @@ fn run_action<D: Disk>(
     // the labels that the memory knows, also those under neither register
     ensures cells { TurnsCells action held.now records.old records.new
         (D.medium store.old) (D.medium store.new) result }
+
+    // by the body that was read, whatever the store tells of its bytes
+    ensures misread { IsMisread result records.new (bench_of lease.new) }
 
     // whatever the store holds
     ensures left { LeavesAnyStore D.medium D.faults IsCell lease.old lease.new

@@ -1,4 +1,4 @@
-use Rattle.std.proofs.Common.{◌≡◌, ◌≤◌, ◌+◌, ℕ, Bool, true, false, cond, refl, sym, subst, ◌∙◌, arith, rules}
+use Rattle.std.proofs.Common.{◌≡◌, ◌≤◌, ◌+◌, ℕ, Bool, true, false, cond, Err, refl, sym, ap, subst, ◌∙◌, arith, rules}
 use mir.Val.{bool_byte}
 use Rattle.verb_rules.proofs.TokenLemmas.{keys_apart}
 use Rattle.verb_rules.specs.Keys.{keys_of}
@@ -8,6 +8,8 @@ use Rattle.reencipher.proofs.LeftLaws.{left_untouched, left_on, left_failed}
 use Rattle.reencipher.proofs.RowLaws.{HasTurnedTo, turned_start, turned_on, turns_ended, turns_whole}
 use Rattle.reencipher.proofs.RunLaws.{Reaches, reaches_start, reaches_next, ends_at, ends_whole}
 use Rattle.reencipher.proofs.TurnLaws.{loaded_turn}
+use Rattle.key_records.specs.declared.faults.RecordFault.TheVariants.{Damaged}
+use Rattle.key_cells.proofs.AnswerLemmas.{no_err}
 use Rattle.reencipher.proofs.running.run_action.Goals as goal
 
 byte_is : (b : Bool) → bool_byte b ≡ cond b 1 0
@@ -84,3 +86,9 @@ pub returns-in-Err-clause-left : goal.returns-in-Err-clause-left
 returns-in-Err-clause-left g c =
     left_failed g.D.Disk.medium g.D.Disk.faults c.args.lease.now c.loop-cell.lease c.turn_cell.new.lease c.args.records.now c.loop-cell.records c.turn_cell.new.records
     c.args.store.now c.loop-cell.store c.turn_cell.new.store c.loop-cell.cell c.loop-cell.changed c.loop-cell-test.true ℕ _ c.loop-cell.invariant.left c.in-Err.ensures.left
+
+pub returns-in-Err-clause-misread : goal.returns-in-Err-clause-misread
+returns-in-Err-clause-misread g c n is reads = let same : c.in-Err.fault ≡ Damaged n = cc is in c.in-Err.ensures.misread n (ap Err same) reads
+
+pub returns-clause-misread : goal.returns-clause-misread
+returns-clause-misread g c n is reads = no_err is

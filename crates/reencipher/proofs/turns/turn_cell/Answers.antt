@@ -30,7 +30,9 @@ use Rattle.reencipher.proofs.TurnLaws.{IsMade, IsTurn, and_true, reads_what, rea
 use Rattle.std.proofs.lemmas.List.{get_or-set_other}
 use Rattle.reencipher.proofs.turns.turn_cell.Goals as goal
 use Rattle.reencipher.proofs.turns.turn_cell.Goals.{After-made_tokens, In-Some-made_tokens}
-use Rattle.key_cells.proofs.AnswerLemmas.{not_true}
+use Rattle.key_cells.proofs.AnswerLemmas.{no_err, not_true}
+use Rattle.record_bodies.specs.RecordBody.{ReadsRow}
+use Rattle.key_records.specs.declared.faults.RecordFault.TheVariants.{DiskFault}
 use Rattle.record_bodies.proofs.ListedLaws.{not_held}
 
 pub returns-in-None-clause-changes : goal.returns-in-None-clause-changes
@@ -489,3 +491,28 @@ returns-in-Err-put-clause-left g c =
     c.put.new.lease c.put.new.records c.put.new.store c.in-Some.place (body_of label tokens) (Some (row_of label tokens)) c.in-Ok.found c.in-Ok.ensures.cause
     (body_and_place c.args.lease.now c.read.new.lease c.made_tokens.new.lease c.read.ensures.rest c.made_tokens.ensures.stays)
     c.in-Err-put.fault c.in-Err-put.ensures.changes c.in-Err-put.ensures.faults
+
+-- ---- a cell is told as damaged by what was read of it
+
+pub returns-in-None-clause-misread : goal.returns-in-None-clause-misread
+returns-in-None-clause-misread g c n is reads = no_err is
+
+pub returns-then-not-may_change-clause-misread : goal.returns-then-not-may_change-clause-misread
+returns-then-not-may_change-clause-misread g c n is reads = no_err is
+
+pub returns-then-not-found-clause-misread : goal.returns-then-not-found-clause-misread
+returns-then-not-found-clause-misread g c n is reads = no_err is
+
+pub returns-in-None-made_tokens-clause-misread : goal.returns-in-None-made_tokens-clause-misread
+returns-in-None-made_tokens-clause-misread g c n is reads = no_err is
+
+pub returns-in-Ok-put-clause-misread : goal.returns-in-Ok-put-clause-misread
+returns-in-Ok-put-clause-misread g c n is reads = no_err is
+
+pub returns-in-Err-clause-misread : goal.returns-in-Err-clause-misread
+returns-in-Err-clause-misread g c n is reads =
+    c.in-Err.ensures.misread n is
+    (subst (λ (k : ℕ). ReadsRow (bench_of c.read.new.lease).body (get_or c.args.records.now k None)) (c.in-Err.ensures.damaged n is).0 reads)
+
+pub returns-in-Err-put-clause-misread : goal.returns-in-Err-put-clause-misread
+returns-in-Err-put-clause-misread g c n is reads = let failed : c.in-Err-put.fault ≡ DiskFault = c.in-Err-put.ensures.faults in absurd (cc (failed, is))
