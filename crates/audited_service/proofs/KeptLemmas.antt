@@ -5,7 +5,7 @@ use Rattle.std.specs.Io.KnownBytes.{IsAtEnd}
 use Rattle.device_cells.specs.Medium.{Medium, IsSettled}
 use Rattle.device_cells.specs.WhereTold.{WhereTold}
 use Rattle.line_service.specs.Lines.{EndsInNewline, NoNewline}
-use Rattle.line_service.specs.Reading.{Reading, blank, input_limit, given, LosesPart, Takes, Shows, Advances}
+use Rattle.line_service.specs.Reading.{Reading, blank, input_limit, given, KeepsPart, Takes, Shows, Advances}
 use Rattle.line_service.specs.declared.lines.LineFault.{LineFault}
 use Rattle.line_service.specs.declared.lines.LineFault.TheVariants as line_fault
 use Rattle.line_service.specs.declared.lines.Taken.{Taken}
@@ -45,14 +45,14 @@ module _ (A : Machine) (Ready Holds : Type 0) (now : Devices) (a b p : Option (L
       → (IsTrue r0.ended → IsTrue r1.ended) → (f ≡ Ok End → IsTrue r1.ended) → (IsTrue r1.ended → IsAtEnd b) → WhereTold a b (λ i r. r1.taken + length r ≡ r0.taken + length i)
       → r1.taken ≤ input_limit → (IsTrue r1.ended → r1.taken < input_limit)
       → WhereTold a b (λ i r. (f ≡ Err line_fault.InputLimit) ↔ ((r1.taken ≡ input_limit) × NoNewline (r0.pending ++ given i r)))
-      → (f ≡ Err line_fault.InputLimit → r1.taken ≡ input_limit) → (f ≡ Err line_fault.ReadFault → r1.taken < input_limit) → OnErr f (r1 ≡ record blank { taken = r1.taken })
-      → OnErr f (WhereTold a b (λ i r. LosesPart (r0.pending ++ i) r))
+      → (f ≡ Err line_fault.InputLimit → r1.taken ≡ input_limit) → (f ≡ Err line_fault.ReadFault → r1.taken < input_limit) → OnErr f (r1 ≡ record blank { pending = r1.pending; taken = r1.taken })
+      → OnErr f (WhereTold a b (λ i r. KeepsPart (r0.pending ++ i) r1.pending r))
       → TellsFault reads reads1 (q ≡ Err ReadFault) → IsSettled now.world.module_ → IsSettled now.world.store → IsSettled t → Holds
       → LineKept A Ready Holds (Ok q) around t t faults faults r0 r1
-  unread_kept f q tells takes shows end still ends at_end counted within early limit full short emptied lost source m d settled holds = record {
+  unread_kept f q tells takes shows end still ends at_end counted within early limit full short emptied kept source m d settled holds = record {
     ready = λ h. let replied : q ≡ Ok Replied = cc h in absurd (tells.unreplied replied);
     held = holds;
-    taken = no_line_was_taken f around r0 r1 q tells takes shows end still ends at_end counted within early limit full short emptied lost;
+    taken = no_line_was_taken f around r0 r1 q tells takes shows end still ends at_end counted within early limit full short emptied kept;
     replied = λ h. let replied : q ≡ Ok Replied = cc h in absurd (tells.unreplied replied);
     left = outside_untouched now a b p reads reads1 writes q tells.unanswered m d source;
     undamaged = undamaged_untouched A now q tells.unanswered;

@@ -6,7 +6,7 @@ use Rattle.device_cells.specs.Faults.{Rose}
 use Rattle.device_cells.specs.WhereTold.{WhereTold}
 use Rattle.device_cells.proofs.WhereToldLemmas.{told_weaker}
 use Rattle.line_service.specs.Lines.{NoNewline}
-use Rattle.line_service.specs.Reading.{Advances, LosesPart, Reading, Shows, Takes, blank, given, input_limit}
+use Rattle.line_service.specs.Reading.{Advances, KeepsPart, Reading, Shows, Takes, blank, given, input_limit}
 use Rattle.line_service.specs.declared.lines.LineFault.{LineFault}
 use Rattle.line_service.specs.declared.lines.LineFault.TheVariants as line_fault
 use Rattle.line_service.specs.declared.lines.Taken.{Taken}
@@ -49,20 +49,20 @@ module _ (f : Result Taken LineFault) (q : Result Taken Stop) (told : IsTold f q
       → WhereTold input rest (λ i r. (f ≡ Ok End) ↔ (IsTrue r1.ended × (r0.pending ++ i ≡ [])))
       → (f ≡ Ok End → IsTrue r1.ended)
       → WhereTold input rest (λ i r. (f ≡ Err line_fault.InputLimit) ↔ ((r1.taken ≡ input_limit) × NoNewline (r0.pending ++ given i r)))
-      → OnErr q (WhereTold input rest (λ i r. LosesPart (r0.pending ++ i) r))
+      → OnErr q (WhereTold input rest (λ i r. KeepsPart (r0.pending ++ i) r1.pending r))
       → (IsTrue r0.ended → IsTrue r1.ended) → (IsTrue r1.ended → IsAtEnd rest)
       → WhereTold input rest (λ i r. r1.taken + length r ≡ r0.taken + length i)
       → r1.taken ≤ input_limit → (f ≡ Err line_fault.InputLimit → r1.taken ≡ input_limit)
       → (f ≡ Err line_fault.ReadFault → r1.taken < input_limit) → (IsTrue r1.ended → r1.taken < input_limit)
-      → OnErr q (r1 ≡ record blank { taken = r1.taken }) → InputRead q input rest r0 r1
-  input_read takes shows advances end ends limit lost still at_end counted within full short early emptied = record {
+      → OnErr q (r1 ≡ record blank { pending = r1.pending; taken = r1.taken }) → InputRead q input rest r0 r1
+  input_read takes shows advances end ends limit kept still at_end counted within full short early emptied = record {
     takes = takes;
     shows = shows;
     advances = advances;
     ended = told_weaker input rest _ _ (λ i r is. (λ h. is.0 (told.ended.0 h), λ h. told.ended.1 (is.1 h))) end;
     ends = λ h. ends (told.ended.0 h);
     limit = told_weaker input rest _ _ (λ i r is. (λ h. is.0 (told.limit.0 h), λ h. told.limit.1 (is.1 h))) limit;
-    part_lost = lost;
+    kept = kept;
     still_ended = still;
     at_end = at_end;
     counted = counted;

@@ -3,7 +3,7 @@ use Rattle.std.specs.Prelude.{⊤, ◌≡◌, ◌⊎◌, ◌↔◌, ◌+◌, ◌
 use Rattle.std.specs.Io.KnownBytes.{IsAtEnd}
 use Rattle.device_cells.specs.WhereTold.{WhereTold}
 use Rattle.line_service.specs.Lines.{NoNewline}
-use Rattle.line_service.specs.Reading.{Reading, blank, given, input_limit, Takes, Shows, Advances, LosesPart}
+use Rattle.line_service.specs.Reading.{Reading, blank, given, input_limit, Takes, Shows, Advances, KeepsPart}
 use Rattle.line_service.specs.declared.lines.Taken.{Taken}
 use Rattle.line_service.specs.declared.lines.Taken.TheVariants.{Line, TooLong, End}
 use Rattle.line_service.specs.Serving.{IsTheLine}
@@ -77,13 +77,14 @@ pub record InputRead (result : Result Taken Stop) (input rest : Option (List ℕ
   pub limit : WhereTold input rest (λ i r.
       (result ≡ Err InputLimit) ↔ ((r1.taken ≡ input_limit)
       × NoNewline (r0.pending ++ given i r)))
-  pub part_lost : OnErr result
-      (WhereTold input rest (λ i r. LosesPart (r0.pending ++ i) r))
+  -- after a stop the part of a line that was taken is pending
+  pub kept : OnErr result
+      (WhereTold input rest (λ i r. KeepsPart (r0.pending ++ i) r1.pending r))
   pub still_ended : IsTrue r0.ended → IsTrue r1.ended
   pub at_end : IsTrue r1.ended → IsAtEnd rest
   pub counted : WhereTold input rest (λ i r. r1.taken + length r ≡ r0.taken + length i)
   pub within : r1.taken ≤ input_limit
   pub full : result ≡ Err InputLimit → r1.taken ≡ input_limit
   pub short : (result ≡ Err ReadFault) ⊎ (result ≡ Ok End) → r1.taken < input_limit
-  -- after a stop no line is shown, and no byte is pending
-  pub emptied : OnErr result (r1 ≡ record blank { taken = r1.taken })
+  -- and no line is shown
+  pub emptied : OnErr result (r1 ≡ record blank { pending = r1.pending; taken = r1.taken })

@@ -12,6 +12,8 @@ mod entries;
 #[cfg(test)]
 mod files;
 #[cfg(test)]
+mod lines;
+#[cfg(test)]
 mod modules;
 #[cfg(test)]
 mod streams;

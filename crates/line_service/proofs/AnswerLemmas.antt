@@ -4,8 +4,8 @@ use Rattle.std.proofs.lemmas.List.{append-nil, take-append-drop, take_at, take_a
 use Rattle.device_cells.specs.WhereTold.{WhereTold}
 use Rattle.device_cells.proofs.WhereToldLemmas.{told_weaker, told_both, told_at_end}
 use Rattle.line_service.specs.Lines.{newline, lines, NoNewline}
-use Rattle.line_service.specs.Reading.{Reading, line_limit, input_limit, bytes_ahead, blank, TakesLine, Takes, Shows, Advances, LosesPart, given}
-use Rattle.line_service.specs.Gathering.{line_room, IsBounded, Gathers, Gathering, cut_of, Judges}
+use Rattle.line_service.specs.Reading.{Reading, line_limit, input_limit, bytes_ahead, blank, TakesLine, Takes, Shows, Advances, KeepsPart, given}
+use Rattle.line_service.specs.Gathering.{line_room, IsBounded, Gathering, cut_of, Judges}
 use Rattle.line_service.specs.declared.lines.Taken.{Taken}
 use Rattle.line_service.specs.declared.lines.Taken.TheVariants.{Line, TooLong, End}
 use Rattle.line_service.specs.declared.lines.LineFault.{LineFault}
@@ -35,7 +35,7 @@ err_as a b is = let same : a ≡ b = cc is in ap Err same
 -- ---- lines
 
 -- a part that has its newline is the first line
-takes-whole : (ahead kept rest : List ℕ) (ended : Bool) (g : Gathers ahead kept (newline ∷ rest)) → TakesLine ahead g.part rest ended
+takes-whole : (ahead kept rest : List ℕ) (ended : Bool) (g : KeepsPart ahead kept (newline ∷ rest)) → TakesLine ahead g.part rest ended
 takes-whole ahead kept rest ended g = record {
   first = ap lines g.bytes ∙ lines-whole g.part rest g.clean;
   bytes = inl g.bytes;
@@ -43,7 +43,7 @@ takes-whole ahead kept rest ended g = record {
 }
 
 -- a part that stands before the end is the last line
-takes-last : (ahead kept rest : List ℕ) (ended : Bool) (g : Gathers ahead kept rest) → rest ≡ [] → IsTrue ended → 0 < length g.part → TakesLine ahead g.part rest ended
+takes-last : (ahead kept rest : List ℕ) (ended : Bool) (g : KeepsPart ahead kept rest) → rest ≡ [] → IsTrue ended → 0 < length g.part → TakesLine ahead g.part rest ended
 takes-last ahead kept rest ended g nothing is some =
     let all : ahead ≡ g.part = g.bytes ∙ ap (λ r. g.part ++ r) nothing ∙ append-nil g.part in
     record {
@@ -53,16 +53,16 @@ takes-last ahead kept rest ended g nothing is some =
     }
 
 -- a kept line that isn't too long is the whole part
-kept-all : (ahead kept rest : List ℕ) (g : Gathers ahead kept rest) → length kept ≤ line_limit → kept ≡ g.part
+kept-all : (ahead kept rest : List ℕ) (g : KeepsPart ahead kept rest) → length kept ≤ line_limit → kept ≡ g.part
 kept-all ahead kept rest g small =
     g.front ∙ take_all line_room g.part (omega (arith, ap length g.front, length-take line_room g.part))
 
 -- and one that is too long shows that the part is
-kept-long : (ahead kept rest : List ℕ) (g : Gathers ahead kept rest) → line_limit < length kept → line_limit < length g.part
+kept-long : (ahead kept rest : List ℕ) (g : KeepsPart ahead kept rest) → line_limit < length kept → line_limit < length g.part
 kept-long ahead kept rest g long = omega (arith, ap length g.front, length-take line_room g.part)
 
 -- what was gathered and judged is answered
-answers : (whole : Bool) (taken : Taken) (ahead rest : List ℕ) (mid now : Reading) → Gathers ahead mid.line (cut_of (Ok whole) ++ rest) → (whole ≡ false → IsTrue mid.ended × (rest ≡ [])) → Judges whole taken mid now → Takes taken ahead now rest
+answers : (whole : Bool) (taken : Taken) (ahead rest : List ℕ) (mid now : Reading) → KeepsPart ahead mid.line (cut_of (Ok whole) ++ rest) → (whole ≡ false → IsTrue mid.ended × (rest ≡ [])) → Judges whole taken mid now → Takes taken ahead now rest
 answers true Line ahead rest mid now g last judged =
     subst (λ (r : Reading). Takes Line ahead r rest) (sym judged.0) (
       subst (λ l. TakesLine ahead l rest mid.ended) (sym (kept-all ahead mid.line (newline ∷ rest) g judged.1)) (takes-whole ahead mid.line rest mid.ended g),
@@ -141,18 +141,18 @@ same-answers taken now ahead ahead' rest rest' same-ahead same-rest says =
 -- the clause on the answer
 pub told-answers : (a b : Option (List ℕ)) (old start mid now : Reading) (whole : Bool) (taken : Taken) → old.pending ≡ start.pending → Gathering (cut_of (Ok whole)) a b start mid → (◌≡◌ {A = Result Bool LineFault} (Ok whole) (Ok false) → IsTrue mid.ended × (mid.pending ≡ [])) → Judges whole taken mid now → WhereTold a b (λ x y. Takes taken (old.pending ++ x) now (now.pending ++ y))
 told-answers a b old start mid now true taken same gathered last judged =
-    told_weaker a b (λ x y. Gathers (start.pending ++ x) mid.line (newline ∷ mid.pending ++ y)) (λ x y. Takes taken (old.pending ++ x) now (now.pending ++ y))
+    told_weaker a b (λ x y. KeepsPart (start.pending ++ x) mid.line (newline ∷ mid.pending ++ y)) (λ x y. Takes taken (old.pending ++ x) now (now.pending ++ y))
     (λ x y g. same-answers taken now (old.pending ++ x) (start.pending ++ x) (now.pending ++ y) (mid.pending ++ y)
     (ap (λ p. p ++ x) same) (ap (λ p. p ++ y) (judged-pending true taken mid now judged))
     (answers true taken (start.pending ++ x) (mid.pending ++ y) mid now g (λ no. absurd (let never : true ≡ false = no in cc)) judged))
     gathered.told
 told-answers a b old start mid now false taken same gathered last judged =
     let at_end = last refl in
-    told_weaker a b (λ x y. Gathers (start.pending ++ x) mid.line (mid.pending ++ []) × (y ≡ [])) (λ x y. Takes taken (old.pending ++ x) now (now.pending ++ y))
+    told_weaker a b (λ x y. KeepsPart (start.pending ++ x) mid.line (mid.pending ++ []) × (y ≡ [])) (λ x y. Takes taken (old.pending ++ x) now (now.pending ++ y))
     (λ x y g. same-answers taken now (old.pending ++ x) (start.pending ++ x) (now.pending ++ y) (mid.pending ++ [])
     (ap (λ p. p ++ x) same) (ap (λ p. p ++ y) (judged-pending false taken mid now judged) ∙ ap (λ w. mid.pending ++ w) g.1)
     (answers false taken (start.pending ++ x) (mid.pending ++ []) mid now g.0 (λ _. (at_end.0, ap (λ p. p ++ []) at_end.1)) judged))
-    (told_at_end a b (λ x y. Gathers (start.pending ++ x) mid.line (mid.pending ++ y)) (gathered.at_end at_end.0) gathered.told)
+    (told_at_end a b (λ x y. KeepsPart (start.pending ++ x) mid.line (mid.pending ++ y)) (gathered.at_end at_end.0) gathered.told)
 
 -- no line is taken of no bytes
 no-line : (ahead line rest : List ℕ) (ended : Bool) → TakesLine ahead line rest ended → ahead ≡ [] → ⊥
@@ -186,19 +186,24 @@ told-counted a b cut old start mid now same-old same-now gathered =
     subst (λ n. WhereTold a b (λ x y. n + length y ≡ old.taken + length x)) (sym same-now)
     (subst (λ n. WhereTold a b (λ x y. mid.taken + length y ≡ n + length x)) (sym same-old) gathered.counted)
 
--- ---- a part that is lost
+-- ---- a part that stays
 
-pub told-lost : (a b : Option (List ℕ)) (old start mid : Reading) → old.pending ≡ start.pending → Gathering [] a b start mid → mid.pending ≡ [] → WhereTold a b (λ x y. LosesPart (old.pending ++ x) y)
-told-lost a b old start mid same gathered used =
-    told_weaker a b (λ x y. Gathers (start.pending ++ x) mid.line (mid.pending ++ y)) (λ x y. LosesPart (old.pending ++ x) y)
-    (λ x y g. (g.part, g.clean, ap (λ p. p ++ x) same ∙ g.bytes ∙ ap (λ p. g.part ++ (p ++ y)) used))
+pub told-kept : (a b : Option (List ℕ)) (old start mid now : Reading) → old.pending ≡ start.pending → Gathering [] a b start mid → mid.pending ≡ [] → now ≡ record mid { line = []; pending = mid.line } → WhereTold a b (λ x y. KeepsPart (old.pending ++ x) now.pending y)
+told-kept a b old start mid now same gathered used back =
+    told_weaker a b (λ x y. KeepsPart (start.pending ++ x) mid.line (mid.pending ++ y)) (λ x y. KeepsPart (old.pending ++ x) now.pending y)
+    (λ x y g. record {
+      part = g.part;
+      clean = g.clean;
+      front = ap (λ (r : Reading). r.pending) back ∙ g.front;
+      bytes = ap (λ p. p ++ x) same ∙ g.bytes ∙ ap (λ p. g.part ++ (p ++ y)) used;
+    })
     gathered.told
 
--- nothing but the count stays
-pub emptied : (mid now : Reading) → now ≡ record mid { line = [] } → mid.ended ≡ false → mid.pending ≡ [] → now ≡ record blank { taken = now.taken }
-emptied mid now dropped going used =
-    subst (λ (r : Reading). r ≡ record blank { taken = r.taken }) (sym dropped)
-    (ap (λ p. record mid { line = []; pending = p }) used ∙ ap (λ e. record blank { taken = mid.taken; ended = e }) going)
+-- nothing but that part and the count stays
+pub emptied : (mid now : Reading) → now ≡ record mid { line = []; pending = mid.line } → mid.ended ≡ false → now ≡ record blank { pending = now.pending; taken = now.taken }
+emptied mid now back going =
+    subst (λ (r : Reading). r ≡ record blank { pending = r.pending; taken = r.taken }) (sym back)
+    (ap (λ e. record blank { pending = mid.line; taken = mid.taken; ended = e }) going)
 
 -- ---- the limit of the input
 
@@ -217,7 +222,7 @@ has-newline : (front rest : List ℕ) → NoNewline (front ++ newline ∷ rest) 
 has-newline front rest clean = clean (length front) 0 (omega (arith, length-append front (newline ∷ rest))) (get_or_at front newline rest 0 (length front) refl)
 
 -- where a line was taken, the bytes in hand hold its newline, or the end came before the limit
-no-limit : (whole : Bool) (x y : List ℕ) (start mid : Reading) → Gathers (start.pending ++ x) mid.line (cut_of (Ok whole) ++ mid.pending ++ y) → mid.taken + length y ≡ start.taken + length x → start.taken ≤ mid.taken → IsBounded mid → (◌≡◌ {A = Result Bool LineFault} (Ok whole) (Ok false) → IsTrue mid.ended × (mid.pending ≡ [])) → mid.taken ≡ input_limit → NoNewline (start.pending ++ given x y) → ⊥
+no-limit : (whole : Bool) (x y : List ℕ) (start mid : Reading) → KeepsPart (start.pending ++ x) mid.line (cut_of (Ok whole) ++ mid.pending ++ y) → mid.taken + length y ≡ start.taken + length x → start.taken ≤ mid.taken → IsBounded mid → (◌≡◌ {A = Result Bool LineFault} (Ok whole) (Ok false) → IsTrue mid.ended × (mid.pending ≡ [])) → mid.taken ≡ input_limit → NoNewline (start.pending ++ given x y) → ⊥
 no-limit true x y start mid g counted later bounded last full clean =
     let q = g.part ++ newline ∷ mid.pending in
     let hand = in-hand start.pending x q y (g.bytes ∙ sym (append_assoc g.part (newline ∷ mid.pending) y)) (omega arith) in
@@ -229,14 +234,14 @@ no-limit false x y start mid g counted later bounded last full clean =
 pub told-no-limit : (a b : Option (List ℕ)) (old start mid now : Reading) (whole : Bool) (taken : Taken) → old.pending ≡ start.pending → now.taken ≡ mid.taken → Gathering (cut_of (Ok whole)) a b start mid → (◌≡◌ {A = Result Bool LineFault} (Ok whole) (Ok false) → IsTrue mid.ended × (mid.pending ≡ [])) → WhereTold a b (λ x y. (◌≡◌ {A = Result Taken LineFault} (Ok taken) (Err InputLimit)) ↔ ((now.taken ≡ input_limit) × NoNewline (old.pending ++ given x y)))
 told-no-limit a b old start mid now whole taken same same-taken gathered last =
     told_weaker a b
-    (λ x y. Gathers (start.pending ++ x) mid.line (cut_of (Ok whole) ++ mid.pending ++ y) × (mid.taken + length y ≡ start.taken + length x))
+    (λ x y. KeepsPart (start.pending ++ x) mid.line (cut_of (Ok whole) ++ mid.pending ++ y) × (mid.taken + length y ≡ start.taken + length x))
     (λ x y. (◌≡◌ {A = Result Taken LineFault} (Ok taken) (Err InputLimit)) ↔ ((now.taken ≡ input_limit) × NoNewline (old.pending ++ given x y)))
     (λ x y g. (
       λ never. absurd (cc),
       λ at. absurd (no-limit whole x y start mid g.0 g.1 gathered.later gathered.bounded last (sym same-taken ∙ at.0)
           (subst (λ p. NoNewline (p ++ given x y)) same at.1)),
     ))
-    (told_both a b (λ x y. Gathers (start.pending ++ x) mid.line (cut_of (Ok whole) ++ mid.pending ++ y))
+    (told_both a b (λ x y. KeepsPart (start.pending ++ x) mid.line (cut_of (Ok whole) ++ mid.pending ++ y))
     (λ x y. mid.taken + length y ≡ start.taken + length x) gathered.told gathered.counted)
 
 -- which fault it was
@@ -248,7 +253,7 @@ limit-fault InputLimit taken short full = refl
 pub told-limit : (a b : Option (List ℕ)) (old start mid now : Reading) (fault : LineFault) → old.pending ≡ start.pending → now.taken ≡ mid.taken → Gathering [] a b start mid → mid.pending ≡ [] → (◌≡◌ {A = Result Bool LineFault} (Err fault) (Err InputLimit) → mid.taken ≡ input_limit) → (◌≡◌ {A = Result Bool LineFault} (Err fault) (Err ReadFault) → mid.taken < input_limit) → WhereTold a b (λ x y. (◌≡◌ {A = Result Taken LineFault} (Err fault) (Err InputLimit)) ↔ ((now.taken ≡ input_limit) × NoNewline (old.pending ++ given x y)))
 told-limit a b old start mid now fault same same-taken gathered used full short =
     told_weaker a b
-    (λ x y. Gathers (start.pending ++ x) mid.line (mid.pending ++ y) × (mid.taken + length y ≡ start.taken + length x))
+    (λ x y. KeepsPart (start.pending ++ x) mid.line (mid.pending ++ y) × (mid.taken + length y ≡ start.taken + length x))
     (λ x y. (◌≡◌ {A = Result Taken LineFault} (Err fault) (Err InputLimit)) ↔ ((now.taken ≡ input_limit) × NoNewline (old.pending ++ given x y)))
     (λ x y g.
     let later = gathered.later in
@@ -260,5 +265,5 @@ told-limit a b old start mid now fault same same-taken gathered used full short 
       ),
       λ at. limit-fault fault mid.taken short (sym same-taken ∙ at.0),
     ))
-    (told_both a b (λ x y. Gathers (start.pending ++ x) mid.line (mid.pending ++ y))
+    (told_both a b (λ x y. KeepsPart (start.pending ++ x) mid.line (mid.pending ++ y))
     (λ x y. mid.taken + length y ≡ start.taken + length x) gathered.told gathered.counted)

@@ -5,8 +5,8 @@ use Rattle.std.proofs.lemmas.List.Elements.{All-append, All-take, All-nil}
 use Rattle.std.specs.Io.KnownBytes.{IsAtEnd, Keeps}
 use Rattle.device_cells.proofs.WhereToldLemmas.{told_weaker, told_then, told_kept, told_same}
 use Rattle.line_service.specs.Lines.{newline, NoNewline}
-use Rattle.line_service.specs.Reading.{Reading, input_limit, IsReady}
-use Rattle.line_service.specs.Gathering.{line_room, IsBounded, Moves, Refills, Gathers, Gathering}
+use Rattle.line_service.specs.Reading.{Reading, KeepsPart, input_limit, IsReady}
+use Rattle.line_service.specs.Gathering.{line_room, IsBounded, Moves, Refills, Gathering}
 
 -- the front of a list to which something was added shows in the front of its front
 take-take-append : (n : ℕ) (xs ys : List ℕ) → take n (take n xs ++ ys) ≡ take n (xs ++ ys)
@@ -15,7 +15,7 @@ take-take-append (suc n) [] ys = refl
 take-take-append (suc n) (x ∷ xs) ys = ap (λ zs. x ∷ zs) (take-take-append n xs ys)
 
 -- a piece without a newline moves to the part
-gathers-more : (ahead kept piece rest : List ℕ) → NoNewline piece → Gathers ahead kept (piece ++ rest) → Gathers ahead (take line_room (kept ++ piece)) rest
+gathers-more : (ahead kept piece rest : List ℕ) → NoNewline piece → KeepsPart ahead kept (piece ++ rest) → KeepsPart ahead (take line_room (kept ++ piece)) rest
 gathers-more ahead kept piece rest clean so_far = record {
   part = so_far.part ++ piece;
   clean = All-append (λ b. b ≢ newline) so_far.part piece so_far.clean clean;
@@ -32,7 +32,7 @@ pub gathering-none : (a : Option (List ℕ)) (old : Reading) → old.line ≡ []
 gathering-none a old empty at_end bounded =
     let empty_front : old.line ≡ take line_room [] = empty in
     record {
-      told = told_same a (λ x y. Gathers (old.pending ++ x) old.line (old.pending ++ y))
+      told = told_same a (λ x y. KeepsPart (old.pending ++ x) old.line (old.pending ++ y))
           (λ x. record { part = []; clean = All-nil (λ b. b ≢ newline); front = empty_front; bytes = refl });
       counted = told_same a (λ x y. old.taken + length y ≡ old.taken + length x) (λ x. refl);
       clean = rw empty (All-nil (λ b. b ≢ newline));
@@ -47,8 +47,8 @@ module _ (a b : Option (List ℕ)) (old mid now : Reading) (so_far : Gathering [
   -- all that was pending moved
   pub gathering-moved : Moves false mid now → Gathering [] a b old now
   gathering-moved moves = subst (Gathering [] a b old) (sym moves.1) (record {
-    told = told_weaker a b (λ x y. Gathers (old.pending ++ x) mid.line (mid.pending ++ y))
-        (λ x y. Gathers (old.pending ++ x) (take line_room (mid.line ++ mid.pending)) y)
+    told = told_weaker a b (λ x y. KeepsPart (old.pending ++ x) mid.line (mid.pending ++ y))
+        (λ x y. KeepsPart (old.pending ++ x) (take line_room (mid.line ++ mid.pending)) y)
         (λ x y. gathers-more (old.pending ++ x) mid.line mid.pending y moves.0) so_far.told;
     counted = so_far.counted;
     clean = clean-more line_room mid.line mid.pending so_far.clean moves.0;
@@ -65,10 +65,10 @@ module _ (a b : Option (List ℕ)) (old mid now : Reading) (so_far : Gathering [
       let piece = moves.0 in
       let lengths = ap length moves.2 ∙ length-append piece (newline ∷ now.pending) in
       subst (Gathering (newline ∷ []) a b old) (sym moves.3) (record {
-        told = told_weaker a b (λ x y. Gathers (old.pending ++ x) mid.line (mid.pending ++ y))
-            (λ x y. Gathers (old.pending ++ x) (take line_room (mid.line ++ piece)) (newline ∷ now.pending ++ y))
+        told = told_weaker a b (λ x y. KeepsPart (old.pending ++ x) mid.line (mid.pending ++ y))
+            (λ x y. KeepsPart (old.pending ++ x) (take line_room (mid.line ++ piece)) (newline ∷ now.pending ++ y))
             (λ x y g. gathers-more (old.pending ++ x) mid.line piece (newline ∷ now.pending ++ y) moves.1
-            (subst (Gathers (old.pending ++ x) mid.line) (ap (λ bs. bs ++ y) moves.2 ∙ append_assoc piece (newline ∷ now.pending) y) g))
+            (subst (KeepsPart (old.pending ++ x) mid.line) (ap (λ bs. bs ++ y) moves.2 ∙ append_assoc piece (newline ∷ now.pending) y) g))
             so_far.told;
         counted = so_far.counted;
         clean = clean-more line_room mid.line piece so_far.clean moves.1;
@@ -82,9 +82,9 @@ module _ (a b : Option (List ℕ)) (old mid now : Reading) (so_far : Gathering [
   -- a read brought bytes, or the end
   pub gathering-refilled : (c : Option (List ℕ)) → mid.pending ≡ [] → Refills b c mid now → Gathering [] a c old now
   gathering-refilled c used refills = record {
-    told = told_then a b c (λ x y. Gathers (old.pending ++ x) mid.line (mid.pending ++ y)) (λ y z. y ≡ now.pending ++ z)
-        (λ x z. Gathers (old.pending ++ x) now.line (now.pending ++ z))
-        (λ x y z g e. rw refills.line (subst (Gathers (old.pending ++ x) mid.line) (ap (λ bs. bs ++ y) used ∙ e) g))
+    told = told_then a b c (λ x y. KeepsPart (old.pending ++ x) mid.line (mid.pending ++ y)) (λ y z. y ≡ now.pending ++ z)
+        (λ x z. KeepsPart (old.pending ++ x) now.line (now.pending ++ z))
+        (λ x y z g e. rw refills.line (subst (KeepsPart (old.pending ++ x) mid.line) (ap (λ bs. bs ++ y) used ∙ e) g))
         so_far.told refills.bytes;
     counted = told_then a b c (λ x y. mid.taken + length y ≡ old.taken + length x) (λ y z. y ≡ now.pending ++ z)
         (λ x z. now.taken + length z ≡ old.taken + length x)
@@ -101,9 +101,9 @@ module _ (a b : Option (List ℕ)) (old mid now : Reading) (so_far : Gathering [
   -- a read failed
   pub gathering-failed : (c : Option (List ℕ)) → mid.ended ≡ false → Keeps b c → now ≡ mid → Gathering [] a c old now
   gathering-failed c going keeps same = subst (Gathering [] a c old) (sym same) (record {
-    told = told_then a b c (λ x y. Gathers (old.pending ++ x) mid.line (mid.pending ++ y)) (λ y z. z ≡ y)
-        (λ x z. Gathers (old.pending ++ x) mid.line (mid.pending ++ z))
-        (λ x y z g e. subst (λ w. Gathers (old.pending ++ x) mid.line (mid.pending ++ w)) (sym e) g)
+    told = told_then a b c (λ x y. KeepsPart (old.pending ++ x) mid.line (mid.pending ++ y)) (λ y z. z ≡ y)
+        (λ x z. KeepsPart (old.pending ++ x) mid.line (mid.pending ++ z))
+        (λ x y z g e. subst (λ w. KeepsPart (old.pending ++ x) mid.line (mid.pending ++ w)) (sym e) g)
         so_far.told (told_kept b c keeps);
     counted = told_then a b c (λ x y. mid.taken + length y ≡ old.taken + length x) (λ y z. z ≡ y)
         (λ x z. mid.taken + length z ≡ old.taken + length x)

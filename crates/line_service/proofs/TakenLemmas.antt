@@ -5,7 +5,7 @@ use Rattle.std.specs.Io.KnownBytes.{IsAtEnd}
 use Rattle.device_cells.specs.WhereTold.{WhereTold}
 use Rattle.device_cells.proofs.WhereToldLemmas.{told_weaker}
 use Rattle.line_service.specs.Lines.{NoNewline}
-use Rattle.line_service.specs.Reading.{Reading, blank, input_limit, given, LosesPart, Takes, Shows, Advances, bytes_ahead}
+use Rattle.line_service.specs.Reading.{Reading, blank, input_limit, given, KeepsPart, Takes, Shows, Advances, bytes_ahead}
 use Rattle.line_service.specs.declared.lines.LineFault.{LineFault}
 use Rattle.line_service.specs.declared.lines.LineFault.TheVariants as line_fault
 use Rattle.line_service.specs.declared.lines.Taken.{Taken}
@@ -136,10 +136,10 @@ on_err (Ok taken) is has = absurd (cc is)
 on_err (Err fault) is has = has
 
 module _ (f : Result Taken LineFault) (o : Span Outside) (r0 r1 : Reading) where
-  none_shown : IfOk f (λ taken. Shows taken r1) → OnErr f (r1 ≡ record blank { taken = r1.taken }) → (q : Result Served Stop) → AsRead f q → r1.line ≡ []
+  none_shown : IfOk f (λ taken. Shows taken r1) → OnErr f (r1 ≡ record blank { pending = r1.pending; taken = r1.taken }) → (q : Result Served Stop) → AsRead f q → r1.line ≡ []
   none_shown = by_read f
     where
-      by_read : (f : Result Taken LineFault) → IfOk f (λ taken. Shows taken r1) → OnErr f (r1 ≡ record blank { taken = r1.taken }) → (q : Result Served Stop) → AsRead f q → r1.line ≡ []
+      by_read : (f : Result Taken LineFault) → IfOk f (λ taken. Shows taken r1) → OnErr f (r1 ≡ record blank { pending = r1.pending; taken = r1.taken }) → (q : Result Served Stop) → AsRead f q → r1.line ≡ []
       by_read (Ok Line) shows emptied q tells = absurd (not_end Line q tells (λ h. cc h))
       by_read (Ok TooLong) shows emptied q tells = shows
       by_read (Ok End) shows emptied q tells = shows
@@ -151,14 +151,14 @@ module _ (f : Result Taken LineFault) (o : Span Outside) (r0 r1 : Reading) where
       → (IsTrue r0.ended → IsTrue r1.ended) → (f ≡ Ok End → IsTrue r1.ended) → (IsTrue r1.ended → IsAtEnd o.new.input) → WhereTold o.old.input o.new.input (λ i r. r1.taken + length r ≡ r0.taken + length i)
       → r1.taken ≤ input_limit → (IsTrue r1.ended → r1.taken < input_limit)
       → WhereTold o.old.input o.new.input (λ i r. (f ≡ Err line_fault.InputLimit) ↔ ((r1.taken ≡ input_limit) × NoNewline (r0.pending ++ given i r)))
-      → (f ≡ Err line_fault.InputLimit → r1.taken ≡ input_limit) → (f ≡ Err line_fault.ReadFault → r1.taken < input_limit) → OnErr f (r1 ≡ record blank { taken = r1.taken })
-      → OnErr f (WhereTold o.old.input o.new.input (λ i r. LosesPart (r0.pending ++ i) r)) → LineTaken q o r0 r1
-  no_line_was_taken q tells takes shows end still ends at_end counted within early limit full short emptied lost = record {
+      → (f ≡ Err line_fault.InputLimit → r1.taken ≡ input_limit) → (f ≡ Err line_fault.ReadFault → r1.taken < input_limit) → OnErr f (r1 ≡ record blank { pending = r1.pending; taken = r1.taken })
+      → OnErr f (WhereTold o.old.input o.new.input (λ i r. KeepsPart (r0.pending ++ i) r1.pending r)) → LineTaken q o r0 r1
+  no_line_was_taken q tells takes shows end still ends at_end counted within early limit full short emptied kept = record {
     ended = told_weaker o.old.input o.new.input _ _ (λ i r e. (λ h. e.0 (tells.ended.0 h), λ both. tells.ended.1 (e.1 both))) end;
     all_taken = λ h. at_the_end f (tells.ended.0 h) takes;
     ends = λ h. ends (tells.ended.0 h);
     limit = told_weaker o.old.input o.new.input _ _ (λ i r e. (λ h. e.0 (tells.over.0 h), λ both. tells.over.1 (e.1 both))) limit;
-    part_lost = λ h. on_err f (tells.stopped h) lost;
+    part_lost = λ h. told_weaker o.old.input o.new.input _ _ (λ i r part. (part.part, part.clean, part.bytes)) (on_err f (tells.stopped h) kept);
     still_ended = still;
     at_end = at_end;
     advances = λ h. absurd (tells.unreplied h);

@@ -3,7 +3,7 @@ use Rattle.std.specs.Prelude.{◌≡◌, ℕ, ◌+◌, ◌<◌, ◌≤◌, ◌�
 use Rattle.std.specs.Io.KnownBytes.{IsAtEnd}
 use Rattle.device_cells.specs.WhereTold.{WhereTold}
 use Rattle.line_service.specs.Lines.{newline, NoNewline}
-use Rattle.line_service.specs.Reading.{Reading, line_limit, input_limit, bytes_ahead}
+use Rattle.line_service.specs.Reading.{Reading, KeepsPart, line_limit, input_limit, bytes_ahead}
 use Rattle.line_service.specs.declared.lines.LineFault.{LineFault}
 use Rattle.line_service.specs.declared.lines.Taken.{Taken}
 use Rattle.line_service.specs.declared.lines.Taken.TheVariants.{Line, TooLong, End}
@@ -35,17 +35,10 @@ pub record Refills (before after : Option (List ℕ)) (old now : Reading) : Type
   pub at_end : IsTrue now.ended → IsAtEnd after
   pub bounded : IsBounded now
 
--- a part of a line was taken, and its first bytes are kept
-pub record Gathers (ahead kept rest : List ℕ) : Type 0 where
-  pub part : List ℕ
-  pub clean : NoNewline part
-  pub front : kept ≡ take line_room part
-  pub bytes : ahead ≡ part ++ rest
-
 -- what was gathered since the reading `old`; `cut` is the newline that ended the line, or nothing
 pub record Gathering (cut : List ℕ) (before after : Option (List ℕ)) (old now : Reading) : Type 0 where
   pub told : WhereTold before after (λ x y.
-      Gathers (old.pending ++ x) now.line (cut ++ now.pending ++ y))
+      KeepsPart (old.pending ++ x) now.line (cut ++ now.pending ++ y))
   pub counted : WhereTold before after (λ x y. now.taken + length y ≡ old.taken + length x)
   pub clean : NoNewline now.line
   pub fewer : bytes_ahead now + length now.line + length cut ≤ bytes_ahead old

@@ -61,9 +61,17 @@ Shows Line now = NoNewline now.line × (length now.line ≤ line_limit)
 Shows TooLong now = now.line ≡ []
 Shows End now = now.line ≡ []
 
--- a part of a line without its newline was taken, and is lost
+-- a part of a line without its newline was taken
 abbrev pub LosesPart : List ℕ → List ℕ → Type 0
 LosesPart ahead rest = (part : List ℕ) × NoNewline part × (ahead ≡ part ++ rest)
+
+-- A part of a line without its newline was taken of the bytes ahead, and `rest` follows it. Its first 9,217 bytes, one more
+-- than a line may have, are kept.
+pub record KeepsPart (ahead kept rest : List ℕ) : Type 0 where
+  pub part : List ℕ
+  pub clean : NoNewline part
+  pub front : kept ≡ take 9217 part
+  pub bytes : ahead ≡ part ++ rest
 
 -- the bytes of `before` that a source gave, where `after` is what it has left of them
 abbrev pub given : List ℕ → List ℕ → List ℕ

@@ -147,10 +147,10 @@ pub record LineTaken (result : Result Served Stop) (o : Span Outside) (r0 r1 : R
   pub within : r1.taken ≤ input_limit
   pub full : result ≡ Err InputLimit → r1.taken ≡ input_limit
   pub short : (result ≡ Err ReadFault) ⊎ (result ≡ Ok Ended) → r1.taken < input_limit
-  -- where no line was answered none is shown, and where the source stopped no byte is pending
+  -- where no line was answered none is shown, and where the source stopped no more is pending than the part
   pub unshown : IsUnanswered result → r1.line ≡ []
   pub emptied : (result ≡ Err ReadFault) ⊎ (result ≡ Err InputLimit)
-      → r1 ≡ record blank { taken = r1.taken }
+      → r1 ≡ record blank { pending = r1.pending; taken = r1.taken }
   -- after a reply, and after each other stop, the line is shown that was taken
   pub shown : (IsUnanswered result → ⊥) → LineShown o.old.input o.new.input r0 r1
 

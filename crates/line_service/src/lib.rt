@@ -13,7 +13,10 @@ mod stops;
 
 pub use desk::Desk;
 pub use devices::{Shown, ShownOutside};
-pub use lines::{INPUT_LIMIT, LINE_LIMIT, LineBuffer, LineFault, Taken, read_line};
+pub use lines::{
+    INPUT_LIMIT, LINE_LIMIT, LineBuffer, LineFault, Taken, a_fault_loses_no_byte_of_a_line,
+    read_line,
+};
 pub use reply::{REPLY_ROOM, ReplyBuffer};
 pub use running::serve;
 pub use sending::send;

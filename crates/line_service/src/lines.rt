@@ -6,10 +6,12 @@ ghost use Rattle.memchr.specs.Find.{IsFirstByte, is_byte};
 ghost use Rattle.device_cells.specs.Faults.{Rose, HasCause};
 ghost use Rattle.device_cells.specs.WhereTold.{WhereTold};
 ghost use Rattle.line_service.specs.Lines.{NoNewline};
-ghost use Rattle.line_service.specs.Reading.{input_limit, blank, IsReady, Takes, Shows, Advances, LosesPart, given};
+ghost use Rattle.line_service.specs.Reading.{Reading, input_limit, blank, IsReady, Takes, Shows, Advances, KeepsPart, given};
+ghost use Rattle.line_service.specs.declared.lines.Taken.{Taken as AnyTaken};
 ghost use Rattle.line_service.specs.Gathering.{line_room, IsBounded, Moves, Refills, Gathering, cut_of, Judges};
 
 use device_cells::{Failed, NoMemory, Source};
+use key_cells::put_front;
 use memchr::memchr;
 use std::alloc::Global;
 use std::marker::Model;
@@ -22,10 +24,13 @@ pub const LINE_LIMIT: usize = 9_216;
 pub const INPUT_LIMIT: u64 = 1 << 40;
 
 // The bytes of one read of the source.
-const CHUNK: usize = 8_192;
+const READ_LIMIT: usize = 8_192;
 
 // One byte more than a line may have shows that it is too long.
 const LINE_ROOM: usize = LINE_LIMIT + 1;
+
+// The chunk has room for one read, and for the part of a line that was taken before a fault.
+const CHUNK: usize = LINE_ROOM;
 
 const NEWLINE: u8 = b'\n';
 
@@ -54,7 +59,8 @@ pub enum LineFault {
 /// The line that was taken last, and the bytes taken from a source that belong to later lines.
 ///
 /// Clauses see it as a `Reading`. A read of the source brings up to 8,192 bytes, so it serves many
-/// lines. Each byte is looked at once and copied once, from the chunk to the line.
+/// lines. Each byte is looked at once and copied once, from the chunk to the line. Where a read fails
+/// inside a line, the part that was taken goes back to the chunk.
 #[derive(Drop)]
 pub struct LineBuffer {
     chunk: Vec<u8>,
@@ -183,7 +189,7 @@ impl LineBuffer {
         ensures same { OnErr result (self.new ≡ self.old) }
         ensures cause { HasCause (S.faults source.old) (S.faults source.new) result }
     {
-        let room = (CHUNK as u64).min(INPUT_LIMIT - self.taken) as usize;
+        let room = (READ_LIMIT as u64).min(INPUT_LIMIT - self.taken) as usize;
         self.start = 0;
         self.end = 0;
         let count = read_front(source, self.chunk.as_mut_slice(), room)?;
@@ -213,6 +219,19 @@ impl LineBuffer {
         self.line.clear();
     }
 
+    // Makes the line pending again.
+    fn put_back(&mut self)
+        requires { self.old.pending ≡ [] }
+        ensures back { self.new ≡ record self.old { line = []; pending = self.old.line } }
+        ensures bounded { IsBounded self.new }
+    {
+        let count = self.line.len();
+        put_front(self.chunk.as_mut_slice(), self.line.as_slice());
+        self.start = 0;
+        self.end = count;
+        self.line.clear();
+    }
+
     // What was gathered: a line that ended at a newline, or what stood before the end.
     fn judge(&mut self, whole: bool) -> Taken
         ensures { Judges whole result self.old self.new }
@@ -233,7 +252,8 @@ impl LineBuffer {
 ///
 /// A read is made only when no whole line is pending, and none is made once the source gave its end
 /// or `INPUT_LIMIT` bytes were taken, until `clear`. After an error the part of a line that was
-/// taken is lost. A call reads the source once for 8,192 bytes, and moves each byte once.
+/// taken is pending, so that a later call takes the whole line; of one that is too long its first
+/// 9,217 bytes are kept. A call reads the source once for 8,192 bytes, and moves each byte once.
 pub fn read_line<S: Source>(source: &mut S, buffer: &mut LineBuffer) -> Result<Taken, LineFault>
     // Where a source gave its end since the last `clear`, the source handed in has no byte left.
     requires { IsTrue buffer.old.ended → IsAtEnd (S.left source.old) }
@@ -270,19 +290,30 @@ pub fn read_line<S: Source>(source: &mut S, buffer: &mut LineBuffer) -> Result<T
         × NoNewline (buffer.old.pending ++ given before after))) }
     ensures full { result ≡ Err LineFault.InputLimit → buffer.new.taken ≡ input_limit }
     ensures short { result ≡ Err LineFault.ReadFault → buffer.new.taken < input_limit }
-    ensures emptied { OnErr result (buffer.new ≡ record blank { taken = buffer.new.taken }) }
-    ensures lost { OnErr result (WhereTold (S.left source.old) (S.left source.new) (λ before after.
-        LosesPart (buffer.old.pending ++ before) after)) }
+    ensures emptied { OnErr result (buffer.new ≡ record blank {
+      pending = buffer.new.pending;
+      taken = buffer.new.taken;
+    }) }
+    ensures kept { OnErr result (WhereTold (S.left source.old) (S.left source.new) (λ before after.
+        KeepsPart (buffer.old.pending ++ before) buffer.new.pending after)) }
 {
     buffer.drop_line();
     match gather(source, buffer) {
         Ok(whole) => Ok(buffer.judge(whole)),
         Err(fault) => {
-            buffer.drop_line();
+            buffer.put_back();
             Err(fault)
         }
     }
 }
+
+/// After an error a later call takes what one would have taken without it: what it takes of the bytes
+/// that are ahead then it takes of those that were ahead before.
+pub fn a_fault_loses_no_byte_of_a_line()
+    ensures { (ahead kept rest later : List ℕ) (taken : AnyTaken) (now : Reading)
+        → KeepsPart ahead kept rest → Takes taken (kept ++ rest) now later
+        → Takes taken ahead now later }
+{}
 
 // Gathers the next line, and answers whether a newline ended it. Where none did, the source gave its
 // end.

@@ -137,7 +137,7 @@ returns-in-Err-ReadFault-clause-kept g c =
     (devices (g.M.Disk.medium c.args.module.now) (g.M.Disk.faults c.args.module.now) (g.D.Disk.medium c.args.store.now) (g.D.Disk.faults c.args.store.now) (g.E.Entropy.left c.args.entropy.now) (g.E.Entropy.faults c.args.entropy.now))
     (g.S.Source.left c.args.source.now) (g.S.Source.left c.read_line.new.source) (g.K.Sink.held c.args.sink.now) (g.S.Source.faults c.args.source.now) (g.S.Source.faults c.read_line.new.source) (g.K.Sink.faults c.args.sink.now)
     (g.T.Disk.medium c.args.trail.now) (g.T.Disk.faults c.args.trail.now) c.args.lines.now c.read_line.new.buffer (Err c.in-Err-ReadFault.field-0) (Err ReadFault) (read_failed _ c.in-Err-ReadFault.field-0-is)
-    tt tt c.in-Err-ReadFault.ensures.end c.read_line.ensures.ended c.in-Err-ReadFault.ensures.ends c.read_line.ensures.at_end c.read_line.ensures.counted c.read_line.ensures.within c.read_line.ensures.early c.in-Err-ReadFault.ensures.limit c.in-Err-ReadFault.ensures.full c.in-Err-ReadFault.ensures.short c.in-Err-ReadFault.ensures.emptied c.in-Err-ReadFault.ensures.lost
+    tt tt c.in-Err-ReadFault.ensures.end c.read_line.ensures.ended c.in-Err-ReadFault.ensures.ends c.read_line.ensures.at_end c.read_line.ensures.counted c.read_line.ensures.within c.read_line.ensures.early c.in-Err-ReadFault.ensures.limit c.in-Err-ReadFault.ensures.full c.in-Err-ReadFault.ensures.short c.in-Err-ReadFault.ensures.emptied c.in-Err-ReadFault.ensures.kept
     (record { later = c.read_line.ensures.later; fault = λ h. c.in-Err-ReadFault.ensures.fault (ap Err c.in-Err-ReadFault.field-0-is); quiet = λ none. absurd (none refl) })
     c.requires.disks.module_settled c.requires.disks.store_settled c.requires.trail.settled c.requires.held
 
@@ -148,7 +148,7 @@ returns-in-Err-InputLimit-clause-kept g c =
     (devices (g.M.Disk.medium c.args.module.now) (g.M.Disk.faults c.args.module.now) (g.D.Disk.medium c.args.store.now) (g.D.Disk.faults c.args.store.now) (g.E.Entropy.left c.args.entropy.now) (g.E.Entropy.faults c.args.entropy.now))
     (g.S.Source.left c.args.source.now) (g.S.Source.left c.read_line.new.source) (g.K.Sink.held c.args.sink.now) (g.S.Source.faults c.args.source.now) (g.S.Source.faults c.read_line.new.source) (g.K.Sink.faults c.args.sink.now)
     (g.T.Disk.medium c.args.trail.now) (g.T.Disk.faults c.args.trail.now) c.args.lines.now c.read_line.new.buffer (Err c.in-Err-InputLimit.field-0) (Err InputLimit) (read_over _ c.in-Err-InputLimit.field-0-is)
-    tt tt c.in-Err-InputLimit.ensures.end c.read_line.ensures.ended c.in-Err-InputLimit.ensures.ends c.read_line.ensures.at_end c.read_line.ensures.counted c.read_line.ensures.within c.read_line.ensures.early c.in-Err-InputLimit.ensures.limit c.in-Err-InputLimit.ensures.full c.in-Err-InputLimit.ensures.short c.in-Err-InputLimit.ensures.emptied c.in-Err-InputLimit.ensures.lost
+    tt tt c.in-Err-InputLimit.ensures.end c.read_line.ensures.ended c.in-Err-InputLimit.ensures.ends c.read_line.ensures.at_end c.read_line.ensures.counted c.read_line.ensures.within c.read_line.ensures.early c.in-Err-InputLimit.ensures.limit c.in-Err-InputLimit.ensures.full c.in-Err-InputLimit.ensures.short c.in-Err-InputLimit.ensures.emptied c.in-Err-InputLimit.ensures.kept
     (record {
       later = c.read_line.ensures.later;
       fault = λ h. absurd (over_not_unread h);

@@ -3,7 +3,7 @@ use Rattle.std.proofs.Common.{◌<◌, ℕ, sym, ap, subst, ◌∙◌}
 use Rattle.line_service.specs.Reading.{IsReady, bytes_ahead, input_limit}
 use Rattle.line_service.specs.declared.lines.LineFault.TheVariants.{ReadFault, InputLimit}
 use Rattle.line_service.specs.declared.lines.Taken.TheVariants.{End}
-use Rattle.line_service.proofs.AnswerLemmas.{ok_not_err, err_not_ok, err_as, told-answers, told-end, told-no-end, told-counted, told-lost, told-no-limit, told-limit, judged-taken, judged-ended, shown, advances, emptied}
+use Rattle.line_service.proofs.AnswerLemmas.{ok_not_err, err_not_ok, err_as, told-answers, told-end, told-no-end, told-counted, told-kept, told-no-limit, told-limit, judged-taken, judged-ended, shown, advances, emptied}
 use Rattle.line_service.proofs.lines.read_line.Goals as goal
 
 pub returns-in-Ok-clause-answer : goal.returns-in-Ok-clause-answer
@@ -19,8 +19,8 @@ returns-in-Ok-clause-limit g c =
 
 pub returns-in-Err-clause-limit : goal.returns-in-Err-clause-limit
 returns-in-Err-clause-limit g c =
-    told-limit _ _ c.args.buffer.now c.drop_line.new.self c.gather.new.buffer c.drop_line-in-Err.new.self c.in-Err.fault
-    (sym (ap (λ r. r.pending) c.drop_line.ensures.dropped)) (ap (λ r. r.taken) c.drop_line-in-Err.ensures.dropped)
+    told-limit _ _ c.args.buffer.now c.drop_line.new.self c.gather.new.buffer c.put_back.new.self c.in-Err.fault
+    (sym (ap (λ r. r.pending) c.drop_line.ensures.dropped)) (ap (λ r. r.taken) c.put_back.ensures.back)
     c.in-Err.ensures.gathered c.in-Err.ensures.going.1 c.in-Err.ensures.full c.in-Err.ensures.short
 
 pub returns-in-Ok-clause-shown : goal.returns-in-Ok-clause-shown
@@ -56,26 +56,26 @@ returns-in-Ok-clause-counted g c =
 
 pub returns-in-Err-clause-end : goal.returns-in-Err-clause-end
 returns-in-Err-clause-end g c =
-    told-no-end _ _ _ c.args.buffer.now c.drop_line.new.self c.gather.new.buffer c.drop_line-in-Err.new.self c.in-Err.fault
-    (ap (λ r. r.ended) c.drop_line-in-Err.ensures.dropped ∙ c.in-Err.ensures.going.0) c.in-Err.ensures.gathered
+    told-no-end _ _ _ c.args.buffer.now c.drop_line.new.self c.gather.new.buffer c.put_back.new.self c.in-Err.fault
+    (ap (λ r. r.ended) c.put_back.ensures.back ∙ c.in-Err.ensures.going.0) c.in-Err.ensures.gathered
 
 pub returns-in-Err-clause-ready : goal.returns-in-Err-clause-ready
 returns-in-Err-clause-ready g c = λ ready. c.in-Err.ensures.ready (subst IsReady (sym c.drop_line.ensures.dropped) ready)
 
 pub returns-in-Err-clause-counted : goal.returns-in-Err-clause-counted
 returns-in-Err-clause-counted g c =
-    told-counted _ _ _ c.args.buffer.now c.drop_line.new.self c.gather.new.buffer c.drop_line-in-Err.new.self
-    (sym (ap (λ r. r.taken) c.drop_line.ensures.dropped)) (ap (λ r. r.taken) c.drop_line-in-Err.ensures.dropped)
+    told-counted _ _ _ c.args.buffer.now c.drop_line.new.self c.gather.new.buffer c.put_back.new.self
+    (sym (ap (λ r. r.taken) c.drop_line.ensures.dropped)) (ap (λ r. r.taken) c.put_back.ensures.back)
     c.in-Err.ensures.gathered
 
 pub returns-in-Err-clause-emptied : goal.returns-in-Err-clause-emptied
 returns-in-Err-clause-emptied g c =
-    emptied c.gather.new.buffer c.drop_line-in-Err.new.self c.drop_line-in-Err.ensures.dropped c.in-Err.ensures.going.0 c.in-Err.ensures.going.1
+    emptied c.gather.new.buffer c.put_back.new.self c.put_back.ensures.back c.in-Err.ensures.going.0
 
-pub returns-in-Err-clause-lost : goal.returns-in-Err-clause-lost
-returns-in-Err-clause-lost g c =
-    told-lost _ _ c.args.buffer.now c.drop_line.new.self c.gather.new.buffer
-    (sym (ap (λ r. r.pending) c.drop_line.ensures.dropped)) c.in-Err.ensures.gathered c.in-Err.ensures.going.1
+pub returns-in-Err-clause-kept : goal.returns-in-Err-clause-kept
+returns-in-Err-clause-kept g c =
+    told-kept _ _ c.args.buffer.now c.drop_line.new.self c.gather.new.buffer c.put_back.new.self
+    (sym (ap (λ r. r.pending) c.drop_line.ensures.dropped)) c.in-Err.ensures.gathered c.in-Err.ensures.going.1 c.put_back.ensures.back
 
 pub gather-requires-clause-at_end : goal.gather-requires-clause-at_end
 gather-requires-clause-at_end g c = λ is. c.requires (sym (ap (λ r. r.ended) c.drop_line.ensures.dropped) ∙ is)
@@ -104,8 +104,8 @@ returns-in-Ok-clause-short g c h = absurd (ok_not_err c.judge.result ReadFault h
 pub returns-in-Ok-clause-emptied : goal.returns-in-Ok-clause-emptied
 returns-in-Ok-clause-emptied g c = tt
 
-pub returns-in-Ok-clause-lost : goal.returns-in-Ok-clause-lost
-returns-in-Ok-clause-lost g c = tt
+pub returns-in-Ok-clause-kept : goal.returns-in-Ok-clause-kept
+returns-in-Ok-clause-kept g c = tt
 
 pub returns-in-Err-clause-answer : goal.returns-in-Err-clause-answer
 returns-in-Err-clause-answer g c = tt
@@ -129,7 +129,10 @@ pub returns-in-Err-clause-quiet : goal.returns-in-Err-clause-quiet
 returns-in-Err-clause-quiet g c never = c.in-Err.ensures.quiet (λ h. never (err_as c.in-Err.fault ReadFault h))
 
 pub returns-in-Err-clause-full : goal.returns-in-Err-clause-full
-returns-in-Err-clause-full g c h = ap (λ r. r.taken) c.drop_line-in-Err.ensures.dropped ∙ c.in-Err.ensures.full (err_as c.in-Err.fault InputLimit h)
+returns-in-Err-clause-full g c h = ap (λ r. r.taken) c.put_back.ensures.back ∙ c.in-Err.ensures.full (err_as c.in-Err.fault InputLimit h)
 
 pub returns-in-Err-clause-short : goal.returns-in-Err-clause-short
-returns-in-Err-clause-short g c h = subst (λ (n : ℕ). n < input_limit) (sym (ap (λ r. r.taken) c.drop_line-in-Err.ensures.dropped)) (c.in-Err.ensures.short (err_as c.in-Err.fault ReadFault h))
+returns-in-Err-clause-short g c h = subst (λ (n : ℕ). n < input_limit) (sym (ap (λ r. r.taken) c.put_back.ensures.back)) (c.in-Err.ensures.short (err_as c.in-Err.fault ReadFault h))
+
+pub put_back-requires : goal.put_back-requires
+put_back-requires g c = c.in-Err.ensures.going.1

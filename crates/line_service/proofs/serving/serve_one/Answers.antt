@@ -84,12 +84,12 @@ returns-in-End-clause-taken g c =
 pub returns-in-Err-ReadFault-clause-taken : goal.returns-in-Err-ReadFault-clause-taken
 returns-in-Err-ReadFault-clause-taken g c =
     no_line_was_taken (Err c.in-Err-ReadFault.field-0) _ c.args.lines.now c.read_line.new.buffer _ (read_failed _ c.in-Err-ReadFault.field-0-is) tt tt c.in-Err-ReadFault.ensures.end c.read_line.ensures.ended c.in-Err-ReadFault.ensures.ends
-    c.read_line.ensures.at_end c.read_line.ensures.counted c.read_line.ensures.within c.read_line.ensures.early c.in-Err-ReadFault.ensures.limit c.in-Err-ReadFault.ensures.full c.in-Err-ReadFault.ensures.short c.in-Err-ReadFault.ensures.emptied c.in-Err-ReadFault.ensures.lost
+    c.read_line.ensures.at_end c.read_line.ensures.counted c.read_line.ensures.within c.read_line.ensures.early c.in-Err-ReadFault.ensures.limit c.in-Err-ReadFault.ensures.full c.in-Err-ReadFault.ensures.short c.in-Err-ReadFault.ensures.emptied c.in-Err-ReadFault.ensures.kept
 
 pub returns-in-Err-InputLimit-clause-taken : goal.returns-in-Err-InputLimit-clause-taken
 returns-in-Err-InputLimit-clause-taken g c =
     no_line_was_taken (Err c.in-Err-InputLimit.field-0) _ c.args.lines.now c.read_line.new.buffer _ (read_over _ c.in-Err-InputLimit.field-0-is) tt tt c.in-Err-InputLimit.ensures.end c.read_line.ensures.ended c.in-Err-InputLimit.ensures.ends
-    c.read_line.ensures.at_end c.read_line.ensures.counted c.read_line.ensures.within c.read_line.ensures.early c.in-Err-InputLimit.ensures.limit c.in-Err-InputLimit.ensures.full c.in-Err-InputLimit.ensures.short c.in-Err-InputLimit.ensures.emptied c.in-Err-InputLimit.ensures.lost
+    c.read_line.ensures.at_end c.read_line.ensures.counted c.read_line.ensures.within c.read_line.ensures.early c.in-Err-InputLimit.ensures.limit c.in-Err-InputLimit.ensures.full c.in-Err-InputLimit.ensures.short c.in-Err-InputLimit.ensures.emptied c.in-Err-InputLimit.ensures.kept
 
 pub returns-in-Ok-send-clause-left : goal.returns-in-Ok-send-clause-left
 returns-in-Ok-send-clause-left g c =

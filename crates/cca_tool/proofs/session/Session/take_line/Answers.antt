@@ -28,7 +28,7 @@ returns-in-Err-ReadFault-clause-read g c =
     (ap (λ (memory : Memory). memory.reading) c.self.view_is)
     (input_read c.read_line.result (Err ReadFault) (fault_told c.read_line.result (c.in-Err-ReadFault.is ∙ ap Err c.in-Err-ReadFault.field-0-is))
     (g.S.Source.left c.args.source.now) (g.S.Source.left c.read_line.new.source) c.self.inside.lines c.read_line.new.buffer
-    tt tt tt here.end here.ends here.limit c.in-Err-ReadFault.ensures.lost here.ended here.at_end here.counted here.within here.full here.short here.early c.in-Err-ReadFault.ensures.emptied)
+    tt tt tt here.end here.ends here.limit c.in-Err-ReadFault.ensures.kept here.ended here.at_end here.counted here.within here.full here.short here.early c.in-Err-ReadFault.ensures.emptied)
 
 pub returns-in-Err-InputLimit-clause-read : goal.returns-in-Err-InputLimit-clause-read
 returns-in-Err-InputLimit-clause-read g c =
@@ -37,7 +37,7 @@ returns-in-Err-InputLimit-clause-read g c =
     (ap (λ (memory : Memory). memory.reading) c.self.view_is)
     (input_read c.read_line.result (Err InputLimit) (limit_told c.read_line.result (c.in-Err-InputLimit.is ∙ ap Err c.in-Err-InputLimit.field-0-is))
     (g.S.Source.left c.args.source.now) (g.S.Source.left c.read_line.new.source) c.self.inside.lines c.read_line.new.buffer
-    tt tt tt here.end here.ends here.limit c.in-Err-InputLimit.ensures.lost here.ended here.at_end here.counted here.within here.full here.short here.early c.in-Err-InputLimit.ensures.emptied)
+    tt tt tt here.end here.ends here.limit c.in-Err-InputLimit.ensures.kept here.ended here.at_end here.counted here.within here.full here.short here.early c.in-Err-InputLimit.ensures.emptied)
 
 pub returns-in-Ok-clause-read : goal.returns-in-Ok-clause-read
 returns-in-Ok-clause-read g c =
