@@ -8,9 +8,10 @@ import functools
 import itertools
 import random
 import shutil
+import subprocess
 
-from tests.formats import internals, made, pattern, record, sealed, selected, value
-from tests.harness import Calls, Case, Fault
+from tests.formats import BODIES, CELL, internals, made, pattern, record, sealed, selected, value
+from tests.harness import LIMIT, Calls, Case, Fault
 from tests.keys import OTHER, QUICK, by_label, ceremony, drawn_key, stored
 
 FORGETFUL = 'SKIPPED="write cca.store" CCA_PRELOAD=$CALLS exec "$CCA" "$@"'
@@ -18,6 +19,7 @@ FAULTS = [
     Fault(FORGETFUL, case="Ahead.test_kills", tells="Lists differ: .'KEY.000'"),
     Fault(FORGETFUL, case="Labels", tells="OK count=0"),
     Fault('"$CCA" "$@" | sed "s/ warn=old$//"', case="Renewal", tells="wanted: OK value=.* warn=old$"),
+    Fault('"$CCA" "$@" || echo "OK changed=0"', case="Damage", tells="Tuples differ: .*OK changed=0"),
 ]
 
 LABELS = 200
@@ -152,6 +154,26 @@ class Ahead(Store):
         pairs = [(f"{MKP} action=SET", "OK new=empty"), *tested(HELD), (RENEW, CHANGED), *tested()]
         self.replies(pairs, calls=QUICK)
         self.holds(bodies(LAST))
+
+
+class Damage(Store):
+    def test_cell_that_rots_once_the_store_is_open(self):
+        """REENCIPHER comes upon it: no reply, but the cell is told, and the keys in the cells below it are brought under the master key."""
+        self.replies([(f"{MKP} action=SET", "OK new=empty")])
+        number = list(KEYS).index(HELD[LABELS // 4])
+        place, wanted = BODIES[(self.folder / "cca.store").read_bytes()[CELL * number] % 2], bodies(FIRST)
+        wanted = [*bodies(NEXT)[:number], b"\x07" + wanted[number][1:], *wanted[number + 1 :]]
+        streams = dict.fromkeys(("stdin", "stdout", "stderr"), subprocess.PIPE)
+        with subprocess.Popen([self.program.path, "run"], cwd=self.folder, **streams) as it:
+            it.stdin.write(b"CSNBKRL role=DEFAULT prefix=X\n")
+            it.stdin.flush()
+            self.assertEqual(it.stdout.readline(), b"OK count=0 labels=\n")
+            with open(self.folder / "cca.store", "r+b") as store:
+                store.seek(CELL * number + place)
+                store.write(b"\x07")
+            out, err = it.communicate(f"{RENEW}\n".encode(), LIMIT)
+        self.assertEqual((it.returncode, out, err), (3, b"", f"cca: store cell {number} is damaged\n".encode()))
+        self.holds(wanted)
 
 
 class Labels(Case):

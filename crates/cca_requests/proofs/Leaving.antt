@@ -25,6 +25,7 @@ use Rattle.request_rules.specs.Standing.{Tables, tables}
 use Rattle.cca_machine.specs.Deciding.{GoesThrough, IsReady, WritesStore}
 use Rattle.cca_machine.specs.declared.effects.Effect.{Effect}
 use Rattle.line_service.specs.Lines.{EndsInNewline}
+use Rattle.reencipher.specs.Runs.{IsLabelCell}
 use Rattle.cca_requests.specs.Serving.{IsSound, IsLoadedStop, KeepsToEffect, LeavesModule, LeavesStore, Leaves}
 
 pub ok_always : {P : Type 0} (result : Result (Unit {0}) Stop) → P → OnOk result P
@@ -199,7 +200,7 @@ no_damage result cell stops is = subst (λ (r : Result (Unit {0}) Stop). IfErr r
 -- no stop at all
 pub still_keeps : {M D : Type 0} {e : Effect} {rows : List (Option Row)} {lease : Lease} {module_ : M} {store : D}
     → KeepsToEffect e (Ok tt) rows rows lease lease module_ module_ store store
-still_keeps = record { stops = tt; entropy = λ is. cc is; kept = λ none. tt; writes = λ is. cc is; spared = λ none. refl; alone = λ writes. refl; through = λ device cell is. cc is; loan = refl }
+still_keeps = record { stops = tt; entropy = λ is. cc is; kept = λ none. tt; writes = λ is. cc is; spared = λ none. refl; alone = λ writes. refl; through = λ device cell is. cc is; cell = λ n is. cc is; loan = refl }
 
 module_stop : (stop : Stop) → stop ≡ ModuleFault → IsLoadedStop stop
 module_stop stop is = subst IsLoadedStop (sym is) tt
@@ -248,13 +249,14 @@ module _ {M D : Type 0} {e : Effect} {rows later : List (Option Row)} {lease sti
     spared = λ none. refl;
     alone = λ writes. absurd (none writes);
     through = λ device cell is. absurd (only_fault ModuleFault result stops module_apart device cell is);
+    cell = λ n is. absurd (only_fault ModuleFault result stops module_apart Store n is);
     loan = loan;
   }
 
   -- the store, for an effect that writes it
-  pub store_keeps : {module_ : M} {old new : D} → WritesStore e → ((device : Device) (cell : ℕ) → result ≡ Err (Damaged device cell) → GoesThrough e) → IfErr result IsStoreStop → ((GoesThrough e → ⊥) → OnErr result (later ≡ rows)) → loan_of still ≡ loan_of lease
+  pub store_keeps : {module_ : M} {old new : D} → WritesStore e → ((device : Device) (cell : ℕ) → result ≡ Err (Damaged device cell) → GoesThrough e) → ((n : ℕ) → result ≡ Err (Damaged Store n) → IsLabelCell rows n) → IfErr result IsStoreStop → ((GoesThrough e → ⊥) → OnErr result (later ≡ rows)) → loan_of still ≡ loan_of lease
       → KeepsToEffect e result rows later lease still module_ module_ old new
-  store_keeps writes through stops kept loan = record {
+  store_keeps writes through cell stops kept loan = record {
     stops = if_err result store_stop stops;
     entropy = λ is. absurd (stops_as IsStoreStop result stops is);
     kept = kept;
@@ -262,6 +264,7 @@ module _ {M D : Type 0} {e : Effect} {rows later : List (Option Row)} {lease sti
     spared = λ none. absurd (none writes);
     alone = λ writes. refl;
     through = through;
+    cell = cell;
     loan = loan;
   }
 

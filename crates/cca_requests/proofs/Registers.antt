@@ -5,7 +5,7 @@ use Rattle.key_cells.specs.Lease.{bench_of}
 use Rattle.key_cells.specs.declared.leases.Lease.{Lease}
 use Rattle.device_cells.specs.Cells.{body}
 use Rattle.device_cells.specs.Medium.{Medium, Keeps, Told}
-use Rattle.device_cells.proofs.Media.{told_at}
+use Rattle.device_cells.proofs.Media.{told_at, told_from}
 use Rattle.line_service.specs.Answering.{Holds}
 use Rattle.master_registers.specs.Masters.{NewRegister, Empty, Partial, Full, Masters, new_bytes, kept_bytes, state_of}
 use Rattle.master_registers.specs.Loaded.{Loaded, masters_in, coming_in, kept_in, pattern_in, registers_of}
@@ -60,3 +60,13 @@ registers_found m0 m1 s found holds keeps told =
 
 pub undamaged : (m : Medium) (s : State) → Holds m (IsModuleOf s) → Told m IsDamaged → ⊥
 undamaged m s holds damaged = told_at m.content IsDamaged holds.image holds.told damaged s.registers holds.has.registers
+
+-- so registers that were loaded aren't damaged
+pub told_sound : (m0 m1 : Medium) (found : Masters) (P : Type 0) → Keeps m0 m1 → Told m1 (λ image. StandsForMasters image found)
+    → Told m0 (λ image. IsDamaged image → P)
+told_sound m0 m1 found P keeps stands =
+    told_from m0.content (λ image. IsDamaged image → P)
+    (λ image is broken. absurd (broken found (told_at m1.content (λ c. StandsForMasters c found) image (keeps.content ∙ is) stands)))
+
+pub told_then : (m : Medium) {P : Type 0} → P → Told m (λ image. IsDamaged image → P)
+told_then m {P} has = told_from m.content (λ image. IsDamaged image → P) (λ image is broken. has)

@@ -14,7 +14,8 @@ use Rattle.master_registers.specs.declared.registers.NewState.TheVariants as new
 use Rattle.master_registers.specs.declared.registers.Registers.{Registers}
 use Rattle.master_registers.specs.declared.faults.RegisterFault.{RegisterFault}
 use Rattle.master_registers.specs.declared.faults.RegisterFault.TheVariants as fault
-use Rattle.line_service.specs.Replies.{Reply, Refused, Done, Text, spelled}
+use Rattle.device_cells.specs.Medium.{Medium}
+use Rattle.line_service.specs.Replies.{Reply, Refused, Done, Text, Number, spelled}
 use Rattle.line_service.specs.declared.stops.Stop.{Stop}
 use Rattle.line_service.specs.declared.stops.Stop.TheVariants.{ModuleFault, StoreFault}
 use Rattle.verb_rules.specs.Rules.{rule_number}
@@ -22,6 +23,11 @@ use Rattle.cca_machine.specs.State.{State}
 use Rattle.cca_machine.specs.Verdict.{Questions, Refusal, first_refusal, action_questions, create_questions}
 use Rattle.cca_machine.specs.Act.{Effect, Become, Create, Outcome, state_after, state_between, fields_after, module_cells_after, store_cells_after, refused}
 use Rattle.cca_machine.specs.Deciding.{labels_after}
+use Rattle.cca_machine.specs.declared.effects.Effect.{Effect as CodeEffect}
+use Rattle.cca_machine.specs.declared.effects.Effect.TheVariants as code
+use Rattle.record_bodies.specs.declared.actions.StoreAction.{StoreAction}
+use Rattle.reencipher.specs.Runs.{IsLabelCell, TurnsCells}
+use Rattle.request_rules.specs.Stored.{read_stop}
 use Rattle.cca_requests.specs.declared.changes.Unmade.{Unmade}
 use Rattle.cca_requests.specs.declared.changes.Unmade.TheVariants as unmade
 
@@ -154,3 +160,38 @@ record_reply (Err record_fault.DiskFault) = Done []
 record_reply (Err (record_fault.Damaged cell)) = Done []
 record_reply (Err record_fault.Full) = Refused 28 (codes "label")
 record_reply (Err record_fault.Exists) = Refused 29 (codes "label")
+
+-- ---- an action on every label
+
+abbrev pub run_stop : Result ℕ RecordFault → Result (Unit {0}) Stop
+run_stop (Ok n) = Ok tt
+run_stop (Err why) = Err (read_stop why)
+
+-- the reply to it tells how many labels were changed; a stop has none
+abbrev pub run_reply : Result ℕ RecordFault → Reply
+run_reply (Ok n) = Done (Number (codes "changed") n ∷ [])
+run_reply (Err why) = Done []
+
+-- What is answered of an action on every label, whatever the store tells of its bytes: how its run came out. Of a run that
+-- is done the reply tells how many labels the memory knew as ones that the action changes, and a damaged cell is one that
+-- holds a label.
+pub record RunsThrough (a : StoreAction) (held : Registers) (rows later : List (Option Row))
+    (d0 d1 : Medium) (result : Result (Unit {0}) Stop) (reply : List ℕ) : Type 0 where
+  pub outcome : Result ℕ RecordFault
+  pub cells : TurnsCells a held rows later d0 d1 outcome
+  pub cell : (n : ℕ) → outcome ≡ Err (record_fault.Damaged n) → IsLabelCell rows n
+  pub answer : IsAnswer (run_stop outcome) (run_reply outcome) result reply
+
+-- of an effect that is one
+abbrev pub RunsEffect : CodeEffect → Registers → List (Option Row) → List (Option Row) → Medium → Medium
+    → Result (Unit {0}) Stop → List ℕ → Type 0
+RunsEffect (code.Reencipher a) held rows later d0 d1 result reply =
+    RunsThrough a held rows later d0 d1 result reply
+RunsEffect (code.Refused r) held rows later d0 d1 result reply = ⊤
+RunsEffect code.Shown held rows later d0 d1 result reply = ⊤
+RunsEffect (code.Change action) held rows later d0 d1 result reply = ⊤
+RunsEffect (code.DefineRole name points) held rows later d0 d1 result reply = ⊤
+RunsEffect (code.RemoveRole name) held rows later d0 d1 result reply = ⊤
+RunsEffect (code.Create label) held rows later d0 d1 result reply = ⊤
+RunsEffect (code.Write place token) held rows later d0 d1 result reply = ⊤
+RunsEffect (code.Delete place) held rows later d0 d1 result reply = ⊤

@@ -24,8 +24,9 @@ use Rattle.line_service.specs.declared.stops.Stop.{Stop}
 use Rattle.line_service.specs.declared.stops.Stop.TheVariants.{ReadFault, WriteFault, EntropyFault, ModuleFault, StoreFault, Damaged, InputLimit}
 use Rattle.verb_script.specs.Grammar.{Request, Spells}
 use Rattle.cca_machine.specs.State.{State, IsModuleOf, IsStoreOf}
-use Rattle.cca_machine.specs.Operands.{needs_store}
-use Rattle.request_rules.specs.Judging.{IsStoreStop}
+use Rattle.cca_machine.specs.Operands.{is_reencipher, listed, needs_store, operands}
+use Rattle.reencipher.specs.Runs.{IsLabelCell}
+use Rattle.request_rules.specs.Judging.{IsCellOfAny, IsStoreStop}
 use Rattle.request_rules.specs.Standing.{HasLoaded, Tables, StandsInModule, StandsInStore, Stands}
 use Rattle.cca_machine.specs.Deciding.{GoesThrough, HasDrawn, WritesStore}
 use Rattle.cca_machine.specs.declared.effects.Effect.{Effect}
@@ -241,7 +242,7 @@ pub record Leaves (result : Result (Unit {0}) Stop) (reply : List ℕ) (d : Span
 
 -- What was called and changed for an effect: the store only where the effect writes it, and the module only where it
 -- doesn't; and the memory of the records, after an error, only where the effect goes through every label. A damaged cell is
--- come upon only there too.
+-- come upon only there too, and holds a label.
 pub record KeepsToEffect {M D : Type 0} (e : Effect) (result : Result (Unit {0}) Stop)
     (rows later : List (Option Row)) (lease still : Lease) (module0 module1 : M)
     (store0 store1 : D) : Type 0 where
@@ -253,6 +254,7 @@ pub record KeepsToEffect {M D : Type 0} (e : Effect) (result : Result (Unit {0})
   pub alone : WritesStore e → module1 ≡ module0
   pub through : (device : Device) (cell : ℕ) → result ≡ Err (Damaged device cell)
       → GoesThrough e
+  pub cell : (n : ℕ) → result ≡ Err (Damaged Store n) → IsLabelCell rows n
   pub loan : loan_of still ≡ loan_of lease
 
 -- the store is called only for a label in an operand, and for REENCIPHER
@@ -260,6 +262,13 @@ pub record SparesStore {D : Type 0} (request : Request) (result : Result (Unit {
     (store0 store1 : D) : Type 0 where
   pub named : result ≡ Err StoreFault → IsTrue (needs_store request)
   pub spared : needs_store request ≡ false → store1 ≡ store0
+
+-- a cell of the store that the request reads: that of a label whose key an operand asks for; and of REENCIPHER each one
+-- that holds a label
+abbrev pub IsCellRead : Request → List (Option Row) → ℕ → Type 0
+IsCellRead request rows cell =
+    IsCellOfAny rows (listed (operands request)) cell
+    ⊎ (IsTrue (is_reencipher request.name) × IsLabelCell rows cell)
 
 -- Random bytes are taken only where no rule that is asked before refuses the request, from a state that has P, and where
 -- the request draws some; the random source fails only there too.

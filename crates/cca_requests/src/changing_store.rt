@@ -1,9 +1,9 @@
 //! Changes of the records, with their replies.
-ghost use Rattle.std.specs.Prelude.{◌≡◌, [], List, Option, IsSome};
+ghost use Rattle.std.specs.Prelude.{◌≡◌, ◌≤◌, [], List, Option, IsSome, IfErr, IfOk};
 ghost use Rattle.record_bodies.specs.Entries.{Entry};
 ghost use Rattle.record_bodies.specs.StoreStands.{KeepsLabels, HasStore};
 ghost use Rattle.master_registers.specs.Masters.{Masters};
-ghost use Rattle.reencipher.specs.Runs.{IsCell, LeavesAnyStore, Reenciphers, TurnsCells};
+ghost use Rattle.reencipher.specs.Runs.{IsLabelCell, LeavesAnyStore, Reenciphers, TurnsCells};
 ghost use Rattle.device_cells.specs.Medium.{Told};
 ghost use Rattle.verb_rules.specs.Keys.{keys_of};
 ghost use Rattle.key_cells.specs.Lease.{bench_of, loan_of};
@@ -17,8 +17,9 @@ ghost use Rattle.cca_machine.specs.Operands.{operands, listed};
 ghost use Rattle.cca_machine.specs.Act.{Effect as MachineEffect, ChangeLabels, effected};
 ghost use Rattle.cca_machine.specs.declared.effects.Effect.TheVariants as code;
 ghost use Rattle.cca_requests.specs.Serving.{CarriesStore, LeavesRecords, LeavesStore};
-ghost use Rattle.cca_requests.specs.Changes.{IsAnswer, IsShortlyNamed, made_reply, made_stop, plainly, create_outcome, record_stop, record_reply};
+ghost use Rattle.cca_requests.specs.Changes.{IsAnswer, IsShortlyNamed, made_reply, made_stop, plainly, create_outcome, record_stop, record_reply, run_stop, run_reply, RunsThrough};
 ghost use Rattle.request_rules.specs.Standing.{AtStore};
+ghost use Rattle.request_rules.specs.Stored.{IsReadFault};
 ghost use Rattle.cca_machine.specs.Deciding.{IsReady, IsHeldAt, IsWritten, IsDeleted};
 
 use crate::changes::{Unmade, answer};
@@ -168,13 +169,31 @@ fn carry_out<D: Disk>(
         (D.medium store.old) (D.medium store.new) result }
     ensures cells { TurnsCells action held.now records.old records.new
         (D.medium store.old) (D.medium store.new) result }
-    ensures left { LeavesAnyStore D.medium D.faults IsCell lease.old lease.new
-        records.old records.new store.old store.new result }
+    ensures left { LeavesAnyStore D.medium D.faults (IsLabelCell records.old)
+        lease.old lease.new records.old records.new store.old store.new result }
 {
     match action {
         StoreAction::Renew => reencipher(lease, held, store, records),
         StoreAction::Ahead => ahead(lease, held, store, records),
         StoreAction::Drop => drop_ahead(lease, held, store, records),
+    }
+}
+
+/// Says how many labels an action changed, or why it ended on its way.
+fn answer_run(outcome: Result<u32, RecordFault>, reply: &mut ReplyBuffer) -> Result<(), Stop>
+    requires few { IfOk outcome (λ n. n ≤ 1024) }
+    requires read { IfErr outcome IsReadFault }
+    requires empty { reply.old ≡ [] }
+    ensures { IsAnswer (run_stop outcome) (run_reply outcome) result reply.new }
+{
+    match outcome {
+        Ok(changed) => {
+            reply.ok();
+            reply.number("changed", changed);
+            end(reply);
+            Ok(())
+        }
+        Err(fault) => Err(stop_of(fault)),
     }
 }
 
@@ -198,15 +217,10 @@ pub(crate) fn renew<D: Disk>(
         (D.medium store.old) (D.medium store.new) }
     ensures left { LeavesStore (D.medium store.old) (D.medium store.new)
         (D.faults store.old) (D.faults store.new) result reply.new records.old records.new }
+    ensures run { RunsThrough action held.now records.old records.new
+        (D.medium store.old) (D.medium store.new) result reply.new }
     ensures loan { loan_of lease.new ≡ loan_of lease.old }
 {
-    match carry_out(action, lease, held, store, records) {
-        Ok(changed) => {
-            reply.ok();
-            reply.number("changed", changed);
-            end(reply);
-            Ok(())
-        }
-        Err(fault) => Err(stop_of(fault)),
-    }
+    let outcome = carry_out(action, lease, held, store, records);
+    answer_run(outcome, reply)
 }

@@ -8,6 +8,7 @@ ghost use Rattle.cca_machine.specs.Operands.{operands, listed};
 ghost use Rattle.cca_machine.specs.Act.{or_act};
 ghost use Rattle.cca_machine.specs.Verdict.{whole_verb_verdict};
 ghost use Rattle.cca_requests.specs.Serving.{Carries, HasDisks, KeepsToEffect, Leaves};
+ghost use Rattle.cca_requests.specs.Changes.{RunsEffect};
 ghost use Rattle.request_rules.specs.Standing.{tables, At};
 ghost use Rattle.cca_machine.specs.Deciding.{IsDecided, IsReady};
 
@@ -52,6 +53,8 @@ pub(crate) fn carry<M: Disk, D: Disk>(
         (tables roles.old records.old) (tables roles.new records.new) }
     ensures keeps { KeepsToEffect effect.now result records.old records.new lease.old lease.new
         «module».old «module».new store.old store.new }
+    ensures run { RunsEffect effect.now held.now records.old records.new
+        (D.medium store.old) (D.medium store.new) result reply.new }
 {
     match effect {
         Effect::Refused(refusal) => {

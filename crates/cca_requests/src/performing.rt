@@ -1,5 +1,6 @@
 //! A request, judged and carried out.
-ghost use Rattle.std.specs.Prelude.{◌≡◌, ℕ, false, [], Option, Err, OnOk, OnErr, IfErr};
+ghost use Rattle.std.specs.Prelude.{◌≡◌, ℕ, false, [], Option, Err, OnOk, OnErr, IfErr, IsTrue};
+ghost use Rattle.device_cells.specs.Faults.{Rose};
 ghost use Rattle.device_cells.specs.Medium.{Keeps, Told};
 ghost use Rattle.master_registers.specs.RegisterBody.{IsDamaged};
 ghost use Rattle.key_cells.specs.Bench.{blank_bench};
@@ -11,7 +12,8 @@ ghost use Rattle.cca_machine.specs.State.{State, module_size, store_size};
 ghost use Rattle.cca_machine.specs.Operands.{operands, is_reencipher};
 ghost use Rattle.cca_machine.specs.Verdict.{Refusal as Refused, verdict_by};
 ghost use Rattle.request_rules.specs.ByRecords.{RestsOnRecords};
-ghost use Rattle.cca_requests.specs.Serving.{HasDisks, IsSpelled, IsRequestStop, IsLoadedStop, Serves, Leaves, SparesStore, DrawsOnly, AreRemembered};
+ghost use Rattle.cca_requests.specs.Serving.{HasDisks, IsSpelled, IsRequestStop, IsLoadedStop, Serves, Leaves, IsCellRead, SparesStore, DrawsOnly, AreRemembered};
+ghost use Rattle.reencipher.specs.Runs.{IsLabelCell};
 ghost use Rattle.request_rules.specs.Standing.{Stands, tables, At};
 ghost use Rattle.cca_machine.specs.Granted.{IsAccepted, AreGranted};
 ghost use Rattle.cca_machine.specs.Decided.{HasPassed, TakesOnly, source};
@@ -70,7 +72,13 @@ pub fn perform<M: Disk, D: Disk, E: Entropy>(
         → OnErr result (records.new ≡ records.old) }
     ensures damage { result ≡ Err (Stop.Damaged Device.Module 0)
         → Told (M.medium «module».old) IsDamaged }
+    // And it is told, where the registers are damaged and the module doesn't fail.
+    ensures exact { (Rose (M.faults «module».old) (M.faults «module».new) → ⊥)
+        → Told (M.medium «module».old) (λ image. IsDamaged image
+        → result ≡ Err (Stop.Damaged Device.Module 0)) }
     ensures store { SparesStore (seen request.now) result store.old store.new }
+    ensures cell { (n : ℕ) → result ≡ Err (Stop.Damaged Device.Store n)
+        → IsCellRead (seen request.now) records.old n }
     ensures damaged { DamageSpares result (M.medium «module».old) (M.medium «module».new)
         store.old store.new entropy.old entropy.new }
     ensures store_kept { is_reencipher (seen request.now).name ≡ false
@@ -131,6 +139,8 @@ fn carry_out<M: Disk, D: Disk, E: Entropy>(
     ensures rows { is_reencipher (seen request.now).name ≡ false
         → OnErr result (records.new ≡ records.old) }
     ensures store { SparesStore (seen request.now) result store.old store.new }
+    ensures cell { (n : ℕ) → result ≡ Err (Stop.Damaged Device.Store n)
+        → IsCellRead (seen request.now) records.old n }
     ensures damaged { DamageSpares result (M.medium «module».old) (M.medium «module».new)
         store.old store.new entropy.old entropy.new }
     ensures store_kept { is_reencipher (seen request.now).name ≡ false
@@ -190,6 +200,8 @@ fn act<M: Disk, D: Disk, E: Entropy>(
     ensures rows { is_reencipher (seen request.now).name ≡ false
         → OnErr result (records.new ≡ records.old) }
     ensures store { SparesStore (seen request.now) result store.old store.new }
+    ensures cell { (n : ℕ) → result ≡ Err (Stop.Damaged Device.Store n)
+        → IsTrue (is_reencipher (seen request.now).name) × IsLabelCell records.old n }
     ensures damaged { DamageSpares result (M.medium «module».old) (M.medium «module».new)
         store.old store.new entropy.old entropy.new }
     ensures store_kept { is_reencipher (seen request.now).name ≡ false

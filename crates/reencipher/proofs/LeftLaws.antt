@@ -7,12 +7,13 @@ use Rattle.device_cells.specs.Faults.{Rose}
 use Rattle.device_cells.specs.Medium.{Medium, Told, Keeps}
 use Rattle.device_cells.proofs.Media.{told_from, told_before, told_still, settled_kept}
 use Rattle.key_records.specs.Changes.{HasReadCause, ChangesRecord, ChangesKeyAndBody, KeepsAllButBody}
+use Rattle.record_bodies.specs.Directory.{label_at}
 use Rattle.record_bodies.specs.Entries.{row_directory}
 use Rattle.record_bodies.specs.StoreStands.{HasStore, HoldsRows}
 use Rattle.key_records.specs.declared.faults.RecordFault.{RecordFault}
 use Rattle.key_records.specs.declared.faults.RecordFault.TheVariants.{Damaged, DiskFault}
 use Rattle.record_bodies.specs.declared.rows.Row.{Row}
-use Rattle.reencipher.specs.Runs.{IsCell, LeavesAnyStore}
+use Rattle.reencipher.specs.Runs.{IsLabelCell, IsTurnOf, LeavesAnyStore}
 use Rattle.reencipher.proofs.RunLaws.{changes_none, changes_more, changes_body}
 
 abbrev failed : (T : Type 0) → RecordFault → Result T RecordFault
@@ -48,7 +49,7 @@ module _ {D : Type 0} (medium : D → Medium) (faults : D → ℕ) where
   -- the record of one cell was read
   module _ (lease later : Lease) (rows : List (Option Row)) (old mid : D) (cell : ℕ) (has : HasStore rows (medium old)) (keeps : Keeps (medium old) (medium mid)) where
     pub left_read : (found done : Bool) → HasReadCause (faults old) (faults mid) (Ok found) → ChangesKeyAndBody lease later
-        → LeavesAnyStore medium faults (λ n. n ≡ cell) lease later rows rows old mid (Ok done)
+        → LeavesAnyStore medium faults (IsTurnOf rows cell) lease later rows rows old mid (Ok done)
     left_read found done cause rest = record {
       size = keeps.moments.size ∙ has.size;
       settled = settled_kept (medium old) (medium mid) keeps has.settled;
@@ -62,10 +63,10 @@ module _ {D : Type 0} (medium : D → Medium) (faults : D → ℕ) where
       rest = rest;
     }
 
-    pub left_unread : (e : RecordFault) (place : ℕ) → place ≡ cell → ((n : ℕ) → failed Bool e ≡ Err (Damaged n) → (n ≡ place) × Told (medium old) (λ _. ⊥))
+    pub left_unread : (e : RecordFault) (place : ℕ) → place ≡ cell → IsSome (label_at (row_directory rows) place) → ((n : ℕ) → failed Bool e ≡ Err (Damaged n) → (n ≡ place) × Told (medium old) (λ _. ⊥))
         → (e ≡ DiskFault) ⊎ (e ≡ Damaged place) → HasReadCause (faults old) (faults mid) (Err e) → KeepsAllButBody lease later
-        → LeavesAnyStore medium faults (λ n. n ≡ cell) lease later rows rows old mid (failed Bool e)
-    left_unread e place at damaged fault cause rest = record {
+        → LeavesAnyStore medium faults (IsTurnOf rows cell) lease later rows rows old mid (failed Bool e)
+    left_unread e place at held damaged fault cause rest = record {
       size = keeps.moments.size ∙ has.size;
       settled = tt;
       holds = tt;
@@ -73,7 +74,7 @@ module _ {D : Type 0} (medium : D → Medium) (faults : D → ℕ) where
       told = subst IsSome keeps.content;
       directory = refl;
       damaged = λ n is. (damaged n (cc is)).1;
-      fault = ⊎_elim inl (λ is. inr (place, at, is)) fault;
+      fault = ⊎_elim inl (λ is. inr (place, record { is = at; held = subst (λ (n : ℕ). IsSome (label_at (row_directory rows) n)) at held }, is)) fault;
       cause = record { later = cause.later; failed = λ is. cause.failed (cc is); quiet = λ other. cause.quiet (λ is. other (cc is)) };
       rest = changes_body lease later rest;
     }
@@ -84,7 +85,7 @@ module _ {D : Type 0} (medium : D → Medium) (faults : D → ℕ) where
       Puts result = ChangesRecord medium faults place bytes row rows now later last mid new result
 
       pub left_put : Puts (Ok tt) → row_directory now ≡ row_directory rows
-          → LeavesAnyStore medium faults (λ n. n ≡ cell) lease last rows now old new (Ok true)
+          → LeavesAnyStore medium faults (IsTurnOf rows cell) lease last rows now old new (Ok true)
       left_put puts directory = record {
         size = puts.cell.moments.size ∙ keeps.moments.size ∙ has.size;
         settled = puts.cell.settled;
@@ -103,7 +104,7 @@ module _ {D : Type 0} (medium : D → Medium) (faults : D → ℕ) where
       }
 
       pub left_unput : (e : RecordFault) → Puts (Err e) → e ≡ DiskFault
-          → LeavesAnyStore medium faults (λ n. n ≡ cell) lease last rows now old new (failed Bool e)
+          → LeavesAnyStore medium faults (IsTurnOf rows cell) lease last rows now old new (failed Bool e)
       left_unput e puts is_fault = record {
         size = puts.cell.moments.size ∙ keeps.moments.size ∙ has.size;
         settled = tt;
@@ -124,10 +125,10 @@ module _ {D : Type 0} (medium : D → Medium) (faults : D → ℕ) where
   -- the cells so far, and the turn of one more
   module _ (first between last : Lease) (before rows now : List (Option Row)) (old mid new : D) (cell n : ℕ) (within : cell < 1024) where
     abbrev So_far : Type 0
-    So_far = LeavesAnyStore medium faults IsCell first between before rows old mid (Ok n)
+    So_far = LeavesAnyStore medium faults (IsLabelCell before) first between before rows old mid (Ok n)
 
-    pub left_on : (done : Bool) (m : ℕ) → So_far → LeavesAnyStore medium faults (λ k. k ≡ cell) between last rows now mid new (Ok done)
-        → LeavesAnyStore medium faults IsCell first last before now old new (Ok m)
+    pub left_on : (done : Bool) (m : ℕ) → So_far → LeavesAnyStore medium faults (IsTurnOf rows cell) between last rows now mid new (Ok done)
+        → LeavesAnyStore medium faults (IsLabelCell before) first last before now old new (Ok m)
     left_on done m so_far turn = record {
       size = turn.size;
       settled = turn.settled;
@@ -145,8 +146,8 @@ module _ {D : Type 0} (medium : D → Medium) (faults : D → ℕ) where
       rest = changes_more first between last so_far.rest turn.rest;
     }
 
-    pub left_failed : (T : Type 0) (e : RecordFault) → So_far → LeavesAnyStore medium faults (λ k. k ≡ cell) between last rows now mid new (failed Bool e)
-        → LeavesAnyStore medium faults IsCell first last before now old new (failed T e)
+    pub left_failed : (T : Type 0) (e : RecordFault) → So_far → LeavesAnyStore medium faults (IsTurnOf rows cell) between last rows now mid new (failed Bool e)
+        → LeavesAnyStore medium faults (IsLabelCell before) first last before now old new (failed T e)
     left_failed T e so_far turn = record {
       size = turn.size;
       settled = tt;
@@ -155,7 +156,14 @@ module _ {D : Type 0} (medium : D → Medium) (faults : D → ℕ) where
       told = λ some. so_far.told (turn.told some);
       directory = turn.directory ∙ so_far.directory;
       damaged = λ k is. told_of_none (medium old) (medium mid) so_far.still (turn.damaged k (cc is));
-      fault = ⊎_elim inl (λ at. inr (at.0, subst IsCell (sym at.1) within, at.2)) turn.fault;
+      fault = ⊎_elim inl (λ at. inr (
+        at.0,
+        record {
+          within = subst (λ k. k < 1024) (sym at.1.is) within;
+          held = subst IsSome (ap (λ d. label_at d at.0) so_far.directory) (subst (λ k. IsSome (label_at (row_directory rows) k)) (sym at.1.is) at.1.held);
+        },
+        at.2,
+      )) turn.fault;
       cause = record {
         later = omega (arith, so_far.cause.later, turn.cause.later);
         failed = λ is. rose_later (faults old) (faults mid) (faults new) so_far.cause.later (turn.cause.failed (cc is));

@@ -10,6 +10,7 @@ use Rattle.key_tokens.specs.Denotes.{MasterKeys}
 use Rattle.key_tokens.specs.declared.key_token.Age.{Age}
 use Rattle.record_bodies.specs.Ages.{is_old}
 use Rattle.key_records.specs.Changes.{ChangesKeyAndBody}
+use Rattle.record_bodies.specs.Directory.{label_at}
 use Rattle.record_bodies.specs.Entries.{Entry, row_directory}
 use Rattle.record_bodies.specs.StoreStands.{StandsForLabels, KeepsLabels, HoldsRows, Agrees, entry_at}
 use Rattle.record_bodies.specs.Written.{written_body}
@@ -117,8 +118,15 @@ pub record HasRunCause {T : Type 0} (before now : ℕ) (result : Result T Record
 
 -- ---- what it leaves whatever the store holds
 
-abbrev pub IsCell : ℕ → Type 0
-IsCell n = n < 1024
+-- the memory has a label in the cell
+pub record IsLabelCell (rows : List (Option Row)) (n : ℕ) : Type 0 where
+  pub within : n < 1024
+  pub held : IsSome (label_at (row_directory rows) n)
+
+-- the cell whose turn it is, where the memory has a label in it
+pub record IsTurnOf (rows : List (Option Row)) (cell n : ℕ) : Type 0 where
+  pub is : n ≡ cell
+  pub held : IsSome (label_at (row_directory rows) cell)
 
 -- Of a store that shows a medium and a count of faults, whose cells of which Looked holds are read.
 pub record LeavesAnyStore {D T : Type 0} (medium : D → Medium) (faults : D → ℕ) (Looked : ℕ → Type 0)

@@ -6,7 +6,7 @@ ghost use Rattle.record_bodies.specs.StoreStands.{HasStore, KeepsLabels};
 ghost use Rattle.master_registers.specs.Loaded.{IsLoaded, Loaded};
 ghost use Rattle.master_registers.specs.Masters.{Masters};
 ghost use Rattle.reencipher.specs.Damage.{IsMisread};
-ghost use Rattle.reencipher.specs.Runs.{IsCell, LeavesAnyStore, Reenciphers, TurnsCells};
+ghost use Rattle.reencipher.specs.Runs.{IsLabelCell, LeavesAnyStore, Reenciphers, TurnsCells};
 ghost use Rattle.key_records.specs.Ready.{IsReadyFor};
 ghost use Rattle.verb_rules.specs.Ready.{IsReadyAhead};
 ghost use Rattle.device_cells.specs.Medium.{Told};
@@ -50,8 +50,8 @@ pub fn reencipher<D: Disk>(
     ensures misread { IsMisread result records.new (bench_of lease.new) }
 
     // whatever the store holds
-    ensures left { LeavesAnyStore D.medium D.faults IsCell lease.old lease.new
-        records.old records.new store.old store.new result }
+    ensures left { LeavesAnyStore D.medium D.faults (IsLabelCell records.old)
+        lease.old lease.new records.old records.new store.old store.new result }
 {
     run_action(StoreAction::Renew, lease, held, store, records)
 }
@@ -84,8 +84,8 @@ pub fn ahead<D: Disk>(
     ensures misread { IsMisread result records.new (bench_of lease.new) }
 
     // whatever the store holds
-    ensures left { LeavesAnyStore D.medium D.faults IsCell lease.old lease.new
-        records.old records.new store.old store.new result }
+    ensures left { LeavesAnyStore D.medium D.faults (IsLabelCell records.old)
+        lease.old lease.new records.old records.new store.old store.new result }
 {
     run_action(StoreAction::Ahead, lease, held, store, records)
 }
@@ -117,8 +117,8 @@ pub fn drop_ahead<D: Disk>(
     ensures misread { IsMisread result records.new (bench_of lease.new) }
 
     // whatever the store holds
-    ensures left { LeavesAnyStore D.medium D.faults IsCell lease.old lease.new
-        records.old records.new store.old store.new result }
+    ensures left { LeavesAnyStore D.medium D.faults (IsLabelCell records.old)
+        lease.old lease.new records.old records.new store.old store.new result }
 {
     run_action(StoreAction::Drop, lease, held, store, records)
 }
@@ -156,8 +156,8 @@ fn run_action<D: Disk>(
     ensures misread { IsMisread result records.new (bench_of lease.new) }
 
     // whatever the store holds
-    ensures left { LeavesAnyStore D.medium D.faults IsCell lease.old lease.new
-        records.old records.new store.old store.new result }
+    ensures left { LeavesAnyStore D.medium D.faults (IsLabelCell records.old)
+        lease.old lease.new records.old records.new store.old store.new result }
 {
     let coming = pattern_of(lease, MasterPlace::New);
     let mut changed = 0;

@@ -8,7 +8,7 @@ ghost use Rattle.record_bodies.specs.StoreStands.{HasStore, KeepsLabels};
 ghost use Rattle.master_registers.specs.Loaded.{IsLoaded, Loaded};
 ghost use Rattle.master_registers.specs.Masters.{Masters};
 ghost use Rattle.reencipher.specs.Damage.{IsMisread};
-ghost use Rattle.reencipher.specs.Runs.{IsChangedRow, LeavesAnyStore, changes_row};
+ghost use Rattle.reencipher.specs.Runs.{IsChangedRow, IsTurnOf, LeavesAnyStore, changes_row};
 ghost use Rattle.reencipher.specs.Tokens.{IsComing, may_change};
 ghost use Rattle.key_records.specs.Ready.{IsReadyFor};
 ghost use Rattle.reencipher.specs.Turns.{ChangesCell, TurnsAsRead, TurnsCell};
@@ -90,8 +90,8 @@ pub(crate) fn turn_cell<D: Disk>(
     ensures count { IfOk result (λ done.
         done ≡ changes_row action held.now (get_or records.old cell None)) }
     ensures misread { IsMisread result records.new (bench_of lease.new) }
-    ensures left { LeavesAnyStore D.medium D.faults (λ n. n ≡ cell) lease.old lease.new
-        records.old records.new store.old store.new result }
+    ensures left { LeavesAnyStore D.medium D.faults (IsTurnOf records.old cell)
+        lease.old lease.new records.old records.new store.old store.new result }
 {
     let place = match place_in(records, cell) {
         Some(place) => place,

@@ -1,18 +1,22 @@
 -- What calls that judge leave of the store, one after the other.
-use Rattle.std.proofs.Common.{◌≡◌, ◌∙◌, ℕ, Bool, true, List, Option, Result, Ok, Err, refl, sym, ap, subst, arith}
-use Rattle.std.specs.Prelude.{◌||◌, IsErrAnd, IsOk}
+use Rattle.std.proofs.Common.{◌≡◌, ◌∙◌, ℕ, Bool, true, List, Option, Result, Ok, Err, refl, sym, ap, subst, ⊎_elim, arith}
+use Rattle.std.specs.Prelude.{◌||◌, ◌⊎◌, IsErrAnd, IsOk}
 use Rattle.std.proofs.lemmas.Bool.{or_left, or_parts, or_right}
 use Rattle.key_cells.specs.Lease.{bench_of, holding}
 use Rattle.key_cells.specs.declared.leases.Lease.{Lease}
 use Rattle.key_records.specs.Changes.{KeepsAllButBody}
+use Rattle.key_records.specs.declared.faults.RecordFault.{RecordFault}
+use Rattle.key_records.specs.declared.faults.RecordFault.TheVariants.{Damaged, DiskFault}
 use Rattle.record_bodies.specs.declared.rows.Row.{Row}
 use Rattle.line_service.specs.declared.stops.Stop.{Stop}
+use Rattle.line_service.specs.declared.stops.Device.TheVariants.{Store}
 use Rattle.line_service.specs.declared.stops.Stop.TheVariants.{StoreFault}
+use Rattle.line_service.specs.declared.stops.Stop.TheVariants as stops
 use Rattle.line_service.proofs.StopLemmas.{disk_as, disk_on, follows_stop}
 use Rattle.master_registers.specs.declared.registers.Registers.{Registers}
 use Rattle.device_cells.specs.Medium.{IsSettled, Medium}
 use Rattle.device_cells.proofs.Media.{keeps_still, keeps_then}
-use Rattle.request_rules.specs.Stored.{ReadsStore}
+use Rattle.request_rules.specs.Stored.{ReadsStore, read_stop}
 use Rattle.request_rules.proofs.LabelsRead.{at_after}
 
 rest_then : (l0 l1 l2 : Lease) → KeepsAllButBody l0 l1 → KeepsAllButBody l1 l2 → KeepsAllButBody l0 l2
@@ -94,3 +98,24 @@ module _ {D : Type 0} {medium : D → Medium} {faults : D → ℕ} {held : Regis
     sound = λ s at. second.sound s (at_after s l0 l1 first.rest held rows (medium d0) (medium d1) first.keeps at);
     rest = rest_then l0 l1 l2 first.rest second.rest;
   }
+
+-- ---- the cell that a stop names
+
+-- of a record that wasn't read
+pub stopped_at : (fault : RecordFault) (stop : Stop) (place n : ℕ) → stop ≡ read_stop fault → (fault ≡ DiskFault) ⊎ (fault ≡ Damaged place)
+    → stop ≡ stops.Damaged Store n → place ≡ n
+stopped_at fault stop place n answered failed named =
+    ⊎_elim
+    (λ disk. let no : StoreFault ≡ stops.Damaged Store n = sym (answered ∙ ap read_stop disk) ∙ named in cc no)
+    (λ damaged. let same : stops.Damaged Store place ≡ stops.Damaged Store n = sym (answered ∙ ap read_stop damaged) ∙ named in cc same)
+    failed
+
+-- a call that hands on the stop of another one
+pub stopped_as : {T U : Type 0} {P : Type 0} {stop named : Stop} (r : Result U Stop) → IsErrAnd r (λ e. e ≡ stop) → (◌≡◌ {A = Result T Stop} (Err stop) (Err named) → P)
+    → r ≡ Err named → P
+stopped_as (Ok b) stops gives is = absurd stops
+stopped_as {named = named} (Err other) stops gives is = let same : other ≡ named = cc is in gives (ap Err (sym stops ∙ same))
+
+-- and one that doesn't stop
+pub never_stopped : {T : Type 0} {P : Type 0} {a : T} {stop : Stop} → ◌≡◌ {A = Result T Stop} (Ok a) (Err stop) → P
+never_stopped is = cc is

@@ -1,5 +1,7 @@
 -- The first rule that an operand of a request breaks, or what it stands for.
-use Rattle.std.specs.Prelude.{◌≡◌, ◌<◌, ℕ, List, length, Option, Some, None, IsTrue, ⊤, Result, Ok, Err}
+use Rattle.std.specs.Prelude.{◌≡◌, ◌<◌, ◌⊎◌, ℕ, List, [], ◌∷◌, length, Option, Some, None, IsTrue, ⊤, Result, Ok, Err}
+use Rattle.record_bodies.specs.Directory.{cell_of}
+use Rattle.record_bodies.specs.Entries.{row_directory}
 use Rattle.record_bodies.specs.declared.rows.Row.{Row}
 use Rattle.cca_vectors.specs.Checks.{first_failing}
 use Rattle.key_cells.specs.Bench.{Bench}
@@ -12,6 +14,7 @@ use Rattle.line_service.specs.declared.stops.Device.TheVariants.{Module, Store}
 use Rattle.line_service.specs.declared.stops.Stop.{Stop}
 use Rattle.line_service.specs.declared.stops.Stop.TheVariants.{ReadFault, WriteFault, EntropyFault, ModuleFault, StoreFault, Damaged, InputLimit}
 use Rattle.verb_script.specs.Grammar.{accepts, key_text, is_hex}
+use Rattle.verb_script.specs.Named.{label_named}
 use Rattle.cca_machine.specs.State.{State}
 use Rattle.cca_machine.specs.Operands.{Operand, Operands, listed}
 use Rattle.cca_machine.specs.Verdict.{first_refusal, operand_checks, operand_questions}
@@ -74,6 +77,33 @@ AreShaped rows os (verdict.Granted granted) = HaveShapes rows os granted
 abbrev pub AreKeyedOperands : Masters → Operands → Verdict → Type 0
 AreKeyedOperands m os (verdict.Refused _) = ⊤
 AreKeyedOperands m os (verdict.Granted granted) = AreKeyed m os
+
+-- ---- the cells that are read
+
+-- the label whose key an operand asks for, where it names one
+abbrev pub label_asked : List ℕ → Ask → Option (List ℕ)
+label_asked text AnyToken = None
+label_asked text (Key need) = label_named text
+label_asked text (Token need) = None
+label_asked text (External need) = None
+label_asked text Record = Some text
+label_asked text Held = None
+label_asked text NewLabel = None
+label_asked text Target = None
+label_asked text Nothing = None
+
+-- the cell of that label, by what the memory knows
+pub record IsCellAsked (rows : List (Option Row)) (text : List ℕ) (ask : Ask) (cell : ℕ) : Type 0 where
+  pub label : List ℕ
+  pub asked : label_asked text ask ≡ Some label
+  pub is : cell_of label (row_directory rows) ≡ Some cell
+
+-- the same of one of the operands
+abbrev pub IsCellOfAny : List (Option Row) → List Operand → ℕ → Type 0
+IsCellOfAny rows [] cell = ⊥
+IsCellOfAny rows (o ∷ os) cell = IsCellAsked rows o.text o.ask cell ⊎ IsCellOfAny rows os cell
+
+-- ---- how judging stops
 
 -- reading the store may stop for these
 abbrev pub IsStoreStop : Stop → Type 0

@@ -1,5 +1,5 @@
 //! The operands of a request, judged in their order.
-ghost use Rattle.std.specs.Prelude.{◌≡◌, [], Some, None, IfOk, IsTrue, drop};
+ghost use Rattle.std.specs.Prelude.{◌≡◌, ℕ, [], Some, None, Err, IfOk, IsTrue, drop};
 ghost use Rattle.key_cells.specs.Bench.{Bench};
 ghost use Rattle.key_cells.specs.Lease.{bench_of};
 ghost use Rattle.record_bodies.specs.StoreStands.{HasStore};
@@ -12,7 +12,7 @@ ghost use Rattle.cca_machine.specs.Operands.{is_named_by, names_label, listed};
 ghost use Rattle.cca_machine.specs.State.{State};
 ghost use Rattle.request_rules.specs.Standing.{AtStore};
 ghost use Rattle.cca_machine.specs.Granted.{answered};
-ghost use Rattle.request_rules.specs.Judging.{IsText, AreFit, seen_operands, IsAsked, IsShaped, IsKeyedAnswer, IsJudged, AreShaped, AreKeyedOperands};
+ghost use Rattle.request_rules.specs.Judging.{IsText, AreFit, seen_operands, IsAsked, IsShaped, IsKeyedAnswer, IsJudged, AreShaped, AreKeyedOperands, IsCellAsked, IsCellOfAny};
 ghost use Rattle.request_rules.specs.Stored.{IsAskedAsRead, AreAskedAsRead, ReadsStore};
 
 use crate::operands::{Operand, Operands};
@@ -22,7 +22,7 @@ use device_cells::Disk;
 use key_cells::Lease;
 use key_records::Records;
 use key_tokens::{Asked, read_token};
-use line_service::Stop;
+use line_service::{Device, Stop};
 use master_registers::Registers;
 use verb_rules::{Judged, Need, Rule, any_key, judge_key, token_rule};
 use verb_script::named_label;
@@ -113,6 +113,8 @@ fn judge_one<D: Disk>(
     ensures own { (m : Masters) → Loaded m held.now (bench_of lease.old)
         → IfOk result (IsAskedAsRead m (bench_of lease.old) records.now
         operand.now.text.now operand.now.ask) }
+    ensures cell { (n : ℕ) → result ≡ Err (Stop.Damaged Device.Store n)
+        → IsCellAsked records.now operand.now.text.now operand.now.ask n }
     ensures reads { ReadsStore D.medium D.faults
         (is_named_by operand.now.text.now operand.now.ask) held.now records.now
         lease.old lease.new store.old store.new result }
@@ -152,6 +154,9 @@ pub fn judge<D: Disk>(
     ensures own { (m : Masters) → Loaded m held.now (bench_of lease.old)
         → IfOk result (AreAskedAsRead m (bench_of lease.old) records.now
         (seen_operands operands.now)) }
+    // The cell that a stop names is that of a label whose key an operand asks for.
+    ensures cell { (n : ℕ) → result ≡ Err (Stop.Damaged Device.Store n)
+        → IsCellOfAny records.now (listed (seen_operands operands.now)) n }
     ensures reads { ReadsStore D.medium D.faults
         (names_label (listed (seen_operands operands.now))) held.now records.now
         lease.old lease.new store.old store.new result }

@@ -1,5 +1,7 @@
 //! Labels, judged by what the memory knows of them, and the keys in their records.
-ghost use Rattle.std.specs.Prelude.{◌≡◌, ℕ, [], None, Some, IfOk, true, get_or};
+ghost use Rattle.std.specs.Prelude.{◌≡◌, ℕ, [], None, Some, Err, IfOk, true, get_or};
+ghost use Rattle.record_bodies.specs.Directory.{cell_of};
+ghost use Rattle.record_bodies.specs.Entries.{row_directory};
 ghost use Rattle.key_cells.specs.Bench.{Bench};
 ghost use Rattle.key_cells.specs.Lease.{bench_of};
 ghost use Rattle.record_bodies.specs.StoreStands.{Agrees, HasStore};
@@ -106,6 +108,9 @@ pub(crate) fn judge_label<D: Disk>(
         → IfOk result (IsAnsweredAsRead m (bench_of lease.old) need.now
         (get_or records.now place None) (bench_of lease.new).body) }
     ensures shaped { IfOk result (IsShaped [] [] (Ask.Key need.now)) }
+    // The cell that a stop names is the label's.
+    ensures cell { (n : ℕ) → result ≡ Err (Stop.Damaged Device.Store n)
+        → cell_of label.now (row_directory records.now) ≡ Some n }
     ensures reads { ReadsStore D.medium D.faults true held.now records.now
         lease.old lease.new store.old store.new result }
 {

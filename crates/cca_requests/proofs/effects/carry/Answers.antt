@@ -11,6 +11,8 @@ use Rattle.cca_machine.specs.Deciding.{GoesThrough, IsDecided, WritesStore}
 use Rattle.cca_requests.proofs.Carrying.{action_carries, carries_as, create_carries, define_carries, delete_carries, outcome_is, refused_is, remove_carries, renew_carries, shown_is, write_carries}
 use Rattle.cca_requests.proofs.Contents.{sound}
 use Rattle.cca_requests.proofs.Leaving.{err_always, fails_alone, module_keeps, module_left, ready_as, registers_left, still_keeps, still_left, store_keeps, store_left}
+use Rattle.line_service.specs.declared.stops.Device.TheVariants.{Store}
+use Rattle.cca_requests.proofs.Renewing.{run_cell, runs_as}
 use Rattle.cca_requests.proofs.Serving.{still_carries}
 use Rattle.cca_requests.proofs.effects.carry.Goals as goal
 
@@ -144,16 +146,16 @@ pub returns-in-RemoveRole-clause-keeps : goal.returns-in-RemoveRole-clause-keeps
 returns-in-RemoveRole-clause-keeps g c = module_keeps c.remove_role.result (λ writes. subst WritesStore c.in-RemoveRole.is writes) c.remove_role.ensures.left.stops (err_always c.remove_role.result refl) c.remove_role.ensures.loan
 
 pub returns-in-Create-clause-keeps : goal.returns-in-Create-clause-keeps
-returns-in-Create-clause-keeps g c = store_keeps c.create.result (subst WritesStore (sym c.in-Create.is) tt) (fails_alone c.create.result c.create.ensures.left.fault) c.create.ensures.left.left.stops (λ none. c.create.ensures.left.kept) c.create.ensures.left.loan
+returns-in-Create-clause-keeps g c = store_keeps c.create.result (subst WritesStore (sym c.in-Create.is) tt) (fails_alone c.create.result c.create.ensures.left.fault) (λ n. fails_alone c.create.result c.create.ensures.left.fault Store n) c.create.ensures.left.left.stops (λ none. c.create.ensures.left.kept) c.create.ensures.left.loan
 
 pub returns-in-Write-clause-keeps : goal.returns-in-Write-clause-keeps
-returns-in-Write-clause-keeps g c = store_keeps c.write.result (subst WritesStore (sym c.in-Write.is) tt) (fails_alone c.write.result c.write.ensures.left.fault) c.write.ensures.left.left.stops (λ none. c.write.ensures.left.kept) c.write.ensures.left.loan
+returns-in-Write-clause-keeps g c = store_keeps c.write.result (subst WritesStore (sym c.in-Write.is) tt) (fails_alone c.write.result c.write.ensures.left.fault) (λ n. fails_alone c.write.result c.write.ensures.left.fault Store n) c.write.ensures.left.left.stops (λ none. c.write.ensures.left.kept) c.write.ensures.left.loan
 
 pub returns-in-Delete-clause-keeps : goal.returns-in-Delete-clause-keeps
-returns-in-Delete-clause-keeps g c = store_keeps c.delete.result (subst WritesStore (sym c.in-Delete.is) tt) (fails_alone c.delete.result c.delete.ensures.left.fault) c.delete.ensures.left.left.stops (λ none. c.delete.ensures.left.kept) c.delete.ensures.left.loan
+returns-in-Delete-clause-keeps g c = store_keeps c.delete.result (subst WritesStore (sym c.in-Delete.is) tt) (fails_alone c.delete.result c.delete.ensures.left.fault) (λ n. fails_alone c.delete.result c.delete.ensures.left.fault Store n) c.delete.ensures.left.left.stops (λ none. c.delete.ensures.left.kept) c.delete.ensures.left.loan
 
 pub returns-in-Reencipher-clause-keeps : goal.returns-in-Reencipher-clause-keeps
-returns-in-Reencipher-clause-keeps g c = store_keeps c.renew.result (subst WritesStore (sym c.in-Reencipher.is) tt) (λ device cell is. subst GoesThrough (sym c.in-Reencipher.is) tt) c.renew.ensures.left.stops
+returns-in-Reencipher-clause-keeps g c = store_keeps c.renew.result (subst WritesStore (sym c.in-Reencipher.is) tt) (λ device cell is. subst GoesThrough (sym c.in-Reencipher.is) tt) (run_cell c.renew.ensures.run) c.renew.ensures.left.stops
     (λ none. absurd (none (subst GoesThrough (sym c.in-Reencipher.is) tt))) c.renew.ensures.loan
 
 -- ---- what each call needs
@@ -226,3 +228,32 @@ renew-requires-clause-current g c = (ready_as c.args.held.now (bench_of c.args.l
 
 pub renew-requires-clause-ready : goal.renew-requires-clause-ready
 renew-requires-clause-ready g c = (ready_as c.args.held.now (bench_of c.args.lease.now) c.args.records.now c.args.reply.now c.in-Reencipher.is c.requires.ready).2
+
+-- ---- a run through every label
+
+pub returns-in-Refused-clause-run : goal.returns-in-Refused-clause-run
+returns-in-Refused-clause-run g c = runs_as c.args.held.now c.args.records.now c.args.records.now (g.D.Disk.medium c.args.store.now) (g.D.Disk.medium c.args.store.now) (Ok tt) c.refuse.new.reply c.in-Refused.is tt
+
+pub returns-in-Shown-clause-run : goal.returns-in-Shown-clause-run
+returns-in-Shown-clause-run g c = runs_as c.args.held.now c.args.records.now c.args.records.now (g.D.Disk.medium c.args.store.now) (g.D.Disk.medium c.args.store.now) (Ok tt) c.finish.new.reply c.in-Shown.is tt
+
+pub returns-in-Change-clause-run : goal.returns-in-Change-clause-run
+returns-in-Change-clause-run g c = runs_as c.args.held.now c.args.records.now c.change_registers.new.records (g.D.Disk.medium c.args.store.now) (g.D.Disk.medium c.args.store.now) c.change_registers.result c.change_registers.new.reply c.in-Change.is tt
+
+pub returns-in-DefineRole-clause-run : goal.returns-in-DefineRole-clause-run
+returns-in-DefineRole-clause-run g c = runs_as c.args.held.now c.args.records.now c.args.records.now (g.D.Disk.medium c.args.store.now) (g.D.Disk.medium c.args.store.now) c.define_role.result c.define_role.new.reply c.in-DefineRole.is tt
+
+pub returns-in-RemoveRole-clause-run : goal.returns-in-RemoveRole-clause-run
+returns-in-RemoveRole-clause-run g c = runs_as c.args.held.now c.args.records.now c.args.records.now (g.D.Disk.medium c.args.store.now) (g.D.Disk.medium c.args.store.now) c.remove_role.result c.remove_role.new.reply c.in-RemoveRole.is tt
+
+pub returns-in-Create-clause-run : goal.returns-in-Create-clause-run
+returns-in-Create-clause-run g c = runs_as c.args.held.now c.args.records.now c.create.new.records (g.D.Disk.medium c.args.store.now) (g.D.Disk.medium c.create.new.store) c.create.result c.create.new.reply c.in-Create.is tt
+
+pub returns-in-Write-clause-run : goal.returns-in-Write-clause-run
+returns-in-Write-clause-run g c = runs_as c.args.held.now c.args.records.now c.write.new.records (g.D.Disk.medium c.args.store.now) (g.D.Disk.medium c.write.new.store) c.write.result c.write.new.reply c.in-Write.is tt
+
+pub returns-in-Delete-clause-run : goal.returns-in-Delete-clause-run
+returns-in-Delete-clause-run g c = runs_as c.args.held.now c.args.records.now c.delete.new.records (g.D.Disk.medium c.args.store.now) (g.D.Disk.medium c.delete.new.store) c.delete.result c.delete.new.reply c.in-Delete.is tt
+
+pub returns-in-Reencipher-clause-run : goal.returns-in-Reencipher-clause-run
+returns-in-Reencipher-clause-run g c = runs_as c.args.held.now c.args.records.now c.renew.new.records (g.D.Disk.medium c.args.store.now) (g.D.Disk.medium c.renew.new.store) c.renew.result c.renew.new.reply c.in-Reencipher.is c.renew.ensures.run

@@ -128,3 +128,9 @@ carry-requires-clause-disks g c =
 
 pub carry-requires-clause-ready : goal.carry-requires-clause-ready
 carry-requires-clause-ready g c = c.in-Ok.ensures.decision.decided.ready
+
+pub returns-in-Ok-clause-cell : goal.returns-in-Ok-clause-cell
+returns-in-Ok-clause-cell g c = λ n is. (c.in-Ok.ensures.decision.decided.through (c.carry.ensures.keeps.through Store n is), c.carry.ensures.keeps.cell n is)
+
+pub returns-in-Err-clause-cell : goal.returns-in-Err-clause-cell
+returns-in-Err-clause-cell g c = λ n is. absurd (random_sound c.in-Err.stop c.in-Err.ensures.decision.decided.stops Store n is)

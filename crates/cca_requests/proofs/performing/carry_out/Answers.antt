@@ -1,11 +1,12 @@
-use Rattle.std.proofs.Common.{◌≡◌, ◌∙◌, false, None, Some, Result, Ok, Err, refl, sym, ap, subst, codes}
+use Rattle.std.proofs.Common.{◌≡◌, ◌∙◌, false, None, Some, Result, Ok, Err, refl, sym, ap, subst, codes, inl, inr}
 use Rattle.std.specs.Prelude.{IsSome, IsTrue}
 use Rattle.std.proofs.lemmas.Bool.{or_parts}
 use Rattle.std.specs.Option.{option_map}
 use Rattle.cca_vectors.specs.Checks.{first_failing}
 use Rattle.key_cells.specs.Lease.{bench_of, loan_of}
 use Rattle.line_service.specs.declared.stops.Stop.{Stop}
-use Rattle.line_service.specs.declared.stops.Stop.TheVariants.{EntropyFault, StoreFault}
+use Rattle.line_service.specs.declared.stops.Device.TheVariants.{Store}
+use Rattle.line_service.specs.declared.stops.Stop.TheVariants.{Damaged, EntropyFault, StoreFault}
 use Rattle.master_registers.specs.Loaded.{Loaded, masters_in}
 use Rattle.device_cells.proofs.Media.{keeps_still, keeps_then}
 use Rattle.verb_rules.specs.Rules.{rule_number}
@@ -14,7 +15,7 @@ use Rattle.verb_script.specs.Parsed.{seen}
 use Rattle.cca_machine.specs.Operands.{Operands, operands, listed, names_label, is_reencipher, needs_store}
 use Rattle.cca_machine.specs.Verdict.{refusal, general_checks, verb_verdict}
 use Rattle.cca_machine.specs.Refusals.{refusal_of}
-use Rattle.request_rules.specs.Judging.{IsStoreStop}
+use Rattle.request_rules.specs.Judging.{IsCellOfAny, IsStoreStop}
 use Rattle.request_rules.specs.Standing.{tables}
 use Rattle.cca_requests.specs.Serving.{IsFault}
 use Rattle.cca_machine.proofs.Acting.{verdict_general}
@@ -290,3 +291,18 @@ returns-in-Ok-Granted-clause-loan g c = c.act.ensures.loan ∙ ap loan_of c.judg
 
 pub returns-in-Err-clause-loan : goal.returns-in-Err-clause-loan
 returns-in-Err-clause-loan g c = ap loan_of c.judge.ensures.reads.rest
+
+-- ---- the cell that a stop names
+
+pub returns-in-Some-clause-cell : goal.returns-in-Some-clause-cell
+returns-in-Some-clause-cell g c = λ n is. cc is
+
+pub returns-in-Ok-Refused-clause-cell : goal.returns-in-Ok-Refused-clause-cell
+returns-in-Ok-Refused-clause-cell g c = λ n is. cc is
+
+pub returns-in-Ok-Granted-clause-cell : goal.returns-in-Ok-Granted-clause-cell
+returns-in-Ok-Granted-clause-cell g c = λ n is. inr (c.act.ensures.cell n is)
+
+pub returns-in-Err-clause-cell : goal.returns-in-Err-clause-cell
+returns-in-Err-clause-cell g c = λ n is.
+    inl (subst (λ (os : Operands). IsCellOfAny c.args.records.now (listed os) n) c.operands_of.ensures.table (c.judge.ensures.cell n (c.in-Err.is ∙ ap Err (same_stop c.in-Err.stop (Damaged Store n) is))))

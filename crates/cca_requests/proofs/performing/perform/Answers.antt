@@ -13,7 +13,7 @@ use Rattle.request_rules.proofs.AsRead.{rests_before}
 use Rattle.cca_requests.proofs.Damage.{load_spares, module_sound, spares_after_module}
 use Rattle.cca_requests.proofs.Handing.{disks_loaded, draws_none, load_damaged, load_failed, request_stop, spares_still}
 use Rattle.cca_requests.proofs.Leaving.{no_damage, leaves_after_reads}
-use Rattle.cca_requests.proofs.Registers.{registers_found, undamaged}
+use Rattle.cca_requests.proofs.Registers.{registers_found, told_sound, told_then, undamaged}
 use Rattle.cca_requests.proofs.Serving.{stopped_serves, serves_after_reads, stands_kept}
 use Rattle.cca_requests.proofs.performing.perform.Goals as goal
 use Rattle.key_cells.proofs.AnswerLemmas.{no_err}
@@ -166,3 +166,27 @@ returns-in-Err-DiskFault-clause-random g c = draws_none (Err ModuleFault) module
 
 pub returns-clause-random : goal.returns-clause-random
 returns-clause-random g c = draws_none (Err (Damaged Module 0)) damage_not_random
+
+-- ---- a module that tells damaged registers
+
+pub returns-in-Ok-clause-exact : goal.returns-in-Ok-clause-exact
+returns-in-Ok-clause-exact g c = λ sound.
+    told_sound (g.M.Disk.medium c.args.module.now) (g.M.Disk.medium c.load.new.module) (masters_in c.in-Ok.held (bench_of c.load.new.lease)) (c.carry_out.result ≡ error (Damaged Module 0)) c.load.ensures.keeps c.in-Ok.ensures.stands
+
+pub returns-in-Err-DiskFault-clause-exact : goal.returns-in-Err-DiskFault-clause-exact
+returns-in-Err-DiskFault-clause-exact g c = λ sound.
+    absurd (sound (c.load.ensures.cause.failed (c.in-Err-DiskFault.is ∙ ap Err c.in-Err-DiskFault.field-0-is)))
+
+pub returns-clause-exact : goal.returns-clause-exact
+returns-clause-exact g c = λ sound. told_then (g.M.Disk.medium c.args.module.now) refl
+
+-- ---- the cell that a stop names
+
+pub returns-in-Ok-clause-cell : goal.returns-in-Ok-clause-cell
+returns-in-Ok-clause-cell g c = c.carry_out.ensures.cell
+
+pub returns-in-Err-DiskFault-clause-cell : goal.returns-in-Err-DiskFault-clause-cell
+returns-in-Err-DiskFault-clause-cell g c = λ n is. cc is
+
+pub returns-clause-cell : goal.returns-clause-cell
+returns-clause-cell g c = λ n is. cc is

@@ -3,7 +3,7 @@ use mir.Val.{bool_byte}
 use Rattle.verb_rules.proofs.TokenLemmas.{keys_apart}
 use Rattle.verb_rules.specs.Keys.{keys_of}
 use Rattle.record_bodies.specs.Further.{further}
-use Rattle.reencipher.specs.Runs.{IsCell}
+use Rattle.reencipher.specs.Runs.{IsLabelCell}
 use Rattle.reencipher.proofs.LeftLaws.{left_untouched, left_on, left_failed}
 use Rattle.reencipher.proofs.RowLaws.{HasTurnedTo, turned_start, turned_on, turns_ended, turns_whole}
 use Rattle.reencipher.proofs.RunLaws.{Reaches, reaches_start, reaches_next, ends_at, ends_whole}
@@ -24,7 +24,7 @@ pub loop-cell-init : goal.loop-cell-init
 loop-cell-init g c = record {
   labels = λ m s loaded told. reaches_start c.args.action (keys_of m) (keys_apart m loaded.valid) s c.args.records.now (g.D.Disk.medium c.args.store.now) c.requires.store.settled told;
   cells = turned_start c.args.action c.args.held.now c.args.records.now (g.D.Disk.medium c.args.store.now) c.requires.store.settled;
-  left = left_untouched g.D.Disk.medium g.D.Disk.faults IsCell c.args.lease.now c.args.records.now c.args.store.now 0 c.requires.store;
+  left = left_untouched g.D.Disk.medium g.D.Disk.faults (IsLabelCell c.args.records.now) c.args.lease.now c.args.records.now c.args.store.now 0 c.requires.store;
   few = omega arith;
 }
 

@@ -7,7 +7,7 @@ use Rattle.record_bodies.specs.StoreStands.{KeepsLabels}
 use Rattle.master_registers.specs.Loaded.{Loaded}
 use Rattle.master_registers.specs.Masters.{Masters}
 use Rattle.verb_rules.specs.Keys.{keys_of}
-use Rattle.reencipher.specs.Runs.{IsCell, LeavesAnyStore}
+use Rattle.reencipher.specs.Runs.{IsLabelCell, LeavesAnyStore}
 use Rattle.reencipher.proofs.RowLaws.{HasTurnedTo}
 use Rattle.reencipher.proofs.RunLaws.{Reaches}
 use Rattle.reencipher.proofs.running.run_action.Given as goal
@@ -17,6 +17,6 @@ invariant-loop-cell g l = record {
   labels : (m : Masters) (s : List (Option Entry)) → Loaded m l.held (bench_of l.fn.lease) → Told (g.D.Disk.medium l.fn.store) (KeepsLabels (keys_of m) l.fn.records s)
       → Reaches l.action (keys_of m) s l.cell l.changed l.records (g.D.Disk.medium l.fn.store) (g.D.Disk.medium l.store);
   cells : HasTurnedTo l.action l.held l.fn.records l.cell l.changed l.records (g.D.Disk.medium l.fn.store) (g.D.Disk.medium l.store);
-  left : LeavesAnyStore g.D.Disk.medium g.D.Disk.faults IsCell l.fn.lease l.lease l.fn.records l.records l.fn.store l.store (Ok l.changed);
+  left : LeavesAnyStore g.D.Disk.medium g.D.Disk.faults (IsLabelCell l.fn.records) l.fn.lease l.lease l.fn.records l.records l.fn.store l.store (Ok l.changed);
   few : l.changed ≤ l.cell;
 }

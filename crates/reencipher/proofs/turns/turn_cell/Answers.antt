@@ -18,7 +18,7 @@ use Rattle.master_registers.specs.declared.registers.Registers.{Registers}
 use Rattle.master_registers.proofs.LoadedLaws.{loaded_one}
 use Rattle.verb_rules.specs.Keys.{keys_of}
 use Rattle.record_bodies.specs.Further.{is_changed}
-use Rattle.reencipher.specs.Runs.{IsChangedRow, changes_row}
+use Rattle.reencipher.specs.Runs.{IsChangedRow, IsTurnOf, changes_row}
 use Rattle.reencipher.specs.Tokens.{CanBeWritten, body_of, row_of, changes_key, may_change, put_in}
 use Rattle.reencipher.specs.Turns.{ChangesCell, StaysAsRead, TurnsAsRead, TurnsCell}
 use Rattle.record_bodies.specs.declared.actions.StoreAction.{StoreAction}
@@ -450,16 +450,16 @@ returns-then-not-found-clause-turns g c =
 
 pub returns-in-None-clause-left : goal.returns-in-None-clause-left
 returns-in-None-clause-left g c =
-    left_untouched g.D.Disk.medium g.D.Disk.faults (λ n. n ≡ c.args.cell) c.args.lease.now c.args.records.now c.args.store.now false c.requires.store
+    left_untouched g.D.Disk.medium g.D.Disk.faults (IsTurnOf c.args.records.now c.args.cell) c.args.lease.now c.args.records.now c.args.store.now false c.requires.store
 
 pub returns-then-not-may_change-clause-left : goal.returns-then-not-may_change-clause-left
 returns-then-not-may_change-clause-left g c =
-    left_untouched g.D.Disk.medium g.D.Disk.faults (λ n. n ≡ c.args.cell) c.args.lease.now c.args.records.now c.args.store.now false c.requires.store
+    left_untouched g.D.Disk.medium g.D.Disk.faults (IsTurnOf c.args.records.now c.args.cell) c.args.lease.now c.args.records.now c.args.store.now false c.requires.store
 
 pub returns-in-Err-clause-left : goal.returns-in-Err-clause-left
 returns-in-Err-clause-left g c =
     left_unread g.D.Disk.medium g.D.Disk.faults c.args.lease.now c.read.new.lease c.args.records.now c.args.store.now c.read.new.store c.args.cell c.requires.store c.read.ensures.keeps
-    c.in-Err.fault c.in-Some.place c.in-Some.ensures.place c.in-Err.ensures.damaged c.in-Err.ensures.faults c.in-Err.ensures.cause c.read.ensures.rest
+    c.in-Err.fault c.in-Some.place c.in-Some.ensures.place c.in-Some.ensures.held c.in-Err.ensures.damaged c.in-Err.ensures.faults c.in-Err.ensures.cause c.read.ensures.rest
 
 pub returns-then-not-found-clause-left : goal.returns-then-not-found-clause-left
 returns-then-not-found-clause-left g c =

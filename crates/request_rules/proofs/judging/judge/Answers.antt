@@ -9,7 +9,7 @@ use Rattle.request_rules.proofs.AsRead.{as_read_before}
 use Rattle.request_rules.proofs.GrantsKept.{loaded_kept}
 use Rattle.request_rules.proofs.LabelsRead.{all_granted, asked_before, at_after}
 use Rattle.request_rules.proofs.OperandsJudged.{first_refused, second_refused, stopped_says, third_refused}
-use Rattle.request_rules.proofs.StoreReads.{reads_done, reads_stopped, reads_then}
+use Rattle.request_rules.proofs.StoreReads.{never_stopped, reads_done, reads_stopped, reads_then, stopped_as}
 use Rattle.request_rules.proofs.judging.judge.Goals as goal
 
 -- ---- what is read
@@ -254,3 +254,26 @@ returns-clause-own g c = λ m loaded.
       as_read_before m rows lease0 lease1 c.judge_one.ensures.reads.rest os.third.text.now os.third.ask (Ok c.in-Ok-3.grant)
           (as_read_before m rows lease1 lease2 c.judge_one-2.ensures.reads.rest os.third.text.now os.third.ask (Ok c.in-Ok-3.grant) third),
     )
+
+-- ---- the cell that a stop names
+
+pub returns-in_err-grant-clause-cell : goal.returns-in_err-grant-clause-cell
+returns-in_err-grant-clause-cell g c = λ n. stopped_as _ c.from_residual.ensures.1 (λ is. inl (c.in_err-grant.ensures.cell n is))
+
+pub returns-in-Err-clause-cell : goal.returns-in-Err-clause-cell
+returns-in-Err-clause-cell g c = λ n is. never_stopped is
+
+pub returns-in_err-grant-2-clause-cell : goal.returns-in_err-grant-2-clause-cell
+returns-in_err-grant-2-clause-cell g c = λ n. stopped_as _ c.from_residual-in_err-grant-2.ensures.1 (λ is. inr (inl (c.in_err-grant-2.ensures.cell n is)))
+
+pub returns-in-Err-2-clause-cell : goal.returns-in-Err-2-clause-cell
+returns-in-Err-2-clause-cell g c = λ n is. never_stopped is
+
+pub returns-in_err-grant-3-clause-cell : goal.returns-in_err-grant-3-clause-cell
+returns-in_err-grant-3-clause-cell g c = λ n. stopped_as _ c.from_residual-in_err-grant-3.ensures.1 (λ is. inr (inr (inl (c.in_err-grant-3.ensures.cell n is))))
+
+pub returns-in-Err-3-clause-cell : goal.returns-in-Err-3-clause-cell
+returns-in-Err-3-clause-cell g c = λ n is. never_stopped is
+
+pub returns-clause-cell : goal.returns-clause-cell
+returns-clause-cell g c = λ n is. never_stopped is

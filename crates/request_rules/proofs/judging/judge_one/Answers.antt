@@ -7,13 +7,13 @@ use Rattle.verb_script.specs.Named.{label_named}
 use Rattle.cca_machine.specs.Operands.{is_named_by}
 use Rattle.cca_machine.specs.declared.asking.Ask.{Ask}
 use Rattle.cca_machine.specs.declared.asking.Ask.TheVariants.{AnyToken, External, Held, Key, NewLabel, Record, Target, Token}
-use Rattle.request_rules.specs.Judging.{IsAsked, IsKeyedAnswer}
+use Rattle.request_rules.specs.Judging.{IsAsked, IsKeyedAnswer, label_asked}
 use Rattle.request_rules.specs.Stored.{IsAskedAsRead, IsLabelAsked}
 use Rattle.cca_machine.specs.declared.granted.Grant.{Grant}
 use Rattle.request_rules.proofs.AsRead.{named_as_read, record_as_read, unnamed_as_read}
 use Rattle.request_rules.proofs.LabelsRead.{key_by_label, key_by_token, record_asked}
 use Rattle.request_rules.proofs.OperandsJudged.{keyed_in, label_keyed, label_shaped, record_shaped, shaped_in}
-use Rattle.request_rules.proofs.StoreReads.{reads_label, reads_untouched}
+use Rattle.request_rules.proofs.StoreReads.{never_stopped, reads_label, reads_untouched}
 use Rattle.request_rules.proofs.judging.judge_one.Goals as goal
 
 pub returns-in-AnyToken-clause-asked : goal.returns-in-AnyToken-clause-asked
@@ -224,3 +224,40 @@ returns-in-NewLabel-clause-own g c = λ m loaded.
 pub returns-in-Target-clause-own : goal.returns-in-Target-clause-own
 returns-in-Target-clause-own g c = λ m loaded.
     subst (λ (a : Ask). IsAskedAsRead m (bench_of c.args.lease.now) c.args.records.now c.args.operand.now.text.now a c.judge_target.result) (sym c.in-Target.is) tt
+
+-- ---- the cell that a stop names
+
+pub returns-in-Some-clause-cell : goal.returns-in-Some-clause-cell
+returns-in-Some-clause-cell g c = λ n is.
+    let text = c.args.operand.now.text.now in
+    let named : label_named text ≡ Some c.in-Some.label.now = sym c.named_label.ensures ∙ ap option_copied c.in-Some.is in
+    record { label = c.in-Some.label.now; asked = ap (label_asked text) c.in-Key.is ∙ named; is = c.judge_label.ensures.cell n is }
+
+pub returns-in-Record-clause-cell : goal.returns-in-Record-clause-cell
+returns-in-Record-clause-cell g c = λ n is.
+    let text = c.args.operand.now.text.now in
+    record { label = text; asked = ap (label_asked text) c.in-Record.is; is = c.judge_label-in-Record.ensures.cell n is }
+
+pub returns-in-AnyToken-clause-cell : goal.returns-in-AnyToken-clause-cell
+returns-in-AnyToken-clause-cell g c = λ n is. never_stopped is
+
+pub returns-in-None-clause-cell : goal.returns-in-None-clause-cell
+returns-in-None-clause-cell g c = λ n is. never_stopped is
+
+pub returns-in-Token-clause-cell : goal.returns-in-Token-clause-cell
+returns-in-Token-clause-cell g c = λ n is. never_stopped is
+
+pub returns-in-External-clause-cell : goal.returns-in-External-clause-cell
+returns-in-External-clause-cell g c = λ n is. never_stopped is
+
+pub returns-in-Held-clause-cell : goal.returns-in-Held-clause-cell
+returns-in-Held-clause-cell g c = λ n is. never_stopped is
+
+pub returns-in-NewLabel-clause-cell : goal.returns-in-NewLabel-clause-cell
+returns-in-NewLabel-clause-cell g c = λ n is. never_stopped is
+
+pub returns-in-Target-clause-cell : goal.returns-in-Target-clause-cell
+returns-in-Target-clause-cell g c = λ n is. never_stopped is
+
+pub returns-in-Nothing-clause-cell : goal.returns-in-Nothing-clause-cell
+returns-in-Nothing-clause-cell g c = λ n is. never_stopped is

@@ -12,6 +12,7 @@ use Rattle.request_rules.specs.Judging.{IsShaped}
 use Rattle.request_rules.specs.Stored.{IsAnsweredAsRead, IsFound, IsLabelAsked}
 use Rattle.request_rules.proofs.AsRead.{held_passes}
 use Rattle.request_rules.proofs.LabelsRead.{in_store, judged_shape, not_found, store_failed, stored_asked}
+use Rattle.request_rules.proofs.StoreReads.{never_stopped, stopped_at}
 use Rattle.request_rules.proofs.stored.judge_label.Goals as goal
 
 pub returns-in-Err-clause-asked : goal.returns-in-Err-clause-asked
@@ -69,3 +70,17 @@ returns-in-Ok-judge_record-clause-own g c = λ m place loaded found.
     subst (λ (n : ℕ). IsAnsweredAsRead m (bench_of c.args.lease.now) c.args.need.now (get_or rows n None) (bench_of c.judge_record.new.lease).body c.answer_of.result)
     (same_place rows c.args.label.now c.in-Ok.place place c.in-Ok.ensures found)
     (record { what = read.0; holds = read.1; judged = c.in-Ok-judge_record.judged; stored = read.2; is = c.answer_of.ensures })
+
+-- ---- the cell that a stop names
+
+pub returns-in-Err-clause-cell : goal.returns-in-Err-clause-cell
+returns-in-Err-clause-cell g c = λ n is. never_stopped is
+
+pub returns-in-Ok-judge_record-clause-cell : goal.returns-in-Ok-judge_record-clause-cell
+returns-in-Ok-judge_record-clause-cell g c = λ n is. never_stopped is
+
+pub returns-in-Err-judge_record-clause-cell : goal.returns-in-Err-judge_record-clause-cell
+returns-in-Err-judge_record-clause-cell g c = λ n is.
+    let here = c.in-Err-judge_record in
+    let same : c.in-Ok.place ≡ n = stopped_at here.fault c.stop_of.result c.in-Ok.place n c.stop_of.ensures here.ensures.fails.faults (cc is) in
+    c.in-Ok.ensures.is ∙ ap Some same
