@@ -5,6 +5,7 @@ mod Contents
 mod Damage
 mod Handing
 mod Leaving
+mod MemoryLaws
 mod OperandsJudged
 mod Registers
 mod Renewing

@@ -1,6 +1,6 @@
 -- What is answered of a change of a disk, and what comes of an effect.
 use Rattle.std.specs.Prelude.{◌≡◌, ℕ, List, [], ◌∷◌, codes, Option, Some, None, Result, Ok, Err, map, OnErr, OnOk, length, ◌<◌, ⊤}
-use Rattle.record_bodies.specs.Entries.{turned}
+use Rattle.record_bodies.specs.Entries.{row_directory, turned}
 use Rattle.key_records.specs.declared.faults.RecordFault.{RecordFault}
 use Rattle.key_records.specs.declared.faults.RecordFault.TheVariants as record_fault
 use Rattle.record_bodies.specs.declared.rows.Row.{Row}
@@ -180,6 +180,7 @@ pub record RunsThrough (a : StoreAction) (held : Registers) (rows later : List (
   pub outcome : Result ℕ RecordFault
   pub cells : TurnsCells a held rows later d0 d1 outcome
   pub cell : (n : ℕ) → outcome ≡ Err (record_fault.Damaged n) → IsLabelCell rows n
+  pub directory : row_directory later ≡ row_directory rows
   pub answer : IsAnswer (run_stop outcome) (run_reply outcome) result reply
 
 -- of an effect that is one

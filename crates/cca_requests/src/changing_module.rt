@@ -1,7 +1,8 @@
 //! Changes of the registers and of the roles, with their replies.
 ghost use Rattle.cca_roles.specs.RoleNames.{default_name};
+ghost use Rattle.cca_roles.specs.Roles.{after_define, after_remove};
 ghost use Rattle.record_bodies.specs.StoreStands.{HoldsRows};
-ghost use Rattle.std.specs.Prelude.{ℕ, List, ◌≡◌, ◌≢◌, ◌≤◌, ◌↔◌, [], Err, IsTrue, OnErr, length, codes};
+ghost use Rattle.std.specs.Prelude.{ℕ, List, ◌≡◌, ◌≢◌, ◌≤◌, ◌↔◌, [], Err, IsTrue, OnErr, OnOk, length, codes};
 ghost use Rattle.master_registers.specs.Actions.{after_action, has_wrong_state, repeats_pattern};
 ghost use Rattle.master_registers.specs.Changes.{CarriesOut, IsLoadedFrom};
 ghost use Rattle.master_registers.specs.Loaded.{masters_in};
@@ -10,7 +11,8 @@ ghost use Rattle.cca_machine.specs.State.{State};
 ghost use Rattle.cca_machine.specs.Act.{DefineRole, RemoveRole};
 ghost use Rattle.cca_machine.specs.Verdict.{define_questions, remove_questions};
 ghost use Rattle.cca_requests.specs.Serving.{CallsModule, LeavesModule};
-ghost use Rattle.cca_requests.specs.Changes.{IsAnswer, IsShortlyNamed, made_reply, made_stop, IsTurnedBy, rows_by, action_outcome, state_name, change_stop, change_reply, role_outcome, role_stop, role_reply};
+ghost use Rattle.cca_requests.specs.Changes.{IsAnswer, IsShortlyNamed, made_reply, made_stop, IsTurnedBy, rows_after, rows_by, action_outcome, state_name, change_stop, change_reply, role_outcome, role_stop, role_reply};
+ghost use Rattle.cca_requests.specs.Memory.{RefusedOr};
 ghost use Rattle.request_rules.specs.Standing.{HasLoaded, AtModule};
 
 use crate::changes::{Unmade, answer};
@@ -122,6 +124,8 @@ pub(crate) fn change_registers<M: Disk>(
         (M.medium «module».old) → IsTurnedBy s action result records.old records.new }
     ensures rows { (image : List ℕ) → HoldsRows records.old image → HoldsRows records.new image }
     ensures memory { OnErr result (records.new ≡ records.old) }
+    ensures own { OnOk result (RefusedOr reply.new (records.new ≡ records.old)
+        (records.new ≡ rows_after action records.old)) }
     ensures loan { loan_of lease.new ≡ loan_of lease.old }
 {
     let outcome = carry_out(action, module, lease, held);
@@ -171,6 +175,8 @@ pub(crate) fn define_role<M: Disk>(
         → CallsModule M.medium (role_outcome (define_questions s name.now) s
         (DefineRole name.now points)) s
         result reply.new roles.new «module».old «module».new }
+    ensures own { OnOk result (RefusedOr reply.new (roles.new ≡ roles.old)
+        (roles.new ≡ after_define name.now points roles.old)) }
     ensures left { LeavesModule (M.medium «module».old) (M.medium «module».new)
         (M.faults «module».old) (M.faults «module».new) result reply.new roles.old roles.new }
     ensures loan { loan_of lease.new ≡ loan_of lease.old }
@@ -196,6 +202,8 @@ pub(crate) fn remove_role<M: Disk>(
         → CallsModule M.medium (role_outcome (remove_questions s name.now) s
         (RemoveRole name.now)) s
         result reply.new roles.new «module».old «module».new }
+    ensures own { OnOk result (RefusedOr reply.new (roles.new ≡ roles.old)
+        (roles.new ≡ after_remove name.now roles.old)) }
     ensures left { LeavesModule (M.medium «module».old) (M.medium «module».new)
         (M.faults «module».old) (M.faults «module».new) result reply.new roles.old roles.new }
     ensures loan { loan_of lease.new ≡ loan_of lease.old }

@@ -1,6 +1,7 @@
 //! Changes of the records, with their replies.
-ghost use Rattle.std.specs.Prelude.{◌≡◌, ◌≤◌, [], List, Option, IsSome, IfErr, IfOk};
-ghost use Rattle.record_bodies.specs.Entries.{Entry};
+ghost use Rattle.std.specs.Prelude.{◌≡◌, ◌≤◌, [], List, Option, Some, None, IsSome, IfErr, IfOk, OnOk, set};
+ghost use Rattle.record_bodies.specs.Directory.{free_cell};
+ghost use Rattle.record_bodies.specs.Entries.{Entry, null_row, row_directory};
 ghost use Rattle.record_bodies.specs.StoreStands.{KeepsLabels, HasStore};
 ghost use Rattle.master_registers.specs.Masters.{Masters};
 ghost use Rattle.reencipher.specs.Runs.{IsLabelCell, LeavesAnyStore, Reenciphers, TurnsCells};
@@ -18,6 +19,7 @@ ghost use Rattle.cca_machine.specs.Act.{Effect as MachineEffect, ChangeLabels, e
 ghost use Rattle.cca_machine.specs.declared.effects.Effect.TheVariants as code;
 ghost use Rattle.cca_requests.specs.Serving.{CarriesStore, LeavesRecords, LeavesStore};
 ghost use Rattle.cca_requests.specs.Changes.{IsAnswer, IsShortlyNamed, made_reply, made_stop, plainly, create_outcome, record_stop, record_reply, run_stop, run_reply, RunsThrough};
+ghost use Rattle.cca_requests.specs.Memory.{RefusedOr, SaysDone, row_with};
 ghost use Rattle.request_rules.specs.Standing.{AtStore};
 ghost use Rattle.request_rules.specs.Stored.{IsReadFault};
 ghost use Rattle.cca_machine.specs.Deciding.{IsReady, IsHeldAt, IsWritten, IsDeleted};
@@ -80,6 +82,9 @@ pub(crate) fn create<D: Disk>(
         (D.medium store.old) (D.medium store.new) }
     ensures left { LeavesRecords D.medium D.faults lease.old lease.new store.old store.new
         result reply.new records.old records.new }
+    ensures own { OnOk result (RefusedOr reply.new (records.new ≡ records.old)
+        (records.new ≡ set records.old (free_cell (row_directory records.old))
+        (Some (null_row label.now)))) }
 {
     let outcome = records.create(store, lease, label);
     answer_create(outcome, reply)
@@ -108,6 +113,8 @@ pub(crate) fn write<D: Disk>(
         (D.medium store.old) (D.medium store.new) }
     ensures left { LeavesRecords D.medium D.faults lease.old lease.new store.old store.new
         result reply.new records.old records.new }
+    ensures own { OnOk result
+        (records.new ≡ set records.old place (row_with records.old place token.now)) }
 {
     match records.write(store, lease, held, place, token) {
         Ok(()) => {
@@ -139,6 +146,8 @@ pub(crate) fn delete<D: Disk>(
         (D.medium store.old) (D.medium store.new) }
     ensures left { LeavesRecords D.medium D.faults lease.old lease.new store.old store.new
         result reply.new records.old records.new }
+    ensures own { OnOk result (SaysDone reply.new
+        × (records.new ≡ set records.old place None)) }
 {
     match records.delete(store, lease, place) {
         Ok(()) => {

@@ -1,5 +1,5 @@
 //! How what a verb left to be done is done: the only calls that write a disk.
-ghost use Rattle.std.specs.Prelude.{◌≡◌, ℕ, List};
+ghost use Rattle.std.specs.Prelude.{◌≡◌, ℕ, List, OnOk};
 ghost use Rattle.key_cells.specs.Lease.{bench_of};
 ghost use Rattle.verb_script.specs.Grammar.{Request};
 ghost use Rattle.cca_machine.specs.State.{State};
@@ -9,6 +9,7 @@ ghost use Rattle.cca_machine.specs.Act.{or_act};
 ghost use Rattle.cca_machine.specs.Verdict.{whole_verb_verdict};
 ghost use Rattle.cca_requests.specs.Serving.{Carries, HasDisks, KeepsToEffect, Leaves};
 ghost use Rattle.cca_requests.specs.Changes.{RunsEffect};
+ghost use Rattle.cca_requests.specs.Memory.{MemoryBy};
 ghost use Rattle.request_rules.specs.Standing.{tables, At};
 ghost use Rattle.cca_machine.specs.Deciding.{IsDecided, IsReady};
 
@@ -53,6 +54,8 @@ pub(crate) fn carry<M: Disk, D: Disk>(
         (tables roles.old records.old) (tables roles.new records.new) }
     ensures keeps { KeepsToEffect effect.now result records.old records.new lease.old lease.new
         «module».old «module».new store.old store.new }
+    ensures memory { OnOk result (MemoryBy effect.now reply.new
+        (tables roles.old records.old) (tables roles.new records.new)) }
     ensures run { RunsEffect effect.now held.now records.old records.new
         (D.medium store.old) (D.medium store.new) result reply.new }
 {

@@ -14,6 +14,7 @@ ghost use Rattle.cca_machine.specs.Verdict.{Refusal as Refused, verdict_by};
 ghost use Rattle.request_rules.specs.ByRecords.{RestsOnRecords};
 ghost use Rattle.cca_requests.specs.Serving.{HasDisks, IsSpelled, IsRequestStop, IsLoadedStop, Serves, Leaves, IsCellRead, SparesStore, DrawsOnly, AreRemembered};
 ghost use Rattle.reencipher.specs.Runs.{IsLabelCell};
+ghost use Rattle.cca_requests.specs.Memory.{ChangesMemory};
 ghost use Rattle.request_rules.specs.Standing.{Stands, tables, At};
 ghost use Rattle.cca_machine.specs.Granted.{IsAccepted, AreGranted};
 ghost use Rattle.cca_machine.specs.Decided.{HasPassed, TakesOnly, source};
@@ -90,6 +91,8 @@ pub fn perform<M: Disk, D: Disk, E: Entropy>(
     // Whatever the store tells of its bytes.
     ensures own { OnOk result (RestsOnRecords (M.medium «module».old)
         (tables roles.old records.old) (seen request.now) reply.new) }
+    ensures memory { OnOk result (ChangesMemory (seen request.now) reply.new
+        (tables roles.old records.old) (tables roles.new records.new)) }
     ensures stops { IfErr result IsRequestStop }
     ensures bench { bench.new ≡ blank_bench }
 {
@@ -135,6 +138,8 @@ fn carry_out<M: Disk, D: Disk, E: Entropy>(
     ensures left { Leaves result reply.new (⟦<(M, D) as Shown>⟧.between
         («module».old, store.old) («module».new, store.new))
         (tables roles.old records.old) (tables roles.new records.new) }
+    ensures memory { OnOk result (ChangesMemory (seen request.now) reply.new
+        (tables roles.old records.old) (tables roles.new records.new)) }
     ensures stops { IfErr result IsLoadedStop }
     ensures rows { is_reencipher (seen request.now).name ≡ false
         → OnErr result (records.new ≡ records.old) }
@@ -196,6 +201,8 @@ fn act<M: Disk, D: Disk, E: Entropy>(
     ensures left { Leaves result reply.new (⟦<(M, D) as Shown>⟧.between
         («module».old, store.old) («module».new, store.new))
         (tables roles.old records.old) (tables roles.new records.new) }
+    ensures memory { OnOk result (ChangesMemory (seen request.now) reply.new
+        (tables roles.old records.old) (tables roles.new records.new)) }
     ensures stops { IfErr result IsLoadedStop }
     ensures rows { is_reencipher (seen request.now).name ≡ false
         → OnErr result (records.new ≡ records.old) }

@@ -9,7 +9,9 @@ use Rattle.master_registers.specs.declared.faults.RegisterFault.TheVariants.{Reg
 use Rattle.line_service.specs.Replies.{spelled}
 use Rattle.cca_requests.specs.Serving.{CarriesModule, LeavesModule}
 use Rattle.record_bodies.specs.StoreStands.{HoldsRows}
-use Rattle.cca_requests.specs.Changes.{IsTurnedBy, action_outcome, change_reply, change_stop, rows_by}
+use Rattle.cca_requests.specs.Changes.{IsTurnedBy, action_outcome, change_reply, change_stop, rows_after, rows_by}
+use Rattle.cca_requests.specs.Memory.{RefusedOr}
+use Rattle.cca_requests.proofs.MemoryLaws.{change_own}
 use Rattle.cca_machine.specs.Deciding.{labels_after}
 use Rattle.cca_requests.proofs.ReplyLines.{answer_line}
 use Rattle.cca_requests.proofs.TurnedRows.{is_turned, err_kept, held_after}
@@ -85,3 +87,8 @@ pub returns-clause-memory : goal.returns-clause-memory
 returns-clause-memory g c =
     subst (λ r. OnErr r (c.turn_after.new.records ≡ c.args.records.now)) (sym c.answer_change.ensures.stop)
     (subst (λ now. OnErr (change_stop c.carry_out-outcome.result) (now ≡ c.args.records.now)) (sym c.turn_after.ensures) (err_kept c.args.action c.args.records.now c.carry_out-outcome.result))
+
+pub returns-clause-own : goal.returns-clause-own
+returns-clause-own g c =
+    subst (λ now. OnOk c.answer_change.result (RefusedOr c.answer_change.new.reply (now ≡ c.args.records.now) (now ≡ rows_after c.args.action c.args.records.now)))
+    (sym c.turn_after.ensures) (change_own c.answer_change.result c.answer_change.new.reply c.args.action c.args.records.now c.carry_out-outcome.result c.answer_change.ensures)

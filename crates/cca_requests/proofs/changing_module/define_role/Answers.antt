@@ -7,6 +7,7 @@ use Rattle.cca_roles.specs.declared.faults.RoleFault.TheVariants.{TableFull}
 use Rattle.master_registers.specs.Loaded.{masters_in}
 use Rattle.cca_machine.specs.Act.{DefineRole}
 use Rattle.cca_requests.specs.Changes.{role_reply}
+use Rattle.cca_requests.proofs.MemoryLaws.{role_own}
 use Rattle.cca_requests.proofs.ReplyLines.{answer_line}
 use Rattle.cca_requests.proofs.RoleChanging.{role_changes_as, role_still_as, role_left_as}
 use Rattle.cca_requests.proofs.changing_module.define_role.Goals as goal
@@ -48,3 +49,6 @@ returns-clause-left g c =
     c.define-outcome.result c.answer_roles.result c.answer_roles.ensures.stop c.define-outcome.ensures.faults c.define-outcome.ensures.changed c.define-outcome.ensures.untouched
     c.define-outcome.ensures.memory c.define-outcome.ensures.cause.failed c.define-outcome.ensures.cause.quiet
     (answer_line (role_reply c.define-outcome.result) c.answer_roles.new.reply c.answer_roles.result c.answer_roles.ensures.reply) c.answer_roles.ensures.silent
+
+pub returns-clause-own : goal.returns-clause-own
+returns-clause-own g c = role_own c.answer_roles.result c.answer_roles.new.reply c.args.roles.now (after_define c.args.name.now c.args.points c.args.roles.now) c.define-outcome.new.self c.define-outcome.result c.define-outcome.ensures.memory c.answer_roles.ensures

@@ -7,6 +7,7 @@ use Rattle.cca_roles.specs.declared.faults.RoleFault.TheVariants.{Unknown}
 use Rattle.master_registers.specs.Loaded.{masters_in}
 use Rattle.cca_machine.specs.Act.{RemoveRole}
 use Rattle.cca_requests.specs.Changes.{role_reply}
+use Rattle.cca_requests.proofs.MemoryLaws.{role_own}
 use Rattle.cca_requests.proofs.ReplyLines.{answer_line}
 use Rattle.cca_requests.proofs.RoleChanging.{role_changes_as, role_still_as, role_left_as}
 use Rattle.cca_requests.proofs.changing_module.remove_role.Goals as goal
@@ -48,3 +49,6 @@ returns-clause-left g c =
     c.remove-outcome.result c.answer_roles.result c.answer_roles.ensures.stop c.remove-outcome.ensures.faults c.remove-outcome.ensures.changed c.remove-outcome.ensures.untouched
     c.remove-outcome.ensures.memory c.remove-outcome.ensures.cause.failed c.remove-outcome.ensures.cause.quiet
     (answer_line (role_reply c.remove-outcome.result) c.answer_roles.new.reply c.answer_roles.result c.answer_roles.ensures.reply) c.answer_roles.ensures.silent
+
+pub returns-clause-own : goal.returns-clause-own
+returns-clause-own g c = role_own c.answer_roles.result c.answer_roles.new.reply c.args.roles.now (after_remove c.args.name.now c.args.roles.now) c.remove-outcome.new.self c.remove-outcome.result c.remove-outcome.ensures.memory c.answer_roles.ensures

@@ -8,6 +8,7 @@ use Rattle.line_service.specs.declared.stops.Stop.TheVariants.{StoreFault}
 use Rattle.verb_rules.specs.Keys.{keys_of}
 use Rattle.cca_requests.specs.Serving.{CarriesStore, LeavesStore}
 use Rattle.cca_requests.specs.Changes.{create_outcome, record_reply, record_stop}
+use Rattle.cca_requests.proofs.MemoryLaws.{record_own}
 use Rattle.cca_requests.proofs.ReplyLines.{answer_line}
 use Rattle.cca_requests.proofs.Storing.{kept_labels, known_directory, full_as, exists_as, create_fault, creates_as, create_left_as}
 use Rattle.cca_requests.proofs.changing_store.create.Goals as goal
@@ -54,3 +55,8 @@ returns-clause-left g c = record {
   fault = subst (λ x. IfErr x (λ stop. stop ≡ StoreFault)) (sym c.answer_create.ensures.stop) (create_fault c.create-outcome.result);
   loan = search rules;
 }
+
+pub returns-clause-own : goal.returns-clause-own
+returns-clause-own g c =
+    let rows = c.args.records.now in
+    record_own c.answer_create.result c.answer_create.new.reply rows (set rows (free_cell (row_directory rows)) (Some (null_row c.args.label.now))) c.create-outcome.new.self c.create-outcome.result c.create-outcome.ensures.changes.memory c.answer_create.ensures

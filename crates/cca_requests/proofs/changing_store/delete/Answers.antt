@@ -1,6 +1,7 @@
 use Rattle.std.proofs.Common.{[], Ok, Err, rules}
 use Rattle.verb_rules.specs.Keys.{keys_of}
 use Rattle.request_verbs.proofs.Fields.{no_fields}
+use Rattle.cca_requests.proofs.MemoryLaws.{done_says}
 use Rattle.cca_requests.proofs.Storing.{deletes_as, kept_labels, stored_left}
 use Rattle.cca_requests.proofs.changing_store.delete.Goals as goal
 
@@ -28,3 +29,7 @@ returns-in-Ok-clause-left g c = record {
   fault = search rules;
   loan = search rules;
 }
+
+pub returns-in-Ok-clause-own : goal.returns-in-Ok-clause-own
+returns-in-Ok-clause-own g c =
+    (done_says [] c.end.new.reply (c.end.ensures.spells [] (no_fields c.args.reply.now c.ok.new.self c.requires.empty c.ok.ensures.bytes)), c.in-Ok.ensures.changes.memory.done)

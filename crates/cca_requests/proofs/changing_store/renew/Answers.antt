@@ -25,6 +25,7 @@ returns-clause-run g c =
       outcome = run.result;
       cells = run.ensures.cells;
       cell = run_damaged run.result run.ensures.left.fault;
+      directory = run.ensures.left.directory;
       answer = c.answer_run.ensures;
     }
 

@@ -31,3 +31,6 @@ returns-in-Ok-clause-left g c = record {
   fault = search rules;
   loan = search rules;
 }
+
+pub returns-in-Ok-clause-own : goal.returns-in-Ok-clause-own
+returns-in-Ok-clause-own g c = c.in-Ok.ensures.changes.memory.done

@@ -1,4 +1,4 @@
-use Rattle.std.proofs.Common.{◌∙◌, ◌++◌, Bool, Ok, refl, sym, subst, ap}
+use Rattle.std.proofs.Common.{◌≡◌, ◌∙◌, ◌++◌, Bool, None, Some, Ok, refl, sym, subst, ap}
 use Rattle.key_cells.specs.Lease.{bench_of}
 use Rattle.master_registers.specs.Loaded.{masters_in}
 use Rattle.line_service.specs.Replies.{Done, spelled}
@@ -12,6 +12,15 @@ use Rattle.cca_requests.proofs.Carrying.{action_carries, carries_as, create_carr
 use Rattle.cca_requests.proofs.Contents.{sound}
 use Rattle.cca_requests.proofs.Leaving.{err_always, fails_alone, module_keeps, module_left, ready_as, registers_left, still_keeps, still_left, store_keeps, store_left}
 use Rattle.line_service.specs.declared.stops.Device.TheVariants.{Store}
+use Rattle.std.specs.Prelude.{set}
+use Rattle.cca_roles.specs.Roles.{after_define, after_remove}
+use Rattle.record_bodies.specs.Directory.{free_cell}
+use Rattle.record_bodies.specs.Entries.{null_row, row_directory}
+use Rattle.cca_machine.specs.declared.effects.Effect.TheVariants as code
+use Rattle.cca_requests.specs.Changes.{rows_after}
+use Rattle.cca_requests.specs.Memory.{ChangesRoles, ChangesRows, IsSameMemory, MemoryBy, SaysDone, row_with}
+use Rattle.verb_rules.specs.Rules.{rule_number}
+use Rattle.cca_requests.proofs.MemoryLaws.{memory_as, ok_gives, run_says, weaker_or}
 use Rattle.cca_requests.proofs.Renewing.{run_cell, runs_as}
 use Rattle.cca_requests.proofs.Serving.{still_carries}
 use Rattle.cca_requests.proofs.effects.carry.Goals as goal
@@ -257,3 +266,36 @@ returns-in-Delete-clause-run g c = runs_as c.args.held.now c.args.records.now c.
 
 pub returns-in-Reencipher-clause-run : goal.returns-in-Reencipher-clause-run
 returns-in-Reencipher-clause-run g c = runs_as c.args.held.now c.args.records.now c.renew.new.records (g.D.Disk.medium c.args.store.now) (g.D.Disk.medium c.renew.new.store) c.renew.result c.renew.new.reply c.in-Reencipher.is c.renew.ensures.run
+
+-- ---- what it makes of the memory
+
+pub returns-in-Refused-clause-memory : goal.returns-in-Refused-clause-memory
+returns-in-Refused-clause-memory g c = memory_as (Ok tt) c.refuse.new.reply (tables c.args.roles.now c.args.records.now) (tables c.args.roles.now c.args.records.now) c.in-Refused.is (record { rule = rule_number c.in-Refused.refusal.rule; operand = c.in-Refused.refusal.operand.now; is = c.refuse.ensures.spells }, (refl, refl))
+
+pub returns-in-Shown-clause-memory : goal.returns-in-Shown-clause-memory
+returns-in-Shown-clause-memory g c = memory_as (Ok tt) c.finish.new.reply (tables c.args.roles.now c.args.records.now) (tables c.args.roles.now c.args.records.now) c.in-Shown.is (refl, refl)
+
+pub returns-in-Change-clause-memory : goal.returns-in-Change-clause-memory
+returns-in-Change-clause-memory g c = memory_as c.change_registers.result c.change_registers.new.reply (tables c.args.roles.now c.args.records.now) (tables c.args.roles.now c.change_registers.new.records) c.in-Change.is (weaker_or c.change_registers.result c.change_registers.new.reply (c.change_registers.new.records ≡ c.args.records.now) (c.change_registers.new.records ≡ (rows_after c.in-Change.action c.args.records.now)) (IsSameMemory (tables c.args.roles.now c.args.records.now) (tables c.args.roles.now c.change_registers.new.records)) (ChangesRows (tables c.args.roles.now c.args.records.now) (tables c.args.roles.now c.change_registers.new.records) (rows_after c.in-Change.action c.args.records.now))
+    (λ rows. (refl, rows)) (λ rows. (refl, rows)) c.change_registers.ensures.own)
+
+pub returns-in-DefineRole-clause-memory : goal.returns-in-DefineRole-clause-memory
+returns-in-DefineRole-clause-memory g c = memory_as c.define_role.result c.define_role.new.reply (tables c.args.roles.now c.args.records.now) (tables c.define_role.new.roles c.args.records.now) c.in-DefineRole.is (weaker_or c.define_role.result c.define_role.new.reply (c.define_role.new.roles ≡ c.args.roles.now) (c.define_role.new.roles ≡ (after_define c.in-DefineRole.name c.in-DefineRole.points c.args.roles.now)) (IsSameMemory (tables c.args.roles.now c.args.records.now) (tables c.define_role.new.roles c.args.records.now)) (ChangesRoles (tables c.args.roles.now c.args.records.now) (tables c.define_role.new.roles c.args.records.now) (after_define c.in-DefineRole.name c.in-DefineRole.points c.args.roles.now))
+    (λ roles. (roles, refl)) (λ roles. (roles, refl)) c.define_role.ensures.own)
+
+pub returns-in-RemoveRole-clause-memory : goal.returns-in-RemoveRole-clause-memory
+returns-in-RemoveRole-clause-memory g c = memory_as c.remove_role.result c.remove_role.new.reply (tables c.args.roles.now c.args.records.now) (tables c.remove_role.new.roles c.args.records.now) c.in-RemoveRole.is (weaker_or c.remove_role.result c.remove_role.new.reply (c.remove_role.new.roles ≡ c.args.roles.now) (c.remove_role.new.roles ≡ (after_remove c.in-RemoveRole.name c.args.roles.now)) (IsSameMemory (tables c.args.roles.now c.args.records.now) (tables c.remove_role.new.roles c.args.records.now)) (ChangesRoles (tables c.args.roles.now c.args.records.now) (tables c.remove_role.new.roles c.args.records.now) (after_remove c.in-RemoveRole.name c.args.roles.now))
+    (λ roles. (roles, refl)) (λ roles. (roles, refl)) c.remove_role.ensures.own)
+
+pub returns-in-Create-clause-memory : goal.returns-in-Create-clause-memory
+returns-in-Create-clause-memory g c = memory_as c.create.result c.create.new.reply (tables c.args.roles.now c.args.records.now) (tables c.args.roles.now c.create.new.records) c.in-Create.is (weaker_or c.create.result c.create.new.reply (c.create.new.records ≡ c.args.records.now) (c.create.new.records ≡ (set c.args.records.now (free_cell (row_directory c.args.records.now)) (Some (null_row c.in-Create.label)))) (IsSameMemory (tables c.args.roles.now c.args.records.now) (tables c.args.roles.now c.create.new.records)) (ChangesRows (tables c.args.roles.now c.args.records.now) (tables c.args.roles.now c.create.new.records) (set c.args.records.now (free_cell (row_directory c.args.records.now)) (Some (null_row c.in-Create.label))))
+    (λ rows. (refl, rows)) (λ rows. (refl, rows)) c.create.ensures.own)
+
+pub returns-in-Write-clause-memory : goal.returns-in-Write-clause-memory
+returns-in-Write-clause-memory g c = memory_as c.write.result c.write.new.reply (tables c.args.roles.now c.args.records.now) (tables c.args.roles.now c.write.new.records) c.in-Write.is (ok_gives (ChangesRows (tables c.args.roles.now c.args.records.now) (tables c.args.roles.now c.write.new.records) (set c.args.records.now c.in-Write.place (row_with c.args.records.now c.in-Write.place c.in-Write.token))) c.write.result c.write.new.reply (c.write.new.records ≡ (set c.args.records.now c.in-Write.place (row_with c.args.records.now c.in-Write.place c.in-Write.token))) c.write.ensures.own (λ own. (refl, own)))
+
+pub returns-in-Delete-clause-memory : goal.returns-in-Delete-clause-memory
+returns-in-Delete-clause-memory g c = memory_as c.delete.result c.delete.new.reply (tables c.args.roles.now c.args.records.now) (tables c.args.roles.now c.delete.new.records) c.in-Delete.is (ok_gives (SaysDone c.delete.new.reply × ChangesRows (tables c.args.roles.now c.args.records.now) (tables c.args.roles.now c.delete.new.records) (set c.args.records.now c.in-Delete.place None)) c.delete.result c.delete.new.reply (SaysDone c.delete.new.reply × (c.delete.new.records ≡ (set c.args.records.now c.in-Delete.place None))) c.delete.ensures.own (λ own. (own.0, (refl, own.1))))
+
+pub returns-in-Reencipher-clause-memory : goal.returns-in-Reencipher-clause-memory
+returns-in-Reencipher-clause-memory g c = memory_as c.renew.result c.renew.new.reply (tables c.args.roles.now c.args.records.now) (tables c.args.roles.now c.renew.new.records) c.in-Reencipher.is (ok_gives (MemoryBy (code.Reencipher c.in-Reencipher.action) c.renew.new.reply (tables c.args.roles.now c.args.records.now) (tables c.args.roles.now c.renew.new.records)) c.renew.result c.renew.new.reply (SaysDone c.renew.new.reply) (run_says c.renew.result c.renew.new.reply c.renew.ensures.run) (λ says. (says, refl, c.renew.ensures.run.directory)))

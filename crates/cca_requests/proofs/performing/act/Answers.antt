@@ -13,6 +13,8 @@ use Rattle.cca_requests.specs.Serving.{IsFault, IsLoadedStop}
 use Rattle.line_service.proofs.AnsweredLemmas.{spares_else}
 use Rattle.cca_requests.proofs.Damage.{effect_spares, random_sound}
 use Rattle.cca_requests.proofs.Handing.{decide_stopped, disks_decided}
+use Rattle.cca_requests.specs.Memory.{ChangesMemory, MemoryBy}
+use Rattle.cca_requests.proofs.MemoryLaws.{memory_left, ok_gives}
 use Rattle.cca_requests.proofs.Registers.{loaded_after}
 use Rattle.cca_requests.proofs.Serving.{decided_serves, old_as, stopped_serves}
 use Rattle.cca_machine.proofs.Settling.{takes_on}
@@ -134,3 +136,16 @@ returns-in-Ok-clause-cell g c = λ n is. (c.in-Ok.ensures.decision.decided.throu
 
 pub returns-in-Err-clause-cell : goal.returns-in-Err-clause-cell
 returns-in-Err-clause-cell g c = λ n is. absurd (random_sound c.in-Err.stop c.in-Err.ensures.decision.decided.stops Store n is)
+
+-- ---- what it makes of the memory
+
+pub returns-in-Ok-clause-memory : goal.returns-in-Ok-clause-memory
+returns-in-Ok-clause-memory g c =
+    let request = seen c.args.request.now in
+    let t = tables c.args.roles.now c.args.records.now in
+    let later = tables c.carry.new.roles c.carry.new.records in
+    ok_gives (ChangesMemory request c.carry.new.reply t later) c.carry.result c.carry.new.reply (MemoryBy c.in-Ok.effect c.carry.new.reply t later)
+    c.carry.ensures.memory (memory_left c.in-Ok.effect c.in-Ok.ensures.decision.decided.named c.in-Ok.ensures.decision.decided.through)
+
+pub returns-in-Err-clause-memory : goal.returns-in-Err-clause-memory
+returns-in-Err-clause-memory g c = tt

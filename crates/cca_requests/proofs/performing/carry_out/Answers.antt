@@ -22,6 +22,7 @@ use Rattle.cca_machine.proofs.Acting.{verdict_general}
 use Rattle.request_rules.proofs.AsRead.{grants_by_records, on_ok_always, refusal_by_record}
 use Rattle.request_verbs.proofs.Delivering.{either_right}
 use Rattle.request_rules.proofs.GrantsKept.{grants_kept, loaded_kept}
+use Rattle.cca_requests.proofs.MemoryLaws.{refused_memory}
 use Rattle.cca_requests.proofs.OperandsJudged.{operands_granted, operands_refused, whole_short, whole_spelled}
 use Rattle.cca_requests.proofs.Serving.{refused_serves, stopped_serves, serves_after_reads, stands_kept}
 use Rattle.cca_requests.proofs.Contents.{sound}
@@ -306,3 +307,21 @@ returns-in-Ok-Granted-clause-cell g c = λ n is. inr (c.act.ensures.cell n is)
 pub returns-in-Err-clause-cell : goal.returns-in-Err-clause-cell
 returns-in-Err-clause-cell g c = λ n is.
     inl (subst (λ (os : Operands). IsCellOfAny c.args.records.now (listed os) n) c.operands_of.ensures.table (c.judge.ensures.cell n (c.in-Err.is ∙ ap Err (same_stop c.in-Err.stop (Damaged Store n) is))))
+
+-- ---- what it makes of the memory
+
+pub returns-in-Some-clause-memory : goal.returns-in-Some-clause-memory
+returns-in-Some-clause-memory g c =
+    refused_memory c.of_request.result
+    (record { rule = rule_number c.in-Some.rule; operand = codes "-"; is = whole_spelled c.of_request.result c.of_request.ensures c.refuse.ensures.spells })
+
+pub returns-in-Ok-Refused-clause-memory : goal.returns-in-Ok-Refused-clause-memory
+returns-in-Ok-Refused-clause-memory g c =
+    let r = refusal_of c.in-Ok-Refused.refusal in
+    refused_memory c.in-Ok-Refused.refusal (record { rule = r.rule; operand = r.operand; is = c.refuse-in-Ok-Refused.ensures.spells })
+
+pub returns-in-Ok-Granted-clause-memory : goal.returns-in-Ok-Granted-clause-memory
+returns-in-Ok-Granted-clause-memory g c = c.act.ensures.memory
+
+pub returns-in-Err-clause-memory : goal.returns-in-Err-clause-memory
+returns-in-Err-clause-memory g c = tt

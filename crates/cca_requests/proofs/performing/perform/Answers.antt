@@ -190,3 +190,8 @@ returns-in-Err-DiskFault-clause-cell g c = λ n is. cc is
 
 pub returns-clause-cell : goal.returns-clause-cell
 returns-clause-cell g c = λ n is. cc is
+
+-- ---- what it makes of the memory
+
+pub returns-in-Ok-clause-memory : goal.returns-in-Ok-clause-memory
+returns-in-Ok-clause-memory g c = c.carry_out.ensures.memory
