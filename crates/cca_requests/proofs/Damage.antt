@@ -1,12 +1,11 @@
 -- What a cell that turned out damaged spares.
-use Rattle.std.proofs.Common.{◌≡◌, ℕ, false, List, Option, Result, Ok, Err, refl, sym, subst}
+use Rattle.std.proofs.Common.{◌≡◌, ℕ, false, List, Option, Result, Err, refl, sym, subst}
 use Rattle.std.specs.Prelude.{IfErr, IsTrue}
 use Rattle.device_cells.specs.Medium.{Keeps, Medium}
 use Rattle.device_cells.proofs.Media.{keeps_still, keeps_then}
 use Rattle.key_cells.specs.declared.leases.Lease.{Lease}
 use Rattle.record_bodies.specs.declared.rows.Row.{Row}
 use Rattle.line_service.specs.declared.stops.Device.{Device}
-use Rattle.line_service.specs.declared.stops.Device.TheVariants.{Module}
 use Rattle.line_service.specs.declared.stops.Stop.{Stop}
 use Rattle.line_service.specs.declared.stops.Stop.TheVariants.{Damaged, EntropyFault, ModuleFault}
 use Rattle.verb_script.specs.Grammar.{Request}

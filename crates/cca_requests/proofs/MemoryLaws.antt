@@ -1,5 +1,5 @@
 -- What a request leaves of the memory, by what its verb left to be carried out.
-use Rattle.std.proofs.Common.{◌≡◌, ◌++◌, ℕ, List, [], ◌∷◌, Option, Some, Result, Ok, Err, codes, get_or, refl, sym, ap, subst, inl, inr, ⊎_elim, ◌∙◌, append_assoc, arith}
+use Rattle.std.proofs.Common.{◌≡◌, ◌++◌, ℕ, List, [], ◌∷◌, Option, Result, Ok, Err, codes, get_or, refl, sym, ap, subst, inl, inr, ⊎_elim, ◌∙◌, append_assoc, arith}
 use Rattle.std.specs.Prelude.{IsTrue, OnOk}
 use Rattle.cca_roles.specs.Changes.{Remembers as RemembersRoles}
 use Rattle.cca_roles.specs.declared.faults.RoleFault.{RoleFault}

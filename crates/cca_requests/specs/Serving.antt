@@ -1,6 +1,6 @@
 -- What a request leaves of the disks, in a few records.
 use Rattle.std.specs.Prelude.{◌≡◌, ◌≢◌, ◌⊎◌, ◌≤◌, ◌<◌, ℕ, List, [], length, true, false, Option, Result, Err, OnOk, OnErr, IfErr, IsOk, IsSome, IsTrue, ⊤}
-use Rattle.device_cells.specs.Medium.{Medium, Told, Keeps, From, Becomes, EachImage, EachPair}
+use Rattle.device_cells.specs.Medium.{Medium, Told, From, Becomes, EachImage, EachPair}
 use Rattle.device_cells.specs.SpareBytes.{Turned}
 use Rattle.line_service.specs.Reading.{line_limit}
 use Rattle.line_service.specs.Replies.{spelled}
@@ -12,7 +12,6 @@ use Rattle.key_cells.specs.declared.leases.Lease.{Lease}
 use Rattle.record_bodies.specs.StoreStands.{HasStore, HoldsRows}
 use Rattle.record_bodies.specs.Entries.{row_directory}
 use Rattle.record_bodies.specs.declared.rows.Row.{Row}
-use Rattle.master_registers.specs.RegisterBody.{IsDamaged}
 use Rattle.master_registers.specs.declared.registers.Registers.{Registers}
 use Rattle.line_service.specs.Answering.{Unwritten}
 use Rattle.line_service.specs.Devices.{Span, Devices, DiskLeft, TellsFault, ModuleLeft, StoreLeft}

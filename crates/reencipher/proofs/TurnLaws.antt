@@ -16,7 +16,7 @@ use Rattle.key_records.specs.Changes.{ReadsToken, ReplacesBody, ChangesLabels, H
 use Rattle.record_bodies.specs.LabelChanges.{with_what, with_both}
 use Rattle.record_bodies.specs.Directory.{label_at}
 use Rattle.record_bodies.specs.Entries.{Entry, entry, entry_label, remembered, pattern_ahead, row_directory, row_label, label_or}
-use Rattle.record_bodies.specs.RecordBody.{kept, HasToken, ReadsEntry, ReadsWhat}
+use Rattle.record_bodies.specs.RecordBody.{HasToken, ReadsEntry, ReadsWhat}
 use Rattle.record_bodies.specs.StoreStands.{StandsForLabels, KeepsLabels, entry_at}
 use Rattle.key_records.specs.declared.faults.RecordFault.{RecordFault}
 use Rattle.record_bodies.specs.declared.rows.Row.{Row}
