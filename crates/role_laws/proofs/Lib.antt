@@ -1,0 +1,4 @@
+mod Requests
+mod RetiredLaws
+mod RoleChanges
+mod RoleLaws

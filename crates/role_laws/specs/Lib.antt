@@ -1,0 +1,2 @@
+pub mod RetiredKeys
+pub mod RolePoints
