@@ -21,7 +21,11 @@ IN_USE_PAUSE = 0.1
 
 
 class TrailLost(Exception):
-    """The trail couldn't be fetched or kept."""
+    """The trail couldn't be fetched or kept. Known is the exit status of `cca trail` where that failed."""
+
+    def __init__(self, why: str, status: int | None = None):
+        super().__init__(why)
+        self.status = status
 
 
 class Record(NamedTuple):
@@ -50,7 +54,7 @@ def shown(folder: str, program: str) -> str:
         if it.returncode == 0:
             return it.stdout
         if it.returncode != IN_USE or time.monotonic() > until:
-            raise TrailLost(f"cca trail ended with status {it.returncode}: {it.stderr.strip()}")
+            raise TrailLost(f"cca trail ended with status {it.returncode}: {it.stderr.strip()}", it.returncode)
         time.sleep(IN_USE_PAUSE)
 
 
@@ -60,33 +64,44 @@ def listed(folder: str, program: str) -> list[Record]:
     return [Record(int(number), rule, role, verb, label) for number, rule, role, verb, label in rows]
 
 
-def last_lines(path: str) -> list[bytes]:
-    """The last lines of a log, of which the first one may be cut; none where there is no log."""
+class Kept(NamedTuple):
+    """What a log has of one trail: its last records, by their numbers, the number of the last one, and the number that they
+    follow, behind which none should be missing. Both numbers are -1 where the log is empty."""
+
+    records: dict[int, Record]
+    last: int
+    follows: int
+
+
+def last_lines(path: str) -> tuple[list[bytes], bool]:
+    """The last lines of a log, of which the first one may be cut; none where there is no log. And whether these are all."""
     try:
         with open(path, "rb") as log:
-            log.seek(max(0, os.fstat(log.fileno()).st_size - TAIL))
-            return log.read(TAIL).split(b"\n")
+            size = os.fstat(log.fileno()).st_size
+            log.seek(max(0, size - TAIL))
+            return log.read(TAIL).split(b"\n"), size <= TAIL
     except FileNotFoundError:
-        return []
+        return [], True
 
 
-def last_kept(path: str) -> tuple[int, dict[int, Record]]:
-    """The number of the last record of a log, or of that behind which it begins, and -1 where it has none; and its last
-    records, by their numbers, as far back as they are of one trail."""
+def last_kept(path: str) -> Kept:
+    """What a log has of its last trail."""
     kept: dict[int, Record] = {}
+    lines, are_all = last_lines(path)
     lowest = None
-    for line in reversed(last_lines(path)):
+    for line in reversed(lines):
         try:
             it = json.loads(line)
             if "follows" in it:
-                return max([it["follows"], *kept]), kept
+                return Kept(kept, max([it["follows"], *kept]), it["follows"])
             record = Record(*(it[name] for name in Record._fields))
         except (ValueError, KeyError, TypeError):
-            continue  # what is told, or half a line of a machine that stopped
+            continue  # what is told, or half a line of a machine that stopped, or zeros in the place of lines
         if lowest is not None and record.number >= lowest:
+            are_all = False  # lines of another trail are above these
             break
         kept[record.number], lowest = record, record.number
-    return max(kept, default=-1), kept
+    return Kept(kept, max(kept, default=-1), -1 if are_all or lowest is None else lowest - 1)
 
 
 class TrailLog:
@@ -94,7 +109,7 @@ class TrailLog:
 
     def __init__(self, path: str, folder: str, program: str):
         self.path, self.folder, self.program = os.path.abspath(path), folder, program
-        self.last, self.kept = last_kept(self.path)
+        self.kept = last_kept(self.path)
 
     def fetch(self, times: list[str], is_in_doubt: bool = False) -> list[str]:
         """Appends the new records. Known are the times of the requests since the last fetch, of which the last one may have
@@ -103,31 +118,37 @@ class TrailLog:
         lines: list[dict[str, object]] = []
         why = self.why_another(held)
         if why:
-            self.last = -1
-            lines.append({"time": fetched, "told": why, "follows": self.last})
-        new = [record for record in held if record.number > self.last]
+            self.kept = Kept({}, -1, -1)
+            lines.append({"time": fetched, "told": why, "follows": self.kept.last})
+        new = [record for record in held if record.number > self.kept.last]
         is_complete = len(new) == len(times) or (is_in_doubt and len(new) == len(times) - 1)
         lines += [{"time": fetched, "told": what} for what in self.to_tell(new, len(times), is_complete)]
         told = [str(it["told"]) for it in lines]
         for place, record in enumerate(new):
             lines.append({**record._asdict(), "time": times[place] if is_complete else None, "fetched": fetched})
         self.append(lines)
-        self.last, self.kept = held[-1].number if held else -1, {record.number: record for record in held}
+        records = {record.number: record for record in held}
+        self.kept = Kept(records, max(records, default=-1), min(records, default=0) - 1)
         return told
 
     def why_another(self, held: list[Record]) -> str | None:
         """Why this isn't the trail whose records the log has, if it isn't: then all its records are new."""
-        if self.last >= 0 and (not held or held[-1].number < self.last):
-            return f"the trail begins anew: it ended with number {self.last}"
+        kept, follows, last = self.kept.records, self.kept.follows, self.kept.last
+        if last >= 0 and (not held or held[-1].number < last):
+            return f"the trail begins anew: it ended with number {last}"
         for record in held:
-            if self.kept.get(record.number, record) != record:
+            if kept.get(record.number, record) != record:
                 return f"record {record.number} isn't as it was: the trail was altered, or begins anew"
+        lost = [record.number for record in held if follows < record.number <= last and record.number not in kept]
+        if lost:
+            return f"the log has lost {len(lost)} records, the first of them number {lost[0]}: all that the trail holds follow"
         return None
 
     def to_tell(self, new: list[Record], sent: int, is_complete: bool) -> Iterator[str]:
         """What is to be told of new records: that some are missing, or whose they may be."""
-        if new and new[0].number > self.last + 1:
-            yield f"records {self.last + 1} to {new[0].number - 1} are missing"
+        last = self.kept.last
+        if new and new[0].number > last + 1:
+            yield f"records {last + 1} to {new[0].number - 1} are missing"
         if not is_complete:
             came = f"{sent} requests were served, and {len(new)} new records came: their times aren't known"
             others = "; others sent requests, or a front ended before it fetched the records"
@@ -159,4 +180,4 @@ class TrailLog:
             os.fsync(folder)  # so that the log's name is on the drive too
         finally:
             os.close(folder)
-        return "" if self.last < 0 else json.dumps({"follows": self.last}) + "\n"
+        return "" if self.kept.last < 0 else json.dumps({"follows": self.kept.last}) + "\n"
