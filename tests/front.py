@@ -25,49 +25,53 @@ STUB = TOP / "tests" / "stub" / "cca"
 UNIT = CLIENTS / "cca-front.service"
 sys.path.insert(0, str(CLIENTS))
 import front as front_program  # noqa: E402
+from journal import VERBS  # noqa: E402
+from prepare import MODE  # noqa: E402
+from service import FETCH_AFTER  # noqa: E402
+import trail  # noqa: E402
 from trail import HELD, TrailLog, TrailLost  # noqa: E402
 
 FAULTS = [Fault('"$CCA" "$@" | sed -u "s/^NO 01/NO 02/"', case="Begin.test_the_program_itself", tells="no refusal")]
 ROLES = ("TELLER", "OFFICER", "CUSTODY")
-FETCHES_AT_ONCE = "import front, sys; front.FETCH_SECONDS = 0.0; sys.exit(front.main())"
+FETCHES_AT_ONCE = "import front, service, sys; service.FETCH_SECONDS = 0.0; sys.exit(front.main())"
 
 
 EDITS = [
-    Edit("front.py", "it.listen(BACKLOG)", "it.listen(5)", "Crowd.test_backlog"),
+    Edit("connections.py", "it.listen(BACKLOG)", "it.listen(5)", "Crowd.test_backlog"),
     Edit("front.py", "if len(door.connections) >= self.limit:\n            self.watch", "if False:\n            self.watch", "Crowd.test_idle"),
     Edit("front.py", "self.watch(door.listener, 0, door)", "pass", "Crowd.test_idle"),
     Edit("front.py", "min(CROWDED, self.idle) if is_crowded", "self.idle if is_crowded", "Crowd.test_idle"),
     Edit("front.py", "connection.unsent = reply", "next(iter(connection.door.connections)).unsent = reply", "Crowd.test_two_hundred"),
-    Edit("front.py", "fcntl.LOCK_EX | fcntl.LOCK_NB", "fcntl.LOCK_SH | fcntl.LOCK_NB", "Begin.test_second_front"),
-    Edit("front.py", "if not stat.S_ISSOCK(", "if False and stat.S_ISSOCK(", "Begin.test_another_file"),
-    Edit("front.py", 'if reply != "NO 01 -":', "if False:", "Begin.test_another_program"),
+    Edit("connections.py", "fcntl.LOCK_EX | fcntl.LOCK_NB", "fcntl.LOCK_SH | fcntl.LOCK_NB", "Begin.test_second_front"),
+    Edit("connections.py", "if not stat.S_ISSOCK(", "if False and stat.S_ISSOCK(", "Begin.test_another_file"),
+    Edit("service.py", 'if reply != "NO 01 -":', "if False:", "Begin.test_another_program"),
     Edit("front.py", "        service.begin()\n", "", "Begin.test_no_program"),
-    Edit("front.py", "            del self.taken[LONGEST + 1 :]", "            return len(self.taken) <= LONGEST", "Lines.test_too_long"),
-    Edit("front.py", 'f"{verb} role={role}{space}{fields}"', 'line', "Lines.test_role"),
-    Edit("front.py", 'verb not in VERBS or', "", "Log.test_no_secrets"),
-    Edit("front.py", " CSNBPEX CSNBRNG", " CSNBPEX", "Known.test_verbs"),
-    Edit("front.py", '(reply or "").startswith(("NO 01", "NO 02"))', "False", "Log.test_no_secrets"),
-    Edit("front.py", "if len(self.times) >= FETCH_AFTER:", "if False:", "Trail.test_fetched_in_time"),
-    Edit("front.py", "return not poll.poll(0)\n\n    def send", "return True\n\n    def send", "Crowd.test_busy"),
-    Edit("front.py", "if self.has_line() and not self.unsent:", "if self.has_line() or self.unsent:", "Crowd.test_unread"),
-    Edit("front.py", "            self.fetch()\n            self.hold_files()", "            self.fetch()", "TrailOfTheProgram.test_files_are_held"),
-    Edit("front.py", "            self.hold_files()\n            raise", "            raise", "Crowd.test_no_reply"),
-    Edit("front.py", "if end.status != IN_USE or", "if True or", "Trail.test_files_in_use"),
-    Edit("front.py", "if status in LOOK_FIRST and status != IN_USE:", "if status in LOOK_FIRST:", "Trail.test_files_in_use_at_the_end"),
-    Edit("front.py", "if end.status != IN_USE or time.monotonic() > until:", "if end.status != IN_USE:", "Trail.test_files_in_use_for_long"),
+    Edit("connections.py", "            del self.taken[LONGEST + 1 :]", "            return len(self.taken) <= LONGEST", "Lines.test_too_long"),
+    Edit("front.py", 'f"{verb} role={connection.door.role}{space}{fields}"', 'line', "Lines.test_role"),
+    Edit("journal.py", 'verb not in VERBS or', "", "Log.test_no_secrets"),
+    Edit("journal.py", " CSNBPEX CSNBRNG", " CSNBPEX", "Known.test_verbs"),
+    Edit("journal.py", '(reply or "").startswith(("NO 01", "NO 02"))', "False", "Log.test_no_secrets"),
+    Edit("service.py", "if len(self.times) >= FETCH_AFTER:", "if False:", "Trail.test_fetched_in_time"),
+    Edit("front.py", "is_silent = not connection.receive_last()", "is_silent = True", "Crowd.test_busy"),
+    Edit("front.py", "is_silent = not connection.send() or bool(connection.unsent)", "is_silent = False", "Crowd.test_unread"),
+    Edit("service.py", "            self.fetch()\n            self.hold_files()", "            self.fetch()", "TrailOfTheProgram.test_files_are_held"),
+    Edit("service.py", "        self.fetch(is_in_doubt)\n        self.hold_files()", "        self.fetch(is_in_doubt)", "Crowd.test_no_reply"),
+    Edit("service.py", "if end.status == IN_USE and time.monotonic() < until:", "if False:", "Trail.test_files_in_use"),
+    Edit("service.py", "if status in LOOK_FIRST and status != IN_USE:", "if status in LOOK_FIRST:", "Trail.test_files_in_use_at_the_end"),
+    Edit("service.py", "if end.status == IN_USE and time.monotonic() < until:", "if end.status == IN_USE:", "Trail.test_files_in_use_for_long"),
     Edit("front.py", "signal.signal(signal.SIGCHLD, signal.SIG_DFL)", "pass", "Begin.test_ignored_signal"),
-    Edit("front.py", "Path(door.path).unlink(missing_ok=True)", "os.unlink(door.path)", "Begin.test_removed_socket"),
-    Edit("front.py", "if os.path.realpath(path) in seen:", "if False:", "Begin.test_twice"),
+    Edit("connections.py", "Path(self.path).unlink(missing_ok=True)", "os.unlink(self.path)", "Begin.test_removed_socket"),
+    Edit("front.py", "if os.path.realpath(door.path) in seen:", "if False:", "Begin.test_twice"),
     Edit("trail.py", "if it.returncode != IN_USE or", "if True or", "Trail.test_files_in_use"),
-    Edit("trail.py", "if new and new[0].number > self.last + 1:", "if False:", "Told.test_gap"),
-    Edit("trail.py", "if self.kept.get(record.number, record) != record:", "if False:", "Told.test_altered"),
-    Edit("trail.py", "if self.last >= 0 and (not held", "if False and (not held", "Told.test_begins_anew"),
-    Edit("trail.py", "            self.last = -1\n", "", "Told.test_begins_anew"),
-    Edit("trail.py", '"told": why, "follows": self.last}', '"told": why}', "Told.test_begins_anew"),
+    Edit("trail.py", "if new and new[0].number > last + 1:", "if False:", "Told.test_gap"),
+    Edit("trail.py", "if kept.get(record.number, record) != record:", "if False:", "Told.test_altered"),
+    Edit("trail.py", "if last >= 0 and (not held", "if False and (not held", "Told.test_begins_anew"),
+    Edit("trail.py", "            self.kept = Kept({}, -1, -1)\n", "", "Told.test_begins_anew"),
+    Edit("trail.py", '"told": why, "follows": self.kept.last}', '"told": why}', "Told.test_begins_anew"),
     Edit("trail.py", "        if not is_complete:", "        if sent and not is_complete:", "Told.test_others"),
     Edit("trail.py", "os.fsync(log)", "pass", "Told.test_synced"),
-    Edit("cca-front.service", "-g cca-officer", "-g cca-teller", "Unit.test_groups"),
-    Edit("cca-front.service", "-m 2750", "-m 2770", "Unit.test_groups"),
+    Edit("trail.py", "        if lost:\n", "        if False:\n", "Told.test_hole"),
+    Edit("trail.py", "-1 if are_all or lowest is None else lowest - 1)", "(lowest or 0) - 1)", "Told.test_hole"),
 ]
 
 
@@ -108,28 +112,30 @@ class Fronted(Case):
         (self.folder / "keys").mkdir()
         self.log = self.folder / "front.log"
 
-    def words(self, *options, keys="keys", sockets=ROLES, code=None):
-        named = [f"{self.folder / name}={name}" for name in sockets]
+    def words(self, *options, keys="keys", sockets=ROLES, code=None, is_new=True):
+        named = [f"{self.folder / name}={name}" for name in sockets] + ["--new"] * is_new
         front = ["-c", code] if code else [str(CLIENTS / "front.py")]
         return [sys.executable, "-B", *front, str(self.folder / keys), *named, *options]
 
-    def begin(self, *options, **named):
-        """Starts a front, and waits until it is ready."""
+    def begin(self, *options, log=None, **named):
+        """Starts a front, and waits until its log, which may be another than standard error, says that it is ready."""
+        self.log = log or self.folder / "front.log"
         self.log.unlink(missing_ok=True)
-        with open(self.log, "ab") as log:
-            it = subprocess.Popen(self.words(*options, **named), env={**os.environ, "CCA": self.stands, "PYTHONPATH": str(CLIENTS)}, stderr=log)
+        with open(self.folder / "front.log", "ab") as errors:
+            environment = {**os.environ, "CCA": self.stands, "PYTHONPATH": str(CLIENTS)}
+            it = subprocess.Popen(self.words(*options, **named), env=environment, stderr=errors)
         self.addCleanup(it.wait)
         self.addCleanup(it.kill)
         until = time.monotonic() + 60
-        while '"ready"' not in self.log.read_text() and it.poll() is None and time.monotonic() < until:
+        while not (self.log.exists() and '"ready"' in self.log.read_text()) and it.poll() is None and time.monotonic() < until:
             time.sleep(0.02)
         self.assertIsNone(it.poll(), self.log.read_text())
         return it
 
-    def refuses(self, tells, program=None, **named):
+    def refuses(self, tells, *options, program=None, **named):
         """A front that must not begin, and say why."""
         environment = {**os.environ, "CCA": str(program or self.stands), "PYTHONPATH": str(CLIENTS)}
-        it = subprocess.run(self.words(**named), env=environment, stderr=subprocess.PIPE, text=True, timeout=60)
+        it = subprocess.run(self.words(*options, **named), env=environment, stderr=subprocess.PIPE, text=True, timeout=60)
         self.assertEqual(it.returncode, 1, it.stderr)
         self.assertIn(tells, json.loads(it.stderr.splitlines()[-1])["text"])
 
@@ -281,7 +287,7 @@ class Crowd(Fronted):
         self.comes(lambda: any(children_of(front.pid)))
         self.is_serving()
         self.assertEqual(asked(self.folder / "TELLER", "A stub=ends7 K"), [""])
-        self.assertEqual(front.wait(30), 1)
+        self.assertEqual(front.wait(30), front_program.Status.LOOK)
         self.assertIn("status 7", self.told()[-1]["text"])
 
 
@@ -341,7 +347,7 @@ class Begin(Fronted):
         ignored = "import front, signal, sys; signal.signal(signal.SIGCHLD, signal.SIG_IGN); sys.exit(front.main())"
         front = self.begin(code=ignored)
         self.assertEqual(asked(self.folder / "TELLER", "A stub=ends7 K"), [""])
-        self.assertEqual(front.wait(30), 1)
+        self.assertEqual(front.wait(30), front_program.Status.LOOK)
         self.assertIn("status 7", self.told()[-1]["text"])
 
     def test_the_program_itself(self):
@@ -423,7 +429,7 @@ class Known(unittest.TestCase):
     def test_verbs(self):
         """The verbs that the front knows are those of the table."""
         rows = json.loads((TOP / "clients" / "verbs.json").read_text())["rows"]
-        self.assertEqual(front_program.VERBS, {it["verb"] for it in rows})
+        self.assertEqual(VERBS, {it["verb"] for it in rows})
 
 
 class Told(unittest.TestCase):
@@ -465,6 +471,37 @@ class Told(unittest.TestCase):
         self.assertEqual(self.fetch(7, 9, "DE"), ["records 3 to 6 are missing"])
         self.assertEqual([it["told"] for it in self.lines() if "told" in it], ["records 3 to 6 are missing"])
         self.assertEqual(self.numbers(), [0, 1, 2, 7, 8])
+
+    def test_hole(self):
+        """Zeros in the place of a block of the last lines, which a machine that lost its power leaves: no record is missing in the
+        end, and it is told. So too where the log was renamed before, and begins with the number that it follows."""
+        for follows, first in ((False, 0), (False, 150), (True, 150)):
+            for at in (0.0, 0.3, 0.6):
+                with self.subTest(follows=follows, first=first, at=at):
+                    self.log.unlink(missing_ok=True)
+                    self.fetch(0, first, "A" * first)
+                    if follows:
+                        self.log.unlink()
+                        self.log.write_text(json.dumps({"follows": first - 1}) + "\n")
+                    begins = self.log.stat().st_size if self.log.exists() else 0
+                    self.fetch(0, 300, "A" * (300 - first))
+                    hole = begins + int(at * (self.log.stat().st_size - begins))
+                    with open(self.log, "r+b") as log:
+                        log.seek(hole)
+                        log.write(bytes(512))
+                    self.assertRegex(self.fetch(0, 310, "A" * 10)[0], r"the log has lost \d+ records, the first of them number \d+")
+                    lines = [json.loads(line) for line in self.log.read_text().splitlines() if "\0" not in line]
+                    logged = {it["number"] for it in lines if "number" in it}
+                    self.assertEqual(logged, set(range(310)))
+                    self.assertEqual(self.fetch(0, 312, "AA"), [])
+
+    def test_long_log(self):
+        """Of a log of which the end alone is read no record is taken for lost."""
+        self.fetch(0, 3, "ABC")
+        self.addCleanup(setattr, trail, "TAIL", trail.TAIL)
+        trail.TAIL = self.log.stat().st_size - 20
+        self.assertEqual(self.fetch(0, 5, "DE"), [])
+        self.assertEqual(self.numbers(), list(range(5)))
 
     def test_late(self):
         self.assertEqual(self.fetch(5, 9, "ABCD"), ["records 0 to 4 are missing"])
@@ -586,8 +623,8 @@ class Trail(Fronted):
 
     def test_fetched_in_time(self):
         """The trail is fetched after so many requests, here 50 in place of half of what it holds: each has its record, with its time."""
-        self.assertLess(front_program.FETCH_AFTER, HELD)
-        it = self.begin("--audit", str(self.kept), code="import front, sys; front.FETCH_AFTER = 50; sys.exit(front.main())")
+        self.assertLess(FETCH_AFTER, HELD)
+        it = self.begin("--audit", str(self.kept), code="import front, service, sys; service.FETCH_AFTER = 50; sys.exit(front.main())")
         with ThreadPoolExecutor(2) as clients:
             came = list(clients.map(self.ask_many, (120, 90), ("TELLER", "OFFICER")))
         self.assertEqual([len(replies) for replies in came], [1, 1])
@@ -667,7 +704,7 @@ class Trail(Fronted):
     def test_files_in_use_for_long(self):
         """The same for longer than the front tries."""
         self.in_use("$1 = run")
-        self.refuses("status 11", code="import front, sys; front.IN_USE_SECONDS = 0.3; sys.exit(front.main())")
+        self.refuses("status 11", code="import front, service, sys; service.IN_USE_SECONDS = 0.3; sys.exit(front.main())")
 
     def test_front_killed(self):
         """What a front that is killed hasn't fetched the next one does, without the times, and tells so."""
@@ -729,24 +766,38 @@ def children_of(process):
 class Unit(Case):
     """The unit of systemd: who may be a teller is no officer."""
 
-    def folders(self):
-        """The folders that the unit makes, each with its mode and group; and the folders of its sockets."""
-        text = UNIT.read_text()
-        made = re.findall(r"(?m)^ExecStartPre=\+\S*install -d -m (\d+) -o cca -g (\S+) (\S+)$", text)
-        sockets = re.findall(r"(/\S+)/\w+=[A-Z]+", text.partition("ExecStart=")[2])
-        return {folder: (mode, group) for mode, group, folder in made}, sockets
+    def words(self, name):
+        """What the unit says by this word."""
+        return re.findall(rf"(?m)^{name}=(.*)$", UNIT.read_text())
 
-    def test_groups(self):
-        made, sockets = self.folders()
-        self.assertGreaterEqual(len(sockets), 2)
-        self.assertEqual(sorted(made), sorted(sockets))
-        self.assertEqual({mode for mode, _ in made.values()}, {"2750"})
-        self.assertEqual(len({group for _, group in made.values()}), len(sockets))
+    def test_folders(self):
+        """The service has no folder in which it could put a link where root changes a folder: root alone makes them, by prepare.py, and
+        the front serves the roles of the same file."""
+        self.assertEqual(self.words("RuntimeDirectory"), [])
+        prepare, front = self.words("ExecStartPre") + self.words("ExecStart")
+        self.assertRegex(prepare, r"^\+.*/prepare\.py /etc/cca/front\.conf$")
+        self.assertRegex(front, r"/front\.py --config /etc/cca/front\.conf$")
+        self.assertEqual(self.words("ReadWritePaths"), ["/run/cca"])
+
+    def test_ends(self):
+        """A front that asks for a look isn't started again, and SIGHUP comes to it when it is reloaded."""
+        self.assertEqual(self.words("Restart"), ["on-abnormal"])
+        self.assertEqual(self.words("RestartPreventExitStatus"), [str(int(front_program.Status.LOOK))])
+        self.assertEqual(self.words("ExecReload"), ["/bin/kill -HUP $MAINPID"])
+
+    def test_installed(self):
+        """The files that the unit's first lines install are all that its commands need."""
+        listed = re.findall(r"(?m)^#   install .*/usr/local/lib/cca (.*)$", UNIT.read_text())
+        for file in " ".join(listed).split():
+            shutil.copy(CLIENTS / file, self.folder)
+        for program in ("front.py", "prepare.py"):
+            words = [sys.executable, "-I", "-B", "-c", f"import runpy, sys; sys.path.insert(0, '.'); runpy.run_path({program!r})"]
+            it = subprocess.run(words, cwd=self.folder, capture_output=True, text=True)
+            self.assertEqual((it.returncode, it.stderr), (0, ""))
 
     @unittest.skipUnless(os.getuid() == 0, "who may connect is tried by root")
     def test_who_may_connect(self):
-        """The unit's folders, with users and groups by number: the front's user is in neither group."""
-        made, _ = self.folders()
+        """Folders as root makes them, with users and groups by number: the front's user is in neither group."""
         for folder in (*self.folder.parents, self.folder):
             if folder.is_relative_to(tempfile.gettempdir()) and folder != Path(tempfile.gettempdir()):
                 folder.chmod(0o711)
@@ -755,11 +806,11 @@ class Unit(Case):
         stub.chmod(0o755)
         keys.mkdir(mode=0o700)
         os.chown(keys, 54001, 54001)
-        for number, (folder, (mode, _)) in enumerate(made.items()):
-            path = self.folder / Path(folder).name
+        for number, role in enumerate(("teller", "officer")):
+            path = self.folder / role
             path.mkdir()
             os.chown(path, 54001, 54010 + number)
-            path.chmod(int(mode, 8))
+            path.chmod(MODE)
             sockets.append(path / "socket")
         front = as_user(54001, 54001, lambda: served(stub, keys, sockets))
         self.addCleanup(os.waitpid, front, 0)
@@ -801,7 +852,7 @@ def served(program, keys, sockets):
     """Runs the front in this process."""
     os.dup2(os.open(os.devnull, os.O_WRONLY), 2)
     os.environ["CCA"] = str(program)
-    sys.argv = ["front.py", str(keys), *[f"{it}=TELLER" for it in sockets]]
+    sys.argv = ["front.py", "--new", str(keys), *[f"{it}=TELLER" for it in sockets]]
     front_program.main()
 
 
