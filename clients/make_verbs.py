@@ -4,7 +4,7 @@
     make_verbs.py [--check]
 
 Verbs, fields and their values come from the grammar of crates/verb_script; rules, replies, access control points, key types and
-exit statuses from docs/VERBS.md. With --check no file is written: it tells those that aren't what would be made.
+exit statuses from docs/VERBS.md; the version of the package for Python from docs/CHANGES.md. With --check no file is written: it tells those that aren't what would be made.
 """
 import ast
 import json
@@ -281,6 +281,13 @@ def python_rows(made):
     yield from ["}", f"TYPES = {tuple(it['name'] for it in made['types'])!r}"]
 
 
+def python_version():
+    """The version as a module of the package for Python: the first one of docs/CHANGES.md, as the package of the system has it."""
+    newest = re.search(r"(?m)^## ([0-9][0-9.]*)", (TOP / "docs" / "CHANGES.md").read_text())[1]
+    yield '"""The version. Made by clients/make_verbs.py from docs/CHANGES.md."""'
+    yield f"VERSION = {newest!r}"
+
+
 def completion(made):
     """The completion of the words of the program, for bash."""
     words = [it.split() for it in made["commands"]]
@@ -296,11 +303,15 @@ def async_methods(verbs):
     for method in tree.body:
         if not isinstance(method, ast.FunctionDef) or method.name.startswith("_") or method.name in ("ask", "as_role"):
             continue
+        signature = f"async def {method.name}({ast.unparse(method.args)}) -> {ast.unparse(method.returns)}:"
+        if method.decorator_list:  # a form of the method, by what its arguments are
+            yield from ["", "    @overload", f"    {signature} ..."]
+            continue
         given = [it.arg for it in method.args.args[1:]] + [f"{it.arg}={it.arg}" for it in method.args.kwonlyargs]
         given += [f"**{method.args.kwarg.arg}"] if method.args.kwarg else []
         told = (ast.get_docstring(method) or "").split("\n")[0]
         yield ""
-        yield f"    async def {method.name}({ast.unparse(method.args)}) -> {ast.unparse(method.returns)}:"
+        yield f"    {signature}"
         yield f'        """{told}"""'
         yield f"        return await self.run({', '.join([f'self.verbs.{method.name}', *given])})"
 
@@ -309,12 +320,12 @@ def python_async(verbs):
     """The module of the package for asyncio: the verbs."""
     yield '"""A method for each verb, for asyncio. Made by clients/make_verbs.py from verbs.py: a change belongs there."""'
     methods = [*async_methods(verbs)]
-    yield from ["from collections.abc import Callable, Iterable", "from typing import Any, Literal, TypeVar", ""]
+    yield from ["from collections.abc import Callable, Iterable", "from typing import Any, Literal, TypeVar, overload", ""]
     for it in ast.parse(verbs).body:
         if isinstance(it, ast.ImportFrom) and it.module == "values":
             it.names = [name for name in it.names if re.search(rf"\b{name.name}\b", "\n".join(methods))]
             yield ast.unparse(it)
-    yield "from .verbs import MacRule, Pad, Verbs"
+    yield "from .verbs import MacRule, Pad, PartRule, Verbs"
     yield from ["", 'T = TypeVar("T")', "", "", "class AsyncVerbs:"]
     yield from ['    """What waits for a verb: each method is that of Verbs of the same name."""', "", "    verbs: Verbs", ""]
     yield from ["    async def run(self, call: Callable[..., T], *given: Any, **named: Any) -> T:"]
@@ -330,6 +341,7 @@ def files(made):
     for path, lines in (
         (package / "rows.py", python_rows(made)),
         (package / "async_verbs.py", python_async(verbs)),
+        (package / "version.py", python_version()),
         (TOP / "clients" / "completion" / "cca", completion(made)),
     ):
         yield path, "".join(f"{line}\n" for line in lines)

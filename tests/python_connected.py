@@ -16,15 +16,14 @@ from tests.formats import chained, value
 from tests.harness import Case, Fault, limited
 from tests.python_library import DATA, DATA_16, DOUBLE, IV, SINGLE, STUB, Library
 from cca import AsyncCoprocessor, AsyncSocket, Ended, Label, Refused, Socket
-from cca.coprocessor import is_ready
 
 FAULTS = [Fault('"$CCA" "$@" | sed -u "s/^NO 04/NO 03/"', case="Fronted.test_roles", tells="3, '-'")]
 EDITS = [
     Edit("clients/python/cca/coprocessor.py", 'or reply.count(b"\\n") > 1', "", "Connected.test_out_of_step"),
     Edit("clients/python/cca/coprocessor.py", "if len(reply) >= LONGEST_REPLY:", "if False:", "Connected.test_out_of_step"),
-    Edit("clients/python/cca/coprocessor.py", "if self.connection and is_ready(", "if False and is_ready(", "Connected.test_ended_while_silent"),
-    Edit("clients/python/cca/coprocessor.py", "        with self.own_turn():\n            connection = self._connected()", "        if True:\n            connection = self._connected()", "Connected.test_threads"),
-    Edit("clients/python/cca/coprocessor.py", "                self._close()\n                error.add_note", "                error.add_note", "Connected.test_exception_in_the_midst"),
+    Edit("clients/python/cca/coprocessor.py", "self.connection.unasked() if self.connection and self.connection.is_waiting else \"\"", "None if self.connection else \"\"", "Connected.test_ended_while_silent"),
+    Edit("clients/python/cca/coprocessor.py", "return self.in_turn(lambda: self._reply(line))", "return self._reply(line)", "Connected.test_threads"),
+    Edit("clients/python/cca/coprocessor.py", "error.add_note(", "(", "Connected.test_exception_in_the_midst"),
     Edit("clients/python/cca/asynchronous.py", "run_in_executor(self.worker, ", "run_in_executor(None, ", "Waiting.test_order"),
 ]  # fmt: skip
 
@@ -156,7 +155,7 @@ class Connected(Case):
     def test_ended_while_silent(self):
         """A front ends connections that are silent: the next request connects again, and isn't in doubt."""
         self.assertEqual(self.socket.ask("A ends X"), "OK value=X")
-        self.assertTrue(is_ready(self.socket.connection, select.POLLIN, 60.0))
+        self.assertTrue(self.socket.connection.is_ready(select.POLLIN, 60.0))
         self.is_in_step()
         self.assertEqual(self.peer.connections, 2)
 

@@ -44,10 +44,10 @@ FAULTS = [
     Fault('"$CCA" "$@" | sed -u "s/^NO 21 key/NO 20 key/"', case="Moving.test_prohibited", tells="20, 'key'"),
 ]
 EDITS = [
-    Edit("clients/python/cca/verbs.py", 'found["match"] == "yes", is_old', 'found["match"] != "", is_old', "Using.test_mac"),
+    Edit("clients/python/cca/verbs.py", 'found["match"] == "yes", used_old_key', 'found["match"] != "", used_old_key', "Using.test_mac"),
     Edit("clients/python/cca/values.py", "return self.matches", "return True", "Using.test_mac"),
     Edit("clients/python/cca/verbs.py", '- (row == "csnbenc" and pad == "X9.23")', "", "Using.test_padded"),
-    Edit("clients/python/cca/verbs.py", "is_any_old or is_old", "is_old", "Masters.test_old_in_segments"),
+    Edit("clients/python/cca/verbs.py", "any_used_old_key or used_old_key", "used_old_key", "Masters.test_old_in_segments"),
     Edit("clients/python/cca/verbs.py", "        self._drop()\n        return Unexpected", "        return Unexpected", "Steps.test_unfitting"),
     Edit("clients/python/cca/verbs.py", "            self._drop()\n            raise", "            raise", "Steps.test_unfitting"),
     Edit("clients/python/cca/lines.py", "        if fault:\n            raise ValueError", "        if False:\n            raise ValueError", "Steps.test_values"),
@@ -144,7 +144,7 @@ class Using(Library):
         """A request by its row: the fields of the reply as they stand in it."""
         found = self.cca.request("csnbkyt", key="L:TEST.DATA")
         self.assertEqual(found, {"value": value(SINGLE)})
-        self.assertFalse(found.is_old)
+        self.assertFalse(found.used_old_key)
         for fields in ({}, {"key": "L:TEST.DATA", "text": "00"}, {"key": "L:TEST.DATA", "role": "DEFAULT"}):
             with self.assertRaises(TypeError):
                 self.cca.request("csnbkyt", **fields)
@@ -255,16 +255,16 @@ class Masters(Library):
         self.assertEqual(self.cca.master_key_process("CLEAR"), "empty")
         self.master_key(NEXT)
         token = self.cca.record_read("TEST.DATA")
-        self.assertFalse(self.cca.encipher(DATA, bytes(8), IV).is_old)
+        self.assertFalse(self.cca.encipher(DATA, bytes(8), IV).used_old_key)
         self.cca.master_key_process("SET")
-        self.assertTrue(self.cca.encipher(DATA, bytes(8), IV).is_old)
-        self.assertTrue(self.cca.mac_verify(Label("TEST.MACVER"), b"1", code(SINGLE, b"1")[1]).is_old)
-        self.assertTrue(self.cca.key_test(token).is_old)
-        self.assertTrue(self.cca.record_write("TEST.DATA", token).is_old)
-        self.assertTrue(self.cca.prohibit_export(DATA, to="TEST.DATA").is_old)
-        self.assertTrue(self.cca.key_generate("OPEX", 8, "DATA", "DATA", transport2=EXPORTER).is_old)
+        self.assertTrue(self.cca.encipher(DATA, bytes(8), IV).used_old_key)
+        self.assertTrue(self.cca.mac_verify(Label("TEST.MACVER"), b"1", code(SINGLE, b"1")[1]).used_old_key)
+        self.assertTrue(self.cca.key_test(token).used_old_key)
+        self.assertTrue(self.cca.record_write("TEST.DATA", token).used_old_key)
+        self.assertTrue(self.cca.prohibit_export(DATA, to="TEST.DATA").used_old_key)
+        self.assertTrue(self.cca.key_generate("OPEX", 8, "DATA", "DATA", transport2=EXPORTER).used_old_key)
         self.assertEqual(self.cca.reencipher(), len(self.module.keys) - 1)  # the one that was stored is current
-        self.assertFalse(self.cca.encipher(DATA, bytes(8), IV).is_old)
+        self.assertFalse(self.cca.encipher(DATA, bytes(8), IV).used_old_key)
 
     def test_old_in_segments(self):
         self.master_key(NEXT)
@@ -282,7 +282,7 @@ class Masters(Library):
         self.cca.ask = ask
         data = bytes(5000)
         came = self.cca.encipher(DATA, data, IV)
-        self.assertEqual((came, came.is_old), (chained(SINGLE, IV, data), True))
+        self.assertEqual((came, came.used_old_key), (chained(SINGLE, IV, data), True))
         self.assertEqual([it.endswith(" warn=old") for it in replies], [True, False])
 
     def test_staged(self):

@@ -6,13 +6,13 @@
         ciphertext = cca.encipher(Label("PAY"), b"Now is the time for all ", iv)
 """
 from .asynchronous import AsyncCoprocessor, AsyncSocket
-from .client import Ended
+from .client import Ended, Error, Status
 from .coprocessor import Coprocessor, Socket
 from .lines import Unexpected
 from .values import Data, Done, Fields, Generated, Key, Label, Parsed, Refused, Token, Verified
 from .verbs import Verbs
+from .version import VERSION as __version__
 
-__version__ = "1.0"
 __all__ = [
     "AsyncCoprocessor",
     "AsyncSocket",
@@ -20,6 +20,7 @@ __all__ = [
     "Data",
     "Done",
     "Ended",
+    "Error",
     "Fields",
     "Generated",
     "Key",
@@ -27,6 +28,7 @@ __all__ = [
     "Parsed",
     "Refused",
     "Socket",
+    "Status",
     "Token",
     "Unexpected",
     "Verbs",

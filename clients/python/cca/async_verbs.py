@@ -1,9 +1,9 @@
 """A method for each verb, for asyncio. Made by clients/make_verbs.py from verbs.py: a change belongs there."""
 from collections.abc import Callable, Iterable
-from typing import Any, Literal, TypeVar
+from typing import Any, Literal, TypeVar, overload
 
 from .values import Data, Done, Fields, Generated, Key, Label, Parsed, State, Token, Verified
-from .verbs import MacRule, Pad, Verbs
+from .verbs import MacRule, Pad, PartRule, Verbs
 
 T = TypeVar("T")
 
@@ -45,6 +45,15 @@ class AsyncVerbs:
         """Random_Number_Generate: 8 random bytes."""
         return await self.run(self.verbs.random, form)
 
+    @overload
+    async def clear_key_import(self, clear: bytes, to: None=None) -> Token: ...
+
+    @overload
+    async def clear_key_import(self, clear: bytes, to: str) -> Label: ...
+
+    @overload
+    async def clear_key_import(self, clear: bytes, to: str | None=None) -> Key: ...
+
     async def clear_key_import(self, clear: bytes, to: str | None=None) -> Key:
         """Clear_Key_Import: a DATA key of 8 clear bytes."""
         return await self.run(self.verbs.clear_key_import, clear, to)
@@ -53,13 +62,31 @@ class AsyncVerbs:
         """Key_Generate: a random key, in one or two tokens."""
         return await self.run(self.verbs.key_generate, form, length, type1, type2, transport1, transport2, to)
 
-    async def key_part_import(self, rule: Literal['FIRST', 'MIDDLE', 'LAST'], part: bytes, type: str | None=None, key: Key | None=None, to: str | None=None) -> Key:
+    @overload
+    async def key_part_import(self, rule: PartRule, part: bytes, type: str | None=None, key: Key | None=None, to: None=None) -> Token: ...
+
+    @overload
+    async def key_part_import(self, rule: PartRule, part: bytes, type: str | None=None, key: Key | None=None, *, to: str) -> Label: ...
+
+    @overload
+    async def key_part_import(self, rule: PartRule, part: bytes, type: str | None=None, key: Key | None=None, to: str | None=None) -> Key: ...
+
+    async def key_part_import(self, rule: PartRule, part: bytes, type: str | None=None, key: Key | None=None, to: str | None=None) -> Key:
         """Key_Part_Import: the first part of a key with its type, or a further part of a key."""
         return await self.run(self.verbs.key_part_import, rule, part, type, key, to)
 
     async def key_export(self, key: Key, transport: Key) -> Token:
         """Key_Export: the external token of a key under a transport key."""
         return await self.run(self.verbs.key_export, key, transport)
+
+    @overload
+    async def key_import(self, token: Token, transport: Key, to: None=None) -> Token: ...
+
+    @overload
+    async def key_import(self, token: Token, transport: Key, to: str) -> Label: ...
+
+    @overload
+    async def key_import(self, token: Token, transport: Key, to: str | None=None) -> Key: ...
 
     async def key_import(self, token: Token, transport: Key, to: str | None=None) -> Key:
         """Key_Import: a key from its external token under a transport key."""
@@ -68,6 +95,15 @@ class AsyncVerbs:
     async def key_translate(self, token: Token, transport1: Key, transport2: Key) -> Token:
         """Key_Translate: an external token under another transport key."""
         return await self.run(self.verbs.key_translate, token, transport1, transport2)
+
+    @overload
+    async def prohibit_export(self, key: Key, to: None=None) -> Token: ...
+
+    @overload
+    async def prohibit_export(self, key: Key, to: str) -> Label: ...
+
+    @overload
+    async def prohibit_export(self, key: Key, to: str | None=None) -> Key: ...
 
     async def prohibit_export(self, key: Key, to: str | None=None) -> Key:
         """Prohibit_Export: the same key, which can't be exported."""

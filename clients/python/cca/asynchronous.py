@@ -4,6 +4,7 @@ A task that is cancelled while its request is under way stops waiting, but the r
 next request waits until then. So no reply can be taken for that to another request.
 """
 import asyncio
+import os
 from collections.abc import Callable
 from concurrent.futures import ThreadPoolExecutor
 from functools import partial
@@ -11,6 +12,7 @@ from types import TracebackType
 from typing import Any, Self, TypeVar
 
 from .async_verbs import AsyncVerbs
+from .client import PATIENCE
 from .coprocessor import Coprocessor, Socket
 from .verbs import Verbs
 
@@ -38,8 +40,16 @@ class Waiting(AsyncVerbs):
 class AsyncCoprocessor(Waiting):
     """Coprocessor for asyncio, with the same arguments: `async with AsyncCoprocessor("folder") as cca:`."""
 
-    def __init__(self, *given: Any, **named: Any):
-        self.coprocessor = Coprocessor(*given, **named)
+    def __init__(
+        self,
+        folder: str | os.PathLike[str],
+        audit: bool = False,
+        *,
+        role: str = "DEFAULT",
+        program: str | os.PathLike[str] | None = None,
+        patience: float = PATIENCE,
+    ):
+        self.coprocessor = Coprocessor(folder, audit, role=role, program=program, patience=patience)
         super().__init__(self.coprocessor, ThreadPoolExecutor(1))
 
     async def close(self) -> int:
@@ -57,8 +67,8 @@ class AsyncCoprocessor(Waiting):
 class AsyncSocket(Waiting):
     """Socket for asyncio, with the same arguments: `async with AsyncSocket("teller.socket") as cca:`."""
 
-    def __init__(self, *given: Any, **named: Any):
-        self.socket = Socket(*given, **named)
+    def __init__(self, path: str | os.PathLike[str], patience: float = PATIENCE):
+        self.socket = Socket(path, patience)
         super().__init__(self.socket, ThreadPoolExecutor(1))
 
     async def close(self) -> None:

@@ -7,8 +7,10 @@ from types import TracebackType
 from typing import Self
 
 from . import client
-from .client import GLANCE, LONGEST_REPLY, PATIENCE, Broken, Ended, Turns, line_of
+from .client import CHUNK, GLANCE, HELD, LONGEST_REPLY, PATIENCE, Broken, Ended, Turns, line_of, text_of
 from .verbs import Verbs
+
+NOT_CARRIED_OUT = b"-- "  # what a front's own line begins with, where it asks cca no more
 
 
 class Coprocessor(client.Coprocessor, Verbs):
@@ -29,20 +31,105 @@ class Coprocessor(client.Coprocessor, Verbs):
         program: str | os.PathLike[str] | None = None,
         patience: float = PATIENCE,
     ):
-        name = os.fspath(program or os.environ.get("CCA", "cca"))
+        name = os.fspath(program) if program else os.environ.get("CCA", "cca")
         super().__init__(os.fspath(folder), name, "audit" if audit else "run", patience)
         self.role = role
 
     def _drop(self) -> None:
-        with self.own_turn():
-            if self.process:
-                self.ended("cca sent a reply that no such request gets", True)
+        self.in_turn(self._dropped)
+
+    def _dropped(self) -> None:
+        if self.process:
+            self.ended("cca sent a reply that no such request gets", True)
 
     def __enter__(self) -> Self:
         return self
 
     def __exit__(self, kind: type[BaseException] | None, error: BaseException | None, trace: TracebackType | None) -> None:
         self.close()
+
+
+class Connection:
+    """A connection to a front. It is closed in a child of fork, which has its own role, and not its parent's.
+
+    is_waiting: as that of a process: whether all that was asked has its reply.
+    """
+
+    def __init__(self) -> None:
+        self.owner, self.is_waiting = os.getpid(), False
+        self.socket = socket.socket(socket.AF_UNIX)
+        HELD.add(self)
+
+    def connect(self, path: str, patience: float) -> None:
+        """Connects, also where the front has so many connections that it takes no more for some time."""
+        until = time.monotonic() + patience
+        self.socket.setblocking(False)
+        while True:
+            try:
+                self.socket.connect(path)
+                break
+            except BlockingIOError:
+                if time.monotonic() >= until:
+                    raise Ended("the front took no connection in time", None, False) from None
+                time.sleep(GLANCE)
+        self.is_waiting = True
+
+    def unasked(self) -> str | None:
+        """What the front did that nobody asked: nothing is said where it ended the connection. None where it waits."""
+        if not self.is_ready(select.POLLIN, 0.0):
+            return None
+        self.is_waiting = False
+        try:
+            return "the front said what it wasn't asked" if self.socket.recv(1) else ""
+        except OSError:
+            return ""
+
+    def reply(self, line: bytes, patience: float) -> str:
+        """Sends a line and reads its reply."""
+        self.is_waiting = False
+        until = time.monotonic() + patience
+        self.send(line, until)
+        reply = self.receive(until)
+        if reply.startswith(NOT_CARRIED_OUT):
+            raise Ended("the front ends", None, False)
+        text = text_of(reply)
+        self.is_waiting = True
+        return text
+
+    def send(self, line: bytes, until: float) -> None:
+        """Sends a line."""
+        while line:
+            try:
+                line = line[self.socket.send(line, socket.MSG_NOSIGNAL) :]
+            except BlockingIOError:
+                if not self.is_ready(select.POLLOUT, until - time.monotonic()):
+                    raise Broken("the front took no request in time") from None
+
+    def receive(self, until: float) -> bytes:
+        """One whole line, and nothing behind it, without its newline."""
+        reply = b""
+        while b"\n" not in reply:
+            if len(reply) >= LONGEST_REPLY:
+                raise Broken("the front sent a reply without an end")
+            if not self.is_ready(select.POLLIN, until - time.monotonic()):
+                raise Broken("the front sent no reply in time")
+            chunk = self.socket.recv(CHUNK)
+            if not chunk:
+                raise Broken("the front ended the connection")
+            reply += chunk
+        if not reply.endswith(b"\n") or reply.count(b"\n") > 1:
+            raise Broken("the front said more than it was asked")
+        return reply[:-1]
+
+    def is_ready(self, event: int, seconds: float) -> bool:
+        """Whether an event comes within some seconds."""
+        poll = select.poll()
+        poll.register(self.socket, event)
+        return seconds >= 0 and bool(poll.poll(seconds * 1000))
+
+    def leave(self) -> None:
+        """Closes the connection."""
+        self.socket.close()
 
 
 class Socket(Turns, Verbs):
@@ -58,90 +145,60 @@ class Socket(Turns, Verbs):
     def __init__(self, path: str | os.PathLike[str], patience: float = PATIENCE):
         super().__init__()
         self.path, self.patience = os.fspath(path), patience
-        self.connection: socket.socket | None = None
-        self.connected_by: int | None = None
+        self.connection: Connection | None = None
 
     def owner(self) -> int | None:
-        return self.connected_by
+        connection = self.connection
+        return connection.owner if connection else None
 
     def ask(self, request: str) -> str:
         """The reply to one request. Ended is raised where there is none."""
         line = line_of(request)
-        with self.own_turn():
-            connection = self._connected()
-            try:
-                return self._reply(connection, line)
-            except (Broken, ConnectionError, UnicodeDecodeError) as error:
-                self._close()
-                raise Ended(str(error) or "the front ended the connection", None, True) from None
-            except BaseException as error:  # as KeyboardInterrupt, or what a signal handler raises
-                self._close()
-                error.add_note("the front was asked; what got no reply may have been carried out all the same")
-                raise
+        return self.in_turn(lambda: self._reply(line))
 
     def close(self) -> None:
         """Ends the connection. The next request connects again."""
-        with self.own_turn():
-            self._close()
+        self.in_turn(self._close)
 
-    def _connected(self) -> socket.socket:
+    def _reply(self, line: bytes) -> str:
+        """The reply to a line; on any other way out the connection has ended."""
+        connection = self._connected()
+        try:
+            return connection.reply(line, self.patience)
+        except Ended:
+            self._close()
+            raise
+        except (Broken, ConnectionError) as error:
+            self._close()
+            raise Ended(str(error) or "the front ended the connection", None, True) from None
+        except BaseException as error:  # as KeyboardInterrupt, or what a signal handler raises
+            self._close()
+            error.add_note("the front was asked; what got no reply may have been carried out all the same")
+            raise
+
+    def _connected(self) -> Connection:
         """A connection on which nothing is under way. One that the front has ended, since it was silent, is made anew."""
-        if self.connection and is_ready(self.connection, select.POLLIN, 0.0):
-            try:
-                unasked = self.connection.recv(1)
-            except OSError:
-                unasked = b""
+        unasked = self.connection.unasked() if self.connection and self.connection.is_waiting else ""
+        if unasked is not None:
             self._close()
             if unasked:
-                raise Ended("the front said what it wasn't asked", None, False)
-        if self.connection is None:
-            connection = socket.socket(socket.AF_UNIX)
-            try:
-                self._connect(connection)
-            except BaseException:
-                connection.close()
-                raise
-            self.connection, self.connected_by = connection, os.getpid()
-        return self.connection
+                raise Ended(unasked, None, False)
+        return self.connection or self._connect()
 
-    def _connect(self, connection: socket.socket) -> None:
-        """Connects, also where the front has so many connections that it takes no more for some time."""
-        until = time.monotonic() + self.patience
-        connection.setblocking(False)
-        while True:
-            try:
-                connection.connect(self.path)
-                break
-            except BlockingIOError:
-                if time.monotonic() >= until:
-                    raise Ended("the front took no connection in time", None, False) from None
-                time.sleep(GLANCE)
-        connection.setblocking(True)
-
-    def _reply(self, connection: socket.socket, line: bytes) -> str:
-        """Sends a line and reads its reply."""
-        until, reply = time.monotonic() + self.patience, b""
-        while line:
-            if not is_ready(connection, select.POLLOUT, until - time.monotonic()):
-                raise Broken("the front took no request in time")
-            line = line[connection.send(line, socket.MSG_DONTWAIT | socket.MSG_NOSIGNAL) :]
-        while b"\n" not in reply:
-            if len(reply) >= LONGEST_REPLY:
-                raise Broken("the front sent a reply without an end")
-            if not is_ready(connection, select.POLLIN, until - time.monotonic()):
-                raise Broken("the front sent no reply in time")
-            chunk = connection.recv(1 << 16)
-            if not chunk:
-                raise Broken("the front ended the connection")
-            reply += chunk
-        if not reply.endswith(b"\n") or reply.count(b"\n") > 1:
-            raise Broken("the front said more than it was asked")
-        return reply[:-1].decode("ascii")
+    def _connect(self) -> Connection:
+        """A new connection. It is ours before it is one, so that it isn't lost where this is broken off."""
+        connection = self.connection = Connection()
+        try:
+            connection.connect(self.path, self.patience)
+        except BaseException:
+            self._close()
+            raise
+        return connection
 
     def _close(self) -> None:
-        connection, self.connection, self.connected_by = self.connection, None, None
-        if connection:
-            connection.close()
+        if self.connection:
+            self.connection.leave()
+        self.connection = None
 
     _drop = close
 
@@ -150,10 +207,3 @@ class Socket(Turns, Verbs):
 
     def __exit__(self, kind: type[BaseException] | None, error: BaseException | None, trace: TracebackType | None) -> None:
         self.close()
-
-
-def is_ready(connection: socket.socket, event: int, seconds: float) -> bool:
-    """Whether an event comes within some seconds."""
-    poll = select.poll()
-    poll.register(connection, event)
-    return seconds >= 0 and bool(poll.poll(seconds * 1000))

@@ -3,6 +3,7 @@ import re
 from collections.abc import Callable, Iterator
 from typing import NamedTuple
 
+from .client import Error
 from .rows import POINTS, ROWS, TYPES, WARNING, Field, Row
 from .values import Refused
 
@@ -20,8 +21,9 @@ class Fault(NamedTuple):
     reason: str
 
 
-class Unexpected(Exception):
-    """A reply that no such request gets. What sent it is out of step, and isn't asked any more."""
+class Unexpected(Error):
+    """A reply that no such request gets. What sent it is out of step, and isn't asked any more. Nothing of the reply is told: it may
+    hold what was deciphered."""
 
 
 # ---- the values of fields
@@ -200,9 +202,10 @@ def fields_of(name: str, reply: str) -> tuple[dict[str, str], bool]:
     if refusal:
         raise Refused(int(refusal[1]), refusal[2])
     ok, *words = reply.split(" ")
-    is_old = words[-1:] == [WARNING]
-    pairs = [word.partition("=")[::2] for word in (words[:-1] if is_old else words)]
+    used_old_key = words[-1:] == [WARNING]
+    pairs = [word.partition("=")[::2] for word in (words[:-1] if used_old_key else words)]
     wanted = ROWS[name].reply
     if ok != "OK" or len(pairs) != len(wanted) or not all(it[0] in names for it, names in zip(pairs, wanted)):
-        raise Unexpected(f"no reply to {ROWS[name].verb}: {reply[:40]!r}")
-    return dict(pairs), is_old
+        told = " ".join(["OK", *("|".join(names) for names in wanted)])
+        raise Unexpected(f"{len(reply)} characters that are no reply to {ROWS[name].verb}: {told} is wanted")
+    return dict(pairs), used_old_key

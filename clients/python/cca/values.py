@@ -2,56 +2,61 @@
 from dataclasses import dataclass
 from typing import Literal, TypeAlias
 
+from .client import Error
 from .rows import RULES
 
 TOKEN_SIZE = 64
 
 
 class Label(str):
-    """A key under a label: Label("PAY"). Whether the text is a label is for cca to say, by rule 06."""
+    """A key under a label: Label("PAY"). Whether the text is a label is for cca to say, by rule 06.
 
-    is_old: bool
+    used_old_key: as that of Data, where the label is of a reply.
+    """
 
-    def __new__(cls, text: str, is_old: bool = False) -> "Label":
+    used_old_key: bool
+
+    def __new__(cls, text: str, used_old_key: bool = False) -> "Label":
         it = super().__new__(cls, text)
-        it.is_old = is_old
+        it.used_old_key = used_old_key
         return it
 
 
 class Data(bytes):
     """Bytes of a reply.
 
-    is_old: whether a key of the request is under the old master key. It still works, until the next SET.
+    used_old_key: whether a key of the request is under the old master key. It still works, until the next SET. It says nothing of
+    a key that the reply has: what token_change made of such a token is under the current master key.
     """
 
-    is_old: bool
+    used_old_key: bool
 
-    def __new__(cls, data: bytes, is_old: bool = False) -> "Data":
+    def __new__(cls, data: bytes, used_old_key: bool = False) -> "Data":
         it = super().__new__(cls, data)
-        it.is_old = is_old
+        it.used_old_key = used_old_key
         return it
 
 
 class Fields(dict[str, str]):
     """The fields of a reply by their names, as the reply has them.
 
-    is_old: as that of Data.
+    used_old_key: as that of Data.
     """
 
-    is_old: bool
+    used_old_key: bool
 
-    def __init__(self, fields: dict[str, str], is_old: bool = False):
+    def __init__(self, fields: dict[str, str], used_old_key: bool = False):
         super().__init__(fields)
-        self.is_old = is_old
+        self.used_old_key = used_old_key
 
 
 class Token(Data):
     """A key token: 64 bytes, an enciphered key with its control vector."""
 
-    def __new__(cls, data: bytes, is_old: bool = False) -> "Token":
+    def __new__(cls, data: bytes, used_old_key: bool = False) -> "Token":
         if len(data) != TOKEN_SIZE:
             raise ValueError(f"a key token has {TOKEN_SIZE} bytes, and not {len(data)}")
-        it = super().__new__(cls, data, is_old)
+        it = super().__new__(cls, data, used_old_key)
         assert isinstance(it, Token)
         return it
 
@@ -64,7 +69,7 @@ State: TypeAlias = Literal["empty", "partial", "full"]
 class Done:
     """The request was carried out, and its reply has nothing else."""
 
-    is_old: bool = False
+    used_old_key: bool = False
 
 
 @dataclass(frozen=True)
@@ -72,7 +77,7 @@ class Verified:
     """Whether a MAC matches: `if cca.mac_verify(..)` asks just that."""
 
     matches: bool
-    is_old: bool = False
+    used_old_key: bool = False
 
     def __bool__(self) -> bool:
         return self.matches
@@ -84,7 +89,7 @@ class Generated:
 
     first: Key
     second: Token | None = None
-    is_old: bool = False
+    used_old_key: bool = False
 
 
 @dataclass(frozen=True)
@@ -98,7 +103,7 @@ class Parsed:
     pattern: bytes
 
 
-class Refused(Exception):
+class Refused(Error):
     """The request was refused, and nothing was changed.
 
     rule: the number of the first rule that the request breaks. field: the field that breaks it, or `-`. text: the rule.
@@ -108,9 +113,6 @@ class Refused(Exception):
         self.rule, self.field, self.text = rule, field, sentence(rule, field)
         named = "" if field == "-" else f", field {field}"
         super().__init__(f"rule {rule:02}{named}: {self.text}")
-
-    def __reduce__(self) -> tuple[type["Refused"], tuple[int, str]]:
-        return Refused, (self.rule, self.field)
 
 
 def sentence(rule: int, field: str) -> str:

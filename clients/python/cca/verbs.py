@@ -1,7 +1,7 @@
 """A method for each verb, whatever carries the lines."""
 import re
 from collections.abc import Iterable, Iterator
-from typing import Literal, TypeAlias
+from typing import Literal, TypeAlias, overload
 
 from .lines import Unexpected, fields_of, request_line
 from .rows import LONGEST_SEGMENT, LONGEST_TEXT, POINTS, ROWS
@@ -9,6 +9,8 @@ from .values import TOKEN_SIZE, Data, Done, Fields, Generated, Key, Label, Parse
 
 Pad: TypeAlias = Literal["NONE", "X9.23"]
 MacRule: TypeAlias = Literal["X9.9-1", "X9.19OPT"]
+PartRule: TypeAlias = Literal["FIRST", "MIDDLE", "LAST"]
+STATES: tuple[State, ...] = ("empty", "partial", "full")
 CHAIN_SIZE = 16
 BYTES = re.compile("(?:[0-9a-f]{2})*")
 
@@ -55,26 +57,33 @@ class Verbs:
 
     def mac_generate(self, key: Key, data: bytes, rule: MacRule = "X9.9-1", length: Literal[4, 6, 8] = 4) -> Data:
         """MAC_Generate: the leftmost bytes of the MAC."""
-        found, is_old = self._segmented("csnbmgn", data, LONGEST_TEXT, {}, {"length": str(length)}, key=key_text(key), rule=rule)
-        return Data(self._bytes(found["mac"], length), is_old)
+        found, used_old_key = self._segmented("csnbmgn", data, LONGEST_TEXT, {}, {"length": str(length)}, key=key_text(key), rule=rule)
+        return Data(self._bytes(found["mac"], length), used_old_key)
 
     def mac_verify(self, key: Key, data: bytes, mac: bytes, rule: MacRule = "X9.9-1") -> Verified:
         """MAC_Verify: whether the bytes are the leftmost ones of the MAC."""
-        found, is_old = self._segmented("csnbmvr", data, LONGEST_TEXT, {}, {"mac": hexed(mac)}, key=key_text(key), rule=rule)
+        found, used_old_key = self._segmented("csnbmvr", data, LONGEST_TEXT, {}, {"mac": hexed(mac)}, key=key_text(key), rule=rule)
         if found["match"] not in ("yes", "no"):
             raise self._unexpected("neither yes nor no")
-        return Verified(found["match"] == "yes", is_old)
+        return Verified(found["match"] == "yes", used_old_key)
 
     def key_test(self, key: Key) -> Data:
         """Key_Test: the key check value (KCV), 4 bytes, of which most systems show the first 3."""
-        found, is_old = self._do("csnbkyt", key=key_text(key))
-        return Data(self._bytes(found["value"], 4), is_old)
+        found, used_old_key = self._do("csnbkyt", key=key_text(key))
+        return Data(self._bytes(found["value"], 4), used_old_key)
 
     def random(self, form: Literal["RANDOM", "ODD", "EVEN"] = "RANDOM") -> Data:
         """Random_Number_Generate: 8 random bytes."""
         return Data(self._bytes(self._do("csnbrng", form=form)[0]["random"], 8))
 
     # ---- making keys
+
+    @overload
+    def clear_key_import(self, clear: bytes, to: None = None) -> Token: ...
+    @overload
+    def clear_key_import(self, clear: bytes, to: str) -> Label: ...
+    @overload
+    def clear_key_import(self, clear: bytes, to: str | None = None) -> Key: ...
 
     def clear_key_import(self, clear: bytes, to: str | None = None) -> Key:
         """Clear_Key_Import: a DATA key of 8 clear bytes."""
@@ -96,17 +105,25 @@ class Verbs:
         given |= {"transport1": key_text(transport1), "transport2": key_text(transport2)}
         if to is not None or row != "csnbkgn_out":
             given["to"] = to_text(to)
-        found, is_old = self._do(row, **given)
-        second = self._token_of(found["token2"], is_old) if "token2" in found else None
-        return Generated(self._key(found, is_old, to, "token1"), second, is_old)
+        found, used_old_key = self._do(row, **given)
+        second = self._token_of(found["token2"], used_old_key) if "token2" in found else None
+        return Generated(self._key(found, used_old_key, to, "token1"), second, used_old_key)
+
+    @overload
+    def key_part_import(
+        self, rule: PartRule, part: bytes, type: str | None = None, key: Key | None = None, to: None = None
+    ) -> Token: ...
+    @overload
+    def key_part_import(
+        self, rule: PartRule, part: bytes, type: str | None = None, key: Key | None = None, *, to: str
+    ) -> Label: ...
+    @overload
+    def key_part_import(
+        self, rule: PartRule, part: bytes, type: str | None = None, key: Key | None = None, to: str | None = None
+    ) -> Key: ...
 
     def key_part_import(
-        self,
-        rule: Literal["FIRST", "MIDDLE", "LAST"],
-        part: bytes,
-        type: str | None = None,
-        key: Key | None = None,
-        to: str | None = None,
+        self, rule: PartRule, part: bytes, type: str | None = None, key: Key | None = None, to: str | None = None
     ) -> Key:
         """Key_Part_Import: the first part of a key with its type, or a further part of a key."""
         row = "csnbkpi_first" if rule == "FIRST" else "csnbkpi_middle"
@@ -118,6 +135,13 @@ class Verbs:
         """Key_Export: the external token of a key under a transport key."""
         return self._token("csnbkex", key=key_text(key), transport=key_text(transport))
 
+    @overload
+    def key_import(self, token: Token, transport: Key, to: None = None) -> Token: ...
+    @overload
+    def key_import(self, token: Token, transport: Key, to: str) -> Label: ...
+    @overload
+    def key_import(self, token: Token, transport: Key, to: str | None = None) -> Key: ...
+
     def key_import(self, token: Token, transport: Key, to: str | None = None) -> Key:
         """Key_Import: a key from its external token under a transport key."""
         return self._made("csnbkim", to, token=token_text(token), transport=key_text(transport))
@@ -126,6 +150,13 @@ class Verbs:
         """Key_Translate: an external token under another transport key."""
         transports = {"transport1": key_text(transport1), "transport2": key_text(transport2)}
         return self._token("csnbktr", token=token_text(token), **transports)
+
+    @overload
+    def prohibit_export(self, key: Key, to: None = None) -> Token: ...
+    @overload
+    def prohibit_export(self, key: Key, to: str) -> Label: ...
+    @overload
+    def prohibit_export(self, key: Key, to: str | None = None) -> Key: ...
 
     def prohibit_export(self, key: Key, to: str | None = None) -> Key:
         """Prohibit_Export: the same key, which can't be exported."""
@@ -177,10 +208,11 @@ class Verbs:
     ) -> State:
         """Master_Key_Process: enters a part, clears the new register, or sets the master key. The state of the new register."""
         row = {"CLEAR": "csnbmkp_clear", "SET": "csnbmkp_set"}.get(action, "csnbmkp_part")
-        state = self._do(row, action=action, part=None if part is None else hexed(part))[0]["new"]
-        if state not in ("empty", "partial", "full"):
-            raise self._unexpected("no state of a register")
-        return state
+        new = self._do(row, action=action, part=None if part is None else hexed(part))[0]["new"]
+        for state in STATES:
+            if state == new:
+                return state
+        raise self._unexpected("no state of a register")
 
     def role_define(self, name: str, points: int | Iterable[str]) -> Done:
         """Access_Control_Initialization: defines a role with access control points, by their sum or by their names."""
@@ -225,29 +257,29 @@ class Verbs:
             raise self._unexpected(f"a value that isn't {' or '.join(map(str, sizes))} bytes in hexadecimal digits")
         return bytes.fromhex(digits)
 
-    def _token_of(self, digits: str, is_old: bool) -> Token:
-        return Token(self._bytes(digits, TOKEN_SIZE), is_old)
+    def _token_of(self, digits: str, used_old_key: bool) -> Token:
+        return Token(self._bytes(digits, TOKEN_SIZE), used_old_key)
 
     def _token(self, row: str, **values: str | None) -> Token:
-        found, is_old = self._do(row, **values)
-        return self._token_of(found["token"], is_old)
+        found, used_old_key = self._do(row, **values)
+        return self._token_of(found["token"], used_old_key)
 
     def _made(self, row: str, to: str | None, **values: str | None) -> Key:
         return self._key(*self._do(row, to=to_text(to), **values), to, "token")
 
-    def _key(self, found: dict[str, str], is_old: bool, to: str | None, name: str) -> Key:
+    def _key(self, found: dict[str, str], used_old_key: bool, to: str | None, name: str) -> Key:
         """A key that was made: under its label, or else as its token."""
         if to is None and name in found:
-            return self._token_of(found[name], is_old)
+            return self._token_of(found[name], used_old_key)
         if to is not None and found.get("stored") == to:
-            return Label(to, is_old)
+            return Label(to, used_old_key)
         raise self._unexpected("a key that didn't go where it should")
 
     def _ciphered(self, row: str, key: Key, data: bytes, iv: bytes, pad: Pad) -> Data:
         data = as_bytes(data)
         longest = LONGEST_TEXT - (row == "csnbenc" and pad == "X9.23")  # padding must have room
-        found, is_old = self._segmented(row, data, longest, {"iv": hexed(iv)}, {"pad": pad}, key=key_text(key))
-        return Data(self._bytes(found["text"], *sizes_of_output(row, pad, len(data))), is_old)
+        found, used_old_key = self._segmented(row, data, longest, {"iv": hexed(iv)}, {"pad": pad}, key=key_text(key))
+        return Data(self._bytes(found["text"], *sizes_of_output(row, pad, len(data))), used_old_key)
 
     def _segmented(
         self, row: str, data: bytes, longest: int, first: dict[str, str], last: dict[str, str], **values: str | None
@@ -256,14 +288,14 @@ class Verbs:
         data = as_bytes(data)
         if len(data) <= longest:
             return self._do(row, text=hexed(data), **values, **first, **last)
-        more, outputs, is_any_old, found = first, list[str](), False, dict[str, str]()
+        more, outputs, any_used_old_key, found = first, list[str](), False, dict[str, str]()
         for name, segment in segments(data):
             values |= {"text": hexed(segment)}
-            found, is_old = self._do(f"{row}_{name}", **values, **more, **(last if name == "last" else {}))
+            found, used_old_key = self._do(f"{row}_{name}", **values, **more, **(last if name == "last" else {}))
             more = {} if name == "last" else {"chain": self._bytes(found["chain"], CHAIN_SIZE).hex()}
-            is_any_old = is_any_old or is_old
+            any_used_old_key = any_used_old_key or used_old_key
             outputs.append(found.get("text", ""))
-        return {**found, "text": "".join(outputs)}, is_any_old
+        return {**found, "text": "".join(outputs)}, any_used_old_key
 
 
 class InRole(Verbs):
