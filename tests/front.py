@@ -56,9 +56,9 @@ EDITS = [
     Edit("front.py", "is_silent = not connection.send() or bool(connection.unsent)", "is_silent = False", "Crowd.test_unread"),
     Edit("service.py", "            self.fetch()\n            self.hold_files()", "            self.fetch()", "TrailOfTheProgram.test_files_are_held"),
     Edit("service.py", "        self.fetch(is_in_doubt)\n        self.hold_files()", "        self.fetch(is_in_doubt)", "Crowd.test_no_reply"),
-    Edit("service.py", "if end.status == IN_USE and time.monotonic() < until:", "if False:", "Trail.test_files_in_use"),
+    Edit("clients/python/cca/client.py", "if end.status != IN_USE or time.monotonic() > until:", "if True:", "Trail.test_files_in_use"),
     Edit("service.py", "if status in LOOK_FIRST and status != IN_USE:", "if status in LOOK_FIRST:", "Trail.test_files_in_use_at_the_end"),
-    Edit("service.py", "if end.status == IN_USE and time.monotonic() < until:", "if end.status == IN_USE:", "Trail.test_files_in_use_for_long"),
+    Edit("clients/python/cca/client.py", "if end.status != IN_USE or time.monotonic() > until:", "if end.status != IN_USE:", "Trail.test_files_in_use_for_long"),
     Edit("front.py", "signal.signal(signal.SIGCHLD, signal.SIG_DFL)", "pass", "Begin.test_ignored_signal"),
     Edit("connections.py", "Path(self.path).unlink(missing_ok=True)", "os.unlink(self.path)", "Begin.test_removed_socket"),
     Edit("front.py", "if os.path.realpath(door.path) in seen:", "if False:", "Begin.test_twice"),
@@ -704,7 +704,7 @@ class Trail(Fronted):
     def test_files_in_use_for_long(self):
         """The same for longer than the front tries."""
         self.in_use("$1 = run")
-        self.refuses("status 11", code="import front, service, sys; service.IN_USE_SECONDS = 0.3; sys.exit(front.main())")
+        self.refuses("status 11", code="import front, client, sys; client.IN_USE_SECONDS = 0.3; sys.exit(front.main())")
 
     def test_front_killed(self):
         """What a front that is killed hasn't fetched the next one does, without the times, and tells so."""

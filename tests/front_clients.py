@@ -29,7 +29,6 @@ QUICKLY = "import front, sys; front.CROWDED = 0.5; sys.exit(front.main())"
 
 EDITS = [
     Edit("front.py", "if not connection.unsent and (was_sending or connection.has_line()):", "if True:", "Slow.test_bytes"),
-    Edit("front.py", "if not connection.unsent and (was_sending", "if (was_sending", "Slow.test_reply"),
     Edit("front.py", "if door.users[connection.uid] >= self.user_limit and", "if False and", "Users.test_turned_away"),
     Edit("front.py", "and not self.makes_room(door, connection.uid):", "and True:", "Users.test_silent"),
     Edit("front.py", "door.unused_since(until) if it.uid == uid)", "door.unused_since(until))", "Users.test_others"),
@@ -38,7 +37,7 @@ EDITS = [
     Edit("connections.py", "        self.socket.shutdown(socket.SHUT_RD)\n        while not", "        while not", "Last.test_line"),
     Edit("connections.py", "while not self.has_line() and self.receive():", "while False:", "Last.test_line"),
     Edit("front.py", "self.selector.register(self.watched[1], selectors.EVENT_READ, self.service)", "pass", "Ends.test_killed"),
-    Edit("service.py", "                else:\n                    had_ended = True", "                else:\n                    raise", "Ends.test_asked_again"),
+    Edit("service.py", "if end.in_doubt or end.status in LOOK_FIRST:", "if True:", "Ends.test_asked_again"),
     Edit("service.py", "raise Stop(str(end)) if end.status == IN_USE else Look(str(end))", "raise Stop(str(end))", "Ends.test_look"),
     Edit("service.py", "self.cca.began + LIVED - time.monotonic()", "0.0", "Ends.test_again_and_again"),
     Edit("service.py", "if end.status == IN_USE and self.is_patient():", "if False:", "Ends.test_files_in_use"),

@@ -120,7 +120,7 @@ class Front:
             self.selector.unregister(self.watched[1])
             self.watched = None
         if process and not self.watched:
-            self.watched = process, process.stdout.fileno()
+            self.watched = process, process.output()
             self.selector.register(self.watched[1], selectors.EVENT_READ, self.service)
 
     def happened(self, whose: object) -> None:

@@ -2,11 +2,11 @@
 import os
 import time
 
-from client import LOOK_FIRST, Coprocessor, Ended
+from client import IN_USE, IN_USE_PAUSE, IN_USE_SECONDS, LOOK_FIRST, Coprocessor, Ended, Process
 from connections import Stop
 from journal import Journal
 from settings import Settings
-from trail import HELD, IN_USE, IN_USE_PAUSE, IN_USE_SECONDS, TrailLog, TrailLost, now
+from trail import HELD, TrailLog, TrailLost, now
 
 LIVED = 1.0  # seconds after which cca that ended is started again at once
 FETCH_AFTER = HELD // 2  # requests after which the trail is fetched
@@ -25,12 +25,12 @@ class Cca(Coprocessor):
         super().__init__(folder, program, command)
         self.is_new, self.began = is_new, 0.0
 
-    def start(self) -> None:
+    def start(self) -> Process:
         for name in FILES:
             if not self.is_new and not os.path.exists(os.path.join(self.folder, name)):
                 raise Stop(f"{self.folder} has no {name}: --new is for a folder where no keys are yet")
         self.began = time.monotonic()
-        super().start()
+        return super().start()
 
 
 class Service:
@@ -66,26 +66,13 @@ class Service:
             raise
 
     def reply(self, request: str) -> str:
-        """The reply of cca. It is asked again where it had ended before it was asked, once, and for some seconds where another
-        program has the files: then it has taken no request."""
-        until, had_ended = time.monotonic() + IN_USE_SECONDS, False
-        while True:
-            try:
-                return self.cca.ask(request)
-            except Ended as end:
-                if end.in_doubt or (end.status in LOOK_FIRST and end.status != IN_USE):
-                    raise
-                if end.status == IN_USE and time.monotonic() < until:
-                    self.wait_for_files()
-                elif had_ended or end.status == IN_USE:
-                    raise
-                else:
-                    had_ended = True
-
-    def wait_for_files(self) -> None:
-        """Another program has the files for a while. cca took no request, and may be started again."""
-        time.sleep(IN_USE_PAUSE)
-        self.cca.last = None
+        """The reply of cca. It is asked once more where it had ended before it was asked."""
+        try:
+            return self.cca.ask(request)
+        except Ended as end:
+            if end.in_doubt or end.status in LOOK_FIRST:
+                raise
+        return self.cca.ask(request)
 
     def heed_end(self) -> None:
         """cca has ended, or said something, though nobody asked. It is started again: no other program shall get its files."""
@@ -93,7 +80,7 @@ class Service:
             self.hold_files()
         except Ended as end:
             if end.status == IN_USE and self.is_patient():
-                self.wait_for_files()
+                time.sleep(IN_USE_PAUSE)
                 return self.hold_files()
             self.journal.tell(event="cca ended", status=end.status, text=end.why)
             if end.status not in LOOK_FIRST:  # one that ends again and again keeps nobody busy

@@ -12,12 +12,11 @@ from collections.abc import Iterator
 from datetime import datetime, timezone
 from typing import NamedTuple
 
+from client import IN_USE, IN_USE_PAUSE, IN_USE_SECONDS
+
 HELD = 4096  # records that a trail keeps
 TAIL = 1 << 21  # bytes at the end of a log: as many records as a trail keeps need less
 PATIENCE = 60.0  # seconds for `cca trail`
-IN_USE = 11  # the exit status of cca where another program has its files
-IN_USE_SECONDS = 10.0  # until the other program must have ended, as a backup
-IN_USE_PAUSE = 0.1
 
 
 class TrailLost(Exception):
