@@ -189,7 +189,7 @@ class Crowd(Fronted):
         return it
 
     def test_two_hundred(self):
-        front = self.begin()
+        front = self.begin("--user-limit", "200")
         with ThreadPoolExecutor(200) as clients:
             bad = [clients.submit(self.bad, number) for number in range(60)]
             good = [clients.submit(self.good, number) for number in range(140)]
@@ -209,7 +209,7 @@ class Crowd(Fronted):
         soft, hard = resource.getrlimit(resource.RLIMIT_NOFILE)
         resource.setrlimit(resource.RLIMIT_NOFILE, (min(4096, hard), hard))
         self.addCleanup(resource.setrlimit, resource.RLIMIT_NOFILE, (soft, hard))
-        front = self.begin("--limit", "100")
+        front = self.begin("--limit", "100", "--user-limit", "100")
         silent, until = [], time.monotonic() + 3
         while len(silent) < 1014 and time.monotonic() < until:
             it = socket.socket(socket.AF_UNIX)
@@ -238,7 +238,7 @@ class Crowd(Fronted):
 
     def test_backlog(self):
         """A hundred connections at once, while the front waits for a reply: none is refused."""
-        front = self.begin()
+        front = self.begin("--user-limit", "100")
         slow = threading.Thread(target=asked, args=(self.folder / "OFFICER", "A stub=waits1500 K"))
         slow.start()
         time.sleep(0.5)

@@ -15,7 +15,7 @@ from pathlib import Path
 
 from tests.edits import CLIENTS, Edit, each_is_found
 from tests.front import ROLES, Fronted, as_user, asked, children_of, connected, files_of, front_program
-from tests.harness import Case, Fault
+from tests.harness import Case, Fault, limited
 from tests.keys import ONE_KEY
 
 from connections import NOT_CARRIED_OUT, Connection  # noqa: E402
@@ -147,7 +147,8 @@ class Users(Fronted):
         return came.startswith("OK")
 
     def test_turned_away(self):
-        """A further one is told that it won't be served; it is once there is a place, and at another socket at once. That is told once."""
+        """A further one is told that it won't be served; one is once there is a place, and at another socket at once. The log tells it
+        once, until there is a place."""
         self.begin("--limit", "9", "--user-limit", "3")
         held = [self.one() for _ in range(3)]
         self.assertEqual([self.served(it) for it in held], [True] * 3)
@@ -157,8 +158,9 @@ class Users(Fronted):
             held.pop().close()
             self.comes(lambda: self.served(self.one()))
         self.assertEqual([self.served(it) for it in held], [True])
+        self.assertFalse(self.served(self.one()))
         told = [it for it in self.told() if it.get("event") == "turned away"]
-        self.assertTrue(1 <= len(told) <= 3, told)
+        self.assertTrue(2 <= len(told) <= 3, told)
         self.assertEqual({(it["uid"], it["role"]) for it in told}, {(os.getuid(), "TELLER")})
 
     def test_silent(self):
@@ -191,7 +193,8 @@ class Users(Fronted):
         child = as_user(54020, 54020, ask_twice)
         self.addCleanup(os.waitpid, child, 0)
         self.assertEqual(ours.recv(100), b"OK value=role=TELLER,K\n")
-        self.comes(lambda: self.served(self.one()) and all(it.recv(1, socket.MSG_DONTWAIT | socket.MSG_PEEK) == b"" for it in held[:1]))
+        self.assertEqual([self.served(it) for it in held], [True] * 3)  # so that his is the one that was silent longest
+        self.comes(lambda: self.served(self.one()))
         ours.send(b"1")
         self.assertEqual(ours.recv(100), b"OK value=role=TELLER,K\n")
         ours.send(b"1")
@@ -199,6 +202,10 @@ class Users(Fronted):
 
 class Last(Case):
     """What a client sends while the front ends its connection."""
+
+    def setUp(self):
+        super().setUp()
+        limited(self, 30)
 
     def test_line(self):
         """It is taken, or can't be sent; nothing is lost."""
