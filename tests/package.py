@@ -1,24 +1,60 @@
 """The package that tools/package/run makes: what is in it, installed into a root of its own; that its program answers its first example,
-that a program links with its library for C, and that its front serves; that it is removed without a trace; and the folder for an image.
+that a program links with its library for C, and that its front serves; the folder for an image. Then its scripts: what each does at
+each step of dpkg's, what an upgrade keeps, and what a removal leaves.
 """
+import functools
 import os
 import re
 import shutil
 import socket
 import subprocess
 import sys
+import tempfile
 import time
 import unittest
+from pathlib import Path
 
-from tests.harness import EXAMPLES, TOP, Case, Program
-from tests.install import is_built
+from tests.harness import EXAMPLES, TOP, Case, Program, scratch
+from tests.install import is_built, owner_of_memory
 
 FAULTS = []  # its faults are planted in the tool, by tests/planted.py
 TOOL = TOP / "tools/package/run"
 CLIENTS = TOP / "clients"
+UNIT = "usr/lib/systemd/system/cca-front.service"
+SETTINGS = "etc/cca/front.conf"
 
 
-class Package(Case):
+@functools.cache
+def made():
+    """The folder that the tool writes to, and how it ended."""
+    folder = Path(tempfile.mkdtemp(dir=scratch().name)) / "made"
+    return folder, subprocess.run([TOOL, folder], capture_output=True, text=True)
+
+
+def dpkg(root, *words):
+    """What dpkg does in a root. Scripts run without chroot, which they are told; what the package depends on isn't there."""
+    force = ["--force-not-root", "--force-script-chrootless", "--force-depends", "--force-unsafe-io"]
+    environment = {**os.environ, "PATH": f"{os.environ['PATH']}:/usr/sbin:/sbin"}
+    return subprocess.run(["dpkg", f"--root={root}", *force, *words], env=environment, capture_output=True, text=True)
+
+
+@functools.cache
+def installed(package):
+    """A root into which a package is installed."""
+    root = Path(tempfile.mkdtemp(dir=scratch().name)) / "root"
+    held = root / "var/lib/dpkg"
+    for name in ("info", "updates", "triggers"):
+        (held / name).mkdir(parents=True)
+    for name in ("status", "available"):
+        (held / name).touch()
+    (held / "info" / "format").write_text("1\n")
+    it = dpkg(root, "--install", package)
+    if it.returncode:
+        raise AssertionError(it.stderr)
+    return root
+
+
+class Packaged(Case):
     @classmethod
     def setUpClass(cls):
         super().setUpClass()
@@ -26,52 +62,60 @@ class Package(Case):
             raise unittest.SkipTest("dpkg or cc isn't installed")
         if not is_built():
             raise unittest.SkipTest("the program of this checkout isn't built")
-        cls.made = cls.shared / "made"
-        cls.said = subprocess.run([TOOL, cls.made], capture_output=True, text=True)
+        cls.made, cls.said = made()
         cls.package = next(cls.made.glob("*.deb"), None)
 
     def root(self):
         """A root of its own, into which the package is installed."""
-        root = self.folder / "root"
-        held = root / "var/lib/dpkg"
-        for name in ("info", "updates", "triggers"):
-            (held / name).mkdir(parents=True)
-        for name in ("status", "available"):
-            (held / name).touch()
-        (held / "info" / "format").write_text("1\n")
-        self.dpkg(root, "--install", self.package)
-        return root
+        return Path(shutil.copytree(installed(self.package), self.folder / "root", symlinks=True))
 
     def dpkg(self, root, *words):
-        """Scripts run without chroot, which they are told; what the package depends on isn't in this root."""
-        force = ["--force-not-root", "--force-script-chrootless", "--force-depends"]
-        environment = {**os.environ, "PATH": f"{os.environ['PATH']}:/usr/sbin:/sbin"}
-        it = subprocess.run(["dpkg", f"--root={root}", *force, *words], env=environment, capture_output=True, text=True)
+        it = dpkg(root, *words)
         self.assertEqual(it.returncode, 0, it.stderr)
+        return it.stdout
 
+    def left(self, root):
+        """The files of a root, but for those of dpkg itself."""
+        return sorted(str(it.relative_to(root)) for it in root.rglob("*") if it.is_file() and "var/lib/dpkg" not in str(it))
+
+    def next_version(self):
+        """The same package with another version number and another program."""
+        folder, package = self.folder / "next", self.folder / "next.deb"
+        subprocess.run(["dpkg-deb", "--raw-extract", self.package, folder], check=True)
+        control = folder / "DEBIAN" / "control"
+        control.write_text(re.sub(r"(?m)^(Version: .*)$", r"\1+next", control.read_text()))
+        with open(folder / "usr/bin/cca", "ab") as program:
+            program.write(b"next")
+        subprocess.run(["dpkg-deb", "--root-owner-group", "-Znone", "--build", folder, package], check=True, stdout=subprocess.DEVNULL)
+        return package
+
+
+class Package(Packaged):
     def test_what_is_made(self):
         self.assertEqual((self.said.returncode, self.said.stderr), (0, ""))
         self.assertEqual(self.said.stdout, f"package: {self.package}\npackage: {self.made / 'container'}\n")
         control = subprocess.run(["dpkg-deb", "--field", self.package], capture_output=True, text=True, check=True).stdout
         version = re.search(r"(?m)^## ([0-9.]+)$", (TOP / "docs" / "CHANGES.md").read_text())[1]
         self.assertIn(f"Package: cca\nVersion: {version}\n", control)
-        self.assertRegex(control, r"(?m)^Depends: libc6 \(>= 2\.[0-9]+\)(, libgcc-s1)?$")
+        self.assertRegex(control, r"(?m)^Depends: libc6 \(>= 2\.[0-9]+\)(, libgcc-s1)?, passwd$")
 
     def test_files(self):
         """Each file stands where Debian looks for it, with its mode and bytes."""
         root = self.root()
         found = {str(it.relative_to(root)): it.stat().st_mode & 0o777 for it in root.rglob("*") if it.is_file()}
         library = next(it for it in found if it.endswith("/libcca.a"))
-        wanted = {"usr/bin/cca": 0o755, "usr/lib/cca/front.py": 0o755, library: 0o644}
+        wanted = {"usr/bin/cca": 0o711, "usr/lib/cca/front.py": 0o755, "usr/lib/cca/prepare.py": 0o755, library: 0o644, SETTINGS: 0o644}
         wanted |= {f"usr/include/{name}": 0o644 for name in ("cca.h", "cca_client.h", "csnb.h")}
         wanted |= {f"usr/lib/{name}.d/cca.conf": 0o644 for name in ("sysusers", "tmpfiles")}
         wanted |= {f"usr/share/doc/cca/docs/{it.name}": 0o644 for it in (TOP / "docs").glob("*.md")}
         others = ["usr/share/man/man1/cca.1.gz", "usr/share/doc/cca/VERSION", "usr/share/doc/cca/examples/first.txt"]
-        wanted |= dict.fromkeys([*others, "usr/lib/cca/client.py", "usr/lib/systemd/system/cca-front.service"], 0o644)
+        others += [f"usr/lib/cca/{name}.py" for name in ("client", "settings", "trail")]
+        others += [f"usr/share/doc/cca/{name}" for name in ("copyright", "changelog.gz")]
+        wanted |= dict.fromkeys([*others, UNIT], 0o644)
         if (CLIENTS / "python").is_dir():
             wanted |= {"usr/lib/python3/dist-packages/cca/__init__.py": 0o644, "usr/share/bash-completion/completions/cca": 0o644}
         self.assertEqual({name: found.get(name) for name in wanted}, wanted)
-        self.assertEqual([name for name in found if "__pycache__" in name or ".git" in name], [])
+        self.assertEqual([name for name in found if "__pycache__" in name or "/." in name], [])
         self.assertEqual((root / "usr/bin/cca").read_bytes(), (TOP / "crates/cca/out/cca").read_bytes())
         version = (root / "usr/share/doc/cca/VERSION").read_text()
         self.assertRegex(version, r"\Acca [0-9.]+\ncommit ([0-9a-f]{40}(, with changes)?|unknown)\nproved and built with .+\n\Z")
@@ -81,6 +125,10 @@ class Package(Case):
         requests = (root / "usr/share/doc/cca/examples/first.txt").read_bytes()
         came = Program(root / "usr/bin/cca").run(self.folder, "run", given=requests)
         self.ends(came, 0, (EXAMPLES / "first.replies").read_text())
+
+    @unittest.skipUnless(os.geteuid() == 0, "only root can run it as another user")
+    def test_memory(self):
+        self.assertEqual(owner_of_memory(self, self.root() / "usr/bin/cca"), 0)
 
     def test_library(self):
         """A program is compiled with nothing but what the package has."""
@@ -113,54 +161,6 @@ class Package(Case):
             it.sendall(b"CSNBKRC label=A\n")
             self.assertEqual(it.recv(100), b"OK\n")
 
-    def test_unit(self):
-        """The unit names the paths of the package, and sysusers.d and tmpfiles.d each of its groups and folders."""
-        root = self.root()
-        unit = (root / "usr/lib/systemd/system/cca-front.service").read_text()
-        self.assertNotRegex(unit, "/usr/local/lib|ExecStartPre|RuntimeDirectory|useradd")
-        self.assertIn("\nReadWritePaths=/run/cca\n", unit)
-        users, folders = ((root / f"usr/lib/{name}.d/cca.conf").read_text() for name in ("sysusers", "tmpfiles"))
-        for name, role in re.findall(r"/run/cca/(\w+)/socket=(\w+)", unit):
-            self.assertIn(f"\ng cca-{name} -\n", users)
-            self.assertIn(f"\nd /run/cca/{name} 2750 cca cca-{name}\n", folders)
-            self.assertEqual(name.upper(), role)
-        self.assertEqual(len(re.findall(r"/run/cca/\w+/socket=", unit)), len(re.findall(r"(?m)^g ", users)))
-        if os.geteuid() == 0 and shutil.which("systemd-sysusers") and shutil.which("systemd-tmpfiles"):
-            (root / "etc").mkdir(exist_ok=True)
-            subprocess.run(["systemd-sysusers", f"--root={root}", "cca.conf"], capture_output=True, check=True)
-            subprocess.run(["systemd-tmpfiles", f"--root={root}", "--create", "cca.conf"], capture_output=True, check=True)
-            self.assertEqual((root / "run/cca/teller").stat().st_mode & 0o7777, 0o2750)
-        if shutil.which("systemd-analyze"):
-            words = ["systemd-analyze", "verify", "--man=no", root / "usr/lib/systemd/system/cca-front.service"]
-            it = subprocess.run(words, capture_output=True, text=True)
-            self.assertEqual([line for line in it.stderr.splitlines() if "cca-front.service" in line and "not executable" not in line], [])
-
-    def test_front_is_stopped(self):
-        """Where systemd runs, the front is stopped before the package is removed, and at no other step."""
-        script, log = self.folder / "prerm", self.folder / "asked"
-        subprocess.run(["dpkg-deb", "--control", self.package, self.folder / "control"], check=True)
-        script.write_text((self.folder / "control" / "prerm").read_text().replace("/run/systemd/system", str(self.folder)))
-        (self.folder / "systemctl").write_text(f'#!/bin/sh\necho "$@" >>{log}\nexit 1\n')  # as where the unit is masked
-        (self.folder / "systemctl").chmod(0o755)
-        for words, root, wanted in (
-            (["remove"], "", "disable --now cca-front.service\n"),
-            (["remove"], "/root", ""),
-            (["upgrade", "2.0"], "", ""),
-            (["failed-upgrade", "2.0"], "", ""),
-        ):
-            with self.subTest(words, root=root):
-                log.write_text("")
-                environment = {"PATH": f"{self.folder}:{os.environ['PATH']}", "DPKG_ROOT": root}
-                it = subprocess.run(["sh", script, *words], env=environment, capture_output=True, text=True)
-                self.assertEqual((it.returncode, it.stderr, log.read_text()), (0, "", wanted))
-
-    def test_removed(self):
-        """Nothing is left but what dpkg itself writes."""
-        root = self.root()
-        self.dpkg(root, "--purge", "cca")
-        left = [str(it.relative_to(root)) for it in root.rglob("*") if it.is_file() and "var/lib/dpkg" not in str(it)]
-        self.assertEqual(left, [])
-
     def test_image(self):
         """The folder for an image has all that its file copies, and the program."""
         folder = self.made / "container"
@@ -170,12 +170,255 @@ class Package(Case):
         self.assertRegex(text, r"(?m)^FROM debian:stable-slim$")
         self.assertRegex(text, r"(?m)^# +docker run .* --init ")
         self.assertEqual((folder / "cca").read_bytes(), (TOP / "crates/cca/out/cca").read_bytes())
-        self.assertEqual((folder / "cca").stat().st_mode & 0o777, 0o755)
+        self.assertEqual((folder / "cca").stat().st_mode & 0o777, 0o711)
 
     def test_words(self):
         for words in ([], ["a", "b"], ["--help"]):
             it = subprocess.run([TOOL, *words], capture_output=True, text=True)
             self.assertEqual((it.returncode, it.stderr), (2, "package: usage: tools/package/run FOLDER\n"))
+
+
+class Unit(Packaged):
+    """The unit of the package, with its settings, user and folders."""
+
+    def test_settings(self):
+        """What root prepares and the front reads is the operator's file, whose roles each have a group and a folder below /run/cca."""
+        root = self.root()
+        unit = (root / UNIT).read_text()
+        self.assertRegex(unit, r"(?m)^ExecStartPre=\+/usr/bin/python3 \S+ /usr/lib/cca/prepare.py /etc/cca/front.conf$")
+        self.assertRegex(unit, r"(?m)^ExecStart=/usr/bin/python3 \S+ /usr/lib/cca/front.py --config /etc/cca/front.conf$")
+        self.assertIn("\nReadWritePaths=/run/cca\n", unit)
+        self.assertNotRegex(unit, r"/usr/local/|RuntimeDirectory|useradd|\binstall\b")
+        words = [sys.executable, "-B", "-c", "import settings; print(settings.read_settings('etc/cca/front.conf'))"]
+        it = subprocess.run(words, cwd=root, env={"PYTHONPATH": "usr/lib/cca"}, capture_output=True, text=True)
+        self.assertIn("Settings(folder='/var/lib/cca', audit='/var/log/cca/trail.jsonl', log=None, program='cca',", it.stdout, it.stderr)
+        doors = re.findall(r"role='(\w+)', path='/run/cca/(\w+)/socket', group='cca-(\w+)'", it.stdout)
+        self.assertEqual(doors, [("TELLER", "teller", "teller"), ("OFFICER", "officer", "officer")])
+
+    def test_folder_of_sockets(self):
+        """It is root's: the service can't put a link in the place of a folder that root changes."""
+        text = (self.root() / "usr/lib/tmpfiles.d/cca.conf").read_text()
+        self.assertEqual(re.findall("(?m)^[^#].*$", text), ["d /run/cca 0755 root root"])
+        if os.geteuid() == 0 and shutil.which("systemd-tmpfiles"):
+            sockets = self.folder / "root/run/cca"
+            sockets.mkdir(mode=0o711, parents=True)
+            os.chown(sockets, 12345, 12345)  # as an earlier version of the package made it
+            (self.folder / "root/etc").mkdir(exist_ok=True)
+            subprocess.run(["systemd-tmpfiles", f"--root={self.folder / 'root'}", "--create", "cca.conf"], capture_output=True, check=True)
+            found = sockets.stat()
+            self.assertEqual((found.st_uid, found.st_gid, found.st_mode & 0o7777), (0, 0, 0o755))
+
+    def test_user(self):
+        """The user is the same, whether postinst makes it or the system at its start."""
+        root = self.root()
+        name, home = re.search('(?m)^u (\\w+) - ".*" (\\S+)$', (root / "usr/lib/sysusers.d/cca.conf").read_text()).groups()
+        self.assertNotRegex((root / "usr/lib/sysusers.d/cca.conf").read_text(), "(?m)^[gm] ")
+        self.assertEqual((name, home), ("cca", "/nonexistent"))
+        self.assertIn(f"\nUser={name}\n", (root / UNIT).read_text())
+
+    def test_verified(self):
+        if not shutil.which("systemd-analyze"):
+            self.skipTest("systemd isn't installed")
+        words = ["systemd-analyze", "verify", "--man=no", self.root() / UNIT]
+        it = subprocess.run(words, capture_output=True, text=True)
+        self.assertEqual([line for line in it.stderr.splitlines() if "cca-front.service" in line and "not executable" not in line], [])
+
+    def test_exposure(self):
+        """What the unit may do beside its work, by systemd's own measure: 0 is nothing, and 10 all."""
+        if not shutil.which("systemd-analyze"):
+            self.skipTest("systemd isn't installed")
+        words = ["systemd-analyze", "security", "--offline=yes", "--threshold=5", self.root() / UNIT]
+        it = subprocess.run(words, capture_output=True, text=True)
+        self.assertEqual(it.returncode, 0, it.stdout)
+
+
+class Scripts(Packaged):
+    """The scripts, at each step that Debian's policy has them called for, beside programs that only note how they are called."""
+
+    HELPERS = ("systemctl", "deb-systemd-invoke", "deb-systemd-helper", "systemd-tmpfiles", "getent", "groupadd", "useradd", "install")
+    RESTARTED = ["systemd-tmpfiles --create cca.conf", "systemctl --system daemon-reload", "deb-systemd-invoke try-restart cca-front.service"]
+
+    def setUp(self):
+        super().setUp()
+        self.system, self.programs, self.log = self.folder / "system", self.folder / "programs", self.folder / "called"
+        self.programs.mkdir()
+        self.path = f"{self.programs}:/usr/bin:/bin"
+        for name in self.HELPERS:
+            self.stands_in(name, 1)  # each fails: so nothing is told of a user, and no service ends a script
+        subprocess.run(["dpkg-deb", "--control", self.package, self.folder / "control"], check=True)
+
+    def stands_in(self, name, status):
+        (self.programs / name).write_text(f'#!/bin/sh\necho "{name} $*" >>{self.log}\nexit {status}\n')
+        (self.programs / name).chmod(0o755)
+
+    def called(self, script, *words, systemd=True, root=""):
+        """What a script calls, and what it says; its folders are those of this test."""
+        text = (self.folder / "control" / script).read_text().replace("/run/systemd/system", str(self.folder if systemd else self.folder / "none"))
+        for name in ("/var/lib/cca", "/var/log/cca", "/run/cca"):
+            text = text.replace(name, f"{self.system}{name}")
+        self.log.write_text("")
+        environment = {"PATH": self.path, "DPKG_ROOT": root, "DPKG_MAINTSCRIPT_PACKAGE": "cca"}
+        it = subprocess.run(["/bin/sh", "-c", text, script, *words], env=environment, capture_output=True, text=True)
+        self.assertEqual((it.returncode, it.stderr), (0, ""))
+        return self.log.read_text().splitlines(), it.stdout
+
+    def service(self, *words, **options):
+        """Of that, what is done with the service itself."""
+        return [it for it in self.called(*words, **options)[0] if it.startswith(("systemctl", "deb-systemd-invoke", "systemd-tmpfiles"))]
+
+    def test_service(self):
+        """It is restarted after an upgrade where it runs, stopped before a removal, and not touched at another step."""
+        for name in ("groupadd", "useradd", "install"):
+            self.stands_in(name, 0)
+        reload = "systemctl --system daemon-reload"
+        steps = [
+            (["postinst", "configure", ""], self.RESTARTED[:2]),
+            (["postinst", "configure", "1.0"], self.RESTARTED),
+            (["postinst", "abort-upgrade", "2.0"], []),
+            (["postinst", "abort-remove"], [reload, "deb-systemd-invoke start cca-front.service"]),
+            (["postinst", "abort-deconfigure", "in-favour", "other", "1.0"], []),
+            (["prerm", "remove"], ["deb-systemd-invoke stop cca-front.service"]),
+            (["prerm", "remove", "in-favour", "other", "1.0"], ["deb-systemd-invoke stop cca-front.service"]),
+            (["prerm", "upgrade", "2.0"], []),
+            (["prerm", "failed-upgrade", "1.0"], []),
+            (["prerm", "deconfigure", "in-favour", "other", "1.0"], []),
+            (["postrm", "remove"], [reload]),
+            (["postrm", "purge"], []),
+            (["postrm", "upgrade", "2.0"], []),
+            (["postrm", "failed-upgrade", "1.0"], []),
+            (["postrm", "abort-install"], []),
+            (["postrm", "abort-install", "1.0", "2.0"], []),
+            (["postrm", "abort-upgrade", "1.0", "2.0"], []),
+            (["postrm", "disappear", "other", "1.0"], []),
+        ]
+        for words, wanted in steps:
+            with self.subTest(words):
+                self.assertEqual(self.service(*words), wanted)
+                self.assertEqual(self.service(*words, systemd=False), [])
+                self.assertEqual(self.service(*words, root=str(self.folder / "root")), [])
+
+    def test_no_helpers(self):
+        """Where none of the programs of systemd is there."""
+        for name in self.HELPERS[:4]:
+            (self.programs / name).unlink()
+        for name in ("getent", "install"):
+            self.stands_in(name, 0)
+        for name in ("rm", "rmdir"):
+            (self.programs / name).symlink_to(shutil.which(name))
+        self.path = str(self.programs)
+        for words in (["postinst", "configure", ""], ["postinst", "configure", "1.0"], ["prerm", "remove"], ["postrm", "remove"], ["postrm", "purge"]):
+            with self.subTest(words):
+                self.called(*words, systemd=False)
+
+    def test_user(self):
+        """The user, its group and the folder of keys are made where they are missing, and else left as they are."""
+        for name in ("groupadd", "useradd", "install"):
+            self.stands_in(name, 0)
+        made = [it for it in self.called("postinst", "configure", "")[0] if it.startswith(("groupadd", "useradd", "install"))]
+        user = "useradd --system --gid cca --no-create-home --home-dir /nonexistent --shell /usr/sbin/nologin --comment CCA coprocessor in software cca"
+        self.assertEqual(made, ["groupadd --system cca", user, f"install -d -m 700 -o cca -g cca {self.system}/var/lib/cca"])
+        self.stands_in("getent", 0)
+        (self.system / "var/lib").mkdir(parents=True)
+        (self.system / "var/lib/cca").symlink_to("elsewhere")
+        self.assertEqual([it for it in self.called("postinst", "configure", "")[0] if it.startswith(("groupadd", "useradd", "install"))], [])
+
+    def test_unknown_step(self):
+        for script in ("postinst", "prerm", "postrm"):
+            it = subprocess.run(["sh", self.folder / "control" / script, "frobnicate"], capture_output=True, text=True)
+            self.assertEqual((it.returncode, it.stderr), (1, f"cca: {script} doesn't know frobnicate\n"))
+
+    def test_what_a_purge_leaves(self):
+        """Keys and logs, which are told; but no empty folder."""
+        for name in ("var/lib/cca", "var/log/cca", "run/cca/teller"):
+            (self.system / name).mkdir(parents=True)
+        (self.system / "var/lib/cca/cca.module").touch()
+        self.assertEqual(self.called("postrm", "remove")[1], "")
+        self.assertTrue((self.system / "var/log/cca").exists())
+        self.assertEqual(self.called("postrm", "purge")[1], f"cca: {self.system}/var/lib/cca is left, since it has keys\n")
+        left = sorted(str(it.relative_to(self.system)) for it in self.system.rglob("cca*"))
+        self.assertEqual(left, ["var/lib/cca", "var/lib/cca/cca.module"])
+
+
+class Upgrade(Packaged):
+    """The package over time, in a root of its own."""
+
+    ENABLED = "etc/systemd/system/multi-user.target.wants/cca-front.service"
+
+    def test_roles_are_kept(self):
+        root = self.root()
+        roles = (root / SETTINGS).read_text().replace("[role OFFICER]", "[role TREASURY]").replace("cca-officer", "cca-treasury")
+        (root / SETTINGS).write_text(roles)
+        self.dpkg(root, "--install", self.next_version())
+        self.assertEqual((root / SETTINGS).read_text(), roles)
+        self.assertTrue((root / "usr/bin/cca").read_bytes().endswith(b"next"))
+        self.dpkg(root, "--remove", "cca")
+        self.assertEqual((root / SETTINGS).read_text(), roles)
+        self.assertFalse((root / "usr/bin/cca").exists())
+        self.dpkg(root, "--install", self.package)
+        self.assertEqual((root / SETTINGS).read_text(), roles)
+
+    def test_enabled_unit(self):
+        """An administrator enables the unit, and it stays so until a purge."""
+        if not shutil.which("deb-systemd-helper"):
+            self.skipTest("deb-systemd-helper isn't installed")
+        root = self.root()
+        link = root / self.ENABLED
+        self.assertFalse(link.is_symlink())
+        link.parent.mkdir(parents=True)
+        link.symlink_to(f"/{UNIT}")
+        for words in (["--install", self.next_version()], ["--remove", "cca"], ["--install", self.package]):
+            self.dpkg(root, *words)
+            self.assertTrue(link.is_symlink(), words)
+        self.dpkg(root, "--purge", "cca")
+        self.assertFalse(link.is_symlink())
+
+    def test_removed(self):
+        """A removal leaves the settings alone, and a purge nothing but what dpkg itself writes."""
+        root = self.root()
+        self.dpkg(root, "--remove", "cca")
+        self.assertEqual([name for name in self.left(root) if "deb-systemd-helper" not in name], [SETTINGS])
+        self.dpkg(root, "--purge", "cca")
+        self.assertEqual(self.left(root), [])
+
+    def test_keys_are_left(self):
+        root = self.root()
+        (root / "var/lib/cca").mkdir()
+        (root / "var/lib/cca/cca.module").write_text("keys")
+        self.assertIn("cca: /var/lib/cca is left, since it has keys\n", self.dpkg(root, "--purge", "cca"))
+        self.assertEqual(self.left(root), ["var/lib/cca/cca.module"])
+
+
+class Policy(Packaged):
+    """What Debian's policy asks of a package."""
+
+    def test_no_errors(self):
+        if not shutil.which("lintian"):
+            self.skipTest("lintian isn't installed")
+        it = subprocess.run(["lintian", "--fail-on", "error", self.package], capture_output=True, text=True)
+        self.assertEqual(it.returncode, 0, it.stdout)
+
+    def test_checksums(self):
+        root = self.root()
+        info = root / "var/lib/dpkg/info"
+        self.assertEqual((info / "cca.conffiles").read_text(), f"/{SETTINGS}\n")
+        sums = (info / "cca.md5sums").read_text()
+        self.assertEqual(sorted(re.findall(r"(?m)^[0-9a-f]{32}  (.*)$", sums)), [name for name in self.left(root) if name.startswith("usr/")])
+        self.assertEqual(self.dpkg(root, "--verify", "cca"), "")
+        (root / "usr/lib/cca/front.py").write_text("")
+        self.assertRegex(self.dpkg(root, "--verify", "cca"), r"\A..5\S*\s+/usr/lib/cca/front.py\n\Z")
+
+    def test_changelog(self):
+        """Its versions are those of the page on changes."""
+        file = self.root() / "usr/share/doc/cca/changelog.gz"
+        text = subprocess.run(["gzip", "-dc", file], capture_output=True, text=True, check=True).stdout
+        versions = re.findall(r"(?m)^## ([0-9.]+)$", (TOP / "docs/CHANGES.md").read_text())
+        self.assertEqual(re.findall(r"(?m)^cca \((.*)\) unstable; urgency=medium$", text), versions)
+        if shutil.which("dpkg-parsechangelog"):
+            it = subprocess.run(["dpkg-parsechangelog", "--all", "-l", "-"], input=text, capture_output=True, text=True)
+            self.assertEqual((it.returncode, it.stderr), (0, ""))
+
+    def test_copyright(self):
+        self.assertIn("no licence yet", (self.root() / "usr/share/doc/cca/copyright").read_text())
 
 
 if __name__ == "__main__":

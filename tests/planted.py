@@ -95,8 +95,8 @@ EDITED = {
     ),
     "package": (
         [sys.executable, "-m", "unittest", "tests.package", "-k", "test_files"],
-        [Edit("tools/package/run", "put 755 usr/bin", "put 750 usr/bin")],
-        r"'usr/bin/cca': 488",
+        [Edit("tools/package/run", "put 711 usr/bin", "put 755 usr/bin")],
+        r"'usr/bin/cca': 493",
     ),
     "build": (["tools/build/run"], [Edit("bin/rt", WHOLE, BASH + "echo built")], "the program could not be built"),
     "build_again": (
