@@ -98,6 +98,16 @@ EDITED = {
         [Edit("tools/package/run", "put 711 usr/bin", "put 755 usr/bin")],
         r"'usr/bin/cca': 493",
     ),
+    "settings": (
+        [sys.executable, "-m", "unittest", "tests.settings", "-k", "Wrong.test_words"],
+        [Edit("examples/clients/settings.py", "if word not in known:", "if False:")],
+        "FAIL: test_words",
+    ),
+    "prepare": (
+        [sys.executable, "-m", "unittest", "tests.prepare", "-k", "AnyUser"],
+        [Edit("examples/clients/prepare.py", r"(?m)^    if not is_roots\(folder\):$", "    if False:")],
+        "FAIL: test_folder_of_settings",
+    ),
     "build": (["tools/build/run"], [Edit("bin/rt", WHOLE, BASH + "echo built")], "the program could not be built"),
     "build_again": (
         [sys.executable, "-m", "unittest", "tests.build"],

@@ -31,9 +31,8 @@ GROUPS = ("daemon", "nogroup")  # those of roles, which are there
 OTHER = 12345
 
 
-@unittest.skipUnless(os.geteuid() == 0, "root alone prepares")
 class Rooted(unittest.TestCase):
-    """A folder of root's, in which the folder run/cca is for sockets."""
+    """A folder, in which the folder run/cca is for sockets."""
 
     def setUp(self):
         folder = tempfile.TemporaryDirectory()
@@ -71,6 +70,16 @@ class Rooted(unittest.TestCase):
         self.assertRegex(it.stderr, rf"\Aprepare: {told}.*\n\Z")
 
 
+class AnyUser(Rooted):
+    def test_folder_of_settings(self):
+        """Settings in a folder of another user, who could put others there."""
+        if os.geteuid() == 0:
+            os.chown(self.folder, OTHER, OTHER)
+        self.refuses(f"{self.folder} can be written by others than root")
+        self.assertFalse(self.sockets.exists())
+
+
+@unittest.skipUnless(os.geteuid() == 0, "root alone prepares")
 class Prepared(Rooted):
     def test_folders(self):
         """They are made with those above them, and once more where they are there; what is in them stays."""
@@ -112,6 +121,7 @@ class Prepared(Rooted):
         self.assertNotIn("cca-of-a-test", [it.gr_name for it in grp.getgrall()])
 
 
+@unittest.skipUnless(os.geteuid() == 0, "root alone prepares")
 class Refusals(Rooted):
     def stays(self, path):
         """Notes a folder, which must be as it is when the test ends."""
@@ -173,7 +183,7 @@ class Refusals(Rooted):
         self.refuses(f"{self.sockets} has keys or logs")
 
     def test_settings_of_another(self):
-        """Settings that anyone but root may write, or could put there."""
+        """Settings that anyone but root may write."""
         it = self.settings
         os.chown(it, OTHER, OTHER)
         self.refuses(f"{it} is no file that root alone may write")
@@ -186,10 +196,6 @@ class Refusals(Rooted):
         self.refuses(f"{it} is no file that root alone may write")
         it.unlink()
         self.refuses(".*No such file")
-        (self.folder / "elsewhere").rename(it)
-        os.chown(self.folder, OTHER, OTHER)
-        self.refuses(f"{self.folder} can be written by others than root")
-        self.assertFalse(self.sockets.exists())
 
     def test_wrong_settings(self):
         self.settings.write_text(self.settings.read_text().replace("folder =", "folders ="))
