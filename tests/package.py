@@ -146,10 +146,14 @@ class Package(Packaged):
         self.assertEqual(pages, (TOP / "docs" / "cca.1").read_bytes())
 
     def test_front(self):
-        root, path = self.root(), self.folder / "socket"
+        """The front of the package serves, by a file of settings."""
+        root, path, settings = self.root(), self.folder / "socket", self.folder / "front.conf"
         (self.folder / "keys").mkdir()
-        words = [sys.executable, "-B", root / "usr/lib/cca/front.py", self.folder / "keys", f"{path}=DEFAULT"]
-        front = subprocess.Popen(words, env={**os.environ, "CCA": str(root / "usr/bin/cca")}, stderr=subprocess.DEVNULL)
+        self.ask((EXAMPLES / "start.txt").read_text().splitlines(), self.folder / "keys")
+        lines = f"[front]\nfolder = {self.folder}/keys\nprogram = {root}/usr/bin/cca\n"
+        settings.write_text(f"{lines}[role DEFAULT]\nsocket = {path}\ngroup = a\n")
+        words = [sys.executable, "-B", root / "usr/lib/cca/front.py", "--config", settings]
+        front = subprocess.Popen(words, stderr=subprocess.DEVNULL)
         self.addCleanup(front.wait)
         self.addCleanup(front.kill)
         until = time.monotonic() + 120
@@ -185,10 +189,10 @@ class Unit(Packaged):
         """What root prepares and the front reads is the operator's file, whose roles each have a group and a folder below /run/cca."""
         root = self.root()
         unit = (root / UNIT).read_text()
-        self.assertRegex(unit, r"(?m)^ExecStartPre=\+/usr/bin/python3 \S+ /usr/lib/cca/prepare.py /etc/cca/front.conf$")
-        self.assertRegex(unit, r"(?m)^ExecStart=/usr/bin/python3 \S+ /usr/lib/cca/front.py --config /etc/cca/front.conf$")
+        self.assertRegex(unit, r"(?m)^ExecStartPre=\+/usr/bin/env python3 -B /usr/lib/cca/prepare.py /etc/cca/front.conf$")
+        self.assertRegex(unit, r"(?m)^ExecStart=/usr/bin/env python3 -B /usr/lib/cca/front.py --config /etc/cca/front.conf$")
         self.assertIn("\nReadWritePaths=/run/cca\n", unit)
-        self.assertNotRegex(unit, r"/usr/local/|RuntimeDirectory|useradd|\binstall\b")
+        self.assertNotRegex(unit, r"(?m)/usr/local/|^RuntimeDirectory=|useradd|\binstall\b")
         words = [sys.executable, "-B", "-c", "import settings; print(settings.read_settings('etc/cca/front.conf'))"]
         it = subprocess.run(words, cwd=root, env={"PYTHONPATH": "usr/lib/cca"}, capture_output=True, text=True)
         self.assertIn("Settings(folder='/var/lib/cca', audit='/var/log/cca/trail.jsonl', log=None, program='cca',", it.stdout, it.stderr)
