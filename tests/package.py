@@ -4,6 +4,7 @@ each step of dpkg's, what an upgrade keeps, and what a removal leaves.
 """
 import functools
 import os
+import platform
 import re
 import shutil
 import socket
@@ -93,7 +94,8 @@ class Packaged(Case):
 class Package(Packaged):
     def test_what_is_made(self):
         self.assertEqual((self.said.returncode, self.said.stderr), (0, ""))
-        self.assertEqual(self.said.stdout, f"package: {self.package}\npackage: {self.made / 'container'}\n")
+        wheels = list(self.made.glob("*.whl"))
+        self.assertEqual(self.said.stdout, "".join(f"package: {it}\n" for it in (self.package, self.made / "container", *wheels)))
         control = subprocess.run(["dpkg-deb", "--field", self.package], capture_output=True, text=True, check=True).stdout
         version = re.search(r"(?m)^## ([0-9.]+)$", (TOP / "docs" / "CHANGES.md").read_text())[1]
         self.assertIn(f"Package: cca\nVersion: {version}\n", control)
@@ -104,12 +106,13 @@ class Package(Packaged):
         root = self.root()
         found = {str(it.relative_to(root)): it.stat().st_mode & 0o777 for it in root.rglob("*") if it.is_file()}
         library = next(it for it in found if it.endswith("/libcca.a"))
-        wanted = {"usr/bin/cca": 0o711, "usr/lib/cca/front.py": 0o755, "usr/lib/cca/prepare.py": 0o755, library: 0o644, SETTINGS: 0o644}
+        wanted = {"usr/bin/cca": 0o711, library: 0o644, SETTINGS: 0o644}
+        wanted |= {f"usr/lib/cca/{name}.py": 0o755 for name in ("ask", "client", "front", "prepare")}
         wanted |= {f"usr/include/{name}": 0o644 for name in ("cca.h", "cca_client.h", "csnb.h")}
         wanted |= {f"usr/lib/{name}.d/cca.conf": 0o644 for name in ("sysusers", "tmpfiles")}
         wanted |= {f"usr/share/doc/cca/docs/{it.name}": 0o644 for it in (TOP / "docs").glob("*.md")}
         others = ["usr/share/man/man1/cca.1.gz", "usr/share/doc/cca/VERSION", "usr/share/doc/cca/examples/first.txt"]
-        others += [f"usr/lib/cca/{name}.py" for name in ("client", "settings", "trail")]
+        others += [f"usr/lib/cca/{name}.py" for name in ("connections", "journal", "service", "settings", "trail")]
         others += [f"usr/share/doc/cca/{name}" for name in ("copyright", "changelog.gz")]
         wanted |= dict.fromkeys([*others, UNIT], 0o644)
         if (CLIENTS / "python").is_dir():
@@ -144,6 +147,18 @@ class Package(Packaged):
         self.assertEqual((came.returncode, came.stdout.count("return code 0")), (0, 3), came.stdout)
         pages = subprocess.run(["gzip", "-dc", root / "usr/share/man/man1/cca.1.gz"], capture_output=True, check=True).stdout
         self.assertEqual(pages, (TOP / "docs" / "cca.1").read_bytes())
+
+    def test_python(self):
+        """Python knows the version of its library, by the package and by the wheel beside it."""
+        if not (CLIENTS / "python" / "make_wheel.py").exists():
+            self.skipTest("this checkout has no wheel")
+        version = re.search(r"(?m)^## ([0-9.]+)$", (TOP / "docs" / "CHANGES.md").read_text())[1]
+        self.assertEqual([it.name for it in self.made.glob("*.whl")], [f"cca-{version}-py3-none-any.whl"])
+        packages = self.root() / "usr/lib/python3/dist-packages"
+        script = "import cca, importlib.metadata as it; print(it.version('cca'), [e.name for e in it.distribution('cca').entry_points])"
+        for path in (packages, next(self.made.glob("*.whl"))):
+            shown = subprocess.run([sys.executable, "-B", "-c", script], cwd=self.folder, env={"PYTHONPATH": path}, capture_output=True, text=True)
+            self.assertEqual(shown.stdout, f"{version} ['cca']\n", shown.stderr)
 
     def test_front(self):
         """The front of the package serves, by a file of settings."""
@@ -423,6 +438,86 @@ class Policy(Packaged):
 
     def test_copyright(self):
         self.assertIn("no licence yet", (self.root() / "usr/share/doc/cca/copyright").read_text())
+
+
+@unittest.skipUnless("CCA_DEBOOTSTRAP" in os.environ, "CCA_DEBOOTSTRAP names no folder, where a fresh Debian is fetched to and kept")
+class System(Packaged):
+    """The package in a fresh Debian without /proc, as dpkg runs the scripts there. What systemd is asked is noted."""
+
+    def setUp(self):
+        super().setUp()
+        kept = Path(os.environ["CCA_DEBOOTSTRAP"]).absolute() / "debian.tar"
+        self.system, self.asked = self.folder / "debian", self.folder / "debian" / "asked"
+        self.system.mkdir()
+        if not kept.exists():
+            fetched = self.folder / "fetched"
+            suite = platform.freedesktop_os_release()["VERSION_CODENAME"]
+            subprocess.run(["debootstrap", "--variant=minbase", "--include=python3", suite, fetched], check=True, stdout=subprocess.DEVNULL)
+            subprocess.run(["tar", "-C", fetched, "-cf", kept, "."], check=True)
+        subprocess.run(["tar", "-C", self.system, "-xpf", kept], check=True)
+        (self.system / "run/systemd/system").mkdir(parents=True)
+        systemctl = self.system / "usr/local/bin/systemctl"
+        systemctl.write_text('#!/bin/sh\necho "$*" >>/asked\n')
+        systemctl.chmod(0o755)
+        shutil.copy(self.package, self.system / "first.deb")
+        shutil.copy(self.next_version(), self.system / "next.deb")
+
+    def inside(self, *words, user="root", status=0, **options):
+        """What a command says in the system."""
+        environment = {"PATH": "/usr/local/bin:/usr/sbin:/usr/bin:/sbin:/bin", "DEBIAN_FRONTEND": "noninteractive"}
+        it = subprocess.run(["chroot", f"--userspec={user}", self.system, *words], env=environment, capture_output=True, text=True, **options)
+        self.assertEqual((it.returncode, it.stderr), (status, ""), it.stdout)
+        return it.stdout
+
+    def service(self, *words):
+        """What dpkg says, and what it asks of the service."""
+        self.asked.write_text("")
+        said = self.inside("dpkg", *words)
+        return said, [line for line in self.asked.read_text().splitlines() if "cca-front" in line]
+
+    def shown(self, path):
+        return self.inside("stat", "--format=%U:%G %a", path).strip()
+
+    def test_years(self):
+        """Installed, with roles of the operator's, in service, upgraded, removed, and purged."""
+        self.assertEqual(self.service("--install", "/first.deb")[1], [])
+        self.assertEqual(self.shown("/var/lib/cca"), "cca:cca 700")
+        self.assertEqual(self.shown("/usr/bin/cca"), "root:root 711")
+        self.inside("sh", "-c", "cd /var/lib/cca && cca run >/dev/null", user="cca", input=(EXAMPLES / "start.txt").read_text())
+        roles = (self.system / SETTINGS).read_text().replace("[role OFFICER]", "[role DEFAULT]").replace("officer", "default")
+        (self.system / SETTINGS).write_text(roles)
+        self.inside("/usr/bin/env", "python3", "-B", "/usr/lib/cca/prepare.py", "/etc/cca/front.conf")
+        self.assertEqual(self.shown("/run/cca"), "root:root 755")
+        self.assertEqual(self.shown("/run/cca/default"), "cca:cca-default 2750")
+        self.serves()
+        self.assertEqual(self.service("--install", "/next.deb")[1], ["try-restart cca-front.service"])
+        self.assertEqual((self.system / SETTINGS).read_text(), roles)
+        self.assertEqual(self.service("--remove", "cca")[1], ["stop cca-front.service"])
+        self.assertEqual((self.system / SETTINGS).read_text(), roles)
+        said, asked = self.service("--purge", "cca")
+        self.assertIn("cca: /var/lib/cca is left, since it has keys\n", said)
+        self.assertEqual(asked, [])
+        self.assertEqual(self.shown("/var/lib/cca/cca.module"), "cca:cca 600")
+        left = [name for name in ("etc/cca", "run/cca", "usr/lib/cca", "usr/share/doc/cca", "var/log/cca") if (self.system / name).exists()]
+        self.assertEqual(left, [])
+
+    def serves(self):
+        """The front serves whoever is in the group of a role, and nobody else."""
+        owner = (self.system / "var/lib/cca").stat()
+        (self.system / "var/log/cca").mkdir(mode=0o700)
+        os.chown(self.system / "var/log/cca", owner.st_uid, owner.st_gid)
+        words = ["chroot", "--userspec=cca:cca", self.system, "python3", "-B", "/usr/lib/cca/front.py", "--config", "/etc/cca/front.conf"]
+        front = subprocess.Popen(words, stderr=subprocess.DEVNULL)
+        self.addCleanup(front.wait)
+        self.addCleanup(front.kill)
+        ask = ["python3", "-B", "/usr/lib/cca/ask.py", "/run/cca/default/socket"]
+        self.assertEqual(self.inside(*ask, user="nobody:cca-default", input="CSNBKRC label=A\n"), "OK\n")
+        environment = {"PATH": "/usr/bin:/bin"}
+        others = ["chroot", "--userspec=nobody:nogroup", self.system, *ask, "--timeout", "5"]
+        it = subprocess.run(others, env=environment, input="CSNBKRC label=B\n", capture_output=True, text=True)
+        self.assertNotEqual((it.returncode, it.stdout), (0, "OK\n"))
+        front.terminate()
+        self.assertEqual(front.wait(120), 0)
 
 
 if __name__ == "__main__":
