@@ -3,6 +3,7 @@ import os
 import shutil
 import subprocess
 import unittest
+from pathlib import Path
 
 from tests.harness import EXAMPLES, TOP, Case, Program
 
@@ -17,7 +18,10 @@ def is_built():
 
 
 def owner_of_memory(test, program):
-    """Who may read the memory of a program that a user runs who isn't root: the owner of what /proc shows of it."""
+    """Who may read the memory of a program that a user runs who isn't root: the owner of what /proc shows of it. The kernel says root
+    where it also writes no core dump."""
+    if Path("/proc/sys/fs/suid_dumpable").read_text() == "1\n":
+        test.skipTest("this machine dumps what its users may not read")
     for folder in (test.folder, *test.folder.parents[:2]):
         folder.chmod(0o755)
     keys = test.folder / "keys of another user"
