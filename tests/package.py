@@ -442,7 +442,8 @@ class Policy(Packaged):
 
 @unittest.skipUnless("CCA_DEBOOTSTRAP" in os.environ, "CCA_DEBOOTSTRAP names no folder, where a fresh Debian is fetched to and kept")
 class System(Packaged):
-    """The package in a fresh Debian without /proc, as dpkg runs the scripts there. What systemd is asked is noted."""
+    """The package in a fresh Debian, as dpkg runs its scripts there: without /proc, and without systemd first. Then what systemd is asked
+    is noted."""
 
     def setUp(self):
         super().setUp()
@@ -455,18 +456,23 @@ class System(Packaged):
             subprocess.run(["debootstrap", "--variant=minbase", "--include=python3", suite, fetched], check=True, stdout=subprocess.DEVNULL)
             subprocess.run(["tar", "-C", fetched, "-cf", kept, "."], check=True)
         subprocess.run(["tar", "-C", self.system, "-xpf", kept], check=True)
-        (self.system / "run/systemd/system").mkdir(parents=True)
-        systemctl = self.system / "usr/local/bin/systemctl"
-        systemctl.write_text('#!/bin/sh\necho "$*" >>/asked\n')
-        systemctl.chmod(0o755)
+        for name in ("systemctl", "systemd-tmpfiles"):
+            program = self.system / "usr/local/bin" / name
+            program.write_text('#!/bin/sh\necho "$*" >>/asked\n')
+            program.chmod(0o755)
         shutil.copy(self.package, self.system / "first.deb")
         shutil.copy(self.next_version(), self.system / "next.deb")
 
-    def inside(self, *words, user="root", status=0, **options):
-        """What a command says in the system."""
+    def run_inside(self, *words, user="root", **options):
+        """Runs a command in the system."""
         environment = {"PATH": "/usr/local/bin:/usr/sbin:/usr/bin:/sbin:/bin", "DEBIAN_FRONTEND": "noninteractive"}
-        it = subprocess.run(["chroot", f"--userspec={user}", self.system, *words], env=environment, capture_output=True, text=True, **options)
-        self.assertEqual((it.returncode, it.stderr), (status, ""), it.stdout)
+        words = ["chroot", f"--userspec={user}", self.system, *words]
+        return subprocess.run(words, env=environment, capture_output=True, text=True, **options)
+
+    def inside(self, *words, **options):
+        """What a command says that succeeds there."""
+        it = self.run_inside(*words, **options)
+        self.assertEqual((it.returncode, it.stderr), (0, ""), it.stdout)
         return it.stdout
 
     def service(self, *words):
@@ -481,9 +487,10 @@ class System(Packaged):
     def test_years(self):
         """Installed, with roles of the operator's, in service, upgraded, removed, and purged."""
         self.assertEqual(self.service("--install", "/first.deb")[1], [])
+        (self.system / "run/systemd/system").mkdir(parents=True)
         self.assertEqual(self.shown("/var/lib/cca"), "cca:cca 700")
         self.assertEqual(self.shown("/usr/bin/cca"), "root:root 711")
-        self.inside("sh", "-c", "cd /var/lib/cca && cca run >/dev/null", user="cca", input=(EXAMPLES / "start.txt").read_text())
+        self.inside("sh", "-c", "cd /var/lib/cca && cca run >/dev/null 2>&1", user="cca", input=(EXAMPLES / "start.txt").read_text())
         roles = (self.system / SETTINGS).read_text().replace("[role OFFICER]", "[role DEFAULT]").replace("officer", "default")
         (self.system / SETTINGS).write_text(roles)
         self.inside("/usr/bin/env", "python3", "-B", "/usr/lib/cca/prepare.py", "/etc/cca/front.conf")
@@ -495,11 +502,11 @@ class System(Packaged):
         self.assertEqual(self.service("--remove", "cca")[1], ["stop cca-front.service"])
         self.assertEqual((self.system / SETTINGS).read_text(), roles)
         said, asked = self.service("--purge", "cca")
-        self.assertIn("cca: /var/lib/cca is left, since it has keys\n", said)
+        self.assertIn("cca: /var/lib/cca is left, since it has keys\ncca: /var/log/cca is left, since it has the log", said)
         self.assertEqual(asked, [])
         self.assertEqual(self.shown("/var/lib/cca/cca.module"), "cca:cca 600")
-        left = [name for name in ("etc/cca", "run/cca", "usr/lib/cca", "usr/share/doc/cca", "var/log/cca") if (self.system / name).exists()]
-        self.assertEqual(left, [])
+        names = ("etc/cca", "run/cca", "usr/lib/cca", "usr/share/doc/cca", "var/log/cca/trail.jsonl")
+        self.assertEqual([name for name in names if (self.system / name).exists()], ["var/log/cca/trail.jsonl"])
 
     def serves(self):
         """The front serves whoever is in the group of a role, and nobody else."""
@@ -512,10 +519,9 @@ class System(Packaged):
         self.addCleanup(front.kill)
         ask = ["python3", "-B", "/usr/lib/cca/ask.py", "/run/cca/default/socket"]
         self.assertEqual(self.inside(*ask, user="nobody:cca-default", input="CSNBKRC label=A\n"), "OK\n")
-        environment = {"PATH": "/usr/bin:/bin"}
-        others = ["chroot", "--userspec=nobody:nogroup", self.system, *ask, "--timeout", "5"]
-        it = subprocess.run(others, env=environment, input="CSNBKRC label=B\n", capture_output=True, text=True)
-        self.assertNotEqual((it.returncode, it.stdout), (0, "OK\n"))
+        it = self.run_inside(*ask, "--timeout", "5", user="nobody:nogroup", input="CSNBKRC label=B\n")
+        self.assertEqual((it.returncode, it.stdout), (1, ""))
+        self.assertIn("Permission denied", it.stderr)
         front.terminate()
         self.assertEqual(front.wait(120), 0)
 
