@@ -80,12 +80,14 @@ class Attacks(Case):
 
     def test_ciphertexts_read(self):
         """The ciphertext is OpenSSL's; the last line says how many requests it took and what was read."""
-        cipher = chained(KEY, IV, b"PIN=4711").hex()
-        for name, told in (("verifying-reads", r"Request 4712 .* PIN=4711\."), ("padding-oracle", r"8 of 256 .* '1'\.")):
+        for name, text, told in (
+            ("verifying-reads", b"PIN=0815", r"Request 816 .* PIN=0815\."),
+            ("padding-oracle", b"PIN=4711", r"8 of 256 .* '1'\."),
+        ):
             with self.subTest(name):
                 *_, asked, _, last = self.shown(name)
                 self.assertRegex(last, told)
-                self.assertIn(f"={cipher}", asked)
+                self.assertIn(f"={chained(KEY, IV, text).hex()}", asked)
 
     def test_check_values(self):
         """The check values that are shown, in their order."""
