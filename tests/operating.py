@@ -1,13 +1,16 @@
 """The scripts of examples/operating, and the backup of docs/OPERATING.md, whose commands are run as the page has them: a list of check
 values that is none of keys is noticed, and so is a backup that wasn't made. (`tools/commands/run` runs them where all is well.)
 """
+import contextlib
 import os
 import re
 import shutil
+import socket
 import subprocess
+import sys
 import unittest
 
-from tests.formats import image, joined, made, pattern
+from tests.formats import image, joined, made, pattern, value
 from tests.harness import EXAMPLES, TOP, Case, Coprocess, Fault
 from tests.keys import ONE_KEY
 
@@ -15,6 +18,7 @@ FAULTS = [Fault('"$CCA" "${@/audit/run}"', case="Scripts.test_parts_with_an_audi
 
 PAGE = (TOP / "docs" / "OPERATING.md").read_text()
 POINTS = "00080010"  # KYT and KRL
+DEFINED = [f"CSUAACI role=DEFAULT action=DEFINE name={it}" for it in ("ONE points=04110000", "TWO points=08210000")]
 ONE, TWO = made("one part", 24).hex(), made("another part", 24).hex()
 
 
@@ -23,19 +27,53 @@ def commands(*words):
     return list(dict.fromkeys(it for it in re.findall(r"(?m)^    \$ (.*)$", PAGE) if all(word in it for word in words)))
 
 
+class Asked:
+    """A connection to a socket of the front."""
+
+    def __init__(self, case, path):
+        self.socket = socket.socket(socket.AF_UNIX)
+        self.path = os.path.relpath(case.folder / "keys" / path)
+
+    def reply(self, request):
+        self.socket.sendall(f"{request}\n".encode())
+        return self.socket.makefile().readline()
+
+    def __enter__(self):
+        self.socket.connect(self.path)
+        return self
+
+    def __exit__(self, *_):
+        self.socket.close()
+
+
 class Operating(Case):
+    def setUp(self):
+        super().setUp()
+        path = self.folder / "bin"
+        path.mkdir()
+        (path / "cca").symlink_to(self.program.path)
+        (self.folder / "examples").symlink_to(EXAMPLES)
+        self.environment = {**os.environ, "PATH": f"{path}:{os.environ['PATH']}"}
+
     def shell(self, command, given="", folder=None, **environment):
         """Runs a command as the page's reader does, with `cca` on the path."""
-        path = self.folder / "bin"
-        if not path.exists():
-            path.mkdir()
-            (path / "cca").symlink_to(self.program.path)
-            (self.folder / "examples").symlink_to(EXAMPLES)
         keys = self.folder / (folder or "keys")
         keys.mkdir(exist_ok=True)
-        environment = {**os.environ, "PATH": f"{path}:{os.environ['PATH']}", **environment}
-        it = subprocess.run(["bash", "-c", command], cwd=keys, env=environment, input=given, capture_output=True, text=True)
+        options = {"cwd": keys, "env": {**self.environment, **environment}, "capture_output": True, "text": True}
+        it = subprocess.run(["bash", "-c", command], input=given, **options)
         return it.returncode, it.stdout, it.stderr
+
+    @contextlib.contextmanager
+    def front(self, *doors):
+        """A front over the keys, each door as SOCKET=ROLE, that serves meanwhile."""
+        words = [sys.executable, "-B", EXAMPLES / "clients" / "front.py", ".", *doors]
+        with subprocess.Popen(words, cwd=self.folder / "keys", env=self.environment, stderr=subprocess.PIPE, text=True) as it:
+            try:
+                if not any('"ready"' in line for line in it.stderr):
+                    self.fail("the front ended")
+                yield
+            finally:
+                it.terminate()
 
 
 class Scripts(Operating):
@@ -75,6 +113,25 @@ class Scripts(Operating):
                 self.assertEqual(self.cca("trail", folder=audited).lines[-1:], [record])
         self.assertFalse((plain / "cca.trail").exists())
 
+    def test_parts_by_sockets(self):
+        """The scripts that enter parts send them to a socket, beside a client that stays connected to another one."""
+        (self.folder / "keys").mkdir()
+        self.ask(DEFINED, self.folder / "keys")
+        with self.front("one.socket=ONE", "two.socket=TWO", "other.socket=DEFAULT"), Asked(self, "other.socket") as other:
+            for command, given, reply in (
+                ("enter-part.sh one.socket FIRST", ONE, "OK new=partial\n"),
+                ("enter-part.sh one.socket LAST", TWO, "NO 04 -\n"),
+                ("enter-part.sh two.socket LAST", TWO, "OK new=full\n"),
+                ("", "CSNBMKP action=SET", "OK new=empty\n"),
+                ("", "CSNBKRC label=KEY", "OK\n"),
+                ("enter-key-part.sh one.socket FIRST KEY MAC", ONE[:32], "OK stored=KEY\n"),
+                ("enter-key-part.sh two.socket LAST KEY", TWO[:32], "OK stored=KEY\n"),
+                ("", "CSNBKYT key=L:KEY", f"OK value={value(joined(bytes.fromhex(ONE[:32]), bytes.fromhex(TWO[:32])))}\n"),
+            ):
+                with self.subTest(command or given):
+                    came = self.shell(f"../examples/operating/{command}", f"{given}\n")[:2] if command else (0, other.reply(given))
+                    self.assertEqual(came, (0, reply))
+
     def test_module_that_cant_be_shown(self):
         """A plain line, and exit status 1."""
         for words, told in (
@@ -93,14 +150,15 @@ class Scripts(Operating):
 class Backup(Operating):
     def listed(self):
         """Lists the check values as the page does: what the command prints that checks the list."""
-        for command in (*commands("> tests"), *commands("< tests", "> values")):
-            self.shell(command)
+        with self.front("officer.socket=OFFICER"):
+            for command in (*commands("> tests"), *commands("< tests", "> values")):
+                self.shell(command)
         (check,) = commands("grep -c", "grep -v", " values")
         return self.shell(check)[1]
 
     def compared(self):
         """What the page's drill prints, over the files of the folder `restored`."""
-        (command,) = commands("cca run < ../keys/tests")
+        (command,) = commands("role=OFFICER /' ../keys/tests")
         return self.shell(command, folder="restored")[1]
 
     def made(self, points):
@@ -131,31 +189,54 @@ class Backup(Operating):
         self.made(POINTS)
         self.listed()
         self.assertRegex((self.folder / "keys" / "values").read_text(), r"\A(OK value=[0-9a-f]{6}\n){2}\Z")
-        for command in commands("cca run <", "> values") + commands("cca run <", "> file-values"):
+        for command in commands("< tests", "> values") + commands("cca run <", "> file-values"):
             self.assertIn("| cut -c 1-15 >", command)
 
     def test_list_of_refusals(self):
-        """A role that may not list labels or not test keys, and files that another run uses: told, and no drill finds keys."""
-        for points, is_used, told in (("00000010", False, "0\nNO 01 -\n"), ("00080000", False, "0\nNO 04 -\nNO 04 -\n"), (POINTS, True, "0\n")):
-            with self.subTest(points, is_used=is_used):
+        """A role that may not list labels or not test keys: told, and no drill finds keys."""
+        for points, told in (("00000010", "0\nNO 01 -\n"), ("00080000", "0\nNO 04 -\nNO 04 -\n")):
+            with self.subTest(points):
                 self.made(points)
-                with Coprocess(self.program, self.folder / "keys") as other:
-                    if is_used:
-                        other.ask("A")
-                    self.assertEqual(self.listed(), told)
+                self.assertEqual(self.listed(), told)
                 self.restored("cca.module")
                 self.assertEqual(self.compared(), "0 keys as before\n")
+
+    def test_replaced_key(self):
+        """The daily comparison finds a key that was replaced."""
+        self.made(POINTS)
+        self.listed()
+        (command,) = commands("officer.socket < tests", "diff - values && echo")
+        for requests, told in (([], r"\A2 keys as before\n\Z"), ([ONE_KEY[-1].replace("=01", "=11")], r"(?s)\A(?!.*as before).*\n< OK value=")):
+            self.ask(requests, self.folder / "keys")
+            with self.subTest(told), self.front("officer.socket=OFFICER"):
+                self.assertRegex(self.shell(command)[1], told)
+
+    def test_damaged_cell(self):
+        """A cell out of a backup, by the command in the page's text: the other labels stay as they are."""
+        self.made(POINTS)
+        self.listed()
+        keys = self.folder / "keys"
+        shutil.copy(keys / "cca.store", keys / "backup.store")
+        self.ask(["CSNBKRD role=DEFAULT label=A", "CSNBKRC role=DEFAULT label=C"], keys)
+        with open(keys / "cca.store", "r+b") as file:
+            file.seek(1536)
+            file.write(b"\xff" * 1536)
+        self.ends(self.cca("run", folder=keys), 3, err="cca: store cell 1 is damaged")
+        (command,) = re.findall(r"`(dd if=backup\.store .*)`", PAGE)
+        self.assertEqual(self.shell(command.replace("=N", "=1"))[0], 0)
+        self.replies([("CSNBKRL role=DEFAULT prefix=", "OK count=2 labels=B,C")], keys)
+        self.assertEqual(self.ask(["CSNBKYT role=OFFICER key=L:B"], keys)[0][:15], (keys / "values").read_text().split("\n")[1])
 
     @unittest.skipUnless(shutil.which("flock"), "flock isn't installed")
     def test_backup_while_a_run_uses_the_files(self):
         """No backup is made, and that is said; one that is there stays."""
         self.made(POINTS)
-        (command,) = commands("flock")
+        command = commands("flock", "tar")[0].replace("-w 65", "-w 0")
         archive = self.folder / "keys" / "backup.tar"
         archive.write_text("an older one")
         with Coprocess(self.program, self.folder / "keys") as other:
             other.ask("A")
-            self.assertEqual(self.shell(command)[1], "in use: no backup\n")
+            self.assertEqual(self.shell(command)[1], "no backup\n")
         self.assertEqual(archive.read_text(), "an older one")
         self.assertEqual(self.shell(command), (0, "", ""))
         self.assertNotEqual(archive.read_bytes()[:12], b"an older one")

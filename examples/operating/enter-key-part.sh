@@ -1,12 +1,13 @@
 #!/usr/bin/env bash
-# Asks for a part of a key, which isn't shown on the screen, and enters it under a label of the current folder's store:
-# enter-key-part.sh ROLE FIRST LABEL TYPE, and enter-key-part.sh ROLE MIDDLE|LAST LABEL. The part comes into no list of
-# commands, no list of processes and, in clear, into no file. `cca` must be on the path. With CCA_COMMAND=audit the request is
-# recorded in the audit trail.
+# Asks for a part of a key, and enters it under a label: enter-key-part.sh ROLE|SOCKET FIRST LABEL TYPE, and enter-key-part.sh
+# ROLE|SOCKET MIDDLE|LAST LABEL. With the socket of a front the part goes there, under the socket's role, while others are served; with
+# a role into the store of the current folder, by `cca`, which must be on the path (with CCA_COMMAND=audit the request is recorded in
+# the audit trail). The part isn't shown on the screen, and comes into no list of commands, no list of processes and, in clear, into no
+# file.
 set -euo pipefail
 ulimit -c 0
-role="$1" rule="$2" label="$3"
-[ "$rule" = FIRST ] && what="type=$4" || what="key=L:$label"
+. "$(dirname "$0")/asked.sh"
+[ "$2" = FIRST ] && what="type=$4" || what="key=L:$3"
 read -rsp "The part, 16 or 32 hexadecimal digits, which aren't shown: " part
 echo >&2
-printf 'CSNBKPI role=%s rule=%s %s part=%s to=L:%s\n' "$role" "$rule" "$what" "$part" "$label" | cca "${CCA_COMMAND:-run}"
+asked "$1" CSNBKPI "rule=$2" "$what" part="$part" to="L:$3"
