@@ -240,3 +240,18 @@ class Backup(Operating):
         self.assertEqual(archive.read_text(), "an older one")
         self.assertEqual(self.shell(command), (0, "", ""))
         self.assertNotEqual(archive.read_bytes()[:12], b"an older one")
+
+    @unittest.skipUnless(shutil.which("flock"), "flock isn't installed")
+    def test_backup_beside_an_audited_front(self):
+        """The page's command gets in when the front fetches the trail, and each request is answered all the same."""
+        self.made(POINTS)
+        keys = self.folder / "keys"
+        command = commands("flock", "tar")[0].replace("-w 65", "-w 250")
+        with self.front("officer.socket=OFFICER", "--audit", "log"), Asked(self, "officer.socket") as client:
+            client.reply("")
+            with subprocess.Popen(["bash", "-c", command], cwd=keys, env=self.environment, stdout=subprocess.PIPE, text=True) as backup:
+                while backup.poll() is None:
+                    self.assertEqual(client.reply(""), "NO 01 -\n")
+                self.assertEqual((backup.returncode, backup.stdout.read()), (0, ""))
+        self.assertEqual(self.shell("tar -xpf ../keys/backup.tar && cca run < /dev/null", folder="restored"), (0, "", ""))
+        self.assertEqual((self.folder / "restored" / "cca.store").read_bytes(), (keys / "cca.store").read_bytes())
