@@ -73,6 +73,11 @@ EDITED = {
         [Edit("docs/CRATES.md", "device_cells/the_selected_body_is_overwritten", "device_cells/the_selected_body")],
         "device_cells/the_selected_body is missing",
     ),
+    "links": (
+        ["tools/pages/run"],
+        [Edit("docs/OPERATING.md", r"\(#a-failing-disk\)", "(#a-failed-disk)")],
+        "OPERATING.md: the link #a-failed-disk leads nowhere",
+    ),
     "surface": (
         ["tools/surface/run"],
         [Edit("tools/surface/items", r"(?m)^(fn tvv\(.*\)) -> u32$", r"\1 -> u64")],
