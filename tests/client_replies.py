@@ -3,12 +3,14 @@ tests/stub/cca, which answers each line with a value of its own, and does what a
 import os
 import shutil
 import signal
+import socketserver
 import subprocess
 import sys
 import tempfile
 import threading
 import time
 import unittest
+from contextlib import contextmanager
 from pathlib import Path
 
 from tests.edits import CLIENTS, LIBRARIES, Edit, each_is_found
@@ -45,7 +47,14 @@ EDITS = [
     Edit("clients/c/cca_client.c", "    setsid();\n", "", "C.test_apart"),
     Edit("clients/c/cca_client.c", "if (ended < 0)", "if (ended < -1)", "C.test_lost_status"),
     Edit("clients/c/cca_client.c", "in_parent, in_child);", "in_parent, in_parent); (void)in_child;", "C.test_child_that_lives_on"),
-    Edit("clients/c/cca_client.c", "pthread_mutex_lock(&it->turn);\n    answer", "answer", "C.test_threads"),
+    Edit("clients/c/cca_client.c", "    pthread_mutex_lock(&it->turn);\n    return", "    return", "C.test_threads"),
+    Edit("clients/c/cca_client.c", "PTHREAD_CANCEL_DISABLE", "PTHREAD_CANCEL_ENABLE", "C.test_cancelled"),
+    Edit("clients/c/cca_client.c", "&& errno == EINTR) /* by a signal", "&& 0) /*", "C.test_interrupted"),
+    Edit("clients/c/cca_client.c", "if (errno != EINTR)\n            return -1;", "return -1;", "C.test_interrupted"),
+    Edit("clients/c/cca_client.c", "&& milliseconds() < until)\n        nap", "&& seconds-- > 0)\n        nap", "C.test_slow_end"),
+    Edit("clients/c/cca_client.c", "close_ours(it);\n        if", "if (it->from != it->to)\n            close_ours(it);\n        if", "C.test_child_of_a_connection"),
+    Edit("clients/c/cca_client.c", "            close_theirs(it);\n    }", "            ;\n    }", "C.test_child_beside_a_start"),
+    Edit("clients/c/cca_client.c", "writev(it->ends->to, line->parts, 2)", "writev(it->ends->to, line->parts, 1)", "C.test_calls"),
     Edit("clients/c/cca_client.c", "pthread_sigmask(SIG_BLOCK, &broken, &before);", "pthread_sigmask(SIG_BLOCK, NULL, &before);", "C.test_each"),
     Edit("clients/c/cca_client.c", "memchr(request, '\\n', length)", "0", "C.test_each"),
     Edit("client.c", "(size_t)length - 1, reply", 'strcspn(line, "\\n"), reply', "C.test_zero_byte"),
@@ -275,17 +284,36 @@ class C(unittest.TestCase):
         cls.addClassCleanup(folder.cleanup)
         cls.folder = Path(folder.name)
         words = ["cc", "-std=c99", "-D_GNU_SOURCE", "-Wall", "-Wextra", "-Werror", "-O", "-pthread", "-I", LIBRARIES / "c"]
-        for name, source in (("library", STUB / "library.c"), ("client", CLIENTS / "client.c")):
-            subprocess.run([*words, "-o", cls.folder / name, source, LIBRARIES / "c" / "cca_client.c"], check=True)
+        words += ["-U_FORTIFY_SOURCE"]  # which calls other functions than those that are interrupted
+        for name, sources in (("library", [STUB / "library.c", STUB / "calls.c"]), ("client", [CLIENTS / "client.c"])):
+            subprocess.run([*words, "-o", cls.folder / name, *sources, LIBRARIES / "c" / "cca_client.c", "-ldl"], check=True)
 
     def setUp(self):
         self.folders = [Path(tempfile.mkdtemp(dir=self.folder)) for _ in range(2)]
 
-    def says(self, what, given=""):
-        words = [self.folder / "library", what, STUB / "cca", *self.folders]
-        it = subprocess.run(words, input=given, stdout=subprocess.PIPE, stderr=subprocess.DEVNULL, text=True, timeout=90)
+    def says(self, what, given="", program=STUB / "cca"):
+        words = [self.folder / "library", what, program, *self.folders]
+        it = subprocess.run(words, input=given, stdout=subprocess.PIPE, stderr=subprocess.DEVNULL, text=True, timeout=200)
         self.assertEqual(it.returncode, 0)
         return it.stdout.splitlines()
+
+    @contextmanager
+    def answering(self):
+        """A socket that answers each line, as a front does."""
+
+        class Answers(socketserver.StreamRequestHandler):
+            def handle(self):
+                for line in self.rfile:
+                    self.wfile.write(b"OK value=" + line.split()[-1] + b"\n")
+
+        with socketserver.ThreadingUnixStreamServer(str(self.folders[0] / "socket"), Answers) as server:
+            thread = threading.Thread(target=server.serve_forever)
+            thread.start()
+            try:
+                yield
+            finally:
+                server.shutdown()
+                thread.join()
 
     def test_two_coprocessors(self):
         """One is stopped beside another one, which has none of its pipes."""
@@ -301,26 +329,63 @@ class C(unittest.TestCase):
         """A child has none of the pipes: cca ends with the input of its parent."""
         self.assertEqual(self.says("outlived"), ["0"])
 
+    def test_child_of_a_connection(self):
+        """A child of fork has no descriptor of a connection, over which it would ask under its parent's role; the parent goes on."""
+        with self.answering():
+            self.assertEqual(self.says("connected"), ["0 0"])
+
+    def test_child_beside_a_start(self):
+        """Another thread forks while cca is started: the child has none of the pipes, neither our ends nor those of cca."""
+        self.assertEqual(self.says("beside"), ["0 0"])
+
+    def test_cancelled(self):
+        """A thread that is cancelled while it asks leaves the client to the others."""
+        self.assertEqual(self.says("cancelled"), ["1 0"])
+
+    def test_interrupted(self):
+        """A signal in each call that one may cut short: three replies, and an end with status 0."""
+        self.assertEqual(self.says("interrupted"), ["0 0 0 0"])
+        with self.answering():
+            self.assertEqual(self.says("interrupted-socket"), ["0 0 0 0"])
+
+    def test_storm(self):
+        """Signals, up to one each 50 microseconds, beside thousands of requests: no reply is lost."""
+        self.assertEqual(self.says("storm"), ["0 0"])
+
+    def test_slow_end(self):
+        """Signals cut no wait short: cca has the time to end that it was given."""
+        self.assertEqual(self.says("closing"), ["0"])
+
+    def test_calls(self):
+        """A hundred requests: each is one write and one read, and is waited for twice: nothing may come before it, and then its reply."""
+        self.assertEqual(self.says("counted"), ["0 100 100 200"])
+        with self.answering():
+            self.assertEqual(self.says("counted", program="socket"), ["0 100 100 200"])
+
     def test_lost_status(self):
-        """Another one takes the status of cca: how it ended isn't known, and it may be that someone should look at the files."""
-        for how in ("ignored", "taken"):
-            self.assertEqual(self.says(how), ["3 2 128 0"])
+        """Another one has the status of cca: how it ended isn't known, and it may be that someone should look at the files."""
+        self.assertEqual(self.says("ignored"), ["3 2 128 0"])
+        self.assertEqual(self.says("taken"), ["2 2 128 0"])
 
     def test_apart(self):
         """cca has none of the program's descriptors and is in a session of its own, and other programs have none of its pipes."""
-        self.assertEqual(self.says("apart"), ["1 1 1 0"])
+        self.assertEqual(self.says("apart"), ["0 1 1 0"])
 
     def test_each(self):
-        """0 a reply, 1 no request, 2 not sent, 3 no reply."""
-        kinds = [("newline", "1 -"), ("A stub=deaf role=B D", "0 OK value=stub=deaf,D"), (own(1)[0], "3 -")]
-        kinds += [(own("", f"stub={how}")[0], "3 -") for how in ("half", "twice", "endless", "waits9000", "ends8")]
-        kinds += [(own("", "stub=ends10")[0], "2 -"), (own("", "stub=ends7")[0], "3 -")]
+        """0 a reply, 1 no request, 2 not sent, 3 no reply. Where none comes a second is waited for it, by a program that runs."""
+        kinds = [(100, "newline", "1 -"), (100, "A stub=deaf role=B D", "0 OK value=stub=deaf,D"), (1, own(1)[0], "3 -")]
+        kinds += [(1, own("", f"stub={how}")[0], "3 -") for how in ("half", "waits100000")]
+        kinds += [(100, own("", f"stub={how}")[0], "3 -") for how in ("twice", "endless", "ends8")]
+        kinds += [(100, own("", "stub=ends10")[0], "2 -"), (100, own("", "stub=ends7")[0], "3 -")]
         lines, wanted = [], []
-        for number, (request, came) in enumerate(kinds):
-            lines += [request, own(number + 10)[0]] if "deaf" not in request else [request]
-            wanted += [came, f"0 {own(number + 10)[1]}"] if "deaf" not in request else [came]
+        for number, (patience, request, came) in enumerate(kinds):
+            lines.append(f"{patience} {request}\n")
+            wanted.append(came)
+            if "deaf" not in request:
+                lines.append(f"100 {own(number + 10)[0]}\n")
+                wanted.append(f"0 {own(number + 10)[1]}")
         wanted[-1] = "2 -"  # behind an end after which someone should look first
-        self.assertEqual(self.says("each", "".join(f"{line}\n" for line in lines)), wanted)
+        self.assertEqual(self.says("each", "".join(lines)), wanted)
 
     def test_zero_byte(self):
         """The beginning of a line with a zero byte is no request."""
