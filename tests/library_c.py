@@ -6,20 +6,25 @@ import ctypes
 import json
 import os
 import re
+import select
+import shutil
 import signal
 import socket
+import stat
 import subprocess
 import sys
+import tempfile
 import time
 import unittest
 from concurrent.futures import ThreadPoolExecutor
+from pathlib import Path
 
 from tests.c_library import DONE, DOUBLE, ENDED, FIRST, IV, LAST, MASTER, MIDDLE, NEXT, SINGLE, SIZES, TRANSPORT, UNSAYABLE
 from tests.c_library import Cca, Generation, Library, Parsed, called, chained, code, data, declared, key_token, label, library, padded
 from tests.c_library import room, sanitized, told, token, vector
 from tests.edits import CLIENTS, LIBRARIES, Edit, each_is_found
 from tests.formats import as_part, closed, external, internal, joined, made, pattern, types, unique, value
-from tests.harness import TOP, Case, Fault
+from tests.harness import TOP, Case, Fault, scratch
 
 FAULTS = [Fault('"$CCA" "$@" | sed -u "s/match=no/match=yes/"', case="Verbs.test_macs", tells="1 != 0")]
 # Each takes away what one of these cases asks for.
@@ -35,6 +40,14 @@ EDITS = [
     Edit("clients/c/data.c", "#define LONGEST_SEGMENT 4088", "#define LONGEST_SEGMENT 4096", "Verbs.test_data"),
     Edit("clients/c/data.c", "is_old |= came.is_old;", "is_old = came.is_old & 0;", "Verbs.test_old"),
     Edit("clients/c/data.c", "exchange_wipe(it->out, it->out_length);", "", "Verbs.test_padding_that_isnt_one"),
+    Edit("clients/c/exchange.c", "            exchange_wipe(bytes, at / 2);\n", "", "Errors.test_bad_digit"),
+    Edit("clients/c/exchange.c", "    exchange_wipe(bytes, came);\n", "", "Errors.test_bad_digit"),
+    Edit("clients/c/exchange.c", "!cca_rule(rule) ||", "", "Errors.test_refusals_that_are_none"),
+    Edit("clients/c/exchange.c", "at = it->begun;", "at = 0;", "Errors.test_refusals_that_are_none"),
+    Edit("clients/c/exchange.c", "return size > 0;", "return 1;", "Errors.test_refusals_that_are_none"),
+    Edit("clients/c/cca_client.c", "nap(IN_USE_PAUSE);", "break;", "Errors.test_predecessor"),
+    Edit("clients/c/cca_client.c", "it->status == CCA_EXIT_IN_USE || !cca", "!cca", "Errors.test_in_use"),
+    Edit("clients/c/cca_client.h", 'extern "C" {', "", "Headers.test_cplusplus"),
     Edit("clients/c/cca_client.c", "it->socket) { /* a front closes", "0) { /* a front closes", "Sockets.test_silent"),
 ]
 
@@ -385,12 +398,60 @@ class Errors(Library):
         """Each rule with its sentence."""
         table = json.loads((LIBRARIES / "verbs.json").read_text())
         for number in range(1, 37):
-            came = self.replied(f"NO {number:02} transport2")
-            self.refused(came, number, "transport2")
+            came = self.replied(f"NO {number:02} label")
+            self.refused(came, number, "label")
             sentence = "; or ".join(it["sentence"] for it in table["rules"] if int(it["rule"]) == number)
             self.assertEqual(library().cca_rule(number).decode(), sentence)
-            self.assertEqual(told(came), f"refused by rule {number:02}, field transport2: {sentence}")
+            self.assertEqual(told(came), f"refused by rule {number:02}, field label: {sentence}")
         self.assertIsNone(library().cca_rule(37))
+        self.refused(self.replied("NO 03 -"), 3, "-")
+
+    def test_refusals_that_are_none(self):
+        """A refusal has the two digits of a rule, and a field of the request or a hyphen."""
+        rules = ("-7", "+7", "7", " 7", "00", "37", "99", "077", "0x", "7 ")
+        fields = ("token", "lab", "labels", "label=", "label label", "role", "A", "", " label", "--")
+        for reply in [f"NO {rule} label" for rule in rules] + [f"NO 07 {field}" for field in fields] + ["NO 07", "no 07 label", "NO  07 label"]:
+            came = self.replied(reply)
+            self.assertEqual((came.outcome, came.is_in_doubt, came.status, came.rule), (ENDED, 1, 128 + signal.SIGKILL, 0), reply)
+
+    def test_bad_digit(self):
+        """One digit of an output is none, or some are missing: nothing of it is left where it was to go."""
+        key, length, out = label("A"), ctypes.c_size_t(), room(64)
+        for digits in ("41" * 7 + "4g", "41" * 7 + "4", "4141", "41" * 7 + "A1"):
+            for call, field, *words in (
+                ("decipher", "text", key, IV, "NONE", bytes(8), 8, out, ctypes.byref(length)),
+                ("mac_generate", "mac", key, "X9.9-1", 8, b"1", 1, out),
+                ("random", "random", "ODD", out),
+            ):
+                came = self.replied(f"OK {field}={digits}", lambda: getattr(self.fake, call)(*words))
+                self.assertEqual((came.outcome, out.raw), (ENDED, bytes(64)), (call, digits))
+
+    def test_in_use(self):
+        """Another program has the files: cca is started again for ten seconds, and again by the next request."""
+        begun = time.monotonic()
+        came = self.replied("ends 11")
+        self.assertEqual((came.outcome, came.status, came.is_in_doubt), (ENDED, 11, 0))
+        self.assertGreaterEqual(time.monotonic() - begun, 10)
+        self.assertGreater(len(self.asked()), 2)
+        self.assertEqual(self.replied("OK").outcome, DONE)
+
+    def test_predecessor(self):
+        """A program that is started while the cca of the one before it still has the files: it gets its reply once that has ended."""
+        self.done(self.cca.record_create("A"))
+        program, begun = self.folder / "counted", self.folder / "begun"
+        program.write_text(f"#!/bin/sh\necho >>'{begun}'\nexec '{self.program.path}' \"$@\"\n")
+        program.chmod(0o755)
+        successor = self.opened(program)
+        with ThreadPoolExecutor(1) as thread:
+            asked = thread.submit(successor.record_create, "B")
+            while not asked.done() and (not begun.exists() or len(begun.read_text()) < 2):
+                time.sleep(0.01)
+            self.assertFalse(asked.done(), "it wasn't started again")
+            self.assertEqual(self.cca.close(), 0)
+            came = asked.result()
+        while (came.outcome, came.status) == (ENDED, 11):  # on a machine so busy that ten seconds weren't enough
+            came = successor.record_create("B")
+        self.done(came)
 
     def test_unsayable(self):
         """Nothing is sent."""
@@ -579,9 +640,13 @@ class Sockets(Library):
         self.front.terminate()
         self.front.wait()
         self.begin("--idle", "1")
-        cca = self.connected()
+        cca, before = self.connected(), set(os.listdir("/proc/self/fd"))
         self.is_served(cca)
-        time.sleep(4)
+        closes = select.poll()
+        for file in set(os.listdir("/proc/self/fd")) - before:
+            if stat.S_ISSOCK(os.stat(f"/proc/self/fd/{file}").st_mode):
+                closes.register(int(file), select.POLLRDHUP)
+        self.assertEqual(len(closes.poll(120_000)), 1)
         self.is_served(cca)
 
     def test_no_front(self):
@@ -612,6 +677,38 @@ class Table(unittest.TestCase):
         """The table is what its maker makes of the table of verbs."""
         it = subprocess.run([sys.executable, "-B", LIBRARIES / "c" / "make_table.py", "--check"], capture_output=True, text=True)
         self.assertEqual((it.returncode, it.stderr), (0, ""))
+
+
+# Calls something of each header, and needs neither program nor folder for it.
+CPLUSPLUS = """
+#include "csnb.h"
+#include "cca_client.h"
+
+#include <cstdio>
+
+int main()
+{
+    struct cca cca;
+    unsigned char token[CCA_TOKEN_SIZE], random[8];
+    cca_open(&cca, "", "TELLER");
+    std::printf("%d %d", cca_look_first(CCA_EXIT_STORE_FAILED), csnb_skeleton("MAC", 8, token));
+    std::printf(" %d\\n", cca_random(&cca, nullptr, random).outcome == CCA_UNSAYABLE);
+    return cca_close(&cca);
+}
+"""
+
+
+class Headers(unittest.TestCase):
+    @unittest.skipUnless(shutil.which("g++") and shutil.which("cc"), "g++ isn't installed")
+    def test_cplusplus(self):
+        """A program in C++ compiles with the headers, and links the library."""
+        folder = Path(tempfile.mkdtemp(dir=scratch().name))
+        (folder / "program.cpp").write_text(CPLUSPLUS)
+        sources = sorted((LIBRARIES / "c").glob("*.c"))
+        subprocess.run(["cc", "-std=c99", "-c", "-pthread", *sources], cwd=folder, check=True)
+        words = ["g++", "-Wall", "-Wextra", "-Werror", "-pedantic", "-I", LIBRARIES / "c", "-pthread", "-o", "program", "program.cpp"]
+        subprocess.run([*words, *sorted(folder.glob("*.o"))], cwd=folder, check=True)
+        self.assertEqual(subprocess.run([folder / "program"], capture_output=True, text=True).stdout, "1 0 1\n")
 
 
 class Sanitized(Case):

@@ -20,6 +20,8 @@ EDITS = [
     Edit("clients/c/csnb_call.c", "came.is_old ? CSNB_OLD_KEY : 0", "0", "Ibm.test_old"),
     Edit("clients/c/csnb_call.c", "        it->code = 0;\n", "        it->code = came.is_old ? 4 : 0;\n", "Ibm.test_old"),
     Edit("clients/c/csnb_call.c", "came.is_in_doubt ? CSNB_IN_DOUBT", "0 ? CSNB_IN_DOUBT", "Ibm.test_ended"),
+    Edit("clients/c/csnb.c", "        it.reason = 0; /*", "        ; /*", "Ibm.test_old"),
+    Edit("clients/c/csnb_call.c", "absolute(program ?", "(program ?", "Programs.test_paths"),
     Edit("clients/c/csnb.c", "put_chain(chaining_vector, last);", "put_chain(chaining_vector, clear_text);", "Ibm.test_chaining"),
     Edit("clients/c/csnb.c", "memcmp(verification_pattern, value, 4) != 0", "0", "Ibm.test_check_values"),
 ]
@@ -234,7 +236,7 @@ class Ibm(Library):
         verifier = identifier(key_token(SINGLE, "MACVER"))
         for given, came in ((code(SINGLE, b"1")[1], (0, 10001)), (bytes(8), (4, 1))):
             self.assertEqual(self.mac("CSNBMVR", verifier, b"1", ["MACLEN8"], None, given), came)
-        self.assertEqual(csnb("CSNBKTC", *words_of("RTCMK"), key), (0, 10001))
+        self.is_done(csnb("CSNBKTC", *words_of("RTCMK"), key))
         self.assertEqual(key.raw.hex(), internal(NEXT, SINGLE, vector("DATA", 8)))
         self.is_done(csnb("CSNBKYT", *words, key, room(8), test))
         self.assertEqual(csnb("CSNBKTC", *words_of("RTCMK"), identifier("A")), (8, 105))
@@ -275,7 +277,7 @@ class Ibm(Library):
         """No reply: return code 12, and whether the request is in doubt."""
         it = self.opened(self.standing())
         library().csnb_use(ctypes.byref(it.it))
-        for reply, came in (("ends 8", (12, 2008)), ("ends 10", (12, 1010)), ("NO 20 key", (8, 20)), ("ends 7", (12, 2007)), ("OK", (12, 1007))):
+        for reply, came in (("ends 8", (12, 2008)), ("ends 10", (12, 1010)), ("NO 29 label", (8, 29)), ("ends 7", (12, 2007)), ("OK", (12, 1007))):
             (self.folder / "reply").write_text(reply)
             self.assertEqual(csnb("CSNBKRC", identifier("A")), came)
         library().csnb_use(None)
@@ -300,9 +302,9 @@ class Programs(Library):
         sources = [EXAMPLES / "c" / f"{name}.c", *sorted(SOURCES.glob("*.c"))]
         return compiled(name, sources, "-O1", *(SANITIZERS if shutil.which("gcc") else []))
 
-    def run_in(self, *words, given=b"", **named):
+    def run_in(self, *words, given=b"", at=None, **named):
         environment = {**os.environ, "CCA": self.program.path, **named}
-        return subprocess.run(words, cwd=self.folder, env=environment, input=given, capture_output=True, timeout=200)
+        return subprocess.run(words, cwd=at or self.folder, env=environment, input=given, capture_output=True, timeout=200)
 
     def setUp(self):
         super().setUp()
@@ -323,6 +325,14 @@ class Programs(Library):
         self.assertEqual(came.stdout, b"CSNBKGN: return code 8, reason 3: the role isn't defined\n")
         came = self.run_in(program)
         self.assertIn(b"return code 12, reason 1", came.stdout)
+
+    def test_paths(self):
+        """A program and a folder that the environment names from where the first verb is called."""
+        program, other = self.built("mac"), self.folder / "other"
+        other.mkdir()
+        (other / "cca").symlink_to(self.program.path)
+        came = self.run_in(program, at=other, CCA="./cca", CCA_FOLDER="..", CCA_ROLE="DEFAULT")
+        self.assertIn(b"CSNBKGN: return code 0, reason 0: done\n", came.stdout)
 
     def test_file(self):
         program = self.built("file")

@@ -19,6 +19,10 @@
 
 #include <stdint.h>
 
+#ifdef __cplusplus
+extern "C" {
+#endif
+
 #define CCA_TOKEN_SIZE 64
 #define CCA_CHAIN_SIZE 16
 #define CCA_LABELS_SIZE CCA_REPLY_SIZE
@@ -171,5 +175,9 @@ struct cca_result cca_mac_verify_segment(struct cca *it, struct cca_key key, con
 /* ---- random bytes: the form is "RANDOM", "ODD" or "EVEN" */
 
 struct cca_result cca_random(struct cca *it, const char *form, unsigned char random[8]);
+
+#ifdef __cplusplus
+}
+#endif
 
 #endif

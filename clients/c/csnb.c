@@ -359,6 +359,8 @@ void SECURITYAPI CSNBKTC(CSNB_FIRST_FOUR, long *rule_array_count, unsigned char 
         call_fault(&it, CSNB_KEY);
     if (call_ready(&it))
         call_came(&it, cca_token_change(it.cca, rules[rule], key_identifier, key_identifier));
+    if (it.is_done)
+        it.reason = 0; /* the key was under the old master key, and no more is */
     END();
 }
 

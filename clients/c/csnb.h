@@ -8,6 +8,8 @@
        CCA_FOLDER, CCA_ROLE      the folder of cca.module, and the role of each request
        CCA, CCA_COMMAND          the program, "cca" if not set, and "run" or "audit"
 
+   A CCA_FOLDER, and a CCA with a slash in it, that don't begin with one are found from where the first verb is called.
+
    Strings are fixed: keywords have 8 bytes and labels 64, filled with blanks on the right. A key identifier has 64 bytes: a token
    if its first byte is X'01' or X'02', no key if it is X'00', and else a label. Where a verb makes a key, a label in its place
    means that the key goes under that label. exit_data_length points to 0, or is null. */
@@ -15,6 +17,10 @@
 #define CSNB_H
 
 #include "cca.h"
+
+#ifdef __cplusplus
+extern "C" {
+#endif
 
 #ifndef SECURITYAPI
 #define SECURITYAPI
@@ -107,5 +113,9 @@ void SECURITYAPI CSNBMGN(CSNB_FIRST_FOUR, unsigned char *key_identifier, long *t
                          long *rule_array_count, unsigned char *rule_array, unsigned char *chaining_vector, unsigned char *mac);
 void SECURITYAPI CSNBMVR(CSNB_FIRST_FOUR, unsigned char *key_identifier, long *text_length, unsigned char *text,
                          long *rule_array_count, unsigned char *rule_array, unsigned char *chaining_vector, unsigned char *mac);
+
+#ifdef __cplusplus
+}
+#endif
 
 #endif

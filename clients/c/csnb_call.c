@@ -1,8 +1,13 @@
 /* See csnb_call.h. */
+#ifndef _GNU_SOURCE
+#define _GNU_SOURCE
+#endif
 #include "csnb_call.h"
 
+#include <stdio.h>
 #include <stdlib.h>
 #include <string.h>
+#include <unistd.h>
 
 #define WORD 8
 #define MOST_WORDS 16
@@ -23,6 +28,23 @@ static void close_own(void)
     cca_close(&own);
 }
 
+/* A path from the root: the folder of this program may be another one when cca is started again. A name without a slash, where
+   IS_NAME says that it may be one, stays as it is: it is looked for on the path. */
+static const char *absolute(const char *path, int is_name)
+{
+    char *here, *it;
+    size_t size;
+    if (path[0] == '/' || (is_name && !strchr(path, '/')))
+        return path;
+    here = getcwd(NULL, 0);
+    size = here ? strlen(here) + strlen(path) + 2 : 0;
+    it = here ? malloc(size) : NULL;
+    if (it)
+        snprintf(it, size, "%s/%s", here, path);
+    free(here);
+    return it ? it : path;
+}
+
 static void from_environment(void)
 {
     const char *socket = getenv("CCA_SOCKET"), *folder = getenv("CCA_FOLDER"), *role = getenv("CCA_ROLE");
@@ -32,8 +54,8 @@ static void from_environment(void)
     if (socket) {
         cca_open_socket(&own, socket);
     } else if (folder && role) {
-        cca_open(&own, folder, role);
-        own.client.program = program ? program : "cca";
+        cca_open(&own, absolute(folder, 0), role);
+        own.client.program = absolute(program ? program : "cca", 1);
         own.client.command = command ? command : "run";
     } else {
         return;
@@ -56,6 +78,7 @@ void call_begin(struct call *it, const long *exit_data_length, const unsigned ch
 {
     (void)exit_data;
     memset(it, 0, sizeof *it);
+    pthread_setcancelstate(PTHREAD_CANCEL_DISABLE, &it->cancelling);
     pthread_once(&once, from_environment);
     it->cca = used;
     if (!are_there)
@@ -185,10 +208,12 @@ void call_came(struct call *it, struct cca_result came)
 
 void call_end(const struct call *it, long *return_code, long *reason_code)
 {
+    int cancelling;
     if (return_code)
         *return_code = it->code;
     if (reason_code)
         *reason_code = it->reason;
+    pthread_setcancelstate(it->cancelling, &cancelling);
 }
 
 /* ---- fields of a fixed size */

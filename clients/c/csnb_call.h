@@ -13,6 +13,7 @@ struct call {
     long count;
     unsigned used;  /* a bit for each keyword that was understood */
     int is_missing; /* a keyword of a group that must have one */
+    int cancelling; /* whether the thread may be cancelled where it isn't in a call */
 };
 
 /* An operand that names a key, with room for its label. */
@@ -21,7 +22,7 @@ struct operand {
     char label[65];
 };
 
-/* Begins a call whose parameters are there. */
+/* Begins a call whose parameters are there. Its thread isn't cancelled until it ends. */
 void call_begin(struct call *it, const long *exit_data_length, const unsigned char *exit_data, int are_there);
 
 /* Takes the keywords. Each group of them is then asked for by call_choose, and the rest is refused by call_ready. */

@@ -81,6 +81,7 @@ void exchange_begin(struct exchange *it, struct cca *cca, const char *verb)
         exchange_put_text(it, "role", cca->role);
     else if (!cca->client.socket)
         exchange_refuse(it, "no role is named");
+    it->begun = it->length;
 }
 
 void exchange_put_text(struct exchange *it, const char *name, const char *text)
@@ -131,13 +132,39 @@ void exchange_doubt(struct exchange *it)
     it->result.status = cca_drop(&it->cca->client);
 }
 
-/* Reads OK, OK with fields, or NO with the rule and the field. */
+/* Whether a refusal may name a field: one of the request, or none. */
+static int is_field(const struct exchange *it, const char *name)
+{
+    size_t size = strlen(name), at;
+    if (strcmp(name, "-") == 0)
+        return 1;
+    for (at = it->begun; at + size + 1 < it->length; at++)
+        if (it->request[at] == ' ' && memcmp(it->request + at + 1, name, size) == 0 && it->request[at + 1 + size] == '=')
+            return size > 0;
+    return 0;
+}
+
+/* Reads NO, the two digits of a rule, and a field: whether it is a refusal of this request. */
+static int is_refusal(struct exchange *it)
+{
+    const char *reply = it->reply, *field = reply + 6;
+    int rule;
+    if (strncmp(reply, "NO ", 3) != 0 || strspn(reply + 3, "0123456789") != 2 || reply[5] != ' ')
+        return 0;
+    rule = (reply[3] - '0') * 10 + reply[4] - '0';
+    if (!cca_rule(rule) || strlen(field) >= sizeof it->result.field || !is_field(it, field))
+        return 0;
+    it->result.rule = rule;
+    strcpy(it->result.field, field);
+    return 1;
+}
+
+/* Reads OK, OK with fields, or a refusal. */
 static void read_reply(struct exchange *it)
 {
     static const char warning[] = " warn=old";
     size_t length = strlen(it->reply);
     const char *at;
-    int end = 0;
     if (strncmp(it->reply, "OK", 2) == 0 && (it->reply[2] == ' ' || it->reply[2] == '\0')) {
         it->result.outcome = CCA_DONE;
         if (length >= sizeof warning && strcmp(it->reply + length - (sizeof warning - 1), warning) == 0) {
@@ -146,8 +173,7 @@ static void read_reply(struct exchange *it)
         }
         for (at = it->reply; (at = strchr(at, ' ')) != NULL; at++)
             it->left++;
-    } else if (length > 6 && sscanf(it->reply, "NO %2d %11s%n", &it->result.rule, it->result.field, &end) == 2 &&
-               it->reply[end] == '\0') {
+    } else if (is_refusal(it)) {
         it->result.outcome = CCA_REFUSED;
     } else {
         exchange_doubt(it);
@@ -242,18 +268,23 @@ size_t exchange_get_data(struct exchange *it, const char *name, unsigned char *b
         exchange_doubt(it);
     for (at = 0; it->result.outcome == CCA_DONE && at < length; at += 2) {
         int high = digit(from[at]), low = digit(from[at + 1]);
-        if (high < 0 || low < 0)
+        if (high < 0 || low < 0) {
             exchange_doubt(it);
-        else
+            exchange_wipe(bytes, at / 2);
+        } else {
             bytes[at / 2] = (unsigned char)(high << 4 | low);
+        }
     }
     return it->result.outcome == CCA_DONE ? length / 2 : 0;
 }
 
 void exchange_get_hex(struct exchange *it, const char *name, unsigned char *bytes, size_t length)
 {
-    if (exchange_get_data(it, name, bytes, length) != length)
-        exchange_doubt(it);
+    size_t came = exchange_get_data(it, name, bytes, length);
+    if (came == length)
+        return;
+    exchange_doubt(it);
+    exchange_wipe(bytes, came);
 }
 
 void exchange_get_made(struct exchange *it, const char *name, const char *to, unsigned char *token)

@@ -8,7 +8,7 @@
 
 struct exchange {
     char request[CCA_LINE_SIZE];
-    size_t length;
+    size_t length, begun; /* as long as it is, and was before its first field behind the role */
     char own_reply[CCA_LINE_SIZE];
     char *reply; /* own_reply, or another one */
     size_t reply_size;
@@ -34,7 +34,7 @@ void exchange_refuse(struct exchange *it, const char *why);
 void exchange_ask(struct exchange *it);
 
 /* Each takes a field of a reply to a request that was carried out. The reply must have the field, in this form, and no other one
-   that isn't taken. */
+   that isn't taken. Of bytes that aren't in this form nothing is left. */
 void exchange_get_text(struct exchange *it, const char *name, char *text, size_t size);
 int exchange_get_word(struct exchange *it, const char *name, const char *const *words); /* its place; behind the last is a null */
 void exchange_get_number(struct exchange *it, const char *name, int *number);
