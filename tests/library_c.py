@@ -44,10 +44,8 @@ EDITS = [
     Edit("clients/c/exchange.c", "    exchange_wipe(bytes, came);\n", "", "Errors.test_bad_digit"),
     Edit("clients/c/exchange.c", "!cca_rule(rule) ||", "", "Errors.test_refusals_that_are_none"),
     Edit("clients/c/exchange.c", "at = it->begun;", "at = 0;", "Errors.test_refusals_that_are_none"),
-    Edit("clients/c/exchange.c", "return size > 0;", "return 1;", "Errors.test_refusals_that_are_none"),
     Edit("clients/c/cca_client.c", "nap(IN_USE_PAUSE);", "break;", "Errors.test_predecessor"),
     Edit("clients/c/cca_client.c", "it->status == CCA_EXIT_IN_USE || !cca", "!cca", "Errors.test_in_use"),
-    Edit("clients/c/cca_client.h", 'extern "C" {', "", "Headers.test_cplusplus"),
     Edit("clients/c/cca_client.c", "it->socket) { /* a front closes", "0) { /* a front closes", "Sockets.test_silent"),
 ]
 

@@ -140,7 +140,7 @@ static int is_field(const struct exchange *it, const char *name)
         return 1;
     for (at = it->begun; at + size + 1 < it->length; at++)
         if (it->request[at] == ' ' && memcmp(it->request + at + 1, name, size) == 0 && it->request[at + 1 + size] == '=')
-            return size > 0;
+            return 1;
     return 0;
 }
 
