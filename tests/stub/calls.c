@@ -22,8 +22,8 @@ static int is_cut_short(int *turn)
     return 1;
 }
 
-/* The call of the C library, and how often this one was interrupted or not. The pointer to a function is set as one to data, which is
-   what there is. */
+/* The call of the C library, and how often this one was interrupted or not. The pointer to a function is set as one to data,
+   which is what there is. */
 #define REAL(name, type) \
     static int turn; \
     type; \

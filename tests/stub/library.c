@@ -1,5 +1,5 @@
-/* What a program does that takes the client in C: asks two coprocessors, from several threads, and where cca has gone; forks, gets
-   signals, takes its children's ends, and starts other programs.
+/* What a program does that takes the client in C: asks two coprocessors, from several threads, and where cca has gone; forks,
+   gets signals, takes its children's ends, and starts other programs.
 
        library WHAT STUB FOLDER [FOLDER]
 
@@ -7,6 +7,7 @@
 #include "calls.h"
 #include "cca_client.h"
 
+#include <errno.h>
 #include <fcntl.h>
 #include <poll.h>
 #include <pthread.h>
@@ -182,7 +183,7 @@ static void beside_start(void)
         pthread_join(other, NULL);
 }
 
-/* Another thread forks while cca is started: how many descriptors of the client's that child has, and what came of the request. */
+/* Another thread forks while cca is started: how many of the client's descriptors that child has, and what came of the request. */
 static int beside(char **words)
 {
     static char reply[CCA_REPLY_SIZE];
@@ -315,9 +316,11 @@ static volatile sig_atomic_t has_taken;
 
 static void take_children(int number)
 {
+    int error = errno;
     (void)number;
     while (waitpid(-1, NULL, WNOHANG) > 0)
         has_taken = 1;
+    errno = error;
 }
 
 /* Another one has the status of cca before the client asks for it: what comes of the next request, and of the one behind it. */
