@@ -93,7 +93,7 @@ def declared(header):
     text = re.sub(r"(?s)/\*.*?\*/", "", (SOURCES / header).read_text())
     first_four = re.search(r"#define CSNB_FIRST_FOUR (.*)", text)
     text = re.sub(r"(?m)^#.*$", "", text).replace("CSNB_FIRST_FOUR", first_four[1] if first_four else "")
-    for result, name, parameters in re.findall(r"(?ms)^((?:struct \w+|const char|void|int)[\w ]*?)\s+\*?(\w+)\(([^;]*)\);", text):
+    for result, name, parameters in re.findall(r"(?ms)^((?:struct \w+|enum \w+|const char|void|int)[\w ]*?)\s+\*?(\w+)\(([^;]*)\);", text):
         yield name, result.split(" SECURITYAPI")[0], parameters.split(",")
 
 

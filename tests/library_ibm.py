@@ -346,6 +346,51 @@ class Programs(Library):
         self.assertEqual((came.returncode, came.stderr), (1, b"file: refused by rule 07, field key: the label doesn't exist\n"))
 
 
+class Built(Library):
+    """What clients/c/build makes: a static library, a shared one, and one with the name of IBM's."""
+
+    @classmethod
+    def setUpClass(cls):
+        super().setUpClass()
+        cls.libraries = cls.shared / "libraries"
+        subprocess.run([SOURCES / "build", cls.libraries, "1.2.3"], check=True)
+
+    def exported(self, name):
+        """The functions that a library has for others, without the name of its version."""
+        it = subprocess.run(["nm", "-D", "--defined-only", self.libraries / name], capture_output=True, text=True, check=True)
+        return {line.split()[2].split("@")[0] for line in it.stdout.splitlines() if line.split()[1] == "T"}
+
+    def test_names(self):
+        """The shared libraries export what the headers declare, and nothing else."""
+        verbs = {name for name, *_ in declared("csnb.h")}
+        self.assertEqual(self.exported("libcca.so"), verbs | {name for header in ("cca.h", "cca_client.h") for name, *_ in declared(header)})
+        self.assertEqual(self.exported("libcsulcca.so"), verbs)
+        for name, soname in (("libcca.so", "libcca.so.1"), ("libcsulcca.so", "libcsulcca.so")):
+            it = subprocess.run(["readelf", "-d", self.libraries / name], capture_output=True, text=True, check=True)
+            self.assertRegex(it.stdout, rf"SONAME.*\[{soname}\]")
+        self.assertEqual((self.libraries / "libcca.so.1").resolve().name, "libcca.so.1.2.3")
+
+    def test_linked(self):
+        """A program that is linked to each of them computes its MAC, and the static one can be a part of another shared library."""
+        self.with_master_key()
+        self.assertEqual(self.cca.close(), 0)
+        environment = {**os.environ, "CCA": self.program.path, "CCA_FOLDER": str(self.folder), "CCA_ROLE": "DEFAULT"}
+        environment["LD_LIBRARY_PATH"] = str(self.libraries)
+        whole = ["-Wl,--whole-archive", self.libraries / "libcca.a", "-Wl,--no-whole-archive"]
+        subprocess.run(["cc", "-shared", "-o", self.libraries / "libother.so", *whole, "-pthread"], check=True)
+        for linked in ("-lcca", "-lcsulcca", "-lother", self.libraries / "libcca.a"):
+            program = compiled("mac", [EXAMPLES / "c" / "mac.c", linked], "-L", self.libraries)
+            came = subprocess.run([program], env=environment, capture_output=True, text=True)
+            self.assertEqual((came.returncode, came.stderr), (0, ""), linked)
+            self.assertIn("CSNBMVR: return code 0, reason 0: done\n", came.stdout)
+
+    def test_usage(self):
+        for words in ([], ["--help"], ["a", "b", "c"]):
+            came = subprocess.run([SOURCES / "build", *words], cwd=self.folder, capture_output=True, text=True)
+            self.assertEqual((came.returncode, came.stderr), (2, "build: usage: clients/c/build FOLDER [VERSION]\n"))
+        self.assertEqual(list(self.folder.iterdir()), [])
+
+
 class Sanitized(Case):
     def test_sanitized(self):
         sanitized(self, "library_ibm", [Ibm], ["test_verbs_are_all_called"])
