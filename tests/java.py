@@ -1,0 +1,284 @@
+"""The library for Java in clients/java, over the socket of a front: each form of a request as a line, compared with the library for
+Python; verbs over a real front, compared with OpenSSL; replies that no such request gets, connections that end, threads and interrupts."""
+import functools
+import os
+import re
+import shlex
+import shutil
+import socket
+import subprocess
+import sys
+import time
+import unittest
+from pathlib import Path
+
+from tests.edits import CLIENTS, LIBRARIES, Edit, each_is_found
+from tests.formats import chained, code, value
+from tests.harness import EXAMPLES, TOP, Case, Fault, limited, scratch
+from tests.python_connected import Peer
+from tests.python_library import DOUBLE, IV, SINGLE, Library, padded
+from cca.lines import request_line
+from cca.rows import ROWS, RULES
+
+FAULTS = [Fault('"$CCA" "$@" | sed -u "s/^NO 04/NO 03/"', case="Fronted.test_verbs", tells="Refused 3")]
+JAVA = "clients/java/src/cca/"
+EDITS = [
+    Edit(JAVA + "Connection.java", "if (searched + 1 < reply.position())", "if (searched < 0)", "Connected.test_out_of_step"),
+    Edit(JAVA + "Coprocessor.java", "if (state == Connection.State.SPOKE)", "if (state == null)", "Connected.test_unasked"),
+    Edit(JAVA + "Coprocessor.java", "turn.lock();\n        try {\n            return answered", "turn.tryLock();\n        try {\n            return answered", "Connected.test_threads"),
+    Edit(JAVA + "Coprocessor.java", "e.getMessage(), true);", "e.getMessage(), false);", "Connected.test_out_of_step"),
+    Edit(JAVA + "Coprocessor.java", 'throw new Ended("the front ends", false);', 'throw new Ended("the front ends", true);', "Connected.test_not_carried_out"),
+    Edit(JAVA + "Coprocessor.java", "? LONGEST_TEXT - 1 : LONGEST_TEXT", "? LONGEST_TEXT : LONGEST_TEXT", "Fronted.test_long"),
+    Edit(JAVA + "Coprocessor.java", "isOld[0] |= reply.usedOldKey();", "isOld[0] = reply.usedOldKey();", "Connected.test_old_in_segments"),
+    Edit(JAVA + "Reply.java", "0[1-9]|[1-2][0-9]|3[0-6]", "[0-9]{2}", "Connected.test_unfitting"),
+    Edit(JAVA + "Reply.java", "|| (span.end - span.start) % 2 != 0", "", "Connected.test_unfitting"),
+    Edit(JAVA + "RequestLine.java", "if (request.indexOf('\\n') >= 0)", "if (request == null)", "Connected.test_arguments"),
+]  # fmt: skip
+TOKEN = bytes(range(64)).hex()
+# A value of each kind of a field: as the driver takes it, and as the line has it.
+VALUES = {
+    "key_text": ("L:PAY.1", "L:PAY.1"),
+    "hex_text": ("00ff10", "00ff10"),
+    "mac_text": ("0123456789ab", "0123456789ab"),
+    "part_text": ("0123456789abcdef", "0123456789abcdef"),
+    "label_text": ("PAY.2", "PAY.2"),
+    "to_text": ("PAY.3", "L:PAY.3"),
+    "prefix_text": (".", ""),
+    "type_text": ("DATA", "DATA"),
+    "role_name": ("TELLER", "TELLER"),
+    "other_role": ("TELLER", "TELLER"),
+    "points": ("31", "0000001f"),
+}
+
+
+@functools.cache
+def built():
+    """The folder with the jar and the driver."""
+    folder = Path(scratch().name) / "java"
+    subprocess.run([LIBRARIES / "java" / "build", folder], check=True, stdout=subprocess.DEVNULL)
+    words = ["javac", "-Xlint:all", "-Werror", "-cp", folder / "cca.jar", "-d", folder, TOP / "tests" / "java" / "Asks.java"]
+    subprocess.run(words, check=True)
+    return folder
+
+
+def asked(path, calls, patience=60_000):
+    """What comes of some calls, a line each."""
+    folder = built()
+    words = ["java", "-XX:TieredStopAtLevel=1", "-XX:+UseSerialGC", "-cp", f"{folder}:{folder}/cca.jar", "Asks", path, str(patience)]
+    came = subprocess.run(words, input="".join(f"{it}\n" for it in calls), capture_output=True, text=True, timeout=200)
+    if came.returncode or came.stderr:
+        raise AssertionError(came.stderr[-2000:])
+    return came.stdout.splitlines()
+
+
+def form(row):
+    """The call of a row's method, and the line that it must send."""
+    first, *rest = row.split("_")
+    words, values = [first + "".join(it.capitalize() for it in rest)], {}
+    for field in ROWS[row].fields:
+        if field.name == "role" or (field.kind == "one_of" and len(field.words) == 1):
+            continue
+        if field.kind == "one_of":
+            word = text = field.words[-1]
+        elif field.kind == "hex_digits":
+            word = text = TOKEN[: field.digits]
+        else:
+            word, text = VALUES[field.kind]
+        words.append(word)
+        values[field.name] = text
+    return " ".join(words), request_line(row, None, values)
+
+
+class Java(unittest.TestCase):
+    """What is made of the table."""
+
+    def test_made(self):
+        came = subprocess.run([LIBRARIES / "java" / "make_requests.py", "--check"], capture_output=True, text=True)
+        self.assertEqual((came.returncode, came.stdout), (0, ""))
+
+
+class Answers(Peer):
+    """What gives one reply after the other, over all its connections."""
+
+    def __init__(self, path, replies):
+        self.left = list(replies)
+        super().__init__(path)
+
+    def answer(self, connection):
+        with connection, connection.makefile("rb") as lines:
+            for line in lines:
+                self.lines.append(line)
+                connection.sendall(self.left.pop(0))
+
+
+@unittest.skipUnless(shutil.which("javac") and shutil.which("jar"), "no JDK is installed")
+class Connected(Case):
+    """What stands for a front."""
+
+    def setUp(self):
+        super().setUp()
+        limited(self, 200)
+        self.path = self.folder / "front"
+        self.peer = Peer(self.path)
+        self.addCleanup(self.peer.listener.close)
+
+    def answering(self, *replies):
+        """Where one stands that gives these replies, whatever is asked."""
+        peer = Answers(self.folder / "answers", replies)
+        self.addCleanup(peer.listener.close)
+        return self.folder / "answers", peer
+
+    def test_forms(self):
+        """Each form of a request, as the library for Python has it."""
+        calls, lines = zip(*map(form, ROWS))
+        path, peer = self.answering(*[b"NO 01 -\n"] * len(calls))
+        self.assertEqual(asked(path, calls), [f"Refused 1 - {RULES['01', '-']}"] * len(calls))
+        self.assertEqual(peer.lines, [f"{line}\n".encode() for line in lines])
+
+    def test_arguments(self):
+        """What can't be sent isn't."""
+        calls = [f"keyTest T:{TOKEN[:-2]}", "csnbenc L:PAY 00 NONE 00", "csnbenc L:PAY 0011223344556677 X 00", "csnbkrc .", "csnbrng null"]
+        calls += [f"csnbenc L:PAY 0011223344556677 NONE {'00' * 4600}", "csnbkrc A\tB", "newline A - K"]
+        for call, line in zip(calls, asked(self.path, calls), strict=True):
+            self.assertEqual(line.split()[0], "IllegalArgumentException", call)
+        self.assertEqual(self.peer.lines, [])
+
+    def test_asked(self):
+        self.assertEqual(asked(self.path, ["ask A - K1", "ask A - K2"]), ["OK value=K1", "OK value=K2"])
+        self.assertEqual(self.peer.connections, 1)
+
+    def test_out_of_step(self):
+        """Where no whole reply comes, or more than one, the request is in doubt, and the next one gets its own."""
+        for how in ("half", "twice", "none", "endless"):
+            first, second = asked(self.path, [f"ask A {how} K1", "ask A - K2"])
+            self.assertTrue(first.startswith("Ended true"), first)
+            self.assertEqual(second, "OK value=K2")
+
+    def test_no_reply_in_time(self):
+        first, second = asked(self.path, ["ask A waits1500 K1", "ask A - K2"], patience=1000)
+        self.assertEqual(first, "Ended true the front sent no reply in time; the request may have been carried out all the same")
+        self.assertEqual(second, "OK value=K2")
+
+    def test_ended_while_silent(self):
+        """A front ends a connection that is silent: the next request makes another one."""
+        self.assertEqual(asked(self.path, ["ask A ends K1", "ask A - K2"]), ["OK value=K1", "OK value=K2"])
+
+    def test_unasked(self):
+        """What comes before it is asked for is no reply."""
+        path, _ = self.answering(b"OK value=K1\nOK", b"OK value=K2\n")
+        first, second = asked(path, ["ask A - K1", "ask A - K2"])
+        self.assertTrue(first.startswith("Ended true"), first)
+        self.assertEqual(second, "OK value=K2")
+
+    def test_not_carried_out(self):
+        """The front's own word at its end."""
+        path, _ = self.answering(b"-- not carried out\n", b"OK value=K2\n")
+        first, second = asked(path, ["ask A - K1", "ask A - K2"])
+        self.assertEqual((first, second), ("Ended false the front ends; the request wasn't carried out", "OK value=K2"))
+
+    def test_nowhere(self):
+        line = asked(self.folder / "nothing", ["ask A - K"])[0]
+        self.assertTrue(line.startswith("Ended false no connection"), line)
+
+    def test_threads(self):
+        self.assertEqual(asked(self.path, ["threads 8 A -"]), ["own 8"])
+
+    def test_interrupted(self):
+        first, second = asked(self.path, ["interrupted A waits3000 K1", "ask A - K2"])
+        self.assertEqual(first, "Ended true the thread was interrupted; the request may have been carried out all the same true")
+        self.assertEqual(second, "OK value=K2")
+
+    def test_unfitting(self):
+        """Replies that no such request gets: the connection ends."""
+        call = "keyTest L:PAY"
+        fitting = {b"OK value=0a1b2c3d": "Data 0a1b2c3d", b"OK value=0a1b2c3d warn=old": "Data 0a1b2c3d old"}
+        fitting |= {f"NO {rule} -".encode(): f"Refused {int(rule)} -" for rule in ("01", "18", "36")}
+        unfitting = b"|OK|NO|NO 00 -|NO 37 -|NO 7 -|NO -7 -|NO 07|NO 07 - |OK value=0a1b2c3|OK value=0a1b2c3d4|OK value=0A1B2C3D|OK value=0a1b2c|OK text=00"
+        unfitting += b"|OK value=0a1b2c3d x=|OK warn=old value=0a1b2c3d|OK value=0a1b2c3d warn=old warn=old|OKvalue=0a1b2c3d|OK  value=0a1b2c3d|OK value=0a1b2c3d "
+        replies = [*fitting, *unfitting.split(b"|")]
+        path, _ = self.answering(*(it + b"\n" for it in replies))
+        lines = asked(path, [call] * len(replies))
+        for reply, line in zip(replies, lines, strict=True):
+            self.assertTrue(line.startswith(fitting.get(reply, "Unexpected ")), (reply, line))
+            self.assertNotIn("0a1b", line if line.startswith("Unexpected") else "")
+
+    def test_old_in_segments(self):
+        """A key under the old master key in one segment of several."""
+        texts = ["00" * 4088, "00" * 4088]
+        replies = [f"OK text={texts[0]} chain={'00' * 16} warn=old\n", f"OK text={texts[1]}\n"]
+        path, _ = self.answering(*(it.encode() for it in replies))
+        self.assertEqual(asked(path, [f"encipher L:PAY {'00' * 8176} {'00' * 8} NONE"]), [f"Data {'00' * 8176} old"])
+
+
+@unittest.skipUnless(shutil.which("javac") and shutil.which("jar"), "no JDK is installed")
+class Fronted(Library):
+    """A real front."""
+
+    def setUp(self):
+        super().setUp()
+        self.cca.close()
+        paths = {role: self.folder / role for role in ("TELLER", "OFFICER")}
+        words = [sys.executable, "-B", CLIENTS / "front.py", self.folder, *[f"{path}={role}" for role, path in paths.items()]]
+        front = subprocess.Popen(words, env={**os.environ, "CCA": self.program.path}, stderr=subprocess.DEVNULL)
+        self.addCleanup(front.wait)
+        self.addCleanup(front.kill)
+        self.teller, self.officer = paths.values()
+        until = time.monotonic() + 100
+        while not all(self.listens(it) for it in paths.values()):
+            self.assertLess(time.monotonic(), until)
+            time.sleep(0.1)
+
+    def listens(self, path):
+        with socket.socket(socket.AF_UNIX) as it:
+            return it.connect_ex(os.fspath(path)) == 0
+
+    def test_verbs(self):
+        calls = {
+            "keyTest L:TEST.DATA": f"Data {value(SINGLE)}",
+            f"encipher L:TEST.DATA {bytes(24).hex()} {IV.hex()} NONE": f"Data {chained(SINGLE, IV, bytes(24)).hex()}",
+            "csnbkrc NEW": f"Refused 4 - {RULES['04', '-']}",
+            "keyTest L:NEW": "Refused 7 key",
+        }
+        for call, came in zip(calls, asked(self.teller, calls), strict=True):
+            self.assertTrue(came.startswith(calls[call]), (call, came))
+        calls = {"csnbkrc NEW": "Reply", f"csnbcki {SINGLE.hex()} NEW": "Reply stored=NEW", "recordList NE": "[NEW]"}
+        self.assertEqual(asked(self.officer, calls), list(calls.values()))
+        self.assertEqual(asked(self.teller, ["keyTest L:NEW"]), [f"Data {value(SINGLE)}"])
+
+    def test_long(self):
+        """Data in one request and in segments, by OpenSSL."""
+        for size in (4088, 4095, 4096, 8176, 20_001):
+            data = bytes(at % 251 for at in range(size))
+            whole = chained(DOUBLE, IV, padded(data))
+            mac = code(DOUBLE, data)[1]
+            calls = [f"encipher L:TEST.DATA.16 {data.hex()} {IV.hex()} X9.23", f"decipher L:TEST.DATA.16 {whole.hex()} {IV.hex()} X9.23"]
+            calls += [f"macGenerate L:TEST.DATA.16 {data.hex()} X9.19OPT 6"]
+            calls += [f"macVerify L:TEST.DATA.16 {data.hex()} {it.hex()} X9.19OPT" for it in (mac, bytes(8))]
+            wanted = [f"Data {whole.hex()}", f"Data {data.hex()}", f"Data {mac[:6].hex()}", "true", "false"]
+            self.assertEqual(asked(self.teller, calls), wanted)
+
+
+    def test_page(self):
+        """The commands of docs/LIBRARIES.md, and the example, over a real front."""
+        build, run = re.findall(r"(?m)^    ((?:clients/java|java ).*)$", (TOP / "docs" / "LIBRARIES.md").read_text())
+        self.assertEqual(build, "clients/java/build java")
+        subprocess.run([LIBRARIES / "java" / "build", self.folder / "java"], check=True, stdout=subprocess.DEVNULL)
+        words = shlex.split(run)
+        self.assertEqual(words[:4] + words[5:6], ["java", "-cp", "java/cca.jar", "examples/java/Mac.java", "PAY.MAC"])
+        words[3:6] = [EXAMPLES / "java" / "Mac.java", self.teller, "TEST.DATA"]
+        wanted = {"TEST.DATA": f"MAC {code(SINGLE, words[6].encode())[0][-8:].hex()}", "NONE": f"refused by rule 07, field key: {RULES['07', None]}"}
+        for words[5], told in wanted.items():
+            came = subprocess.run(words, cwd=self.folder, capture_output=True, text=True)
+            self.assertEqual((came.stdout.strip(), came.stderr), (told, ""))
+
+
+class Planted(unittest.TestCase):
+    """Each fault of EDITS is found by its case."""
+
+    @unittest.skipUnless(shutil.which("javac") and shutil.which("jar"), "no JDK is installed")
+    def test_edits(self):
+        each_is_found(self, "java", EDITS)
+
+
+if __name__ == "__main__":
+    unittest.main()
