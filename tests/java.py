@@ -1,5 +1,6 @@
 """The library for Java in clients/java, over the socket of a front: each form of a request as a line, compared with the library for
-Python; verbs over a real front, compared with OpenSSL; replies that no such request gets, connections that end, threads and interrupts."""
+Python; verbs over a real front, in our shape and in IBM's, compared with OpenSSL; replies that no such request gets, connections that end,
+threads and interrupts."""
 import functools
 import os
 import re
@@ -17,6 +18,7 @@ from tests.formats import chained, code, value
 from tests.harness import EXAMPLES, TOP, Case, Fault, limited, scratch
 from tests.python_connected import Peer
 from tests.python_library import DOUBLE, IV, SINGLE, Library, padded
+from cca import Socket
 from cca.lines import request_line
 from cca.rows import ROWS, RULES
 
@@ -33,6 +35,8 @@ EDITS = [
     Edit(JAVA + "Reply.java", "0[1-9]|[1-2][0-9]|3[0-6]", "[0-9]{2}", "Connected.test_unfitting"),
     Edit(JAVA + "Reply.java", "|| (span.end - span.start) % 2 != 0", "", "Connected.test_unfitting"),
     Edit(JAVA + "RequestLine.java", "if (request.indexOf('\\n') >= 0)", "if (request == null)", "Connected.test_arguments"),
+    Edit(JAVA + "Hikm.java", "        if (!matches) {", "        if (matches) {", "Fronted.test_hikm_data"),
+    Edit(JAVA + "HikmCall.java", "if (!used[at])", "if (used[at] && at < 0)", "Fronted.test_hikm_refusals"),
 ]  # fmt: skip
 TOKEN = bytes(range(64)).hex()
 # A value of each kind of a field: as the driver takes it, and as the line has it.
@@ -56,15 +60,20 @@ def built():
     """The folder with the jar and the driver."""
     folder = Path(scratch().name) / "java"
     subprocess.run([LIBRARIES / "java" / "build", folder], check=True, stdout=subprocess.DEVNULL)
-    words = ["javac", "-Xlint:all", "-Werror", "-cp", folder / "cca.jar", "-d", folder, TOP / "tests" / "java" / "Asks.java"]
-    subprocess.run(words, check=True)
+    sources = sorted((TOP / "tests" / "java").glob("*.java"))
+    subprocess.run(["javac", "-Xlint:all", "-Werror", "-cp", folder / "cca.jar", "-d", folder, *sources], check=True)
     return folder
 
 
 def asked(path, calls, patience=60_000):
-    """What comes of some calls, a line each."""
+    """What comes of some calls of Coprocessor, a line each."""
+    return driven("Asks", calls, path, str(patience))
+
+
+def driven(driver, calls, *words):
+    """What a driver says of some calls, a line each."""
     folder = built()
-    words = ["java", "-XX:TieredStopAtLevel=1", "-XX:+UseSerialGC", "-cp", f"{folder}:{folder}/cca.jar", "Asks", path, str(patience)]
+    words = ["java", "-XX:TieredStopAtLevel=1", "-XX:+UseSerialGC", "-cp", f"{folder}:{folder}/cca.jar", driver, *words]
     came = subprocess.run(words, input="".join(f"{it}\n" for it in calls), capture_output=True, text=True, timeout=200)
     if came.returncode or came.stderr:
         raise AssertionError(came.stderr[-2000:])
@@ -217,12 +226,12 @@ class Fronted(Library):
     def setUp(self):
         super().setUp()
         self.cca.close()
-        paths = {role: self.folder / role for role in ("TELLER", "OFFICER")}
+        paths = {role: self.folder / role for role in ("TELLER", "OFFICER", "DEFAULT")}
         words = [sys.executable, "-B", CLIENTS / "front.py", self.folder, *[f"{path}={role}" for role, path in paths.items()]]
         front = subprocess.Popen(words, env={**os.environ, "CCA": self.program.path}, stderr=subprocess.DEVNULL)
         self.addCleanup(front.wait)
         self.addCleanup(front.kill)
-        self.teller, self.officer = paths.values()
+        self.teller, self.officer, self.default = paths.values()
         until = time.monotonic() + 100
         while not all(self.listens(it) for it in paths.values()):
             self.assertLess(time.monotonic(), until)
@@ -257,6 +266,72 @@ class Fronted(Library):
             wanted = [f"Data {whole.hex()}", f"Data {data.hex()}", f"Data {mac[:6].hex()}", "true", "false"]
             self.assertEqual(asked(self.teller, calls), wanted)
 
+
+    def hikm(self, path, calls):
+        """Calls of IBM's shape, each with its return code, reason and outputs."""
+        for (call, wanted), came in zip(calls.items(), driven("Hikms", calls, path), strict=True):
+            self.assertEqual(came, wanted, call)
+
+    def test_hikm_data(self):
+        data, mac = bytes(range(24)), code(DOUBLE, bytes(range(24)))[1]
+        whole, first = chained(SINGLE, IV, data), chained(SINGLE, IV, data[:8])
+        closed, key, iv = chained(SINGLE, IV, padded(data)), "@TEST.DATA", f"={IV.hex()}"
+        chain = code(DOUBLE, data[:8])[0][-8:].hex()
+        self.hikm(
+            self.teller,
+            {
+                f"CSNBENCJ {key} #24 ={data.hex()} {iv} #0 null null null _24": f"0 0 24 0 {whole.hex()}",
+                f"CSNBENCJ {key} #8 ={data[:8].hex()} {iv} #2 CBC,INITIAL null _18 _8": f"0 0 8 2 {first.hex()}{'00' * 10} {first.hex()}",
+                f"CSNBENCJ {key} #16 ={data[8:].hex()} null #1 CONTINUE null ={first.hex()}{'00' * 10} _16": f"0 0 16 1 {whole[8:].hex()}",
+                f"CSNBENCJ {key} #24 ={data.hex()} {iv} #1 X9.23 #0 null _32": f"0 0 32 1 0 {closed.hex()}",
+                f"CSNBDECJ {key} #32 ={closed.hex()} {iv} #1 X9.23 null _31": f"0 0 24 1 {data.hex()}{'00' * 7}",
+                f"CSNBMGNJ {key}.16 #24 ={data.hex()} #2 X9.19OPT,MACLEN8 null _8": f"0 0 24 2 {mac.hex()}",
+                f"CSNBMGNJ {key}.16 #8 ={data[:8].hex()} #2 X9.19OPT,FIRST _18 null": f"0 0 8 2 {chain}{'00' * 10}",
+                f"CSNBMGNJ {key}.16 #16 ={data[8:].hex()} #3 X9.19OPT,LAST,MACLEN8 ={chain}{'00' * 10} _8": f"0 0 16 3 {mac.hex()}",
+                f"CSNBMVRJ {key}.16 #24 ={data.hex()} #2 X9.19OPT,MACLEN8 null ={mac.hex()}": "0 0 24 2",
+                f"CSNBMVRJ {key}.16 #24 ={data.hex()} #1 X9.19OPT null =00000000": "4 1 24 1",
+                f"CSNBKYTJ #3 KEY-ENC,GENERATE,ENC-ZERO {key} null _8": f"0 0 3 {value(SINGLE)}00000000",
+                f"CSNBKYTJ #3 KEY-ENC,VERIFY,ENC-ZERO {key} null ={'00' * 8}": "4 1 3",
+            }
+        )
+
+    def test_hikm_refusals(self):
+        key, iv = "@TEST.DATA", f"={IV.hex()}"
+        self.hikm(
+            self.teller,
+            {
+                "CSNBKRCJ @NEW": "8 4",
+                f"CSNBENCJ @NONE #8 ={'00' * 8} {iv} #0 null null null _8": "8 7 8 0 0000000000000000",
+                f"CSNBENCJ {key} #7 ={'00' * 7} {iv} #0 null null null _7": "8 23 7 0 00000000000000",
+                f"CSNBENCJ {key} #8 ={'00' * 8} {iv} #1 CFB null null _8": "8 103 8 1 0000000000000000",
+                f"CSNBENCJ {key} #8 ={'00' * 8} {iv} #2 CBC,X9.23 null null _16": f"8 104 8 2 {'00' * 16}",
+                f"CSNBENCJ {key} #-1 ={'00' * 8} {iv} #0 null null null _8": "8 107 -1 0 0000000000000000",
+                f"CSNBENCJ {key} #8 ={'00' * 8} {iv} #0 null null null _7": "8 107 8 0 00000000000000",
+                f"CSNBENCJ {key} #8 ={'00' * 8} {iv} #1 X9.23 #1 null _16": f"8 108 8 1 1 {'00' * 16}",
+                f"CSNBENCJ ={'00' * 64} #8 ={'00' * 8} {iv} #0 null null null _8": "8 105 8 0 0000000000000000",
+                "CSNBKRCJ null": "8 101",
+                "CSNBKRCJ =00": "8 106",
+                "CSNBRNGJ ODDS _8": "8 103 0000000000000000",
+            },
+        )
+
+    def test_hikm_keys(self):
+        token = self.module_token("TEST.DATA")
+        self.hikm(
+            self.default,
+            {
+                "CSNBKRCJ @NEW": "0 0",
+                f"CSNBCKIJ ={SINGLE.hex()} @NEW": "0 0",
+                "CSNBKRRJ @TEST.DATA _64": f"0 0 {token}",
+                f"CSNBKRWJ ={token} @NEW": "0 0",
+                "CSNBKRDJ #1 LABEL-DL @NEW": "0 0 1",
+            },
+        )
+
+    def module_token(self, label):
+        """The token of a label, by the front's other client."""
+        with Socket(self.default) as it:
+            return it.record_read(label).hex()
 
     def test_page(self):
         """The commands of docs/LIBRARIES.md, and the example, over a real front."""
