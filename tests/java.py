@@ -70,11 +70,15 @@ def asked(path, calls, patience=60_000):
     return driven("Asks", calls, path, str(patience))
 
 
-def driven(driver, calls, *words):
-    """What a driver says of some calls, a line each."""
+def driver(name, *words):
+    """The words that start a driver."""
     folder = built()
-    words = ["java", "-XX:TieredStopAtLevel=1", "-XX:+UseSerialGC", "-cp", f"{folder}:{folder}/cca.jar", driver, *words]
-    came = subprocess.run(words, input="".join(f"{it}\n" for it in calls), capture_output=True, text=True, timeout=200)
+    return ["java", "-XX:TieredStopAtLevel=1", "-XX:+UseSerialGC", "-cp", f"{folder}:{folder}/cca.jar", name, *words]
+
+
+def driven(name, calls, *words):
+    """What a driver says of some calls, a line each."""
+    came = subprocess.run(driver(name, *words), input="".join(f"{it}\n" for it in calls), capture_output=True, text=True, timeout=200)
     if came.returncode or came.stderr:
         raise AssertionError(came.stderr[-2000:])
     return came.stdout.splitlines()
@@ -114,6 +118,7 @@ class Answers(Peer):
         super().__init__(path)
 
     def answer(self, connection):
+        self.connection = connection
         with connection, connection.makefile("rb") as lines:
             for line in lines:
                 self.lines.append(line)
@@ -174,10 +179,17 @@ class Connected(Case):
 
     def test_unasked(self):
         """What comes before it is asked for is no reply."""
-        path, _ = self.answering(b"OK value=K1\nOK", b"OK value=K2\n")
-        first, second = asked(path, ["ask A - K1", "ask A - K2"])
-        self.assertTrue(first.startswith("Ended true"), first)
-        self.assertEqual(second, "OK value=K2")
+        path, peer = self.answering(b"OK value=K1\n", b"OK value=K3\n")
+        with subprocess.Popen(driver("Asks", path, "60000"), stdin=subprocess.PIPE, stdout=subprocess.PIPE, text=True, bufsize=1) as it:
+
+            def ask(request):
+                it.stdin.write(f"ask {request}\n")
+                return it.stdout.readline().rstrip("\n")
+
+            self.assertEqual(ask("A - K1"), "OK value=K1")
+            peer.connection.sendall(b"OK value=K2\n")
+            self.assertEqual(ask("A - K2"), "Ended false the front said what it wasn't asked; the request wasn't carried out")
+            self.assertEqual(ask("A - K3"), "OK value=K3")
 
     def test_not_carried_out(self):
         """The front's own word at its end."""
