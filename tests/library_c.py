@@ -14,6 +14,7 @@ import stat
 import subprocess
 import sys
 import tempfile
+import threading
 import time
 import unittest
 from concurrent.futures import ThreadPoolExecutor
@@ -29,6 +30,7 @@ from tests.harness import TOP, Case, Fault, scratch
 FAULTS = [Fault('"$CCA" "$@" | sed -u "s/match=no/match=yes/"', case="Verbs.test_macs", tells="1 != 0")]
 # Each takes away what one of these cases asks for.
 EDITS = [
+    Edit("clients/c/cca_client.c", 'it->socket && strncmp(reply, "-- ", 3) == 0', '!reply && it->socket', "Sockets.test_fronts_own_line"),
     Edit("clients/c/exchange.c", "if (*byte < 0x21 || *byte > 0x7E)", "if (*byte == 0x7F)", "Errors.test_unsayable"),
     Edit("clients/c/exchange.c", "it->result.is_old = 1;", "it->result.is_old = 0;", "Verbs.test_old"),
     Edit("clients/c/exchange.c", "length / 2 > room", "length / 2 > room + 60", "Errors.test_no_reply_of_cca"),
@@ -646,6 +648,26 @@ class Sockets(Library):
                 closes.register(int(file), select.POLLRDHUP)
         self.assertEqual(len(closes.poll(120_000)), 1)
         self.is_served(cca)
+
+    def test_fronts_own_line(self):
+        """A front that ends says so in place of a reply: nothing was carried out, and the next request has another connection."""
+        with socket.socket(socket.AF_UNIX) as listener:
+            listener.bind(str(self.folder / "ending"))
+            listener.listen()
+
+            def ends():
+                for _ in range(2):
+                    with listener.accept()[0] as connection:
+                        connection.recv(1 << 16)
+                        connection.sendall(b"-- not carried out: the front ends\n")
+
+            front = threading.Thread(target=ends)
+            front.start()
+            cca = Cca("", self.folder / "ending", opened="open_socket")
+            for _ in range(2):
+                came = cca.key_test(label("A"), room(4))
+                self.assertEqual((came.outcome, came.is_in_doubt), (ENDED, 0))
+            front.join()
 
     def test_no_front(self):
         cca = self.connected()

@@ -451,6 +451,12 @@ static int is_ready(struct cca_client *it)
     return (it->status == CCA_EXIT_IN_USE || !cca_look_first(it->status)) && start(it) == 0;
 }
 
+/* Whether a line is the front's own, which cca never sends: it carried out neither the request nor one behind it. */
+static int is_fronts_own(const struct cca_client *it, const char *reply)
+{
+    return it->socket && strncmp(reply, "-- ", 3) == 0;
+}
+
 static enum cca_answer ask_once(struct cca_client *it, const char *request, size_t length, char *reply, size_t size)
 {
     long long until;
@@ -463,6 +469,8 @@ static enum cca_answer ask_once(struct cca_client *it, const char *request, size
     else
         write_to_process(it, request, length, until);
     came = read_reply(it, reply, size, until);
+    if (came == 1 && is_fronts_own(it, reply))
+        return give_up(it, CCA_NOT_SENT, 0);
     return came == 1 ? CCA_REPLY : give_up(it, CCA_NO_REPLY, came == 0);
 }
 

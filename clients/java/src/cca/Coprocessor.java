@@ -232,7 +232,7 @@ public final class Coprocessor extends Requests implements AutoCloseable {
         }
     }
 
-    /** A line that begins with two hyphens is the front's own word that the request wasn't carried out. */
+    /** A line that begins with two hyphens and a blank is the front's own: it carried out neither this request nor one behind it. */
     private byte[] answered(byte[] line, long until) {
         connect(until);
         byte[] reply;
@@ -242,7 +242,7 @@ public final class Coprocessor extends Requests implements AutoCloseable {
             drop();
             throw new Ended(e.getMessage() == null ? "the connection failed" : e.getMessage(), true);
         }
-        if (reply.length >= 2 && reply[0] == '-' && reply[1] == '-') {
+        if (reply.length >= 3 && reply[0] == '-' && reply[1] == '-' && reply[2] == ' ') {
             drop();
             throw new Ended("the front ends", false);
         }
