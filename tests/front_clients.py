@@ -18,7 +18,7 @@ from tests.front import ROLES, Fronted, as_user, asked, children_of, connected, 
 from tests.harness import Case, Fault, limited
 from tests.keys import ONE_KEY
 
-from connections import NOT_CARRIED_OUT, Connection  # noqa: E402
+from connections import NOT_CARRIED_OUT, Connection, Door  # noqa: E402
 from journal import Journal  # noqa: E402
 from service import Service  # noqa: E402
 from settings import DoorSettings, Settings  # noqa: E402
@@ -49,7 +49,7 @@ EDITS = [
     Edit("front.py", "if door.ready and not self.is_ending:", "if door.ready:", "Signals.test_end"),
     Edit("front.py", "            while connection := door.accept():\n                door.add(connection)\n", "", "Signals.test_end"),
     Edit("front.py", 'it.tell_last("the front has ended")', "pass", "Signals.test_end"),
-    Edit("connections.py", "        self.listener.shutdown(socket.SHUT_RD)\n", "", "Signals.test_end_of_many"),
+    Edit("connections.py", "        self.listener.shutdown(socket.SHUT_RD)\n", "", "Last.test_door"),
     Edit("front.py", "            if reply is None:\n                self.leave(connection)", "            pass", "Signals.test_look_in_the_midst"),
     Edit("front.py", "            front.end()\n", "            pass\n", "Signals.test_look_in_the_midst"),
     Edit("service.py", "if not self.is_new and not os.path.exists", "if False and not os.path.exists", "Begins.test_no_files"),
@@ -140,7 +140,8 @@ class Users(Fronted):
             it.sendall(b"A K\n")
         except BrokenPipeError:
             pass
-        came = it.makefile("rb").readline().decode()
+        with it.makefile("rb") as lines:
+            came = lines.readline().decode()
         if came != "OK value=role=TELLER,K\n":
             self.assertEqual(came, f"{TOLD}: too many connections of this user\n")
             self.assertEqual(it.recv(1), b"")
@@ -185,7 +186,7 @@ class Users(Fronted):
             with connected(self.folder / "TELLER") as it:
                 for _ in range(2):
                     it.sendall(b"A K\n")
-                    theirs.send(it.recv(100))
+                    theirs.send(it.recv(100) or b"nothing")
                     theirs.recv(1)
 
         held = [self.one() for _ in range(3)]
@@ -205,7 +206,7 @@ class Last(Case):
 
     def setUp(self):
         super().setUp()
-        limited(self, 30)
+        limited(self, 10)
 
     def test_line(self):
         """It is taken, or can't be sent; nothing is lost."""
@@ -221,6 +222,23 @@ class Last(Case):
                 with self.assertRaises(BrokenPipeError):
                     client.send(b"A K2\n")
                 self.assertFalse(connection.receive())
+
+
+    def test_door(self):
+        """Nobody connects to a door that is closed, and who has connected before is still accepted."""
+        path, other = str(self.folder / "socket"), str(self.folder / "other")
+        door = Door(path, "TELLER")
+        self.addCleanup(door.listener.close)
+        os.link(path, other)
+        with socket.socket(socket.AF_UNIX) as early, socket.socket(socket.AF_UNIX) as late:
+            early.connect(path)
+            door.close()
+            with self.assertRaises(ConnectionRefusedError):
+                late.connect(other)
+            connection = door.accept()
+            self.addCleanup(connection.socket.close)
+            self.assertIsNone(door.accept())
+        self.assertFalse(os.path.exists(path))
 
 
 class Ends(Fronted):
@@ -378,10 +396,14 @@ class Signals(Fronted):
         they weren't carried out; half a line can't be finished, and a silent client is told nothing."""
         front = self.begin()
         slow, waits, half, silent, many = [connected(self.folder / "TELLER") for _ in range(5)]
-        for it in (half, silent):
-            it.sendall(b"A K\n")
-            self.assertEqual(it.recv(100), b"OK value=role=TELLER,K\n")
+        first, early = connected(self.folder / "CUSTODY"), connected(self.folder / "OFFICER")
+        for it in (slow, half, silent, early):
+            it.sendall(b"\n")
+            self.assertEqual(it.recv(100), b"NO 01 -\n")
+        first.sendall(b"A stub=waits1000 FIRST\n")
+        self.carries(b"FIRST")
         slow.sendall(b"A stub=waits2000 SLOW\n")
+        early.sendall(b"A KNOTDONE\n")  # its turn would be behind that one
         self.carries(b"SLOW")
         late = connected(self.folder / "OFFICER")
         for it in (waits, late):
@@ -390,15 +412,16 @@ class Signals(Fronted):
         half.sendall(b"A KNOT")
         front.terminate()
         self.assertEqual(front.wait(60), 0)
+        self.assertEqual(first.recv(100), b"OK value=role=CUSTODY,FIRST\n")
         self.assertEqual(slow.recv(100), b"OK value=role=TELLER,SLOW\n")
-        for it in (waits, late, many):
+        for it in (early, waits, late, many):
             self.assertEqual(it.makefile("rb").read(), f"{TOLD}: the front has ended\n".encode())
         with self.assertRaises(BrokenPipeError):
             half.sendall(b"DONE\n")
         for it in (half, silent):
             self.assertEqual(it.recv(100), b"")
         self.assertNotIn(b"NOT", (self.folder / "keys" / "carried").read_bytes())
-        for it in (slow, waits, half, silent, many, late):
+        for it in (first, early, slow, waits, half, silent, many, late):
             it.close()
 
     def outcomes(self, number):
@@ -491,7 +514,9 @@ class Begins(Fronted):
         words = [sys.executable, "-B", str(CLIENTS / "front.py"), "--config", str(path), "--new"]
         environment = {name: value for name, value in os.environ.items() if name != "CCA"}
         for more, held in ((), 2), (("--user-limit", "3"), 3):
-            with self.subTest(more), subprocess.Popen([*words, *more], env=environment) as front:
+            with self.subTest(more):
+                front = subprocess.Popen([*words, *more], env=environment)
+                self.addCleanup(front.wait)
                 self.addCleanup(front.kill)
                 self.is_serving()
                 connections = [connected(self.folder / "TELLER") for _ in range(held + 1)]
@@ -524,7 +549,7 @@ class Health(Fronted):
         """What the check comes to: its exit status, what it printed, and how long it took."""
         began = time.monotonic()
         words = [sys.executable, "-B", str(CLIENTS / "ask.py"), *words, str(self.folder / role)]
-        it = subprocess.run(words, capture_output=True, text=True, stdin=subprocess.DEVNULL)
+        it = subprocess.run(words, capture_output=True, text=True, stdin=subprocess.DEVNULL, timeout=60)
         return it.returncode, it.stdout + it.stderr, time.monotonic() - began
 
     def test_key(self):
