@@ -214,6 +214,14 @@ class Unit(Packaged):
         doors = re.findall(r"role='(\w+)', path='/run/cca/(\w+)/socket', group='cca-(\w+)'", it.stdout)
         self.assertEqual(doors, [("TELLER", "teller", "teller"), ("OFFICER", "officer", "officer")])
 
+    def test_as_the_example(self):
+        """It is the example's unit, by the paths of the package, and names the page on it."""
+        root = self.root()
+        unit, example = (it.read_text().partition("[Unit]\n")[2] for it in (root / UNIT, EXAMPLES / "clients/cca-front.service"))
+        shown = re.search(r"(?m)^Documentation=man:cca\(1\) file:/(\S+)\n", unit)
+        self.assertTrue((root / shown[1]).is_file())
+        self.assertEqual(unit.replace(shown[0], ""), example.replace("/usr/local/lib/cca/", "/usr/lib/cca/").replace("/usr/local/bin:", ""))
+
     def test_folder_of_sockets(self):
         """It is root's: the service can't put a link in the place of a folder that root changes."""
         text = (self.root() / "usr/lib/tmpfiles.d/cca.conf").read_text()
