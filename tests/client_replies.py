@@ -12,6 +12,7 @@ import time
 import unittest
 from contextlib import contextmanager
 from pathlib import Path
+from unittest import mock
 
 from tests.edits import CLIENTS, LIBRARIES, Edit, each_is_found
 from tests.harness import TOP, Case, Fault, limited
@@ -19,7 +20,8 @@ from tests.harness import TOP, Case, Fault, limited
 STUB = TOP / "tests" / "stub"
 CLIENT = "clients/python/cca/client.py"
 sys.path.insert(0, str(LIBRARIES / "python" / "cca"))
-from client import Coprocessor, Ended  # noqa: E402
+import client  # noqa: E402
+from client import Coprocessor, Ended, Status  # noqa: E402
 
 FAULTS = [Fault('"$CCA" "$@" | sed -u "s/^NO 01/NO 02/"', case="Auditing", tells="'NO 02 -'")]
 
@@ -34,6 +36,8 @@ EDITS = [
     Edit(CLIENT, "if not self.for_reply.poll(0):", "if True:", "Python.test_more_than_asked"),
     Edit(CLIENT, "if len(half) >= LONGEST_REPLY:", "if False:", "Python.test_reply_without_end"),
     Edit(CLIENT, "if self.last and self.last.status in LOOK_FIRST and self.last.status != IN_USE:", "if False:", "Python.test_ends"),
+    Edit(CLIENT, "if end.status != IN_USE or", "if True or", "Python.test_in_use"),
+    Edit(CLIENT, " and self.last.status != IN_USE:", ":", "Python.test_in_use_for_long"),
     Edit(CLIENT, "was_sent and status not in NONE_TAKEN", "was_sent", "Python.test_ends"),
     Edit(CLIENT, "{Status.USAGE, Status.OUT_OF_MEMORY,", "{Status.CELL_DAMAGED, Status.OUT_OF_MEMORY,", "Python.test_damaged_record"),
     Edit(CLIENT, "self.owner() not in (None, os.getpid())", "False", "Python.test_forked"),
@@ -206,6 +210,34 @@ class Python(unittest.TestCase):
         """A record that is damaged when it is read again: a REENCIPHER may be partly done."""
         self.assertEqual(self.gets_no_reply("stub=ends3", "status 3").status, 3)
 
+    def in_use(self, starts):
+        """A client of a program that finds its files in use, as often as is said."""
+        program = self.folder / "program"
+        program.write_text(
+            "#!/bin/sh\n"
+            f'echo >> starts; [ "$(wc -l < starts)" -gt {starts} ] || {{ echo in use >&2; exit 11; }}\n'
+            f"exec '{STUB / 'cca'}' \"$@\"\n"
+        )
+        program.chmod(0o755)
+        it = Coprocessor(str(self.folder), str(program))
+        self.addCleanup(it.close)
+        return it
+
+    def test_in_use(self):
+        """Files that another run uses: cca is started again for some seconds, and the request gets its reply."""
+        self.is_in_step(self.in_use(3))
+        self.assertEqual(len((self.folder / "starts").read_text()), 4)
+        self.assertEqual(len(self.carried_out()), self.asked)
+
+    def test_in_use_for_long(self):
+        """The other run doesn't end in that time: the request wasn't carried out, and a later one is asked again."""
+        cca = self.in_use(1000)
+        with mock.patch.object(client, "IN_USE_SECONDS", 0.5):
+            self.assertEqual(self.gets_no_reply("", "status 11: in use", cca, is_in_doubt=False).status, Status.IN_USE)
+        self.assertGreater(len((self.folder / "starts").read_text()), 1)
+        (self.folder / "starts").write_text("\n" * 1000)
+        self.is_in_step(cca)
+
     def test_ended_before(self):
         self.is_in_step()
         os.kill(self.cca.process.child.pid, signal.SIGKILL)
@@ -245,19 +277,20 @@ class Python(unittest.TestCase):
     def test_lost_status(self):
         """Another one takes the status of cca: how it ended isn't known, and it may be that someone should look at the files."""
 
-        def takes_children(*_):
-            try:
-                while os.waitpid(-1, os.WNOHANG)[0]:
-                    pass
-            except ChildProcessError:
-                pass
+        waits = os.waitid
+
+        def takes_it(kind, pid, options):
+            """Takes the status before the client asks for it."""
+            os.waitpid(pid, 0)
+            return waits(kind, pid, options)
 
         self.addCleanup(signal.signal, signal.SIGCHLD, signal.getsignal(signal.SIGCHLD))
-        for handler in (signal.SIG_IGN, takes_children):
+        for handler, taken in ((signal.SIG_IGN, waits), (signal.SIG_DFL, takes_it)):
             signal.signal(signal.SIGCHLD, handler)
             cca = self.client()
             self.is_in_step(cca)
-            self.assertEqual(self.gets_no_reply("stub=ends7", "status 128", cca).status, 128)
+            with mock.patch.object(os, "waitid", taken):
+                self.assertEqual(self.gets_no_reply("stub=ends7", "status 128", cca).status, 128)
             carried = self.carried_out()
             self.gets_no_reply("", "look at the files first", cca, is_in_doubt=False)
             self.assertEqual(self.carried_out(), carried)

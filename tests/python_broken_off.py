@@ -24,6 +24,7 @@ from tests.harness import limited
 sys.path.insert(0, str(LIBRARIES / "python"))
 from cca import Coprocessor, Ended, Socket, client, coprocessor  # noqa: E402
 
+FAULTS = []  # its faults are those of EDITS
 EDITS = [
     Edit("clients/python/cca/client.py", "        if self.process and not self.process.is_waiting:\n            self.ended(BROKEN_OFF, True)\n", "", "Places.test_ended"),
     Edit("clients/python/cca/client.py", "process = self.process = Process(self.words, self.folder)", "process = Process(self.words, self.folder)", "Places.test_started"),

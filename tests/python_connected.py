@@ -10,6 +10,7 @@ import sys
 import threading
 import time
 import unittest
+from pathlib import Path
 
 from tests.edits import CLIENTS, Edit, each_is_found
 from tests.formats import chained, value
@@ -24,6 +25,8 @@ EDITS = [
     Edit("clients/python/cca/coprocessor.py", "self.connection.unasked() if self.connection and self.connection.is_waiting else \"\"", "None if self.connection else \"\"", "Connected.test_ended_while_silent"),
     Edit("clients/python/cca/coprocessor.py", "return self.in_turn(lambda: self._reply(line))", "return self._reply(line)", "Connected.test_threads"),
     Edit("clients/python/cca/coprocessor.py", "error.add_note(", "(", "Connected.test_exception_in_the_midst"),
+    Edit("clients/python/cca/coprocessor.py", "        HELD.add(self)\n", "", "Connected.test_child"),
+    Edit("clients/python/cca/coprocessor.py", "if reply.startswith(NOT_CARRIED_OUT):", "if False:", "Connected.test_not_carried_out"),
     Edit("clients/python/cca/asynchronous.py", "run_in_executor(self.worker, ", "run_in_executor(None, ", "Waiting.test_order"),
 ]  # fmt: skip
 
@@ -102,7 +105,8 @@ class Peer:
         if how == "endless":
             while True:
                 connection.sendall(b"OK" * 9000)
-        connection.sendall({"half": reply[:4], "twice": reply * 2, "none": b""}.get(how, reply))
+        replies = {"half": reply[:4], "twice": reply * 2, "none": b"", "refused": b"-- not carried out\n", "other": "OK \u20ac\n".encode()}
+        connection.sendall(replies.get(how, reply))
         return how not in ("ends", "none", "half")
 
 
@@ -142,6 +146,33 @@ class Connected(Case):
                 self.assertIsNone(raised.exception.status)
                 self.socket.patience = 60.0
                 self.is_in_step()
+
+    def test_not_carried_out(self):
+        """A line of the front's own, which says that it won't ask: nothing is in doubt."""
+        self.is_in_step()
+        with self.assertRaises(Ended) as raised:
+            self.socket.ask("A refused X")
+        self.assertEqual((raised.exception.status, raised.exception.in_doubt), (None, False))
+        self.is_in_step()
+
+    def test_no_text(self):
+        """A reply that is no text: nothing of it is told."""
+        with self.assertRaisesRegex(Ended, "a byte came that no reply has") as raised:
+            self.socket.ask("A other X")
+        self.assertNotIn("e2", str(raised.exception))
+        self.is_in_step()
+
+    def test_child(self):
+        """A child of fork, which may have another user's rights, has no connection of its parent's."""
+        self.is_in_step()
+        held = os.fstat(self.socket.connection.socket.fileno()).st_ino
+        child = os.fork()
+        if child == 0:
+            inodes = {os.stat(it).st_ino for it in Path("/proc/self/fd").iterdir() if it.exists()}
+            os._exit(1 if held in inodes else 0)
+        self.assertEqual(os.waitstatus_to_exitcode(os.waitpid(child, 0)[1]), 0)
+        self.is_in_step()
+        self.assertEqual(self.peer.connections, 1)
 
     def test_no_reply_in_time(self):
         self.is_in_step()

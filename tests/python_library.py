@@ -4,6 +4,7 @@ asyncio and the socket of a front."""
 import importlib.util
 import os
 import pickle
+import re
 import subprocess
 import sys
 import tempfile
@@ -225,7 +226,10 @@ class Moving(Library):
         self.master_key(NEXT)
         self.assertEqual(self.cca.token_change(token, "RTNMK").hex(), internal(NEXT, SINGLE, vector))
         self.assertEqual(self.cca.master_key_process("SET"), "empty")
-        self.assertEqual(self.cca.token_change(token).hex(), internal(NEXT, SINGLE, vector))
+        changed = self.cca.token_change(token)
+        self.assertEqual(changed.hex(), internal(NEXT, SINGLE, vector))
+        # The request used a key under the old master key; what it gave is current.
+        self.assertEqual((changed.used_old_key, self.cca.key_test(changed).used_old_key), (True, False))
 
     def test_token_parse(self):
         it = self.cca.token_parse(self.cca.record_read("TEST.MAC.16"))
@@ -488,13 +492,16 @@ class Steps(Library):
             ("OK new=half", self.cca.master_key_process, "CLEAR"),
             ("OK count=2 labels=A", self.cca.record_list),
             ("no reply at all", self.cca.record_create, "A"),
+            ("OK text=4711 key=0123456789abcdef", self.cca.decipher, DATA, bytes(8), IV),
         ]
         for reply, call, *given in calls:
             with self.subTest(reply):
                 before = self.cca.ask("CSNBKYT role=DEFAULT key=L:TEST.DATA") and self.cca.process.child.pid
                 self.cca.ask = lambda request: reply
-                with self.assertRaises(Unexpected):
+                with self.assertRaises(Unexpected) as raised:
                     call(*given)
+                for value_of_reply in re.findall("=([^ ]{4,})", reply):  # it may have been deciphered
+                    self.assertNotIn(value_of_reply, str(raised.exception))
                 self.cca.ask = asked
                 self.assertEqual(self.cca.key_test(DATA).hex(), value(SINGLE))
                 self.assertNotEqual(self.cca.process.child.pid, before)

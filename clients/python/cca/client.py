@@ -386,7 +386,7 @@ class Coprocessor(Turns):
             process.start()
         except BaseException:
             if process.child is None:
-                self.process = None
+                self.forget(process)
             raise
         return process
 
