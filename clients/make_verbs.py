@@ -278,7 +278,10 @@ def python_rows(made):
     yield from (f"    ({it['rule']!r}, {it['field']!r}): {it['sentence']!r}," for it in made["rules"])
     yield from ["}", "POINTS: dict[str, int] = {"]
     yield from (f"    {it['name']!r}: 0x{it['value']}," for it in made["points"])
-    yield from ["}", f"TYPES = {tuple(it['name'] for it in made['types'])!r}"]
+    yield from ["}", "# Of a type the left half of the vector of length 8 and of length 16; none where it hasn't the length."]
+    yield "VECTORS: dict[str, dict[int, str]] = {"
+    yield from (f"    {it['name']!r}: {({size: it[str(size)] for size in (8, 16) if it[str(size)]})!r}," for it in made["types"])
+    yield from ["}", "TYPES = tuple(VECTORS)"]
 
 
 def python_version():

@@ -626,7 +626,8 @@ class Tests(Library):
     def test_package(self):
         """What pyproject.toml names is there; and nothing is needed but Python."""
         named = tomllib.loads((LIBRARIES / "python" / "pyproject.toml").read_text())["project"]
-        self.assertEqual((named["name"], named["dependencies"], named["version"]), ("cca", [], package.__version__))
+        newest = re.search(r"(?m)^## ([0-9.]+)$", (TOP / "docs" / "CHANGES.md").read_text())[1]
+        self.assertEqual((named["name"], named["dependencies"], named["dynamic"], package.__version__), ("cca", [], ["version"], newest))
         for entry in named["entry-points"]["pytest11"].values():
             self.assertTrue((LIBRARIES / "python" / f"{entry.replace('.', '/')}.py").exists())
         for name in package.__all__:
