@@ -77,7 +77,8 @@ def python_with(module):
 class Exceptions(unittest.TestCase):
     def test_pickled(self):
         """Each exception that the package defines is as it was."""
-        defined = {it for module in modules() for it in vars(module).values() if isinstance(it, type) and issubclass(it, Exception) and it.__module__.startswith("cca")}
+        kinds = {it for module in modules() for it in vars(module).values() if isinstance(it, type) and issubclass(it, Exception)}
+        defined = {it for it in kinds if it.__module__.startswith("cca.")}
         self.assertEqual(defined, set(RAISED))
         for kind, words in RAISED.items():
             it = kind(*words)
@@ -197,7 +198,8 @@ class Wheel(unittest.TestCase):
         self.assertEqual(self.made(self.folder / "two")[0].read_bytes(), self.wheel.read_bytes())
         with zipfile.ZipFile(self.wheel) as it:
             self.assertEqual({entry.date_time for entry in it.infolist()}, {(1980, 1, 1, 0, 0, 0)})
-            self.assertEqual({name for name in it.namelist() if name.startswith("cca/")}, {f"cca/{it.name}" for it in (PYTHON / "cca").iterdir() if it.is_file()})
+            held = {f"cca/{file.name}" for file in (PYTHON / "cca").iterdir() if file.is_file()}
+            self.assertEqual({name for name in it.namelist() if name.startswith("cca/")}, held)
 
     def test_record(self):
         """RECORD names each file with its digest, as others compute it."""
@@ -208,8 +210,9 @@ class Wheel(unittest.TestCase):
             for name, digest, size in lines[:-1]:
                 data = it.read(name)
                 self.assertEqual(int(size), len(data))
-                digits = subprocess.run(["base64", "-d"], input=digest[7:].translate(str.maketrans("-_", "+/")).encode() + b"=", capture_output=True, check=True).stdout
-                self.assertEqual((digest[:7], digits), ("sha256=", hashlib.sha256(data).digest()))
+                given = digest[7:].translate(str.maketrans("-_", "+/")).encode() + b"="
+                it_is = subprocess.run(["base64", "-d"], input=given, capture_output=True, check=True).stdout
+                self.assertEqual((digest[:7], it_is), ("sha256=", hashlib.sha256(data).digest()))
             self.assertEqual(lines[-1][1:], ["", ""])
 
     def test_dist_info(self):
@@ -228,7 +231,10 @@ class Wheel(unittest.TestCase):
         for number, what in enumerate((self.wheel, PYTHON)):
             into = self.folder / f"installed {number}"
             self.pip(what, into)
-            code = "import cca, importlib.metadata as it; print(cca.__file__, cca.__version__, it.version('cca'), *(point.value for point in it.entry_points(group='pytest11', name='cca')))"
+            code = (
+                "import cca, importlib.metadata as it; print(cca.__file__, cca.__version__, it.version('cca'),"
+                " *(point.value for point in it.entry_points(group='pytest11', name='cca')))"
+            )
             environment = {**os.environ, "PYTHONPATH": str(into)}
             said = subprocess.run([python_with("pip"), "-B", "-c", code], env=environment, cwd=self.folder, capture_output=True, text=True, check=True).stdout
             self.assertEqual(said, f"{into / 'cca' / '__init__.py'} {self.version} {self.version} cca.pytest_plugin\n")

@@ -118,7 +118,8 @@ class Altered(Library):
     def test_rules(self):
         """Each bit of the head and the vector, with a right TVV and with one that was right before."""
         given = []
-        for token in (internal(testing.MASTER_KEY, DOUBLE, types()["MAC"][16]), external(TRANSPORT, SINGLE, types()["DATA"][8]), internal(testing.MASTER_KEY, SINGLE, bytes(16))):
+        inside = [internal(testing.MASTER_KEY, *it) for it in ((DOUBLE, types()["MAC"][16]), (SINGLE, bytes(16)))]
+        for token in [*inside, external(TRANSPORT, SINGLE, types()["DATA"][8])]:
             given.append(bytes.fromhex(token))
             for place in range(512):
                 for bits in (1 << place % 8, 1 << place % 8 | 1):  # by itself, and so that the byte keeps its parity
@@ -160,7 +161,10 @@ class Altered(Library):
                 21: f"CSNBKIM role=DEFAULT token={outside} transport=T:{key} to=-",
                 22: f"CSNBKTR role=DEFAULT token={outside} transport1=T:{key} transport2=L:TEST.OKEYXLAT",
             }
-        ciphers = {18: f"CSNBENC role=DEFAULT key=T:{key} iv=0000000000000000 pad=NONE {text}", 19: f"CSNBDEC role=DEFAULT key=T:{key} iv=0000000000000000 pad=NONE {text}"}
+        ciphers = {
+            number: f"{verb} role=DEFAULT key=T:{key} iv=0000000000000000 pad=NONE {text}"
+            for number, verb in ((18, "CSNBENC"), (19, "CSNBDEC"))
+        }
         codes = {20: f"CSNBMGN role=DEFAULT key=T:{key} rule=X9.9-1 length=8 {text}", 21: f"CSNBMVR role=DEFAULT key=T:{key} rule=X9.9-1 mac=00000000 {text}"}
         return {"DATA": ciphers | codes, "CIPHER": ciphers, "MAC": codes}[kind]
 
