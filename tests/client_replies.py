@@ -1,6 +1,7 @@
 """A client takes no reply for that to another request, whatever happens to the program or to the caller. What stands for cca here is
 tests/stub/cca, which answers each line with a value of its own, and does what a line says besides: it waits, ends, or says too much."""
 import os
+import select
 import shutil
 import signal
 import socketserver
@@ -97,6 +98,22 @@ class Python(unittest.TestCase):
     def carried_out(self):
         return (self.folder / "carried").read_text().splitlines()
 
+    def signalled_once(self, happens, number):
+        """Has a signal sent to this process once something happens."""
+
+        def sends():
+            until = time.monotonic() + 60
+            while not happens() and time.monotonic() < until:
+                time.sleep(0.01)
+            os.kill(os.getpid(), number)
+
+        threading.Thread(target=sends, daemon=True).start()
+
+    def signalled_in_the_midst(self, number):
+        """Has a signal sent to this process once the next request is carried out."""
+        before = len(self.carried_out())
+        self.signalled_once(lambda: len(self.carried_out()) > before, number)
+
     def gets_no_reply(self, word, tells, cca=None, is_in_doubt=True):
         with self.assertRaisesRegex(Ended, tells) as raised:
             (cca or self.cca).ask(own("", word)[0])
@@ -137,9 +154,9 @@ class Python(unittest.TestCase):
         signal.signal(signal.SIGINT, signal.default_int_handler)  # also where these checks were begun in the background
         for kind, number in ((TimeoutError, signal.SIGUSR1), (KeyboardInterrupt, signal.SIGINT)):
             self.is_in_step()
-            threading.Timer(0.5, os.kill, (os.getpid(), number)).start()
+            self.signalled_in_the_midst(number)
             with self.assertRaises(kind) as raised:
-                self.cca.ask(own("", "stub=waits5000")[0])
+                self.cca.ask(own("", "stub=waits20000")[0])
             self.assertRegex(" ".join(getattr(raised.exception, "__notes__", [])), "may have been carried out")
             self.is_in_step()
 
@@ -149,9 +166,9 @@ class Python(unittest.TestCase):
 
         signal.signal(signal.SIGUSR1, asks)
         self.is_in_step()
-        threading.Timer(0.3, os.kill, (os.getpid(), signal.SIGUSR1)).start()
+        self.signalled_in_the_midst(signal.SIGUSR1)
         with self.assertRaisesRegex(RuntimeError, "in the midst of another one"):
-            self.cca.ask(own("", "stub=waits5000")[0])
+            self.cca.ask(own("", "stub=waits20000")[0])
         self.is_in_step()
 
     def test_threads(self):
@@ -185,13 +202,13 @@ class Python(unittest.TestCase):
         self.gets_no_reply("stub=twice", "more than it was asked")
         self.is_in_step()
         self.assertEqual(self.cca.ask(own("K", "stub=later")[0]), "OK value=role=B,KK")
-        time.sleep(0.5)
+        select.select([self.cca.process.child.stdout], [], [], 30)
         self.gets_no_reply("", "what it wasn't asked", is_in_doubt=False)
         self.is_in_step()
 
     def test_reply_without_end(self):
-        self.cca.patience = 5.0
         self.gets_no_reply("stub=endless", "a reply without an end")
+        self.cca.patience = 3.0
         self.gets_no_reply("stub=half", "no reply in time")
         self.cca.patience = 30.0
         self.is_in_step()
@@ -270,7 +287,7 @@ class Python(unittest.TestCase):
             os._exit(0)
         self.addCleanup(os.waitpid, child, 0)
         self.addCleanup(os.close, ours)
-        self.cca.patience = 5.0
+        self.cca.patience = 20.0
         self.assertEqual(self.cca.close(), 0)
         os.close(theirs)
 
@@ -300,7 +317,7 @@ class Python(unittest.TestCase):
         signal.signal(signal.SIGINT, signal.default_int_handler)
         self.assertEqual(self.cca.ask("A stub=deaf role=B D"), "OK value=stub=deaf,D")
         process = self.cca.process
-        threading.Timer(0.5, os.kill, (os.getpid(), signal.SIGINT)).start()
+        self.signalled_once(lambda: process.child.stdin.closed, signal.SIGINT)
         with self.assertRaises(KeyboardInterrupt):
             self.cca.close()
         self.assertEqual(process.child.returncode, -signal.SIGKILL)

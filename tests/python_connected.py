@@ -54,9 +54,12 @@ class Waiting(Library):
         async def asks():
             async with AsyncCoprocessor(self.folder, program=STUB) as it:
                 self.assertEqual(await it.ask("A role=B K0"), "OK value=role=B,K0")
-                with self.assertRaises(TimeoutError):
-                    async with asyncio.timeout(0.3):
-                        await it.ask("A role=B stub=waits5000 K1")
+                task = asyncio.create_task(it.ask("A role=B stub=waits3000 K1"))
+                while "K1\n" not in (self.folder / "carried").read_text():
+                    await asyncio.sleep(0.01)
+                task.cancel()
+                with self.assertRaises(asyncio.CancelledError):
+                    await task
                 replies = await asyncio.gather(*[it.ask(f"A role=B K{number}") for number in range(2, 50)])
                 self.assertEqual(replies, [f"OK value=role=B,K{number}" for number in range(2, 50)])
                 # Requests were asked by one thread, in their order.
@@ -141,7 +144,7 @@ class Connected(Case):
                 self.socket.patience = 20.0
                 with self.assertRaisesRegex(Ended, tells) as raised:
                     self.socket.ask(f"A {how} X")
-                    time.sleep(0.5)  # where both replies didn't come at once
+                    self.socket.connection.is_ready(select.POLLIN, 60.0)  # where both replies didn't come at once
                     self.socket.ask("A - Y")
                 self.assertIsNone(raised.exception.status)
                 self.socket.patience = 60.0
@@ -190,6 +193,13 @@ class Connected(Case):
         self.is_in_step()
         self.assertEqual(self.peer.connections, 2)
 
+    def signals_once_asked(self, before, number):
+        """Sends a signal to this process once the peer has a further line."""
+        until = time.monotonic() + 60
+        while len(self.peer.lines) == before and time.monotonic() < until:
+            time.sleep(0.01)
+        os.kill(os.getpid(), number)
+
     def test_exception_in_the_midst(self):
         def late(*_):
             raise TimeoutError("the caller's own")
@@ -198,9 +208,9 @@ class Connected(Case):
         signal.signal(signal.SIGINT, signal.default_int_handler)
         for kind, number in ((TimeoutError, signal.SIGUSR1), (KeyboardInterrupt, signal.SIGINT)):
             self.is_in_step()
-            threading.Timer(0.5, os.kill, (os.getpid(), number)).start()
+            threading.Thread(target=self.signals_once_asked, args=(len(self.peer.lines), number), daemon=True).start()
             with self.assertRaises(kind) as raised:
-                self.socket.ask("A waits5000 X")
+                self.socket.ask("A waits20000 X")
             self.assertIn("may have been carried out", " ".join(raised.exception.__notes__))
             self.is_in_step()
 
