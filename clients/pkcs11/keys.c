@@ -80,20 +80,23 @@ const char *key_type_with(int length, unsigned wanted, unsigned unwanted)
     /* Of types with as many uses the first one is taken. */
     static const char *const names[] = {"CIPHER", "ENCIPHER", "DECIPHER", "DATAC", "MAC", "MACVER", "EXPORTER", "IMPORTER", "DATA"};
     const char *found = NULL;
-    int fewest = 100;
+    int best = 0;
     size_t at;
+    if (!wanted)
+        unwanted |= WRAPS | UNWRAPS;
     for (at = 0; at < sizeof names / sizeof *names; at++) {
         const struct cca_type *type = type_named(names[at]);
         const unsigned char *vector = length == 8 ? type->single : type->left;
         struct key key;
-        int is_preferred = !wanted && strcmp(names[at], "DATA") == 0;
         if (is_zero(vector)) /* the type hasn't this length */
             continue;
         key_of_vector(vector, &key);
-        if ((wanted & ~key.uses) || (unwanted & key.uses) || (count(key.uses) >= fewest && !is_preferred))
+        if ((wanted & ~key.uses) || (unwanted & key.uses))
             continue;
-        fewest = count(key.uses);
-        found = names[at];
+        if (!found || (wanted ? count(key.uses) < best : count(key.uses) > best)) {
+            best = count(key.uses);
+            found = names[at];
+        }
     }
     return found;
 }

@@ -1,0 +1,783 @@
+"""The PKCS#11 module of clients/pkcs11: what the standard says of each call, by a program in C; data, MACs, key types and external tokens,
+beside OpenSSL and docs/FORMATS.md; its table of codes; a front with several roles; replies that are none; other programs, where they
+are installed; and once more under the sanitizers of addresses and of undefined behaviour.
+"""
+import ctypes
+import functools
+import os
+import re
+import shutil
+import socket
+import subprocess
+import sys
+import tempfile
+import threading
+import unittest
+from pathlib import Path
+
+from tests.c_library import SANITIZERS, chained, code, data, sanitized
+from tests.edits import CLIENTS, LIBRARIES, Edit, each_is_found
+from tests.formats import blocks, closed, external, made, types, value
+from tests.harness import TOP, Case, Fault, limited, scratch
+
+sys.path.insert(0, str(LIBRARIES / "python"))
+from cca.testing import KEYS, module  # noqa: E402
+
+SOURCES = LIBRARIES / "pkcs11"
+HEADER = Path("/usr/include/p11-kit-1/p11-kit/pkcs11.h")
+PAGE = TOP / "docs" / "PKCS11.md"
+IV = made("iv", 8)
+SINGLE, DOUBLE, TRANSPORT = (KEYS[f"TEST.{name}"].clear for name in ("DATA", "DATA.16", "EXPORTER"))
+# Bytes of data, and of the parts in which it comes.
+SIZES = {0: (None,), 8: (None, 1, 5, 8), 40: (None, 7, 9), 4096: (None, 4095), 4104: (None, 4096), 9000: (None, 4097)}
+
+FAULTS = [Fault('"$CCA" "$@" | sed -u "s/match=no/match=yes/"', case="Values.test_macs", tells="CKR_OK")]
+# Each takes away what one of these cases asks for.
+EDITS = [
+    Edit("clients/pkcs11/ciphers.c", "(it->total - 1) / BLOCK * BLOCK", "it->total / BLOCK * BLOCK", "Values.test_padding"),
+    Edit("clients/pkcs11/ciphers.c", "is_one = it->bytes[it->whole - at] == count;", "is_one = 1;", "Values.test_padding_that_isnt_one"),
+    Edit("clients/pkcs11/ciphers.c", "is_encrypting(it->operation) ? it->bytes + it->whole - BLOCK : last", "it->bytes + it->whole - BLOCK", "Values.test_chains"),
+    Edit("clients/pkcs11/ciphers.c", "if (rv != CKR_BUFFER_TOO_SMALL && (rv", "if ((rv", "Calls.test_ciphers"),
+    Edit("clients/pkcs11/macs.c", "(total - 1) / BLOCK * BLOCK", "total / BLOCK * BLOCK", "Values.test_macs"),
+    Edit("clients/pkcs11/macs.c", "rv == CKR_OK && !is_same(mac", "rv == CKR_OK && 0 && !is_same(mac", "Values.test_macs"),
+    Edit("clients/pkcs11/keys.c", "(unwanted & key.uses) ||", "", "Values.test_types"),
+    Edit("clients/pkcs11/making.c", "if (order->is_never_exported)", "if (0)", "Values.test_never_exported"),
+    Edit("clients/pkcs11/making.c", "!session_may_write(session))\n        rv", "0)\n        rv", "Calls.test_keys"),
+    Edit("clients/pkcs11/making.c", "cca_record_delete(cca, label); /* as", "/* as", "Values.test_nothing_left"),
+    Edit("clients/pkcs11/objects.c", "forget_others(slot, labels);", "", "Values.test_destroyed_by_another"),
+    Edit("clients/pkcs11/objects.c", "if (is_refused(&came, 4))\n        return 0;", "if (is_refused(&came, 4))\n        return -1;", "Front.test_roles"),
+    Edit("clients/pkcs11/sessions.c", "objects_end_session(it->slot, it->handle);", "", "Calls.test_keys"),
+    Edit("clients/pkcs11/slots.c", "return owner == getpid();", "return owner != 0;", "Calls.test_forks"),
+    Edit("clients/pkcs11/slots.c", "pthread_mutex_lock(&(*slot)->turn);", "", "Calls.test_locks"),
+    Edit("clients/pkcs11/attributes.c", "to->ulValueLen < value.length", "0", "Calls.test_attributes"),
+    Edit("clients/pkcs11/configuration.c", "length >= 1 && length <= 8 &&", "", "Places.test_wrong"),
+    Edit("clients/pkcs11/errors.c", "[21] = CKR_KEY_UNEXTRACTABLE,", "[21] = CKR_KEY_SIZE_RANGE,", "Codes.test_table"),
+]
+
+
+# ---- the module, as Python calls it
+
+
+@functools.cache
+def numbers():
+    """The numbers of PKCS#11 and those of this module, as the headers have them."""
+    text = HEADER.read_text() + (SOURCES / "cca-pkcs11.h").read_text()
+    found = re.findall(r"(?m)^#define\s+(CK\w+)\s+\((CKM_VENDOR_DEFINED \| )?(0x[0-9a-fA-F]+|[0-9]+)UL(?: << (\d+))?\)", text)
+    return {name: int(number, 0) << int(shift or 0) | (1 << 31 if vendor else 0) for name, vendor, number, shift in found}
+
+
+@functools.cache
+def codes():
+    return {number: name for name, number in numbers().items() if name.startswith("CKR_")}
+
+
+@functools.cache
+def built():
+    """The module; where SANITIZED is set, with the sanitizers."""
+    folder = Path(tempfile.mkdtemp(dir=scratch().name))
+    flags = "-Werror " + (" ".join(SANITIZERS) if os.environ.get("SANITIZED") else "")
+    subprocess.run([SOURCES / "build", folder], env={**os.environ, "CFLAGS": flags}, check=True)
+    return folder / "libcca-pkcs11.so"
+
+
+@functools.cache
+def caller():
+    """The program that asks the module in C."""
+    it = Path(tempfile.mkdtemp(dir=scratch().name)) / "calls"
+    words = ["-std=c11", "-Wall", "-Wextra", "-Wpedantic", "-Werror", "-I", HEADER.parents[1], "-pthread", "-o", it]
+    further = SANITIZERS if os.environ.get("SANITIZED") else []
+    subprocess.run(["cc", *words, *further, TOP / "tests" / "pkcs11" / "calls.c", "-ldl"], check=True)
+    return it
+
+
+class Attribute(ctypes.Structure):
+    _fields_ = [("type", ctypes.c_ulong), ("value", ctypes.c_void_p), ("length", ctypes.c_ulong)]
+
+
+class Mechanism(ctypes.Structure):
+    _fields_ = [("type", ctypes.c_ulong), ("parameter", ctypes.c_void_p), ("length", ctypes.c_ulong)]
+
+
+def as_bytes(it):
+    """The value of an attribute or a parameter: a flag, a number or bytes."""
+    if isinstance(it, bool):
+        return bytes([it])
+    return it.to_bytes(ctypes.sizeof(ctypes.c_ulong), sys.byteorder) if isinstance(it, int) else it
+
+
+def template(attributes):
+    """A template, of attributes by their names without CKA_."""
+    held = [(numbers()[f"CKA_{name}"], as_bytes(it)) for name, it in attributes.items()]
+    return (Attribute * len(held))(*((kind, ctypes.cast(ctypes.c_char_p(it), ctypes.c_void_p), len(it)) for kind, it in held)), len(held)
+
+
+def mechanism(name, parameter=b""):
+    it = as_bytes(parameter)
+    return Mechanism(numbers()[f"CKM_{name}"], ctypes.cast(ctypes.c_char_p(it), ctypes.c_void_p), len(it))
+
+
+def cut(text, size):
+    return [text[at : at + size] for at in range(0, len(text), size)]
+
+
+class Failed(Exception):
+    """A call that came to another code than CKR_OK."""
+
+
+class Session:
+    """A session over a slot: calls by their names without C_, and what is made of several."""
+
+    def __init__(self, slot=0):
+        self.library = ctypes.CDLL(str(built()))
+        handle = ctypes.c_ulong()
+        self.check(self.library.C_OpenSession(ctypes.c_ulong(slot), ctypes.c_ulong(6), None, None, ctypes.byref(handle)))
+        self.handle = handle
+
+    @staticmethod
+    def check(came):
+        if came:
+            raise Failed(codes().get(came, hex(came)))
+
+    def call(self, name, *words):
+        given = [ctypes.c_ulong(it) if isinstance(it, int) else it for it in words]
+        self.check(getattr(self.library, f"C_{name}")(self.handle, *given))
+
+    def close(self):
+        self.library.C_CloseSession(self.handle)
+
+    def search(self, **attributes):
+        """The handles of keys."""
+        found, count = (ctypes.c_ulong * 2000)(), ctypes.c_ulong()
+        self.call("FindObjectsInit", *template(attributes))
+        self.call("FindObjects", found, 2000, ctypes.byref(count))
+        self.call("FindObjectsFinal")
+        return list(found[: count.value])
+
+    def key(self, label):
+        found = self.search(LABEL=label.encode())
+        if len(found) != 1:
+            raise Failed(f"{len(found)} keys")
+        return found[0]
+
+    def read(self, key, name):
+        """An attribute, as bytes."""
+        room = ctypes.create_string_buffer(100)
+        it = Attribute(numbers()[f"CKA_{name}"], ctypes.cast(room, ctypes.c_void_p), 100)
+        self.call("GetAttributeValue", key, ctypes.byref(it), 1)
+        return room.raw[: it.length]
+
+    def output(self, name, *words, size):
+        """What a call writes into a buffer of so many bytes."""
+        room, length = ctypes.create_string_buffer(size + 1), ctypes.c_ulong(size)
+        self.call(name, *words, room, ctypes.byref(length))
+        return room.raw[: length.value]
+
+    def cipher(self, name, key, how, text, parts=None):
+        """Encrypts or decrypts, whole or in parts of a size."""
+        self.call(f"{name}Init", ctypes.byref(how), key)
+        if parts is None:
+            return self.output(name, text, len(text), size=len(text) + 8)
+        came = [self.output(f"{name}Update", it, len(it), size=len(it) + 8) for it in cut(text, parts)]
+        return b"".join(came) + self.output(f"{name}Final", size=8)
+
+    def sign(self, key, how, text, parts=None):
+        self.call("SignInit", ctypes.byref(how), key)
+        if parts is None:
+            return self.output("Sign", text, len(text), size=8)
+        for it in cut(text, parts):
+            self.call("SignUpdate", it, len(it))
+        return self.output("SignFinal", size=8)
+
+    def verify(self, key, how, text, mac, parts=None):
+        self.call("VerifyInit", ctypes.byref(how), key)
+        if parts is None:
+            return self.call("Verify", text, len(text), mac, len(mac))
+        for it in cut(text, parts):
+            self.call("VerifyUpdate", it, len(it))
+        return self.call("VerifyFinal", mac, len(mac))
+
+    def made(self, name, *words):
+        """The handle of the key that a call makes."""
+        key = ctypes.c_ulong()
+        self.call(name, *words, ctypes.byref(key))
+        return key.value
+
+    def generate(self, how, **attributes):
+        return self.made("GenerateKey", ctypes.byref(mechanism(how)), *template(attributes))
+
+
+class Token(Case):
+    """The module over a folder with the keys of cca.testing."""
+
+    @classmethod
+    def setUpClass(cls):
+        if not shutil.which("cc"):
+            raise unittest.SkipTest("cc isn't installed")
+        if not HEADER.exists():
+            raise unittest.SkipTest("the header of p11-kit isn't installed (libp11-kit-dev)")
+        super().setUpClass()
+        cls.filled = cls.shared / "filled"
+        cls.filled.mkdir()
+        with module(cls.filled, program=cls.program.path):
+            pass
+        built()
+
+    def setUp(self):
+        super().setUp()
+        limited(self, 280)
+        shutil.copytree(self.filled, self.folder / "keys")
+        self.environment = {"CCA": self.program.path, "CCA_PKCS11": f"{self.folder / 'keys'}=DEFAULT"}
+
+    def fails(self, wanted, call, *words, **named):
+        with self.assertRaises(Failed) as raised:
+            call(*words, **named)
+            raise Failed("CKR_OK")
+        self.assertEqual(str(raised.exception), wanted)
+
+    def tool(self, *words, **options):
+        """What another program says of the module."""
+        environment = {**os.environ, **self.environment}
+        it = subprocess.run(words, env=environment, cwd=self.folder, capture_output=True, text=True, timeout=200, **options)
+        self.assertEqual(it.returncode, 0, it.stdout[-2000:] + it.stderr[-2000:])
+        return it.stdout
+
+
+class Loaded(Token):
+    """The module in this process."""
+
+    def setUp(self):
+        super().setUp()
+        self.begin(self.environment["CCA_PKCS11"])
+        self.addCleanup(self.end)
+
+    def begin(self, places):
+        os.environ.update(self.environment, CCA_PKCS11=places)
+        self.library = ctypes.CDLL(str(built()))
+        Session.check(self.library.C_Initialize(None))
+        self.session = Session()
+
+    def end(self):
+        self.library.C_Finalize(None)
+
+    def vector(self, label):
+        """The control vector of a key under a label, as cca itself shows its token."""
+        self.end()
+        reply = self.ask([f"CSNBKRR role=DEFAULT label={label}"], self.folder / "keys")[0]
+        Session.check(self.library.C_Initialize(None))
+        self.session = Session()
+        return bytes.fromhex(reply.partition("token=")[2])[32:48]
+
+
+class Calls(Token):
+    """What the standard says of each call."""
+
+    def runs(self, what, **environment):
+        self.assertEqual(self.tool(caller(), what, built(), **environment), "")
+
+    def test_before(self):
+        self.runs("before")
+
+    def test_initialize(self):
+        self.runs("initialize")
+
+    def test_slots(self):
+        self.runs("slots")
+
+    def test_sessions(self):
+        self.runs("sessions")
+
+    def test_unsupported(self):
+        self.runs("unsupported")
+
+    def test_searches(self):
+        self.runs("searches")
+
+    def test_attributes(self):
+        self.runs("attributes")
+
+    def test_keys(self):
+        self.runs("keys")
+
+    def test_ciphers(self):
+        self.runs("ciphers")
+
+    def test_macs(self):
+        self.runs("macs")
+
+    def test_threads(self):
+        self.runs("threads")
+
+    def test_forks(self):
+        self.runs("forks")
+
+    def test_reloaded(self):
+        self.runs("reloaded")
+
+    def test_locks(self):
+        """No two calls of one slot at once, as the sanitizer of threads sees it."""
+        if os.environ.get("SANITIZED") or not shutil.which("gcc"):
+            self.skipTest("this is built with another sanitizer")
+        runtime = subprocess.run(["gcc", "-print-file-name=libtsan.so"], capture_output=True, text=True, check=True).stdout.strip()
+        if not os.path.isabs(runtime):
+            self.skipTest("the runtime of the sanitizer of threads isn't installed")
+        self.environment["CFLAGS"] = "-fsanitize=thread -g"
+        self.tool(SOURCES / "build", self.folder / "threads")
+        words = ["-std=c11", "-fsanitize=thread", "-I", HEADER.parents[1], "-pthread", "-o", self.folder / "calls"]
+        self.tool("gcc", *words, TOP / "tests" / "pkcs11" / "calls.c", "-ldl")
+        self.environment["TSAN_OPTIONS"] = "halt_on_error=1"
+        self.assertEqual(self.tool(self.folder / "calls", "threads", self.folder / "threads" / "libcca-pkcs11.so"), "")
+
+
+class Values(Loaded):
+    """Data, MACs and keys, beside what OpenSSL and docs/FORMATS.md make of them."""
+
+    def test_chains(self):
+        for label, key, how in (("TEST.DATA", SINGLE, "DES_CBC"), ("TEST.CIPHER", SINGLE, "DES_CBC"), ("TEST.DATA.16", DOUBLE, "DES3_CBC")):
+            it = self.session.key(label)
+            for size, cuts in SIZES.items():
+                text = data(size)
+                wanted = chained(key, IV, text) if size else b""
+                for parts in cuts:
+                    with self.subTest(how, size=size, parts=parts):
+                        self.assertEqual(self.session.cipher("Encrypt", it, mechanism(how, IV), text, parts), wanted)
+                        self.assertEqual(self.session.cipher("Decrypt", it, mechanism(how, IV), wanted, parts), text)
+
+    def test_padding(self):
+        for label, key, how in (("TEST.DATA", SINGLE, "DES_CBC_PAD"), ("TEST.DATA.16", DOUBLE, "DES3_CBC_PAD")):
+            it = self.session.key(label)
+            for size, cuts in {**SIZES, 7: (None, 3), 9: (None, 1, 8), 4095: (None,)}.items():
+                fill = 8 - size % 8
+                text, wanted = data(size), chained(key, IV, data(size) + bytes([fill]) * fill)
+                for parts in cuts:
+                    with self.subTest(how, size=size, parts=parts):
+                        self.assertEqual(self.session.cipher("Encrypt", it, mechanism(how, IV), text, parts), wanted)
+                        self.assertEqual(self.session.cipher("Decrypt", it, mechanism(how, IV), wanted, parts), text)
+
+    def test_padding_that_isnt_one(self):
+        it = self.session.key("TEST.DATA")
+        for end in (bytes(8), b"\0" * 7 + b"\x09", b"\0\0\0\0\0\1\3\3", b"\7\7\7\7\7\7\7\xff"):
+            given = chained(SINGLE, IV, data(8) + end)
+            self.fails("CKR_ENCRYPTED_DATA_INVALID", self.session.cipher, "Decrypt", it, mechanism("DES_CBC_PAD", IV), given)
+
+    def test_blocks(self):
+        for label, key, how in (("TEST.DATA", SINGLE, "DES_ECB"), ("TEST.DATA.16", DOUBLE, "DES3_ECB")):
+            it, text = self.session.key(label), data(160)
+            wanted = blocks(key, text)
+            for parts in (None, 5, 8, 33):
+                self.assertEqual(self.session.cipher("Encrypt", it, mechanism(how), text, parts), wanted)
+                self.assertEqual(self.session.cipher("Decrypt", it, mechanism(how), wanted, parts), text)
+
+    def test_in_place(self):
+        """One buffer for what goes in and what comes out."""
+        it, text = self.session.key("TEST.DATA"), data(64)
+        room, length = ctypes.create_string_buffer(text, 72), ctypes.c_ulong(72)
+        self.session.call("EncryptInit", ctypes.byref(mechanism("DES_CBC_PAD", IV)), it)
+        self.session.call("Encrypt", room, 64, room, ctypes.byref(length))
+        self.assertEqual(room.raw, chained(SINGLE, IV, text + b"\x08" * 8))
+
+    def macs(self, size):
+        """The MACs of some data: the label, the mechanism, its parameter, and what comes."""
+        text = data(size)
+        end = chained(DOUBLE, bytes(8), text + bytes(-size % 8))[-8:]
+        yield "TEST.MAC", "DES_MAC", b"", code(SINGLE, text)[1][:4]
+        yield "TEST.DATA.16", "DES3_MAC", b"", end[:4]
+        yield "TEST.MAC.16", "CCA_X919_MAC", b"", code(DOUBLE, text)[1][:4]
+        for length in (4, 6, 8):
+            yield "TEST.MAC", "DES_MAC_GENERAL", length, code(SINGLE, text)[1][:length]
+            yield "TEST.DATA.16", "DES3_MAC_GENERAL", length, end[:length]
+            yield "TEST.MAC.16", "CCA_X919_MAC_GENERAL", length, code(DOUBLE, text)[1][:length]
+
+    def test_macs(self):
+        keys = {label: self.session.key(label) for label in ("TEST.MAC", "TEST.DATA.16", "TEST.MAC.16")}
+        for size, cuts in {1: (None,), 8: (None, 3), 9: (None, 8), 24: (8, 1), 4097: (None, 4096)}.items():
+            for label, how, parameter, wanted in self.macs(size):
+                it, text, name = keys[label], data(size), mechanism(how, parameter)
+                for parts in cuts:
+                    with self.subTest(how, size=size, parameter=parameter, parts=parts):
+                        self.assertEqual(self.session.sign(it, name, text, parts), wanted)
+                        self.session.verify(it, name, text, wanted, parts)
+                        altered = wanted[:-1] + bytes([wanted[-1] ^ 1])
+                        self.fails("CKR_SIGNATURE_INVALID", self.session.verify, it, name, text, altered, parts)
+
+    def test_classes(self):
+        """What each key type may do."""
+        uses = ("ENCRYPT", "DECRYPT", "SIGN", "VERIFY", "WRAP", "UNWRAP")
+        wanted = {"DATA": "1111", "CIPHER": "11", "MAC": "0011", "MACVER": "0001", "EXPORTER": "000010", "IMPORTER": "000001"}
+        wanted |= {"OKEYXLAT": "", "IKEYXLAT": ""}
+        for label, known in KEYS.items():
+            it = self.session.key(label)
+            found = "".join(str(self.session.read(it, name)[0]) for name in uses)
+            self.assertEqual(found, wanted[known.type].ljust(6, "0"), label)
+            kind = {8: "CKK_DES", 16: "CKK_DES2"}[len(known.clear)]
+            self.assertEqual(self.session.read(it, "KEY_TYPE"), as_bytes(numbers()[kind]))
+            self.assertEqual(self.session.read(it, "CHECK_VALUE").hex(), value(known.clear)[:6])
+
+    def test_types(self):
+        """Which key type a template makes."""
+        asked = [
+            ("DES_KEY_GEN", {}, "DATA"),
+            ("DES_KEY_GEN", {"ENCRYPT": True, "DECRYPT": True}, "CIPHER"),
+            ("DES_KEY_GEN", {"ENCRYPT": True}, "ENCIPHER"),
+            ("DES_KEY_GEN", {"DECRYPT": True}, "DECIPHER"),
+            ("DES_KEY_GEN", {"SIGN": True}, "MAC"),
+            ("DES_KEY_GEN", {"VERIFY": True}, "MACVER"),
+            ("DES_KEY_GEN", {"SIGN": True, "ENCRYPT": True}, "DATA"),
+            ("DES2_KEY_GEN", {}, "DATA"),
+            ("DES2_KEY_GEN", {"SIGN": False, "VERIFY": False}, "DATAC"),
+            ("DES2_KEY_GEN", {"ENCRYPT": True, "SIGN": False}, "DATAC"),
+            ("DES2_KEY_GEN", {"SIGN": True, "VERIFY": True, "KEY_TYPE": numbers()["CKK_DES3"]}, "MAC"),
+            ("DES2_KEY_GEN", {"VERIFY": True, "SIGN": False}, "MACVER"),
+            ("DES2_KEY_GEN", {"WRAP": True}, "EXPORTER"),
+            ("DES2_KEY_GEN", {"UNWRAP": True}, "IMPORTER"),
+        ]
+        for number, (how, attributes, _) in enumerate(asked):
+            self.session.generate(how, TOKEN=True, LABEL=f"NEW.{number}".encode(), **attributes)
+        for number, (how, _, kind) in enumerate(asked):
+            self.assertEqual(self.vector(f"NEW.{number}"), types()[kind][8 if how == "DES_KEY_GEN" else 16].ljust(16, b"\0"), kind)
+        for how, attributes in (("DES_KEY_GEN", {"WRAP": True}), ("DES2_KEY_GEN", {"WRAP": True, "UNWRAP": True}), ("DES2_KEY_GEN", {"ENCRYPT": True, "DECRYPT": False})):
+            self.fails("CKR_TEMPLATE_INCONSISTENT", self.session.generate, how, **attributes)
+
+    def test_created(self):
+        three = DOUBLE + DOUBLE[:8]
+        for number, (kind, clear, given, uses) in enumerate(
+            [("DATA", SINGLE, SINGLE, {}), ("MAC", SINGLE, SINGLE, {"SIGN": True}), ("DATA", DOUBLE, DOUBLE, {}), ("DATA", DOUBLE, three, {})]
+        ):
+            name = {8: "CKK_DES", 16: "CKK_DES2", 24: "CKK_DES3"}[len(given)]
+            words = {"CLASS": 4, "KEY_TYPE": numbers()[name], "VALUE": given, "TOKEN": True, "LABEL": f"C.{number}".encode()}
+            it = self.session.made("CreateObject", *template({**words, **uses}))
+            self.assertEqual(self.session.read(it, "CHECK_VALUE").hex(), value(clear)[:6])
+            self.assertEqual(self.vector(f"C.{number}"), types()[kind][len(clear)].ljust(16, b"\0"))
+        words = {"CLASS": 4, "KEY_TYPE": numbers()["CKK_DES3"], "VALUE": made("three", 24)}
+        self.fails("CKR_ATTRIBUTE_VALUE_INVALID", self.session.made, "CreateObject", *template(words))
+
+    def test_external_tokens(self):
+        how, out, back = mechanism("CCA_EXTERNAL_TOKEN"), self.session.key("TEST.EXPORTER"), self.session.key("TEST.IMPORTER")
+        for label in ("TEST.DATA", "TEST.MAC.16"):
+            known = KEYS[label]
+            wanted = bytes.fromhex(external(TRANSPORT, known.clear, types()[known.type][len(known.clear)].ljust(16, b"\0")))
+            came = self.session.output("WrapKey", ctypes.byref(how), out, self.session.key(label), size=64)
+            self.assertEqual(came, wanted)
+            it = self.session.made("UnwrapKey", ctypes.byref(how), back, came, 64, *template({"TOKEN": False}))
+            self.assertEqual(self.session.read(it, "CHECK_VALUE").hex(), value(known.clear)[:6])
+        words = (ctypes.byref(how), back, came, 64)
+        self.fails("CKR_TEMPLATE_INCONSISTENT", self.session.made, "UnwrapKey", *words, *template({"ENCRYPT": True}))
+        altered = bytes([2, *came[1:59], came[59] ^ 1, *came[60:]])
+        self.fails("CKR_WRAPPED_KEY_INVALID", self.session.made, "UnwrapKey", ctypes.byref(how), back, altered, 64, None, 0)
+        self.fails("CKR_WRAPPED_KEY_LEN_RANGE", self.session.made, "UnwrapKey", ctypes.byref(how), back, came, 63, None, 0)
+        self.fails("CKR_KEY_FUNCTION_NOT_PERMITTED", self.session.output, "WrapKey", ctypes.byref(how), back, it, size=64)
+        self.fails("CKR_BUFFER_TOO_SMALL", self.session.output, "WrapKey", ctypes.byref(how), out, it, size=63)
+
+    def test_never_exported(self):
+        """A key whose template forbids export is stored as one that forbids it."""
+        it = self.session.generate("DES_KEY_GEN", TOKEN=True, LABEL=b"KEPT", EXTRACTABLE=False, SIGN=True)
+        self.assertEqual(self.session.read(it, "EXTRACTABLE"), b"\0")
+        how, out = mechanism("CCA_EXTERNAL_TOKEN"), self.session.key("TEST.EXPORTER")
+        self.fails("CKR_KEY_UNEXTRACTABLE", self.session.output, "WrapKey", ctypes.byref(how), out, it, size=64)
+        self.assertEqual(self.vector("KEPT"), closed(types()["MAC"][8].ljust(16, b"\0")))
+
+    def test_copied(self):
+        it = self.session.generate("DES2_KEY_GEN", SIGN=True)
+        copy = self.session.made("CopyObject", it, *template({"TOKEN": True, "LABEL": b"COPY"}))
+        self.assertEqual(self.session.read(copy, "CHECK_VALUE"), self.session.read(it, "CHECK_VALUE"))
+        self.assertEqual(self.vector("COPY"), types()["MAC"][16])
+
+    def test_nothing_left(self):
+        """A key that can't be stored leaves no label."""
+        self.end()
+        points = f"{0x1FFFFFFF & ~0x10000:08x}"  # all but KRW
+        self.assertEqual(self.ask([f"CSUAACI role=DEFAULT action=DEFINE name=MAKER points={points}"], self.folder / "keys"), ["OK"])
+        self.begin(f"{self.folder / 'keys'}=MAKER")
+        self.fails("CKR_USER_NOT_LOGGED_IN", self.session.generate, "DES_KEY_GEN", TOKEN=True, LABEL=b"NEW")
+        self.end()
+        self.assertEqual(self.ask(["CSNBKRL role=DEFAULT prefix=NEW"], self.folder / "keys"), ["OK count=0 labels="])
+
+    def test_destroyed_by_another(self):
+        """What has gone from the store is no object any more, nor is what was made by a session that has ended."""
+        one, two = Session(), Session()
+        it = one.generate("DES_KEY_GEN", TOKEN=True, LABEL=b"GONE")
+        held = one.generate("DES_KEY_GEN", LABEL=b"held")
+        self.assertEqual(two.search(LABEL=b"held"), [held])
+        self.assertEqual(two.search(LABEL=b"GONE"), [it])
+        self.end()
+        self.replies([("CSNBKRD role=DEFAULT label=TEST.MAC", "OK")], self.folder / "keys")
+        Session.check(self.library.C_Initialize(None))
+        self.session = Session()
+        before = self.session.key("TEST.DATA")
+        self.session.call("DestroyObject", before)
+        self.assertEqual(self.session.search(LABEL=b"TEST.DATA"), [])
+        self.assertEqual(len(self.session.search()), 10)
+        self.assertEqual(self.session.search(LABEL=b"held"), [])
+
+    def test_random(self):
+        came = []
+        for size in (0, 1, 8, 15, 64):
+            room = ctypes.create_string_buffer(size + 1)
+            self.session.call("GenerateRandom", room, size)
+            came.append(room.raw[:size])
+        self.assertNotIn(bytes(15), came)
+        self.assertNotEqual(came[4][:32], came[4][32:])
+
+
+class Places(Token):
+    """Which slots there are."""
+
+    def labels(self, places, **environment):
+        self.environment = {**self.environment, "CCA_PKCS11": places, **environment}
+        code = "import ctypes,sys; it = ctypes.CDLL(sys.argv[1]); room = (ctypes.c_ulong * 40)(); count = ctypes.c_ulong(40)\n"
+        code += "print(it.C_Initialize(None), it.C_GetSlotList(0, room, ctypes.byref(count)), count.value)"
+        return [int(it) for it in self.tool(sys.executable, "-c", code, built()).split()]
+
+    def test_right(self):
+        for places, count in (("", 0), ("/a=TELLER", 1), ("/a=A:/b=B,DES3:/a=C,AUDIT,DES3", 3), (":/a=A:", 1), ("/a=b=A", 1)):
+            self.assertEqual(self.labels(places), [0, 0, count], places)
+
+    def test_wrong(self):
+        off = numbers()["CKR_CRYPTOKI_NOT_INITIALIZED"]
+        for places in ("/a", "=A", "/a=", "/a=a", "/a=A,des3", "/a=TOOLONGROLE", "/a=1A", "/a=" + "A" * 3000, "/a" * 600 + "=A", ":".join(["/a=A"] * 33)):
+            self.assertEqual(self.labels(places)[:2], [numbers()["CKR_GENERAL_ERROR"], off], places[:40])
+
+
+class Answering:
+    """What stands for a front: it answers each line as it is told, over a socket."""
+
+    def __init__(self, path, reply):
+        self.reply, self.lines = reply, []
+        self.listener = socket.socket(socket.AF_UNIX)
+        self.listener.bind(str(path))
+        self.listener.listen(20)
+        threading.Thread(target=self.run, daemon=True).start()
+
+    def run(self):
+        while True:
+            try:
+                peer = self.listener.accept()[0]
+            except OSError:
+                return
+            threading.Thread(target=self.serve, args=(peer,), daemon=True).start()
+
+    def serve(self, peer):
+        with peer, peer.makefile("rb") as lines:
+            for line in lines:
+                try:
+                    peer.sendall(self.reply(line.decode()) if callable(self.reply) else self.reply)
+                except OSError:
+                    return
+
+    def close(self):
+        self.listener.shutdown(socket.SHUT_RDWR)
+        self.listener.close()
+
+
+class Answered(Token):
+    """The module over a socket whose replies are made up."""
+
+    def setUp(self):
+        super().setUp()
+        self.front = Answering(self.folder / "socket", b"NO 01 -\n")
+        self.addCleanup(self.front.close)
+        os.environ.update(self.environment, CCA_PKCS11=f"{self.folder / 'socket'}=TELLER")
+        self.library = ctypes.CDLL(str(built()))
+        Session.check(self.library.C_Initialize(None))
+        self.addCleanup(self.library.C_Finalize, None)
+        self.session = Session()
+
+    def random(self):
+        self.session.call("GenerateRandom", ctypes.create_string_buffer(8), 8)
+
+
+class Codes(Answered):
+    """The table of the page is what the module does."""
+
+    def test_table(self):
+        table = PAGE.read_text().partition("\n## Errors\n")[2].partition("\n## ")[0]
+        seen = []
+        for rules, wanted in re.findall(r"^\| ([0-9, to]+) \| `(CKR_\w+)`", table, re.MULTILINE):
+            for first, last in re.findall(r"(\d\d)(?: to (\d\d))?", rules):
+                for rule in range(int(first), int(last or first) + 1):
+                    self.front.reply = f"NO {rule:02} -\n".encode()
+                    self.fails(wanted, self.random)
+                    seen.append(rule)
+        self.assertEqual(sorted(seen), list(range(1, 37)))
+
+    def test_device_error(self):
+        """The rule is told as the error of the device, until a request isn't refused."""
+        info = (ctypes.c_ulong * 4)()
+        for reply, wanted in ((b"NO 19 key\n", 19), (b"OK random=0011223344556677\n", 0)):
+            self.front.reply = reply
+            try:
+                self.random()
+            except Failed:
+                pass
+            self.session.call("GetSessionInfo", info)
+            self.assertEqual(info[3], wanted)
+
+
+class Replies(Answered):
+    """Replies that no request can have harm nothing, and are no success."""
+
+    def label(self, reply):
+        """Replies to a list of labels, of which each token is this."""
+        return lambda line: b"OK count=1 labels=A\n" if line.startswith("CSNBKRL") else reply
+
+    def test_lists(self):
+        many = ",".join(f"L{number}" for number in range(3000))
+        for labels, count in (("A,B", 3), ("a", 1), ("A" * 65, 1), (",", 2), ("A,", 2), (many, 3000), ("=", 1), ("A" * 40000, 1)):
+            token = b"OK token=" + b"00" * 64 + b"\n"
+            self.front.reply = lambda line: f"OK count={count} labels={labels}\n".encode() if "KRL" in line else token
+            with self.assertRaises(Failed) as raised:
+                self.session.search()
+            self.assertIn(str(raised.exception), ("CKR_DEVICE_ERROR", "CKR_HOST_MEMORY"), labels[:70])
+
+    def test_tokens(self):
+        for number in range(64):
+            token = bytes(32) + made(f"token {number}", 32)
+            self.front.reply = self.label(b"OK token=" + token.hex().encode() + b"\n")
+            self.assertLessEqual(len(self.session.search()), 1)
+
+    def test_data(self):
+        token = bytes(32) + types()["DATA"][8].ljust(32, b"\0")
+        self.front.reply = self.label(b"OK token=" + token.hex().encode() + b"\n")
+        it = self.session.search()[0]
+        for reply in (b"OK\n", b"OK text=\n", b"OK text=00\n", b"OK text=" + b"00" * 17 + b"\n", b"OK text=" + b"00" * 4000 + b"\n", b"\n", b"OK text=" + b"zz" * 16 + b"\n", b"OK mac=\n", b"\0" * 100 + b"\n", b"OK" * 50000):
+            for name in ("Encrypt", "Decrypt"):
+                self.front.reply = reply
+                self.fails("CKR_DEVICE_ERROR", self.session.cipher, name, it, mechanism("DES_CBC", IV), data(16))
+            self.front.reply = reply
+            self.fails("CKR_DEVICE_ERROR", self.session.sign, it, mechanism("DES_MAC"), data(16))
+
+    def test_keys(self):
+        for reply in (b"OK\n", b"OK token1=00\n", b"OK stored=A\n", b"OK token=" + b"00" * 65 + b"\n"):
+            self.front.reply = reply
+            self.fails("CKR_DEVICE_ERROR", self.session.generate, "DES_KEY_GEN")
+            self.front.reply = reply
+            words = {"CLASS": 4, "KEY_TYPE": numbers()["CKK_DES"], "VALUE": SINGLE}
+            self.fails("CKR_DEVICE_ERROR", self.session.made, "CreateObject", *template(words))
+
+    def test_no_front(self):
+        self.front.close()
+        (self.folder / "socket").unlink()
+        self.fails("CKR_DEVICE_REMOVED", self.random)
+
+
+class Front(Token):
+    """Roles over the sockets of a front."""
+
+    def setUp(self):
+        super().setUp()
+        sockets = {role: self.folder / f"{role}.socket" for role in ("TELLER", "OFFICER", "DEFAULT")}
+        words = [CLIENTS / "front.py", self.folder / "keys", *(f"{path}={role}" for role, path in sockets.items())]
+        log = self.folder / "front.log"
+        environment = {**os.environ, "CCA": self.program.path}
+        with open(log, "wb") as errors:
+            self.front = subprocess.Popen([sys.executable, "-B", *words], env=environment, stderr=errors)
+        self.addCleanup(self.front.wait)
+        self.addCleanup(self.front.terminate)
+        while '"ready"' not in log.read_text():
+            self.assertIsNone(self.front.poll(), log.read_text())
+        self.places = {role: f"{path}={role}" for role, path in sockets.items()}
+
+    def begin(self, *roles):
+        os.environ.update(CCA_PKCS11=":".join(self.places[role] for role in roles))
+        self.library = ctypes.CDLL(str(built()))
+        Session.check(self.library.C_Initialize(None))
+        self.addCleanup(self.library.C_Finalize, None)
+        return [Session(slot) for slot in range(len(roles))]
+
+    def test_roles(self):
+        teller, officer, default = self.begin("TELLER", "OFFICER", "DEFAULT")
+        self.assertEqual(len(default.search()), len(KEYS))
+        self.assertEqual(teller.search(), [])  # it may not list labels, but finds a key by its label
+        it = teller.key("TEST.DATA")
+        self.assertEqual(teller.cipher("Encrypt", it, mechanism("DES_CBC", IV), data(24)), chained(SINGLE, IV, data(24)))
+        self.assertEqual(teller.read(it, "KEY_TYPE"), as_bytes(numbers()["CKK_DES"]))
+        self.assertEqual(teller.read(teller.key("TEST.MAC.16"), "KEY_TYPE"), as_bytes(numbers()["CKK_DES2"]))
+        self.assertEqual(teller.sign(teller.key("TEST.MAC"), mechanism("DES_MAC"), data(9)), code(SINGLE, data(9))[1][:4])
+        self.assertEqual([teller.read(teller.key("TEST.MACVER"), name) for name in ("SIGN", "VERIFY", "ENCRYPT")], [b"\0", b"\1", b"\0"])
+        self.assertEqual(teller.search(LABEL=b"NONE"), [])
+        self.fails("CKR_USER_NOT_LOGGED_IN", teller.generate, "DES_KEY_GEN")
+        how = mechanism("CCA_EXTERNAL_TOKEN")
+        wrapped = officer.output("WrapKey", ctypes.byref(how), officer.key("TEST.EXPORTER"), officer.key("TEST.DATA"), size=64)
+        self.assertEqual(wrapped.hex(), external(TRANSPORT, SINGLE, types()["DATA"][8].ljust(16, b"\0")))
+        self.fails("CKR_USER_NOT_LOGGED_IN", teller.made, "UnwrapKey", ctypes.byref(how), teller.key("TEST.IMPORTER"), wrapped, 64, None, 0)
+
+    def test_threads_and_forks(self):
+        for what in ("threads", "shared_forks"):
+            self.environment["CCA_PKCS11"] = self.places["DEFAULT"]
+            self.assertEqual(self.tool(caller(), what, built()), "")
+
+    def test_front_that_begins_again(self):
+        """A connection that has ended is made again."""
+        (teller,) = self.begin("TELLER")
+        it = teller.key("TEST.DATA")
+        self.front.terminate()
+        self.assertEqual(self.front.wait(60), 0)
+        self.fails("CKR_DEVICE_REMOVED", teller.cipher, "Encrypt", it, mechanism("DES_CBC", IV), data(8))
+        self.setUp()
+        (self.folder / "TELLER.socket").rename(self.places["TELLER"].partition("=")[0])
+
+
+class Programs(Token):
+    """Programs that others wrote."""
+
+    def needs(self, *names):
+        for name in names:
+            if not shutil.which(name):
+                self.skipTest(f"{name} isn't installed")
+
+    def pkcs11_tool(self, *words):
+        return self.tool("pkcs11-tool", "--module", built(), *words)
+
+    def test_pkcs11_tool(self):
+        self.needs("pkcs11-tool")
+        self.assertRegex(self.pkcs11_tool("-L"), r"(?s)token label +: DEFAULT\n.*token model +: CCA DES\n")
+        self.assertEqual(set(re.findall(r"label: +(\S+)", self.pkcs11_tool("-O"))), set(KEYS))
+        self.assertIn("DES-KEY-GEN, keySize={8,8}, generate\n", self.pkcs11_tool("-M"))
+        self.assertIn("Key generated:\n", self.pkcs11_tool("--keygen", "--key-type", "DES:8", "--label", "NEW"))
+        self.assertRegex(self.pkcs11_tool("-O", "--type", "secrkey", "--label", "NEW"), r"(?s)DES length 8\n.*sensitive")
+        self.pkcs11_tool("--delete-object", "--type", "secrkey", "--label", "NEW")
+        self.assertNotIn("NEW", self.pkcs11_tool("-O"))
+        self.assertEqual(len(self.tool("pkcs11-tool", "--module", built(), "--generate-random", "32", "--output-file", "random")), 0)
+        self.assertEqual((self.folder / "random").stat().st_size, 32)
+
+    def test_pkcs11_tool_tests(self):
+        """Its own tests, as far as they go without key pairs."""
+        self.needs("pkcs11-tool")
+        told = self.pkcs11_tool("--test", "--login", "--pin", "1")
+        self.assertIn("No errors\n", told)
+        self.assertRegex(told, r"C_GenerateRandom\(\):\n.*\n +seems to be OK\n")
+
+    def test_p11tool(self):
+        self.needs("p11tool")
+        told = self.tool("p11tool", "--provider", built(), "--list-tokens")
+        url = re.search(r"URL: (\S+)", told)[1]
+        self.assertIn("token=DEFAULT", url)
+        told = self.tool("p11tool", "--provider", built(), "--list-all", url)
+        self.assertEqual(set(re.findall(r"Label: (\S+)", told)), set(KEYS))
+        self.assertIn("CKM_DES_CBC_PAD", self.tool("p11tool", "--provider", built(), "--list-mechanisms", url))
+
+    def test_java(self):
+        """Java's own provider: its key store, ciphers, generation, and a clear key."""
+        self.needs("java", "javac")
+        if "crypto.cryptoki" not in self.tool("java", "--list-modules"):
+            self.skipTest("this Java has no PKCS#11")
+        self.environment["CCA_PKCS11"] += ",DES3"
+        (self.folder / "cca.cfg").write_text(f"name = cca\nlibrary = {built()}\nslotListIndex = 0\n")
+        text, words = data(23), ["java", TOP / "tests" / "pkcs11" / "Keys.java", "cca.cfg"]
+        told = self.tool(*words, text.hex(), IV.hex(), DOUBLE.hex()).splitlines()
+        single = chained(SINGLE, IV, text + b"\1").hex()
+        double = chained(DOUBLE, IV, text + b"\1").hex()
+        wanted = [f"aliases {' '.join(sorted(KEYS))}", f"DES {single}", f"DESede {double}", f"clear {double}", f"ECB {blocks(DOUBLE, text[:16]).hex()}"]
+        self.assertEqual(told, [*wanted, "generated as before", "stored DESede", "deleted", "random 16"])
+
+
+class Planted(Case):
+    def test_each_is_found(self):
+        each_is_found(self, "pkcs11", EDITS)
+
+
+class Sanitized(Case):
+    def test_whole_suite(self):
+        sanitized(self, "pkcs11", [Calls, Values, Places, Codes, Replies, Front])
+
+
+del Token, Loaded, Answered
