@@ -2,6 +2,7 @@
 beside OpenSSL and docs/FORMATS.md; its table of codes; a front with several roles; replies that are none; other programs, where they
 are installed; and once more under the sanitizers of addresses and of undefined behaviour.
 """
+import contextlib
 import ctypes
 import functools
 import os
@@ -12,6 +13,7 @@ import subprocess
 import sys
 import tempfile
 import threading
+import time
 import unittest
 from pathlib import Path
 
@@ -556,15 +558,13 @@ class Answering:
             threading.Thread(target=self.serve, args=(peer,), daemon=True).start()
 
     def serve(self, peer):
-        with peer, peer.makefile("rb") as lines:
+        with peer, peer.makefile("rb") as lines, contextlib.suppress(OSError):
             for line in lines:
-                try:
-                    peer.sendall(self.reply(line.decode()) if callable(self.reply) else self.reply)
-                except OSError:
-                    return
+                peer.sendall(self.reply(line.decode()) if callable(self.reply) else self.reply)
 
     def close(self):
-        self.listener.shutdown(socket.SHUT_RDWR)
+        with contextlib.suppress(OSError):
+            self.listener.shutdown(socket.SHUT_RDWR)
         self.listener.close()
 
 
@@ -664,17 +664,21 @@ class Front(Token):
 
     def setUp(self):
         super().setUp()
-        sockets = {role: self.folder / f"{role}.socket" for role in ("TELLER", "OFFICER", "DEFAULT")}
-        words = [CLIENTS / "front.py", self.folder / "keys", *(f"{path}={role}" for role, path in sockets.items())]
+        self.places = {role: f"{self.folder / role}.socket={role}" for role in ("TELLER", "OFFICER", "DEFAULT")}
+        self.front = self.started()
+
+    def started(self):
+        """A front that is ready."""
         log = self.folder / "front.log"
-        environment = {**os.environ, "CCA": self.program.path}
+        words = [sys.executable, "-B", CLIENTS / "front.py", self.folder / "keys", *self.places.values()]
         with open(log, "wb") as errors:
-            self.front = subprocess.Popen([sys.executable, "-B", *words], env=environment, stderr=errors)
-        self.addCleanup(self.front.wait)
-        self.addCleanup(self.front.terminate)
+            it = subprocess.Popen(words, env={**os.environ, "CCA": self.program.path}, stderr=errors)
+        self.addCleanup(it.wait)
+        self.addCleanup(it.terminate)
         while '"ready"' not in log.read_text():
-            self.assertIsNone(self.front.poll(), log.read_text())
-        self.places = {role: f"{path}={role}" for role, path in sockets.items()}
+            self.assertIsNone(it.poll(), log.read_text())
+            time.sleep(0.05)
+        return it
 
     def begin(self, *roles):
         os.environ.update(CCA_PKCS11=":".join(self.places[role] for role in roles))
@@ -706,14 +710,14 @@ class Front(Token):
             self.assertEqual(self.tool(caller(), what, built()), "")
 
     def test_front_that_begins_again(self):
-        """A connection that has ended is made again."""
+        """A call says that the front has gone; the next one reaches a new front, with the same session and key."""
         (teller,) = self.begin("TELLER")
-        it = teller.key("TEST.DATA")
+        it, how = teller.key("TEST.DATA"), mechanism("DES_CBC", IV)
         self.front.terminate()
         self.assertEqual(self.front.wait(60), 0)
-        self.fails("CKR_DEVICE_REMOVED", teller.cipher, "Encrypt", it, mechanism("DES_CBC", IV), data(8))
-        self.setUp()
-        (self.folder / "TELLER.socket").rename(self.places["TELLER"].partition("=")[0])
+        self.fails("CKR_DEVICE_REMOVED", teller.cipher, "Encrypt", it, how, data(8))
+        self.front = self.started()
+        self.assertEqual(teller.cipher("Encrypt", it, how, data(8)), chained(SINGLE, IV, data(8)))
 
 
 class Programs(Token):

@@ -1,5 +1,4 @@
 /* See objects.h. */
-#define _POSIX_C_SOURCE 200809L
 #include "objects.h"
 
 #include "errors.h"
@@ -226,21 +225,35 @@ static void forget_others(struct slot *slot, const char *labels)
     }
 }
 
+/* Each label of a list, of which a wrong one shows that this isn't cca. */
+static CK_RV look_up_each(struct slot *slot, const char *labels)
+{
+    char label[LONGEST_NAME + 1];
+    struct object *found;
+    CK_RV rv = CKR_OK;
+    while (rv == CKR_OK && *labels) {
+        size_t length = strcspn(labels, ",");
+        if (!is_label(labels, length) || strcmp(labels + length, ",") == 0)
+            return CKR_DEVICE_ERROR;
+        memcpy(label, labels, length);
+        label[length] = '\0';
+        rv = object_look_up(slot, label, &found);
+        labels += length + (labels[length] == ',');
+    }
+    return rv;
+}
+
 /* All labels, where the role may list them. */
 static CK_RV look_up_all(struct slot *slot)
 {
-    char labels[CCA_LABELS_SIZE], *label, *rest = NULL;
-    struct object *found;
+    char labels[CCA_LABELS_SIZE];
     struct cca_result came = cca_record_list(&slot->cca, "", labels, NULL);
-    CK_RV rv = CKR_OK;
     if (is_refused(&came, 4))
         return CKR_OK;
     if (came.outcome != CCA_DONE)
         return error_of(&came);
     forget_others(slot, labels);
-    for (label = strtok_r(labels, ",", &rest); rv == CKR_OK && label; label = strtok_r(NULL, ",", &rest))
-        rv = is_label(label, strlen(label)) ? object_look_up(slot, label, &found) : CKR_DEVICE_ERROR;
-    return rv;
+    return look_up_each(slot, labels);
 }
 
 CK_RV objects_look_up(struct slot *slot, const struct template *searched)
