@@ -8,6 +8,7 @@ import functools
 import os
 import re
 import shutil
+import signal
 import socket
 import subprocess
 import sys
@@ -42,12 +43,12 @@ EDITS = [
     Edit("clients/pkcs11/ciphers.c", "if (rv != CKR_BUFFER_TOO_SMALL && (rv", "if ((rv", "Calls.test_ciphers"),
     Edit("clients/pkcs11/macs.c", "(total - 1) / BLOCK * BLOCK", "total / BLOCK * BLOCK", "Values.test_macs"),
     Edit("clients/pkcs11/macs.c", "rv == CKR_OK && !is_same(mac", "rv == CKR_OK && 0 && !is_same(mac", "Values.test_macs"),
-    Edit("clients/pkcs11/keys.c", "(unwanted & key.uses) ||", "", "Values.test_types"),
+    Edit("clients/pkcs11/keys.c", " || (unwanted & key.uses))", ")", "Values.test_types"),
     Edit("clients/pkcs11/making.c", "if (order->is_never_exported)", "if (0)", "Values.test_never_exported"),
-    Edit("clients/pkcs11/making.c", "!session_may_write(session))\n        rv", "0)\n        rv", "Calls.test_keys"),
+    Edit("clients/pkcs11/making.c", "!session_may_write(session)", "!session", "Calls.test_keys"),
     Edit("clients/pkcs11/making.c", "cca_record_delete(cca, label); /* as", "/* as", "Values.test_nothing_left"),
-    Edit("clients/pkcs11/objects.c", "forget_others(slot, labels);", "", "Values.test_destroyed_by_another"),
-    Edit("clients/pkcs11/objects.c", "if (is_refused(&came, 4))\n        return 0;", "if (is_refused(&came, 4))\n        return -1;", "Front.test_roles"),
+    Edit("clients/pkcs11/objects.c", "!strstr(text, name))", "!*labels)", "Front.test_destroyed_by_another"),
+    Edit("clients/pkcs11/objects.c", "if (is_refused(came, 4))\n        return 0;", "if (is_refused(came, 4))\n        return -1;", "Front.test_roles"),
     Edit("clients/pkcs11/sessions.c", "objects_end_session(it->slot, it->handle);", "", "Calls.test_keys"),
     Edit("clients/pkcs11/slots.c", "return owner == getpid();", "return owner != 0;", "Calls.test_forks"),
     Edit("clients/pkcs11/slots.c", "pthread_mutex_lock(&(*slot)->turn);", "", "Calls.test_locks"),
@@ -120,6 +121,15 @@ def mechanism(name, parameter=b""):
 
 def cut(text, size):
     return [text[at : at + size] for at in range(0, len(text), size)]
+
+
+def children(name):
+    """The processes of a name that this one has started."""
+    for it in Path("/proc").glob("[0-9]*/stat"):
+        with contextlib.suppress(OSError):
+            of, _, rest = it.read_text().rpartition(")")
+            if of.endswith(f"({name}") and int(rest.split()[1]) == os.getpid():
+                yield int(it.parent.name)
 
 
 class Failed(Exception):
@@ -273,8 +283,9 @@ class Loaded(Token):
 class Calls(Token):
     """What the standard says of each call."""
 
-    def runs(self, what, **environment):
-        self.assertEqual(self.tool(caller(), what, built(), **environment), "")
+    def runs(self, what):
+        self.environment["ASAN_OPTIONS"] = "detect_leaks=1"
+        self.assertEqual(self.tool(caller(), what, built()), "")
 
     def test_before(self):
         self.runs("before")
@@ -314,6 +325,9 @@ class Calls(Token):
 
     def test_reloaded(self):
         self.runs("reloaded")
+
+    def test_signals(self):
+        self.runs("signals")
 
     def test_locks(self):
         """No two calls of one slot at once, as the sanitizer of threads sees it."""
@@ -493,22 +507,24 @@ class Values(Loaded):
         self.end()
         self.assertEqual(self.ask(["CSNBKRL role=DEFAULT prefix=NEW"], self.folder / "keys"), ["OK count=0 labels="])
 
-    def test_destroyed_by_another(self):
-        """What has gone from the store is no object any more, nor is what was made by a session that has ended."""
+    def test_session_objects(self):
+        """What was made without CKA_TOKEN is seen by all sessions, and gone with its own."""
         one, two = Session(), Session()
-        it = one.generate("DES_KEY_GEN", TOKEN=True, LABEL=b"GONE")
-        held = one.generate("DES_KEY_GEN", LABEL=b"held")
-        self.assertEqual(two.search(LABEL=b"held"), [held])
-        self.assertEqual(two.search(LABEL=b"GONE"), [it])
-        self.end()
-        self.replies([("CSNBKRD role=DEFAULT label=TEST.MAC", "OK")], self.folder / "keys")
-        Session.check(self.library.C_Initialize(None))
-        self.session = Session()
-        before = self.session.key("TEST.DATA")
-        self.session.call("DestroyObject", before)
-        self.assertEqual(self.session.search(LABEL=b"TEST.DATA"), [])
-        self.assertEqual(len(self.session.search()), 10)
-        self.assertEqual(self.session.search(LABEL=b"held"), [])
+        held = one.generate("DES_KEY_GEN", LABEL=b"held", ID=b"7")
+        self.assertEqual([two.search(LABEL=b"held"), two.search(ID=b"7"), two.search(TOKEN=False)], [[held]] * 3)
+        self.assertEqual([two.read(held, name) for name in ("TOKEN", "LOCAL", "LABEL", "ID")], [b"\0", b"\1", b"held", b"7"])
+        one.close()
+        self.assertEqual(two.search(LABEL=b"held"), [])
+        self.fails("CKR_OBJECT_HANDLE_INVALID", two.read, held, "LABEL")
+
+    def test_killed(self):
+        """Where cca was killed, a call says so, and the next one starts it again."""
+        it, how = self.session.key("TEST.DATA"), mechanism("DES_CBC", IV)
+        (pid,) = children(Path(self.program.path).name)
+        os.kill(pid, signal.SIGKILL)
+        with self.assertRaisesRegex(Failed, "CKR_DEVICE_(REMOVED|ERROR)"):
+            self.session.cipher("Encrypt", it, how, data(8))
+        self.assertEqual(self.session.cipher("Encrypt", it, how, data(8)), chained(SINGLE, IV, data(8)))
 
     def test_random(self):
         came = []
@@ -523,20 +539,22 @@ class Values(Loaded):
 class Places(Token):
     """Which slots there are."""
 
-    def labels(self, places, **environment):
-        self.environment = {**self.environment, "CCA_PKCS11": places, **environment}
-        code = "import ctypes,sys; it = ctypes.CDLL(sys.argv[1]); room = (ctypes.c_ulong * 40)(); count = ctypes.c_ulong(40)\n"
-        code += "print(it.C_Initialize(None), it.C_GetSlotList(0, room, ctypes.byref(count)), count.value)"
-        return [int(it) for it in self.tool(sys.executable, "-c", code, built()).split()]
+    def begun(self, places):
+        """What C_Initialize comes to over these places, and how many slots there are then."""
+        os.environ.update(self.environment, CCA_PKCS11=places)
+        it, count = ctypes.CDLL(str(built())), ctypes.c_ulong()
+        came = it.C_Initialize(None), it.C_GetSlotList(0, None, ctypes.byref(count)), count.value
+        it.C_Finalize(None)
+        return came
 
     def test_right(self):
         for places, count in (("", 0), ("/a=TELLER", 1), ("/a=A:/b=B,DES3:/a=C,AUDIT,DES3", 3), (":/a=A:", 1), ("/a=b=A", 1)):
-            self.assertEqual(self.labels(places), [0, 0, count], places)
+            self.assertEqual(self.begun(places), (0, 0, count), places)
 
     def test_wrong(self):
         off = numbers()["CKR_CRYPTOKI_NOT_INITIALIZED"]
         for places in ("/a", "=A", "/a=", "/a=a", "/a=A,des3", "/a=TOOLONGROLE", "/a=1A", "/a=" + "A" * 3000, "/a" * 600 + "=A", ":".join(["/a=A"] * 33)):
-            self.assertEqual(self.labels(places)[:2], [numbers()["CKR_GENERAL_ERROR"], off], places[:40])
+            self.assertEqual(self.begun(places), (numbers()["CKR_GENERAL_ERROR"], off, 0), places[:40])
 
 
 class Answering:
@@ -703,6 +721,18 @@ class Front(Token):
         wrapped = officer.output("WrapKey", ctypes.byref(how), officer.key("TEST.EXPORTER"), officer.key("TEST.DATA"), size=64)
         self.assertEqual(wrapped.hex(), external(TRANSPORT, SINGLE, types()["DATA"][8].ljust(16, b"\0")))
         self.fails("CKR_USER_NOT_LOGGED_IN", teller.made, "UnwrapKey", ctypes.byref(how), teller.key("TEST.IMPORTER"), wrapped, 64, None, 0)
+
+    def test_destroyed_by_another(self):
+        """What has gone from the store is no object any more."""
+        officer, default = self.begin("OFFICER", "DEFAULT")
+        it = default.key("TEST.CIPHER")
+        officer.call("DestroyObject", officer.key("TEST.CIPHER"))
+        self.fails("CKR_KEY_HANDLE_INVALID", default.cipher, "Encrypt", it, mechanism("DES_CBC", IV), data(8))
+        self.fails("CKR_OBJECT_HANDLE_INVALID", default.call, "DestroyObject", it)
+        it = default.key("TEST.MACVER")
+        officer.call("DestroyObject", officer.key("TEST.MACVER"))
+        self.assertEqual(len(default.search()), len(KEYS) - 2)
+        self.fails("CKR_OBJECT_HANDLE_INVALID", default.read, it, "LABEL")
 
     def test_threads_and_forks(self):
         for what in ("threads", "shared_forks"):

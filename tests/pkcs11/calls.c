@@ -8,6 +8,7 @@
 #include <dlfcn.h>
 #include <p11-kit/pkcs11.h>
 #include <pthread.h>
+#include <signal.h>
 #include <stdio.h>
 #include <stdlib.h>
 #include <string.h>
@@ -538,6 +539,43 @@ static void shared_forks(void)
     forks_of(1);
 }
 
+/* ---- signals */
+
+static volatile int is_over;
+
+static void heed(int number)
+{
+    (void)number;
+}
+
+static void *disturber(void *other)
+{
+    while (!is_over) {
+        pthread_kill(*(pthread_t *)other, SIGUSR1);
+        usleep(500);
+    }
+    return NULL;
+}
+
+/* Signals that come all the time cut no call short. */
+static void signals(void)
+{
+    struct sigaction action = {0};
+    pthread_t self = pthread_self(), other;
+    CK_SESSION_HANDLE session;
+    CK_OBJECT_HANDLE key;
+    int turn;
+    action.sa_handler = heed;
+    sigaction(SIGUSR1, &action, NULL);
+    IS((CK_RV)pthread_create(&other, NULL, disturber, &self), 0);
+    session = begun();
+    key = first_result(session);
+    for (turn = 0; turn < TURNS; turn++)
+        HOLDS(enciphers(session, key));
+    is_over = 1;
+    pthread_join(other, NULL);
+}
+
 /* ---- loaded again */
 
 static const char *path;
@@ -566,7 +604,7 @@ int main(int count, char **words)
     } all[] = {{"before", before},       {"initialize", initialize}, {"slots", slots},     {"sessions", sessions},
                {"unsupported", unsupported}, {"searches", searches},     {"attributes", attributes}, {"keys", keys},
                {"ciphers", ciphers},     {"macs", macs},             {"threads", threads}, {"forks", forks},
-               {"shared_forks", shared_forks}, {"reloaded", reloaded}};
+               {"shared_forks", shared_forks}, {"reloaded", reloaded}, {"signals", signals}};
     size_t at;
     if (count != 3)
         return 2;
