@@ -557,6 +557,21 @@ class Places(Token):
             self.assertEqual(self.begun(places), (numbers()["CKR_GENERAL_ERROR"], off, 0), places[:40])
 
 
+    def test_absent(self):
+        """Where there is no socket, there is no token, until it is there; a program may be named from the folder of the caller."""
+        os.environ.update(self.environment, CCA_PKCS11=f"{self.folder / 'absent'}=A:{self.folder / 'keys'}=DEFAULT", CCA="./named")
+        (self.folder / "named").symlink_to(self.program.path)
+        it, found, count = ctypes.CDLL(str(built())), (ctypes.c_ulong * 2)(), ctypes.c_ulong(2)
+        with contextlib.chdir(self.folder):
+            Session.check(it.C_Initialize(None))
+        self.addCleanup(it.C_Finalize, None)
+        os.environ["CCA"] = "another"  # what was named once is kept
+        Session.check(it.C_GetSlotList(1, found, ctypes.byref(count)))
+        self.assertEqual((count.value, found[0]), (1, 1))
+        self.fails("CKR_TOKEN_NOT_PRESENT", Session)
+        self.assertEqual(len(Session(1).search()), len(KEYS))
+
+
 class Answering:
     """What stands for a front: it answers each line as it is told, over a socket."""
 

@@ -101,10 +101,13 @@ CK_RV configuration_read(struct place places[MOST_SLOTS], CK_ULONG *count)
     return rv;
 }
 
-const char *configuration_program(void)
+/* A program with more rights than its caller doesn't trust the variables, nor the path. */
+void configuration_program(char program[LONGEST_PROGRAM])
 {
     const char *named = secure_getenv("CCA");
-    if (named && *named)
-        return named;
-    return secure_getenv("PATH") ? "cca" : "/usr/bin/cca"; /* a program with more rights than its caller doesn't trust its path */
+    strcpy(program, secure_getenv("PATH") ? "cca" : "/usr/bin/cca");
+    if (!named || !*named || strlen(named) >= LONGEST_PROGRAM)
+        return;
+    if (!strchr(named, '/') || !realpath(named, program))
+        strcpy(program, named);
 }

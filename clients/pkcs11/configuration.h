@@ -18,7 +18,10 @@ struct place {
 /* CKR_GENERAL_ERROR where a word or a line is none. */
 CK_RV configuration_read(struct place places[MOST_SLOTS], CK_ULONG *count);
 
-/* The program that is started in a folder: the one that the variable CCA names, or `cca` on the path. */
-const char *configuration_program(void);
+#define LONGEST_PROGRAM 4096
+
+/* The program that is started in a folder, which may be another one than that of the caller: the one that the variable CCA names, or
+   `cca` on the path. */
+void configuration_program(char program[LONGEST_PROGRAM]);
 
 #endif

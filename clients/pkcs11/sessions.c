@@ -71,6 +71,8 @@ CK_RV C_OpenSession(CK_SLOT_ID id, CK_FLAGS flags, void *application, CK_NOTIFY 
         return slot_leave(slot, CKR_ARGUMENTS_BAD);
     if (!(flags & CKF_SERIAL_SESSION))
         return slot_leave(slot, CKR_SESSION_PARALLEL_NOT_SUPPORTED);
+    if (!slot_is_present(slot))
+        return slot_leave(slot, CKR_TOKEN_NOT_PRESENT);
     it = find(slot, 0);
     if (!it)
         return slot_leave(slot, CKR_SESSION_COUNT);

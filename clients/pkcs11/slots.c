@@ -31,7 +31,8 @@ static void slot_open(struct slot *it)
         cca_open_audited(&it->cca, it->place.path, it->place.role);
     else
         cca_open(&it->cca, it->place.path, it->place.role);
-    it->cca.client.program = configuration_program();
+    configuration_program(it->program);
+    it->cca.client.program = it->program;
 }
 
 static struct slot *slot_new(CK_SLOT_ID id, const struct place *place)
@@ -186,8 +187,7 @@ CK_RV C_GetInfo(CK_INFO *info)
     return CKR_OK;
 }
 
-/* Whether there is a socket or a folder. */
-static int is_present(const struct slot *it)
+int slot_is_present(const struct slot *it)
 {
     struct stat found;
     return stat(it->place.path, &found) == 0 && (S_ISSOCK(found.st_mode) || S_ISDIR(found.st_mode));
@@ -203,7 +203,7 @@ CK_RV C_GetSlotList(CK_BBOOL present_alone, CK_SLOT_ID *list, CK_ULONG *count)
     room = *count;
     *count = 0;
     for (at = 0; at < slot_count; at++) {
-        if (present_alone && !is_present(slots[at]))
+        if (present_alone && !slot_is_present(slots[at]))
             continue;
         if (list && *count < room)
             list[*count] = at;
@@ -224,7 +224,7 @@ CK_RV C_GetSlotInfo(CK_SLOT_ID id, CK_SLOT_INFO *info)
     memset(info, 0, sizeof *info);
     fill(info->slotDescription, sizeof info->slotDescription, it->place.path);
     fill(info->manufacturerID, sizeof info->manufacturerID, MANUFACTURER);
-    info->flags = is_present(it) ? CKF_TOKEN_PRESENT : 0;
+    info->flags = slot_is_present(it) ? CKF_TOKEN_PRESENT : 0;
     return CKR_OK;
 }
 
@@ -257,7 +257,7 @@ CK_RV C_GetTokenInfo(CK_SLOT_ID id, CK_TOKEN_INFO *info)
         return rv;
     if (!info)
         return slot_leave(it, CKR_ARGUMENTS_BAD);
-    if (!is_present(it))
+    if (!slot_is_present(it))
         return slot_leave(it, CKR_TOKEN_NOT_PRESENT);
     memset(info, 0, sizeof *info);
     fill(info->label, sizeof info->label, it->place.role);

@@ -11,6 +11,7 @@
 struct slot {
     CK_SLOT_ID id;
     struct place place;
+    char program[LONGEST_PROGRAM]; /* that is started in a folder */
     struct cca cca;
     pthread_mutex_t turn;
     int is_logged_in;
@@ -25,6 +26,9 @@ int slots_are_there(void);
 
 /* Null where there is none. */
 struct slot *slot_at(CK_SLOT_ID id);
+
+/* Whether there is a socket or a folder. */
+int slot_is_present(const struct slot *it);
 
 /* Takes a slot for this thread alone, and leaves it. */
 CK_RV slot_enter(CK_SLOT_ID id, struct slot **slot);
