@@ -11,7 +11,7 @@ from concurrent.futures import ThreadPoolExecutor
 
 from tests.harness import TOP, program_path
 
-SHARED = {"__init__", "__main__", "c_library", "edits", "harness", "formats", "keys"}  # what files of checks share
+SHARED = {"__init__", "__main__", "c_library", "edits", "harness", "formats", "keys", "pkcs11_module"}  # what files of checks share
 # those that take longest, the first one longest
 LONGEST = ["front", "client_replies", "planted", "tools/commands/run", "library_c", "python_library", "reencipher"]
 

@@ -1,5 +1,6 @@
-/* Enciphering and deciphering. Whole blocks go to cca as they come, with the last block of ciphertext as the IV of the next ones. What
-   is asked of cca stands in memory of its own: the caller's buffers may be one, and where there is no room nothing has changed. */
+/* Enciphering and deciphering. Whole blocks go to cca as they come, with the last block of ciphertext as the IV of the next ones.
+   What is asked of cca stands in memory of its own: the caller's buffers may be one, and where there is no room nothing has
+   changed. */
 #include "errors.h"
 #include "exchange.h"
 #include "slots.h"

@@ -13,8 +13,8 @@ struct key {
 /* Reads an internal or external token. 0 where its key is none that is shown: a key part, or one of another class. */
 int key_of_token(const unsigned char *token, struct key *it);
 
-/* The key type of a length that has all of the wanted uses and none of the unwanted ones, and of further ones as few as may be; where
-   nothing is wanted, the one for data that has the most. Null where there is none. */
+/* The key type of a length that has all of the wanted uses and none of the unwanted ones, and of further ones as few as may be;
+   where nothing is wanted, the one for data that has the most. Null where there is none. */
 const char *key_type_with(int length, unsigned wanted, unsigned unwanted);
 
 #endif

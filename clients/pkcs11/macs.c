@@ -13,13 +13,15 @@ static CK_RV send_segment(struct session *session, unsigned char *bytes, size_t 
 {
     struct operation *it = &session->operation;
     struct cca *cca = &session->slot->cca;
+    struct cca_key key = operation_key(it);
+    const char *rule = it->mechanism->rule;
     enum cca_segment segment = it->has_chain ? CCA_MIDDLE : CCA_FIRST;
     struct cca_result came;
     int matches;
     if (it->activity == SIGNING)
-        came = cca_mac_generate_segment(cca, operation_key(it), it->mechanism->rule, segment, 0, it->chain, bytes, length, NULL);
+        came = cca_mac_generate_segment(cca, key, rule, segment, 0, it->chain, bytes, length, NULL);
     else
-        came = cca_mac_verify_segment(cca, operation_key(it), it->mechanism->rule, segment, NULL, 0, it->chain, bytes, length, &matches);
+        came = cca_mac_verify_segment(cca, key, rule, segment, NULL, 0, it->chain, bytes, length, &matches);
     it->has_chain = 1;
     return session_told(session, came);
 }
@@ -28,25 +30,30 @@ static CK_RV end_generation(struct session *session, unsigned char *mac)
 {
     struct operation *it = &session->operation;
     struct cca *cca = &session->slot->cca;
-    int length = (int)it->mac_length;
-    if (!it->has_chain)
-        return session_told(session, cca_mac_generate(cca, operation_key(it), it->mechanism->rule, length, it->held, it->held_length, mac));
-    return session_told(session, cca_mac_generate_segment(cca, operation_key(it), it->mechanism->rule, CCA_LAST, length, it->chain,
-                                                          it->held, it->held_length, mac));
+    struct cca_key key = operation_key(it);
+    const char *rule = it->mechanism->rule;
+    int size = (int)it->mac_length;
+    struct cca_result came;
+    if (it->has_chain)
+        came = cca_mac_generate_segment(cca, key, rule, CCA_LAST, size, it->chain, it->held, it->held_length, mac);
+    else
+        came = cca_mac_generate(cca, key, rule, size, it->held, it->held_length, mac);
+    return session_told(session, came);
 }
 
 static CK_RV end_verification(struct session *session, const unsigned char *mac)
 {
     struct operation *it = &session->operation;
     struct cca *cca = &session->slot->cca;
-    int length = (int)it->mac_length, matches = 0;
+    struct cca_key key = operation_key(it);
+    const char *rule = it->mechanism->rule;
+    int size = (int)it->mac_length, matches = 0;
     struct cca_result came;
     CK_RV rv;
-    if (!it->has_chain)
-        came = cca_mac_verify(cca, operation_key(it), it->mechanism->rule, mac, length, it->held, it->held_length, &matches);
+    if (it->has_chain)
+        came = cca_mac_verify_segment(cca, key, rule, CCA_LAST, mac, size, it->chain, it->held, it->held_length, &matches);
     else
-        came = cca_mac_verify_segment(cca, operation_key(it), it->mechanism->rule, CCA_LAST, mac, length, it->chain, it->held,
-                                      it->held_length, &matches);
+        came = cca_mac_verify(cca, key, rule, mac, size, it->held, it->held_length, &matches);
     rv = session_told(session, came);
     return rv == CKR_OK && !matches ? CKR_SIGNATURE_INVALID : rv;
 }
@@ -57,7 +64,8 @@ static CK_RV chain_blocks(struct session *session, unsigned char *bytes, size_t 
 {
     struct operation *it = &session->operation;
     size_t came;
-    CK_RV rv = session_told(session, cca_encipher(&session->slot->cca, operation_key(it), it->iv, "NONE", bytes, length, bytes, &came));
+    struct cca *cca = &session->slot->cca;
+    CK_RV rv = session_told(session, cca_encipher(cca, operation_key(it), it->iv, "NONE", bytes, length, bytes, &came));
     if (rv == CKR_OK)
         memcpy(it->iv, bytes + length - BLOCK, BLOCK);
     return rv;
@@ -90,7 +98,9 @@ static CK_RV send(struct session *session, unsigned char *bytes, size_t length)
 {
     if (length == 0)
         return CKR_OK;
-    return session->operation.mechanism->kind == CBC_MAC ? chain_blocks(session, bytes, length) : send_segment(session, bytes, length);
+    if (session->operation.mechanism->kind == CBC_MAC)
+        return chain_blocks(session, bytes, length);
+    return send_segment(session, bytes, length);
 }
 
 static CK_RV take_part(struct session *session, const unsigned char *data, size_t length)

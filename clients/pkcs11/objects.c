@@ -154,7 +154,11 @@ static CK_RV try_uses(struct slot *slot, const char *label, struct key *key, int
     static const struct {
         unsigned use;
         struct cca_result (*run)(struct cca *cca, struct cca_key key);
-    } trials[] = {{0, try_key_test}, {ENCRYPTS, try_encipher}, {DECRYPTS, try_decipher}, {SIGNS, try_mac_generate}, {VERIFIES, try_mac_verify}};
+    } trials[] = {{0, try_key_test},
+                  {ENCRYPTS, try_encipher},
+                  {DECRYPTS, try_decipher},
+                  {SIGNS, try_mac_generate},
+                  {VERIFIES, try_mac_verify}};
     struct cca_result came;
     size_t at;
     memset(key, 0, sizeof *key);

@@ -1,5 +1,5 @@
-/* The objects of a slot: keys under labels, which are token objects, and keys whose tokens are held here, which are session objects.
-   A handle names one object as long as the module is initialized, and none afterwards. */
+/* The objects of a slot: keys under labels, which are token objects, and keys whose tokens are held here, which are session
+   objects. A handle names one object as long as the module is initialized, and none afterwards. */
 #ifndef CCA_PKCS11_OBJECTS_H
 #define CCA_PKCS11_OBJECTS_H
 

@@ -54,8 +54,8 @@ static void slot_end_searches(struct slot *it)
         free(it->sessions[at].search.found);
 }
 
-/* Forgets all slots. In a child of the process that made them cca and the connections are left to the parent, and what another thread
-   of it was just changing isn't looked at. */
+/* Forgets all slots. In a child of the process that made them cca and the connections are left to the parent, and what another
+   thread of it was just changing isn't looked at. */
 static void forget_slots(int is_ours)
 {
     for (; slot_count > 0; slot_count--) {

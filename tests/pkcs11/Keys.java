@@ -1,4 +1,5 @@
-/* What a program in Java does over a PKCS#11 module: java Keys.java CONFIGURATION TEXT IV KEY, the last three in hexadecimal digits. */
+/* What a program in Java does over a PKCS#11 module: java Keys.java CONFIGURATION TEXT IV KEY, the last three in
+   hexadecimal digits. */
 import java.security.*;
 import java.util.*;
 import javax.crypto.*;

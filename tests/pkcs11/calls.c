@@ -1,5 +1,5 @@
-/* A program that asks a PKCS#11 module what the standard says of each call: which code comes when, how much room is needed, and what
-   a call leaves behind. It says what isn't so, and its status is then 1.
+/* A program that asks a PKCS#11 module what the standard says of each call: which code comes when, how much room is needed, and
+   what a call leaves behind. It says what isn't so, and its status is then 1.
 
        calls WHAT MODULE
 
