@@ -5,6 +5,7 @@ are installed; and once more under the sanitizers of addresses and of undefined 
 import contextlib
 import ctypes
 import os
+import random
 import re
 import shutil
 import signal
@@ -523,6 +524,65 @@ class Replies(Answered):
             self.front.reply = reply
             words = {"CLASS": 4, "KEY_TYPE": numbers()["CKK_DES"], "VALUE": SINGLE}
             self.fails("CKR_DEVICE_ERROR", self.session.made, "CreateObject", *template(words))
+
+    def any_reply(self, line):
+        """A reply that may be one to this line, or to another one, or to none."""
+        token, text = self.chance.randbytes(32) + self.chance.choice(self.vectors), self.chance.randbytes(8 * self.chance.randrange(4))
+        labels = [f"L{self.chance.randrange(30)}" for _ in range(self.chance.randrange(4))]
+        fields = [f"token={token.hex()}", f"token1={token.hex()}", f"text={text.hex()}", f"mac={text[:4].hex()}", "match=yes", "value=00112233"]
+        fields += [f"count={len(labels)} labels={','.join(labels)}", f"text= chain={text[:16].hex()}", "stored=NEW", f"random={text[:8].hex()}", ""]
+        wanted = {"CSNBKRL": 6, "CSNBKRR": 0, "CSNBKGN": 1, "CSNBENC": 2, "CSNBDEC": 2, "CSNBKEX": 0, "CSNBKIM": 0, "CSNBKYT": 5, "CSNBRNG": 9}
+        number = wanted.get(line.split()[0], 10) if self.chance.random() < 0.8 else self.chance.randrange(len(fields))
+        refusal = f"NO {self.chance.randrange(1, 37):02} -\n"
+        return (f"OK {fields[number]}".strip() + "\n" if self.chance.random() < 0.8 else refusal).encode()
+
+    def any_call(self):
+        """A call with what comes: its name, and its words behind the session."""
+        chance = self.chance
+        room, length = ctypes.create_string_buffer(80), ctypes.byref(ctypes.c_ulong(chance.choice((0, 3, 8, 64, 80))))
+        names = chance.sample(sorted(self.attributes), chance.randrange(4))
+        attributes = {name: self.attributes[name] for name in names}
+        how = ctypes.byref(mechanism(chance.choice(self.mechanisms), chance.choice((b"", IV, 4, 9, bytes(7)))))
+        key, text = chance.randrange(20), chance.randbytes(chance.randrange(30))
+        made, out = ctypes.byref(ctypes.c_ulong()), chance.choice((None, room))
+        init = chance.choice(("EncryptInit", "DecryptInit", "SignInit", "VerifyInit"))
+        return chance.choice(
+            (
+                (init, how, key),
+                (init, how, key),
+                (chance.choice(("Encrypt", "EncryptUpdate", "Decrypt", "DecryptUpdate", "Sign")), text, len(text), out, length),
+                (chance.choice(("EncryptFinal", "DecryptFinal", "SignFinal")), out, length),
+                (chance.choice(("SignUpdate", "VerifyUpdate")), text, len(text)),
+                ("Verify", text, len(text), room, chance.choice((0, 4, 8))),
+                ("GenerateKey", how, *template(attributes), made),
+                ("CreateObject", *template({"CLASS": 4, **attributes}), made),
+                ("CopyObject", key, *template(attributes), made),
+                ("UnwrapKey", how, key, room, chance.choice((63, 64)), *template(attributes), made),
+                ("WrapKey", how, key, chance.randrange(20), out, length),
+                ("DestroyObject", key),
+                ("FindObjectsInit", *template(attributes)),
+                ("FindObjectsInit", None, 0),
+                ("FindObjects", room, 10, made),
+                ("FindObjectsFinal",),
+                ("GetAttributeValue", key, *template(attributes)),
+                ("GenerateRandom", room, chance.randrange(20)),
+            )
+        )
+
+    def test_any(self):
+        """Whatever is called and replied, each call comes to a code of the standard."""
+        self.chance = random.Random(11)
+        self.vectors = [it.ljust(16, b"\0") + bytes(16) for kind in types().values() for it in kind.values()] + [bytes(32), b"\xff" * 32]
+        self.mechanisms = [name.removeprefix("CKM_") for name in numbers() if re.match("CKM_(DES|CCA)", name)]
+        self.attributes = {"LABEL": b"NEW", "ID": b"L1", "TOKEN": True, "EXTRACTABLE": False, "ENCRYPT": True, "SIGN": True, "WRAP": True}
+        self.attributes |= {"KEY_TYPE": numbers()["CKK_DES"], "VALUE": SINGLE, "VALUE_LEN": 8, "CHECK_VALUE": b"", "MODULUS": b"1", "CLASS": 4}
+        self.front.reply = self.any_reply
+        sessions = [Session() for _ in range(3)]
+        for turn in range(3000):
+            try:
+                self.chance.choice(sessions).call(*self.any_call())
+            except Failed as failed:
+                self.assertIn(str(failed), codes().values(), turn)
 
     def test_no_front(self):
         self.front.close()

@@ -68,14 +68,21 @@ def as_bytes(it):
 
 
 def template(attributes):
-    """A template, of attributes by their names without CKA_."""
-    held = [(numbers()[f"CKA_{name}"], as_bytes(it)) for name, it in attributes.items()]
-    return (Attribute * len(held))(*((kind, ctypes.cast(ctypes.c_char_p(it), ctypes.c_void_p), len(it)) for kind, it in held)), len(held)
+    """A template, of attributes by their names without CKA_, and how many they are."""
+    values = [as_bytes(it) for it in attributes.values()]
+    held = [ctypes.create_string_buffer(it, len(it) + 1) for it in values]
+    rows = [(numbers()[f"CKA_{name}"], ctypes.addressof(room), len(it)) for name, room, it in zip(attributes, held, values)]
+    found = (Attribute * len(rows))(*rows)
+    found.held = held  # as long as the template is there
+    return found, len(rows)
 
 
 def mechanism(name, parameter=b""):
     it = as_bytes(parameter)
-    return Mechanism(numbers()[f"CKM_{name}"], ctypes.cast(ctypes.c_char_p(it), ctypes.c_void_p), len(it))
+    room = ctypes.create_string_buffer(it, len(it) + 1)
+    found = Mechanism(numbers()[f"CKM_{name}"], ctypes.addressof(room), len(it))
+    found.held = room  # as long as the mechanism is there
+    return found
 
 
 def cut(text, size):
