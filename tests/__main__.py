@@ -13,7 +13,7 @@ from tests.harness import TOP, program_path
 
 SHARED = {"__init__", "__main__", "c_library", "edits", "harness", "formats", "keys", "pkcs11_module"}  # what files of checks share
 # those that take longest, the first one longest
-LONGEST = ["front", "client_replies", "planted", "tools/commands/run", "library_c", "python_library", "reencipher"]
+LONGEST = ["front", "pkcs11", "client_replies", "planted", "tools/commands/run", "library_c", "python_library", "reencipher"]
 
 
 def files():
