@@ -1,2 +1,2 @@
 """The version. Made by clients/make_verbs.py from docs/CHANGES.md."""
-VERSION = '1.0'
+VERSION = '1.1'
