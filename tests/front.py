@@ -1,11 +1,9 @@
 """The front of examples/clients: many clients at once, with bad ones among them, who mix no reply and starve no role; what it refuses
 to begin with; its log, and the trail that it fetches. What stands for cca where replies may be mixed up is tests/stub/cca."""
-import errno
 import json
 import os
 import re
 import resource
-import shutil
 import signal
 import socket
 import stat
@@ -22,11 +20,9 @@ from tests.edits import CLIENTS, Edit, each_is_found
 from tests.harness import TOP, Case, Fault, limited
 
 STUB = TOP / "tests" / "stub" / "cca"
-UNIT = CLIENTS / "cca-front.service"
 sys.path.insert(0, str(CLIENTS))
 import front as front_program  # noqa: E402
 from journal import VERBS  # noqa: E402
-from prepare import MODE  # noqa: E402
 from service import FETCH_AFTER  # noqa: E402
 import trail  # noqa: E402
 from trail import HELD, TrailLog, TrailLost  # noqa: E402
@@ -761,99 +757,6 @@ def children_of(process):
                 yield int(it.parent.name)
         except (FileNotFoundError, ProcessLookupError):
             pass
-
-
-class Unit(Case):
-    """The unit of systemd: who may be a teller is no officer."""
-
-    def words(self, name):
-        """What the unit says by this word."""
-        return re.findall(rf"(?m)^{name}=(.*)$", UNIT.read_text())
-
-    def test_folders(self):
-        """The service has no folder in which it could put a link where root changes a folder: root alone makes them, by prepare.py, and
-        the front serves the roles of the same file."""
-        self.assertEqual(self.words("RuntimeDirectory"), [])
-        prepare, front = self.words("ExecStartPre") + self.words("ExecStart")
-        self.assertRegex(prepare, r"^\+.*/prepare\.py /etc/cca/front\.conf$")
-        self.assertRegex(front, r"/front\.py --config /etc/cca/front\.conf$")
-        self.assertEqual(self.words("ReadWritePaths"), ["/run/cca"])
-
-    def test_ends(self):
-        """A front that asks for a look isn't started again, and SIGHUP comes to it when it is reloaded."""
-        self.assertEqual(self.words("Restart"), ["on-abnormal"])
-        self.assertEqual(self.words("RestartPreventExitStatus"), [str(int(front_program.Status.LOOK))])
-        self.assertEqual(self.words("ExecReload"), ["/bin/kill -HUP $MAINPID"])
-
-    def test_installed(self):
-        """The files that the unit's first lines install are all that its commands need."""
-        listed = re.findall(r"(?m)^#   install .*/usr/local/lib/cca (.*)$", UNIT.read_text())
-        for file in " ".join(listed).split():
-            shutil.copy(CLIENTS / file, self.folder)
-        for program in ("front.py", "prepare.py"):
-            words = [sys.executable, "-I", "-B", "-c", f"import runpy, sys; sys.path.insert(0, '.'); runpy.run_path({program!r})"]
-            it = subprocess.run(words, cwd=self.folder, capture_output=True, text=True)
-            self.assertEqual((it.returncode, it.stderr), (0, ""))
-
-    @unittest.skipUnless(os.getuid() == 0, "who may connect is tried by root")
-    def test_who_may_connect(self):
-        """Folders as root makes them, with users and groups by number: the front's user is in neither group."""
-        for folder in (*self.folder.parents, self.folder):
-            if folder.is_relative_to(tempfile.gettempdir()) and folder != Path(tempfile.gettempdir()):
-                folder.chmod(0o711)
-        keys, stub, sockets = self.folder / "keys", self.folder / "stub", []
-        stub.write_text('#!/bin/sh\nwhile read -r line; do test "$line" && echo OK || echo "NO 01 -"; done\n')
-        stub.chmod(0o755)
-        keys.mkdir(mode=0o700)
-        os.chown(keys, 54001, 54001)
-        for number, role in enumerate(("teller", "officer")):
-            path = self.folder / role
-            path.mkdir()
-            os.chown(path, 54001, 54010 + number)
-            path.chmod(MODE)
-            sockets.append(path / "socket")
-        front = as_user(54001, 54001, lambda: served(stub, keys, sockets))
-        self.addCleanup(os.waitpid, front, 0)
-        self.addCleanup(os.kill, front, signal.SIGKILL)
-        self.assertEqual(asked(sockets[-1], "A K"), ["OK"])
-        for client in range(len(sockets)):
-            for number, path in enumerate(sockets):
-                came = os.waitpid(as_user(54020, 54010 + client, lambda path=path: connected(path, 0).close()), 0)[1]
-                self.assertEqual(os.waitstatus_to_exitcode(came), 0 if client == number else errno.EACCES)
-
-    @unittest.skipUnless(shutil.which("systemd-analyze"), "systemd isn't installed")
-    def test_by_systemd(self):
-        it = subprocess.run(["systemd-analyze", "verify", "--man=no", UNIT], stderr=subprocess.PIPE, text=True)
-        self.assertEqual([line for line in it.stderr.splitlines() if UNIT.name in line], [])
-        words = ["systemd-analyze", "security", "--offline=true", "--no-pager", "--threshold=15", UNIT]
-        it = subprocess.run(words, stdout=subprocess.PIPE, stderr=subprocess.STDOUT, text=True)
-        self.assertEqual(it.returncode, 0, it.stdout[-3000:])
-
-
-def as_user(user, group, call):
-    """A process of this user, and of this group alone, that makes a call: it ends with 0, or the number of an error."""
-    process = os.fork()
-    if process == 0:
-        status = 1
-        try:
-            os.setgroups([])
-            os.setgid(group)
-            os.setuid(user)
-            call()
-            status = 0
-        except OSError as error:
-            status = error.errno
-        finally:
-            os._exit(status)
-    return process
-
-
-def served(program, keys, sockets):
-    """Runs the front in this process."""
-    os.dup2(os.open(os.devnull, os.O_WRONLY), 2)
-    os.environ["CCA"] = str(program)
-    sys.argv = ["front.py", "--new", str(keys), *[f"{it}=TELLER" for it in sockets]]
-    front_program.main()
 
 
 class Planted(unittest.TestCase):
