@@ -12,6 +12,7 @@ import signal
 import socket
 import subprocess
 import sys
+import tempfile
 import threading
 import time
 import unittest
@@ -88,7 +89,8 @@ class Token(Case):
     def tool(self, *words, **options):
         """What another program says of the module."""
         environment = {**os.environ, **self.environment}
-        it = subprocess.run(words, env=environment, cwd=self.folder, capture_output=True, text=True, timeout=200, **options)
+        options = {"cwd": self.folder, **options}
+        it = subprocess.run(words, env=environment, capture_output=True, text=True, timeout=200, **options)
         self.assertEqual(it.returncode, 0, it.stdout[-2000:] + it.stderr[-2000:])
         return it.stdout
 
@@ -336,15 +338,26 @@ class Values(Loaded):
         self.assertEqual(self.session.read(copy, "CHECK_VALUE"), self.session.read(it, "CHECK_VALUE"))
         self.assertEqual(self.vector("COPY"), types()["MAC"][16])
 
+    def without(self, point):
+        """Begins anew under a role that has all points but one."""
+        self.end()
+        request = f"CSUAACI role=DEFAULT action=DEFINE name=MAKER points={0x1FFFFFFF & ~point:08x}"
+        self.assertEqual(self.ask([request], self.folder / "keys"), ["OK"])
+        self.begin(f"{self.folder / 'keys'}=MAKER")
+
     def test_nothing_left(self):
         """A key that can't be stored leaves no label."""
-        self.end()
-        points = f"{0x1FFFFFFF & ~0x10000:08x}"  # all but KRW
-        self.assertEqual(self.ask([f"CSUAACI role=DEFAULT action=DEFINE name=MAKER points={points}"], self.folder / "keys"), ["OK"])
-        self.begin(f"{self.folder / 'keys'}=MAKER")
+        self.without(0x10000)  # KRW
         self.fails("CKR_USER_NOT_LOGGED_IN", self.session.generate, "DES_KEY_GEN", TOKEN=True, LABEL=b"NEW")
         self.end()
         self.assertEqual(self.ask(["CSNBKRL role=DEFAULT prefix=NEW"], self.folder / "keys"), ["OK count=0 labels="])
+
+    def test_entered_in_parts(self):
+        """A clear key comes in without the point CKI too, where the role may enter key parts."""
+        self.without(0x20)
+        words = {"CLASS": 4, "KEY_TYPE": numbers()["CKK_DES"], "VALUE": SINGLE}
+        it = self.session.made("CreateObject", *template(words))
+        self.assertEqual(self.session.read(it, "CHECK_VALUE").hex(), value(SINGLE)[:6])
 
     def test_session_objects(self):
         """What was made without CKA_TOKEN is seen by all sessions, and gone with its own."""
@@ -701,6 +714,23 @@ class Programs(Token):
         told = self.tool("p11tool", "--provider", built(), "--list-all", url)
         self.assertEqual(set(re.findall(r"Label: (\S+)", told)), set(KEYS))
         self.assertIn("CKM_DES_CBC_PAD", self.tool("p11tool", "--provider", built(), "--list-mechanisms", url))
+
+    def test_p11_kit(self):
+        """The file beside the module is one of p11-kit's, which takes such files from the folder of a user who isn't root."""
+        self.needs("p11-kit")
+        home = Path(tempfile.mkdtemp())
+        self.addCleanup(shutil.rmtree, home)
+        home.chmod(0o755)
+        modules = home / ".config" / "pkcs11" / "modules"
+        modules.mkdir(parents=True)
+        shutil.copy(built(), home)
+        self.environment["MODULE"] = str(home / built().name)
+        self.tool(SOURCES / "build", self.folder / "made")
+        shutil.copy(self.folder / "made" / "cca-pkcs11.module", modules)
+        self.environment = {"HOME": str(home), "XDG_CONFIG_HOME": str(home / ".config"), "CCA_PKCS11": f"{home}=TELLER"}
+        other = {"user": 65534, "group": 65534, "extra_groups": []} if os.geteuid() == 0 else {}
+        told = self.tool("p11-kit", "list-modules", **other, cwd=home)
+        self.assertRegex(told, rf"(?s)cca-pkcs11: {home / built().name}\n.*    token: TELLER\n")
 
     def test_java(self):
         """Java's own provider: its key store, ciphers, generation, and a clear key."""

@@ -143,6 +143,16 @@ static CK_RV enter_parts(struct session *session, const char *type, const unsign
     return rv;
 }
 
+/* Enters a clear key: in one request where that makes this type, and the role has the point CKI. */
+static CK_RV enter(struct session *session, const char *type, const unsigned char *clear, int length, unsigned char *token)
+{
+    struct cca_result came;
+    if (length != 8 || strcmp(type, "DATA") != 0)
+        return enter_parts(session, type, clear, length, token);
+    came = cca_clear_key_import(&session->slot->cca, clear, NULL, token);
+    return is_refused(&came, 4) ? enter_parts(session, type, clear, length, token) : session_told(session, came);
+}
+
 static CK_RV create(struct session *session, const struct order *order, struct object **made)
 {
     unsigned char token[CCA_TOKEN_SIZE];
@@ -157,11 +167,7 @@ static CK_RV create(struct session *session, const struct order *order, struct o
     type = key_type_with(length, order->wanted, order->unwanted);
     if (!type)
         return CKR_TEMPLATE_INCONSISTENT;
-    rv = CKR_USER_NOT_LOGGED_IN;
-    if (length == 8 && strcmp(type, "DATA") == 0)
-        rv = session_told(session, cca_clear_key_import(&session->slot->cca, order->value->pValue, NULL, token));
-    if (rv == CKR_USER_NOT_LOGGED_IN) /* the role lacks the point CKI */
-        rv = enter_parts(session, type, order->value->pValue, length, token);
+    rv = enter(session, type, order->value->pValue, length, token);
     return rv == CKR_OK ? keep(session, order, token, made) : rv;
 }
 
