@@ -20,6 +20,7 @@ static pthread_mutex_t beginning = PTHREAD_MUTEX_INITIALIZER;
 
 /* ---- beginning and end */
 
+/* What isn't a folder now is taken for a socket that a front is still to make. */
 static void slot_open(struct slot *it)
 {
     struct stat found;
@@ -190,7 +191,9 @@ CK_RV C_GetInfo(CK_INFO *info)
 int slot_is_present(const struct slot *it)
 {
     struct stat found;
-    return stat(it->place.path, &found) == 0 && (S_ISSOCK(found.st_mode) || S_ISDIR(found.st_mode));
+    if (stat(it->place.path, &found) != 0)
+        return 0;
+    return it->cca.client.socket ? S_ISSOCK(found.st_mode) : S_ISDIR(found.st_mode);
 }
 
 CK_RV C_GetSlotList(CK_BBOOL present_alone, CK_SLOT_ID *list, CK_ULONG *count)

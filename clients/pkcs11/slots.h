@@ -27,7 +27,7 @@ int slots_are_there(void);
 /* Null where there is none. */
 struct slot *slot_at(CK_SLOT_ID id);
 
-/* Whether there is a socket or a folder. */
+/* Whether its socket or its folder is there. */
 int slot_is_present(const struct slot *it);
 
 /* Takes a slot for this thread alone, and leaves it. */
