@@ -1,6 +1,6 @@
 """The package that tools/package/run makes: what is in it, installed into a root of its own; that its program answers its first example,
-that a program links with its library for C, and that its front serves; the folder for an image. Then its scripts: what each does at
-each step of dpkg's, what an upgrade keeps, and what a removal leaves.
+and that its front serves; the folder for an image. Then its scripts: what each does at each step of dpkg's, what an upgrade keeps, and
+what a removal leaves. tests/package_libraries.py has the libraries.
 """
 import functools
 import os
@@ -40,8 +40,8 @@ def dpkg(root, *words):
 
 
 @functools.cache
-def installed(package):
-    """A root into which a package is installed."""
+def installed(*packages):
+    """A root into which packages are installed."""
     root = Path(tempfile.mkdtemp(dir=scratch().name)) / "root"
     held = root / "var/lib/dpkg"
     for name in ("info", "updates", "triggers"):
@@ -49,7 +49,7 @@ def installed(package):
     for name in ("status", "available"):
         (held / name).touch()
     (held / "info" / "format").write_text("1\n")
-    it = dpkg(root, "--install", package)
+    it = dpkg(root, "--install", *packages)
     if it.returncode:
         raise AssertionError(it.stderr)
     return root
@@ -64,11 +64,11 @@ class Packaged(Case):
         if not is_built():
             raise unittest.SkipTest("the program of this checkout isn't built")
         cls.made, cls.said = made()
-        cls.package = next(cls.made.glob("*.deb"), None)
+        cls.package, cls.development = (next(cls.made.glob(f"{name}_*.deb"), None) for name in ("cca", "libcca-dev"))
 
-    def root(self):
-        """A root of its own, into which the package is installed."""
-        return Path(shutil.copytree(installed(self.package), self.folder / "root", symlinks=True))
+    def root(self, *others):
+        """A root of its own, into which the package is installed, with others."""
+        return Path(shutil.copytree(installed(self.package, *others), self.folder / "root", symlinks=True))
 
     def dpkg(self, root, *words):
         it = dpkg(root, *words)
@@ -78,6 +78,24 @@ class Packaged(Case):
     def left(self, root):
         """The files of a root, but for those of dpkg itself."""
         return sorted(str(it.relative_to(root)) for it in root.rglob("*") if it.is_file() and "var/lib/dpkg" not in str(it))
+
+    def fronted(self, root):
+        """The socket of a front of the package, which serves the keys of an example under the role DEFAULT."""
+        path, settings = self.folder / "socket", self.folder / "front.conf"
+        (self.folder / "keys").mkdir()
+        self.ask((EXAMPLES / "start.txt").read_text().splitlines(), self.folder / "keys")
+        lines = f"[front]\nfolder = {self.folder}/keys\nprogram = {root}/usr/bin/cca\n"
+        settings.write_text(f"{lines}[role DEFAULT]\nsocket = {path}\ngroup = a\n")
+        words = [sys.executable, "-B", root / "usr/lib/cca/front.py", "--config", settings]
+        front = subprocess.Popen(words, stderr=subprocess.DEVNULL)
+        self.addCleanup(front.wait)
+        self.addCleanup(front.kill)
+        until = time.monotonic() + 120
+        with socket.socket(socket.AF_UNIX) as it:
+            while it.connect_ex(str(path)) != 0:
+                self.assertTrue(front.poll() is None and time.monotonic() < until, "the front hasn't begun")
+                time.sleep(0.05)
+        return path
 
     def next_version(self):
         """The same package with another version number and another program."""
@@ -93,9 +111,10 @@ class Packaged(Case):
 
 class Package(Packaged):
     def test_what_is_made(self):
-        self.assertEqual((self.said.returncode, self.said.stderr), (0, ""))
+        self.assertEqual((self.said.returncode, re.sub("(?m)^package: left out: .*\n", "", self.said.stderr)), (0, ""))
         wheels = list(self.made.glob("*.whl"))
-        self.assertEqual(self.said.stdout, "".join(f"package: {it}\n" for it in (self.package, self.made / "container", *wheels)))
+        written = (self.package, self.development, self.made / "container", *wheels)
+        self.assertEqual(self.said.stdout, "".join(f"package: {it}\n" for it in written))
         control = subprocess.run(["dpkg-deb", "--field", self.package], capture_output=True, text=True, check=True).stdout
         version = re.search(r"(?m)^## ([0-9.]+)$", (TOP / "docs" / "CHANGES.md").read_text())[1]
         self.assertIn(f"Package: cca\nVersion: {version}\n", control)
@@ -105,10 +124,8 @@ class Package(Packaged):
         """Each file stands where Debian looks for it, with its mode and bytes."""
         root = self.root()
         found = {str(it.relative_to(root)): it.stat().st_mode & 0o777 for it in root.rglob("*") if it.is_file()}
-        library = next(it for it in found if it.endswith("/libcca.a"))
-        wanted = {"usr/bin/cca": 0o711, library: 0o644, SETTINGS: 0o644}
+        wanted = {"usr/bin/cca": 0o711, SETTINGS: 0o644}
         wanted |= {f"usr/lib/cca/{name}.py": 0o755 for name in ("ask", "client", "front", "prepare")}
-        wanted |= {f"usr/include/{name}": 0o644 for name in ("cca.h", "cca_client.h", "csnb.h")}
         wanted |= {f"usr/lib/{name}.d/cca.conf": 0o644 for name in ("sysusers", "tmpfiles")}
         wanted |= {f"usr/share/doc/cca/docs/{it.name}": 0o644 for it in (TOP / "docs").glob("*.md")}
         others = ["usr/share/man/man1/cca.1.gz", "usr/share/doc/cca/VERSION", "usr/share/doc/cca/examples/first.txt"]
@@ -133,19 +150,8 @@ class Package(Packaged):
     def test_memory(self):
         self.assertEqual(owner_of_memory(self, self.root() / "usr/bin/cca"), 0)
 
-    def test_library(self):
-        """A program is compiled with nothing but what the package has."""
-        root = self.root()
-        library = next(root.rglob("libcca.a"))
-        source, program = root / "usr/share/doc/cca/examples/c/mac.c", self.folder / "mac"
-        words = ["cc", "-std=c99", "-I", root / "usr/include", "-o", program, source, library, "-pthread"]
-        subprocess.run(words, check=True)
-        (self.folder / "keys").mkdir()
-        self.ask((EXAMPLES / "start.txt").read_text().splitlines(), self.folder / "keys")
-        environment = {**os.environ, "CCA": str(root / "usr/bin/cca"), "CCA_FOLDER": str(self.folder / "keys"), "CCA_ROLE": "DEFAULT"}
-        came = subprocess.run([program], env=environment, capture_output=True, text=True)
-        self.assertEqual((came.returncode, came.stdout.count("return code 0")), (0, 3), came.stdout)
-        pages = subprocess.run(["gzip", "-dc", root / "usr/share/man/man1/cca.1.gz"], capture_output=True, check=True).stdout
+    def test_manual(self):
+        pages = subprocess.run(["gzip", "-dc", self.root() / "usr/share/man/man1/cca.1.gz"], capture_output=True, check=True).stdout
         self.assertEqual(pages, (TOP / "docs" / "cca.1").read_bytes())
 
     def test_python(self):
@@ -162,20 +168,8 @@ class Package(Packaged):
 
     def test_front(self):
         """The front of the package serves, by a file of settings."""
-        root, path, settings = self.root(), self.folder / "socket", self.folder / "front.conf"
-        (self.folder / "keys").mkdir()
-        self.ask((EXAMPLES / "start.txt").read_text().splitlines(), self.folder / "keys")
-        lines = f"[front]\nfolder = {self.folder}/keys\nprogram = {root}/usr/bin/cca\n"
-        settings.write_text(f"{lines}[role DEFAULT]\nsocket = {path}\ngroup = a\n")
-        words = [sys.executable, "-B", root / "usr/lib/cca/front.py", "--config", settings]
-        front = subprocess.Popen(words, stderr=subprocess.DEVNULL)
-        self.addCleanup(front.wait)
-        self.addCleanup(front.kill)
-        until = time.monotonic() + 120
         with socket.socket(socket.AF_UNIX) as it:
-            while it.connect_ex(str(path)) != 0:
-                self.assertTrue(front.poll() is None and time.monotonic() < until, "the front hasn't begun")
-                time.sleep(0.05)
+            it.connect(str(self.fronted(self.root())))
             it.settimeout(60)
             it.sendall(b"CSNBKRC label=A\n")
             self.assertEqual(it.recv(100), b"OK\n")
@@ -421,7 +415,7 @@ class Policy(Packaged):
     def test_no_errors(self):
         if not shutil.which("lintian"):
             self.skipTest("lintian isn't installed")
-        it = subprocess.run(["lintian", "--fail-on", "error", self.package], capture_output=True, text=True)
+        it = subprocess.run(["lintian", "--fail-on", "error", self.package, self.development], capture_output=True, text=True)
         self.assertEqual(it.returncode, 0, it.stdout)
 
     def test_checksums(self):
@@ -505,6 +499,9 @@ class System(Packaged):
         self.assertEqual(self.shown("/run/cca"), "root:root 755")
         self.assertEqual(self.shown("/run/cca/default"), "cca:cca-default 2750")
         self.serves()
+        libraries = self.inside("ldconfig", "-p")
+        self.assertIn("libcca.so.1 ", libraries)
+        self.assertNotIn("libcsulcca", libraries)
         self.assertEqual(self.service("--install", "/next.deb")[1], ["try-restart cca-front.service"])
         self.assertEqual((self.system / SETTINGS).read_text(), roles)
         self.assertEqual(self.service("--remove", "cca")[1], ["stop cca-front.service"])
